@@ -66,9 +66,9 @@ def definitions():
     numbers["RDS_C_OR_CX"] = int(re.search(r"(\d+) => Some\(\(BlockNumber::THREE, Wanted::Either\)\)", asked)[1])
     upper = lambda name: re.sub(r"(?<!^)(?=[A-Z])", "_", name).upper()
     numbers |= {f"RDS_{upper(name)}": number for number, (name, _) in refusals_of_crate().items()}
-    following = text_of(f"{TOP}/crates/rds_abi/src/following.rt")
-    numbers["RDS_STREAM_MAGIC"] = int(re.search(r"MAGIC: u32 = 0x([\dA-F_]+);", following)[1].replace("_", ""), 16)
-    numbers["RDS_STREAM_VERSION"] = int(re.search(r"stream\.version == (\d+)", following)[1])
+    stream = text_of(f"{TOP}/crates/rds_abi/src/stream.rt")
+    numbers["RDS_STREAM_MAGIC"] = int(re.search(r"MAGIC: u32 = 0x([\dA-F_]+);", stream)[1].replace("_", ""), 16)
+    numbers["RDS_STREAM_VERSION"] = int(re.search(r"stream\.version == (\d+)", stream)[1])
     return numbers | {"RDS_BAD_POINTER": 70}
 
 
@@ -162,7 +162,7 @@ def facts(structs, reasons):
     """Patterns of the comments with the numbers that they must have, each from its source."""
     sizes = {name: layout_of(name, structs)[0] for name in structs}
     at_once = number_in("crates/rds_live/src/room.rt", r"AT_ONCE: usize = (\d+);")
-    kept = number_in("crates/rds_abi/src/following.rt", r"MOST_KEPT: u64 = (\d+);")
+    kept = number_in("crates/rds_abi/src/stream.rt", r"MOST_KEPT: u64 = (\d+);")
     most_bits = number_in("crates/rds_stream/src/packed.rt", r"MOST_BITS: u64 = 1 << (\d+);")
     ranges = {number: [int(it) for it in re.findall(r"\d+", said)] for number, said in reasons.items()}
     burst, reach, loss, word = ranges[1][-1], ranges[2], ranges[3], ranges[67][0]

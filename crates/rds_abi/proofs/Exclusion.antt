@@ -9,8 +9,8 @@ use Rattle.rds_live.specs.Live.{Terms}
 use Rattle.rds_abi.specs.Asked.{AreGiven, AreReserved, Asked, IsLawful, IsRecording, Refuses, RefusesGiven, RefusesRecording, RefusesRules, rules_of}
 use Rattle.rds_abi.specs.Blocks.{RefusesCorrection}
 use Rattle.rds_abi.specs.Exclusion.{Exclude, ReasonsExclude, WithRoom}
-use Rattle.rds_abi.specs.Following.{AreLast, IsFollowed, IsLeft, RefusesEnd, RefusesFollowed, RefusesLast, RefusesPush, RefusesStream, place_after, terms_of}
-use Rattle.rds_abi.specs.Going.{IsLeftState, IsRun, RefusesPlaces, RefusesRun}
+use Rattle.rds_abi.specs.Stream.{AreLast, IsFollowed, IsLeft, RefusesEnd, RefusesFollowed, RefusesLast, RefusesPush, RefusesStream, place_after, terms_of}
+use Rattle.rds_abi.specs.Ranges.{IsLeftState, IsRun, RefusesPlaces, RefusesRun}
 use Rattle.rds_abi.specs.Names.{RefusesName}
 use Rattle.rds_abi.specs.declared.layout.RdsGap.{RdsGap}
 use Rattle.rds_abi.specs.declared.layout.RdsRules.{RdsRules}

@@ -11,7 +11,7 @@ use Rattle.rds_live.specs.Live.{IsLive, LiveOf, Terms}
 use Rattle.rds_live.specs.Moving.{moved_item}
 use Rattle.rds_live.specs.Next.{PiecesJoin, before_tail, completed, live_next, moved_back, part_with, run_next}
 use Rattle.rds_abi.specs.Asked.{IsFilled, IsTooMuch}
-use Rattle.rds_abi.specs.Following.{IsLeft, IsMostTaken, RefusesStream, place_after, stream_of}
+use Rattle.rds_abi.specs.Stream.{IsLeft, IsMostTaken, RefusesStream, place_after, stream_of}
 use Rattle.rds_abi.specs.Refusals.{number_of}
 use Rattle.rds_abi.specs.declared.layout.RdsStream.{RdsStream}
 use Rattle.rds_abi.specs.declared.refusal.Refusal.{Refusal}

@@ -12,9 +12,9 @@ use Rattle.rds_live.specs.Live.{HasHeard, LiveOf, Terms, last_bytes, most_kept, 
 use Rattle.rds_live.specs.Moving.{moved_items, moved_state}
 use Rattle.rds_live.specs.Next.{NextIsHeard, before_tail, completed, live_next, moved_back}
 use Rattle.rds_sync.specs.Ranges.{IsInRange}
-use Rattle.rds_abi.specs.Following.{AreCompleted, IsLeft, IsMostTaken, IsNear, RefusesStream, place_after, stream_in_c, stream_of, totals_from_c, unheard}
+use Rattle.rds_abi.specs.Stream.{AreCompleted, IsLeft, IsMostTaken, IsNear, RefusesStream, place_after, stream_in_c, stream_of, totals_from_c, unheard}
 use Rattle.rds_abi.specs.Asked.{IsTooMuch}
-use Rattle.rds_abi.specs.Going.{state_of}
+use Rattle.rds_abi.specs.Ranges.{state_of}
 use Rattle.rds_abi.specs.Layout.{item_in_c}
 use Rattle.rds_abi.specs.declared.layout.RdsStream.{RdsStream}
 use Rattle.rds_abi.specs.declared.refusal.Refusal.{Refusal}

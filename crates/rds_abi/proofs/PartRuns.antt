@@ -16,7 +16,7 @@ use Rattle.rds_live.specs.Places.{is_due_from}
 use Rattle.rds_live.proofs.GapParts.{part-touched}
 use Rattle.rds_live.proofs.Parts.{IsPartOf, bits-begin, bits-heard}
 use Rattle.rds_abi.specs.Asked.{asked, recording_of, rules_of}
-use Rattle.rds_abi.specs.Going.{IsRun, run_asked, run_in_part, state_of}
+use Rattle.rds_abi.specs.Ranges.{IsRun, run_asked, run_in_part, state_of}
 use Rattle.rds_abi.specs.declared.layout.RdsGap.{RdsGap}
 use Rattle.rds_abi.specs.declared.layout.RdsRules.{RdsRules}
 use Rattle.rds_abi.specs.declared.layout.RdsState.{RdsState}

@@ -5,9 +5,9 @@ use Rattle.rds_sync.specs.Advance.{group_item}
 use Rattle.rds_sync.specs.declared.item.Group.{Group as GroupRecord}
 use Rattle.rds_sync.specs.declared.item.Item.{Item}
 use Rattle.rds_live.specs.Live.{HasHeard, LiveOf, Terms, complete, most_kept, report_at, report_of}
-use Rattle.rds_abi.specs.Following.{AreClosed, AreLeft, AreTooMany, IsFollowed, IsLeft, RefusesEnd, RefusesFollowed, RefusesLast, RefusesPush, RefusesStream, place_after, stream_of, terms_of}
+use Rattle.rds_abi.specs.Stream.{AreClosed, AreLeft, AreTooMany, IsFollowed, IsLeft, RefusesEnd, RefusesFollowed, RefusesLast, RefusesPush, RefusesStream, place_after, stream_of, terms_of}
 use Rattle.rds_abi.specs.Asked.{AreGiven}
-use Rattle.rds_abi.specs.Going.{state_of}
+use Rattle.rds_abi.specs.Ranges.{state_of}
 use Rattle.rds_abi.specs.Layout.{item_in_c, totals_in_c}
 use Rattle.rds_abi.specs.declared.layout.RdsGap.{RdsGap}
 use Rattle.rds_abi.specs.declared.layout.RdsRules.{RdsRules}

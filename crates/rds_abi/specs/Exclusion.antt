@@ -2,8 +2,8 @@
 use Rattle.std.specs.Prelude.{◌≡◌, ℕ, ◌^◌, ◌≤◌, ◌⊎◌, List}
 use Rattle.rds_abi.specs.Asked.{Asked, IsLawful, Refuses}
 use Rattle.rds_abi.specs.Blocks.{RefusesCorrection}
-use Rattle.rds_abi.specs.Following.{AreLast, IsFollowed, RefusesEnd, RefusesFollowed, RefusesPush, place_after}
-use Rattle.rds_abi.specs.Going.{IsRun, RefusesRun}
+use Rattle.rds_abi.specs.Stream.{AreLast, IsFollowed, RefusesEnd, RefusesFollowed, RefusesPush, place_after}
+use Rattle.rds_abi.specs.Ranges.{IsRun, RefusesRun}
 use Rattle.rds_abi.specs.Names.{RefusesName}
 use Rattle.rds_abi.specs.declared.layout.RdsGap.{RdsGap}
 use Rattle.rds_abi.specs.declared.layout.RdsRules.{RdsRules}

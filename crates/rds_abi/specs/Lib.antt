@@ -3,7 +3,7 @@ pub mod Layout
 pub mod Asked
 pub mod Blocks
 pub mod Names
-pub mod Going
-pub mod Following
+pub mod Ranges
+pub mod Stream
 pub mod Exclusion
 pub mod Examples

@@ -115,7 +115,8 @@ fn are_within(gaps: &[RdsGap], bits: u64) -> bool
 
 /// Whether each begins at or after the end of the one before it.
 fn are_apart(gaps: &[RdsGap]) -> bool
-    ensures { (result ≡ true) ↔ AllAdjacentBelow (λ gap next. gap.end ≤ next.begin) gaps.now (length gaps.now) }
+    ensures { (result ≡ true)
+        ↔ AllAdjacentBelow (λ gap next. gap.end ≤ next.begin) gaps.now (length gaps.now) }
 {
     gaps.is_sorted_by(|gap, next| gap.end <= next.begin)
 }

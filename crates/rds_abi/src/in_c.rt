@@ -117,7 +117,15 @@ pub(crate) fn item_in_c(item: Item) -> RdsItem
 
 /// An item of no kind at this place.
 fn nothing_at(place: u64) -> RdsItem
-    ensures { result ≡ record { place = place; blocks = no_block ∷ no_block ∷ no_block ∷ no_block ∷ []; what = 0; number = 0; version = 0; conflict = 0; unused = 0 } }
+    ensures { result ≡ record {
+      place = place;
+      blocks = no_block ∷ no_block ∷ no_block ∷ no_block ∷ [];
+      what = 0;
+      number = 0;
+      version = 0;
+      conflict = 0;
+      unused = 0;
+    } }
 {
     RdsItem {
         place,

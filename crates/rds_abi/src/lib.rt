@@ -28,8 +28,8 @@ mod in_c; // Items, blocks and totals, laid out so.
 mod asked; // A caller's arguments.
 mod whole; // A recording that is handed over whole.
 mod part; // The part of a recording that a run hears.
-mod going; // A run from range to range.
-mod following; // A stream chunk by chunk.
+mod ranges; // A run from range to range.
+mod stream; // A stream chunk by chunk.
 mod blocks; // Single blocks.
 mod groups; // Groups to bytes.
 mod names; // Names and the version.
@@ -37,12 +37,12 @@ mod refusal; // Why a call is refused.
 pub mod laws; // The refusals exclude each other.
 
 pub use blocks::{correct, remainder};
-pub use following::{finish, finish_with, push};
-pub use going::{finish_run, run};
 pub use groups::encode;
 pub use layout::{
     RdsBlock, RdsGap, RdsItem, RdsPacked, RdsRules, RdsState, RdsStream, RdsTotals, RdsWords,
 };
 pub use names::{VERSION, refusal_name};
+pub use ranges::{finish_run, run};
 pub use refusal::Refusal;
+pub use stream::{finish, finish_with, push};
 pub use whole::{items, totals};

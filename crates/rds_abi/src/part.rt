@@ -56,7 +56,8 @@ pub(crate) fn part_of(
 /// after it. Two binary searches.
 pub(crate) fn near(gaps: &[RdsGap], before: u64, len: u64) -> &[RdsGap]
     requires { AreGaps (2 ^ 36) (gaps_of gaps.now) }
-    ensures same { (n : ℕ) → n ≤ len → the_gaps_within (gaps_of result.now) before n ≡ the_gaps_within (gaps_of gaps.now) before n }
+    ensures same { (n : ℕ) → n ≤ len
+        → the_gaps_within (gaps_of result.now) before n ≡ the_gaps_within (gaps_of gaps.now) before n }
     ensures some { AreGaps (2 ^ 36) (gaps_of result.now) }
 {
     let first = gaps.partition_point(|gap| gap.end <= before);

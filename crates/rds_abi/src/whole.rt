@@ -48,7 +48,8 @@ pub fn items(
     room: &mut [RdsItem],
     count: &mut u64,
 ) -> Result<(), Refusal>
-    ensures filled { OnOk result (IsFilled (items_asked (asked bytes.now bits gaps.now rules)) room.old room.new) }
+    ensures filled { OnOk result
+        (IsFilled (items_asked (asked bytes.now bits gaps.now rules)) room.old room.new) }
     ensures count { OnOk result (count.new ≡ length (items_asked (asked bytes.now bits gaps.now rules))) }
     ensures lawful { OnOk result (IsLawful (asked bytes.now bits gaps.now rules)) }
     ensures room { OnErr result (room.new ≡ room.old) }
@@ -76,7 +77,8 @@ fn write_items(
     ensures filled { OnOk result (IsFilled (map item_in_c items.now.list) room.old room.new) }
     ensures count { OnOk result (count.new ≡ length items.now.list) }
     ensures room { OnErr result (room.new ≡ room.old) }
-    ensures refused { IfErr result (λ refusal. IsTooMuch (map item_in_c items.now.list) (length room.old) refusal count.new) }
+    ensures refused { IfErr result
+        (λ refusal. IsTooMuch (map item_in_c items.now.list) (length room.old) refusal count.new) }
 {
     *count = items.len() as u64;
     if room.len() < items.len() {

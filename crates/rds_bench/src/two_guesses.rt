@@ -87,7 +87,8 @@ fn guesses_in_order(
 ) -> Result<Vec<PieceRun>, PieceError>
     requires fits { IsCutting (length_of recording.now) cutting.now }
     requires two { pieces_of cutting.now ≡ 2 }
-    ensures { IfOk result (λ runs. FollowEachOther recording.now rules.now 0 (length_of recording.now) runs.items) }
+    ensures { IfOk result
+        (λ runs. FollowEachOther recording.now rules.now 0 (length_of recording.now) runs.items) }
 {
     laws::pieces_follow();
     let mut runs = Vec::with_capacity(alloc, 2)?;

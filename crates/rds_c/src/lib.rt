@@ -12,6 +12,6 @@
 
 // In the order of reading, as the calls of `rds_abi`.
 mod whole; // A recording that is handed over whole.
-mod going; // A run from range to range.
-mod following; // A stream chunk by chunk.
-mod alone; // Single blocks and groups, names and the version.
+mod ranges; // A run from range to range.
+mod stream; // A stream chunk by chunk.
+mod single; // Single blocks and groups, names and the version.

@@ -42,12 +42,14 @@ pub extern "C" fn rds_items(
     room: &mut [RdsItem],
     count: &mut u64,
 ) -> u8
-    ensures filled { result ≡ 0 → IsFilled (items_asked (asked bytes.now bits gaps.now rules.now)) room.old room.new }
+    ensures filled { result ≡ 0
+        → IsFilled (items_asked (asked bytes.now bits gaps.now rules.now)) room.old room.new }
     ensures count { result ≡ 0 → count.new ≡ length (items_asked (asked bytes.now bits gaps.now rules.now)) }
     ensures lawful { result ≡ 0 → IsLawful (asked bytes.now bits gaps.now rules.now) }
     ensures refused { result ≢ 0 → RefusedBy (λ refusal.
         (IsLawful (asked bytes.now bits gaps.now rules.now)
-        × IsTooMuch (items_asked (asked bytes.now bits gaps.now rules.now)) (length room.old) refusal count.new)
+        × IsTooMuch (items_asked (asked bytes.now bits gaps.now rules.now)) (length room.old)
+        refusal count.new)
         ⊎ (Refuses (asked bytes.now bits gaps.now rules.now) refusal × (count.new ≡ count.old))) result }
     ensures untouched { result ≢ 0 → room.new ≡ room.old }
 {

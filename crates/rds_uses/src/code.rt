@@ -308,7 +308,8 @@ pub fn corrected_by_one_pair(
     limit: BurstLimit,
 ) -> Reading
     requires block { w < 2 ^ 26 }
-    ensures { (o : AnOffset) (info e : ℕ) → result ≡ Corrected o info e → FitsAlone w number wanted limit o e }
+    ensures { (o : AnOffset) (info e : ℕ) → result ≡ Corrected o info e
+        → FitsAlone w number wanted limit o e }
 {
     read_block(table, w, number, wanted, limit)
 }
@@ -340,7 +341,8 @@ pub fn read_by_the_rule(
 /// A group that is sent and read, block by block: block 3 has C' if the version bit is set.
 pub fn group_sent_and_read(table: &BurstTable, words: [u16; 4], limit: BurstLimit) -> [Reading; 4]
     ensures { result ≡ Valid A (slice_index words 0) ∷ Valid B (slice_index words 1)
-        ∷ Valid (third_offset (slice_index words 1)) (slice_index words 2) ∷ Valid D (slice_index words 3) ∷ [] }
+        ∷ Valid (third_offset (slice_index words 1)) (slice_index words 2) ∷ Valid D (slice_index words 3)
+        ∷ [] }
 {
     laws::blocks_are_read_as_sent();
     let [one, two, three, four] = encode_group(words);

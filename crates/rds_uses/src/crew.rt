@@ -28,7 +28,8 @@ pub fn decoded_by_four<R: Threads + Wait + Sync>(
     requires { IsCutting (length_of recording.now) cutting.now }
     ensures items { IfOk result (λ report. report.items
         ≡ listed recording.now rules.now (report_items recording.now rules.now)) }
-    ensures totals { IfOk result (λ report. report.totals ≡ totals_of (report_items recording.now rules.now)) }
+    ensures totals { IfOk result
+        (λ report. report.totals ≡ totals_of (report_items recording.now rules.now)) }
     ensures refused { IfErr result (λ error. (error ≡ OutOfMemory) ⊎ (error ≡ NoWorker)) }
     ensures alone { pieces_of cutting.now ≤ 1 → IsOkUnless result OutOfMemory }
 {

@@ -52,7 +52,8 @@ pub fn left_to_write<K: Sink>(writer: &mut K, bytes: &[u8]) -> usize
 /// A write appends the bytes that it says it took.
 pub fn takes_as_said<K: Sink>(writer: &mut K, bytes: &[u8]) -> Result<usize, Failed>
     requires { K.failed writer.old < 2 ^ 63 }
-    ensures { IfOk result (λ count. Appends (K.contents writer.old) (K.contents writer.new) (take count bytes.now)) }
+    ensures { IfOk result
+        (λ count. Appends (K.contents writer.old) (K.contents writer.new) (take count bytes.now)) }
 {
     writer.write(bytes)
 }

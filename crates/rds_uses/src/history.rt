@@ -29,7 +29,8 @@ pub struct Piped {
 /// From standard input to standard output: all that was given makes all that was taken, after the end was answered, and the
 /// last call was a flush that succeeded.
 pub fn input_to_output<R: Threads + Wait + Sync>(rt: &HostRuntime, crew: &R, job: &Job) -> Piped
-    ensures text { OnOk result.answer (outcome job.now (given_by result.reader) ≡ Ok (taken_by result.writer)) }
+    ensures text { OnOk result.answer
+        (outcome job.now (given_by result.reader) ≡ Ok (taken_by result.writer)) }
     ensures end { OnOk result.answer (has_ended result.reader ≡ true) }
     ensures flushed { OnOk result.answer (is_flushed result.writer ≡ true) }
 {
@@ -59,7 +60,8 @@ pub fn heard<R: Threads + Wait + Sync, S: Source, K: Sink>(
     ensures end { OnOk result (S.has_ended reader.new ≡ true) }
     ensures flushed { OnOk result (K.is_flushed writer.new ≡ true) }
     ensures refused { IfErr result (λ error. IsOutside error ⊎ Gave (S.given reader.old) (S.given reader.new)
-        (λ bytes. (outcome job.now bytes ≡ Err error) × ((task_of job.now ≡ Err error) ⊎ (S.has_ended reader.new ≡ true)))) }
+        (λ bytes. (outcome job.now bytes ≡ Err error)
+        × ((task_of job.now ≡ Err error) ⊎ (S.has_ended reader.new ≡ true)))) }
 {
     transcribe(rt, alloc, reader, writer, job)
 }
@@ -93,11 +95,15 @@ pub fn heard_live<S: Source, K: Sink>(
 ) -> Result<(), ToolError>
     requires reads { S.failed reader.old < 2 ^ 63 }
     requires writes { K.failed writer.old < 2 ^ 63 }
-    ensures text { OnOk result (Gave (S.given reader.old) (S.given reader.new) (λ bytes. IsHeardOut bits (S.has_ended reader.new) bytes
-        × Writes (K.contents writer.old) (K.contents writer.new) (listed (record { rules = rules.now; gaps = [] }) bits bytes))) }
+    ensures text { OnOk result
+        (Gave (S.given reader.old) (S.given reader.new)
+        (λ bytes. IsHeardOut bits (S.has_ended reader.new) bytes
+        × Writes (K.contents writer.old) (K.contents writer.new)
+        (listed (record { rules = rules.now; gaps = [] }) bits bytes))) }
     ensures flushed { OnOk result (K.is_flushed writer.new ≡ true) }
     ensures prompt { IsErrOf result Read → Gave (S.given reader.old) (S.given reader.new) (λ bytes.
-        Appends (K.contents writer.old) (K.contents writer.new) (rows_so_far (record { rules = rules.now; gaps = [] }) bytes)
+        Appends (K.contents writer.old) (K.contents writer.new)
+        (rows_so_far (record { rules = rules.now; gaps = [] }) bytes)
         × IsFlushedAfter bytes (K.is_flushed writer.new)) }
 {
     follow(alloc, reader, writer, rules, bits, &[])

@@ -318,7 +318,8 @@ pub fn rest_and_all(all: Totals, part: Totals) -> Totals
 pub fn totals_of_three(items: &[Item], first: usize) -> Totals
     requires within { first ≤ length items.now }
     requires few { length items.now ≤ 2 ^ 37 }
-    ensures { result ≡ plus (plus (totals_of items.now) (totals_of items.now)) (totals_of (take first items.now)) }
+    ensures { result ≡ plus (plus (totals_of items.now) (totals_of items.now))
+        (totals_of (take first items.now)) }
 {
     Totals::of(items)
         .plus(Totals::of(items))

@@ -6,7 +6,7 @@ ghost use Rattle.rds_sync.specs.Totals.{totals_of};
 ghost use Rattle.rds_live.specs.Live.{HasHeard, report_at, report_of};
 ghost use Rattle.rds_abi.specs.Asked.{asked, items_asked, recording_of, rules_of};
 ghost use Rattle.rds_abi.specs.Blocks.{packed};
-ghost use Rattle.rds_abi.specs.Following.{AreCompleted, AreWritten, stream_in_c, stream_of, terms_of};
+ghost use Rattle.rds_abi.specs.Stream.{AreCompleted, AreWritten, stream_in_c, stream_of, terms_of};
 ghost use Rattle.rds_abi.specs.Layout.{item_in_c, totals_in_c};
 
 use rds_abi::{
@@ -18,7 +18,9 @@ use std::alloc::Global;
 
 /// How many groups a recording without gaps has: those of its report.
 pub fn groups_of(alloc: Global, bytes: &[u8], bits: u64, rules: RdsRules) -> Result<u64, Refusal>
-    ensures { IfOk result (λ groups. groups ≡ (totals_of (report_items (recording_of bytes.now bits []) (rules_of rules))).groups) }
+    ensures { IfOk result
+        (λ groups. groups
+        ≡ (totals_of (report_items (recording_of bytes.now bits []) (rules_of rules))).groups) }
 {
     Ok(totals(alloc, bytes, bits, &[], rules)?.groups)
 }
@@ -26,7 +28,8 @@ pub fn groups_of(alloc: Global, bytes: &[u8], bits: u64, rules: RdsRules) -> Res
 /// Rules that correct six bits are refused as such, whatever else is asked, or because memory was refused.
 pub fn six_bits_refused(alloc: Global, bytes: &[u8], reach: u32) -> Option<Refusal>
     ensures refused { result ≢ None }
-    ensures why { IfSome result (λ refusal. (refusal ≡ Refusal.BurstRange) ⊎ (refusal ≡ Refusal.OutOfMemory)) }
+    ensures why { IfSome result
+        (λ refusal. (refusal ≡ Refusal.BurstRange) ⊎ (refusal ≡ Refusal.OutOfMemory)) }
 {
     let rules = RdsRules {
         burst: 6,
@@ -58,7 +61,8 @@ pub fn in_two_ranges(
     second: &mut [RdsItem],
     end: &mut [RdsItem],
 ) -> Result<Counts, Refusal>
-    ensures { IfOk result (λ counts. take counts.first first.new ++ (take counts.second second.new ++ take counts.end end.new)
+    ensures { IfOk result
+        (λ counts. take counts.first first.new ++ (take counts.second second.new ++ take counts.end end.new)
         ≡ items_asked (asked bytes.now bits gaps.now rules)) }
 {
     laws::runs_join();
@@ -106,10 +110,13 @@ fn push_all(
     room: &mut [RdsItem],
     count: &mut u64,
 ) -> Result<(), Refusal>
-    ensures heard { OnOk result ((before : List ℕ) → HasHeard (stream_of (terms_of rules gaps.now) stream.old) before
+    ensures heard { OnOk result
+        ((before : List ℕ) → HasHeard (stream_of (terms_of rules gaps.now) stream.old) before
         → HasHeard (stream_of (terms_of rules gaps.now) stream.new) (before ++ bytes.now)) }
     ensures laid { OnOk result (stream.new ≡ stream_in_c (stream_of (terms_of rules gaps.now) stream.new)) }
-    ensures items { OnOk result (AreWritten (AreCompleted (terms_of rules gaps.now) stream.old bytes.now) room.old room.new count.new) }
+    ensures items { OnOk result
+        (AreWritten (AreCompleted (terms_of rules gaps.now) stream.old bytes.now)
+        room.old room.new count.new) }
 {
     let mut taken = 0;
     push(alloc, bytes, gaps, rules, stream, room, &mut taken, count)?;
@@ -129,7 +136,9 @@ pub fn offered_again(
     stream: &mut RdsStream,
     room: &mut [RdsItem],
 ) -> Result<u64, Refusal>
-    ensures { IfOk result (λ left. left ≡ 0 → (before : List ℕ) → HasHeard (stream_of (terms_of rules gaps.now) stream.old) before
+    ensures { IfOk result
+        (λ left. left ≡ 0 → (before : List ℕ)
+        → HasHeard (stream_of (terms_of rules gaps.now) stream.old) before
         → HasHeard (stream_of (terms_of rules gaps.now) stream.new) (before ++ bytes.now)) }
 {
     let mut taken = 0;
@@ -184,9 +193,11 @@ pub fn in_two_chunks(
     second: &mut [RdsItem],
     end: &mut [RdsItem],
 ) -> Result<(Counts, RdsTotals), Refusal>
-    ensures items { IfOk result (λ r. take r.0.first first.new ++ (take r.0.second second.new ++ take r.0.end end.new)
+    ensures items { IfOk result
+        (λ r. take r.0.first first.new ++ (take r.0.second second.new ++ take r.0.end end.new)
         ≡ map item_in_c (report_of (terms_of rules gaps.now) (early.now ++ late.now))) }
-    ensures totals { IfOk result (λ r. r.1 ≡ totals_in_c (totals_of (report_of (terms_of rules gaps.now) (early.now ++ late.now)))) }
+    ensures totals { IfOk result
+        (λ r. r.1 ≡ totals_in_c (totals_of (report_of (terms_of rules gaps.now) (early.now ++ late.now)))) }
 {
     let mut counts = Counts {
         first: 0,
@@ -238,9 +249,12 @@ pub fn ended_inside_a_byte(
     last: &mut [RdsItem],
 ) -> Result<(Counts, RdsTotals), Refusal>
     ensures items { IfOk result (λ r. take r.0.first first.new ++ take r.0.end last.new
-        ≡ map item_in_c (report_at (terms_of rules gaps.now) (early.now ++ late.now) (8 * length early.now + bits))) }
+        ≡ map item_in_c
+        (report_at (terms_of rules gaps.now) (early.now ++ late.now) (8 * length early.now + bits))) }
     ensures totals { IfOk result (λ r. r.1
-        ≡ totals_in_c (totals_of (report_at (terms_of rules gaps.now) (early.now ++ late.now) (8 * length early.now + bits)))) }
+        ≡ totals_in_c
+        (totals_of
+        (report_at (terms_of rules gaps.now) (early.now ++ late.now) (8 * length early.now + bits)))) }
 {
     let mut counts = Counts {
         first: 0,

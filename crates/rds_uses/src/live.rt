@@ -68,7 +68,8 @@ fn second_sitting(
 ) -> Result<(Vec<Item>, StreamEnd), StreamError>
     requires { live.now.terms ≡ record { rules = rules.now; gaps = gaps.now } }
     ensures items { IfOk result (λ r. (before : List ℕ) → HasHeard live.now before
-        → complete live.now.terms before ++ r.0.items ++ group_item r.1.group ≡ report_of live.now.terms (before ++ rest.now)) }
+        → complete live.now.terms before ++ r.0.items ++ group_item r.1.group
+        ≡ report_of live.now.terms (before ++ rest.now)) }
     ensures totals { IfOk result (λ r. (before : List ℕ) → HasHeard live.now before
         → r.1.totals ≡ totals_of (report_of live.now.terms (before ++ rest.now))) }
 {
@@ -111,10 +112,12 @@ fn put_next(
     items: &mut Vec<Item>,
     bytes: &[u8],
 ) -> Result<(), StreamError>
-    ensures heard { IfOk result (λ _. (before : List ℕ) → HasHeard live.old before → HasHeard live.new (before ++ bytes.now)) }
+    ensures heard { IfOk result
+        (λ _. (before : List ℕ) → HasHeard live.old before → HasHeard live.new (before ++ bytes.now)) }
     ensures terms { IfOk result (λ _. live.new.terms ≡ live.old.terms) }
     ensures items { IfOk result (λ _. (before : List ℕ) → HasHeard live.old before
-        → items.old.items ≡ complete live.old.terms before → items.new.items ≡ complete live.old.terms (before ++ bytes.now)) }
+        → items.old.items ≡ complete live.old.terms before
+        → items.new.items ≡ complete live.old.terms (before ++ bytes.now)) }
 {
     let mut found = live.take_all(alloc, bytes)?;
     items.append(&mut found)?;
@@ -124,7 +127,8 @@ fn put_next(
 /// Ends a stream, and appends the group in progress to its items.
 fn close(live: Live<'_>, items: &mut Vec<Item>) -> Result<(), StreamError>
     ensures { IfOk result (λ _. (bytes : List ℕ) → HasHeard live.entry bytes
-        → items.old.items ≡ complete live.entry.terms bytes → items.new.items ≡ report_of live.entry.terms bytes) }
+        → items.old.items ≡ complete live.entry.terms bytes
+        → items.new.items ≡ report_of live.entry.terms bytes) }
 {
     if let Some(group) = live.finish().group {
         items.push(Item::Group(group))?;
@@ -189,7 +193,8 @@ pub fn two_cuttings(
 
 /// Two decoders that were fed the same, however it was cut, are in one state.
 pub fn states<'r>(one: &Live<'r>, other: &Live<'r>) -> (State, State)
-    requires { (bytes : List ℕ) × (one.now ≡ live_of one.now.terms bytes) × (other.now ≡ live_of one.now.terms bytes) }
+    requires { (bytes : List ℕ) × (one.now ≡ live_of one.now.terms bytes)
+        × (other.now ≡ live_of one.now.terms bytes) }
     ensures { result.0 ≡ result.1 }
 {
     (one.state(), other.state())

@@ -177,7 +177,8 @@ pub fn marks_of_guess(
 
 /// A guess knows the totals of its items.
 pub fn totals_of_guess(run: &PieceRun) -> Totals
-    ensures { result ≡ totals_of (guess run.now.source run.now.rules run.now.from (run.now.to - run.now.from)).1 }
+    ensures { result ≡ totals_of
+        (guess run.now.source run.now.rules run.now.from (run.now.to - run.now.from)).1 }
 {
     run.totals()
 }
@@ -197,7 +198,8 @@ pub fn carried_on<'a>(
     ensures source { IfOk result (λ both. both.1.items ≡ listed recording.now rules.now both.1.items.list) }
     ensures items { IfOk result (λ both. both.0.items ++ both.1.items.list
         ≡ (run_of recording.now rules.now Searching 0 run.now.to).1) }
-    ensures end { IfOk result (λ both. both.1.end_state ≡ (run_of recording.now rules.now Searching 0 run.now.to).0) }
+    ensures end { IfOk result
+        (λ both. both.1.end_state ≡ (run_of recording.now rules.now Searching 0 run.now.to).0) }
     ensures totals { IfOk result (λ both. both.1.totals ≡ totals_of both.1.items.list) }
 {
     let _loss = rules.loss();
@@ -300,7 +302,8 @@ pub fn joined_on_both_sides(
     requires before { AreNeighbours recording.now rules.now one.now two.now }
     requires after { AreNeighbours recording.now rules.now two.now three.now }
     ensures before { IfOk result (λ runs. runs.0 ≡ run_over recording.now rules.now one.now.from two.now.to) }
-    ensures after { IfOk result (λ runs. runs.1 ≡ run_over recording.now rules.now two.now.from three.now.to) }
+    ensures after { IfOk result
+        (λ runs. runs.1 ≡ run_over recording.now rules.now two.now.from three.now.to) }
 {
     let before = join_runs(alloc, &mut Counted::new(recording), rules, one, two)?;
     let after = join_runs(alloc, &mut Counted::new(recording), rules, two, three)?;
@@ -373,7 +376,8 @@ pub fn decoded_in_two_pieces(
     requires two { pieces_of cutting.now ≡ 2 }
     ensures items { IfOk result (λ report. report.items
         ≡ listed recording.now rules.now (report_items recording.now rules.now)) }
-    ensures totals { IfOk result (λ report. report.totals ≡ totals_of (report_items recording.now rules.now)) }
+    ensures totals { IfOk result
+        (λ report. report.totals ≡ totals_of (report_items recording.now rules.now)) }
     ensures refused { IsOkUnless result OutOfMemory }
 {
     stitched(alloc, recording, rules, cutting)
@@ -389,7 +393,8 @@ pub(crate) fn stitched(
     requires { IsCutting (length_of recording.now) cutting.now }
     ensures items { IfOk result (λ report. report.items
         ≡ listed recording.now rules.now (report_items recording.now rules.now)) }
-    ensures totals { IfOk result (λ report. report.totals ≡ totals_of (report_items recording.now rules.now)) }
+    ensures totals { IfOk result
+        (λ report. report.totals ≡ totals_of (report_items recording.now rules.now)) }
     ensures refused { IsOkUnless result OutOfMemory }
 {
     let runs = guesses(alloc, recording, rules, cutting)?;
@@ -423,11 +428,13 @@ pub fn cost_of_one_piece<T: Tape>(
     rules: &Rules,
     runs: &[PieceRun],
 ) -> Result<Report, PieceError>
-    requires in_a_row { FollowEachOther (T.signal tape.old) rules.now 0 (length_of (T.signal tape.old)) runs.now }
+    requires in_a_row { FollowEachOther (T.signal tape.old) rules.now 0 (length_of (T.signal tape.old))
+        runs.now }
     requires one { length runs.now ≡ 1 }
     requires room { T.reads_made tape.old ≤ 2 ^ 61 }
     ensures reads { OnOk result (T.reads_made tape.new ≤ T.reads_made tape.old + (rules.now.reach + 2) + 3) }
-    ensures refused { OnErr result (T.reads_made tape.new ≤ T.reads_made tape.old + (rules.now.reach + 2) + 3) }
+    ensures refused { OnErr result
+        (T.reads_made tape.new ≤ T.reads_made tape.old + (rules.now.reach + 2) + 3) }
     ensures same { T.signal tape.new ≡ T.signal tape.old }
 {
     stitch(alloc, tape, rules, runs)
@@ -483,8 +490,10 @@ pub fn joined_by_work<W: Work>(alloc: Global, work: &W) -> Result<PieceRun, Piec
 fn two_guesses<W: Work>(alloc: Global, work: &W) -> Result<(PieceRun, PieceRun), PieceError>
     requires fits { IsCutting (length_of (W.recording work.now)) (W.places work.now) }
     requires two { pieces_of (W.places work.now) ≡ 2 }
-    ensures left { IfOk result (λ runs. runs.0 ≡ run_at (W.recording work.now) (W.rule_set work.now) (W.places work.now) 0) }
-    ensures right { IfOk result (λ runs. runs.1 ≡ run_at (W.recording work.now) (W.rule_set work.now) (W.places work.now) 1) }
+    ensures left { IfOk result
+        (λ runs. runs.0 ≡ run_at (W.recording work.now) (W.rule_set work.now) (W.places work.now) 0) }
+    ensures right { IfOk result
+        (λ runs. runs.1 ≡ run_at (W.recording work.now) (W.rule_set work.now) (W.places work.now) 1) }
     ensures refused { IsOkUnless result OutOfMemory }
 {
     let left = work.guess(alloc, 0)?;

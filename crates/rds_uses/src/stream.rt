@@ -167,7 +167,8 @@ pub fn distance_of_first_two(recording: &Recording) -> Option<u64>
 pub fn last_of_planes(recording: &Recording, at: u64) -> [u64; 10]
     requires first { 25 ≤ at }
     requires last { at + 64 ≤ length_of recording.now }
-    ensures { (r : ℕ) → r < 10 → bit_at (slice_index result r) 63 ≡ bit_at (rem (window recording.now.bits (at + 63))) r }
+    ensures { (r : ℕ) → r < 10
+        → bit_at (slice_index result r) 63 ≡ bit_at (rem (window recording.now.bits (at + 63))) r }
 {
     planes(recording, at)
 }

@@ -313,7 +313,8 @@ pub fn stitches<T: Tape>(
     rules: &Rules,
     runs: &[PieceRun],
 ) -> Result<Report, PieceError>
-    requires in_a_row { FollowEachOther (T.signal tape.old) rules.now 0 (length_of (T.signal tape.old)) runs.now }
+    requires in_a_row { FollowEachOther (T.signal tape.old) rules.now 0 (length_of (T.signal tape.old))
+        runs.now }
     requires room { T.reads_made tape.old ≤ 2 ^ 61 }
 {
     stitch(alloc, tape, rules, runs)
@@ -356,7 +357,8 @@ pub fn work_report<W: Work>(
     work: &W,
     runs: &[PieceRun],
 ) -> Result<Report, PieceError>
-    requires { FollowEachOther (W.recording work.now) (W.rule_set work.now) 0 (length_of (W.recording work.now)) runs.now }
+    requires { FollowEachOther (W.recording work.now) (W.rule_set work.now) 0
+        (length_of (W.recording work.now)) runs.now }
 {
     work.report(alloc, runs)
 }

@@ -245,7 +245,8 @@ pub fn found_by_step<T: Tape>(tape: &mut T, rules: &Rules, place: u64, to: u64) 
     requires before { place < to }
     requires within { to ≤ length_of (T.signal tape.old) }
     requires counted { T.reads_made tape.old + 16 ≤ 2 ^ 63 }
-    ensures { items_in result.items ≡ (run_of (T.signal tape.old) rules.now Searching place (result.place - place)).1 }
+    ensures { items_in result.items
+        ≡ (run_of (T.signal tape.old) rules.now Searching place (result.place - place)).1 }
 {
     advance(tape, rules, State::Searching, place, to)
 }
@@ -464,7 +465,8 @@ pub fn converged_ends(
     requires order { from ≤ to }
     requires within { to ≤ length_of recording.now }
     requires sound { (j : ℕ) × (p : ℕ) × (c : ℕ) × (last : ℕ) × IsSound recording.now rules.now j from p c
-        × IsLastFour recording.now from (from + sound_bits rules.now.loss j) p c last × (to ≡ p + 26 * last + 1) }
+        × IsLastFour recording.now from (from + sound_bits rules.now.loss j) p c last
+        × (to ≡ p + 26 * last + 1) }
     ensures { result.0 ≡ result.1 }
 {
     laws::runs_converge();
@@ -479,7 +481,8 @@ pub fn has_one_end(recording: &Recording, rules: &Rules, from: u64)
     ensures { (j p c : ℕ) → IsSound recording.now rules.now j from p c
         → (to : ℕ) × (to ≤ from + sound_bits rules.now.loss j)
         × ((s t : AState) → IsLawful rules.now from s → IsLawful rules.now from t
-        → (run_of recording.now rules.now s from (to - from)).0 ≡ (run_of recording.now rules.now t from (to - from)).0) }
+        → (run_of recording.now rules.now s from (to - from)).0
+        ≡ (run_of recording.now rules.now t from (to - from)).0) }
 {
     laws::runs_converge();
     let _numbers = rules.numbers();
@@ -600,7 +603,8 @@ pub fn room_for_items(alloc: Global, recording: &Recording, rules: &Rules) -> Re
 pub fn report_of(alloc: Global, recording: &Recording, rules: &Rules) -> Result<Report, SyncError>
     ensures items { IfOk result (λ report. report.items
         ≡ listed recording.now rules.now (report_items recording.now rules.now)) }
-    ensures totals { IfOk result (λ report. report.totals ≡ totals_of (report_items recording.now rules.now)) }
+    ensures totals { IfOk result
+        (λ report. report.totals ≡ totals_of (report_items recording.now rules.now)) }
     ensures refused { IsOkUnless result OutOfMemory }
 {
     decode_plain(alloc, recording, rules)

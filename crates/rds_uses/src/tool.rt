@@ -304,7 +304,8 @@ pub fn bad_gaps<R: Threads + Wait + Sync>(
     requires few { length bytes.now < 16777216 }
     requires gaps { may_be_gaps 0 gaps.items (8 * length bytes.now) ≡ false }
     ensures refused { result ≢ None }
-    ensures cause { IfSome result (λ error. (error ≡ BadGaps) ⊎ ((error ≡ OutOfMemory) ⊎ ((error ≡ Read) ⊎ (error ≡ Write)))) }
+    ensures cause { IfSome result
+        (λ error. (error ≡ BadGaps) ⊎ ((error ≡ OutOfMemory) ⊎ ((error ≡ Read) ⊎ (error ≡ Write)))) }
 {
     let input = Input {
         hex: false,

@@ -12,8 +12,8 @@ use Rattle.rds_sync.specs.Step.{lock_of}
 use Rattle.rds_abi.specs.Asked.{loss_of}
 use Rattle.rds_live.specs.Live.{Terms, live_of}
 use Rattle.rds_abi.specs.Blocks.{block_wanted}
-use Rattle.rds_abi.specs.Following.{stream_of, unheard}
-use Rattle.rds_abi.specs.Going.{searching_in_c, state_of}
+use Rattle.rds_abi.specs.Stream.{stream_of, unheard}
+use Rattle.rds_abi.specs.Ranges.{searching_in_c, state_of}
 use Rattle.rds_abi.specs.Layout.{item_in_c, no_block}
 use Rattle.rds_abi.specs.declared.layout.RdsRules.{RdsRules}
 

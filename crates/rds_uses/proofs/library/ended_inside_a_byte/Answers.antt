@@ -1,5 +1,5 @@
 use Rattle.std.proofs.Common.{[], refl}
-use Rattle.rds_abi.specs.Following.{terms_of}
+use Rattle.rds_abi.specs.Stream.{terms_of}
 use Rattle.rds_uses.proofs.NumberedStreams.{to_an_end}
 use Rattle.rds_uses.proofs.library.ended_inside_a_byte.Goals as goal
 

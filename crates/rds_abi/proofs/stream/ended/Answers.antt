@@ -1,0 +1,35 @@
+use Rattle.std.proofs.Common.{◌≡◌, ◌+◌, ◌*◌, ◌/◌, ◌%◌, ◌++◌, ◌∙◌, ℕ, List, ap, ap₂, append_assoc, arith, drop, length, take}
+use Rattle.std.proofs.lemmas.List.{length-append, take-append-drop}
+use Rattle.rds_live.specs.Live.{Terms, complete, report_at}
+use Rattle.rds_sync.specs.declared.item.Item.{Item}
+use Rattle.rds_sync.specs.Totals.{totals_of}
+use Rattle.rds_abi.proofs.stream.ended.Goals as goal
+
+-- the whole bytes are taken first, and then the bits of the one that is left
+same_end : (old new : Terms) (before bytes whole rest : List ℕ) (bits : ℕ) → new ≡ old → whole ≡ take (bits / 8) bytes → rest ≡ drop (bits / 8) bytes → length whole ≡ bits / 8
+    → report_at new (before ++ whole ++ rest) (8 * length (before ++ whole) + bits % 8) ≡ report_at old (before ++ bytes) (8 * length before + bits)
+same_end old new before bytes whole rest bits terms front back long =
+    let bytes_are : before ++ whole ++ rest ≡ before ++ bytes = append_assoc before whole rest
+    ∙ ap (λ (all : List ℕ). before ++ all) (ap₂ (λ (xs ys : List ℕ). xs ++ ys) front back ∙ take-append-drop (bits / 8) bytes) in
+    let at : 8 * length (before ++ whole) + bits % 8 ≡ 8 * length before + bits = omega (arith, length-append before whole, long) in
+    ap (λ (t : Terms). report_at t (before ++ whole ++ rest) (8 * length (before ++ whole) + bits % 8)) terms
+    ∙ ap₂ (λ (all : List ℕ) (n : ℕ). report_at old all n) bytes_are at
+
+pub returns-clause-items : goal.returns-clause-items
+returns-clause-items c before h =
+    let old = c.args.live.terms in
+    let new = c.take_all.new.self.terms in
+    let whole = c.split_at.result.0.now in
+    let same : new ≡ old = c.take_all.ensures.terms in
+    c.in_ok-totals.ensures.items (before ++ whole) (complete old before) (c.in_ok-items.ensures.heard before h)
+    (ap (λ (t : Terms). complete t (before ++ whole)) same ∙ c.in_ok-items.ensures.items before h)
+    ∙ same_end old new before c.args.bytes.now whole c.split_at.result.1.now c.args.bits same c.split_at.ensures.front c.split_at.ensures.back c.split_at.ensures.front_len
+
+pub returns-clause-totals : goal.returns-clause-totals
+returns-clause-totals c before h =
+    let old = c.args.live.terms in
+    let new = c.take_all.new.self.terms in
+    let whole = c.split_at.result.0.now in
+    c.in_ok-totals.ensures.totals (before ++ whole) (c.in_ok-items.ensures.heard before h)
+    ∙ ap (λ (items : List Item). totals_of items)
+    (same_end old new before c.args.bytes.now whole c.split_at.result.1.now c.args.bits c.take_all.ensures.terms c.split_at.ensures.front c.split_at.ensures.back c.split_at.ensures.front_len)

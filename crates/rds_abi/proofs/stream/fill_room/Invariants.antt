@@ -1,0 +1,10 @@
+use Rattle.std.proofs.Common.{◌≡◌, drop, length, map, take}
+use Rattle.rds_abi.specs.Layout.{item_in_c}
+use Rattle.rds_abi.proofs.stream.fill_room.Given as goal
+
+abbrev pub invariant-loop-at : goal.invariant-loop-at
+invariant-loop-at l = record {
+  written : take l.at l.room ≡ map item_in_c (take l.at l.fn.items);
+  kept : drop l.at l.room ≡ drop l.at l.fn.room;
+  same : length l.room ≡ length l.fn.room;
+}

@@ -1,0 +1,196 @@
+-- A stream that is followed chunk by chunk, from the plain numbers that the caller keeps of it. `push`, `finish` and `finish_with` cite
+-- it. This project's rules.
+use Rattle.std.specs.Prelude.{◌≡◌, ℕ, ◌+◌, ◌-◌, ◌*◌, ◌/◌, ◌^◌, ◌<◌, ◌≤◌, ◌⊎◌, ◌++◌, List, [], length, map, min, replicate, take, ⊤}
+use Rattle.rds_stream.specs.Recording.{AreGaps}
+use Rattle.rds_sync.specs.Rules.{RuleNumbers}
+use Rattle.rds_sync.specs.Totals.{totals_of}
+use Rattle.rds_sync.specs.declared.item.Item.{Item}
+use Rattle.rds_sync.specs.declared.totals.Totals.{Totals}
+use Rattle.rds_live.specs.Gaps.{gaps_within}
+use Rattle.rds_live.specs.Live.{HasHeard, IsLive, LiveOf, Terms, complete, most_kept, report_at, report_of}
+use Rattle.rds_live.specs.Next.{completed}
+use Rattle.rds_abi.specs.Asked.{AreGiven, IsFilled, IsTooMuch, RefusesGiven, gaps_of, rules_of}
+use Rattle.rds_abi.specs.Ranges.{loss_in_c, searching_in_c, state_in_c, state_of}
+use Rattle.rds_abi.specs.Layout.{item_in_c, totals_in_c}
+use Rattle.rds_abi.specs.declared.layout.RdsGap.{RdsGap}
+use Rattle.rds_abi.specs.declared.layout.RdsRules.{RdsRules}
+use Rattle.rds_abi.specs.declared.layout.RdsStream.{RdsStream}
+use Rattle.rds_abi.specs.declared.layout.RdsItem.{RdsItem}
+use Rattle.rds_abi.specs.declared.layout.RdsTotals.{RdsTotals}
+use Rattle.rds_abi.specs.declared.refusal.Refusal.{Refusal}
+use Rattle.rds_abi.specs.declared.refusal.Refusal.TheVariants.{BadGaps, BitsPastBytes, OutOfMemory, TooLong, UnlawfulState}
+
+-- ---- the meaning of the numbers
+
+-- totals, field by field
+abbrev pub totals_from_c : RdsTotals → Totals
+totals_from_c t = record {
+  valid = t.valid;
+  bursts = t.bursts;
+  lost = t.lost;
+  bits = t.bits;
+  groups = t.groups;
+  complete = t.complete;
+  acquired = t.acquired;
+  losses = t.losses;
+}
+
+-- the terms by which a stream is decoded
+abbrev pub terms_of : RdsRules → List RdsGap → Terms
+terms_of rules gaps = record { rules = rules_of rules; gaps = gaps_of gaps }
+
+-- the decoder's view of the stream: the tail is all the bytes that were heard, or the last 30
+abbrev pub stream_of : Terms → RdsStream → LiveOf
+stream_of terms s = record {
+  terms = terms;
+  tail = take (min most_kept (s.place / 8)) s.tail;
+  place = s.place;
+  state = state_of s.state;
+  totals = totals_from_c s.totals;
+}
+
+-- rules as C has them
+abbrev pub rules_in_c : RuleNumbers → RdsRules
+rules_in_c rules = record {
+  burst = rules.burst;
+  reach = rules.reach;
+  loss = (loss_in_c rules.loss).0;
+  of = (loss_in_c rules.loss).1;
+  reserved = replicate 4 0;
+}
+
+-- and as such numbers: by the first a stream is known, and the order of bytes; zeros follow the tail; so equal streams are
+-- equal numbers
+abbrev pub stream_in_c : LiveOf → RdsStream
+stream_in_c live = record {
+  magic = 0x31534452;
+  version = 1;
+  rules = rules_in_c live.terms.rules;
+  place = live.place;
+  state = state_in_c live.terms.rules live.state;
+  totals = totals_in_c live.totals;
+  tail = live.tail ++ replicate (32 - length live.tail) 0;
+  reserved = 0;
+}
+
+-- a stream of which nothing was heard yet: all 0
+abbrev pub unheard : RdsStream
+unheard = record {
+  magic = 0;
+  version = 0;
+  rules = record { burst = 0; reach = 0; loss = 0; of = 0; reserved = replicate 4 0 };
+  place = 0;
+  state = searching_in_c;
+  totals = totals_in_c (totals_of []);
+  tail = replicate 32 0;
+  reserved = 0;
+}
+
+-- the numbers around the state of a stream are those that a call writes
+abbrev pub IsNamed : RuleNumbers → RdsStream → Type 0
+IsNamed rules s =
+    (s.magic ≡ 0x31534452) × (s.version ≡ 1) × (s.rules ≡ rules_in_c rules) × (s.totals.reserved ≡ replicate 4 0) × (s.reserved ≡ 0)
+
+-- a stream that a call can have left: a decoder can know what the numbers say, and they are those that a call writes of it by
+-- these rules, or all 0
+pub record IsLeft (terms : Terms) (s : RdsStream) : Type 0 where
+  pub live : IsLive (stream_of terms s)
+  pub laid : (s ≡ unheard) ⊎ (s ≡ stream_in_c (stream_of terms s))
+
+-- the same rules, and gaps by which the same is heard in the places from `before` on, up to `len` of them
+pub record IsNear (all near : Terms) (before len : ℕ) : Type 0 where
+  pub rules : near.rules ≡ all.rules
+  pub gaps : (n : ℕ) → n ≤ len → gaps_within near.gaps before n ≡ gaps_within all.gaps before n
+  pub may : AreGaps (2 ^ 36) all.gaps
+  pub some : AreGaps (2 ^ 36) near.gaps
+
+-- ---- errors
+
+-- gaps that no stream may have
+abbrev pub RefusesGaps : List RdsGap → Refusal → Type 0
+RefusesGaps gaps BadGaps = AreGaps (2 ^ 36) (gaps_of gaps) → ⊥
+RefusesGaps gaps OutOfMemory = ⊤
+RefusesGaps gaps other = ⊥
+
+-- the rules first, and then the gaps
+abbrev pub RefusesTold : RdsRules → List RdsGap → Refusal → Type 0
+RefusesTold rules gaps refusal = RefusesGiven rules refusal ⊎ (AreGiven rules × RefusesGaps gaps refusal)
+
+-- gaps that no stream may have, and then numbers that no call can have left
+abbrev pub RefusesStream : Terms → RdsStream → Refusal → Type 0
+RefusesStream terms s BadGaps = AreGaps (2 ^ 36) terms.gaps → ⊥
+RefusesStream terms s UnlawfulState = AreGaps (2 ^ 36) terms.gaps × (IsLeft terms s → ⊥)
+RefusesStream terms s OutOfMemory = ⊤
+RefusesStream terms s other = ⊥
+
+-- the rules first, and then the stream
+abbrev pub RefusesFollowed : RdsRules → List RdsGap → RdsStream → Refusal → Type 0
+RefusesFollowed rules gaps s refusal =
+    RefusesGiven rules refusal ⊎ (AreGiven rules × RefusesStream (terms_of rules gaps) s refusal)
+
+-- nothing of it
+pub record IsFollowed (rules : RdsRules) (gaps : List RdsGap) (s : RdsStream) : Type 0 where
+  pub given : AreGiven rules
+  pub left : IsLeft (terms_of rules gaps) s
+
+-- how many bits were heard after these bytes too
+abbrev pub place_after : RdsStream → List ℕ → ℕ
+place_after s bytes = s.place + 8 * length bytes
+
+-- the stream and its terms are checked first, and then how long the stream grows
+abbrev pub RefusesPush : RdsRules → List RdsGap → RdsStream → List ℕ → Refusal → Type 0
+RefusesPush rules gaps s bytes refusal =
+    RefusesFollowed rules gaps s refusal
+    ⊎ (IsFollowed rules gaps s × (2 ^ 36 < place_after s bytes) × (refusal ≡ TooLong))
+
+-- the last bits of a stream: how long it grows, and then what the bytes hold
+module _ (s : RdsStream) (bytes : List ℕ) (bits : ℕ) where
+  abbrev pub RefusesLast : Refusal → Type 0
+  RefusesLast TooLong = 2 ^ 36 < s.place + bits
+  RefusesLast BitsPastBytes = (s.place + bits ≤ 2 ^ 36) × (8 * length bytes < bits)
+  RefusesLast other = ⊥
+
+  -- nothing of them
+  abbrev pub AreLast : Type 0
+  AreLast = (s.place + bits ≤ 2 ^ 36) × (bits ≤ 8 * length bytes)
+
+-- the stream and its terms are checked first
+abbrev pub RefusesEnd : RdsRules → List RdsGap → RdsStream → List ℕ → ℕ → Refusal → Type 0
+RefusesEnd rules gaps s bytes bits refusal =
+    RefusesFollowed rules gaps s refusal ⊎ (IsFollowed rules gaps s × RefusesLast s bytes bits refusal)
+
+-- ---- items
+
+-- the items that these bytes complete, whatever was heard before them
+abbrev pub AreCompleted : Terms → RdsStream → List ℕ → List Item → Type 0
+AreCompleted terms s bytes items =
+    (before : List ℕ) → HasHeard (stream_of terms s) before → complete terms (before ++ bytes) ≡ complete terms before ++ items
+
+-- the group in progress at the end of the stream, if there is one: the items that were complete and this are
+-- the report's
+abbrev pub AreClosed : Terms → RdsStream → List Item → Type 0
+AreClosed terms s items =
+    (length items ≤ 1)
+    × ((bytes : List ℕ) → HasHeard (stream_of terms s) bytes → complete terms bytes ++ items ≡ report_of terms bytes)
+
+-- the items that the first bits of these bytes complete, and after them the group in progress if the stream
+-- ends there
+abbrev pub AreLeft : Terms → RdsStream → List ℕ → ℕ → List Item → Type 0
+AreLeft terms s bytes bits items =
+    (before : List ℕ) → HasHeard (stream_of terms s) before
+    → complete terms before ++ items ≡ report_at terms (before ++ bytes) (8 * length before + bits)
+
+-- all bytes were taken, or as many as have room: the items of one byte more have none
+abbrev pub IsMostTaken : LiveOf → List ℕ → ℕ → ℕ → Type 0
+IsMostTaken live bytes room taken =
+    (taken ≡ length bytes)
+    ⊎ ((0 < taken) × (taken < length bytes) × (room < length (completed live (take (taken + 1) bytes))))
+
+-- the room begins with such items, and is unchanged after them, and the count is theirs
+abbrev pub AreWritten : (List Item → Type 0) → List RdsItem → List RdsItem → ℕ → Type 0
+AreWritten wanted old new count =
+    (items : List Item) × wanted items × IsFilled (map item_in_c items) old new × (count ≡ length items)
+
+-- there are more of them than there is room for, and count is their number
+abbrev pub AreTooMany : (List Item → Type 0) → ℕ → Refusal → ℕ → Type 0
+AreTooMany wanted room refusal count = (items : List Item) × wanted items × IsTooMuch (map item_in_c items) room refusal count
