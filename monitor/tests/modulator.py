@@ -41,33 +41,57 @@ def baseband(chips: Array, times: Array) -> Array:
     padded = numpy.concatenate([numpy.zeros(REACH), chips, numpy.zeros(REACH + 1)])
     # The cosine is the same for all chips. At a quarter of a chip the response is pi / 4.
     total, at_poles = numpy.zeros(times.size), numpy.zeros(times.size)
+    chip, below = numpy.empty(times.size), numpy.empty(times.size)
     for k in range(-REACH + 1, REACH + 1):
-        chip = numpy.take(padded[k + REACH :], first)
-        below = 1 - 16 * (within - k) ** 2
+        numpy.take(padded[k + REACH :], first, out=chip, mode="clip")
+        numpy.subtract(within, k, out=below)
+        below *= below
+        below *= -16
+        below += 1
         if k in (0, 1):
             poles = numpy.nonzero(numpy.abs(below) < 1e-8)
             at_poles[poles] += numpy.pi / 4 * chip[poles]
             below[poles] = numpy.inf
-        total += chip / below
+        chip /= below
+        total += chip
     signal = numpy.cos(2 * numpy.pi * within) * total + at_poles
     result: Array = signal / numpy.sqrt(numpy.mean(signal**2))
     return result
 
 
 def low_noise(random: numpy.random.Generator, size: int, rate: int) -> Array:
-    """Noise up to 15 kHz, cut out of more than is asked for: the lengths that transform fast are powers of two."""
-    longer = 1 << size.bit_length()
-    spectrum = numpy.fft.rfft(random.standard_normal(longer))
-    spectrum[numpy.fft.rfftfreq(longer, 1 / rate) > 15000] = 0
-    return numpy.fft.irfft(spectrum, longer)[:size]
+    """Noise up to 15 kHz, by its spectrum."""
+    spectrum = numpy.zeros(size // 2 + 1, complex)
+    count = int(15000 / rate * size)
+    spectrum[1:count] = random.standard_normal(count - 1) + 1j * random.standard_normal(count - 1)
+    return numpy.fft.irfft(spectrum, size)
 
 
-def audio(random: numpy.random.Generator, times: Array, rate: int) -> Array:
-    """A stereo programme: the sum of both channels, and their difference at 38 kHz, within -1 and 1 but for rare
+@lru_cache(maxsize=8)
+def longer_audio(longer: int, rate: int) -> Array:
+    """So many samples of a stereo programme: the sum of both channels, and their difference at 38 kHz, within -1 and 1 but for rare
     peaks."""
-    both, left, right = (low_noise(random, times.size, rate) for _ in range(3))
-    programme = both + (left + right) / 2 + (left - right) / 2 * numpy.sin(4 * numpy.pi * PILOT_HZ * times)
+    random = numpy.random.default_rng(5)
+    # Half of the power of each channel is in both.
+    both, difference = (low_noise(random, longer, rate) for _ in range(2))
+    programme = numpy.sqrt(3) * both + difference * numpy.sin(4 * numpy.pi * PILOT_HZ / rate * numpy.arange(longer))
     result: Array = programme / (4 * numpy.std(programme))
+    result.setflags(write=False)
+    return result
+
+
+def audio(size: int, rate: int) -> Array:
+    """Samples of the programme, cut out of more than is asked for: the lengths that transform fast are powers of two."""
+    return longer_audio(1 << size.bit_length(), rate)[:size]
+
+
+@lru_cache(maxsize=8)
+def sent(data: bytes, rate: int, clock_offset: float) -> Array:
+    """The baseband of packed bits."""
+    chips_a_second = CHIP_RATE * (1 + clock_offset * 1e-6)
+    chips = chips_of(numpy.unpackbits(numpy.frombuffer(data, "u1")))
+    result = baseband(chips, numpy.arange(int(chips.size / chips_a_second * rate)) / rate * chips_a_second)
+    result.setflags(write=False)
     return result
 
 
@@ -77,14 +101,13 @@ def mpx(data: bytes, rate: int = 192000, snr: float = 30, carrier_offset: float 
     """The MPX of packed bits. Offsets are in Hz of the 57 kHz and in parts in a million of the bits, `phase` is in
     degrees, and from second `flip` on it is inverted."""
     random = numpy.random.default_rng(seed)
-    chips_a_second = CHIP_RATE * (1 + clock_offset * 1e-6)
-    chips = chips_of(numpy.unpackbits(numpy.frombuffer(data, "u1")))
-    times = numpy.arange(int(chips.size / chips_a_second * rate)) / rate
+    shape = sent(data, rate, clock_offset)
+    times = numpy.arange(shape.size) / rate
     carrier = numpy.sin(2 * numpy.pi * (CARRIER_HZ + carrier_offset) * times + numpy.radians(phase))
-    rds = baseband(chips, times * chips_a_second) * carrier * RDS_LEVEL
+    rds = shape * carrier * RDS_LEVEL
     # White noise has its power spread evenly up to half of the sample rate.
     noise = numpy.mean(rds**2) / 10 ** (snr / 10) * (rate / 2) / CHANNEL_HZ
-    signal = rds + random.standard_normal(times.size) * numpy.sqrt(noise) + AUDIO_LEVEL * audio(random, times, rate)
+    signal = rds + random.standard_normal(times.size) * numpy.sqrt(noise) + AUDIO_LEVEL * audio(times.size, rate)
     if stereo:
         signal += PILOT_LEVEL * numpy.sin(2 * numpy.pi * PILOT_HZ * times)
     result: Array = signal if flip is None else numpy.where(times < flip, signal, -signal)

@@ -91,7 +91,8 @@ def test_several_stations_the_worst_first(tmp_path: Path) -> None:
 @needs_d3
 def test_a_day_is_below_a_megabyte(tmp_path: Path) -> None:
     path = tmp_path / "day.bin"
-    path.write_bytes(b"".join(station(text=f"hour {it}", rounds=20000) for it in range(24)))
+    # 20,000 rounds each; after 16 the groups are the same again
+    path.write_bytes(b"".join(1250 * station(text=f"hour {it}", rounds=16) for it in range(24)))
     text = page("--start", "2026-03-29T00:30:00Z", path)
     told = data_of(text)[0]["sessions"][0]
     assert 80000 < told["end"] < 86400 and len(told["mix"]) > 1300

@@ -273,25 +273,27 @@ def test_migrations(database, station: bytes, monkeypatch) -> None:
     assert done.status == 1 and "already exists" in done.err and asked(database, "PRAGMA user_version") == [len(schema.MIGRATIONS) + 1]
 
 
+# Six processes that wait for a writer of the pipe named first, and then make a database, or end in another status than 0.
+MAKERS = """
+import os, sys
+from rds_monitor.store import Store
+for _ in range(6):
+    if not os.fork():
+        open(sys.argv[1]).close()
+        Store(sys.argv[2]).close()
+        os._exit(0)
+with open(sys.argv[1], "wb"):
+    sys.exit(max(os.waitstatus_to_exitcode(os.wait()[1]) for _ in range(6)))
+"""
+
+
 def test_a_database_that_several_processes_make_at_once(tmp_path) -> None:
-    """They wait for a writer of the pipe named first, so that all of them find no database."""
-    code = (
-        "import sys\nfrom rds_monitor.store import Store\nprint(flush=True)\n"
-        "open(sys.argv[1]).close()\nStore(sys.argv[2]).close()"
-    )
+    """All of them find no database."""
     for turn in range(5):
         barrier, path = tmp_path / f"barrier{turn}", tmp_path / f"{turn}.db"
         os.mkfifo(barrier)
-        makers = [
-            subprocess.Popen(
-                [sys.executable, "-c", code, str(barrier), str(path)], stdout=subprocess.PIPE, stderr=subprocess.PIPE
-            )
-            for _ in range(6)
-        ]
-        for maker in makers:
-            assert maker.stdout is not None and maker.stdout.readline() == b"\n"
-        with open(barrier, "wb"):
-            assert [(maker.communicate()[1], maker.returncode) for maker in makers] == [(b"", 0)] * 6
+        done = subprocess.run([sys.executable, "-c", MAKERS, str(barrier), str(path)], capture_output=True, timeout=60)
+        assert (done.returncode, done.stderr) == (0, b"") and path.exists()
 
 
 def test_four_writers_at_once_and_a_reader(database, station: bytes, tmp_path) -> None:
