@@ -2,7 +2,7 @@
 
 /// A gap in a recording, whose bits mean nothing: the places from `begin` to before `end`. 16 bytes.
 #[repr(C)]
-#[derive(Clone, Copy, Debug, PartialEq, Eq)]
+#[derive(Clone, Copy)]
 pub struct RdsGap {
     /// The first place.
     pub begin: u64,
@@ -12,7 +12,7 @@ pub struct RdsGap {
 
 /// The numbers of a decoder's rules: 32 bytes.
 #[repr(C)]
-#[derive(Clone, Copy, Debug, PartialEq, Eq)]
+#[derive(Clone, Copy, PartialEq, Eq)]
 pub struct RdsRules {
     /// The longest burst that is corrected, in bits: 0 to 5.
     pub burst: u32,
@@ -28,21 +28,21 @@ pub struct RdsRules {
 
 /// The information words of a group's four blocks: 8 bytes.
 #[repr(C)]
-#[derive(Clone, Copy, Debug, PartialEq, Eq)]
+#[derive(Clone, Copy)]
 pub struct RdsWords {
     pub words: [u16; 4],
 }
 
 /// The 104 bits of a group as it is sent, the first bit highest: 13 bytes.
 #[repr(C)]
-#[derive(Clone, Copy, Debug, PartialEq, Eq)]
+#[derive(Clone, Copy)]
 pub struct RdsPacked {
     pub bytes: [u8; 13],
 }
 
 /// The twelve totals of a report: 128 bytes.
 #[repr(C)]
-#[derive(Clone, Copy, Debug, PartialEq, Eq)]
+#[derive(Clone, Copy, PartialEq, Eq)]
 pub struct RdsTotals {
     /// Valid blocks.
     pub valid: u64,
@@ -81,7 +81,7 @@ impl RdsTotals {
 
 /// A block: 8 bytes, all 0 if it is missing.
 #[repr(C)]
-#[derive(Clone, Copy, Debug, PartialEq, Eq)]
+#[derive(Clone, Copy)]
 pub struct RdsBlock {
     /// The burst that was corrected, as the ones of a word of 26 bits, or 0.
     pub burst: u32,
@@ -105,7 +105,7 @@ impl RdsBlock {
 
 /// An item of a report: 48 bytes.
 #[repr(C)]
-#[derive(Clone, Copy, Debug, PartialEq, Eq)]
+#[derive(Clone, Copy)]
 pub struct RdsItem {
     /// The place of the block that acquired or lost, or of a group's first bit that was read.
     pub place: u64,
@@ -126,7 +126,7 @@ pub struct RdsItem {
 
 /// The state of a run between two bits: 40 bytes, all 0 without sync.
 #[repr(C)]
-#[derive(Clone, Copy, Debug, PartialEq, Eq)]
+#[derive(Clone, Copy, PartialEq, Eq)]
 pub struct RdsState {
     /// Where the next block ends.
     pub due: u64,
@@ -160,7 +160,7 @@ impl RdsState {
 
 /// The state of a stream between two chunks: 256 bytes, all 0 before the first call.
 #[repr(C)]
-#[derive(Clone, Copy, Debug, PartialEq, Eq)]
+#[derive(Clone, Copy, PartialEq, Eq)]
 pub struct RdsStream {
     /// By this number a stream is known, and the order of bytes: 0x31534452.
     pub magic: u32,

@@ -72,8 +72,7 @@ fn search_of(s: RdsState) -> Option<State>
     ensures some { IfSome result (λ state. (state ≡ Searching) × (s ≡ searching_in_c)) }
     ensures none { result ≡ None → s ≡ searching_in_c → ⊥ }
 {
-    let is_by_none = s.loss == 0 && s.of == 0 && s.reserved == 0;
-    if s.due == 0 && s.bad == 0 && s.first == 0 && is_by_none {
+    if s == RdsState::SEARCHING {
         Some(State::Searching)
     } else {
         None

@@ -141,22 +141,59 @@ fn push_report(
         ≡ listed recording.now rules.now (report_items recording.now rules.now)) }
     ensures refused { IsOkUnless result OutOfMemory }
 {
-    laws::runs_give_few_items();
-    let len = recording.len();
-    let (end, report) = run_report(
-        alloc,
-        recording,
-        rules,
-        State::Searching,
-        0,
-        len,
-        Spans::Whole,
-    )?;
-    items.push_span(State::Searching, 0, len, report.items.len())?;
+    let (end, count) = counted_run(alloc, recording, rules)?;
+    items.push_span(State::Searching, 0, recording.len(), count)?;
     items.close(end)?;
     let _loss = rules.loss();
     laws::runs_are_reports();
     Ok(())
+}
+
+/// How many items the run over a recording gives, and the state that it ends in.
+fn counted_run(
+    alloc: Global,
+    recording: &Recording,
+    rules: &Rules,
+) -> Result<(State, usize), SyncError>
+    ensures state { IfOk result (λ end. end.0
+        ≡ (run_of recording.now rules.now Searching 0 (length_of recording.now)).0) }
+    ensures lawful { IfOk result (λ end. IsLawful rules.now (length_of recording.now) end.0) }
+    ensures count { IfOk result (λ end. end.1
+        ≡ length (run_of recording.now rules.now Searching 0 (length_of recording.now)).1) }
+    ensures refused { IsOkUnless result OutOfMemory }
+{
+    laws::runs_give_few_items();
+    let (end, items) = items_of_run(
+        alloc,
+        recording,
+        rules,
+        State::Searching,
+        (0, recording.len()),
+    )?;
+    Ok((end, items.len()))
+}
+
+/// The items of a run from a lawful state over a range, and the state that it ends in.
+fn items_of_run(
+    alloc: Global,
+    recording: &Recording,
+    rules: &Rules,
+    state: State,
+    range: (u64, u64),
+) -> Result<(State, Items), SyncError>
+    requires lawful { IsLawful rules.now range.0 state }
+    requires order { range.0 ≤ range.1 }
+    requires within { range.1 ≤ length_of recording.now }
+    ensures state { IfOk result (λ end. end.0
+        ≡ (run_of recording.now rules.now state range.0 (range.1 - range.0)).0) }
+    ensures lawful { IfOk result (λ end. IsLawful rules.now range.1 end.0) }
+    ensures items { IfOk result (λ end. end.1 ≡ listed recording.now rules.now
+        (run_of recording.now rules.now state range.0 (range.1 - range.0)).1) }
+    ensures refused { IsOkUnless result OutOfMemory }
+{
+    let (from, to) = range;
+    let (end, report) = run_report(alloc, recording, rules, state, from, to, Spans::Short)?;
+    Ok((end, report.items))
 }
 
 /// A run in two parts gives the items of the run over both.
@@ -175,12 +212,9 @@ pub fn listed_in_two(
 {
     laws::runs_join();
     let len = recording.len();
-    let cut = Spans::Short;
-    let (state, first) = run_report(alloc, recording, rules, State::Searching, 0, middle, cut)?;
-    let (end, second) = run_report(alloc, recording, rules, state, middle, len, cut)?;
-    let mut items = first.items;
-    items.append(second.items)?;
-    Ok((end, items))
+    let (state, first) = items_of_run(alloc, recording, rules, State::Searching, (0, middle))?;
+    let (end, second) = items_of_run(alloc, recording, rules, state, (middle, len))?;
+    Ok((end, joined(first, second)?))
 }
 
 /// If there is no memory for a span, the list stays as it was.

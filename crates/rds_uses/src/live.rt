@@ -73,11 +73,27 @@ fn second_sitting(
     ensures totals { IfOk result (λ r. (before : List ℕ) → HasHeard live.now before
         → r.1.totals ≡ totals_of (report_of live.now.terms (before ++ rest.now))) }
 {
-    let Ok(mut again) = anew(alloc, live, rules, gaps) else {
+    let Ok(again) = anew(alloc, live, rules, gaps) else {
         return Err(StreamError::OutOfMemory);
     };
-    let items = again.take_all(alloc, rest)?;
-    Ok((items, again.finish()))
+    take_rest(alloc, again, rest)
+}
+
+/// The items of the rest of a stream, and of its end.
+fn take_rest(
+    alloc: Global,
+    live: Live<'_>,
+    rest: &[u8],
+) -> Result<(Vec<Item>, StreamEnd), StreamError>
+    ensures items { IfOk result (λ r. (before : List ℕ) → HasHeard live.entry before
+        → complete live.entry.terms before ++ r.0.items ++ group_item r.1.group
+        ≡ report_of live.entry.terms (before ++ rest.now)) }
+    ensures totals { IfOk result (λ r. (before : List ℕ) → HasHeard live.entry before
+        → r.1.totals ≡ totals_of (report_of live.entry.terms (before ++ rest.now))) }
+{
+    let mut live = live;
+    let items = live.take_all(alloc, rest)?;
+    Ok((items, live.finish()))
 }
 
 /// Bytes one by one are the whole: the decoder is the same as after all of them at once.
@@ -119,7 +135,15 @@ fn put_next(
         → items.old.items ≡ complete live.old.terms before
         → items.new.items ≡ complete live.old.terms (before ++ bytes.now)) }
 {
-    let mut found = live.take_all(alloc, bytes)?;
+    let found = live.take_all(alloc, bytes)?;
+    append(items, found)
+}
+
+/// Appends the items that were found.
+fn append(items: &mut Vec<Item>, found: Vec<Item>) -> Result<(), StreamError>
+    ensures { OnOk result (items.new.items ≡ items.old.items ++ found.items) }
+{
+    let mut found = found;
     items.append(&mut found)?;
     Ok(())
 }

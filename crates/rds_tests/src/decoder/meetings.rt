@@ -2,7 +2,6 @@
 ghost use Rattle.std.specs.Prelude.{◌≡◌, ◌<◌, IfOk};
 
 use crate::decoder::samples::Sample;
-use rds_code::encode_group;
 use rds_pieces::{PieceError, PieceRun, seam, speculate};
 use rds_stream::{Counted, Tape};
 use rds_sync::{Decoder, Item, Lock, Loss, RuleNumbers, State};
@@ -21,10 +20,10 @@ pub fn guess_from(alloc: Global, sample: &Sample, cut: u64) -> Result<PieceRun, 
 }
 
 /// Where a run has to meet a guess, if at all, and how many windows may be read up to there.
-type Meeting = (Option<u64>, u64);
+pub type Meeting = (Option<u64>, u64);
 
 /// Whether the run from that state meets a guess so.
-fn meets_from(
+pub fn meets_from(
     alloc: Global,
     sample: &Sample,
     guess: &PieceRun,
@@ -38,10 +37,15 @@ fn meets_from(
         return false;
     }
     let mut tape = Counted::new(&sample.recording);
-    match seam(alloc, &mut tape, &sample.rules, state, guess) {
-        Ok(seam) => seam.met_at == wanted.0 && tape.reads() <= wanted.1,
-        Err(_) => false,
-    }
+    let Ok(seam) = seam(alloc, &mut tape, &sample.rules, state, guess) else {
+        return false;
+    };
+    is_so(wanted, seam.met_at, tape.reads())
+}
+
+/// Whether a meeting there, after this number of windows, is the wanted one.
+fn is_so(wanted: Meeting, met_at: Option<u64>, reads: u64) -> bool {
+    met_at == wanted.0 && reads <= wanted.1
 }
 
 /// Whether the run from that state meets the guess after a cut so.
@@ -150,26 +154,13 @@ fn a_guess_cut_off_in_a_block_acquires_it(rt: HostRuntime) {
     }
 }
 
-/// The words of three groups, none of whose windows but those of the blocks is valid.
-static WORDS: [[u16; 4]; 3] = [
-    [0xD393, 0x0548, 0xE100, 0x5041],
-    [0xD393, 0x0549, 0xE100, 0x584F],
-    [0xD393, 0x054A, 0xE100, 0x4C49],
+/// The bytes of three groups, none of whose windows but those of the blocks is valid: the words D393 0548 E100 5041,
+/// D393 0549 E100 584F and D393 054A E100 4C49.
+static STATION: [u8; 39] = [
+    0xD3, 0x93, 0x46, 0x41, 0x52, 0x10, 0x0E, 0x10, 0x02, 0x2D, 0x41, 0x05, 0xD6, 0xD3, 0x93, 0x46,
+    0x41, 0x52, 0x4B, 0x9E, 0x10, 0x02, 0x2D, 0x61, 0x3D, 0xA3, 0xD3, 0x93, 0x46, 0x41, 0x52, 0xA7,
+    0x2E, 0x10, 0x02, 0x2D, 0x31, 0x25, 0xF7,
 ];
-
-/// The bytes of those groups as they are sent.
-fn station_bytes(alloc: Global) -> Result<Vec<u8>, AllocError> {
-    let mut bytes = Vec::new(alloc);
-    for words in &WORDS {
-        let [first, second, third, fourth] = encode_group(*words);
-        let packed = (first as u128) << 78
-            | (second as u128) << 52
-            | (third as u128) << 26
-            | fourth as u128;
-        bytes.extend_from_slice(&packed.to_be_bytes()[3..])?;
-    }
-    Ok(bytes)
-}
 
 /// Those groups, read by the default rules.
 fn station(alloc: Global) -> Result<Sample, AllocError> {
@@ -178,7 +169,7 @@ fn station(alloc: Global) -> Result<Sample, AllocError> {
         reach: 3,
         loss: Loss::Run(10),
     };
-    Sample::of(station_bytes(alloc)?, 312, numbers)
+    Sample::of(STATION.to_vec(alloc)?, 312, numbers)
 }
 
 /// Where the seam at a cut has to meet: while the decoder searches, at the cut itself; else right after the

@@ -4,8 +4,9 @@ ghost use Rattle.rds_stream.specs.Recording.{length_of};
 ghost use Rattle.rds_pieces.specs.Cutting.{IsCutting};
 ghost use Rattle.rds_pieces.specs.RunOf.{runs_of};
 
+use crate::decoder::meetings::meets_from;
 use crate::decoder::samples::Sample;
-use rds_pieces::{Cutting, PieceError, PieceRun, laws, seam, speculate, stitch};
+use rds_pieces::{Cutting, PieceError, PieceRun, laws, speculate, stitch};
 use rds_stream::{Counted, Tape};
 use rds_sync::{Loss, RuleNumbers, State};
 use std::alloc::{AllocError, Global};
@@ -69,39 +70,34 @@ fn silence(alloc: Global, bytes: u32) -> Result<Sample, AllocError> {
 }
 
 /// Whether a search meets a guess at its first place, and reads nothing.
-fn is_met_at_once(
-    alloc: Global,
-    sample: &Sample,
-    cutting: &Cutting,
-    j: u64,
-) -> Result<bool, PieceError>
+fn is_met_at_once(alloc: Global, sample: &Sample, cutting: &Cutting, j: u64) -> bool
     requires { IsCutting (length_of sample.now.recording) cutting.now }
 {
     if j >= cutting.pieces() {
-        return Ok(false);
+        return false;
     }
-    let run = speculate(alloc, &sample.recording, &sample.rules, cutting, j)?;
-    let mut tape = Counted::new(&sample.recording);
-    let seam = seam(alloc, &mut tape, &sample.rules, State::Searching, &run)?;
-    Ok(seam.met_at == Some(run.from()) && tape.reads() == 0)
+    match speculate(alloc, &sample.recording, &sample.rules, cutting, j) {
+        Ok(run) => meets_from(alloc, sample, &run, State::Searching, (Some(run.from()), 0)),
+        Err(_) => false,
+    }
 }
 
 /// The first of a thousand pieces whose guess is not, or 1,000 if there is none.
-fn first_met_late(alloc: Global, sample: &Sample, cutting: &Cutting) -> Result<u64, PieceError>
+fn first_met_late(alloc: Global, sample: &Sample, cutting: &Cutting) -> u64
     requires { IsCutting (length_of sample.now.recording) cutting.now }
 {
     for j in 0..1_000u64 {
-        if !is_met_at_once(alloc, sample, cutting, j)? {
-            return Ok(j);
+        if !is_met_at_once(alloc, sample, cutting, j) {
+            return j;
         }
     }
-    Ok(1_000)
+    1_000
 }
 
 /// Whether a thousand pieces have no item, and no seam of them reads a window.
 fn is_silent(alloc: Global, sample: &Sample) -> Result<bool, PieceError> {
     let cutting = Cutting::even(alloc, sample.recording.len(), 1_000)?;
-    let late = first_met_late(alloc, sample, &cutting)?;
+    let late = first_met_late(alloc, sample, &cutting);
     Ok(late == 1_000 && stitched(alloc, sample, &cutting)? == (0, 0))
 }
 

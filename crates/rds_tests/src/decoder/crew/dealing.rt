@@ -144,28 +144,28 @@ fn a_dealer_of_no_pieces_is_drawn_from_twice(rt: HostRuntime) {
     assert!(rt; is_closed_without_piece(rt.alloc()));
 }
 
-/// Two seats, after the first draws 0 and the second draws 1.
-fn both_draw(dealer: &Dealer, one: Seat, other: Seat) -> Option<(Seat, Seat)>
+/// Two new seats, after the first drew 0 and the second 1, and they went on so.
+fn take_turns(dealer: &Dealer, one: Seat, other: Seat) -> Option<(Seat, Seat)>
     requires one { IsFresh dealer.now one }
     requires other { IsFresh dealer.now other }
     ensures own { IfSome result (λ seats. IsOf dealer.now seats.0 × IsOf dealer.now seats.1) }
-    ensures held { IfSome result (λ seats. (seats.0.view.held ≡ Some 0) × (seats.1.view.held ≡ Some 1)) }
+    ensures rested { IfSome result (λ seats. HasRested seats.0 × HasRested seats.1) }
 {
     let (first, one) = dealer.draw(one);
     let (second, other) = dealer.draw(other);
     if first == Some(0) && second == Some(1) {
-        Some((one, other))
+        finish_by_turns(dealer, one, other)
     } else {
         None
     }
 }
 
-/// Those, after each finished its piece, and progress was first 0, then 1, then 2.
-fn both_finish(dealer: &Dealer, one: Seat, other: Seat) -> Option<(Seat, Seat)>
+/// Those, after each finished its piece, progress was first 0, then 1, then 2, and they ended.
+fn finish_by_turns(dealer: &Dealer, one: Seat, other: Seat) -> Option<(Seat, Seat)>
     requires own { IsOf dealer.now one × IsOf dealer.now other }
     requires held { (one.view.held ≡ Some 0) × (other.view.held ≡ Some 1) }
     ensures own { IfSome result (λ seats. IsOf dealer.now seats.0 × IsOf dealer.now seats.1) }
-    ensures empty { IfSome result (λ seats. (seats.0.view.held ≡ None) × (seats.1.view.held ≡ None)) }
+    ensures rested { IfSome result (λ seats. HasRested seats.0 × HasRested seats.1) }
 {
     let (none, other) = dealer.progress(other);
     let one = dealer.finish(one, 0);
@@ -173,7 +173,7 @@ fn both_finish(dealer: &Dealer, one: Seat, other: Seat) -> Option<(Seat, Seat)>
     let other = dealer.finish(other, 1);
     let (both, one) = dealer.progress(one);
     if none == 0 && first == 1 && both == 2 {
-        Some((one, other))
+        both_end(dealer, one, other)
     } else {
         None
     }
@@ -193,18 +193,6 @@ fn both_end(dealer: &Dealer, one: Seat, other: Seat) -> Option<(Seat, Seat)>
     } else {
         None
     }
-}
-
-/// Two new seats, after all of that.
-fn take_turns(dealer: &Dealer, one: Seat, other: Seat) -> Option<(Seat, Seat)>
-    requires one { IsFresh dealer.now one }
-    requires other { IsFresh dealer.now other }
-    ensures own { IfSome result (λ seats. IsOf dealer.now seats.0 × IsOf dealer.now seats.1) }
-    ensures rested { IfSome result (λ seats. HasRested seats.0 × HasRested seats.1) }
-{
-    let (one, other) = both_draw(dealer, one, other)?;
-    let (one, other) = both_finish(dealer, one, other)?;
-    both_end(dealer, one, other)
 }
 
 /// Whether two seats of a dealer of two pieces take turns so, and it is closed with both drawn and finished.

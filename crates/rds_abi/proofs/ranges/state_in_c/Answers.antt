@@ -1,0 +1,28 @@
+use Rattle.std.proofs.Common.{◌≡◌, ◌<◌, ◌==◌, ℕ, arith, if◌then◌else◌, inl, inr, refl, sym, ◌∙◌}
+use Rattle.rds_sync.specs.Lawful.{AreInOrder}
+use Rattle.rds_sync.specs.Step.{lock_of}
+use Rattle.rds_sync.specs.declared.state.State.{State}
+use Rattle.rds_sync.specs.declared.state.State.TheVariants.{Locked, Searching}
+use Rattle.rds_abi.specs.Ranges.{state_of}
+use Rattle.rds_abi.proofs.ranges.state_in_c.Goals as goal
+
+-- a lawful lock waits for a block that has a number
+some : (first number : ℕ) → AreInOrder first number → 0 < number
+some first number (inl (one, begins)) = omega (arith, one)
+some first number (inr (least, after, most)) = omega (arith, least, after)
+
+is_locked : (number : ℕ) (locked : State) → 0 < number → (if number == 0 then Searching else locked) ≡ locked
+is_locked number locked is = grind arith
+
+says : (due number bad first n f loss of : ℕ) → n ≡ number → f ≡ first → AreInOrder first number
+    → state_of (record { due = due; bad = bad; number = n; first = f; loss = loss; of = of; reserved = 0 })
+    ≡ Locked (record { due = due; number = number; bad = bad; first = first })
+says due number bad first n f loss of n_is f_is order =
+    rw (n_is, f_is) (is_locked number (Locked (lock_of due number bad first)) (some first number order))
+
+pub returns-in-Locked-clause-says : goal.returns-in-Locked-clause-says
+returns-in-Locked-clause-says c rules place lawful =
+    let lock = c.in-Locked.lock in
+    let is = rw c.in-Locked.is at lawful in
+    says lock.due lock.number lock.bad lock.first c.from.result c.from-in-Locked.result c.loss_in_c-loss.result.0 c.loss_in_c-loss.result.1
+    c.from.ensures c.from-in-Locked.ensures is.in_order ∙ sym c.in-Locked.is
