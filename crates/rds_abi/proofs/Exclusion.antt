@@ -1,7 +1,6 @@
 -- The refusals of a call exclude each other.
 use Rattle.std.proofs.Common.{◌≡◌, ◌∙◌, ◌^◌, ◌<◌, ◌≤◌, ◌⊎◌, ℕ, List, arith, inl, inr, refl, sym}
-use Rattle.rds_sync.specs.Loss.{IsLoss}
-use Rattle.rds_sync.specs.Ranges.{IsInRange, IsRunOutside, IsShareOutside, blocks_seen, most_blocks}
+use Rattle.rds_sync.specs.Ranges.{IsInRange, IsLossInRange, IsRunOutside, IsShareOutside}
 use Rattle.rds_sync.specs.Rules.{RuleNumbers}
 use Rattle.rds_sync.specs.declared.loss.Loss.{Loss}
 use Rattle.rds_sync.specs.declared.loss.Loss.TheVariants.{Run, Share}
@@ -76,19 +75,19 @@ rules-exclude rules LossRange other a b = absurd b
 rules-exclude rules ShareRange other a b = absurd b
 rules-exclude rules one other a b = absurd a
 
-pub run-in : (loss : Loss) → IsLoss loss → blocks_seen loss ≤ most_blocks → IsRunOutside loss → ⊥
-run-in (Run n) some most run = absurd (omega (arith, some, most, run))
-run-in (Share bad of) some most run = run
+pub run-in : (loss : Loss) → IsLossInRange loss → IsRunOutside loss → ⊥
+run-in (Run n) range run = absurd (omega (arith, range.0, range.1, run))
+run-in (Share bad of) range run = run
 
-pub share-in : (loss : Loss) → IsLoss loss → blocks_seen loss ≤ most_blocks → IsShareOutside loss → ⊥
-share-in (Run n) some most share = share
-share-in (Share bad of) some most share = absurd (omega (arith, some.0, some.1, most, share))
+pub share-in : (loss : Loss) → IsLossInRange loss → IsShareOutside loss → ⊥
+share-in (Run n) range share = share
+share-in (Share bad of) range share = absurd (omega (arith, range.0.0, range.0.1, range.1, share))
 
 pub rules-leave : (rules : RuleNumbers) → Leaves (IsInRange rules) (RefusesRules rules)
 rules-leave rules range BurstRange a = absurd (omega (arith, range.burst, a))
 rules-leave rules range ReachRange a = absurd (omega (arith, range.some_reach, range.reach, a.1))
-rules-leave rules range LossRange a = absurd (run-in rules.loss range.some_loss range.loss a.3)
-rules-leave rules range ShareRange a = absurd (share-in rules.loss range.some_loss range.loss a.3)
+rules-leave rules range LossRange a = absurd (run-in rules.loss range.loss a.3)
+rules-leave rules range ShareRange a = absurd (share-in rules.loss range.loss a.3)
 rules-leave rules range OutOfMemory a = refl
 rules-leave rules range reason a = absurd a
 

@@ -51,7 +51,7 @@ module _ (moves : RunsMove) (whole part : Signal) (rules : RuleNumbers) (before 
   run-in-part =
       let there : from - before + before ≡ from = omega (arith, begins) in
       let many : to - before - (from - before) ≡ to - from = omega (arith, begins, order) in
-      sym (moves whole part rules before s (from - before) (to - before - (from - before)) range.some_loss range.reach lawful heard (omega (arith, begins, order, long)))
+      sym (moves whole part rules before s (from - before) (to - before - (from - before)) range.loss.0 range.reach lawful heard (omega (arith, begins, order, long)))
       ∙ ap₂ (λ (t : State) (p : ℕ). run whole rules t p (to - before - (from - before))) is there
       ∙ ap (λ (n : ℕ). run whole rules state from n) many
 

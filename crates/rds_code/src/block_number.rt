@@ -1,4 +1,5 @@
-ghost use Rattle.std.specs.Prelude.{◌≡◌, ◌≤◌, ◌%◌, ◌+◌, ◌↔◌, IfSome, IsSome};
+ghost use Rattle.std.specs.Prelude.{◌≡◌, ◌≤◌, ◌↔◌, IfSome, IsSome};
+ghost use Rattle.rds_code.specs.Cycle.{next_number};
 
 use std::marker::Model;
 
@@ -57,7 +58,7 @@ impl BlockNumber {
     /// The number of the next block: after block 4 comes block 1, of the next group.
     #[inline(always)]
     pub fn next(self) -> BlockNumber
-        ensures { result ≡ self % 4 + 1 }
+        ensures { result ≡ next_number self }
     {
         BlockNumber {
             number: self.number % 4 + 1,

@@ -32,7 +32,7 @@ module _ (terms : Terms) (range : IsInRange terms.rules) (are : AreGaps (2 ^ 36)
       let heard : IsPartHeard whole (signal_at terms.gaps bytes (8 * length bytes)) (8 * 0) 0 =
       bits-heard (bytes ++ more) bytes 0 (first-part bytes more) (8 * length bytes) (8 * length bytes + bits) (omega arith) (omega arith)
       terms.gaps terms.gaps (start-touched (8 * length bytes) terms.gaps) 0 (inl refl) in
-      moves whole (signal_at terms.gaps bytes (8 * length bytes)) terms.rules 0 Searching 0 (8 * length bytes) range.some_loss range.reach tt heard (omega (arith, length-at terms.gaps bytes (8 * length bytes)))
+      moves whole (signal_at terms.gaps bytes (8 * length bytes)) terms.rules 0 Searching 0 (8 * length bytes) range.loss.0 range.reach tt heard (omega (arith, length-at terms.gaps bytes (8 * length bytes)))
       ∙ ap₂ (λ (s : State) (items : List Item). (s, items)) (still-state (run_of terms bytes).0) (still-items (run_of terms bytes).1)
 
   -- the part that begins at a place with these last bytes
@@ -86,7 +86,7 @@ module _ (terms : Terms) (range : IsInRange terms.rules) (are : AreGaps (2 ^ 36)
         ap (λ (n : ℕ). run whole terms.rules (run_of terms bytes).0 (8 * length bytes) n) (sym left)
         ∙ ap (λ (n : ℕ). run whole terms.rules (run_of terms bytes).0 n (length_of part - from)) (sym start)
         ∙ ap (λ (s : State). run whole terms.rules s (from + before) (length_of part - from)) (sym p.local_is)
-        ∙ moves whole part terms.rules before local from (length_of part - from) range.some_loss range.reach p.lawful (heard-last p from (omega arith)) (omega (arith, whole_long, p.from_is)) in
+        ∙ moves whole part terms.rules before local from (length_of part - from) range.loss.0 range.reach p.lawful (heard-last p from (omega arith)) (omega (arith, whole_long, p.from_is)) in
         let all : 8 * length bytes + bits - 0 ≡ 8 * length bytes + bits = omega arith in
         let middle : 8 * length bytes - 0 ≡ 8 * length bytes = omega arith in
         ap (λ (n : ℕ). run whole terms.rules Searching 0 n) (sym all)
@@ -112,7 +112,7 @@ module _ (terms : Terms) (range : IsInRange terms.rules) (are : AreGaps (2 ^ 36)
           ap₂ (λ (xs ys : List Item). xs ++ ys)
           (ap (λ (xs : List Item). complete terms bytes ++ xs) items_is ∙ sym (ap (λ (r : State × List Item). r.1) run_is)) at_end
           ∙ ap (λ (n : ℕ). (run whole terms.rules Searching 0 n).1 ++ items_of_end whole terms.rules (run whole terms.rules Searching 0 n).0) (sym (length-at terms.gaps (bytes ++ more) (8 * length bytes + bits)))
-          ∙ reports whole terms.rules range.some_loss
+          ∙ reports whole terms.rules range.loss.0
 
       -- and its totals
       pub totals-to : TotalsJoin → (totals found sum all : Totals) → totals ≡ totals_of (complete terms bytes) → found ≡ totals_of here.1 → sum ≡ plus totals found

@@ -125,7 +125,7 @@ module _ (terms : Terms) (range : IsInRange terms.rules) (are : AreGaps (2 ^ 36)
       let heard : IsPartHeard (signal_of terms.gaps (bytes ++ more)) (signal_of terms.gaps bytes) (8 * 0) 0 =
       bits-heard (bytes ++ more) bytes 0 (first-part bytes more) (8 * length bytes) (8 * length (bytes ++ more)) (omega arith) (omega (arith, length-append bytes more))
       terms.gaps terms.gaps (start-touched (8 * length bytes) terms.gaps) 0 (inl refl) in
-      moves (signal_of terms.gaps (bytes ++ more)) (signal_of terms.gaps bytes) terms.rules 0 Searching 0 (8 * length bytes) range.some_loss range.reach tt heard (omega (arith, length-signal terms.gaps bytes))
+      moves (signal_of terms.gaps (bytes ++ more)) (signal_of terms.gaps bytes) terms.rules 0 Searching 0 (8 * length bytes) range.loss.0 range.reach tt heard (omega (arith, length-signal terms.gaps bytes))
       ∙ ap₂ (λ (s : State) (items : List Item). (s, items)) (still-state (run_of terms bytes).0) (still-items (run_of terms bytes).1)
 
   -- the part that begins at a place with these last bytes
@@ -168,7 +168,7 @@ module _ (terms : Terms) (range : IsInRange terms.rules) (are : AreGaps (2 ^ 36)
         let bits : length_of part - from ≡ 8 * length (bytes ++ more) - 8 * length bytes =
         omega (arith, long, p.from_is, length-append bytes more) in
         let start : from + before ≡ 8 * length bytes = omega (arith, p.before_is, p.place_is, p.from_is, kept) in
-        let moved = moves whole part terms.rules before local from (length_of part - from) range.some_loss range.reach p.lawful heard_part
+        let moved = moves whole part terms.rules before local from (length_of part - from) range.loss.0 range.reach p.lawful heard_part
         (omega (arith, long, p.from_is)) in
         let rest : run whole terms.rules (run_of terms bytes).0 (8 * length bytes) (8 * length (bytes ++ more) - 8 * length bytes)
         ≡ (moved_state before (run part terms.rules local from (length_of part - from)).0, moved_items before (run part terms.rules local from (length_of part - from)).1) =

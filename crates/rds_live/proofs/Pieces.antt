@@ -146,7 +146,7 @@ module _ (joins : RunsJoin) (lawfuls : RunsAreLawful) (moves : RunsMove) (live :
   end-lawful : IsLawful rules (f + n1) (run_next live first n1).0
   end-lawful =
       let count : f + n1 - f ≡ n1 = omega arith in
-      subst (λ (m : ℕ). IsLawful rules (f + n1) (run one rules local f m).0) count (lawfuls one rules range.some_loss local f (f + n1) (omega arith) lawful)
+      subst (λ (m : ℕ). IsLawful rules (f + n1) (run one rules local f m).0) count (lawfuls one rules range.loss.0 local f (f + n1) (omega arith) lawful)
 
   first-heard : IsPartHeard whole one 0 0
   first-heard =
@@ -181,7 +181,7 @@ module _ (joins : RunsJoin) (lawfuls : RunsAreLawful) (moves : RunsMove) (live :
       let here : State = moved_back (before_tail next) next.state in
       let next_lawful = lawful-back rules (8 * k) f1 (f + n1) here (run_next live first n1).0 state-there end-lawful f-next early in
       ap₂ (λ (s : State) (p : ℕ). run whole rules s p n2) (sym state-there) (sym f-next)
-      ∙ moves whole two rules (8 * k) here f1 n2 range.some_loss range.reach next_lawful second-heard
+      ∙ moves whole two rules (8 * k) here f1 n2 range.loss.0 range.reach next_lawful second-heard
       (omega (arith, length-at (gaps_within gaps (before_tail next) (f1 + n2)) (next.tail ++ second) (f1 + n2)))
 
   run-both : run_next live (first ++ second) n

@@ -59,7 +59,7 @@ run-in-room moves room part rules s from n range heard lawful within =
     let start : from ≡ from + 0 = omega arith in
     ap (λ (p : ℕ). run room rules s p n) start
     ∙ ap (λ (t : State). run room rules t (from + 0) n) (sym (still-state s))
-    ∙ moves room part rules 0 s from n range.some_loss range.reach lawful (record { heard_same = heard.heard_same; early = inl refl }) within
+    ∙ moves room part rules 0 s from n range.loss.0 range.reach lawful (record { heard_same = heard.heard_same; early = inl refl }) within
     ∙ ap₂ (λ (t : State) (items : List Item). (t, items)) (still-state there.0) (still-items there.1)
 
 -- over all that is heard after a place

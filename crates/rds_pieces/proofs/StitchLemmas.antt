@@ -169,7 +169,7 @@ module _ (b : Signal) (rules : RuleNumbers) (runs : List RunOf) where
           state_is = state_on;
           items_are = items2_are ∙ ap₂ (λ (is js : List Item). is ++ js) done.items_are (ap₂ (λ (s : State) (p : ℕ). (run b rules s p (r.to - p)).1) done.state_is f)
               ∙ sym (ap (λ (x : State × List Item). x.1) whole);
-          lawful = subst (λ (s : State). IsLawful rules r.to s) (sym after_is) (laws.lawful_runs b rules range.some_loss state r.from r.to (omega (arith, n, f)) lawful_here);
+          lawful = subst (λ (s : State). IsLawful rules r.to s) (sym after_is) (laws.lawful_runs b rules range.loss.0 state r.from r.to (omega (arith, n, f)) lawful_here);
           reads_most = let m = done.reads_most in omega (arith, m, read);
           few = let l = done.few in omega (arith, l, few, n, f);
           sums = λ m h.

@@ -100,7 +100,7 @@ module _ (laws : RunLaws) (b : Signal) (rules : RuleNumbers) (range : IsInRange 
   own_hops own guess new reads cost more h other first on hop few = record {
     own_is = gone s own new guess.place cost h.apart.inside.0 h.own_is on hop;
     guess_is = h.guess_is;
-    apart = apart_hop laws b rules s Searching from to range.some_loss one own.place own.state guess.place guess.state new.place new.state cost h.apart other first hop;
+    apart = apart_hop laws b rules s Searching from to range.loss.0 one own.place own.state guess.place guess.state new.place new.state cost h.apart other first hop;
     paid = paid_less rules from new.place new.state guess.place guess.state (reads + cost) more few
         (paid_hop b rules from to own.place own.state guess.place guess.state new.place new.state reads cost h.paid hop);
   }
@@ -110,7 +110,7 @@ module _ (laws : RunLaws) (b : Signal) (rules : RuleNumbers) (range : IsInRange 
   guess_hops own guess new reads cost more h other not_first on hop few =
       let first = then_first own.place own.state guess.place guess.state other not_first in
       let turned = swap b rules s Searching from to own.place own.state guess.place guess.state h.apart in
-      let apart = apart_hop laws b rules Searching s from to range.some_loss tt guess.place guess.state own.place own.state new.place new.state cost turned
+      let apart = apart_hop laws b rules Searching s from to range.loss.0 tt guess.place guess.state own.place own.state new.place new.state cost turned
       (λ m. other (sym m.0, sym m.1, subst (λ (u : State). IsBetweenGroups u) m.1 m.2)) first hop in
       record {
         own_is = h.own_is;
@@ -132,7 +132,7 @@ module _ (laws : RunLaws) (b : Signal) (rules : RuleNumbers) (range : IsInRange 
   module _ (own guess : TallyOf) (reads : ℕ) (h : Beside own guess reads) where
     -- the state of a run is lawful
     lawful_at : (u : State) (a : ℕ) (x : State) → IsLawful rules from u → from ≤ a → x ≡ at_bit b rules u from a → IsLawful rules a x
-    lawful_at u a x lawful low is = subst (λ (v : State). IsLawful rules a v) (sym is) (laws.lawful_runs b rules range.some_loss u from a low lawful)
+    lawful_at u a x lawful low is = subst (λ (v : State). IsLawful rules a v) (sym is) (laws.lawful_runs b rules range.loss.0 u from a low lawful)
 
     few_by : (d : ℕ) → own.place ≤ from + d → guess.place ≤ from + d → reads ≤ (rules.reach + 2) * (d + 1)
     few_by d near_one near_two = paid_most rules from d own.place own.state guess.place guess.state reads range.some_reach

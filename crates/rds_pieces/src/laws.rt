@@ -32,7 +32,6 @@ pub(crate) fn run_laws()
     laws::one_bit_runs();
     laws::locks_wait();
     laws::items_mark_changes();
-    laws::runs_merge();
     laws::totals_join();
     code_laws::readings_follow_the_rule();
 }

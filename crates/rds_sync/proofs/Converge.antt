@@ -5,6 +5,7 @@ use Rattle.std.proofs.lemmas.Bool.{eq-eqb, cases_Bool, cases_eq, cases_lt, eqb-t
 use Rattle.std.proofs.lemmas.List.Sums.{sum_by-cons}
 use Rattle.std.specs.Prelude.{◌==◌, is_some, count_by}
 use Rattle.std.specs.List.{range_with_len, list_any}
+use Rattle.rds_code.specs.Cycle.{number_after}
 use Rattle.rds_stream.specs.Recording.{Signal, off}
 use Rattle.rds_sync.specs.declared.lock.Lock.{Lock}
 use Rattle.rds_sync.specs.declared.state.State.{State}
@@ -16,7 +17,7 @@ use Rattle.rds_sync.proofs.BadRows.{good_keeps, needed, memory, needed_is, memor
 use Rattle.rds_sync.specs.Lawful.{IsLawful}
 use Rattle.rds_code.specs.declared.offset.Offset.{Offset}
 use Rattle.rds_code.specs.Offsets.{number}
-use Rattle.rds_sync.specs.Acquiring.{acquired, has_number, number_after, has_partner, with_partner}
+use Rattle.rds_sync.specs.Acquiring.{acquired, has_number, has_partner, with_partner}
 use Rattle.rds_sync.specs.Step.{run, step, bad_with, lock_of, lock_after}
 use Rattle.rds_sync.specs.Convergence.{IsSound, IsLastFour, sound_blocks, SoundRangesHaveFours, RunsConverge}
 use Rattle.rds_sync.proofs.RivalLemmas.{every_26, few_in_phase}
@@ -106,17 +107,17 @@ module _ (b : Signal) (rules : RuleNumbers) where
     at_case (Some o) t = cc
 
   -- a place acquires where the block before it has the number before
-  acquires : (i x y : ℕ) → 1 ≤ rules.reach → has_number b (i + 26) x ≡ true → has_number b i y ≡ true → (y + 1) % 4 ≡ x % 4 → acquired b rules (i + 26) ≡ Some x
+  acquires : (i x y : ℕ) → 1 ≤ rules.reach → has_number b (i + 26) x ≡ true → has_number b i y ≡ true → number_after y 1 ≡ x → acquired b rules (i + 26) ≡ Some x
   unfolding acquired
   acquires i x y reach here before next =
       let o = has_number_offset (i + 26) x here in
       let l = has_number_offset i y before in
       let back : i + 26 - 26 * 1 ≡ i = omega arith in
       let partner : has_partner b (i + 26) x 1 ≡ true =
-      ap (λ (j : ℕ). elim (off b j) as (λ _. Bool) [ None ↦ false | Some o ↦ (number o + 1) % 4 == x % 4 ]) back
-      ∙ ap (λ (w : Option Offset). elim w as (λ _. Bool) [ None ↦ false | Some o ↦ (number o + 1) % 4 == x % 4 ]) l.1
-      ∙ ap (λ (n : ℕ). (n + 1) % 4 == x % 4) l.2
-      ∙ eq-eqb ((y + 1) % 4) (x % 4) next in
+      ap (λ (j : ℕ). elim (off b j) as (λ _. Bool) [ None ↦ false | Some o ↦ number_after (number o) 1 == x ]) back
+      ∙ ap (λ (w : Option Offset). elim w as (λ _. Bool) [ None ↦ false | Some o ↦ number_after (number o) 1 == x ]) l.1
+      ∙ ap (λ (n : ℕ). number_after n 1 == x) l.2
+      ∙ eq-eqb (number_after y 1) x next in
       let n : rules.reach ≡ suc (rules.reach - 1) = omega arith in
       let any : list_any (has_partner b (i + 26) x) (range_with_len 1 rules.reach) ≡ true = rw n (rw partner refl) in
       ap (λ (w : Option Offset). elim w as (λ _. Option ℕ) [ None ↦ None | Some o ↦ with_partner b rules (i + 26) (number o) ]) o.1

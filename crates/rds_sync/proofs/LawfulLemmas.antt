@@ -5,6 +5,7 @@ use Rattle.std.specs.Prelude.{◌==◌}
 use Rattle.std.specs.List.{list_any, range_with_len}
 use Rattle.rds_code.specs.declared.offset.Offset.{Offset}
 use Rattle.rds_code.specs.declared.offset.Offset.TheVariants.{A, B, C, Cx, D}
+use Rattle.rds_code.specs.Cycle.{number_after}
 use Rattle.rds_code.specs.Offsets.{number}
 use Rattle.rds_stream.specs.Recording.{Signal, off}
 use Rattle.rds_sync.specs.declared.lock.Lock.{Lock}
@@ -36,12 +37,12 @@ module _ (b : Signal) where
   ]
 
   -- a partner, as a fact
-  pub has_partner-offset : (i x k : ℕ) → has_partner b i x k ≡ true → (o : Offset) × (off b (i - 26 * k) ≡ Some o) × ((number o + k) % 4 ≡ x % 4)
+  pub has_partner-offset : (i x k : ℕ) → has_partner b i x k ≡ true → (o : Offset) × (off b (i - 26 * k) ≡ Some o) × (number_after (number o) k ≡ x)
   has_partner-offset i x k h = at_case (off b (i - 26 * k)) refl h where
-    at_case : (w : Option Offset) → off b (i - 26 * k) ≡ w → elim w as (λ _. Bool) [ None ↦ false | Some o ↦ (number o + k) % 4 == x % 4 ] ≡ true
-        → (o : Offset) × (off b (i - 26 * k) ≡ Some o) × ((number o + k) % 4 ≡ x % 4)
+    at_case : (w : Option Offset) → off b (i - 26 * k) ≡ w → elim w as (λ _. Bool) [ None ↦ false | Some o ↦ number_after (number o) k == x ] ≡ true
+        → (o : Offset) × (off b (i - 26 * k) ≡ Some o) × (number_after (number o) k ≡ x)
     at_case None e t = cc
-    at_case (Some o) e t = (o, e, eqb-true ((number o + k) % 4) (x % 4) t)
+    at_case (Some o) e t = (o, e, eqb-true (number_after (number o) k) x t)
 
 -- a test that some number of a range passes
 pub any-range : (p : ℕ → Bool) (a n : ℕ) → list_any p (range_with_len a n) ≡ true → (k : ℕ) × (a ≤ k) × (k < a + n) × (p k ≡ true)

@@ -3,12 +3,13 @@ use Rattle.std.proofs.Common.{◌≡◌, ◌≢◌, ℕ, zero, suc, ◌+◌, ◌
 use Rattle.std.proofs.lemmas.Bool.{ne_eqb, cases_Bool, cases_eq, eq-eqb}
 use Rattle.std.specs.Prelude.{MatchOption, filter_map, find}
 use Rattle.std.specs.List.{range_with_len}
+use Rattle.rds_code.specs.Cycle.{number_after}
 use Rattle.rds_stream.specs.Recording.{Signal, length_of}
 use Rattle.rds_sync.specs.declared.state.State.TheVariants.{Searching, Locked}
 use Rattle.rds_sync.specs.declared.item.Item.{Item}
 use Rattle.rds_sync.specs.declared.item.Item.TheVariants.{Acquired, LostLock}
 use Rattle.rds_sync.specs.Rules.{RuleNumbers}
-use Rattle.rds_sync.specs.Acquiring.{acquired, number_after}
+use Rattle.rds_sync.specs.Acquiring.{acquired}
 use Rattle.rds_sync.specs.Loss.{IsLoss, are_too_many}
 use Rattle.rds_sync.specs.Report.{is_good, loses_at, places, end, read_blocks, group_closed_by, loss_items, items_of_lock, first_lock, items_from, report_items}
 use Rattle.rds_sync.specs.Step.{run, items_of_end, group_after, lock_after}

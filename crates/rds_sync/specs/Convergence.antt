@@ -9,6 +9,7 @@
 use Rattle.std.specs.Prelude.{◌≡◌, ◌≢◌, ℕ, ◌+◌, ◌-◌, ◌*◌, ◌%◌, ◌<◌, ◌≤◌, max, List, IsTrue, is_some, length, None}
 use Rattle.std.specs.List.{All}
 use Rattle.std.specs.List.Sorted.{IsStrictlyIncreasing}
+use Rattle.rds_code.specs.Cycle.{number_after}
 use Rattle.rds_stream.specs.Recording.{Signal, length_of, off}
 use Rattle.rds_sync.specs.declared.loss.Loss.{Loss}
 use Rattle.rds_sync.specs.declared.loss.Loss.TheVariants.{Run, Share}
@@ -18,7 +19,7 @@ use Rattle.rds_sync.specs.Rules.{RuleNumbers}
 use Rattle.rds_sync.specs.Loss.{IsLoss}
 use Rattle.rds_sync.specs.Lawful.{IsLawful}
 use Rattle.rds_sync.specs.Step.{run, lock_of}
-use Rattle.rds_sync.specs.Acquiring.{acquired, has_number, number_after}
+use Rattle.rds_sync.specs.Acquiring.{acquired, has_number}
 
 module _ (b : Signal) (from to : ℕ) where
   -- each place p + 26 k of the range has an offset of the number that counts on from c

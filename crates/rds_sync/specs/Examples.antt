@@ -1,6 +1,5 @@
 -- Recordings of a few groups, with their results by the definitions: theorems that the checker computes.
 pub mod Words
-pub mod Cycle
 pub mod ZeroGroup
 pub mod RunsOverTheZeroGroup
 pub mod DamagedBlocks

@@ -30,8 +30,7 @@ pub record IsInRange (rules : RuleNumbers) : Type 0 where
   pub burst : rules.burst ≤ longest_burst
   pub some_reach : 1 ≤ rules.reach
   pub reach : rules.reach ≤ farthest_reach
-  pub some_loss : IsLoss rules.loss
-  pub loss : blocks_seen rules.loss ≤ most_blocks
+  pub loss : IsLossInRange rules.loss
 
 -- a number of bad blocks in a row that a rule may not have
 abbrev pub IsRunOutside : Loss → Type 0

@@ -73,7 +73,7 @@ fn is_in_step(offset: Option<Offset>, number: BlockNumber, distance: u32) -> boo
 {
     match offset {
         Some(offset) => {
-            (u32::from(offset.number().get()) + distance) % 4 == u32::from(number.get()) % 4
+            (u32::from(offset.number().get()) - 1 + distance) % 4 + 1 == u32::from(number.get())
         }
         None => false,
     }

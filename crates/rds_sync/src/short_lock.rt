@@ -1,6 +1,7 @@
 //! A lock that its second block loses: its group has these two blocks, or only the second after a block 4.
 
-ghost use Rattle.std.specs.Prelude.{◌≡◌, ◌≤◌, ◌<◌, ◌+◌, ◌%◌, ◌^◌, true, IfSome};
+ghost use Rattle.std.specs.Prelude.{◌≡◌, ◌≤◌, ◌<◌, ◌+◌, ◌^◌, true, IfSome};
+ghost use Rattle.rds_code.specs.Cycle.{next_number};
 ghost use Rattle.rds_code.specs.Kinds.{kind_of};
 ghost use Rattle.rds_stream.specs.Recording.{length_of, reading_at};
 ghost use Rattle.rds_sync.specs.Acquiring.{has_number};
@@ -69,7 +70,7 @@ fn kind_behind(reader: &mut Reader<'_>, rules: &Rules, place: u64, number: Block
     requires within { place + 26 < length_of reader.old }
     requires near { place < 2 ^ 36 }
     ensures value { result ≡ kind_of
-        (reading_at reader.old (place + 26) (number % 4 + 1)
+        (reading_at reader.old (place + 26) (next_number number)
         (wanted_behind reader.old rules.now place number) rules.now.burst) }
     ensures most { result ≤ 13 }
     ensures same { reader.new ≡ reader.old }

@@ -76,4 +76,4 @@ pub sent-report : EncodedGroupsAreListed → (rules : RuleNumbers) (groups : Lis
     → (report_items (ungapped (bits_sent groups)) rules ≡ report_sent groups)
     × (totals_of (report_items (ungapped (bits_sent groups)) rules) ≡ totals_sent (length groups))
 sent-report law rules [] some range small = absurd (omega (arith, some))
-sent-report law rules (words ∷ groups) some range small = law rules words groups range.some_loss range.some_reach range.burst small
+sent-report law rules (words ∷ groups) some range small = law rules words groups range.loss.0 range.some_reach range.burst small

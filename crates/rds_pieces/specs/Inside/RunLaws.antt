@@ -3,7 +3,7 @@
 use Rattle.rds_code.specs.Laws.{ReadsByRule}
 use Rattle.rds_sync.specs.Counting.{TotalsJoin}
 use Rattle.rds_sync.specs.Laws.{RunsAreReports, RunsJoin, StepsAreLawful, RunsAreLawful, OneBitRuns, LocksWait}
-use Rattle.rds_sync.specs.Laws.{ItemsMarkChanges, RunsMerge}
+use Rattle.rds_sync.specs.Laws.{ItemsMarkChanges}
 
 pub record RunLaws : Type 0 where
   pub reports : RunsAreReports
@@ -13,6 +13,5 @@ pub record RunLaws : Type 0 where
   pub one_bit : OneBitRuns
   pub wait : LocksWait
   pub changes : ItemsMarkChanges
-  pub merge : RunsMerge
   pub totals : TotalsJoin
   pub readings : ReadsByRule

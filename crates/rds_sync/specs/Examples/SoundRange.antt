@@ -5,10 +5,11 @@ use Rattle.std.proofs.Common.{sym, subst, ◌∙◌, inl, inr, get_or, arith}
 use Rattle.std.proofs.lemmas.Bool.{eqb-true, false≢true, cases_lt}
 use Rattle.std.proofs.lemmas.List.FromFn.{get_or-range_with_len, length-range_with_len}
 use Rattle.std.proofs.lemmas.List.Sums.{AllPass-from_list_all}
+use Rattle.rds_code.specs.Cycle.{number_after}
 use Rattle.rds_code.specs.Remainder.{rem}
 use Rattle.rds_stream.specs.Recording.{Signal, bits_of, ungapped, window, touched, heard, off}
 use Rattle.rds_sync.specs.Rules.{RuleNumbers}
-use Rattle.rds_sync.specs.Acquiring.{acquired, has_number, number_after}
+use Rattle.rds_sync.specs.Acquiring.{acquired, has_number}
 use Rattle.rds_sync.specs.Convergence.{IsSound, IsRival, AreRivals}
 use Rattle.rds_sync.specs.Examples.Words.{rules_of}
 use Rattle.rds_sync.specs.Examples.EightZeroGroups.{bytes}

@@ -1,6 +1,7 @@
 -- A lock that its second block loses, and the word of its group. Cited by a body below `run_report`, and by no
 -- public call.
-use Rattle.std.specs.Prelude.{◌≡◌, ℕ, ◌+◌, ◌*◌, ◌%◌, ◌<◌, map, true, false, ◌==◌, if◌then◌else◌}
+use Rattle.std.specs.Prelude.{◌≡◌, ℕ, ◌+◌, ◌*◌, ◌<◌, map, true, false, ◌==◌, if◌then◌else◌}
+use Rattle.rds_code.specs.Cycle.{next_number}
 use Rattle.rds_code.specs.declared.reading.Wanted.{Wanted}
 use Rattle.rds_code.specs.declared.reading.Wanted.TheVariants.{Either}
 use Rattle.rds_stream.specs.Recording.{Signal, reading_at}
@@ -28,6 +29,6 @@ word_of_two x k = if x == 1 then 1 + 16 * k else (if x == 2 then 16 + 256 * k el
 -- group
 pub record IsLostAtOnce (b : Signal) (rules : RuleNumbers) (place x to word : ℕ) : Type 0 where
   pub before : place + 26 < to
-  pub bad : has_number b (place + 26) (x % 4 + 1) ≡ false
+  pub bad : has_number b (place + 26) (next_number x) ≡ false
   pub loses : are_too_many rules.loss (bad_after rules.loss false 0) ≡ true
-  pub blocks : blocks_in word ≡ map outcome_of (group b rules (first_behind x) (x % 4 + 1) (place + 26)).blocks
+  pub blocks : blocks_in word ≡ map outcome_of (group b rules (first_behind x) (next_number x) (place + 26)).blocks

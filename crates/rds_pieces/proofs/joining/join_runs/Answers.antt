@@ -37,7 +37,7 @@ seam-requires-clause-lawful g c =
     let l = c.args.left.now in
     let r = c.args.right.now in
     let sides = c.requires.neighbours in
-    let there = c.run_laws.ensures.lawful_runs l.source l.rules c.range-from.ensures.rules.some_loss Searching l.from l.to c.range-from.ensures.inside.0 tt in
+    let there = c.run_laws.ensures.lawful_runs l.source l.rules c.range-from.ensures.rules.loss.0 Searching l.from l.to c.range-from.ensures.inside.0 tt in
     let here = subst (λ (p : ℕ). IsLawful l.rules p (end_of l)) sides.next there in
     subst (λ (s : State). IsLawful c.args.rules.now r.from s) (sym c.end_state.ensures) (subst (λ (x : RuleNumbers). IsLawful x r.from (end_of l)) sides.left_is.1 here)
 

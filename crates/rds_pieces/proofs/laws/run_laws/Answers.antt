@@ -9,7 +9,6 @@ returns c = record {
   one_bit = c.one_bit_runs.ensures;
   wait = c.locks_wait.ensures;
   changes = c.items_mark_changes.ensures;
-  merge = c.runs_merge.ensures;
   totals = c.totals_join.ensures;
   readings = c.readings_follow_the_rule.ensures;
 }

@@ -111,7 +111,7 @@ returns-clause-soon g c =
     let range = c.range-from.ensures.rules in
     let some = subst (λ (x : RuleNumbers). IsInRange x) c.requires.rules range in
     soon_met b c.args.rules.now c.args.state Searching r.from r.to c.run_laws.ensures c.runs_converge.ensures.fours c.runs_converge.ensures.converge
-    some.some_loss some.some_reach c.requires.lawful tt c.seam_of.result.met_at (returns-clause-met g c)
+    some.loss.0 some.some_reach c.requires.lawful tt c.seam_of.result.met_at (returns-clause-met g c)
 
 pub returns-clause-items : goal.returns-clause-items
 returns-clause-items g c =

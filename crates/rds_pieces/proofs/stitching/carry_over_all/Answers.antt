@@ -112,7 +112,7 @@ pub returns-clause-whole : goal.returns-clause-whole
 returns-clause-whole g c =
     whole_at_end (g.T.Tape.signal c.args.tape.now) c.args.rules.now c.args.runs.now (g.T.Tape.reads_made c.args.tape.now) c.loop-run.run-index c.loop-run.state c.loop-run.report.items.list
     (g.T.Tape.reads_made c.loop-run.tape) c.loop-run.invariant.stitched c.loop-run-test.false c.run_laws.ensures
-    (let r = c.reach-reach.ensures.range.some_loss in r)
+    (let r = c.reach-reach.ensures.range.loss.0 in r)
 
 pub returns-clause-small : goal.returns-clause-small
 returns-clause-small g c =

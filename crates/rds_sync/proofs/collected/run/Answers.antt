@@ -12,4 +12,4 @@ returns-clause-converged c =
     let to = c.args.to in
     let same : c.end_state.result ≡ (run b rules c.args.state from (to - from)).0 = cc in
     subst (λ (t : State). IsConverged b rules from to t) (sym same)
-    (c.runs_converge.ensures.converge b rules c.reach.ensures.range.some_loss c.reach.ensures.range.some_reach from to c.args.state c.requires.lawful)
+    (c.runs_converge.ensures.converge b rules c.reach.ensures.range.loss.0 c.reach.ensures.range.some_reach from to c.args.state c.requires.lawful)

@@ -136,7 +136,7 @@ returns-in_default-word_if_lost-clause-reached c =
           (items_at b rules here Searching) c.add_found.new.counts low found_is (c.add_found.ensures.given b rules e)
           ∙ ap (λ (r : State × List Item). added c.args.counts.now (r.1)) (sym all);
       lawful = subst (λ (t : State). IsLawful rules (here + 1) t) (sym state_is)
-          (lawful-step b rules c.reach.ensures.range.some_loss here Searching tt);
+          (lawful-step b rules c.reach.ensures.range.loss.0 here Searching tt);
     }
 
 pub returns-then-items-most-clause-reached : goal.returns-then-items-most-clause-reached

@@ -19,7 +19,7 @@ returns-clause-items c =
     c.in_ok-close.ensures.ok
     ∙ ap (λ (i : ItemsOf). listed i.source i.rules (i.list ++ items_of_end i.source i.rules end)) c.in_ok-end.ensures.items
     ∙ ap (λ (is : List Item). listed b rules is)
-    (report-run b rules c.len-len.result end _ c.reach.ensures.range.some_loss c.len-len.ensures.value c.in_ok-end.ensures.state refl)
+    (report-run b rules c.len-len.result end _ c.reach.ensures.range.loss.0 c.len-len.ensures.value c.in_ok-end.ensures.state refl)
 
 pub returns-clause-totals : goal.returns-clause-totals
 returns-clause-totals c =
@@ -32,4 +32,4 @@ returns-clause-totals c =
     ∙ ap₂ (λ (t u : Totals). plus t u) c.in_ok-end.ensures.totals (c.of_end.ensures.value ∙ ap (λ (is : List Item). totals_of is) ended)
     ∙ sym (totals_of-append items (items_of_end b rules end))
     ∙ ap (λ (is : List Item). totals_of is)
-    (report-run b rules c.len-len.result end _ c.reach.ensures.range.some_loss c.len-len.ensures.value c.in_ok-end.ensures.state refl)
+    (report-run b rules c.len-len.result end _ c.reach.ensures.range.loss.0 c.len-len.ensures.value c.in_ok-end.ensures.state refl)

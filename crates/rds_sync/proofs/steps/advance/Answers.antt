@@ -14,7 +14,7 @@ returns-in-Searching-clause-lawful g c =
     let rules = c.args.rules.now in
     subst (λ (t : State). IsLawful rules c.search.result.place t) (sym c.search.ensures.state)
     (subst (λ (p : ℕ). IsLawful rules p (step b rules c.args.place Searching)) (sym c.search.ensures.place)
-    (lawful-step b rules c.reach.ensures.range.some_loss c.args.place Searching tt))
+    (lawful-step b rules c.reach.ensures.range.loss.0 c.args.place Searching tt))
 
 pub returns-in-Locked-clause-state : goal.returns-in-Locked-clause-state
 returns-in-Locked-clause-state g c =

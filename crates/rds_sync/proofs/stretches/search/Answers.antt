@@ -114,7 +114,7 @@ returns-then-has_partner_in-clause-reached c =
       quiet = rw last (ap (λ (r : State × List Item). r.1) (run-unfound b rules c.args.place here range.0 none));
       ended = inr (some_given _ _ _ (given ∙ items-acquiring b rules here number e));
       lawful = subst (λ (t : State). IsLawful rules (here + 1) t) (sym state_is)
-          (lawful-step b rules c.reach.ensures.range.some_loss here Searching tt);
+          (lawful-step b rules c.reach.ensures.range.loss.0 here Searching tt);
     }
 
 pub returns-clause-reached : goal.returns-clause-reached

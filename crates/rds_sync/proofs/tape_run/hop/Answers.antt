@@ -15,7 +15,7 @@ returns-in-Locked-clause-hop g c =
     let base : ℕ = g.T.Tape.reads_made c.args.tape.now in
     let lawful : IsLawfulLock rules c.args.place lock = subst (λ (s : State). IsLawful rules c.args.place s) c.in-Locked.is c.requires.lawful in
     subst (λ (s : State). IsHop b rules s c.args.place c.args.near c.args.to c.keep.result.0 c.keep.result.1 (now - base)) (sym c.in-Locked.is)
-    (kept-hop c.items_mark_changes.ensures b rules c.reach.ensures.range.some_loss lock c.args.place c.args.near c.args.to c.keep.result.0 c.keep.result.1 now base
+    (kept-hop c.items_mark_changes.ensures b rules c.reach.ensures.range.loss.0 lock c.args.place c.args.near c.args.to c.keep.result.0 c.keep.result.1 now base
     lawful kept.came.forward kept.came.limit kept.came.state kept.quiet kept.cost)
 
 pub returns-in-Searching-clause-hop : goal.returns-in-Searching-clause-hop

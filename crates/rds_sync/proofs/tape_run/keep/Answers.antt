@@ -105,7 +105,7 @@ loop-now-preserved g c =
     let l = c.loop-now in
     let now = l.now in
     let next = c.in-Inside.next in
-    let loss = c.reach.ensures.range.some_loss in
+    let loss = c.reach.ensures.range.loss.0 in
     let kept = l.invariant.kept in
     let reads : ℕ = g.T.Tape.reads_made l.tape - g.T.Tape.reads_made c.args.tape.now in
     let good = c.read_due-good.result in
@@ -147,7 +147,7 @@ returns-in-Closed-clause-came g c =
     let l = c.loop-now in
     let now = l.now in
     let next = c.in-Closed.next in
-    let loss = c.reach.ensures.range.some_loss in
+    let loss = c.reach.ensures.range.loss.0 in
     let kept = l.invariant.kept in
     let reads : ℕ = g.T.Tape.reads_made l.tape - g.T.Tape.reads_made c.args.tape.now in
     let good = c.read_due-good.result in
@@ -172,7 +172,7 @@ returns-in-Lost-clause-came g c =
     let rules = c.args.rules.now in
     let l = c.loop-now in
     let now = l.now in
-    let loss = c.reach.ensures.range.some_loss in
+    let loss = c.reach.ensures.range.loss.0 in
     let kept = l.invariant.kept in
     let reads : ℕ = g.T.Tape.reads_made l.tape - g.T.Tape.reads_made c.args.tape.now in
     let good = c.read_due-good.result in
@@ -193,12 +193,12 @@ returns-in-Lost-clause-came g c =
 pub returns-in-Closed-clause-quiet : goal.returns-in-Closed-clause-quiet
 returns-in-Closed-clause-quiet g c =
     quiet_here (g.T.Tape.signal c.args.tape.now) c.args.rules.now c.args.lock c.args.place c.args.to c.loop-now.now c.loop-now.blocks
-    (g.T.Tape.reads_made c.loop-now.tape - g.T.Tape.reads_made c.args.tape.now) c.reach.ensures.range.some_loss c.loop-now.invariant.kept
+    (g.T.Tape.reads_made c.loop-now.tape - g.T.Tape.reads_made c.args.tape.now) c.reach.ensures.range.loss.0 c.loop-now.invariant.kept
 
 pub returns-in-Lost-clause-quiet : goal.returns-in-Lost-clause-quiet
 returns-in-Lost-clause-quiet g c =
     quiet_here (g.T.Tape.signal c.args.tape.now) c.args.rules.now c.args.lock c.args.place c.args.to c.loop-now.now c.loop-now.blocks
-    (g.T.Tape.reads_made c.loop-now.tape - g.T.Tape.reads_made c.args.tape.now) c.reach.ensures.range.some_loss c.loop-now.invariant.kept
+    (g.T.Tape.reads_made c.loop-now.tape - g.T.Tape.reads_made c.args.tape.now) c.reach.ensures.range.loss.0 c.loop-now.invariant.kept
 
 pub returns-in-Lost-clause-cost : goal.returns-in-Lost-clause-cost
 returns-in-Lost-clause-cost g c =
@@ -214,7 +214,7 @@ returns-clause-came g c =
     let l = c.loop-now in
     let kept = l.invariant.kept in
     let reads : ℕ = g.T.Tape.reads_made l.tape - g.T.Tape.reads_made c.args.tape.now in
-    let wait = waited b rules c.args.lock c.args.place c.args.to l.now l.blocks reads c.reach.ensures.range.some_loss kept c.args.to kept.limit c.loop-now-test.false in
+    let wait = waited b rules c.args.lock c.args.place c.args.to l.now l.blocks reads c.reach.ensures.range.loss.0 kept c.args.to kept.limit c.loop-now-test.false in
     record {
       forward = c.requires.ahead;
       limit = omega arith;
@@ -229,5 +229,5 @@ returns-clause-quiet g c =
     let rules = c.args.rules.now in
     let kept = c.loop-now.invariant.kept in
     let nothing = ap (λ (r : State × List Item). r.1) (waited b rules c.args.lock c.args.place c.args.to c.loop-now.now c.loop-now.blocks
-    (g.T.Tape.reads_made c.loop-now.tape - g.T.Tape.reads_made c.args.tape.now) c.reach.ensures.range.some_loss kept c.args.to kept.limit c.loop-now-test.false) in
+    (g.T.Tape.reads_made c.loop-now.tape - g.T.Tape.reads_made c.args.tape.now) c.reach.ensures.range.loss.0 kept c.args.to kept.limit c.loop-now-test.false) in
     run-quiet b rules (Locked c.args.lock) c.args.place c.args.to c.requires.ahead nothing

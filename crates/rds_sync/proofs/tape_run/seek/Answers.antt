@@ -33,7 +33,7 @@ returns-in-Some-clause-came g c =
       counts = c.add_found.ensures.given b rules gives ∙ ap (λ (k : CountOf). added k (items_at b rules l.here Searching)) l.invariant.counts
           ∙ ap (λ (r : State × List Item). added c.args.counts.now r.1) (sym run_is);
       lawful = subst (λ (t : State). IsLawful rules (l.here + 1) t) (sym state_is)
-          (lawful-step b rules c.reach.ensures.range.some_loss l.here Searching tt);
+          (lawful-step b rules c.reach.ensures.range.loss.0 l.here Searching tt);
     }
 
 pub returns-clause-came : goal.returns-clause-came

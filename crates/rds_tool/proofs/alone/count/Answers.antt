@@ -33,6 +33,6 @@ plus-requires c = (2 ^ 47, 2 ^ 10, omega arith, c.in_ok-end.ensures.small, c.of_
 pub returns-clause-totals : goal.returns-clause-totals
 returns-clause-totals c =
     c.plus.ensures.value
-    ∙ all c.args.recording.now c.args.rules.now c.len-len.result c.totals_join.ensures c.runs_are_reports.ensures c.reach.ensures.range.some_loss c.len-len.ensures.value
+    ∙ all c.args.recording.now c.args.rules.now c.len-len.result c.totals_join.ensures c.runs_are_reports.ensures c.reach.ensures.range.loss.0 c.len-len.ensures.value
     c.in_ok-end.end c.in_ok-end.ensures.state _ _ _ c.in_ok-end.ensures.totals c.of_end.ensures.value
     (c.finish-group.ensures.group ∙ ap (λ (t : TapeState). items_of_end t.signal c.args.rules.now c.in_ok-end.end) c.new.ensures)

@@ -138,7 +138,7 @@ returns-in_err-follow_chunk-clause-within g c = λ p.
     subst (λ (p : ℕ). IfSome c.args.bits (λ (n : ℕ). p + 8 * c.room_before_end-room.result ≤ n)) c.place.ensures.value c.room_before_end-room.ensures.within in
     let fit = fits_room _ c.room_before_end-room.result _ _ bytes_are c.in_ok-count.ensures.within.1 in
     let few = few_taken _ _ _ bytes_are (omega (arith, long, c.reads.buf.ok.0, c.reads.invariant.room)) in
-    stops_in_rows _ _ _ _ _ _ _ heard f _ _ _ c.in_ok-count.ensures.taken _ bytes_are _ _ within fit c.runs_are_reports.ensures c.reach.ensures.range.some_loss few
+    stops_in_rows _ _ _ _ _ _ _ heard f _ _ _ c.in_ok-count.ensures.taken _ bytes_are _ _ within fit c.runs_are_reports.ensures c.reach.ensures.range.loss.0 few
     (c.in_err-follow_chunk.ensures.prefix (of_call _ _ (passed _ _ c.from_residual-in_err-follow_chunk.ensures) _ p))
 
 pub room_before_end-room-requires : goal.room_before_end-room-requires
@@ -208,6 +208,6 @@ returns-in_err-follow_chunk-clause-broke_off g c =
     (gave_more _ _ _ heard bytes gave (c.in_ok-count.ensures.given ∙ ap (λ xs. g.S.Source.given c.reads.reader ++ xs) (sym bytes_are)))
     (of_none _ OutOfMemory Write TooLong Read kinds (λ p. cc p) (λ p. cc p) (λ p. cc p), of_none _ OutOfMemory Write TooLong BitsPastBytes kinds (λ p. cc p) (λ p. cc p) (λ p. cc p))
     (λ other. stops_untouched g.K.Sink.contents _ _ all none _ _ _ (c.in_err-follow_chunk.ensures.untouched other) (stops_behind _ _ _ _ _ _ _ heard f' none _ _ took bytes bytes_are few))
-    (λ p. stops_in_rows _ _ _ _ _ _ _ heard f' none _ _ took bytes bytes_are _ _ within fit c.runs_are_reports.ensures c.reach.ensures.range.some_loss few (c.in_err-follow_chunk.ensures.prefix (ap (λ x. Err x) p)))
+    (λ p. stops_in_rows _ _ _ _ _ _ _ heard f' none _ _ took bytes bytes_are _ _ within fit c.runs_are_reports.ensures c.reach.ensures.range.loss.0 few (c.in_err-follow_chunk.ensures.prefix (ap (λ x. Err x) p)))
     (λ p. too_many _ _ _ _ _ _ _ heard f' none _ _ took bytes bytes_are (c.in_err-follow_chunk.ensures.too_long (ap (λ x. Err x) p)))
     (λ p. absurd (no_gaps_told _ kinds p)))

@@ -22,4 +22,4 @@ returns c =
     (c.of_end.ensures.value ∙ ap (λ (items : List Item). totals_of items) ended)
     ∙ sym ((c.totals_join.ensures whole.1 (items_of_end b rules whole.0)).joined)
     ∙ ap (λ (n : ℕ). totals_of ((run b rules Searching 0 n).1 ++ items_of_end b rules (run b rules Searching 0 n).0)) all
-    ∙ ap (λ (items : List Item). totals_of items) (c.runs_are_reports.ensures b rules c.loss-loss.ensures.range.some_loss)
+    ∙ ap (λ (items : List Item). totals_of items) (c.runs_are_reports.ensures b rules c.loss-loss.ensures.range.loss.0)

@@ -15,5 +15,5 @@ returns c =
     let len = length-map-range_with_len (packed_bit c.args.bytes.now) 0 c.args.bits in
     rw (written _ _ _ _ first.filled first.count, written _ _ _ _ next.filled next.count, written _ _ _ _ end.filled end.count)
     (whole_in_two item_in_c c.runs_join.ensures c.runs_are_reports.ensures (recording_of c.args.bytes.now c.args.bits c.args.gaps.now) rules
-    first.lawful.asked.rules.range.some_loss c.args.bits len c.args.middle first.lawful.within
+    first.lawful.asked.rules.range.loss.0 c.args.bits len c.args.middle first.lawful.within
     (state_of c.run.new.state) (state_of c.run-2.new.state) first.state next.state)

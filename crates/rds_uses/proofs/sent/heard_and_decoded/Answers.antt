@@ -6,5 +6,5 @@ pub returns : goal.returns
 returns c =
     let range = c.loss-loss.ensures.range in
     if-ok c.decode_plain.result (λ report counted words groups whole heard.
-    counted ∙ (c.sent_groups_are_listed.ensures c.args.recording.now c.args.rules.now words groups range.some_loss range.some_reach range.burst whole heard).1)
+    counted ∙ (c.sent_groups_are_listed.ensures c.args.recording.now c.args.rules.now words groups range.loss.0 range.some_reach range.burst whole heard).1)
     c.decode_plain.ensures.totals

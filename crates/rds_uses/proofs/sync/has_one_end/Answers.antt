@@ -8,5 +8,5 @@ returns c j p k sound =
     let range = c.numbers-numbers.ensures.range in
     let four = c.runs_converge.ensures.fours b rules j c.args.from p k sound in
     let to = p + 26 * four.0 + 1 in
-    let ends = c.runs_converge.ensures.converge b rules range.some_loss range.some_reach c.args.from to in
+    let ends = c.runs_converge.ensures.converge b rules range.loss.0 range.some_reach c.args.from to in
     (to, omega (arith, four.1.inside), λ s t one other. ends s one j p k four.0 sound four.1 refl ∙ sym (ends t other j p k four.0 sound four.1 refl))

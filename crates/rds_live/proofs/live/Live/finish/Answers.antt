@@ -40,7 +40,7 @@ returns-clause-group c bytes h =
     ∙ c.group_at_end-group.ensures.heard bytes (ap (λ (l : LiveOf). l.tail) heard) (ap (λ (l : LiveOf). l.place) heard)
     ∙ ap (λ (t : State). items_of_end (signal_of s.gaps.now bytes) s.rules.now t) (ap (λ (l : LiveOf). l.state) heard) in
     subst (λ (t : Terms). complete t bytes ++ group_item c.ended.result.group ≡ report_of t bytes) (ap (λ (l : LiveOf). l.terms) c.self.view_is)
-    (all-items c.runs_are_reports.ensures terms c.reach.ensures.range.some_loss bytes (group_item c.ended.result.group) last)
+    (all-items c.runs_are_reports.ensures terms c.reach.ensures.range.loss.0 bytes (group_item c.ended.result.group) last)
 
 pub returns-clause-totals : goal.returns-clause-totals
 returns-clause-totals c bytes h =
@@ -50,7 +50,7 @@ returns-clause-totals c bytes h =
     let last = c.group_at_end-group.ensures.heard bytes (ap (λ (l : LiveOf). l.tail) heard) (ap (λ (l : LiveOf). l.place) heard)
     ∙ ap (λ (t : State). items_of_end (signal_of s.gaps.now bytes) s.rules.now t) (ap (λ (l : LiveOf). l.state) heard) in
     subst (λ (t : Terms). c.ended.result.totals ≡ totals_of (report_of t bytes)) (ap (λ (l : LiveOf). l.terms) c.self.view_is)
-    (all-totals c.totals_join.ensures c.runs_are_reports.ensures terms c.reach.ensures.range.some_loss bytes (group_item c.group_at_end-group.result) s.totals c.ended.result.totals
+    (all-totals c.totals_join.ensures c.runs_are_reports.ensures terms c.reach.ensures.range.loss.0 bytes (group_item c.group_at_end-group.result) s.totals c.ended.result.totals
     last (ap (λ (l : LiveOf). l.totals) heard) c.ended.ensures.totals)
 
 pub returns-clause-closed : goal.returns-clause-closed
