@@ -28,18 +28,22 @@ version_burst = 0x1900000
 
 -- a block as it was sent is valid, with its own offset and information word
 abbrev pub ReadsAsSent : Type 0
-ReadsAsSent = (w info : ℕ) (o : Offset) (wanted : Wanted) (limit : ℕ) → IsBlockOf w info o → reading w (number o) wanted limit ≡ Valid o info
+ReadsAsSent = (w info : ℕ) (o : Offset) (wanted : Wanted) (limit : ℕ) → IsBlockOf w info o
+    → reading w (number o) wanted limit ≡ Valid o info
 
 -- a block 1, 2 or 4 that one burst within the limit damaged is corrected: its information word and the burst are found
 abbrev pub CorrectsBurst : Type 0
-CorrectsBurst = (w info : ℕ) (o : Offset) (wanted : Wanted) (limit e : ℕ) → IsBlockOf w info o → number o ≢ 3 → limit ≤ 5 → IsBurst limit e
+CorrectsBurst = (w info : ℕ) (o : Offset) (wanted : Wanted) (limit e : ℕ) → IsBlockOf w info o → number o ≢ 3
+    → limit ≤ 5 → IsBurst limit e
     → reading (bit_xor w e) (number o) wanted limit ≡ Corrected o info e
 
 -- so is a block 3 if only its own offset is wanted, except for one burst
 abbrev pub CorrectsThird : Type 0
-CorrectsThird = (w info : ℕ) (o : Offset) (limit e : ℕ) → IsBlockOf w info o → number o ≡ 3 → limit ≤ 5 → IsBurst limit e → e ≢ version_burst
+CorrectsThird = (w info : ℕ) (o : Offset) (limit e : ℕ) → IsBlockOf w info o → number o ≡ 3 → limit ≤ 5
+    → IsBurst limit e → e ≢ version_burst
     → reading (bit_xor w e) 3 (alone o) limit ≡ Corrected o info e
 
 -- that burst, and no other of up to five bits, makes of it a valid block 3 of the other version
 abbrev pub TakesOtherVersion : Type 0
-TakesOtherVersion = (w info : ℕ) (o : Offset) (e : ℕ) → IsBlockOf w info o → number o ≡ 3 → IsBurst 5 e → IsValid (bit_xor w e) 3 (other_version o) ↔ (e ≡ version_burst)
+TakesOtherVersion = (w info : ℕ) (o : Offset) (e : ℕ) → IsBlockOf w info o → number o ≡ 3 → IsBurst 5 e
+    → IsValid (bit_xor w e) 3 (other_version o) ↔ (e ≡ version_burst)

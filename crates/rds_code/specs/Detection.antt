@@ -18,19 +18,22 @@ use Rattle.rds_code.specs.Correction.{alone}
 
 -- Up to n bit errors are detected: the damaged block matches no offset word of its own block number (2.3: single and double bit errors).
 abbrev pub DetectsBitErrors : ℕ → Type 0
-DetectsBitErrors n = (w info : ℕ) (o p : Offset) (e : ℕ) → IsBlockOf w info o → e < 2 ^ 26 → 1 ≤ ones e → ones e ≤ n
+DetectsBitErrors n = (w info : ℕ) (o p : Offset) (e : ℕ) → IsBlockOf w info o → e < 2 ^ 26 → 1 ≤ ones e
+    → ones e ≤ n
     → IsValid (bit_xor w e) (number o) p → ⊥
 
 -- A burst of up to n bits is detected: the damaged block does not match its own offset word (2.3: bursts that span up to 10 bits).
 abbrev pub DetectsErrorBursts : ℕ → Type 0
-DetectsErrorBursts n = (w info : ℕ) (o : Offset) (e : ℕ) → IsBlockOf w info o → IsBurst n e → IsValid (bit_xor w e) (number o) o → ⊥
+DetectsErrorBursts n = (w info : ℕ) (o : Offset) (e : ℕ) → IsBlockOf w info o → IsBurst n e
+    → IsValid (bit_xor w e) (number o) o → ⊥
 
 -- ---- noise: the share of all 26-bit words that is corrected (this project's rule)
 
 -- With each 16-bit information word, each remainder is that of one 26-bit word. So each remainder is that of 2^16 words.
 abbrev pub SharesRemainders : Type 0
 SharesRemainders = (info r : ℕ) → info < 2 ^ 16 → r < 2 ^ 10
-    → (w : ℕ) × (w < 2 ^ 26) × (information w ≡ info) × (rem w ≡ r) × ((v : ℕ) → information v ≡ info → rem v ≡ r → v ≡ w)
+    → (w : ℕ) × (w < 2 ^ 26) × (information w ≡ info) × (rem w ≡ r)
+    × ((v : ℕ) → information v ≡ info → rem v ≡ r → v ≡ w)
 
 -- The remainders of the words that a burst within the limit turns into a block with the offset.
 abbrev pub remainders_near : Offset → ℕ → List ℕ
@@ -73,25 +76,34 @@ is_miscorrection o info r = false
 
 -- How many error masks of n bit errors make of the block w one that is miscorrected.
 abbrev pub miscorrections : ℕ → ℕ → Offset → Wanted → ℕ → ℕ → ℕ
-miscorrections w info o wanted limit n = length (filter (λ e. is_miscorrection o info (reading (bit_xor w e) (number o) wanted limit)) (error_masks n 26))
+miscorrections w info o wanted limit n =
+    length (filter (λ e. is_miscorrection o info (reading (bit_xor w e) (number o) wanted limit))
+    (error_masks n 26))
 
 -- Blocks 1, 2 and 4: a row for 2, 3 and 4 bit errors, of 325, 2,600 and 14,950 masks; in it the limits from 0 to 5.
 abbrev pub miscorrected : List (List ℕ)
-miscorrected = (0 ∷ 21 ∷ 21 ∷ 21 ∷ 21 ∷ 43 ∷ []) ∷ (0 ∷ 12 ∷ 98 ∷ 206 ∷ 369 ∷ 738 ∷ []) ∷ (0 ∷ 386 ∷ 715 ∷ 1410 ∷ 2731 ∷ 5269 ∷ []) ∷ []
+miscorrected = (0 ∷ 21 ∷ 21 ∷ 21 ∷ 21 ∷ 43 ∷ []) ∷ (0 ∷ 12 ∷ 98 ∷ 206 ∷ 369 ∷ 738 ∷ [])
+    ∷ (0 ∷ 386 ∷ 715 ∷ 1410 ∷ 2731 ∷ 5269 ∷ []) ∷ []
 
 -- Block 3 if only its own offset is wanted: some masks make of it a valid block of the other version, which is not corrected.
 abbrev pub miscorrected_third : List (List ℕ)
-miscorrected_third = (0 ∷ 21 ∷ 21 ∷ 21 ∷ 21 ∷ 43 ∷ []) ∷ (0 ∷ 12 ∷ 98 ∷ 206 ∷ 369 ∷ 737 ∷ []) ∷ (0 ∷ 386 ∷ 715 ∷ 1410 ∷ 2731 ∷ 5253 ∷ []) ∷ []
+miscorrected_third = (0 ∷ 21 ∷ 21 ∷ 21 ∷ 21 ∷ 43 ∷ []) ∷ (0 ∷ 12 ∷ 98 ∷ 206 ∷ 369 ∷ 737 ∷ [])
+    ∷ (0 ∷ 386 ∷ 715 ∷ 1410 ∷ 2731 ∷ 5253 ∷ []) ∷ []
 
 -- Block 3 if C and C' are wanted.
 abbrev pub miscorrected_either : List (List ℕ)
-miscorrected_either = (0 ∷ 27 ∷ 32 ∷ 40 ∷ 60 ∷ 91 ∷ []) ∷ (0 ∷ 76 ∷ 212 ∷ 402 ∷ 657 ∷ 1075 ∷ []) ∷ (0 ∷ 762 ∷ 1406 ∷ 2592 ∷ 4159 ∷ 6778 ∷ []) ∷ []
+miscorrected_either = (0 ∷ 27 ∷ 32 ∷ 40 ∷ 60 ∷ 91 ∷ []) ∷ (0 ∷ 76 ∷ 212 ∷ 402 ∷ 657 ∷ 1075 ∷ [])
+    ∷ (0 ∷ 762 ∷ 1406 ∷ 2592 ∷ 4159 ∷ 6778 ∷ []) ∷ []
 
 -- That many masks miscorrect a block, whatever its information word and offset are: the remainder of the mask decides.
 pub record CountsMiscorrections (w info : ℕ) (o : Offset) (limit n : ℕ) : Type 0 where
-  pub others : (wanted : Wanted) → number o ≢ 3 → miscorrections w info o wanted limit n ≡ slice_index (slice_index_or miscorrected (n - 2) []) limit
-  pub third : number o ≡ 3 → miscorrections w info o (alone o) limit n ≡ slice_index (slice_index_or miscorrected_third (n - 2) []) limit
-  pub either : number o ≡ 3 → miscorrections w info o Either limit n ≡ slice_index (slice_index_or miscorrected_either (n - 2) []) limit
+  pub others : (wanted : Wanted) → number o ≢ 3
+      → miscorrections w info o wanted limit n ≡ slice_index (slice_index_or miscorrected (n - 2) []) limit
+  pub third : number o ≡ 3 → miscorrections w info o (alone o) limit n
+      ≡ slice_index (slice_index_or miscorrected_third (n - 2) []) limit
+  pub either : number o ≡ 3 → miscorrections w info o Either limit n
+      ≡ slice_index (slice_index_or miscorrected_either (n - 2) []) limit
 
 abbrev pub CountsAllMiscorrections : Type 0
-CountsAllMiscorrections = (w info : ℕ) (o : Offset) (limit n : ℕ) → IsBlockOf w info o → limit ≤ 5 → 2 ≤ n → n ≤ 4 → CountsMiscorrections w info o limit n
+CountsAllMiscorrections = (w info : ℕ) (o : Offset) (limit n : ℕ) → IsBlockOf w info o → limit ≤ 5 → 2 ≤ n
+    → n ≤ 4 → CountsMiscorrections w info o limit n

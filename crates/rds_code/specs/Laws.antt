@@ -35,7 +35,8 @@ DetectsBursts = (e : ℕ) → IsBurst 5 e → rem e ≢ 0
 
 -- the reading that is computed is the one that the rule gives, and the rule gives no other
 abbrev pub ReadsByRule : Type 0
-ReadsByRule = (w x : ℕ) (wanted : Wanted) (limit : ℕ) (r : Reading) → 1 ≤ x → x ≤ 4 → limit ≤ 5 → IsReading w x wanted limit r ↔ (r ≡ reading w x wanted limit)
+ReadsByRule = (w x : ℕ) (wanted : Wanted) (limit : ℕ) (r : Reading) → 1 ≤ x → x ≤ 4 → limit ≤ 5
+    → IsReading w x wanted limit r ↔ (r ≡ reading w x wanted limit)
 
 -- exactly one block carries an information word with an offset
 abbrev pub HasOneBlock : Type 0

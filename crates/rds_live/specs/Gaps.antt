@@ -4,7 +4,8 @@ use Rattle.std.specs.Prelude.{ℕ, ◌-◌, List, Option, Some, None, if◌then�
 
 -- a gap, as far as it is in the part of n places from place d on, by its places in the part
 abbrev pub part_of_gap : ℕ → ℕ → ℕ × ℕ → Option (ℕ × ℕ)
-part_of_gap d n gap = if nat_lt (gap.0 - d) (min (gap.1 - d) n) then Some (gap.0 - d, min (gap.1 - d) n) else None
+part_of_gap d n gap =
+    if nat_lt (gap.0 - d) (min (gap.1 - d) n) then Some (gap.0 - d, min (gap.1 - d) n) else None
 
 -- the gaps of the part
 abbrev pub gaps_within : List (ℕ × ℕ) → ℕ → ℕ → List (ℕ × ℕ)

@@ -26,12 +26,14 @@ before_tail live = live.place - 8 * length live.tail
 -- the bytes that are kept and the first bits of these as a recording, with the gaps in them
 abbrev pub part_with : LiveOf → List ℕ → ℕ → Signal
 part_with live bytes bits =
-    signal_at (gaps_within live.terms.gaps (before_tail live) (8 * length live.tail + bits)) (live.tail ++ bytes) (8 * length live.tail + bits)
+    signal_at (gaps_within live.terms.gaps (before_tail live) (8 * length live.tail + bits))
+    (live.tail ++ bytes) (8 * length live.tail + bits)
 
 -- the run over these bits, by the places of that recording
 abbrev pub run_next : LiveOf → List ℕ → ℕ → State × List Item
 run_next live bytes bits =
-    run (part_with live bytes bits) live.terms.rules (moved_back (before_tail live) live.state) (8 * length live.tail) bits
+    run (part_with live bytes bits) live.terms.rules (moved_back (before_tail live) live.state)
+    (8 * length live.tail) bits
 
 -- the items that these bits complete, by their places in the stream
 abbrev pub items_next : LiveOf → List ℕ → ℕ → List Item
@@ -40,7 +42,8 @@ items_next live bytes bits = moved_items (before_tail live) (run_next live bytes
 -- the group in progress after them, if there is one
 abbrev pub group_next : LiveOf → List ℕ → ℕ → List Item
 group_next live bytes bits =
-    moved_items (before_tail live) (items_of_end (part_with live bytes bits) live.terms.rules (run_next live bytes bits).0)
+    moved_items (before_tail live) (items_of_end (part_with live bytes bits) live.terms.rules
+    (run_next live bytes bits).0)
 
 -- the items that these bytes complete
 abbrev pub completed : LiveOf → List ℕ → List Item
@@ -67,6 +70,7 @@ PiecesJoin = (live : LiveOf) (first second : List ℕ) → IsInRange live.terms.
 -- the decoder of a heard stream is that of the longer stream after these bytes, and the items are those of
 -- the stream
 abbrev pub NextIsHeard : Type 0
-NextIsHeard = (live : LiveOf) (before bytes : List ℕ) → IsInRange live.terms.rules → IsLive live → HasHeard live before
+NextIsHeard = (live : LiveOf) (before bytes : List ℕ) → IsInRange live.terms.rules → IsLive live
+    → HasHeard live before
     → HasHeard (live_next live bytes) (before ++ bytes)
     × (complete live.terms before ++ completed live bytes ≡ complete live.terms (before ++ bytes))

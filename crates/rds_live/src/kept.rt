@@ -45,7 +45,8 @@ pub(crate) fn can_be_live(
 
 /// Whether this can be the tail at this place: whole bytes were heard, and it has as many of them as are kept.
 fn is_heard_to(tail: &[u8], place: u64) -> bool
-    ensures { (result ≡ true) ↔ (place ≡ 8 * (place / 8)) × (place ≤ 2 ^ 36) × (length tail.now ≡ min most_kept (place / 8)) }
+    ensures { (result ≡ true) ↔ (place ≡ 8 * (place / 8)) × (place ≤ 2 ^ 36)
+        × (length tail.now ≡ min most_kept (place / 8)) }
 {
     place % 8 == 0 && place <= MOST_BITS && tail.len() as u64 == (place / 8).min(MOST_KEPT as u64)
 }

@@ -56,9 +56,21 @@ impl<'r> Model for Live<'r> {
 
     ghost Value = { LiveOf };
 
-    ghost view = { λ l. record { terms = record { rules = l.rules.now; gaps = l.gaps.now }; tail = l.room.bytes; place = l.place; state = l.state; totals = l.totals } };
+    ghost view = { λ l. record {
+      terms = record { rules = l.rules.now; gaps = l.gaps.now };
+      tail = l.room.bytes;
+      place = l.place;
+      state = l.state;
+      totals = l.totals;
+    } };
 
-    ghost invariant = { λ l. IsLive (record { terms = record { rules = l.rules.now; gaps = l.gaps.now }; tail = l.room.bytes; place = l.place; state = l.state; totals = l.totals })
+    ghost invariant = { λ l. IsLive (record {
+      terms = record { rules = l.rules.now; gaps = l.gaps.now };
+      tail = l.room.bytes;
+      place = l.place;
+      state = l.state;
+      totals = l.totals;
+    })
         × (min (length l.gaps.now) 7920 ≤ slots_of l.room) };
 }
 
@@ -93,7 +105,8 @@ impl<'r> Live<'r> {
         rules: &'r Rules,
         gaps: &'r [(u64, u64)],
     ) -> Result<Live<'r>, StreamError>
-        ensures live { IfOk result (λ live. live ≡ live_of (record { rules = rules.now; gaps = gaps.now }) []) }
+        ensures live { IfOk result (λ live. live
+            ≡ live_of (record { rules = rules.now; gaps = gaps.now }) []) }
         ensures taken { IsOk result → AreGaps (2 ^ 36) gaps.now }
         ensures bad_gaps { IsErrOf result StreamError.BadGaps ↔ (AreGaps (2 ^ 36) gaps.now → ⊥) }
         ensures only { IfErr result (λ e. (e ≡ StreamError.BadGaps) ⊎ (e ≡ StreamError.OutOfMemory)) }
@@ -149,8 +162,10 @@ impl<'r> Live<'r> {
         ensures taken { IfOk result (λ live. IsLive live) }
         ensures bad_gaps { IsErrOf result ResumeError.BadGaps ↔ (AreGaps (2 ^ 36) gaps.now → ⊥) }
         ensures unlawful { IsErrOf result ResumeError.UnlawfulState
-            ↔ (AreGaps (2 ^ 36) gaps.now × (IsLive (live_with rules.now gaps.now tail.now place state totals) → ⊥)) }
-        ensures memory_last { IsErrOf result ResumeError.OutOfMemory → IsLive (live_with rules.now gaps.now tail.now place state totals) }
+            ↔ (AreGaps (2 ^ 36) gaps.now × (IsLive (live_with rules.now gaps.now tail.now place state totals)
+            → ⊥)) }
+        ensures memory_last { IsErrOf result ResumeError.OutOfMemory
+            → IsLive (live_with rules.now gaps.now tail.now place state totals) }
     {
         if !may_have_gaps(gaps) {
             return Err(ResumeError::BadGaps);
@@ -241,19 +256,24 @@ impl<'r> Live<'r> {
     /// Its cost: the bytes are read once, as by [`Decoder`], after a copy of those that are kept. It takes no
     /// memory.
     pub fn take(&mut self, bytes: &[u8], items: &mut Vec<Item>) -> Result<usize, StreamError>
-        ensures heard { IfOk result (λ count. (before : List ℕ) → HasHeard self.old before → HasHeard self.new (before ++ take count bytes.now)) }
+        ensures heard { IfOk result (λ count. (before : List ℕ) → HasHeard self.old before
+            → HasHeard self.new (before ++ take count bytes.now)) }
         ensures terms { OnOk result (self.new.terms ≡ self.old.terms) }
         ensures place { IfOk result (λ count. self.new.place ≡ self.old.place + 8 * count) }
         ensures items { IfOk result (λ count. (before : List ℕ) → HasHeard self.old before
-            → complete self.old.terms (before ++ take count bytes.now) ≡ complete self.old.terms before ++ items.new.items) }
-        ensures count { IfOk result (λ count. count ≡ min (length bytes.now) (min 960 (vec_capacity items.old / 16))) }
+            → complete self.old.terms (before ++ take count bytes.now)
+            ≡ complete self.old.terms before ++ items.new.items) }
+        ensures count { IfOk result (λ count. count
+            ≡ min (length bytes.now) (min 960 (vec_capacity items.old / 16))) }
         ensures room { vec_capacity items.new ≡ vec_capacity items.old }
         ensures refused { OnErr result ((self.new ≡ self.old) × (items.new ≡ items.old)) }
-        ensures too_long { IsErrOf result StreamError.TooLong ↔ (2 ^ 36 < self.old.place + 8 * length bytes.now) }
+        ensures too_long { IsErrOf result StreamError.TooLong
+            ↔ (2 ^ 36 < self.old.place + 8 * length bytes.now) }
 
         // The same of numbers that are lawful and of no stream.
         ensures next { IfOk result (λ count. self.new ≡ live_next self.old (take count bytes.now)) }
-        ensures completed { IfOk result (λ count. items.new.items ≡ completed self.old (take count bytes.now)) }
+        ensures completed { IfOk result (λ count. items.new.items
+            ≡ completed self.old (take count bytes.now)) }
         ensures only { IsOkUnless result StreamError.TooLong }
     {
         if bytes.len() as u64 > (MOST_BITS - self.place) / 8 {
@@ -287,13 +307,15 @@ impl<'r> Live<'r> {
     ///
     /// Its cost: that of [`take`](Live::take) over and over, and memory for the list and for the items of 960 bytes.
     pub fn take_all(&mut self, alloc: Global, bytes: &[u8]) -> Result<Vec<Item>, StreamError>
-        ensures heard { OnOk result ((before : List ℕ) → HasHeard self.old before → HasHeard self.new (before ++ bytes.now)) }
+        ensures heard { OnOk result ((before : List ℕ) → HasHeard self.old before
+            → HasHeard self.new (before ++ bytes.now)) }
         ensures terms { self.new.terms ≡ self.old.terms }
         ensures items { IfOk result (λ items. (before : List ℕ) → HasHeard self.old before
             → complete self.old.terms (before ++ bytes.now) ≡ complete self.old.terms before ++ items.items) }
         ensures fits { OnOk result (self.old.place + 8 * length bytes.now ≤ 2 ^ 36) }
         ensures refused { OnErr result (self.new ≡ self.old) }
-        ensures too_long { IsErrOf result StreamError.TooLong ↔ (2 ^ 36 < self.old.place + 8 * length bytes.now) }
+        ensures too_long { IsErrOf result StreamError.TooLong
+            ↔ (2 ^ 36 < self.old.place + 8 * length bytes.now) }
 
         // The same of numbers that are lawful and of no stream.
         ensures next { OnOk result (self.new ≡ live_next self.old bytes.now) }
@@ -401,7 +423,8 @@ impl<'r> Live<'r> {
             → complete self.entry.terms before ++ items.new.items ++ group_item end.group
             ≡ report_at self.entry.terms (before ++ bytes.now) (8 * length before + bits)) }
         ensures totals { IfOk result (λ end. (before : List ℕ) → HasHeard self.entry before
-            → end.totals ≡ totals_of (report_at self.entry.terms (before ++ bytes.now) (8 * length before + bits))) }
+            → end.totals ≡ totals_of (report_at self.entry.terms (before ++ bytes.now)
+            (8 * length before + bits))) }
         ensures room { vec_capacity items.new ≡ vec_capacity items.old }
         ensures refused { OnErr result (items.new ≡ items.old) }
         ensures too_long { IsErrOf result StreamError.TooLong ↔ (2 ^ 36 < self.entry.place + bits) }
@@ -411,7 +434,8 @@ impl<'r> Live<'r> {
         ensures completed { OnOk result (items.new.items ≡ items_next self.entry bytes.now bits) }
         ensures closed { IfOk result (λ end. group_item end.group ≡ group_next self.entry bytes.now bits) }
         ensures counted { IfOk result (λ end. end.totals
-            ≡ plus (plus self.entry.totals (totals_of (items_next self.entry bytes.now bits))) (totals_of (group_next self.entry bytes.now bits))) }
+            ≡ plus (plus self.entry.totals (totals_of (items_next self.entry bytes.now bits)))
+            (totals_of (group_next self.entry bytes.now bits))) }
     {
         if bits > MOST_BITS - self.place {
             return Err(StreamError::TooLong);
@@ -447,7 +471,8 @@ impl<'r> Live<'r> {
 /// Has the decoder take all of these bytes, and gives the items that they complete.
 fn taken(alloc: Global, live: &mut Live<'_>, bytes: &[u8]) -> Result<Vec<Item>, AllocError>
     requires fits { live.old.place + 8 * length bytes.now ≤ 2 ^ 36 }
-    ensures heard { OnOk result ((before : List ℕ) → HasHeard live.old before → HasHeard live.new (before ++ bytes.now)) }
+    ensures heard { OnOk result ((before : List ℕ) → HasHeard live.old before
+        → HasHeard live.new (before ++ bytes.now)) }
     ensures terms { live.new.terms ≡ live.old.terms }
     ensures items { IfOk result (λ items. (before : List ℕ) → HasHeard live.old before
         → complete live.old.terms (before ++ bytes.now) ≡ complete live.old.terms before ++ items.items) }
@@ -477,13 +502,15 @@ fn take_next(
     requires room { 16 ≤ vec_capacity some.old }
     requires fits { live.old.place + 8 * length bytes.now ≤ 2 ^ 36 }
     ensures some { IfOk result (λ count. (0 < count) × (count ≤ length bytes.now)) }
-    ensures heard { IfOk result (λ count. (before : List ℕ) → HasHeard live.old before → HasHeard live.new (before ++ take count bytes.now)) }
+    ensures heard { IfOk result (λ count. (before : List ℕ) → HasHeard live.old before
+        → HasHeard live.new (before ++ take count bytes.now)) }
     ensures terms { live.new.terms ≡ live.old.terms }
     ensures place { IfOk result (λ count. live.new.place ≡ live.old.place + 8 * count) }
     ensures items { IfOk result (λ count. (before : List ℕ) (given : List Item) → HasHeard live.old before
         → complete live.old.terms before ≡ given ++ items.old.items
         → complete live.old.terms (before ++ take count bytes.now) ≡ given ++ items.new.items) }
-    ensures next { IfOk result (λ count. live_next live.new (drop count bytes.now) ≡ live_next live.old bytes.now) }
+    ensures next { IfOk result (λ count. live_next live.new (drop count bytes.now)
+        ≡ live_next live.old bytes.now) }
     ensures completed { IfOk result (λ count. items.new.items ++ completed live.new (drop count bytes.now)
         ≡ items.old.items ++ completed live.old bytes.now) }
     ensures room { vec_capacity some.new ≡ vec_capacity some.old }

@@ -45,7 +45,8 @@ impl Model for Room {
 
     ghost view = { λ r. record { bytes = r.bytes.items; recording = r.recording } };
 
-    ghost invariant = { λ r. (length r.bytes.items ≤ 990) × (990 ≤ vec_capacity r.bytes) × (length_of r.recording ≡ 15840)
+    ghost invariant = { λ r. (length r.bytes.items ≤ 990) × (990 ≤ vec_capacity r.bytes)
+        × (length_of r.recording ≡ 15840)
         × (length r.recording.gaps ≡ r.slots) × (r.slots ≤ 7920) × (r.slots ≤ vec_capacity r.gaps)
         × (r.used ≤ r.slots) × AreSpareFrom r.used r.recording.gaps };
 }

@@ -24,7 +24,8 @@ module _ (b : Signal) (rules : RuleNumbers) (left right : RunOf) where
     -- if a sound range is inside the right run's, the left one's end meets it by that range's end
     pub soon : OnOk result (MeetSoon b rules (end_of left) Searching right.from right.to)
     -- it reads on up to the meeting, and no more if it is refused memory
-    pub reads : OnOk result ((met : Option ℕ) × IsMeeting b rules (end_of left) Searching right.from right.to met
+    pub reads : OnOk result ((met : Option ℕ)
+        × IsMeeting b rules (end_of left) Searching right.from right.to met
         × (new ≤ old + seam_reads rules right.from right.to met))
     pub reads_way : (met : Option ℕ) → IsMeeting b rules (end_of left) Searching right.from right.to met
         → new ≤ old + seam_reads rules right.from right.to met

@@ -11,9 +11,12 @@ PiecesAreFew = (n : ℕ) (places : List ℕ) → IsCutting n places → pieces_o
 
 -- the runs of all pieces of a cutting follow each other
 abbrev pub PiecesFollow : Type 0
-PiecesFollow = (b : Signal) (rules : RuleNumbers) (places : List ℕ) → IsCutting (length_of b) places → FollowEachOther b rules 0 (length_of b) (runs_of b rules places)
+PiecesFollow = (b : Signal) (rules : RuleNumbers) (places : List ℕ) → IsCutting (length_of b) places
+    → FollowEachOther b rules 0 (length_of b) (runs_of b rules places)
 
 -- if two neighbours are joined, the runs follow each other as before
 abbrev pub JoinedRunsFollow : Type 0
-JoinedRunsFollow = (b : Signal) (rules : RuleNumbers) (from to : ℕ) (before : List RunOf) (left right : RunOf) (after : List RunOf)
-    → FollowEachOther b rules from to (before ++ left ∷ right ∷ after) → FollowEachOther b rules from to (before ++ run_over b rules left.from right.to ∷ after)
+JoinedRunsFollow = (b : Signal) (rules : RuleNumbers) (from to : ℕ) (before : List RunOf) (left right : RunOf)
+    (after : List RunOf)
+    → FollowEachOther b rules from to (before ++ left ∷ right ∷ after)
+    → FollowEachOther b rules from to (before ++ run_over b rules left.from right.to ∷ after)

@@ -24,7 +24,8 @@ module _ (b : Signal) (rules : RuleNumbers) where
   marks_on s a before (suc bits) =
       let given : List Item = items_at b rules a s in
       let count : ℕ = before + length given in
-      mark_where given (mark_at (step b rules a s) (a + 1) count) ++ marks_on (step b rules a s) (a + 1) count bits
+      mark_where given (mark_at (step b rules a s) (a + 1) count)
+      ++ marks_on (step b rules a s) (a + 1) count bits
 
   -- all marks of the run from state s over `bits` bits from place a
   abbrev pub marks_of : State → ℕ → ℕ → List Mark

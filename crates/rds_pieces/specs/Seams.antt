@@ -21,5 +21,6 @@ module _ (b : Signal) (rules : RuleNumbers) where
   -- n is the sum of the windows that the seams of the runs may read, if s is the state at the first
   abbrev pub IsSumOfReads : State → List RunOf → ℕ → Type 0
   IsSumOfReads s [] n = n ≡ 0
-  IsSumOfReads s (r ∷ rs) n = (met : Option ℕ) × (rest : ℕ) × IsMeeting b rules s Searching r.from r.to met × IsSumOfReads (state_after s r) rs rest
+  IsSumOfReads s (r ∷ rs) n = (met : Option ℕ) × (rest : ℕ) × IsMeeting b rules s Searching r.from r.to met
+      × IsSumOfReads (state_after s r) rs rest
       × (n ≡ seam_reads rules r.from r.to met + rest)

@@ -8,10 +8,12 @@ use Rattle.rds_pieces.specs.Meeting.{MeetFirstAt}
 
 -- if a sound range is inside the piece from `from` to `to` - 1, they meet by the range's end
 abbrev pub IsSoonMet : Signal → RuleNumbers → ℕ → ℕ → Option ℕ → Type 0
-IsSoonMet b rules from to met = (j s p c : ℕ) → IsSound b rules j s p c → from ≤ s → s + sound_bits rules.loss j ≤ to
+IsSoonMet b rules from to met = (j s p c : ℕ) → IsSound b rules j s p c → from ≤ s
+    → s + sound_bits rules.loss j ≤ to
     → (place : ℕ) × (met ≡ Some place) × (place ≤ s + sound_bits rules.loss j)
 
 -- the same of the runs from two states, for a call that answers no place
 abbrev pub MeetSoon : Signal → RuleNumbers → State → State → ℕ → ℕ → Type 0
-MeetSoon b rules one other from to = (j s p c : ℕ) → IsSound b rules j s p c → from ≤ s → s + sound_bits rules.loss j ≤ to
+MeetSoon b rules one other from to = (j s p c : ℕ) → IsSound b rules j s p c → from ≤ s
+    → s + sound_bits rules.loss j ≤ to
     → (place : ℕ) × MeetFirstAt b rules one other from to place × (place ≤ s + sound_bits rules.loss j)

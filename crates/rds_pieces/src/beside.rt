@@ -43,16 +43,19 @@ pub(crate) fn go_beside<T: Tape>(
     requires within { to ≤ length_of (T.signal tape.old) }
     requires room { T.reads_made tape.old ≤ 2 ^ 62 }
 
-    ensures met { IfOk result (λ beside. IsMeeting (T.signal tape.old) rules.now state State.Searching from to beside.met_at) }
+    ensures met { IfOk result (λ beside. IsMeeting
+        (T.signal tape.old) rules.now state State.Searching from to beside.met_at) }
     ensures own { IfOk result (λ beside. beside.own
         ≡ gone_on (tally_at (T.signal tape.old) rules.now from state) (come_to to beside.met_at)) }
     ensures guess { IfOk result (λ beside. beside.guess
         ≡ gone_on (tally_at (T.signal tape.old) rules.now from State.Searching) (come_to to beside.met_at)) }
 
     ensures same { T.signal tape.new ≡ T.signal tape.old }
-    ensures reads_way { (met : Option ℕ) → IsMeeting (T.signal tape.old) rules.now state State.Searching from to met
+    ensures reads_way { (met : Option ℕ) → IsMeeting
+        (T.signal tape.old) rules.now state State.Searching from to met
         → T.reads_made tape.new ≤ T.reads_made tape.old + seam_reads rules.now from to met }
-    ensures reads_most { T.reads_made tape.new ≤ T.reads_made tape.old + (rules.now.reach + 2) * (to - from + 1) }
+    ensures reads_most { T.reads_made tape.new
+        ≤ T.reads_made tape.old + (rules.now.reach + 2) * (to - from + 1) }
 {
     // Hops in a row are one run.
     run_laws();

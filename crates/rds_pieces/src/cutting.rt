@@ -22,7 +22,8 @@ impl Model for Cutting {
 
     ghost view = { λ c. c.places.items };
 
-    ghost invariant = { λ c. IsCutting (slice_index c.places.items (length c.places.items - 1)) c.places.items };
+    ghost invariant = { λ c. IsCutting (slice_index c.places.items
+        (length c.places.items - 1)) c.places.items };
 }
 
 impl Cutting {

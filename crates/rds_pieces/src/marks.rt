@@ -84,7 +84,8 @@ impl<'a> FusedIterator for Marks<'a> {}
 fn mark_after(reader: &mut Reader<'_>, rules: &Rules, now: Mark, to: u64) -> Option<Mark>
     requires here { IsMarkIn rules.now to now }
     requires within { to ≤ length_of reader.old }
-    ensures next { MatchOption result (marks_on reader.old rules.now now.state now.place now.items (to - now.place) ≡ [])
+    ensures next { MatchOption result (marks_on reader.old rules.now now.state now.place now.items
+        (to - now.place) ≡ [])
         (λ next. marks_on reader.old rules.now now.state now.place now.items (to - now.place)
         ≡ next ∷ marks_on reader.old rules.now next.state next.place next.items (to - next.place)) }
     ensures inside { IfSome result (IsMarkIn rules.now to) }

@@ -41,7 +41,8 @@ impl Model for PieceRun {
 
     ghost view = { λ r. run_over r.report.items.source r.report.items.rules r.from r.to };
 
-    ghost invariant = { λ r. IsKept (run_over r.report.items.source r.report.items.rules r.from r.to) r.report r.end_state };
+    ghost invariant = { λ r. IsKept
+        (run_over r.report.items.source r.report.items.rules r.from r.to) r.report r.end_state };
 }
 
 impl PieceRun {
@@ -94,7 +95,8 @@ impl PieceRun {
     pub fn items<'a>(&'a self, rec: &'a Recording, rules: &'a Rules) -> ItemIter<'a>
         requires source { self.now.source ≡ rec.now }
         requires rules { self.now.rules ≡ rules.now }
-        ensures { result ≡ (guess self.now.source self.now.rules self.now.from (self.now.to - self.now.from)).1 }
+        ensures { result ≡ (guess self.now.source self.now.rules self.now.from
+            (self.now.to - self.now.from)).1 }
     {
         self.report.items.iter(rec, rules)
     }
@@ -105,7 +107,8 @@ impl PieceRun {
         requires source { self.now.source ≡ rec.now }
         requires rules { self.now.rules ≡ rules.now }
         ensures { result
-            ≡ marks_of self.now.source self.now.rules State.Searching self.now.from (self.now.to - self.now.from) }
+            ≡ marks_of self.now.source self.now.rules State.Searching self.now.from
+            (self.now.to - self.now.from) }
     {
         Marks::over(rec, rules, self.from, self.to)
     }
@@ -128,7 +131,8 @@ impl PieceRun {
 
     /// The state after the piece's last bit.
     pub fn end_state(&self) -> State
-        ensures { result ≡ (guess self.now.source self.now.rules self.now.from (self.now.to - self.now.from)).0 }
+        ensures { result ≡ (guess self.now.source self.now.rules self.now.from
+            (self.now.to - self.now.from)).0 }
     {
         self.end_state
     }

@@ -56,13 +56,15 @@ pub fn seam<T: Tape>(
         ≡ (run_of (T.signal tape.old) rules.now state run.now.from (run.now.to - run.now.from)).0) }
     ensures met { IfOk result (λ s.
         IsMeeting (T.signal tape.old) rules.now state State.Searching run.now.from run.now.to s.met_at) }
-    ensures soon { IfOk result (λ s. IsSoonMet (T.signal tape.old) rules.now run.now.from run.now.to s.met_at) }
+    ensures soon { IfOk result (λ s. IsSoonMet
+        (T.signal tape.old) rules.now run.now.from run.now.to s.met_at) }
     ensures reads { IfOk result (λ s. T.reads_made tape.new
         ≤ T.reads_made tape.old + (rules.now.reach + 2) * (distance run.now.from run.now.to s.met_at + 1)) }
 
     ensures err { IsOkUnless result OutOfMemory }
     ensures same { T.signal tape.new ≡ T.signal tape.old }
-    ensures reads_way { (met : Option ℕ) → IsMeeting (T.signal tape.old) rules.now state State.Searching run.now.from run.now.to met
+    ensures reads_way { (met : Option ℕ) → IsMeeting
+        (T.signal tape.old) rules.now state State.Searching run.now.from run.now.to met
         → T.reads_made tape.new ≤ T.reads_made tape.old + seam_reads rules.now run.now.from run.now.to met }
     ensures reads_most { T.reads_made tape.new
         ≤ T.reads_made tape.old + (rules.now.reach + 2) * (run.now.to - run.now.from + 1) }
@@ -111,11 +113,14 @@ fn totals_after(all: Totals, first: Totals) -> Totals
 /// The report of a run over the whole range, and its end state, once it went on from `state` beside the
 /// guess. Its items are its own up to the meeting, and from there on the guess's.
 fn sewn(beside: Beside, state: State, run: &PieceRun) -> Result<(Report, State), PieceError>
-    requires met { IsMeeting run.now.source run.now.rules state State.Searching run.now.from run.now.to beside.met_at }
+    requires met { IsMeeting run.now.source run.now.rules state State.Searching run.now.from run.now.to
+        beside.met_at }
     requires own { beside.own
-        ≡ gone_on (tally_at run.now.source run.now.rules run.now.from state) (come_to run.now.to beside.met_at) }
+        ≡ gone_on (tally_at run.now.source run.now.rules run.now.from state)
+        (come_to run.now.to beside.met_at) }
     requires guess { beside.guess
-        ≡ gone_on (tally_at run.now.source run.now.rules run.now.from State.Searching) (come_to run.now.to beside.met_at) }
+        ≡ gone_on (tally_at run.now.source run.now.rules run.now.from State.Searching)
+        (come_to run.now.to beside.met_at) }
     ensures items { IfOk result (λ end. end.0.items ≡ listed run.now.source run.now.rules
         (run_of run.now.source run.now.rules state run.now.from (run.now.to - run.now.from)).1) }
     ensures totals { IfOk result (λ end. end.0.totals

@@ -37,13 +37,16 @@ pub fn stitch<T: Tape>(
     rules: &Rules,
     runs: &[PieceRun],
 ) -> Result<Report, PieceError>
-    requires in_a_row { FollowEachOther (T.signal tape.old) rules.now 0 (length_of (T.signal tape.old)) runs.now }
+    requires in_a_row { FollowEachOther (T.signal tape.old) rules.now 0
+        (length_of (T.signal tape.old)) runs.now }
     requires room { T.reads_made tape.old ≤ 2 ^ 61 }
 
     ensures items { IfOk result (λ report. report.items
         ≡ listed (T.signal tape.old) rules.now (report_items (T.signal tape.old) rules.now)) }
-    ensures totals { IfOk result (λ report. report.totals ≡ totals_of (report_items (T.signal tape.old) rules.now)) }
-    ensures reads { IfOk result (λ _. (n : ℕ) × IsSumOfReads (T.signal tape.old) rules.now State.Searching runs.now n
+    ensures totals { IfOk result (λ report. report.totals
+        ≡ totals_of (report_items (T.signal tape.old) rules.now)) }
+    ensures reads { IfOk result (λ _. (n : ℕ)
+        × IsSumOfReads (T.signal tape.old) rules.now State.Searching runs.now n
         × (T.reads_made tape.new ≤ T.reads_made tape.old + n + 3)) }
 
     ensures err { IsOkUnless result OutOfMemory }
@@ -68,7 +71,8 @@ fn carry_over_all<T: Tape>(
     rules: &Rules,
     runs: &[PieceRun],
 ) -> Result<(State, Report), PieceError>
-    requires in_a_row { FollowEachOther (T.signal tape.old) rules.now 0 (length_of (T.signal tape.old)) runs.now }
+    requires in_a_row { FollowEachOther (T.signal tape.old) rules.now 0
+        (length_of (T.signal tape.old)) runs.now }
     requires room { T.reads_made tape.old ≤ 2 ^ 61 }
 
     ensures named { IfOk result (λ r. r.1.items ≡ listed (T.signal tape.old) rules.now r.1.items.list) }
@@ -77,7 +81,8 @@ fn carry_over_all<T: Tape>(
     ensures totals { IfOk result (λ r. r.1.totals ≡ totals_of r.1.items.list) }
     ensures small { IfOk result (λ r. IsAtMost ((2 ^ 28 - 1) * 2 ^ 36) r.1.totals) }
     ensures lawful { IfOk result (λ r. IsLawful rules.now (length_of (T.signal tape.old)) r.0) }
-    ensures reads { IfOk result (λ _. (n : ℕ) × IsSumOfReads (T.signal tape.old) rules.now State.Searching runs.now n
+    ensures reads { IfOk result (λ _. (n : ℕ)
+        × IsSumOfReads (T.signal tape.old) rules.now State.Searching runs.now n
         × (T.reads_made tape.new ≤ T.reads_made tape.old + n)) }
     ensures room { IfOk result (λ _. T.reads_made tape.new + 16 ≤ 2 ^ 63) }
 
@@ -123,14 +128,16 @@ fn carry_over<T: Tape>(
         (totals_of (run_of (T.signal tape.old) rules.now state run.now.from (run.now.to - run.now.from)).1) }
 
     ensures items { IfOk result (λ _. report.new.items ≡ listed (T.signal tape.old) rules.now
-        (report.old.items.list ++ (run_of (T.signal tape.old) rules.now state run.now.from (run.now.to - run.now.from)).1)) }
+        (report.old.items.list
+        ++ (run_of (T.signal tape.old) rules.now state run.now.from (run.now.to - run.now.from)).1)) }
     ensures totals { IfOk result (λ _. report.new.totals ≡ plus report.old.totals
         (totals_of (run_of (T.signal tape.old) rules.now state run.now.from (run.now.to - run.now.from)).1)) }
     ensures end { IfOk result (λ after. after
         ≡ (run_of (T.signal tape.old) rules.now state run.now.from (run.now.to - run.now.from)).0) }
     ensures reads { IfOk result (λ _. (met : Option ℕ)
         × IsMeeting (T.signal tape.old) rules.now state State.Searching run.now.from run.now.to met
-        × (T.reads_made tape.new ≤ T.reads_made tape.old + seam_reads rules.now run.now.from run.now.to met)) }
+        × (T.reads_made tape.new
+        ≤ T.reads_made tape.old + seam_reads rules.now run.now.from run.now.to met)) }
 
     ensures err { IsOkUnless result OutOfMemory }
     ensures same { T.signal tape.new ≡ T.signal tape.old }

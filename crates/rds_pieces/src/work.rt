@@ -48,13 +48,15 @@ pub trait Work {
     fn guess(&self, alloc: Global, j: u64) -> Result<PieceRun, PieceError>
         requires fits { IsCutting (length_of (recording self.now)) (places self.now) }
         requires piece { j < pieces_of (places self.now) }
-        ensures ok { IfOk result (λ r. r ≡ run_at (recording self.now) (rule_set self.now) (places self.now) j) }
+        ensures ok { IfOk result (λ r. r ≡ run_at (recording self.now) (rule_set self.now)
+            (places self.now) j) }
         ensures err { IsOkUnless result OutOfMemory };
 
     /// The run of two ranges that follow each other. Its only error is `OutOfMemory`.
     fn join(&self, alloc: Global, left: &PieceRun, right: &PieceRun) -> Result<PieceRun, PieceError>
         requires { AreNeighbours (recording self.now) (rule_set self.now) left.now right.now }
-        ensures ok { IfOk result (λ r. r ≡ run_over (recording self.now) (rule_set self.now) left.now.from right.now.to) }
+        ensures ok { IfOk result (λ r. r ≡ run_over (recording self.now)
+            (rule_set self.now) left.now.from right.now.to) }
         ensures err { IsOkUnless result OutOfMemory };
 
     /// The report, from runs that follow each other from place 0 to the recording's end. Its only error is

@@ -18,9 +18,12 @@ steps_of_maker (makes k) = 3
 steps_of_maker ended = 0
 
 abbrev pub steps_of_writer : Setup → Writer → ℕ
-steps_of_writer setup (waits_for k) = (setup.parts - k) * (setup.threads + 2) + setup.seats * (setup.threads + 1) + 3
-steps_of_writer setup (sleeps_for k) = (setup.parts - k) * (setup.threads + 2) + setup.seats * (setup.threads + 1) + 2
-steps_of_writer setup (writes k) = (setup.parts - k) * (setup.threads + 2) + setup.seats * (setup.threads + 1) + 2
+steps_of_writer setup (waits_for k) = (setup.parts - k) * (setup.threads + 2)
+    + setup.seats * (setup.threads + 1) + 3
+steps_of_writer setup (sleeps_for k) = (setup.parts - k) * (setup.threads + 2)
+    + setup.seats * (setup.threads + 1) + 2
+steps_of_writer setup (writes k) = (setup.parts - k) * (setup.threads + 2)
+    + setup.seats * (setup.threads + 1) + 2
 steps_of_writer setup (closes j) = (setup.seats - j) * (setup.threads + 1) + 1
 steps_of_writer setup over = 0
 
@@ -30,7 +33,8 @@ sum_below (suc n) f = sum_below n f + f n
 
 -- each number that is left to draw gives four more
 abbrev pub steps_left : Setup → Pool → ℕ
-steps_left setup pool = 4 * (setup.parts - pool.next) + sum_below setup.threads (λ i. steps_of_maker (pool.makers i))
+steps_left setup pool =
+    4 * (setup.parts - pool.next) + sum_below setup.threads (λ i. steps_of_maker (pool.makers i))
     + steps_of_writer setup pool.writer
 
 abbrev pub EachStepCounts : Type 0
@@ -40,7 +44,8 @@ EachStepCounts = (setup : Setup) (events : List Event) (event : Event) → Runs 
 -- so a run has at most `each` steps per part, one more for each thread, and some for the end
 abbrev pub RunsEnd : ℕ → Type 0
 RunsEnd each = (setup : Setup) (events : List Event) → Runs setup events
-    → length events ≤ setup.parts * (setup.threads + each) + setup.seats * (setup.threads + 1) + setup.threads + 3
+    → length events ≤ setup.parts * (setup.threads + each)
+    + setup.seats * (setup.threads + 1) + setup.threads + 3
 
 -- ---- the parts that are written
 

@@ -13,12 +13,17 @@ sheet_state true (Some sheet) = made
 sheet_state false (Some sheet) = blank
 
 abbrev pub slot_state : ℕ → Bool → Option Sheet → Bool → SlotState
-slot_state number full sheet closed = record { number = number; sheet = sheet_state full sheet; closed = closed }
+slot_state number full sheet closed = record {
+  number = number;
+  sheet = sheet_state full sheet;
+  closed = closed;
+}
 
 -- a thread looks for the sheet for part k: it goes away, takes the sheet, or sleeps
 abbrev pub LooksForBlank : ℕ → SlotState → Found → SlotState → Type 0
 LooksForBlank k slot Closed slot' = (slot.closed ≡ true) × (slot' ≡ slot)
-LooksForBlank k slot (Blank sheet) slot' = (slot.closed ≡ false) × HasBlank k slot × (slot' ≡ without_sheet slot)
+LooksForBlank k slot (Blank sheet) slot' = (slot.closed ≡ false) × HasBlank k slot
+    × (slot' ≡ without_sheet slot)
 LooksForBlank k slot Nothing slot' = (slot.closed ≡ false) × (HasBlank k slot → ⊥) × (slot' ≡ slot)
 
 -- the caller looks for part k: it takes the sheet, or sleeps

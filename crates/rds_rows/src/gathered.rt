@@ -67,7 +67,8 @@ impl Gathered {
     fn write_with<W: Hand>(&mut self, text: &[u8], out: &mut W) -> Result<(), Failed>
         requires { W.failed out.old < 2 ^ 63 }
         ensures name { W.name out.new ≡ W.name out.old }
-        ensures ok { OnOk result (Appends (W.contents out.old) (W.contents out.new) (kept_in self.old ++ text.now)) }
+        ensures ok { OnOk result (Appends (W.contents out.old) (W.contents out.new)
+            (kept_in self.old ++ text.now)) }
         ensures none { OnOk result (kept_in self.new ≡ []) }
         ensures count { OnOk result (W.failed out.new ≡ W.failed out.old) }
         ensures failed { OnErr result (W.failed out.old < W.failed out.new) }
@@ -86,7 +87,8 @@ impl Gathered {
         ensures none { OnOk result (kept_in self.new ≡ []) }
         ensures count { OnOk result (W.failed out.new ≡ W.failed out.old) }
         ensures failed { OnErr result (W.failed out.old < W.failed out.new) }
-        ensures prefix { OnErr result (AppendsPrefix (W.contents out.old) (W.contents out.new) (kept_in self.old)) }
+        ensures prefix { OnErr result (AppendsPrefix (W.contents out.old) (W.contents out.new)
+            (kept_in self.old)) }
     {
         out.write(self.kept.as_slice())?;
         self.kept.clear();

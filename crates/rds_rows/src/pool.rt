@@ -121,7 +121,8 @@ fn gather_parts<R: Wait, J: Named, T: Rows, W: Hand + Drop>(
         (first_parts J.part parts) (kept_in gathered.new)) }
     ensures count { OnOk result (W.failed out.new ≡ W.failed out.old) }
     ensures failed { OnErr result (W.failed out.old < W.failed out.new) }
-    ensures prefix { OnErr result (AppendsPrefix (W.contents out.old) (W.contents out.new) (first_parts J.part parts)) }
+    ensures prefix { OnErr result (AppendsPrefix (W.contents out.old) (W.contents out.new)
+        (first_parts J.part parts)) }
 {
     for k in 0..parts {
         write_part(rt, rows, seats, k, is_alone, gathered, out)?;
@@ -147,7 +148,8 @@ fn write_parts<R: Wait, J: Named, T: Rows, W: Hand + Drop>(
     ensures ok { OnOk result (Appends (W.contents out.old) (W.contents out.new) (first_parts J.part parts)) }
     ensures count { OnOk result (W.failed out.new ≡ W.failed out.old) }
     ensures failed { OnErr result (W.failed out.old < W.failed out.new) }
-    ensures prefix { OnErr result (AppendsPrefix (W.contents out.old) (W.contents out.new) (first_parts J.part parts)) }
+    ensures prefix { OnErr result (AppendsPrefix (W.contents out.old) (W.contents out.new)
+        (first_parts J.part parts)) }
 {
     let mut gathered = gathered;
     gather_parts(rt, rows, seats, parts, is_alone, &mut gathered, out)?;
@@ -186,7 +188,8 @@ pub(crate) fn by_pool<
     ensures ok { OnOk result.1 (Appends (W.contents out) (W.contents result.0) (first_parts J.part parts)) }
     ensures count { OnOk result.1 (W.failed result.0 ≡ W.failed out) }
     ensures failed { OnErr result.1 (W.failed out < W.failed result.0) }
-    ensures prefix { OnErr result.1 (AppendsPrefix (W.contents out) (W.contents result.0) (first_parts J.part parts)) }
+    ensures prefix { OnErr result.1 (AppendsPrefix (W.contents out) (W.contents result.0)
+        (first_parts J.part parts)) }
 {
     let next = AtomicUsize::new(0);
     let dealer = &next;
@@ -197,10 +200,12 @@ pub(crate) fn by_pool<
             requires { IsNamed (T.rows rows.now) (T.longest rows.now) J.size J.part
                 × (0 < length seats.now) × (kept_in gathered ≡ []) × (W.failed out < 2 ^ 63) }
             ensures name { W.name result.0 ≡ W.name out }
-            ensures ok { OnOk result.1 (Appends (W.contents out) (W.contents result.0) (first_parts J.part parts)) }
+            ensures ok { OnOk result.1 (Appends (W.contents out) (W.contents result.0)
+                (first_parts J.part parts)) }
             ensures count { OnOk result.1 (W.failed result.0 ≡ W.failed out) }
             ensures failed { OnErr result.1 (W.failed out < W.failed result.0) }
-            ensures prefix { OnErr result.1 (AppendsPrefix (W.contents out) (W.contents result.0) (first_parts J.part parts)) }
+            ensures prefix { OnErr result.1 (AppendsPrefix (W.contents out) (W.contents result.0)
+                (first_parts J.part parts)) }
         {
             let mut is_alone = true;
             for _ in 0..threads {

@@ -17,7 +17,9 @@ NoneValid b from to = (i : ℕ) → from ≤ i → i < to → off b i ≡ None
 -- the first valid window of the rest is given, with its place and offset, and the places after it are left;
 -- or there is none
 abbrev pub GivesFirst : WindowsLeft → Option (ℕ × Offset) → WindowsLeft → Type 0
-GivesFirst old None new = NoneValid old.signal old.next old.end × (new ≡ record { signal = old.signal; next = old.end; end = old.end })
+GivesFirst old None new = NoneValid old.signal old.next old.end
+    × (new ≡ record { signal = old.signal; next = old.end; end = old.end })
 GivesFirst old (Some found) new =
-    (old.next ≤ found.0) × (found.0 < old.end) × NoneValid old.signal old.next found.0 × (off old.signal found.0 ≡ Some found.1)
+    (old.next ≤ found.0) × (found.0 < old.end) × NoneValid old.signal old.next found.0
+    × (off old.signal found.0 ≡ Some found.1)
     × (new ≡ record { signal = old.signal; next = found.0 + 1; end = old.end })

@@ -50,7 +50,8 @@ pub fn planes(recording: &Recording, at: u64) -> [u64; 10]
 pub(crate) fn plane_lanes(recording: &Recording, at: u64) -> [u64x2; 10]
     requires first { 25 ≤ at }
     requires last { at + 64 ≤ length_of recording.now }
-    ensures { (j k : ℕ) → j < 2 → k < 32 → HoldInLane result j k (rem (window recording.now.bits (at + (32 * j + k)))) }
+    ensures { (j k : ℕ) → j < 2 → k < 32 → HoldInLane result j k
+        (rem (window recording.now.bits (at + (32 * j + k)))) }
 {
     laws::blocks_have_one_remainder();
     planes_of(u64x2::from_array(recording.places(at - 25)))

@@ -55,7 +55,8 @@ impl Packed {
 
         // Too many bits are refused as such, whether or not the bytes hold them.
         ensures too_long { (result ≡ Some TooLong) ↔ (2 ^ 36 < bits) }
-        ensures past_bytes { (result ≡ Some BitsPastBytes) ↔ ((bits ≤ 2 ^ 36) × (8 * vec_len bytes.now < bits)) }
+        ensures past_bytes { (result ≡ Some BitsPastBytes)
+            ↔ ((bits ≤ 2 ^ 36) × (8 * vec_len bytes.now < bits)) }
     {
         if bits > MOST_BITS {
             return Some(StreamError::TooLong);
@@ -86,7 +87,8 @@ impl Packed {
     /// Puts the bits of these bytes in the place of the first ones.
     pub fn refill(&mut self, bytes: &[u8])
         requires { 8 * length bytes.now ≤ length self.old }
-        ensures { self.new ≡ bits_of bytes.now (8 * length bytes.now) ++ drop (8 * length bytes.now) self.old }
+        ensures { self.new ≡ bits_of bytes.now (8 * length bytes.now)
+            ++ drop (8 * length bytes.now) self.old }
     {
         put_first(self.bytes.as_mut_slice(), bytes);
     }

@@ -39,7 +39,8 @@ impl Model for Recording {
 
 /// Why the bytes and the gaps make no recording of `bits` bits, if they make none.
 fn refusal(bytes: &Vec<u8>, bits: u64, gaps: &[(u64, u64)]) -> Option<StreamError>
-    ensures taken { (result ≡ None) ↔ ((bits ≤ 2 ^ 36) × (bits ≤ 8 * vec_len bytes.now) × AreGaps bits gaps.now) }
+    ensures taken { (result ≡ None) ↔ ((bits ≤ 2 ^ 36) × (bits ≤ 8 * vec_len bytes.now)
+        × AreGaps bits gaps.now) }
 
     // The bits are looked at before the gaps are.
     ensures too_long { (result ≡ Some TooLong) ↔ (2 ^ 36 < bits) }
@@ -69,7 +70,8 @@ impl Recording {
 
         // Too many bits are refused as such, whether or not the bytes hold them.
         ensures too_long { (result ≡ Err (TooLong, bytes)) ↔ (2 ^ 36 < bits) }
-        ensures past_bytes { (result ≡ Err (BitsPastBytes, bytes)) ↔ ((bits ≤ 2 ^ 36) × (8 * vec_len bytes < bits)) }
+        ensures past_bytes { (result ≡ Err (BitsPastBytes, bytes))
+            ↔ ((bits ≤ 2 ^ 36) × (8 * vec_len bytes < bits)) }
     {
         if let Some(error) = Packed::refusal(&bytes, bits) {
             return Err((error, bytes));
@@ -94,7 +96,8 @@ impl Recording {
     ) -> Result<Recording, (StreamError, Vec<u8>, Vec<(u64, u64)>)>
         ensures held { IfOk result (λ recording.
             recording ≡ record { bits = bits_of bytes.items bits; gaps = gaps.items }) }
-        ensures taken { IsOk result ↔ ((bits ≤ 2 ^ 36) × (bits ≤ 8 * vec_len bytes) × AreGaps bits gaps.items) }
+        ensures taken { IsOk result ↔ ((bits ≤ 2 ^ 36) × (bits ≤ 8 * vec_len bytes)
+            × AreGaps bits gaps.items) }
 
         // Too many bits are refused as such, whether or not the bytes hold them, and both before the gaps are
         // looked at.

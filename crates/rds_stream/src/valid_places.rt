@@ -82,7 +82,8 @@ impl ValidPlaces {
     pub(crate) fn from_on(self, place: u64) -> ValidPlaces
         requires order { self.next ≤ place }
         requires width { self.ahead ≤ self.next + 64 }
-        ensures places { (b : Signal) → TellsValidPlaces b self.next self.ahead self.word → TellsValidPlaces b result.next result.ahead result.word }
+        ensures places { (b : Signal) → TellsValidPlaces b self.next self.ahead self.word
+            → TellsValidPlaces b result.next result.ahead result.word }
         ensures from { result.next ≡ place }
         ensures ahead { result.ahead ≡ max self.ahead place }
     {

@@ -31,7 +31,8 @@ impl<'a> Model for ValidWindows<'a> {
     ghost view = { λ w. record { signal = w.recording.now; next = w.places.next; end = w.end } };
 
     ghost invariant = { λ w. TellsValidPlaces w.recording.now w.places.next w.places.ahead w.places.word
-        × (w.places.ahead < w.end → 25 ≤ w.places.ahead) × (w.places.ahead ≤ w.end) × (w.end ≤ length_of w.recording.now)
+        × (w.places.ahead < w.end → 25 ≤ w.places.ahead) × (w.places.ahead ≤ w.end)
+        × (w.end ≤ length_of w.recording.now)
         × IsSection w.recording.now w.section.from w.section.to w.section.touched };
 }
 

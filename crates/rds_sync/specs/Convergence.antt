@@ -69,12 +69,14 @@ pub record IsSound (b : Signal) (rules : RuleNumbers) (j s p c : ℕ) : Type 0 w
   pub number : (1 ≤ c) × (c ≤ 4)
   pub sequence : IsSequence b s (s + sound_bits rules.loss j) p c
   pub none_acquires : (r : ℕ) → IsRival b s (s + sound_bits rules.loss j) p r → acquired b rules r ≡ None
-  pub few : (phase : ℕ) (rivals : List ℕ) → AreRivals b s (s + sound_bits rules.loss j) p phase rivals → length rivals ≤ j
+  pub few : (phase : ℕ) (rivals : List ℕ) → AreRivals b s (s + sound_bits rules.loss j) p phase rivals
+      → length rivals ≤ j
 
 -- if a sound range begins at s, and the places up to `to` - 1 are those up to its last block of number 4,
 -- this is the state after them: between two groups, with none of their blocks bad
 abbrev pub IsConverged : Signal → RuleNumbers → ℕ → ℕ → State → Type 0
-IsConverged b rules s to end = (j p c last : ℕ) → IsSound b rules j s p c → IsLastFour b s (s + sound_bits rules.loss j) p c last
+IsConverged b rules s to end = (j p c last : ℕ) → IsSound b rules j s p c
+    → IsLastFour b s (s + sound_bits rules.loss j) p c last
     → to ≡ p + 26 * last + 1
     → end ≡ Locked (lock_of (p + 26 * last + 26) 1 0 1)
 

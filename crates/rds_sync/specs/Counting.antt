@@ -10,7 +10,8 @@ use Rattle.rds_sync.specs.Totals.{totals_of}
 abbrev pub plus : Totals → Totals → Totals
 plus t u = record {
   valid = t.valid + u.valid;
-  bursts = (slice_index t.bursts 0 + slice_index u.bursts 0) ∷ (slice_index t.bursts 1 + slice_index u.bursts 1)
+  bursts = (slice_index t.bursts 0 + slice_index u.bursts 0)
+      ∷ (slice_index t.bursts 1 + slice_index u.bursts 1)
       ∷ (slice_index t.bursts 2 + slice_index u.bursts 2) ∷ (slice_index t.bursts 3 + slice_index u.bursts 3)
       ∷ (slice_index t.bursts 4 + slice_index u.bursts 4) ∷ [];
   lost = t.lost + u.lost;

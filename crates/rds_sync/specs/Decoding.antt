@@ -16,7 +16,10 @@ pub record DecoderOf : Type 0 where
 
 -- all of the run from state s over the places from `from` to before `to`
 abbrev pub decoder_of : Signal → RuleNumbers → State → ℕ → ℕ → DecoderOf
-decoder_of b rules s from to = record { items = (run b rules s from (to - from)).1; end = (run b rules s from (to - from)).0 }
+decoder_of b rules s from to = record {
+  items = (run b rules s from (to - from)).1;
+  end = (run b rules s from (to - from)).0;
+}
 
 -- the first item of the rest is given, and the others are left; the run ends as before
 abbrev pub GivesNext : DecoderOf → Option Item → DecoderOf → Type 0

@@ -22,7 +22,8 @@ abbrev pub IsBlock : Group → ℕ → Block → Type 0
 IsBlock group y block = slice_get group.blocks (y - 1) ≡ Some block
 
 -- block y of those from `first` to `last` ends 26 (last - y) places before the last, which ends at this place; the others are missing
-pub record BlocksAreRead (b : Signal) (rules : RuleNumbers) (first last place : ℕ) (group : Group) (second : Block) : Type 0 where
+pub record BlocksAreRead (b : Signal) (rules : RuleNumbers) (first last place : ℕ) (group : Group)
+    (second : Block) : Type 0 where
   pub four : length group.blocks ≡ 4
   pub begins : group.place + 26 * (last - first) + 25 ≡ place
   pub read : (y : ℕ) → first ≤ y → y ≤ last
@@ -35,19 +36,24 @@ pub record VersionIsRead (version : Version) (second third : Block) : Type 0 whe
   pub valid_c : (info : ℕ) → third ≡ Read (Valid C info) → version ≡ A
   pub valid_cx : (info : ℕ) → third ≡ Read (Valid Cx info) → version ≡ B
   pub no_other : (o : Offset) (info : ℕ) → third ≡ Read (Valid o info) → (o ≡ C) ⊎ (o ≡ Cx)
-  pub by_bit : ((o : Offset) (info : ℕ) → third ≢ Read (Valid o info)) → (word : ℕ) → info_of second ≡ Some word
+  pub by_bit : ((o : Offset) (info : ℕ) → third ≢ Read (Valid o info)) → (word : ℕ)
+      → info_of second ≡ Some word
       → version ≡ version_of_bit word
-  pub corrected_c : info_of second ≡ None → (info burst : ℕ) → third ≡ Read (Corrected C info burst) → version ≡ A
-  pub corrected_cx : info_of second ≡ None → (info burst : ℕ) → third ≡ Read (Corrected Cx info burst) → version ≡ B
+  pub corrected_c : info_of second ≡ None → (info burst : ℕ) → third ≡ Read (Corrected C info burst)
+      → version ≡ A
+  pub corrected_cx : info_of second ≡ None → (info burst : ℕ) → third ≡ Read (Corrected Cx info burst)
+      → version ≡ B
   pub unknown : info_of second ≡ None → info_of third ≡ None → version ≡ Unknown
 
 -- a valid block 3 is of the one version, and block 2 has an information word that says the other
 abbrev pub VersionsDiffer : Block → Block → Type 0
 VersionsDiffer second third = (o : Offset) × (info : ℕ) × (word : ℕ)
-    × (third ≡ Read (Valid o info)) × (info_of second ≡ Some word) × (version_of_offset o ≢ version_of_bit word)
+    × (third ≡ Read (Valid o info)) × (info_of second ≡ Some word)
+    × (version_of_offset o ≢ version_of_bit word)
 
 -- the facts of the group follow from its blocks `first` to `last`, of which the last ends at this place
-pub record GroupIsRead (b : Signal) (rules : RuleNumbers) (first last place : ℕ) (group : Group) : Type 0 where
+pub record GroupIsRead (b : Signal) (rules : RuleNumbers) (first last place : ℕ)
+    (group : Group) : Type 0 where
   pub second : Block
   pub third : Block
   pub is_second : IsBlock group 2 second
@@ -57,9 +63,11 @@ pub record GroupIsRead (b : Signal) (rules : RuleNumbers) (first last place : �
   pub version : VersionIsRead group.version second third
   pub conflict : IsTrue group.conflict ↔ VersionsDiffer second third
   pub complete : IsTrue (are_complete group.blocks)
-      ↔ ((y : ℕ) → 1 ≤ y → y ≤ 4 → (block : Block) × (word : ℕ) × IsBlock group y block × (info_of block ≡ Some word))
+      ↔ ((y : ℕ) → 1 ≤ y → y ≤ 4 → (block : Block) × (word : ℕ) × IsBlock group y block
+      × (info_of block ≡ Some word))
 
 -- a group agrees with its blocks
 abbrev pub GroupsAreRead : Type 0
-GroupsAreRead = (b : Signal) (rules : RuleNumbers) (first last place : ℕ) → 1 ≤ first → first ≤ last → last ≤ 4
+GroupsAreRead = (b : Signal) (rules : RuleNumbers) (first last place : ℕ) → 1 ≤ first → first ≤ last
+    → last ≤ 4
     → HaveRoom first last place → GroupIsRead b rules first last place (group b rules first last place)

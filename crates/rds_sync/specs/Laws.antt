@@ -20,7 +20,8 @@ use Rattle.rds_sync.specs.Report.{report_items}
 -- the items of the run over a whole recording, with those of its end, are the report's
 abbrev pub RunsAreReports : Type 0
 RunsAreReports = (b : Signal) (rules : RuleNumbers) → IsLoss rules.loss
-    → let whole = run b rules Searching 0 (length_of b) in whole.1 ++ items_of_end b rules whole.0 ≡ report_items b rules
+    → let whole = run b rules Searching 0 (length_of b) in
+    whole.1 ++ items_of_end b rules whole.0 ≡ report_items b rules
 
 -- a run over a range, and then from its end over the next range, is the run over both
 abbrev pub RunsJoin : Type 0
@@ -37,11 +38,13 @@ StepsAreLawful = (b : Signal) (rules : RuleNumbers) → IsLoss rules.loss
 -- a run leads from a lawful state to a lawful state
 abbrev pub RunsAreLawful : Type 0
 RunsAreLawful = (b : Signal) (rules : RuleNumbers) → IsLoss rules.loss
-    → (s : State) (from to : ℕ) → from ≤ to → IsLawful rules from s → IsLawful rules to (run b rules s from (to - from)).0
+    → (s : State) (from to : ℕ) → from ≤ to → IsLawful rules from s
+    → IsLawful rules to (run b rules s from (to - from)).0
 
 -- two runs over one range that are in one state before some bit have one end, and from that bit on the same items
 abbrev pub RunsMerge : Type 0
-RunsMerge = (b : Signal) (rules : RuleNumbers) (s t : State) (from middle to : ℕ) → from ≤ middle → middle ≤ to
+RunsMerge = (b : Signal) (rules : RuleNumbers) (s t : State) (from middle to : ℕ) → from ≤ middle
+    → middle ≤ to
     → let one = run b rules s from in
     let other = run b rules t from in
     (one (middle - from)).0 ≡ (other (middle - from)).0
@@ -70,7 +73,8 @@ SearchesGoOn = (b : Signal) (rules : RuleNumbers) (from to : ℕ) → from ≤ t
 -- afterwards
 abbrev pub ItemsMarkChanges : Type 0
 ItemsMarkChanges = (b : Signal) (rules : RuleNumbers) (place : ℕ) (s : State) → IsLawful rules place s
-    → (items_at b rules place s ≢ []) ↔ ((step b rules place s ≢ s) × ((s ≡ Searching) ⊎ IsBetweenGroups (step b rules place s)))
+    → (items_at b rules place s ≢ []) ↔ ((step b rules place s ≢ s)
+    × ((s ≡ Searching) ⊎ IsBetweenGroups (step b rules place s)))
 
 -- a run gives at most two items per bit
 abbrev pub RunsGiveFewItems : Type 0
@@ -79,17 +83,20 @@ RunsGiveFewItems = (b : Signal) (rules : RuleNumbers) (s : State) (from to : ℕ
 
 -- no place before 51 acquires, and each acquires with a number from 1 to 4
 abbrev pub AcquisitionsAreLate : Type 0
-AcquisitionsAreLate = (b : Signal) (rules : RuleNumbers) (i x : ℕ) → acquired b rules i ≡ Some x → (51 ≤ i) × (1 ≤ x) × (x ≤ 4)
+AcquisitionsAreLate = (b : Signal) (rules : RuleNumbers) (i x : ℕ) → acquired b rules i ≡ Some x
+    → (51 ≤ i) × (1 ≤ x) × (x ≤ 4)
 
 -- bit i of a mask tells whether block k - i was bad, if that is one of the last `of` blocks, and is 0
 -- elsewhere
 abbrev pub MasksTellBlocks : Type 0
 MasksTellBlocks = (is_good : ℕ → Bool) (bad of k i : ℕ)
-    → bit_at (bad_at is_good (Share bad of) k) i ≡ (if nat_lt i (min of k) then (if is_good (k - i) then 0 else 1) else 0)
+    → bit_at (bad_at is_good (Share bad of) k) i
+    ≡ (if nat_lt i (min of k) then (if is_good (k - i) then 0 else 1) else 0)
 
 -- a lock's loss history triggers a loss exactly when its blocks do
 abbrev pub BadBlocksLose : Type 0
-BadBlocksLose = (is_good : ℕ → Bool) (loss : Loss) (k : ℕ) → are_too_many loss (bad_at is_good loss k) ≡ loses loss is_good k
+BadBlocksLose = (is_good : ℕ → Bool) (loss : Loss) (k : ℕ)
+    → are_too_many loss (bad_at is_good loss k) ≡ loses loss is_good k
 
 -- n bad blocks in a row are n bad blocks among the last n
 abbrev pub RunsAreShares : Type 0

@@ -56,7 +56,8 @@ pub record OnlyAddsItems (shorter longer : List Item) : Type 0 where
   pub goes_on : EndGoesOn end later
 
 abbrev pub LongerRecordingsAddItems : Type 0
-LongerRecordingsAddItems = (longer shorter : Signal) (rules : RuleNumbers) → IsLoss rules.loss → BeginsWith longer shorter
+LongerRecordingsAddItems = (longer shorter : Signal) (rules : RuleNumbers) → IsLoss rules.loss
+    → BeginsWith longer shorter
     → OnlyAddsItems (report_items shorter rules) (report_items longer rules)
 
 -- No total is less.
@@ -72,5 +73,6 @@ pub record AreNoLess (t u : Totals) : Type 0 where
 
 -- No total of the longer recording is less than that of the shorter one.
 abbrev pub TotalsOnlyGrow : Type 0
-TotalsOnlyGrow = (longer shorter : Signal) (rules : RuleNumbers) → IsLoss rules.loss → BeginsWith longer shorter
+TotalsOnlyGrow = (longer shorter : Signal) (rules : RuleNumbers) → IsLoss rules.loss
+    → BeginsWith longer shorter
     → AreNoLess (totals_of (report_items shorter rules)) (totals_of (report_items longer rules))

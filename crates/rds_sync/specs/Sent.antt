@@ -48,7 +48,8 @@ pub record IsHeardFrom (b : Signal) (limit place info : ℕ) (o : Offset) (e : �
 pub record GroupIsHeard (b : Signal) (limit first p : ℕ) (words damages : List ℕ) : Type 0 where
   pub one : first ≤ 1 → IsHeardFrom b limit (p - 78) (slice_index words 0) A (slice_index damages 0)
   pub two : IsHeardFrom b limit (p - 52) (slice_index words 1) B (slice_index damages 1)
-  pub three : IsHeardFrom b limit (p - 26) (slice_index words 2) (third_offset (slice_index words 1)) (slice_index damages 2)
+  pub three : IsHeardFrom b limit (p - 26) (slice_index words 2) (third_offset (slice_index words 1))
+      (slice_index damages 2)
   pub four : IsHeardFrom b limit p (slice_index words 3) D (slice_index damages 3)
   pub no_version_burst : limit ≡ 5 → slice_index damages 2 ≢ version_burst
 
@@ -73,7 +74,8 @@ group_sent first place words damages = record {
 
 -- A group is read as it was sent, if no block has more than one burst within the limit. Each damaged block names its error mask.
 abbrev pub GroupsAreCorrected : Type 0
-GroupsAreCorrected = (b : Signal) (rules : RuleNumbers) (first p : ℕ) (words damages : List ℕ) → 1 ≤ first → first ≤ 2 → rules.burst ≤ 5
+GroupsAreCorrected = (b : Signal) (rules : RuleNumbers) (first p : ℕ) (words damages : List ℕ) → 1 ≤ first
+    → first ≤ 2 → rules.burst ≤ 5
     → GroupIsHeard b rules.burst first p words damages
     → group b rules first 4 p ≡ group_sent first (p - 26 * (4 - first) - 25) words damages
 
@@ -82,7 +84,8 @@ GroupsAreCorrected = (b : Signal) (rules : RuleNumbers) (first p : ℕ) (words d
 -- Groups of these words are heard as they were sent, one after the other: 104 bits each, the first bit of the first one at this place (2.1).
 abbrev pub AreHeard : Signal → ℕ → List (List ℕ) → Type 0
 AreHeard b place [] = ⊤
-AreHeard b place (words ∷ groups) = GroupIsHeard b 0 1 (place + 103) words [] × AreHeard b (place + 104) groups
+AreHeard b place (words ∷ groups) = GroupIsHeard b 0 1 (place + 103) words []
+    × AreHeard b (place + 104) groups
 
 -- Their items: each group is complete, with its own words, and begins 104 bits after the one before.
 abbrev pub items_sent : ℕ → List (List ℕ) → List Item
@@ -105,7 +108,8 @@ totals_sent n = record {
 -- A recording of groups as they were sent, from its first bit to its last, is decoded to these groups, by all rules. Block 2 of the first
 -- group acquires sync at bit 51. That group is listed without block 1, and each other group as it was sent.
 abbrev pub SentGroupsAreListed : Type 0
-SentGroupsAreListed = (b : Signal) (rules : RuleNumbers) (words : List ℕ) (groups : List (List ℕ)) → IsLoss rules.loss → 1 ≤ rules.reach → rules.burst ≤ 5
+SentGroupsAreListed = (b : Signal) (rules : RuleNumbers) (words : List ℕ) (groups : List (List ℕ))
+    → IsLoss rules.loss → 1 ≤ rules.reach → rules.burst ≤ 5
     → length_of b ≡ 104 * length (words ∷ groups) → AreHeard b 0 (words ∷ groups)
     → (report_items b rules ≡ Acquired 51 2 ∷ GroupItem (group_sent 2 26 words []) ∷ items_sent 104 groups)
     × (totals_of (report_items b rules) ≡ totals_sent (length (words ∷ groups)))
@@ -136,7 +140,8 @@ EncodedGroupsAreHeard = (before after : List ℕ) (groups : List (List ℕ)) →
 
 -- A recording of these bits only is decoded to the groups, whatever their words are, by all rules.
 abbrev pub EncodedGroupsAreListed : Type 0
-EncodedGroupsAreListed = (rules : RuleNumbers) (words : List ℕ) (groups : List (List ℕ)) → IsLoss rules.loss → 1 ≤ rules.reach → rules.burst ≤ 5
+EncodedGroupsAreListed = (rules : RuleNumbers) (words : List ℕ) (groups : List (List ℕ)) → IsLoss rules.loss
+    → 1 ≤ rules.reach → rules.burst ≤ 5
     → AreWords (words ∷ groups)
     → let b : Signal = ungapped (bits_sent (words ∷ groups)) in
     (report_items b rules ≡ Acquired 51 2 ∷ GroupItem (group_sent 2 26 words []) ∷ items_sent 104 groups)
@@ -146,7 +151,9 @@ EncodedGroupsAreListed = (rules : RuleNumbers) (words : List ℕ) (groups : List
 abbrev pub packed_group : List ℕ → List ℕ
 packed_group words =
     let blocks : List ℕ = encoded_group words in
-    drop 3 (to_be_bytes w128 (((slice_index blocks 0 * 2 ^ 26 + slice_index blocks 1) * 2 ^ 26 + slice_index blocks 2) * 2 ^ 26 + slice_index blocks 3))
+    drop 3 (to_be_bytes w128
+    (((slice_index blocks 0 * 2 ^ 26 + slice_index blocks 1) * 2 ^ 26 + slice_index blocks 2) * 2 ^ 26
+    + slice_index blocks 3))
 
 abbrev pub packed_groups : List (List ℕ) → List ℕ
 packed_groups groups = flat_map packed_group groups
@@ -154,7 +161,8 @@ packed_groups groups = flat_map packed_group groups
 -- The bits of these bytes are those of the groups.
 abbrev pub PackedGroupsAreSent : Type 0
 PackedGroupsAreSent = (groups : List (List ℕ)) → AreWords groups
-    → (length (packed_groups groups) ≡ 13 * length groups) × (bits_of (packed_groups groups) (8 * length (packed_groups groups)) ≡ bits_sent groups)
+    → (length (packed_groups groups) ≡ 13 * length groups)
+    × (bits_of (packed_groups groups) (8 * length (packed_groups groups)) ≡ bits_sent groups)
 
 -- ---- a recording with damage
 
@@ -164,17 +172,20 @@ pub record SentGroup : Type 0 where
   pub damages : List ℕ
 
 abbrev pub four_damages : SentGroup → List ℕ
-four_damages g = slice_index g.damages 0 ∷ slice_index g.damages 1 ∷ slice_index g.damages 2 ∷ slice_index g.damages 3 ∷ []
+four_damages g = slice_index g.damages 0 ∷ slice_index g.damages 1 ∷ slice_index g.damages 2
+    ∷ slice_index g.damages 3 ∷ []
 
 -- Such groups are heard one after the other, each block with its error mask: none, or one burst within the limit.
 abbrev pub AreHeardDamaged : Signal → ℕ → ℕ → List SentGroup → Type 0
 AreHeardDamaged b limit place [] = ⊤
-AreHeardDamaged b limit place (g ∷ groups) = GroupIsHeard b limit 1 (place + 103) g.words g.damages × AreHeardDamaged b limit (place + 104) groups
+AreHeardDamaged b limit place (g ∷ groups) = GroupIsHeard b limit 1 (place + 103) g.words g.damages
+    × AreHeardDamaged b limit (place + 104) groups
 
 -- Their items: each group with the words that were sent.
 abbrev pub items_damaged : ℕ → List SentGroup → List Item
 items_damaged place [] = []
-items_damaged place (g ∷ groups) = GroupItem (group_sent 1 place g.words g.damages) ∷ items_damaged (place + 104) groups
+items_damaged place (g ∷ groups) = GroupItem (group_sent 1 place g.words g.damages)
+    ∷ items_damaged (place + 104) groups
 
 -- The lock's record of bad blocks, after blocks with these error masks: a block with any bit error is bad.
 abbrev pub bad_after_blocks : Loss → ℕ → List ℕ → ℕ
@@ -184,37 +195,47 @@ bad_after_blocks loss bad (e ∷ es) = bad_after_blocks loss (bad_after loss (e 
 -- None of these blocks loses sync.
 abbrev pub KeepLock : Loss → ℕ → List ℕ → Type 0
 KeepLock loss bad [] = ⊤
-KeepLock loss bad (e ∷ es) = (are_too_many loss (bad_after loss (e == 0) bad) ≡ false) × KeepLock loss (bad_after loss (e == 0) bad) es
+KeepLock loss bad (e ∷ es) = (are_too_many loss (bad_after loss (e == 0) bad) ≡ false)
+    × KeepLock loss (bad_after loss (e == 0) bad) es
 
 -- A decoder that is locked at the first bit of a group gives each group that is heard from there on, with the words that were sent, if the
 -- damage does not lose sync.
 abbrev pub LockedGroupsAreListed : Type 0
-LockedGroupsAreListed = (b : Signal) (rules : RuleNumbers) → rules.burst ≤ 5 → (place bad : ℕ) (groups : List SentGroup)
+LockedGroupsAreListed = (b : Signal) (rules : RuleNumbers) → rules.burst ≤ 5
+    → (place bad : ℕ) (groups : List SentGroup)
     → AreHeardDamaged b rules.burst place groups → KeepLock rules.loss bad (flat_map four_damages groups)
     → run b rules (Locked (lock_of (place + 25) 1 bad 1)) place (104 * length groups)
-    ≡ (Locked (lock_of (place + 104 * length groups + 25) 1 (bad_after_blocks rules.loss bad (flat_map four_damages groups)) 1), items_damaged place groups)
+    ≡ (
+      Locked (lock_of (place + 104 * length groups + 25) 1
+          (bad_after_blocks rules.loss bad (flat_map four_damages groups)) 1),
+      items_damaged place groups,
+    )
 
 -- A recording of damaged groups is decoded to the groups that were sent: if blocks 1 and 2 of the first group have no bit error, each other
 -- block has at most one burst within the limit, and the damage does not lose sync.
 abbrev pub DamagedGroupsAreListed : Type 0
-DamagedGroupsAreListed = (b : Signal) (rules : RuleNumbers) (g : SentGroup) (groups : List SentGroup) → IsLoss rules.loss → 1 ≤ rules.reach → rules.burst ≤ 5
+DamagedGroupsAreListed = (b : Signal) (rules : RuleNumbers) (g : SentGroup) (groups : List SentGroup)
+    → IsLoss rules.loss → 1 ≤ rules.reach → rules.burst ≤ 5
     → length_of b ≡ 104 * length (g ∷ groups) → AreHeardDamaged b rules.burst 0 (g ∷ groups)
     → slice_index g.damages 0 ≡ 0 → slice_index g.damages 1 ≡ 0
     → KeepLock rules.loss 0 (slice_index g.damages 2 ∷ slice_index g.damages 3 ∷ flat_map four_damages groups)
-    → report_items b rules ≡ Acquired 51 2 ∷ GroupItem (group_sent 2 26 g.words g.damages) ∷ items_damaged 104 groups
+    → report_items b rules ≡ Acquired 51 2 ∷ GroupItem (group_sent 2 26 g.words g.damages)
+    ∷ items_damaged 104 groups
 
 -- ---- its totals
 
 -- The error masks of the blocks that are read: of all but block 1 of the first group, which is before the lock.
 abbrev pub masks_read : SentGroup → List SentGroup → List ℕ
-masks_read g groups = slice_index g.damages 1 ∷ slice_index g.damages 2 ∷ slice_index g.damages 3 ∷ flat_map four_damages groups
+masks_read g groups = slice_index g.damages 1 ∷ slice_index g.damages 2 ∷ slice_index g.damages 3
+    ∷ flat_map four_damages groups
 
 -- The totals of n groups, by the error masks of the blocks that are read: valid blocks are those without bit errors, corrected ones are
 -- counted by burst length, corrected bits are the bit errors. No block is uncorrectable, and sync is acquired once and never lost.
 abbrev pub totals_damaged : ℕ → List ℕ → Totals
 totals_damaged n masks = record {
   valid = count_by (λ e. e == 0) masks;
-  bursts = count_by (λ e. span e == 1) masks ∷ count_by (λ e. span e == 2) masks ∷ count_by (λ e. span e == 3) masks
+  bursts = count_by (λ e. span e == 1) masks ∷ count_by (λ e. span e == 2) masks
+      ∷ count_by (λ e. span e == 3) masks
       ∷ count_by (λ e. span e == 4) masks ∷ count_by (λ e. span e == 5) masks ∷ [];
   lost = 0;
   bits = sum_by count_ones masks;
@@ -226,7 +247,8 @@ totals_damaged n masks = record {
 
 -- Such a recording has these totals: they follow from only the damage, whatever the words are.
 abbrev pub DamageTellsTotals : Type 0
-DamageTellsTotals = (b : Signal) (rules : RuleNumbers) (g : SentGroup) (groups : List SentGroup) → IsLoss rules.loss → 1 ≤ rules.reach → rules.burst ≤ 5
+DamageTellsTotals = (b : Signal) (rules : RuleNumbers) (g : SentGroup) (groups : List SentGroup)
+    → IsLoss rules.loss → 1 ≤ rules.reach → rules.burst ≤ 5
     → length_of b ≡ 104 * length (g ∷ groups) → AreHeardDamaged b rules.burst 0 (g ∷ groups)
     → slice_index g.damages 0 ≡ 0 → slice_index g.damages 1 ≡ 0
     → KeepLock rules.loss 0 (slice_index g.damages 2 ∷ slice_index g.damages 3 ∷ flat_map four_damages groups)
@@ -256,12 +278,15 @@ AreCorrectable limit (g ∷ groups) = IsCorrectable limit g × AreCorrectable li
 
 -- Such groups are heard at any place of a recording, whatever bits come before and after them.
 abbrev pub DamagedGroupsAreHeard : Type 0
-DamagedGroupsAreHeard = (before after : List ℕ) (limit : ℕ) (groups : List SentGroup) → AreCorrectable limit groups
-    → AreHeardDamaged (ungapped (before ++ (flat_map bits_with_damage groups ++ after))) limit (length before) groups
+DamagedGroupsAreHeard = (before after : List ℕ) (limit : ℕ) (groups : List SentGroup)
+    → AreCorrectable limit groups
+    → AreHeardDamaged (ungapped (before ++ (flat_map bits_with_damage groups ++ after))) limit
+    (length before) groups
 
 -- A recording of these bits only is decoded to the words that were sent, if the damage does not lose sync.
 abbrev pub DamagedBitsAreDecoded : Type 0
-DamagedBitsAreDecoded = (rules : RuleNumbers) (g : SentGroup) (groups : List SentGroup) → IsLoss rules.loss → 1 ≤ rules.reach → rules.burst ≤ 5
+DamagedBitsAreDecoded = (rules : RuleNumbers) (g : SentGroup) (groups : List SentGroup) → IsLoss rules.loss
+    → 1 ≤ rules.reach → rules.burst ≤ 5
     → AreCorrectable rules.burst (g ∷ groups) → slice_index g.damages 0 ≡ 0 → slice_index g.damages 1 ≡ 0
     → KeepLock rules.loss 0 (slice_index g.damages 2 ∷ slice_index g.damages 3 ∷ flat_map four_damages groups)
     → report_items (ungapped (flat_map bits_with_damage (g ∷ groups))) rules
@@ -269,21 +294,25 @@ DamagedBitsAreDecoded = (rules : RuleNumbers) (g : SentGroup) (groups : List Sen
 
 -- The totals of such a recording follow from its error masks, too.
 abbrev pub DamagedBitsTellTotals : Type 0
-DamagedBitsTellTotals = (rules : RuleNumbers) (g : SentGroup) (groups : List SentGroup) → IsLoss rules.loss → 1 ≤ rules.reach → rules.burst ≤ 5
+DamagedBitsTellTotals = (rules : RuleNumbers) (g : SentGroup) (groups : List SentGroup) → IsLoss rules.loss
+    → 1 ≤ rules.reach → rules.burst ≤ 5
     → AreCorrectable rules.burst (g ∷ groups) → slice_index g.damages 0 ≡ 0 → slice_index g.damages 1 ≡ 0
     → KeepLock rules.loss 0 (slice_index g.damages 2 ∷ slice_index g.damages 3 ∷ flat_map four_damages groups)
-    → totals_of (report_items (ungapped (flat_map bits_with_damage (g ∷ groups))) rules) ≡ totals_damaged (length (g ∷ groups)) (masks_read g groups)
+    → totals_of (report_items (ungapped (flat_map bits_with_damage (g ∷ groups))) rules)
+    ≡ totals_damaged (length (g ∷ groups)) (masks_read g groups)
 
 -- ---- from any bit on
 
 -- A run from any lawful state covers a sound range, up to its last block 4. From there on it gives each group
 -- that is heard, with the words that were sent, and nothing else, if the damage does not lose sync.
 abbrev pub SoundSignalIsDecoded : Type 0
-SoundSignalIsDecoded = (b : Signal) (rules : RuleNumbers) → IsLoss rules.loss → 1 ≤ rules.reach → rules.burst ≤ 5
+SoundSignalIsDecoded = (b : Signal) (rules : RuleNumbers) → IsLoss rules.loss → 1 ≤ rules.reach
+    → rules.burst ≤ 5
     → (s : ℕ) (t : State) → IsLawful rules s t
     → (j p c last : ℕ) → IsSound b rules j s p c → IsLastFour b s (s + sound_bits rules.loss j) p c last
     → let start : ℕ = p + 26 * last + 1 in
-    (groups : List SentGroup) → AreHeardDamaged b rules.burst start groups → KeepLock rules.loss 0 (flat_map four_damages groups)
+    (groups : List SentGroup) → AreHeardDamaged b rules.burst start groups
+    → KeepLock rules.loss 0 (flat_map four_damages groups)
     → let end : ℕ = start + 104 * length groups in
     run b rules t s (end - s)
     ≡ (

@@ -10,7 +10,8 @@ use Rattle.rds_sync.specs.Step.{run}
 
 -- how far the run from state s before `place` came: nothing was given before the last bit that it went over, and that bit
 -- gave the items that are there or is the last before `to`
-pub record IsStretch (b : Signal) (rules : RuleNumbers) (s : State) (place to : ℕ) (reached : Step) : Type 0 where
+pub record IsStretch (b : Signal) (rules : RuleNumbers) (s : State) (place to : ℕ)
+    (reached : Step) : Type 0 where
   pub forward : place < reached.place
   pub limit : reached.place ≤ to
   pub state : reached.state ≡ (run b rules s place (reached.place - place)).0

@@ -4,7 +4,8 @@ use Rattle.rds_code.specs.declared.offset.Offset.TheVariants.{A}
 use Rattle.rds_code.specs.declared.reading.Reading.TheVariants.{Valid, Lost}
 use Rattle.rds_code.specs.Kinds.{kind_of, kind_of_burst}
 
-pub eleven_pairs : map (λ (p : ℕ × ℕ). kind_of_burst p.0 p.1) ((1, 1) ∷ (2, 2) ∷ (3, 2) ∷ (3, 3) ∷ (4, 2) ∷ (4, 3) ∷ (4, 4) ∷ (5, 2) ∷ (5, 3) ∷ (5, 4) ∷ (5, 5) ∷ [])
+pub eleven_pairs : map (λ (p : ℕ × ℕ). kind_of_burst p.0 p.1)
+    ((1, 1) ∷ (2, 2) ∷ (3, 2) ∷ (3, 3) ∷ (4, 2) ∷ (4, 3) ∷ (4, 4) ∷ (5, 2) ∷ (5, 3) ∷ (5, 4) ∷ (5, 5) ∷ [])
     ≡ 3 ∷ 4 ∷ 5 ∷ 6 ∷ 7 ∷ 8 ∷ 9 ∷ 10 ∷ 11 ∷ 12 ∷ 13 ∷ []
 eleven_pairs = refl
 

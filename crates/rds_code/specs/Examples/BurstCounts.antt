@@ -5,7 +5,8 @@ use Rattle.rds_code.specs.Bursts.{patterns, bursts_of_span, bursts}
 pub patterns_by_span : map (λ s. length (patterns s)) (1 ∷ 2 ∷ 3 ∷ 4 ∷ 5 ∷ []) ≡ 1 ∷ 1 ∷ 2 ∷ 4 ∷ 8 ∷ []
 patterns_by_span = refl
 
-pub bursts_by_span : map (λ s. length (bursts_of_span s)) (1 ∷ 2 ∷ 3 ∷ 4 ∷ 5 ∷ []) ≡ 26 ∷ 25 ∷ 48 ∷ 92 ∷ 176 ∷ []
+pub bursts_by_span : map (λ s. length (bursts_of_span s)) (1 ∷ 2 ∷ 3 ∷ 4 ∷ 5 ∷ [])
+    ≡ 26 ∷ 25 ∷ 48 ∷ 92 ∷ 176 ∷ []
 bursts_by_span = refl
 
 pub all_bursts : length (bursts 5) ≡ 367

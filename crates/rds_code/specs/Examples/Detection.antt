@@ -17,7 +17,8 @@ unfolding rem
 one_bit_from_d_to_c = refl
 
 -- As block 4 it is uncorrectable with limit 0, and corrected with limit 1.
-pub the_same_as_block_4 : map (reading (bit_xor (word D) 0x0040000) 4 Either) (0 ∷ 1 ∷ []) ≡ Lost ∷ Corrected D 0 0x0040000 ∷ []
+pub the_same_as_block_4 : map (reading (bit_xor (word D) 0x0040000) 4 Either) (0 ∷ 1 ∷ [])
+    ≡ Lost ∷ Corrected D 0 0x0040000 ∷ []
 unfolding rem
 the_same_as_block_4 = refl
 
@@ -36,21 +37,26 @@ unfolding rem
 three_bits_unseen = refl
 
 -- Two of them are detected. With limit 1 they are miscorrected: the third is taken for the error.
-pub two_bits_miscorrected : map (reading (bit_xor (word A) 0x0000401) 1 Either) (0 ∷ 1 ∷ []) ≡ Lost ∷ Corrected A 0x0201 0x0080000 ∷ []
+pub two_bits_miscorrected : map (reading (bit_xor (word A) 0x0000401) 1 Either) (0 ∷ 1 ∷ [])
+    ≡ Lost ∷ Corrected A 0x0201 0x0080000 ∷ []
 unfolding rem
 two_bits_miscorrected = refl
 
 -- Another information word is a miscorrection, and so is the other version's offset word.
-pub miscorrections_of_block_3 : map (is_miscorrection C 0) (Corrected C 0x0201 1 ∷ Corrected Cx 0 1 ∷ Corrected C 0 1 ∷ Valid C 1 ∷ Lost ∷ []) ≡ true ∷ true ∷ false ∷ false ∷ false ∷ []
+pub miscorrections_of_block_3 : map (is_miscorrection C 0)
+    (Corrected C 0x0201 1 ∷ Corrected Cx 0 1 ∷ Corrected C 0 1 ∷ Valid C 1 ∷ Lost ∷ [])
+    ≡ true ∷ true ∷ false ∷ false ∷ false ∷ []
 miscorrections_of_block_3 = refl
 
 -- The masks of two errors among three bits, and how many there are in a block, of one error to four.
 pub two_of_three : error_masks 2 3 ≡ 3 ∷ 5 ∷ 6 ∷ []
 two_of_three = refl
 
-pub masks_in_a_block : map (λ n. length (error_masks n 26)) (1 ∷ 2 ∷ 3 ∷ 4 ∷ []) ≡ 26 ∷ 325 ∷ 2600 ∷ 14950 ∷ []
+pub masks_in_a_block : map (λ n. length (error_masks n 26)) (1 ∷ 2 ∷ 3 ∷ 4 ∷ [])
+    ≡ 26 ∷ 325 ∷ 2600 ∷ 14950 ∷ []
 masks_in_a_block = refl
 
 -- How many remainders are corrected, by limit from 0 to 5.
-pub near : map (λ limit. length (remainders_near A limit)) (range_with_len 0 6) ≡ 0 ∷ 26 ∷ 51 ∷ 99 ∷ 191 ∷ 367 ∷ []
+pub near : map (λ limit. length (remainders_near A limit)) (range_with_len 0 6)
+    ≡ 0 ∷ 26 ∷ 51 ∷ 99 ∷ 191 ∷ 367 ∷ []
 near = refl

@@ -21,6 +21,7 @@ unfolding rem
 group_with_text = refl
 
 -- the same words, before the offset words are added
-pub without_offsets : map (λ info. rem (info * 2 ^ 10)) (0x1234 ∷ 0x2540 ∷ 0x5244 ∷ 0x5320 ∷ []) ≡ 0x096 ∷ 0x034 ∷ 0x33E ∷ 0x24F ∷ []
+pub without_offsets : map (λ info. rem (info * 2 ^ 10)) (0x1234 ∷ 0x2540 ∷ 0x5244 ∷ 0x5320 ∷ [])
+    ≡ 0x096 ∷ 0x034 ∷ 0x33E ∷ 0x24F ∷ []
 unfolding rem
 without_offsets = refl

@@ -3,13 +3,15 @@ use Rattle.std.specs.Prelude.{◌≡◌, ◌*◌, ◌^◌, [], ◌∷◌, map, r
 use Rattle.std.specs.List.{range_with_len}
 use Rattle.rds_code.specs.Remainder.{rem}
 
-pub low_powers : map (λ t. rem (2 ^ t)) (range_with_len 0 10) ≡ 1 ∷ 2 ∷ 4 ∷ 8 ∷ 16 ∷ 32 ∷ 64 ∷ 128 ∷ 256 ∷ 512 ∷ []
+pub low_powers : map (λ t. rem (2 ^ t)) (range_with_len 0 10)
+    ≡ 1 ∷ 2 ∷ 4 ∷ 8 ∷ 16 ∷ 32 ∷ 64 ∷ 128 ∷ 256 ∷ 512 ∷ []
 unfolding rem
 low_powers = refl
 
 -- from x^10 to x^25
 pub high_powers : map (λ t. rem (2 ^ t)) (range_with_len 10 16)
-    ≡ 0x1B9 ∷ 0x372 ∷ 0x35D ∷ 0x303 ∷ 0x3BF ∷ 0x2C7 ∷ 0x037 ∷ 0x06E ∷ 0x0DC ∷ 0x1B8 ∷ 0x370 ∷ 0x359 ∷ 0x30B ∷ 0x3AF ∷ 0x2E7 ∷ 0x077 ∷ []
+    ≡ 0x1B9 ∷ 0x372 ∷ 0x35D ∷ 0x303 ∷ 0x3BF ∷ 0x2C7 ∷ 0x037 ∷ 0x06E ∷ 0x0DC ∷ 0x1B8 ∷ 0x370 ∷ 0x359 ∷ 0x30B
+    ∷ 0x3AF ∷ 0x2E7 ∷ 0x077 ∷ []
 unfolding rem
 high_powers = refl
 

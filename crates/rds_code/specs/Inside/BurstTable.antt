@@ -5,7 +5,8 @@ use Rattle.rds_code.specs.Bursts.{IsBurst}
 
 -- each pattern in the table is a burst, and its index is its remainder
 abbrev pub IsSound : List ℕ → Type 0
-IsSound patterns = (r : ℕ) → r < 1024 → 0 < slice_index patterns r → IsBurst 5 (slice_index patterns r) × (rem (slice_index patterns r) ≡ r)
+IsSound patterns = (r : ℕ) → r < 1024 → 0 < slice_index patterns r
+    → IsBurst 5 (slice_index patterns r) × (rem (slice_index patterns r) ≡ r)
 
 -- the burst e is in the table
 abbrev pub HasBurst : List ℕ → ℕ → Type 0

@@ -15,7 +15,8 @@ HasBurst limit d e = IsBurst limit e × (rem e ≡ d)
 
 -- k is the kind of a window whose remainder, added to an offset word, is d: valid, lost, or corrected by a burst
 abbrev pub IsKind : ℕ → ℕ → ℕ → Type 0
-IsKind limit d k = ((d ≡ 0) × (k ≡ 1)) ⊎ ((0 < d) × HasNoBurst limit d × (k ≡ 2)) ⊎ ((e : ℕ) × HasBurst limit d e × (k ≡ kind_of_burst (span e) (ones e)))
+IsKind limit d k = ((d ≡ 0) × (k ≡ 1)) ⊎ ((0 < d) × HasNoBurst limit d × (k ≡ 2))
+    ⊎ ((e : ℕ) × HasBurst limit d e × (k ≡ kind_of_burst (span e) (ones e)))
 
 -- the first kinds of all are in the table
 abbrev pub StandIn : ℕ → List ℕ → Type 0

@@ -7,7 +7,8 @@ use Rattle.rds_crew.specs.declared.promise.DrawPromise.{DrawPromise}
 use Rattle.rds_crew.specs.Seats.{DealerValue, SeatValue, IsOf, HasRested}
 
 -- a seat of this dealer that has rested, and the value of f beside each number that it drew, in the order of the draws
-pub record IsDrawn {X : Type 0} (f : ℕ → X) (dealer : DealerValue) (drawn : SeatValue × Vec (ℕ × X) Global) : Type 0 where
+pub record IsDrawn {X : Type 0} (f : ℕ → X) (dealer : DealerValue)
+    (drawn : SeatValue × Vec (ℕ × X) Global) : Type 0 where
   pub own : IsOf dealer drawn.0
   pub rested : HasRested drawn.0
   pub within : All (λ j. j < dealer.name.pieces) drawn.0.view.drawn

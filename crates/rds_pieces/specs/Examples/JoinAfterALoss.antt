@@ -31,7 +31,11 @@ end_of_the_left = refl
 -- after the bit of the loss both search
 pub meets_in_the_search : MeetAt b rules (Locked (lock_of 129 1 0 1)) Searching 104 208 130
 unfolding acquired has_number group rem window touched heard off
-meets_in_the_search = record { inside = (leb-true 104 130 refl, leb-true 130 208 refl); same = refl; between = tt }
+meets_in_the_search = record {
+  inside = (leb-true 104 130 refl, leb-true 130 208 refl);
+  same = refl;
+  between = tt;
+}
 
 pub not_before : MeetAt b rules (Locked (lock_of 129 1 0 1)) Searching 104 208 129 → ⊥
 unfolding acquired has_number group rem window touched heard off

@@ -26,7 +26,11 @@ end_of_the_left = refl
 -- after its first group the run from there is in the state of the right guess, which acquired within that group
 pub meets_behind_the_group : MeetAt b default_rules (Locked (lock_of 129 1 0 1)) Searching 104 312 208
 unfolding acquired has_number group rem window touched heard off
-meets_behind_the_group = record { inside = (leb-true 104 208 refl, leb-true 208 312 refl); same = refl; between = refl }
+meets_behind_the_group = record {
+  inside = (leb-true 104 208 refl, leb-true 208 312 refl);
+  same = refl;
+  between = refl;
+}
 
 -- two items of the right guess come before the meeting: its acquisition, and the group that it acquired in
 pub passed : length (guess b default_rules 104 104).1 ≡ 2

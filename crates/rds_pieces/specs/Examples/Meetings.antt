@@ -91,7 +91,8 @@ met_at_the_end = record {
 }
 
 -- not at a later place
-pub not_the_second : IsMeeting three_bits (rules_of 2 3 1) (Locked (lock_of 1 4 0 1)) Searching 0 3 (Some 3) → ⊥
+pub not_the_second : IsMeeting three_bits (rules_of 2 3 1) (Locked (lock_of 1 4 0 1)) Searching 0 3 (Some 3)
+    → ⊥
 not_the_second met = met.least 2 (leb-true 3 3 refl) met_inside.here
 
 -- in a range of only the first bit they do not meet

@@ -34,7 +34,8 @@ at_once = record {
 }
 
 -- the first meets at its end, 2 places on, and the second at once
-pub met_and_met : IsSumOfReads three_bits (rules_of 2 3 1) (Locked (lock_of 1 4 0 1)) (run_over three_bits (rules_of 2 3 1) 0 2 ∷ run_over three_bits (rules_of 2 3 1) 2 3 ∷ []) 20
+pub met_and_met : IsSumOfReads three_bits (rules_of 2 3 1) (Locked (lock_of 1 4 0 1))
+    (run_over three_bits (rules_of 2 3 1) 0 2 ∷ run_over three_bits (rules_of 2 3 1) 2 3 ∷ []) 20
 unfolding acquired off has_number
 met_and_met = (Some 2, 5, met_at_the_end, (Some 2, 0, at_once, refl, refl), refl)
 

@@ -10,7 +10,8 @@ two = record { parts = 4; seats = 2; threads = 2 }
 
 -- part 0 is written, 1 is being written and 2 is made; the sheet for part 3 is that of part 1
 abbrev pub before : List Event
-before = sleep 0 3 ∷ draw 0 ∷ fetch 1 ∷ hand_over 1 1 ∷ take 1 1 ∷ hand_over 0 2 ∷ take 0 2 ∷ draw 0 ∷ write 0 ∷ fetch 0 ∷ hand_over 0 0 ∷ take 0 0 ∷ draw 1 ∷ draw 0 ∷ []
+before = sleep 0 3 ∷ draw 0 ∷ fetch 1 ∷ hand_over 1 1 ∷ take 1 1 ∷ hand_over 0 2 ∷ take 0 2 ∷ draw 0 ∷ write 0
+    ∷ fetch 0 ∷ hand_over 0 0 ∷ take 0 0 ∷ draw 1 ∷ draw 0 ∷ []
 
 pub runs_before : Runs two before
 runs_before = (

@@ -24,7 +24,13 @@ abbrev pub begun : List Event
 begun = take 0 0 ∷ sleep_for 0 ∷ draw 1 ∷ draw 0 ∷ []
 
 pub runs_begun : Runs two begun
-runs_begun = ((((tt, (lit< tt, refl, lit< tt)), (lit< tt, refl, lit< tt)), (refl, lit< tt, λ h. false≢true (ap is_made h.1), lit< tt)), (lit< tt, refl, (refl, refl), refl))
+runs_begun = (
+  (
+    ((tt, (lit< tt, refl, lit< tt)), (lit< tt, refl, lit< tt)),
+    (refl, lit< tt, λ h. false≢true (ap is_made h.1), lit< tt),
+  ),
+  (lit< tt, refl, (refl, refl), refl),
+)
 
 pub caller_sleeps : (played two begun).writer ≡ sleeps_for 0
 caller_sleeps = refl
@@ -42,7 +48,10 @@ abbrev pub handed_over : List Event
 handed_over = sleep 0 2 ∷ draw 0 ∷ hand_over 0 0 ∷ begun
 
 pub runs_handed_over : Runs two handed_over
-runs_handed_over = (((runs_begun, (lit< tt, refl)), (lit< tt, refl, lit< tt)), (lit< tt, refl, λ h. false≢true (ap is_blank h.1), refl))
+runs_handed_over = (
+  ((runs_begun, (lit< tt, refl)), (lit< tt, refl, lit< tt)),
+  (lit< tt, refl, λ h. false≢true (ap is_blank h.1), refl),
+)
 
 pub caller_is_woken : (played two handed_over).writer ≡ waits_for 0
 caller_is_woken = refl
@@ -70,10 +79,12 @@ sheet_is_back = refl
 -- ---- to the end
 
 abbrev pub whole : List Event
-whole = join ∷ close 1 ∷ close 0 ∷ leave 1 ∷ leave 0 ∷ stop ∷ write 2 ∷ fetch 2 ∷ hand_over 0 2 ∷ write 1 ∷ fetch 1 ∷ take 0 2 ∷ hand_over 1 1 ∷ take 1 1 ∷ written_one
+whole = join ∷ close 1 ∷ close 0 ∷ leave 1 ∷ leave 0 ∷ stop ∷ write 2 ∷ fetch 2 ∷ hand_over 0 2 ∷ write 1
+    ∷ fetch 1 ∷ take 0 2 ∷ hand_over 1 1 ∷ take 1 1 ∷ written_one
 
 abbrev pub all_written : List Event
-all_written = write 2 ∷ fetch 2 ∷ hand_over 0 2 ∷ write 1 ∷ fetch 1 ∷ take 0 2 ∷ hand_over 1 1 ∷ take 1 1 ∷ written_one
+all_written = write 2 ∷ fetch 2 ∷ hand_over 0 2 ∷ write 1 ∷ fetch 1 ∷ take 0 2 ∷ hand_over 1 1 ∷ take 1 1
+    ∷ written_one
 
 pub runs_all_written : Runs two all_written
 runs_all_written = (

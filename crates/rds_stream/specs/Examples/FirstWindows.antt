@@ -18,7 +18,8 @@ abbrev pub offsets : ℕ → ℕ → List (Option Offset)
 offsets from n = map (off once) (range_with_len from n)
 
 -- places of which each has none
-pub none_of : (from n : ℕ) → offsets from n ≡ map (λ i. None) (range_with_len from n) → NoneValid once from (from + n)
+pub none_of : (from n : ℕ) → offsets from n ≡ map (λ i. None) (range_with_len from n)
+    → NoneValid once from (from + n)
 none_of from n none i low high =
     sym (get_or-map-range_with_len (off once) from n (i - from) i None (omega (arith, low, high)) (omega (arith, low)))
     ∙ ap (λ found. get_or found (i - from) None) none

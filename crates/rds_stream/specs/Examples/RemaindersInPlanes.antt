@@ -17,7 +17,8 @@ use Rattle.rds_stream.specs.Examples.ZeroGroup.{once}
 abbrev pub planes : List ℕ
 planes =
     0x7043C80F70611758 ∷ 0xE084A01EE13A2EB0 ∷ 0xC10A703DC38C5D61 ∷ 0xF256C874F64DAD9B ∷ 0x94EC88E69C364C6F
-    ∷ 0x599B39C249398F87 ∷ 0xB3354384938B1F0F ∷ 0x1628AF0656432947 ∷ 0x5C104603DC2B45D6 ∷ 0xB8208C07B8568BAC ∷ []
+    ∷ 0x599B39C249398F87 ∷ 0xB3354384938B1F0F ∷ 0x1628AF0656432947 ∷ 0x5C104603DC2B45D6 ∷ 0xB8208C07B8568BAC
+    ∷ []
 
 -- the bits of the group, the first lowest
 abbrev pub places : ℕ
@@ -27,7 +28,8 @@ places = 0x5A00001980000FC0000
 abbrev pub column : ℕ → ℕ
 column k = number_from_digits 2 (map (λ r. bit_at (slice_index planes (9 - r)) k) (range_with_len 0 10))
 
-pub all_columns : map column (range_with_len 0 64) ≡ map (λ i. rem (window once.bits i)) (range_with_len 25 64)
+pub all_columns : map column (range_with_len 0 64)
+    ≡ map (λ i. rem (window once.bits i)) (range_with_len 25 64)
 unfolding rem window
 all_columns = refl
 

@@ -26,7 +26,8 @@ unfolding rem window touched heard off
 once_valid = refl
 
 pub twice_valid : valid_windows twice 0 208 ≡
-    (25, A) ∷ (51, B) ∷ (77, C) ∷ (96, B) ∷ (103, D) ∷ (123, B) ∷ (129, A) ∷ (155, B) ∷ (181, C) ∷ (200, B) ∷ (207, D) ∷ []
+    (25, A) ∷ (51, B) ∷ (77, C) ∷ (96, B) ∷ (103, D) ∷ (123, B) ∷ (129, A) ∷ (155, B) ∷ (181, C) ∷ (200, B)
+    ∷ (207, D) ∷ []
 unfolding rem window touched heard off
 twice_valid = refl
 
@@ -35,8 +36,10 @@ abbrev pub five_times : Signal
 five_times = ungapped (bits_of (zero_group ++ zero_group ++ zero_group ++ zero_group ++ zero_group) 520)
 
 pub five_valid : valid_windows five_times 0 520 ≡
-    (25, A) ∷ (51, B) ∷ (77, C) ∷ (96, B) ∷ (103, D) ∷ (123, B) ∷ (129, A) ∷ (155, B) ∷ (181, C) ∷ (200, B) ∷ (207, D) ∷
-    (227, B) ∷ (233, A) ∷ (259, B) ∷ (285, C) ∷ (304, B) ∷ (311, D) ∷ (331, B) ∷ (337, A) ∷ (363, B) ∷ (389, C) ∷ (408, B) ∷ (415, D) ∷
+    (25, A) ∷ (51, B) ∷ (77, C) ∷ (96, B) ∷ (103, D) ∷ (123, B) ∷ (129, A) ∷ (155, B) ∷ (181, C) ∷ (200, B)
+    ∷ (207, D) ∷
+    (227, B) ∷ (233, A) ∷ (259, B) ∷ (285, C) ∷ (304, B) ∷ (311, D) ∷ (331, B) ∷ (337, A) ∷ (363, B)
+    ∷ (389, C) ∷ (408, B) ∷ (415, D) ∷
     (435, B) ∷ (441, A) ∷ (467, B) ∷ (493, C) ∷ (512, B) ∷ (519, D) ∷ []
 unfolding rem window touched heard off
 five_valid = refl

@@ -15,7 +15,8 @@ use Rattle.rds_sync.specs.Examples.ZeroGroup.{items_of_whole}
 
 -- a zero group, then one whose block 2 is inverted by a burst of span 6, and block 3 by 0x0000038
 abbrev pub bytes : List ℕ
-bytes = zero_group ++ 0x00 ∷ 0x00 ∷ 0x3f ∷ 0x00 ∷ 0x00 ∷ 0x1b ∷ 0x90 ∷ 0x00 ∷ 0x05 ∷ 0x40 ∷ 0x00 ∷ 0x01 ∷ 0xb4 ∷ []
+bytes = zero_group ++ 0x00 ∷ 0x00 ∷ 0x3f ∷ 0x00 ∷ 0x00 ∷ 0x1b ∷ 0x90 ∷ 0x00 ∷ 0x05 ∷ 0x40 ∷ 0x00 ∷ 0x01 ∷ 0xb4
+    ∷ []
 
 abbrev pub limit_3_items : List Item
 limit_3_items = items_of_whole ++ group_at 104 None Unknown (valid OA 0) lost lost (valid D 0) ∷ []
@@ -26,7 +27,8 @@ unfolding acquired has_number group rem window touched heard off count_leading_z
 two_fit = (refl, refl)
 
 abbrev pub limit_2_items : List Item
-limit_2_items = items_of_whole ++ group_at 104 None B (valid OA 0) lost (corrected Cx 0 0x0000200) (valid D 0) ∷ []
+limit_2_items = items_of_whole ++ group_at 104 None B (valid OA 0) lost (corrected Cx 0 0x0000200) (valid D 0)
+    ∷ []
 
 pub one_fits : HasReport bytes 208 (rules_of 2 3 10) limit_2_items (totals 5 1 0 0 0 0 1 1 2 0 1 0)
 unfolding acquired has_number group rem window touched heard off count_leading_zeros count_trailing_zeros ones
@@ -34,10 +36,12 @@ one_fits = (refl, refl)
 
 -- the same block 3 beside a valid block 2 of version A: only C is tried
 abbrev pub beside_version_a : List ℕ
-beside_version_a = 0x00 ∷ 0x00 ∷ 0x3f ∷ 0x00 ∷ 0x00 ∷ 0x19 ∷ 0x80 ∷ 0x00 ∷ 0x05 ∷ 0x40 ∷ 0x00 ∷ 0x01 ∷ 0xb4 ∷ []
+beside_version_a = 0x00 ∷ 0x00 ∷ 0x3f ∷ 0x00 ∷ 0x00 ∷ 0x19 ∷ 0x80 ∷ 0x00 ∷ 0x05 ∷ 0x40 ∷ 0x00 ∷ 0x01 ∷ 0xb4
+    ∷ []
 
 abbrev pub fits_c : List Item
-fits_c = Acquired 51 2 ∷ group_at 26 (Some 0) A missing (valid OB 0) (corrected C 0 0x0000038) (valid D 0) ∷ []
+fits_c = Acquired 51 2 ∷ group_at 26 (Some 0) A missing (valid OB 0) (corrected C 0 0x0000038) (valid D 0)
+    ∷ []
 
 pub c_fits : HasReport beside_version_a 104 (rules_of 3 3 10) fits_c (totals 2 0 0 1 0 0 0 3 1 0 1 0)
 unfolding acquired has_number group rem window touched heard off count_leading_zeros count_trailing_zeros ones
@@ -46,6 +50,7 @@ c_fits = (refl, refl)
 abbrev pub fits_nothing : List Item
 fits_nothing = Acquired 51 2 ∷ group_at 26 (Some 0) A missing (valid OB 0) lost (valid D 0) ∷ []
 
-pub cx_is_not_tried : HasReport beside_version_a 104 (rules_of 2 3 10) fits_nothing (totals 2 0 0 0 0 0 1 0 1 0 1 0)
+pub cx_is_not_tried : HasReport beside_version_a 104 (rules_of 2 3 10) fits_nothing
+    (totals 2 0 0 0 0 0 1 0 1 0 1 0)
 unfolding acquired has_number group rem window touched heard off count_leading_zeros count_trailing_zeros ones
 cx_is_not_tried = (refl, refl)

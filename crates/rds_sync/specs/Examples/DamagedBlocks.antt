@@ -16,7 +16,8 @@ abbrev pub one_bit : List ℕ
 one_bit = 0x00 ∷ 0x00 ∷ 0x3f ∷ 0x00 ∷ 0x00 ∷ 0x19 ∷ 0x80 ∷ 0x02 ∷ 0x05 ∷ 0xa0 ∷ []
 
 abbrev pub one_bit_items : List Item
-one_bit_items = Acquired 51 2 ∷ group_at 26 (Some 0) A missing (valid OB 0) (corrected C 0 0x0008000) missing ∷ []
+one_bit_items = Acquired 51 2 ∷ group_at 26 (Some 0) A missing (valid OB 0) (corrected C 0 0x0008000) missing
+    ∷ []
 
 pub one_bit_is_corrected : HasReport one_bit 78 default_rules one_bit_items (totals 1 1 0 0 0 0 0 1 1 0 1 0)
 unfolding acquired has_number group rem window touched heard off count_leading_zeros count_trailing_zeros ones
@@ -27,7 +28,8 @@ abbrev pub span_5 : List ℕ
 span_5 = 0x00 ∷ 0x00 ∷ 0x3f ∷ 0x00 ∷ 0x00 ∷ 0x19 ∷ 0x80 ∷ 0x00 ∷ 0x05 ∷ 0xa0 ∷ 0x00 ∷ 0x01 ∷ 0xa5 ∷ []
 
 abbrev pub span_5_items : List Item
-span_5_items = Acquired 51 2 ∷ group_at 26 (Some 0) A missing (valid OB 0) (valid C 0) (corrected D 0 0x0000011) ∷ []
+span_5_items = Acquired 51 2 ∷ group_at 26 (Some 0) A missing (valid OB 0) (valid C 0)
+    (corrected D 0 0x0000011) ∷ []
 
 pub span_5_is_corrected : HasReport span_5 104 (rules_of 5 3 10) span_5_items (totals 2 0 0 0 0 1 0 2 1 0 1 0)
 unfolding acquired has_number group rem window touched heard off count_leading_zeros count_trailing_zeros ones
@@ -36,7 +38,8 @@ span_5_is_corrected = (refl, refl)
 abbrev pub block_4_lost : List Item
 block_4_lost = Acquired 51 2 ∷ group_at 26 (Some 0) A missing (valid OB 0) (valid C 0) lost ∷ []
 
-pub span_5_is_past_a_limit_of_4 : HasReport span_5 104 (rules_of 4 3 10) block_4_lost (totals 2 0 0 0 0 0 1 0 1 0 1 0)
+pub span_5_is_past_a_limit_of_4 : HasReport span_5 104 (rules_of 4 3 10) block_4_lost
+    (totals 2 0 0 0 0 0 1 0 1 0 1 0)
 unfolding acquired has_number group rem window touched heard off count_leading_zeros count_trailing_zeros ones
 span_5_is_past_a_limit_of_4 = (refl, refl)
 
@@ -61,11 +64,13 @@ corrected_is_bad_items =
     ∷ []
 
 -- a corrected block is a bad one: here the first bad block loses the lock
-pub corrected_is_bad : HasReport one_bit_whole 104 (rules_of 2 3 1) corrected_is_bad_items (totals 2 1 0 0 0 0 0 1 2 0 2 1)
+pub corrected_is_bad : HasReport one_bit_whole 104 (rules_of 2 3 1) corrected_is_bad_items
+    (totals 2 1 0 0 0 0 0 1 2 0 2 1)
 unfolding acquired has_number group rem window touched heard off count_leading_zeros count_trailing_zeros ones
 corrected_is_bad = (refl, refl)
 
 -- a loss at block 4 closes one group
-pub loss_at_block_4 : HasReport span_6 104 (rules_of 5 3 1) (block_4_lost ++ LostLock 103 ∷ []) (totals 2 0 0 0 0 0 1 0 1 0 1 1)
+pub loss_at_block_4 : HasReport span_6 104 (rules_of 5 3 1) (block_4_lost ++ LostLock 103 ∷ [])
+    (totals 2 0 0 0 0 0 1 0 1 0 1 1)
 unfolding acquired has_number group rem window touched heard off count_leading_zeros count_trailing_zeros ones
 loss_at_block_4 = (refl, refl)

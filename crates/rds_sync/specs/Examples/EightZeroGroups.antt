@@ -13,10 +13,12 @@ use Rattle.std.specs.List.{range_with_len}
 use Rattle.rds_sync.specs.Examples.ZeroGroup.{items_of_whole}
 
 abbrev pub bytes : List ℕ
-bytes = zero_group ++ zero_group ++ zero_group ++ zero_group ++ zero_group ++ zero_group ++ zero_group ++ zero_group
+bytes = zero_group ++ zero_group ++ zero_group ++ zero_group ++ zero_group ++ zero_group ++ zero_group
+    ++ zero_group
 
 abbrev pub items : List Item
-items = items_of_whole ++ map (λ k. group_at (104 + 104 * k) (Some 0) A (valid OA 0) (valid OB 0) (valid C 0) (valid D 0)) (range_with_len 0 7)
+items = items_of_whole ++ map (λ k. group_at (104 + 104 * k) (Some 0) A (valid OA 0) (valid OB 0) (valid C 0)
+    (valid D 0)) (range_with_len 0 7)
 
 pub with_reach_4 : HasReport bytes 832 (rules_of 2 4 10) items (totals 31 0 0 0 0 0 0 0 8 7 1 0)
 unfolding acquired has_number group rem window touched heard off

@@ -51,7 +51,8 @@ it_is_bad = (refl, refl)
 abbrev pub block_3_lost : List Item
 block_3_lost = Acquired 51 2 ∷ group_at 26 (Some 0) A missing (valid OB 0) lost missing ∷ []
 
-pub nothing_is_corrected : IsReported (gapped one_bit 78 60 61) default_rules block_3_lost (totals 1 0 0 0 0 0 1 0 1 0 1 0)
+pub nothing_is_corrected : IsReported (gapped one_bit 78 60 61) default_rules block_3_lost
+    (totals 1 0 0 0 0 0 1 0 1 0 1 0)
 unfolding acquired has_number group rem window touched heard off count_leading_zeros count_trailing_zeros ones
 nothing_is_corrected = (refl, refl)
 
@@ -61,12 +62,14 @@ abbrev pub from_block_3 : List Item
 from_block_3 = Acquired 77 3 ∷ group_at 52 None A missing missing (valid C 0) (valid D 0) ∷ []
 
 -- block 2 does not acquire, and block 3 does by block 1, two blocks back
-pub block_2_touched : IsReported (gapped zero_group 104 40 41) default_rules from_block_3 (totals 2 0 0 0 0 0 0 0 1 0 1 0)
+pub block_2_touched : IsReported (gapped zero_group 104 40 41) default_rules from_block_3
+    (totals 2 0 0 0 0 0 0 0 1 0 1 0)
 unfolding acquired has_number group rem window touched heard off
 block_2_touched = (refl, refl)
 
 -- the result is the same if all of block 2 is a gap, which its neighbours do not touch
-pub block_2_alone : IsReported (gapped zero_group 104 26 52) default_rules from_block_3 (totals 2 0 0 0 0 0 0 0 1 0 1 0)
+pub block_2_alone : IsReported (gapped zero_group 104 26 52) default_rules from_block_3
+    (totals 2 0 0 0 0 0 0 0 1 0 1 0)
 unfolding acquired has_number group rem window touched heard off
 block_2_alone = (refl, refl)
 
@@ -74,7 +77,8 @@ abbrev pub from_block_4 : List Item
 from_block_4 = Acquired 103 4 ∷ group_at 78 None Unknown missing missing missing (valid D 0) ∷ []
 
 -- one place more, and block 3 touches it too: block 4 acquires by block 1, three blocks back
-pub block_3_too : IsReported (gapped zero_group 104 26 53) default_rules from_block_4 (totals 1 0 0 0 0 0 0 0 1 0 1 0)
+pub block_3_too : IsReported (gapped zero_group 104 26 53) default_rules from_block_4
+    (totals 1 0 0 0 0 0 0 0 1 0 1 0)
 unfolding acquired has_number group rem window touched heard off
 block_3_too = (refl, refl)
 

@@ -19,7 +19,8 @@ said_by info = let group = group_of 0 (missing ∷ valid OB info ∷ missing ∷
 
 -- bits 15 to 12 are the type, bit 11 is the version, and the other bits say neither
 pub types_0_to_7 : map said_by (0x07FF ∷ 0x1800 ∷ 0x2000 ∷ 0x3FFF ∷ 0x4540 ∷ 0x5ABC ∷ 0x6001 ∷ 0x7800 ∷ [])
-    ≡ (Some 0, A) ∷ (Some 1, B) ∷ (Some 2, A) ∷ (Some 3, B) ∷ (Some 4, A) ∷ (Some 5, B) ∷ (Some 6, A) ∷ (Some 7, B)
+    ≡ (Some 0, A) ∷ (Some 1, B) ∷ (Some 2, A) ∷ (Some 3, B) ∷ (Some 4, A) ∷ (Some 5, B) ∷ (Some 6, A)
+    ∷ (Some 7, B)
     ∷ []
 types_0_to_7 = refl
 

@@ -23,7 +23,8 @@ unfolding acquired has_number group rem window touched heard off
 true_state_at_190 = refl
 
 -- with reach 4 the search locks on the false phase, since the window four blocks before it is of the same phase
-pub locks_at_a_false_phase : run b (rules_of 2 4 10) Searching 190 11 ≡ (Locked (lock_of 226 3 0 2), Acquired 200 2 ∷ [])
+pub locks_at_a_false_phase : run b (rules_of 2 4 10) Searching 190 11
+    ≡ (Locked (lock_of 226 3 0 2), Acquired 200 2 ∷ [])
 unfolding acquired has_number group rem window touched heard off
 locks_at_a_false_phase = refl
 
@@ -42,7 +43,11 @@ never_lost = refl
 
 -- with reach 3 the search acquires at place 207 as block 4, and is in the true state from place 208 on
 pub locks_at_the_true_phase : run b (rules_of 2 3 10) Searching 190 18
-    ≡ (Locked (lock_of 233 1 0 1), Acquired 207 4 ∷ group_at 182 None Unknown missing missing missing (valid D 0) ∷ [])
+    ≡ (
+      Locked (lock_of 233 1 0 1),
+      Acquired 207 4
+          ∷ group_at 182 None Unknown missing missing missing (valid D 0) ∷ [],
+    )
 unfolding acquired has_number group rem window touched heard off
 locks_at_the_true_phase = refl
 
@@ -52,7 +57,8 @@ true_state_at_208 = refl
 
 -- with reach 3 a lock at the false phase, whose block 1 is due at place 200, is lost at its tenth block, and the next one is
 -- acquired seven places on: groups left out
-pub lost_at_434 : filter (λ item. not (is_group item)) (run b (rules_of 2 3 10) (Locked (lock_of 200 1 0 1)) 190 642).1
+pub lost_at_434 : filter (λ item. not (is_group item))
+    (run b (rules_of 2 3 10) (Locked (lock_of 200 1 0 1)) 190 642).1
     ≡ LostLock 434 ∷ Acquired 441 1 ∷ []
 unfolding acquired has_number group rem window touched heard off
 lost_at_434 = refl

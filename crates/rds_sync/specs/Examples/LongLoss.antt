@@ -16,7 +16,8 @@ use Rattle.rds_sync.specs.Examples.ZeroGroup.{items_of_whole}
 
 -- `count` groups of four lost blocks from place 104 on
 abbrev pub lost_groups : ℕ → List Item
-lost_groups count = map (λ k. group_at (104 + 104 * k) None Unknown lost lost lost lost) (range_with_len 0 count)
+lost_groups count = map (λ k. group_at (104 + 104 * k) None Unknown lost lost lost lost)
+    (range_with_len 0 count)
 
 abbrev pub silence : ℕ → List ℕ
 silence groups = zero_group ++ replicate (13 * groups) 0x00
@@ -29,13 +30,15 @@ pub loss_of_64 : HasReport (silence 16) 1768 (rules_of 0 3 64) lost_at_64 (total
 unfolding acquired has_number group rem window touched heard off
 loss_of_64 = (refl, refl)
 
-pub run_with_loss_of_64 : (run (ungapped (bits_of (silence 16) 1768)) (rules_of 0 3 64) Searching 0 1768).1 ≡ lost_at_64
+pub run_with_loss_of_64 : (run (ungapped (bits_of (silence 16) 1768)) (rules_of 0 3 64) Searching 0 1768).1
+    ≡ lost_at_64
 unfolding acquired has_number group rem window touched heard off
 run_with_loss_of_64 = refl
 
 -- the eleventh, a block 3
 abbrev pub lost_at_11 : List Item
-lost_at_11 = items_of_whole ++ lost_groups 2 ++ group_at 312 None Unknown lost lost lost missing ∷ LostLock 389 ∷ []
+lost_at_11 = items_of_whole ++ lost_groups 2 ++ group_at 312 None Unknown lost lost lost missing
+    ∷ LostLock 389 ∷ []
 
 pub loss_of_11 : HasReport (silence 4) 520 (rules_of 0 3 11) lost_at_11 (totals 3 0 0 0 0 0 11 0 4 0 1 1)
 unfolding acquired has_number group rem window touched heard off

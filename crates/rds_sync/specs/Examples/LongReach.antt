@@ -18,7 +18,8 @@ five_apart = 0x00 ∷ 0x00 ∷ 0x3f ∷ replicate 15 0x00 ++ 0x19 ∷ 0x80 ∷ [
 abbrev pub block_2_acquires : List Item
 block_2_acquires = Acquired 155 2 ∷ group_at 130 (Some 0) A missing (valid OB 0) missing missing ∷ []
 
-pub partner_at_5 : HasReport five_apart 156 (rules_of 0 8 10) block_2_acquires (totals 1 0 0 0 0 0 0 0 1 0 1 0)
+pub partner_at_5 : HasReport five_apart 156 (rules_of 0 8 10) block_2_acquires
+    (totals 1 0 0 0 0 0 0 0 1 0 1 0)
 unfolding acquired has_number group rem window touched heard off
 partner_at_5 = (refl, refl)
 
@@ -37,7 +38,8 @@ eight_apart = 0x00 ∷ 0x00 ∷ 0x6d ∷ replicate 25 0x00 ++ 0x6d ∷ 0x00 ∷ 
 abbrev pub block_4_acquires : List Item
 block_4_acquires = Acquired 233 4 ∷ group_at 208 None Unknown missing missing missing (valid D 0) ∷ []
 
-pub partner_at_8 : HasReport eight_apart 234 (rules_of 0 8 10) block_4_acquires (totals 1 0 0 0 0 0 0 0 1 0 1 0)
+pub partner_at_8 : HasReport eight_apart 234 (rules_of 0 8 10) block_4_acquires
+    (totals 1 0 0 0 0 0 0 0 1 0 1 0)
 unfolding acquired has_number group rem window touched heard off
 partner_at_8 = (refl, refl)
 

@@ -37,7 +37,8 @@ only_adds = record {
   where
     blocks : (y : ℕ)
         → (slice_get (valid OA 0 ∷ valid OB 0 ∷ valid C 0 ∷ missing ∷ []) y ≡ Some missing)
-        ⊎ (slice_get (valid OA 0 ∷ valid OB 0 ∷ valid C 0 ∷ valid D 0 ∷ []) y ≡ slice_get (valid OA 0 ∷ valid OB 0 ∷ valid C 0 ∷ missing ∷ []) y)
+        ⊎ (slice_get (valid OA 0 ∷ valid OB 0 ∷ valid C 0 ∷ valid D 0 ∷ []) y
+        ≡ slice_get (valid OA 0 ∷ valid OB 0 ∷ valid C 0 ∷ missing ∷ []) y)
     blocks zero = inr refl
     blocks (suc zero) = inr refl
     blocks (suc (suc zero)) = inr refl
@@ -48,5 +49,8 @@ only_adds = record {
 pub first_bits : beginning 182 (ungapped (bits_of bytes 208)) ≡ ungapped (bits_of bytes 182)
 first_bits = refl
 
-pub first_gaps : (beginning 182 (record { bits = bits_of bytes 208; gaps = (100, 120) ∷ (170, 190) ∷ (195, 200) ∷ [] })).gaps ≡ (100, 120) ∷ (170, 182) ∷ []
+pub first_gaps : (beginning 182 (record {
+  bits = bits_of bytes 208;
+  gaps = (100, 120) ∷ (170, 190) ∷ (195, 200) ∷ [];
+})).gaps ≡ (100, 120) ∷ (170, 182) ∷ []
 first_gaps = refl

@@ -18,7 +18,8 @@ abbrev pub block_4_items : List Item
 block_4_items = Acquired 51 4 ∷ group_at 26 None Unknown missing missing missing (valid D 0) ∷ []
 
 -- a block 4 that acquires is a group of its own
-pub block_4_acquires : HasReport blocks_3_and_4 52 default_rules block_4_items (totals 1 0 0 0 0 0 0 0 1 0 1 0)
+pub block_4_acquires : HasReport blocks_3_and_4 52 default_rules block_4_items
+    (totals 1 0 0 0 0 0 0 0 1 0 1 0)
 unfolding acquired has_number group rem window touched heard off
 block_4_acquires = (refl, refl)
 
@@ -27,8 +28,10 @@ abbrev pub radio_text : List ℕ
 radio_text = 0x12 ∷ 0x34 ∷ 0x1a ∷ 0x89 ∷ 0x50 ∷ 0x1a ∷ 0xc5 ∷ 0x24 ∷ 0x49 ∷ 0x59 ∷ 0x4c ∷ 0x83 ∷ 0xfb ∷ []
 
 abbrev pub radio_text_items : List Item
-radio_text_items = Acquired 51 2 ∷ group_at 26 (Some 2) A missing (valid OB 0x2540) (valid C 0x5244) (valid D 0x5320) ∷ []
+radio_text_items = Acquired 51 2 ∷ group_at 26 (Some 2) A missing (valid OB 0x2540) (valid C 0x5244)
+    (valid D 0x5320) ∷ []
 
-pub radio_text_is_read : HasReport radio_text 104 default_rules radio_text_items (totals 3 0 0 0 0 0 0 0 1 0 1 0)
+pub radio_text_is_read : HasReport radio_text 104 default_rules radio_text_items
+    (totals 3 0 0 0 0 0 0 0 1 0 1 0)
 unfolding acquired has_number group rem window touched heard off
 radio_text_is_read = (refl, refl)

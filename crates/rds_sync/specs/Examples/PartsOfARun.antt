@@ -29,28 +29,34 @@ left items end = record { items = items; end = end }
 
 -- ---- all of a range
 
-pub whole : decoder_of b default_rules Searching 0 104 ≡ left (Acquired 51 2 ∷ the_group ∷ []) (Locked (lock_of 129 1 0 1))
+pub whole : decoder_of b default_rules Searching 0 104
+    ≡ left (Acquired 51 2 ∷ the_group ∷ []) (Locked (lock_of 129 1 0 1))
 unfolding acquired has_number group rem window touched heard off
 whole = refl
 
 -- from a state on, only over the places before the range's end
-pub from_the_lock : decoder_of b default_rules (Locked (lock_of 77 3 0 2)) 52 104 ≡ left (the_group ∷ []) (Locked (lock_of 129 1 0 1))
+pub from_the_lock : decoder_of b default_rules (Locked (lock_of 77 3 0 2)) 52 104
+    ≡ left (the_group ∷ []) (Locked (lock_of 129 1 0 1))
 unfolding acquired has_number group rem window touched heard off
 from_the_lock = refl
 
-pub before_its_end : decoder_of b default_rules (Locked (lock_of 77 3 0 2)) 52 103 ≡ left [] (Locked (lock_of 103 4 0 2))
+pub before_its_end : decoder_of b default_rules (Locked (lock_of 77 3 0 2)) 52 103
+    ≡ left [] (Locked (lock_of 103 4 0 2))
 unfolding acquired has_number group rem window touched heard off
 before_its_end = refl
 
-pub no_places : decoder_of b default_rules (Locked (lock_of 77 3 0 2)) 52 52 ≡ left [] (Locked (lock_of 77 3 0 2))
+pub no_places : decoder_of b default_rules (Locked (lock_of 77 3 0 2)) 52 52
+    ≡ left [] (Locked (lock_of 77 3 0 2))
 no_places = refl
 
 -- ---- one after the other
 
-pub the_first : GivesNext (left (Acquired 51 2 ∷ the_group ∷ []) (Locked (lock_of 129 1 0 1))) (Some (Acquired 51 2)) (left (the_group ∷ []) (Locked (lock_of 129 1 0 1)))
+pub the_first : GivesNext (left (Acquired 51 2 ∷ the_group ∷ []) (Locked (lock_of 129 1 0 1)))
+    (Some (Acquired 51 2)) (left (the_group ∷ []) (Locked (lock_of 129 1 0 1)))
 the_first = (refl, refl)
 
-pub the_last : GivesNext (left (the_group ∷ []) (Locked (lock_of 129 1 0 1))) (Some the_group) (left [] (Locked (lock_of 129 1 0 1)))
+pub the_last : GivesNext (left (the_group ∷ []) (Locked (lock_of 129 1 0 1))) (Some the_group)
+    (left [] (Locked (lock_of 129 1 0 1)))
 the_last = (refl, refl)
 
 pub none_left : GivesNext (left [] (Locked (lock_of 129 1 0 1))) None (left [] (Locked (lock_of 129 1 0 1)))
@@ -61,11 +67,13 @@ is_empty [] = true
 is_empty (item ∷ items) = false
 
 -- none is given only if none is left
-pub not_none : GivesNext (left (the_group ∷ []) (Locked (lock_of 129 1 0 1))) None (left [] (Locked (lock_of 129 1 0 1))) → ⊥
+pub not_none : GivesNext (left (the_group ∷ []) (Locked (lock_of 129 1 0 1))) None
+    (left [] (Locked (lock_of 129 1 0 1))) → ⊥
 not_none gives = false≢true (ap is_empty gives.0.0)
 
 -- an item is given once
-pub not_twice : GivesNext (left (the_group ∷ []) (Locked (lock_of 129 1 0 1))) (Some the_group) (left (the_group ∷ []) (Locked (lock_of 129 1 0 1))) → ⊥
+pub not_twice : GivesNext (left (the_group ∷ []) (Locked (lock_of 129 1 0 1))) (Some the_group)
+    (left (the_group ∷ []) (Locked (lock_of 129 1 0 1))) → ⊥
 not_twice gives = false≢true (sym (ap is_last gives.0))
   where
     is_last : List Item → Bool
@@ -73,7 +81,8 @@ not_twice gives = false≢true (sym (ap is_last gives.0))
     is_last (item ∷ items) = is_empty items
 
 -- and the run ends as before
-pub not_another_end : GivesNext (left (the_group ∷ []) (Locked (lock_of 129 1 0 1))) (Some the_group) (left [] Searching) → ⊥
+pub not_another_end : GivesNext (left (the_group ∷ []) (Locked (lock_of 129 1 0 1))) (Some the_group)
+    (left [] Searching) → ⊥
 not_another_end gives = false≢true (ap is_search gives.1)
   where
     is_search : State → Bool
@@ -82,7 +91,8 @@ not_another_end gives = false≢true (ap is_search gives.1)
 
 -- ---- items with their recording and their rules
 
-pub the_report : listed b default_rules (report_items b default_rules) ≡ record { source = b; rules = default_rules; list = items_of_whole }
+pub the_report : listed b default_rules (report_items b default_rules)
+    ≡ record { source = b; rules = default_rules; list = items_of_whole }
 unfolding acquired has_number group rem window touched heard off
 the_report = refl
 

@@ -60,6 +60,7 @@ unfolding acquired has_number group rem window touched heard off
 nothing_acquired_at_a_loss = refl
 
 -- the end of the recording closes the group in progress
-pub closed_by_the_end : items_of_end b default_rules (Locked (lock_of 103 4 0 2)) ≡ group_at 26 (Some 0) A missing (valid OB 0) (valid C 0) missing ∷ []
+pub closed_by_the_end : items_of_end b default_rules (Locked (lock_of 103 4 0 2))
+    ≡ group_at 26 (Some 0) A missing (valid OB 0) (valid C 0) missing ∷ []
 unfolding acquired has_number group rem window touched heard off
 closed_by_the_end = refl

@@ -57,7 +57,8 @@ unfolding acquired has_number group rem window touched heard off binary
 sent_report = (refl, refl)
 
 -- they are those that the laws name
-pub sent_as_named : Acquired 51 2 ∷ Group (group_sent 2 26 first []) ∷ items_sent 104 (second ∷ first ∷ []) ≡ sent_items
+pub sent_as_named : Acquired 51 2 ∷ Group (group_sent 2 26 first []) ∷ items_sent 104 (second ∷ first ∷ [])
+    ≡ sent_items
 sent_as_named = refl
 
 pub totals_as_named : totals_sent 3 ≡ totals 11 0 0 0 0 0 0 0 3 2 1 0
@@ -79,24 +80,29 @@ abbrev pub damaged_items : List Item
 damaged_items =
     Acquired 51 2
     ∷ group_at 26 (Some 2) A missing (valid OB 0x2540) (corrected C 0x5244 0x0000001) (valid D 0x5320)
-    ∷ group_at 104 (Some 2) B (corrected OA 0x1234 0x0000030) (valid OB 0x2D41) (corrected Cx 0x1234 0x0000008) (corrected D 0x4F4E 0x0000002)
+    ∷ group_at 104 (Some 2) B (corrected OA 0x1234 0x0000030) (valid OB 0x2D41)
+    (corrected Cx 0x1234 0x0000008) (corrected D 0x4F4E 0x0000002)
     ∷ []
 
 pub damaged_report : IsReported damaged default_rules damaged_items (totals 3 3 1 0 0 0 0 5 2 1 1 0)
 unfolding acquired has_number group rem window touched heard off binary count_leading_zeros count_trailing_zeros ones
 damaged_report = (refl, refl)
 
-pub damaged_as_named : Acquired 51 2 ∷ Group (group_sent 2 26 first damaged_first.damages) ∷ items_damaged 104 (damaged_second ∷ []) ≡ damaged_items
+pub damaged_as_named : Acquired 51 2 ∷ Group (group_sent 2 26 first damaged_first.damages)
+    ∷ items_damaged 104 (damaged_second ∷ []) ≡ damaged_items
 damaged_as_named = refl
 
 -- each group begins 104 bits after the one before
 pub next_damaged : items_damaged 104 (damaged_second ∷ damaged_first ∷ [])
-    ≡ group_at 104 (Some 2) B (corrected OA 0x1234 0x0000030) (valid OB 0x2D41) (corrected Cx 0x1234 0x0000008) (corrected D 0x4F4E 0x0000002)
-    ∷ group_at 208 (Some 2) A (valid OA 0x1234) (valid OB 0x2540) (corrected C 0x5244 0x0000001) (valid D 0x5320)
+    ≡ group_at 104 (Some 2) B (corrected OA 0x1234 0x0000030) (valid OB 0x2D41)
+    (corrected Cx 0x1234 0x0000008) (corrected D 0x4F4E 0x0000002)
+    ∷ group_at 208 (Some 2) A (valid OA 0x1234) (valid OB 0x2540) (corrected C 0x5244 0x0000001)
+    (valid D 0x5320)
     ∷ []
 next_damaged = refl
 
-pub damaged_totals : totals_damaged 2 (masks_read damaged_first (damaged_second ∷ [])) ≡ totals 3 3 1 0 0 0 0 5 2 1 1 0
+pub damaged_totals : totals_damaged 2 (masks_read damaged_first (damaged_second ∷ []))
+    ≡ totals 3 3 1 0 0 0 0 5 2 1 1 0
 unfolding count_leading_zeros count_trailing_zeros ones
 damaged_totals = refl
 
@@ -110,10 +116,12 @@ pub bad_at_the_end : bad_after_blocks (Run 3) 0 (0x0000001 ∷ 0 ∷ four_damage
 bad_at_the_end = refl
 
 -- at two in a row it is lost, at the last block
-pub lost_at_two : are_too_many (Run 2) (bad_after_blocks (Run 2) 0 (0x0000001 ∷ 0 ∷ four_damages damaged_second)) ≡ true
+pub lost_at_two : are_too_many (Run 2) (bad_after_blocks (Run 2) 0
+    (0x0000001 ∷ 0 ∷ four_damages damaged_second)) ≡ true
 lost_at_two = refl
 
-pub report_of_the_loss : IsReported damaged (rules_of 2 3 2) (damaged_items ++ LostLock 207 ∷ []) (totals 3 3 1 0 0 0 0 5 2 1 1 1)
+pub report_of_the_loss : IsReported damaged (rules_of 2 3 2) (damaged_items ++ LostLock 207 ∷ [])
+    (totals 3 3 1 0 0 0 0 5 2 1 1 1)
 unfolding acquired has_number group rem window touched heard off binary count_leading_zeros count_trailing_zeros ones
 report_of_the_loss = (refl, refl)
 

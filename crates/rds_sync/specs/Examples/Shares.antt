@@ -29,13 +29,15 @@ unfolding acquired has_number group rem window touched heard off
 two_of_four = (refl, refl)
 
 -- its mask after the block at place 207: of the last four blocks the oldest is bad
-pub run_two_of_four : run (ungapped (bits_of one_bad 208)) (rules_with_share 2 4) Searching 0 208 ≡ (Locked (lock_of 233 1 8 1), items_kept)
+pub run_two_of_four : run (ungapped (bits_of one_bad 208)) (rules_with_share 2 4) Searching 0 208
+    ≡ (Locked (lock_of 233 1 8 1), items_kept)
 unfolding acquired has_number group rem window touched heard off ones
 run_two_of_four = refl
 
 -- a zero group, then one whose blocks 1 and 3 are inverted by a burst of span 6
 abbrev pub two_bad : List ℕ
-two_bad = zero_group ++ 0x00 ∷ 0x00 ∷ 0x37 ∷ 0x40 ∷ 0x00 ∷ 0x19 ∷ 0x80 ∷ 0x00 ∷ 0x05 ∷ 0x24 ∷ 0x00 ∷ 0x01 ∷ 0xb4 ∷ []
+two_bad = zero_group ++ 0x00 ∷ 0x00 ∷ 0x37 ∷ 0x40 ∷ 0x00 ∷ 0x19 ∷ 0x80 ∷ 0x00 ∷ 0x05 ∷ 0x24 ∷ 0x00 ∷ 0x01
+    ∷ 0xb4 ∷ []
 
 -- the second bad block among three loses
 abbrev pub items_lost : List Item
@@ -50,7 +52,8 @@ pub two_of_three : HasReport two_bad 208 (rules_with_share 2 3) items_lost (tota
 unfolding acquired has_number group rem window touched heard off
 two_of_three = (refl, refl)
 
-pub run_two_of_three : run (ungapped (bits_of two_bad 208)) (rules_with_share 2 3) Searching 0 208 ≡ (Locked (lock_of 233 1 0 1), items_lost)
+pub run_two_of_three : run (ungapped (bits_of two_bad 208)) (rules_with_share 2 3) Searching 0 208
+    ≡ (Locked (lock_of 233 1 0 1), items_lost)
 unfolding acquired has_number group rem window touched heard off ones
 run_two_of_three = refl
 
@@ -62,6 +65,7 @@ pub two_of_two : HasReport two_bad 208 (rules_with_share 2 2) items_apart (total
 unfolding acquired has_number group rem window touched heard off
 two_of_two = (refl, refl)
 
-pub run_two_of_two : run (ungapped (bits_of two_bad 208)) (rules_with_share 2 2) Searching 0 208 ≡ (Locked (lock_of 233 1 2 1), items_apart)
+pub run_two_of_two : run (ungapped (bits_of two_bad 208)) (rules_with_share 2 2) Searching 0 208
+    ≡ (Locked (lock_of 233 1 2 1), items_apart)
 unfolding acquired has_number group rem window touched heard off ones
 run_two_of_two = refl

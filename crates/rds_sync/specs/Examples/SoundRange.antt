@@ -28,7 +28,8 @@ valid_by_chance = refl
 
 -- the condition at each place of the range, as a test
 unfoldable is_as_told : ℕ → Bool
-is_as_told r = (r % 26 == 25) || (not (is_some (acquired b rules r)) && (not (is_some (off b r)) || (r % 104 == 19) || (r % 104 == 96)))
+is_as_told r = (r % 26 == 25) || (not (is_some (acquired b rules r)) &&
+    (not (is_some (off b r)) || (r % 104 == 19) || (r % 104 == 96)))
 
 all_as_told : list_all is_as_told (range_with_len 104 260) ≡ true
 unfolding is_as_told acquired has_number rem window touched heard off
@@ -42,7 +43,8 @@ unfolding is_block has_number rem window touched heard off
 all_blocks = refl
 
 -- a test that all places of a range pass, each passes
-each : (test : ℕ → Bool) (from n : ℕ) → list_all test (range_with_len from n) ≡ true → (i : ℕ) → i < n → test (from + i) ≡ true
+each : (test : ℕ → Bool) (from n : ℕ) → list_all test (range_with_len from n) ≡ true → (i : ℕ) → i < n
+    → test (from + i) ≡ true
 each test from n all i within =
     let long = length-range_with_len from n in
     subst (λ (r : ℕ). test r ≡ true) (get_or-range_with_len from n i 0 within)
@@ -68,7 +70,8 @@ told false true true false true e off_it = (refl, λ _. inr refl)
 told false true true false false e off_it = absurd (false≢true e)
 
 -- a rival does not acquire, and is at one of two places modulo 104
-pub rival : (r : ℕ) → IsRival b 104 364 129 r → (acquired b rules r ≡ None) × ((r % 104 ≡ 19) ⊎ (r % 104 ≡ 96))
+pub rival : (r : ℕ) → IsRival b 104 364 129 r
+    → (acquired b rules r ≡ None) × ((r % 104 ≡ 19) ⊎ (r % 104 ≡ 96))
 unfolding is_as_told
 rival r is =
     let inside = is.inside in

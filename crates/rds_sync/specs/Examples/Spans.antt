@@ -20,17 +20,21 @@ spans_2_to_4 = zero_group ++ 0x12 ∷ 0x34 ∷ 0x1a ∷ 0x80 ∷ 0x00 ∷ 0xd9 �
 
 abbrev pub corrected_items : List Item
 corrected_items = items_of_whole
-    ++ group_at 104 (Some 0) A (valid OA 0x1234) (corrected OB 0 0x0000C00) (corrected C 0 0x0005000) (corrected D 0 0x0000048) ∷ []
+    ++ group_at 104 (Some 0) A (valid OA 0x1234) (corrected OB 0 0x0000C00) (corrected C 0 0x0005000)
+    (corrected D 0 0x0000048) ∷ []
 
-pub spans_2_to_4_are_counted : HasReport spans_2_to_4 208 (rules_of 4 3 10) corrected_items (totals 4 0 1 1 1 0 0 6 2 1 1 0)
+pub spans_2_to_4_are_counted : HasReport spans_2_to_4 208 (rules_of 4 3 10) corrected_items
+    (totals 4 0 1 1 1 0 0 6 2 1 1 0)
 unfolding acquired has_number group rem window touched heard off count_leading_zeros count_trailing_zeros ones
 spans_2_to_4_are_counted = (refl, refl)
 
 abbrev pub past_the_limit : List Item
 past_the_limit = items_of_whole
-    ++ group_at 104 (Some 0) A (valid OA 0x1234) (corrected OB 0 0x0000C00) (corrected C 0 0x0005000) lost ∷ []
+    ++ group_at 104 (Some 0) A (valid OA 0x1234) (corrected OB 0 0x0000C00) (corrected C 0 0x0005000) lost
+    ∷ []
 
-pub span_4_is_past_a_limit_of_3 : HasReport spans_2_to_4 208 (rules_of 3 3 10) past_the_limit (totals 4 0 1 1 0 0 1 4 2 0 1 0)
+pub span_4_is_past_a_limit_of_3 : HasReport spans_2_to_4 208 (rules_of 3 3 10) past_the_limit
+    (totals 4 0 1 1 0 0 1 4 2 0 1 0)
 unfolding acquired has_number group rem window touched heard off count_leading_zeros count_trailing_zeros ones
 span_4_is_past_a_limit_of_3 = (refl, refl)
 
@@ -43,8 +47,10 @@ all_by burst = let block = corrected C 0 burst in group_at 0 (Some 0) A block bl
 abbrev pub one_to_five : List Item
 one_to_five =
     Acquired 25 1
-    ∷ group_at 0 (Some 0) A (valid OA 0) (corrected OB 0 0x0002000) (corrected C 0 0x0001800) (corrected D 0 0x0000003)
-    ∷ group_at 0 (Some 0) A (valid OA 0) (corrected OB 0 0x0007000) (corrected C 0 0x0000050) (corrected D 0 0x0000007)
+    ∷ group_at 0 (Some 0) A (valid OA 0) (corrected OB 0 0x0002000) (corrected C 0 0x0001800)
+    (corrected D 0 0x0000003)
+    ∷ group_at 0 (Some 0) A (valid OA 0) (corrected OB 0 0x0007000) (corrected C 0 0x0000050)
+    (corrected D 0 0x0000007)
     ∷ all_by 0x0000009
     ∷ all_by 0x0000220
     ∷ group_at 0 (Some 0) A (valid OA 0) (corrected OB 0 0x000001B) (valid C 0) lost

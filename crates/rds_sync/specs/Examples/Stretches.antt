@@ -38,7 +38,8 @@ is_some_item [] = false
 is_some_item (item ∷ items) = true
 
 -- the search ends after the bit that acquires
-pub to_the_acquisition : IsStretch b default_rules Searching 0 104 (reached 52 (Locked (lock_of 77 3 0 2)) acquires)
+pub to_the_acquisition : IsStretch b default_rules Searching 0 104
+    (reached 52 (Locked (lock_of 77 3 0 2)) acquires)
 unfolding acquired has_number group rem window touched heard off
 to_the_acquisition = record {
   forward = leb-true 1 52 refl;
@@ -66,7 +67,8 @@ not_before stretch = goes_on stretch.ended
     goes_on (inr some) = some refl
 
 -- and not one bit after it, though the state is that of the run
-pub not_behind : IsStretch b default_rules Searching 0 104 (reached 53 (Locked (lock_of 77 3 0 2)) acquires) → ⊥
+pub not_behind : IsStretch b default_rules Searching 0 104 (reached 53 (Locked (lock_of 77 3 0 2)) acquires)
+    → ⊥
 unfolding acquired has_number group rem window touched heard off
 not_behind stretch = false≢true (sym (ap is_some_item stretch.quiet))
 
@@ -84,7 +86,8 @@ to_the_end = record {
 }
 
 -- a lock is read up to and including the block that closes its group
-pub to_the_group : IsStretch b default_rules (Locked (lock_of 77 3 0 2)) 52 104 (reached 104 (Locked (lock_of 129 1 0 1)) closes)
+pub to_the_group : IsStretch b default_rules (Locked (lock_of 77 3 0 2)) 52 104
+    (reached 104 (Locked (lock_of 129 1 0 1)) closes)
 unfolding acquired has_number group rem window touched heard off
 to_the_group = record {
   forward = leb-true 53 104 refl;

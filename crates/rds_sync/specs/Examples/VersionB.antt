@@ -36,26 +36,31 @@ in_conflict_items = Acquired 51 2 ∷ Group (record {
   conflict = true;
 }) ∷ []
 
-pub blocks_disagree : HasReport in_conflict 104 default_rules in_conflict_items (totals 3 0 0 0 0 0 0 0 1 0 1 0)
+pub blocks_disagree : HasReport in_conflict 104 default_rules in_conflict_items
+    (totals 3 0 0 0 0 0 0 0 1 0 1 0)
 unfolding acquired has_number group rem window touched heard off
 blocks_disagree = (refl, refl)
 
 -- a zero group, then one of version B with one bit of block 2 inverted and one of block 3
 abbrev pub corrected_blocks : List ℕ
-corrected_blocks = zero_group ++ 0x00 ∷ 0x00 ∷ 0x3f ∷ 0x02 ∷ 0x00 ∷ 0x0c ∷ 0x10 ∷ 0x00 ∷ 0x09 ∷ 0x40 ∷ 0x00 ∷ 0x01 ∷ 0xb4 ∷ []
+corrected_blocks = zero_group ++ 0x00 ∷ 0x00 ∷ 0x3f ∷ 0x02 ∷ 0x00 ∷ 0x0c ∷ 0x10 ∷ 0x00 ∷ 0x09 ∷ 0x40 ∷ 0x00
+    ∷ 0x01 ∷ 0xb4 ∷ []
 
 abbrev pub corrected_items : List Item
 corrected_items = items_of_whole
-    ++ group_at 104 (Some 0) B (valid OA 0) (corrected OB 0x0800 0x0000200) (corrected Cx 0 0x0000100) (valid D 0) ∷ []
+    ++ group_at 104 (Some 0) B (valid OA 0) (corrected OB 0x0800 0x0000200) (corrected Cx 0 0x0000100)
+    (valid D 0) ∷ []
 
 -- a corrected block 2 says type and version, and a group of valid and corrected blocks is complete
-pub corrected_is_complete : HasReport corrected_blocks 208 default_rules corrected_items (totals 5 2 0 0 0 0 0 2 2 1 1 0)
+pub corrected_is_complete : HasReport corrected_blocks 208 default_rules corrected_items
+    (totals 5 2 0 0 0 0 0 2 2 1 1 0)
 unfolding acquired has_number group rem window touched heard off count_leading_zeros count_trailing_zeros ones
 corrected_is_complete = (refl, refl)
 
 -- the same with the offset C in block 3: a corrected block 2 is enough for a conflict
 abbrev pub corrected_conflict : List ℕ
-corrected_conflict = zero_group ++ 0x00 ∷ 0x00 ∷ 0x3f ∷ 0x02 ∷ 0x00 ∷ 0x0c ∷ 0x10 ∷ 0x00 ∷ 0x05 ∷ 0xa0 ∷ 0x00 ∷ 0x01 ∷ 0xb4 ∷ []
+corrected_conflict = zero_group ++ 0x00 ∷ 0x00 ∷ 0x3f ∷ 0x02 ∷ 0x00 ∷ 0x0c ∷ 0x10 ∷ 0x00 ∷ 0x05 ∷ 0xa0 ∷ 0x00
+    ∷ 0x01 ∷ 0xb4 ∷ []
 
 abbrev pub corrected_conflict_items : List Item
 corrected_conflict_items = items_of_whole ++ Group (record {
@@ -66,6 +71,7 @@ corrected_conflict_items = items_of_whole ++ Group (record {
   conflict = true;
 }) ∷ []
 
-pub corrected_disagrees : HasReport corrected_conflict 208 default_rules corrected_conflict_items (totals 6 1 0 0 0 0 0 1 2 1 1 0)
+pub corrected_disagrees : HasReport corrected_conflict 208 default_rules corrected_conflict_items
+    (totals 6 1 0 0 0 0 0 1 2 1 1 0)
 unfolding acquired has_number group rem window touched heard off count_leading_zeros count_trailing_zeros ones
 corrected_disagrees = (refl, refl)

@@ -12,7 +12,8 @@ use Rattle.rds_sync.specs.Rules.{RuleNumbers}
 use Rattle.rds_sync.specs.Step.{run}
 
 -- how far the run from state s before `place` came, and the counts of the items that it gave
-pub record IsCountStretch (b : Signal) (rules : RuleNumbers) (s : State) (place to : ℕ) (before : CountOf) (reached : ℕ × State) (after : CountOf) : Type 0 where
+pub record IsCountStretch (b : Signal) (rules : RuleNumbers) (s : State) (place to : ℕ) (before : CountOf)
+    (reached : ℕ × State) (after : CountOf) : Type 0 where
   pub forward : place < reached.0
   pub limit : reached.0 ≤ to
   pub state : reached.1 ≡ (run b rules s place (reached.0 - place)).0
@@ -20,7 +21,8 @@ pub record IsCountStretch (b : Signal) (rules : RuleNumbers) (s : State) (place 
   pub lawful : IsLawful rules reached.0 reached.1
 
 -- the lock came from between two groups to between two others, and the groups in between were counted
-pub record HasCountedOn (b : Signal) (rules : RuleNumbers) (lock : Lock) (to : ℕ) (before : CountOf) (now : Lock) (after : CountOf) : Type 0 where
+pub record HasCountedOn (b : Signal) (rules : RuleNumbers) (lock : Lock) (to : ℕ) (before : CountOf)
+    (now : Lock) (after : CountOf) : Type 0 where
   pub between : (now.number ≡ 1) × (now.first ≡ 1)
   pub few_bad : IsLawfulBad rules.loss now.bad
   pub from_on : lock.due ≤ now.due

@@ -34,8 +34,10 @@ loss_count = record { totals = record (totals_of []) { losses = 1 }; items = 1 }
 
 -- the counts of a block, each in 16 bits, the lowest first
 abbrev pub in_lanes : Outcome → ℕ
-in_lanes o = (if was_valid o then 1 else 0) + 2 ^ 16 * (if has_span 1 o then 1 else 0) + 2 ^ 32 * (if has_span 2 o then 1 else 0)
-    + 2 ^ 48 * (if has_span 3 o then 1 else 0) + 2 ^ 64 * (if has_span 4 o then 1 else 0) + 2 ^ 80 * (if has_span 5 o then 1 else 0)
+in_lanes o = (if was_valid o then 1 else 0) + 2 ^ 16 * (if has_span 1 o then 1 else 0)
+    + 2 ^ 32 * (if has_span 2 o then 1 else 0)
+    + 2 ^ 48 * (if has_span 3 o then 1 else 0) + 2 ^ 64 * (if has_span 4 o then 1 else 0)
+    + 2 ^ 80 * (if has_span 5 o then 1 else 0)
     + 2 ^ 96 * (if was_lost o then 1 else 0) + 2 ^ 112 * bits_inverted o
 
 -- the counts of `clean` whole groups and of other groups, acquisitions and losses, given the counts of the
@@ -44,7 +46,8 @@ abbrev pub counted : ℕ → ℕ → ℕ → ℕ → ℕ → ℕ → CountOf
 counted lanes clean groups complete acquired losses = record {
   totals = record {
     valid = lanes % 65536 + 4 * clean;
-    bursts = (lanes / 2 ^ 16 % 65536) ∷ (lanes / 2 ^ 32 % 65536) ∷ (lanes / 2 ^ 48 % 65536) ∷ (lanes / 2 ^ 64 % 65536)
+    bursts = (lanes / 2 ^ 16 % 65536) ∷ (lanes / 2 ^ 32 % 65536) ∷ (lanes / 2 ^ 48 % 65536)
+        ∷ (lanes / 2 ^ 64 % 65536)
         ∷ (lanes / 2 ^ 80 % 65536) ∷ [];
     lost = lanes / 2 ^ 96 % 65536;
     bits = lanes / 2 ^ 112 % 65536;
@@ -58,8 +61,10 @@ counted lanes clean groups complete acquired losses = record {
 
 -- lanes of 16 bits, none of which has more than n
 pub record AreLanes (lanes n : ℕ) : Type 0 where
-  pub sum : lanes ≡ lanes % 65536 + 2 ^ 16 * (lanes / 2 ^ 16 % 65536) + 2 ^ 32 * (lanes / 2 ^ 32 % 65536) + 2 ^ 48 * (lanes / 2 ^ 48 % 65536)
-      + 2 ^ 64 * (lanes / 2 ^ 64 % 65536) + 2 ^ 80 * (lanes / 2 ^ 80 % 65536) + 2 ^ 96 * (lanes / 2 ^ 96 % 65536) + 2 ^ 112 * (lanes / 2 ^ 112 % 65536)
+  pub sum : lanes ≡ lanes % 65536 + 2 ^ 16 * (lanes / 2 ^ 16 % 65536)
+      + 2 ^ 32 * (lanes / 2 ^ 32 % 65536) + 2 ^ 48 * (lanes / 2 ^ 48 % 65536)
+      + 2 ^ 64 * (lanes / 2 ^ 64 % 65536) + 2 ^ 80 * (lanes / 2 ^ 80 % 65536)
+      + 2 ^ 96 * (lanes / 2 ^ 96 % 65536) + 2 ^ 112 * (lanes / 2 ^ 112 % 65536)
   pub valid : lanes % 65536 ≤ n
   pub burst1 : lanes / 2 ^ 16 % 65536 ≤ n
   pub burst2 : lanes / 2 ^ 32 % 65536 ≤ n

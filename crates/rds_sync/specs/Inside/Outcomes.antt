@@ -54,7 +54,8 @@ has_info o = false
 abbrev pub group_totals : List Outcome → Totals
 group_totals os = record {
   valid = count_by was_valid os;
-  bursts = count_by (has_span 1) os ∷ count_by (has_span 2) os ∷ count_by (has_span 3) os ∷ count_by (has_span 4) os ∷ count_by (has_span 5) os ∷ [];
+  bursts = count_by (has_span 1) os ∷ count_by (has_span 2) os ∷ count_by (has_span 3) os
+      ∷ count_by (has_span 4) os ∷ count_by (has_span 5) os ∷ [];
   lost = count_by was_lost os;
   bits = sum_by bits_inverted os;
   groups = 1;

@@ -49,7 +49,8 @@ module _ (b : Signal) (rules : RuleNumbers) where
 
   -- an item's number in the first of these spans, if there is one
   abbrev pub IsInFirst : List Span → ℕ → Type 0
-  IsInFirst spans left = (span : Span) (others : List Span) → spans ≡ span ∷ others → left < length (items_of span)
+  IsInFirst spans left = (span : Span) (others : List Span) → spans ≡ span ∷ others
+      → left < length (items_of span)
 
   -- a span that is one of these, or would be the next, and how many items come before it
   pub record IsStart (spans : List Span) (start : Start) : Type 0 where

@@ -12,7 +12,8 @@ use Rattle.rds_sync.specs.Step.{run}
 
 -- the spans give a list up to place a, at which the run was in state s; at `place` it is in state t, and the
 -- counts, added up or not yet, are of all that it gave
-pub record IsTally (b : Signal) (rules : RuleNumbers) (list : List Item) (a : ℕ) (s : State) (place : ℕ) (t : State) (first counts : CountOf) : Type 0 where
+pub record IsTally (b : Signal) (rules : RuleNumbers) (list : List Item) (a : ℕ) (s : State) (place : ℕ)
+    (t : State) (first counts : CountOf) : Type 0 where
   pub start : IsLawful rules a s
   pub order : a ≤ place
   pub within : place ≤ length_of b

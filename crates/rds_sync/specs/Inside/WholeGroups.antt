@@ -17,14 +17,17 @@ abbrev pub outcomes_at : Signal → RuleNumbers → ℕ → List Outcome
 outcomes_at b rules due = map outcome_of (group b rules 1 4 (due + 78)).blocks
 
 -- that group, none of whose blocks loses the lock, and the loss history after it
-pub record IsWhole (b : Signal) (rules : RuleNumbers) (due before : ℕ) (given : Group) (after : ℕ) : Type 0 where
+pub record IsWhole (b : Signal) (rules : RuleNumbers) (due before : ℕ) (given : Group)
+    (after : ℕ) : Type 0 where
   pub given_is : given ≡ group b rules 1 4 (due + 78)
   pub bad_is : after ≡ bad_over rules.loss (outcomes_at b rules due) before 1 4
   pub lawful : IsLawfulBad rules.loss after
-  pub few : (k : ℕ) → k < 4 → are_too_many rules.loss (bad_over rules.loss (outcomes_at b rules due) before 1 (k + 1)) ≡ false
+  pub few : (k : ℕ) → k < 4 → are_too_many rules.loss
+      (bad_over rules.loss (outcomes_at b rules due) before 1 (k + 1)) ≡ false
 
 -- the lock came from between two groups to between two others, and the items of the groups in between were appended
-pub record HasGiven (b : Signal) (rules : RuleNumbers) (lock : Lock) (to : ℕ) (before : List Item) (now : Lock) (after : List Item) : Type 0 where
+pub record HasGiven (b : Signal) (rules : RuleNumbers) (lock : Lock) (to : ℕ) (before : List Item)
+    (now : Lock) (after : List Item) : Type 0 where
   pub between : (now.number ≡ 1) × (now.first ≡ 1)
   pub few_bad : IsLawfulBad rules.loss now.bad
   pub from_on : lock.due ≤ now.due

@@ -15,7 +15,8 @@ nibble (corrected s n) = kind_of_burst s n
 -- the outcomes in the order of these numbers
 abbrev pub outcomes_in_order : List Outcome
 outcomes_in_order =
-    missing ∷ valid ∷ lost ∷ corrected 1 1 ∷ corrected 2 2 ∷ corrected 3 2 ∷ corrected 3 3 ∷ corrected 4 2 ∷ corrected 4 3 ∷ corrected 4 4
+    missing ∷ valid ∷ lost ∷ corrected 1 1 ∷ corrected 2 2 ∷ corrected 3 2 ∷ corrected 3 3 ∷ corrected 4 2
+    ∷ corrected 4 3 ∷ corrected 4 4
     ∷ corrected 5 2 ∷ corrected 5 3 ∷ corrected 5 4 ∷ corrected 5 5 ∷ []
 
 -- the outcome that four bits say; 14 and 15 say nothing
@@ -38,4 +39,5 @@ word_of_blocks (o ∷ os) = nibble o + 16 * word_of_blocks os
 
 -- the four blocks that a word says
 abbrev pub blocks_in : ℕ → List Outcome
-blocks_in w = outcome_at (w % 16) ∷ outcome_at (w / 16 % 16) ∷ outcome_at (w / 256 % 16) ∷ outcome_at (w / 4096) ∷ []
+blocks_in w = outcome_at (w % 16) ∷ outcome_at (w / 16 % 16) ∷ outcome_at (w / 256 % 16)
+    ∷ outcome_at (w / 4096) ∷ []
