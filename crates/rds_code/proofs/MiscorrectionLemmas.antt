@@ -1,11 +1,13 @@
 -- How many error masks of two, three and four bit errors miscorrect a block: the remainder and the span of the mask decide. The counts are
--- computed, mask by mask.
-use Rattle.std.proofs.Common.{◌≡◌, ◌≢◌, ◌⊎◌, ℕ, zero, suc, ◌+◌, ◌-◌, ◌^◌, ◌<◌, ◌≤◌, List, [], ◌∷◌, ◌++◌, length, get_or, map, Bool, true, false, cond, not, ◌&&◌, refl, sym, ap, ap₂, ◌∙◌, arith, inl, inr, eqb, leb, subst, bit_xor, lit<}
+-- computed, bit by bit.
+use Rattle.std.proofs.Common.{◌≡◌, ◌≢◌, ◌⊎◌, ℕ, zero, suc, ◌+◌, ◌-◌, ◌*◌, ◌^◌, ◌<◌, ◌≤◌, List, [], ◌∷◌, ◌++◌, length, get_or, map, Bool, true, false, cond, not, ◌&&◌, refl, sym, ap, ap₂, ◌∙◌, arith, inl, inr, eqb, leb, subst, bit_xor, lit<}
 use Rattle.std.specs.Int.{bit_at}
 use Rattle.std.specs.List.{filter}
-use Rattle.std.specs.Int.Bits.{xor_assoc, xor_self, xor_zero_r}
+use Rattle.std.proofs.Math.Nat.{pow-suc}
+use Rattle.std.proofs.Math.Pow.{pow_pos}
+use Rattle.std.specs.Int.Bits.{xor_assoc, xor_self, xor_zero_r, xor_shifted}
 use Rattle.std.specs.Int.Count.{count_leading_zeros, count_trailing_zeros, ones, ones-le}
-use Rattle.std.proofs.lemmas.List.{get_or_append_left}
+use Rattle.std.proofs.lemmas.List.{get_or_append_left, get_or-append-add}
 use Rattle.std.proofs.lemmas.Nat.{xor_comm, xor_lt}
 use Rattle.std.proofs.lemmas.Bool.{cases_Bool, cases_eq, cases_lt, eq-eqb, ne_eqb, le-leb, leb-true}
 use Rattle.rds_code.specs.declared.offset.Offset.{Offset}
@@ -21,7 +23,7 @@ use Rattle.rds_code.specs.Reading.{information, IsValid, wanted_offsets, correct
 use Rattle.rds_code.specs.Encoding.{IsBlockOf}
 use Rattle.rds_code.specs.Correction.{alone, other_version}
 use Rattle.rds_code.specs.Detection.{error_masks, is_miscorrection, miscorrections, miscorrected, miscorrected_third, miscorrected_either, CountsAllMiscorrections}
-use Rattle.rds_code.proofs.RemainderLemmas.{twice}
+use Rattle.rds_code.proofs.RemainderLemmas.{rem-short, rem-xor, twice}
 use Rattle.rds_code.proofs.Membership.{is_among, all_below, passes_below, among_map, from_map, filter_agree}
 use Rattle.rds_code.proofs.BurstLemmas.{burst_is_one, longer, limit_is_among, among_limit_is}
 use Rattle.rds_code.proofs.CorrectionLemmas.{undone, damaged, became, word_offset, alone_wanted, own_or_other, other_number}
@@ -358,15 +360,14 @@ add [] ys = []
 add (x ∷ xs) [] = []
 add (x ∷ xs) (y ∷ ys) = (x + y) ∷ add xs ys
 
--- how many of the masks each test passes: each mask is divided once for all tests
-counts : List Test → List ℕ → List ℕ
-counts ts [] = map (λ (t : Test). 0) ts
-counts ts (e ∷ es) = add (map (λ (t : Test). cond (t (rem e) (span e)) 1 0) ts) (counts ts es)
-
 add-maps : (f g h : Test → ℕ) (ts : List Test) → ((t : Test) → f t + g t ≡ h t) → add (map f ts) (map g ts) ≡ map h ts
 unfolding add
 add-maps f g h [] each = refl
 add-maps f g h (t ∷ ts) each = ap₂ (λ (x : ℕ) (xs : List ℕ). x ∷ xs) (each t) (add-maps f g h ts each)
+
+same_maps : (f g : Test → ℕ) (ts : List Test) → ((t : Test) → f t ≡ g t) → map f ts ≡ map g ts
+same_maps f g [] each = refl
+same_maps f g (t ∷ ts) each = ap₂ (λ (x : ℕ) (xs : List ℕ). x ∷ xs) (each t) (same_maps f g ts each)
 
 one_more : (p : ℕ → Bool) (e : ℕ) (es : List ℕ) → cond (p e) 1 0 + length (filter p es) ≡ length (filter p (e ∷ es))
 one_more p e es = elim (cases_Bool (p e)) [
@@ -374,93 +375,172 @@ one_more p e es = elim (cases_Bool (p e)) [
   | inr dropped ↦ ap (λ (b : Bool). cond b 1 0 + length (filter p es)) dropped ∙ omega arith ∙ sym (ap (λ (b : Bool). length (cond b (e ∷ filter p es) (filter p es))) dropped)
 ]
 
+-- how many of the masks a test passes
 passed : List ℕ → Test → ℕ
 passed es t = length (filter (λ e. t (rem e) (span e)) es)
 
-counts_are : (ts : List Test) (es : List ℕ) → counts ts es ≡ map (passed es) ts
-unfolding counts passed
-counts_are ts [] = refl
-counts_are ts (e ∷ es) =
-    ap (add (map (λ (t : Test). cond (t (rem e) (span e)) 1 0) ts)) (counts_are ts es)
-    ∙ add-maps (λ (t : Test). cond (t (rem e) (span e)) 1 0) (passed es) (passed (e ∷ es)) ts (λ t. one_more (λ d. t (rem d) (span d)) e es)
+-- The masks are not listed but walked, bit by bit from the highest on, with the sum of the remainders of their bits: no mask is divided.
 
+-- each of the k lowest bits of a block, from the highest on, and its remainder
+bits_below : ℕ → List (ℕ × ℕ)
+bits_below zero = []
+bits_below (suc k) = (2 ^ k, rem (2 ^ k)) ∷ bits_below k
+
+-- how many masks each test passes that have the bits of e, whose remainder is r, and n of these bits
+walked : List Test → ℕ → List (ℕ × ℕ) → ℕ → ℕ → List ℕ
+walked ts zero bits e r = map (λ (t : Test). cond (t r (span e)) 1 0) ts
+walked ts (suc n) [] e r = map (λ (t : Test). 0) ts
+walked ts (suc n) (bit ∷ bits) e r = add (walked ts (suc n) bits e r) (walked ts n bits (bit.0 + e) (bit_xor bit.1 r))
+
+-- masks below bit k are added to e without a carry
+NoCarry : ℕ → ℕ → Type 0
+NoCarry k e = (d : ℕ) → d < 2 ^ k → rem (d + e) ≡ bit_xor (rem d) (rem e)
+
+no_carry_below : (k e : ℕ) → NoCarry (suc k) e → NoCarry k e
+unfolding NoCarry
+no_carry_below k e above d small = above d (omega (arith, small, pow-suc 2 k))
+
+no_carry_at : (k e : ℕ) → NoCarry (suc k) e → rem (2 ^ k + e) ≡ bit_xor (rem (2 ^ k)) (rem e)
+unfolding NoCarry
+no_carry_at k e above = above (2 ^ k) (omega (arith, pow-suc 2 k, pow_pos k))
+
+no_carry_with : (k e : ℕ) → NoCarry (suc k) e → NoCarry k (2 ^ k + e)
+unfolding NoCarry
+no_carry_with k e above d small =
+    let order : d + (2 ^ k + e) ≡ 2 ^ k + d + e = omega arith in
+    let one : 2 ^ k + d ≡ 1 * 2 ^ k + d = omega arith in
+    let bit : 1 * 2 ^ k ≡ 2 ^ k = omega arith in
+    let parts : rem (2 ^ k + d) ≡ bit_xor (rem (2 ^ k)) (rem d) =
+    ap rem (one ∙ sym (xor_shifted 1 k d small) ∙ ap (λ (n : ℕ). bit_xor n d) bit) ∙ rem-xor (2 ^ k) d in
+    ap rem order
+    ∙ above (2 ^ k + d) (omega (arith, small, pow-suc 2 k))
+    ∙ ap (λ (n : ℕ). bit_xor n (rem e)) (parts ∙ xor_comm (rem (2 ^ k)) (rem d))
+    ∙ xor_assoc (rem d) (rem (2 ^ k)) (rem e)
+    ∙ ap (bit_xor (rem d)) (sym (no_carry_at k e above))
+
+no_carry_zero : (k : ℕ) → NoCarry k 0
+unfolding NoCarry
+no_carry_zero k d small =
+    let same : d + 0 ≡ d = omega arith in
+    ap rem same ∙ sym (xor_zero_r (rem d)) ∙ ap (bit_xor (rem d)) (sym (rem-short 0 (lit< tt)))
+
+-- the masks of a list that pass, and of another whose masks are those of a third
+split : (p : ℕ → Bool) (f g h : ℕ → ℕ) → ((d : ℕ) → f (g d) ≡ h d) → (xs ys : List ℕ)
+    → length (filter p (map f xs)) + length (filter p (map h ys)) ≡ length (filter p (map f (xs ++ map g ys)))
+split p f g h agree [] ys =
+    let none : 0 + length (filter p (map h ys)) ≡ length (filter p (map h ys)) = omega arith in
+    none ∙ ap (λ (zs : List ℕ). length (filter p zs)) (fused ys)
+  where
+    fused : (ys : List ℕ) → map h ys ≡ map f (map g ys)
+    fused [] = refl
+    fused (y ∷ ys) = ap₂ (λ (z : ℕ) (zs : List ℕ). z ∷ zs) (sym (agree y)) (fused ys)
+split p f g h agree (x ∷ xs) ys =
+    omega (arith, one_more p (f x) (map f xs), one_more p (f x) (map f (xs ++ map g ys)), split p f g h agree xs ys)
+
+walked_are : (ts : List Test) (n k e r : ℕ) → NoCarry k e → r ≡ rem e
+    → walked ts n (bits_below k) e r ≡ map (passed (map (λ d. e + d) (error_masks n k))) ts
+unfolding walked passed bits_below
+walked_are ts zero k e r above is =
+    same_maps (λ t. cond (t r (span e)) 1 0) (passed ((e + 0) ∷ [])) ts (λ t.
+    let none : e ≡ e + 0 = omega arith in
+    let nothing : cond (t r (span e)) 1 0 ≡ cond (t r (span e)) 1 0 + 0 = omega arith in
+    nothing
+    ∙ ap (λ (m : ℕ). cond (t m (span e)) 1 0 + 0) is
+    ∙ ap (λ (m : ℕ). cond (t (rem m) (span m)) 1 0 + 0) none
+    ∙ one_more (λ d. t (rem d) (span d)) (e + 0) [])
+walked_are ts (suc n) zero e r above is = refl
+walked_are ts (suc n) (suc k) e r above is =
+    let with_bit : bit_xor (rem (2 ^ k)) r ≡ rem (2 ^ k + e) = ap (bit_xor (rem (2 ^ k))) is ∙ sym (no_carry_at k e above) in
+    ap₂ add (walked_are ts (suc n) k e r (no_carry_below k e above) is)
+    (walked_are ts n k (2 ^ k + e) (bit_xor (rem (2 ^ k)) r) (no_carry_with k e above) with_bit)
+    ∙ add-maps (passed (map (λ d. e + d) (error_masks (suc n) k))) (passed (map (λ d. 2 ^ k + e + d) (error_masks n k)))
+    (passed (map (λ d. e + d) (error_masks (suc n) (suc k)))) ts (λ t.
+    split (λ d. t (rem d) (span d)) (λ d. e + d) (λ d. 2 ^ k + d) (λ d. 2 ^ k + e + d) (λ d. omega arith) (error_masks (suc n) k) (error_masks n k))
+
+-- block 3 differs from the others only at limit 5
 all_limits : List ℕ
 all_limits = 0 ∷ 1 ∷ 2 ∷ 3 ∷ 4 ∷ 5 ∷ []
 
--- block 3 differs from the others only at limit 5
-own_tests : List Test
-own_tests = map (own_test 0) all_limits ++ own_test 0x238 5 ∷ []
+all_tests : List Test
+unfolding all_limits
+all_tests = map (own_test 0) all_limits ++ own_test 0x238 5 ∷ map either_test all_limits
 
-either_tests : List Test
-either_tests = map either_test all_limits
-
--- a row of the others' table, and the last count of block 3
+-- a row of the others' table, the last count of block 3 if one offset is wanted, and its row if both are
 own_row : ℕ → List ℕ
 own_row k = get_or miscorrected k [] ++ get_or (get_or miscorrected_third k []) 5 0 ∷ []
 
-own_two : counts own_tests (error_masks 2 26) ≡ own_row 0
-unfolding own_row own_tests all_limits counts add own_test is_near near rem count_leading_zeros count_trailing_zeros
-own_two = refl
+all_row : ℕ → List ℕ
+all_row k = own_row k ++ get_or miscorrected_either k []
 
-own_three : counts own_tests (error_masks 3 26) ≡ own_row 1
-unfolding own_row own_tests all_limits counts add own_test is_near near rem count_leading_zeros count_trailing_zeros
-own_three = refl
+-- the bits of a block
+block_bits : List (ℕ × ℕ)
+block_bits =
+    (0x2000000, 0x077) ∷ (0x1000000, 0x2E7) ∷ (0x0800000, 0x3AF) ∷ (0x0400000, 0x30B) ∷ (0x0200000, 0x359)
+    ∷ (0x0100000, 0x370) ∷ (0x0080000, 0x1B8) ∷ (0x0040000, 0x0DC) ∷ (0x0020000, 0x06E) ∷ (0x0010000, 0x037)
+    ∷ (0x0008000, 0x2C7) ∷ (0x0004000, 0x3BF) ∷ (0x0002000, 0x303) ∷ (0x0001000, 0x35D) ∷ (0x0000800, 0x372)
+    ∷ (0x0000400, 0x1B9) ∷ (0x0000200, 0x200) ∷ (0x0000100, 0x100) ∷ (0x0000080, 0x080) ∷ (0x0000040, 0x040)
+    ∷ (0x0000020, 0x020) ∷ (0x0000010, 0x010) ∷ (0x0000008, 0x008) ∷ (0x0000004, 0x004) ∷ (0x0000002, 0x002)
+    ∷ (0x0000001, 0x001) ∷ []
 
-own_four : counts own_tests (error_masks 4 26) ≡ own_row 2
-unfolding own_row own_tests all_limits counts add own_test is_near near rem count_leading_zeros count_trailing_zeros
-own_four = refl
+bits_are : bits_below 26 ≡ block_bits
+unfolding bits_below block_bits rem
+bits_are = refl
 
-either_two : counts either_tests (error_masks 2 26) ≡ get_or miscorrected_either 0 []
-unfolding either_tests all_limits counts add either_test one_of is_near near rem count_leading_zeros count_trailing_zeros
-either_two = refl
+two_bits : walked all_tests 2 block_bits 0 0 ≡ all_row 0
+unfolding all_row own_row all_tests all_limits block_bits walked add own_test either_test one_of is_near near count_leading_zeros count_trailing_zeros
+two_bits = refl
 
-either_three : counts either_tests (error_masks 3 26) ≡ get_or miscorrected_either 1 []
-unfolding either_tests all_limits counts add either_test one_of is_near near rem count_leading_zeros count_trailing_zeros
-either_three = refl
+three_bits : walked all_tests 3 block_bits 0 0 ≡ all_row 1
+unfolding all_row own_row all_tests all_limits block_bits walked add own_test either_test one_of is_near near count_leading_zeros count_trailing_zeros
+three_bits = refl
 
-either_four : counts either_tests (error_masks 4 26) ≡ get_or miscorrected_either 2 []
-unfolding either_tests all_limits counts add either_test one_of is_near near rem count_leading_zeros count_trailing_zeros
-either_four = refl
+four_bits : walked all_tests 4 block_bits 0 0 ≡ all_row 2
+unfolding all_row own_row all_tests all_limits block_bits walked add own_test either_test one_of is_near near count_leading_zeros count_trailing_zeros
+four_bits = refl
 
-own_counts : (n : ℕ) → 2 ≤ n → n ≤ 4 → counts own_tests (error_masks n 26) ≡ own_row (n - 2)
-own_counts zero least most = absurd (omega arith)
-own_counts (suc zero) least most = absurd (omega arith)
-own_counts (suc (suc zero)) least most = own_two
-own_counts (suc (suc (suc zero))) least most = own_three
-own_counts (suc (suc (suc (suc zero)))) least most = own_four
-own_counts (suc (suc (suc (suc (suc n))))) least most = absurd (omega arith)
+walked_counts : (n : ℕ) → 2 ≤ n → n ≤ 4 → walked all_tests n block_bits 0 0 ≡ all_row (n - 2)
+walked_counts zero least most = absurd (omega arith)
+walked_counts (suc zero) least most = absurd (omega arith)
+walked_counts (suc (suc zero)) least most = two_bits
+walked_counts (suc (suc (suc zero))) least most = three_bits
+walked_counts (suc (suc (suc (suc zero)))) least most = four_bits
+walked_counts (suc (suc (suc (suc (suc n))))) least most = absurd (omega arith)
 
-either_counts : (n : ℕ) → 2 ≤ n → n ≤ 4 → counts either_tests (error_masks n 26) ≡ get_or miscorrected_either (n - 2) []
-either_counts zero least most = absurd (omega arith)
-either_counts (suc zero) least most = absurd (omega arith)
-either_counts (suc (suc zero)) least most = either_two
-either_counts (suc (suc (suc zero))) least most = either_three
-either_counts (suc (suc (suc (suc zero)))) least most = either_four
-either_counts (suc (suc (suc (suc (suc n))))) least most = absurd (omega arith)
+from_zero : (es : List ℕ) → map (λ d. 0 + d) es ≡ es
+from_zero [] = refl
+from_zero (e ∷ es) = ap₂ (λ (x : ℕ) (xs : List ℕ). x ∷ xs) (omega arith) (from_zero es)
+
+-- how many masks each test passes
+all_counts : (n : ℕ) → 2 ≤ n → n ≤ 4 → map (passed (error_masks n 26)) all_tests ≡ all_row (n - 2)
+all_counts n least most =
+    ap (λ (es : List ℕ). map (passed es) all_tests) (sym (from_zero (error_masks n 26)))
+    ∙ sym (walked_are all_tests n 26 0 0 (no_carry_zero 26) (sym (rem-short 0 (lit< tt))))
+    ∙ ap (λ (bits : List (ℕ × ℕ)). walked all_tests n bits 0 0) bits_are
+    ∙ walked_counts n least most
 
 -- the count of one test is its own of all of them
-own_passed : (es : List ℕ) (limit : ℕ) → limit ≤ 5 → passed es (own_test 0 limit) ≡ get_or (counts own_tests es) limit 0
-unfolding own_tests all_limits
-own_passed es zero few = sym (ap (λ (xs : List ℕ). get_or xs 0 0) (counts_are own_tests es))
-own_passed es (suc zero) few = sym (ap (λ (xs : List ℕ). get_or xs 1 0) (counts_are own_tests es))
-own_passed es (suc (suc zero)) few = sym (ap (λ (xs : List ℕ). get_or xs 2 0) (counts_are own_tests es))
-own_passed es (suc (suc (suc zero))) few = sym (ap (λ (xs : List ℕ). get_or xs 3 0) (counts_are own_tests es))
-own_passed es (suc (suc (suc (suc zero)))) few = sym (ap (λ (xs : List ℕ). get_or xs 4 0) (counts_are own_tests es))
-own_passed es (suc (suc (suc (suc (suc zero))))) few = sym (ap (λ (xs : List ℕ). get_or xs 5 0) (counts_are own_tests es))
+own_passed : (es : List ℕ) (limit : ℕ) → limit ≤ 5 → passed es (own_test 0 limit) ≡ get_or (map (passed es) all_tests) limit 0
+unfolding all_tests all_limits
+own_passed es zero few = refl
+own_passed es (suc zero) few = refl
+own_passed es (suc (suc zero)) few = refl
+own_passed es (suc (suc (suc zero))) few = refl
+own_passed es (suc (suc (suc (suc zero)))) few = refl
+own_passed es (suc (suc (suc (suc (suc zero))))) few = refl
 own_passed es (suc (suc (suc (suc (suc (suc limit)))))) few = absurd (omega arith)
 
-third_passed : (es : List ℕ) → passed es (own_test 0x238 5) ≡ get_or (counts own_tests es) 6 0
-unfolding own_tests all_limits
-third_passed es = sym (ap (λ (xs : List ℕ). get_or xs 6 0) (counts_are own_tests es))
+third_passed : (es : List ℕ) → passed es (own_test 0x238 5) ≡ get_or (map (passed es) all_tests) 6 0
+unfolding all_tests all_limits
+third_passed es = refl
 
-either_passed : (es : List ℕ) (limit : ℕ) → limit ≤ 5 → passed es (either_test limit) ≡ get_or (counts either_tests es) limit 0
-unfolding either_tests all_limits
-either_passed es zero few = sym (ap (λ (xs : List ℕ). get_or xs 0 0) (counts_are either_tests es))
-either_passed es (suc zero) few = sym (ap (λ (xs : List ℕ). get_or xs 1 0) (counts_are either_tests es))
-either_passed es (suc (suc zero)) few = sym (ap (λ (xs : List ℕ). get_or xs 2 0) (counts_are either_tests es))
-either_passed es (suc (suc (suc zero))) few = sym (ap (λ (xs : List ℕ). get_or xs 3 0) (counts_are either_tests es))
-either_passed es (suc (suc (suc (suc zero)))) few = sym (ap (λ (xs : List ℕ). get_or xs 4 0) (counts_are either_tests es))
-either_passed es (suc (suc (suc (suc (suc zero))))) few = sym (ap (λ (xs : List ℕ). get_or xs 5 0) (counts_are either_tests es))
+either_passed : (es : List ℕ) (limit : ℕ) → limit ≤ 5 → passed es (either_test limit) ≡ get_or (map (passed es) all_tests) (7 + limit) 0
+unfolding all_tests all_limits
+either_passed es zero few = refl
+either_passed es (suc zero) few = refl
+either_passed es (suc (suc zero)) few = refl
+either_passed es (suc (suc (suc zero))) few = refl
+either_passed es (suc (suc (suc (suc zero)))) few = refl
+either_passed es (suc (suc (suc (suc (suc zero))))) few = refl
 either_passed es (suc (suc (suc (suc (suc (suc limit)))))) few = absurd (omega arith)
 
 -- up to four bits no burst takes block 3 over to the other version
@@ -494,16 +574,31 @@ six (suc zero) few = refl
 six (suc (suc zero)) few = refl
 six (suc (suc (suc k))) few = absurd (omega arith)
 
-own_place : (k limit : ℕ) → k ≤ 2 → limit ≤ 5 → get_or (own_row k) limit 0 ≡ get_or (get_or miscorrected k []) limit 0
+seven : (k : ℕ) → k ≤ 2 → length (own_row k) ≡ 7
 unfolding own_row
-own_place k limit few short = get_or_append_left (get_or miscorrected k []) (get_or (get_or miscorrected_third k []) 5 0 ∷ []) 0 limit (omega (arith, six k few))
+seven zero few = refl
+seven (suc zero) few = refl
+seven (suc (suc zero)) few = refl
+seven (suc (suc (suc k))) few = absurd (omega arith)
 
-third_place : (k : ℕ) → k ≤ 2 → get_or (own_row k) 6 0 ≡ get_or (get_or miscorrected_third k []) 5 0
-unfolding own_row
+own_place : (k limit : ℕ) → k ≤ 2 → limit ≤ 5 → get_or (all_row k) limit 0 ≡ get_or (get_or miscorrected k []) limit 0
+unfolding all_row own_row
+own_place k limit few short =
+    get_or_append_left (own_row k) (get_or miscorrected_either k []) 0 limit (omega (arith, seven k few, short))
+    ∙ get_or_append_left (get_or miscorrected k []) (get_or (get_or miscorrected_third k []) 5 0 ∷ []) 0 limit (omega (arith, six k few, short))
+
+third_place : (k : ℕ) → k ≤ 2 → get_or (all_row k) 6 0 ≡ get_or (get_or miscorrected_third k []) 5 0
+unfolding all_row own_row
 third_place zero few = refl
 third_place (suc zero) few = refl
 third_place (suc (suc zero)) few = refl
 third_place (suc (suc (suc k))) few = absurd (omega arith)
+
+either_place : (k limit : ℕ) → k ≤ 2 → get_or (all_row k) (7 + limit) 0 ≡ get_or (get_or miscorrected_either k []) limit 0
+unfolding all_row
+either_place k limit few =
+    ap (λ (n : ℕ). get_or (own_row k ++ get_or miscorrected_either k []) (n + limit) 0) (sym (seven k few))
+    ∙ get_or-append-add (own_row k) (get_or miscorrected_either k []) limit 0
 
 -- the rows agree below the last limit
 rows_agree : (k limit : ℕ) → k ≤ 2 → limit ≤ 4 → get_or (get_or miscorrected k []) limit 0 ≡ get_or (get_or miscorrected_third k []) limit 0
@@ -563,16 +658,17 @@ counts_all_miscorrections w info o limit n h few least most = record {
         ap (λ (l : ℕ). miscorrections w info o (alone o) l n) five
         ∙ by_test w info 5 n o (alone o) (own_test 0x238 5) h (omega arith) least (λ e inside pos. third_is w info e 5 o h inside (omega arith) pos own)
         ∙ third_passed (error_masks n 26)
-        ∙ ap (λ (xs : List ℕ). get_or xs 6 0) (own_counts n least most)
+        ∙ ap (λ (xs : List ℕ). get_or xs 6 0) (all_counts n least most)
         ∙ third_place (n - 2) (omega (arith, most))
         ∙ ap (λ (l : ℕ). get_or (get_or miscorrected_third (n - 2) []) l 0) (sym five)
   ];
   either = λ own.
       by_test w info limit n o Either (either_test limit) h few least (λ e inside pos. either_is w info e limit o h inside few pos own)
       ∙ either_passed (error_masks n 26) limit few
-      ∙ ap (λ (xs : List ℕ). get_or xs limit 0) (either_counts n least most);
+      ∙ ap (λ (xs : List ℕ). get_or xs (7 + limit) 0) (all_counts n least most)
+      ∙ either_place (n - 2) limit (omega (arith, most));
 }
   where
     own_at : (limit : ℕ) → limit ≤ 5 → passed (error_masks n 26) (own_test 0 limit) ≡ get_or (get_or miscorrected (n - 2) []) limit 0
     own_at limit few =
-        own_passed (error_masks n 26) limit few ∙ ap (λ (xs : List ℕ). get_or xs limit 0) (own_counts n least most) ∙ own_place (n - 2) limit (omega (arith, most)) few
+        own_passed (error_masks n 26) limit few ∙ ap (λ (xs : List ℕ). get_or xs limit 0) (all_counts n least most) ∙ own_place (n - 2) limit (omega (arith, most)) few

@@ -30,7 +30,7 @@ use Rattle.rds_sync.specs.Loss.{IsLoss, bad_after, are_too_many}
 use Rattle.rds_sync.specs.Lawful.{IsLawful}
 use Rattle.rds_sync.specs.Step.{run, lock_of}
 use Rattle.rds_sync.specs.Report.{report_items}
-use Rattle.rds_sync.specs.Totals.{totals_of}
+use Rattle.rds_sync.specs.Totals.{by_span, totals_of}
 use Rattle.rds_sync.specs.Convergence.{IsSound, IsLastFour, sound_bits}
 
 -- ---- a group
@@ -234,9 +234,7 @@ masks_read g groups = slice_index g.damages 1 ∷ slice_index g.damages 2 ∷ sl
 abbrev pub totals_damaged : ℕ → List ℕ → Totals
 totals_damaged n masks = record {
   valid = count_by (λ e. e == 0) masks;
-  bursts = count_by (λ e. span e == 1) masks ∷ count_by (λ e. span e == 2) masks
-      ∷ count_by (λ e. span e == 3) masks
-      ∷ count_by (λ e. span e == 4) masks ∷ count_by (λ e. span e == 5) masks ∷ [];
+  bursts = by_span (λ s. count_by (λ e. span e == s) masks);
   lost = 0;
   bits = sum_by count_ones masks;
   groups = n;

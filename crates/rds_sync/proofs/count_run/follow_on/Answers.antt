@@ -8,7 +8,7 @@ use Rattle.rds_sync.specs.Inside.Due.{IsAfter}
 use Rattle.rds_sync.specs.Inside.Locks.{IsFollowed}
 use Rattle.rds_sync.specs.Inside.Words.{blocks_in}
 use Rattle.rds_sync.proofs.CountLemmas.{group-added, lost-added}
-use Rattle.rds_sync.proofs.DueLemmas.{items-inside, items-closed, items-lost, kept-next}
+use Rattle.rds_sync.proofs.DueLemmas.{items-inside, items-closed, items-lost, kept-next, step-due}
 use Rattle.rds_sync.proofs.GroupWords.{word-tells}
 use Rattle.rds_sync.proofs.count_run.follow_on.Goals as goal
 
@@ -61,3 +61,21 @@ returns-in-Lost-clause-counts c =
     lost-added c.args.counts.now c.add_group-in-Lost.new.self c.add_loss.new.self (group b rules lock.first lock.number lock.due) (blocks_in word) lock.due tells
     c.add_group-in-Lost.ensures c.add_loss.ensures
     ∙ ap (λ (is : List Item). added c.args.counts.now is) (sym (items-lost b rules lock good c.read_due-good.ensures.valid loses))
+
+pub returns-in-Inside-clause-state : goal.returns-in-Inside-clause-state
+returns-in-Inside-clause-state c =
+    let good = c.read_due-good.result in
+    let after = subst (λ (loss : Loss). IsAfter loss c.args.lock good c.after-due.result) c.loss-loss.ensures.value c.after-due.ensures in
+    sym (step-due c.args.reader.now c.args.rules.now c.args.lock good c.read_due-good.ensures.valid c.after-due.result after)
+
+pub returns-in-Closed-clause-state : goal.returns-in-Closed-clause-state
+returns-in-Closed-clause-state c =
+    let good = c.read_due-good.result in
+    let after = subst (λ (loss : Loss). IsAfter loss c.args.lock good c.after-due.result) c.loss-loss.ensures.value c.after-due.ensures in
+    sym (step-due c.args.reader.now c.args.rules.now c.args.lock good c.read_due-good.ensures.valid c.after-due.result after)
+
+pub returns-in-Lost-clause-state : goal.returns-in-Lost-clause-state
+returns-in-Lost-clause-state c =
+    let good = c.read_due-good.result in
+    let after = subst (λ (loss : Loss). IsAfter loss c.args.lock good c.after-due.result) c.loss-loss.ensures.value c.after-due.ensures in
+    sym (step-due c.args.reader.now c.args.rules.now c.args.lock good c.read_due-good.ensures.valid c.after-due.result after)
