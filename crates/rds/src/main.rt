@@ -5,9 +5,9 @@
 //! standard error names the refusal, and one warns of an option that is ignored.
 #![tactic(auto)]
 
-ghost use Rattle.std.specs.Prelude.{◌≡◌, IfOk, map, string_bytes};
+ghost use Rattle.std.specs.Prelude.{◌≡◌, IfOk, Ok, map, string_bytes};
 ghost use Rattle.std.specs.Process.{exit_status};
-ghost use Rattle.rds_tool.specs.CommandLine.{IsAskedOf, entries_of};
+ghost use Rattle.rds_tool.specs.CommandLine.{asked_by as the_asked_by, entries_of};
 ghost use Rattle.rds.specs.Session.{Answers, EndsWith, status_of};
 
 mod progress; // How far a job is.
@@ -80,7 +80,7 @@ fn given_words(rt: &HostRuntime) -> Result<Vec<String>, FaultKind> {
 
 /// The request of these words.
 fn asked_by(rt: &HostRuntime, given: &[String]) -> Result<Asked, CliFault>
-    ensures { IfOk result (IsAskedOf (entries_of (map string_bytes given.now))) }
+    ensures { IfOk result (λ asked. the_asked_by (entries_of (map string_bytes given.now)) ≡ Ok asked) }
 {
     match words_of(rt.alloc(), given) {
         Ok(words) => asked_of(rt.alloc(), words.as_slice()),

@@ -4,41 +4,57 @@ ghost use Rattle.std.specs.Prelude.{◌≡◌, IfSome, None};
 ghost use Rattle.rds_abi.specs.declared.refusal.Refusal.TheVariants.{OutOfMemory};
 
 use std::alloc::AllocError;
+use thiserror::Error;
 
 /// A refusal. Those of the decoder have the numbers and names that the program gives them; those of only the
 /// library have numbers from 64 on. None ever changes.
-#[derive(Clone, Copy, Debug, PartialEq, Eq)]
+#[derive(Clone, Copy, Debug, PartialEq, Eq, Error)]
 pub enum Refusal {
     /// The longest burst to be corrected is above 5 bits.
+    #[error("the burst limit is above 5")]
     BurstRange,
     /// The reach is not 1 to 8 blocks.
+    #[error("the reach is not 1 to 8")]
     ReachRange,
     /// The loss is not 1 to 64 blocks.
+    #[error("the loss is not 1 to 64")]
     LossRange,
     /// More bits were claimed than the bytes hold.
+    #[error("more bits than the bytes hold")]
     BitsPastBytes,
     /// A recording holds at most 2^36 bits.
+    #[error("more than 2^36 bits")]
     TooLong,
     /// Memory was refused.
+    #[error("out of memory")]
     OutOfMemory,
     /// The share is not `loss` of the last `of` blocks, 1 ≤ loss ≤ of ≤ 64.
+    #[error("the share is not 1 to 64 bad blocks of as many or more, up to 64")]
     ShareRange,
     /// The gaps of a recording each have a place, are within its bits, and begin at or after the end of the
     /// one before.
+    #[error("gaps that are empty, out of order or past the bits")]
     BadGaps,
     /// There is too little room for the items. How many there are was told.
+    #[error("too little room for the items")]
     SmallRoom,
     /// The state is none that a call can have left.
+    #[error("a state that no call left")]
     UnlawfulState,
     /// The places are no range of the recording.
+    #[error("places that are no range of the recording")]
     PlaceRange,
     /// A word has more than 26 bits.
+    #[error("a word of more than 26 bits")]
     BlockRange,
     /// A number that is none of an offset.
+    #[error("a number that is none of an offset")]
     OffsetRange,
     /// A number that is none of a refusal.
+    #[error("a number that is none of a refusal")]
     NoRefusal,
     /// A reserved field of the rules is not 0.
+    #[error("a reserved field that is not 0")]
     ReservedField,
 }
 

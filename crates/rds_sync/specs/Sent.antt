@@ -204,12 +204,10 @@ abbrev pub LockedGroupsAreListed : Type 0
 LockedGroupsAreListed = (b : Signal) (rules : RuleNumbers) → rules.burst ≤ 5
     → (place bad : ℕ) (groups : List SentGroup)
     → AreHeardDamaged b rules.burst place groups → KeepLock rules.loss bad (flat_map four_damages groups)
-    → run b rules (Locked (lock_of (place + 25) 1 bad 1)) place (104 * length groups)
-    ≡ (
-      Locked (lock_of (place + 104 * length groups + 25) 1
-          (bad_after_blocks rules.loss bad (flat_map four_damages groups)) 1),
-      items_damaged place groups,
-    )
+    → let end : ℕ = place + 104 * length groups in
+    let bad_then : ℕ = bad_after_blocks rules.loss bad (flat_map four_damages groups) in
+    run b rules (Locked (lock_of (place + 25) 1 bad 1)) place (104 * length groups)
+    ≡ (Locked (lock_of (end + 25) 1 bad_then 1), items_damaged place groups)
 
 -- A recording of damaged groups is decoded to the groups that were sent: if blocks 1 and 2 of the first group have no bit error, each other
 -- block has at most one burst within the limit, and the damage does not lose sync.

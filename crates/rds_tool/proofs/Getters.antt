@@ -1,97 +1,101 @@
 -- What the typed getters read, by the rows of a parse.
-use Rattle.std.proofs.Common.{◌≡◌, ◌≢◌, ◌⊎◌, inl, inr, arith, slice_index, ◌∙◌, ℕ, List, [], Bor, Option, Some, None, Result, Ok, Err, sym, subst, refl, codes, Bool, ap}
+use Rattle.std.proofs.Common.{◌<◌, ◌≤◌, ◌^◌, ◌≡◌, ◌⊎◌, inl, inr, arith, ◌∙◌, ℕ, List, [], Bool, Bor, Option, Some, None, Result, Ok, Err, sym, refl, codes, ap, true, false, if◌then◌else◌}
 use Rattle.std.specs.Global.{Vec}
 use Rattle.std.specs.Option.{ok_or, option_map}
-use Rattle.std.specs.Prelude.{IfSome, IfNone, IfErr, IfOk, find, option_and_then}
+use Rattle.std.specs.Prelude.{IfErr, IfOk, find, option_and_then}
 use Rattle.std.specs.Str.{bytes_eq}
 use Rattle.std.specs.Result.{result_ok}
 use Rattle.std.specs.declared.num.ParseIntError.{ParseIntError}
-use Rattle.std.specs.Str.Parse.{ExplainsUnsignedError, HasUnsignedDigitsIfOk, ParsesUnsigned}
-use Rattle.clap.specs.Words.{ReadsOne, Row, Text, TriesOne, first_value, matched_of, one_of, one_text, rows_of}
+use Rattle.std.specs.Str.Parse.{ExplainsUnsignedError, HasUnsignedDigitsIfOk, ParsesUnsigned, digits_value, without_leading_plus}
+use Rattle.clap.specs.ValueTests.{is_unsigned_in}
+use Rattle.clap.specs.Words.{ReadsOne, Row, Text, TriesOne, first_of, first_value, matched_of, one_of, one_text, rows_of}
 use Rattle.clap.specs.Facts.{Entry}
 use Rattle.clap.specs.Walk.{row_of}
+use Rattle.clap.specs.declared.builder.value_parser.ValueParser.TheVariants as parser
 use Rattle.clap.specs.declared.parser.matches.Found.{Found}
 use Rattle.clap.specs.declared.parser.matches.MatchedArg.{MatchedArg}
+use Rattle.clap.proofs.ValueTestLemmas.{Accepts-accepts, accepts-Accepts}
 use Rattle.clap.proofs.WalkLemmas.{find_row, first_value-rows, one_text-rows}
 use Rattle.clap.specs.declared.parser.matches.ValueSource.{ValueSource}
-use Rattle.rds_sync.specs.declared.loss.Loss.{Loss}
-use Rattle.rds_sync.specs.declared.loss.Loss.TheVariants.{Run, Share}
-use Rattle.rds_tool.specs.CommandLine.{FitNoInput, FitNoStream, GivesNoRuled, GivesNothing, IsFlag, IsJob, IsRequest, MaySpell, Reports, gaps_asked_for, gaps_spelled, is_given, is_of_words, Spells, SpellsLoss}
+use Rattle.rds_tool.specs.CommandLine.{gaps_asked_for, gaps_spelled, if_given, is_given, is_of_words, is_true, number_of, number_up_to}
 use Rattle.rds_tool.specs.GapText.{gaps_of}
 use Rattle.rds_tool.specs.declared.fault.NoJob.{NoJob}
-use Rattle.rds_tool.specs.declared.fault.NoJob.TheVariants.{Entries, Gaps, Memory}
-use Rattle.rds_tool.specs.declared.job.Job.{Job}
-use Rattle.rds_tool.specs.declared.job.Job.TheVariants.{Encode, List as ListJob, Scan, Totals}
-use Rattle.rds_tool.specs.declared.job.Request.{Request}
-use Rattle.rds_tool.specs.declared.job.Request.TheVariants.{Job as AskedJob, Follow}
+use Rattle.rds_tool.specs.declared.fault.NoJob.TheVariants.{Gaps, Memory}
 
 -- the way in which the unsigned types of std read a number of this many binary digits
 abbrev pub reads_unsigned : ℕ → Text → Result ℕ ParseIntError → Type 0
 reads_unsigned width text r = ParsesUnsigned width 10 text r × ExplainsUnsignedError 10 text r × HasUnsignedDigitsIfOk text r
 
-pub flag_rows : (f : Found) (id : Text) (b : Bool) → IsFlag (one_text f id) b → IsFlag (one_of id (rows_of f)) b
-flag_rows f id b h = subst (λ (o : Option Text). IsFlag o b) (one_text-rows f id) h
+-- ---- numbers
 
-spelled : (width : ℕ) (t : Text) (n : ℕ) → reads_unsigned width t (Ok n) → Spells width (Some t) n
-spelled width t n h = (h.0.0.0, h.0.0.1, h.0.1)
+module _ (width most : ℕ) (below : (n : ℕ) → n < 2 ^ width → (n < 2 ^ 64) × (n ≤ most)) (above : (n : ℕ) → n ≤ most → n < 2 ^ width) where
+  read : (text : Text) (r : Result ℕ ParseIntError) → reads_unsigned width text r → result_ok r ≡ number_up_to most text
+  read text (Ok n) h =
+      let fits = below _ h.0.0.1 in
+      let taken : is_unsigned_in 0 most text ≡ true = Accepts-accepts false (parser.Unsigned 0 most) text (h.0.0.0, fits.0, omega arith, fits.1) in
+      rw (taken, h.0.1) refl
+  read text (Err e) h = by (is_unsigned_in 0 most text) refl
+    where
+      by : (b : Bool) → is_unsigned_in 0 most text ≡ b → None ≡ (if b then Some (digits_value 10 (without_leading_plus text)) else None)
+      by true taken = let is = accepts-Accepts false (parser.Unsigned 0 most) text taken in absurd (h.0 (is.0, above _ is.3))
+      by false outside = refl
 
-refused : (width : ℕ) (t : Text) (e : ParseIntError) → reads_unsigned width t (Err e) → (n : ℕ) → Spells width (Some t) n → ⊥
-refused width t e h n s = h.0 (s.0, s.1)
+  number_at : (o : Option Text) (r : Option ℕ) → (o ≡ None → r ≡ None) → ((t : Text) → o ≡ Some t → ReadsOne (reads_unsigned width) t r)
+      → r ≡ option_and_then (number_up_to most) o
+  number_at None r none value = none refl
+  number_at (Some t) (Some n) none value = read t (Ok n) (value t refl)
+  number_at (Some t) None none value = let error = value t refl in read t (Err error.0) error.1
 
-may_at : (width : ℕ) (o : Option Text) (r : Result (Option ℕ) ParseIntError)
-    → (o ≡ None → r ≡ Ok None) → ((t : Text) → o ≡ Some t → TriesOne (reads_unsigned width) t r) → IfOk r (λ n. MaySpell width o n)
-may_at width o (Err e) none value = tt
-may_at width None (Ok None) none value = refl
-may_at width None (Ok (Some n)) none value = cc (none refl)
-may_at width (Some t) (Ok None) none value = absurd (value t refl)
-may_at width (Some t) (Ok (Some n)) none value = spelled width t n (value t refl)
+  given_at : (o : Option Text) (r : Result (Option ℕ) ParseIntError) → (o ≡ None → r ≡ Ok None) → ((t : Text) → o ≡ Some t → TriesOne (reads_unsigned width) t r)
+      → result_ok r ≡ if_given most o
+  given_at None r none value = ap result_ok (none refl)
+  given_at (Some t) (Ok (Some n)) none value = ap (option_map (λ (k : ℕ). Some k)) (read t (Ok n) (value t refl))
+  given_at (Some t) (Ok None) none value = absurd (value t refl)
+  given_at (Some t) (Err e) none value = ap (option_map (λ (k : ℕ). Some k)) (read t (Err e) (value t refl))
 
--- an option without a default is read as it is spelled
-pub may_rows : (width : ℕ) (f : Found) (id : Text) (r : Result (Option ℕ) ParseIntError) (s : Option (Option ℕ)) → s ≡ result_ok r
-    → (one_text f id ≡ None → r ≡ Ok None) → ((t : Text) → one_text f id ≡ Some t → TriesOne (reads_unsigned width) t r)
-    → IfSome s (λ n. MaySpell width (one_of id (rows_of f)) n)
-may_rows width f id (Err e) s is none value = rw is tt
-may_rows width f id (Ok n) s is none value =
-    rw is (subst (λ (o : Option Text). MaySpell width o n) (one_text-rows f id) (may_at width (one_text f id) (Ok n) none value))
+  -- an option without a default
+  pub given_rows : (f : Found) (id : Text) (r : Result (Option ℕ) ParseIntError)
+      → (one_text f id ≡ None → r ≡ Ok None) → ((t : Text) → one_text f id ≡ Some t → TriesOne (reads_unsigned width) t r)
+      → result_ok r ≡ if_given most (one_of id (rows_of f))
+  given_rows f id r none value = given_at (one_text f id) r none value ∙ ap (if_given most) (one_text-rows f id)
 
-may_none_at : (width : ℕ) (o : Option Text) (e : ParseIntError)
-    → (o ≡ None → let r : Result (Option ℕ) ParseIntError = Err e in r ≡ Ok None) → ((t : Text) → o ≡ Some t → reads_unsigned width t (Err e)) → (n : Option ℕ) → MaySpell width o n → ⊥
-may_none_at width None e none value n h = let bad : (let r : Result (Option ℕ) ParseIntError = Err e in r ≡ Ok None) = none refl in cc bad
-may_none_at width (Some t) e none value None h = cc h
-may_none_at width (Some t) e none value (Some n) h = refused width t e (value t refl) n h
+  number_rows_of : (f : Found) (id : Text) (r : Option ℕ)
+      → (one_text f id ≡ None → r ≡ None) → ((t : Text) → one_text f id ≡ Some t → ReadsOne (reads_unsigned width) t r)
+      → r ≡ option_and_then (number_up_to most) (one_of id (rows_of f))
+  number_rows_of f id r none value = number_at (one_text f id) r none value ∙ ap (option_and_then (number_up_to most)) (one_text-rows f id)
 
--- and if it isn't read, it spells none
-pub may_none : (width : ℕ) (f : Found) (id : Text) (r : Result (Option ℕ) ParseIntError) (s : Option (Option ℕ)) → s ≡ result_ok r
-    → (one_text f id ≡ None → r ≡ Ok None) → ((t : Text) → one_text f id ≡ Some t → TriesOne (reads_unsigned width) t r)
-    → IfNone s ((n : Option ℕ) → MaySpell width (one_of id (rows_of f)) n → ⊥)
-may_none width f id (Ok n) s is none value = rw is tt
-may_none width f id (Err e) s is none value =
-    rw is (λ n h. may_none_at width (one_text f id) e none value n (subst (λ (o : Option Text). MaySpell width o n) (sym (one_text-rows f id)) h))
+-- the ends of the types
+below_32 : (n : ℕ) → n < 2 ^ 32 → (n < 2 ^ 64) × (n ≤ 4294967295)
+below_32 n h = (omega (arith, h), omega (arith, h))
 
-number_at : (width : ℕ) (o : Option Text) (r : Option ℕ)
-    → (o ≡ None → r ≡ None) → ((t : Text) → o ≡ Some t → ReadsOne (reads_unsigned width) t r) → IfSome r (λ n. Spells width o n)
-number_at width o None none value = tt
-number_at width None (Some n) none value = cc (none refl)
-number_at width (Some t) (Some n) none value = spelled width t n (value t refl)
+above_32 : (n : ℕ) → n ≤ 4294967295 → n < 2 ^ 32
+above_32 n h = omega (arith, h)
 
--- an option with a default is read as it is spelled
-pub number_rows : (width : ℕ) (f : Found) (id : Text) (r : Option ℕ)
-    → (one_text f id ≡ None → r ≡ None) → ((t : Text) → one_text f id ≡ Some t → ReadsOne (reads_unsigned width) t r)
-    → IfSome r (λ n. Spells width (one_of id (rows_of f)) n)
-number_rows width f id r none value =
-    subst (λ (o : Option Text). IfSome r (λ n. Spells width o n)) (one_text-rows f id) (number_at width (one_text f id) r none value)
+below_64 : (n : ℕ) → n < 2 ^ 64 → (n < 2 ^ 64) × (n ≤ 18446744073709551615)
+below_64 n h = (h, omega (arith, h))
 
-number_none_at : (width : ℕ) (o : Option Text) → ((t : Text) → o ≡ Some t → (e : ParseIntError) × reads_unsigned width t (Err e)) → (n : ℕ) → Spells width o n → ⊥
-number_none_at width None value n h = h
-number_none_at width (Some t) value n h = let e = value t refl in refused width t e.0 e.1 n h
+above_64 : (n : ℕ) → n ≤ 18446744073709551615 → n < 2 ^ 64
+above_64 n h = omega (arith, h)
 
--- and if it isn't read, it spells none
-pub number_none : (width : ℕ) (f : Found) (id : Text) (r : Option ℕ)
-    → ((t : Text) → one_text f id ≡ Some t → ReadsOne (reads_unsigned width) t r)
-    → IfNone r ((n : ℕ) → Spells width (one_of id (rows_of f)) n → ⊥)
-number_none width f id (Some n) value = tt
-number_none width f id None value =
-    λ n h. number_none_at width (one_text f id) value n (subst (λ (o : Option Text). Spells width o n) (sym (one_text-rows f id)) h)
+pub number_rows : (f : Found) (id : Text) (r : Option ℕ)
+    → (one_text f id ≡ None → r ≡ None) → ((t : Text) → one_text f id ≡ Some t → ReadsOne (reads_unsigned 32) t r) → r ≡ number_of id (rows_of f)
+number_rows = number_rows_of 32 4294967295 below_32 above_32
+
+pub share_rows : (f : Found) (id : Text) (r : Result (Option ℕ) ParseIntError)
+    → (one_text f id ≡ None → r ≡ Ok None) → ((t : Text) → one_text f id ≡ Some t → TriesOne (reads_unsigned 32) t r)
+    → result_ok r ≡ if_given 4294967295 (one_of id (rows_of f))
+share_rows = given_rows 32 4294967295 below_32 above_32
+
+pub bits_rows : (f : Found) (id : Text) (r : Result (Option ℕ) ParseIntError)
+    → (one_text f id ≡ None → r ≡ Ok None) → ((t : Text) → one_text f id ≡ Some t → TriesOne (reads_unsigned 64) t r)
+    → result_ok r ≡ if_given 18446744073709551615 (one_of id (rows_of f))
+bits_rows = given_rows 64 18446744073709551615 below_64 above_64
+
+-- ---- texts
+
+pub flag_rows : (f : Found) (id : Text) (given : Option (Bor Text)) → option_map (λ s. s.now) given ≡ first_value f id
+    → is_true (option_map (λ s. s.now) given) ≡ is_true (first_of id (rows_of f))
+flag_rows f id given is = ap is_true (is ∙ first_value-rows f id)
 
 -- whence an entry is
 source_rows : (f : Found) (id : Text)
@@ -102,9 +106,9 @@ source_rows f id = by (find (λ e. bytes_eq e.0.now id) f.entries.items) ∙ ap 
     by None = refl
     by (Some e) = refl
 
-pub given_rows : (f : Found) (id : Text) (source : Option ValueSource) → source ≡ option_and_then (λ (a : MatchedArg). a.source) (matched_of f id)
+pub source_is : (f : Found) (id : Text) (source : Option ValueSource) → source ≡ option_and_then (λ (a : MatchedArg). a.source) (matched_of f id)
     → is_given id (rows_of f) ≡ is_of_words source
-given_rows f id source is = ap is_of_words (sym (is ∙ source_rows f id))
+source_is f id source is = ap is_of_words (sym (is ∙ source_rows f id))
 
 -- ---- the gaps
 
@@ -135,53 +139,3 @@ module _ (f : Found) (given : Option (Bor Text)) (is : option_map (λ s. s.now) 
         by : (o : Option (Vec (ℕ × ℕ))) → IfErr (ok_or o Gaps) (λ why. (why ≡ Memory) ⊎ ((why ≡ Gaps) × (option_map (λ g. g.items) o ≡ None)))
         by (Some v) = tt
         by None = inr (refl, refl)
-
--- ---- entries that ask for nothing
-
--- a share that is no number
-pub no_share : (rows : List Row) → ((share : Option ℕ) → MaySpell 32 (one_of (codes "share") rows) share → ⊥) → (loss : Loss) → SpellsLoss rows loss → ⊥
-no_share rows h (Run row) s = h None s.0
-no_share rows h (Share bad of) s = h (Some bad) s.0
-
-first_is : (name word : Text) (b : ℕ) → name ≡ word → slice_index word 0 ≡ b → slice_index name 0 ≡ b
-first_is name word b p q = ap (λ (t : Text). slice_index t 0) p ∙ q
-
--- one name is not another whose first letter differs
-not_both : (name one other : Text) (a b : ℕ) → name ≡ one → name ≡ other → slice_index one 0 ≡ a → slice_index other 0 ≡ b → a ≢ b → ⊥
-not_both name one other a b p q is is_other differ = differ (sym (first_is name one a p is) ∙ first_is name other b q is_other)
-
--- no input and settings: a command that makes a report asks for nothing
-no_report : (name : Text) (rows : List Row) → Reports name → FitNoInput rows → (request : Request) → IsRequest name rows request → ⊥
-no_report name rows reports none (AskedJob (ListJob input settings) progress) h = none input settings h.0.1 h.0.2
-no_report name rows reports none (AskedJob (Totals input settings) progress) h = none input settings h.0.1 h.0.2
-no_report name rows (inl p) none (AskedJob (Scan input workers) progress) h = not_both name (codes "list") (codes "scan") 108 115 p h.0.0 refl refl (omega arith)
-no_report name rows (inl p) none (AskedJob (Encode hex) progress) h = not_both name (codes "list") (codes "encode") 108 101 p h.0.0 refl refl (omega arith)
-no_report name rows (inl p) none (Follow stream following) h = not_both name (codes "list") (codes "follow") 108 102 p h.0 refl refl (omega arith)
-no_report name rows (inr p) none (AskedJob (Scan input workers) progress) h = not_both name (codes "totals") (codes "scan") 116 115 p h.0.0 refl refl (omega arith)
-no_report name rows (inr p) none (AskedJob (Encode hex) progress) h = not_both name (codes "totals") (codes "encode") 116 101 p h.0.0 refl refl (omega arith)
-no_report name rows (inr p) none (Follow stream following) h = not_both name (codes "totals") (codes "follow") 116 102 p h.0 refl refl (omega arith)
-
--- why there is no input with settings is why it asks for nothing
-pub without_ruled : (name : Text) (rows : List Row) (why : NoJob) → Reports name → GivesNoRuled rows (FitNoInput rows) why → GivesNothing (Some (name, rows)) why
-without_ruled name rows Memory reports none = tt
-without_ruled name rows Gaps reports none = (inr (inr reports), none)
-without_ruled name rows Entries reports none = ((λ bad. none.0 bad.1), no_report name rows reports none.1)
-
-module _ (name : Text) (rows : List Row) (follows : name ≡ codes "follow") where
-  -- to follow a stream is no job
-  pub no_job : (job : Job) → IsJob name rows job → ⊥
-  no_job (Scan input workers) h = not_both name (codes "follow") (codes "scan") 102 115 follows h.0 refl refl (omega arith)
-  no_job (ListJob input settings) h = not_both name (codes "follow") (codes "list") 102 108 follows h.0 refl refl (omega arith)
-  no_job (Totals input settings) h = not_both name (codes "follow") (codes "totals") 102 116 follows h.0 refl refl (omega arith)
-  no_job (Encode hex) h = not_both name (codes "follow") (codes "encode") 102 101 follows h.0 refl refl (omega arith)
-
-  -- no input and rules: one that follows a stream asks for nothing
-  no_stream : FitNoStream rows → (request : Request) → IsRequest name rows request → ⊥
-  no_stream none (Follow input rules) h = none input rules h.1 h.2
-  no_stream none (AskedJob job progress) h = no_job job h.0
-
-  -- why there is no input with rules is why it does so
-  pub without_stream : (why : NoJob) → GivesNoRuled rows (FitNoStream rows) why → GivesNothing (Some (name, rows)) why
-  without_stream Memory none = tt
-  without_stream Gaps none = (inr (inl follows), none)
-  without_stream Entries none = ((λ bad. none.0 bad.1), no_stream none.1)

@@ -1,6 +1,6 @@
 pub mod Options
 pub mod Getters
-pub mod Jobs
+pub mod Requests
 pub mod Refusing
 pub mod RowText
 pub mod Encoding

@@ -1,23 +1,58 @@
--- A command with one option more.
-use Rattle.std.proofs.Common.{◌||◌, ◌∙◌, ◌≡◌, Err, Ok, Result, ap, ap₂, false}
-use Rattle.std.specs.Prelude.{IfOk}
-use Rattle.clap.specs.Words.{AddsArg, App, Rule, rule_of, with_rule}
+-- Commands that are made of the rows of a table, one after the other.
+use Rattle.std.proofs.Common.{◌+◌, ◌<◌, ◌≤◌, ◌||◌, ◌∙◌, ◌≡◌, List, ap, ap₂, drop, false, get_or, length, subst, sym, ℕ}
+use Rattle.std.proofs.lemmas.List.{drop_all, drop_more}
+use Rattle.clap.specs.Words.{AddsArg, AddsSubcommand, App, app_of, rule_of, with_rule, with_subcommand}
 use Rattle.clap.specs.declared.builder.arg.Arg.{Arg}
 use Rattle.clap.specs.declared.builder.command.Command.{Command}
-use Rattle.rds_tool.specs.CommandLine.{Makes, ReadsAs}
+use Rattle.rds_tool.specs.CommandLine.{ReadsAs}
+use Rattle.rds_tool.specs.Inside.Commands.{app_of_row, rule_of_row, with_command, with_each, with_option}
+use Rattle.rds_tool.specs.declared.commands.CommandRow.{CommandRow}
+use Rattle.rds_tool.specs.declared.commands.OptionRow.{OptionRow}
 
-module _ (old : Command) (option : Arg) (rule : Rule) (local : option.global ≡ false) (is : rule_of option ≡ rule) where
-  pub with_added : (new : Command) → AddsArg old option new → (app : App) → ReadsAs old app → ReadsAs new (with_rule app rule)
-  with_added new adds app reads = record {
-    app = adds.shape local ∙ ap₂ with_rule reads.app is;
-    local = adds.globals ∙ ap₂ (λ a b. a || b) reads.local local;
+-- with the rows that are left, the command reads as the whole
+pub record HasRest {X : Type 0} (add : App → X → App) (made : Command) (rows : List X) (whole : App) : Type 0 where
+  pub reads : App
+  pub now : ReadsAs made reads
+  pub rest : with_each add reads rows ≡ whole
+
+module _ {X : Type 0} (add : App → X → App) (whole : App) where
+  pub begun : (made : Command) (app : App) (rows : List X) → ReadsAs made app → with_each add app rows ≡ whole → HasRest add made (drop 0 rows) whole
+  begun made app rows is rest = record { reads = app; now = is; rest = rest }
+
+  pub ended : (made : Command) (rows : List X) (i : ℕ) → HasRest add made (drop i rows) whole → length rows ≤ i → ReadsAs made whole
+  ended made rows i has none =
+      subst (ReadsAs made) (sym (ap (with_each add has.reads) (drop_all i rows none)) ∙ has.rest) has.now
+
+  next : (old new : Command) (rows : List X) (i : ℕ) (d : X) → HasRest add old (drop i rows) whole → i < length rows
+      → ((reads : App) → ReadsAs old reads → ReadsAs new (add reads (get_or rows i d))) → HasRest add new (drop (i + 1) rows) whole
+  next old new rows i d has some adds = record {
+    reads = add has.reads (get_or rows i d);
+    now = adds has.reads has.now;
+    rest = sym (ap (with_each add has.reads) (drop_more rows i d some)) ∙ has.rest;
   }
 
-  pub made_with : {E : Type 0} (made : Result Command E) → IfOk made (λ new. AddsArg old option new) → (app : App) → ReadsAs old app → Makes made (with_rule app rule)
-  made_with (Ok new) adds app reads = with_added new adds app reads
-  made_with (Err e) adds app reads = tt
+with_one_option : (old new : Command) (option : Arg) (row : OptionRow) → AddsArg old option new → option.global ≡ false → rule_of option ≡ rule_of_row row
+    → (reads : App) → ReadsAs old reads → ReadsAs new (with_option reads row)
+with_one_option old new option row adds local is reads now = record {
+  app = adds.shape local ∙ ap₂ with_rule now.app is;
+  local = adds.globals ∙ ap₂ (λ a b. a || b) now.local local;
+}
 
--- the option's rule, by the name that it has
-pub ruled_by : {E : Type 0} (made : Result Command E) (app : App) (rule named : Rule) → rule ≡ named → Makes made (with_rule app rule) → Makes made (with_rule app named)
-ruled_by (Ok new) app rule named is reads = record { app = reads.app ∙ ap (λ (r : Rule). with_rule app r) is; local = reads.local }
-ruled_by (Err e) app rule named is makes = tt
+pub next_option : (whole : App) (old new : Command) (option : Arg) (rows : List OptionRow) (i : ℕ) (d : OptionRow)
+    → HasRest with_option old (drop i rows) whole → i < length rows
+    → AddsArg old option new → option.global ≡ false → rule_of option ≡ rule_of_row (get_or rows i d) → HasRest with_option new (drop (i + 1) rows) whole
+next_option whole old new option rows i d has some adds local is =
+    next with_option whole old new rows i d has some (with_one_option old new option (get_or rows i d) adds local is)
+
+with_one_command : (old new sub : Command) (row : CommandRow) → AddsSubcommand old sub new → ReadsAs sub (app_of_row row)
+    → (reads : App) → ReadsAs old reads → ReadsAs new (with_command reads row)
+with_one_command old new sub row adds is reads now = record {
+  app = adds.shape is.local ∙ ap₂ (λ (a b : App). with_subcommand a b.top) now.app is.app;
+  local = adds.globals ∙ ap₂ (λ a b. a || b) now.local is.local;
+}
+
+pub next_command : (whole : App) (old new sub : Command) (rows : List CommandRow) (i : ℕ) (d : CommandRow)
+    → HasRest with_command old (drop i rows) whole → i < length rows
+    → AddsSubcommand old sub new → ReadsAs sub (app_of_row (get_or rows i d)) → HasRest with_command new (drop (i + 1) rows) whole
+next_command whole old new sub rows i d has some adds is =
+    next with_command whole old new rows i d has some (with_one_command old new sub (get_or rows i d) adds is)

@@ -1,12 +1,17 @@
 -- The command line, as `clap` reads it, and the job or stream that its words ask for: this project's rule.
 -- `asked_of` answers it; `rds_command` and the functions of `entries.rt` are its steps.
-use Rattle.std.specs.Prelude.{◌≡◌, ◌≢◌, ◌⊎◌, ◌<◌, ◌^◌, ◌++◌, ⊤, Bool, IfOk, List, None, Option, Result, Some, [], codes, false, find, if◌then◌else◌, option_and_then, pos, string_bytes, true, ℕ, ◌∷◌}
+use Rattle.std.specs.Prelude.{◌≡◌, ◌≢◌, ◌⊎◌, ◌++◌, ⊤, Bool, Err, IfOk, List, None, Ok, Option, Result, Some, [], codes, false, find, if◌then◌else◌, option_and_then, pos, string_bytes, true, ℕ, ◌∷◌}
 use Rattle.std.specs.Str.{bytes_eq}
-use Rattle.std.specs.Str.Parse.{IsNumeral, digits_value, without_leading_plus}
-use Rattle.clap.specs.Words.{App, IsAmong, Kinds, Row, Rule, Text, app_of, fault_of, first_of, new_app, new_rule, one_of, subcommand_of, with_rule, with_subcommand}
+use Rattle.std.specs.Option.{ok_or, option_map}
+use Rattle.std.specs.Result.{result_ok}
+use Rattle.std.specs.Str.Parse.{digits_value, without_leading_plus}
+use Rattle.clap.specs.Simple.{new_shape}
+use Rattle.clap.specs.ValueTests.{is_unsigned_in}
+use Rattle.clap.specs.Words.{App, IsAmong, Kinds, Row, Rule, Shape, Text, app_of, fault_of, first_of, new_rule, one_of, subcommand_of}
 use Rattle.clap.specs.declared.builder.action.ArgAction.TheVariants.{Set, SetTrue}
 use Rattle.clap.specs.declared.builder.command.Command.{Command}
 use Rattle.clap.specs.declared.builder.command.Command.TheViews.{out-Command as fields_of}
+use Rattle.clap.specs.declared.builder.value_parser.ValueParser.{ValueParser}
 use Rattle.clap.specs.declared.builder.value_parser.ValueParser.TheVariants as parser
 use Rattle.clap.specs.declared.error.kind.ErrorKind.{ErrorKind}
 use Rattle.clap.specs.declared.error.kind.ErrorKind.TheVariants as kind
@@ -23,7 +28,7 @@ use Rattle.rds_tool.specs.declared.fault.NoJob.{NoJob}
 use Rattle.rds_tool.specs.declared.fault.NoJob.TheVariants as no
 use Rattle.rds_tool.specs.declared.job.Asked.{Asked}
 use Rattle.rds_tool.specs.declared.job.Cuts.{Cuts}
-use Rattle.rds_tool.specs.declared.job.Cuts.TheVariants.{At, Even}
+use Rattle.rds_tool.specs.declared.job.Cuts.TheVariants.{Even}
 use Rattle.rds_tool.specs.declared.job.Ignored.{Ignored}
 use Rattle.rds_tool.specs.declared.job.Ignored.TheVariants as ignored
 use Rattle.rds_tool.specs.declared.job.Input.{Input}
@@ -46,72 +51,53 @@ Makes made app = IfOk made (λ command. ReadsAs command app)
 
 -- ---- the commands and their options
 
--- `--hex` or `--progress`, a flag
+-- `--name`, with one value that its parser takes, and with these defaults
+abbrev pub value_rule : Text → ValueParser → List Text → Rule
+value_rule name takes defaults =
+    record (new_rule name) { long = Some name; action = Some Set; value_names = 1; parser = Some takes; defaults = defaults }
+
+-- a number below 2^32
+abbrev pub number_rule : Text → List Text → Rule
+number_rule name defaults = value_rule name (parser.Signed (pos 0) (pos 4294967295)) defaults
+
 abbrev pub flag_rule : Text → Rule
-flag_rule name = record (new_rule name) { long = Some name; action = Some SetTrue }
+flag_rule name = record (new_rule name) { long = Some name; action = Some SetTrue; parser = Some parser.Bool }
 
--- an option with one value, as yet of any text
-abbrev pub value_rule : Text → Rule
-value_rule name = record (new_rule name) { long = Some name; action = Some Set; value_names = 1 }
-
--- `--bits N`, from 0 to 2^40, with no default
-abbrev pub bits_rule : Rule
-bits_rule = record (value_rule (codes "bits")) { parser = Some (parser.Unsigned 0 1099511627776) }
-
--- an option for a number below 2^32, with a default
-abbrev pub number_rule : Text → Text → Rule
-number_rule name default = record (value_rule name) { parser = Some (parser.Signed (pos 0) (pos 4294967295)); defaults = default ∷ [] }
-
--- `--share N`, below 2^32 too, with no default
-abbrev pub share_rule : Rule
-share_rule = record (value_rule (codes "share")) { parser = Some (parser.Signed (pos 0) (pos 4294967295)) }
-
--- `--gaps TEXT`, of any text
-abbrev pub gaps_rule : Rule
-gaps_rule = value_rule (codes "gaps")
-
--- the options that say which bits of a recording or a stream mean something
-abbrev pub with_part : App → App
-with_part command = with_rule (with_rule command bits_rule) gaps_rule
-
--- the options of a command that reads a recording
-abbrev pub with_input : App → App
-with_input command = with_part (with_rule command (flag_rule (codes "hex")))
+-- which bits of a recording or a stream mean something: their number, at most 2^40, and a text of gaps
+abbrev pub bits_and_gaps : List Rule
+bits_and_gaps = value_rule (codes "bits") (parser.Unsigned 0 1099511627776) [] ∷ value_rule (codes "gaps") parser.String [] ∷ []
 
 -- the rules of a synchroniser
-abbrev pub with_rules : App → App
-with_rules command = with_rule (with_rule (with_rule (with_rule (with_rule command
-    (number_rule (codes "burst") (codes "2"))) (number_rule (codes "reach") (codes "3"))) (number_rule (codes "loss") (codes "10")))
-    share_rule) (number_rule (codes "of") (codes "64"))
+abbrev pub sync_rules : List Rule
+sync_rules =
+    number_rule (codes "burst") (codes "2" ∷ []) ∷ number_rule (codes "reach") (codes "3" ∷ [])
+    ∷ number_rule (codes "loss") (codes "10" ∷ []) ∷ number_rule (codes "share") [] ∷ number_rule (codes "of") (codes "64" ∷ []) ∷ []
 
--- how many work, by default 4, and whether they tell how far they are
-abbrev pub with_crew : App → App
-with_crew command = with_rule (with_rule command (number_rule (codes "workers") (codes "4"))) (flag_rule (codes "progress"))
+-- how many threads work, and whether they tell how far they are
+abbrev pub crew : List Rule
+crew = number_rule (codes "workers") (codes "4" ∷ []) ∷ flag_rule (codes "progress") ∷ []
 
--- the options of one that reads it by these rules, piece by piece
-abbrev pub with_settings : App → App
-with_settings command = with_crew (with_rule (with_rules command) (number_rule (codes "pieces") (codes "16")))
+abbrev pub scan_options : List Rule
+scan_options = flag_rule (codes "hex") ∷ bits_and_gaps ++ crew
 
-abbrev pub scan_app : App
-scan_app = with_crew (with_input (new_app (codes "scan")))
-
-abbrev pub ruled_app : Text → App
-ruled_app name = with_settings (with_input (new_app name))
+abbrev pub report_options : List Rule
+report_options = flag_rule (codes "hex") ∷ bits_and_gaps ++ sync_rules ++ number_rule (codes "pieces") (codes "16" ∷ []) ∷ crew
 
 -- a stream comes as the bytes themselves, and one thread decodes it as it comes
-abbrev pub follow_app : App
-follow_app = with_rules (with_part (new_app (codes "follow")))
+abbrev pub follow_options : List Rule
+follow_options = bits_and_gaps ++ sync_rules
 
-abbrev pub encode_app : App
-encode_app = with_rule (new_app (codes "encode")) (flag_rule (codes "hex"))
+abbrev pub command : Text → List Rule → Shape
+command name options = record (new_shape name) { rules = options }
 
 -- the program, which has a version and wants a command
-abbrev pub bare_app : App
-bare_app = let app = new_app (codes "rds") in record app { top = record app.top { has_version = true; subcommand_required = true } }
-
 abbrev pub rds_app : App
-rds_app = with_subcommand (with_subcommand (with_subcommand (with_subcommand (with_subcommand bare_app
-    scan_app.top) (ruled_app (codes "list")).top) follow_app.top) (ruled_app (codes "totals")).top) encode_app.top
+rds_app = record {
+  top = record (new_shape (codes "rds")) { is_leaf = false; has_version = true; subcommand_required = true };
+  subs =
+      command (codes "scan") scan_options ∷ command (codes "list") report_options ∷ command (codes "follow") follow_options
+      ∷ command (codes "totals") report_options ∷ command (codes "encode") (flag_rule (codes "hex") ∷ []) ∷ [];
+}
 
 -- ---- the entries that the words give
 
@@ -123,20 +109,25 @@ entries_of words = subcommand_of rds_app words
 abbrev pub faults_of : List Text → Kinds
 faults_of words = fault_of rds_app words
 
--- the entry spells the number in decimal digits, after a plus or not, and the number has at most that many binary digits
-abbrev pub Spells : ℕ → Option Text → ℕ → Type 0
-Spells width None n = ⊥
-Spells width (Some text) n = IsNumeral 10 (without_leading_plus text) × (digits_value 10 (without_leading_plus text) < 2 ^ width)
-    × (n ≡ digits_value 10 (without_leading_plus text))
+-- the number that a text spells in decimal digits, after a plus or not, if it is at most `most`
+abbrev pub number_up_to : ℕ → Text → Option ℕ
+number_up_to most text = if is_unsigned_in 0 most text then Some (digits_value 10 (without_leading_plus text)) else None
 
--- there is no entry and no number, or the entry spells the number
-abbrev pub MaySpell : ℕ → Option Text → Option ℕ → Type 0
-MaySpell width entry None = entry ≡ None
-MaySpell width entry (Some n) = Spells width entry n
+-- that of an option, below 2^32
+abbrev pub number_of : Text → List Row → Option ℕ
+number_of name rows = option_and_then (number_up_to 4294967295) (one_of name rows)
 
--- the flag was given, or not
-abbrev pub IsFlag : Option Text → Bool → Type 0
-IsFlag entry b = (entry ≡ None → b ≡ false) × (entry ≡ Some (codes "true") → b ≡ true) × (entry ≡ Some (codes "false") → b ≡ false)
+-- the number that an entry spells, if there is one: `Some None` if there is no entry
+abbrev pub if_given : ℕ → Option Text → Option (Option ℕ)
+if_given most None = Some None
+if_given most (Some text) = option_map (λ n. Some n) (number_up_to most text)
+
+abbrev pub is_true : Option Text → Bool
+is_true None = false
+is_true (Some text) = bytes_eq text (codes "true")
+
+abbrev pub flag_of : Text → List Row → Bool
+flag_of name rows = is_true (first_of name rows)
 
 -- the gaps that a text spells, and none if there is no text
 abbrev pub gaps_spelled : Option Text → Option (List (ℕ × ℕ))
@@ -147,22 +138,13 @@ gaps_spelled (Some text) = gaps_of text
 abbrev pub gaps_asked_for : List Row → Option (List (ℕ × ℕ))
 gaps_asked_for rows = gaps_spelled (first_of (codes "gaps") rows)
 
--- the input that the entries give
-pub record IsInput (rows : List Row) (input : Input) : Type 0 where
-  pub hex : IsFlag (one_of (codes "hex") rows) input.hex
-  pub bits : MaySpell 64 (one_of (codes "bits") rows) input.bits
-  pub gaps : gaps_asked_for rows ≡ Some input.gaps
+-- the rule of loss: by the share, if there is one, of as many blocks as `--of` says, or else by `--loss` in a row
+abbrev pub loss_by : List Row → Option ℕ → Option Loss
+loss_by rows None = option_map Run (number_of (codes "loss") rows)
+loss_by rows (Some bad) = option_map (Share bad) (number_of (codes "of") rows)
 
--- the entry spells how many pieces an even cutting has at most
-abbrev pub SpellsPieces : Option Text → Cuts → Type 0
-SpellsPieces entry (Even pieces) = Spells 32 entry pieces
-SpellsPieces entry (At cuts) = ⊥
-
--- the rule of loss that the entries give: a share if there is one, of as many blocks as `--of` says, or else
--- `--loss` in a row
-abbrev pub SpellsLoss : List Row → Loss → Type 0
-SpellsLoss rows (Run n) = (one_of (codes "share") rows ≡ None) × Spells 32 (one_of (codes "loss") rows) n
-SpellsLoss rows (Share bad of) = Spells 32 (one_of (codes "share") rows) bad × Spells 32 (one_of (codes "of") rows) of
+abbrev pub loss_of : List Row → Option Loss
+loss_of rows = option_and_then (loss_by rows) (if_given 4294967295 (one_of (codes "share") rows))
 
 abbrev pub is_of_words : Option ValueSource → Bool
 is_of_words (Some CommandLine) = true
@@ -184,115 +166,79 @@ abbrev pub warning_of : Ignored → Text
 warning_of ignored.Loss = codes "--loss is ignored with --share"
 warning_of ignored.Of = codes "--of is ignored without --share"
 
--- the numbers of a synchroniser's rules that the entries give
-pub record AreRules (rows : List Row) (rules : RuleNumbers) : Type 0 where
-  pub burst : Spells 32 (one_of (codes "burst") rows) rules.burst
-  pub reach : Spells 32 (one_of (codes "reach") rows) rules.reach
-  pub loss : SpellsLoss rows rules.loss
+-- the numbers of a synchroniser's rules
+abbrev pub rules_of : List Row → Option RuleNumbers
+rules_of rows =
+    option_and_then (λ burst. option_and_then (λ reach. option_map (λ loss.
+    record { burst = burst; reach = reach; loss = loss }) (loss_of rows))
+    (number_of (codes "reach") rows)) (number_of (codes "burst") rows)
 
--- the settings that they give
-pub record AreSettings (rows : List Row) (settings : Settings) : Type 0 where
-  pub rules : AreRules rows (record { burst = settings.burst; reach = settings.reach; loss = settings.loss })
-  pub workers : Spells 32 (one_of (codes "workers") rows) settings.workers
-  pub cuts : SpellsPieces (one_of (codes "pieces") rows) settings.cuts
+abbrev pub settings_of : List Row → Option Settings
+settings_of rows =
+    option_and_then (λ rules. option_and_then (λ workers. option_map (λ pieces.
+    record { burst = rules.burst; reach = rules.reach; loss = rules.loss; workers = workers; cuts = Even pieces })
+    (number_of (codes "pieces") rows)) (number_of (codes "workers") rows)) (rules_of rows)
 
--- the job that a command and its entries give
-abbrev pub IsJob : Text → List Row → Job → Type 0
-IsJob name rows (Scan input workers) = (name ≡ codes "scan") × IsInput rows input × Spells 32 (one_of (codes "workers") rows) workers
-IsJob name rows (ListJob input settings) = (name ≡ codes "list") × IsInput rows input × AreSettings rows settings
-IsJob name rows (Totals input settings) = (name ≡ codes "totals") × IsInput rows input × AreSettings rows settings
-IsJob name rows (Encode hex) = (name ≡ codes "encode") × IsFlag (one_of (codes "hex") rows) hex
+-- the job, and whether its progress is told
+abbrev pub with_progress : List Row → Job → Request
+with_progress rows job = AskedJob job (flag_of (codes "progress") rows)
 
-abbrev pub IsJobOf : Option (Text × List Row) → Job → Type 0
-IsJobOf None job = ⊥
-IsJobOf (Some entries) job = IsJob entries.0 entries.1 job
+-- the job or stream of a command and its entries, over this input
+abbrev pub request_of : Text → List Row → Input → Option Request
+request_of name rows input =
+    if bytes_eq name (codes "scan") then option_map (λ workers. with_progress rows (Scan input workers)) (number_of (codes "workers") rows)
+    else if bytes_eq name (codes "list") then option_map (λ settings. with_progress rows (ListJob input settings)) (settings_of rows)
+    else if bytes_eq name (codes "totals") then option_map (λ settings. with_progress rows (Totals input settings)) (settings_of rows)
+    else if bytes_eq name (codes "follow") then option_map (Follow input) (rules_of rows)
+    else if bytes_eq name (codes "encode") then Some (with_progress rows (Encode input.hex))
+    else None
 
--- the job or stream that a command and its entries ask for
-abbrev pub IsRequest : Text → List Row → Request → Type 0
-IsRequest name rows (AskedJob job progress) = IsJob name rows job × IsFlag (one_of (codes "progress") rows) progress
-IsRequest name rows (Follow input rules) = (name ≡ codes "follow") × IsInput rows input × AreRules rows rules
+-- that, over the input that the entries give with these gaps
+abbrev pub request_with : Text → List Row → List (ℕ × ℕ) → Option Request
+request_with name rows gaps =
+    option_and_then (λ bits. request_of name rows (record { hex = flag_of (codes "hex") rows; bits = bits; gaps = gaps }))
+    (if_given 18446744073709551615 (one_of (codes "bits") rows))
 
-abbrev pub IsRequestOf : Option (Text × List Row) → Request → Type 0
-IsRequestOf None request = ⊥
-IsRequestOf (Some entries) request = IsRequest entries.0 entries.1 request
+-- that, and the option that they give in vain; or why they ask for nothing
+abbrev pub asked_with : Text → List Row → Option (List (ℕ × ℕ)) → Result Asked NoJob
+asked_with name rows None = Err no.Gaps
+asked_with name rows (Some gaps) =
+    ok_or (option_map (λ request. record { request = request; ignored = ignored_by rows }) (request_with name rows gaps)) no.Entries
 
--- a stream is asked for
-abbrev pub IsFollow : Request → Type 0
-IsFollow (AskedJob job progress) = ⊥
-IsFollow (Follow input rules) = ⊤
+abbrev pub asked_by : Option (Text × List Row) → Result Asked NoJob
+asked_by None = Err no.Entries
+asked_by (Some entries) = asked_with entries.0 entries.1 (gaps_asked_for entries.1)
 
--- that, and the option that they give in vain
-pub record IsAsked (name : Text) (rows : List Row) (asked : Asked) : Type 0 where
-  pub request : IsRequest name rows asked.request
-  pub ignored : asked.ignored ≡ ignored_by rows
-
-abbrev pub IsAskedOf : Option (Text × List Row) → Asked → Type 0
-IsAskedOf None asked = ⊥
-IsAskedOf (Some entries) asked = IsAsked entries.0 entries.1 asked
-
--- ---- when nothing is asked for
-
--- the command makes a report of a recording
-abbrev pub Reports : Text → Type 0
-Reports name = (name ≡ codes "list") ⊎ (name ≡ codes "totals")
-
--- it decodes by a synchroniser
-abbrev pub Synchronises : Text → Type 0
-Synchronises name = (name ≡ codes "follow") ⊎ Reports name
-
--- it reads bits
-abbrev pub ReadsBits : Text → Type 0
-ReadsBits name = (name ≡ codes "scan") ⊎ Synchronises name
-
--- it does, and its entry for gaps spells none
+-- they spell no gaps, though they name some
 abbrev pub HasBadGaps : Option (Text × List Row) → Type 0
-HasBadGaps None = ⊥
-HasBadGaps (Some entries) = ReadsBits entries.0 × (gaps_asked_for entries.1 ≡ None)
+HasBadGaps entries = asked_by entries ≡ Err no.Gaps
 
--- no rules, no settings, and no input with settings or with rules have these entries
-abbrev pub FitNoRules : List Row → Type 0
-FitNoRules rows = (rules : RuleNumbers) → AreRules rows rules → ⊥
+-- the job among what is asked for: a stream is none
+abbrev pub job_in : Request → Option Job
+job_in (AskedJob job progress) = Some job
+job_in (Follow input rules) = None
 
-abbrev pub FitNoSettings : List Row → Type 0
-FitNoSettings rows = (settings : Settings) → AreSettings rows settings → ⊥
+abbrev pub job_by : Option (Text × List Row) → Option Job
+job_by entries = option_and_then (λ asked. job_in asked.request) (result_ok (asked_by entries))
 
-abbrev pub FitNoInput : List Row → Type 0
-FitNoInput rows = (input : Input) (settings : Settings) → IsInput rows input → AreSettings rows settings → ⊥
+-- ---- the answer
 
-abbrev pub FitNoStream : List Row → Type 0
-FitNoStream rows = (input : Input) (rules : RuleNumbers) → IsInput rows input → AreRules rows rules → ⊥
-
--- nor is there an input that goes with them; gaps that aren't any come first
-abbrev pub GivesNoRuled : List Row → Type 0 → NoJob → Type 0
-GivesNoRuled rows none_fit no.Memory = ⊤
-GivesNoRuled rows none_fit no.Gaps = gaps_asked_for rows ≡ None
-GivesNoRuled rows none_fit no.Entries = (gaps_asked_for rows ≢ None) × none_fit
-
--- nothing that can be asked for has them
-abbrev pub GivesNothing : Option (Text × List Row) → NoJob → Type 0
-GivesNothing entries no.Memory = ⊤
-GivesNothing entries no.Gaps = HasBadGaps entries
-GivesNothing entries no.Entries = (HasBadGaps entries → ⊥) × ((request : Request) → IsRequestOf entries request → ⊥)
+-- it is the one that is computed, or memory was refused
+abbrev pub Gives : {T : Type 0} → Result T NoJob → Result T NoJob → Type 0
+Gives computed (Ok value) = computed ≡ Ok value
+Gives computed (Err why) = (why ≡ no.Memory) ⊎ (computed ≡ Err why)
 
 -- the kind is a fault of the words: nothing to be shown was asked for, and memory is not at fault
 abbrev pub IsFault : ErrorKind → Type 0
 IsFault k = (k ≢ kind.DisplayHelp) × (k ≢ kind.DisplayVersion) × (k ≢ kind.OutOfMemory)
 
 -- the kind of answer that these faults allow: help or the version if it was asked for; a refusal of the words
--- if they have a fault, or have none and yet nothing fits them; `Memory` in any case
-abbrev pub MayRefuse : Kinds → Type 0 → FaultKind → Type 0
-MayRefuse faults none_fits Help = IsAmong kind.DisplayHelp faults
-MayRefuse faults none_fits Version = IsAmong kind.DisplayVersion faults
-MayRefuse faults none_fits Words = ((k : ErrorKind) × IsFault k × IsAmong k faults) ⊎ ((faults ≡ []) × none_fits)
-MayRefuse faults none_fits Memory = ⊤
-
--- the same if neither a job nor a stream has these entries
-abbrev pub MayAnswer : Kinds → Option (Text × List Row) → FaultKind → Type 0
-MayAnswer faults entries answer = MayRefuse faults ((request : Request) → IsRequestOf entries request → ⊥) answer
-
--- and if no job has them
-abbrev pub MayAnswerNoJob : Kinds → Option (Text × List Row) → FaultKind → Type 0
-MayAnswerNoJob faults entries answer = MayRefuse faults ((job : Job) → IsJobOf entries job → ⊥) answer
+-- if they have a fault, or have none and yet ask for nothing, `asked`; `Memory` in any case
+abbrev pub MayRefuse : {T : Type 0} → Kinds → Option T → FaultKind → Type 0
+MayRefuse faults asked Help = IsAmong kind.DisplayHelp faults
+MayRefuse faults asked Version = IsAmong kind.DisplayVersion faults
+MayRefuse faults asked Words = ((k : ErrorKind) × IsFault k × IsAmong k faults) ⊎ ((faults ≡ []) × (asked ≡ None))
+MayRefuse faults asked Memory = ⊤
 
 -- the text that is shown if the gaps can't be parsed
 abbrev pub bad_gaps_text : Text

@@ -3,3 +3,4 @@ pub mod RowWriter
 pub mod Rows
 pub mod Streams
 pub mod Texts
+pub mod Commands

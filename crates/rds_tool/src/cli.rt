@@ -1,9 +1,10 @@
 //! From a command line to the job or stream that it asks for.
-ghost use Rattle.std.specs.Prelude.{◌≡◌, ◌≢◌, ◌⊎◌, [], Bool, IfErr, IfOk, IsErrAnd, OnOk, map, string_bytes};
+ghost use Rattle.std.specs.Prelude.{◌≡◌, ◌≢◌, ◌⊎◌, [], IfErr, IfOk, IsErrAnd, None, Ok, OnOk, Some, map, string_bytes};
+ghost use Rattle.std.specs.Result.{result_ok};
 ghost use Rattle.clap.specs.Kinds.{FailsBy};
 ghost use Rattle.clap.specs.Values.{kind_of};
 ghost use Rattle.clap.specs.Words.{subcommand_rows_of};
-ghost use Rattle.rds_tool.specs.CommandLine.{HasBadGaps, IsAskedOf, IsFault, IsFollow, IsJobOf, MayAnswer, MayAnswerNoJob, SaysBadGaps, entries_of, faults_of};
+ghost use Rattle.rds_tool.specs.CommandLine.{HasBadGaps, IsFault, MayRefuse, SaysBadGaps, asked_by, entries_of, faults_of, job_by, job_in as the_job_in};
 
 use crate::commands::rds_command;
 use crate::entries::asked_in;
@@ -20,10 +21,10 @@ use std::alloc::Global;
 /// one in the words, or neither a job nor a stream has their entries. If `clap` finds no fault but `--gaps`
 /// cannot be parsed, the text is `bad --gaps` and a line feed. If memory is refused, the fault says so instead.
 pub fn asked_of(alloc: Global, words: &[&str]) -> Result<Asked, CliFault>
-    ensures entries { IfOk result (IsAskedOf (entries_of (map (λ word. word.now) words.now))) }
+    ensures entries { IfOk result (λ asked. asked_by (entries_of (map (λ word. word.now) words.now)) ≡ Ok asked) }
     ensures faultless { OnOk result (faults_of (map (λ word. word.now) words.now) ≡ []) }
-    ensures refused { IfErr result (λ fault. MayAnswer (faults_of (map (λ word. word.now) words.now))
-        (entries_of (map (λ word. word.now) words.now)) fault.kind) }
+    ensures refused { IfErr result (λ fault. MayRefuse (faults_of (map (λ word. word.now) words.now))
+        (result_ok (asked_by (entries_of (map (λ word. word.now) words.now)))) fault.kind) }
     ensures gaps { faults_of (map (λ word. word.now) words.now) ≡ []
         → HasBadGaps (entries_of (map (λ word. word.now) words.now)) → IsErrAnd result SaysBadGaps }
     ensures memory { IfErr result (λ fault. fault.kind ≡ FaultKind.Memory → string_bytes fault.text ≡ []) }
@@ -41,10 +42,10 @@ pub fn asked_of(alloc: Global, words: &[&str]) -> Result<Asked, CliFault>
 /// Answers the job of a command line, as [`asked_of`] does, with no word of progress or of an option that is
 /// ignored. A stream is no job: words that ask to follow one are a fault.
 pub fn job_of(alloc: Global, words: &[&str]) -> Result<Job, CliFault>
-    ensures entries { IfOk result (IsJobOf (entries_of (map (λ word. word.now) words.now))) }
+    ensures entries { IfOk result (λ job. job_by (entries_of (map (λ word. word.now) words.now)) ≡ Some job) }
     ensures faultless { OnOk result (faults_of (map (λ word. word.now) words.now) ≡ []) }
-    ensures refused { IfErr result (λ fault. MayAnswerNoJob (faults_of (map (λ word. word.now) words.now))
-        (entries_of (map (λ word. word.now) words.now)) fault.kind) }
+    ensures refused { IfErr result (λ fault. MayRefuse (faults_of (map (λ word. word.now) words.now))
+        (job_by (entries_of (map (λ word. word.now) words.now))) fault.kind) }
     ensures gaps { faults_of (map (λ word. word.now) words.now) ≡ []
         → HasBadGaps (entries_of (map (λ word. word.now) words.now)) → IsErrAnd result SaysBadGaps }
     ensures memory { IfErr result (λ fault. fault.kind ≡ FaultKind.Memory → string_bytes fault.text ≡ []) }
@@ -57,8 +58,8 @@ pub fn job_of(alloc: Global, words: &[&str]) -> Result<Job, CliFault>
 
 /// The job that is asked for.
 fn job_in(alloc: Global, request: Request) -> Result<Job, CliFault>
-    ensures job { IfOk result (λ job. (progress : Bool) × (request ≡ Request.Job job progress)) }
-    ensures stream { IfErr result (λ fault. IsFollow request
+    ensures job { IfOk result (λ job. the_job_in request ≡ Some job) }
+    ensures stream { IfErr result (λ fault. (the_job_in request ≡ None)
         × ((fault.kind ≡ FaultKind.Memory) ⊎ (fault.kind ≡ FaultKind.Words))) }
     ensures memory { IfErr result (λ fault. fault.kind ≡ FaultKind.Memory → string_bytes fault.text ≡ []) }
 {

@@ -1,109 +1,194 @@
-//! The commands of the program, their options and their help.
-ghost use Rattle.std.specs.Prelude.{◌≡◌, codes, false};
-ghost use Rattle.clap.specs.Words.{App, new_app, rule_of, with_rule, with_subcommand};
-ghost use Rattle.rds_tool.specs.CommandLine.{Makes, ReadsAs, bare_app, bits_rule, encode_app, flag_rule, follow_app, gaps_rule, number_rule, rds_app, ruled_app, scan_app, share_rule, value_rule, with_crew, with_input, with_part, with_rules, with_settings};
+//! The commands of the program: a table of them and their options, and the `clap` command that it makes.
+ghost use Rattle.std.specs.Prelude.{◌≡◌, false};
+ghost use Rattle.clap.specs.Words.{App, new_app, rule_of};
+ghost use Rattle.rds_tool.specs.CommandLine.{Makes, ReadsAs, rds_app};
+ghost use Rattle.rds_tool.specs.Inside.Commands.{app_of_row, bare_app, rule_of_row, with_command, with_each};
 
 use crate::help;
+use clap::builder::ValueParser;
 use clap::{Arg, ArgAction, Command};
 use std::alloc::{AllocError, Global};
 
-/// A command, or the refusal of memory for it. The functions below pass a refusal on, so that none of their callers has
-/// to look for one.
-type Made<'a> = Result<Command<'a>, AllocError>;
-
-/// The whole command line.
-pub fn rds_command<'a>(alloc: Global) -> Made<'a>
-    ensures { Makes result rds_app }
-{
-    let top = Ok(bare_command(alloc));
-    let top = with_command(top, scan_command(alloc));
-    let top = with_command(top, list_command(alloc));
-    let top = with_command(top, follow_command(alloc));
-    let top = with_command(top, totals_command(alloc));
-    with_command(top, encode_command(alloc))
+/// An option of a command.
+#[derive(Clone, Copy)]
+struct OptionRow {
+    name: &'static str,
+    action: ArgAction,
+    /// How help names its value, if it takes one.
+    value: &'static [&'static str],
+    parser: ValueParser<'static>,
+    default: &'static [&'static str],
+    help: &'static str,
 }
 
-fn bare_command<'a>(alloc: Global) -> Command<'a>
+/// A command of the program.
+#[derive(Clone, Copy)]
+struct CommandRow {
+    name: &'static str,
+    about: &'static str,
+    usage: &'static str,
+    after: &'static str,
+    options: &'static [OptionRow],
+}
+
+const FLAG: OptionRow = OptionRow {
+    name: "",
+    action: ArgAction::SetTrue,
+    value: &[],
+    parser: ValueParser::Bool,
+    default: &[],
+    help: "",
+};
+
+/// A number below 2^32.
+const NUMBER: OptionRow = OptionRow {
+    name: "",
+    action: ArgAction::Set,
+    value: &["N"],
+    parser: ValueParser::Signed(0, 4_294_967_295),
+    default: &[],
+    help: "",
+};
+
+const HEX_INPUT: OptionRow = OptionRow {
+    name: "hex",
+    help: help::HEX_INPUT,
+    ..FLAG
+};
+
+const HEX_OUTPUT: OptionRow = OptionRow {
+    name: "hex",
+    help: help::HEX_OUTPUT,
+    ..FLAG
+};
+
+const BITS: OptionRow = OptionRow {
+    name: "bits",
+    parser: ValueParser::Unsigned(0, 1_099_511_627_776),
+    help: help::BITS,
+    ..NUMBER
+};
+
+const GAPS: OptionRow = OptionRow {
+    name: "gaps",
+    value: &["TEXT"],
+    parser: ValueParser::String,
+    help: help::GAPS,
+    ..NUMBER
+};
+
+const BURST: OptionRow = OptionRow {
+    name: "burst",
+    default: &["2"],
+    help: help::BURST,
+    ..NUMBER
+};
+
+const REACH: OptionRow = OptionRow {
+    name: "reach",
+    default: &["3"],
+    help: help::REACH,
+    ..NUMBER
+};
+
+const LOSS: OptionRow = OptionRow {
+    name: "loss",
+    default: &["10"],
+    help: help::LOSS,
+    ..NUMBER
+};
+
+const SHARE: OptionRow = OptionRow {
+    name: "share",
+    help: help::SHARE,
+    ..NUMBER
+};
+
+const OF: OptionRow = OptionRow {
+    name: "of",
+    default: &["64"],
+    help: help::OF,
+    ..NUMBER
+};
+
+const PIECES: OptionRow = OptionRow {
+    name: "pieces",
+    default: &["16"],
+    help: help::PIECES,
+    ..NUMBER
+};
+
+const WORKERS: OptionRow = OptionRow {
+    name: "workers",
+    default: &["4"],
+    help: help::WORKERS,
+    ..NUMBER
+};
+
+const PROGRESS: OptionRow = OptionRow {
+    name: "progress",
+    help: help::PROGRESS,
+    ..FLAG
+};
+
+static COMMANDS: [CommandRow; 5] = [
+    CommandRow {
+        name: "scan",
+        about: help::SCAN,
+        usage: help::SCAN_USAGE,
+        after: help::SCAN_AFTER,
+        options: &[HEX_INPUT, BITS, GAPS, WORKERS, PROGRESS],
+    },
+    CommandRow {
+        name: "list",
+        about: help::LIST,
+        usage: help::LIST_USAGE,
+        after: help::LIST_AFTER,
+        options: &[
+            HEX_INPUT, BITS, GAPS, BURST, REACH, LOSS, SHARE, OF, PIECES, WORKERS, PROGRESS,
+        ],
+    },
+    CommandRow {
+        name: "follow",
+        about: help::FOLLOW,
+        usage: help::FOLLOW_USAGE,
+        after: help::FOLLOW_AFTER,
+        options: &[BITS, GAPS, BURST, REACH, LOSS, SHARE, OF],
+    },
+    CommandRow {
+        name: "totals",
+        about: help::TOTALS,
+        usage: help::TOTALS_USAGE,
+        after: help::TOTALS_AFTER,
+        options: &[
+            HEX_INPUT, BITS, GAPS, BURST, REACH, LOSS, SHARE, OF, PIECES, WORKERS, PROGRESS,
+        ],
+    },
+    CommandRow {
+        name: "encode",
+        about: help::ENCODE,
+        usage: help::ENCODE_USAGE,
+        after: help::ENCODE_AFTER,
+        options: &[HEX_OUTPUT],
+    },
+];
+
+/// The whole command line.
+pub fn rds_command<'a>(alloc: Global) -> Result<Command<'a>, AllocError>
+    ensures { Makes result rds_app }
+{
+    with_commands(alloc, top_command(alloc), COMMANDS.as_slice())
+}
+
+fn top_command<'a>(alloc: Global) -> Command<'a>
     ensures { ReadsAs result bare_app }
 {
-    named(alloc, "rds", help::RDS, help::RDS_USAGE, help::RDS_AFTER)
+    bare_command(alloc, "rds", help::RDS, help::RDS_USAGE, help::RDS_AFTER)
         .version(help::VERSION)
         .subcommand_required(true)
 }
 
-fn scan_command<'a>(alloc: Global) -> Made<'a>
-    ensures { Makes result scan_app }
-{
-    let command = recording_command(
-        alloc,
-        named(
-            alloc,
-            "scan",
-            help::SCAN,
-            help::SCAN_USAGE,
-            help::SCAN_AFTER,
-        ),
-    );
-    with_workers(alloc, command)
-}
-
-fn list_command<'a>(alloc: Global) -> Made<'a>
-    ensures { Makes result (ruled_app (codes "list")) }
-{
-    ruled_command(
-        alloc,
-        named(
-            alloc,
-            "list",
-            help::LIST,
-            help::LIST_USAGE,
-            help::LIST_AFTER,
-        ),
-    )
-}
-
-fn follow_command<'a>(alloc: Global) -> Made<'a>
-    ensures { Makes result follow_app }
-{
-    let command = named(
-        alloc,
-        "follow",
-        help::FOLLOW,
-        help::FOLLOW_USAGE,
-        help::FOLLOW_AFTER,
-    );
-    with_sync_rules(alloc, part_command(alloc, Ok(command)))
-}
-
-fn totals_command<'a>(alloc: Global) -> Made<'a>
-    ensures { Makes result (ruled_app (codes "totals")) }
-{
-    ruled_command(
-        alloc,
-        named(
-            alloc,
-            "totals",
-            help::TOTALS,
-            help::TOTALS_USAGE,
-            help::TOTALS_AFTER,
-        ),
-    )
-}
-
-fn encode_command<'a>(alloc: Global) -> Made<'a>
-    ensures { Makes result encode_app }
-{
-    let command = named(
-        alloc,
-        "encode",
-        help::ENCODE,
-        help::ENCODE_USAGE,
-        help::ENCODE_AFTER,
-    );
-    command.arg(flag_option(alloc, "hex", help::HEX_OUTPUT))
-}
-
-fn named<'a>(
+fn bare_command<'a>(
     alloc: Global,
     name: &'a str,
     about: &'a str,
@@ -118,138 +203,39 @@ fn named<'a>(
         .after_help(after)
 }
 
-/// A command that reads a recording, with the options that say how.
-fn recording_command<'a>(alloc: Global, command: Command<'a>) -> Made<'a>
-    ensures { (app : App) → ReadsAs command.entry app → Makes result (with_input app) }
-{
-    part_command(
-        alloc,
-        command.arg(flag_option(alloc, "hex", help::HEX_INPUT)),
-    )
-}
-
-/// One that reads bits, with the options that say which of them mean something.
-fn part_command<'a>(alloc: Global, command: Made<'a>) -> Made<'a>
-    ensures { (app : App) → Makes command.entry app → Makes result (with_part app) }
-{
-    let command = with_option(command, bits_option(alloc));
-    with_option(command, gaps_option(alloc))
-}
-
-/// One that reads a recording, with the rules of the synchroniser, its pieces and its crew too.
-fn ruled_command<'a>(alloc: Global, command: Command<'a>) -> Made<'a>
-    ensures { (app : App) → ReadsAs command.entry app → Makes result (with_settings (with_input app)) }
-{
-    let command = with_sync_rules(alloc, recording_command(alloc, command));
-    let command = with_number(alloc, command, "pieces", "16", help::PIECES);
-    with_workers(alloc, command)
-}
-
-fn with_sync_rules<'a>(alloc: Global, command: Made<'a>) -> Made<'a>
-    ensures { (app : App) → Makes command.entry app → Makes result (with_rules app) }
-{
-    let command = with_number(alloc, command, "burst", "2", help::BURST);
-    let command = with_number(alloc, command, "reach", "3", help::REACH);
-    let command = with_number(alloc, command, "loss", "10", help::LOSS);
-    let command = with_share(alloc, command);
-    with_number(alloc, command, "of", "64", help::OF)
-}
-
-/// How many work, and whether they tell how far they are.
-fn with_workers<'a>(alloc: Global, command: Made<'a>) -> Made<'a>
-    ensures { (app : App) → Makes command.entry app → Makes result (with_crew app) }
-{
-    let command = with_number(alloc, command, "workers", "4", help::WORKERS);
-    with_option(command, flag_option(alloc, "progress", help::PROGRESS))
-}
-
-fn flag_option<'a>(alloc: Global, name: &'a str, help: &'a str) -> Arg<'a>
-    ensures rule { rule_of result ≡ flag_rule name.entry.now }
-    ensures local { result.global ≡ false }
-{
-    Arg::new(alloc, name)
-        .long(name)
-        .action(ArgAction::SetTrue)
-        .help(help)
-}
-
-fn bits_option<'a>(alloc: Global) -> Arg<'a>
-    ensures rule { rule_of result ≡ bits_rule }
-    ensures local { result.global ≡ false }
-{
-    let parser = clap::value_parser!(u64).range(0..=1_099_511_627_776);
-    value_option(alloc, "bits", "N", help::BITS).value_parser(parser)
-}
-
-fn gaps_option<'a>(alloc: Global) -> Arg<'a>
-    ensures rule { rule_of result ≡ gaps_rule }
-    ensures local { result.global ≡ false }
-{
-    value_option(alloc, "gaps", "TEXT", help::GAPS)
-}
-
-fn number_option<'a>(alloc: Global, name: &'a str, default: &'a str, help: &'a str) -> Arg<'a>
-    ensures rule { rule_of result ≡ number_rule name.entry.now default.entry.now }
-    ensures local { result.global ≡ false }
-{
-    value_option(alloc, name, "N", help)
-        .value_parser(clap::value_parser!(u32))
-        .default_value(default)
-}
-
-fn share_option<'a>(alloc: Global) -> Arg<'a>
-    ensures rule { rule_of result ≡ share_rule }
-    ensures local { result.global ≡ false }
-{
-    value_option(alloc, "share", "N", help::SHARE).value_parser(clap::value_parser!(u32))
-}
-
-/// An option with one value, which help calls so and any parser may still read.
-fn value_option<'a>(alloc: Global, name: &'a str, value: &'a str, help: &'a str) -> Arg<'a>
-    ensures rule { rule_of result ≡ value_rule name.entry.now }
-    ensures local { result.global ≡ false }
-{
-    Arg::new(alloc, name)
-        .long(name)
-        .value_name(value)
-        .action(ArgAction::Set)
-        .help(help)
-}
-
-fn with_number<'a>(
+fn with_commands<'a>(
     alloc: Global,
-    command: Made<'a>,
-    name: &'a str,
-    default: &'a str,
-    help: &'a str,
-) -> Made<'a>
-    ensures { (app : App) → Makes command.entry app → Makes result (with_rule app (number_rule name.entry.now default.entry.now)) }
+    top: Command<'a>,
+    rows: &[CommandRow],
+) -> Result<Command<'a>, AllocError>
+    ensures { (app : App) → ReadsAs top.entry app → Makes result (with_each with_command app rows.now) }
 {
-    with_option(command, number_option(alloc, name, default, help))
-}
-
-fn with_share<'a>(alloc: Global, command: Made<'a>) -> Made<'a>
-    ensures { (app : App) → Makes command.entry app → Makes result (with_rule app share_rule) }
-{
-    with_option(command, share_option(alloc))
-}
-
-fn with_option<'a>(command: Made<'a>, option: Arg<'a>) -> Made<'a>
-    requires { option.global ≡ false }
-    ensures { (app : App) → Makes command.entry app → Makes result (with_rule app (rule_of option.entry)) }
-{
-    match command {
-        Ok(command) => command.arg(option),
-        Err(error) => Err(error),
+    let mut top = top;
+    for row in rows {
+        top = top.subcommand(command_of(alloc, row)?)?;
     }
+    Ok(top)
 }
 
-fn with_command<'a>(top: Made<'a>, command: Made<'a>) -> Made<'a>
-    ensures { (above below : App) → Makes top.entry above → Makes command.entry below → Makes result (with_subcommand above below.top) }
+fn command_of<'a>(alloc: Global, row: &CommandRow) -> Result<Command<'a>, AllocError>
+    ensures { Makes result (app_of_row row.now) }
 {
-    match (top, command) {
-        (Ok(top), Ok(command)) => top.subcommand(command),
-        (Err(error), _) => Err(error),
-        (_, Err(error)) => Err(error),
+    let mut command = bare_command(alloc, row.name, row.about, row.usage, row.after);
+    for option in row.options {
+        command = command.arg(option_of(alloc, option))?;
     }
+    Ok(command)
+}
+
+fn option_of<'a>(alloc: Global, row: &OptionRow) -> Arg<'a>
+    ensures rule { rule_of result ≡ rule_of_row row.now }
+    ensures local { result.global ≡ false }
+{
+    Arg::new(alloc, row.name)
+        .long(row.name)
+        .action(row.action)
+        .value_names(row.value)
+        .value_parser(row.parser)
+        .default_values(row.default)
+        .help(row.help)
 }

@@ -1,10 +1,7 @@
 //! From the entries of a parsed command line to the job or stream that they ask for.
-ghost use Rattle.std.specs.Prelude.{◌≡◌, ◌⊎◌, IfErr, IfNone, IfOk, IfSome, List, None, Option, Some, codes, false, ℕ};
+ghost use Rattle.std.specs.Prelude.{◌≡◌, ◌⊎◌, IfErr, IfOk, None, Some, codes};
 ghost use Rattle.clap.specs.Words.{found_of, one_of, rows_of, subcommand_rows_of};
-ghost use Rattle.rds_sync.specs.declared.loss.Loss.{Loss};
-ghost use Rattle.rds_tool.specs.declared.job.Cuts.{Cuts};
-ghost use Rattle.rds_tool.specs.declared.job.Input.{Input};
-ghost use Rattle.rds_tool.specs.CommandLine.{AreRules, AreSettings, FitNoInput, FitNoRules, FitNoSettings, FitNoStream, GivesNoRuled, GivesNothing, IsAskedOf, IsFlag, IsInput, IsRequest, MaySpell, Spells, SpellsLoss, SpellsPieces, gaps_asked_for, ignored_by, is_given as the_words_give};
+ghost use Rattle.rds_tool.specs.CommandLine.{Gives, asked_by as the_asked_by, asked_with, flag_of, gaps_asked_for, if_given, ignored_by, is_given as the_words_give, loss_of, number_of, request_of as the_request_of, request_with as the_request_with, rules_of, settings_of};
 
 use crate::fault::NoJob;
 use crate::gap_text::gaps_of;
@@ -16,84 +13,62 @@ use std::alloc::Global;
 
 /// The job or stream that a parsed command line asks for, or why there is none.
 pub fn asked_in(alloc: Global, matches: &ArgMatches<'_>) -> Result<Asked, NoJob>
-    ensures asked { IfOk result (IsAskedOf (subcommand_rows_of matches.now)) }
-    ensures none { IfErr result (GivesNothing (subcommand_rows_of matches.now)) }
+    ensures { Gives (the_asked_by (subcommand_rows_of matches.now)) result }
 {
-    let (name, entries) = matches.subcommand().ok_or(NoJob::Entries)?;
-    let request = request_by(alloc, name, entries)?;
-    Ok(Asked {
-        request,
-        ignored: ignored_in(entries),
-    })
-}
-
-fn request_by(alloc: Global, name: &str, entries: &ArgMatches<'_>) -> Result<Request, NoJob>
-    ensures request { IfOk result (IsRequest name.now (rows_of (found_of entries.now))) }
-    ensures none { IfErr result (GivesNothing (Some (name.now, rows_of (found_of entries.now)))) }
-{
-    let job = match name {
-        "scan" => {
-            let gaps = gaps_in(alloc, entries)?;
-            let input = input_in(entries, gaps).ok_or(NoJob::Entries)?;
-            let workers = number_in(entries, "workers").ok_or(NoJob::Entries)?;
-            Job::Scan(input, workers)
-        }
-        "list" => {
-            let (input, settings) = ruled_in(alloc, entries)?;
-            Job::List(input, settings)
-        }
-        "totals" => {
-            let (input, settings) = ruled_in(alloc, entries)?;
-            Job::Totals(input, settings)
-        }
-        "encode" => Job::Encode {
-            hex: flag_in(entries, "hex"),
-        },
-        "follow" => {
-            let (input, rules) = stream_in(alloc, entries)?;
-            return Ok(Request::Follow(input, rules));
-        }
-        _ => return Err(NoJob::Entries),
-    };
-    Ok(Request::Job {
-        job,
-        progress: flag_in(entries, "progress"),
-    })
+    match matches.subcommand() {
+        Some((name, entries)) => asked_by(alloc, name, entries),
+        None => Err(NoJob::Entries),
+    }
 }
 
 /// The gaps are looked at first: a fault of them is named.
-fn ruled_in(alloc: Global, entries: &ArgMatches<'_>) -> Result<(Input, Settings), NoJob>
-    ensures ruled { IfOk result (λ ruled. IsInput (rows_of (found_of entries.now)) ruled.0
-        × AreSettings (rows_of (found_of entries.now)) ruled.1) }
-    ensures none { IfErr result (GivesNoRuled (rows_of (found_of entries.now)) (FitNoInput (rows_of (found_of entries.now)))) }
+fn asked_by(alloc: Global, name: &str, entries: &ArgMatches<'_>) -> Result<Asked, NoJob>
+    ensures { Gives (the_asked_by (Some (name.now, rows_of (found_of entries.now)))) result }
 {
     let gaps = gaps_in(alloc, entries)?;
-    let settings = settings_in(entries).ok_or(NoJob::Entries)?;
-    let input = input_in(entries, gaps).ok_or(NoJob::Entries)?;
-    Ok((input, settings))
+    match request_with(name, entries, gaps) {
+        Some(request) => Ok(Asked {
+            request,
+            ignored: ignored_in(entries),
+        }),
+        None => Err(NoJob::Entries),
+    }
 }
 
-/// A stream, in the same order.
-fn stream_in(alloc: Global, entries: &ArgMatches<'_>) -> Result<(Input, RuleNumbers), NoJob>
-    ensures stream { IfOk result (λ stream. IsInput (rows_of (found_of entries.now)) stream.0
-        × AreRules (rows_of (found_of entries.now)) stream.1) }
-    ensures none { IfErr result (GivesNoRuled (rows_of (found_of entries.now)) (FitNoStream (rows_of (found_of entries.now)))) }
+fn request_with(name: &str, entries: &ArgMatches<'_>, gaps: Vec<(u64, u64)>) -> Option<Request>
+    ensures { result ≡ the_request_with name.now (rows_of (found_of entries.now)) gaps.items }
 {
-    let gaps = gaps_in(alloc, entries)?;
-    let rules = rules_in(entries).ok_or(NoJob::Entries)?;
-    let input = input_in(entries, gaps).ok_or(NoJob::Entries)?;
-    Ok((input, rules))
+    let bits = bits_in(entries)?;
+    let hex = flag_in(entries, "hex");
+    request_of(name, entries, Input { hex, bits, gaps })
 }
 
-fn input_in(entries: &ArgMatches<'_>, gaps: Vec<(u64, u64)>) -> Option<Input>
-    ensures input { gaps_asked_for (rows_of (found_of entries.now)) ≡ Some gaps.items
-        → IfSome result (IsInput (rows_of (found_of entries.now))) }
-    ensures none { IfNone result ((input : Input) → IsInput (rows_of (found_of entries.now)) input → ⊥) }
+fn request_of(name: &str, entries: &ArgMatches<'_>, input: Input) -> Option<Request>
+    ensures { result ≡ the_request_of name.now (rows_of (found_of entries.now)) input }
 {
-    Some(Input {
-        hex: flag_in(entries, "hex"),
-        bits: bits_in(entries)?,
-        gaps,
+    let job = match name {
+        "scan" => {
+            let workers = number_in(entries, "workers")?;
+            Job::Scan(input, workers)
+        }
+        "list" => {
+            let settings = settings_in(entries)?;
+            Job::List(input, settings)
+        }
+        "totals" => {
+            let settings = settings_in(entries)?;
+            Job::Totals(input, settings)
+        }
+        "follow" => {
+            let rules = rules_in(entries)?;
+            return Some(Request::Follow(input, rules));
+        }
+        "encode" => Job::Encode { hex: input.hex },
+        _ => return None,
+    };
+    Some(Request::Job {
+        job,
+        progress: flag_in(entries, "progress"),
     })
 }
 
@@ -109,22 +84,22 @@ fn gaps_in(alloc: Global, entries: &ArgMatches<'_>) -> Result<Vec<(u64, u64)>, N
 }
 
 fn settings_in(entries: &ArgMatches<'_>) -> Option<Settings>
-    ensures settings { IfSome result (AreSettings (rows_of (found_of entries.now))) }
-    ensures none { IfNone result (FitNoSettings (rows_of (found_of entries.now))) }
+    ensures { result ≡ settings_of (rows_of (found_of entries.now)) }
 {
-    let rules = rules_in(entries)?;
+    let RuleNumbers { burst, reach, loss } = rules_in(entries)?;
+    let workers = number_in(entries, "workers")?;
+    let pieces = number_in(entries, "pieces")?;
     Some(Settings {
-        burst: rules.burst,
-        reach: rules.reach,
-        loss: rules.loss,
-        workers: number_in(entries, "workers")?,
-        cuts: cuts_in(entries)?,
+        burst,
+        reach,
+        loss,
+        workers,
+        cuts: Cuts::Even(u64::from(pieces)),
     })
 }
 
 fn rules_in(entries: &ArgMatches<'_>) -> Option<RuleNumbers>
-    ensures rules { IfSome result (AreRules (rows_of (found_of entries.now))) }
-    ensures none { IfNone result (FitNoRules (rows_of (found_of entries.now))) }
+    ensures { result ≡ rules_of (rows_of (found_of entries.now)) }
 {
     Some(RuleNumbers {
         burst: number_in(entries, "burst")?,
@@ -157,8 +132,7 @@ fn is_given(entries: &ArgMatches<'_>, name: &str) -> bool
 
 /// The rule of loss: by the share, if there is one, or else by the number in a row.
 fn loss_in(entries: &ArgMatches<'_>) -> Option<Loss>
-    ensures loss { IfSome result (SpellsLoss (rows_of (found_of entries.now))) }
-    ensures none { IfNone result ((loss : Loss) → SpellsLoss (rows_of (found_of entries.now)) loss → ⊥) }
+    ensures { result ≡ loss_of (rows_of (found_of entries.now)) }
 {
     match share_in(entries)? {
         None => Some(Loss::Run(number_in(entries, "loss")?)),
@@ -170,36 +144,28 @@ fn loss_in(entries: &ArgMatches<'_>) -> Option<Loss>
 }
 
 fn share_in(entries: &ArgMatches<'_>) -> Option<Option<u32>>
-    ensures share { IfSome result (MaySpell 32 (one_of (codes "share") (rows_of (found_of entries.now)))) }
-    ensures none { IfNone result ((share : Option ℕ) → MaySpell 32 (one_of (codes "share") (rows_of (found_of entries.now))) share → ⊥) }
+    ensures { result ≡ if_given 4294967295 (one_of (codes "share") (rows_of (found_of entries.now))) }
 {
     entries.try_get_one::<u32>("share").ok()
 }
 
-fn cuts_in(entries: &ArgMatches<'_>) -> Option<Cuts>
-    ensures cuts { IfSome result (SpellsPieces (one_of (codes "pieces") (rows_of (found_of entries.now)))) }
-    ensures none { IfNone result ((cuts : Cuts) → SpellsPieces (one_of (codes "pieces") (rows_of (found_of entries.now))) cuts → ⊥) }
+fn bits_in(entries: &ArgMatches<'_>) -> Option<Option<u64>>
+    ensures { result ≡ if_given 18446744073709551615 (one_of (codes "bits") (rows_of (found_of entries.now))) }
 {
-    let pieces = number_in(entries, "pieces")?;
-    Some(Cuts::Even(u64::from(pieces)))
+    entries.try_get_one::<u64>("bits").ok()
 }
 
 fn number_in(entries: &ArgMatches<'_>, name: &str) -> Option<u32>
-    ensures number { IfSome result (Spells 32 (one_of name.now (rows_of (found_of entries.now)))) }
-    ensures none { IfNone result ((n : ℕ) → Spells 32 (one_of name.now (rows_of (found_of entries.now))) n → ⊥) }
+    ensures { result ≡ number_of name.now (rows_of (found_of entries.now)) }
 {
     entries.get_one::<u32>(name)
 }
 
 fn flag_in(entries: &ArgMatches<'_>, name: &str) -> bool
-    ensures { IsFlag (one_of name.now (rows_of (found_of entries.now))) result }
+    ensures { result ≡ flag_of name.now (rows_of (found_of entries.now)) }
 {
-    entries.get_flag(name)
-}
-
-fn bits_in(entries: &ArgMatches<'_>) -> Option<Option<u64>>
-    ensures bits { IfSome result (MaySpell 64 (one_of (codes "bits") (rows_of (found_of entries.now)))) }
-    ensures none { IfNone result ((bits : Option ℕ) → MaySpell 64 (one_of (codes "bits") (rows_of (found_of entries.now))) bits → ⊥) }
-{
-    entries.try_get_one::<u64>("bits").ok()
+    match entries.get_str(name) {
+        Some(text) => text == "true",
+        None => false,
+    }
 }

@@ -1,103 +1,79 @@
 -- Command lines as `clap` reads them.
-use Rattle.std.proofs.Common.{◌≡◌, ◌≢◌, ◌⊎◌, ap₂, sym, ℕ, Bool, List, [], ◌∷◌, OnOk, IfErr, IfOk, IsErrAnd, Option, Result, Ok, Err, Some, None, codes, true, false, refl, ap, inl, inr, slice_index, arith}
-use Rattle.std.proofs.lemmas.Bool.{leb-true}
+use Rattle.std.proofs.Common.{◌≡◌, ◌⊎◌, ◌∙◌, sym, List, [], ◌∷◌, OnOk, IfErr, IfOk, IsErrAnd, Option, Result, Ok, Err, Some, None, codes, true, false, refl, ap, inl, inr}
+use Rattle.std.specs.Result.{result_ok}
 use Rattle.clap.specs.Faults.{defaults_fault, flags_fault, walk_fault}
 use Rattle.clap.specs.Takes.{flags_pass, walk_passes}
 use Rattle.clap.specs.Walk.{bundle_met, walked}
-use Rattle.clap.specs.Words.{Row, Text}
+use Rattle.clap.specs.Words.{Kinds, Text}
 use Rattle.clap.specs.declared.error.kind.ErrorKind.{ErrorKind}
 use Rattle.clap.specs.declared.error.kind.ErrorKind.TheVariants as kind
-use Rattle.rds_sync.specs.Rules.{RuleNumbers}
-use Rattle.rds_sync.specs.declared.loss.Loss.{Loss}
-use Rattle.rds_sync.specs.declared.loss.Loss.TheVariants.{Run, Share}
-use Rattle.rds_tool.specs.CommandLine.{AreRules, HasBadGaps, IsAskedOf, IsInput, IsJobOf, IsRequestOf, MayAnswer, MayAnswerNoJob, Spells, entries_of, faults_of}
+use Rattle.rds_sync.specs.declared.loss.Loss.TheVariants.{Share}
+use Rattle.rds_tool.specs.CommandLine.{HasBadGaps, MayRefuse, asked_by, entries_of, faults_of, job_by}
 use Rattle.rds_tool.specs.declared.fault.FaultKind.{FaultKind}
 use Rattle.rds_tool.specs.declared.fault.FaultKind.TheVariants.{Help, Memory, Version, Words}
-use Rattle.rds_tool.specs.declared.job.Input.{Input}
 use Rattle.rds_tool.specs.declared.job.Asked.{Asked}
+use Rattle.rds_tool.specs.declared.job.Cuts.TheVariants as cuts
 use Rattle.rds_tool.specs.declared.job.Ignored.TheVariants as ignored
 use Rattle.rds_tool.specs.declared.job.Job.{Job}
 use Rattle.rds_tool.specs.declared.job.Job.TheVariants as job
-use Rattle.rds_tool.specs.declared.job.Request.{Request}
 use Rattle.rds_tool.specs.declared.job.Request.TheVariants as request
 
--- the request of what is asked
-pub request_of : (entries : Option (Text × List Row)) (given : Asked) → IsAskedOf entries given → IsRequestOf entries given.request
-request_of None given is = is
-request_of (Some entries) given is = is.request
+-- two answers that are computed are the same
+same : {T E : Type 0} (computed : Result T E) (x y : T) → computed ≡ Ok x → computed ≡ Ok y → y ≡ x
+same computed x y is given = let both : Ok x ≡ Ok y = sym is ∙ given in cc
+
+same_job : (computed : Option Job) (x y : Job) → computed ≡ Some x → computed ≡ Some y → y ≡ x
+same_job computed x y is given = let both : Some x ≡ Some y = sym is ∙ given in cc
+
+-- words without a fault that ask for something are refused only for memory
+only_memory : {T : Type 0} (faults : Kinds) (asked : Option T) (x : T) (answer : FaultKind) → faults ≡ [] → asked ≡ Some x → MayRefuse faults asked answer → answer ≡ Memory
+only_memory faults asked x Memory none some may = refl
+only_memory faults asked x Help none some may = absurd (rw none at may)
+only_memory faults asked x Version none some may = absurd (rw none at may)
+only_memory faults asked x Words none some (inl other) = let among = other.2 in absurd (rw none at among)
+only_memory faults asked x Words none some (inr without) = let no : None ≡ Some x = sym without.1 ∙ some in cc
 
 -- ---- a scan of digits
 
 abbrev pub scan_of_digits : List Text
 scan_of_digits = codes "rds" ∷ codes "scan" ∷ codes "--hex" ∷ []
 
+abbrev digits_job : Job
+digits_job = job.Scan (record { hex = true; bits = None; gaps = [] }) 4
+
+abbrev digits_asked : Asked
+digits_asked = record { request = request.Job digits_job false; ignored = None }
+
 no_faults : faults_of scan_of_digits ≡ []
 unfolding walked bundle_met flags_pass walk_passes flags_fault walk_fault defaults_fault
 no_faults = refl
 
--- it is no text that begins with another letter
-other_name : (one other : Text) → one ≡ other → slice_index one 0 ≢ slice_index other 0 → ⊥
-other_name one other is differ = differ (ap (λ (t : Text). slice_index t 0) is)
-
-pub is_scan : (given : Request) → IsRequestOf (entries_of scan_of_digits) given → (input : Input) × (given ≡ request.Job (job.Scan input 4) false) × (input.hex ≡ true)
+asks_for_digits : asked_by (entries_of scan_of_digits) ≡ Ok digits_asked
 unfolding walked
-is_scan (request.Job (job.Scan input workers) progress) is =
-    (input, ap₂ (λ n. request.Job (job.Scan input n)) is.0.2.2 (is.1.2 refl), let input_is = is.0.1 in input_is.hex.1 refl)
-is_scan (request.Job (job.List input settings) progress) is = absurd (other_name (codes "scan") (codes "list") is.0.0 (omega arith))
-is_scan (request.Job (job.Totals input settings) progress) is = absurd (other_name (codes "scan") (codes "totals") is.0.0 (omega arith))
-is_scan (request.Job (job.Encode hex) progress) is = absurd (other_name (codes "scan") (codes "encode") is.0.0 (omega arith))
-is_scan (request.Follow input rules) is = absurd (other_name (codes "scan") (codes "follow") is.0 (omega arith))
+asks_for_digits = refl
 
-pub is_job_of_digits : (given : Job) → IsJobOf (entries_of scan_of_digits) given → (input : Input) × (given ≡ job.Scan input 4) × (input.hex ≡ true)
+pub is_scan : (asked : Asked) → asked_by (entries_of scan_of_digits) ≡ Ok asked → asked.request ≡ request.Job digits_job false
+is_scan asked is = ap (λ (a : Asked). a.request) (same (asked_by (entries_of scan_of_digits)) digits_asked asked asks_for_digits is)
+
+pub is_job_of_digits : (given : Job) → job_by (entries_of scan_of_digits) ≡ Some given → given ≡ digits_job
 unfolding walked
-is_job_of_digits (job.Scan input workers) is = (input, ap (job.Scan input) is.2.2, let input_is = is.1 in input_is.hex.1 refl)
-is_job_of_digits (job.List input settings) is = absurd (other_name (codes "scan") (codes "list") is.0 (omega arith))
-is_job_of_digits (job.Totals input settings) is = absurd (other_name (codes "scan") (codes "totals") is.0 (omega arith))
-is_job_of_digits (job.Encode hex) is = absurd (other_name (codes "scan") (codes "encode") is.0 (omega arith))
+is_job_of_digits given is = same_job (job_by (entries_of scan_of_digits)) digits_job given refl is
 
-abbrev first_digit : Option Text → ℕ
-first_digit None = 0
-first_digit (Some text) = slice_index text 0
-
-true_is_not_false : Some (codes "true") ≡ Some (codes "false") → ⊥
-true_is_not_false same = omega (arith, ap first_digit same)
-
-four : Spells 32 (Some (codes "4")) 4
-four = ((leb-true 1 1 refl, (leb-true 5 10 refl, tt)), leb-true 5 4294967296 refl, refl)
-
-a_job : IsRequestOf (entries_of scan_of_digits) (request.Job (job.Scan (record { hex = true; bits = None; gaps = [] }) 4) false)
-unfolding walked
-a_job =
-    let is_given : Some (codes "true") ≡ None → true ≡ false = λ none. cc in
-    let not_told : Some (codes "false") ≡ Some (codes "true") → false ≡ true = λ same. absurd (true_is_not_false (sym same)) in (
-      (refl, record { hex = (is_given, λ given. refl, λ other. absurd (true_is_not_false other)); bits = refl; gaps = refl }, four),
-      ((λ none. refl), not_told, λ no. refl),
-    )
-
-pub only_memory : (answer : FaultKind) → MayAnswer (faults_of scan_of_digits) (entries_of scan_of_digits) answer → answer ≡ Memory
-only_memory Memory may = refl
-only_memory Help may = absurd (rw no_faults at may)
-only_memory Version may = absurd (rw no_faults at may)
-only_memory Words (inl other) = let among = other.2 in absurd (rw no_faults at among)
-only_memory Words (inr none) = absurd (none.1 _ a_job)
+pub refused_for_memory : (answer : FaultKind) → MayRefuse (faults_of scan_of_digits) (result_ok (asked_by (entries_of scan_of_digits))) answer → answer ≡ Memory
+refused_for_memory answer =
+    only_memory (faults_of scan_of_digits) (result_ok (asked_by (entries_of scan_of_digits))) digits_asked answer no_faults (ap result_ok asks_for_digits)
 
 -- ---- gaps
 
 abbrev pub scan_with_a_gap : List Text
 scan_with_a_gap = codes "rds" ∷ codes "scan" ∷ codes "--gaps" ∷ codes "104-105" ∷ []
 
-pub has_the_gap : (given : Request) → IsRequestOf (entries_of scan_with_a_gap) given
-    → (input : Input) × (given ≡ request.Job (job.Scan input 4) false) × (input.gaps ≡ (104, 105) ∷ [])
+abbrev gap_asked : Asked
+gap_asked = record { request = request.Job (job.Scan (record { hex = false; bits = None; gaps = (104, 105) ∷ [] }) 4) false; ignored = None }
+
+pub has_the_gap : (asked : Asked) → asked_by (entries_of scan_with_a_gap) ≡ Ok asked → asked.request ≡ gap_asked.request
 unfolding walked
-has_the_gap (request.Job (job.Scan input workers) progress) is = (
-  input,
-  ap₂ (λ n. request.Job (job.Scan input n)) is.0.2.2 (is.1.2 refl),
-  let input_is = is.0.1 in let some : Some ((104, 105) ∷ []) ≡ Some input.gaps = input_is.gaps in cc,
-)
-has_the_gap (request.Job (job.List input settings) progress) is = absurd (other_name (codes "scan") (codes "list") is.0.0 (omega arith))
-has_the_gap (request.Job (job.Totals input settings) progress) is = absurd (other_name (codes "scan") (codes "totals") is.0.0 (omega arith))
-has_the_gap (request.Job (job.Encode hex) progress) is = absurd (other_name (codes "scan") (codes "encode") is.0.0 (omega arith))
-has_the_gap (request.Follow input rules) is = absurd (other_name (codes "scan") (codes "follow") is.0 (omega arith))
+has_the_gap asked is = ap (λ (a : Asked). a.request) (same (asked_by (entries_of scan_with_a_gap)) gap_asked asked refl is)
 
 abbrev pub scan_with_bad_gaps : List Text
 scan_with_bad_gaps = codes "rds" ∷ codes "scan" ∷ codes "--gaps" ∷ codes "5" ∷ []
@@ -108,73 +84,48 @@ no_fault_of_gaps = refl
 
 pub has_bad_gaps : HasBadGaps (entries_of scan_with_bad_gaps)
 unfolding walked
-has_bad_gaps = (inl refl, refl)
+has_bad_gaps = refl
 
 -- ---- two rules of loss
 
 abbrev pub list_by_two_losses : List Text
 list_by_two_losses = codes "rds" ∷ codes "list" ∷ codes "--share" ∷ codes "2" ∷ codes "--loss" ∷ codes "10" ∷ []
 
-pub ignores_the_loss : (given : Asked) → IsAskedOf (entries_of list_by_two_losses) given → given.ignored ≡ Some ignored.Loss
+abbrev losses_asked : Asked
+losses_asked = record {
+  request = request.Job (job.List (record { hex = false; bits = None; gaps = [] })
+      (record { burst = 2; reach = 3; loss = Share 2 64; workers = 4; cuts = cuts.Even 16 })) false;
+  ignored = Some ignored.Loss;
+}
+
+pub ignores_the_loss : (asked : Asked) → asked_by (entries_of list_by_two_losses) ≡ Ok asked → asked.ignored ≡ Some ignored.Loss
 unfolding walked
-ignores_the_loss given is = is.ignored
+ignores_the_loss asked is = ap (λ (a : Asked). a.ignored) (same (asked_by (entries_of list_by_two_losses)) losses_asked asked refl is)
 
 -- ---- a stream
 
 abbrev pub follow_by_a_share : List Text
 follow_by_a_share = codes "rds" ∷ codes "follow" ∷ codes "--of" ∷ codes "3" ∷ codes "--share" ∷ codes "2" ∷ []
 
-abbrev rows_of_share : List Row
-rows_of_share = elim (entries_of follow_by_a_share) [ None ↦ [] | Some entries ↦ entries.1 ]
+abbrev stream_asked : Asked
+stream_asked = record {
+  request = request.Follow (record { hex = false; bits = None; gaps = [] }) (record { burst = 2; reach = 3; loss = Share 2 3 });
+  ignored = None;
+}
 
-abbrev by_share : RuleNumbers
-by_share = record { burst = 2; reach = 3; loss = Share 2 3 }
-
-the_rules : (burst reach : ℕ) (loss : Loss) → AreRules rows_of_share (record { burst = burst; reach = reach; loss = loss })
-    → let rules : RuleNumbers = record { burst = burst; reach = reach; loss = loss } in rules ≡ by_share
+pub has_the_share : (asked : Asked) → asked_by (entries_of follow_by_a_share) ≡ Ok asked → asked.request ≡ stream_asked.request
 unfolding walked
-the_rules burst reach (Run n) are = let loss = are.loss in let none = loss.0 in cc none
-the_rules burst reach (Share bad of) are =
-    let burst_is = are.burst in
-    let reach_is = are.reach in
-    let loss_is = are.loss in
-    let bad_is = loss_is.0.2 in
-    let of_is = loss_is.1.2 in
-    rw (burst_is.2, reach_is.2, bad_is, of_is) refl
-
-abbrev all_of_it : Input
-all_of_it = record { hex = false; bits = None; gaps = [] }
-
-the_input : (hex : Bool) (bits : Option ℕ) (gaps : List (ℕ × ℕ)) → IsInput rows_of_share (record { hex = hex; bits = bits; gaps = gaps })
-    → let input : Input = record { hex = hex; bits = bits; gaps = gaps } in input ≡ all_of_it
-unfolding walked
-the_input hex (Some n) gaps are = absurd are.bits
-the_input hex None gaps are =
-    let flag = are.hex in
-    let told : (let none : List (ℕ × ℕ) = [] in Some none) ≡ Some gaps = are.gaps in
-    let same : [] ≡ gaps = cc in
-    rw (flag.0 refl, sym same) refl
-
-pub has_the_share : (given : Request) → IsRequestOf (entries_of follow_by_a_share) given → given ≡ request.Follow all_of_it by_share
-unfolding walked
-has_the_share (request.Follow input rules) is = ap₂ request.Follow (the_input input.hex input.bits input.gaps is.1) (the_rules rules.burst rules.reach rules.loss is.2)
-has_the_share (request.Job (job.Scan input workers) progress) is = absurd (other_name (codes "follow") (codes "scan") is.0.0 (omega arith))
-has_the_share (request.Job (job.List input settings) progress) is = absurd (other_name (codes "follow") (codes "list") is.0.0 (omega arith))
-has_the_share (request.Job (job.Totals input settings) progress) is = absurd (other_name (codes "follow") (codes "totals") is.0.0 (omega arith))
-has_the_share (request.Job (job.Encode hex) progress) is = absurd (other_name (codes "follow") (codes "encode") is.0.0 (omega arith))
+has_the_share asked is = ap (λ (a : Asked). a.request) (same (asked_by (entries_of follow_by_a_share)) stream_asked asked refl is)
 
 no_fault_of_stream : faults_of follow_by_a_share ≡ []
 unfolding walked bundle_met flags_pass walk_passes flags_fault walk_fault defaults_fault
 no_fault_of_stream = refl
 
-pub no_job_of_stream : (given : Job) → IsJobOf (entries_of follow_by_a_share) given → ⊥
+pub no_job_of_stream : (given : Job) → job_by (entries_of follow_by_a_share) ≡ Some given → ⊥
 unfolding walked
-no_job_of_stream (job.Scan input workers) is = other_name (codes "follow") (codes "scan") is.0 (omega arith)
-no_job_of_stream (job.List input settings) is = other_name (codes "follow") (codes "list") is.0 (omega arith)
-no_job_of_stream (job.Totals input settings) is = other_name (codes "follow") (codes "totals") is.0 (omega arith)
-no_job_of_stream (job.Encode hex) is = other_name (codes "follow") (codes "encode") is.0 (omega arith)
+no_job_of_stream given is = let no : None ≡ Some given = is in cc
 
-pub words_or_memory : (answer : FaultKind) → MayAnswerNoJob (faults_of follow_by_a_share) (entries_of follow_by_a_share) answer → (answer ≡ Words) ⊎ (answer ≡ Memory)
+pub words_or_memory : (answer : FaultKind) → MayRefuse (faults_of follow_by_a_share) (job_by (entries_of follow_by_a_share)) answer → (answer ≡ Words) ⊎ (answer ≡ Memory)
 words_or_memory Words may = inl refl
 words_or_memory Memory may = inr refl
 words_or_memory Help may = absurd (rw no_fault_of_stream at may)
@@ -206,7 +157,7 @@ pub asks_for_help : faults_of help_of_list ≡ kind.DisplayHelp ∷ []
 unfolding walked bundle_met flags_pass walk_passes flags_fault walk_fault defaults_fault
 asks_for_help = refl
 
-pub help_or_memory : (answer : FaultKind) → MayAnswer (faults_of help_of_list) (entries_of help_of_list) answer → (answer ≡ Help) ⊎ (answer ≡ Memory)
+pub help_or_memory : (answer : FaultKind) → MayRefuse (faults_of help_of_list) (result_ok (asked_by (entries_of help_of_list))) answer → (answer ≡ Help) ⊎ (answer ≡ Memory)
 help_or_memory Help may = inl refl
 help_or_memory Memory may = inr refl
 help_or_memory Version may =
@@ -225,7 +176,7 @@ pub asks_for_version : faults_of version ≡ kind.DisplayVersion ∷ []
 unfolding walked bundle_met flags_pass walk_passes flags_fault walk_fault defaults_fault
 asks_for_version = refl
 
-pub version_or_memory : (answer : FaultKind) → MayAnswer (faults_of version) (entries_of version) answer → (answer ≡ Version) ⊎ (answer ≡ Memory)
+pub version_or_memory : (answer : FaultKind) → MayRefuse (faults_of version) (result_ok (asked_by (entries_of version))) answer → (answer ≡ Version) ⊎ (answer ≡ Memory)
 version_or_memory Version may = inl refl
 version_or_memory Memory may = inr refl
 version_or_memory Help may =

@@ -1,7 +1,6 @@
 //! Facts that the program relies on when it reads its command line.
 ghost use Rattle.std.specs.Prelude.{◌≡◌, ◌⊎◌, ◌++◌, ◌∷◌, [], IfErr, IfOk, None, OnOk, Some, codes, false, string_bytes, true};
 ghost use Rattle.rds_sync.specs.declared.loss.Loss.TheVariants.{Share};
-ghost use Rattle.rds_tool.specs.declared.job.Input.{Input as AnInput};
 ghost use Rattle.rds_tool.specs.declared.job.Job.TheVariants as AJob;
 
 use rds_tool::{Asked, CliFault, FaultKind, Ignored, Job, Request, asked_of, job_of};
@@ -24,7 +23,8 @@ static VERSION: [&str; 2] = ["rds", "--version"];
 /// `rds scan --hex` asks for a scan of digits by four workers, whose progress is not told: if memory is not
 /// refused it is that, and nothing else.
 pub fn scan_of_digits(alloc: Global) -> Result<Asked, CliFault>
-    ensures job { IfOk result (λ asked. (input : AnInput) × (asked.request ≡ Request.Job (AJob.Scan input 4) false) × (input.hex ≡ true)) }
+    ensures job { IfOk result (λ asked. asked.request
+        ≡ Request.Job (AJob.Scan (record { hex = true; bits = None; gaps = [] }) 4) false) }
     ensures fault { IfErr result (λ fault. fault.kind ≡ FaultKind.Memory) }
 {
     asked_of(alloc, SCAN_OF_DIGITS.as_slice())
@@ -32,14 +32,15 @@ pub fn scan_of_digits(alloc: Global) -> Result<Asked, CliFault>
 
 /// The same words give the same job.
 pub fn job_of_digits(alloc: Global) -> Result<Job, CliFault>
-    ensures { IfOk result (λ job. (input : AnInput) × (job ≡ AJob.Scan input 4) × (input.hex ≡ true)) }
+    ensures { IfOk result (λ job. job ≡ AJob.Scan (record { hex = true; bits = None; gaps = [] }) 4) }
 {
     job_of(alloc, SCAN_OF_DIGITS.as_slice())
 }
 
 /// `rds scan --gaps 104-105` asks for a scan with this gap.
 pub fn scan_with_a_gap(alloc: Global) -> Result<Asked, CliFault>
-    ensures { IfOk result (λ asked. (input : AnInput) × (asked.request ≡ Request.Job (AJob.Scan input 4) false) × (input.gaps ≡ (104, 105) ∷ [])) }
+    ensures { IfOk result (λ asked. asked.request
+        ≡ Request.Job (AJob.Scan (record { hex = false; bits = None; gaps = (104, 105) ∷ [] }) 4) false) }
 {
     asked_of(alloc, SCAN_WITH_A_GAP.as_slice())
 }

@@ -1,23 +1,25 @@
-use Rattle.std.proofs.Common.{Bor, List, map, ℕ}
+use Rattle.std.proofs.Common.{◌∙◌, Bor, List, ap, map, ℕ}
+use Rattle.std.specs.Option.{option_and_then}
+use Rattle.std.specs.Result.{result_ok}
 use Rattle.std.proofs.lemmas.Result.{IfErr-weaker, IfOk-weaker}
-use Rattle.rds_tool.specs.CommandLine.{entries_of, faults_of}
-use Rattle.rds_tool.proofs.Jobs.{is_job, of_stream, only_jobs}
+use Rattle.rds_tool.specs.CommandLine.{asked_by, entries_of, faults_of, job_by, job_in}
+use Rattle.rds_tool.specs.declared.job.Asked.{Asked}
+use Rattle.rds_tool.proofs.Refusing.{no_job, of_stream}
 use Rattle.rds_tool.proofs.cli.job_of.Goals as goal
 
 pub returns-in-Ok-clause-entries : goal.returns-in-Ok-clause-entries
 returns-in-Ok-clause-entries c =
-    let words = map (λ (w : Bor (List ℕ)). w.now) c.args.words.now in
-    let asked = c.in-Ok in
-    IfOk-weaker c.job_in.result _ _ (λ job has. is_job (entries_of words) asked.asked job has.0 asked.ensures.entries has.1) c.job_in.ensures.job
+    let asked = ap (λ r. option_and_then (λ (a : Asked). job_in a.request) (result_ok r)) c.in-Ok.ensures.entries in
+    IfOk-weaker c.job_in.result _ _ (λ job is. asked ∙ is) c.job_in.ensures.job
 
 pub returns-in-Ok-clause-refused : goal.returns-in-Ok-clause-refused
 returns-in-Ok-clause-refused c =
     let words = map (λ (w : Bor (List ℕ)). w.now) c.args.words.now in
-    let asked = c.in-Ok in
+    let asked = ap (λ r. option_and_then (λ (a : Asked). job_in a.request) (result_ok r)) c.in-Ok.ensures.entries in
     IfErr-weaker c.job_in.result _ _
-    (λ fault by. of_stream (faults_of words) (entries_of words) asked.asked fault.kind asked.ensures.faultless asked.ensures.entries by.0 by.1) c.job_in.ensures.stream
+    (λ fault by. of_stream (faults_of words) (job_by (entries_of words)) fault.kind c.in-Ok.ensures.faultless (asked ∙ by.0) by.1) c.job_in.ensures.stream
 
 pub returns-in-Err-clause-refused : goal.returns-in-Err-clause-refused
 returns-in-Err-clause-refused c =
     let words = map (λ (w : Bor (List ℕ)). w.now) c.args.words.now in
-    only_jobs (faults_of words) (entries_of words) c.in-Err.fault.kind c.in-Err.ensures.refused
+    no_job (faults_of words) (result_ok (asked_by (entries_of words))) c.in-Err.fault.kind c.in-Err.ensures.refused

@@ -1,9 +1,11 @@
+use Rattle.std.proofs.Common.{◌≡◌, ap}
+use Rattle.rds_tool.specs.CommandLine.{rds_app}
+use Rattle.rds_tool.specs.Inside.Commands.{bare_app, with_command, with_each}
 use Rattle.rds_tool.proofs.commands.rds_command.Goals as goal
 
+-- the table has the commands that the program is said to have
 pub returns : goal.returns
 returns c =
-    let scan = c.with_command-top.ensures _ _ c.bare_command.ensures c.scan_command.ensures in
-    let list = c.with_command-top-2.ensures _ _ scan c.list_command.ensures in
-    let follow = c.with_command-top-3.ensures _ _ list c.follow_command.ensures in
-    let totals = c.with_command-top-4.ensures _ _ follow c.totals_command.ensures in
-    c.with_command.ensures _ _ totals c.encode_command.ensures
+    let rows_are : with_each with_command bare_app c.as_slice.result.now ≡ rds_app = ap (with_each with_command bare_app) c.as_slice.ensures in
+    let made = c.with_commands.ensures _ c.top_command.ensures in
+    rw rows_are at made

@@ -1,10 +1,8 @@
-use Rattle.std.proofs.Common.{codes}
+use Rattle.std.proofs.Common.{◌∙◌, codes}
 use Rattle.clap.specs.Words.{found_of}
-use Rattle.rds_tool.proofs.Getters.{may_none, may_rows}
+use Rattle.rds_tool.proofs.Getters.{bits_rows}
 use Rattle.rds_tool.proofs.entries.bits_in.Goals as goal
 
-pub returns-clause-bits : goal.returns-clause-bits
-returns-clause-bits c = may_rows 64 (found_of c.args.entries.now) (codes "bits") c.try_get_one.result c.ok.result c.ok.ensures.value c.try_get_one.ensures.none c.try_get_one.ensures.value
-
-pub returns-clause-none : goal.returns-clause-none
-returns-clause-none c = may_none 64 (found_of c.args.entries.now) (codes "bits") c.try_get_one.result c.ok.result c.ok.ensures.value c.try_get_one.ensures.none c.try_get_one.ensures.value
+pub returns : goal.returns
+returns c =
+    c.ok.ensures.value ∙ bits_rows (found_of c.args.entries.now) (codes "bits") c.try_get_one.result c.try_get_one.ensures.none c.try_get_one.ensures.value

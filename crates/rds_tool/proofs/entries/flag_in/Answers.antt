@@ -1,6 +1,16 @@
+use Rattle.std.proofs.Common.{◌∙◌, Bor, List, Option, ap, sym, ℕ}
+use Rattle.std.specs.Option.{option_map}
 use Rattle.clap.specs.Words.{found_of}
+use Rattle.rds_tool.specs.CommandLine.{is_true}
 use Rattle.rds_tool.proofs.Getters.{flag_rows}
 use Rattle.rds_tool.proofs.entries.flag_in.Goals as goal
 
-pub returns : goal.returns
-returns c = flag_rows (found_of c.args.entries.now) c.args.name.now c.get_flag.result (c.get_flag.ensures.none, c.get_flag.ensures.value, c.get_flag.ensures.other)
+pub returns-in-Some : goal.returns-in-Some
+returns-in-Some c =
+    let given = ap (λ (o : Option (Bor (List ℕ))). is_true (option_map (λ s. s.now) o)) c.in-Some.is in
+    c.eq.ensures ∙ sym given ∙ flag_rows (found_of c.args.entries.now) c.args.name.now c.get_str.result c.get_str.ensures
+
+pub returns-in-None : goal.returns-in-None
+returns-in-None c =
+    let none = ap (λ (o : Option (Bor (List ℕ))). is_true (option_map (λ s. s.now) o)) c.in-None.is in
+    sym none ∙ flag_rows (found_of c.args.entries.now) c.args.name.now c.get_str.result c.get_str.ensures

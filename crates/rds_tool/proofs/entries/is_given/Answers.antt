@@ -2,20 +2,20 @@ use Rattle.std.proofs.Common.{◌∙◌, Some, ap, sym}
 use Rattle.clap.specs.Words.{found_of}
 use Rattle.clap.specs.declared.parser.matches.ValueSource.{ValueSource}
 use Rattle.rds_tool.specs.CommandLine.{is_of_words}
-use Rattle.rds_tool.proofs.Getters.{given_rows}
+use Rattle.rds_tool.proofs.Getters.{source_is}
 use Rattle.rds_tool.proofs.entries.is_given.Goals as goal
 
 pub returns-in-Some-CommandLine : goal.returns-in-Some-CommandLine
 returns-in-Some-CommandLine c =
-    let given = given_rows (found_of c.args.entries.now) c.args.name.now c.value_source.result c.value_source.ensures in
+    let given = source_is (found_of c.args.entries.now) c.args.name.now c.value_source.result c.value_source.ensures in
     sym (given ∙ ap is_of_words c.in-Some-CommandLine.is ∙ ap (λ (s : ValueSource). is_of_words (Some s)) c.in-Some-CommandLine.field-0-is)
 
 pub returns-in-Some-DefaultValue : goal.returns-in-Some-DefaultValue
 returns-in-Some-DefaultValue c =
-    let given = given_rows (found_of c.args.entries.now) c.args.name.now c.value_source.result c.value_source.ensures in
+    let given = source_is (found_of c.args.entries.now) c.args.name.now c.value_source.result c.value_source.ensures in
     sym (given ∙ ap is_of_words c.in-Some-DefaultValue.is ∙ ap (λ (s : ValueSource). is_of_words (Some s)) c.in-Some-DefaultValue.field-0-is)
 
 pub returns-in-None : goal.returns-in-None
 returns-in-None c =
-    let given = given_rows (found_of c.args.entries.now) c.args.name.now c.value_source.result c.value_source.ensures in
+    let given = source_is (found_of c.args.entries.now) c.args.name.now c.value_source.result c.value_source.ensures in
     sym (given ∙ ap is_of_words c.in-None.is)

@@ -11,14 +11,24 @@ use Rattle.rds_sync.proofs.tally.Tally.report.Goals as goal
 pub overflow_sub-left : goal.overflow_sub-left
 overflow_sub-left c =
     let t = c.self.inside in
-    omega (arith, ap (λ (k : CountOf). k.items) c.self.invariant.count,
-    length-append t.items.list (run t.items.source t.items.rules t.start_state t.start_place (t.place - t.start_place)).1, c.items.ensures.value, c.len.ensures)
+    omega (
+      arith,
+      ap (λ (k : CountOf). k.items) c.self.invariant.count,
+      length-append t.items.list (run t.items.source t.items.rules t.start_state t.start_place (t.place - t.start_place)).1,
+      c.items.ensures.value,
+      c.len.ensures,
+    )
 
 pub push_span-requires-clause-count : goal.push_span-requires-clause-count
 push_span-requires-clause-count c =
     let t = c.self.inside in
-    omega (arith, ap (λ (k : CountOf). k.items) c.self.invariant.count,
-    length-append t.items.list (run t.items.source t.items.rules t.start_state t.start_place (t.place - t.start_place)).1, c.items.ensures.value, c.len.ensures)
+    omega (
+      arith,
+      ap (λ (k : CountOf). k.items) c.self.invariant.count,
+      length-append t.items.list (run t.items.source t.items.rules t.start_state t.start_place (t.place - t.start_place)).1,
+      c.items.ensures.value,
+      c.len.ensures,
+    )
 
 pub plus-requires : goal.plus-requires
 plus-requires c =

@@ -2,7 +2,7 @@ use Rattle.std.proofs.Common.{◌∙◌, Bool, ap}
 use Rattle.clap.specs.Simple.{app_of_fields}
 use Rattle.clap.specs.declared.builder.command.Command.TheOpen.{Command-F}
 use Rattle.clap.specs.declared.builder.command.Command.{Command}
-use Rattle.rds_tool.proofs.commands.named.Goals as goal
+use Rattle.rds_tool.proofs.commands.bare_command.Goals as goal
 
 abbrev local_of : Command-F Command → Bool
 local_of fields = fields.has_globals

@@ -1,0 +1,43 @@
+-- The request of each command, by its name.
+use Rattle.std.proofs.Common.{◌∙◌, ◌≡◌, ◌≢◌, Bool, List, None, Option, Some, codes, false, refl, sym, true, ℕ}
+use Rattle.std.specs.Option.{option_map}
+use Rattle.std.specs.Str.{bytes_eq}
+use Rattle.std.proofs.lemmas.Slice.Eq.{bytes_eq-Decides}
+use Rattle.clap.specs.Words.{Row, Text}
+use Rattle.rds_sync.specs.Rules.{RuleNumbers}
+use Rattle.rds_tool.specs.CommandLine.{number_of, request_of, rules_of, settings_of, with_progress}
+use Rattle.rds_tool.specs.declared.job.Input.{Input}
+use Rattle.rds_tool.specs.declared.job.Job.TheVariants.{Encode, List as ListJob, Scan, Totals}
+use Rattle.rds_tool.specs.declared.job.Request.TheVariants.{Follow}
+use Rattle.rds_tool.specs.declared.job.Settings.{Settings}
+
+module _ (name : Text) (rows : List Row) (input : Input) where
+  pub of_scan : name ≡ codes "scan" → (read workers : Option ℕ) → read ≡ number_of (codes "workers") rows → read ≡ workers
+      → option_map (λ n. with_progress rows (Scan input n)) workers ≡ request_of name rows input
+  of_scan is read workers reads same = rw (is, sym same ∙ reads) refl
+
+  pub of_list : name ≡ codes "list" → (read settings : Option Settings) → read ≡ settings_of rows → read ≡ settings
+      → option_map (λ s. with_progress rows (ListJob input s)) settings ≡ request_of name rows input
+  of_list is read settings reads same = rw (is, sym same ∙ reads) refl
+
+  pub of_totals : name ≡ codes "totals" → (read settings : Option Settings) → read ≡ settings_of rows → read ≡ settings
+      → option_map (λ s. with_progress rows (Totals input s)) settings ≡ request_of name rows input
+  of_totals is read settings reads same = rw (is, sym same ∙ reads) refl
+
+  pub of_follow : name ≡ codes "follow" → (read rules : Option RuleNumbers) → read ≡ rules_of rows → read ≡ rules
+      → option_map (Follow input) rules ≡ request_of name rows input
+  of_follow is read rules reads same = rw (is, sym same ∙ reads) refl
+
+  pub of_encode : name ≡ codes "encode" → Some (with_progress rows (Encode input.hex)) ≡ request_of name rows input
+  of_encode is = rw is refl
+
+  differs : (word : Text) → name ≢ word → bytes_eq name word ≡ false
+  differs word differ = by (bytes_eq name word) refl
+    where
+      by : (b : Bool) → bytes_eq name word ≡ b → b ≡ false
+      by true same = absurd (differ ((bytes_eq-Decides name word).0 same))
+      by false same = refl
+
+  pub of_other : name ≢ codes "scan" → name ≢ codes "list" → name ≢ codes "totals" → name ≢ codes "follow" → name ≢ codes "encode" → None ≡ request_of name rows input
+  of_other scan list totals follow encode =
+      rw (differs (codes "scan") scan, differs (codes "list") list, differs (codes "totals") totals, differs (codes "follow") follow, differs (codes "encode") encode) refl
