@@ -81,14 +81,14 @@ cat >"$work/options" <<'END'
 Options:
       --hex          The input is hex digits of either case; blanks and line
                      ends are ignored
-      --bits <N>     Length of the recording in bits, 0 to 68719476736
+      --bits <N>     Decode only the first N bits, 0 to 68719476736
                      [default: all bits of the input]
       --gaps <TEXT>  Ignore the bits at these positions: FROM-TO,FROM-TO and so
                      on, in order; TO is the first position after a gap
       --burst <N>    Correct error bursts of up to N bits,
                      0 to 5 [default: 2]
-      --reach <N>    Acquire sync by two valid blocks, in sequence, at most N
-                     blocks apart, 1 to 8 [default: 3]
+      --reach <N>    Acquire sync by two valid blocks, at most N blocks apart,
+                     whose offset words fit each other, 1 to 8 [default: 3]
       --loss <N>     Drop sync after N consecutive bad blocks, 1 to 64; a
                      corrected block is bad; ignored with --share [default: 10]
       --share <N>    Instead of --loss: drop sync when N of the last blocks are
@@ -106,12 +106,12 @@ for words in 'list --help' 'help totals'; do
     "$rds" $words 2>"$work/err" </dev/null | sed -n '/^Options:$/,/^$/p' | sed '/^$/d' >"$work/out"
     judge "options in the help by $words" 0 "${PIPESTATUS[0]}" "$(cat "$work/options")\n" ''
 done
-check 'help of follow on --bits' 0 '*--bits <N>     Length of the recording in bits' '' '' follow --help
+check 'help of follow on --bits' 0 '*--bits <N>     Decode only the first N bits' '' '' follow --help
 check 'help of follow on --burst' 0 '*--burst <N>    Correct error bursts of up to N bits' '' '' follow --help
 check 'help of follow on --of' 0 '*--of <N>       How many of the last blocks' '' '' follow --help
 check 'help of scan on --workers' 0 '*--workers <N>  Use at most N threads' '' '' scan --help
 check 'help of scan on --progress' 0 '*--progress     Show progress in one line' '' '' scan --help
-check 'help of scan on --bits' 0 '*--bits <N>     Length of the recording in bits' '' '' help scan
+check 'help of scan on --bits' 0 '*--bits <N>     Decode only the first N bits' '' '' help scan
 check 'help of scan on --gaps' 0 '*--gaps <TEXT>  Ignore the bits at these positions' '' '' help scan
 check 'help of encode on --hex' 0 '*--hex   Write each group as a line of 26 lower-case' '' '' encode --help
 help_begins 'Decodes and encodes Radio Data System bits, standard input to standard output'

@@ -16,11 +16,11 @@ Use < FILE, not FILE. Example: rds list < recording.bin > listing.csv";
 pub const RDS_AFTER: &str =
     "The input is packed bits, MSB first, after differential decoding; with --hex it
 is the hex digits of these bytes. A position is the number of a bit, from 0. A
-block has 26 bits and is named by the position of its last bit.
+row gives the position of a block's last bit, but of a group's first.
 
 Exit status: 0 if the output is complete, or help or the version was requested
-and written; 1 for an error; 2 for a usage error. After an error nothing was
-written, except after 10; 'follow' leaves the rows before an error. One line
+and written; 1 for an error; 2 for a usage error. After any error but 10 nothing
+was written; 'follow' leaves the rows before an error. One line
 'refused NUMBER NAME' goes to standard error:
 
    1 BurstRange     --burst is above 5
@@ -74,11 +74,11 @@ group. A field that says nothing is '-'.
   total,NAME,VALUE       the twelve totals, as 'rds totals' writes them
 
 TYPE is 0 to 15, or '-' if block 2 is unknown. VERSION is A, B or ?, followed by
-'!' if blocks 2 and 3 disagree. A block is one of
+'!' if the offset word of block 3 contradicts block 2. A block is one of
 
   none            not read: sent before sync, after its loss, or past the end
   lost            uncorrectable, or it touches a gap
-  B:2540          valid: its offset word and its information word in hex
+  B:2540          valid: offset word (A, B, C, Cx, D) and information word in hex
   C:0000~0008000  corrected: '~' is followed by the 26-bit error mask in hex,
                   16 information bits, then 10 check bits
 
@@ -136,7 +136,7 @@ ends are ignored";
 
 pub const HEX_OUTPUT: &str = "Write each group as a line of 26 lower-case hex digits";
 
-pub const BITS: &str = "Length of the recording in bits, 0 to 68719476736
+pub const BITS: &str = "Decode only the first N bits, 0 to 68719476736
 [default: all bits of the input]";
 
 pub const GAPS: &str = "Ignore the bits at these positions: FROM-TO,FROM-TO and so
@@ -145,8 +145,8 @@ on, in order; TO is the first position after a gap";
 pub const BURST: &str = "Correct error bursts of up to N bits,
 0 to 5";
 
-pub const REACH: &str = "Acquire sync by two valid blocks, in sequence, at most N
-blocks apart, 1 to 8";
+pub const REACH: &str = "Acquire sync by two valid blocks, at most N blocks apart,
+whose offset words fit each other, 1 to 8";
 
 pub const LOSS: &str = "Drop sync after N consecutive bad blocks, 1 to 64; a
 corrected block is bad; ignored with --share";
