@@ -62,7 +62,6 @@ test: toolchain
 	@rm -f $(LOG)
 	+$(MAKE) --no-print-directory -j 2 WHEN='--beside $(LOG)' wrong-bodies built
 	+$(MAKE) --no-print-directory tests/growth.sh
-	crates/rds_bench/out/rds_bench --check
 	@[ -n "$$(git status --porcelain)" ] || git rev-parse HEAD > build/passed
 
 # what `rt ci` says, for the wrong bodies that wait for it
@@ -98,7 +97,8 @@ OVER = $(RDS)
 tests/refusals.sh: OVER = $(RDS) crates/rds_bench/out/rds_bench
 tests/library.sh: OVER = build/lib $(RDS) $(FOLDER_arm64)
 tests/package.sh: OVER = $(RDS) build/lib $(FOLDER_arm64)
-tests/monitor.sh tests/scripts.sh tests/growth.sh: OVER = $(RDS) build/lib
+tests/monitor.sh tests/scripts.sh: OVER = $(RDS) build/lib
+tests/growth.sh: OVER = $(RDS) build/lib crates/rds_bench/out/rds_bench
 tests/library.sh tests/package.sh tests/monitor.sh tests/scripts.sh tests/growth.sh: lib
 
 # A script that hangs is ended, and named: all of them take a few minutes together. `timeout` puts it out of the terminal's

@@ -48,8 +48,7 @@ PATH=$all_tools ln -s "$(realpath crates)" "$(realpath bindings)" "$copy" || exi
 
 # One process compares the copy each time.
 coproc copies { PATH=$all_tools exec python3 "$here/pages.py" "$rds" --copies; }
-exec {to_copies}>&"${copies[1]}" {of_copies}<&"${copies[0]}" {copies[1]}>&- {copies[0]}<&-
-comparing=$!
+to_copies=${copies[1]} of_copies=${copies[0]} comparing=$!
 
 # pages_of_copy: compares the pages of the copy; 0 if nothing differs, and 1 if something does
 pages_of_copy() {

@@ -1,5 +1,5 @@
 #!/usr/bin/env bash
-# Time that grows as the input does: tests/growth.sh PATH-TO-RDS [LIBRARY-FOLDER]
+# Time that grows as the input does: tests/growth.sh PATH-TO-RDS [LIBRARY-FOLDER [PATH-TO-RDS_BENCH]]
 #
 # Runs jobs over inputs of three sizes, each four times the one before, and compares the processor time that they take: it
 # may grow eightfold from one size to the next. A job that goes over its input some times takes four times as long; one
@@ -10,11 +10,13 @@
 # that is slow and a file, many workers and one, many gaps and none, calls of the library for C and a list.
 # The last line is 'N passed, M failed', and the exit status says whether all passed.
 
-usage='usage: tests/growth.sh PATH-TO-RDS [LIBRARY-FOLDER]'
+usage='usage: tests/growth.sh PATH-TO-RDS [LIBRARY-FOLDER [PATH-TO-RDS_BENCH]]'
 # shellcheck source-path=SCRIPTDIR source=common.sh
 . "$(dirname "$0")/common.sh" || exit
 check_programs "${1:-}"
 if [ $# -gt 1 ] && [ ! -f "$2/librds.a" ]; then misused; fi
+bench=
+if [ $# -gt 2 ]; then check_programs "$3" && bench=$(realpath "$3"); fi
 rds=$(realpath "$1")
 library=${2:+$(realpath "$2")}
 limit_time "$rds"
@@ -66,7 +68,7 @@ slowly() { while head -c 65536 >piece && [ -s piece ]; do cat piece && sleep 0.0
 spend() {
     local most=$1 limit=$(($1 * 4 / 1000 + 10)) input=$2 TIMEFORMAT='%U %S' times
     shift 2
-    if times=$({ { time timeout "$limit" "$@" <"$input" 2>err; } 2>&3 | "$reader" >out; } 3>&1) && [ -s out ]; then
+    if times=$({ { time timeout "$limit" "$@" <"$work/$input" 2>err; } 2>&3 | "$reader" >out; } 3>&1) && [ -s out ]; then
         spent=$(awk '{ printf "%d", ($1 + $2) * 1000 + 1 }' <<<"$times")
     else
         spent=$((most + 1000))
@@ -119,22 +121,6 @@ job() {
     fi
 }
 
-for input in station damaged losing hiss; do
-    job $input scan
-    job $input list --pieces 1 --workers 1
-    job $input totals --workers 2
-done
-job losing list --loss 1 --reach 8 --pieces 1 --workers 1
-job losing totals --share 3 --of 20 --pieces PIECES --workers 1
-job worst totals --loss 1 --pieces PIECES --workers 2
-job worst list --loss 1 --pieces 1 --workers 1
-job station list --pieces PIECES --workers 2
-job station list --gaps GAPS --workers 1
-job losing totals --gaps GAPS --pieces PIECES --workers 1
-job lines encode
-job lines encode --hex
-job lines list --hex --workers 1
-
 # ---- jobs that do the same in two ways
 
 # beside TIMES READER INPUT COMMAND.. beside COMMAND..: whether the first job, whose output goes to that reader, takes at most so many
@@ -164,41 +150,96 @@ beside() {
     fi
 }
 
+# ---- the lanes
+
 one=("$rds" list --workers 1)
 many=$(gaps 10000 9 5)
-beside 2 cat station.16 "$rds" follow beside "${one[@]}"
-beside 2 cat losing.16 "$rds" follow beside "${one[@]}"
-beside 2 cat station.16 "$rds" follow --bits 19000001 beside "${one[@]}" --bits 19000001
-beside 2 cat station.16 "$rds" follow --gaps "$many" beside "${one[@]}" --gaps "$many"
-for workers in 8 32; do
-    beside 4 cat station.16 "$rds" scan --workers $workers beside "$rds" scan --workers 1
-    beside 4 cat station.16 "$rds" list --workers $workers beside "${one[@]}"
-done
-beside 2 cat station.16 "$rds" list --progress beside "$rds" list
-beside 2 slowly station.16 "$rds" list beside "$rds" list
-# a recording whose rows are one part
-beside 3 cat station.1 "$rds" list --workers 4 beside "${one[@]}"
-for input in damaged hiss; do beside 3 cat $input.16 "$rds" totals --workers 4 beside "$rds" totals --workers 1; done
-beside 3 cat worst.16 "$rds" totals --loss 1 --workers 4 beside "$rds" totals --loss 1 --workers 1
 far=$(gaps 4900 1000 5)
-beside 3 cat station.4 "$rds" list --workers 1 --gaps "$far" beside "${one[@]}"
-beside 3 cat hiss.4 "$rds" scan --workers 1 --gaps "$far" beside "$rds" scan --workers 1
-if [ -n "$library" ]; then
-    PATH=$all_tools ${CC:-cc} -O2 -I"$library" -o push "$here/push.c" "$library/librds.a" || exit 1
-    beside 2 cat station.16 ./push 65536 0 beside "${one[@]}"
-    beside 2 cat station.16 ./push 1024 0 beside "${one[@]}"
-    PATH=$all_tools ${CC:-cc} -O2 -I"$library" -o run "$here/run.c" "$library/librds.a" || exit 1
+
+# growing: jobs whose time grows as their input does
+growing() {
+    for input in station damaged losing hiss; do
+        job $input scan
+        job $input list --pieces 1 --workers 1
+        job $input totals --workers 2
+    done
+    job losing list --loss 1 --reach 8 --pieces 1 --workers 1
+    job losing totals --share 3 --of 20 --pieces PIECES --workers 1
+    job worst totals --loss 1 --pieces PIECES --workers 2
+    job worst list --loss 1 --pieces 1 --workers 1
+    job station list --pieces PIECES --workers 2
+    job station list --gaps GAPS --workers 1
+    job losing totals --gaps GAPS --pieces PIECES --workers 1
+    job lines encode
+    job lines encode --hex
+    job lines list --hex --workers 1
+}
+
+# in_two_ways: jobs of the program that do the same
+in_two_ways() {
+    beside 2 cat station.16 "$rds" follow beside "${one[@]}"
+    beside 2 cat losing.16 "$rds" follow beside "${one[@]}"
+    beside 2 cat station.16 "$rds" follow --bits 19000001 beside "${one[@]}" --bits 19000001
+    beside 2 cat station.16 "$rds" follow --gaps "$many" beside "${one[@]}" --gaps "$many"
+    for workers in 8 32; do
+        beside 4 cat station.16 "$rds" scan --workers $workers beside "$rds" scan --workers 1
+        beside 4 cat station.16 "$rds" list --workers $workers beside "${one[@]}"
+    done
+    beside 2 cat station.16 "$rds" list --progress beside "$rds" list
+    beside 2 slowly station.4 "$rds" list beside "$rds" list
+    # a recording whose rows are one part
+    beside 3 cat station.1 "$rds" list --workers 4 beside "${one[@]}"
+    for input in damaged hiss; do beside 3 cat $input.16 "$rds" totals --workers 4 beside "$rds" totals --workers 1; done
+    beside 3 cat worst.16 "$rds" totals --loss 1 --workers 4 beside "$rds" totals --loss 1 --workers 1
+    beside 3 cat station.4 "$rds" list --workers 1 --gaps "$far" beside "${one[@]}"
+    beside 3 cat hiss.4 "$rds" scan --workers 1 --gaps "$far" beside "$rds" scan --workers 1
+}
+
+# by_library: calls of the library, beside a list
+by_library() {
+    PATH=$all_tools ${CC:-cc} -O2 -I"$library" -o "$work/push" "$here/push.c" "$library/librds.a" || exit 1
+    beside 2 cat station.16 "$work/push" 65536 0 beside "${one[@]}"
+    beside 2 cat station.16 "$work/push" 1024 0 beside "${one[@]}"
+    PATH=$all_tools ${CC:-cc} -O2 -I"$library" -o "$work/run" "$here/run.c" "$library/librds.a" || exit 1
     # ranges of 16,384 bits, and of 4,096
-    beside 4 cat station.16 ./run 16384 beside "${one[@]}"
-    beside 8 cat station.16 ./run 4096 beside "${one[@]}"
-    beside 2 cat station.16 ./push 65536 10000 beside "${one[@]}" --gaps "$many"
+    beside 4 cat station.16 "$work/run" 16384 beside "${one[@]}"
+    beside 8 cat station.16 "$work/run" 4096 beside "${one[@]}"
+    beside 2 cat station.16 "$work/push" 65536 10000 beside "${one[@]}" --gaps "$many"
     # a million gaps: over the whole stream, and at each call for a few bytes
-    program=./push
+    program="$work/push"
     job station 65536 COUNT
-    head -c 16384 station.1 >few
-    beside 4 cat few ./push 64 1000000 beside ./push 64 1000000 look
+    head -c 8192 "$work/station.1" >"$work/few"
+    beside 4 cat few "$work/push" 64 1000000 beside "$work/push" 64 1000000 look
+}
+
+first_lane() { in_two_ways; }
+second_lane() {
+    [ -z "$bench" ] || if timeout 600 "$bench" --check >checked 2>&1; then pass; else fail "rds_bench --check: $(<checked)"; fi
+    growing
+    if [ -n "$library" ]; then by_library; else echo 'skipped: calls of the library, which is not given'; fi
+}
+
+# run_lane NAME: runs these jobs in a folder of their own, and notes how many passed and failed
+run_lane() {
+    mkdir "$work/$1" && cd "$work/$1" || exit 1
+    "$1"
+    echo "$passed $failed" >counts
+}
+
+if [ -n "${UNTIL_FAILURE:-}" ]; then
+    # the first failure ends the script
+    second_lane
+    first_lane
 else
-    echo 'skipped: calls of the library, which is not given'
+    (run_lane first_lane) >said 2>&1 &
+    lane=$!
+    (run_lane second_lane) || exit 1
+    wait $lane || exit 1
+    cat said
+    for lane in first_lane second_lane; do
+        read -r lane_passed lane_failed <$lane/counts || exit 1
+        ((passed += lane_passed, failed += lane_failed)) || true
+    done
 fi
 
 finish

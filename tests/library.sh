@@ -160,7 +160,7 @@ if has python3 objdump; then
     tried 'a fresh environment' python3 -m venv --without-pip "$work/venv"
     # pip of 22.3 or later installs into another environment; else it has to be in there
     install=(install --quiet --no-index --no-deps "$work/wheel"/*.whl)
-    if ! python3 -m pip --python "$work/venv/bin/python" "${install[@]}" >"$work/said" 2>&1; then
+    if python3 -m pip --python "$work/venv/bin/python" "${install[@]}" >"$work/said" 2>&1; then pass; else
       tried 'pip in it' "$work/venv/bin/python" -m ensurepip
       tried 'installing the wheel' "$work/venv/bin/python" -m pip "${install[@]}"
     fi

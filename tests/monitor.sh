@@ -34,7 +34,14 @@ has() {
 if has numpy pytest hypothesis; then
   workers=()
   if has xdist; then workers=(-n "$(nproc)" --dist loadgroup); fi
-  tried 'the tests of monitor/' "$python" -B -m pytest -q -rs -p no:cacheprovider "${workers[@]}" monitor/tests
+  # Their files, less than 100 MB, are in memory if there is room: the watch waits for each of its writes.
+  files=$work/files
+  mkdir "$files"
+  if [[ -w /dev/shm && $(df --output=avail /dev/shm | tail -n 1) -gt 1000000 ]]; then
+    files=$(mktemp -d -p /dev/shm) || exit 1
+    trap 'rm -rf "$work" "$files"' EXIT
+  fi
+  tried 'the tests of monitor/' "$python" -B -m pytest -q -rs -p no:cacheprovider --basetemp "$files/of_tests" "${workers[@]}" monitor/tests
   sed -n 's/^SKIPPED/skipped:/p' "$work/said"
   tail -n 1 "$work/said"
 

@@ -4,7 +4,7 @@
     station.py --pi D318 --ps ALPHA --rt 'Now: nothing' [--errors RATE] [--outage EVERY:SECONDS] > bits
 
 Group N of a station is the same whoever receives it: it begins N / 11.418 seconds after 1970. Each sixth group has its number (6A).
---errors is the rate of wrong bits. --outage is noise for some seconds at the end of every so many. --dies ends the program after some
+--errors is the rate of wrong bits. --outage is noise for the last SECONDS of every EVERY seconds. --dies ends the program after some
 seconds of the station, --hangs lets it go on without output, --wrong-pi is another PI for some seconds, like an outage.
 """
 
@@ -22,7 +22,7 @@ Words = Tuple[int, int, int, int]
 
 
 class Periodic(NamedTuple):
-    """The last `seconds` of every so many."""
+    """The last `seconds` of every `every` seconds."""
 
     every: float
     seconds: float

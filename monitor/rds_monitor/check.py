@@ -55,11 +55,11 @@ class Limits(NamedTuple):
     oldest: float
 
 
-# ---- what was received
+# ---- reception
 
 
 class Reception:
-    """What the rows of one session tell. `begin` and `end` are the positions of what is judged."""
+    """What the rows of one session tell. `begin` and `end` are the positions of the judged part."""
 
     def __init__(self, rate: float, names: bool):
         self._rate = rate

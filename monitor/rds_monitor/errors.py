@@ -33,7 +33,7 @@ class Interval(NamedTuple):
 
 
 class Errors:
-    """Blocks by intervals of so many bits. A block belongs to the interval of its first bit."""
+    """Blocks by intervals of `bits` bits. A block belongs to the interval of its first bit."""
 
     def __init__(self, bits: float):
         self._bits = bits

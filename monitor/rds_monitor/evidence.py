@@ -26,7 +26,7 @@ def key_of(kind: int, message: Any = 0, position: Any = 0) -> Any:
 
 
 class Observations(NamedTuple):
-    """What was received, in the order of time within a key: `at` is the number of the group."""
+    """Received values, in the order of time within a key: `at` is the number of the group."""
 
     key: Array
     at: Array

@@ -1,4 +1,4 @@
-"""Where each field lies in a group: one table for all group types, with the clauses of IEC 62106.
+"""The position of each field in a group: one table for all group types, with the clauses of IEC 62106.
 
 The clauses are those of the edition of 2009; EN 50067:1998 has the same text in its clause 3 in place of 6. Enhanced
 RadioText, RadioText Plus, the DAB link and the long PS are of later documents, which their lines name.

@@ -48,7 +48,7 @@ def hour_of(path: str) -> Optional[Hour]:
 
 
 def take_hour(arguments: argparse.Namespace) -> None:
-    """The options that the name of an input stands for: an hour's file is a part of a listing, with a start and a rate."""
+    """The options that the name of an input implies: an hour's file is a part of a listing, with a start and a rate."""
     given = getattr(arguments, "input", None)
     paths: List[str] = given if isinstance(given, list) else [given] if isinstance(given, str) else []
     hours = [hour_of(path) for path in paths]

@@ -1,4 +1,4 @@
-"""Rows of what was decoded, and where they come from: a recording, a listing or standard input, told apart by content.
+"""Decoded rows, and their sources: a recording, a listing or standard input, told apart by content.
 
 Most commands work on numpy arrays of the dtype `ITEM`, a row per acquisition, group or loss, in the order of a listing.
 A `Source` gives them in chunks, so memory does not grow with the length of the input. numpy is imported only where rows
@@ -322,7 +322,7 @@ def _open(path: str) -> tuple[BinaryIO, Optional[int]]:
 
 
 def _read_some(stream: Readable, least: int) -> bytes:
-    """At least so many bytes, or all there are: a pipe may give few at a time."""
+    """At least `least` bytes, or all there are: a pipe may give few at a time."""
     data = b""
     while len(data) < least:
         more = stream.read(CHUNK)

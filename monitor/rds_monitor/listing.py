@@ -2,8 +2,8 @@
 
 The reader takes no row that it would not write again in the same bytes: it compares the type and version of a group
 with its blocks, each row with the one before, and the totals with the rows. Lines may end in CR LF, and UTF-8 may begin
-with its mark. Rows are parsed by numpy over the bytes of many lines at once (parse.py); what follows what is judged
-here.
+with its mark. Rows are parsed by numpy over the bytes of many lines at once (parse.py); the order of rows is
+judged here.
 """
 
 from __future__ import annotations

@@ -70,7 +70,7 @@ class Outages:
         places, needed = self._open + valid, self._needed
         # A later block may still make the last ones count.
         keep = max(0, len(places) - needed + 1)
-        # Of each so many in a row, whether they are within a second.
+        # Of each `needed` in a row, whether they are within a second.
         dense = bytes(map((self._second - BLOCK_BITS).__ge__, map(sub, places[needed - 1 :], places)))
         first = int.from_bytes(dense, "little")
         counts = int.from_bytes(self._counts, "little")

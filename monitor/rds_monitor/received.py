@@ -141,9 +141,12 @@ class Groups:
         if index is not None:
             index, sound = self._carry(blocks, index)
         else:
-            if (look.groups, blocks) not in self._carried:
-                self._carried[look.groups, blocks] = self._carry(blocks, self.of(look.groups))
-            index, sound = self._carried[look.groups, blocks]
+            known = self._carried.get((look.groups, blocks))
+            if known is None:
+                of_types = self.of(look.groups)
+                known = self._carry(blocks, of_types) if of_types.size else (of_types, of_types)
+                self._carried[look.groups, blocks] = known
+            index, sound = known
         if not index.size:
             return NONE_SEEN
         if look.when:
@@ -207,7 +210,7 @@ class Frequencies:
 
 
 class Received:
-    """What was received of one programme. `news` takes the next groups of it."""
+    """The reception of one programme. `news` takes the next groups of it."""
 
     def __init__(self, everything: bool = False) -> None:
         """With `everything`, all that counts is news: slow, and the measure that `news` is tested by."""

@@ -145,7 +145,7 @@ class Endless:
         return int(seconds * RATE / 8)
 
     def _hour(self, number: int) -> bytes:
-        """So many groups."""
+        """The groups of an hour."""
         count = 41100
         if number not in self._hours:
             text = self._programme._replace(rt=f"Song number {number}")

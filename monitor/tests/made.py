@@ -86,7 +86,7 @@ def run(*words: Any, data: bytes = b"") -> Done:
 
 
 def said(*words: Any, data: bytes = b"") -> List[str]:
-    """The lines of a command that ends well."""
+    """The lines of a command that succeeds."""
     done = run(*words, data=data)
     assert done.status == 0, done.err
     return done.out.splitlines()

@@ -69,7 +69,7 @@ def low_noise(random: numpy.random.Generator, size: int, rate: int) -> Array:
 
 @lru_cache(maxsize=8)
 def longer_audio(longer: int, rate: int) -> Array:
-    """So many samples of a stereo programme: the sum of both channels, and their difference at 38 kHz, within -1 and 1 but for rare
+    """Samples of a stereo programme: the sum of both channels, and their difference at 38 kHz, within -1 and 1 but for rare
     peaks."""
     random = numpy.random.default_rng(5)
     # Half of the power of each channel is in both.

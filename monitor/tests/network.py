@@ -179,7 +179,7 @@ class Network:
         self.given.append((words[0], run))
         return run
 
-    def run(self, seconds: float, tick: float = 0.5, each: Callable[[], None] = lambda: None) -> None:
+    def run(self, seconds: float, tick: float = 1.0, each: Callable[[], None] = lambda: None) -> None:
         for _ in range(round(seconds / tick)):
             self.times.pass_by(tick)
             each()

@@ -107,9 +107,9 @@ def main(runs: int) -> int:
     return min(failed, 1)
 
 
-# Seconds of a processor for a day's page, and its size.
+# CPU-seconds for a day's page, and its size.
 REPORT_SECONDS, REPORT_BYTES = 5.0, 1_000_000
-# Seconds of a processor for a minute of 192 kHz MPX.
+# CPU-seconds for a minute of 192 kHz MPX.
 DEMOD_SECONDS = 1.0
 
 

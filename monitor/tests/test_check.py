@@ -238,7 +238,7 @@ def test_a_pattern_for_dynamic_ps(tmp_path) -> None:
     judged(
         2, "RDS CRITICAL - *, name the Day instead of BETA? or GAMMA | *", "--name", "BETA?", "--name", "GAMMA", path
     )
-    # What was named more than a minute before the end does not count.
+    # A name more than a minute before the end does not count.
     path = of_names(tmp_path / "it.csv", "ALPHA FM", *["BETA FM", "Now"] * 8, each=20)
     judged(2, "RDS CRITICAL - *, name Now instead of ALPHA* | *", "--name", "ALPHA*", path)
 

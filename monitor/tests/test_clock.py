@@ -71,7 +71,7 @@ def minute_group(place: int, time: int) -> numpy.ndarray:
 
 def clock_times(hours: int, ppm: float, dropped: int = 0, wrong: int = 97) -> bytes:
     """The clock times of some hours from 2026-03-29T00:31Z on, which begin 17.25 s after half past, by a clock that is
-    off by so many parts per million; each within a tenth of a second, one in `wrong` says another minute, and half way
+    off by `ppm` parts per million; each within a tenth of a second, one in `wrong` says another minute, and half way
     bits are absent.
     """
     random, rows = numpy.random.default_rng(5), []

@@ -158,7 +158,7 @@ def test_an_application_by_a_wrong_correction_takes_no_group() -> None:
 
 
 def plain(values: Sequence[Tuple[int, bool, bool]]) -> List[int]:
-    """The values of one part that count, from what was received: each with whether its group is whole and its blocks
+    """The values of one part that count, from the received values: each with whether its group is whole and its blocks
     are valid."""
     found: List[int] = []
     last: Optional[int] = None

@@ -26,7 +26,7 @@ class Judged:
         self.held: Dict[str, Any] = {"pi": "D318"}
 
     def seconds(self, count: int, *, age: float = 0.1, quiet: float = 0.0, since: Optional[float] = None, **held: Any) -> "Judged":
-        """So many seconds in which this holds; `age` and `quiet` grow if they are above 2."""
+        """`count` seconds in which this holds; `age` and `quiet` grow if they are above 2."""
         changes = [Event(0, 0xD318, item, value, None, str(value)) for item, value in held.items() if self.held.get(item) != value]
         self.held.update(held)
         for n in range(count):

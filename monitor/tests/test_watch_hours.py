@@ -1,4 +1,4 @@
-"""Hours' files: their names, what is left of one after a crash, and what is removed."""
+"""Hours' files: their names, what is left of one after a crash, and their removal."""
 
 from __future__ import annotations
 

@@ -226,7 +226,7 @@ class PowerFailure(BaseException):
 
 
 class Disk:
-    """Operations on the disk, before one of which the power fails. It keeps what was synchronised, and perhaps more."""
+    """Operations on the disk, before one of which the power fails. It keeps all synchronised bytes, and perhaps more."""
 
     def __init__(self, monkeypatch: pytest.MonkeyPatch, folder: Path):
         from rds_monitor.watch import records, writer
@@ -328,11 +328,11 @@ def test_a_full_disk(tmp_path: Path, monkeypatch: pytest.MonkeyPatch) -> None:
         return real(self, path, data[:some])
 
     monkeypatch.setattr(writer.HourWriter, "append", append)
-    it.run(20)
+    it.run(20, tick=0.5)
     room["bytes"] = 333
-    it.run(60)
+    it.run(60, tick=0.5)
     room.clear()
-    it.run(20)
+    it.run(20, tick=0.5)
     it.end()
     same_as_sent(it, tmp_path)
     assert [alarm[0] for alarm in alarms(it)] == ["disk"] and 24 < alarms(it)[0][1] < 28 and 79 < alarms(it)[0][2] < 83
@@ -404,8 +404,8 @@ def test_a_disk_that_hangs(tmp_path: Path, monkeypatch: pytest.MonkeyPatch) -> N
     it.run(10)
     with monkeypatch.context() as patch:
         patch.setattr(InTurn, "is_idle", property(lambda self: False))
-        it.run(20)
-    it.run(10)
+        it.run(20, tick=0.5)
+    it.run(10, tick=0.5)
     it.end()
     same_as_sent(it, tmp_path)
     ((name, begin, end),) = alarms(it)

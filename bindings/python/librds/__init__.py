@@ -232,7 +232,7 @@ class _Asked:
     def recording(self) -> tuple[Any, ...]:
         return (*self.bytes, self.bits, *self.terms)
 
-    def behind(self, count: int) -> Any:
+    def rest_after(self, count: int) -> Any:
         """The bytes after the first `count`."""
         start = ctypes.cast(self.bytes[0], ctypes.c_void_p).value or 0
         return ctypes.cast(start + count, ctypes.POINTER(ctypes.c_uint8))
@@ -449,7 +449,7 @@ class Follower:
             while not parts or done < asked.length:
                 rest = asked.length - done
                 room, lent = rooms(16 + rest // 4)
-                given = (asked.behind(done), rest, *asked.terms, stream, lent, len(room))
+                given = (asked.rest_after(done), rest, *asked.terms, stream, lent, len(room))
                 _check(int(_library.rds_push(*given, taken, count)))
                 parts.append(room[: count.value])
                 done += taken.value

@@ -156,7 +156,7 @@
       this.show(first, first + span);
     }
 
-    // Seconds from here on, kept within what was received.
+    // Seconds from here on, kept within the recording.
     show(first, last) {
       const span = Math.min(last - first, this.to - this.from);
       this.first = Math.max(this.from, Math.min(first, this.to - span));

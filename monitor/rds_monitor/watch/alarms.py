@@ -13,7 +13,7 @@ from .table import StationTable
 from .times import Timing
 
 NAMES = ("silent", "no_rds", "errors", "pi", "ps", "rt", "ps_stuck", "rt_stuck", "ta", "pty31", "ct", "disk")
-# The fault has to be gone for so many seconds before an alarm ends.
+# How many seconds the fault has to be gone before an alarm ends.
 CLEAR = {"silent": 5.0, "no_rds": 5.0, "pi": 10.0, "ps": 10.0, "rt": 10.0, "ta": 5.0, "pty31": 10.0}
 # A block error rate ends an alarm below this part of the limit.
 RECOVERED = 0.8

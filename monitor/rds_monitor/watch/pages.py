@@ -17,7 +17,7 @@ from ..info import label
 from .metrics import bad_ratio
 
 DAY, MINUTE = 86400.0, 60.0
-# A picture has a point per so many minutes of the last day.
+# Minutes of the last day per point of a picture.
 STEP_MINUTES = 4
 STYLE = """\
 :root{color-scheme:light dark;--ink:#1b1f24;--paper:#fff;--soft:#667;--line:#d5d9e0;--bad:#b3261e;--warn:#9a6700;--good:#1a7f37}

@@ -100,7 +100,7 @@ class Records:
                 self._write(it)
             self.database.execute("COMMIT")
         except BaseException:
-            # What was noted of it is not there.
+            # Its notes are not there.
             self.forget()
             if self.database.in_transaction:
                 self.database.execute("ROLLBACK")

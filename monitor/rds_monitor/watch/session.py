@@ -18,7 +18,7 @@ from ..sessions import EVENTS_PER_MINUTE, NOT_STORED
 from .times import Timing
 
 MINUTE_BITS = 71250
-# After so many bits no group of the minute is to come.
+# How many bits after a minute its last group may come.
 SLACK = 2 * GROUP_BITS
 OUTAGE_PERCENT, OUTAGE_SECONDS = 10, 1
 

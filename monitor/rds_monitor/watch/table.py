@@ -36,7 +36,7 @@ class Limits:
 
 @dataclass(frozen=True)
 class StationTable:
-    """A station: its receiver's command, the form of what that writes, and what is expected of it."""
+    """A station: its receiver's command, the format of its output, and the expected contents."""
 
     name: str
     command: Tuple[str, ...]
