@@ -9,7 +9,7 @@ use Rattle.rds_sync.specs.declared.error.SyncError.TheVariants as sync
 use Rattle.rds_tool.specs.Refusals.{of_sync}
 use Rattle.rds_tool.specs.Following.{AllCount, BreaksOff, IsHeardOut, MayBreakOff, listed}
 use Rattle.rds_tool.specs.History.{Gave}
-use Rattle.rds_tool.specs.Outcome.{IsOutside, Writes, WritesPrefix, outcome}
+use Rattle.rds_tool.specs.Outcome.{IsOutside, Writes, WritesPrefix, result_of_job}
 use Rattle.rds_tool.specs.Tasks.{task_of}
 use Rattle.rds_tool.specs.Transcribed.{IsTranscribed}
 use Rattle.rds_tool.specs.declared.devices.Source.{Ghosts as Source}
@@ -31,16 +31,16 @@ prefix_of (Ok text) taken (prefix, rest, split, wrote) = (rest, ap (λ t. Ok t) 
 prefix_of (Err e) taken wrote = absurd wrote
 
 wrote_all : (answer : Result (Unit {0}) ToolError) (job : Job) (given' taken : List ℕ)
-    → OnOk answer (Gave [] given' (λ bytes. Writes (Some []) (Some taken) (outcome job bytes))) → OnOk answer (outcome job given' ≡ Ok taken)
-wrote_all (Ok x) job given' taken h = text_of (outcome job given') taken (gave_all given' (λ bytes. Writes (Some []) (Some taken) (outcome job bytes)) h)
+    → OnOk answer (Gave [] given' (λ bytes. Writes (Some []) (Some taken) (result_of_job job bytes))) → OnOk answer (result_of_job job given' ≡ Ok taken)
+wrote_all (Ok x) job given' taken h = text_of (result_of_job job given') taken (gave_all given' (λ bytes. Writes (Some []) (Some taken) (result_of_job job bytes)) h)
 wrote_all (Err e) job given' taken h = tt
 
 refused_by : (answer : Result (Unit {0}) ToolError) (job : Job) (given' : List ℕ) (ended : Bool)
-    → IfErr answer (λ error. IsOutside error ⊎ Gave [] given' (λ bytes. (outcome job bytes ≡ Err error) × ((task_of job ≡ Err error) ⊎ (ended ≡ true))))
-    → IfErr answer (λ error. IsOutside error ⊎ ((outcome job given' ≡ Err error) × ((task_of job ≡ Err error) ⊎ (ended ≡ true))))
+    → IfErr answer (λ error. IsOutside error ⊎ Gave [] given' (λ bytes. (result_of_job job bytes ≡ Err error) × ((task_of job ≡ Err error) ⊎ (ended ≡ true))))
+    → IfErr answer (λ error. IsOutside error ⊎ ((result_of_job job given' ≡ Err error) × ((task_of job ≡ Err error) ⊎ (ended ≡ true))))
 refused_by (Ok x) job given' ended h = tt
 refused_by (Err e) job given' ended (inl outside) = inl outside
-refused_by (Err e) job given' ended (inr gave) = inr (gave_all given' (λ bytes. (outcome job bytes ≡ Err e) × ((task_of job ≡ Err e) ⊎ (ended ≡ true))) gave)
+refused_by (Err e) job given' ended (inr gave) = inr (gave_all given' (λ bytes. (result_of_job job bytes ≡ Err e) × ((task_of job ≡ Err e) ⊎ (ended ≡ true))) gave)
 
 module _ {R W : Type 0} (source : Source R) (sink : Sink W) (job : Job) (reader reader' : R) (writer writer' : W) (answer : Result (Unit {0}) ToolError) where
   untouched_is : (taken : List ℕ) → sink.contents writer ≡ Some [] → sink.contents writer' ≡ Some taken → writer' ≡ writer → taken ≡ []
@@ -58,14 +58,14 @@ module _ {R W : Type 0} (source : Source R) (sink : Sink W) (job : Job) (reader 
       → (given' taken : List ℕ) → source.given reader' ≡ given' → sink.contents writer' ≡ Some taken
       → IsDone given' (source.has_ended reader') (source.failed reader') taken (sink.is_flushed writer') (sink.failed writer') answer job
   job_done_at t fresh unfailed none sound given' taken gave took =
-      let heard : OnOk answer (Gave [] given' (λ bytes. Writes (Some []) (Some taken) (outcome job bytes))) =
-      subst (λ o. OnOk answer (Gave [] given' (λ bytes. Writes o (Some taken) (outcome job bytes)))) none
-      (subst (λ n. OnOk answer (Gave [] given' (λ bytes. Writes (sink.contents writer) n (outcome job bytes)))) took
-      (subst (λ g. OnOk answer (Gave [] g (λ bytes. Writes (sink.contents writer) (sink.contents writer') (outcome job bytes)))) gave
-      (subst (λ g. OnOk answer (Gave g (source.given reader') (λ bytes. Writes (sink.contents writer) (sink.contents writer') (outcome job bytes)))) fresh t.heard))) in
+      let heard : OnOk answer (Gave [] given' (λ bytes. Writes (Some []) (Some taken) (result_of_job job bytes))) =
+      subst (λ o. OnOk answer (Gave [] given' (λ bytes. Writes o (Some taken) (result_of_job job bytes)))) none
+      (subst (λ n. OnOk answer (Gave [] given' (λ bytes. Writes (sink.contents writer) n (result_of_job job bytes)))) took
+      (subst (λ g. OnOk answer (Gave [] g (λ bytes. Writes (sink.contents writer) (sink.contents writer') (result_of_job job bytes)))) gave
+      (subst (λ g. OnOk answer (Gave g (source.given reader') (λ bytes. Writes (sink.contents writer) (sink.contents writer') (result_of_job job bytes)))) fresh t.heard))) in
       let kinds =
-      subst (λ g. IfErr answer (λ error. IsOutside error ⊎ Gave [] g (λ bytes. (outcome job bytes ≡ Err error) × ((task_of job ≡ Err error) ⊎ (source.has_ended reader' ≡ true))))) gave
-      (subst (λ g. IfErr answer (λ error. IsOutside error ⊎ Gave g (source.given reader') (λ bytes. (outcome job bytes ≡ Err error) × ((task_of job ≡ Err error) ⊎ (source.has_ended reader' ≡ true))))) fresh t.refused_by) in
+      subst (λ g. IfErr answer (λ error. IsOutside error ⊎ Gave [] g (λ bytes. (result_of_job job bytes ≡ Err error) × ((task_of job ≡ Err error) ⊎ (source.has_ended reader' ≡ true))))) gave
+      (subst (λ g. IfErr answer (λ error. IsOutside error ⊎ Gave g (source.given reader') (λ bytes. (result_of_job job bytes ≡ Err error) × ((task_of job ≡ Err error) ⊎ (source.has_ended reader' ≡ true))))) fresh t.refused_by) in
       record {
         text = wrote_all answer job given' taken heard;
         end = t.ended;
@@ -82,12 +82,12 @@ module _ {R W : Type 0} (source : Source R) (sink : Sink W) (job : Job) (reader 
         refused = refused_by answer job given' (source.has_ended reader') kinds;
         untouched = untouched_of answer taken none took t.untouched;
         prefix = λ p.
-            let broke : Gave [] given' (λ bytes. WritesPrefix (Some []) (Some taken) (outcome job bytes)) =
-            subst (λ o. Gave [] given' (λ bytes. WritesPrefix o (Some taken) (outcome job bytes))) none
-            (subst (λ n. Gave [] given' (λ bytes. WritesPrefix (sink.contents writer) n (outcome job bytes))) took
-            (subst (λ g. Gave [] g (λ bytes. WritesPrefix (sink.contents writer) (sink.contents writer') (outcome job bytes))) gave
-            (subst (λ g. Gave g (source.given reader') (λ bytes. WritesPrefix (sink.contents writer) (sink.contents writer') (outcome job bytes))) fresh (t.broke_off p)))) in
-            prefix_of (outcome job given') taken (gave_all given' (λ bytes. WritesPrefix (Some []) (Some taken) (outcome job bytes)) broke);
+            let broke : Gave [] given' (λ bytes. WritesPrefix (Some []) (Some taken) (result_of_job job bytes)) =
+            subst (λ o. Gave [] given' (λ bytes. WritesPrefix o (Some taken) (result_of_job job bytes))) none
+            (subst (λ n. Gave [] given' (λ bytes. WritesPrefix (sink.contents writer) n (result_of_job job bytes))) took
+            (subst (λ g. Gave [] g (λ bytes. WritesPrefix (sink.contents writer) (sink.contents writer') (result_of_job job bytes))) gave
+            (subst (λ g. Gave g (source.given reader') (λ bytes. WritesPrefix (sink.contents writer) (sink.contents writer') (result_of_job job bytes))) fresh (t.broke_off p)))) in
+            prefix_of (result_of_job job given') taken (gave_all given' (λ bytes. WritesPrefix (Some []) (Some taken) (result_of_job job bytes)) broke);
       }
 
   -- and left as these

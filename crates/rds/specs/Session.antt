@@ -6,7 +6,7 @@ use Rattle.rds_sync.specs.Ranges.{IsRunOutside, IsShareOutside, farthest_reach, 
 use Rattle.rds_sync.specs.Rules.{RuleNumbers}
 use Rattle.rds_tool.specs.Ends.{given_by, has_ended, is_flushed, read_failures, taken_by, write_failures}
 use Rattle.rds_tool.specs.Following.{BreaksOff, IsHeardOut, MayBreakOff, listed}
-use Rattle.rds_tool.specs.Outcome.{IsOutside, outcome}
+use Rattle.rds_tool.specs.Outcome.{IsOutside, result_of_job}
 use Rattle.rds_tool.specs.Tasks.{AsksForThreads, task_of}
 use Rattle.rds_tool.specs.declared.error.ToolError.{ToolError}
 use Rattle.rds_tool.specs.declared.error.ToolError.TheVariants.{BurstRange, LossRange, NoWorker, ReachRange, Read, ShareRange, TooManyTurns, Write}
@@ -38,15 +38,15 @@ module _ (given : List ℕ) (ended : Bool) (failed_reads : ℕ) (taken : List �
     (answer : Result (Unit {0}) ToolError) where
   -- a job was done: all that was read makes all that was written, or the refusal
   pub record IsDone (job : Job) : Type 0 where
-    pub text : OnOk answer (outcome job given ≡ Ok taken)
+    pub text : OnOk answer (result_of_job job given ≡ Ok taken)
     pub end : OnOk answer (ended ≡ true)
     pub flush : OnOk answer (flushed ≡ true)
     pub devices : BlamesDevices failed_reads failed_writes answer
     pub turns : IsErrOf answer TooManyTurns → 16777216 ≤ length given
     pub no_worker : IsErrOf answer NoWorker → AsksForThreads job
-    pub refused : IfErr answer (λ error. IsOutside error ⊎ ((outcome job given ≡ Err error) × ((task_of job ≡ Err error) ⊎ (ended ≡ true))))
+    pub refused : IfErr answer (λ error. IsOutside error ⊎ ((result_of_job job given ≡ Err error) × ((task_of job ≡ Err error) ⊎ (ended ≡ true))))
     pub untouched : IfErr answer (λ error. error ≢ Write → taken ≡ [])
-    pub prefix : IsErrOf answer Write → (rest : List ℕ) × (outcome job given ≡ Ok (taken ++ rest))
+    pub prefix : IsErrOf answer Write → (rest : List ℕ) × (result_of_job job given ≡ Ok (taken ++ rest))
 
   -- a stream was followed: all that was read makes all that was written, or it broke off, or its rules are refused
   pub record IsFollowed (terms : Terms) (bits : Option ℕ) : Type 0 where

@@ -23,7 +23,7 @@ use Rattle.rds_tool.specs.GroupText.{group_text, lines_of, lines_text, words_of,
 use Rattle.rds_tool.specs.Input.{and_then, bytes_of, first_bits, is_blank, or_hex_text, recording_of}
 use Rattle.rds_tool.specs.Laws.{EncodedGroupsAreListed, EncodedGroupsAreTaken, ListsEndWithTotals, StreamsAreListed, groups_of_lines, stream_input, whole_input}
 use Rattle.rds_tool.specs.Listing.{item_row, report_text}
-use Rattle.rds_tool.specs.Outcome.{cut_recording, list_text, outcome, text_of_task, totals_list}
+use Rattle.rds_tool.specs.Outcome.{cut_recording, list_text, result_of_job, text_of_task, totals_list}
 use Rattle.rds_tool.specs.Plans.{PlanOf, crew_of, cut_by, plan_of}
 use Rattle.rds_tool.specs.Rules.{loss_of, rules_of}
 use Rattle.rds_tool.specs.Tasks.{task_of}
@@ -219,7 +219,7 @@ record IsListOf (input : Input) (settings : Settings) (held listing : List ℕ) 
   recorded : recording_of input held ≡ Ok recording
   is_listing : listing ≡ list_text plan.rules recording
 
-list_of : (input : Input) (settings : Settings) (held listing : List ℕ) → outcome (job.List input settings) held ≡ Ok listing
+list_of : (input : Input) (settings : Settings) (held listing : List ℕ) → result_of_job (job.List input settings) held ≡ Ok listing
     → IsListOf input settings held listing
 list_of input settings held listing is =
     let asked = both (task_of (job.List input settings)) (λ task. text_of_task task held) listing is in
@@ -252,7 +252,7 @@ module _ (sent : SentGroupsAreListed) (packed : PackedGroupsAreSent) where
   encoded_groups_are_listed hex settings lines words groups listing spelled listed =
       let all : List (List ℕ) = words ∷ groups in
       let made = groups_spelled (lines_of lines) all spelled in
-      let again = ap (λ (text : Result (List ℕ) ToolError). and_then text (outcome (job.List (whole_input hex) settings))) (sym (made.1 hex)) ∙ listed in
+      let again = ap (λ (text : Result (List ℕ) ToolError). and_then text (result_of_job (job.List (whole_input hex) settings))) (sym (made.1 hex)) ∙ listed in
       let is = list_of (whole_input hex) settings (flat_map (group_text hex) all) listing again in
       let by = plan_lawful settings is.plan is.planned in
       let report = sent is.plan.rules words groups by.loss by.reach by.burst made.0 in

@@ -16,7 +16,7 @@ use Rattle.rds_tool.specs.Cuts.{cuts_any, cuts_bits, has_pieces}
 use Rattle.rds_tool.specs.GroupText.{line_text, lines_of, lines_text, words_of, words_or_refusal, group_text}
 use Rattle.rds_tool.specs.Input.{and_then, bytes_of, claimed, decoded, first_bits, is_blank, may_be_gaps, or_hex_text, recording_of}
 use Rattle.rds_tool.specs.Listing.{report_text, totals_text}
-use Rattle.rds_tool.specs.Outcome.{Writes, WritesPrefix, cut_recording, list_text, outcome, text_of_task, totals_list}
+use Rattle.rds_tool.specs.Outcome.{Writes, WritesPrefix, cut_recording, list_text, result_of_job, text_of_task, totals_list}
 use Rattle.rds_tool.specs.Plans.{PlanOf, crew_of, cut_by, plan_of, workers_of}
 use Rattle.rds_sync.specs.declared.loss.Loss.{Loss}
 use Rattle.rds_sync.specs.declared.loss.Loss.TheVariants.{Run, Share}
@@ -268,13 +268,13 @@ asked job t p = let P : Result Task ToolError → Type 0 = λ r. IfOk r (λ t. M
 
 -- ---- the outcome
 
-pub outcome_is : (job : Job) (t : Task) (held bytes text : List ℕ) → task_of job ≡ Ok t → text_of_task t bytes ≡ Ok text → bytes ≡ held → outcome job held ≡ Ok text
+pub outcome_is : (job : Job) (t : Task) (held bytes text : List ℕ) → task_of job ≡ Ok t → text_of_task t bytes ≡ Ok text → bytes ≡ held → result_of_job job held ≡ Ok text
 outcome_is job t held bytes text p q h = ap (λ r. and_then r (λ k. text_of_task k held)) p ∙ ap (text_of_task t) (sym h) ∙ q
 
 -- the text that was written
 pub written_is : (o : Option (List ℕ)) (job : Job) (t : Task) (bytes text : List ℕ) (r : Result (Unit {0}) ToolError) (old new : Option (List ℕ))
     → IfSome o (λ held. bytes ≡ held) → task_of job ≡ Ok t → text_of_task t bytes ≡ Ok text → OnOk r (Appends old new text)
-    → OnOk r (IfSome o (λ held. Writes old new (outcome job held)))
+    → OnOk r (IfSome o (λ held. Writes old new (result_of_job job held)))
 written_is o job t bytes text (Err e) old new h p q w = tt
 written_is None job t bytes text (Ok x) old new h p q w = tt
 written_is (Some held) job t bytes text (Ok x) old new h p q w = subst (λ (made : Result (List ℕ) ToolError). Writes old new made) (sym (outcome_is job t held bytes text p q h)) w
@@ -282,7 +282,7 @@ written_is (Some held) job t bytes text (Ok x) old new h p q w = subst (λ (made
 -- what a failed writing leaves is a prefix of the outcome's text
 pub prefix_is : (o : Option (List ℕ)) (job : Job) (t : Task) (bytes text : List ℕ) (r : Result (Unit {0}) ToolError) (old new : Option (List ℕ))
     → IfSome o (λ held. bytes ≡ held) → task_of job ≡ Ok t → text_of_task t bytes ≡ Ok text → (r ≡ Err Write → WritesPrefix old new (Ok text)) → r ≡ Err Write
-    → IfSome o (λ held. WritesPrefix old new (outcome job held))
+    → IfSome o (λ held. WritesPrefix old new (result_of_job job held))
 prefix_is None job t bytes text r old new h p q w e = tt
 prefix_is (Some held) job t bytes text r old new h p q w e =
     let P : Result (List ℕ) ToolError → Type 0 = λ x. WritesPrefix old new x in

@@ -6,7 +6,7 @@ use Rattle.std.proofs.lemmas.List.{append-nil}
 use Rattle.rds_rows.specs.declared.sink.Sink.{Ghosts as Sink}
 use Rattle.rds_tool.specs.History.{Gave}
 use Rattle.rds_tool.specs.Input.{and_then}
-use Rattle.rds_tool.specs.Outcome.{IsOutside, Writes, WritesPrefix, outcome, text_of_task}
+use Rattle.rds_tool.specs.Outcome.{IsOutside, Writes, WritesPrefix, result_of_job, text_of_task}
 use Rattle.rds_tool.specs.Refusals.{IsMemoryOrErrOf, IsShortageOrErrOf}
 use Rattle.rds_tool.specs.Tasks.{MayStartThreads, task_of}
 use Rattle.rds_tool.specs.Transcribed.{IsTranscribed}
@@ -21,14 +21,14 @@ use Rattle.rds_tool.proofs.Texts.{asked, not_called, passed_inside, prefix_is, r
 
 -- a refusal of settings is one of the job
 task_refused : (job : Job) (remaining : Option (List ℕ)) (e : ToolError) → IsMemoryOrErrOf (task_of job) e
-    → IsOutside e ⊎ IfSome remaining (λ held. outcome job held ≡ Err e)
+    → IsOutside e ⊎ IfSome remaining (λ held. result_of_job job held ≡ Err e)
 task_refused job remaining e (inl memory) = inl (inl memory)
 task_refused job None e (inr refused) = inr tt
 task_refused job (Some held) e (inr refused) = inr (ap (λ r. and_then r (λ task. text_of_task task held)) refused)
 
 -- so is one of the bytes, but for refused memory or a refused thread
 text_refused : (X : Type 0) (job : Job) (task : Task) (remaining : Option (List ℕ)) (held : List ℕ) (e : ToolError) → task_of job ≡ Ok task
-    → IfSome remaining (λ bytes. held ≡ bytes) → IsShortageOrErrOf X (text_of_task task held) e → IsOutside e ⊎ IfSome remaining (λ bytes. outcome job bytes ≡ Err e)
+    → IfSome remaining (λ bytes. held ≡ bytes) → IsShortageOrErrOf X (text_of_task task held) e → IsOutside e ⊎ IfSome remaining (λ bytes. result_of_job job bytes ≡ Err e)
 text_refused X job task remaining held e is same (inl memory) = inl (inl memory)
 text_refused X job task remaining held e is same (inr (inl threads)) = inl (inr (inl threads.0))
 text_refused X job task None held e is same (inr (inr refused)) = inr tt
@@ -37,7 +37,7 @@ text_refused X job task (Some bytes) held e is same (inr (inr refused)) =
 
 -- the same of the bytes that were given, of which there are none before the settings are looked at
 abbrev Refused : Job → List ℕ → List ℕ → Bool → ToolError → Type 0
-Refused job given given' ended e = IsOutside e ⊎ Gave given given' (λ bytes. (outcome job bytes ≡ Err e) × ((task_of job ≡ Err e) ⊎ (ended ≡ true)))
+Refused job given given' ended e = IsOutside e ⊎ Gave given given' (λ bytes. (result_of_job job bytes ≡ Err e) × ((task_of job ≡ Err e) ⊎ (ended ≡ true)))
 
 task_refused_by : (job : Job) (given : List ℕ) (ended : Bool) (e : ToolError) → IsMemoryOrErrOf (task_of job) e → Refused job given given ended e
 task_refused_by job given ended e (inl memory) = inl (inl memory)
@@ -83,7 +83,7 @@ settings_refused (Err x) r e reader same h = (same ∙ ap (λ k. Err k) (same_er
 
 -- what was written of the bytes that were given
 heard_is : (held given given' : List ℕ) (job : Job) (r : Result (Unit {0}) ToolError) (old new : Option (List ℕ)) → given' ≡ given ++ held
-    → OnOk r (Writes old new (outcome job held)) → OnOk r (Gave given given' (λ bytes. Writes old new (outcome job bytes)))
+    → OnOk r (Writes old new (result_of_job job held)) → OnOk r (Gave given given' (λ bytes. Writes old new (result_of_job job bytes)))
 heard_is held given given' job (Ok x) old new p w = (held, p, w)
 heard_is held given given' job (Err e) old new p w = tt
 

@@ -102,7 +102,8 @@ IsFlushedAfter bytes flushed = (bytes ≡ []) ⊎ (flushed ≡ true)
 
 -- following broke off by this error: the reader gave these bytes, and the statements above hold for a reader
 -- that held only them
-pub record BreaksOff (terms : Terms) (bits : Option ℕ) (given given' : List ℕ) (ended : Bool) (old new : Option (List ℕ)) (flushed : Bool) (e : ToolError) : Type 0 where
+pub record BreaksOff (terms : Terms) (bits : Option ℕ) (given given' : List ℕ) (ended : Bool)
+    (old new : Option (List ℕ)) (flushed : Bool) (e : ToolError) : Type 0 where
   pub bytes : List ℕ
   pub gave : given' ≡ given ++ bytes
   -- if a read fails, the rows that are complete were taken and flushed before it; since any read may fail,
@@ -112,4 +113,5 @@ pub record BreaksOff (terms : Terms) (bits : Option ℕ) (given given' : List �
   pub within : e ≡ Write → StopsInRows terms bits (Some bytes) (Some []) old new
   pub too_long : e ≡ TooLong → IsTooLong bits (Some bytes) (Some [])
   pub past : e ≡ BitsPastBytes → EndsShort bits (Some bytes) (Some []) × (ended ≡ true)
-  pub bad_gaps : e ≡ BadGaps → (AreGaps (2 ^ 36) terms.gaps → ⊥) ⊎ (AreGaps (claimed bits bytes) terms.gaps → ⊥)
+  pub bad_gaps : e ≡ BadGaps → (AreGaps (2 ^ 36) terms.gaps → ⊥)
+      ⊎ (AreGaps (claimed bits bytes) terms.gaps → ⊥)

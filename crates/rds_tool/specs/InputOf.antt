@@ -29,4 +29,5 @@ same_gap_equiv = and_equiv (on_equiv (λ (gap : ℕ × ℕ). gap.0) nat_eq_equiv
 pub says_same_equiv : IsEquivalence says_same
 says_same_equiv =
     and_equiv (on_equiv (λ (i : InputOf). i.hex) bool_eq_equiv)
-    (and_equiv (on_equiv (λ (i : InputOf). i.bits) (options_equiv nat_eq_equiv)) (on_equiv (λ (i : InputOf). i.gaps) (lists_equiv same_gap_equiv)))
+    (and_equiv (on_equiv (λ (i : InputOf). i.bits) (options_equiv nat_eq_equiv))
+    (on_equiv (λ (i : InputOf). i.gaps) (lists_equiv same_gap_equiv)))

@@ -9,7 +9,7 @@ use Rattle.rds_tool.specs.Following.{listed}
 use Rattle.rds_tool.specs.GroupText.{lines_of, words_of}
 use Rattle.rds_tool.specs.Input.{and_then, recording_of}
 use Rattle.rds_tool.specs.Listing.{report_text}
-use Rattle.rds_tool.specs.Outcome.{outcome}
+use Rattle.rds_tool.specs.Outcome.{result_of_job}
 use Rattle.rds_tool.specs.Plans.{PlanOf, plan_of}
 use Rattle.rds_tool.specs.declared.error.ToolError.{ToolError}
 use Rattle.rds_tool.specs.declared.job.Input.{Input}
@@ -35,7 +35,7 @@ whole_input hex = record { hex = hex; bits = None; gaps = [] }
 
 -- a text of lines, encoded as bytes or as digits, and listed again
 abbrev pub encoded_and_listed : Bool → Settings → List ℕ → Result (List ℕ) ToolError
-encoded_and_listed hex settings lines = and_then (outcome (job.Encode hex) lines) (outcome (job.List (whole_input hex) settings))
+encoded_and_listed hex settings lines = and_then (result_of_job (job.Encode hex) lines) (result_of_job (job.List (whole_input hex) settings))
 
 -- the listing of groups that were sent from bit 0 on: block 2 of the first one acquires synchronism, so the first group has no block 1;
 -- each other group has its four words, at its place
@@ -46,12 +46,14 @@ sent_listing words groups =
 -- the listing of groups that were encoded is the listing of these groups, by all rules, whoever works, and however the bits are cut
 abbrev pub EncodedGroupsAreListed : Type 0
 EncodedGroupsAreListed = (hex : Bool) (settings : Settings) (lines words : List ℕ) (groups : List (List ℕ)) (listing : List ℕ)
-    → groups_in lines ≡ Ok (words ∷ groups) → encoded_and_listed hex settings lines ≡ Ok listing → listing ≡ sent_listing words groups
+    → groups_in lines ≡ Ok (words ∷ groups) → encoded_and_listed hex settings lines ≡ Ok listing
+    → listing ≡ sent_listing words groups
 
 -- nothing is refused if the settings are in their ranges, the groups are not too long for a recording, and the cuts fit them
 abbrev pub EncodedGroupsAreTaken : Type 0
 EncodedGroupsAreTaken = (hex : Bool) (settings : Settings) (plan : PlanOf) (lines : List ℕ) (groups : List (List ℕ))
-    → plan_of settings ≡ Ok plan → groups_in lines ≡ Ok groups → 104 * length groups ≤ 2 ^ 36 → cuts_bits plan.cuts (104 * length groups) ≡ true
+    → plan_of settings ≡ Ok plan → groups_in lines ≡ Ok groups → 104 * length groups ≤ 2 ^ 36
+    → cuts_bits plan.cuts (104 * length groups) ≡ true
     → (listing : List ℕ) × (encoded_and_listed hex settings lines ≡ Ok listing)
 
 -- ---- lists, streams and totals
@@ -65,10 +67,12 @@ stream_input bits gaps = record { hex = false; bits = bits; gaps = gaps }
 abbrev pub StreamsAreListed : Type 0
 StreamsAreListed = (settings : Settings) (plan : PlanOf) (bits : Option ℕ) (gaps : List (ℕ × ℕ)) (held : List ℕ)
     → plan_of settings ≡ Ok plan
-    → IfOk (recording_of (stream_input bits gaps) held) (λ recording. cuts_bits plan.cuts (length_of recording) ≡ true)
-    → listed (record { rules = plan.rules; gaps = gaps }) bits held ≡ outcome (job.List (stream_input bits gaps) settings) held
+    → IfOk (recording_of (stream_input bits gaps) held) (λ recording.
+    cuts_bits plan.cuts (length_of recording) ≡ true)
+    → listed (record { rules = plan.rules; gaps = gaps }) bits held ≡ result_of_job (job.List (stream_input bits gaps) settings) held
 
 -- a list ends with the totals: its other rows come before them, and it is refused if they are
 abbrev pub ListsEndWithTotals : Type 0
 ListsEndWithTotals = (input : Input) (settings : Settings) (held : List ℕ)
-    → (rows : List ℕ) × (outcome (job.List input settings) held ≡ and_then (outcome (job.Totals input settings) held) (λ totals. Ok (rows ++ totals)))
+    → (rows : List ℕ) × (result_of_job (job.List input settings) held
+    ≡ and_then (result_of_job (job.Totals input settings) held) (λ totals. Ok (rows ++ totals)))

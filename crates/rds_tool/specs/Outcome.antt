@@ -41,8 +41,8 @@ text_of_task (task.Totals input plan) held = and_then (cut_recording input plan.
 text_of_task (task.Encode hex) held = encoded_text hex held
 
 -- the text of a job over the bytes held, or its refusal; the settings are looked at first
-abbrev pub outcome : Job → List ℕ → Result (List ℕ) ToolError
-outcome job held = and_then (task_of job) (λ task. text_of_task task held)
+abbrev pub result_of_job : Job → List ℕ → Result (List ℕ) ToolError
+result_of_job job held = and_then (task_of job) (λ task. text_of_task task held)
 
 -- the refusals that the job and the bytes don't decide
 abbrev pub IsOutside : ToolError → Type 0

@@ -4,7 +4,7 @@ use Rattle.std.specs.Prelude.{◌<◌, ◌≡◌, ◌≢◌, ◌≤◌, ◌⊎�
 use Rattle.std.specs.Io.KnownBytes.{Consumes, IsAtEnd}
 use Rattle.rds_rows.specs.declared.sink.Sink.{Ghosts as Sink}
 use Rattle.rds_tool.specs.History.{Gave}
-use Rattle.rds_tool.specs.Outcome.{IsOutside, Writes, WritesPrefix, outcome}
+use Rattle.rds_tool.specs.Outcome.{IsOutside, Writes, WritesPrefix, result_of_job}
 use Rattle.rds_tool.specs.Tasks.{AsksForThreads, task_of}
 use Rattle.rds_tool.specs.declared.devices.Source.{Ghosts as Source}
 use Rattle.rds_tool.specs.declared.error.ToolError.{ToolError}
@@ -12,15 +12,17 @@ use Rattle.rds_tool.specs.declared.error.ToolError.TheVariants.{NoWorker, Read, 
 use Rattle.rds_tool.specs.declared.job.Job.{Job}
 
 -- the answer to a job, if the reader was `reader` and is now `reader'`, and the writer likewise
-pub record IsTranscribed {R W : Type 0} (source : Source R) (sink : Sink W) (job : Job) (reader reader' : R) (writer writer' : W)
+pub record IsTranscribed {R W : Type 0} (source : Source R) (sink : Sink W) (job : Job) (reader reader' : R)
+    (writer writer' : W)
     (result : Result (Unit {0}) ToolError) : Type 0 where
   -- if it is Ok, the whole input was read, and the text that the job makes of it was written
   pub end : OnOk result (IsAtEnd (source.remaining reader'))
-  pub ok : OnOk result (IfSome (source.remaining reader) (λ held. Writes (sink.contents writer) (sink.contents writer') (outcome job held)))
+  pub ok : OnOk result (IfSome (source.remaining reader) (λ held.
+      Writes (sink.contents writer) (sink.contents writer') (result_of_job job held)))
   -- at every device: the writer took the text of the bytes that the reader gave, the reader had answered its end, and the
   -- writer's last call was a flush that succeeded
   pub heard : OnOk result (Gave (source.given reader) (source.given reader')
-      (λ bytes. Writes (sink.contents writer) (sink.contents writer') (outcome job bytes)))
+      (λ bytes. Writes (sink.contents writer) (sink.contents writer') (result_of_job job bytes)))
   pub ended : OnOk result (source.has_ended reader' ≡ true)
   pub flushed : OnOk result (sink.is_flushed writer' ≡ true)
   -- a refusal for a device's sake comes exactly if one failed; one for the number of reads only if as many
@@ -30,18 +32,20 @@ pub record IsTranscribed {R W : Type 0} (source : Source R) (sink : Sink W) (job
   pub turns : IsErrOf result TooManyTurns
       → (more : List ℕ) × Consumes (source.remaining reader) (source.remaining reader') more × (16777216 ≤ length more)
   pub no_worker : IsErrOf result NoWorker → AsksForThreads job
-  pub refused : IfErr result (λ error. IsOutside error ⊎ IfSome (source.remaining reader) (λ held. outcome job held ≡ Err error))
+  pub refused : IfErr result (λ error. IsOutside error
+      ⊎ IfSome (source.remaining reader) (λ held. result_of_job job held ≡ Err error))
   -- at every device: as many bytes were given, or the refusal is that of the job and the bytes given, to the reader's end
   -- unless it is for the settings' sake
-  pub turned : IsErrOf result TooManyTurns → Gave (source.given reader) (source.given reader') (λ bytes. 16777216 ≤ length bytes)
+  pub turned : IsErrOf result TooManyTurns
+      → Gave (source.given reader) (source.given reader') (λ bytes. 16777216 ≤ length bytes)
   pub refused_by : IfErr result (λ error. IsOutside error ⊎ Gave (source.given reader) (source.given reader')
-      (λ bytes. (outcome job bytes ≡ Err error) × ((task_of job ≡ Err error) ⊎ (source.has_ended reader' ≡ true))))
+      (λ bytes. (result_of_job job bytes ≡ Err error) × ((task_of job ≡ Err error) ⊎ (source.has_ended reader' ≡ true))))
   -- settings out of their range are refused as such before anything is read
   pub settings : IfErr (task_of job) (λ error. (result ≡ Err error) × (reader' ≡ reader))
   -- the writer's contents after a refusal
   pub untouched : IfErr result (λ error. error ≢ Write → writer' ≡ writer)
   pub prefix : IsErrOf result Write
-      → IfSome (source.remaining reader) (λ held. WritesPrefix (sink.contents writer) (sink.contents writer') (outcome job held))
+      → IfSome (source.remaining reader) (λ held. WritesPrefix (sink.contents writer) (sink.contents writer') (result_of_job job held))
   -- at every device
   pub broke_off : IsErrOf result Write → Gave (source.given reader) (source.given reader')
-      (λ bytes. WritesPrefix (sink.contents writer) (sink.contents writer') (outcome job bytes))
+      (λ bytes. WritesPrefix (sink.contents writer) (sink.contents writer') (result_of_job job bytes))

@@ -67,7 +67,8 @@ fn windows_of<'a>(
     workers: Workers,
     held: Vec<u8>,
 ) -> Result<Single<'a>, ToolError>
-    ensures ok { IfOk result (λ text. text_of_task (task.Scan input workers) held.items ≡ Ok (bytes_of_single text)) }
+    ensures ok { IfOk result (λ text. text_of_task (task.Scan input workers) held.items
+        ≡ Ok (bytes_of_single text)) }
     ensures refused { IfErr result (IsMemoryOrErrOf (text_of_task (task.Scan input workers) held.items)) }
 {
     let recording = recording_of(alloc, input, held)?;
@@ -81,7 +82,8 @@ fn report_of<'a>(
     plan: Plan<'a>,
     held: Vec<u8>,
 ) -> Result<Single<'a>, ToolError>
-    ensures ok { IfOk result (λ text. text_of_task (task.List input plan.entry) held.items ≡ Ok (bytes_of_single text)) }
+    ensures ok { IfOk result (λ text. text_of_task (task.List input plan.entry) held.items
+        ≡ Ok (bytes_of_single text)) }
     ensures refused { IfErr result (IsMemoryOrErrOf (text_of_task (task.List input plan.entry) held.items)) }
 {
     let recording = recording_of(alloc, input, held)?;
@@ -96,7 +98,8 @@ fn rows_of_totals<'a>(
     plan: &Plan<'_>,
     held: Vec<u8>,
 ) -> Result<Single<'a>, ToolError>
-    ensures ok { IfOk result (λ text. text_of_task (task.Totals input plan.now) held.items ≡ Ok (bytes_of_single text)) }
+    ensures ok { IfOk result (λ text. text_of_task (task.Totals input plan.now) held.items
+        ≡ Ok (bytes_of_single text)) }
     ensures refused { IfErr result (IsMemoryOrErrOf (text_of_task (task.Totals input plan.now) held.items)) }
 {
     let totals = totals_of(alloc, input, plan, held)?;
@@ -111,7 +114,8 @@ fn totals_of(
     plan: &Plan<'_>,
     held: Vec<u8>,
 ) -> Result<Totals, ToolError>
-    ensures totals { IfOk result (λ totals. text_of_task (task.Totals input plan.now) held.items ≡ Ok (totals_text totals)) }
+    ensures totals { IfOk result (λ totals. text_of_task (task.Totals input plan.now) held.items
+        ≡ Ok (totals_text totals)) }
     ensures refused { IfErr result (IsMemoryOrErrOf (cut_recording input plan.now.cuts held.items)) }
 {
     let recording = recording_of(alloc, input, held)?;
@@ -155,7 +159,8 @@ impl Single<'_> {
     /// Writes the whole text and flushes. If memory is refused, nothing was written.
     fn write_to<K: Sink>(&self, alloc: Global, writer: &mut K) -> Result<(), ToolError>
         requires { K.failed writer.old < 2 ^ 63 }
-        ensures ok { OnOk result (Appends (K.contents writer.old) (K.contents writer.new) (bytes_of_single self.now)) }
+        ensures ok { OnOk result (Appends (K.contents writer.old) (K.contents writer.new)
+            (bytes_of_single self.now)) }
         ensures flushed { OnOk result (K.is_flushed writer.new ≡ true) }
         ensures write { IsErrOf result ToolError.Write ↔ (K.failed writer.old < K.failed writer.new) }
         ensures kinds { IfErr result (λ error. (error ≡ ToolError.OutOfMemory) ⊎ (error ≡ ToolError.Write)) }
@@ -173,7 +178,8 @@ impl Single<'_> {
 /// Writes the whole text, and does not flush.
 fn write_bytes<K: Sink>(alloc: Global, text: &Single<'_>, writer: &mut K) -> Result<(), RowsError>
     requires { K.failed writer.old < 2 ^ 63 }
-    ensures ok { OnOk result (Appends (K.contents writer.old) (K.contents writer.new) (bytes_of_single text.now)) }
+    ensures ok { OnOk result (Appends (K.contents writer.old) (K.contents writer.new)
+        (bytes_of_single text.now)) }
     ensures count { OnOk result (K.failed writer.new ≡ K.failed writer.old) }
     ensures write { IsErrOf result RowsError.Write ↔ (K.failed writer.old < K.failed writer.new) }
     ensures untouched { IsErrOf result RowsError.OutOfMemory → writer.new ≡ writer.old }
@@ -194,7 +200,8 @@ fn write_windows<K: Sink>(
     writer: &mut K,
 ) -> Result<(), RowsError>
     requires { K.failed writer.old < 2 ^ 63 }
-    ensures ok { OnOk result (Appends (K.contents writer.old) (K.contents writer.new) (scan_text recording.now)) }
+    ensures ok { OnOk result (Appends (K.contents writer.old) (K.contents writer.new)
+        (scan_text recording.now)) }
     ensures count { OnOk result (K.failed writer.new ≡ K.failed writer.old) }
     ensures write { IsErrOf result RowsError.Write ↔ (K.failed writer.old < K.failed writer.new) }
     ensures untouched { IsErrOf result RowsError.OutOfMemory → writer.new ≡ writer.old }

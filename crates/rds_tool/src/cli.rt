@@ -21,7 +21,8 @@ use std::alloc::Global;
 /// one in the words, or neither a job nor a stream has their entries. If `clap` finds no fault but `--gaps`
 /// cannot be parsed, the text is `bad --gaps` and a line feed. If memory is refused, the fault says so instead.
 pub fn asked_of(alloc: Global, words: &[&str]) -> Result<Asked, CliFault>
-    ensures entries { IfOk result (λ asked. asked_by (entries_of (map (λ word. word.now) words.now)) ≡ Ok asked) }
+    ensures entries { IfOk result (λ asked. asked_by (entries_of (map (λ word. word.now) words.now))
+        ≡ Ok asked) }
     ensures faultless { OnOk result (faults_of (map (λ word. word.now) words.now) ≡ []) }
     ensures refused { IfErr result (λ fault. MayRefuse (faults_of (map (λ word. word.now) words.now))
         (result_ok (asked_by (entries_of (map (λ word. word.now) words.now)))) fault.kind) }
@@ -99,7 +100,8 @@ fn fault_of(alloc: Global, error: &clap::Error) -> CliFault
 
 /// The text that is shown if the words are parsed and yet ask for nothing.
 fn no_job(alloc: Global, why: NoJob) -> CliFault
-    ensures kind { (result.kind ≡ FaultKind.Memory) ⊎ ((result.kind ≡ FaultKind.Words) × (why ≢ NoJob.Memory)) }
+    ensures kind { (result.kind ≡ FaultKind.Memory) ⊎ ((result.kind ≡ FaultKind.Words)
+        × (why ≢ NoJob.Memory)) }
     ensures gaps { why ≡ NoJob.Gaps → SaysBadGaps result }
     ensures memory { result.kind ≡ FaultKind.Memory → string_bytes result.text ≡ [] }
 {
@@ -112,7 +114,8 @@ fn no_job(alloc: Global, why: NoJob) -> CliFault
 
 /// A fault of the words, with the text that is shown.
 fn words_fault(alloc: Global, text: &str) -> CliFault
-    ensures kind { (result.kind ≡ FaultKind.Memory) ⊎ ((result.kind ≡ FaultKind.Words) × (string_bytes result.text ≡ text.now)) }
+    ensures kind { (result.kind ≡ FaultKind.Memory) ⊎ ((result.kind ≡ FaultKind.Words)
+        × (string_bytes result.text ≡ text.now)) }
     ensures memory { result.kind ≡ FaultKind.Memory → string_bytes result.text ≡ [] }
 {
     match text.to_string(alloc) {

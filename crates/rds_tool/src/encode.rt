@@ -24,7 +24,8 @@ pub fn encode_lines(alloc: Global, hex: bool, held: &[u8]) -> Result<Vec<u8>, To
 }
 
 fn lines_of(alloc: Global, digits: &[u8]) -> Result<Vec<&[u8]>, AllocError>
-    ensures { IfOk result (λ lines. map (λ line. line.now) lines.items ≡ slice_split (λ b. b == 10) digits.now) }
+    ensures { IfOk result (λ lines. map (λ line. line.now) lines.items
+        ≡ slice_split (λ b. b == 10) digits.now) }
 {
     digits.split(|b| *b == b'\n').collect(alloc)
 }
@@ -42,7 +43,8 @@ fn text_of_lines(alloc: Global, hex: bool, lines: &[&[u8]]) -> Result<Vec<u8>, T
 
 /// Writes the text for one line.
 fn push_line(text: &mut Vec<u8>, hex: bool, line: &[u8]) -> Result<(), ToolError>
-    ensures ok { OnOk result ((more : List ℕ) × (line_text hex line.now ≡ Ok more) × (text.new.items ≡ text.old.items ++ more)) }
+    ensures ok { OnOk result ((more : List ℕ) × (line_text hex line.now ≡ Ok more)
+        × (text.new.items ≡ text.old.items ++ more)) }
     ensures refused { IfErr result (IsMemoryOrErrOf (line_text hex line.now)) }
 {
     if line.is_empty() {

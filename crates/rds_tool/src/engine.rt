@@ -124,12 +124,15 @@ fn read_some<S: Source>(
     ensures taken { OnOk result ((more : List ℕ)
         × Consumes (S.remaining reader.old) (S.remaining reader.new) more
         × (bytes.new.items ≡ bytes.old.items ++ more)) }
-    ensures given { OnOk result (Gave (S.given reader.old) (S.given reader.new) (λ more. bytes.new.items ≡ bytes.old.items ++ more)) }
+    ensures given { OnOk result (Gave (S.given reader.old) (S.given reader.new) (λ more. bytes.new.items
+        ≡ bytes.old.items ++ more)) }
     ensures end { IfOk result (λ is_at_end. is_at_end ≡ true → IsAtEnd (S.remaining reader.new)) }
     ensures ended { IfOk result (λ is_at_end. is_at_end ≡ true → S.has_ended reader.new ≡ true) }
-    ensures grows { IfOk result (λ is_at_end. is_at_end ≡ false → length bytes.old.items < length bytes.new.items) }
+    ensures grows { IfOk result (λ is_at_end. is_at_end ≡ false
+        → length bytes.old.items < length bytes.new.items) }
     ensures count { OnOk result (S.failed reader.new ≡ S.failed reader.old) }
-    ensures refused { IfErr result (λ error. ((error ≡ ToolError.OutOfMemory) × (S.failed reader.new ≡ S.failed reader.old))
+    ensures refused { IfErr result (λ error. ((error ≡ ToolError.OutOfMemory)
+        × (S.failed reader.new ≡ S.failed reader.old))
         ⊎ ((error ≡ ToolError.Read) × (S.failed reader.old < S.failed reader.new))) }
 {
     match reader.read(buf) {

@@ -150,7 +150,8 @@ fn share_in(entries: &ArgMatches<'_>) -> Option<Option<u32>>
 }
 
 fn bits_in(entries: &ArgMatches<'_>) -> Option<Option<u64>>
-    ensures { result ≡ if_given 18446744073709551615 (one_of (codes "bits") (rows_of (found_of entries.now))) }
+    ensures { result ≡ if_given 18446744073709551615 (one_of (codes "bits")
+        (rows_of (found_of entries.now))) }
 {
     entries.try_get_one::<u64>("bits").ok()
 }

@@ -17,7 +17,8 @@ const DASH: &[u8] = b"-";
 pub fn push_window<P: Pen>(pen: &mut P, place: u64, offset: Offset) -> Result<(), ToolError>
     requires { P.is_ready pen.old }
     ensures written { OnOk result (P.has_written pen.new) }
-    ensures text { OnOk result (P.text pen.new ≡ P.text pen.old ++ window_row (record { 0 = place; 1 = offset })) }
+    ensures text { OnOk result (P.text pen.new ≡ P.text pen.old
+        ++ window_row (record { 0 = place; 1 = offset })) }
     ensures short { OnOk result (length (P.text pen.new) ≤ length (P.text pen.old) + 168) }
     ensures refused { IfErr result (IsMemoryWhere (P.may_refuse pen.old)) }
 {
@@ -124,7 +125,7 @@ fn version_name(version: Version, conflict: bool) -> &'static str
 }
 
 /// The twelve totals, each with its name.
-pub fn named(totals: &Totals) -> [(&'static str, u64); 12]
+pub fn totals_with_names(totals: &Totals) -> [(&'static str, u64); 12]
     ensures named { map (λ total. (total.0.now, total.1)) result ≡ named_totals totals.now }
     ensures plain { All (λ total. IsPlain total.0.now) result }
     ensures short { All (λ total. IsShort total.0.now) result }

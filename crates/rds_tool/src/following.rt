@@ -14,7 +14,7 @@ ghost use Rattle.rds_tool.specs.Inside.Streams.{IsFollowed, IsNearAnswer, IsNear
 ghost use Rattle.rds_tool.specs.Listing.{item_row, report_text, totals_text};
 ghost use Rattle.rds_tool.specs.Outcome.{Writes, WritesPrefix};
 
-use crate::fields::{named, push_item};
+use crate::fields::{push_item, totals_with_names};
 use crate::listing::{push_items, push_named};
 use crate::rows::{CsvRows, rows_in_room, text_of_rows};
 use crate::text::write_flushed;
@@ -57,29 +57,35 @@ pub fn follow<S: Source, K: Sink>(
 
     // Just the bytes that count were read, and the text that a list makes of them was written.
     ensures end { OnOk result (IsReadAsFar bits (S.remaining reader.old) (S.remaining reader.new)) }
-    ensures ok { OnOk result (IfSome (S.remaining reader.old) (λ held. Writes (K.contents writer.old) (K.contents writer.new)
+    ensures ok { OnOk result (IfSome (S.remaining reader.old) (λ held.
+        Writes (K.contents writer.old) (K.contents writer.new)
         (listed (record { rules = rules.now; gaps = gaps.now }) bits held))) }
 
     // A refusal for a device's sake comes exactly if it failed. One for the length comes only if too much was
     // claimed or read, or too little was read. One for the gaps comes only if the recording can't have them.
     ensures read { IsErrOf result ToolError.Read ↔ (S.failed reader.old < S.failed reader.new) }
     ensures write { IsErrOf result ToolError.Write ↔ (K.failed writer.old < K.failed writer.new) }
-    ensures too_long { IsErrOf result ToolError.TooLong → IsTooLong bits (S.remaining reader.old) (S.remaining reader.new) }
-    ensures past { IsErrOf result ToolError.BitsPastBytes → EndsShort bits (S.remaining reader.old) (S.remaining reader.new) }
+    ensures too_long { IsErrOf result ToolError.TooLong
+        → IsTooLong bits (S.remaining reader.old) (S.remaining reader.new) }
+    ensures past { IsErrOf result ToolError.BitsPastBytes
+        → EndsShort bits (S.remaining reader.old) (S.remaining reader.new) }
     ensures bad_gaps { IsErrOf result ToolError.BadGaps → (AreGaps (2 ^ 36) gaps.now → ⊥)
         ⊎ IfSome (S.remaining reader.old) (λ held. AreGaps (claimed bits held) gaps.now → ⊥) }
     ensures refused { IfErr result MayBreakOff }
 
     // The writer's contents after a refusal.
-    ensures between { IfErr result (λ error. error ≢ ToolError.Write → StopsBetweenRows (record { rules = rules.now; gaps = gaps.now }) bits
+    ensures between { IfErr result (λ error. error ≢ ToolError.Write
+        → StopsBetweenRows (record { rules = rules.now; gaps = gaps.now }) bits
         (S.remaining reader.old) (S.remaining reader.new) (K.contents writer.old) (K.contents writer.new)) }
-    ensures within { IsErrOf result ToolError.Write → StopsInRows (record { rules = rules.now; gaps = gaps.now }) bits
+    ensures within { IsErrOf result ToolError.Write
+        → StopsInRows (record { rules = rules.now; gaps = gaps.now }) bits
         (S.remaining reader.old) (S.remaining reader.new) (K.contents writer.old) (K.contents writer.new) }
 
     // The same at every device, of the bytes that the reader gave.
     ensures heard { OnOk result (Gave (S.given reader.old) (S.given reader.new) (λ bytes.
         IsHeardOut bits (S.has_ended reader.new) bytes
-        × Writes (K.contents writer.old) (K.contents writer.new) (listed (record { rules = rules.now; gaps = gaps.now }) bits bytes))) }
+        × Writes (K.contents writer.old) (K.contents writer.new)
+        (listed (record { rules = rules.now; gaps = gaps.now }) bits bytes))) }
     ensures flushed { OnOk result (K.is_flushed writer.new ≡ true) }
     ensures broke_off { IfErr result (BreaksOff (record { rules = rules.now; gaps = gaps.now }) bits
         (S.given reader.old) (S.given reader.new) (S.has_ended reader.new)
@@ -104,9 +110,12 @@ fn follow_bytes<'r, S: Source, K: Sink>(
 ) -> Result<Live<'r>, ToolError>
     requires reads { S.failed reader.old < 2 ^ 63 }
     requires writes { K.failed writer.old < 2 ^ 63 }
-    ensures followed { IfOk result (λ live. (heard : List ℕ) × IsFollowed (record { rules = rules.now; gaps = gaps.now }) bits live
-        (S.remaining reader.old) (S.remaining reader.new) (K.contents writer.old) (K.contents writer.new) heard
-        × (S.given reader.new ≡ S.given reader.old ++ heard) × IsFlushedAfter heard (K.is_flushed writer.new)) }
+    ensures followed { IfOk result (λ live. (heard : List ℕ)
+        × IsFollowed (record { rules = rules.now; gaps = gaps.now }) bits live
+        (S.remaining reader.old) (S.remaining reader.new) (K.contents writer.old)
+        (K.contents writer.new) heard
+        × (S.given reader.new ≡ S.given reader.old ++ heard)
+        × IsFlushedAfter heard (K.is_flushed writer.new)) }
     ensures near_end { IfOk result (λ live. IsNearEnd bits live.place (S.remaining reader.new)) }
     ensures near_answer { IfOk result (λ live. IsNearAnswer bits live.place (S.has_ended reader.new)) }
     ensures claims { OnOk result (IsShortEnough bits) }
@@ -114,12 +123,15 @@ fn follow_bytes<'r, S: Source, K: Sink>(
     ensures writes { OnOk result (K.failed writer.new ≡ K.failed writer.old) }
     ensures read { IsErrOf result ToolError.Read ↔ (S.failed reader.old < S.failed reader.new) }
     ensures write { IsErrOf result ToolError.Write ↔ (K.failed writer.old < K.failed writer.new) }
-    ensures too_long { IsErrOf result ToolError.TooLong → IsTooLong bits (S.remaining reader.old) (S.remaining reader.new) }
+    ensures too_long { IsErrOf result ToolError.TooLong
+        → IsTooLong bits (S.remaining reader.old) (S.remaining reader.new) }
     ensures bad_gaps { IsErrOf result ToolError.BadGaps → AreGaps (2 ^ 36) gaps.now → ⊥ }
     ensures refused { IfErr result MayBreakEarly }
-    ensures between { IfErr result (λ error. error ≢ ToolError.Write → StopsBetweenRows (record { rules = rules.now; gaps = gaps.now }) bits
+    ensures between { IfErr result (λ error. error ≢ ToolError.Write
+        → StopsBetweenRows (record { rules = rules.now; gaps = gaps.now }) bits
         (S.remaining reader.old) (S.remaining reader.new) (K.contents writer.old) (K.contents writer.new)) }
-    ensures within { IsErrOf result ToolError.Write → StopsInRows (record { rules = rules.now; gaps = gaps.now }) bits
+    ensures within { IsErrOf result ToolError.Write
+        → StopsInRows (record { rules = rules.now; gaps = gaps.now }) bits
         (S.remaining reader.old) (S.remaining reader.new) (K.contents writer.old) (K.contents writer.new) }
     ensures broke_off { IfErr result (BreaksOff (record { rules = rules.now; gaps = gaps.now }) bits
         (S.given reader.old) (S.given reader.new) (S.has_ended reader.new)
@@ -147,13 +159,15 @@ fn begin<'r>(
     gaps: &'r [(u64, u64)],
     bits: Option<u64>,
 ) -> Result<(Live<'r>, Vec<u8>, Vec<Item>), ToolError>
-    ensures live { IfOk result (λ begun. begun.0 ≡ live_of (record { rules = rules.now; gaps = gaps.now }) []) }
+    ensures live { IfOk result (λ begun. begun.0 ≡ live_of
+        (record { rules = rules.now; gaps = gaps.now }) []) }
     ensures room { IfOk result (λ begun. length begun.1.items ≡ 65536) }
     ensures items { IfOk result (λ begun. 16 ≤ vec_capacity begun.2) }
     ensures claims { OnOk result (IsShortEnough bits) }
     ensures too_long { IsErrOf result ToolError.TooLong → IsLong bits }
     ensures bad_gaps { IsErrOf result ToolError.BadGaps → AreGaps (2 ^ 36) gaps.now → ⊥ }
-    ensures kinds { IfErr result (λ error. (error ≡ ToolError.OutOfMemory) ⊎ ((error ≡ ToolError.TooLong) ⊎ (error ≡ ToolError.BadGaps))) }
+    ensures kinds { IfErr result (λ error. (error ≡ ToolError.OutOfMemory)
+        ⊎ ((error ≡ ToolError.TooLong) ⊎ (error ≡ ToolError.BadGaps))) }
 {
     check_claim(bits)?;
     let live = Live::with_gaps(alloc, rules, gaps)?;
@@ -202,7 +216,8 @@ fn read_once<S: Source>(reader: &mut S, buf: &mut [u8], room: usize) -> Result<u
     requires count { S.failed reader.old < 2 ^ 63 }
     requires room { 0 < length buf.old }
     ensures within { IfOk result (λ count. (count ≤ length buf.new) × (count ≤ room)) }
-    ensures taken { IfOk result (λ count. Consumes (S.remaining reader.old) (S.remaining reader.new) (take count buf.new)) }
+    ensures taken { IfOk result (λ count. Consumes (S.remaining reader.old) (S.remaining reader.new)
+        (take count buf.new)) }
     ensures end { IfOk result (λ count. count ≡ 0 → (room ≡ 0) ⊎ IsAtEnd (S.remaining reader.new)) }
     ensures given { IfOk result (λ count. S.given reader.new ≡ S.given reader.old ++ take count buf.new) }
     ensures answer { IfOk result (λ count. count ≡ 0 → (room ≡ 0) ⊎ (S.has_ended reader.new ≡ true)) }
@@ -227,10 +242,12 @@ fn read_once<S: Source>(reader: &mut S, buf: &mut [u8], room: usize) -> Result<u
 fn read_last<S: Source>(reader: &mut S, last: &mut [u8], left: u64) -> Result<usize, ToolError>
     requires count { S.failed reader.old < 2 ^ 63 }
     requires room { length last.old ≡ 1 }
-    ensures within { IfOk result (λ count. (count ≤ length last.new) × (left ≤ 8 * count) × (8 * count < left + 8)) }
+    ensures within { IfOk result (λ count. (count ≤ length last.new) × (left ≤ 8 * count)
+        × (8 * count < left + 8)) }
     ensures few { IfOk result (λ count. count ≤ 1) }
     ensures short { OnOk result (left < 8) }
-    ensures taken { IfOk result (λ count. Consumes (S.remaining reader.old) (S.remaining reader.new) (take count last.new)) }
+    ensures taken { IfOk result (λ count. Consumes (S.remaining reader.old) (S.remaining reader.new)
+        (take count last.new)) }
     ensures given { IfOk result (λ count. S.given reader.new ≡ S.given reader.old ++ take count last.new) }
     ensures still { IfOk result (λ count. left ≡ 0 → S.remaining reader.new ≡ S.remaining reader.old) }
     ensures same_answer { IfOk result (λ count. left ≡ 0 → S.has_ended reader.new ≡ S.has_ended reader.old) }
@@ -239,9 +256,11 @@ fn read_last<S: Source>(reader: &mut S, last: &mut [u8], left: u64) -> Result<us
     ensures count { OnOk result (S.failed reader.new ≡ S.failed reader.old) }
     ensures read { IsErrOf result ToolError.Read ↔ (S.failed reader.old < S.failed reader.new) }
     ensures past { IsErrOf result ToolError.BitsPastBytes → (0 < left)
-        × (((8 ≤ left) × (S.remaining reader.new ≡ S.remaining reader.old)) ⊎ IsAtEnd (S.remaining reader.new)) }
+        × (((8 ≤ left) × (S.remaining reader.new ≡ S.remaining reader.old))
+        ⊎ IsAtEnd (S.remaining reader.new)) }
     ensures past_answer { IsErrOf result ToolError.BitsPastBytes → (0 < left)
-        × (((8 ≤ left) × (S.has_ended reader.new ≡ S.has_ended reader.old)) ⊎ (S.has_ended reader.new ≡ true)) }
+        × (((8 ≤ left) × (S.has_ended reader.new ≡ S.has_ended reader.old))
+        ⊎ (S.has_ended reader.new ≡ true)) }
     ensures kinds { IfErr result (λ error. (error ≡ ToolError.Read) ⊎ (error ≡ ToolError.BitsPastBytes)) }
 {
     if left == 0 {
@@ -266,7 +285,8 @@ fn follow_chunk<K: Sink>(
 ) -> Result<(), ToolError>
     requires count { K.failed writer.old < 2 ^ 63 }
     requires room { 16 ≤ vec_capacity items.old }
-    ensures heard { OnOk result ((before : List ℕ) → HasHeard live.old before → HasHeard live.new (before ++ bytes.now)) }
+    ensures heard { OnOk result ((before : List ℕ) → HasHeard live.old before
+        → HasHeard live.new (before ++ bytes.now)) }
     ensures terms { OnOk result (live.new.terms ≡ live.old.terms) }
     ensures rows { OnOk result ((before : List ℕ) → HasHeard live.old before → (rows : List ℕ)
         × (rows_so_far live.old.terms (before ++ bytes.now) ≡ rows_so_far live.old.terms before ++ rows)
@@ -277,9 +297,11 @@ fn follow_chunk<K: Sink>(
     ensures flushed { OnOk result (K.is_flushed writer.new ≡ true) }
     ensures write { IsErrOf result ToolError.Write ↔ (K.failed writer.old < K.failed writer.new) }
     ensures too_long { IsErrOf result ToolError.TooLong → 2 ^ 36 < live.old.place + 8 * length bytes.now }
-    ensures kinds { IfErr result (λ error. (error ≡ ToolError.OutOfMemory) ⊎ ((error ≡ ToolError.Write) ⊎ (error ≡ ToolError.TooLong))) }
+    ensures kinds { IfErr result (λ error. (error ≡ ToolError.OutOfMemory)
+        ⊎ ((error ≡ ToolError.Write) ⊎ (error ≡ ToolError.TooLong))) }
     ensures untouched { IfErr result (λ error. error ≢ ToolError.Write → writer.new ≡ writer.old) }
-    ensures prefix { IsErrOf result ToolError.Write → (before : List ℕ) → HasHeard live.old before → (rows : List ℕ)
+    ensures prefix { IsErrOf result ToolError.Write → (before : List ℕ) → HasHeard live.old before
+        → (rows : List ℕ)
         × (rows_so_far live.old.terms (before ++ bytes.now) ≡ rows_so_far live.old.terms before ++ rows)
         × WritesPrefix (K.contents writer.old) (K.contents writer.new) (Ok rows) }
 {
@@ -295,10 +317,12 @@ fn rows_of_chunk(
     items: &mut Vec<Item>,
 ) -> Result<Vec<u8>, ToolError>
     requires { 16 ≤ vec_capacity items.old }
-    ensures heard { OnOk result ((before : List ℕ) → HasHeard live.old before → HasHeard live.new (before ++ bytes.now)) }
+    ensures heard { OnOk result ((before : List ℕ) → HasHeard live.old before
+        → HasHeard live.new (before ++ bytes.now)) }
     ensures terms { OnOk result (live.new.terms ≡ live.old.terms) }
     ensures rows { IfOk result (λ text. (before : List ℕ) → HasHeard live.old before
-        → rows_so_far live.old.terms (before ++ bytes.now) ≡ rows_so_far live.old.terms before ++ text.items) }
+        → rows_so_far live.old.terms (before ++ bytes.now)
+        ≡ rows_so_far live.old.terms before ++ text.items) }
     ensures room { vec_capacity items.new ≡ vec_capacity items.old }
     ensures fits { OnOk result (live.old.place + 8 * length bytes.now ≤ 2 ^ 36) }
     ensures too_long { IsErrOf result ToolError.TooLong → 2 ^ 36 < live.old.place + 8 * length bytes.now }
@@ -327,7 +351,8 @@ fn push_rows(
     requires room { 16 ≤ vec_capacity items.old }
     requires between { IsBetween rows.old }
     ensures some { IfOk result (λ count. (0 < count) × (count ≤ length bytes.now)) }
-    ensures heard { IfOk result (λ count. (before : List ℕ) → HasHeard live.old before → HasHeard live.new (before ++ take count bytes.now)) }
+    ensures heard { IfOk result (λ count. (before : List ℕ) → HasHeard live.old before
+        → HasHeard live.new (before ++ take count bytes.now)) }
     ensures terms { OnOk result (live.new.terms ≡ live.old.terms) }
     ensures place { IfOk result (λ count. live.new.place ≡ live.old.place + 8 * count) }
     ensures rows { IfOk result (λ count. (before written : List ℕ) → HasHeard live.old before
@@ -358,7 +383,8 @@ fn rows_of_rest(
         → let items = report_at live.entry.terms (before ++ bytes.now) (8 * length before + bits) in
         report_text items (totals_of items) ≡ rows_so_far live.entry.terms before ++ text.items) }
     ensures gaps { OnOk result (AreGaps (live.entry.place + bits) live.entry.terms.gaps) }
-    ensures bad_gaps { IsErrOf result ToolError.BadGaps → AreGaps (live.entry.place + bits) live.entry.terms.gaps → ⊥ }
+    ensures bad_gaps { IsErrOf result ToolError.BadGaps
+        → AreGaps (live.entry.place + bits) live.entry.terms.gaps → ⊥ }
     ensures kinds { IfErr result (λ error. (error ≡ ToolError.OutOfMemory) ⊎ (error ≡ ToolError.BadGaps)) }
 {
     if !live.may_end_after(bits) {
@@ -373,7 +399,8 @@ fn rows_of_rest(
 /// The rows of the last items of a listing, and those of its end.
 fn rows_to_end(alloc: Global, items: &[Item], end: &StreamEnd) -> Result<Vec<u8>, ToolError>
     ensures rows { IfOk result (λ text. text.items
-        ≡ flat_map item_row items.now ++ (flat_map item_row (group_item end.now.group) ++ totals_text end.now.totals)) }
+        ≡ flat_map item_row items.now ++ (flat_map item_row (group_item end.now.group)
+        ++ totals_text end.now.totals)) }
     ensures refused { IsOkUnless result ToolError.OutOfMemory }
 {
     let mut rows = rows_in_room(alloc, 0)?;
@@ -392,14 +419,15 @@ fn push_to_end(rows: &mut CsvRows, items: &[Item], end: &StreamEnd) -> Result<()
 {
     push_items(rows, items)?;
     push_last_group(rows, end)?;
-    push_named(rows, &named(&end.totals))
+    push_named(rows, &totals_with_names(&end.totals))
 }
 
 /// The row of the group in progress, if there is one.
 fn push_last_group(rows: &mut CsvRows, end: &StreamEnd) -> Result<(), ToolError>
     requires { IsBetween rows.old }
     ensures between { OnOk result (IsBetween rows.new) }
-    ensures text { OnOk result (text_of rows.new ≡ text_of rows.old ++ flat_map item_row (group_item end.now.group)) }
+    ensures text { OnOk result (text_of rows.new ≡ text_of rows.old
+        ++ flat_map item_row (group_item end.now.group)) }
     ensures refused { IsOkUnless result ToolError.OutOfMemory }
 {
     if let Some(group) = end.group {

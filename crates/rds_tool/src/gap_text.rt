@@ -19,13 +19,15 @@ pub fn gaps_of(alloc: Global, text: &str) -> Result<Option<Vec<(u64, u64)>>, All
 }
 
 fn pairs_of(alloc: Global, text: &str) -> Result<Vec<&str>, AllocError>
-    ensures { IfOk result (λ pairs. map (λ pair. pair.now) pairs.items ≡ slice_split (λ b. b == 44) text.now) }
+    ensures { IfOk result (λ pairs. map (λ pair. pair.now) pairs.items
+        ≡ slice_split (λ b. b == 44) text.now) }
 {
     text.split(',').collect(alloc)
 }
 
 fn each_gap(alloc: Global, pairs: &[&str]) -> Result<Option<Vec<(u64, u64)>>, AllocError>
-    ensures { IfOk result (λ gaps. option_map (λ g. g.items) gaps ≡ the_gaps_of_each (map (λ pair. pair.now) pairs.now)) }
+    ensures { IfOk result (λ gaps. option_map (λ g. g.items) gaps
+        ≡ the_gaps_of_each (map (λ pair. pair.now) pairs.now)) }
 {
     let mut gaps = Vec::new(alloc);
     for pair in pairs {

@@ -10,7 +10,7 @@ use std::alloc::{AllocError, Global};
 
 impl Input {
     /// The same, with gaps of its own.
-    pub(crate) fn copied(&self, alloc: Global) -> Result<Input, AllocError>
+    pub(crate) fn clone_in(&self, alloc: Global) -> Result<Input, AllocError>
         ensures { IfOk result (λ copy. copy ≡ self.now) }
     {
         Ok(Input {

@@ -5,7 +5,7 @@ ghost use Rattle.rds_tool.specs.Listing.{item_row, total_row, totals_text, windo
 ghost use Rattle.rds_tool.specs.Inside.RowWriter.{IsBetween, IsPlain, IsShort, text_of};
 
 use crate::ToolError;
-use crate::fields::{named, push_item, push_total, push_window};
+use crate::fields::{push_item, push_total, push_window, totals_with_names};
 use crate::rows::{CsvRows, rows_in_room, rows_over, text_of_rows};
 use rds_code::Offset;
 use rds_stream::Recording;
@@ -66,7 +66,8 @@ pub fn item_rows<'a>(
     requires inside { to ≤ length items.now.list }
     requires source { items.now.source ≡ heard.recording.now }
     requires rules { items.now.rules ≡ heard.rules.now }
-    ensures rows { IfOk result (λ text. text.items ≡ flat_map item_row (take (to - from) (drop from items.now.list))) }
+    ensures rows { IfOk result (λ text. text.items ≡ flat_map item_row
+        (take (to - from) (drop from items.now.list))) }
     ensures short { IfOk result (λ text. length text.items ≤ (to - from) * 168) }
     ensures refused { IsOkUnless result ToolError.OutOfMemory }
 {
@@ -87,7 +88,8 @@ fn push_left(
     requires some { 0 < vec_capacity part.old }
     ensures between { OnOk result (IsBetween rows.new) }
     ensures text { OnOk result (text_of rows.new ≡ text_of rows.old ++ flat_map item_row left.old) }
-    ensures short { OnOk result (length (text_of rows.new) ≤ length (text_of rows.old) + length left.old * 168) }
+    ensures short { OnOk result (length (text_of rows.new)
+        ≤ length (text_of rows.old) + length left.old * 168) }
     ensures refused { IsOkUnless result ToolError.OutOfMemory }
 {
     'parts: loop {
@@ -115,7 +117,8 @@ pub fn push_items(rows: &mut CsvRows, items: &[Item]) -> Result<(), ToolError>
     requires between { IsBetween rows.old }
     ensures between { OnOk result (IsBetween rows.new) }
     ensures text { OnOk result (text_of rows.new ≡ text_of rows.old ++ flat_map item_row items.now) }
-    ensures short { OnOk result (length (text_of rows.new) ≤ length (text_of rows.old) + length items.now * 168) }
+    ensures short { OnOk result (length (text_of rows.new)
+        ≤ length (text_of rows.old) + length items.now * 168) }
     ensures refused { IsOkUnless result ToolError.OutOfMemory }
 {
     for item in items {
@@ -129,14 +132,15 @@ pub fn totals_rows(alloc: Global, totals: &Totals) -> Result<Vec<u8>, ToolError>
     ensures rows { IfOk result (λ text. text.items ≡ totals_text totals.now) }
     ensures refused { IsOkUnless result ToolError.OutOfMemory }
 {
-    named_rows(alloc, &named(totals))
+    named_rows(alloc, &totals_with_names(totals))
 }
 
 /// A row for each of these totals.
 pub fn named_rows(alloc: Global, totals: &[(&'static str, u64)]) -> Result<Vec<u8>, ToolError>
     requires plain { All (λ total. IsPlain total.0.now) totals.now }
     requires short { All (λ total. IsShort total.0.now) totals.now }
-    ensures rows { IfOk result (λ text. text.items ≡ flat_map total_row (map (λ total. (total.0.now, total.1)) totals.now)) }
+    ensures rows { IfOk result (λ text. text.items ≡ flat_map total_row
+        (map (λ total. (total.0.now, total.1)) totals.now)) }
     ensures short { IfOk result (λ text. length text.items ≤ length totals.now * 168) }
     ensures refused { IsOkUnless result ToolError.OutOfMemory }
 {
@@ -153,7 +157,8 @@ pub fn push_named(rows: &mut CsvRows, totals: &[(&'static str, u64)]) -> Result<
     ensures between { OnOk result (IsBetween rows.new) }
     ensures text { OnOk result (text_of rows.new
         ≡ text_of rows.old ++ flat_map total_row (map (λ total. (total.0.now, total.1)) totals.now)) }
-    ensures short { OnOk result (length (text_of rows.new) ≤ length (text_of rows.old) + length totals.now * 168) }
+    ensures short { OnOk result (length (text_of rows.new)
+        ≤ length (text_of rows.old) + length totals.now * 168) }
     ensures refused { IsOkUnless result ToolError.OutOfMemory }
 {
     for (name, value) in totals {

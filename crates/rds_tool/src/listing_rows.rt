@@ -5,7 +5,7 @@ ghost use Rattle.rds_rows.specs.Sheets.{left_of, size_of, text_of};
 ghost use Rattle.rds_tool.specs.Listing.{item_row, named_totals, total_row};
 ghost use Rattle.rds_tool.specs.Inside.RowWriter.{IsPlain, IsShort};
 
-use crate::fields::{named, push_item, push_total};
+use crate::fields::{push_item, push_total, totals_with_names};
 use crate::line::{LONGEST_ROW, Line};
 use crate::listing::{Heard, item_rows, named_rows};
 use rds_rows::{Rows, RowsError, Sheet};
@@ -110,7 +110,7 @@ impl<'a> ListingRows<'a> {
         if from == to {
             return;
         }
-        let all = named(self.totals);
+        let all = totals_with_names(self.totals);
         let some = &all[from..to];
         match named_rows(self.alloc, some) {
             Ok(text) => sheet.push_all(to - from, text.as_slice()),

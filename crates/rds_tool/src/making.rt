@@ -32,14 +32,14 @@ impl<'a> Task<'a> {
         match job {
             Job::Scan(input, workers) => {
                 let workers = Workers::of(*workers)?;
-                Ok(Task::Scan(input.copied(alloc)?, workers))
+                Ok(Task::Scan(input.clone_in(alloc)?, workers))
             }
             Job::List(input, settings) => {
-                let (input, plan) = planned(alloc, input, settings)?;
+                let (input, plan) = input_and_plan(alloc, input, settings)?;
                 Ok(Task::List(input, plan))
             }
             Job::Totals(input, settings) => {
-                let (input, plan) = planned(alloc, input, settings)?;
+                let (input, plan) = input_and_plan(alloc, input, settings)?;
                 Ok(Task::Totals(input, plan))
             }
             Job::Encode { hex } => Ok(Task::Encode { hex: *hex }),
@@ -55,7 +55,8 @@ impl<'a> Task<'a> {
         gate: &G,
     ) -> Result<Text<'a>, ToolError>
         ensures ok { IfOk result (λ text. text_of_task self.entry held.items ≡ Ok (bytes_of text)) }
-        ensures refused { IfErr result (IsShortageOrErrOf (MayStartThreads self.entry) (text_of_task self.entry held.items)) }
+        ensures refused { IfErr result (IsShortageOrErrOf (MayStartThreads self.entry)
+            (text_of_task self.entry held.items)) }
     {
         match self {
             Task::Scan(input, workers) => windows_of(alloc, input, workers, held),
@@ -70,17 +71,18 @@ impl<'a> Task<'a> {
 }
 
 /// The input and the plan of a job over a recording. A setting out of its range is refused first.
-fn planned<'a>(
+fn input_and_plan<'a>(
     alloc: Global,
     input: &Input,
     settings: &'a Settings,
 ) -> Result<(Input, Plan<'a>), ToolError>
-    ensures ok { IfOk result (λ planned. (planned.0 ≡ input.now) × (plan_of settings.entry.now ≡ Ok planned.1)) }
+    ensures ok { IfOk result (λ planned. (planned.0 ≡ input.now)
+        × (plan_of settings.entry.now ≡ Ok planned.1)) }
     ensures refused { IfErr result (IsMemoryOrErrOf (plan_of settings.entry.now)) }
     ensures settings { IfErr (plan_of settings.entry.now) (λ error. result ≡ Err error) }
 {
     let plan = Plan::of(alloc, settings)?;
-    let input = input.copied(alloc)?;
+    let input = input.clone_in(alloc)?;
     Ok((input, plan))
 }
 
@@ -91,7 +93,8 @@ fn windows_of<'a>(
     workers: Workers,
     held: Vec<u8>,
 ) -> Result<Text<'a>, ToolError>
-    ensures ok { IfOk result (λ text. text_of_task (task.Scan input workers) held.items ≡ Ok (bytes_of text)) }
+    ensures ok { IfOk result (λ text. text_of_task (task.Scan input workers) held.items
+        ≡ Ok (bytes_of text)) }
     ensures refused { IfErr result (IsMemoryOrErrOf (text_of_task (task.Scan input workers) held.items)) }
 {
     let recording = recording_of(alloc, input, held)?;
@@ -106,7 +109,8 @@ fn one_pass_of<'a>(
     held: Vec<u8>,
 ) -> Result<Text<'a>, ToolError>
     requires { cuts_any plan.cuts ≡ true }
-    ensures ok { IfOk result (λ text. text_of_task (task.List input plan.entry) held.items ≡ Ok (bytes_of text)) }
+    ensures ok { IfOk result (λ text. text_of_task (task.List input plan.entry) held.items
+        ≡ Ok (bytes_of text)) }
     ensures refused { IfErr result (IsMemoryOrErrOf (text_of_task (task.List input plan.entry) held.items)) }
 {
     let recording = recording_of(alloc, input, held)?;
@@ -122,8 +126,10 @@ fn report_of<'a, R: Threads + Wait, G: Gate + Sync>(
     held: Vec<u8>,
     gate: &G,
 ) -> Result<Text<'a>, ToolError>
-    ensures ok { IfOk result (λ text. text_of_task (task.List input plan.entry) held.items ≡ Ok (bytes_of text)) }
-    ensures refused { IfErr result (IsShortageOrErrOf (1 < plan.entry.workers) (text_of_task (task.List input plan.entry) held.items)) }
+    ensures ok { IfOk result (λ text. text_of_task (task.List input plan.entry) held.items
+        ≡ Ok (bytes_of text)) }
+    ensures refused { IfErr result (IsShortageOrErrOf (1 < plan.entry.workers)
+        (text_of_task (task.List input plan.entry) held.items)) }
 {
     let listing = listing_of(rt, alloc, input, plan, held, gate)?;
     Ok(Text::Listing(listing))
@@ -141,7 +147,8 @@ fn listing_of<'a, R: Threads + Wait, G: Gate + Sync>(
 ) -> Result<Listing<'a>, ToolError>
     ensures list { IfOk result (λ listing. text_of_task (task.List input plan.entry) held.items
         ≡ Ok (report_text listing.report.items.list listing.report.totals)) }
-    ensures refused { IfErr result (IsShortageOrErrOf (1 < plan.entry.workers) (cut_recording input plan.entry.cuts held.items)) }
+    ensures refused { IfErr result (IsShortageOrErrOf (1 < plan.entry.workers)
+        (cut_recording input plan.entry.cuts held.items)) }
 {
     let recording = recording_of(alloc, input, held)?;
     let report = report_by(rt, alloc, &plan, &recording, Spans::Short, gate)?;
@@ -161,8 +168,10 @@ fn rows_of_totals<'a, R: Threads + Wait, G: Gate + Sync>(
     held: Vec<u8>,
     gate: &G,
 ) -> Result<Text<'a>, ToolError>
-    ensures ok { IfOk result (λ text. text_of_task (task.Totals input plan.now) held.items ≡ Ok (bytes_of text)) }
-    ensures refused { IfErr result (IsShortageOrErrOf (1 < plan.now.workers) (text_of_task (task.Totals input plan.now) held.items)) }
+    ensures ok { IfOk result (λ text. text_of_task (task.Totals input plan.now) held.items
+        ≡ Ok (bytes_of text)) }
+    ensures refused { IfErr result (IsShortageOrErrOf (1 < plan.now.workers)
+        (text_of_task (task.Totals input plan.now) held.items)) }
 {
     let totals = totals_of(rt, alloc, input, plan, held, gate)?;
     let rows = totals_rows(alloc, &totals)?;
@@ -180,7 +189,8 @@ fn totals_of<R: Threads + Wait, G: Gate + Sync>(
 ) -> Result<Totals, ToolError>
     ensures totals { IfOk result (λ totals. text_of_task (task.Totals input plan.now) held.items
         ≡ Ok (totals_text totals)) }
-    ensures refused { IfErr result (IsShortageOrErrOf (1 < plan.now.workers) (cut_recording input plan.now.cuts held.items)) }
+    ensures refused { IfErr result (IsShortageOrErrOf (1 < plan.now.workers)
+        (cut_recording input plan.now.cuts held.items)) }
 {
     let recording = recording_of(alloc, input, held)?;
     let report = report_by(rt, alloc, plan, &recording, Spans::Whole, gate)?;

@@ -14,7 +14,7 @@ ghost use Rattle.rds_tool.specs.Inside.Texts.{end_text};
 ghost use Rattle.rds_tool.specs.Listing.{item_row, totals_text};
 ghost use Rattle.rds_tool.specs.Outcome.{list_text};
 
-use crate::fields::{named, push_item};
+use crate::fields::{push_item, totals_with_names};
 use crate::line::{LONGEST_ROW, Line};
 use crate::listing::{named_rows, rows_of_items};
 use crate::listing_rows::fill_named;
@@ -43,7 +43,8 @@ pub fn write_in_one_pass<K: Sink>(
     ensures count { OnOk result (K.failed writer.new ≡ K.failed writer.old) }
     ensures write { IsErrOf result RowsError.Write ↔ (K.failed writer.old < K.failed writer.new) }
     ensures untouched { IsErrOf result RowsError.OutOfMemory → writer.new ≡ writer.old }
-    ensures prefix { IsErrOf result RowsError.Write → AppendsPrefix (K.contents writer.old) (K.contents writer.new)
+    ensures prefix { IsErrOf result RowsError.Write
+        → AppendsPrefix (K.contents writer.old) (K.contents writer.new)
         (list_text rules.now recording.now) }
 {
     // A bit has few items, and the rows of the totals need room too.
@@ -102,7 +103,8 @@ fn write_items<K: Sink>(
     requires room { vec_capacity items.old ≤ (size_of sheet.old).0 }
     requires longest { (size_of sheet.old).1 ≡ 168 }
     requires count { K.failed writer.old < 2 ^ 63 }
-    ensures ok { OnOk result (Appends (K.contents writer.old) (K.contents writer.new) (flat_map item_row decoder.old.items)) }
+    ensures ok { OnOk result (Appends (K.contents writer.old) (K.contents writer.new)
+        (flat_map item_row decoder.old.items)) }
     ensures totals { IfOk result (λ totals. totals ≡ totals_of decoder.old.items) }
     ensures small { IfOk result (IsAtMost (2 ^ 47)) }
     ensures end { OnOk result (decoder.new.end ≡ decoder.old.end) }
@@ -136,11 +138,13 @@ fn write_part<K: Sink>(
     requires room { length items.now ≤ (size_of sheet.old).0 }
     requires longest { (size_of sheet.old).1 ≡ 168 }
     requires count { K.failed writer.old < 2 ^ 63 }
-    ensures ok { OnOk result (Appends (K.contents writer.old) (K.contents writer.new) (flat_map item_row items.now)) }
+    ensures ok { OnOk result (Appends (K.contents writer.old) (K.contents writer.new)
+        (flat_map item_row items.now)) }
     ensures size { size_of sheet.new ≡ size_of sheet.old }
     ensures count { OnOk result (K.failed writer.new ≡ K.failed writer.old) }
     ensures failed { OnErr result (K.failed writer.old < K.failed writer.new) }
-    ensures prefix { OnErr result (AppendsPrefix (K.contents writer.old) (K.contents writer.new) (flat_map item_row items.now)) }
+    ensures prefix { OnErr result (AppendsPrefix (K.contents writer.old) (K.contents writer.new)
+        (flat_map item_row items.now)) }
 {
     match rows_of_items(alloc, items) {
         Ok(text) => write_all(writer, text.as_slice()),
@@ -214,12 +218,14 @@ fn write_totals<K: Sink>(
     requires room { 12 ≤ (size_of sheet.old).0 }
     requires longest { (size_of sheet.old).1 ≡ 168 }
     requires count { K.failed writer.old < 2 ^ 63 }
-    ensures ok { OnOk result (Appends (K.contents writer.old) (K.contents writer.new) (totals_text totals.now)) }
+    ensures ok { OnOk result (Appends (K.contents writer.old) (K.contents writer.new)
+        (totals_text totals.now)) }
     ensures count { OnOk result (K.failed writer.new ≡ K.failed writer.old) }
     ensures failed { OnErr result (K.failed writer.old < K.failed writer.new) }
-    ensures prefix { OnErr result (AppendsPrefix (K.contents writer.old) (K.contents writer.new) (totals_text totals.now)) }
+    ensures prefix { OnErr result (AppendsPrefix (K.contents writer.old) (K.contents writer.new)
+        (totals_text totals.now)) }
 {
-    let all = named(totals);
+    let all = totals_with_names(totals);
     match named_rows(alloc, &all) {
         Ok(text) => write_all(writer, text.as_slice()),
         Err(_) => {

@@ -29,7 +29,8 @@ pub trait Pen {
         requires plain { AllByRecursion IsPlain (map (λ field. field.now) fields.now) }
         requires short { AllByRecursion IsShort (map (λ field. field.now) fields.now) }
         ensures written { OnOk result (has_written self.new) }
-        ensures text { OnOk result (text self.new ≡ text self.old ++ row (map (λ field. field.now) fields.now)) }
+        ensures text { OnOk result (text self.new ≡ text self.old
+            ++ row (map (λ field. field.now) fields.now)) }
         ensures short { OnOk result (length (text self.new) ≤ length (text self.old) + 168) }
         ensures refused { IfErr result (IsMemoryWhere (may_refuse self.old)) };
 }

@@ -107,7 +107,8 @@ pub fn report_by<R: Threads + Wait, G: Gate + Sync>(
 ) -> Result<Report, ToolError>
     ensures items { IfOk result (λ report. report.items
         ≡ listed recording.now plan.now.rules (report_items recording.now plan.now.rules)) }
-    ensures totals { IfOk result (λ report. report.totals ≡ totals_of (report_items recording.now plan.now.rules)) }
+    ensures totals { IfOk result (λ report. report.totals
+        ≡ totals_of (report_items recording.now plan.now.rules)) }
     ensures fits { OnOk result (cut_by plan.now.cuts recording.now ≡ Ok recording.now) }
     ensures refused { IfErr result (λ error. (error ≡ ToolError.OutOfMemory) ⊎ ((error ≡ ToolError.NoWorker)
         ⊎ (cut_by plan.now.cuts recording.now ≡ Err error))) }

@@ -35,7 +35,8 @@ impl Text<'_> {
         writer: &mut K,
     ) -> Result<(), ToolError>
         requires { K.failed writer.old < 2 ^ 63 }
-        ensures ok { OnOk result (Appends (K.contents writer.old) (K.contents writer.new) (bytes_of self.now)) }
+        ensures ok { OnOk result (Appends (K.contents writer.old) (K.contents writer.new)
+            (bytes_of self.now)) }
         ensures flushed { OnOk result (K.is_flushed writer.new ≡ true) }
         ensures write { IsErrOf result ToolError.Write ↔ (K.failed writer.old < K.failed writer.new) }
         ensures kinds { IfErr result (λ error. (error ≡ ToolError.OutOfMemory) ⊎ (error ≡ ToolError.Write)) }
@@ -82,7 +83,8 @@ pub fn write_whole<K: Sink>(writer: &mut K, bytes: &[u8]) -> Result<(), RowsErro
     ensures count { OnOk result (K.failed writer.new ≡ K.failed writer.old) }
     ensures write { IsErrOf result RowsError.Write ↔ (K.failed writer.old < K.failed writer.new) }
     ensures untouched { IsErrOf result RowsError.OutOfMemory → writer.new ≡ writer.old }
-    ensures prefix { IsErrOf result RowsError.Write → AppendsPrefix (K.contents writer.old) (K.contents writer.new) bytes.now }
+    ensures prefix { IsErrOf result RowsError.Write
+        → AppendsPrefix (K.contents writer.old) (K.contents writer.new) bytes.now }
 {
     match write_all(writer, bytes) {
         Ok(()) => Ok(()),
@@ -103,7 +105,8 @@ fn write_listing<R: Threads + Wait + Sync, K: Sink>(
     ensures count { OnOk result (K.failed writer.new ≡ K.failed writer.old) }
     ensures write { IsErrOf result RowsError.Write ↔ (K.failed writer.old < K.failed writer.new) }
     ensures untouched { IsErrOf result RowsError.OutOfMemory → writer.new ≡ writer.old }
-    ensures prefix { IsErrOf result RowsError.Write → AppendsPrefix (K.contents writer.old) (K.contents writer.new)
+    ensures prefix { IsErrOf result RowsError.Write
+        → AppendsPrefix (K.contents writer.old) (K.contents writer.new)
         (report_text listing.now.report.items.list listing.now.report.totals) }
 {
     let heard = Heard {
@@ -127,7 +130,8 @@ pub fn write_decoded<K: Sink>(
     ensures count { OnOk result (K.failed writer.new ≡ K.failed writer.old) }
     ensures write { IsErrOf result RowsError.Write ↔ (K.failed writer.old < K.failed writer.new) }
     ensures untouched { IsErrOf result RowsError.OutOfMemory → writer.new ≡ writer.old }
-    ensures prefix { IsErrOf result RowsError.Write → AppendsPrefix (K.contents writer.old) (K.contents writer.new)
+    ensures prefix { IsErrOf result RowsError.Write
+        → AppendsPrefix (K.contents writer.old) (K.contents writer.new)
         (list_text plan.now.rules recording.now) }
 {
     write_in_one_pass(alloc, recording, plan.rules(), writer)
@@ -144,7 +148,8 @@ fn write_windows<R: Threads + Wait + Sync, K: Sink>(
     requires some { 0 < workers }
     requires few { workers ≤ 256 }
     requires count { K.failed writer.old < 2 ^ 63 }
-    ensures ok { OnOk result (Appends (K.contents writer.old) (K.contents writer.new) (scan_text recording.now)) }
+    ensures ok { OnOk result (Appends (K.contents writer.old) (K.contents writer.new)
+        (scan_text recording.now)) }
     ensures count { OnOk result (K.failed writer.new ≡ K.failed writer.old) }
     ensures write { IsErrOf result RowsError.Write ↔ (K.failed writer.old < K.failed writer.new) }
     ensures untouched { IsErrOf result RowsError.OutOfMemory → writer.new ≡ writer.old }
@@ -164,7 +169,8 @@ pub fn write_flushed<K: Sink>(writer: &mut K, text: &[u8]) -> Result<(), ToolErr
     ensures count { OnOk result (K.failed writer.new ≡ K.failed writer.old) }
     ensures write { IsErrOf result ToolError.Write ↔ (K.failed writer.old < K.failed writer.new) }
     ensures kinds { IsOkUnless result ToolError.Write }
-    ensures prefix { OnErr result (WritesPrefix (K.contents writer.old) (K.contents writer.new) (Ok text.now)) }
+    ensures prefix { OnErr result (WritesPrefix (K.contents writer.old) (K.contents writer.new)
+        (Ok text.now)) }
 {
     match write_all(writer, text) {
         Ok(()) => flush(writer),

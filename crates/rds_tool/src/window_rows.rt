@@ -27,7 +27,7 @@ pub struct WindowRows<'a> {
 
 impl WindowRows<'_> {
     /// The rows of the places from one up to another.
-    fn spelled(&self, from: u64, to: u64) -> Result<Vec<u8>, ToolError>
+    fn rows_between(&self, from: u64, to: u64) -> Result<Vec<u8>, ToolError>
         requires order { from ≤ to }
         requires inside { to ≤ length_of self.now.recording.now }
         ensures rows { IfOk result (λ text. text.items
@@ -97,7 +97,7 @@ impl Rows for WindowRows<'_> {
 
     fn fill(&self, from: usize, to: usize, sheet: &mut Sheet) {
         let (first, last) = (from as u64, to as u64);
-        match self.spelled(first, last) {
+        match self.rows_between(first, last) {
             Ok(text) => sheet.push_all(to - from, text.as_slice()),
             Err(_) => self.fill_joined(first, last, sheet),
         }

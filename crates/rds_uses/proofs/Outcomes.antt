@@ -9,7 +9,7 @@ use Rattle.rds_tool.specs.Cuts.{cuts_any, cuts_bits}
 use Rattle.rds_tool.specs.Input.{and_then, may_be_gaps, recording_of}
 use Rattle.rds_tool.specs.Laws.{EncodedGroupsAreListed, ListsEndWithTotals, groups_in, sent_listing, whole_input}
 use Rattle.rds_tool.specs.Listing.{scan_text}
-use Rattle.rds_tool.specs.Outcome.{outcome, list_text, totals_list, text_of_task, Writes, WritesPrefix}
+use Rattle.rds_tool.specs.Outcome.{result_of_job, list_text, totals_list, text_of_task, Writes, WritesPrefix}
 use Rattle.rds_tool.specs.Plans.{crew_of, workers_of}
 use Rattle.rds_tool.specs.Rules.{rules_of}
 use Rattle.rds_tool.specs.declared.error.ToolError.{ToolError}
@@ -35,8 +35,8 @@ if-some (Some a) also is = also a is
 if-some None also is = is
 
 -- what a writer holds afterwards is what it held before and the text
-pub added : (outcome : Result (List ℕ) ToolError) (old new : List ℕ) → Writes (Some old) (Some new) outcome
-    → (more : List ℕ) × (outcome ≡ Ok more) × (new ≡ old ++ more)
+pub added : (result_of_job : Result (List ℕ) ToolError) (old new : List ℕ) → Writes (Some old) (Some new) result_of_job
+    → (more : List ℕ) × (result_of_job ≡ Ok more) × (new ≡ old ++ more)
 added (Ok text) old new is = (text, refl, is)
 added (Err e) old new is = absurd is
 
@@ -45,7 +45,7 @@ on-ok (Ok a) also is = also is
 on-ok (Err e) also is = is
 
 -- what an empty writer holds afterwards is the text
-pub written : (outcome : Result (List ℕ) ToolError) (new : List ℕ) → Writes (Some []) (Some new) outcome → outcome ≡ Ok new
+pub written : (result_of_job : Result (List ℕ) ToolError) (new : List ℕ) → Writes (Some []) (Some new) result_of_job → result_of_job ≡ Ok new
 written (Ok text) new is = ap Ok (sym is)
 written (Err e) new is = absurd is
 
@@ -86,7 +86,7 @@ module _ (bytes text : List ℕ) (few : 8 * length bytes ≤ 2 ^ 36) (rules : Ru
   list_if_crew (Ok done) is = if_cut (list_text rules) (all_bits bytes) text (cuts_bits settings.cuts (length_of (all_bits bytes))) (rw (all_bits-few bytes few) at is)
   list_if_crew (Err e) is = let none : Err e ≡ Ok text = is in cc
 
-  pub list-text : rules_of settings ≡ Ok rules → outcome (job.List plain settings) bytes ≡ Ok text → text ≡ list_text rules (all_bits bytes)
+  pub list-text : rules_of settings ≡ Ok rules → result_of_job (job.List plain settings) bytes ≡ Ok text → text ≡ list_text rules (all_bits bytes)
   list-text by is = list_if_crew (crew_of settings) (rw by at is)
 
   totals_if_crew : (crew : Result (Unit {0}) ToolError)
@@ -96,12 +96,12 @@ module _ (bytes text : List ℕ) (few : 8 * length bytes ≤ 2 ^ 36) (rules : Ru
   totals_if_crew (Ok done) is = if_cut (totals_list rules) (all_bits bytes) text (cuts_bits settings.cuts (length_of (all_bits bytes))) (rw (all_bits-few bytes few) at is)
   totals_if_crew (Err e) is = let none : Err e ≡ Ok text = is in cc
 
-  pub totals-text : rules_of settings ≡ Ok rules → outcome (job.Totals plain settings) bytes ≡ Ok text → text ≡ totals_list rules (all_bits bytes)
+  pub totals-text : rules_of settings ≡ Ok rules → result_of_job (job.Totals plain settings) bytes ≡ Ok text → text ≡ totals_list rules (all_bits bytes)
   totals-text by is = totals_if_crew (crew_of settings) (rw by at is)
 
 module _ (bytes new : List ℕ) (few : 8 * length bytes ≤ 2 ^ 36) (rules : RuleNumbers) where
   -- what a listing writes into an empty writer
-  pub listed : (job : Job) → IsListBy job rules → outcome job bytes ≡ Ok new → new ≡ list_text rules (all_bits bytes)
+  pub listed : (job : Job) → IsListBy job rules → result_of_job job bytes ≡ Ok new → new ≡ list_text rules (all_bits bytes)
   listed (job.List input settings) by is =
       let same = by.0 in
       list-text bytes new few rules settings by.1 (rw same at is)
@@ -110,7 +110,7 @@ module _ (bytes new : List ℕ) (few : 8 * length bytes ≤ 2 ^ 36) (rules : Rul
   listed (job.Encode hex) by is = absurd by
 
   -- what totals write into one
-  pub totalled : (job : Job) → IsTotalsBy job rules → outcome job bytes ≡ Ok new → new ≡ totals_list rules (all_bits bytes)
+  pub totalled : (job : Job) → IsTotalsBy job rules → result_of_job job bytes ≡ Ok new → new ≡ totals_list rules (all_bits bytes)
   totalled (job.Totals input settings) by is =
       let same = by.0 in
       totals-text bytes new few rules settings by.1 (rw same at is)
@@ -127,7 +127,7 @@ module _ (input : Input) (recorded : Signal) (bytes text : List ℕ) (is_recordi
 
 module _ (bytes new : List ℕ) (few : 8 * length bytes ≤ 2 ^ 36) where
   -- what a scan writes into an empty writer
-  pub scanned : (asked : Job) → IsScan asked → outcome asked bytes ≡ Ok new → new ≡ scan_text (all_bits bytes)
+  pub scanned : (asked : Job) → IsScan asked → result_of_job asked bytes ≡ Ok new → new ≡ scan_text (all_bits bytes)
   scanned (job.Scan input workers) by is =
       scan-text plain (all_bits bytes) bytes new (all_bits-few bytes few) (workers_of workers) (rw by at is)
   scanned (job.List input settings) by is = absurd by
@@ -147,7 +147,7 @@ module _ (bytes : List ℕ) (few : 8 * length bytes ≤ 2 ^ 36) (gaps : List (�
 
   -- what a scan of them writes
   pub scanned_with_gaps : (new : List ℕ) → may_be_gaps 0 gaps (8 * length bytes) ≡ true
-      → outcome (job.Scan gapped 4) bytes ≡ Ok new → new ≡ scan_text recorded
+      → result_of_job (job.Scan gapped 4) bytes ≡ Ok new → new ≡ scan_text recorded
   scanned_with_gaps new lawful is =
       scan-text gapped recorded bytes new (few_with_gaps lawful) (workers_of 4) is
 
@@ -178,23 +178,23 @@ all-fit cuts any (Err e) = tt
 -- a list of what was encoded
 pub sent-text : EncodedGroupsAreListed → (hex : Bool) (settings : Settings) (encode list : Job) (lines bytes held listing : List ℕ)
     → encode ≡ job.Encode hex → list ≡ job.List (whole_input hex) settings → held ≡ bytes
-    → outcome encode lines ≡ Ok bytes → outcome list held ≡ Ok listing
+    → result_of_job encode lines ≡ Ok bytes → result_of_job list held ≡ Ok listing
     → (words : List ℕ) (groups : List (List ℕ)) → groups_in lines ≡ Ok (words ∷ groups) → listing ≡ sent_listing words groups
 sent-text law hex settings encode list lines bytes held listing first next same encoded listed words groups spelled =
     law hex settings lines words groups listing spelled
-    (ap (λ (made : Result (List ℕ) ToolError). and_then made (outcome (job.List (whole_input hex) settings)))
-    (sym (ap (λ (asked : Job). outcome asked lines) first) ∙ encoded)
-    ∙ sym (ap (λ (asked : Job). outcome asked bytes) next) ∙ ap (outcome list) (sym same) ∙ listed)
+    (ap (λ (made : Result (List ℕ) ToolError). and_then made (result_of_job (job.List (whole_input hex) settings)))
+    (sym (ap (λ (asked : Job). result_of_job asked lines) first) ∙ encoded)
+    ∙ sym (ap (λ (asked : Job). result_of_job asked bytes) next) ∙ ap (result_of_job list) (sym same) ∙ listed)
 
 -- a list and the totals of the same bytes
 pub before-totals : ListsEndWithTotals → (input : Input) (settings : Settings) (list totals : Job) (held listing counts : List ℕ)
-    → list ≡ job.List input settings → totals ≡ job.Totals input settings → outcome list held ≡ Ok listing → outcome totals held ≡ Ok counts
+    → list ≡ job.List input settings → totals ≡ job.Totals input settings → result_of_job list held ≡ Ok listing → result_of_job totals held ≡ Ok counts
     → (rows : List ℕ) × (listing ≡ rows ++ counts)
 before-totals law input settings list totals held listing counts first next listed counted =
     let ends = law input settings held in (
       ends.0,
       same-text listing (ends.0 ++ counts)
-          (sym listed ∙ ap (λ (asked : Job). outcome asked held) first ∙ ends.1
+          (sym listed ∙ ap (λ (asked : Job). result_of_job asked held) first ∙ ends.1
           ∙ ap (λ (made : Result (List ℕ) ToolError). and_then made (λ text. Ok (ends.0 ++ text)))
-          (sym (ap (λ (asked : Job). outcome asked held) next) ∙ counted)),
+          (sym (ap (λ (asked : Job). result_of_job asked held) next) ∙ counted)),
     )

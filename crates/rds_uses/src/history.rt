@@ -5,7 +5,7 @@ ghost use Rattle.std.specs.Io.KnownBytes.{Appends};
 ghost use Rattle.rds_tool.specs.Ends.{given_by, has_ended, is_flushed, taken_by};
 ghost use Rattle.rds_tool.specs.Following.{IsFlushedAfter, IsHeardOut, listed, rows_so_far};
 ghost use Rattle.rds_tool.specs.History.{Gave};
-ghost use Rattle.rds_tool.specs.Outcome.{IsOutside, Writes, outcome};
+ghost use Rattle.rds_tool.specs.Outcome.{IsOutside, Writes, result_of_job};
 ghost use Rattle.rds_tool.specs.Tasks.{task_of};
 ghost use Rattle.rds_tool.specs.declared.error.ToolError.TheVariants.{NoWorker, Read, Write};
 
@@ -30,7 +30,7 @@ pub struct Piped {
 /// last call was a flush that succeeded.
 pub fn input_to_output<R: Threads + Wait + Sync>(rt: &HostRuntime, crew: &R, job: &Job) -> Piped
     ensures text { OnOk result.answer
-        (outcome job.now (given_by result.reader) ≡ Ok (taken_by result.writer)) }
+        (result_of_job job.now (given_by result.reader) ≡ Ok (taken_by result.writer)) }
     ensures end { OnOk result.answer (has_ended result.reader ≡ true) }
     ensures flushed { OnOk result.answer (is_flushed result.writer ≡ true) }
 {
@@ -56,11 +56,11 @@ pub fn heard<R: Threads + Wait + Sync, S: Source, K: Sink>(
     requires reads { S.failed reader.old < 2 ^ 63 }
     requires writes { K.failed writer.old < 2 ^ 63 }
     ensures text { OnOk result (Gave (S.given reader.old) (S.given reader.new)
-        (λ bytes. Writes (K.contents writer.old) (K.contents writer.new) (outcome job.now bytes))) }
+        (λ bytes. Writes (K.contents writer.old) (K.contents writer.new) (result_of_job job.now bytes))) }
     ensures end { OnOk result (S.has_ended reader.new ≡ true) }
     ensures flushed { OnOk result (K.is_flushed writer.new ≡ true) }
     ensures refused { IfErr result (λ error. IsOutside error ⊎ Gave (S.given reader.old) (S.given reader.new)
-        (λ bytes. (outcome job.now bytes ≡ Err error)
+        (λ bytes. (result_of_job job.now bytes ≡ Err error)
         × ((task_of job.now ≡ Err error) ⊎ (S.has_ended reader.new ≡ true)))) }
 {
     transcribe(rt, alloc, reader, writer, job)
@@ -76,7 +76,7 @@ pub fn heard_alone<S: Source, K: Sink>(
     requires reads { S.failed reader.old < 2 ^ 63 }
     requires writes { K.failed writer.old < 2 ^ 63 }
     ensures text { OnOk result (Gave (S.given reader.old) (S.given reader.new)
-        (λ bytes. Writes (K.contents writer.old) (K.contents writer.new) (outcome job.now bytes))) }
+        (λ bytes. Writes (K.contents writer.old) (K.contents writer.new) (result_of_job job.now bytes))) }
     ensures end { OnOk result (S.has_ended reader.new ≡ true) }
     ensures flushed { OnOk result (K.is_flushed writer.new ≡ true) }
     ensures no_thread { IsErrOf result NoWorker → ⊥ }

@@ -8,7 +8,7 @@ ghost use Rattle.rds_sync.specs.Totals.{totals_of};
 ghost use Rattle.rds_tool.specs.GroupText.{encoded_text};
 ghost use Rattle.rds_tool.specs.Input.{may_be_gaps};
 ghost use Rattle.rds_tool.specs.Listing.{report_text, scan_text, totals_text};
-ghost use Rattle.rds_tool.specs.Outcome.{IsOutside, WritesPrefix, outcome};
+ghost use Rattle.rds_tool.specs.Outcome.{IsOutside, WritesPrefix, result_of_job};
 ghost use Rattle.rds_tool.specs.Tasks.{AsksForThreads, task_of};
 ghost use Rattle.rds_tool.specs.declared.error.ToolError.TheVariants.{BadGaps, BurstRange, NoWorker, OutOfMemory, Read, TooManyTurns, Write};
 ghost use Rattle.rds_tool.specs.declared.job.Input.{Input as AnInput};
@@ -113,7 +113,7 @@ pub(crate) fn written<R: Threads + Wait + Sync>(
     bytes: &[u8],
     job: &Job,
 ) -> Option<Vec<u8>>
-    ensures { IfSome result (λ text. outcome job.now bytes.now ≡ Ok text.items) }
+    ensures { IfSome result (λ text. result_of_job job.now bytes.now ≡ Ok text.items) }
 {
     let mut writer = ToWrite::new(Vec::new(alloc));
     match transcribe(rt, alloc, &mut FromRead::new(bytes), &mut writer, job) {
@@ -163,7 +163,7 @@ pub fn gated_causes<R: Threads + Wait + Sync, S: Source, K: Sink, G: Gate + Sync
         × Consumes (S.remaining reader.old) (S.remaining reader.new) more × (16777216 ≤ length more) }
     ensures no_worker { IsErrOf result NoWorker → AsksForThreads job.now }
     ensures refused { IfErr result (λ error. IsOutside error
-        ⊎ IfSome (S.remaining reader.old) (λ held. outcome job.now held ≡ Err error)) }
+        ⊎ IfSome (S.remaining reader.old) (λ held. result_of_job job.now held ≡ Err error)) }
 {
     transcribe_gated(rt, alloc, reader, writer, job, gate)
 }
@@ -183,7 +183,7 @@ pub fn gated_remains<R: Threads + Wait + Sync, S: Source, K: Sink, G: Gate + Syn
     ensures settings { IfErr (task_of job.now) (λ error. (result ≡ Err error) × (reader.new ≡ reader.old)) }
     ensures untouched { IfErr result (λ error. error ≢ Write → writer.new ≡ writer.old) }
     ensures prefix { IsErrOf result Write → IfSome (S.remaining reader.old)
-        (λ held. WritesPrefix (K.contents writer.old) (K.contents writer.new) (outcome job.now held)) }
+        (λ held. WritesPrefix (K.contents writer.old) (K.contents writer.new) (result_of_job job.now held)) }
 {
     transcribe_gated(rt, alloc, reader, writer, job, gate)
 }
@@ -197,9 +197,9 @@ pub fn appended<R: Threads + Wait + Sync>(
     job: &Job,
 ) -> (Result<(), ToolError>, Vec<u8>)
     ensures whole { OnOk result.0 ((more : List ℕ)
-        × (outcome job.now bytes.now ≡ Ok more) × (result.1.items ≡ text.items ++ more)) }
+        × (result_of_job job.now bytes.now ≡ Ok more) × (result.1.items ≡ text.items ++ more)) }
     ensures part { IsErrOf result.0 Write → (more rest : List ℕ)
-        × (outcome job.now bytes.now ≡ Ok (more ++ rest)) × (result.1.items ≡ text.items ++ more) }
+        × (result_of_job job.now bytes.now ≡ Ok (more ++ rest)) × (result.1.items ≡ text.items ++ more) }
     ensures none { IfErr result.0 (λ error. error ≢ Write → result.1.items ≡ text.items) }
 {
     let mut writer = ToWrite::new(text);
@@ -286,8 +286,8 @@ fn refusal_of_scan<R: Threads + Wait + Sync>(
 ) -> Option<ToolError>
     requires few { length bytes.now < 16777216 }
     requires job { (input : AnInput) × (job.now ≡ Job.Scan input 4) }
-    ensures none { result ≡ None → (text : List ℕ) × (outcome job.now bytes.now ≡ Ok text) }
-    ensures some { IfSome result (λ error. (outcome job.now bytes.now ≡ Err error)
+    ensures none { result ≡ None → (text : List ℕ) × (result_of_job job.now bytes.now ≡ Ok text) }
+    ensures some { IfSome result (λ error. (result_of_job job.now bytes.now ≡ Err error)
         ⊎ ((error ≡ OutOfMemory) ⊎ ((error ≡ Read) ⊎ (error ≡ Write)))) }
 {
     let mut writer = ToWrite::new(Vec::new(alloc));

@@ -42,7 +42,8 @@ unfolding walked
 list = refl
 
 -- a stream has no digits, no pieces and no workers
-pub follow : asked_by (codes "rds" ∷ codes "follow" ∷ codes "--of" ∷ codes "10" ∷ codes "--share=9" ∷ codes "--bits=803" ∷ [])
+pub follow : asked_by
+    (codes "rds" ∷ codes "follow" ∷ codes "--of" ∷ codes "10" ∷ codes "--share=9" ∷ codes "--bits=803" ∷ [])
     ≡ Some (
       codes "follow",
       None ∷ Some (codes "803") ∷ Some (codes "2") ∷ Some (codes "3") ∷ Some (codes "10")

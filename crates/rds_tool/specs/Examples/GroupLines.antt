@@ -7,11 +7,13 @@ use Rattle.rds_tool.specs.GroupText.{encoded_text, lines_of}
 use Rattle.rds_tool.specs.declared.error.ToolError.TheVariants.{GroupText}
 use Rattle.rds_tool.specs.Examples.Words.{line}
 
-pub lines : lines_of (codes "1 2" ++ 9 ∷ codes "3" ++ 13 ∷ 10 ∷ 10 ∷ codes "45") ≡ codes "123" ∷ [] ∷ codes "45" ∷ []
+pub lines : lines_of (codes "1 2" ++ 9 ∷ codes "3" ++ 13 ∷ 10 ∷ 10 ∷ codes "45")
+    ≡ codes "123" ∷ [] ∷ codes "45" ∷ []
 lines = refl
 
 -- programme 0x1234, a group of type 2 and version A; the last line may lack its line feed
-pub as_digits : encoded_text true (codes "1234 2540 5244 5320") ≡ Ok (line (codes "12341a89501ac52449594c83fb"))
+pub as_digits : encoded_text true (codes "1234 2540 5244 5320")
+    ≡ Ok (line (codes "12341a89501ac52449594c83fb"))
 unfolding rem decode_pairs encode_with
 as_digits = refl
 
@@ -21,7 +23,8 @@ unfolding rem decode_pairs encode_with
 as_bytes = refl
 
 -- a group of version B, whose block 3 has the offset C', among empty lines and blanks of each kind
-pub version_b : encoded_text true (13 ∷ 10 ∷ 9 ∷ codes "0000" ++ 9 ∷ codes "08 00" ++ codes "00000000 " ++ 13 ∷ 10
+pub version_b : encoded_text true (13 ∷ 10 ∷ 9 ∷ codes "0000" ++ 9 ∷ codes "08 00" ++ codes "00000000 "
+    ++ 13 ∷ 10
     ∷ codes "  " ++ 10 ∷ 10 ∷ [])
     ≡ Ok (line (codes "00003f02002c10000d400001b4"))
 unfolding rem decode_pairs encode_with

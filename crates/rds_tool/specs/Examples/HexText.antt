@@ -10,7 +10,8 @@ unfolding decode_pairs
 either_case = refl
 
 -- a space in a byte, a tab, a carriage return and line feeds
-pub blanks : decoded (codes "0 1" ++ 9 ∷ codes "23" ++ 13 ∷ 10 ∷ 10 ∷ codes " 45 ") ≡ Ok (0x01 ∷ 0x23 ∷ 0x45 ∷ [])
+pub blanks : decoded (codes "0 1" ++ 9 ∷ codes "23" ++ 13 ∷ 10 ∷ 10 ∷ codes " 45 ")
+    ≡ Ok (0x01 ∷ 0x23 ∷ 0x45 ∷ [])
 unfolding decode_pairs
 blanks = refl
 

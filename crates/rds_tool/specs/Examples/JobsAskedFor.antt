@@ -33,7 +33,8 @@ pub numbers : map (number_up_to 4294967295)
     ≡ Some 0 ∷ Some 7 ∷ Some 25 ∷ Some 4294967295 ∷ None ∷ None ∷ None ∷ None ∷ None ∷ []
 numbers = refl
 
-pub flags : map is_true (Some (codes "true") ∷ Some (codes "false") ∷ Some (codes "tru") ∷ None ∷ []) ≡ true ∷ false ∷ false ∷ false ∷ []
+pub flags : map is_true (Some (codes "true") ∷ Some (codes "false") ∷ Some (codes "tru") ∷ None ∷ [])
+    ≡ true ∷ false ∷ false ∷ false ∷ []
 flags = refl
 
 -- ---- requests
@@ -100,7 +101,8 @@ unfolding walked
 in_vain = refl
 
 -- a stream is no job
-pub only_a_job : map (λ words. job_by (entries_of (codes "rds" ∷ words))) ((codes "scan" ∷ []) ∷ (codes "follow" ∷ []) ∷ [])
+pub only_a_job : map (λ words. job_by (entries_of (codes "rds" ∷ words)))
+    ((codes "scan" ∷ []) ∷ (codes "follow" ∷ []) ∷ [])
     ≡ Some (Scan raw_input 4) ∷ None ∷ []
 unfolding walked
 only_a_job = refl

@@ -43,5 +43,6 @@ decided = (
   (λ is. false≢true (outside BadGaps is)),
 )
 
-pub undecided : IsOutside OutOfMemory × IsOutside NoWorker × IsOutside Read × IsOutside Write × IsOutside TooManyTurns
+pub undecided : IsOutside OutOfMemory × IsOutside NoWorker × IsOutside Read × IsOutside Write
+    × IsOutside TooManyTurns
 undecided = (inl refl, inr (inl refl), inr (inr (inl refl)), inr (inr (inr (inl refl))), inr (inr (inr (inr refl))))

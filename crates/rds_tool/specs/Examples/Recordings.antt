@@ -15,7 +15,8 @@ pub raw_bytes : recording_of raw_input (0x80 ∷ []) ≡ Ok (ungapped (1 ∷ 0 �
 raw_bytes = refl
 
 -- bytes as they are may well look like digits
-pub raw_digits : and_then (recording_of raw_input (codes "a5")) (λ recording. Ok (length_of recording)) ≡ Ok 16
+pub raw_digits : and_then (recording_of raw_input (codes "a5")) (λ recording. Ok (length_of recording))
+    ≡ Ok 16
 raw_digits = refl
 
 pub first_bits : recording_of (hex_bits 3) (codes "a5") ≡ Ok (ungapped (1 ∷ 0 ∷ 1 ∷ []))
@@ -48,7 +49,8 @@ with_gaps = refl
 
 -- a gap of no place, one that ends before it begins, one past the end, two out of order, and two that share a place
 pub faulty_gaps : map (λ gaps. may_be_gaps 0 gaps 104)
-    (((5, 5) ∷ []) ∷ ((6, 5) ∷ []) ∷ ((100, 105) ∷ []) ∷ ((20, 30) ∷ (10, 20) ∷ []) ∷ ((10, 20) ∷ (15, 30) ∷ []) ∷ [])
+    (((5, 5) ∷ []) ∷ ((6, 5) ∷ []) ∷ ((100, 105) ∷ []) ∷ ((20, 30) ∷ (10, 20) ∷ []) ∷
+    ((10, 20) ∷ (15, 30) ∷ []) ∷ [])
     ≡ false ∷ false ∷ false ∷ false ∷ false ∷ []
 faulty_gaps = refl
 

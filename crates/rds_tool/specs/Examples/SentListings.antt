@@ -13,7 +13,8 @@ abbrev second : List ℕ
 second = 0xD393 ∷ 0x0549 ∷ 0xE100 ∷ 0x584F ∷ []
 
 -- an empty line spells no group
-pub spelled : groups_in (line (codes "D393 0548 E100 5041") ++ line [] ++ line (codes "d3930549e100584f")) ≡ Ok (first ∷ second ∷ [])
+pub spelled : groups_in (line (codes "D393 0548 E100 5041") ++ line [] ++ line (codes "d3930549e100584f"))
+    ≡ Ok (first ∷ second ∷ [])
 unfolding decode_pairs
 spelled = refl
 

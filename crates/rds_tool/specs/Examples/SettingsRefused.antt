@@ -64,7 +64,8 @@ rising_cuts = refl
 pub no_cuts : are_inner 208 [] ≡ true
 no_cuts = refl
 
-pub faulty_cuts : map (are_inner 208) ((0 ∷ []) ∷ (208 ∷ []) ∷ (5 ∷ 5 ∷ []) ∷ (6 ∷ 5 ∷ []) ∷ (5 ∷ 209 ∷ []) ∷ [])
+pub faulty_cuts : map (are_inner 208) ((0 ∷ []) ∷ (208 ∷ []) ∷ (5 ∷ 5 ∷ []) ∷ (6 ∷ 5 ∷ []) ∷
+    (5 ∷ 209 ∷ []) ∷ [])
     ≡ false ∷ false ∷ false ∷ false ∷ false ∷ []
 faulty_cuts = refl
 

@@ -6,14 +6,14 @@ use Rattle.rds_code.specs.Remainder.{rem}
 use Rattle.rds_stream.specs.Recording.{heard, off, touched, window}
 use Rattle.rds_sync.specs.Acquiring.{acquired, has_number}
 use Rattle.rds_sync.specs.Groups.{group}
-use Rattle.rds_tool.specs.Outcome.{outcome}
+use Rattle.rds_tool.specs.Outcome.{result_of_job}
 use Rattle.rds_tool.specs.declared.job.Job.TheVariants.{Encode, List as ListJob, Scan, Totals}
 use Rattle.rds_tool.specs.Examples.Words.{default_settings, hex_bits, hex_input, line, settings_of}
 
 abbrev pub zero_group : List ℕ
 zero_group = codes "00003f00001980 0005a00001b4"
 
-pub scan : outcome (Scan hex_input 4) zero_group
+pub scan : result_of_job (Scan hex_input 4) zero_group
     ≡ Ok (line (codes "25,A") ++ line (codes "51,B") ++ line (codes "77,C") ++ line (codes "96,B")
     ++ line (codes "103,D"))
 unfolding decode_pairs digits heard off rem touched window
@@ -35,16 +35,17 @@ totals_rows =
     ++ line (codes "total,acquired,1,-,-,-,-,-")
     ++ line (codes "total,losses,0,-,-,-,-,-")
 
-pub list : outcome (ListJob (hex_bits 52) default_settings) zero_group
+pub list : result_of_job (ListJob (hex_bits 52) default_settings) zero_group
     ≡ Ok (line (codes "acquired,51,2,-,-,-,-,-") ++ line (codes "group,26,0,A,none,B:0000,none,none") ++ totals_rows)
 unfolding acquired decode_pairs digits group has_number heard off rem touched window
 list = refl
 
 -- neither workers nor pieces show
-pub totals : outcome (Totals (hex_bits 52) (settings_of 5 8 64 256 1)) zero_group ≡ Ok totals_rows
+pub totals : result_of_job (Totals (hex_bits 52) (settings_of 5 8 64 256 1)) zero_group ≡ Ok totals_rows
 unfolding acquired decode_pairs digits group has_number heard off rem touched window
 totals = refl
 
-pub encode : outcome (Encode true) (codes "0000 0000 0000 0000") ≡ Ok (line (codes "00003f000019800005a00001b4"))
+pub encode : result_of_job (Encode true) (codes "0000 0000 0000 0000")
+    ≡ Ok (line (codes "00003f000019800005a00001b4"))
 unfolding decode_pairs encode_with rem
 encode = refl

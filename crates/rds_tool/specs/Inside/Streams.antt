@@ -5,7 +5,8 @@ use Rattle.rds_live.specs.Live.{LiveOf, Terms, live_of}
 use Rattle.rds_tool.specs.Following.{AllCount, rows_so_far}
 
 -- these bytes were heard, and the rows that they complete were written
-pub record IsFollowed (terms : Terms) (bits : Option ℕ) (live : LiveOf) (from to old new : Option (List ℕ)) (heard : List ℕ) : Type 0 where
+pub record IsFollowed (terms : Terms) (bits : Option ℕ) (live : LiveOf) (from to old new : Option (List ℕ))
+    (heard : List ℕ) : Type 0 where
   pub live_is : live ≡ live_of terms heard
   pub taken : Consumes from to heard
   pub written : Appends old new (rows_so_far terms heard)

@@ -15,5 +15,5 @@ pub returns-clause-text : goal.returns-clause-text
 returns-clause-text c =
     on_ok c.push_named.result _ _
     (λ more. appended _ _ _ _ _ _ _ c.in_ok-push_items.ensures.text c.in_ok-push_last_group.ensures.text
-    (more ∙ ap (λ (ts : List (List ℕ × ℕ)). text_of c.push_last_group.new.rows ++ flat_map total_row ts) c.named.ensures.named))
+    (more ∙ ap (λ (ts : List (List ℕ × ℕ)). text_of c.push_last_group.new.rows ++ flat_map total_row ts) c.totals_with_names.ensures.named))
     c.push_named.ensures.text

@@ -1,5 +1,5 @@
 use Rattle.std.proofs.Common.{◌≡◌, []}
-use Rattle.rds_tool.specs.Outcome.{outcome}
+use Rattle.rds_tool.specs.Outcome.{result_of_job}
 use Rattle.rds_uses.proofs.Outcomes.{given_back, listed, written}
 use Rattle.rds_uses.proofs.tool.gated_listing.Goals as goal
 
@@ -9,6 +9,6 @@ returns-in-Ok g c =
     let sink = c.new-writer.result in
     let after = c.transcribe_gated.new.writer in
     let same : c.new-writer.result.begun.value.items ≡ [] = cc in
-    let wrote = given_back (outcome c.args.job.now) c.new-2.result.reader.now c.args.bytes.now [] sink.begun.value.items sink.history.bytes after.begun.value.items after.history.bytes c.into_inner.result.items
+    let wrote = given_back (result_of_job c.args.job.now) c.new-2.result.reader.now c.args.bytes.now [] sink.begun.value.items sink.history.bytes after.begun.value.items after.history.bytes c.into_inner.result.items
     held same c.new-writer.ensures.taken c.into_inner.ensures.tied c.in-Ok.ensures.ok in
     listed c.args.bytes.now _ c.requires.few c.args.rules.now c.args.job.now c.requires.job (written _ _ wrote)

@@ -4,8 +4,8 @@ use Rattle.rds_stream.specs.Recording.{length_of, valid_at}
 use Rattle.rds_tool.specs.Inside.Rows.{row_where}
 use Rattle.rds_tool.proofs.window_rows.WindowRowsRows.fill.Goals as goal
 
-pub spelled-requires-clause-inside : goal.spelled-requires-clause-inside
-spelled-requires-clause-inside c =
+pub rows_between-requires-clause-inside : goal.rows_between-requires-clause-inside
+rows_between-requires-clause-inside c =
     let b = c.args.self.now.recording.now in
     omega (arith, c.requires.inside, length-map-range_with_len (λ i. row_where (valid_at b i)) 0 (length_of b))
 

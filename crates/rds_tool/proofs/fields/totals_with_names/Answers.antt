@@ -3,7 +3,7 @@ use Rattle.std.specs.List.{All}
 use Rattle.std.specs.Prelude.{codes}
 use Rattle.std.proofs.lemmas.List.Elements.{All-from_recursion}
 use Rattle.rds_tool.specs.Inside.RowWriter.{IsPlain, IsShort}
-use Rattle.rds_tool.proofs.fields.named.Goals as goal
+use Rattle.rds_tool.proofs.fields.totals_with_names.Goals as goal
 
 -- what holds of each of twelve holds of all
 twelve : {X : Type 0} (P : X → Type 0) (a b d e f g h i j k l m : X) → P a → P b → P d → P e → P f → P g → P h → P i → P j → P k → P l → P m → All P (a ∷ b ∷ d ∷ e ∷ f ∷ g ∷ h ∷ i ∷ j ∷ k ∷ l ∷ m ∷ [])

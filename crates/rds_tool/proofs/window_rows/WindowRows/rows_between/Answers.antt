@@ -4,7 +4,7 @@ use Rattle.rds_code.specs.declared.offset.Offset.{Offset}
 use Rattle.rds_stream.specs.Recording.{valid_windows}
 use Rattle.rds_tool.specs.Listing.{window_row}
 use Rattle.rds_tool.proofs.ScanRows.{windows_few, windows_spelled}
-use Rattle.rds_tool.proofs.window_rows.WindowRows.spelled.Goals as goal
+use Rattle.rds_tool.proofs.window_rows.WindowRows.rows_between.Goals as goal
 
 pub returns-clause-rows : goal.returns-clause-rows
 returns-clause-rows c =
