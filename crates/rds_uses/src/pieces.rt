@@ -286,8 +286,24 @@ pub fn joined_guesses(
     ensures run { IfOk result (λ run. run ≡ run_over recording.now rules.now 0 (length_of recording.now)) }
     ensures refused { IsOkUnless result OutOfMemory }
 {
-    let (left, right) = two_guesses(alloc, &RecordingWork::new(recording, rules, cutting))?;
-    join_runs(alloc, &mut Counted::new(recording), rules, &left, &right)
+    let work = RecordingWork::new(recording, rules, cutting);
+    let (left, right) = two_guesses(alloc, &work)?;
+    joined(alloc, recording, rules, &left, &right)
+}
+
+/// Two neighbours joined are the guess of both ranges.
+fn joined(
+    alloc: Global,
+    recording: &Recording,
+    rules: &Rules,
+    left: &PieceRun,
+    right: &PieceRun,
+) -> Result<PieceRun, PieceError>
+    requires { AreNeighbours recording.now rules.now left.now right.now }
+    ensures run { IfOk result (λ run. run ≡ run_over recording.now rules.now left.now.from right.now.to) }
+    ensures refused { IsOkUnless result OutOfMemory }
+{
+    join_runs(alloc, &mut Counted::new(recording), rules, left, right)
 }
 
 /// A join leaves both runs as they are, so that one can be joined to another neighbour, too.
@@ -305,8 +321,8 @@ pub fn joined_on_both_sides(
     ensures after { IfOk result
         (λ runs. runs.1 ≡ run_over recording.now rules.now two.now.from three.now.to) }
 {
-    let before = join_runs(alloc, &mut Counted::new(recording), rules, one, two)?;
-    let after = join_runs(alloc, &mut Counted::new(recording), rules, two, three)?;
+    let before = joined(alloc, recording, rules, one, two)?;
+    let after = joined(alloc, recording, rules, two, three)?;
     Ok((before, after))
 }
 
