@@ -321,9 +321,13 @@ pub fn joined_on_both_sides(
     ensures after { IfOk result
         (λ runs. runs.1 ≡ run_over recording.now rules.now two.now.from three.now.to) }
 {
-    let before = joined(alloc, recording, rules, one, two)?;
-    let after = joined(alloc, recording, rules, two, three)?;
-    Ok((before, after))
+    match (
+        joined(alloc, recording, rules, one, two),
+        joined(alloc, recording, rules, two, three),
+    ) {
+        (Ok(before), Ok(after)) => Ok((before, after)),
+        _ => Err(PieceError::OutOfMemory),
+    }
 }
 
 /// A join whose left run ends in a search costs the reach and two windows at most, refused memory or not.
@@ -512,9 +516,10 @@ fn two_guesses<W: Work>(alloc: Global, work: &W) -> Result<(PieceRun, PieceRun),
         (λ runs. runs.1 ≡ run_at (W.recording work.now) (W.rule_set work.now) (W.places work.now) 1) }
     ensures refused { IsOkUnless result OutOfMemory }
 {
-    let left = work.guess(alloc, 0)?;
-    let right = work.guess(alloc, 1)?;
-    Ok((left, right))
+    match (work.guess(alloc, 0), work.guess(alloc, 1)) {
+        (Ok(left), Ok(right)) => Ok((left, right)),
+        _ => Err(PieceError::OutOfMemory),
+    }
 }
 
 /// The recording, rules and cutting that a work names, as a caller sees it.

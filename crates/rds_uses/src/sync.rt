@@ -373,8 +373,10 @@ fn hopped(
     let to = recording.len();
     let source = Snapshot::of(recording);
     let mut tally = Tally::new(alloc, source, rules, state, place, Spans::Whole);
-    tally.hop(&mut Counted::new(recording), rules, to, to)?;
-    Ok((tally.place(), tally.state()))
+    match tally.hop(&mut Counted::new(recording), rules, to, to) {
+        Ok(()) => Ok((tally.place(), tally.state())),
+        Err(error) => Err(error),
+    }
 }
 
 /// A stretch that finds nothing has come to its end.
