@@ -192,8 +192,10 @@ fn items_of_run(
     ensures refused { IsOkUnless result OutOfMemory }
 {
     let (from, to) = range;
-    let (end, report) = run_report(alloc, recording, rules, state, from, to, Spans::Short)?;
-    Ok((end, report.items))
+    match run_report(alloc, recording, rules, state, from, to, Spans::Short) {
+        Ok((end, report)) => Ok((end, report.items)),
+        Err(error) => Err(error),
+    }
 }
 
 /// A run in two parts gives the items of the run over both.

@@ -42,7 +42,7 @@ pub fn six_bits_refused(alloc: Global, bytes: &[u8], reach: u32) -> Option<Refus
 }
 
 /// How many items the parts of a list have.
-#[derive(Clone, Copy, Debug, PartialEq, Eq)]
+#[derive(Clone, Copy)]
 pub struct Counts {
     pub first: u64,
     pub second: u64,

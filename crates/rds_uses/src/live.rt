@@ -92,8 +92,10 @@ fn take_rest(
         → r.1.totals ≡ totals_of (report_of live.entry.terms (before ++ rest.now))) }
 {
     let mut live = live;
-    let items = live.take_all(alloc, rest)?;
-    Ok((items, live.finish()))
+    match live.take_all(alloc, rest) {
+        Ok(items) => Ok((items, live.finish())),
+        Err(error) => Err(error),
+    }
 }
 
 /// Bytes one by one are the whole: the decoder is the same as after all of them at once.
@@ -135,8 +137,10 @@ fn put_next(
         → items.old.items ≡ complete live.old.terms before
         → items.new.items ≡ complete live.old.terms (before ++ bytes.now)) }
 {
-    let found = live.take_all(alloc, bytes)?;
-    append(items, found)
+    match live.take_all(alloc, bytes) {
+        Ok(found) => append(items, found),
+        Err(error) => Err(error),
+    }
 }
 
 /// Appends the items that were found.

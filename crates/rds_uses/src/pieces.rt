@@ -286,8 +286,24 @@ pub fn joined_guesses(
     ensures run { IfOk result (λ run. run ≡ run_over recording.now rules.now 0 (length_of recording.now)) }
     ensures refused { IsOkUnless result OutOfMemory }
 {
-    let (left, right) = two_guesses(alloc, &RecordingWork::new(recording, rules, cutting))?;
-    join_runs(alloc, &mut Counted::new(recording), rules, &left, &right)
+    let work = RecordingWork::new(recording, rules, cutting);
+    let (left, right) = two_guesses(alloc, &work)?;
+    joined(alloc, recording, rules, &left, &right)
+}
+
+/// Two neighbours joined are the guess of both ranges.
+fn joined(
+    alloc: Global,
+    recording: &Recording,
+    rules: &Rules,
+    left: &PieceRun,
+    right: &PieceRun,
+) -> Result<PieceRun, PieceError>
+    requires { AreNeighbours recording.now rules.now left.now right.now }
+    ensures run { IfOk result (λ run. run ≡ run_over recording.now rules.now left.now.from right.now.to) }
+    ensures refused { IsOkUnless result OutOfMemory }
+{
+    join_runs(alloc, &mut Counted::new(recording), rules, left, right)
 }
 
 /// A join leaves both runs as they are, so that one can be joined to another neighbour, too.
@@ -305,9 +321,13 @@ pub fn joined_on_both_sides(
     ensures after { IfOk result
         (λ runs. runs.1 ≡ run_over recording.now rules.now two.now.from three.now.to) }
 {
-    let before = join_runs(alloc, &mut Counted::new(recording), rules, one, two)?;
-    let after = join_runs(alloc, &mut Counted::new(recording), rules, two, three)?;
-    Ok((before, after))
+    match (
+        joined(alloc, recording, rules, one, two),
+        joined(alloc, recording, rules, two, three),
+    ) {
+        (Ok(before), Ok(after)) => Ok((before, after)),
+        _ => Err(PieceError::OutOfMemory),
+    }
 }
 
 /// A join whose left run ends in a search costs the reach and two windows at most, refused memory or not.
@@ -496,9 +516,10 @@ fn two_guesses<W: Work>(alloc: Global, work: &W) -> Result<(PieceRun, PieceRun),
         (λ runs. runs.1 ≡ run_at (W.recording work.now) (W.rule_set work.now) (W.places work.now) 1) }
     ensures refused { IsOkUnless result OutOfMemory }
 {
-    let left = work.guess(alloc, 0)?;
-    let right = work.guess(alloc, 1)?;
-    Ok((left, right))
+    match (work.guess(alloc, 0), work.guess(alloc, 1)) {
+        (Ok(left), Ok(right)) => Ok((left, right)),
+        _ => Err(PieceError::OutOfMemory),
+    }
 }
 
 /// The recording, rules and cutting that a work names, as a caller sees it.

@@ -12,6 +12,7 @@ ghost use Rattle.rds_sync.specs.Convergence.{IsLastFour, IsSound, sound_bits};
 ghost use Rattle.rds_sync.specs.Decoding.{listed};
 ghost use Rattle.rds_sync.specs.GroupLaws.{IsBlock};
 ghost use Rattle.rds_sync.specs.Groups.{group as group_at, info_of};
+ghost use Rattle.rds_sync.specs.Hop.{IsHop};
 ghost use Rattle.rds_sync.specs.Lawful.{IsBetweenGroups, IsLawful};
 ghost use Rattle.rds_sync.specs.Laws.{OneBitRuns};
 ghost use Rattle.rds_sync.specs.Loss.{IsLawfulBad};
@@ -350,12 +351,32 @@ pub fn hop_as_stretch(
     ensures { IfOk result (λ same. same ≡ true) }
 {
     laws::steps_agree();
+    let (end, after) = hopped(alloc, recording, rules, state, place)?;
+    let to = recording.len();
+    let far = stretch(&mut Reader::new(recording), rules, state, place, to);
+    Ok(end != far.place || after == far.state)
+}
+
+/// Where a hop of a tally ends, and in which state.
+fn hopped(
+    alloc: Global,
+    recording: &Recording,
+    rules: &Rules,
+    state: State,
+    place: u64,
+) -> Result<(u64, State), AllocError>
+    requires lawful { IsLawful rules.now place state }
+    requires before { place < length_of recording.now }
+    ensures { IfOk result (λ end. (reads : ℕ) × IsHop recording.now rules.now state place
+        (length_of recording.now) (length_of recording.now) end.0 end.1 reads) }
+{
     let to = recording.len();
     let source = Snapshot::of(recording);
     let mut tally = Tally::new(alloc, source, rules, state, place, Spans::Whole);
-    tally.hop(&mut Counted::new(recording), rules, to, to)?;
-    let far = stretch(&mut Reader::new(recording), rules, state, place, to);
-    Ok(tally.place() != far.place || tally.state() == far.state)
+    match tally.hop(&mut Counted::new(recording), rules, to, to) {
+        Ok(()) => Ok((tally.place(), tally.state())),
+        Err(error) => Err(error),
+    }
 }
 
 /// A stretch that finds nothing has come to its end.

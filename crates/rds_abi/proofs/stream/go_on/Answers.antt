@@ -32,3 +32,11 @@ returns-clause-refused c =
       omega (arith, c.if-bytes-stream.false, left.live.limit),
       (refl, omega (arith, small, length-map found item_in_c), omega (arith, told, length-map found item_in_c)),
     )
+
+pub returns-then-bytes-stream-clause-refused : goal.returns-then-bytes-stream-clause-refused
+returns-then-bytes-stream-clause-refused c =
+    let left = c.in_ok-live.ensures.left in
+    inr (inr (left, omega (arith, c.if-bytes-stream.true, left.live.limit), refl), refl)
+
+pub returns-in-Ok-clause-count : goal.returns-in-Ok-clause-count
+returns-in-Ok-clause-count c = rw c.in_ok-live.ensures.live at c.in-Ok.ensures.count

@@ -1,4 +1,4 @@
-use Rattle.std.proofs.Common.{◌≡◌, ◌-◌, ◌+◌, ◌<◌, ◌≤◌, ◌∙◌, ℕ, List, ap, arith, drop, length, subst, take}
+use Rattle.std.proofs.Common.{◌≡◌, ◌-◌, ◌+◌, ◌<◌, ◌≤◌, ◌∙◌, ℕ, List, ap, arith, drop, inl, length, subst, take}
 use Rattle.std.proofs.lemmas.List.{length-drop, length-take, take_all}
 use Rattle.rds_live.specs.Live.{LiveOf, Terms}
 use Rattle.rds_live.specs.Next.{completed, live_next}
@@ -69,3 +69,6 @@ returns-in-Err-clause-most c =
       length-drop c.loop-fit.fit.count room,
       inv.same,
     ))
+
+pub returns-clause-most : goal.returns-clause-most
+returns-clause-most c = inl (omega (arith, c.loop-fit.invariant.within, c.loop-fit-test.false))

@@ -1,7 +1,9 @@
-use Rattle.std.proofs.Common.{◌≡◌, ◌≤◌, ◌∙◌, ℕ, List, ap, arith, length, take}
+use Rattle.std.proofs.Common.{◌≡◌, ◌≤◌, ◌∙◌, ℕ, List, ap, arith, length, map, subst, take}
 use Rattle.std.proofs.lemmas.List.{length-take, take-take}
 use Rattle.rds_sync.specs.declared.item.Item.{Item}
 use Rattle.rds_live.specs.Next.{completed, live_next}
+use Rattle.rds_abi.specs.Asked.{IsFilled}
+use Rattle.rds_abi.specs.Layout.{item_in_c}
 use Rattle.rds_abi.proofs.Fitting.{one-byte}
 use Rattle.rds_abi.proofs.stream.take_piece.Goals as goal
 
@@ -32,3 +34,14 @@ pub returns-clause-after : goal.returns-clause-after
 returns-clause-after c =
     let within : c.in-Ok.taken ≤ c.min.result = omega (arith, c.in-Ok.ensures.count, length-take c.min.result c.args.bytes.now) in
     c.in-Ok.ensures.next ∙ ap (λ (xs : List ℕ). live_next c.args.live.now xs) (take-take c.in-Ok.taken c.min.result c.args.bytes.now within)
+
+pub returns-clause-filled : goal.returns-clause-filled
+returns-clause-filled c =
+    let within : c.in-Ok.taken ≤ c.min.result = omega (arith, c.in-Ok.ensures.count, length-take c.min.result c.args.bytes.now) in
+    let found = c.as_slice-items.ensures.value ∙ c.in-Ok.ensures.completed ∙ ap (λ (xs : List ℕ). completed c.args.live.now xs) (take-take c.in-Ok.taken c.min.result c.args.bytes.now within) in
+    subst (λ (items : List Item). IsFilled (map item_in_c items) c.args.room.now c.fill_room.new.room) found c.fill_room.ensures
+
+pub returns-clause-count : goal.returns-clause-count
+returns-clause-count c =
+    let within : c.in-Ok.taken ≤ c.min.result = omega (arith, c.in-Ok.ensures.count, length-take c.min.result c.args.bytes.now) in
+    ap (λ (items : List Item). length items) (c.as_slice-items.ensures.value ∙ c.in-Ok.ensures.completed ∙ ap (λ (xs : List ℕ). completed c.args.live.now xs) (take-take c.in-Ok.taken c.min.result c.args.bytes.now within))
