@@ -1,4 +1,4 @@
-use Rattle.std.proofs.Common.{◌≡◌, ◌+◌, ◌-◌, ◌*◌, ◌^◌, ◌++◌, ◌≤◌, ℕ, List, length, length-append, ap, ◌∙◌, arith}
+use Rattle.std.proofs.Common.{◌+◌, ◌-◌, ◌*◌, ◌^◌, length-append, ap, ◌∙◌, arith}
 use Rattle.rds_sync.specs.declared.totals.Totals.{Totals}
 use Rattle.rds_sync.specs.Counting.{plus}
 use Rattle.rds_sync.specs.Inside.Counts.{CountOf}
@@ -11,14 +11,24 @@ use Rattle.rds_sync.proofs.tally.Tally.report.Goals as goal
 pub overflow_sub-left : goal.overflow_sub-left
 overflow_sub-left c =
     let t = c.self.inside in
-    omega (arith, ap (λ (k : CountOf). k.items) c.self.invariant.count,
-    length-append t.items.list (run t.items.source t.items.rules t.start_state t.start_place (t.place - t.start_place)).1, c.items.ensures.value, c.len.ensures)
+    omega (
+      arith,
+      ap (λ (k : CountOf). k.items) c.self.invariant.count,
+      length-append t.items.list (run t.items.source t.items.rules t.start_state t.start_place (t.place - t.start_place)).1,
+      c.items.ensures.value,
+      c.len.ensures,
+    )
 
 pub push_span-requires-clause-count : goal.push_span-requires-clause-count
 push_span-requires-clause-count c =
     let t = c.self.inside in
-    omega (arith, ap (λ (k : CountOf). k.items) c.self.invariant.count,
-    length-append t.items.list (run t.items.source t.items.rules t.start_state t.start_place (t.place - t.start_place)).1, c.items.ensures.value, c.len.ensures)
+    omega (
+      arith,
+      ap (λ (k : CountOf). k.items) c.self.invariant.count,
+      length-append t.items.list (run t.items.source t.items.rules t.start_state t.start_place (t.place - t.start_place)).1,
+      c.items.ensures.value,
+      c.len.ensures,
+    )
 
 pub plus-requires : goal.plus-requires
 plus-requires c =
