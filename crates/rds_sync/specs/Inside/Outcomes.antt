@@ -1,7 +1,7 @@
 -- How the blocks of a group came out, and from that the group's totals, and its lock's loss
 -- history. Cited by the bodies below `Tally`, `run_report` and `Decoder::fill`, and by no public call. This
 -- project's rule.
-use Rattle.std.specs.Prelude.{ℕ, zero, suc, ◌+◌, ◌-◌, List, [], ◌∷◌, Bool, true, false, ◌==◌, sum_by, count_by, count_ones, if◌then◌else◌, slice_index_or}
+use Rattle.std.specs.Prelude.{ℕ, zero, suc, ◌+◌, ◌-◌, List, Bool, true, false, ◌==◌, sum_by, count_by, count_ones, if◌then◌else◌, slice_index_or}
 use Rattle.std.specs.List.{list_all}
 use Rattle.rds_code.specs.Bursts.{span}
 use Rattle.rds_code.specs.declared.reading.Reading.TheVariants.{Valid, Corrected, Lost}

@@ -7,7 +7,7 @@ use Rattle.rds_sync.specs.Inside.Counts.{added}
 use Rattle.rds_sync.specs.Inside.Due.{IsAfter}
 use Rattle.rds_sync.specs.Inside.Locks.{IsFollowed}
 use Rattle.rds_sync.specs.Inside.Words.{blocks_in}
-use Rattle.rds_sync.proofs.CountLemmas.{group-added, lost-added}
+use Rattle.rds_sync.proofs.CountLemmas.{added-nothing, group-added, lost-added}
 use Rattle.rds_sync.proofs.DueLemmas.{items-inside, items-closed, items-lost, kept-next, step-due}
 use Rattle.rds_sync.proofs.GroupWords.{word-tells}
 use Rattle.rds_sync.proofs.count_run.follow_on.Goals as goal
@@ -79,3 +79,35 @@ returns-in-Lost-clause-state c =
     let good = c.read_due-good.result in
     let after = subst (λ (loss : Loss). IsAfter loss c.args.lock good c.after-due.result) c.loss-loss.ensures.value c.after-due.ensures in
     sym (step-due c.args.reader.now c.args.rules.now c.args.lock good c.read_due-good.ensures.valid c.after-due.result after)
+
+pub returns-in-Inside-clause-counts : goal.returns-in-Inside-clause-counts
+returns-in-Inside-clause-counts c =
+    let b = c.args.reader.now in
+    let rules = c.args.rules.now in
+    let lock = c.args.lock in
+    let good = c.read_due-good.result in
+    let after = subst (λ (loss : Loss). IsAfter loss lock good c.after-due.result) c.loss-loss.ensures.value c.after-due.ensures in
+    let inside = subst (λ (due : Due). IsAfter rules.loss lock good due) c.in-Inside.is after in
+    added-nothing c.args.counts.now _ (items-inside b rules lock good c.read_due-good.ensures.valid c.in-Inside.field-0 inside)
+
+pub returns-in-Closed-clause-followed : goal.returns-in-Closed-clause-followed
+returns-in-Closed-clause-followed c =
+    let b = c.args.reader.now in
+    let rules = c.args.rules.now in
+    let lock = c.args.lock in
+    let good = c.read_due-good.result in
+    let after = subst (λ (loss : Loss). IsAfter loss lock good c.after-due.result) c.loss-loss.ensures.value c.after-due.ensures in
+    let after_in = subst (λ (due : Due). IsAfter rules.loss lock good due) c.in-Closed.is after in
+    subst (λ (due : Due). IsFollowed b rules lock c.read_due-good.new.blocks due) (sym c.in-Closed.is)
+    (λ none. (let some = sym (items-closed b rules lock good c.read_due-good.ensures.valid c.in-Closed.field-0 after_in) ∙ none in cc some))
+
+pub returns-in-Lost-clause-followed : goal.returns-in-Lost-clause-followed
+returns-in-Lost-clause-followed c =
+    let b = c.args.reader.now in
+    let rules = c.args.rules.now in
+    let lock = c.args.lock in
+    let good = c.read_due-good.result in
+    let after = subst (λ (loss : Loss). IsAfter loss lock good c.after-due.result) c.loss-loss.ensures.value c.after-due.ensures in
+    let after_in = subst (λ (due : Due). IsAfter rules.loss lock good due) c.in-Lost.is after in
+    subst (λ (due : Due). IsFollowed b rules lock c.read_due-good.new.blocks due) (sym c.in-Lost.is)
+    (λ none. (let some = sym (items-lost b rules lock good c.read_due-good.ensures.valid after_in) ∙ none in cc some))
