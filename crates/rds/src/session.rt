@@ -90,7 +90,7 @@ fn run_stream(rt: &HostRuntime, input: &Input, numbers: RuleNumbers) -> Session
 {
     match Rules::of(rt.alloc(), numbers) {
         Ok(rules) => follow_by(rt, input, &rules),
-        Err(error) => refused(rt, error),
+        Err(error) => refused_session(rt, error),
     }
 }
 
@@ -110,7 +110,7 @@ fn follow_by(rt: &HostRuntime, input: &Input, rules: &Rules) -> Session
 }
 
 /// A session that was refused before anything was read.
-fn refused(rt: &HostRuntime, error: SyncError) -> Session
+fn refused_session(rt: &HostRuntime, error: SyncError) -> Session
     ensures answer { result.answer ≡ Err (of_sync error) }
     ensures given { given_by result.reader ≡ [] }
     ensures ended { has_ended result.reader ≡ false }

@@ -33,12 +33,12 @@ fn encode_all(groups: &[RdsWords], room: &mut [RdsPacked])
     ensures { room.new ≡ map the_packed groups.now ++ drop (length groups.now) room.old }
 {
     for i in 0..groups.len() {
-        room[i] = packed(groups[i]);
+        room[i] = pack_group(groups[i]);
     }
 }
 
 /// A group as it is sent.
-fn packed(group: RdsWords) -> RdsPacked
+fn pack_group(group: RdsWords) -> RdsPacked
     ensures { result ≡ the_packed group }
 {
     const BLOCK: u128 = 1 << 26;

@@ -105,9 +105,9 @@ fn push_calls(
     requires fits { IsCutting (length_of recording.now) cutting.now }
     requires two { pieces_of cutting.now ≡ 2 }
 {
-    let joined = two_guesses::joined(alloc, recording, rules, cutting)?;
+    let joined = two_guesses::join_guesses(alloc, recording, rules, cutting)?;
     push_row(text, "joined", joined)?;
-    let stitched = two_guesses::stitched(alloc, recording, rules, cutting)?;
+    let stitched = two_guesses::stitch_guesses(alloc, recording, rules, cutting)?;
     push_row(text, "stitched", stitched)?;
     Ok(())
 }

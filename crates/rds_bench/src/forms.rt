@@ -48,18 +48,18 @@ impl Form {
     pub fn find(self, alloc: Global, heard: &Heard) -> Option<u64> {
         let (recording, rules) = (&heard.recording, &heard.rules);
         match self {
-            Form::Scan => listed(alloc, recording),
+            Form::Scan => count_windows(alloc, recording),
             Form::Windows => Some(one_after_the_other(recording)),
             Form::Places => Some(place_by_place(recording)),
             Form::DividedPlaces => Some(by_divided_places(recording)),
-            Form::Report => reported(alloc, recording, rules),
-            Form::Guess => guessed(alloc, recording, rules),
+            Form::Report => count_report(alloc, recording, rules),
+            Form::Guess => count_guess(alloc, recording, rules),
             Form::Items => Some(item_by_item(recording, rules)),
         }
     }
 }
 
-fn listed(alloc: Global, recording: &Recording) -> Option<u64> {
+fn count_windows(alloc: Global, recording: &Recording) -> Option<u64> {
     match scan(alloc, recording, 0, recording.len()) {
         Ok(windows) => Some(windows.len() as u64),
         Err(_) => None,
@@ -87,14 +87,14 @@ fn by_divided_places(recording: &Recording) -> u64 {
     found
 }
 
-fn reported(alloc: Global, recording: &Recording, rules: &Rules) -> Option<u64> {
+fn count_report(alloc: Global, recording: &Recording, rules: &Rules) -> Option<u64> {
     match decode_plain(alloc, recording, rules) {
         Ok(report) => Some(report.totals.valid),
         Err(_) => None,
     }
 }
 
-fn guessed(alloc: Global, recording: &Recording, rules: &Rules) -> Option<u64> {
+fn count_guess(alloc: Global, recording: &Recording, rules: &Rules) -> Option<u64> {
     let Ok(cutting) = Cutting::even(alloc, recording.len(), 1) else {
         return None;
     };

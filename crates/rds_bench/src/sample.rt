@@ -37,7 +37,7 @@ impl Sample {
     fn bytes(self, alloc: Global, bits: u64) -> Result<Vec<u8>, AllocError> {
         match self {
             Sample::Station => station(alloc, bits),
-            Sample::Damaged(one_of) => Ok(damaged(station(alloc, bits)?, one_of)),
+            Sample::Damaged(one_of) => Ok(damage(station(alloc, bits)?, one_of)),
             Sample::Worst => Ok(past_mending(station(alloc, bits)?)),
             Sample::Losing => losing(alloc, bits),
             Sample::Noise => noise(alloc, bits),
@@ -143,7 +143,7 @@ fn with_hiss(bytes: Vec<u8>) -> Vec<u8> {
 }
 
 /// The bytes with a bit turned in about one of `one_of`.
-fn damaged(bytes: Vec<u8>, one_of: u64) -> Vec<u8> {
+fn damage(bytes: Vec<u8>, one_of: u64) -> Vec<u8> {
     let mut bytes = bytes;
     let mut number = SEED;
     for byte in bytes.iter_mut() {

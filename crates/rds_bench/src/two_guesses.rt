@@ -14,7 +14,7 @@ use std::alloc::Global;
 pub type Found = (u64, u64);
 
 /// The counts that a join of the two guesses finds. It is made once more if it is refused.
-pub fn joined(
+pub fn join_guesses(
     alloc: Global,
     recording: &Recording,
     rules: &Rules,
@@ -63,7 +63,7 @@ fn join_once(
 }
 
 /// The counts of the report stitched of the two guesses.
-pub fn stitched(
+pub fn stitch_guesses(
     alloc: Global,
     recording: &Recording,
     rules: &Rules,

@@ -38,7 +38,7 @@ pub fn read_block(
             info: (w >> 10) as u16,
         };
     }
-    corrected(table, w, remainder, number, wanted, limit)
+    correct_window(table, w, remainder, number, wanted, limit)
 }
 
 /// The offset of block `number` whose word is `remainder`.
@@ -56,7 +56,7 @@ fn own_offset(remainder: u16, number: BlockNumber) -> Option<Offset>
 
 /// The window corrected as block `number`.
 #[cold]
-fn corrected(
+fn correct_window(
     table: &BurstTable,
     w: u32,
     remainder: u16,

@@ -157,11 +157,11 @@ fn by_value<R: Threads + Wait + Sync, T: Rows + Sync, W: Hand + Drop>(
     ensures name { W.name result.0 ≡ W.name out }
     ensures written { IsWritten W.contents W.failed (concat (T.rows rows.now)) out result.0 result.1 }
 {
-    seated::<R, Brand, T, W>(rt, alloc, rows, sheets, gathered, plan, out)
+    write_by_handoffs::<R, Brand, T, W>(rt, alloc, rows, sheets, gathered, plan, out)
 }
 
 /// The rows, made and written with a seat for each sheet.
-fn seated<R: Threads + Wait + Sync, J: Named + Send + Sync, T: Rows + Sync, W: Hand + Drop>(
+fn write_by_handoffs<R: Threads + Wait + Sync, J: Named + Send + Sync, T: Rows + Sync, W: Hand + Drop>(
     rt: &R,
     alloc: Global,
     rows: &T,

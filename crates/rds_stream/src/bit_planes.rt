@@ -16,7 +16,7 @@ ghost use Rattle.rds_stream.specs.Recording.{length_of, window};
 ghost use Rattle.rds_stream.specs.Planes.{Hold};
 ghost use Rattle.rds_stream.specs.Inside.Lanes.{HoldInLane, IsWindowAt, lane};
 
-use crate::lanes::{from_on, joined, sum};
+use crate::lanes::{from_on, join_lanes, sum};
 use crate::recording::Recording;
 use rds_code::laws;
 use std::simd::prelude::*;
@@ -32,16 +32,16 @@ pub fn planes(recording: &Recording, at: u64) -> [u64; 10]
 {
     let [zero, one, two, three, four, five, six, seven, eight, nine] = plane_lanes(recording, at);
     [
-        joined(zero),
-        joined(one),
-        joined(two),
-        joined(three),
-        joined(four),
-        joined(five),
-        joined(six),
-        joined(seven),
-        joined(eight),
-        joined(nine),
+        join_lanes(zero),
+        join_lanes(one),
+        join_lanes(two),
+        join_lanes(three),
+        join_lanes(four),
+        join_lanes(five),
+        join_lanes(six),
+        join_lanes(seven),
+        join_lanes(eight),
+        join_lanes(nine),
     ]
 }
 

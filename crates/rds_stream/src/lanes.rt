@@ -35,7 +35,7 @@ pub(crate) fn either(a: u64x2, b: u64x2) -> u64x2
 
 /// The ones of `same` at which `plane` plus `flip` has a one.
 #[inline(always)]
-pub(crate) fn narrowed(same: u64x2, plane: u64x2, flip: u64) -> u64x2
+pub(crate) fn narrow(same: u64x2, plane: u64x2, flip: u64) -> u64x2
     ensures { HasLanes result (λ j. bit_and (slice_index same j) (bit_xor (slice_index plane j) flip)) }
 {
     same & (plane ^ u64x2::splat(flip))
@@ -43,7 +43,7 @@ pub(crate) fn narrowed(same: u64x2, plane: u64x2, flip: u64) -> u64x2
 
 /// The lowest 32 bits of both lanes, those of the first one lowest.
 #[inline(always)]
-pub(crate) fn joined(lanes: u64x2) -> u64
+pub(crate) fn join_lanes(lanes: u64x2) -> u64
     ensures { (j k : ℕ) → j < 2 → k < 32 → bit_at result (32 * j + k) ≡ bit_at (slice_index lanes j) k }
 {
     let [low, high] = lanes.to_array();

@@ -13,7 +13,7 @@ ghost use Rattle.rds_stream.specs.Inside.ValidPlaces.{TellsValidPlaces};
 
 use crate::bit_planes::plane_lanes;
 use crate::gaps::Section;
-use crate::lanes::{either, joined, narrowed};
+use crate::lanes::{either, join_lanes, narrow};
 use crate::recording::Recording;
 use rds_code::Offset;
 use std::simd::prelude::*;
@@ -138,7 +138,7 @@ fn at_once(recording: &Recording, at: u64) -> u64
     ensures { (k : ℕ) → k < 64 → (bit_at result k ≡ 1) ↔ IsSome (off recording.now (at + k)) }
 {
     prove!(at < recording.len());
-    joined(offset_words(&plane_lanes(recording, at)))
+    join_lanes(offset_words(&plane_lanes(recording, at)))
 }
 
 /// Ones at the valid places from `from` to before `to`, fewer than 64, one by one; bit k is place `from` + k.
@@ -186,7 +186,7 @@ fn equal_to(planes: &[u64x2; 10], word: u16) -> u64x2
     let mut same = u64x2::splat(u64::MAX);
     for r in 0..10usize {
         let flip = if word >> r & 1 == 1 { 0 } else { u64::MAX };
-        same = narrowed(same, planes[r], flip);
+        same = narrow(same, planes[r], flip);
     }
     same
 }

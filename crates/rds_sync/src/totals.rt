@@ -77,11 +77,11 @@ impl Totals {
                 Item::Group(_) => totals = totals.plus(Totals::of_item(item)),
             }
         }
-        totals.plus(Totals::told(whole, acquired, losses))
+        totals.plus(Totals::of_counts(whole, acquired, losses))
     }
 
     /// The totals of `whole` groups of four valid blocks, `acquired` acquisitions and `losses` losses.
-    fn told(whole: u64, acquired: u64, losses: u64) -> Totals
+    fn of_counts(whole: u64, acquired: u64, losses: u64) -> Totals
         requires { whole + acquired + losses ≤ 2 ^ 40 }
         ensures value { result ≡ told whole acquired losses }
         ensures small { IsAtMost (2 ^ 10 * (whole + acquired + losses)) result }

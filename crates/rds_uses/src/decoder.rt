@@ -4,7 +4,7 @@ ghost use Rattle.rds_sync.specs.Report.{report_items};
 ghost use Rattle.rds_sync.specs.declared.loss.Loss.TheVariants.{Run};
 ghost use Rattle.rds_uses.specs.Jobs.{all_bits};
 
-use crate::pieces::stitched;
+use crate::pieces::stitch_pieces;
 use crate::sync::usual_rules;
 use rds_pieces::{Cutting, PieceError};
 use rds_stream::Recording;
@@ -12,7 +12,7 @@ use rds_sync::{Report, Rules};
 use std::alloc::Global;
 
 /// The report of the bytes of a recording in an even cutting: that of one decoder, into however many pieces it is cut.
-pub fn decoded(alloc: Global, bytes: Vec<u8>, pieces: u64) -> Option<Report>
+pub fn report_of(alloc: Global, bytes: Vec<u8>, pieces: u64) -> Option<Report>
     requires few { 8 * vec_len bytes ≤ 2 ^ 36 }
     requires some { 1 ≤ pieces }
     ensures { IfSome result (λ report. report.items.list
@@ -35,5 +35,5 @@ fn in_pieces(
     ensures { IfOk result (λ report. report.items.list ≡ report_items recording.now rules.now) }
 {
     let cutting = Cutting::even(alloc, recording.len(), pieces)?;
-    stitched(alloc, recording, rules, &cutting)
+    stitch_pieces(alloc, recording, rules, &cutting)
 }

@@ -65,7 +65,7 @@ pub fn second_of(items: &Items, recording: &Recording, rules: &Rules) -> Option<
 // ---- lists that are made
 
 /// One list and another of the same recording by the same rules.
-pub fn joined(one: Items, other: Items) -> Result<Items, AllocError>
+pub fn join_lists(one: Items, other: Items) -> Result<Items, AllocError>
     requires source { other.source ≡ one.source }
     requires rules { other.rules ≡ one.rules }
     ensures { IfOk result (λ items. items ≡ listed one.source one.rules (one.list ++ other.list)) }
@@ -216,7 +216,7 @@ pub fn listed_in_two(
     let len = recording.len();
     let (state, first) = items_of_run(alloc, recording, rules, State::Searching, (0, middle))?;
     let (end, second) = items_of_run(alloc, recording, rules, state, (middle, len))?;
-    Ok((end, joined(first, second)?))
+    Ok((end, join_lists(first, second)?))
 }
 
 /// If there is no memory for a span, the list stays as it was.

@@ -229,7 +229,7 @@ pub fn states<'r>(one: &Live<'r>, other: &Live<'r>) -> (State, State)
 }
 
 /// A stream that was followed from memory to memory: the text that was written is the listing of its bytes.
-pub fn followed(alloc: Global, rules: &Rules, bytes: &[u8]) -> Result<Vec<u8>, ToolError>
+pub fn follow_bytes(alloc: Global, rules: &Rules, bytes: &[u8]) -> Result<Vec<u8>, ToolError>
     ensures { IfOk result (λ text. text.items ≡ list_text rules.now (signal_of [] bytes.now)) }
 {
     let mut writer = ToWrite::new(Vec::new(alloc));

@@ -288,11 +288,11 @@ pub fn joined_guesses(
 {
     let work = RecordingWork::new(recording, rules, cutting);
     let (left, right) = two_guesses(alloc, &work)?;
-    joined(alloc, recording, rules, &left, &right)
+    join_lists(alloc, recording, rules, &left, &right)
 }
 
 /// Two neighbours joined are the guess of both ranges.
-fn joined(
+fn join_lists(
     alloc: Global,
     recording: &Recording,
     rules: &Rules,
@@ -322,8 +322,8 @@ pub fn joined_on_both_sides(
         (λ runs. runs.1 ≡ run_over recording.now rules.now two.now.from three.now.to) }
 {
     match (
-        joined(alloc, recording, rules, one, two),
-        joined(alloc, recording, rules, two, three),
+        join_lists(alloc, recording, rules, one, two),
+        join_lists(alloc, recording, rules, two, three),
     ) {
         (Ok(before), Ok(after)) => Ok((before, after)),
         _ => Err(PieceError::OutOfMemory),
@@ -400,11 +400,11 @@ pub fn decoded_in_two_pieces(
         (λ report. report.totals ≡ totals_of (report_items recording.now rules.now)) }
     ensures refused { IsOkUnless result OutOfMemory }
 {
-    stitched(alloc, recording, rules, cutting)
+    stitch_pieces(alloc, recording, rules, cutting)
 }
 
 /// The report of a recording in the pieces of a cutting.
-pub(crate) fn stitched(
+pub(crate) fn stitch_pieces(
     alloc: Global,
     recording: &Recording,
     rules: &Rules,

@@ -157,7 +157,7 @@ pub fn words_of_damaged_bits(
 // ---- a recording of groups
 
 /// The 13 bytes of a group, the first bit highest.
-fn packed(words: [u16; 4]) -> [u8; 13]
+fn pack_group(words: [u16; 4]) -> [u8; 13]
     ensures bytes { result ≡ packed_group words }
     ensures words { (y : ℕ) → y < 4 → slice_index words y < 2 ^ 16 }
 {
@@ -177,13 +177,13 @@ fn packed_groups(alloc: Global, groups: &[[u16; 4]]) -> Result<Vec<u8>, AllocErr
 {
     let mut bytes = Vec::new(alloc);
     for group in groups {
-        bytes.extend_from_slice(&packed(*group))?;
+        bytes.extend_from_slice(&pack_group(*group))?;
     }
     Ok(bytes)
 }
 
 /// A recording of packed groups has the bits of these groups.
-pub fn recorded(alloc: Global, groups: &[[u16; 4]]) -> Option<Recording>
+pub fn recording_of_groups(alloc: Global, groups: &[[u16; 4]]) -> Option<Recording>
     requires { 104 * length groups.now ≤ 2 ^ 36 }
     ensures bits { IfSome result (λ recording. recording ≡ ungapped (bits_sent groups.now)) }
     ensures words { IfSome result (λ _. AreWords groups.now) }
@@ -208,7 +208,7 @@ pub fn encoded_and_decoded(alloc: Global, groups: &[[u16; 4]], rules: &Rules) ->
 {
     let _loss = rules.loss();
     laws::encoded_groups_are_listed();
-    let Some(recording) = recorded(alloc, groups) else {
+    let Some(recording) = recording_of_groups(alloc, groups) else {
         return None;
     };
     match decode_plain(alloc, &recording, rules) {
@@ -393,7 +393,7 @@ pub fn followed_and_listed<R: Threads + Wait + Sync>(
     ensures { IfSome result (λ both. both.0.items ≡ both.1.items) }
 {
     tool_laws::streams_are_listed();
-    let Some(rows) = followed(alloc, bytes, rules, gaps, bits) else {
+    let Some(rows) = follow_rows(alloc, bytes, rules, gaps, bits) else {
         return None;
     };
     let Some(listing) = written(rt, alloc, bytes, list) else {
@@ -403,7 +403,7 @@ pub fn followed_and_listed<R: Threads + Wait + Sync>(
 }
 
 /// The text that following a stream writes.
-fn followed(
+fn follow_rows(
     alloc: Global,
     bytes: &[u8],
     rules: &Rules,

@@ -94,7 +94,7 @@ pub fn windows_with_gaps<R: Threads + Wait + Sync>(
 }
 
 /// The blocks of the groups that lines of digits spell, in digits.
-pub fn encoded<R: Threads + Wait + Sync>(
+pub fn encode_lines<R: Threads + Wait + Sync>(
     rt: &R,
     alloc: Global,
     lines: &[u8],
@@ -189,7 +189,7 @@ pub fn gated_remains<R: Threads + Wait + Sync, S: Source, K: Sink, G: Gate + Syn
 }
 
 /// A text that grows: by the whole outcome, by a prefix of it if the writer fails, and else not at all.
-pub fn appended<R: Threads + Wait + Sync>(
+pub fn append_listing<R: Threads + Wait + Sync>(
     rt: &R,
     alloc: Global,
     bytes: &[u8],

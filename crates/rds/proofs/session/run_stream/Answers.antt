@@ -11,6 +11,6 @@ returns-in-Ok c =
 pub returns-in-Err : goal.returns-in-Err
 returns-in-Err c =
     let of = c.in-Err.ensures in
-    let none = c.refused.ensures in
+    let none = c.refused_session.ensures in
     stream_refused_by _ _ _ c.in-Err.error of.burst_range.0 (λ p. (of.reach_range.0 p).1) (λ p. (of.loss_range.0 p).3) (λ p. (of.share_range.0 p).3)
     _ _ _ _ _ _ _ none.answer none.given none.ended none.reads none.taken none.flushed none.writes

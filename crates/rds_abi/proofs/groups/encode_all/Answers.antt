@@ -8,8 +8,8 @@ pub loop-i-preserved : goal.loop-i-preserved
 loop-i-preserved c =
     let loop = c.loop-i in
     record {
-      written = rw c.packed.ensures
+      written = rw c.pack_group.ensures
           (one_written packed c.args.groups.now loop.room loop.i _ c.loop-i-test.true (omega (arith, loop.invariant.same, c.requires, c.loop-i-test.true)) loop.invariant.written);
-      kept = still_kept loop.room c.args.room.now loop.i c.packed.result loop.invariant.kept;
-      same = length-set loop.room loop.i c.packed.result ∙ loop.invariant.same;
+      kept = still_kept loop.room c.args.room.now loop.i c.pack_group.result loop.invariant.kept;
+      same = length-set loop.room loop.i c.pack_group.result ∙ loop.invariant.same;
     }

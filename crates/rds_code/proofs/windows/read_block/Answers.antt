@@ -6,7 +6,7 @@ use Rattle.rds_code.proofs.windows.read_block.Goals as goal
 
 pub returns-clause-value : goal.returns-clause-value
 returns-clause-value c =
-    c.corrected.ensures
+    c.correct_window.ensures
     ∙ sym (reads_corrected c.args.w c.args.number c.args.wanted c.args.limit
     (λ o valid. c.in_default.ensures.none refl o (ap offset_of c.rem26-remainder.ensures.value ∙ valid.offset) valid.own))
 

@@ -20,7 +20,7 @@ loop-r-preserved c j k l m =
       | then-word-r-eq1 w ↦ ap (λ x. bit_at x k) w.flip-is ∙ bit_at-zero k ∙ ap (λ x. 1 - x) (sym (sym tested ∙ w.if-word-r-eq1.true))
       | else-word-r-eq1 w ↦ ap (λ x. bit_at x k) w.flip-is ∙ bit_at_ones 64 k (omega arith) ∙ ap (λ x. 1 - x) (sym (not_one word r (λ h. w.if-word-r-eq1.false (tested ∙ h))))
     ] in
-    subst (λ x. (bit_at x k ≡ 1) ↔ Agree planes word (r + 1) j k) (sym (c.narrowed-same.ensures.each j l))
+    subst (λ x. (bit_at x k ≡ 1) ↔ Agree planes word (r + 1) j k) (sym (c.narrow-same.ensures.each j l))
     (agree_more planes word (get_or c.loop-r.same j 0) (lane planes r j) c.if-word-r-eq1.flip r j k refl turn (c.loop-r.invariant j k l m))
 
 pub returns : goal.returns

@@ -11,12 +11,12 @@ loop-group-preserved c =
     let i = c.loop-group.group-index in
     record {
       bytes = c.in_ok-extend_from_slice.ensures.items
-          ∙ ap₂ (λ (xs ys : List ℕ). xs ++ ys) c.loop-group.invariant.bytes c.packed.ensures.bytes
+          ∙ ap₂ (λ (xs ys : List ℕ). xs ++ ys) c.loop-group.invariant.bytes c.pack_group.ensures.bytes
           ∙ flat_map_more packed_group [] (take i groups) (get_or groups i [])
           ∙ ap (flat_map packed_group) (sym (take_more groups i [] c.loop-group-test.true));
       words = λ k y below. elim (cases_lt k i) [
         | inl before ↦ c.loop-group.invariant.words k y before
-        | inr last ↦ let now : k ≡ i = omega (arith, below, last) in rw now (four-small (get_or groups i []) (c.told-groups i c.loop-group-test.true) c.packed.ensures.words y)
+        | inr last ↦ let now : k ≡ i = omega (arith, below, last) in rw now (four-small (get_or groups i []) (c.told-groups i c.loop-group-test.true) c.pack_group.ensures.words y)
       ];
     }
 

@@ -36,11 +36,11 @@ returns-clause-group c bytes h =
     let s = c.self.inside in
     let terms : Terms = record { rules = s.rules.now; gaps = s.gaps.now } in
     let heard = subst (λ (live : LiveOf). HasHeard live bytes) (sym c.self.view_is) h in
-    let last = ap group_item c.ended.ensures.group
+    let last = ap group_item c.stream_end_of.ensures.group
     ∙ c.group_at_end-group.ensures.heard bytes (ap (λ (l : LiveOf). l.tail) heard) (ap (λ (l : LiveOf). l.place) heard)
     ∙ ap (λ (t : State). items_of_end (signal_of s.gaps.now bytes) s.rules.now t) (ap (λ (l : LiveOf). l.state) heard) in
-    subst (λ (t : Terms). complete t bytes ++ group_item c.ended.result.group ≡ report_of t bytes) (ap (λ (l : LiveOf). l.terms) c.self.view_is)
-    (all-items c.runs_are_reports.ensures terms c.reach.ensures.range.loss.0 bytes (group_item c.ended.result.group) last)
+    subst (λ (t : Terms). complete t bytes ++ group_item c.stream_end_of.result.group ≡ report_of t bytes) (ap (λ (l : LiveOf). l.terms) c.self.view_is)
+    (all-items c.runs_are_reports.ensures terms c.reach.ensures.range.loss.0 bytes (group_item c.stream_end_of.result.group) last)
 
 pub returns-clause-totals : goal.returns-clause-totals
 returns-clause-totals c bytes h =
@@ -49,16 +49,16 @@ returns-clause-totals c bytes h =
     let heard = subst (λ (live : LiveOf). HasHeard live bytes) (sym c.self.view_is) h in
     let last = c.group_at_end-group.ensures.heard bytes (ap (λ (l : LiveOf). l.tail) heard) (ap (λ (l : LiveOf). l.place) heard)
     ∙ ap (λ (t : State). items_of_end (signal_of s.gaps.now bytes) s.rules.now t) (ap (λ (l : LiveOf). l.state) heard) in
-    subst (λ (t : Terms). c.ended.result.totals ≡ totals_of (report_of t bytes)) (ap (λ (l : LiveOf). l.terms) c.self.view_is)
-    (all-totals c.totals_join.ensures c.runs_are_reports.ensures terms c.reach.ensures.range.loss.0 bytes (group_item c.group_at_end-group.result) s.totals c.ended.result.totals
-    last (ap (λ (l : LiveOf). l.totals) heard) c.ended.ensures.totals)
+    subst (λ (t : Terms). c.stream_end_of.result.totals ≡ totals_of (report_of t bytes)) (ap (λ (l : LiveOf). l.terms) c.self.view_is)
+    (all-totals c.totals_join.ensures c.runs_are_reports.ensures terms c.reach.ensures.range.loss.0 bytes (group_item c.group_at_end-group.result) s.totals c.stream_end_of.result.totals
+    last (ap (λ (l : LiveOf). l.totals) heard) c.stream_end_of.ensures.totals)
 
 pub returns-clause-closed : goal.returns-clause-closed
 returns-clause-closed c =
-    ap group_item c.ended.ensures.group ∙ c.group_at_end-group.ensures.closed c.self.inside.totals ∙ ap (λ (live : LiveOf). group_next live [] 0) c.self.view_is
+    ap group_item c.stream_end_of.ensures.group ∙ c.group_at_end-group.ensures.closed c.self.inside.totals ∙ ap (λ (live : LiveOf). group_next live [] 0) c.self.view_is
 
 pub returns-clause-counted : goal.returns-clause-counted
 returns-clause-counted c =
-    c.ended.ensures.totals
+    c.stream_end_of.ensures.totals
     ∙ ap₂ (λ (t : Totals) (items : List Item). plus t (totals_of items)) (ap (λ (live : LiveOf). live.totals) c.self.view_is)
     (c.group_at_end-group.ensures.closed c.self.inside.totals ∙ ap (λ (live : LiveOf). group_next live [] 0) c.self.view_is)

@@ -18,7 +18,7 @@ use Rattle.rds_live.proofs.Nexts.{count-next, group-next, part-begin, part-next,
 use Rattle.rds_live.proofs.Parts.{length-at}
 use Rattle.rds_live.proofs.Following.{at-most-more, state-in-part}
 use Rattle.rds_live.proofs.Ending.{IsLast, report-begin, report-to, totals-to}
-use Rattle.rds_live.proofs.live.Live.finish_with.Goals.{After-ended}
+use Rattle.rds_live.proofs.live.Live.finish_with.Goals.{After-stream_end_of}
 use Rattle.rds_live.proofs.live.Live.finish_with.Goals as goal
 
 size-of : (part : Signal) (gaps : List (ℕ × ℕ)) (bytes : List ℕ) (n : ℕ) → part ≡ signal_at gaps bytes n → length_of part ≡ n
@@ -68,7 +68,7 @@ moved_end-group-requires-clause-lawful c =
 
 -- the facts once the bits that end the stream were decoded, after those that are kept of the bytes heard
 -- before
-module _ (c : After-ended) where
+module _ (c : After-stream_end_of) where
   abbrev terms : Terms
   terms = record { rules = c.self.inside.rules.now; gaps = c.self.inside.gaps.now }
 
@@ -124,8 +124,8 @@ module _ (c : After-ended) where
       let counted = ap length c.move_on.ensures ∙ length-map c.as_mut_slice.result.now (moved_item at) ∙ c.as_mut_slice.ensures.len in
       with_items_is c.fill_from-end.new.items c.move_on.new.items counted ∙ given_are
 
-  last_is : group_item c.ended.result.group ≡ moved_items at (items_of_end part terms.rules c.fill_from-end.result)
-  last_is = ap group_item c.ended.ensures.group ∙ c.moved_end-group.ensures
+  last_is : group_item c.stream_end_of.result.group ≡ moved_items at (items_of_end part terms.rules c.fill_from-end.result)
+  last_is = ap group_item c.stream_end_of.ensures.group ∙ c.moved_end-group.ensures
 
   -- the same by only the numbers
   abbrev live : LiveOf
@@ -145,19 +145,19 @@ module _ (c : After-ended) where
       items_are
       ∙ ap₂ (λ (d : ℕ) (r : State × List Item). moved_items d r.1) (there live c.args.bytes.now c.args.bits from at local from_is refl c.moved_back-state.ensures.value) found_is
 
-  closed_is : group_item c.ended.result.group ≡ group_next live c.args.bytes.now c.args.bits
+  closed_is : group_item c.stream_end_of.result.group ≡ group_next live c.args.bytes.now c.args.bits
   closed_is =
-      group-next live c.args.bytes.now c.args.bits from at local from_is refl c.moved_back-state.ensures.value part c.fill_from-end.result (group_item c.ended.result.group) part_next
+      group-next live c.args.bytes.now c.args.bits from at local from_is refl c.moved_back-state.ensures.value part c.fill_from-end.result (group_item c.stream_end_of.result.group) part_next
       (end_is ∙ ap (λ (r : State × List Item). r.0) found_is) last_is
 
-  counted_is : c.ended.result.totals ≡ plus (plus c.self.inside.totals (totals_of (items_next live c.args.bytes.now c.args.bits))) (totals_of (group_next live c.args.bytes.now c.args.bits))
+  counted_is : c.stream_end_of.result.totals ≡ plus (plus c.self.inside.totals (totals_of (items_next live c.args.bytes.now c.args.bits))) (totals_of (group_next live c.args.bytes.now c.args.bits))
   counted_is =
-      c.ended.ensures.totals
+      c.stream_end_of.ensures.totals
       ∙ ap₂ (λ (t : Totals) (items : List Item). plus t (totals_of items))
       (c.plus-totals.ensures.value ∙ ap (λ (t : Totals). plus c.self.inside.totals t)
       (c.of.ensures.value ∙ ap (λ (items : List Item). totals_of items) (c.deref.ensures.value ∙ found_are ∙ ap (λ (r : State × List Item). r.1) found_is)
       ∙ count-next live c.args.bytes.now c.args.bits c.totals_join.ensures))
-      (sym (ap group_item c.ended.ensures.group) ∙ closed_is)
+      (sym (ap group_item c.stream_end_of.ensures.group) ∙ closed_is)
 
   module _ (before : List ℕ) (h : HasHeard c.args.self before) where
     heard : HasHeard (record { terms = terms; tail = tail; place = c.self.inside.place; state = c.self.inside.state; totals = c.self.inside.totals }) before
@@ -180,44 +180,44 @@ module _ (c : After-ended) where
     report_is : report_at terms (before ++ more) (8 * length before + c.args.bits) ≡ report_at terms (before ++ c.args.bytes.now) (8 * length before + c.args.bits)
     report_is = report-begin terms before c.args.bytes.now c.div_ceil.result (8 * length before + c.args.bits) (omega (arith, held, length-append before more))
 
-    items_of_report : complete c.args.self.terms before ++ (with_items c.fill_from-end.new.items c.move_on.new.items).items ++ group_item c.ended.result.group
+    items_of_report : complete c.args.self.terms before ++ (with_items c.fill_from-end.new.items c.move_on.new.items).items ++ group_item c.stream_end_of.result.group
         ≡ report_at c.args.self.terms (before ++ c.args.bytes.now) (8 * length before + c.args.bits)
     items_of_report =
         let given : List Item = c.move_on.new.items in
-        subst (λ (t : Terms). complete t before ++ (with_items c.fill_from-end.new.items given).items ++ group_item c.ended.result.group ≡ report_at t (before ++ c.args.bytes.now) (8 * length before + c.args.bits))
+        subst (λ (t : Terms). complete t before ++ (with_items c.fill_from-end.new.items given).items ++ group_item c.stream_end_of.result.group ≡ report_at t (before ++ c.args.bytes.now) (8 * length before + c.args.bits))
         (ap (λ (l : LiveOf). l.terms) c.self.view_is)
         (report-to terms c.reach.ensures.range c.self.invariant.0.gaps before more c.args.bits held tail c.self.inside.place from at local part
-        c.runs_join.ensures c.runs_move.ensures c.ends_move.ensures c.runs_are_reports.ensures last (with_items c.fill_from-end.new.items given).items (group_item c.ended.result.group) c.fill_from-end.result
+        c.runs_join.ensures c.runs_move.ensures c.ends_move.ensures c.runs_are_reports.ensures last (with_items c.fill_from-end.new.items given).items (group_item c.stream_end_of.result.group) c.fill_from-end.result
         items_are end_is end_lawful last_is ∙ report_is)
 
-    totals_of_report : c.ended.result.totals ≡ totals_of (report_at c.args.self.terms (before ++ c.args.bytes.now) (8 * length before + c.args.bits))
+    totals_of_report : c.stream_end_of.result.totals ≡ totals_of (report_at c.args.self.terms (before ++ c.args.bytes.now) (8 * length before + c.args.bits))
     totals_of_report =
-        subst (λ (t : Terms). c.ended.result.totals ≡ totals_of (report_at t (before ++ c.args.bytes.now) (8 * length before + c.args.bits)))
+        subst (λ (t : Terms). c.stream_end_of.result.totals ≡ totals_of (report_at t (before ++ c.args.bytes.now) (8 * length before + c.args.bits)))
         (ap (λ (l : LiveOf). l.terms) c.self.view_is)
         (totals-to terms c.reach.ensures.range c.self.invariant.0.gaps before more c.args.bits held tail c.self.inside.place from at local part
         c.runs_join.ensures c.runs_move.ensures c.ends_move.ensures c.runs_are_reports.ensures last c.move_on.new.items (group_item c.moved_end-group.result) c.fill_from-end.result
         given_are end_is end_lawful c.moved_end-group.ensures
-        c.totals_join.ensures c.self.inside.totals c.of.result c.plus-totals.result c.ended.result.totals
-        (ap (λ (l : LiveOf). l.totals) heard) (c.of.ensures.value ∙ ap (λ (items : List Item). totals_of items) (c.deref.ensures.value ∙ found_are)) c.plus-totals.ensures.value c.ended.ensures.totals
+        c.totals_join.ensures c.self.inside.totals c.of.result c.plus-totals.result c.stream_end_of.result.totals
+        (ap (λ (l : LiveOf). l.totals) heard) (c.of.ensures.value ∙ ap (λ (items : List Item). totals_of items) (c.deref.ensures.value ∙ found_are)) c.plus-totals.ensures.value c.stream_end_of.ensures.totals
         ∙ ap (λ (items : List Item). totals_of items) report_is)
 
 pub returns-clause-items : goal.returns-clause-items
-returns-clause-items c before h = items_of_report (goal.at.returns-clause-items c).After-ended before h
+returns-clause-items c before h = items_of_report (goal.at.returns-clause-items c).After-stream_end_of before h
 
 pub returns-clause-totals : goal.returns-clause-totals
-returns-clause-totals c before h = totals_of_report (goal.at.returns-clause-totals c).After-ended before h
+returns-clause-totals c before h = totals_of_report (goal.at.returns-clause-totals c).After-stream_end_of before h
 
 pub returns-clause-completed : goal.returns-clause-completed
 returns-clause-completed c =
-    let c = (goal.at.returns-clause-completed c).After-ended in
+    let c = (goal.at.returns-clause-completed c).After-stream_end_of in
     completed_is c ∙ ap (λ (l : LiveOf). items_next l c.args.bytes.now c.args.bits) c.self.view_is
 
 pub returns-clause-closed : goal.returns-clause-closed
 returns-clause-closed c =
-    let c = (goal.at.returns-clause-closed c).After-ended in
+    let c = (goal.at.returns-clause-closed c).After-stream_end_of in
     closed_is c ∙ ap (λ (l : LiveOf). group_next l c.args.bytes.now c.args.bits) c.self.view_is
 
 pub returns-clause-counted : goal.returns-clause-counted
 returns-clause-counted c =
-    let c = (goal.at.returns-clause-counted c).After-ended in
+    let c = (goal.at.returns-clause-counted c).After-stream_end_of in
     counted_is c ∙ ap (λ (l : LiveOf). plus (plus l.totals (totals_of (items_next l c.args.bytes.now c.args.bits))) (totals_of (group_next l c.args.bytes.now c.args.bits))) c.self.view_is

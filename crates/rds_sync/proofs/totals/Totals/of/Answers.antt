@@ -46,4 +46,4 @@ pub returns-clause-value : goal.returns-clause-value
 returns-clause-value c =
     let l = c.loop-item in
     let all : take l.item-index c.args.items.now ≡ c.args.items.now = take_all l.item-index c.args.items.now (omega (arith, c.loop-item-test.false)) in
-    c.plus.ensures.value ∙ ap (λ (u : Totals). plus l.totals u) c.told.ensures.value ∙ l.invariant.so_far ∙ ap (λ (items : List Item). totals_of items) all
+    c.plus.ensures.value ∙ ap (λ (u : Totals). plus l.totals u) c.of_counts.ensures.value ∙ l.invariant.so_far ∙ ap (λ (items : List Item). totals_of items) all

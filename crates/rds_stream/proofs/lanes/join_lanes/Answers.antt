@@ -1,7 +1,7 @@
 use Rattle.std.proofs.Common.{◌+◌, ◌*◌, ◌%◌, ◌<◌, ◌≡◌, ◌∙◌, ap, suc, zero, ℕ, arith, get_or, bit_and, bit_or, List}
 use Rattle.std.specs.Int.{bit_at}
 use Rattle.rds_stream.proofs.BitOrder.{joined_low, joined_high}
-use Rattle.rds_stream.proofs.lanes.joined.Goals as goal
+use Rattle.rds_stream.proofs.lanes.join_lanes.Goals as goal
 
 either_lane : (lanes : List ℕ) (j k : ℕ) → j < 2 → k < 32 →
     bit_at (bit_or (bit_and (get_or lanes 0 0) 4294967295) (get_or lanes 1 0 * 4294967296 % 18446744073709551616)) (32 * j + k) ≡ bit_at (get_or lanes j 0) k

@@ -2,7 +2,7 @@ use Rattle.std.proofs.Common.{◌≡◌, []}
 use Rattle.rds_live.specs.Live.{Terms}
 use Rattle.rds_tool.specs.Following.{listed}
 use Rattle.rds_uses.proofs.Outcomes.{given_back, written}
-use Rattle.rds_uses.proofs.sent.followed.Goals as goal
+use Rattle.rds_uses.proofs.sent.follow_rows.Goals as goal
 
 pub returns-in-Ok : goal.returns-in-Ok
 returns-in-Ok c =

@@ -5,7 +5,7 @@ use Rattle.rds_sync.specs.declared.item.Item.{Item}
 use Rattle.rds_live.specs.Live.{HasHeard, Terms, complete}
 use Rattle.rds_live.specs.Next.{completed, live_next}
 use Rattle.rds_live.proofs.Taking.{all_left, all_taken, left_on, none_taken, still_few, taken_on}
-use Rattle.rds_live.proofs.live.taken.Goals as goal
+use Rattle.rds_live.proofs.live.decode_bytes.Goals as goal
 
 none-left : (n : ℕ) → eqb n 0 ≡ true → n ≡ 0
 none-left n e = elim (cases_eq n 0) [

@@ -5,9 +5,9 @@ use Rattle.rds_rows.specs.Parts.{first_parts}
 use Rattle.rds_rows.specs.Writes.{AppendsPrefix}
 use Rattle.rds_rows.proofs.Parts.{all_rows}
 use Rattle.rds_rows.proofs.Promises.{all_written, write_failed}
-use Rattle.rds_rows.proofs.write.seated.Given.{Over}
-use Rattle.rds_rows.proofs.write.seated.Goals.{After-by_pool}
-use Rattle.rds_rows.proofs.write.seated.Goals as goal
+use Rattle.rds_rows.proofs.write.write_by_handoffs.Given.{Over}
+use Rattle.rds_rows.proofs.write.write_by_handoffs.Goals.{After-by_pool}
+use Rattle.rds_rows.proofs.write.write_by_handoffs.Goals as goal
 
 -- the parts, one after the other, are all rows
 whole : (g : Over) (c : After-by_pool g) → first_parts g.J.Named.part c.args.plan.parts ≡ concat (g.T.Rows.rows c.args.rows.now)

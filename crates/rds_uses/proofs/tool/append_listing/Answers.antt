@@ -1,7 +1,7 @@
 use Rattle.std.proofs.Common.{◌≡◌}
 use Rattle.rds_tool.specs.Outcome.{result_of_job}
 use Rattle.rds_uses.proofs.Outcomes.{added, given_back, on-ok, prefix_back}
-use Rattle.rds_uses.proofs.tool.appended.Goals as goal
+use Rattle.rds_uses.proofs.tool.append_listing.Goals as goal
 
 pub returns-clause-whole : goal.returns-clause-whole
 returns-clause-whole g c =

@@ -9,7 +9,7 @@ use Rattle.rds_tool.specs.Following.{listed}
 use Rattle.rds_tool.specs.Input.{and_then}
 use Rattle.rds_tool.specs.Outcome.{Writes, list_text}
 use Rattle.rds_uses.proofs.Outcomes.{given_back}
-use Rattle.rds_uses.proofs.live.followed.Goals as goal
+use Rattle.rds_uses.proofs.live.follow_bytes.Goals as goal
 
 -- if something was written, this was not refused
 not_refused : (p : Bool) (e : ToolError) (rest : Result Signal ToolError) (rules : RuleNumbers) (text : List ℕ)
