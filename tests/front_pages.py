@@ -41,17 +41,17 @@ use rds_stream::{Reader, Recording, read_heard, scan};""",
     ),
     (
         "rds_live",
-        "use rds_live::{Live, MOST_ITEMS};\nuse rds_sync::Rules;",
+        "use rds_live::{StreamDecoder, MOST_ITEMS};\nuse rds_sync::Rules;",
         "alloc: Global, rules: Rules, chunks: Vec<&[u8]>",
         "MOST_ITEMS",
     ),
     (
         "rds_live",
-        """use rds_live::Live;
+        """use rds_live::StreamDecoder;
 use rds_sync::{Rules, State, Totals};
 
 fn keep(_tail: &[u8], _place: u64, _state: State, _totals: Totals) {}""",
-        """alloc: Global, rules: Rules, gaps: Vec<(u64, u64)>, live: Live<'_>, tail: &[u8], place: u64, state: State,
+        """alloc: Global, rules: Rules, gaps: Vec<(u64, u64)>, live: StreamDecoder<'_>, tail: &[u8], place: u64, state: State,
     totals: Totals""",
         "resume",
     ),

@@ -1,7 +1,7 @@
 -- From devices with no history to those that a run leaves.
 use Rattle.std.proofs.Common.{◌++◌, ◌*◌, ◌<◌, ◌≤◌, ◌≡◌, ◌≢◌, ◌⊎◌, ◌∙◌, [], ℕ, ap, arith, Bool, Err, false, inl, inr, length, List, None, Ok, Option, refl, Result, Some, subst, sym, true}
 use Rattle.std.specs.Prelude.{◌↔◌, IfErr, IsErrOf, OnOk}
-use Rattle.rds_live.specs.Live.{Terms}
+use Rattle.rds_live.specs.StreamDecoder.{Terms}
 use Rattle.rds_rows.specs.declared.sink.Sink.{Ghosts as Sink}
 use Rattle.rds_sync.specs.Rules.{RuleNumbers}
 use Rattle.rds_sync.specs.declared.error.SyncError.{SyncError}

@@ -1,7 +1,7 @@
 -- The promise of the program, by the histories of standard input and standard output: this project's rule. `do_as_asked` and the
 -- functions that it calls cite it.
 use Rattle.std.specs.Prelude.{◌++◌, ◌<◌, ◌≡◌, ◌≢◌, ◌≤◌, ◌⊎◌, ◌↔◌, [], ℕ, Bool, Err, IfErr, IsErrOf, List, None, Ok, OnOk, Option, Result, Some, length, true}
-use Rattle.rds_live.specs.Live.{Terms}
+use Rattle.rds_live.specs.StreamDecoder.{Terms}
 use Rattle.rds_sync.specs.Ranges.{IsRunOutside, IsShareOutside, farthest_reach, longest_burst}
 use Rattle.rds_sync.specs.Rules.{RuleNumbers}
 use Rattle.rds_tool.specs.Ends.{given_by, has_ended, is_flushed, read_failures, taken_by, write_failures}

@@ -4,7 +4,7 @@ use Rattle.rds_sync.specs.Ranges.{IsInRange, IsLossInRange, IsRunOutside, IsShar
 use Rattle.rds_sync.specs.Rules.{RuleNumbers}
 use Rattle.rds_sync.specs.declared.loss.Loss.{Loss}
 use Rattle.rds_sync.specs.declared.loss.Loss.TheVariants.{Run, Share}
-use Rattle.rds_live.specs.Live.{Terms}
+use Rattle.rds_live.specs.StreamDecoder.{Terms}
 use Rattle.rds_abi.specs.Asked.{AreGiven, AreReserved, Asked, IsLawful, IsRecording, Refuses, RefusesGiven, RefusesRecording, RefusesRules, rules_of}
 use Rattle.rds_abi.specs.Blocks.{RefusesCorrection}
 use Rattle.rds_abi.specs.Exclusion.{Exclude, ReasonsExclude, WithRoom}

@@ -7,7 +7,7 @@ use Rattle.rds_sync.specs.Laws.{RunsGiveFewItems}
 use Rattle.rds_sync.specs.Ranges.{IsInRange}
 use Rattle.rds_sync.specs.Step.{run}
 use Rattle.rds_sync.specs.declared.item.Item.{Item}
-use Rattle.rds_live.specs.Live.{IsLive, LiveOf, Terms}
+use Rattle.rds_live.specs.StreamDecoder.{IsStreamDecoder, LiveOf, Terms}
 use Rattle.rds_live.specs.Moving.{moved_item}
 use Rattle.rds_live.specs.Next.{PiecesJoin, before_tail, completed, live_next, moved_back, part_with, run_next}
 use Rattle.rds_abi.specs.Asked.{IsFilled, IsTooMuch}
@@ -36,7 +36,7 @@ pub taken-on : (a n : ℕ) (bytes : List ℕ) → take a bytes ++ take n (drop a
 taken-on a n bytes =
     ap₂ (λ (xs ys : List ℕ). xs ++ ys) (sym (take-take a (a + n) bytes (omega arith))) (sym (drop-take a n bytes)) ∙ take-append-drop a (take (a + n) bytes)
 
-module _ (joins : PiecesJoin) (first live : LiveOf) (bytes : List ℕ) (a : ℕ) (range : IsInRange first.terms.rules) (lawful : IsLive first)
+module _ (joins : PiecesJoin) (first live : LiveOf) (bytes : List ℕ) (a : ℕ) (range : IsInRange first.terms.rules) (lawful : IsStreamDecoder first)
     (is : live ≡ live_next first (take a bytes)) where
   -- the stream after a further piece
   pub joined-next : (n : ℕ) → live_next live (take n (drop a bytes)) ≡ live_next first (take (a + n) bytes)

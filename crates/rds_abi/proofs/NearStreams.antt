@@ -8,7 +8,7 @@ use Rattle.rds_sync.specs.Step.{run}
 use Rattle.rds_sync.specs.Totals.{totals_of}
 use Rattle.rds_sync.specs.declared.item.Item.{Item}
 use Rattle.rds_live.specs.Gaps.{gaps_within}
-use Rattle.rds_live.specs.Live.{HasHeard, LiveOf, Terms, last_bytes, most_kept, signal_at}
+use Rattle.rds_live.specs.StreamDecoder.{HasHeard, LiveOf, Terms, last_bytes, most_kept, signal_at}
 use Rattle.rds_live.specs.Moving.{moved_items, moved_state}
 use Rattle.rds_live.specs.Next.{NextIsHeard, before_tail, completed, live_next, moved_back}
 use Rattle.rds_sync.specs.Ranges.{IsInRange}

@@ -10,7 +10,7 @@ use Rattle.rds_sync.specs.Ranges.{IsInRange}
 use Rattle.rds_sync.specs.Rules.{RuleNumbers}
 use Rattle.rds_sync.specs.Step.{items_of_end, run}
 use Rattle.rds_live.specs.Gaps.{gaps_within}
-use Rattle.rds_live.specs.Live.{signal_at}
+use Rattle.rds_live.specs.StreamDecoder.{signal_at}
 use Rattle.rds_live.specs.Moving.{EndsMove, IsPartHeard, RunsMove, moved_items, moved_state, most_behind}
 use Rattle.rds_live.specs.Places.{is_due_from}
 use Rattle.rds_live.proofs.GapParts.{part-touched}

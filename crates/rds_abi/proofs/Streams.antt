@@ -4,7 +4,7 @@ use Rattle.std.proofs.lemmas.List.{length-map}
 use Rattle.rds_sync.specs.Advance.{group_item}
 use Rattle.rds_sync.specs.declared.item.Group.{Group as GroupRecord}
 use Rattle.rds_sync.specs.declared.item.Item.{Item}
-use Rattle.rds_live.specs.Live.{HasHeard, LiveOf, Terms, complete, most_kept, report_at, report_of}
+use Rattle.rds_live.specs.StreamDecoder.{HasHeard, LiveOf, Terms, complete, most_kept, report_at, report_of}
 use Rattle.rds_abi.specs.Stream.{AreClosed, AreLeft, AreTooMany, IsFollowed, IsLeft, RefusesEnd, RefusesFollowed, RefusesLast, RefusesPush, RefusesStream, place_after, stream_of, terms_of}
 use Rattle.rds_abi.specs.Asked.{AreGiven}
 use Rattle.rds_abi.specs.Ranges.{state_of}

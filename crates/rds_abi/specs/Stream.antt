@@ -7,7 +7,7 @@ use Rattle.rds_sync.specs.Totals.{totals_of}
 use Rattle.rds_sync.specs.declared.item.Item.{Item}
 use Rattle.rds_sync.specs.declared.totals.Totals.{Totals}
 use Rattle.rds_live.specs.Gaps.{gaps_within}
-use Rattle.rds_live.specs.Live.{HasHeard, IsLive, LiveOf, Terms, complete, most_kept, report_at, report_of}
+use Rattle.rds_live.specs.StreamDecoder.{HasHeard, IsStreamDecoder, LiveOf, Terms, complete, most_kept, report_at, report_of}
 use Rattle.rds_live.specs.Next.{completed}
 use Rattle.rds_abi.specs.Asked.{AreGiven, IsFilled, IsTooMuch, RefusesGiven, gaps_of, rules_of}
 use Rattle.rds_abi.specs.Ranges.{loss_in_c, searching_in_c, state_in_c, state_of}
@@ -94,7 +94,7 @@ IsNamed rules s =
 -- a stream that a call can have left: a decoder can know what the numbers say, and they are those that a call writes of it by
 -- these rules, or all 0
 pub record IsLeft (terms : Terms) (s : RdsStream) : Type 0 where
-  pub live : IsLive (stream_of terms s)
+  pub live : IsStreamDecoder (stream_of terms s)
   pub laid : (s ≡ unheard) ⊎ (s ≡ stream_in_c (stream_of terms s))
 
 -- the same rules, and gaps by which the same is heard in the places from `before` on, up to `len` of them

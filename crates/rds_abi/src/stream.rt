@@ -4,7 +4,7 @@ ghost use Rattle.std.specs.Prelude.{◌≡◌, ◌++◌, ◌<◌, ◌≤◌, ◌
 ghost use Rattle.rds_stream.specs.Recording.{AreGaps};
 ghost use Rattle.rds_sync.specs.Advance.{group_item};
 ghost use Rattle.rds_sync.specs.Totals.{totals_of};
-ghost use Rattle.rds_live.specs.Live.{HasHeard, IsLive, complete, most_kept, report_at, report_of};
+ghost use Rattle.rds_live.specs.StreamDecoder.{HasHeard, IsStreamDecoder, complete, most_kept, report_at, report_of};
 ghost use Rattle.rds_live.specs.Next.{completed, live_next};
 ghost use Rattle.rds_sync.specs.Ranges.{IsInRange};
 ghost use Rattle.rds_abi.specs.Asked.{AreGiven, IsFilled, IsTooMuch, gaps_of, rules_of as the_rules_of};
@@ -19,7 +19,7 @@ use crate::part::near;
 use crate::ranges::{loss_in_c, state_in_c, state_of, write_end};
 use crate::refusal::Refusal;
 use rds_live::laws::{next_is_heard, pieces_join};
-use rds_live::{Live, ResumeError};
+use rds_live::{StreamDecoder, ResumeError};
 use rds_stream::{MOST_BITS, StreamError};
 use rds_sync::{Group, Item, Rules, Totals, laws};
 use std::alloc::{AllocError, Global};
@@ -64,7 +64,7 @@ struct Told {
 }
 
 impl Model for Told {
-    ghost use Rattle.rds_live.specs.Live.{Terms};
+    ghost use Rattle.rds_live.specs.StreamDecoder.{Terms};
 
     ghost Value = { Terms };
 
@@ -116,7 +116,7 @@ fn told_near(
 }
 
 /// The decoder of the stream that these numbers say.
-fn live_of<'r>(alloc: Global, told: &'r Told, stream: &RdsStream) -> Result<Live<'r>, Refusal>
+fn live_of<'r>(alloc: Global, told: &'r Told, stream: &RdsStream) -> Result<StreamDecoder<'r>, Refusal>
     requires { AreGaps (2 ^ 36) told.now.gaps }
     ensures live { IfOk result (λ live. live ≡ the_stream_of told.now stream.now) }
     ensures left { IfOk result (λ _. IsLeft told.now stream.now) }
@@ -132,7 +132,7 @@ fn live_of<'r>(alloc: Global, told: &'r Told, stream: &RdsStream) -> Result<Live
         return Err(Refusal::UnlawfulState);
     }
     let totals = totals_from_c(stream.totals);
-    match Live::resume(alloc, rules, gaps, tail, stream.place, state, totals) {
+    match StreamDecoder::resume(alloc, rules, gaps, tail, stream.place, state, totals) {
         Ok(live) => Ok(live),
         Err(ResumeError::OutOfMemory) => Err(Refusal::OutOfMemory),
         Err(_) => Err(Refusal::UnlawfulState),
@@ -191,11 +191,11 @@ fn tail_in_c(tail: &[u8]) -> [u8; 32]
 }
 
 /// What is known of a stream, for C.
-fn stream_in_c(rules: &Rules, live: &Live<'_>) -> RdsStream
+fn stream_in_c(rules: &Rules, live: &StreamDecoder<'_>) -> RdsStream
     requires { live.now.terms.rules ≡ rules.now }
     ensures laid { result ≡ the_stream_in_c live.now }
     ensures says { the_stream_of live.now.terms result ≡ live.now }
-    ensures lawful { IsLive live.now }
+    ensures lawful { IsStreamDecoder live.now }
 {
     RdsStream {
         magic: MAGIC,
@@ -375,7 +375,7 @@ struct Fit {
 /// writes the items, and the stream after them. Refuses if the items of the first byte do not fit, and tells
 /// how many they are.
 fn take_fitting(
-    live: &mut Live<'_>,
+    live: &mut StreamDecoder<'_>,
     rules: &Rules,
     bytes: &[u8],
     stream: &mut RdsStream,
@@ -386,12 +386,12 @@ fn take_fitting(
     requires capacity { 16 ≤ vec_capacity some.old }
     requires fits { live.old.place + 8 * length bytes.now ≤ 2 ^ 36 }
     requires range { IsInRange live.old.terms.rules }
-    requires lawful { IsLive live.old }
+    requires lawful { IsStreamDecoder live.old }
     ensures within { IfOk result (λ fit. fit.taken ≤ length bytes.now) }
     ensures after { IfOk result
         (λ fit. the_stream_of live.old.terms stream.new ≡ live_next live.old (take fit.taken bytes.now)) }
     ensures laid { OnOk result (stream.new ≡ the_stream_in_c (the_stream_of live.old.terms stream.new)) }
-    ensures live { OnOk result (IsLive (the_stream_of live.old.terms stream.new)) }
+    ensures live { OnOk result (IsStreamDecoder (the_stream_of live.old.terms stream.new)) }
     ensures filled { IfOk result
         (λ fit. IsFilled (map item_in_c (completed live.old (take fit.taken bytes.now))) room.old room.new) }
     ensures count { IfOk result (λ fit. fit.count ≡ length (completed live.old (take fit.taken bytes.now))) }
@@ -428,7 +428,7 @@ fn take_fitting(
 /// they complete, and the stream after them. Refuses if the items of one byte do not fit, and tells how many
 /// they are.
 fn take_piece(
-    live: &mut Live<'_>,
+    live: &mut StreamDecoder<'_>,
     rules: &Rules,
     bytes: &[u8],
     stream: &mut RdsStream,
@@ -445,7 +445,7 @@ fn take_piece(
     ensures after { IfOk result (λ fit. live.new ≡ live_next live.old (take fit.taken bytes.now)) }
     ensures laid { OnOk result (stream.new ≡ the_stream_in_c live.new) }
     ensures says { OnOk result (the_stream_of live.new.terms stream.new ≡ live.new) }
-    ensures live { OnOk result (IsLive live.new) }
+    ensures live { OnOk result (IsStreamDecoder live.new) }
     ensures filled { IfOk result
         (λ fit. IsFilled (map item_in_c (completed live.old (take fit.taken bytes.now))) room.old room.new) }
     ensures count { IfOk result (λ fit. fit.count ≡ length (completed live.old (take fit.taken bytes.now))) }
@@ -640,7 +640,7 @@ fn refuse_last(place: u64, bytes: &[u8], bits: u64) -> Result<(), Refusal>
 /// the totals of the report.
 fn ended(
     alloc: Global,
-    live: Live<'_>,
+    live: StreamDecoder<'_>,
     bytes: &[u8],
     bits: u64,
 ) -> Result<(Vec<Item>, Totals), StreamError>
@@ -662,7 +662,7 @@ fn ended(
 /// The totals of the report.
 fn push_last(
     alloc: Global,
-    live: Live<'_>,
+    live: StreamDecoder<'_>,
     rest: &[u8],
     bits: u64,
     items: &mut Vec<Item>,
@@ -682,7 +682,7 @@ fn push_last(
 
 /// The same, by way of a list that has room for the last items.
 fn push_with(
-    live: Live<'_>,
+    live: StreamDecoder<'_>,
     rest: &[u8],
     bits: u64,
     last: &mut Vec<Item>,

@@ -2,7 +2,7 @@
 
 ghost use Rattle.std.specs.Prelude.{◌≡◌, ◌≢◌, ◌++◌, ◌≤◌, ◌⊎◌, ◌+◌, ◌*◌, ◌^◌, ℕ, List, length, map, take};
 ghost use Rattle.rds_sync.specs.Totals.{totals_of};
-ghost use Rattle.rds_live.specs.Live.{HasHeard, report_at, report_of};
+ghost use Rattle.rds_live.specs.StreamDecoder.{HasHeard, report_at, report_of};
 ghost use Rattle.rds_live.specs.Next.{completed, live_next};
 ghost use Rattle.rds_abi.specs.Asked.{IsFilled, IsTooMuch, RefusedBy};
 ghost use Rattle.rds_abi.specs.Stream.{AreClosed, AreCompleted, AreLast, AreLeft, AreTooMany, AreWritten, IsFollowed, IsMostTaken, RefusesEnd, RefusesFollowed, RefusesPush, place_after, stream_in_c, stream_of, terms_of};

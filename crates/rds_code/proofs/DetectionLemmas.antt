@@ -12,7 +12,7 @@ use Rattle.rds_code.specs.declared.offset.Offset.TheVariants.{A, B, C, Cx, D}
 use Rattle.rds_code.specs.declared.reading.Wanted.TheVariants.{OnlyC, OnlyCx}
 use Rattle.rds_code.specs.Remainder.{rem}
 use Rattle.rds_code.specs.Offsets.{word, number}
-use Rattle.rds_code.specs.Bursts.{span, IsBurst, bursts}
+use Rattle.rds_code.specs.Bursts.{burst_length, IsBurst, bursts}
 use Rattle.rds_code.specs.Reading.{information, IsReading, allows, wanted_offsets, corrections, by_only}
 use Rattle.rds_code.specs.Correction.{alone}
 use Rattle.rds_code.specs.Detection.{DetectsBitErrors, DetectsErrorBursts, SharesRemainders, CorrectsShares, remainders_near, burst_counts}
@@ -120,7 +120,7 @@ long_burst_shows e h none =
     let m : ℕ = part.0 in
     let t : ℕ = count_trailing_zeros 32 e in
     let small : m * 2 ^ t < 2 ^ 26 = omega (arith, part.1.whole, h.is_block) in
-    let few : m < 2 ^ 10 = omega (arith, part.1.within, pow_mono {i = span e} {j = 10} h.short) in
+    let few : m < 2 ^ 10 = omega (arith, part.1.within, pow_mono {i = burst_length e} {j = 10} h.short) in
     let half : 2 * (m / 2) + 1 ≡ m = omega (arith, part.1.odd) in
     let row = passes_below (λ n. all_below (shows 0 (2 * n + 1)) 26) 512 (m / 2) all_patterns_show (omega (arith, few)) in
     let here = subst (λ (n : ℕ). shows 0 n t ≡ true) half (passes_below (shows 0 (2 * (m / 2) + 1)) 26 t row (shift_below m t part.1.odd small)) in

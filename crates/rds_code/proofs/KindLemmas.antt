@@ -13,7 +13,7 @@ use Rattle.rds_code.specs.declared.reading.Reading.{Reading}
 use Rattle.rds_code.specs.declared.reading.Reading.TheVariants.{Corrected, Lost}
 use Rattle.rds_code.specs.Remainder.{rem}
 use Rattle.rds_code.specs.Offsets.{word, number, offset_of}
-use Rattle.rds_code.specs.Bursts.{IsBurst, span}
+use Rattle.rds_code.specs.Bursts.{IsBurst, burst_length}
 use Rattle.rds_code.specs.Kinds.{kind_of, kind_of_burst}
 use Rattle.rds_code.specs.Inside.Kinds.{HasBurst, HasNoBurst, IsKind, StandIn}
 use Rattle.rds_code.specs.Reading.{information, IsValid, wanted_offsets, corrections, by_only, reading}
@@ -52,14 +52,14 @@ at_most_13 limit d k few (inl h) = omega (arith, h.1)
 at_most_13 limit d k few (inr (inl h)) = omega (arith, h.2)
 at_most_13 limit d k few (inr (inr h)) =
     let e : ℕ = h.0 in
-    omega (arith, h.2, kind_most (span e) (ones e) (omega (arith, h.1.0.short)) (ones-le_span limit e h.1.0))
+    omega (arith, h.2, kind_most (burst_length e) (ones e) (omega (arith, h.1.0.short)) (ones-le_span limit e h.1.0))
 
 -- the facts about the kind of a window that is damaged
 abbrev pub Damage : ℕ → ℕ → ℕ → Type 0
-Damage limit d k = ((0 < d) × HasNoBurst limit d × (k ≡ 2)) ⊎ ((e : ℕ) × HasBurst limit d e × (k ≡ kind_of_burst (span e) (ones e)))
+Damage limit d k = ((0 < d) × HasNoBurst limit d × (k ≡ 2)) ⊎ ((e : ℕ) × HasBurst limit d e × (k ≡ kind_of_burst (burst_length e) (ones e)))
 
 module _ (limit d k : ℕ) (few : limit ≤ 5) where
-  at_least_three : (e : ℕ) → IsBurst limit e → 3 ≤ kind_of_burst (span e) (ones e)
+  at_least_three : (e : ℕ) → IsBurst limit e → 3 ≤ kind_of_burst (burst_length e) (ones e)
   at_least_three e burst = omega (arith, ones_pos limit e burst)
 
   -- a burst is no valid window
@@ -83,7 +83,7 @@ module _ (limit d k : ℕ) (few : limit ≤ 5) where
   damaged (inl h) not = absurd (not h.1)
   damaged (inr h) not = h
 
-  pub burst_is_not_lost : (e : ℕ) → HasBurst limit d e → k ≡ kind_of_burst (span e) (ones e) → k ≡ 2 → ⊥
+  pub burst_is_not_lost : (e : ℕ) → HasBurst limit d e → k ≡ kind_of_burst (burst_length e) (ones e) → k ≡ 2 → ⊥
   burst_is_not_lost e has is lost = omega (arith, is, lost, at_least_three e has.0)
 
 module _ (w limit : ℕ) (few : limit ≤ 5) where

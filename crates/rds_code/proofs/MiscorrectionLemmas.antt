@@ -18,7 +18,7 @@ use Rattle.rds_code.specs.declared.reading.Reading.{Reading}
 use Rattle.rds_code.specs.declared.reading.Reading.TheVariants.{Corrected}
 use Rattle.rds_code.specs.Remainder.{rem}
 use Rattle.rds_code.specs.Offsets.{word, number, offset_of}
-use Rattle.rds_code.specs.Bursts.{span, IsBurst, bursts}
+use Rattle.rds_code.specs.Bursts.{burst_length, IsBurst, bursts}
 use Rattle.rds_code.specs.Reading.{information, IsValid, wanted_offsets, corrections, by_only, reading}
 use Rattle.rds_code.specs.Encoding.{IsBlockOf}
 use Rattle.rds_code.specs.Correction.{alone, other_version}
@@ -129,12 +129,12 @@ module _ (w info e limit : ℕ) (o : Offset) (h : IsBlockOf w info o) (inside : 
   own_remainder = xor_comm (rem v) (word o) ∙ ap (bit_xor (word o)) (damaged w info e o h) ∙ twice (word o) (rem e)
 
   -- such a burst gives the information word that was sent if it is the mask
-  told : (d : ℕ) → IsBurst limit d → rem (bit_xor v d) ≡ word o → 0 < e → eqb (information (bit_xor v d)) info ≡ leb (span e) limit
+  told : (d : ℕ) → IsBurst limit d → rem (bit_xor v d) ≡ word o → 0 < e → eqb (information (bit_xor v d)) info ≡ leb (burst_length e) limit
   told d burst fits pos =
       let same_rem : rem d ≡ rem e = wanted_remainder v d o fits ∙ own_remainder in
-      elim (cases_Bool (leb (span e) limit)) [
+      elim (cases_Bool (leb (burst_length e) limit)) [
         | inl short ↦
-            let mask : IsBurst limit e = record { is_block = inside; not_zero = pos; short = leb-true (span e) limit short } in
+            let mask : IsBurst limit e = record { is_block = inside; not_zero = pos; short = leb-true (burst_length e) limit short } in
             let is : d ≡ e = burst_is_one d e (longer limit d few burst) (longer limit e few mask) same_rem in
             eq-eqb (information (bit_xor v d)) info (ap (λ (x : ℕ). information (bit_xor v x)) is ∙ ap information (undone w e) ∙ h.above) ∙ sym short
         | inr long ↦
@@ -142,21 +142,21 @@ module _ (w info e limit : ℕ) (o : Offset) (h : IsBlockOf w info o) (inside : 
             let block : IsBlockOf (bit_xor v d) info o = record { is_block = xor_lt 26 v d v-lt burst.is_block; above = above; remainder = fits } in
             let whole : bit_xor v d ≡ w = encoded_only (bit_xor v d) info o block ∙ sym (encoded_only w info o h) in
             let is : d ≡ e = sym (twice v d) ∙ ap (bit_xor v) whole ∙ xor_comm v w ∙ twice w e in
-            let no : false ≡ true = sym long ∙ ap (λ (x : ℕ). leb (span x) limit) (sym is) ∙ le-leb (span d) limit burst.short in
+            let no : false ≡ true = sym long ∙ ap (λ (x : ℕ). leb (burst_length x) limit) (sym is) ∙ le-leb (burst_length d) limit burst.short in
             cc no)
             ∙ sym long
       ]
 
   -- one offset is wanted
   by_own : (x : ℕ) (wanted : Wanted) → wanted_offsets x wanted ≡ o ∷ [] → ((p : Offset) → IsValid v x p → ⊥) → 0 < e
-      → is_miscorrection o info (reading v x wanted limit) ≡ cond (is_near limit (rem e)) (not (leb (span e) limit)) false
+      → is_miscorrection o info (reading v x wanted limit) ≡ cond (is_near limit (rem e)) (not (leb (burst_length e) limit)) false
   by_own x wanted list not_valid pos =
       let small : bit_xor (rem v) (word o) < 1024 = wanted_remainder-lt v o v-lt in
       let read : reading v x wanted limit ≡ by_only v (corrections (o ∷ []) limit v) = reads_corrected v x wanted limit not_valid ∙ ap (λ (os : List Offset). by_only v (corrections os limit v)) list in
       elim (fits_or_not limit v o few) [
         | inl none ↦
             let far : is_near limit (rem e) ≡ false = ap (is_near limit) (sym own_remainder) ∙ near_none limit v o few small none in
-            ap (is_miscorrection o info) (read ∙ ap (by_only v) (corrections_none limit v o none)) ∙ sym (ap (λ (b : Bool). cond b (not (leb (span e) limit)) false) far)
+            ap (is_miscorrection o info) (read ∙ ap (by_only v) (corrections_none limit v o none)) ∙ sym (ap (λ (b : Bool). cond b (not (leb (burst_length e) limit)) false) far)
         | inr some ↦
             let d : ℕ = some.0 in
             let one = some.1 in
@@ -164,29 +164,29 @@ module _ (w info e limit : ℕ) (o : Offset) (h : IsBlockOf w info o) (inside : 
             ap (is_miscorrection o info) (read ∙ ap (by_only v) (corrections_one limit v o d one))
             ∙ mis_own o info (information (bit_xor v d)) d
             ∙ ap not (told d one.burst one.fits pos)
-            ∙ sym (ap (λ (b : Bool). cond b (not (leb (span e) limit)) false) close)
+            ∙ sym (ap (λ (b : Bool). cond b (not (leb (burst_length e) limit)) false) close)
       ]
 
   own_is : (x : ℕ) (wanted : Wanted) (s : ℕ) → wanted_offsets x wanted ≡ o ∷ [] → ((p : Offset) → IsValid v x p → (rem e ≡ 0) ⊎ (rem e ≡ s))
-      → (rem e ≡ s → (p : Offset) × IsValid v x p) → 0 < e → is_miscorrection o info (reading v x wanted limit) ≡ own_test s limit (rem e) (span e)
+      → (rem e ≡ s → (p : Offset) × IsValid v x p) → 0 < e → is_miscorrection o info (reading v x wanted limit) ≡ own_test s limit (rem e) (burst_length e)
   unfolding own_test
   own_is x wanted s list leaves makes pos = elim (valid_or_not v x) [
     | inl some ↦
         let read = ap (is_miscorrection o info) (reads_valid v x wanted limit some.0 some.1) in
         elim (cases_eq (rem e) s) [
-          | inl here ↦ read ∙ sym (ap (λ (b : Bool). cond b false (cond (is_near limit (rem e)) (not (leb (span e) limit)) false)) (eq-eqb (rem e) s here))
+          | inl here ↦ read ∙ sym (ap (λ (b : Bool). cond b false (cond (is_near limit (rem e)) (not (leb (burst_length e) limit)) false)) (eq-eqb (rem e) s here))
           | inr other ↦ elim (leaves some.0 some.1) [
             | inl zero_left ↦
                 let far : is_near limit (rem e) ≡ false = ap (is_near limit) zero_left ∙ near_zero limit in
                 read
-                ∙ sym (ap (λ (b : Bool). cond b false (cond (is_near limit (rem e)) (not (leb (span e) limit)) false)) (ne_eqb (rem e) s other)
-                ∙ ap (λ (b : Bool). cond b (not (leb (span e) limit)) false) far)
+                ∙ sym (ap (λ (b : Bool). cond b false (cond (is_near limit (rem e)) (not (leb (burst_length e) limit)) false)) (ne_eqb (rem e) s other)
+                ∙ ap (λ (b : Bool). cond b (not (leb (burst_length e) limit)) false) far)
             | inr here ↦ absurd (other here)
           ]
         ]
     | inr none ↦
         by_own x wanted list none pos
-        ∙ sym (ap (λ (b : Bool). cond b false (cond (is_near limit (rem e)) (not (leb (span e) limit)) false)) (ne_eqb (rem e) s (λ here. let made = makes here in none made.0 made.1)))
+        ∙ sym (ap (λ (b : Bool). cond b false (cond (is_near limit (rem e)) (not (leb (burst_length e) limit)) false)) (ne_eqb (rem e) s (λ here. let made = makes here in none made.0 made.1)))
   ]
 
 -- ---- block 3, if C and C' are wanted
@@ -215,7 +215,7 @@ module _ (w info e limit : ℕ) (o p : Offset) (h : IsBlockOf w info o) (inside 
       ap (λ (n : ℕ). bit_xor n (word p)) (damaged w info e o h ∙ xor_comm (word o) (rem e)) ∙ xor_assoc (rem e) (word o) (word p) ∙ ap (bit_xor (rem e)) sum
 
   abbrev is_e : Bool
-  is_e = not (leb (span e) limit)
+  is_e = not (leb (burst_length e) limit)
 
   abbrev near_both : Bool
   near_both = one_of (is_near limit (rem e)) (is_near limit (bit_xor (rem e) 0x238)) is_e
@@ -259,7 +259,7 @@ module _ (w info e limit : ℕ) (o p : Offset) (h : IsBlockOf w info o) (inside 
 
   both_is : ((q : Offset) → IsValid (bit_xor w e) 3 q → (rem e ≡ 0) ⊎ (rem e ≡ 0x238)) → (rem e ≡ 0 → (q : Offset) × IsValid (bit_xor w e) 3 q) → (rem e ≡ 0x238 → (q : Offset) × IsValid (bit_xor w e) 3 q)
       → (((q : Offset) → IsValid (bit_xor w e) 3 q → ⊥) → is_miscorrection o info (reading (bit_xor w e) 3 Either limit) ≡ near_both)
-      → is_miscorrection o info (reading (bit_xor w e) 3 Either limit) ≡ either_test limit (rem e) (span e)
+      → is_miscorrection o info (reading (bit_xor w e) 3 Either limit) ≡ either_test limit (rem e) (burst_length e)
   unfolding either_test
   both_is leaves makes takes damaged_is =
       let second : Bool = cond (eqb (rem e) 0x238) false near_both in
@@ -288,7 +288,7 @@ own_only : (w info e : ℕ) (o : Offset) → IsBlockOf w info o → ((p : Offset
 own_only w info e o h only p valid = inl (became w info e (number o) o p h valid ∙ ap (λ (q : Offset). bit_xor (word o) (word q)) (only p valid.own) ∙ xor_self (word o))
 
 others_are : (w info e limit : ℕ) (o : Offset) (wanted : Wanted) → IsBlockOf w info o → e < 2 ^ 26 → limit ≤ 5 → 0 < e → number o ≢ 3
-    → is_miscorrection o info (reading (bit_xor w e) (number o) wanted limit) ≡ own_test 0 limit (rem e) (span e)
+    → is_miscorrection o info (reading (bit_xor w e) (number o) wanted limit) ≡ own_test 0 limit (rem e) (burst_length e)
 others_are w info e limit A wanted h inside few pos apart = own_is w info e limit A h inside few 1 wanted 0 (wanted_1 wanted).0 (own_only w info e A h only_A) (λ none. (A, own_again w info e A h none)) pos
 others_are w info e limit B wanted h inside few pos apart = own_is w info e limit B h inside few 2 wanted 0 (wanted_2 wanted).0 (own_only w info e B h only_B) (λ none. (B, own_again w info e B h none)) pos
 others_are w info e limit D wanted h inside few pos apart = own_is w info e limit D h inside few 4 wanted 0 (wanted_4 wanted).0 (own_only w info e D h only_D) (λ none. (D, own_again w info e D h none)) pos
@@ -321,13 +321,13 @@ third_takes w info e o h own here =
     (other_version o, record { offset = ap offset_of left ∙ word_offset (other_version o); own = other_number o })
 
 third_is : (w info e limit : ℕ) (o : Offset) → IsBlockOf w info o → e < 2 ^ 26 → limit ≤ 5 → 0 < e → number o ≡ 3
-    → is_miscorrection o info (reading (bit_xor w e) (number o) (alone o) limit) ≡ own_test 0x238 limit (rem e) (span e)
+    → is_miscorrection o info (reading (bit_xor w e) (number o) (alone o) limit) ≡ own_test 0x238 limit (rem e) (burst_length e)
 third_is w info e limit o h inside few pos own =
     ap (λ (x : ℕ). is_miscorrection o info (reading (bit_xor w e) x (alone o) limit)) own
     ∙ own_is w info e limit o h inside few 3 (alone o) 0x238 (alone_wanted o own) (third_leaves w info e o h own) (third_takes w info e o h own) pos
 
 either_is : (w info e limit : ℕ) (o : Offset) → IsBlockOf w info o → e < 2 ^ 26 → limit ≤ 5 → 0 < e → number o ≡ 3
-    → is_miscorrection o info (reading (bit_xor w e) (number o) Either limit) ≡ either_test limit (rem e) (span e)
+    → is_miscorrection o info (reading (bit_xor w e) (number o) Either limit) ≡ either_test limit (rem e) (burst_length e)
 unfolding by_pairs
 either_is w info e limit C h inside few pos own =
     let v : ℕ = bit_xor w e in
@@ -377,7 +377,7 @@ one_more p e es = elim (cases_Bool (p e)) [
 
 -- how many of the masks a test passes
 passed : List ℕ → Test → ℕ
-passed es t = length (filter (λ e. t (rem e) (span e)) es)
+passed es t = length (filter (λ e. t (rem e) (burst_length e)) es)
 
 -- The masks are not listed but walked, bit by bit from the highest on, with the sum of the remainders of their bits: no mask is divided.
 
@@ -388,7 +388,7 @@ bits_below (suc k) = (2 ^ k, rem (2 ^ k)) ∷ bits_below k
 
 -- how many masks each test passes that have the bits of e, whose remainder is r, and n of these bits
 walked : List Test → ℕ → List (ℕ × ℕ) → ℕ → ℕ → List ℕ
-walked ts zero bits e r = map (λ (t : Test). cond (t r (span e)) 1 0) ts
+walked ts zero bits e r = map (λ (t : Test). cond (t r (burst_length e)) 1 0) ts
 walked ts (suc n) [] e r = map (λ (t : Test). 0) ts
 walked ts (suc n) (bit ∷ bits) e r = add (walked ts (suc n) bits e r) (walked ts n bits (bit.0 + e) (bit_xor bit.1 r))
 
@@ -441,13 +441,13 @@ walked_are : (ts : List Test) (n k e r : ℕ) → NoCarry k e → r ≡ rem e
     → walked ts n (bits_below k) e r ≡ map (passed (map (λ d. e + d) (error_masks n k))) ts
 unfolding walked passed bits_below
 walked_are ts zero k e r above is =
-    same_maps (λ t. cond (t r (span e)) 1 0) (passed ((e + 0) ∷ [])) ts (λ t.
+    same_maps (λ t. cond (t r (burst_length e)) 1 0) (passed ((e + 0) ∷ [])) ts (λ t.
     let none : e ≡ e + 0 = omega arith in
-    let nothing : cond (t r (span e)) 1 0 ≡ cond (t r (span e)) 1 0 + 0 = omega arith in
+    let nothing : cond (t r (burst_length e)) 1 0 ≡ cond (t r (burst_length e)) 1 0 + 0 = omega arith in
     nothing
-    ∙ ap (λ (m : ℕ). cond (t m (span e)) 1 0 + 0) is
-    ∙ ap (λ (m : ℕ). cond (t (rem m) (span m)) 1 0 + 0) none
-    ∙ one_more (λ d. t (rem d) (span d)) (e + 0) [])
+    ∙ ap (λ (m : ℕ). cond (t m (burst_length e)) 1 0 + 0) is
+    ∙ ap (λ (m : ℕ). cond (t (rem m) (burst_length m)) 1 0 + 0) none
+    ∙ one_more (λ d. t (rem d) (burst_length d)) (e + 0) [])
 walked_are ts (suc n) zero e r above is = refl
 walked_are ts (suc n) (suc k) e r above is =
     let with_bit : bit_xor (rem (2 ^ k)) r ≡ rem (2 ^ k + e) = ap (bit_xor (rem (2 ^ k))) is ∙ sym (no_carry_at k e above) in
@@ -455,7 +455,7 @@ walked_are ts (suc n) (suc k) e r above is =
     (walked_are ts n k (2 ^ k + e) (bit_xor (rem (2 ^ k)) r) (no_carry_with k e above) with_bit)
     ∙ add-maps (passed (map (λ d. e + d) (error_masks (suc n) k))) (passed (map (λ d. 2 ^ k + e + d) (error_masks n k)))
     (passed (map (λ d. e + d) (error_masks (suc n) (suc k)))) ts (λ t.
-    split (λ d. t (rem d) (span d)) (λ d. e + d) (λ d. 2 ^ k + d) (λ d. 2 ^ k + e + d) (λ d. omega arith) (error_masks (suc n) k) (error_masks n k))
+    split (λ d. t (rem d) (burst_length d)) (λ d. e + d) (λ d. 2 ^ k + d) (λ d. 2 ^ k + e + d) (λ d. omega arith) (error_masks (suc n) k) (error_masks n k))
 
 -- block 3 differs from the others only at limit 5
 all_limits : List ℕ
@@ -637,11 +637,11 @@ mask_pos n e least listed = elim (cases_eq e 0) [
 
 -- the masks that miscorrect a block are those that pass the test of its kind
 by_test : (w info limit n : ℕ) (o : Offset) (wanted : Wanted) (t : Test) → IsBlockOf w info o → limit ≤ 5 → 2 ≤ n
-    → ((e : ℕ) → e < 2 ^ 26 → 0 < e → is_miscorrection o info (reading (bit_xor w e) (number o) wanted limit) ≡ t (rem e) (span e))
+    → ((e : ℕ) → e < 2 ^ 26 → 0 < e → is_miscorrection o info (reading (bit_xor w e) (number o) wanted limit) ≡ t (rem e) (burst_length e))
     → miscorrections w info o wanted limit n ≡ passed (error_masks n 26) t
 unfolding passed
 by_test w info limit n o wanted t h few least is =
-    filter_agree (λ e. is_miscorrection o info (reading (bit_xor w e) (number o) wanted limit)) (λ e. t (rem e) (span e)) (error_masks n 26)
+    filter_agree (λ e. is_miscorrection o info (reading (bit_xor w e) (number o) wanted limit)) (λ e. t (rem e) (burst_length e)) (error_masks n 26)
     (λ e listed. is e (masks_are n 26 e listed).0 (mask_pos n e least listed))
 
 pub counts_all_miscorrections : CountsAllMiscorrections
@@ -650,7 +650,7 @@ counts_all_miscorrections w info o limit n h few least most = record {
       by_test w info limit n o wanted (own_test 0 limit) h few least (λ e inside pos. others_are w info e limit o wanted h inside few pos apart) ∙ own_at limit few;
   third = λ own. elim (cases_lt limit 5) [
     | inl less ↦
-        by_test w info limit n o (alone o) (own_test 0 limit) h few least (λ e inside pos. third_is w info e limit o h inside few pos own ∙ third_alike limit (rem e) (span e) (omega (arith, less)))
+        by_test w info limit n o (alone o) (own_test 0 limit) h few least (λ e inside pos. third_is w info e limit o h inside few pos own ∙ third_alike limit (rem e) (burst_length e) (omega (arith, less)))
         ∙ own_at limit few
         ∙ rows_agree (n - 2) limit (omega (arith, most)) (omega (arith, less))
     | inr more ↦

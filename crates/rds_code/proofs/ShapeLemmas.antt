@@ -4,7 +4,7 @@ use Rattle.std.proofs.Math.Nat.{mul-div_cancel}
 use Rattle.std.specs.Int.Count.{count_leading_zeros, count_trailing_zeros}
 use Rattle.std.proofs.lemmas.Bool.{eqb-true}
 use Rattle.std.proofs.lemmas.Nat.{pow_pos}
-use Rattle.rds_code.specs.Bursts.{IsBurst, span}
+use Rattle.rds_code.specs.Bursts.{IsBurst, burst_length}
 use Rattle.rds_code.specs.Inside.BurstShape.{shape_of, shift_of, IsShape}
 use Rattle.rds_code.proofs.Membership.{all_below, passes_below}
 use Rattle.rds_code.proofs.BurstLemmas.{IsSmallPattern, small_pattern}
@@ -35,17 +35,17 @@ kept_pattern m t h =
 
 -- whether the shape m, shifted up by t, spans the length of m
 spans : ℕ → ℕ → Bool
-spans m t = eqb (span (m * 2 ^ t)) (8 - count_leading_zeros 8 m)
+spans m t = eqb (burst_length (m * 2 ^ t)) (8 - count_leading_zeros 8 m)
 
 all_span : all_below (λ half. all_below (spans (2 * half + 1)) 26) 16 ≡ true
 unfolding spans count_leading_zeros count_trailing_zeros
 all_span = refl
 
-pub span_of_shape : (m t : ℕ) → IsShape m t → span (m * 2 ^ t) ≡ 8 - count_leading_zeros 8 m
+pub span_of_shape : (m t : ℕ) → IsShape m t → burst_length (m * 2 ^ t) ≡ 8 - count_leading_zeros 8 m
 unfolding spans
 span_of_shape m t h =
     let small = kept_pattern m t h in
     let half : 2 * (m / 2) + 1 ≡ m = omega (arith, small.odd) in
     let row = passes_below (λ n. all_below (spans (2 * n + 1)) 26) 16 (m / 2) all_span (omega (arith, small.few)) in
     let here = subst (λ (n : ℕ). spans n t ≡ true) half (passes_below (spans (2 * (m / 2) + 1)) 26 t row small.shift) in
-    eqb-true (span (m * 2 ^ t)) (8 - count_leading_zeros 8 m) here
+    eqb-true (burst_length (m * 2 ^ t)) (8 - count_leading_zeros 8 m) here

@@ -4,7 +4,7 @@ use Rattle.std.proofs.Math.Nat.{pow-suc, suc-mul, mul_assoc, mul-le-mul_right}
 use Rattle.std.specs.Int.Count.{count_trailing_zeros, under, leading_top, ones, ones_step, ones_cat, ones-le}
 use Rattle.std.proofs.lemmas.Nat.{pow_pos}
 use Rattle.std.proofs.lemmas.Bool.{cases_eq, cases_lt}
-use Rattle.rds_code.specs.Bursts.{span, IsBurst}
+use Rattle.rds_code.specs.Bursts.{burst_length, IsBurst}
 
 -- n is an odd number, shifted up by t
 pub record IsShifted (n m t : ℕ) : Type 0 where
@@ -42,7 +42,7 @@ shifted_by_trailing (suc k) n pos small = elim (cases_eq (n % 2) 0) [
 pub record HasPattern (e m t : ℕ) : Type 0 where
   pub whole : e ≡ m * 2 ^ t
   pub odd : m % 2 ≡ 1
-  pub within : m < 2 ^ span e
+  pub within : m < 2 ^ burst_length e
 
 pub pattern_of : (e : ℕ) → 0 < e → e < 2 ^ 32 → (m : ℕ) × HasPattern e m (count_trailing_zeros 32 e)
 pattern_of e pos small =
@@ -53,13 +53,13 @@ pattern_of e pos small =
     let j : ℕ = top.0 in
     let least : 2 ^ t ≤ e = omega (arith, low.1.whole, at_least m (2 ^ t) low.1.odd) in
     let order : t < suc j = elim (cases_lt t (suc j)) [ inl h ↦ h | inr h ↦ absurd (omega (arith, least, top.3, pow_mono {i = suc j} {j = t} h)) ] in
-    let long : span e + t ≡ suc j = omega (arith, top.1) in
-    let grown : 2 ^ suc j ≡ 2 ^ span e * 2 ^ t = ap (λ (x : ℕ). 2 ^ x) (sym long) ∙ pow-add 2 (span e) t in (
+    let long : burst_length e + t ≡ suc j = omega (arith, top.1) in
+    let grown : 2 ^ suc j ≡ 2 ^ burst_length e * 2 ^ t = ap (λ (x : ℕ). 2 ^ x) (sym long) ∙ pow-add 2 (burst_length e) t in (
       m,
       record {
         whole = low.1.whole;
         odd = low.1.odd;
-        within = below m (2 ^ span e) (2 ^ t) (omega (arith, low.1.whole, top.3, grown));
+        within = below m (2 ^ burst_length e) (2 ^ t) (omega (arith, low.1.whole, top.3, grown));
       },
     )
 
@@ -78,7 +78,7 @@ ones_pos limit e h =
     let part = burst_pattern limit e h in
     omega (arith, ap ones part.1.whole, ones-pattern part.0 (count_trailing_zeros 32 e), ones_step part.0, part.1.odd)
 
-pub ones-le_span : (limit e : ℕ) → IsBurst limit e → ones e ≤ span e
+pub ones-le_span : (limit e : ℕ) → IsBurst limit e → ones e ≤ burst_length e
 ones-le_span limit e h =
     let part = burst_pattern limit e h in
-    omega (arith, ap ones part.1.whole, ones-pattern part.0 (count_trailing_zeros 32 e), ones-le (span e) part.0 part.1.within)
+    omega (arith, ap ones part.1.whole, ones-pattern part.0 (count_trailing_zeros 32 e), ones-le (burst_length e) part.0 part.1.within)

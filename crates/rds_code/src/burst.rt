@@ -34,7 +34,7 @@ impl Model for Burst {
 
 impl Burst {
     ghost use Rattle.std.specs.Prelude.{◌≤◌};
-    ghost use Rattle.rds_code.specs.Bursts.{span, IsBurst};
+    ghost use Rattle.rds_code.specs.Bursts.{burst_length, IsBurst};
     ghost use Rattle.rds_code.specs.Kinds.{kind_of_burst};
     ghost use Rattle.std.specs.Int.Count.{ones};
 
@@ -60,7 +60,7 @@ impl Burst {
 
     /// How many places it spans, from its highest one to its lowest: 1 to 5.
     pub fn span(self) -> u8
-        ensures value { result ≡ span self }
+        ensures value { result ≡ burst_length self }
         ensures least { 1 ≤ result }
         ensures most { result ≤ 5 }
     {
@@ -79,7 +79,7 @@ impl Burst {
     /// Which of the eleven pairs of a span and a number of ones it has: 3 to 13, by the span and then by the ones. This
     /// project's rule.
     pub fn kind(self) -> u8
-        ensures value { result ≡ kind_of_burst (span self) (ones self) }
+        ensures value { result ≡ kind_of_burst (burst_length self) (ones self) }
         ensures least { 3 ≤ result }
         ensures most { result ≤ 13 }
     {

@@ -16,7 +16,7 @@ use Rattle.rds_sync.specs.Totals.{totals_of}
 use Rattle.rds_sync.specs.Step.{run, items_of_end}
 use Rattle.rds_live.specs.Moving.{RunsMove, EndsMove, IsPartHeard, moved_state, moved_items, most_behind}
 use Rattle.rds_live.specs.Gaps.{gaps_within}
-use Rattle.rds_live.specs.Live.{Terms, report_at, signal_at, run_of, complete, last_bytes, most_kept}
+use Rattle.rds_live.specs.StreamDecoder.{Terms, report_at, signal_at, run_of, complete, last_bytes, most_kept}
 use Rattle.rds_live.proofs.GapParts.{part-touched, start-touched}
 use Rattle.rds_live.proofs.Parts.{length-at, bits-begin, bits-heard, first-part, last-part}
 use Rattle.rds_live.proofs.Following.{still-state, still-items, totals-moved}

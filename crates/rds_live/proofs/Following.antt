@@ -17,7 +17,7 @@ use Rattle.rds_sync.specs.Totals.{totals_of}
 use Rattle.rds_sync.specs.Step.{run}
 use Rattle.rds_live.specs.Moving.{RunsMove, IsPartHeard, moved_state, moved_item, moved_items, most_behind}
 use Rattle.rds_live.specs.Gaps.{gaps_within}
-use Rattle.rds_live.specs.Live.{LiveOf, Terms, signal_of, run_of, complete, last_bytes, live_of, most_kept}
+use Rattle.rds_live.specs.StreamDecoder.{LiveOf, Terms, signal_of, run_of, complete, last_bytes, live_of, most_kept}
 use Rattle.rds_live.proofs.GapParts.{part-touched, start-touched}
 use Rattle.rds_live.proofs.Parts.{length-signal, bits-heard, first-part, last-part}
 

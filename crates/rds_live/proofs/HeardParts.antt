@@ -10,7 +10,7 @@ use Rattle.rds_code.specs.declared.offset.Offset.{Offset}
 use Rattle.rds_code.specs.declared.reading.Wanted.{Wanted}
 use Rattle.rds_code.specs.declared.reading.Wanted.TheVariants.{Either}
 use Rattle.rds_code.specs.Offsets.{number}
-use Rattle.rds_stream.specs.Recording.{Signal, heard, offset_heard, off, length_of}
+use Rattle.rds_stream.specs.Recording.{Signal, heard, offset_heard, offset_at, length_of}
 use Rattle.rds_sync.specs.declared.state.State.{State}
 use Rattle.rds_sync.specs.declared.state.State.TheVariants.{Searching, Locked}
 use Rattle.rds_sync.specs.declared.item.Item.{Item}
@@ -36,17 +36,17 @@ any-alike p q k (suc n) same =
     rw (here, later) refl
 
 -- from place 25 on the offset is that of the window heard, and before there is none
-off-heard : (b : Signal) (i : ℕ) → 25 ≤ i → off b i ≡ offset_heard (heard b i)
-unfolding off
-off-heard b i late = rw (le-ltb i 25 late, off) refl
+off-heard : (b : Signal) (i : ℕ) → 25 ≤ i → offset_at b i ≡ offset_heard (heard b i)
+unfolding offset_at
+off-heard b i late = rw (le-ltb i 25 late, offset_at) refl
 
-pub off-early : (b : Signal) (i : ℕ) → i < 25 → off b i ≡ None
-unfolding off
-off-early b i early = rw (lt-ltb i 25 early, off) refl
+pub off-early : (b : Signal) (i : ℕ) → i < 25 → offset_at b i ≡ None
+unfolding offset_at
+off-early b i early = rw (lt-ltb i 25 early, offset_at) refl
 
 -- acquiring, by the offsets of a place and of those before it
-acquired-alike : (b c : Signal) (rules : RuleNumbers) (i j : ℕ) → off b i ≡ off c j
-    → ((k : ℕ) → 1 ≤ k → k < 1 + rules.reach → off b (i - 26 * k) ≡ off c (j - 26 * k)) → acquired b rules i ≡ acquired c rules j
+acquired-alike : (b c : Signal) (rules : RuleNumbers) (i j : ℕ) → offset_at b i ≡ offset_at c j
+    → ((k : ℕ) → 1 ≤ k → k < 1 + rules.reach → offset_at b (i - 26 * k) ≡ offset_at c (j - 26 * k)) → acquired b rules i ≡ acquired c rules j
 unfolding acquired
 acquired-alike b c rules i j here behind =
     let partners : (x : ℕ) → list_any (has_partner b i x) (range_with_len 1 rules.reach) ≡ list_any (has_partner c j x) (range_with_len 1 rules.reach) =
@@ -58,16 +58,16 @@ acquired-alike b c rules i j here behind =
       | None ↦ refl
       | Some p ↦ ap (λ (t : Bool). elim t as (λ _. Option ℕ) [ true ↦ Some (number p) | false ↦ None ]) (partners (number p))
     ] in
-    by_number (off b i) ∙ ap (λ (o : Option Offset). elim o as (λ _. Option ℕ) [ None ↦ None | Some p ↦ with_partner c rules j (number p) ]) here
+    by_number (offset_at b i) ∙ ap (λ (o : Option Offset). elim o as (λ _. Option ℕ) [ None ↦ None | Some p ↦ with_partner c rules j (number p) ]) here
 
 module _ (whole part : Signal) (d from : ℕ) (h : IsPartHeard whole part d from) where
   -- the offset of a place
-  off-late : (i : ℕ) → 25 ≤ i → i < length_of part → off part i ≡ off whole (i + d)
+  off-late : (i : ℕ) → 25 ≤ i → i < length_of part → offset_at part i ≡ offset_at whole (i + d)
   off-late i late within =
       off-heard part i late ∙ ap offset_heard (h.heard_same i late within) ∙ sym (off-heard whole (i + d) (omega arith))
 
   -- the offset of a place k blocks before one that a run reads
-  off-behind : (i k : ℕ) → from ≤ i → i < length_of part → k ≤ 8 → off part (i - 26 * k) ≡ off whole (i + d - 26 * k)
+  off-behind : (i k : ℕ) → from ≤ i → i < length_of part → k ≤ 8 → offset_at part (i - 26 * k) ≡ offset_at whole (i + d - 26 * k)
   off-behind i k order within few = elim h.early [
     | inl first ↦ elim (cases_lt (i - 26 * k) 25) [
       | inl early ↦
@@ -75,18 +75,18 @@ module _ (whole part : Signal) (d from : ℕ) (h : IsPartHeard whole part d from
           off-early part (i - 26 * k) early ∙ sym (off-early whole (i + d - 26 * k) at_start)
       | inr late ↦
           let place : i - 26 * k + d ≡ i + d - 26 * k = omega arith in
-          off-late (i - 26 * k) late (omega arith) ∙ ap (λ (p : ℕ). off whole p) place
+          off-late (i - 26 * k) late (omega arith) ∙ ap (λ (p : ℕ). offset_at whole p) place
     ]
     | inr long ↦
         let place : i - 26 * k + d ≡ i + d - 26 * k = omega arith in
-        off-late (i - 26 * k) (omega arith) (omega arith) ∙ ap (λ (p : ℕ). off whole p) place
+        off-late (i - 26 * k) (omega arith) (omega arith) ∙ ap (λ (p : ℕ). offset_at whole p) place
   ]
 
-  off-here : (i : ℕ) → from ≤ i → i < length_of part → off part i ≡ off whole (i + d)
+  off-here : (i : ℕ) → from ≤ i → i < length_of part → offset_at part i ≡ offset_at whole (i + d)
   off-here i order within =
       let here : i - 26 * 0 ≡ i = omega arith in
       let there : i + d - 26 * 0 ≡ i + d = omega arith in
-      ap (λ (p : ℕ). off part p) (sym here) ∙ off-behind i 0 order within (omega arith) ∙ ap (λ (p : ℕ). off whole p) there
+      ap (λ (p : ℕ). offset_at part p) (sym here) ∙ off-behind i 0 order within (omega arith) ∙ ap (λ (p : ℕ). offset_at whole p) there
 
   module _ (rules : RuleNumbers) where
     acquired-moved : rules.reach ≤ farthest_reach → (i : ℕ) → from ≤ i → i < length_of part → acquired whole rules (i + d) ≡ acquired part rules i

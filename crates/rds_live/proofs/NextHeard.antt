@@ -10,7 +10,7 @@ use Rattle.rds_sync.specs.Counting.{TotalsJoin, plus}
 use Rattle.rds_sync.specs.Totals.{totals_of}
 use Rattle.rds_sync.specs.Step.{run}
 use Rattle.rds_live.specs.Gaps.{gaps_within}
-use Rattle.rds_live.specs.Live.{HasHeard, IsLive, LiveOf, complete, last_bytes, signal_of}
+use Rattle.rds_live.specs.StreamDecoder.{HasHeard, IsStreamDecoder, LiveOf, complete, last_bytes, signal_of}
 use Rattle.rds_live.specs.Moving.{RunsMove, moved_items, moved_state}
 use Rattle.rds_live.specs.Next.{before_tail, completed, live_next, moved_back, run_next}
 use Rattle.rds_live.proofs.Following.{IsPrepared, complete-after, heard-after, prepared, state-in-part}
@@ -18,7 +18,7 @@ use Rattle.rds_live.proofs.Nexts.{count-next, part-next, run-next}
 use Rattle.rds_live.proofs.Parts.{length-signal}
 use Rattle.rds_live.proofs.Pieces.{back-on}
 
-module _ (joins : RunsJoin) (moves : RunsMove) (live : LiveOf) (before bytes : List ℕ) (range : IsInRange live.terms.rules) (known : IsLive live) (heard : HasHeard live before) where
+module _ (joins : RunsJoin) (moves : RunsMove) (live : LiveOf) (before bytes : List ℕ) (range : IsInRange live.terms.rules) (known : IsStreamDecoder live) (heard : HasHeard live before) where
   abbrev bits : ℕ
   bits = 8 * length bytes
 

@@ -8,7 +8,7 @@ use Rattle.std.specs.Int.{bit_at}
 use Rattle.std.specs.Int.Digits.{number_from_digits}
 use Rattle.rds_stream.specs.Recording.{bits_of, packed_bit, window, touched, heard, length_of}
 use Rattle.rds_live.specs.Moving.{IsPartHeard, most_behind}
-use Rattle.rds_live.specs.Live.{signal_at, signal_of, last_bytes, most_kept}
+use Rattle.rds_live.specs.StreamDecoder.{signal_at, signal_of, last_bytes, most_kept}
 use Rattle.rds_live.proofs.GapParts.{TouchAlike}
 
 pub length-signal : (gaps : List (ℕ × ℕ)) (bytes : List ℕ) → length_of (signal_of gaps bytes) ≡ 8 * length bytes

@@ -18,7 +18,7 @@ use Rattle.rds_sync.specs.Counting.{TotalsJoin, plus}
 use Rattle.rds_sync.specs.Totals.{totals_of}
 use Rattle.rds_sync.specs.Step.{run}
 use Rattle.rds_live.specs.Gaps.{gaps_within}
-use Rattle.rds_live.specs.Live.{IsLive, LiveOf, last_bytes, most_kept, signal_at}
+use Rattle.rds_live.specs.StreamDecoder.{IsStreamDecoder, LiveOf, last_bytes, most_kept, signal_at}
 use Rattle.rds_live.specs.Moving.{IsPartHeard, RunsMove, moved_item, moved_items, moved_state, most_behind}
 use Rattle.rds_live.specs.Next.{before_tail, completed, live_next, moved_back, part_with, run_next}
 use Rattle.rds_live.proofs.Following.{last-bytes, lawful-back, state-in-part}
@@ -74,7 +74,7 @@ plus-assoc t a b =
     let losses : t.losses + a.losses + b.losses ≡ t.losses + (a.losses + b.losses) = omega arith in
     rw (valid, at 0, at 1, at 2, at 3, at 4, lost, bits, groups, complete, acquired, losses) refl
 
-module _ (joins : RunsJoin) (lawfuls : RunsAreLawful) (moves : RunsMove) (live : LiveOf) (first second : List ℕ) (range : IsInRange live.terms.rules) (known : IsLive live) where
+module _ (joins : RunsJoin) (lawfuls : RunsAreLawful) (moves : RunsMove) (live : LiveOf) (first second : List ℕ) (range : IsInRange live.terms.rules) (known : IsStreamDecoder live) where
   abbrev rules : RuleNumbers
   rules = live.terms.rules
 
@@ -217,7 +217,7 @@ module _ (joins : RunsJoin) (lawfuls : RunsAreLawful) (moves : RunsMove) (live :
 
 -- ---- no bytes
 
-pub none-next : (live : LiveOf) → IsLive live → plus live.totals (totals_of []) ≡ live.totals → live_next live [] ≡ live
+pub none-next : (live : LiveOf) → IsStreamDecoder live → plus live.totals (totals_of []) ≡ live.totals → live_next live [] ≡ live
 none-next live known still =
     let few : length live.tail - most_kept ≡ 0 = omega (arith, known.kept) in
     let place : live.place ≡ live.place + 0 = omega arith in

@@ -12,7 +12,7 @@ use Rattle.rds_sync.specs.Lawful.{IsLawful}
 use Rattle.rds_sync.specs.Step.{run}
 use Rattle.rds_live.specs.Moving.{RunsMove, IsPartHeard}
 use Rattle.rds_live.specs.Gaps.{gaps_within}
-use Rattle.rds_live.specs.Live.{signal_of}
+use Rattle.rds_live.specs.StreamDecoder.{signal_of}
 use Rattle.rds_live.specs.Room.{filled_up}
 use Rattle.rds_live.proofs.GapParts.{filled-up-touched}
 use Rattle.rds_live.proofs.Parts.{length-signal}

@@ -1,5 +1,5 @@
 pub mod Moving
-pub mod Live
+pub mod StreamDecoder
 pub mod Gaps
 pub mod Places
 pub mod Room

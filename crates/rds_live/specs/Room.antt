@@ -1,10 +1,10 @@
--- The recording in which the last bytes of a stream are decoded, whose length never changes. `Live` keeps it
+-- The recording in which the last bytes of a stream are decoded, whose length never changes. `StreamDecoder` keeps it
 -- so, and no caller sees it. This project's rule.
 use Rattle.std.specs.Prelude.{◌≡◌, ℕ, ◌+◌, ◌-◌, ◌*◌, List, ◌++◌, drop, length, map}
 use Rattle.std.specs.List.{range_with_len}
 use Rattle.rds_stream.specs.Recording.{Signal}
 use Rattle.rds_live.specs.Gaps.{gaps_within}
-use Rattle.rds_live.specs.Live.{signal_of}
+use Rattle.rds_live.specs.StreamDecoder.{signal_of}
 use Rattle.rds_live.specs.Moving.{IsPartHeard}
 
 -- how many bytes of a stream are decoded at once, at most, and how many there is room for, with those that

@@ -2,7 +2,7 @@
 
 use thiserror::Error;
 
-/// Why [`Live::resume`](crate::Live::resume) refuses.
+/// Why [`StreamDecoder::resume`](crate::StreamDecoder::resume) refuses.
 #[derive(Clone, Copy, Debug, PartialEq, Eq, Error)]
 pub enum ResumeError {
     /// The gaps of a stream each have a place, end by place 2^36, and begin at or after the end of the one

@@ -3,7 +3,7 @@
 ghost use Rattle.std.specs.Prelude.{◌≡◌, ◌↔◌, ◌≤◌, ◌*◌, ◌/◌, ◌^◌, ℕ, List, length, min, true};
 ghost use Rattle.rds_stream.specs.Recording.{AreGaps};
 ghost use Rattle.rds_sync.specs.Counting.{IsAtMost};
-ghost use Rattle.rds_live.specs.Live.{IsLive, live_with, most_kept};
+ghost use Rattle.rds_live.specs.StreamDecoder.{IsStreamDecoder, live_with, most_kept};
 
 use rds_stream::MOST_BITS;
 use rds_sync::{Rules, State, Totals};
@@ -36,7 +36,7 @@ pub(crate) fn can_be_live(
     totals: &Totals,
 ) -> bool
     ensures { (gaps : List (ℕ × ℕ)) → AreGaps (2 ^ 36) gaps
-        → ((result ≡ true) ↔ IsLive (live_with rules.now gaps tail.now place state totals.now)) }
+        → ((result ≡ true) ↔ IsStreamDecoder (live_with rules.now gaps tail.now place state totals.now)) }
 {
     is_heard_to(tail, place)
         && state.is_lawful(rules, place)

@@ -1,6 +1,6 @@
 //! The decoder of a stream of Radio Data System bits, which takes them as they come.
 //!
-//! A receiver gives bits day and night. A [`Live`] is handed each chunk of them as it arrives, of any length, and gives
+//! A receiver gives bits day and night. A [`StreamDecoder`] is handed each chunk of them as it arrives, of any length, and gives
 //! the items that it completes; at the end it gives the group in progress and the totals. Together these are
 //! the report of all that was heard, as `rds_sync` defines it. How a stream is decoded, and when an item is
 //! complete, are this project's rules.
@@ -8,7 +8,7 @@
 //! # Example
 //!
 //! ```text
-//! let mut live = Live::new(alloc, &rules)?;
+//! let mut live = StreamDecoder::new(alloc, &rules)?;
 //! let mut items = Vec::with_capacity(alloc, MOST_ITEMS)?;
 //! for chunk in chunks {
 //!     let mut rest = chunk;
@@ -27,25 +27,25 @@
 //! ```text
 //! keep(live.tail(), live.place(), live.state(), live.totals());
 //! // later, maybe in another process
-//! let mut live = Live::resume(alloc, &rules, &gaps, tail, place, state, totals)?;
+//! let mut live = StreamDecoder::resume(alloc, &rules, &gaps, tail, place, state, totals)?;
 //! ```
 //!
 //! # What there is
 //!
-//! - [`Live`]: a decoder of a stream: its rules and gaps, the last 30 bytes, how many bits were heard, the state after
+//! - [`StreamDecoder`]: a decoder of a stream: its rules and gaps, the last 30 bytes, how many bits were heard, the state after
 //!   them, and the totals of the items that are complete.
-//! - [`Live::take`]: the next bytes, as many as are decoded at once, and the items that they complete, in room that the caller
-//!   keeps; [`MOST_ITEMS`] is as much of it as is ever of use. [`Live::take_all`]: a chunk of any length, and its items in a list.
-//! - [`StreamEnd`]: the result of the end of a stream, by [`Live::finish`] after a whole byte, or by
-//!   [`Live::finish_with`] at any bit.
-//! - [`Live::tail`] and [`Live::resume`]: the bytes that a decoder has to keep beside its place, state and
+//! - [`StreamDecoder::take`]: the next bytes, as many as are decoded at once, and the items that they complete, in room that the caller
+//!   keeps; [`MOST_ITEMS`] is as much of it as is ever of use. [`StreamDecoder::take_all`]: a chunk of any length, and its items in a list.
+//! - [`StreamEnd`]: the result of the end of a stream, by [`StreamDecoder::finish`] after a whole byte, or by
+//!   [`StreamDecoder::finish_with`] at any bit.
+//! - [`StreamDecoder::tail`] and [`StreamDecoder::resume`]: the bytes that a decoder has to keep beside its place, state and
 //!   totals, and a decoder that is made of these. [`ResumeError`] says why it refuses.
 //! - [`may_have_gaps`]: the test of gaps that these make.
 //! - [`laws`]: a run depends only on the bits heard, and bytes in two pieces give the same as at once.
 //!
 //! # What callers may rely on
 //!
-//! - A decoder's numbers depend only on the bytes: `HasHeard` says of a [`Live`] that these bytes lead to it.
+//! - A decoder's numbers depend only on the bytes: `HasHeard` says of a [`StreamDecoder`] that these bytes lead to it.
 //!   So two that were fed the same are equal, however the stream was cut.
 //! - Whatever the chunks, the items given are those of the run over all bits so far, from a search on; with the group of
 //!   the end they are the report's, and so are the totals.
@@ -54,7 +54,7 @@
 //! - A refused call has heard nothing: the same bytes can be offered again. `take` refuses only `TooLong`
 //!   (5), past 2^36 bits in all, and `take_all` `OutOfMemory` (8) too.
 //! - All memory that a stream needs is taken at its beginning: `take`, `finish` and `finish_with` take none.
-//! - It follows both rules of loss, and gaps that are known beforehand ([`Live::with_gaps`]).
+//! - It follows both rules of loss, and gaps that are known beforehand ([`StreamDecoder::with_gaps`]).
 //! - A decoder that is made of the numbers of another is equal to that one, and so has heard the same bytes.
 //!   It is refused if no stream may have its gaps, if no decoder has its numbers, or if memory is refused.
 //!   The numbers of a decoder are refused only if memory is.
@@ -69,7 +69,7 @@
 #![tactic(auto)]
 
 // In the order of reading: the decoder, what it keeps, and how a part of a stream becomes a recording.
-mod live; // The decoder of a stream.
+mod stream_decoder; // The decoder of a stream.
 mod room; // The last bytes, and those that come after them.
 mod gaps; // The gaps of a stream, and those of a part of it.
 mod moved; // States and items whose places are counted from elsewhere.
@@ -79,4 +79,4 @@ mod error; // Why a decoder that was kept as numbers is refused.
 
 pub use error::ResumeError;
 pub use gaps::may_have_gaps;
-pub use live::{Live, MOST_ITEMS, StreamEnd};
+pub use stream_decoder::{StreamDecoder, MOST_ITEMS, StreamEnd};

@@ -3,7 +3,7 @@
 ghost use Rattle.std.specs.Prelude.{◌≡◌, ◌≤◌, ◌+◌, ◌*◌, ◌^◌, ◌++◌, [], IfOk, length, min};
 ghost use Rattle.rds_stream.specs.Recording.{AreGaps, length_of};
 ghost use Rattle.rds_live.specs.Gaps.{gaps_within};
-ghost use Rattle.rds_live.specs.Live.{last_bytes, signal_at};
+ghost use Rattle.rds_live.specs.StreamDecoder.{last_bytes, signal_at};
 ghost use Rattle.rds_live.specs.Room.{IsHeardIn, slots_of};
 
 use crate::gaps::{fill_gaps, fill_up};

@@ -10,7 +10,7 @@ ghost use Rattle.rds_rows.specs.Written.{IsWritten};
 
 use crate::error::RowsError;
 use crate::gathered::Gathered;
-use crate::hand::{Hand, Lent};
+use crate::owned_sink::{OwnedSink, Lent};
 use crate::rows::{Rows, fill_part};
 use crate::sheet::Sheet;
 use crate::sink::{Failed, Sink};
@@ -39,7 +39,7 @@ pub fn write_rows_alone<T: Rows, K: Sink>(
 }
 
 /// The rows in `parts` parts, each made on this sheet, written to a writer that is handed in and back.
-fn by_hand<T: Rows, W: Hand + Drop>(
+fn by_hand<T: Rows, W: OwnedSink + Drop>(
     rows: &T,
     sheet: Sheet,
     gathered: Gathered,
@@ -61,7 +61,7 @@ fn by_hand<T: Rows, W: Hand + Drop>(
 }
 
 /// Writes the parts in order, gathered to large writes. Nothing is gathered yet.
-fn write_in_turn<T: Rows, W: Hand>(
+fn write_in_turn<T: Rows, W: OwnedSink>(
     rows: &T,
     sheet: Sheet,
     gathered: Gathered,
@@ -86,7 +86,7 @@ fn write_in_turn<T: Rows, W: Hand>(
 }
 
 /// Appends all parts in order to the gathered text, which is empty at first.
-fn gather_in_turn<T: Rows, W: Hand>(
+fn gather_in_turn<T: Rows, W: OwnedSink>(
     rows: &T,
     sheet: &mut Sheet,
     parts: usize,

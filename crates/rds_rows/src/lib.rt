@@ -69,10 +69,10 @@ mod sink; // Where the bytes go.
 mod write; // All rows of a list, written.
 mod alone; // The same by the caller, without waiting for a thread.
 mod pool; // The threads that make the parts, and the writer of these parts.
-mod seat; // Where they meet.
+mod handoff; // Where they meet.
 mod slot; // The state under the lock of a seat.
 mod gathered; // Parts that are gathered to larger writes.
-mod hand; // A writer that is handed in and back.
+mod owned_sink; // A writer that is handed in and back.
 mod error; // Why rows are not written.
 pub mod laws; // The laws of the pool itself.
 

@@ -7,12 +7,12 @@ ghost use Rattle.rds_rows.specs.Gathered.{kept_in};
 ghost use Rattle.rds_rows.specs.Writes.{AppendsBut, AppendsPrefix};
 
 use crate::gathered::Gathered;
-use crate::hand::Hand;
+use crate::owned_sink::OwnedSink;
 use crate::rows::{Rows, fill_part};
-use crate::seat::Seat;
+use crate::handoff::Handoff;
 use crate::sheet::Sheet;
 use crate::sink::Failed;
-use crate::slot::Named;
+use crate::slot::PartSpec;
 use std::alloc::{AllocError, Global};
 use std::sync::Wait;
 use std::sync::atomic::{AtomicUsize, Ordering};
@@ -23,23 +23,23 @@ use std::thread::{Builder, Threads};
 const STACK: usize = 1 << 20;
 
 /// A seat for each sheet: the first for part 0, and so on.
-pub(crate) fn seats_of<J: Named>(
+pub(crate) fn seats_of<J: PartSpec>(
     alloc: Global,
     sheets: Vec<Sheet>,
-) -> Result<Vec<Seat<J>>, AllocError>
+) -> Result<Vec<Handoff<J>>, AllocError>
     requires { All (λ s. size_of s ≡ J.size) sheets.items }
     ensures { IfOk result (λ seats. length seats.items ≡ length sheets.items) }
 {
     let mut seats = Vec::with_capacity(alloc, sheets.len())?;
     for sheet in sheets {
-        let seat = Seat::new(seats.len(), sheet);
+        let seat = Handoff::new(seats.len(), sheet);
         seats.push_reserved(seat);
     }
     Ok(seats)
 }
 
 /// Makes part `k` at its seat. Answers whether it was made: not if the seat is closed.
-fn make_part<R: Wait, J: Named, T: Rows>(rt: &R, rows: &T, seat: &Seat<J>, k: usize) -> bool
+fn make_part<R: Wait, J: PartSpec, T: Rows>(rt: &R, rows: &T, seat: &Handoff<J>, k: usize) -> bool
     requires { IsNamed (T.rows rows.now) (T.longest rows.now) J.size J.part }
 {
     let Some(sheet) = seat.wait_for_blank(rt, k) else {
@@ -52,10 +52,10 @@ fn make_part<R: Wait, J: Named, T: Rows>(rt: &R, rows: &T, seat: &Seat<J>, k: us
 }
 
 /// Draws numbers of parts until none is left, and makes the part of each.
-fn make_parts<R: Wait, J: Named, T: Rows>(
+fn make_parts<R: Wait, J: PartSpec, T: Rows>(
     rt: &R,
     rows: &T,
-    seats: &[Seat<J>],
+    seats: &[Handoff<J>],
     next: &AtomicUsize,
     parts: usize,
 )
@@ -72,10 +72,10 @@ fn make_parts<R: Wait, J: Named, T: Rows>(
 
 /// Appends part `k` to the gathered text, and gives its sheet back for the next part of the seat. If no
 /// thread makes the part, it is made here.
-fn write_part<R: Wait, J: Named, T: Rows, W: Hand + Drop>(
+fn write_part<R: Wait, J: PartSpec, T: Rows, W: OwnedSink + Drop>(
     rt: &R,
     rows: &T,
-    seats: &[Seat<J>],
+    seats: &[Handoff<J>],
     k: usize,
     is_alone: bool,
     gathered: &mut Gathered,
@@ -103,10 +103,10 @@ fn write_part<R: Wait, J: Named, T: Rows, W: Hand + Drop>(
 }
 
 /// Appends all parts in order to the gathered text, which is empty at first.
-fn gather_parts<R: Wait, J: Named, T: Rows, W: Hand + Drop>(
+fn gather_parts<R: Wait, J: PartSpec, T: Rows, W: OwnedSink + Drop>(
     rt: &R,
     rows: &T,
-    seats: &[Seat<J>],
+    seats: &[Handoff<J>],
     parts: usize,
     is_alone: bool,
     gathered: &mut Gathered,
@@ -131,10 +131,10 @@ fn gather_parts<R: Wait, J: Named, T: Rows, W: Hand + Drop>(
 }
 
 /// Writes all parts in order, gathered to large writes. Nothing is gathered yet.
-fn write_parts<R: Wait, J: Named, T: Rows, W: Hand + Drop>(
+fn write_parts<R: Wait, J: PartSpec, T: Rows, W: OwnedSink + Drop>(
     rt: &R,
     rows: &T,
-    seats: &[Seat<J>],
+    seats: &[Handoff<J>],
     parts: usize,
     is_alone: bool,
     gathered: Gathered,
@@ -157,7 +157,7 @@ fn write_parts<R: Wait, J: Named, T: Rows, W: Hand + Drop>(
 }
 
 /// Lets the threads end: no number is left to draw, and who waits for a sheet goes away without.
-fn stop<R: Wait, J: Named>(rt: &R, seats: &[Seat<J>], next: &AtomicUsize, parts: usize) {
+fn stop<R: Wait, J: PartSpec>(rt: &R, seats: &[Handoff<J>], next: &AtomicUsize, parts: usize) {
     next.store(parts, Ordering::SeqCst);
     for seat in seats {
         seat.close(rt);
@@ -168,13 +168,13 @@ fn stop<R: Wait, J: Named>(rt: &R, seats: &[Seat<J>], next: &AtomicUsize, parts:
 /// The threads are started before the first byte is written, and have ended at the return.
 pub(crate) fn by_pool<
     R: Threads + Wait + Sync,
-    J: Named + Send + Sync,
+    J: PartSpec + Send + Sync,
     T: Rows + Sync,
-    W: Hand + Drop,
+    W: OwnedSink + Drop,
 >(
     rt: &R,
     rows: &T,
-    seats: &[Seat<J>],
+    seats: &[Handoff<J>],
     threads: usize,
     parts: usize,
     gathered: Gathered,

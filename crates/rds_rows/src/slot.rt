@@ -10,13 +10,13 @@ use std::sync::Condvar;
 
 /// Which bytes each part is, and for how many rows of which length the sheets are. Nothing is known of a value under a
 /// lock but its type, so the type names them, and each call of the pool picks them.
-pub(crate) trait Named {
+pub(crate) trait PartSpec {
     ghost part: { ℕ → List ℕ };
 
     ghost size: { ℕ × ℕ };
 }
 
-impl Named for Brand {
+impl PartSpec for Brand {
     ghost part = { λ k. [] };
 
     ghost size = { (0, 0) };
@@ -25,7 +25,7 @@ impl Named for Brand {
 /// A place for one sheet and the number of one part: the sheet is there blank, or with that part on it, or is
 /// out with whoever works on it.
 #[derive(Drop)]
-pub(crate) struct Slot<J: Named> {
+pub(crate) struct Slot<J: PartSpec> {
     sheet: Option<Sheet>,
     number: usize,
     is_full: bool,
@@ -55,7 +55,7 @@ pub(crate) enum Found {
     Nothing,
 }
 
-impl<J: Named> Slot<J> {
+impl<J: PartSpec> Slot<J> {
     /// A slot with a sheet for this part.
     pub(crate) fn new(number: usize, sheet: Sheet) -> Slot<J>
         requires { size_of sheet ≡ J.size }

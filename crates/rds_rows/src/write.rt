@@ -8,12 +8,12 @@ ghost use Rattle.rds_rows.specs.Written.{IsWritten};
 
 use crate::error::RowsError;
 use crate::gathered::Gathered;
-use crate::hand::{Hand, Lent};
+use crate::owned_sink::{OwnedSink, Lent};
 use crate::pool::{by_pool, seats_of};
 use crate::rows::Rows;
 use crate::sheet::Sheet;
 use crate::sink::{Failed, Sink};
-use crate::slot::Named;
+use crate::slot::PartSpec;
 use std::alloc::{AllocError, Global};
 use std::marker::Brand;
 use std::sync::Wait;
@@ -69,7 +69,7 @@ pub fn write_rows_in_parts<R: Threads + Wait + Sync, T: Rows + Sync, K: Sink>(
 {
     // No sheet has room for more rows than there are.
     let most = most.min(rows.len()).max(1);
-    let plan = Plan::new(rows.len(), workers as usize, most);
+    let plan = Partition::new(rows.len(), workers as usize, most);
     let sheets = sheets_of(alloc, plan.sheets(), most, rows.longest_row())?;
     let gathered = Gathered::new(alloc, most, rows.longest_row())?;
     let (lent, result) = by_value(rt, alloc, rows, sheets, gathered, plan, Lent { writer });
@@ -80,7 +80,7 @@ pub fn write_rows_in_parts<R: Threads + Wait + Sync, T: Rows + Sync, K: Sink>(
 
 /// How rows are parted and by how many threads they are made.
 #[derive(Clone, Copy)]
-struct Plan {
+struct Partition {
     /// How many rows each part but the last has.
     most: usize,
     parts: usize,
@@ -88,8 +88,8 @@ struct Plan {
     threads: usize,
 }
 
-impl Plan {
-    fn new(rows: usize, workers: usize, most: usize) -> Plan
+impl Partition {
+    fn new(rows: usize, workers: usize, most: usize) -> Partition
         requires { 0 < most }
         ensures most { result.most ≡ most }
         ensures parts { rows ≤ result.parts * most }
@@ -99,7 +99,7 @@ impl Plan {
             1 => 0,
             several => several,
         };
-        Plan {
+        Partition {
             most,
             parts,
             threads,
@@ -140,13 +140,13 @@ pub(crate) fn take_back<K>(lent: &mut K)
 
 /// The rows, written to a writer that is handed in and back. The types of the seats' locks name the parts:
 /// they are picked here, where rows and sheets are known.
-fn by_value<R: Threads + Wait + Sync, T: Rows + Sync, W: Hand + Drop>(
+fn by_value<R: Threads + Wait + Sync, T: Rows + Sync, W: OwnedSink + Drop>(
     rt: &R,
     alloc: Global,
     rows: &T,
     sheets: Vec<Sheet>,
     gathered: Gathered,
-    plan: Plan,
+    plan: Partition,
     out: W,
 ) -> (W, Result<(), RowsError>)
     requires sheets { 0 < length sheets.items }
@@ -161,13 +161,13 @@ fn by_value<R: Threads + Wait + Sync, T: Rows + Sync, W: Hand + Drop>(
 }
 
 /// The rows, made and written with a seat for each sheet.
-fn write_by_handoffs<R: Threads + Wait + Sync, J: Named + Send + Sync, T: Rows + Sync, W: Hand + Drop>(
+fn write_by_handoffs<R: Threads + Wait + Sync, J: PartSpec + Send + Sync, T: Rows + Sync, W: OwnedSink + Drop>(
     rt: &R,
     alloc: Global,
     rows: &T,
     sheets: Vec<Sheet>,
     gathered: Gathered,
-    plan: Plan,
+    plan: Partition,
     out: W,
 ) -> (W, Result<(), RowsError>)
     requires named { IsNamed (T.rows rows.now) (T.longest rows.now) J.size J.part }

@@ -4,7 +4,7 @@ use Rattle.std.specs.Int.{bit_at}
 use Rattle.std.proofs.lemmas.Bool.{cases_lt}
 use Rattle.std.proofs.lemmas.Nat.Bits.{bit_at-zero, bit_at_set_same, bit_at_set_other}
 use Rattle.rds_code.specs.declared.offset.Offset.{Offset}
-use Rattle.rds_stream.specs.Recording.{Signal, off}
+use Rattle.rds_stream.specs.Recording.{Signal, offset_at}
 use Rattle.rds_stream.proofs.BitOrder.{shr_bit}
 use Rattle.rds_stream.proofs.WindowLists.{off_early}
 use Rattle.rds_stream.specs.ValidWindows.{NoneValid}
@@ -18,35 +18,35 @@ pub none_is : (o : Option Offset) → (IsSome o → ⊥) → o ≡ None
 none_is None never = refl
 none_is (Some x) never = absurd (never refl)
 
-pub never_some : (b : Signal) (p : ℕ) → off b p ≡ None → IsSome (off b p) → ⊥
+pub never_some : (b : Signal) (p : ℕ) → offset_at b p ≡ None → IsSome (offset_at b p) → ⊥
 never_some b p none some = true≢false (sym (subst (λ (o : Option Offset). IsSome o) none some))
 
 -- no window ends before place 25
-pub valid_late : (b : Signal) (p : ℕ) → IsSome (off b p) → 25 ≤ p
+pub valid_late : (b : Signal) (p : ℕ) → IsSome (offset_at b p) → 25 ≤ p
 valid_late b p some = elim (cases_lt p 25) [ inl early ↦ absurd (never_some b p (off_early b p early) some) | inr late ↦ late ]
 
 -- a one in the word
-pub one_valid : (b : Signal) (next ahead word k : ℕ) → TellsValidPlaces b next ahead word → bit_at word k ≡ 1 → (next + k < ahead) × IsSome (off b (next + k))
+pub one_valid : (b : Signal) (next ahead word k : ℕ) → TellsValidPlaces b next ahead word → bit_at word k ≡ 1 → (next + k < ahead) × IsSome (offset_at b (next + k))
 one_valid b next ahead word k places one = elim (cases_lt (next + k) ahead) [
   | inl within ↦ (within, (places.told k within).0 one)
   | inr past ↦ absurd (omega (arith, places.past k past, one))
 ]
 
 -- a zero in the word
-pub zero_invalid : (b : Signal) (next ahead word k : ℕ) → TellsValidPlaces b next ahead word → next + k < ahead → bit_at word k ≡ 0 → off b (next + k) ≡ None
-zero_invalid b next ahead word k places within zero = none_is (off b (next + k)) (λ some. absurd (omega (arith, zero, (places.told k within).1 some)))
+pub zero_invalid : (b : Signal) (next ahead word k : ℕ) → TellsValidPlaces b next ahead word → next + k < ahead → bit_at word k ≡ 0 → offset_at b (next + k) ≡ None
+zero_invalid b next ahead word k places within zero = none_is (offset_at b (next + k)) (λ some. absurd (omega (arith, zero, (places.told k within).1 some)))
 
 -- no ones below some bit
 pub none_below : (b : Signal) (next ahead word k : ℕ) → TellsValidPlaces b next ahead word → next + k ≤ ahead → ((j : ℕ) → j < k → bit_at word j ≡ 0) → NoneValid b next (next + k)
 none_below b next ahead word k places within zeros i low high =
     let same : next + (i - next) ≡ i = omega arith in
-    sym (ap (off b) same) ∙ zero_invalid b next ahead word (i - next) places (omega arith) (zeros (i - next) (omega arith))
+    sym (ap (offset_at b) same) ∙ zero_invalid b next ahead word (i - next) places (omega arith) (zeros (i - next) (omega arith))
 
 -- no ones at all
 pub none_ahead : (b : Signal) (next ahead word : ℕ) → TellsValidPlaces b next ahead word → word ≡ 0 → NoneValid b next ahead
 none_ahead b next ahead word places zero i low high =
     let same : next + (i - next) ≡ i = omega arith in
-    sym (ap (off b) same) ∙ zero_invalid b next ahead word (i - next) places (omega arith) (ap (λ w. bit_at w (i - next)) zero ∙ bit_at-zero (i - next))
+    sym (ap (offset_at b) same) ∙ zero_invalid b next ahead word (i - next) places (omega arith) (ap (λ w. bit_at w (i - next)) zero ∙ bit_at-zero (i - next))
 
 pub join_none : (b : Signal) (from p to : ℕ) → NoneValid b from p → NoneValid b p to → NoneValid b from to
 join_none b from p to before after i low high = elim (cases_lt i p) [ inl early ↦ before i low early | inr late ↦ after i late high ]
@@ -61,7 +61,7 @@ none_valid b next ahead order width none = record {
 }
 
 -- one place more, without an offset
-pub with_invalid : (b : Signal) (from p word : ℕ) → TellsValidPlaces b from p word → p < from + 64 → off b p ≡ None → TellsValidPlaces b from (p + 1) word
+pub with_invalid : (b : Signal) (from p word : ℕ) → TellsValidPlaces b from p word → p < from + 64 → offset_at b p ≡ None → TellsValidPlaces b from (p + 1) word
 with_invalid b from p word places few none = record {
   order = omega (arith, places.order);
   width = omega arith;
@@ -70,13 +70,13 @@ with_invalid b from p word places few none = record {
     | inr late ↦
         let same : from + k ≡ p = omega arith in
         let zero = places.past k late in
-        (λ h. absurd (omega (arith, h, zero)), λ some. absurd (never_some b p none (subst (λ (i : ℕ). IsSome (off b i)) same some)))
+        (λ h. absurd (omega (arith, h, zero)), λ some. absurd (never_some b p none (subst (λ (i : ℕ). IsSome (offset_at b i)) same some)))
   ];
   past = λ k l. places.past k (omega arith);
 }
 
 -- one place more, with an offset
-pub with_valid : (b : Signal) (from p word : ℕ) → TellsValidPlaces b from p word → p < from + 64 → IsSome (off b p) → TellsValidPlaces b from (p + 1) (bit_or word (1 * 2 ^ (p - from) % 2 ^ 64))
+pub with_valid : (b : Signal) (from p word : ℕ) → TellsValidPlaces b from p word → p < from + 64 → IsSome (offset_at b p) → TellsValidPlaces b from (p + 1) (bit_or word (1 * 2 ^ (p - from) % 2 ^ 64))
 with_valid b from p word places few some =
     let at = p - from in
     let within : at < 64 = omega (arith, places.order) in
@@ -92,7 +92,7 @@ with_valid b from p word places few some =
         | inr late ↦
             let same : from + k ≡ p = omega arith in
             let here : k ≡ at = omega arith in
-            (λ h. subst (λ (i : ℕ). IsSome (off b i)) (sym same) some, λ x. ap (bit_at (bit_or word (1 * 2 ^ at % 2 ^ 64))) here ∙ bit_at_set_same w64 word at within)
+            (λ h. subst (λ (i : ℕ). IsSome (offset_at b i)) (sym same) some, λ x. ap (bit_at (bit_or word (1 * 2 ^ at % 2 ^ 64))) here ∙ bit_at_set_same w64 word at within)
       ];
       past = λ k l. bit_at_set_other w64 word at within k (λ e. absurd (omega arith)) ∙ places.past k (omega arith);
     }
@@ -107,7 +107,7 @@ later_places b next ahead word place places low high =
       told = λ k l.
           let same : next + (by + k) ≡ place + k = omega arith in
           let is = places.told (by + k) (omega arith) in
-          (λ h. subst (λ (i : ℕ). IsSome (off b i)) same (is.0 (sym (shr_bit word by k) ∙ h)), λ x. shr_bit word by k ∙ is.1 (subst (λ (i : ℕ). IsSome (off b i)) (sym same) x));
+          (λ h. subst (λ (i : ℕ). IsSome (offset_at b i)) same (is.0 (sym (shr_bit word by k) ∙ h)), λ x. shr_bit word by k ∙ is.1 (subst (λ (i : ℕ). IsSome (offset_at b i)) (sym same) x));
       past = λ k l. shr_bit word by k ∙ places.past (by + k) (omega arith);
     }
 
@@ -122,6 +122,6 @@ places_behind b next ahead word bit rest places one is =
       told = λ k l.
           let same : next + (k + (bit + 1)) ≡ next + bit + 1 + k = omega arith in
           let was = places.told (k + (bit + 1)) (omega arith) in
-          (λ h. subst (λ (i : ℕ). IsSome (off b i)) same (was.0 (sym (is k) ∙ h)), λ x. is k ∙ was.1 (subst (λ (i : ℕ). IsSome (off b i)) (sym same) x));
+          (λ h. subst (λ (i : ℕ). IsSome (offset_at b i)) same (was.0 (sym (is k) ∙ h)), λ x. is k ∙ was.1 (subst (λ (i : ℕ). IsSome (offset_at b i)) (sym same) x));
       past = λ k l. is k ∙ places.past (k + (bit + 1)) (omega arith);
     }

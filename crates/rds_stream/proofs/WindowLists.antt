@@ -8,14 +8,14 @@ use Rattle.std.proofs.lemmas.List.Elements.{filter_map-append}
 use Rattle.rds_code.specs.declared.offset.Offset.{Offset}
 use Rattle.rds_code.specs.Remainder.{rem}
 use Rattle.rds_code.specs.Offsets.{offset_of}
-use Rattle.rds_stream.specs.Recording.{Signal, window, touched, heard, offset_heard, off, valid_at, valid_windows}
+use Rattle.rds_stream.specs.Recording.{Signal, window, touched, heard, offset_heard, offset_at, valid_at, valid_windows}
 
-pub off_early : (b : Signal) (p : ℕ) → p < 25 → off b p ≡ None
-unfolding off
+pub off_early : (b : Signal) (p : ℕ) → p < 25 → offset_at b p ≡ None
+unfolding offset_at
 off_early b p early = ap (λ t. elim t [ true ↦ None | false ↦ offset_heard (heard b p) ]) (lt-ltb p 25 early)
 
-pub off_late : (b : Signal) (p : ℕ) → 25 ≤ p → off b p ≡ offset_heard (heard b p)
-unfolding off
+pub off_late : (b : Signal) (p : ℕ) → 25 ≤ p → offset_at b p ≡ offset_heard (heard b p)
+unfolding offset_at
 off_late b p late = ap (λ t. elim t [ true ↦ None | false ↦ offset_heard (heard b p) ]) (le-ltb p 25 late)
 
 pub heard_touched : (b : Signal) (p : ℕ) → touched b p ≡ true → heard b p ≡ None
@@ -27,18 +27,18 @@ unfolding heard
 heard_clear b p is = ap (λ t. elim t [ true ↦ None | false ↦ Some (window b.bits p) ]) is
 
 -- a window that touches no gap has the offset of its remainder, and one that does has none
-pub off_clear : (b : Signal) (p : ℕ) → 25 ≤ p → touched b p ≡ false → off b p ≡ offset_of (rem (window b.bits p))
+pub off_clear : (b : Signal) (p : ℕ) → 25 ≤ p → touched b p ≡ false → offset_at b p ≡ offset_of (rem (window b.bits p))
 off_clear b p late is = off_late b p late ∙ ap offset_heard (heard_clear b p is)
 
-pub off_touched : (b : Signal) (p : ℕ) → touched b p ≡ true → off b p ≡ None
+pub off_touched : (b : Signal) (p : ℕ) → touched b p ≡ true → offset_at b p ≡ None
 off_touched b p is = elim (cases_lt p 25) [ inl early ↦ off_early b p early | inr late ↦ off_late b p late ∙ ap offset_heard (heard_touched b p is) ]
 
 -- a window without an offset as it is stored has none
-pub off_not_stored : (b : Signal) (p : ℕ) → 25 ≤ p → offset_of (rem (window b.bits p)) ≡ None → off b p ≡ None
+pub off_not_stored : (b : Signal) (p : ℕ) → 25 ≤ p → offset_of (rem (window b.bits p)) ≡ None → offset_at b p ≡ None
 off_not_stored b p late none = elim (cases_Bool (touched b p)) [ inl is ↦ off_touched b p is | inr is ↦ off_clear b p late is ∙ none ]
 
 -- where a place has an offset, that is its remainder's
-pub off_stored : (b : Signal) (p : ℕ) → IsSome (off b p) → off b p ≡ offset_of (rem (window b.bits p))
+pub off_stored : (b : Signal) (p : ℕ) → IsSome (offset_at b p) → offset_at b p ≡ offset_of (rem (window b.bits p))
 off_stored b p some = elim (cases_lt p 25) [
   | inl early ↦ absurd (true≢false (sym (subst (λ (o : Option Offset). IsSome o) (off_early b p early) some)))
   | inr late ↦ elim (cases_Bool (touched b p)) [
@@ -58,17 +58,17 @@ valid_more b from p order =
     ap (λ n. filter_map (valid_at b) (range_with_len from n)) count ∙ ap (filter_map (valid_at b)) (range_more from (p - from))
     ∙ filter_map-append (valid_at b) (range_with_len from (p - from)) ((from + (p - from)) ∷ []) ∙ ap (λ x. valid_windows b from p ++ cons_option (valid_at b x) []) last
 
-pub valid_without : (b : Signal) (from p : ℕ) → from ≤ p → off b p ≡ None → valid_windows b from p ≡ valid_windows b from (p + 1)
+pub valid_without : (b : Signal) (from p : ℕ) → from ≤ p → offset_at b p ≡ None → valid_windows b from p ≡ valid_windows b from (p + 1)
 valid_without b from p order none =
     sym (valid_more b from p order ∙ ap (λ o. valid_windows b from p ++ cons_option (option_map (λ x. (p, x)) o) []) none ∙ append-nil (valid_windows b from p))
 
-pub valid_with : (b : Signal) (from p : ℕ) (offset : Offset) → from ≤ p → off b p ≡ Some offset →
+pub valid_with : (b : Signal) (from p : ℕ) (offset : Offset) → from ≤ p → offset_at b p ≡ Some offset →
     valid_windows b from p ++ (p, offset) ∷ [] ≡ valid_windows b from (p + 1)
 valid_with b from p offset order some =
     sym (valid_more b from p order ∙ ap (λ o. valid_windows b from p ++ cons_option (option_map (λ x. (p, x)) o) []) some)
 
 -- places that have no offset add nothing
-pub valid_over : (b : Signal) (from p n : ℕ) → from ≤ p → ((j : ℕ) → p ≤ j → j < p + n → off b j ≡ None) → valid_windows b from (p + n) ≡ valid_windows b from p
+pub valid_over : (b : Signal) (from p n : ℕ) → from ≤ p → ((j : ℕ) → p ≤ j → j < p + n → offset_at b j ≡ None) → valid_windows b from (p + n) ≡ valid_windows b from p
 valid_over b from p zero order none = let same : p + 0 ≡ p = omega arith in ap (valid_windows b from) same
 valid_over b from p (suc n) order none =
     let next : p + suc n ≡ p + n + 1 = omega arith in

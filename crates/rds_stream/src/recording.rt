@@ -5,7 +5,7 @@ ghost use Rattle.rds_code.specs.Remainder.{rem};
 ghost use Rattle.rds_code.specs.Offsets.{offset_of as the_offset_of};
 ghost use Rattle.rds_stream.specs.declared.error.StreamError.TheVariants.{BadGaps, BitsPastBytes, TooLong};
 ghost use Rattle.rds_stream.specs.Inside.Sections.{IsSection};
-ghost use Rattle.rds_stream.specs.Recording.{AreGaps, Signal, bits_of, length_of, off, touched, ungapped, window};
+ghost use Rattle.rds_stream.specs.Recording.{AreGaps, Signal, bits_of, length_of, offset_at, touched, ungapped, window};
 
 use crate::error::StreamError;
 use crate::gaps::{Section, are_gaps, first_after, put_first_gaps};
@@ -191,7 +191,7 @@ impl Recording {
     pub fn offset(&self, place: u64) -> Option<Offset>
         requires first { 25 ≤ place }
         requires last { place < length_of self.now }
-        ensures { result ≡ off self.now place }
+        ensures { result ≡ offset_at self.now place }
     {
         // Few windows have an offset by chance, so it is looked for before the gaps are.
         let offset = self.stored_offset(place)?;

@@ -6,7 +6,7 @@ ghost use Rattle.std.specs.Prelude.{◌≡◌, ◌≢◌, ℕ, max, ◌+◌, ◌
 ghost use Rattle.std.specs.Int.{bit_at};
 ghost use Rattle.rds_code.specs.Offsets.{offset_of as the_offset_of};
 ghost use Rattle.rds_stream.specs.Inside.Lanes.{HoldInLane};
-ghost use Rattle.rds_stream.specs.Recording.{Signal, length_of, off};
+ghost use Rattle.rds_stream.specs.Recording.{Signal, length_of, offset_at};
 ghost use Rattle.rds_stream.specs.Inside.Sections.{IsSection};
 ghost use Rattle.rds_stream.specs.ValidWindows.{NoneValid};
 ghost use Rattle.rds_stream.specs.Inside.ValidPlaces.{TellsValidPlaces};
@@ -135,7 +135,7 @@ fn at_once(recording: &Recording, at: u64) -> u64
     requires first { 25 ≤ at }
     requires last { at + 64 ≤ length_of recording.now }
     requires clear { IsSection recording.now at (at + 64) false }
-    ensures { (k : ℕ) → k < 64 → (bit_at result k ≡ 1) ↔ IsSome (off recording.now (at + k)) }
+    ensures { (k : ℕ) → k < 64 → (bit_at result k ≡ 1) ↔ IsSome (offset_at recording.now (at + k)) }
 {
     prove!(at < recording.len());
     join_lanes(offset_words(&plane_lanes(recording, at)))

@@ -6,7 +6,7 @@ use Rattle.std.proofs.lemmas.List.Sums.{sum_by-cons}
 use Rattle.std.specs.Prelude.{◌==◌, is_some, count_by}
 use Rattle.std.specs.List.{range_with_len, list_any}
 use Rattle.rds_code.specs.Cycle.{number_after}
-use Rattle.rds_stream.specs.Recording.{Signal, off}
+use Rattle.rds_stream.specs.Recording.{Signal, offset_at}
 use Rattle.rds_sync.specs.declared.lock.Lock.{Lock}
 use Rattle.rds_sync.specs.declared.state.State.{State}
 use Rattle.rds_sync.specs.declared.state.State.TheVariants.{Searching, Locked}
@@ -92,16 +92,16 @@ module _ (b : Signal) (rules : RuleNumbers) where
             ]
       ]
 
-  has_number_offset : (i x : ℕ) → has_number b i x ≡ true → (o : Offset) × (off b i ≡ Some o) × (number o ≡ x)
+  has_number_offset : (i x : ℕ) → has_number b i x ≡ true → (o : Offset) × (offset_at b i ≡ Some o) × (number o ≡ x)
   unfolding has_number
-  has_number_offset i x h = at_case (off b i) refl h where
-    at_case : (w : Option Offset) → off b i ≡ w → elim w as (λ _. Bool) [ None ↦ false | Some o ↦ number o == x ] ≡ true → (o : Offset) × (off b i ≡ Some o) × (number o ≡ x)
+  has_number_offset i x h = at_case (offset_at b i) refl h where
+    at_case : (w : Option Offset) → offset_at b i ≡ w → elim w as (λ _. Bool) [ None ↦ false | Some o ↦ number o == x ] ≡ true → (o : Offset) × (offset_at b i ≡ Some o) × (number o ≡ x)
     at_case None e t = cc
     at_case (Some o) e t = (o, e, eqb-true (number o) x t)
 
-  no_offset : (r : ℕ) → is_some (off b r) ≡ false → acquired b rules r ≡ None
+  no_offset : (r : ℕ) → is_some (offset_at b r) ≡ false → acquired b rules r ≡ None
   unfolding acquired
-  no_offset r h = at_case (off b r) h where
+  no_offset r h = at_case (offset_at b r) h where
     at_case : (w : Option Offset) → is_some w ≡ false → elim w as (λ _. Option ℕ) [ None ↦ None | Some o ↦ with_partner b rules r (number o) ] ≡ None
     at_case None t = refl
     at_case (Some o) t = cc
@@ -114,7 +114,7 @@ module _ (b : Signal) (rules : RuleNumbers) where
       let l = has_number_offset i y before in
       let back : i + 26 - 26 * 1 ≡ i = omega arith in
       let partner : has_partner b (i + 26) x 1 ≡ true =
-      ap (λ (j : ℕ). elim (off b j) as (λ _. Bool) [ None ↦ false | Some o ↦ number_after (number o) 1 == x ]) back
+      ap (λ (j : ℕ). elim (offset_at b j) as (λ _. Bool) [ None ↦ false | Some o ↦ number_after (number o) 1 == x ]) back
       ∙ ap (λ (w : Option Offset). elim w as (λ _. Bool) [ None ↦ false | Some o ↦ number_after (number o) 1 == x ]) l.1
       ∙ ap (λ (n : ℕ). number_after n 1 == x) l.2
       ∙ eq-eqb (number_after y 1) x next in
@@ -249,17 +249,17 @@ module _ (b : Signal) (rules : RuleNumbers) (p c last : ℕ) (sequence : (k : �
 module _ (b : Signal) (rules : RuleNumbers) where
   -- how many of the next n places of this phase have an offset
   abbrev valid : ℕ → ℕ → ℕ
-  valid due n = count_by (λ r. is_some (off b r)) (every_26 due n)
+  valid due n = count_by (λ r. is_some (offset_at b r)) (every_26 due n)
 
-  valid_more : (due n : ℕ) → valid due (suc n) ≡ cond (is_some (off b due)) 1 0 + valid (due + 26) n
-  valid_more due n = sum_by-cons (λ r. cond (is_some (off b r)) 1 0) due (every_26 (due + 26) n)
+  valid_more : (due n : ℕ) → valid due (suc n) ≡ cond (is_some (offset_at b due)) 1 0 + valid (due + 26) n
+  valid_more due n = sum_by-cons (λ r. cond (is_some (offset_at b r)) 1 0) due (every_26 (due + 26) n)
 
   valid_grows : (n m due : ℕ) → n ≤ m → valid due n ≤ valid due m
   valid_grows zero m due h = omega arith
   valid_grows (suc n) zero due h = absurd (omega arith)
   valid_grows (suc n) (suc m) due h = let l = valid_more due n in let r = valid_more due m in let ih = valid_grows n m (due + 26) (omega arith) in omega (arith, l, r, ih)
 
-  has_is_some : (i x : ℕ) → has_number b i x ≡ true → is_some (off b i) ≡ true
+  has_is_some : (i x : ℕ) → has_number b i x ≡ true → is_some (offset_at b i) ≡ true
   has_is_some i x h = let o = has_number_offset b rules i x h in ap is_some o.1
 
   has_one : (i x y : ℕ) → has_number b i x ≡ true → has_number b i y ≡ true → x ≡ y
@@ -277,7 +277,7 @@ module _ (b : Signal) (rules : RuleNumbers) where
       let ih = good_le n (due + 26) (num % 4 + 1) in
       elim (cases_Bool (has_number b due num)) [
         | inl good ↦
-            let one : ◌≡◌ {A = ℕ} (cond (is_some (off b due)) 1 0) 1 = ap (λ (t : Bool). cond t 1 0) (has_is_some due num good) in
+            let one : ◌≡◌ {A = ℕ} (cond (is_some (offset_at b due)) 1 0) 1 = ap (λ (t : Bool). cond t 1 0) (has_is_some due num good) in
             let l : good_blocks b rules due num (suc n) ≡ 1 + good_blocks b rules (due + 26) (num % 4 + 1) n = rw good refl in
             omega (arith, r, ih, one, l)
         | inr ill ↦
@@ -303,7 +303,7 @@ module _ (b : Signal) (rules : RuleNumbers) where
     seq k h = sound.sequence.numbers k (omega arith)
 
     quiet : (r : ℕ) → s ≤ r → r < p + 26 * last → ((k : ℕ) → r ≢ p + 26 * k) → acquired b rules r ≡ None
-    quiet r l u other = elim (cases_Bool (is_some (off b r))) [
+    quiet r l u other = elim (cases_Bool (is_some (offset_at b r))) [
       | inl yes' ↦ sound.none_acquires r (record { inside = (l, omega arith); valid = yes'; elsewhere = other })
       | inr no' ↦ no_offset b rules r no'
     ]

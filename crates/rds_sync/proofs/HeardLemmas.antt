@@ -9,7 +9,7 @@ use Rattle.rds_code.specs.declared.reading.Reading.TheVariants.{Valid}
 use Rattle.rds_code.specs.Offsets.{number, offset_of}
 use Rattle.rds_code.specs.Reading.{reading, read_from, information, corrected, corrections, wanted_offsets, by_only}
 use Rattle.rds_code.specs.Remainder.{rem}
-use Rattle.rds_stream.specs.Recording.{Signal, heard, offset_heard, reading_heard, off}
+use Rattle.rds_stream.specs.Recording.{Signal, heard, offset_heard, reading_heard, offset_at}
 use Rattle.rds_sync.specs.declared.item.Block.TheVariants.{Read}
 use Rattle.rds_sync.specs.Acquiring.{acquired, has_number, has_partner, is_in_step, is_numbered}
 use Rattle.rds_sync.specs.Rules.{RuleNumbers}
@@ -38,14 +38,14 @@ valid-heard None x wanted limit = refl
 valid-heard (Some w) x wanted limit = valid-reading w x wanted limit
 
 -- no window ends before place 25
-pub off-early : (b : Signal) (i : ℕ) → i < 25 → off b i ≡ None
-unfolding off
-off-early b i early = rw (lt-ltb i 25 early, off) refl
+pub off-early : (b : Signal) (i : ℕ) → i < 25 → offset_at b i ≡ None
+unfolding offset_at
+off-early b i early = rw (lt-ltb i 25 early, offset_at) refl
 
 -- from there on the offset is that of the window heard
-pub off-heard : (b : Signal) (i : ℕ) → 25 ≤ i → off b i ≡ offset_heard (heard b i)
-unfolding off
-off-heard b i late = rw (le-ltb i 25 late, off) refl
+pub off-heard : (b : Signal) (i : ℕ) → 25 ≤ i → offset_at b i ≡ offset_heard (heard b i)
+unfolding offset_at
+off-heard b i late = rw (le-ltb i 25 late, offset_at) refl
 
 -- and so is whether a place has a number
 has_number-heard : (b : Signal) (i x : ℕ) → 25 ≤ i → has_number b i x ≡ is_numbered (offset_heard (heard b i)) x
@@ -76,7 +76,7 @@ pub acquired-early : (b : Signal) (rules : RuleNumbers) (i : ℕ) → i < 25 →
 acquired-early b rules i early = acquired-none b rules i (off-early b i early)
 
 -- whether a place with an offset acquires is a matter of its partner
-pub acquired-offset : (b : Signal) (rules : RuleNumbers) (i n : ℕ) (o : Offset) (found answer : Bool) → off b i ≡ Some o → n ≡ number o
+pub acquired-offset : (b : Signal) (rules : RuleNumbers) (i n : ℕ) (o : Offset) (found answer : Bool) → offset_at b i ≡ Some o → n ≡ number o
     → found ≡ list_any (has_partner b i n) (range_with_len 1 rules.reach) → found ≡ answer
     → acquired b rules i ≡ elim answer as (λ _. Option ℕ) [ true ↦ Some n | false ↦ None ]
 acquired-offset b rules i n o found answer here is_number is_found answered =

@@ -7,7 +7,7 @@ use Rattle.rds_code.specs.declared.offset.Offset.{Offset}
 use Rattle.rds_code.specs.declared.offset.Offset.TheVariants.{A, B, C, Cx, D}
 use Rattle.rds_code.specs.Cycle.{number_after}
 use Rattle.rds_code.specs.Offsets.{number}
-use Rattle.rds_stream.specs.Recording.{Signal, off}
+use Rattle.rds_stream.specs.Recording.{Signal, offset_at}
 use Rattle.rds_sync.specs.declared.lock.Lock.{Lock}
 use Rattle.rds_sync.specs.declared.state.State.{State}
 use Rattle.rds_sync.specs.declared.state.State.TheVariants.{Searching, Locked}
@@ -29,18 +29,18 @@ number-range D = (omega arith, omega arith)
 
 module _ (b : Signal) where
   -- no window ends before place 25
-  pub off-place : (i : ℕ) (o : Offset) → off b i ≡ Some o → 25 ≤ i
-  unfolding off
+  pub off-place : (i : ℕ) (o : Offset) → offset_at b i ≡ Some o → 25 ≤ i
+  unfolding offset_at
   off-place i o e = elim (cases_lt i 25) [
-    | inl early ↦ let t : None ≡ Some o = rw (lt-ltb i 25 early, off) at e in cc t
+    | inl early ↦ let t : None ≡ Some o = rw (lt-ltb i 25 early, offset_at) at e in cc t
     | inr late ↦ late
   ]
 
   -- a partner, as a fact
-  pub has_partner-offset : (i x k : ℕ) → has_partner b i x k ≡ true → (o : Offset) × (off b (i - 26 * k) ≡ Some o) × (number_after (number o) k ≡ x)
-  has_partner-offset i x k h = at_case (off b (i - 26 * k)) refl h where
-    at_case : (w : Option Offset) → off b (i - 26 * k) ≡ w → elim w as (λ _. Bool) [ None ↦ false | Some o ↦ number_after (number o) k == x ] ≡ true
-        → (o : Offset) × (off b (i - 26 * k) ≡ Some o) × (number_after (number o) k ≡ x)
+  pub has_partner-offset : (i x k : ℕ) → has_partner b i x k ≡ true → (o : Offset) × (offset_at b (i - 26 * k) ≡ Some o) × (number_after (number o) k ≡ x)
+  has_partner-offset i x k h = at_case (offset_at b (i - 26 * k)) refl h where
+    at_case : (w : Option Offset) → offset_at b (i - 26 * k) ≡ w → elim w as (λ _. Bool) [ None ↦ false | Some o ↦ number_after (number o) k == x ] ≡ true
+        → (o : Offset) × (offset_at b (i - 26 * k) ≡ Some o) × (number_after (number o) k ≡ x)
     at_case None e t = cc
     at_case (Some o) e t = (o, e, eqb-true (number_after (number o) k) x t)
 
@@ -59,7 +59,7 @@ module _ (b : Signal) (rules : RuleNumbers) where
   -- the facts about a place that acquires
   pub record IsAcquired (i x : ℕ) : Type 0 where
     pub offset : Offset
-    pub here : off b i ≡ Some offset
+    pub here : offset_at b i ≡ Some offset
     pub number_is : number offset ≡ x
     pub distance : ℕ
     pub within_reach : (1 ≤ distance) × (distance ≤ rules.reach)
@@ -71,8 +71,8 @@ module _ (b : Signal) (rules : RuleNumbers) where
 
   pub acquired-facts : (i x : ℕ) → acquired b rules i ≡ Some x → IsAcquired i x
   unfolding acquired
-  acquired-facts i x e = at_case (off b i) refl e where
-    at_case : (w : Option Offset) → off b i ≡ w → elim w as (λ _. Option ℕ) [ None ↦ None | Some o ↦ with_partner b rules i (number o) ] ≡ Some x → IsAcquired i x
+  acquired-facts i x e = at_case (offset_at b i) refl e where
+    at_case : (w : Option Offset) → offset_at b i ≡ w → elim w as (λ _. Option ℕ) [ None ↦ None | Some o ↦ with_partner b rules i (number o) ] ≡ Some x → IsAcquired i x
     at_case None w t = cc
     at_case (Some o) w t =
         let f = if_partner (list_any (has_partner b i (number o)) (range_with_len 1 rules.reach)) (number o) x t in
@@ -109,11 +109,11 @@ module _ (b : Signal) (rules : RuleNumbers) where
   acquired-number i x e = let f = acquired-facts i x e in ap (λ o. is_numbered o x) f.here ∙ eq-eqb _ x f.number_is
 
   -- where the offset at a place is known, acquiring is a matter of its partner
-  pub acquired-none : (i : ℕ) → off b i ≡ None → acquired b rules i ≡ None
+  pub acquired-none : (i : ℕ) → offset_at b i ≡ None → acquired b rules i ≡ None
   unfolding acquired
   acquired-none i e = ap (λ (w : Option Offset). elim w as (λ _. Option ℕ) [ None ↦ None | Some o ↦ with_partner b rules i (number o) ]) e
 
-  pub acquired-some : (i : ℕ) (o : Offset) → off b i ≡ Some o → acquired b rules i ≡ with_partner b rules i (number o)
+  pub acquired-some : (i : ℕ) (o : Offset) → offset_at b i ≡ Some o → acquired b rules i ≡ with_partner b rules i (number o)
   unfolding acquired
   acquired-some i o e = ap (λ (w : Option Offset). elim w as (λ _. Option ℕ) [ None ↦ None | Some o ↦ with_partner b rules i (number o) ]) e
 

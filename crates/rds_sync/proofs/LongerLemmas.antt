@@ -12,7 +12,7 @@ use Rattle.rds_code.specs.declared.offset.Offset.{Offset}
 use Rattle.rds_code.specs.declared.reading.Wanted.{Wanted}
 use Rattle.rds_code.specs.declared.reading.Wanted.TheVariants.{Either}
 use Rattle.rds_code.specs.Offsets.{number}
-use Rattle.rds_stream.specs.Recording.{Signal, length_of, window, is_touched_by, touched, heard, offset_heard, reading_heard, reading_at, off}
+use Rattle.rds_stream.specs.Recording.{Signal, length_of, window, is_touched_by, touched, heard, offset_heard, reading_heard, reading_at, offset_at}
 use Rattle.rds_sync.specs.declared.item.Block.{Block}
 use Rattle.rds_sync.specs.declared.item.Block.TheVariants.{Missing, Read}
 use Rattle.rds_sync.specs.declared.item.Group.{Group as GroupOf}
@@ -56,8 +56,8 @@ module _ (longer shorter : Signal) (begins : BeginsWith longer shorter) where
       ap₂ (λ (t : Bool) (w : ℕ). elim t as (λ _. Option ℕ) [ true ↦ None | false ↦ Some w ]) (begins.gaps i within)
       (ap (λ (bits : List ℕ). window bits i) begins.bits ∙ window-begin shorter.bits begins.more i within)
 
-  off-alike : (i : ℕ) → i < length_of shorter → off longer i ≡ off shorter i
-  unfolding off
+  off-alike : (i : ℕ) → i < length_of shorter → offset_at longer i ≡ offset_at shorter i
+  unfolding offset_at
   off-alike i within = ap (λ (h : Option ℕ). elim (nat_lt i 25) as (λ _. Option Offset) [ true ↦ None | false ↦ offset_heard h ]) (heard-alike i within)
 
   number-alike : (i x : ℕ) → i < length_of shorter → has_number longer i x ≡ has_number shorter i x
@@ -77,7 +77,7 @@ module _ (longer shorter : Signal) (begins : BeginsWith longer shorter) where
           | None ↦ refl
           | Some p ↦ ap (λ (t : Bool). elim t as (λ _. Option ℕ) [ true ↦ Some (number p) | false ↦ None ]) (partners (number p))
         ] in
-        by_number (off longer i) ∙ ap (λ (o : Option Offset). elim o as (λ _. Option ℕ) [ None ↦ None | Some p ↦ with_partner shorter rules i (number p) ]) (off-alike i within)
+        by_number (offset_at longer i) ∙ ap (λ (o : Option Offset). elim o as (λ _. Option ℕ) [ None ↦ None | Some p ↦ with_partner shorter rules i (number p) ]) (off-alike i within)
 
     -- ---- a group
 

@@ -6,7 +6,7 @@ use Rattle.std.specs.List.Sorted.{IsStrictlyIncreasing}
 use Rattle.std.proofs.lemmas.List.Elements.{All-filter, filter_passes}
 use Rattle.std.proofs.lemmas.List.Kept.{IsStrictlyIncreasing-filter}
 use Rattle.std.proofs.lemmas.List.Sums.{length-filter}
-use Rattle.rds_stream.specs.Recording.{Signal, off}
+use Rattle.rds_stream.specs.Recording.{Signal, offset_at}
 use Rattle.rds_sync.specs.Rules.{RuleNumbers}
 use Rattle.rds_sync.specs.Convergence.{IsSound, IsRival, sound_blocks}
 
@@ -36,11 +36,11 @@ every_26_rises first n k h =
 module _ (b : Signal) (rules : RuleNumbers) (j s p c : ℕ) (sound : IsSound b rules j s p c) where
   -- no more places of another phase than the sequence's have an offset than rivals share one
   pub few_in_phase : (phase : ℕ) → s ≤ phase → phase < s + 26 → phase ≢ p
-      → count_by (λ r. is_some (off b r)) (every_26 phase (sound_blocks rules.loss j)) ≤ j
+      → count_by (λ r. is_some (offset_at b r)) (every_26 phase (sound_blocks rules.loss j)) ≤ j
   few_in_phase phase low high other =
       let n : ℕ = sound_blocks rules.loss j in
       let places : List ℕ = every_26 phase n in
-      let valid : ℕ → Bool = λ r. is_some (off b r) in
+      let valid : ℕ → Bool = λ r. is_some (offset_at b r) in
       let f0 = sound.sequence.first in
       let are : All (λ r. (s ≤ r) × (r < s + 26 * n) × ((k : ℕ) → r ≢ p + 26 * k) × (r % 26 ≡ phase % 26)) places =
       λ i d h.

@@ -11,7 +11,7 @@ use Rattle.rds_sync.specs.declared.item.Item.TheVariants.{Acquired, LostLock}
 use Rattle.rds_sync.specs.Rules.{RuleNumbers}
 use Rattle.rds_sync.specs.Acquiring.{acquired}
 use Rattle.rds_sync.specs.Loss.{IsLoss, are_too_many}
-use Rattle.rds_sync.specs.Report.{is_good, loses_at, places, end, read_blocks, group_closed_by, loss_items, items_of_lock, first_lock, items_from, report_items}
+use Rattle.rds_sync.specs.Report.{is_good, loses_at, block_count, end, read_blocks, group_closed_by, loss_items, items_of_lock, first_lock, items_from, report_items}
 use Rattle.rds_sync.specs.Step.{run, items_of_end, group_after, lock_after}
 use Rattle.rds_sync.proofs.LawfulLemmas.{acquired-range}
 use Rattle.rds_sync.proofs.LockBlocks.{bad, keeps, loses_here, number_first, first_first, S, G, closes, S_is, block_good, block_lost, block_end, last_group}
@@ -29,7 +29,7 @@ find_low p c (suc d) k e = elim (cases_Bool (p c)) [
 
 module _ (b : Signal) (rules : RuleNumbers) (a x : ℕ) where
   -- where the lock ends
-  read_none : end b rules a x ≡ None → read_blocks b rules a x ≡ places b rules a x
+  read_none : end b rules a x ≡ None → read_blocks b rules a x ≡ block_count b rules a x
   read_none e = rw (e, read_blocks) refl
 
   read_some : (k : ℕ) → end b rules a x ≡ Some k → read_blocks b rules a x ≡ k + 1
@@ -41,7 +41,7 @@ module _ (b : Signal) (rules : RuleNumbers) (a x : ℕ) where
   loss_some : (k : ℕ) → end b rules a x ≡ Some k → loss_items b rules a x ≡ LostLock (a + 26 * k) ∷ []
   loss_some k e = rw (e, loss_items) refl
 
-  read_low : (c d : ℕ) → c + d ≡ places b rules a x → end b rules a x ≡ find (loses_at b rules a x) (range_with_len c d) → c ≤ read_blocks b rules a x
+  read_low : (c d : ℕ) → c + d ≡ block_count b rules a x → end b rules a x ≡ find (loses_at b rules a x) (range_with_len c d) → c ≤ read_blocks b rules a x
   read_low c d all e = at_end (end b rules a x) refl where
     at_end : (o : Option ℕ) → end b rules a x ≡ o → c ≤ read_blocks b rules a x
     at_end None f = rw (read_none f) (omega arith)
@@ -80,7 +80,7 @@ module _ (b : Signal) (rules : RuleNumbers) (a x : ℕ) where
   find_later k d e = rw (← add-one k, e, find) refl
 
   tail : (fuel : ℕ) → ((q m : ℕ) → q + m ≡ length_of b → m ≤ fuel → whole b rules Searching q m ≡ items_from b rules fuel q)
-      → 1 ≤ x → (d k bits : ℕ) → suc k + d ≡ places b rules a x → a + 26 * k + 1 + bits ≡ length_of b → bits ≤ fuel
+      → 1 ≤ x → (d k bits : ℕ) → suc k + d ≡ block_count b rules a x → a + 26 * k + 1 + bits ≡ length_of b → bits ≤ fuel
       → end b rules a x ≡ find (loses_at b rules a x) (range_with_len (suc k) d)
       → closes b rules a x k ++ whole b rules (S b rules a x k) (a + 26 * k + 1) bits ≡ groups_from k (read_blocks b rules a x - k) ++ (loss_items b rules a x ++ rest fuel)
   tail fuel again low zero k bits all total few e =
@@ -134,8 +134,8 @@ module _ (b : Signal) (rules : RuleNumbers) where
       let begins : Locked (lock_after a x 0 x) ≡ S b rules a x 0 = rw (start, num, fst) at (S_is b rules a x low 0) in
       let closed : closes b rules a x 0 ≡ group_after b rules x x a = rw (start, num, fst) refl in
       let none_before : read_blocks b rules a x - 0 ≡ read_blocks b rules a x = omega arith in
-      let d : ℕ = places b rules a x - 1 in
-      let all : 1 + d ≡ places b rules a x = omega arith in
+      let d : ℕ = block_count b rules a x - 1 in
+      let all : 1 + d ≡ block_count b rules a x = omega arith in
       let finds : end b rules a x ≡ find (loses_at b rules a x) (range_with_len 1 d) =
       ap (λ (n : ℕ). find (loses_at b rules a x) (range_with_len 0 n)) (sym all ∙ one-add d) ∙ find_later b rules a x 0 d (never_0 (is_good b rules a x) rules.loss loss) in
       let later = tail b rules a x fuel again low d 0 left all (omega arith) few finds in

@@ -10,7 +10,7 @@ use Rattle.rds_code.specs.declared.offset.Offset.TheVariants.{A, B, C, Cx, D}
 use Rattle.rds_code.specs.declared.reading.Wanted.{Wanted}
 use Rattle.rds_code.specs.declared.reading.Wanted.TheVariants.{OnlyC, OnlyCx, Either}
 use Rattle.rds_code.specs.declared.reading.Reading.{Reading}
-use Rattle.rds_code.specs.Bursts.{IsBurst, span}
+use Rattle.rds_code.specs.Bursts.{IsBurst, burst_length}
 use Rattle.rds_code.specs.Offsets.{number}
 use Rattle.rds_code.specs.Reading.{reading}
 use Rattle.rds_code.specs.Encoding.{offset_by_version, third_offset}
@@ -31,7 +31,7 @@ pub record CodeLaws : Type 0 where
   pub third : CorrectsThird
 
 -- the exceptional burst is five bits long
-version_long : span version_burst ≡ 5
+version_long : burst_length version_burst ≡ 5
 unfolding count_leading_zeros count_trailing_zeros
 version_long = refl
 
@@ -68,7 +68,7 @@ module _ (laws : CodeLaws) (b : Signal) where
       let burst = some_burst limit e h.damage in
       let other : suc e ≢ version_burst = λ same. elim (cases_eq limit 5) [
         | inl five ↦ no_version_burst five same
-        | inr less ↦ absurd (omega (arith, burst.short, ap span same, version_long, less, few))
+        | inr less ↦ absurd (omega (arith, burst.short, ap burst_length same, version_long, less, few))
       ] in
       ap (λ (r : Reading). Read r) (read_heard limit place info 3 o (suc e) (alone o) h
       ∙ laws.third h.sent info o limit (suc e) h.block own few burst other)

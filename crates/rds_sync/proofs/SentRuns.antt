@@ -9,7 +9,7 @@ use Rattle.rds_code.specs.declared.offset.Offset.TheVariants.{A, B, C, Cx, D}
 use Rattle.rds_code.specs.Encoding.{third_offset}
 use Rattle.rds_code.specs.Offsets.{number, word, offset_of}
 use Rattle.rds_code.specs.Remainder.{rem}
-use Rattle.rds_stream.specs.Recording.{Signal, length_of, offset_heard, off}
+use Rattle.rds_stream.specs.Recording.{Signal, length_of, offset_heard, offset_at}
 use Rattle.rds_sync.specs.declared.item.Block.{Block}
 use Rattle.rds_sync.specs.declared.item.Group.{Group as GroupOf}
 use Rattle.rds_sync.specs.declared.item.Item.{Item}
@@ -55,7 +55,7 @@ module _ (b : Signal) where
   heard_offset : (limit place info : ℕ) (o : Offset) (h : IsHeardFrom b limit place info o 0) → offset_of (rem (bit_xor h.sent 0)) ≡ Some o
   heard_offset limit place info o h = ap (λ (w : ℕ). offset_of (rem w)) (xor_zero_r h.sent) ∙ ap offset_of h.block.remainder ∙ word_offset o
 
-  sent_off : (limit place info : ℕ) (o : Offset) → 25 ≤ place → IsHeardFrom b limit place info o 0 → off b place ≡ Some o
+  sent_off : (limit place info : ℕ) (o : Offset) → 25 ≤ place → IsHeardFrom b limit place info o 0 → offset_at b place ≡ Some o
   sent_off limit place info o late h = off-heard b place late ∙ ap offset_heard h.heard_is ∙ heard_offset limit place info o h
 
   sent_number : (limit place info x : ℕ) (o : Offset) → 25 ≤ place → number o ≡ x → IsHeardFrom b limit place info o 0 → has_number b place x ≡ true

@@ -7,7 +7,7 @@ use Rattle.std.proofs.lemmas.Bool.{ne_eqb}
 use Rattle.std.proofs.lemmas.List.Sums.{sum_by-append, sum_by-cons}
 use Rattle.rds_code.specs.declared.offset.Offset.{Offset}
 use Rattle.rds_code.specs.declared.offset.Offset.TheVariants.{A, B, D}
-use Rattle.rds_code.specs.Bursts.{span}
+use Rattle.rds_code.specs.Bursts.{burst_length}
 use Rattle.rds_code.specs.Encoding.{third_offset}
 use Rattle.rds_code.specs.Laws.{HasOneBlock}
 use Rattle.rds_stream.specs.Recording.{ungapped}
@@ -25,11 +25,11 @@ use Rattle.rds_sync.proofs.TotalsLemmas.{same_counts}
 
 -- ---- one block
 
-no_span : span 0 ≡ 0
+no_span : burst_length 0 ≡ 0
 unfolding count_leading_zeros count_trailing_zeros
 no_span = refl
 
-corrected_sent : (s : ℕ) → 1 ≤ s → (o : Offset) (info e : ℕ) → is_corrected_by s (block_sent o info e) ≡ eqb (span e) s
+corrected_sent : (s : ℕ) → 1 ≤ s → (o : Offset) (info e : ℕ) → is_corrected_by s (block_sent o info e) ≡ eqb (burst_length e) s
 corrected_sent s some o info zero = sym (ap (λ (n : ℕ). eqb n s) no_span ∙ ne_eqb 0 s (λ no. absurd (omega (arith, some, no))))
 corrected_sent s some o info (suc e) = refl
 
@@ -143,11 +143,11 @@ none_lost (e ∷ masks) = none_lost masks
 listed_totals : (g : SentGroup) (groups : List SentGroup) → totals_of (listed g groups) ≡ totals_damaged (length (g ∷ groups)) (masks_read g groups)
 listed_totals g groups =
     same_counts (listed_count is_valid (λ e. eqb e 0) refl good_sent g groups)
-    (listed_count (is_corrected_by 1) (λ e. eqb (span e) 1) refl (corrected_sent 1 (omega arith)) g groups)
-    (listed_count (is_corrected_by 2) (λ e. eqb (span e) 2) refl (corrected_sent 2 (omega arith)) g groups)
-    (listed_count (is_corrected_by 3) (λ e. eqb (span e) 3) refl (corrected_sent 3 (omega arith)) g groups)
-    (listed_count (is_corrected_by 4) (λ e. eqb (span e) 4) refl (corrected_sent 4 (omega arith)) g groups)
-    (listed_count (is_corrected_by 5) (λ e. eqb (span e) 5) refl (corrected_sent 5 (omega arith)) g groups)
+    (listed_count (is_corrected_by 1) (λ e. eqb (burst_length e) 1) refl (corrected_sent 1 (omega arith)) g groups)
+    (listed_count (is_corrected_by 2) (λ e. eqb (burst_length e) 2) refl (corrected_sent 2 (omega arith)) g groups)
+    (listed_count (is_corrected_by 3) (λ e. eqb (burst_length e) 3) refl (corrected_sent 3 (omega arith)) g groups)
+    (listed_count (is_corrected_by 4) (λ e. eqb (burst_length e) 4) refl (corrected_sent 4 (omega arith)) g groups)
+    (listed_count (is_corrected_by 5) (λ e. eqb (burst_length e) 5) refl (corrected_sent 5 (omega arith)) g groups)
     (listed_count is_lost (λ e. false) refl lost_sent g groups ∙ none_lost (masks_read g groups))
     (listed_sum bits_corrected count_ones refl bits_sent_are g groups)
     (listed_items is_group 0 1 1 refl (λ h. refl) (λ place h. refl) g groups ∙ omega arith)

@@ -6,7 +6,7 @@ use Rattle.std.proofs.Math.Nat.{pow-suc}
 use Rattle.std.specs.Prelude.{nat_le, ◌&&◌, count_ones, if◌then◌else◌}
 use Rattle.std.specs.List.{All}
 use Rattle.std.specs.Int.Count.{ones, ones_step, count_leading_zeros, count_trailing_zeros}
-use Rattle.rds_code.specs.Bursts.{span, bursts, IsBurst}
+use Rattle.rds_code.specs.Bursts.{burst_length, bursts, IsBurst}
 use Rattle.rds_code.specs.Laws.{ReadsByRule, ListsBursts}
 use Rattle.rds_code.specs.Reading.{reading}
 use Rattle.rds_code.specs.declared.reading.Wanted.{Wanted}
@@ -55,7 +55,7 @@ pass_at p (x ∷ xs) h k d l = elim (cases_Bool (p x)) [
   at_index first rest (suc j) m = rest j d (omega arith)
 
 -- each burst of up to five bits does
-all_short : all_pass (λ e. is_short (span e) (ones_in 26 e)) (bursts 5) ≡ true
+all_short : all_pass (λ e. is_short (burst_length e) (ones_in 26 e)) (bursts 5) ≡ true
 unfolding count_leading_zeros count_trailing_zeros
 all_short = refl
 
@@ -85,16 +85,16 @@ pub record BurstLaws : Type 0 where
   pub reads : ReadsByRule
 
 module _ (laws : BurstLaws) where
-  burst-short : (limit e : ℕ) → limit ≤ 5 → IsBurst limit e → IsShort (corrected (span e) (count_ones e))
+  burst-short : (limit e : ℕ) → limit ≤ 5 → IsBurst limit e → IsShort (corrected (burst_length e) (count_ones e))
   burst-short limit e few is =
       let short = is.short in
       let five : IsBurst 5 e = record { is_block = is.is_block; not_zero = is.not_zero; short = omega (arith, short) } in
       let listed = (laws.lists 5 e (omega arith)).0 five in
-      let pass : is_short (span (get_or (bursts 5) listed.0 e)) (ones_in 26 (get_or (bursts 5) listed.0 e)) ≡ true =
-      pass_at (λ d. is_short (span d) (ones_in 26 d)) (bursts 5) all_short listed.0 e listed.1 in
+      let pass : is_short (burst_length (get_or (bursts 5) listed.0 e)) (ones_in 26 (get_or (bursts 5) listed.0 e)) ≡ true =
+      pass_at (λ d. is_short (burst_length d) (ones_in 26 d)) (bursts 5) all_short listed.0 e listed.1 in
       let bits : ones_in 26 e ≡ count_ones e = sym (ones_are 26 e is.is_block) in
-      short_from (span e) (count_ones e)
-      (subst (λ (n : ℕ). is_short (span e) n ≡ true) bits (subst (λ (d : ℕ). is_short (span d) (ones_in 26 d) ≡ true) listed.2 pass))
+      short_from (burst_length e) (count_ones e)
+      (subst (λ (n : ℕ). is_short (burst_length e) n ≡ true) bits (subst (λ (d : ℕ). is_short (burst_length d) (ones_in 26 d) ≡ true) listed.2 pass))
 
   reading-short : (h : Option ℕ) (y : ℕ) (wanted : Wanted) (limit : ℕ) → 1 ≤ y → y ≤ 4 → limit ≤ 5 → IsShort (outcome_of (Read (reading_heard h y wanted limit)))
   reading-short None y wanted limit low high few = tt

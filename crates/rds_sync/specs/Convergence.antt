@@ -10,7 +10,7 @@ use Rattle.std.specs.Prelude.{◌≡◌, ◌≢◌, ℕ, ◌+◌, ◌-◌, ◌*�
 use Rattle.std.specs.List.{All}
 use Rattle.std.specs.List.Sorted.{IsStrictlyIncreasing}
 use Rattle.rds_code.specs.Cycle.{number_after}
-use Rattle.rds_stream.specs.Recording.{Signal, length_of, off}
+use Rattle.rds_stream.specs.Recording.{Signal, length_of, offset_at}
 use Rattle.rds_sync.specs.declared.loss.Loss.{Loss}
 use Rattle.rds_sync.specs.declared.loss.Loss.TheVariants.{Run, Share}
 use Rattle.rds_sync.specs.declared.state.State.{State}
@@ -30,7 +30,7 @@ module _ (b : Signal) (from to : ℕ) where
   -- a place of the range that has an offset and is no place p + 26 k
   pub record IsRival (p r : ℕ) : Type 0 where
     pub inside : (from ≤ r) × (r < to)
-    pub valid : IsTrue (is_some (off b r))
+    pub valid : IsTrue (is_some (offset_at b r))
     pub elsewhere : (k : ℕ) → r ≢ p + 26 * k
 
   -- these rivals, in rising order, have the place `phase` modulo 26

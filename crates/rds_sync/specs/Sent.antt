@@ -11,7 +11,7 @@ use Rattle.std.specs.Int.{to_be_bytes, w128}
 use Rattle.rds_code.specs.declared.offset.Offset.{Offset}
 use Rattle.rds_code.specs.declared.offset.Offset.TheVariants.{A, B, D}
 use Rattle.rds_code.specs.declared.reading.Reading.TheVariants.{Valid, Corrected}
-use Rattle.rds_code.specs.Bursts.{IsBurst, span}
+use Rattle.rds_code.specs.Bursts.{IsBurst, burst_length}
 use Rattle.rds_code.specs.Encoding.{IsBlockOf, third_offset, encoded_group}
 use Rattle.rds_code.specs.Correction.{version_burst}
 use Rattle.rds_stream.specs.Recording.{Signal, heard, length_of, ungapped, bits_of}
@@ -232,7 +232,7 @@ masks_read g groups = slice_index g.damages 1 ∷ slice_index g.damages 2 ∷ sl
 abbrev pub totals_damaged : ℕ → List ℕ → Totals
 totals_damaged n masks = record {
   valid = count_by (λ e. e == 0) masks;
-  bursts = by_span (λ s. count_by (λ e. span e == s) masks);
+  bursts = by_span (λ s. count_by (λ e. burst_length e == s) masks);
   lost = 0;
   bits = sum_by count_ones masks;
   groups = n;

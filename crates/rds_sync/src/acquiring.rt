@@ -3,7 +3,7 @@
 ghost use Rattle.std.specs.Prelude.{◌≡◌, ◌≤◌, ◌<◌, ◌+◌, ◌-◌, ◌*◌, ◌%◌, ◌^◌, ◌==◌, ◌∷◌, ℕ, List, length, IfSome, Option, None, Some, false, option_map};
 ghost use Rattle.std.specs.List.{list_any, range_with_len};
 ghost use Rattle.rds_code.specs.declared.offset.Offset.{Offset};
-ghost use Rattle.rds_stream.specs.Recording.{Signal, length_of, heard, off};
+ghost use Rattle.rds_stream.specs.Recording.{Signal, length_of, heard, offset_at};
 ghost use Rattle.rds_sync.specs.Acquiring.{acquired, has_partner, is_in_step};
 ghost use Rattle.rds_sync.specs.Advance.{items_in};
 ghost use Rattle.rds_sync.specs.Groups.{group};
@@ -145,7 +145,7 @@ fn is_partner<T: Tape>(tape: &mut T, place: u64, number: BlockNumber, distance: 
 fn offset_at<T: Tape>(tape: &mut T, place: u64) -> Option<Offset>
     requires within { place < length_of (T.signal tape.old) }
     requires counted { T.reads_made tape.old < 2 ^ 63 }
-    ensures value { result ≡ off (T.signal tape.old) place }
+    ensures value { result ≡ offset_at (T.signal tape.old) place }
     ensures same { T.signal tape.new ≡ T.signal tape.old }
     ensures reads { T.reads_made tape.new ≤ T.reads_made tape.old + 1 }
 {

@@ -10,7 +10,7 @@ use Rattle.std.proofs.lemmas.Bool.{le-ltb}
 use Rattle.std.proofs.lemmas.Grind.{flat_map-append}
 use Rattle.std.proofs.lemmas.List.{append-nil, length-append, length-take, nil_from_length}
 use Rattle.std.proofs.lemmas.List.FromFn.{length-map-range_with_len}
-use Rattle.rds_live.specs.Live.{LiveOf, HasHeard, Terms, complete, live_of, report_at, run_of, signal_at, signal_of}
+use Rattle.rds_live.specs.StreamDecoder.{LiveOf, HasHeard, Terms, complete, live_of, report_at, run_of, signal_at, signal_of}
 use Rattle.rds_stream.specs.Recording.{AreGaps, bits_of, length_of, packed_bit}
 use Rattle.rds_sync.specs.declared.item.Item.{Item}
 use Rattle.rds_sync.specs.declared.state.State.TheVariants.{Searching}

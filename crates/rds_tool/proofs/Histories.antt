@@ -3,7 +3,7 @@ use Rattle.std.proofs.Common.{◌≡◌, ◌≢◌, ◌+◌, ◌*◌, ◌^◌, �
 use Rattle.std.specs.Prelude.{IfErr, IfSome, OnOk}
 use Rattle.std.specs.Io.KnownBytes.{Appends, Consumes}
 use Rattle.std.proofs.lemmas.List.{append-nil, length-append, length-take, nil_from_length}
-use Rattle.rds_live.specs.Live.{LiveOf, Terms}
+use Rattle.rds_live.specs.StreamDecoder.{LiveOf, Terms}
 use Rattle.rds_stream.specs.Recording.{AreGaps}
 use Rattle.rds_tool.specs.Following.{AllCount, BreaksOff, EndsShort, IsFlushedAfter, IsHeardOut, IsTooLong, StopsBetweenRows, StopsInRows, listed, rows_so_far}
 use Rattle.rds_tool.specs.History.{Gave}

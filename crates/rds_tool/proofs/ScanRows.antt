@@ -6,13 +6,13 @@ use Rattle.std.proofs.lemmas.List.{append-nil}
 use Rattle.std.proofs.lemmas.List.Folds.{concat-append}
 use Rattle.std.proofs.lemmas.List.FromFn.{length-range_with_len, map-range_with_len_more, take-map-range_with_len}
 use Rattle.rds_code.specs.declared.offset.Offset.{Offset}
-use Rattle.rds_stream.specs.Recording.{Signal, heard, length_of, off, offset_heard, valid_at, valid_windows}
+use Rattle.rds_stream.specs.Recording.{Signal, heard, length_of, offset_at, offset_heard, valid_at, valid_windows}
 use Rattle.rds_tool.specs.Listing.{scan_text, window_row}
 use Rattle.rds_tool.specs.Inside.Rows.{row_where, rows_of_places}
 
 -- no window ends before place 25
-pub none_early : (b : Signal) (p : ℕ) → p < 25 → off b p ≡ None
-unfolding off
+pub none_early : (b : Signal) (p : ℕ) → p < 25 → offset_at b p ≡ None
+unfolding offset_at
 none_early b p early = ap (λ t. elim t [ true ↦ None | false ↦ offset_heard (heard b p) ]) (lt-ltb p 25 early)
 
 module _ {X : Type 0} (f : ℕ → X) where

@@ -3,7 +3,7 @@
 use Rattle.std.specs.Prelude.{◌++◌, ◌≡◌, ◌≢◌, ◌≤◌, ◌<◌, ◌+◌, ◌*◌, ◌^◌, ◌⊎◌, [], ⊤, ℕ, Bool, List, None, Ok, Option, Result, Some, length, min, true}
 use Rattle.std.specs.List.{flat_map}
 use Rattle.std.specs.Io.KnownBytes.{Appends, Consumes, IsAtEnd}
-use Rattle.rds_live.specs.Live.{Terms, complete, signal_at}
+use Rattle.rds_live.specs.StreamDecoder.{Terms, complete, signal_at}
 use Rattle.rds_stream.specs.Recording.{AreGaps}
 use Rattle.rds_tool.specs.Input.{and_then, claimed, first_bits}
 use Rattle.rds_tool.specs.Listing.{item_row}

@@ -2,7 +2,7 @@
 ghost use Rattle.std.specs.Prelude.{◌+◌, ◌-◌, ◌*◌, ◌/◌, ◌++◌, ◌<◌, ◌^◌, ◌≡◌, ◌≢◌, ◌≤◌, ◌⊎◌, ◌↔◌, [], IfErr, IfOk, IsOkUnless, IfSome, IsErrOf, List, None, Ok, OnOk, Option, Some, length, take, true, vec_capacity, ℕ};
 ghost use Rattle.std.specs.Io.KnownBytes.{Consumes, IsAtEnd, Keeps, Appends};
 ghost use Rattle.std.specs.List.{flat_map};
-ghost use Rattle.rds_live.specs.Live.{HasHeard, live_of, report_at};
+ghost use Rattle.rds_live.specs.StreamDecoder.{HasHeard, live_of, report_at};
 ghost use Rattle.rds_stream.specs.Recording.{AreGaps};
 ghost use Rattle.rds_sync.specs.Advance.{group_item};
 ghost use Rattle.rds_sync.specs.Totals.{totals_of};
@@ -19,7 +19,7 @@ use crate::listing::{push_items, push_named};
 use crate::rows::{CsvRows, rows_in_room, text_of_rows};
 use crate::text::write_flushed;
 use crate::{Failed, Sink, Source, ToolError};
-use rds_live::{Live, MOST_ITEMS, StreamEnd};
+use rds_live::{StreamDecoder, MOST_ITEMS, StreamEnd};
 use rds_stream::MOST_BITS;
 use rds_sync::{Item, Rules, laws};
 use std::alloc::Global;
@@ -107,7 +107,7 @@ fn follow_bytes<'r, S: Source, K: Sink>(
     rules: &'r Rules,
     gaps: &'r [(u64, u64)],
     bits: Option<u64>,
-) -> Result<Live<'r>, ToolError>
+) -> Result<StreamDecoder<'r>, ToolError>
     requires reads { S.failed reader.old < 2 ^ 63 }
     requires writes { K.failed writer.old < 2 ^ 63 }
     ensures followed { IfOk result (λ live. (heard : List ℕ)
@@ -158,7 +158,7 @@ fn begin<'r>(
     rules: &'r Rules,
     gaps: &'r [(u64, u64)],
     bits: Option<u64>,
-) -> Result<(Live<'r>, Vec<u8>, Vec<Item>), ToolError>
+) -> Result<(StreamDecoder<'r>, Vec<u8>, Vec<Item>), ToolError>
     ensures live { IfOk result (λ begun. begun.0 ≡ live_of
         (record { rules = rules.now; gaps = gaps.now }) []) }
     ensures room { IfOk result (λ begun. length begun.1.items ≡ 65536) }
@@ -170,7 +170,7 @@ fn begin<'r>(
         ⊎ ((error ≡ ToolError.TooLong) ⊎ (error ≡ ToolError.BadGaps))) }
 {
     check_claim(bits)?;
-    let live = Live::with_gaps(alloc, rules, gaps)?;
+    let live = StreamDecoder::with_gaps(alloc, rules, gaps)?;
     let buf = vec![in alloc; 0u8; CHUNK]?;
     let items = Vec::with_capacity(alloc, MOST_ITEMS)?;
     Ok((live, buf, items))
@@ -279,7 +279,7 @@ fn read_last<S: Source>(reader: &mut S, last: &mut [u8], left: u64) -> Result<us
 fn follow_chunk<K: Sink>(
     alloc: Global,
     writer: &mut K,
-    live: &mut Live<'_>,
+    live: &mut StreamDecoder<'_>,
     bytes: &[u8],
     items: &mut Vec<Item>,
 ) -> Result<(), ToolError>
@@ -312,7 +312,7 @@ fn follow_chunk<K: Sink>(
 /// Decodes the next bytes of a stream, and gives the rows that they complete.
 fn rows_of_chunk(
     alloc: Global,
-    live: &mut Live<'_>,
+    live: &mut StreamDecoder<'_>,
     bytes: &[u8],
     items: &mut Vec<Item>,
 ) -> Result<Vec<u8>, ToolError>
@@ -343,7 +343,7 @@ fn rows_of_chunk(
 /// bytes these were.
 fn push_rows(
     rows: &mut CsvRows,
-    live: &mut Live<'_>,
+    live: &mut StreamDecoder<'_>,
     bytes: &[u8],
     items: &mut Vec<Item>,
 ) -> Result<usize, ToolError>
@@ -372,7 +372,7 @@ fn push_rows(
 /// progress after them, if any, and those of the totals.
 fn rows_of_rest(
     alloc: Global,
-    live: Live<'_>,
+    live: StreamDecoder<'_>,
     bytes: &[u8],
     bits: u64,
 ) -> Result<Vec<u8>, ToolError>

@@ -2,7 +2,7 @@
 ghost use Rattle.std.specs.Prelude.{◌*◌, ◌-◌, ◌++◌, ◌<◌, ◌≡◌, ◌≤◌, IfOk, IsOkUnless, drop, length, take};
 ghost use Rattle.std.specs.List.{concat};
 ghost use Rattle.rds_rows.specs.Sheets.{left_of, size_of, text_of};
-ghost use Rattle.rds_stream.specs.Recording.{length_of, off, valid_at};
+ghost use Rattle.rds_stream.specs.Recording.{length_of, offset_at, valid_at};
 ghost use Rattle.rds_tool.specs.Inside.Rows.{row_where, rows_of_places};
 
 use crate::ToolError;
@@ -72,7 +72,7 @@ impl WindowRows<'_> {
     /// The offset of the window at a place, if it is valid.
     fn offset_at(&self, place: u64) -> Option<Offset>
         requires { place < length_of self.now.recording.now }
-        ensures { result ≡ off self.now.recording.now place }
+        ensures { result ≡ offset_at self.now.recording.now place }
     {
         if place < FIRST_WINDOW {
             None

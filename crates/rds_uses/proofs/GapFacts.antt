@@ -1,7 +1,7 @@
 -- What is heard if a gap is touched, and if none is.
 use Rattle.std.proofs.Common.{◌≡◌, ℕ, ◌≤◌, Bool, true, false, Option, Some, None, refl, ap, ◌∙◌, inl, inr}
 use Rattle.std.proofs.lemmas.Bool.{cases_lt, le-ltb, lt-ltb}
-use Rattle.rds_stream.specs.Recording.{Signal, window, touched, heard, offset_heard, off}
+use Rattle.rds_stream.specs.Recording.{Signal, window, touched, heard, offset_heard, offset_at}
 use Rattle.rds_sync.specs.Acquiring.{acquired}
 use Rattle.rds_sync.specs.Rules.{RuleNumbers}
 
@@ -13,14 +13,14 @@ pub heard-clear : (b : Signal) (i : ℕ) → touched b i ≡ false → heard b i
 unfolding heard
 heard-clear b i is = ap (λ (t : Bool). elim t as (λ _. Option ℕ) [ true ↦ None | false ↦ Some (window b.bits i) ]) is
 
-pub off-heard : (b : Signal) (i : ℕ) → 25 ≤ i → off b i ≡ offset_heard (heard b i)
-unfolding off
-off-heard b i late = rw (le-ltb i 25 late, off) refl
+pub off-heard : (b : Signal) (i : ℕ) → 25 ≤ i → offset_at b i ≡ offset_heard (heard b i)
+unfolding offset_at
+off-heard b i late = rw (le-ltb i 25 late, offset_at) refl
 
-pub off-touched : (b : Signal) (i : ℕ) → touched b i ≡ true → off b i ≡ None
-unfolding off
+pub off-touched : (b : Signal) (i : ℕ) → touched b i ≡ true → offset_at b i ≡ None
+unfolding offset_at
 off-touched b i is = elim (cases_lt i 25) [
-  | inl early ↦ rw (lt-ltb i 25 early, off) refl
+  | inl early ↦ rw (lt-ltb i 25 early, offset_at) refl
   | inr late ↦ off-heard b i late ∙ ap offset_heard (heard-touched b i is)
 ]
 

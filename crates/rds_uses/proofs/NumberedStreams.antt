@@ -2,7 +2,7 @@
 use Rattle.std.proofs.Common.{◌≡◌, ◌∙◌, ◌+◌, ◌*◌, ◌++◌, ℕ, List, [], ap, append_assoc, drop, length, map, refl, sym, take}
 use Rattle.std.proofs.lemmas.List.{length-map, map-append}
 use Rattle.rds_sync.specs.declared.item.Item.{Item}
-use Rattle.rds_live.specs.Live.{HasHeard, Terms, report_at, report_of}
+use Rattle.rds_live.specs.StreamDecoder.{HasHeard, Terms, report_at, report_of}
 use Rattle.rds_abi.specs.Stream.{AreClosed, AreCompleted, AreLeft, AreWritten, stream_in_c, stream_of, unheard}
 use Rattle.rds_abi.specs.Layout.{item_in_c}
 use Rattle.rds_abi.specs.declared.layout.RdsStream.{RdsStream}

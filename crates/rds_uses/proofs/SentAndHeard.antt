@@ -8,7 +8,7 @@ use Rattle.std.proofs.lemmas.List.{get_or_past}
 use Rattle.rds_code.specs.Encoding.{IsGroupOf}
 use Rattle.rds_code.specs.Offsets.{number, offset_of, word}
 use Rattle.rds_code.specs.Remainder.{rem}
-use Rattle.rds_stream.specs.Recording.{Signal, heard, off, offset_heard, ungapped}
+use Rattle.rds_stream.specs.Recording.{Signal, heard, offset_at, offset_heard, ungapped}
 use Rattle.rds_sync.specs.Groups.{info_of}
 use Rattle.rds_sync.specs.Ranges.{IsInRange}
 use Rattle.rds_sync.specs.Report.{report_items}
@@ -42,12 +42,12 @@ own-word C = refl
 own-word Cx = refl
 own-word D = refl
 
-off-heard : (b : Signal) (i w : ℕ) → nat_lt i 25 ≡ false → heard b i ≡ Some w → off b i ≡ offset_of (rem w)
-unfolding off
+off-heard : (b : Signal) (i w : ℕ) → nat_lt i 25 ≡ false → heard b i ≡ Some w → offset_at b i ≡ offset_of (rem w)
+unfolding offset_at
 off-heard b i w far is =
     ap (λ (early : Bool). elim early [ true ↦ None | false ↦ offset_heard (heard b i) ]) far ∙ ap offset_heard is
 
-pub offset-heard : (b : Signal) (i w : ℕ) (o : Offset) → 25 ≤ i → heard b i ≡ Some w → rem w ≡ word o → off b i ≡ Some o
+pub offset-heard : (b : Signal) (i w : ℕ) (o : Offset) → 25 ≤ i → heard b i ≡ Some w → rem w ≡ word o → offset_at b i ≡ Some o
 offset-heard b i w o far is own = off-heard b i w (le-ltb i 25 far) is ∙ ap offset_of own ∙ own-word o
 
 -- the words of a group that was encoded

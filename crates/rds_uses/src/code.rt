@@ -8,7 +8,7 @@ ghost use Rattle.rds_code.specs.declared.reading.Reading.{Reading as AReading};
 ghost use Rattle.rds_code.specs.declared.reading.Reading.TheVariants.{Valid, Corrected};
 ghost use Rattle.rds_code.specs.Remainder.{IsRemainder, rem};
 ghost use Rattle.rds_code.specs.Offsets.{number};
-ghost use Rattle.rds_code.specs.Bursts.{IsBurst, bursts, span};
+ghost use Rattle.rds_code.specs.Bursts.{IsBurst, bursts, burst_length};
 ghost use Rattle.rds_code.specs.Reading.{FitsAlone, IsReading, reading};
 ghost use Rattle.rds_code.specs.Encoding.{IsBlockOf, third_offset};
 ghost use Rattle.rds_code.specs.Correction.{ReadsAsSent, version_burst};
@@ -137,7 +137,7 @@ pub fn listed(burst: Burst) -> u32
 
 /// A place for each span in a table of five.
 pub fn index_by_span(burst: Burst) -> usize
-    ensures value { result + 1 ≡ span burst }
+    ensures value { result + 1 ≡ burst_length burst }
     ensures inside { result < 5 }
 {
     (burst.span() - 1) as usize

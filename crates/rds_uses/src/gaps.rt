@@ -2,7 +2,7 @@
 ghost use Rattle.std.specs.Prelude.{◌≡◌, ◌+◌, ◌*◌, ◌<◌, ◌≤◌, ◌^◌, [], None, Some, Err, true, false, vec_len};
 ghost use Rattle.rds_code.specs.Reading.{reading};
 ghost use Rattle.rds_code.specs.declared.reading.Reading.TheVariants.{Lost};
-ghost use Rattle.rds_stream.specs.Recording.{AreGaps, bits_of, length_of, off, touched, window};
+ghost use Rattle.rds_stream.specs.Recording.{AreGaps, bits_of, length_of, offset_at, touched, window};
 ghost use Rattle.rds_stream.specs.declared.error.StreamError.TheVariants.{BadGaps, BitsPastBytes, TooLong};
 ghost use Rattle.rds_sync.specs.Advance.{items_in};
 ghost use Rattle.rds_sync.specs.Groups.{group as group_at};
@@ -104,7 +104,7 @@ pub fn read_back_and_forth(reader: &mut Reader<'_>, place: u64, before: u64) -> 
 pub fn offset_on_tape(recording: &Recording, place: u64) -> (Option<Offset>, u64)
     requires first { 25 ≤ place }
     requires last { place < length_of recording.now }
-    ensures offset { result.0 ≡ off recording.now place }
+    ensures offset { result.0 ≡ offset_at recording.now place }
     ensures counted { result.1 ≡ 1 }
 {
     let mut tape = Counted::new(recording);

@@ -3,7 +3,7 @@ ghost use Rattle.std.specs.Prelude.{◌≡◌, ◌≢◌, ◌++◌, ◌+◌, ◌
 ghost use Rattle.rds_code.specs.Remainder.{rem};
 ghost use Rattle.rds_sync.specs.Report.{report_items};
 ghost use Rattle.rds_sync.specs.Totals.{totals_of};
-ghost use Rattle.rds_live.specs.Live.{HasHeard, report_at, report_of};
+ghost use Rattle.rds_live.specs.StreamDecoder.{HasHeard, report_at, report_of};
 ghost use Rattle.rds_abi.specs.Asked.{asked, items_asked, recording_of, rules_of};
 ghost use Rattle.rds_abi.specs.Blocks.{packed};
 ghost use Rattle.rds_abi.specs.Stream.{AreCompleted, AreWritten, stream_in_c, stream_of, terms_of};

@@ -2,10 +2,10 @@
 ghost use Rattle.std.specs.Prelude.{◌≡◌, ◌++◌, [], List, ℕ, IfOk, IsOkUnless, OnOk};
 ghost use Rattle.rds_sync.specs.Advance.{group_item};
 ghost use Rattle.rds_sync.specs.Totals.{totals_of};
-ghost use Rattle.rds_live.specs.Live.{HasHeard, by_rules, complete, live_of, report_of, signal_of};
+ghost use Rattle.rds_live.specs.StreamDecoder.{HasHeard, by_rules, complete, live_of, report_of, signal_of};
 ghost use Rattle.rds_tool.specs.Outcome.{list_text};
 
-use rds_live::{Live, ResumeError, StreamEnd};
+use rds_live::{StreamDecoder, ResumeError, StreamEnd};
 use rds_stream::StreamError;
 use rds_sync::{Item, Rules, State};
 use rds_tool::{FromRead, ToWrite, ToolError, follow};
@@ -18,15 +18,15 @@ const ITEMS_A_BYTE: usize = 16;
 /// so has heard the same bytes. It fails only if memory is refused.
 pub fn anew<'r>(
     alloc: Global,
-    live: &Live<'_>,
+    live: &StreamDecoder<'_>,
     rules: &'r Rules,
     gaps: &'r [(u64, u64)],
-) -> Result<Live<'r>, ResumeError>
+) -> Result<StreamDecoder<'r>, ResumeError>
     requires { live.now.terms ≡ record { rules = rules.now; gaps = gaps.now } }
     ensures same { IfOk result (λ again. again ≡ live.now) }
     ensures only_memory { IsOkUnless result ResumeError.OutOfMemory }
 {
-    Live::resume(
+    StreamDecoder::resume(
         alloc,
         rules,
         gaps,
@@ -51,7 +51,7 @@ pub fn in_two_sittings<'r>(
     ensures totals { IfOk result (λ r. r.2.totals
         ≡ totals_of (report_of (record { rules = rules.now; gaps = gaps.now }) (first.now ++ second.now))) }
 {
-    let mut live = Live::with_gaps(alloc, rules, gaps)?;
+    let mut live = StreamDecoder::with_gaps(alloc, rules, gaps)?;
     let one = live.take_all(alloc, first)?;
     let (other, end) = second_sitting(alloc, &live, rules, gaps, second)?;
     Ok((one, other, end))
@@ -61,7 +61,7 @@ pub fn in_two_sittings<'r>(
 /// tells.
 fn second_sitting(
     alloc: Global,
-    live: &Live<'_>,
+    live: &StreamDecoder<'_>,
     rules: &Rules,
     gaps: &[(u64, u64)],
     rest: &[u8],
@@ -82,7 +82,7 @@ fn second_sitting(
 /// The items of the rest of a stream, and of its end.
 fn take_rest(
     alloc: Global,
-    live: Live<'_>,
+    live: StreamDecoder<'_>,
     rest: &[u8],
 ) -> Result<(Vec<Item>, StreamEnd), StreamError>
     ensures items { IfOk result (λ r. (before : List ℕ) → HasHeard live.entry before
@@ -103,16 +103,16 @@ pub fn one_by_one<'r>(
     alloc: Global,
     rules: &'r Rules,
     bytes: &[u8],
-) -> Result<Live<'r>, StreamError>
+) -> Result<StreamDecoder<'r>, StreamError>
     ensures { IfOk result (λ live. live ≡ live_of (by_rules rules.now) bytes.now) }
 {
-    let mut live = Live::new(alloc, rules)?;
+    let mut live = StreamDecoder::new(alloc, rules)?;
     take_one_by_one(alloc, &mut live, bytes)?;
     Ok(live)
 }
 
 /// Takes the bytes of a stream one by one.
-fn take_one_by_one(alloc: Global, live: &mut Live<'_>, bytes: &[u8]) -> Result<(), StreamError>
+fn take_one_by_one(alloc: Global, live: &mut StreamDecoder<'_>, bytes: &[u8]) -> Result<(), StreamError>
     requires { HasHeard live.old [] }
     ensures { OnOk result (live.new ≡ live_of live.old.terms bytes.now) }
 {
@@ -126,7 +126,7 @@ fn take_one_by_one(alloc: Global, live: &mut Live<'_>, bytes: &[u8]) -> Result<(
 /// Takes the next chunk of a stream, and appends the items that it completes.
 fn put_next(
     alloc: Global,
-    live: &mut Live<'_>,
+    live: &mut StreamDecoder<'_>,
     items: &mut Vec<Item>,
     bytes: &[u8],
 ) -> Result<(), StreamError>
@@ -153,7 +153,7 @@ fn append(items: &mut Vec<Item>, found: Vec<Item>) -> Result<(), StreamError>
 }
 
 /// Ends a stream, and appends the group in progress to its items.
-fn close(live: Live<'_>, items: &mut Vec<Item>) -> Result<(), StreamError>
+fn close(live: StreamDecoder<'_>, items: &mut Vec<Item>) -> Result<(), StreamError>
     ensures { IfOk result (λ _. (bytes : List ℕ) → HasHeard live.entry bytes
         → items.old.items ≡ complete live.entry.terms bytes
         → items.new.items ≡ report_of live.entry.terms bytes) }
@@ -174,7 +174,7 @@ pub fn cut_at(
 ) -> Result<Vec<Item>, StreamError>
     ensures { IfOk result (λ items. items.items ≡ report_of (by_rules rules.now) bytes.now) }
 {
-    let mut live = Live::new(alloc, rules)?;
+    let mut live = StreamDecoder::new(alloc, rules)?;
     let mut items = Vec::new(alloc);
     put_in_cuts(alloc, &mut live, &mut items, bytes, cuts)?;
     close(live, &mut items)?;
@@ -184,7 +184,7 @@ pub fn cut_at(
 /// Takes a stream that is cut at these places, and puts its items into a list that has none.
 fn put_in_cuts(
     alloc: Global,
-    live: &mut Live<'_>,
+    live: &mut StreamDecoder<'_>,
     items: &mut Vec<Item>,
     bytes: &[u8],
     cuts: &[usize],
@@ -220,7 +220,7 @@ pub fn two_cuttings(
 }
 
 /// Two decoders that were fed the same, however it was cut, are in one state.
-pub fn states<'r>(one: &Live<'r>, other: &Live<'r>) -> (State, State)
+pub fn states<'r>(one: &StreamDecoder<'r>, other: &StreamDecoder<'r>) -> (State, State)
     requires { (bytes : List ℕ) × (one.now ≡ live_of one.now.terms bytes)
         × (other.now ≡ live_of one.now.terms bytes) }
     ensures { result.0 ≡ result.1 }

@@ -6,15 +6,15 @@ ghost use Rattle.rds_sync.specs.Ranges.{IsInRange};
 ghost use Rattle.rds_sync.specs.Totals.{totals_of};
 ghost use Rattle.rds_live.specs.Next.{completed, group_next, items_next, live_next};
 
-use rds_live::{Live, StreamEnd, laws};
+use rds_live::{StreamDecoder, StreamEnd, laws};
 use rds_stream::StreamError;
 use rds_sync::Item;
 use std::alloc::Global;
 
 /// Two decoders of the same numbers stay the same and give the same items, even if no stream has these numbers.
 pub fn stay_alike(
-    one: &mut Live<'_>,
-    other: &mut Live<'_>,
+    one: &mut StreamDecoder<'_>,
+    other: &mut StreamDecoder<'_>,
     bytes: &[u8],
     items: &mut Vec<Item>,
     others: &mut Vec<Item>,
@@ -32,7 +32,7 @@ pub fn stay_alike(
 /// Bytes in two chunks give the same as at once, whatever numbers the decoder is made of.
 pub fn in_two_chunks(
     alloc: Global,
-    live: &mut Live<'_>,
+    live: &mut StreamDecoder<'_>,
     first: &[u8],
     second: &[u8],
 ) -> Result<(Vec<Item>, Vec<Item>), StreamError>
@@ -48,7 +48,7 @@ pub fn in_two_chunks(
 }
 
 /// The end of such a stream closes the group in progress that its numbers tell of, and counts it.
-pub fn ended(live: Live<'_>) -> StreamEnd
+pub fn ended(live: StreamDecoder<'_>) -> StreamEnd
     ensures group { group_item result.group ≡ group_next live.entry [] 0 }
     ensures totals { result.totals ≡ plus live.entry.totals (totals_of (group_item result.group)) }
 {
@@ -57,7 +57,7 @@ pub fn ended(live: Live<'_>) -> StreamEnd
 
 /// So does an end inside a byte, after the items that its last bits complete.
 pub fn ended_inside(
-    live: Live<'_>,
+    live: StreamDecoder<'_>,
     last: &[u8],
     bits: u64,
     items: &mut Vec<Item>,

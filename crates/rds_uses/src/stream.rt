@@ -2,7 +2,7 @@
 ghost use Rattle.std.specs.Prelude.{◌≡◌, ℕ, ◌+◌, ◌-◌, ◌*◌, ◌<◌, ◌≤◌, ◌^◌, IfSome, None, Some, Err, if◌then◌else◌, slice_index, true, vec_len};
 ghost use Rattle.std.specs.Int.{bit_at};
 ghost use Rattle.rds_code.specs.Remainder.{rem};
-ghost use Rattle.rds_stream.specs.Recording.{bits_of, heard, length_of, off, ungapped, valid_windows, window};
+ghost use Rattle.rds_stream.specs.Recording.{bits_of, heard, length_of, offset_at, ungapped, valid_windows, window};
 ghost use Rattle.rds_stream.specs.ValidWindows.{NoneValid};
 ghost use Rattle.rds_stream.specs.declared.error.StreamError.TheVariants.{BitsPastBytes, OutOfMemory, TooLong};
 
@@ -145,7 +145,7 @@ pub fn refusal_of_scan(alloc: Global, recording: &Recording) -> Option<StreamErr
 
 /// The first valid window of a recording, with its offset, if there is one.
 pub fn first_valid(recording: &Recording) -> Option<(u64, Offset)>
-    ensures some { IfSome result (λ found. off recording.now found.0 ≡ Some found.1) }
+    ensures some { IfSome result (λ found. offset_at recording.now found.0 ≡ Some found.1) }
     ensures first { IfSome result (λ found. NoneValid recording.now 0 found.0) }
     ensures none { result ≡ None → NoneValid recording.now 0 (length_of recording.now) }
 {
@@ -186,7 +186,7 @@ pub fn reads_of_new(recording: &Recording) -> u64
 pub fn last_offset<T: Tape>(tape: &mut T) -> Option<Offset>
     requires some { 26 ≤ length_of (T.signal tape.old) }
     requires room { T.reads_made tape.old < 2 ^ 63 }
-    ensures offset { result ≡ off (T.signal tape.old) (length_of (T.signal tape.old) - 1) }
+    ensures offset { result ≡ offset_at (T.signal tape.old) (length_of (T.signal tape.old) - 1) }
     ensures counted { T.reads_made tape.new ≡ T.reads_made tape.old + 1 }
     ensures same { T.signal tape.new ≡ T.signal tape.old }
 {

@@ -10,7 +10,7 @@ use Rattle.rds_sync.specs.declared.loss.Loss.TheVariants.{Run, Share}
 use Rattle.rds_sync.specs.declared.state.State.TheVariants.{Locked, Searching}
 use Rattle.rds_sync.specs.Step.{lock_of}
 use Rattle.rds_abi.specs.Asked.{loss_of}
-use Rattle.rds_live.specs.Live.{Terms, live_of}
+use Rattle.rds_live.specs.StreamDecoder.{Terms, live_of}
 use Rattle.rds_abi.specs.Blocks.{block_wanted}
 use Rattle.rds_abi.specs.Stream.{stream_of, unheard}
 use Rattle.rds_abi.specs.Ranges.{searching_in_c, state_of}

@@ -6,7 +6,7 @@ use Rattle.rds_code.specs.declared.reading.Wanted.TheVariants.{Either, OnlyC}
 use Rattle.rds_code.specs.declared.reading.Reading.TheVariants.{Valid, Corrected, Lost}
 use Rattle.rds_code.specs.Remainder.{generator, rem}
 use Rattle.rds_code.specs.Offsets.{word}
-use Rattle.rds_code.specs.Bursts.{span}
+use Rattle.rds_code.specs.Bursts.{burst_length}
 use Rattle.rds_code.specs.Reading.{reading}
 use Rattle.rds_code.specs.Detection.{remainders_near, error_masks, is_miscorrection}
 use Rattle.std.specs.Int.Count.{count_leading_zeros, count_trailing_zeros}
@@ -23,7 +23,7 @@ unfolding rem
 the_same_as_block_4 = refl
 
 -- A burst of eleven bits is not detected: the generator.
-pub eleven_bits : span generator ≡ 11
+pub eleven_bits : burst_length generator ≡ 11
 unfolding count_leading_zeros count_trailing_zeros
 eleven_bits = refl
 

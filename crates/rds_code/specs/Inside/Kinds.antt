@@ -2,7 +2,7 @@
 use Rattle.std.specs.Prelude.{◌≡◌, ℕ, ◌<◌, ◌⊎◌, List, length, slice_index}
 use Rattle.std.specs.Int.Count.{ones}
 use Rattle.rds_code.specs.Remainder.{rem}
-use Rattle.rds_code.specs.Bursts.{IsBurst, span}
+use Rattle.rds_code.specs.Bursts.{IsBurst, burst_length}
 use Rattle.rds_code.specs.Kinds.{kind_of_burst}
 
 -- no burst within the limit has the remainder d
@@ -16,7 +16,7 @@ HasBurst limit d e = IsBurst limit e × (rem e ≡ d)
 -- k is the kind of a window whose remainder, added to an offset word, is d: valid, lost, or corrected by a burst
 abbrev pub IsKind : ℕ → ℕ → ℕ → Type 0
 IsKind limit d k = ((d ≡ 0) × (k ≡ 1)) ⊎ ((0 < d) × HasNoBurst limit d × (k ≡ 2))
-    ⊎ ((e : ℕ) × HasBurst limit d e × (k ≡ kind_of_burst (span e) (ones e)))
+    ⊎ ((e : ℕ) × HasBurst limit d e × (k ≡ kind_of_burst (burst_length e) (ones e)))
 
 -- the first kinds of all are in the table
 abbrev pub StandIn : ℕ → List ℕ → Type 0

@@ -1,7 +1,7 @@
 -- The zero group twice, cut between the two: the guesses of both pieces with their marks, and the guess of both ranges.
 use Rattle.std.specs.Prelude.{◌≡◌, [], ◌∷◌, ◌++◌, length, refl}
 use Rattle.rds_code.specs.Remainder.{rem}
-use Rattle.rds_stream.specs.Recording.{Signal, bits_of, ungapped, window, touched, heard, off}
+use Rattle.rds_stream.specs.Recording.{Signal, bits_of, ungapped, window, touched, heard, offset_at}
 use Rattle.rds_sync.specs.declared.state.State.TheVariants.{Searching, Locked}
 use Rattle.rds_sync.specs.Acquiring.{acquired, has_number}
 use Rattle.rds_sync.specs.Groups.{group}
@@ -15,29 +15,29 @@ b = ungapped (bits_of (zero_group ++ zero_group) 208)
 
 -- an acquisition and a group
 pub end_of_the_first : (guess b default_rules 0 104).0 ≡ Locked (lock_of 129 1 0 1)
-unfolding acquired has_number group rem window touched heard off
+unfolding acquired has_number group rem window touched heard offset_at
 end_of_the_first = refl
 
 pub items_of_the_first : length (guess b default_rules 0 104).1 ≡ 2
-unfolding acquired has_number group rem window touched heard off
+unfolding acquired has_number group rem window touched heard offset_at
 items_of_the_first = refl
 
 -- its windows look before the cut, so its first block is known
 pub acquired_at_the_cut : (guess b default_rules 104 26).0 ≡ Locked (lock_of 155 2 0 1)
-unfolding acquired has_number group rem window touched heard off
+unfolding acquired has_number group rem window touched heard offset_at
 acquired_at_the_cut = refl
 
 pub items_of_the_second : length (guess b default_rules 104 104).1 ≡ 2
-unfolding acquired has_number group rem window touched heard off
+unfolding acquired has_number group rem window touched heard offset_at
 items_of_the_second = refl
 
 -- joined, the acquisition of the second is not among them
 pub end_of_both : (guess b default_rules 0 208).0 ≡ Locked (lock_of 233 1 0 1)
-unfolding acquired has_number group rem window touched heard off
+unfolding acquired has_number group rem window touched heard offset_at
 end_of_both = refl
 
 pub items_of_both : length (guess b default_rules 0 208).1 ≡ 3
-unfolding acquired has_number group rem window touched heard off
+unfolding acquired has_number group rem window touched heard offset_at
 items_of_both = refl
 
 pub marks_of_the_first : marks_of b default_rules Searching 0 104 ≡
@@ -45,7 +45,7 @@ pub marks_of_the_first : marks_of b default_rules Searching 0 104 ≡
     ∷ record { place = 52; state = Locked (lock_of 77 3 0 2); items = 1 }
     ∷ record { place = 104; state = Locked (lock_of 129 1 0 1); items = 2 }
     ∷ []
-unfolding acquired has_number group rem window touched heard off
+unfolding acquired has_number group rem window touched heard offset_at
 marks_of_the_first = refl
 
 pub marks_of_the_second : marks_of b default_rules Searching 104 104 ≡
@@ -53,7 +53,7 @@ pub marks_of_the_second : marks_of b default_rules Searching 104 104 ≡
     ∷ record { place = 130; state = Locked (lock_of 155 2 0 1); items = 1 }
     ∷ record { place = 208; state = Locked (lock_of 233 1 0 1); items = 2 }
     ∷ []
-unfolding acquired has_number group rem window touched heard off
+unfolding acquired has_number group rem window touched heard offset_at
 marks_of_the_second = refl
 
 -- joined, the mark at the cut is that of the item before it, and the last one counts the items of both pieces
@@ -63,5 +63,5 @@ pub marks_of_both : marks_of b default_rules Searching 0 208 ≡
     ∷ record { place = 104; state = Locked (lock_of 129 1 0 1); items = 2 }
     ∷ record { place = 208; state = Locked (lock_of 233 1 0 1); items = 3 }
     ∷ []
-unfolding acquired has_number group rem window touched heard off
+unfolding acquired has_number group rem window touched heard offset_at
 marks_of_both = refl

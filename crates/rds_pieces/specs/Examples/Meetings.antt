@@ -4,7 +4,7 @@ use Rattle.std.proofs.Common.{ap, sym}
 use Rattle.std.proofs.Math.Nat.{le_of_suc-le-suc, not-suc-le-zero}
 use Rattle.std.proofs.lemmas.Bool.{false≢true, le-leb, leb-true}
 use Rattle.rds_code.specs.Remainder.{rem}
-use Rattle.rds_stream.specs.Recording.{Signal, bits_of, ungapped, window, touched, heard, off}
+use Rattle.rds_stream.specs.Recording.{Signal, bits_of, ungapped, window, touched, heard, offset_at}
 use Rattle.rds_sync.specs.declared.state.State.{State}
 use Rattle.rds_sync.specs.declared.state.State.TheVariants.{Searching, Locked}
 use Rattle.rds_sync.specs.Acquiring.{acquired, has_number}
@@ -29,26 +29,26 @@ cut_at_190 rules = MeetAt b rules (Locked (lock_of 207 4 0 1)) Searching 190 312
 
 -- the guess acquires at that block, and both wait for the next block 1
 pub behind_207 : cut_at_190 (rules_of 2 3 10) 208
-unfolding acquired has_number group rem window touched heard off
+unfolding acquired has_number group rem window touched heard offset_at
 behind_207 = record { inside = (leb-true 190 208 refl, leb-true 208 312 refl); same = refl; between = refl }
 
 pub not_before : cut_at_190 (rules_of 2 3 10) 207 → ⊥
-unfolding acquired has_number group rem window touched heard off
+unfolding acquired has_number group rem window touched heard offset_at
 not_before met = false≢true (sym (ap (λ state. number_due state == 4) met.same))
 
 -- one block later they are in one state too, but in a group
 pub not_in_a_group : cut_at_190 (rules_of 2 3 10) 234 → ⊥
-unfolding acquired has_number group rem window touched heard off
+unfolding acquired has_number group rem window touched heard offset_at
 not_in_a_group met = false≢true (ap (λ number. number == 1) met.between)
 
 -- with reach 4 the guess locks at a false phase, and then they are never in one state
 pub not_in_the_phase : cut_at_190 (rules_of 2 4 10) 208 → ⊥
-unfolding acquired has_number group rem window touched heard off
+unfolding acquired has_number group rem window touched heard offset_at
 not_in_the_phase met = false≢true (sym (ap (λ state. number_due state == 1) met.same))
 
 -- the end of the range counts, and no place past it
 pub at_the_end : MeetAt b (rules_of 2 3 10) (Locked (lock_of 207 4 0 1)) Searching 190 208 208
-unfolding acquired has_number group rem window touched heard off
+unfolding acquired has_number group rem window touched heard offset_at
 at_the_end = record { inside = (leb-true 190 208 refl, leb-true 208 208 refl); same = refl; between = refl }
 
 pub not_past_the_end : MeetAt b (rules_of 2 3 10) (Locked (lock_of 207 4 0 1)) Searching 190 207 208 → ⊥
@@ -67,7 +67,7 @@ pub not_at_0 : (to : ℕ) → with_search 0 to 0 → ⊥
 not_at_0 to met = false≢true (sym (ap (λ state. number_due state == 4) met.same))
 
 pub not_at_1 : (to : ℕ) → with_search 0 to 1 → ⊥
-unfolding acquired off
+unfolding acquired offset_at
 not_at_1 to met = false≢true (sym (ap (λ state. number_due state == 4) met.same))
 
 pub before_2 : (to q : ℕ) → q < 2 → with_search 0 to q → ⊥
@@ -77,14 +77,14 @@ before_2 to (suc (suc q)) below met = not-suc-le-zero (le_of_suc-le-suc (le_of_s
 
 -- the least place, inside the range and at its end
 pub met_inside : IsMeeting three_bits (rules_of 2 3 1) (Locked (lock_of 1 4 0 1)) Searching 0 3 (Some 2)
-unfolding acquired has_number off
+unfolding acquired has_number offset_at
 met_inside = record {
   here = record { inside = (leb-true 0 2 refl, leb-true 2 3 refl); same = refl; between = tt };
   least = before_2 3;
 }
 
 pub met_at_the_end : IsMeeting three_bits (rules_of 2 3 1) (Locked (lock_of 1 4 0 1)) Searching 0 2 (Some 2)
-unfolding acquired has_number off
+unfolding acquired has_number offset_at
 met_at_the_end = record {
   here = record { inside = (leb-true 0 2 refl, leb-true 2 2 refl); same = refl; between = tt };
   least = before_2 2;

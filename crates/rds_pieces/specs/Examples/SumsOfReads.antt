@@ -5,7 +5,7 @@ use Rattle.std.proofs.Math.Nat.{not-le_of_lt}
 use Rattle.std.proofs.lemmas.Bool.{leb-true}
 use Rattle.rds_sync.specs.declared.state.State.TheVariants.{Searching, Locked}
 use Rattle.rds_sync.specs.Acquiring.{acquired, has_number}
-use Rattle.rds_stream.specs.Recording.{off}
+use Rattle.rds_stream.specs.Recording.{offset_at}
 use Rattle.rds_sync.specs.Examples.Words.{rules_of}
 use Rattle.rds_sync.specs.Step.{lock_of}
 use Rattle.rds_pieces.specs.Meeting.{IsMeeting}
@@ -36,7 +36,7 @@ at_once = record {
 -- the first meets at its end, 2 places on, and the second at once
 pub met_and_met : IsSumOfReads three_bits (rules_of 2 3 1) (Locked (lock_of 1 4 0 1))
     (run_over three_bits (rules_of 2 3 1) 0 2 ∷ run_over three_bits (rules_of 2 3 1) 2 3 ∷ []) 20
-unfolding acquired off has_number
+unfolding acquired offset_at has_number
 met_and_met = (Some 2, 5, met_at_the_end, (Some 2, 0, at_once, refl, refl), refl)
 
 pub nothing : IsSumOfReads three_bits (rules_of 2 3 1) Searching [] 0

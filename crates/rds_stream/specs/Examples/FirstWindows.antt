@@ -6,7 +6,7 @@ use Rattle.std.proofs.lemmas.List.FromFn.{get_or-map-range_with_len}
 use Rattle.rds_code.specs.declared.offset.Offset.{Offset}
 use Rattle.rds_code.specs.declared.offset.Offset.TheVariants.{B, D}
 use Rattle.rds_code.specs.Remainder.{rem}
-use Rattle.rds_stream.specs.Recording.{window, touched, heard, off}
+use Rattle.rds_stream.specs.Recording.{window, touched, heard, offset_at}
 use Rattle.rds_stream.specs.ValidWindows.{WindowsLeft, GivesFirst, NoneValid}
 use Rattle.rds_stream.specs.Examples.ZeroGroup.{once}
 
@@ -15,28 +15,28 @@ left next end = record { signal = once; next = next; end = end }
 
 -- the offsets of n places from `from` on
 abbrev pub offsets : ℕ → ℕ → List (Option Offset)
-offsets from n = map (off once) (range_with_len from n)
+offsets from n = map (offset_at once) (range_with_len from n)
 
 -- places of which each has none
 pub none_of : (from n : ℕ) → offsets from n ≡ map (λ i. None) (range_with_len from n)
     → NoneValid once from (from + n)
 none_of from n none i low high =
-    sym (get_or-map-range_with_len (off once) from n (i - from) i None (omega (arith, low, high)) (omega (arith, low)))
+    sym (get_or-map-range_with_len (offset_at once) from n (i - from) i None (omega (arith, low, high)) (omega (arith, low)))
     ∙ ap (λ found. get_or found (i - from) None) none
     ∙ get_or-map-range_with_len (λ j. None) from n (i - from) i None (omega (arith, low, high)) (omega (arith, low))
 
 -- ---- which places have none
 
 pub none_78_to_96 : NoneValid once 78 96
-unfolding rem window touched heard off
+unfolding rem window touched heard offset_at
 none_78_to_96 = none_of 78 18 refl
 
 pub none_97_to_103 : NoneValid once 97 103
-unfolding rem window touched heard off
+unfolding rem window touched heard offset_at
 none_97_to_103 = none_of 97 6 refl
 
-pub at_96 : off once 96 ≡ Some B
-unfolding rem window touched heard off
+pub at_96 : offset_at once 96 ≡ Some B
+unfolding rem window touched heard offset_at
 at_96 = refl
 
 -- so these places and the next do not all have none

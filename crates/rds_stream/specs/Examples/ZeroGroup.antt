@@ -5,7 +5,7 @@ use Rattle.std.specs.List.{range_with_len, All, AllAdjacentBelow}
 use Rattle.rds_code.specs.Remainder.{rem}
 use Rattle.rds_code.specs.Examples.ZeroGroup.{window_at}
 use Rattle.rds_code.specs.declared.offset.Offset.TheVariants.{A, B, C, D}
-use Rattle.rds_stream.specs.Recording.{Signal, AreGaps, bits_of, ungapped, window, touched, heard, off, valid_windows}
+use Rattle.rds_stream.specs.Recording.{Signal, AreGaps, bits_of, ungapped, window, touched, heard, offset_at, valid_windows}
 
 abbrev pub zero_group : List ℕ
 zero_group = 0x00 ∷ 0x00 ∷ 0x3F ∷ 0x00 ∷ 0x00 ∷ 0x19 ∷ 0x80 ∷ 0x00 ∷ 0x05 ∷ 0xA0 ∷ 0x00 ∷ 0x01 ∷ 0xB4 ∷ []
@@ -22,13 +22,13 @@ unfolding window
 windows = refl
 
 pub once_valid : valid_windows once 0 104 ≡ (25, A) ∷ (51, B) ∷ (77, C) ∷ (96, B) ∷ (103, D) ∷ []
-unfolding rem window touched heard off
+unfolding rem window touched heard offset_at
 once_valid = refl
 
 pub twice_valid : valid_windows twice 0 208 ≡
     (25, A) ∷ (51, B) ∷ (77, C) ∷ (96, B) ∷ (103, D) ∷ (123, B) ∷ (129, A) ∷ (155, B) ∷ (181, C) ∷ (200, B)
     ∷ (207, D) ∷ []
-unfolding rem window touched heard off
+unfolding rem window touched heard offset_at
 twice_valid = refl
 
 -- sent five times: a word of 64 places begins at another place of each group
@@ -41,20 +41,20 @@ pub five_valid : valid_windows five_times 0 520 ≡
     (227, B) ∷ (233, A) ∷ (259, B) ∷ (285, C) ∷ (304, B) ∷ (311, D) ∷ (331, B) ∷ (337, A) ∷ (363, B)
     ∷ (389, C) ∷ (408, B) ∷ (415, D) ∷
     (435, B) ∷ (441, A) ∷ (467, B) ∷ (493, C) ∷ (512, B) ∷ (519, D) ∷ []
-unfolding rem window touched heard off
+unfolding rem window touched heard offset_at
 five_valid = refl
 
 -- one place, the places before the first window, and no place
 pub one_place : valid_windows once 96 97 ≡ (96, B) ∷ []
-unfolding rem window touched heard off
+unfolding rem window touched heard offset_at
 one_place = refl
 
 pub place_129 : valid_windows twice 129 130 ≡ (129, A) ∷ []
-unfolding rem window touched heard off
+unfolding rem window touched heard offset_at
 place_129 = refl
 
 pub first_places : valid_windows once 0 25 ≡ []
-unfolding rem window touched heard off
+unfolding rem window touched heard offset_at
 first_places = refl
 
 pub no_place : valid_windows once 104 104 ≡ []
@@ -66,7 +66,7 @@ with_gap = record { bits = twice.bits; gaps = (104, 105) ∷ [] }
 
 pub gap_valid : valid_windows with_gap 0 208 ≡
     (25, A) ∷ (51, B) ∷ (77, C) ∷ (96, B) ∷ (103, D) ∷ (155, B) ∷ (181, C) ∷ (200, B) ∷ (207, D) ∷ []
-unfolding rem window touched heard off
+unfolding rem window touched heard offset_at
 gap_valid = refl
 
 -- a window touches a gap from its first place on to the 25th after its last
@@ -76,7 +76,7 @@ around_gap = refl
 
 -- a range inside a gap has no window that is heard
 pub all_gap : valid_windows (record { bits = once.bits; gaps = (0, 104) ∷ [] }) 0 104 ≡ []
-unfolding rem window touched heard off
+unfolding rem window touched heard offset_at
 all_gap = refl
 
 -- gaps may be adjacent

@@ -2,11 +2,11 @@
 -- sees it.
 use Rattle.std.specs.Prelude.{◌≡◌, ℕ, ◌+◌, ◌<◌, ◌≤◌, ◌↔◌, IsSome}
 use Rattle.std.specs.Int.{bit_at}
-use Rattle.rds_stream.specs.Recording.{Signal, off}
+use Rattle.rds_stream.specs.Recording.{Signal, offset_at}
 
 -- bit k of the word tells whether place `next` + k has an offset, for the places before `ahead`, which are 64 at most
 pub record TellsValidPlaces (b : Signal) (next ahead word : ℕ) : Type 0 where
   pub order : next ≤ ahead
   pub width : ahead ≤ next + 64
-  pub told : (k : ℕ) → next + k < ahead → (bit_at word k ≡ 1) ↔ IsSome (off b (next + k))
+  pub told : (k : ℕ) → next + k < ahead → (bit_at word k ≡ 1) ↔ IsSome (offset_at b (next + k))
   pub past : (k : ℕ) → ahead ≤ next + k → bit_at word k ≡ 0

@@ -4,7 +4,7 @@ use Rattle.std.specs.Prelude.{ℕ, List, [], ◌∷◌, ◌++◌, refl, Some, No
 use Rattle.std.specs.Int.Count.{count_leading_zeros, ones, count_trailing_zeros}
 use Rattle.rds_code.specs.Remainder.{rem}
 use Rattle.rds_code.specs.declared.offset.Offset.TheVariants.{A as OA, B as OB, C, Cx, D}
-use Rattle.rds_stream.specs.Recording.{window, touched, heard, off}
+use Rattle.rds_stream.specs.Recording.{window, touched, heard, offset_at}
 use Rattle.rds_sync.specs.declared.item.Version.TheVariants.{A, B, Unknown}
 use Rattle.rds_sync.specs.declared.item.Item.{Item}
 use Rattle.rds_sync.specs.declared.item.Item.TheVariants.{Acquired}
@@ -23,7 +23,7 @@ limit_3_items = items_of_whole ++ group_at 104 None Unknown (valid OA 0) lost lo
 
 -- C with the burst 0x0000038 fits, and so does C' with 0x0000200
 pub two_fit : HasReport bytes 208 (rules_of 3 3 10) limit_3_items (totals 5 0 0 0 0 0 2 0 2 0 1 0)
-unfolding acquired has_number group rem window touched heard off count_leading_zeros count_trailing_zeros ones
+unfolding acquired has_number group rem window touched heard offset_at count_leading_zeros count_trailing_zeros ones
 two_fit = (refl, refl)
 
 abbrev pub limit_2_items : List Item
@@ -31,7 +31,7 @@ limit_2_items = items_of_whole ++ group_at 104 None B (valid OA 0) lost (correct
     ∷ []
 
 pub one_fits : HasReport bytes 208 (rules_of 2 3 10) limit_2_items (totals 5 1 0 0 0 0 1 1 2 0 1 0)
-unfolding acquired has_number group rem window touched heard off count_leading_zeros count_trailing_zeros ones
+unfolding acquired has_number group rem window touched heard offset_at count_leading_zeros count_trailing_zeros ones
 one_fits = (refl, refl)
 
 -- the same block 3 beside a valid block 2 of version A: only C is tried
@@ -44,7 +44,7 @@ fits_c = Acquired 51 2 ∷ group_at 26 (Some 0) A missing (valid OB 0) (correcte
     ∷ []
 
 pub c_fits : HasReport beside_version_a 104 (rules_of 3 3 10) fits_c (totals 2 0 0 1 0 0 0 3 1 0 1 0)
-unfolding acquired has_number group rem window touched heard off count_leading_zeros count_trailing_zeros ones
+unfolding acquired has_number group rem window touched heard offset_at count_leading_zeros count_trailing_zeros ones
 c_fits = (refl, refl)
 
 abbrev pub fits_nothing : List Item
@@ -52,5 +52,5 @@ fits_nothing = Acquired 51 2 ∷ group_at 26 (Some 0) A missing (valid OB 0) los
 
 pub cx_is_not_tried : HasReport beside_version_a 104 (rules_of 2 3 10) fits_nothing
     (totals 2 0 0 0 0 0 1 0 1 0 1 0)
-unfolding acquired has_number group rem window touched heard off count_leading_zeros count_trailing_zeros ones
+unfolding acquired has_number group rem window touched heard offset_at count_leading_zeros count_trailing_zeros ones
 cx_is_not_tried = (refl, refl)

@@ -4,7 +4,7 @@ use Rattle.std.specs.Prelude.{ℕ, List, [], ◌∷◌, ◌++◌, refl, Some}
 use Rattle.std.specs.Int.Count.{count_leading_zeros, ones, count_trailing_zeros}
 use Rattle.rds_code.specs.Remainder.{rem}
 use Rattle.rds_code.specs.declared.offset.Offset.TheVariants.{A as OA, B as OB, C, Cx, D}
-use Rattle.rds_stream.specs.Recording.{window, touched, heard, off}
+use Rattle.rds_stream.specs.Recording.{window, touched, heard, offset_at}
 use Rattle.rds_sync.specs.declared.item.Version.TheVariants.{A, B}
 use Rattle.rds_sync.specs.declared.item.Item.{Item}
 use Rattle.rds_sync.specs.Acquiring.{acquired, has_number}
@@ -25,7 +25,7 @@ fits_c = items_of_whole
     ∷ []
 
 pub c_alone_is_tried : HasReport version_a 208 (rules_of 3 3 10) fits_c (totals 5 1 0 1 0 0 0 4 2 1 1 0)
-unfolding acquired has_number group rem window touched heard off count_leading_zeros count_trailing_zeros ones
+unfolding acquired has_number group rem window touched heard offset_at count_leading_zeros count_trailing_zeros ones
 c_alone_is_tried = (refl, refl)
 
 abbrev pub fits_nothing : List Item
@@ -34,7 +34,7 @@ fits_nothing = items_of_whole ++ group_at 104 (Some 0) A (valid OA 0) (corrected
 
 -- with limit 2 the burst of C is past the limit, and C' is not tried
 pub cx_is_not_tried : HasReport version_a 208 (rules_of 2 3 10) fits_nothing (totals 5 1 0 0 0 0 1 1 2 0 1 0)
-unfolding acquired has_number group rem window touched heard off count_leading_zeros count_trailing_zeros ones
+unfolding acquired has_number group rem window touched heard offset_at count_leading_zeros count_trailing_zeros ones
 cx_is_not_tried = (refl, refl)
 
 -- the same of version B
@@ -50,5 +50,5 @@ fits_cx = items_of_whole
     ∷ []
 
 pub cx_alone_is_tried : HasReport version_b 208 (rules_of 3 3 10) fits_cx (totals 5 2 0 0 0 0 0 2 2 1 1 0)
-unfolding acquired has_number group rem window touched heard off count_leading_zeros count_trailing_zeros ones
+unfolding acquired has_number group rem window touched heard offset_at count_leading_zeros count_trailing_zeros ones
 cx_alone_is_tried = (refl, refl)

@@ -2,7 +2,7 @@
 use Rattle.std.specs.Prelude.{ℕ, List, ◌++◌, refl, Some}
 use Rattle.rds_code.specs.Remainder.{rem}
 use Rattle.rds_code.specs.declared.offset.Offset.TheVariants.{A as OA, B as OB, C, D}
-use Rattle.rds_stream.specs.Recording.{window, touched, heard, off}
+use Rattle.rds_stream.specs.Recording.{window, touched, heard, offset_at}
 use Rattle.rds_sync.specs.declared.item.Version.TheVariants.{A}
 use Rattle.rds_sync.specs.declared.item.Item.{Item}
 use Rattle.rds_sync.specs.Acquiring.{acquired, has_number}
@@ -21,9 +21,9 @@ items = items_of_whole ++ map (λ k. group_at (104 + 104 * k) (Some 0) A (valid 
     (valid D 0)) (range_with_len 0 7)
 
 pub with_reach_4 : HasReport bytes 832 (rules_of 2 4 10) items (totals 31 0 0 0 0 0 0 0 8 7 1 0)
-unfolding acquired has_number group rem window touched heard off
+unfolding acquired has_number group rem window touched heard offset_at
 with_reach_4 = (refl, refl)
 
 pub with_reach_3 : HasReport bytes 832 (rules_of 2 3 10) items (totals 31 0 0 0 0 0 0 0 8 7 1 0)
-unfolding acquired has_number group rem window touched heard off
+unfolding acquired has_number group rem window touched heard offset_at
 with_reach_3 = (refl, refl)

@@ -4,7 +4,7 @@ use Rattle.std.specs.Prelude.{ℕ, List, [], ◌∷◌, ◌++◌, refl, Some, No
 use Rattle.std.specs.Int.Count.{count_leading_zeros, ones, count_trailing_zeros}
 use Rattle.rds_code.specs.Remainder.{rem}
 use Rattle.rds_code.specs.declared.offset.Offset.TheVariants.{B as OB, C, D}
-use Rattle.rds_stream.specs.Recording.{Signal, bits_of, window, touched, heard, off}
+use Rattle.rds_stream.specs.Recording.{Signal, bits_of, window, touched, heard, offset_at}
 use Rattle.rds_sync.specs.declared.item.Version.TheVariants.{A, Unknown}
 use Rattle.rds_sync.specs.declared.item.Item.{Item}
 use Rattle.rds_sync.specs.declared.item.Item.TheVariants.{Acquired, LostLock}
@@ -28,7 +28,7 @@ abbrev pub block_1_lost : List Item
 block_1_lost = items_of_whole ++ group_at 104 (Some 0) A lost (valid OB 0) (valid C 0) (valid D 0) ∷ []
 
 pub block_1_is_lost : IsReported in_block_1 default_rules block_1_lost (totals 6 0 0 0 0 0 1 0 2 0 1 0)
-unfolding acquired has_number group rem window touched heard off
+unfolding acquired has_number group rem window touched heard offset_at
 block_1_is_lost = (refl, refl)
 
 abbrev pub lock_lost : List Item
@@ -42,7 +42,7 @@ lock_lost =
 
 -- it is a bad block, here the first, which loses the lock; block 2 then acquires by block 4 of the first group
 pub it_is_bad : IsReported in_block_1 (rules_of 2 3 1) lock_lost (totals 6 0 0 0 0 0 1 0 3 0 2 1)
-unfolding acquired has_number group rem window touched heard off
+unfolding acquired has_number group rem window touched heard offset_at
 it_is_bad = (refl, refl)
 
 -- ---- a damaged block
@@ -53,7 +53,7 @@ block_3_lost = Acquired 51 2 ∷ group_at 26 (Some 0) A missing (valid OB 0) los
 
 pub nothing_is_corrected : IsReported (gapped one_bit 78 60 61) default_rules block_3_lost
     (totals 1 0 0 0 0 0 1 0 1 0 1 0)
-unfolding acquired has_number group rem window touched heard off count_leading_zeros count_trailing_zeros ones
+unfolding acquired has_number group rem window touched heard offset_at count_leading_zeros count_trailing_zeros ones
 nothing_is_corrected = (refl, refl)
 
 -- ---- where a lock begins
@@ -64,13 +64,13 @@ from_block_3 = Acquired 77 3 ∷ group_at 52 None A missing missing (valid C 0) 
 -- block 2 does not acquire, and block 3 does by block 1, two blocks back
 pub block_2_touched : IsReported (gapped zero_group 104 40 41) default_rules from_block_3
     (totals 2 0 0 0 0 0 0 0 1 0 1 0)
-unfolding acquired has_number group rem window touched heard off
+unfolding acquired has_number group rem window touched heard offset_at
 block_2_touched = (refl, refl)
 
 -- the result is the same if all of block 2 is a gap, which its neighbours do not touch
 pub block_2_alone : IsReported (gapped zero_group 104 26 52) default_rules from_block_3
     (totals 2 0 0 0 0 0 0 0 1 0 1 0)
-unfolding acquired has_number group rem window touched heard off
+unfolding acquired has_number group rem window touched heard offset_at
 block_2_alone = (refl, refl)
 
 abbrev pub from_block_4 : List Item
@@ -79,14 +79,14 @@ from_block_4 = Acquired 103 4 ∷ group_at 78 None Unknown missing missing missi
 -- one place more, and block 3 touches it too: block 4 acquires by block 1, three blocks back
 pub block_3_too : IsReported (gapped zero_group 104 26 53) default_rules from_block_4
     (totals 1 0 0 0 0 0 0 0 1 0 1 0)
-unfolding acquired has_number group rem window touched heard off
+unfolding acquired has_number group rem window touched heard offset_at
 block_3_too = (refl, refl)
 
 -- and with one place more at its front, no partner is left
 pub no_partner : IsReported (gapped zero_group 104 25 53) default_rules [] (totals 0 0 0 0 0 0 0 0 0 0 0 0)
-unfolding acquired has_number group rem window touched heard off
+unfolding acquired has_number group rem window touched heard offset_at
 no_partner = (refl, refl)
 
 pub nothing_heard : IsReported (gapped zero_group 104 0 104) default_rules [] (totals 0 0 0 0 0 0 0 0 0 0 0 0)
-unfolding acquired has_number group rem window touched heard off
+unfolding acquired has_number group rem window touched heard offset_at
 nothing_heard = (refl, refl)

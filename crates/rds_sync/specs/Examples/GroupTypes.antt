@@ -3,7 +3,7 @@
 use Rattle.std.specs.Prelude.{◌≡◌, ℕ, List, [], ◌∷◌, map, refl, Option, Some, true}
 use Rattle.rds_code.specs.Remainder.{rem}
 use Rattle.rds_code.specs.declared.offset.Offset.TheVariants.{B as OB, C, Cx, D}
-use Rattle.rds_stream.specs.Recording.{window, touched, heard, off}
+use Rattle.rds_stream.specs.Recording.{window, touched, heard, offset_at}
 use Rattle.rds_sync.specs.declared.item.Version.{Version}
 use Rattle.rds_sync.specs.declared.item.Version.TheVariants.{A, B}
 use Rattle.rds_sync.specs.declared.item.Item.{Item}
@@ -43,7 +43,7 @@ type_15_items = Acquired 51 2 ∷ Group (record {
 }) ∷ []
 
 pub type_15_in_version_a : HasReport type_15 104 default_rules type_15_items (totals 3 0 0 0 0 0 0 0 1 0 1 0)
-unfolding acquired has_number group rem window touched heard off
+unfolding acquired has_number group rem window touched heard offset_at
 type_15_in_version_a = (refl, refl)
 
 -- block 2 says type 8 and version A, block 3 has the offset C': it is of version B, in conflict
@@ -60,5 +60,5 @@ type_8_items = Acquired 51 2 ∷ Group (record {
 }) ∷ []
 
 pub type_8_in_version_b : HasReport type_8 104 default_rules type_8_items (totals 3 0 0 0 0 0 0 0 1 0 1 0)
-unfolding acquired has_number group rem window touched heard off
+unfolding acquired has_number group rem window touched heard offset_at
 type_8_in_version_b = (refl, refl)

@@ -3,7 +3,7 @@ use Rattle.std.specs.Prelude.{◌≡◌, ℕ, ◌+◌, ◌*◌, List, [], ◌∷
 use Rattle.std.specs.List.{range_with_len}
 use Rattle.rds_code.specs.Remainder.{rem}
 use Rattle.rds_code.specs.declared.offset.Offset.TheVariants.{D}
-use Rattle.rds_stream.specs.Recording.{bits_of, ungapped, window, touched, heard, off}
+use Rattle.rds_stream.specs.Recording.{bits_of, ungapped, window, touched, heard, offset_at}
 use Rattle.rds_sync.specs.declared.state.State.TheVariants.{Searching}
 use Rattle.rds_sync.specs.declared.item.Version.TheVariants.{Unknown}
 use Rattle.rds_sync.specs.declared.item.Item.{Item}
@@ -27,12 +27,12 @@ abbrev pub lost_at_64 : List Item
 lost_at_64 = items_of_whole ++ lost_groups 16 ++ LostLock 1767 ∷ []
 
 pub loss_of_64 : HasReport (silence 16) 1768 (rules_of 0 3 64) lost_at_64 (totals 3 0 0 0 0 0 64 0 17 0 1 1)
-unfolding acquired has_number group rem window touched heard off
+unfolding acquired has_number group rem window touched heard offset_at
 loss_of_64 = (refl, refl)
 
 pub run_with_loss_of_64 : (run (ungapped (bits_of (silence 16) 1768)) (rules_of 0 3 64) Searching 0 1768).1
     ≡ lost_at_64
-unfolding acquired has_number group rem window touched heard off
+unfolding acquired has_number group rem window touched heard offset_at
 run_with_loss_of_64 = refl
 
 -- the eleventh, a block 3
@@ -41,7 +41,7 @@ lost_at_11 = items_of_whole ++ lost_groups 2 ++ group_at 312 None Unknown lost l
     ∷ LostLock 389 ∷ []
 
 pub loss_of_11 : HasReport (silence 4) 520 (rules_of 0 3 11) lost_at_11 (totals 3 0 0 0 0 0 11 0 4 0 1 1)
-unfolding acquired has_number group rem window touched heard off
+unfolding acquired has_number group rem window touched heard offset_at
 loss_of_11 = (refl, refl)
 
 -- after sixty-three bad blocks a good one, block 4, keeps it, and counting begins anew
@@ -53,5 +53,5 @@ kept_items = items_of_whole ++ lost_groups 15 ++ group_at 1664 None Unknown lost
     ∷ group_at 1768 None Unknown lost lost lost lost ∷ []
 
 pub kept_at_63 : HasReport kept 1872 (rules_of 0 3 64) kept_items (totals 4 0 0 0 0 0 67 0 18 0 1 0)
-unfolding acquired has_number group rem window touched heard off
+unfolding acquired has_number group rem window touched heard offset_at
 kept_at_63 = (refl, refl)

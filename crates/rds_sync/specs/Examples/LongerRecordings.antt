@@ -3,7 +3,7 @@ use Rattle.std.specs.Prelude.{◌≡◌, ℕ, zero, suc, List, [], ◌∷◌, �
 use Rattle.std.proofs.Common.{inl, inr}
 use Rattle.rds_code.specs.Remainder.{rem}
 use Rattle.rds_code.specs.declared.offset.Offset.TheVariants.{A as OA, B as OB, C, D}
-use Rattle.rds_stream.specs.Recording.{bits_of, ungapped, window, touched, heard, off}
+use Rattle.rds_stream.specs.Recording.{bits_of, ungapped, window, touched, heard, offset_at}
 use Rattle.rds_sync.specs.declared.item.Item.{Item}
 use Rattle.rds_sync.specs.declared.item.Version.TheVariants.{A}
 use Rattle.rds_sync.specs.Acquiring.{acquired, has_number}
@@ -17,7 +17,7 @@ abbrev pub shorter_items : List Item
 shorter_items = items_of_whole ++ group_at 104 (Some 0) A (valid OA 0) (valid OB 0) (valid C 0) missing ∷ []
 
 pub shorter : HasReport bytes 182 default_rules shorter_items (totals 6 0 0 0 0 0 0 0 2 0 1 0)
-unfolding acquired has_number group rem window touched heard off
+unfolding acquired has_number group rem window touched heard offset_at
 shorter = (refl, refl)
 
 -- the whole recording has the group with its block 4, at the same place, after the same items

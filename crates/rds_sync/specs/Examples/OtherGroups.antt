@@ -2,7 +2,7 @@
 use Rattle.std.specs.Prelude.{ℕ, List, [], ◌∷◌, refl, Some, None}
 use Rattle.rds_code.specs.Remainder.{rem}
 use Rattle.rds_code.specs.declared.offset.Offset.TheVariants.{B as OB, C, D}
-use Rattle.rds_stream.specs.Recording.{window, touched, heard, off}
+use Rattle.rds_stream.specs.Recording.{window, touched, heard, offset_at}
 use Rattle.rds_sync.specs.declared.item.Version.TheVariants.{A, Unknown}
 use Rattle.rds_sync.specs.declared.item.Item.{Item}
 use Rattle.rds_sync.specs.declared.item.Item.TheVariants.{Acquired}
@@ -20,7 +20,7 @@ block_4_items = Acquired 51 4 ∷ group_at 26 None Unknown missing missing missi
 -- a block 4 that acquires is a group of its own
 pub block_4_acquires : HasReport blocks_3_and_4 52 default_rules block_4_items
     (totals 1 0 0 0 0 0 0 0 1 0 1 0)
-unfolding acquired has_number group rem window touched heard off
+unfolding acquired has_number group rem window touched heard offset_at
 block_4_acquires = (refl, refl)
 
 -- programme 0x1234, a group of type 2 and version A: two pairs of characters of a radio text
@@ -33,5 +33,5 @@ radio_text_items = Acquired 51 2 ∷ group_at 26 (Some 2) A missing (valid OB 0x
 
 pub radio_text_is_read : HasReport radio_text 104 default_rules radio_text_items
     (totals 3 0 0 0 0 0 0 0 1 0 1 0)
-unfolding acquired has_number group rem window touched heard off
+unfolding acquired has_number group rem window touched heard offset_at
 radio_text_is_read = (refl, refl)

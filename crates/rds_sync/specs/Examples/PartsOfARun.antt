@@ -4,7 +4,7 @@ use Rattle.std.proofs.Common.{ap, sym}
 use Rattle.std.proofs.lemmas.Bool.{false≢true}
 use Rattle.rds_code.specs.Remainder.{rem}
 use Rattle.rds_code.specs.declared.offset.Offset.TheVariants.{B as OB, C, D}
-use Rattle.rds_stream.specs.Recording.{Signal, bits_of, ungapped, length_of, window, touched, heard, off}
+use Rattle.rds_stream.specs.Recording.{Signal, bits_of, ungapped, length_of, window, touched, heard, offset_at}
 use Rattle.rds_sync.specs.declared.state.State.{State}
 use Rattle.rds_sync.specs.declared.state.State.TheVariants.{Searching, Locked}
 use Rattle.rds_sync.specs.declared.item.Version.TheVariants.{A}
@@ -31,18 +31,18 @@ left items end = record { items = items; end = end }
 
 pub whole : decoder_of b default_rules Searching 0 104
     ≡ left (Acquired 51 2 ∷ the_group ∷ []) (Locked (lock_of 129 1 0 1))
-unfolding acquired has_number group rem window touched heard off
+unfolding acquired has_number group rem window touched heard offset_at
 whole = refl
 
 -- from a state on, only over the places before the range's end
 pub from_the_lock : decoder_of b default_rules (Locked (lock_of 77 3 0 2)) 52 104
     ≡ left (the_group ∷ []) (Locked (lock_of 129 1 0 1))
-unfolding acquired has_number group rem window touched heard off
+unfolding acquired has_number group rem window touched heard offset_at
 from_the_lock = refl
 
 pub before_its_end : decoder_of b default_rules (Locked (lock_of 77 3 0 2)) 52 103
     ≡ left [] (Locked (lock_of 103 4 0 2))
-unfolding acquired has_number group rem window touched heard off
+unfolding acquired has_number group rem window touched heard offset_at
 before_its_end = refl
 
 pub no_places : decoder_of b default_rules (Locked (lock_of 77 3 0 2)) 52 52
@@ -93,7 +93,7 @@ not_another_end gives = false≢true (ap is_search gives.1)
 
 pub the_report : listed b default_rules (report_items b default_rules)
     ≡ record { source = b; rules = default_rules; list = items_of_whole }
-unfolding acquired has_number group rem window touched heard off
+unfolding acquired has_number group rem window touched heard offset_at
 the_report = refl
 
 -- the same items of another recording are others

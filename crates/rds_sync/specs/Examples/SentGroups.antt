@@ -3,7 +3,7 @@ use Rattle.std.specs.Prelude.{◌≡◌, ℕ, List, [], ◌∷◌, ◌++◌, fla
 use Rattle.std.specs.Int.Count.{count_leading_zeros, count_trailing_zeros, ones}
 use Rattle.rds_code.specs.declared.offset.Offset.TheVariants.{A as OA, B as OB, C, Cx, D}
 use Rattle.rds_code.specs.Remainder.{rem}
-use Rattle.rds_stream.specs.Recording.{Signal, bits_of, ungapped, window, touched, heard, off}
+use Rattle.rds_stream.specs.Recording.{Signal, bits_of, ungapped, window, touched, heard, offset_at}
 use Rattle.rds_sync.specs.declared.item.Item.{Item}
 use Rattle.rds_sync.specs.declared.item.Item.TheVariants.{Acquired, Group, LostLock}
 use Rattle.rds_sync.specs.declared.item.Version.TheVariants.{A, B, Unknown}
@@ -53,7 +53,7 @@ sent_items =
     ∷ []
 
 pub sent_report : IsReported sent default_rules sent_items (totals 11 0 0 0 0 0 0 0 3 2 1 0)
-unfolding acquired has_number group rem window touched heard off binary
+unfolding acquired has_number group rem window touched heard offset_at binary
 sent_report = (refl, refl)
 
 -- they are those that the laws name
@@ -85,7 +85,7 @@ damaged_items =
     ∷ []
 
 pub damaged_report : IsReported damaged default_rules damaged_items (totals 3 3 1 0 0 0 0 5 2 1 1 0)
-unfolding acquired has_number group rem window touched heard off binary count_leading_zeros count_trailing_zeros ones
+unfolding acquired has_number group rem window touched heard offset_at binary count_leading_zeros count_trailing_zeros ones
 damaged_report = (refl, refl)
 
 pub damaged_as_named : Acquired 51 2 ∷ Group (group_sent 2 26 first damaged_first.damages)
@@ -122,7 +122,7 @@ lost_at_two = refl
 
 pub report_of_the_loss : IsReported damaged (rules_of 2 3 2) (damaged_items ++ LostLock 207 ∷ [])
     (totals 3 3 1 0 0 0 0 5 2 1 1 1)
-unfolding acquired has_number group rem window touched heard off binary count_leading_zeros count_trailing_zeros ones
+unfolding acquired has_number group rem window touched heard offset_at binary count_leading_zeros count_trailing_zeros ones
 report_of_the_loss = (refl, refl)
 
 -- at one it is lost three times. Sync is acquired again by two valid blocks: blocks 2 and 4 of the first group, and then block 4 of the
@@ -142,5 +142,5 @@ items_of_losses =
     ∷ []
 
 pub lost_at_one : IsReported damaged (rules_of 2 3 1) items_of_losses (totals 3 2 1 0 0 0 0 4 4 0 3 3)
-unfolding acquired has_number group rem window touched heard off binary count_leading_zeros count_trailing_zeros ones
+unfolding acquired has_number group rem window touched heard offset_at binary count_leading_zeros count_trailing_zeros ones
 lost_at_one = (refl, refl)

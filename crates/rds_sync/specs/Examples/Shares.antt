@@ -3,7 +3,7 @@ use Rattle.std.specs.Prelude.{◌≡◌, ℕ, List, [], ◌∷◌, ◌++◌, ref
 use Rattle.std.specs.Int.Count.{ones}
 use Rattle.rds_code.specs.Remainder.{rem}
 use Rattle.rds_code.specs.declared.offset.Offset.TheVariants.{B as OB, C, D}
-use Rattle.rds_stream.specs.Recording.{bits_of, ungapped, window, touched, heard, off}
+use Rattle.rds_stream.specs.Recording.{bits_of, ungapped, window, touched, heard, offset_at}
 use Rattle.rds_sync.specs.declared.state.State.TheVariants.{Searching, Locked}
 use Rattle.rds_sync.specs.declared.item.Version.TheVariants.{A, Unknown}
 use Rattle.rds_sync.specs.declared.item.Item.{Item}
@@ -17,7 +17,7 @@ use Rattle.rds_sync.specs.Examples.LostAndFound.{bytes as one_bad, items as item
 
 -- one bad block of four loses: as at the first bad block
 pub one_of_four : HasReport one_bad 208 (rules_with_share 1 4) items_of_loss (totals 6 0 0 0 0 0 1 0 3 0 2 1)
-unfolding acquired has_number group rem window touched heard off
+unfolding acquired has_number group rem window touched heard offset_at
 one_of_four = (refl, refl)
 
 -- by two of four it does not lose
@@ -25,13 +25,13 @@ abbrev pub items_kept : List Item
 items_kept = items_of_whole ++ group_at 104 (Some 0) A lost (valid OB 0) (valid C 0) (valid D 0) ∷ []
 
 pub two_of_four : HasReport one_bad 208 (rules_with_share 2 4) items_kept (totals 6 0 0 0 0 0 1 0 2 0 1 0)
-unfolding acquired has_number group rem window touched heard off
+unfolding acquired has_number group rem window touched heard offset_at
 two_of_four = (refl, refl)
 
 -- its mask after the block at place 207: of the last four blocks the oldest is bad
 pub run_two_of_four : run (ungapped (bits_of one_bad 208)) (rules_with_share 2 4) Searching 0 208
     ≡ (Locked (lock_of 233 1 8 1), items_kept)
-unfolding acquired has_number group rem window touched heard off ones
+unfolding acquired has_number group rem window touched heard offset_at ones
 run_two_of_four = refl
 
 -- a zero group, then one whose blocks 1 and 3 are inverted by a burst of span 6
@@ -49,12 +49,12 @@ items_lost = items_of_whole
     ∷ []
 
 pub two_of_three : HasReport two_bad 208 (rules_with_share 2 3) items_lost (totals 5 0 0 0 0 0 2 0 3 0 2 1)
-unfolding acquired has_number group rem window touched heard off
+unfolding acquired has_number group rem window touched heard offset_at
 two_of_three = (refl, refl)
 
 pub run_two_of_three : run (ungapped (bits_of two_bad 208)) (rules_with_share 2 3) Searching 0 208
     ≡ (Locked (lock_of 233 1 0 1), items_lost)
-unfolding acquired has_number group rem window touched heard off ones
+unfolding acquired has_number group rem window touched heard offset_at ones
 run_two_of_three = refl
 
 -- the bad blocks are never adjacent
@@ -62,10 +62,10 @@ abbrev pub items_apart : List Item
 items_apart = items_of_whole ++ group_at 104 (Some 0) A lost (valid OB 0) lost (valid D 0) ∷ []
 
 pub two_of_two : HasReport two_bad 208 (rules_with_share 2 2) items_apart (totals 5 0 0 0 0 0 2 0 2 0 1 0)
-unfolding acquired has_number group rem window touched heard off
+unfolding acquired has_number group rem window touched heard offset_at
 two_of_two = (refl, refl)
 
 pub run_two_of_two : run (ungapped (bits_of two_bad 208)) (rules_with_share 2 2) Searching 0 208
     ≡ (Locked (lock_of 233 1 2 1), items_apart)
-unfolding acquired has_number group rem window touched heard off ones
+unfolding acquired has_number group rem window touched heard offset_at ones
 run_two_of_two = refl

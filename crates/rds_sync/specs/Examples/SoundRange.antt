@@ -7,7 +7,7 @@ use Rattle.std.proofs.lemmas.List.FromFn.{get_or-range_with_len, length-range_wi
 use Rattle.std.proofs.lemmas.List.Sums.{AllPass-from_list_all}
 use Rattle.rds_code.specs.Cycle.{number_after}
 use Rattle.rds_code.specs.Remainder.{rem}
-use Rattle.rds_stream.specs.Recording.{Signal, bits_of, ungapped, window, touched, heard, off}
+use Rattle.rds_stream.specs.Recording.{Signal, bits_of, ungapped, window, touched, heard, offset_at}
 use Rattle.rds_sync.specs.Rules.{RuleNumbers}
 use Rattle.rds_sync.specs.Acquiring.{acquired, has_number}
 use Rattle.rds_sync.specs.Convergence.{IsSound, IsRival, AreRivals}
@@ -21,25 +21,25 @@ abbrev pub rules : RuleNumbers
 rules = rules_of 2 3 1
 
 -- the windows that are valid by chance: three at place 19 modulo 26, two at place 18
-pub valid_by_chance : filter (λ r. is_some (off b r) && not (r % 26 == 25)) (range_with_len 104 260)
+pub valid_by_chance : filter (λ r. is_some (offset_at b r) && not (r % 26 == 25)) (range_with_len 104 260)
     ≡ 123 ∷ 200 ∷ 227 ∷ 304 ∷ 331 ∷ []
-unfolding rem window touched heard off
+unfolding rem window touched heard offset_at
 valid_by_chance = refl
 
 -- the condition at each place of the range, as a test
 unfoldable is_as_told : ℕ → Bool
 is_as_told r = (r % 26 == 25) || (not (is_some (acquired b rules r)) &&
-    (not (is_some (off b r)) || (r % 104 == 19) || (r % 104 == 96)))
+    (not (is_some (offset_at b r)) || (r % 104 == 19) || (r % 104 == 96)))
 
 all_as_told : list_all is_as_told (range_with_len 104 260) ≡ true
-unfolding is_as_told acquired has_number rem window touched heard off
+unfolding is_as_told acquired has_number rem window touched heard offset_at
 all_as_told = refl
 
 unfoldable is_block : ℕ → Bool
 is_block k = has_number b (129 + 26 * k) (number_after 1 k)
 
 all_blocks : list_all is_block (range_with_len 0 10) ≡ true
-unfolding is_block has_number rem window touched heard off
+unfolding is_block has_number rem window touched heard offset_at
 all_blocks = refl
 
 -- a test that all places of a range pass, each passes
@@ -78,7 +78,7 @@ rival r is =
     let place : 104 + (r - 104) ≡ r = omega (arith, inside) in
     let said : is_as_told r ≡ true = subst (λ (q : ℕ). is_as_told q ≡ true) place (each is_as_told 104 260 all_as_told (r - 104) (omega (arith, inside))) in
     let other : (r % 26 == 25) ≢ true = λ e. is.elsewhere ((r - 129) / 26) (omega (arith, inside, eqb-true (r % 26) 25 e)) in
-    let both = told (r % 26 == 25) (not (is_some (acquired b rules r))) (is_some (off b r)) (r % 104 == 19) (r % 104 == 96) said other in (
+    let both = told (r % 26 == 25) (not (is_some (acquired b rules r))) (is_some (offset_at b r)) (r % 104 == 19) (r % 104 == 96) said other in (
       none_of (acquired b rules r) both.0,
       elim (both.1 is.valid) [
         | inl one ↦ inl (eqb-true (r % 104) 19 one)

@@ -3,7 +3,7 @@ use Rattle.std.specs.Prelude.{◌≡◌, ℕ, List, [], ◌∷◌, ◌++◌, ref
 use Rattle.std.specs.Int.Count.{count_leading_zeros, ones, count_trailing_zeros}
 use Rattle.rds_code.specs.Remainder.{rem}
 use Rattle.rds_code.specs.declared.offset.Offset.TheVariants.{A as OA, B as OB, C, D}
-use Rattle.rds_stream.specs.Recording.{window, touched, heard, off}
+use Rattle.rds_stream.specs.Recording.{window, touched, heard, offset_at}
 use Rattle.rds_sync.specs.declared.item.Version.TheVariants.{A}
 use Rattle.rds_sync.specs.declared.item.Item.{Item}
 use Rattle.rds_sync.specs.declared.item.Item.TheVariants.{Acquired, LostLock}
@@ -25,7 +25,7 @@ corrected_items = items_of_whole
 
 pub spans_2_to_4_are_counted : HasReport spans_2_to_4 208 (rules_of 4 3 10) corrected_items
     (totals 4 0 1 1 1 0 0 6 2 1 1 0)
-unfolding acquired has_number group rem window touched heard off count_leading_zeros count_trailing_zeros ones
+unfolding acquired has_number group rem window touched heard offset_at count_leading_zeros count_trailing_zeros ones
 spans_2_to_4_are_counted = (refl, refl)
 
 abbrev pub past_the_limit : List Item
@@ -35,7 +35,7 @@ past_the_limit = items_of_whole
 
 pub span_4_is_past_a_limit_of_3 : HasReport spans_2_to_4 208 (rules_of 3 3 10) past_the_limit
     (totals 4 0 1 1 0 0 1 4 2 0 1 0)
-unfolding acquired has_number group rem window touched heard off count_leading_zeros count_trailing_zeros ones
+unfolding acquired has_number group rem window touched heard offset_at count_leading_zeros count_trailing_zeros ones
 span_4_is_past_a_limit_of_3 = (refl, refl)
 
 -- a group of four blocks corrected by one burst

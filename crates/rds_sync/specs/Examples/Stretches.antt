@@ -4,7 +4,7 @@ use Rattle.std.specs.Prelude.{◌≡◌, ◌⊎◌, ◌==◌, List, [], ◌∷�
 use Rattle.std.proofs.Common.{ap, inl, inr, sym}
 use Rattle.std.proofs.lemmas.Bool.{false≢true, leb-true}
 use Rattle.rds_code.specs.Remainder.{rem}
-use Rattle.rds_stream.specs.Recording.{Signal, bits_of, ungapped, window, touched, heard, off}
+use Rattle.rds_stream.specs.Recording.{Signal, bits_of, ungapped, window, touched, heard, offset_at}
 use Rattle.rds_sync.specs.declared.item.Item.{Item}
 use Rattle.rds_sync.specs.declared.item.Item.TheVariants.{Acquired, Group}
 use Rattle.rds_sync.specs.declared.state.State.{State}
@@ -40,7 +40,7 @@ is_some_item (item ∷ items) = true
 -- the search ends after the bit that acquires
 pub to_the_acquisition : IsStretch b default_rules Searching 0 104
     (reached 52 (Locked (lock_of 77 3 0 2)) acquires)
-unfolding acquired has_number group rem window touched heard off
+unfolding acquired has_number group rem window touched heard offset_at
 to_the_acquisition = record {
   forward = leb-true 1 52 refl;
   limit = leb-true 52 104 refl;
@@ -59,7 +59,7 @@ to_the_acquisition = record {
 
 -- not one bit before, as nothing was given yet and the range continues
 pub not_before : IsStretch b default_rules Searching 0 104 (reached 51 Searching nothing) → ⊥
-unfolding acquired has_number group rem window touched heard off
+unfolding acquired has_number group rem window touched heard offset_at
 not_before stretch = goes_on stretch.ended
   where
     goes_on : ((reached 51 Searching nothing).place ≡ 104) ⊎ ((items_in nothing ≡ []) → ⊥) → ⊥
@@ -69,12 +69,12 @@ not_before stretch = goes_on stretch.ended
 -- and not one bit after it, though the state is that of the run
 pub not_behind : IsStretch b default_rules Searching 0 104 (reached 53 (Locked (lock_of 77 3 0 2)) acquires)
     → ⊥
-unfolding acquired has_number group rem window touched heard off
+unfolding acquired has_number group rem window touched heard offset_at
 not_behind stretch = false≢true (sym (ap is_some_item stretch.quiet))
 
 -- if nothing is given it extends to the end of its range
 pub to_the_end : IsStretch b default_rules Searching 0 51 (reached 51 Searching nothing)
-unfolding acquired has_number group rem window touched heard off
+unfolding acquired has_number group rem window touched heard offset_at
 to_the_end = record {
   forward = leb-true 1 51 refl;
   limit = leb-true 51 51 refl;
@@ -88,7 +88,7 @@ to_the_end = record {
 -- a lock is read up to and including the block that closes its group
 pub to_the_group : IsStretch b default_rules (Locked (lock_of 77 3 0 2)) 52 104
     (reached 104 (Locked (lock_of 129 1 0 1)) closes)
-unfolding acquired has_number group rem window touched heard off
+unfolding acquired has_number group rem window touched heard offset_at
 to_the_group = record {
   forward = leb-true 53 104 refl;
   state = refl;

@@ -3,7 +3,7 @@ use Rattle.std.specs.Prelude.{ℕ, List, [], ◌∷◌, ◌++◌, refl, Some, tr
 use Rattle.std.specs.Int.Count.{count_leading_zeros, ones, count_trailing_zeros}
 use Rattle.rds_code.specs.Remainder.{rem}
 use Rattle.rds_code.specs.declared.offset.Offset.TheVariants.{A as OA, B as OB, C, Cx, D}
-use Rattle.rds_stream.specs.Recording.{window, touched, heard, off}
+use Rattle.rds_stream.specs.Recording.{window, touched, heard, offset_at}
 use Rattle.rds_sync.specs.declared.item.Version.TheVariants.{A, B}
 use Rattle.rds_sync.specs.declared.item.Item.{Item}
 use Rattle.rds_sync.specs.declared.item.Item.TheVariants.{Acquired, Group}
@@ -20,7 +20,7 @@ abbrev pub agreed_items : List Item
 agreed_items = Acquired 51 2 ∷ group_at 26 (Some 0) B missing (valid OB 0x0800) (valid Cx 0) (valid D 0) ∷ []
 
 pub blocks_agree : HasReport agreed 104 default_rules agreed_items (totals 3 0 0 0 0 0 0 0 1 0 1 0)
-unfolding acquired has_number group rem window touched heard off
+unfolding acquired has_number group rem window touched heard offset_at
 blocks_agree = (refl, refl)
 
 -- block 3 has the offset C: it is valid all the same, the version is its own, and the group is in conflict
@@ -38,7 +38,7 @@ in_conflict_items = Acquired 51 2 ∷ Group (record {
 
 pub blocks_disagree : HasReport in_conflict 104 default_rules in_conflict_items
     (totals 3 0 0 0 0 0 0 0 1 0 1 0)
-unfolding acquired has_number group rem window touched heard off
+unfolding acquired has_number group rem window touched heard offset_at
 blocks_disagree = (refl, refl)
 
 -- a zero group, then one of version B with one bit of block 2 inverted and one of block 3
@@ -54,7 +54,7 @@ corrected_items = items_of_whole
 -- a corrected block 2 says type and version, and a group of valid and corrected blocks is complete
 pub corrected_is_complete : HasReport corrected_blocks 208 default_rules corrected_items
     (totals 5 2 0 0 0 0 0 2 2 1 1 0)
-unfolding acquired has_number group rem window touched heard off count_leading_zeros count_trailing_zeros ones
+unfolding acquired has_number group rem window touched heard offset_at count_leading_zeros count_trailing_zeros ones
 corrected_is_complete = (refl, refl)
 
 -- the same with the offset C in block 3: a corrected block 2 is enough for a conflict
@@ -73,5 +73,5 @@ corrected_conflict_items = items_of_whole ++ Group (record {
 
 pub corrected_disagrees : HasReport corrected_conflict 208 default_rules corrected_conflict_items
     (totals 6 1 0 0 0 0 0 1 2 1 1 0)
-unfolding acquired has_number group rem window touched heard off count_leading_zeros count_trailing_zeros ones
+unfolding acquired has_number group rem window touched heard offset_at count_leading_zeros count_trailing_zeros ones
 corrected_disagrees = (refl, refl)

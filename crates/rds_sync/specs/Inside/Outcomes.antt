@@ -3,7 +3,7 @@
 -- project's rule.
 use Rattle.std.specs.Prelude.{ℕ, zero, suc, ◌+◌, ◌-◌, List, Bool, true, false, ◌==◌, sum_by, count_by, count_ones, if◌then◌else◌, slice_index_or}
 use Rattle.std.specs.List.{list_all}
-use Rattle.rds_code.specs.Bursts.{span}
+use Rattle.rds_code.specs.Bursts.{burst_length}
 use Rattle.rds_code.specs.declared.reading.Reading.TheVariants.{Valid, Corrected, Lost}
 use Rattle.rds_sync.specs.declared.item.Block.{Block}
 use Rattle.rds_sync.specs.declared.item.Block.TheVariants.{Missing, Read}
@@ -23,7 +23,7 @@ pub data Outcome : Type 0 where
 abbrev pub outcome_of : Block → Outcome
 outcome_of Missing = missing
 outcome_of (Read (Valid o info)) = valid
-outcome_of (Read (Corrected o info e)) = corrected (span e) (count_ones e)
+outcome_of (Read (Corrected o info e)) = corrected (burst_length e) (count_ones e)
 outcome_of (Read Lost) = lost
 
 -- the blocks that a rule of loss calls good

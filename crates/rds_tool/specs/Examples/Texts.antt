@@ -3,7 +3,7 @@ use Rattle.std.specs.Prelude.{◌≡◌, ℕ, List, ◌++◌, Ok, codes, refl, t
 use Rattle.std.specs.Fmt.{digits}
 use Rattle.hex.specs.Hex.{decode_pairs, encode_with}
 use Rattle.rds_code.specs.Remainder.{rem}
-use Rattle.rds_stream.specs.Recording.{heard, off, touched, window}
+use Rattle.rds_stream.specs.Recording.{heard, offset_at, touched, window}
 use Rattle.rds_sync.specs.Acquiring.{acquired, has_number}
 use Rattle.rds_sync.specs.Groups.{group}
 use Rattle.rds_tool.specs.Outcome.{result_of_job}
@@ -16,7 +16,7 @@ zero_group = codes "00003f00001980 0005a00001b4"
 pub scan : result_of_job (Scan hex_input 4) zero_group
     ≡ Ok (line (codes "25,A") ++ line (codes "51,B") ++ line (codes "77,C") ++ line (codes "96,B")
     ++ line (codes "103,D"))
-unfolding decode_pairs digits heard off rem touched window
+unfolding decode_pairs digits heard offset_at rem touched window
 scan = refl
 
 -- the first two blocks
@@ -37,12 +37,12 @@ totals_rows =
 
 pub list : result_of_job (ListJob (hex_bits 52) default_settings) zero_group
     ≡ Ok (line (codes "acquired,51,2,-,-,-,-,-") ++ line (codes "group,26,0,A,none,B:0000,none,none") ++ totals_rows)
-unfolding acquired decode_pairs digits group has_number heard off rem touched window
+unfolding acquired decode_pairs digits group has_number heard offset_at rem touched window
 list = refl
 
 -- neither workers nor pieces show
 pub totals : result_of_job (Totals (hex_bits 52) (settings_of 5 8 64 256 1)) zero_group ≡ Ok totals_rows
-unfolding acquired decode_pairs digits group has_number heard off rem touched window
+unfolding acquired decode_pairs digits group has_number heard offset_at rem touched window
 totals = refl
 
 pub encode : result_of_job (Encode true) (codes "0000 0000 0000 0000")

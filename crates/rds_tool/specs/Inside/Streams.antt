@@ -1,7 +1,7 @@
 -- How far a stream was followed: this project's rule. The steps of `follow` cite it, and no public call.
 use Rattle.std.specs.Prelude.{◌≡◌, ◌≤◌, ◌<◌, ◌+◌, ◌*◌, ◌^◌, ◌-◌, ◌⊎◌, ⊤, ℕ, Bool, List, None, Option, Some, length, true}
 use Rattle.std.specs.Io.KnownBytes.{Appends, Consumes, IsAtEnd}
-use Rattle.rds_live.specs.Live.{LiveOf, Terms, live_of}
+use Rattle.rds_live.specs.StreamDecoder.{LiveOf, Terms, live_of}
 use Rattle.rds_tool.specs.Following.{AllCount, rows_so_far}
 
 -- these bytes were heard, and the rows that they complete were written

@@ -1,7 +1,7 @@
 use Rattle.std.proofs.Common.{◌≡◌, ◌-◌, ◌*◌, ◌/◌, ◌≤◌, ◌⊎◌, ℕ, List, ap, ap₂, arith, inl, inr, refl, ◌∙◌}
 use Rattle.std.proofs.lemmas.Bool.{cases_lt, false≢true}
 use Rattle.rds_stream.specs.Recording.{Signal, length_of}
-use Rattle.rds_live.specs.Live.{signal_at}
+use Rattle.rds_live.specs.StreamDecoder.{signal_at}
 use Rattle.rds_live.proofs.GapParts.{found-of-part}
 use Rattle.rds_live.proofs.Parts.{length-at}
 use Rattle.rds_abi.specs.Asked.{gaps_of}

@@ -2,7 +2,7 @@ use Rattle.std.proofs.Common.{◌≡◌, ℕ, List, ap, inl, length, subst, sym,
 use Rattle.std.proofs.lemmas.Result.{err_from_is_err_and}
 use Rattle.rds_sync.specs.Advance.{group_item}
 use Rattle.rds_sync.specs.Totals.{totals_of}
-use Rattle.rds_live.specs.Live.{HasHeard, LiveOf, report_of}
+use Rattle.rds_live.specs.StreamDecoder.{HasHeard, LiveOf, report_of}
 use Rattle.rds_abi.specs.Stream.{AreClosed, AreTooMany}
 use Rattle.rds_abi.specs.Layout.{totals_in_c}
 use Rattle.rds_abi.specs.declared.refusal.Refusal.{Refusal}

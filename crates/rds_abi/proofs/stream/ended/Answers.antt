@@ -1,6 +1,6 @@
 use Rattle.std.proofs.Common.{◌≡◌, ◌+◌, ◌*◌, ◌/◌, ◌%◌, ◌++◌, ◌∙◌, ℕ, List, ap, ap₂, append_assoc, arith, drop, length, take}
 use Rattle.std.proofs.lemmas.List.{length-append, take-append-drop}
-use Rattle.rds_live.specs.Live.{Terms, complete, report_at}
+use Rattle.rds_live.specs.StreamDecoder.{Terms, complete, report_at}
 use Rattle.rds_sync.specs.declared.item.Item.{Item}
 use Rattle.rds_sync.specs.Totals.{totals_of}
 use Rattle.rds_abi.proofs.stream.ended.Goals as goal

@@ -1,6 +1,6 @@
 use Rattle.std.proofs.Common.{◌≡◌, ◌<◌, arith, inl, inr, length, refl, subst, take}
 use Rattle.std.proofs.lemmas.List.{length-map}
-use Rattle.rds_live.specs.Live.{LiveOf}
+use Rattle.rds_live.specs.StreamDecoder.{LiveOf}
 use Rattle.rds_live.specs.Next.{completed}
 use Rattle.rds_abi.specs.Stream.{stream_in_c, stream_of}
 use Rattle.rds_abi.specs.Layout.{item_in_c}

@@ -1,6 +1,6 @@
 use Rattle.std.proofs.Common.{◌≡◌, ◌-◌, ◌+◌, ◌<◌, ◌≤◌, ◌∙◌, ℕ, List, ap, arith, drop, inl, length, subst, take}
 use Rattle.std.proofs.lemmas.List.{length-drop, length-take, take_all}
-use Rattle.rds_live.specs.Live.{LiveOf, Terms}
+use Rattle.rds_live.specs.StreamDecoder.{LiveOf, Terms}
 use Rattle.rds_live.specs.Next.{completed, live_next}
 use Rattle.rds_abi.specs.Stream.{stream_of}
 use Rattle.rds_abi.proofs.Fitting.{all-taken, filled-long, filled-piece, joined-count, joined-items, joined-next}

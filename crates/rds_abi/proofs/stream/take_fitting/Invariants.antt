@@ -1,5 +1,5 @@
 use Rattle.std.proofs.Common.{length, ◌-◌, ◌≡◌, ◌<◌, ◌≤◌, map, take, vec_capacity}
-use Rattle.rds_live.specs.Live.{IsLive}
+use Rattle.rds_live.specs.StreamDecoder.{IsStreamDecoder}
 use Rattle.rds_live.specs.Next.{completed, live_next}
 use Rattle.rds_abi.specs.Asked.{IsFilled}
 use Rattle.rds_abi.specs.Stream.{stream_in_c, stream_of}
@@ -13,7 +13,7 @@ invariant-loop-fit l = record {
   after : l.live ≡ live_next l.fn.live (take l.fit.taken l.bytes);
   laid : l.stream ≡ stream_in_c l.live;
   says : stream_of l.fn.live.terms l.stream ≡ l.live;
-  live : IsLive l.live;
+  live : IsStreamDecoder l.live;
   rules : l.live.terms.rules ≡ l.rules;
   filled : IsFilled (map item_in_c (completed l.fn.live (take l.fit.taken l.bytes))) l.fn.room l.room;
   count : l.fit.count ≡ length (completed l.fn.live (take l.fit.taken l.bytes));

@@ -7,5 +7,5 @@ pub loop-sheet-preserved : goal.loop-sheet-preserved
 loop-sheet-preserved g c = record {
   count = search rules;
   room = search rules;
-  size = All-rest (λ s. size_of s ≡ g.J.Named.size) _ _ _ c.in-Some.ensures.steps.0 c.loop-sheet.invariant.size;
+  size = All-rest (λ s. size_of s ≡ g.J.PartSpec.size) _ _ _ c.in-Some.ensures.steps.0 c.loop-sheet.invariant.size;
 }

@@ -7,5 +7,5 @@ abbrev pub invariant-loop-sheet : goal.invariant-loop-sheet
 invariant-loop-sheet g l = record {
   count : vec_len l.seats + into_iter_len l.sheet-iterator ≡ length l.fn.sheets.items;
   room : length l.fn.sheets.items ≤ vec_capacity l.seats;
-  size : All (λ s. size_of s ≡ g.J.Named.size) (into_iter_items l.sheet-iterator);
+  size : All (λ s. size_of s ≡ g.J.PartSpec.size) (into_iter_items l.sheet-iterator);
 }

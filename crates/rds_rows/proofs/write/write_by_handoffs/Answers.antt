@@ -10,20 +10,20 @@ use Rattle.rds_rows.proofs.write.write_by_handoffs.Goals.{After-by_pool}
 use Rattle.rds_rows.proofs.write.write_by_handoffs.Goals as goal
 
 -- the parts, one after the other, are all rows
-whole : (g : Over) (c : After-by_pool g) → first_parts g.J.Named.part c.args.plan.parts ≡ concat (g.T.Rows.rows c.args.rows.now)
+whole : (g : Over) (c : After-by_pool g) → first_parts g.J.PartSpec.part c.args.plan.parts ≡ concat (g.T.Rows.rows c.args.rows.now)
 whole g c =
-    ap (λ part. first_parts part c.args.plan.parts) c.requires.named.1 ∙ all_rows (g.T.Rows.rows c.args.rows.now) g.J.Named.size.0 c.args.plan.parts c.requires.parts
+    ap (λ part. first_parts part c.args.plan.parts) c.requires.named.1 ∙ all_rows (g.T.Rows.rows c.args.rows.now) g.J.PartSpec.size.0 c.args.plan.parts c.requires.parts
 
 pub returns-in_default-Ok-clause-written : goal.returns-in_default-Ok-clause-written
 returns-in_default-Ok-clause-written g c =
     let wrote = rw c.in_default-Ok.is-1 at c.by_pool.ensures.ok in
     let same = rw c.in_default-Ok.is-1 at c.by_pool.ensures.count in
-    let all = subst (Appends (g.W.Hand.contents c.args.out) (g.W.Hand.contents c.by_pool.result.0)) (whole g (goal.at.returns-in_default-Ok-clause-written g c).After-by_pool) wrote in
-    all_written g.W.Hand.contents g.W.Hand.failed _ _ _ all same
+    let all = subst (Appends (g.W.OwnedSink.contents c.args.out) (g.W.OwnedSink.contents c.by_pool.result.0)) (whole g (goal.at.returns-in_default-Ok-clause-written g c).After-by_pool) wrote in
+    all_written g.W.OwnedSink.contents g.W.OwnedSink.failed _ _ _ all same
 
 pub returns-clause-written : goal.returns-clause-written
 returns-clause-written g c =
     let wrote = rw c.in_default-Err.is-1 at c.by_pool.ensures.prefix in
     let more = rw c.in_default-Err.is-1 at c.by_pool.ensures.failed in
-    let some = subst (AppendsPrefix (g.W.Hand.contents c.args.out) (g.W.Hand.contents c.by_pool.result.0)) (whole g (goal.at.returns-clause-written g c).After-by_pool) wrote in
-    write_failed g.W.Hand.contents g.W.Hand.failed _ _ _ more some
+    let some = subst (AppendsPrefix (g.W.OwnedSink.contents c.args.out) (g.W.OwnedSink.contents c.by_pool.result.0)) (whole g (goal.at.returns-clause-written g c).After-by_pool) wrote in
+    write_failed g.W.OwnedSink.contents g.W.OwnedSink.failed _ _ _ more some

@@ -1,6 +1,6 @@
 use Rattle.std.proofs.Common.{◌≡◌, ◌+◌, ◌-◌, ◌≤◌, ◌++◌, ◌∷◌, [], ℕ, List, Some, None, sym, ap, ◌∙◌, subst, arith}
 use Rattle.rds_code.specs.declared.offset.Offset.{Offset}
-use Rattle.rds_stream.specs.Recording.{Signal, off, valid_windows}
+use Rattle.rds_stream.specs.Recording.{Signal, offset_at, valid_windows}
 use Rattle.rds_stream.specs.ValidWindows.{WindowsLeft, GivesFirst, NoneValid}
 use Rattle.rds_stream.proofs.WindowLists.{valid_over, valid_with}
 use Rattle.rds_stream.proofs.scanning.scan.Invariants.{HasScanned}
@@ -22,7 +22,7 @@ module _ (b : Signal) (from to : ℕ) (old : WindowsLeft) (items : List (ℕ × 
         from_on = omega (arith, has.from_on, gives.0);
         limit = omega (arith, gives.1, has.end);
         so_far = ap (λ xs. xs ++ found ∷ []) (up_to found.0 gives.0 gives.2)
-            ∙ valid_with b from found.0 found.1 (omega (arith, has.from_on, gives.0)) (subst (λ (bits : Signal). off bits found.0 ≡ Some found.1) has.bits gives.3);
+            ∙ valid_with b from found.0 found.1 (omega (arith, has.from_on, gives.0)) (subst (λ (bits : Signal). offset_at bits found.0 ≡ Some found.1) has.bits gives.3);
       })
 
   all : (new : WindowsLeft) → GivesFirst old None new → items ≡ valid_windows b from to

@@ -1,6 +1,6 @@
 use Rattle.std.proofs.Common.{ℕ, Option, IsSome, true≢false, ◌+◌, ◌∙◌, sym, subst, arith}
 use Rattle.rds_code.specs.declared.offset.Offset.{Offset}
-use Rattle.rds_stream.specs.Recording.{off}
+use Rattle.rds_stream.specs.Recording.{offset_at}
 use Rattle.rds_stream.specs.Inside.ValidPlaces.{TellsValidPlaces}
 use Rattle.rds_stream.proofs.WindowLists.{off_clear}
 use Rattle.rds_stream.proofs.ValidPlaceLemmas.{with_valid, with_invalid, none_is}
@@ -18,5 +18,5 @@ loop-place-preserved c =
       | then-is_some w ↦ subst (λ (word : ℕ). TellsValidPlaces b from (p + 1) word) (sym w.places-is) (with_valid b from p c.loop-place.places now (omega arith)
           (subst (λ (o : Option Offset). IsSome o) (sym offset) (sym c.is_some.ensures ∙ w.if-is_some.true)))
       | else-is_some w ↦ subst (λ (word : ℕ). TellsValidPlaces b from (p + 1) word) (sym w.places-is) (with_invalid b from p c.loop-place.places now (omega arith)
-          (none_is (off b p) (λ some. true≢false (sym (subst (λ (o : Option Offset). IsSome o) offset some) ∙ (sym c.is_some.ensures ∙ w.if-is_some.false)))))
+          (none_is (offset_at b p) (λ some. true≢false (sym (subst (λ (o : Option Offset). IsSome o) offset some) ∙ (sym c.is_some.ensures ∙ w.if-is_some.false)))))
     ]

@@ -2,7 +2,7 @@ use Rattle.std.proofs.Common.{◌≡◌, ◌≤◌, ℕ, Bool, true, false, Opti
 use Rattle.std.specs.List.{list_any, range_with_len}
 use Rattle.rds_code.specs.declared.offset.Offset.{Offset}
 use Rattle.rds_code.specs.Offsets.{number}
-use Rattle.rds_stream.specs.Recording.{Signal, heard, offset_heard, off}
+use Rattle.rds_stream.specs.Recording.{Signal, heard, offset_heard, offset_at}
 use Rattle.rds_sync.specs.Rules.{RuleNumbers}
 use Rattle.rds_sync.specs.Acquiring.{acquired, has_partner}
 use Rattle.rds_sync.proofs.LawfulLemmas.{acquired-none}
@@ -11,7 +11,7 @@ use Rattle.rds_sync.proofs.acquiring.acquire.Goals as goal
 
 -- the offset of the place, by the window heard there
 offset_is : (b : Signal) (place : ℕ) (h : Option ℕ) (read answer : Option Offset)
-    → 25 ≤ place → h ≡ heard b place → read ≡ offset_heard h → read ≡ answer → off b place ≡ answer
+    → 25 ≤ place → h ≡ heard b place → read ≡ offset_heard h → read ≡ answer → offset_at b place ≡ answer
 offset_is b place h read answer late heard_is read_is is =
     off-heard b place late ∙ ap (λ (w : Option ℕ). offset_heard w) (sym heard_is) ∙ sym read_is ∙ is
 
@@ -27,7 +27,7 @@ returns-in_default-clause-number g c =
     sym (acquired-none b c.args.rules.now c.args.place none)
 
 -- whether the place acquires, by whether there is a partner
-answer : (b later : Signal) (rules : RuleNumbers) (place n : ℕ) (o : Offset) (found is_found : Bool) → off b place ≡ Some o → n ≡ number o
+answer : (b later : Signal) (rules : RuleNumbers) (place n : ℕ) (o : Offset) (found is_found : Bool) → offset_at b place ≡ Some o → n ≡ number o
     → later ≡ b → found ≡ list_any (has_partner later place n) (range_with_len 1 rules.reach) → found ≡ is_found
     → elim is_found as (λ _. Option ℕ) [ true ↦ Some n | false ↦ None ] ≡ acquired b rules place
 answer b later rules place n o found is_found here number_is later_is any_is found_is =

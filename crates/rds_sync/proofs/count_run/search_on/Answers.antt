@@ -3,7 +3,7 @@ use Rattle.std.specs.List.{list_any, range_with_len}
 use Rattle.std.proofs.lemmas.Bool.{cases_lt}
 use Rattle.rds_code.specs.declared.offset.Offset.{Offset}
 use Rattle.rds_code.specs.Offsets.{number}
-use Rattle.rds_stream.specs.Recording.{Signal, off}
+use Rattle.rds_stream.specs.Recording.{Signal, offset_at}
 use Rattle.rds_stream.specs.ValidWindows.{WindowsLeft, GivesFirst, NoneValid}
 use Rattle.rds_sync.specs.declared.item.Item.{Item}
 use Rattle.rds_sync.specs.declared.lock.Lock.{Lock}
@@ -27,7 +27,7 @@ module _ (b read : Signal) (rules : RuleNumbers) (place to : ℕ) (old : Windows
     (searched : HasSearchedOn b read rules place to old before counts) where
   -- no place acquires up to one before which no window is valid
   none_before : (p : ℕ) → NoneValid old.signal old.next p → (j : ℕ) → old.next ≤ j → j < p → acquired b rules j ≡ None
-  none_before p none j low high = acquired-none b rules j (subst (λ (bits : Signal). off bits j ≡ None) searched.signal (none j low high))
+  none_before p none j low high = acquired-none b rules j (subst (λ (bits : Signal). offset_at bits j ≡ None) searched.signal (none j low high))
 
   -- nor up to and including the next valid window, where that does not
   none_with : (here : ℕ) → NoneValid old.signal old.next here → acquired b rules here ≡ None → (j : ℕ) → old.next ≤ j → j < here + 1 → acquired b rules j ≡ None
@@ -66,8 +66,8 @@ module _ (b read : Signal) (rules : RuleNumbers) (place to : ℕ) (old : Windows
         counts_are = counts_to later Searching more after low is counts_are;
       })
 
-  offset_is : (found : ℕ × Offset) (new : WindowsLeft) → GivesFirst old (Some found) new → off b found.0 ≡ Some found.1
-  offset_is found new gives = subst (λ (bits : Signal). off bits found.0 ≡ Some found.1) searched.signal gives.3
+  offset_is : (found : ℕ × Offset) (new : WindowsLeft) → GivesFirst old (Some found) new → offset_at b found.0 ≡ Some found.1
+  offset_is found new gives = subst (λ (bits : Signal). offset_at bits found.0 ≡ Some found.1) searched.signal gives.3
 
   within : (found : ℕ × Offset) (new : WindowsLeft) → GivesFirst old (Some found) new → found.0 < to
   within found new gives = omega (arith, gives.1, searched.end)

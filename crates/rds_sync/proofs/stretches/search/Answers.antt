@@ -2,7 +2,7 @@ use Rattle.std.proofs.Common.{◌≡◌, ◌≤◌, ◌<◌, ◌+◌, ◌-◌, �
 use Rattle.std.specs.List.{list_any, range_with_len}
 use Rattle.std.proofs.lemmas.Bool.{cases_lt}
 use Rattle.rds_code.specs.declared.offset.Offset.{Offset}
-use Rattle.rds_stream.specs.Recording.{Signal, heard, off}
+use Rattle.rds_stream.specs.Recording.{Signal, heard, offset_at}
 use Rattle.rds_stream.specs.ValidWindows.{WindowsLeft, GivesFirst, NoneValid}
 use Rattle.rds_sync.specs.declared.item.Item.{Item}
 use Rattle.rds_sync.specs.declared.lock.Lock.{Lock}
@@ -25,7 +25,7 @@ module _ (b read : Signal) (rules : RuleNumbers) (place to : ℕ) (old : Windows
   none_before : (p : ℕ) → NoneValid old.signal old.next p → (j : ℕ) → place ≤ j → j < p → acquired b rules j ≡ None
   none_before p none j low high = elim (cases_lt j old.next) [
     | inl earlier ↦ searched.none j low earlier
-    | inr late ↦ acquired-none b rules j (subst (λ (bits : Signal). off bits j ≡ None) searched.signal (none j late high))
+    | inr late ↦ acquired-none b rules j (subst (λ (bits : Signal). offset_at bits j ≡ None) searched.signal (none j late high))
   ]
 
   -- the window that is given next does not acquire
@@ -44,8 +44,8 @@ module _ (b read : Signal) (rules : RuleNumbers) (place to : ℕ) (old : Windows
         ];
       })
 
-  offset_is : (found : ℕ × Offset) (new : WindowsLeft) → GivesFirst old (Some found) new → off b found.0 ≡ Some found.1
-  offset_is found new gives = subst (λ (bits : Signal). off bits found.0 ≡ Some found.1) searched.signal gives.3
+  offset_is : (found : ℕ × Offset) (new : WindowsLeft) → GivesFirst old (Some found) new → offset_at b found.0 ≡ Some found.1
+  offset_is found new gives = subst (λ (bits : Signal). offset_at bits found.0 ≡ Some found.1) searched.signal gives.3
 
   from_here : (found : ℕ × Offset) (new : WindowsLeft) → GivesFirst old (Some found) new → (place ≤ found.0) × (found.0 < to)
   from_here found new gives = (omega (arith, searched.from_on, gives.0), omega (arith, gives.1, searched.end))

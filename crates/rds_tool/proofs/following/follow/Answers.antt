@@ -1,6 +1,6 @@
 use Rattle.std.proofs.Common.{◌≡◌, ◌≢◌, ◌⊎◌, ◌↔◌, Err, ◌+◌, ◌^◌, ◌<◌, ◌≤◌, ◌++◌, ◌∙◌, ℕ, [], List, Some, ap, arith, inl, inr, refl, subst, sym, take}
 use Rattle.std.specs.Prelude.{IfSome}
-use Rattle.rds_live.specs.Live.{LiveOf, Terms}
+use Rattle.rds_live.specs.StreamDecoder.{LiveOf, Terms}
 use Rattle.rds_stream.specs.Recording.{AreGaps}
 use Rattle.rds_tool.specs.Following.{MayBreakEarly, MayBreakOff, rows_so_far}
 use Rattle.rds_tool.specs.Input.{claimed}

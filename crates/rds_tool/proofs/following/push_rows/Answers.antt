@@ -1,6 +1,6 @@
 use Rattle.std.proofs.Common.{◌≡◌, ◌++◌, ◌∙◌, ℕ, List, ap, append_assoc, sym}
 use Rattle.std.specs.List.{flat_map}
-use Rattle.rds_live.specs.Live.{Terms, complete}
+use Rattle.rds_live.specs.StreamDecoder.{Terms, complete}
 use Rattle.rds_sync.specs.declared.item.Item.{Item}
 use Rattle.rds_tool.specs.Following.{rows_so_far}
 use Rattle.rds_tool.specs.Listing.{item_row}

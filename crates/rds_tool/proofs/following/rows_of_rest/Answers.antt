@@ -1,6 +1,6 @@
 use Rattle.std.proofs.Common.{◌∙◌, ◌++◌, List, ap}
 use Rattle.std.specs.List.{flat_map}
-use Rattle.rds_live.specs.Live.{complete}
+use Rattle.rds_live.specs.StreamDecoder.{complete}
 use Rattle.rds_sync.specs.declared.item.Item.{Item}
 use Rattle.rds_sync.specs.Advance.{group_item}
 use Rattle.rds_tool.specs.Listing.{item_row, totals_text}

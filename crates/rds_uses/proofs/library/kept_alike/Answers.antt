@@ -1,5 +1,5 @@
 use Rattle.std.proofs.Common.{◌++◌, [], refl, subst, List, ℕ}
-use Rattle.rds_live.specs.Live.{HasHeard}
+use Rattle.rds_live.specs.StreamDecoder.{HasHeard}
 use Rattle.rds_abi.specs.Stream.{stream_of, terms_of}
 use Rattle.rds_uses.proofs.NumberedStreams.{alike}
 use Rattle.rds_uses.proofs.library.kept_alike.Goals as goal

@@ -1,6 +1,6 @@
 use Rattle.std.proofs.Common.{◌≡◌, ◌-◌, ◌++◌, ◌∙◌, ℕ, List, ap, append_assoc, arith, drop, length, subst, take}
 use Rattle.std.proofs.lemmas.List.{length-drop, take-append-drop, take_all}
-use Rattle.rds_live.specs.Live.{HasHeard}
+use Rattle.rds_live.specs.StreamDecoder.{HasHeard}
 use Rattle.rds_abi.specs.Stream.{stream_of, terms_of}
 use Rattle.rds_uses.proofs.library.offered_again.Goals as goal
 

@@ -1,5 +1,5 @@
 use Rattle.std.proofs.Common.{ap, sym, ◌∙◌}
-use Rattle.rds_live.specs.Live.{LiveOf, Terms, complete, live_of, report_of}
+use Rattle.rds_live.specs.StreamDecoder.{LiveOf, Terms, complete, live_of, report_of}
 use Rattle.rds_uses.proofs.live.cut_at.Goals as goal
 
 pub returns : goal.returns

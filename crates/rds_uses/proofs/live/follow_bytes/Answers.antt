@@ -2,7 +2,7 @@ use Rattle.std.proofs.Common.{◌≡◌, ◌*◌, ◌^◌, [], ℕ, List, Bool, 
 use Rattle.std.specs.Prelude.{if◌then◌else◌, nat_lt}
 use Rattle.rds_stream.specs.Recording.{Signal}
 use Rattle.rds_sync.specs.Rules.{RuleNumbers}
-use Rattle.rds_live.specs.Live.{by_rules, signal_of}
+use Rattle.rds_live.specs.StreamDecoder.{by_rules, signal_of}
 use Rattle.rds_tool.specs.declared.error.ToolError.{ToolError}
 use Rattle.rds_tool.specs.declared.error.ToolError.TheVariants.{BitsPastBytes, TooLong}
 use Rattle.rds_tool.specs.Following.{listed}

@@ -2,7 +2,7 @@ use Rattle.std.proofs.Common.{◌≡◌, [], ◌++◌, List, ap, sym, subst, ◌
 use Rattle.rds_sync.specs.declared.item.Item.{Item}
 use Rattle.rds_sync.specs.Advance.{group_item}
 use Rattle.rds_sync.specs.Totals.{totals_of}
-use Rattle.rds_live.specs.Live.{LiveOf, HasHeard, Terms, complete, live_of, report_of}
+use Rattle.rds_live.specs.StreamDecoder.{LiveOf, HasHeard, Terms, complete, live_of, report_of}
 use Rattle.rds_uses.proofs.live.in_two_sittings.Goals.{After-second_sitting}
 use Rattle.rds_uses.proofs.live.in_two_sittings.Goals as goal
 

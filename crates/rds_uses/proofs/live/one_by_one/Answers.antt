@@ -1,5 +1,5 @@
 use Rattle.std.proofs.Common.{[], ap, sym, ◌∙◌}
-use Rattle.rds_live.specs.Live.{LiveOf, Terms, live_of}
+use Rattle.rds_live.specs.StreamDecoder.{LiveOf, Terms, live_of}
 use Rattle.rds_uses.proofs.live.one_by_one.Goals as goal
 
 pub take_one_by_one-requires : goal.take_one_by_one-requires

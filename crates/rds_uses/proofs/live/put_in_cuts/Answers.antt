@@ -2,7 +2,7 @@ use Rattle.std.proofs.Common.{◌≡◌, ◌+◌, ◌-◌, ◌≤◌, ◌++◌, 
 use Rattle.std.proofs.Math.Seq.{take-add}
 use Rattle.std.proofs.lemmas.List.{take_all}
 use Rattle.rds_sync.specs.declared.item.Item.{Item}
-use Rattle.rds_live.specs.Live.{LiveOf, HasHeard, Terms, complete, live_of}
+use Rattle.rds_live.specs.StreamDecoder.{LiveOf, HasHeard, Terms, complete, live_of}
 use Rattle.rds_uses.proofs.live.put_in_cuts.Goals as goal
 
 -- the bytes up to a place, and those from there to the next

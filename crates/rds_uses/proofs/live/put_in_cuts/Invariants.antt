@@ -1,5 +1,5 @@
 use Rattle.std.proofs.Common.{◌≡◌, ◌≤◌, length, take}
-use Rattle.rds_live.specs.Live.{complete, live_of}
+use Rattle.rds_live.specs.StreamDecoder.{complete, live_of}
 use Rattle.rds_uses.proofs.live.put_in_cuts.Given as goal
 
 abbrev pub invariant-loop-cut : goal.invariant-loop-cut

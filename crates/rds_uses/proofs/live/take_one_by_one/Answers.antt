@@ -1,6 +1,6 @@
 use Rattle.std.proofs.Common.{◌≡◌, ◌+◌, ◌<◌, [], ◌∷◌, ◌++◌, List, ℕ, length, take, get_or, ap, sym, ◌∙◌, arith}
 use Rattle.std.proofs.lemmas.List.{take_more, take_all}
-use Rattle.rds_live.specs.Live.{LiveOf, HasHeard, Terms, live_of}
+use Rattle.rds_live.specs.StreamDecoder.{LiveOf, HasHeard, Terms, live_of}
 use Rattle.rds_uses.proofs.live.take_one_by_one.Goals as goal
 
 -- one byte more, which is taken at once

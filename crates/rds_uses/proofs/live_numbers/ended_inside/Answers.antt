@@ -6,7 +6,7 @@ use Rattle.rds_sync.specs.Totals.{totals_of}
 use Rattle.rds_sync.specs.declared.item.Item.{Item}
 use Rattle.rds_sync.specs.declared.totals.Totals.{Totals}
 use Rattle.rds_live.specs.Next.{group_next, items_next}
-use Rattle.rds_live.specs.declared.live.StreamEnd.{StreamEnd}
+use Rattle.rds_live.specs.declared.stream_decoder.StreamEnd.{StreamEnd}
 use Rattle.rds_uses.proofs.live_numbers.ended_inside.Goals as goal
 
 -- the totals by the items that were given and the group at the end

@@ -1,6 +1,6 @@
 use Rattle.std.proofs.Common.{◌++◌, ◌∙◌, List, ap, ap₂}
 use Rattle.rds_sync.specs.declared.item.Item.{Item}
-use Rattle.rds_live.specs.Live.{LiveOf}
+use Rattle.rds_live.specs.StreamDecoder.{LiveOf}
 use Rattle.rds_live.specs.Next.{completed, live_next}
 use Rattle.rds_uses.proofs.live_numbers.in_two_chunks.Goals as goal
 

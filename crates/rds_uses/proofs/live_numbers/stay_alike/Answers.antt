@@ -1,5 +1,5 @@
 use Rattle.std.proofs.Common.{◌≡◌, ◌∙◌, ◌/◌, ℕ, length, min, take, ap, ap₂, sym}
-use Rattle.rds_live.specs.Live.{LiveOf}
+use Rattle.rds_live.specs.StreamDecoder.{LiveOf}
 use Rattle.rds_live.specs.Next.{live_next}
 use Rattle.rds_uses.proofs.live_numbers.stay_alike.Goals as goal
 

@@ -4,7 +4,7 @@ use Rattle.std.proofs.lemmas.List.{length-append}
 use Rattle.std.proofs.lemmas.List.FromFn.{length-map-range_with_len}
 use Rattle.rds_stream.specs.Recording.{AreGaps, Signal, bits_of, length_of, packed_bit}
 use Rattle.rds_live.specs.Gaps.{gaps_within}
-use Rattle.rds_live.specs.Live.{signal_of}
+use Rattle.rds_live.specs.StreamDecoder.{signal_of}
 use Rattle.rds_live.specs.Moving.{IsPartHeard}
 use Rattle.rds_live.specs.Room.{AreSpareFrom, filled_up, slots_of, spare}
 use Rattle.rds_live.proofs.GapParts.{few-of-part, gaps-of-part, gaps-filled-up, length-filled-up}

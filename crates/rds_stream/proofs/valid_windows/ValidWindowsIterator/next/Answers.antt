@@ -2,7 +2,7 @@ use Rattle.std.proofs.Common.{◌≡◌, ◌+◌, ℕ, Option, Some, None, IsSom
 use Rattle.rds_code.specs.declared.offset.Offset.{Offset}
 use Rattle.rds_code.specs.Offsets.{offset_of}
 use Rattle.rds_code.specs.Remainder.{rem}
-use Rattle.rds_stream.specs.Recording.{Signal, off, window}
+use Rattle.rds_stream.specs.Recording.{Signal, offset_at, window}
 use Rattle.rds_stream.specs.ValidWindows.{WindowsLeft, GivesFirst}
 use Rattle.rds_stream.proofs.WindowLists.{off_stored}
 use Rattle.rds_stream.proofs.ValidPlaceLemmas.{never_some, none_ahead, none_below, join_none, one_valid, places_behind, valid_late}
@@ -28,7 +28,7 @@ stored_offset-requires-clause-first c =
     valid_late b (places.next + bit) (one_valid b places.next places.ahead places.word bit c.next_valid-places.ensures.places c.lowest-bit.ensures.set).1
 
 -- a valid place has an offset as it is stored
-has_stored : (b : Signal) (place : ℕ) (found : Option Offset) → IsSome (off b place) → found ≡ offset_of (rem (window b.bits place)) → found ≡ None → ⊥
+has_stored : (b : Signal) (place : ℕ) (found : Option Offset) → IsSome (offset_at b place) → found ≡ offset_of (rem (window b.bits place)) → found ≡ None → ⊥
 has_stored b place found valid is none = never_some b place (off_stored b place valid ∙ sym is ∙ none) valid
 
 pub invariant_of-self-in_err-offset : goal.invariant_of-self-in_err-offset

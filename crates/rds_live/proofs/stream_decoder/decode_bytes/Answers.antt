@@ -2,10 +2,10 @@ use Rattle.std.proofs.Common.{◌≡◌, ◌-◌, ◌++◌, ◌∷◌, ◌∙◌
 use Rattle.std.proofs.lemmas.Bool.{cases_eq, false≢true, ne_eqb}
 use Rattle.std.proofs.lemmas.List.{append-nil, take_rest}
 use Rattle.rds_sync.specs.declared.item.Item.{Item}
-use Rattle.rds_live.specs.Live.{HasHeard, Terms, complete}
+use Rattle.rds_live.specs.StreamDecoder.{HasHeard, Terms, complete}
 use Rattle.rds_live.specs.Next.{completed, live_next}
 use Rattle.rds_live.proofs.Taking.{all_left, all_taken, left_on, none_taken, still_few, taken_on}
-use Rattle.rds_live.proofs.live.decode_bytes.Goals as goal
+use Rattle.rds_live.proofs.stream_decoder.decode_bytes.Goals as goal
 
 none-left : (n : ℕ) → eqb n 0 ≡ true → n ≡ 0
 none-left n e = elim (cases_eq n 0) [

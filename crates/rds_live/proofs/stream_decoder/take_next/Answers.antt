@@ -1,9 +1,9 @@
 use Rattle.std.proofs.Common.{◌++◌, ◌∙◌, ℕ, List, ap, ap₂, append_assoc, drop, sym, take}
 use Rattle.std.proofs.lemmas.List.{take-append-drop}
 use Rattle.rds_sync.specs.declared.item.Item.{Item}
-use Rattle.rds_live.specs.Live.{LiveOf}
+use Rattle.rds_live.specs.StreamDecoder.{LiveOf}
 use Rattle.rds_live.specs.Next.{completed, live_next}
-use Rattle.rds_live.proofs.live.take_next.Goals as goal
+use Rattle.rds_live.proofs.stream_decoder.take_next.Goals as goal
 
 pub returns-clause-items : goal.returns-clause-items
 returns-clause-items c before given h e =

@@ -1,8 +1,8 @@
 use Rattle.std.proofs.Common.{◌≡◌, [], subst}
-use Rattle.rds_live.specs.Live.{LiveOf, Terms}
+use Rattle.rds_live.specs.StreamDecoder.{LiveOf, Terms}
 use Rattle.rds_live.specs.Next.{live_next}
 use Rattle.rds_live.proofs.Pieces.{none-next}
-use Rattle.rds_live.proofs.live.Live.is_still.Goals as goal
+use Rattle.rds_live.proofs.stream_decoder.StreamDecoder.is_still.Goals as goal
 
 pub returns-clause-known : goal.returns-clause-known
 returns-clause-known c =

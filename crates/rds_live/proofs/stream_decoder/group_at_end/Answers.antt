@@ -8,13 +8,13 @@ use Rattle.rds_sync.specs.Rules.{RuleNumbers}
 use Rattle.rds_sync.specs.Step.{items_of_end}
 use Rattle.rds_live.specs.Moving.{IsPartHeard, moved_state}
 use Rattle.rds_live.specs.Gaps.{gaps_within}
-use Rattle.rds_live.specs.Live.{last_bytes, live_with, signal_at, signal_of, most_kept}
+use Rattle.rds_live.specs.StreamDecoder.{last_bytes, live_with, signal_at, signal_of, most_kept}
 use Rattle.rds_live.specs.Next.{moved_back as the_moved_back}
 use Rattle.rds_live.proofs.GapParts.{part-touched}
 use Rattle.rds_live.proofs.Parts.{length-at, length-signal, bits-heard, end-part}
 use Rattle.rds_live.proofs.Following.{early-or-long, state-in-part}
 use Rattle.rds_live.proofs.Nexts.{group-next, part-next, there}
-use Rattle.rds_live.proofs.live.group_at_end.Goals as goal
+use Rattle.rds_live.proofs.stream_decoder.group_at_end.Goals as goal
 
 -- the part that is kept of a stream
 module _ (tail : List ℕ) (place from : ℕ) (kept : length tail ≡ min 30 (place / 8)) (whole : place ≡ 8 * (place / 8)) (from_is : from ≡ 8 * length tail) where

@@ -10,14 +10,14 @@ use Rattle.rds_sync.specs.Lawful.{IsLawful}
 use Rattle.rds_sync.specs.Step.{run}
 use Rattle.rds_sync.specs.Totals.{totals_of}
 use Rattle.rds_live.specs.Gaps.{gaps_within}
-use Rattle.rds_live.specs.Live.{LiveOf, Terms, HasHeard, complete, last_bytes, live_of, most_kept, signal_of}
+use Rattle.rds_live.specs.StreamDecoder.{LiveOf, Terms, HasHeard, complete, last_bytes, live_of, most_kept, signal_of}
 use Rattle.rds_live.specs.Moving.{moved_item, moved_items, moved_state}
 use Rattle.rds_live.specs.Next.{before_tail, completed, live_next, run_next}
 use Rattle.rds_live.proofs.Following.{IsPrepared, at-most-more, prepared, heard-after, complete-after, lawful-on, state-in-part}
 use Rattle.rds_live.proofs.Nexts.{count-next, live-next, part-next, run-next, there}
 use Rattle.rds_live.proofs.Rooms.{heard-again, long-part, run-all}
-use Rattle.rds_live.proofs.live.Live.take.Goals.{After-moved_on-self-inside}
-use Rattle.rds_live.proofs.live.Live.take.Goals as goal
+use Rattle.rds_live.proofs.stream_decoder.StreamDecoder.take.Goals.{After-moved_on-self-inside}
+use Rattle.rds_live.proofs.stream_decoder.StreamDecoder.take.Goals as goal
 
 pub fill_from-end-requires-clause-lawful : goal.fill_from-end-requires-clause-lawful
 fill_from-end-requires-clause-lawful c =

@@ -3,23 +3,23 @@ ghost use Rattle.std.specs.Prelude.{◌≡◌, IfSome};
 ghost use Rattle.rds_rows.specs.Sheets.{size_of, text_of};
 
 use crate::sheet::Sheet;
-use crate::slot::{Found, Named, Slot};
+use crate::slot::{Found, PartSpec, Slot};
 use std::sync::{Condvar, Mutex, Wait};
 
-/// A seat for the parts whose numbers leave the same rest by the number of seats. They go through it one by one.
+/// Where parts change hands. Of n seats, seat i hands over the parts k with k mod n = i.
 #[derive(Drop)]
-pub(crate) struct Seat<J: Named> {
+pub(crate) struct Handoff<J: PartSpec> {
     slot: Mutex<Slot<J>>,
     filled: Condvar,
     emptied: Condvar,
 }
 
-impl<J: Named> Seat<J> {
+impl<J: PartSpec> Handoff<J> {
     /// A seat whose first part has this number.
-    pub(crate) fn new(number: usize, sheet: Sheet) -> Seat<J>
+    pub(crate) fn new(number: usize, sheet: Sheet) -> Handoff<J>
         requires { size_of sheet ≡ J.size }
     {
-        Seat {
+        Handoff {
             slot: Mutex::new(Slot::new(number, sheet)),
             filled: Condvar::new(),
             emptied: Condvar::new(),

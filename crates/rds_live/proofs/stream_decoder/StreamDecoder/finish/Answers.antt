@@ -9,10 +9,10 @@ use Rattle.rds_sync.specs.Laws.{RunsAreReports}
 use Rattle.rds_sync.specs.Loss.{IsLoss}
 use Rattle.rds_sync.specs.Step.{run, items_of_end}
 use Rattle.rds_sync.specs.Totals.{totals_of}
-use Rattle.rds_live.specs.Live.{LiveOf, Terms, HasHeard, complete, report_of, run_of, signal_of}
+use Rattle.rds_live.specs.StreamDecoder.{LiveOf, Terms, HasHeard, complete, report_of, run_of, signal_of}
 use Rattle.rds_live.specs.Next.{group_next}
 use Rattle.rds_live.proofs.Parts.{length-signal}
-use Rattle.rds_live.proofs.live.Live.finish.Goals as goal
+use Rattle.rds_live.proofs.stream_decoder.StreamDecoder.finish.Goals as goal
 
 -- the items of a stream with the group in progress at its end are those of its report
 all-items : (reports : RunsAreReports) (terms : Terms) (loss : IsLoss terms.rules.loss) (bytes : List ℕ) (last : List Item)

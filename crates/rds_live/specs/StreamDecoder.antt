@@ -1,5 +1,5 @@
 -- A decoder of a stream by the bytes that it has heard, and which items are complete then. Each call of
--- `Live` cites it, and so do `follow` of rds_tool and `push`, `finish` and `finish_with` of rds_abi. This
+-- `StreamDecoder` cites it, and so do `follow` of rds_tool and `push`, `finish` and `finish_with` of rds_abi. This
 -- project's rules.
 use Rattle.std.specs.Prelude.{◌≡◌, ℕ, ◌-◌, ◌*◌, ◌/◌, ◌^◌, ◌≤◌, List, [], length, drop, min}
 use Rattle.rds_stream.specs.Recording.{AreGaps, Signal, bits_of}
@@ -96,7 +96,7 @@ most_counted bits = 2 ^ 11 * bits
 -- every decoder of a stream satisfies this: whole bytes were heard, no more than a recording may hold, the
 -- last of them are kept, the state is lawful, the totals are small, and the gaps are some that a recording
 -- may have
-pub record IsLive (live : LiveOf) : Type 0 where
+pub record IsStreamDecoder (live : LiveOf) : Type 0 where
   pub whole : live.place ≡ 8 * (live.place / 8)
   pub limit : live.place ≤ 2 ^ 36
   pub kept : length live.tail ≡ min most_kept (live.place / 8)

@@ -5,7 +5,7 @@ use Rattle.rds_sync.specs.declared.item.Item.{Item}
 use Rattle.rds_sync.specs.Decoding.{DecoderOf}
 use Rattle.rds_live.specs.Places.{place_of}
 use Rattle.rds_live.proofs.ItemPlaces.{run-early}
-use Rattle.rds_live.proofs.live.fill_from.Goals as goal
+use Rattle.rds_live.proofs.stream_decoder.fill_from.Goals as goal
 
 pub returns-clause-early : goal.returns-clause-early
 returns-clause-early c k d h =

@@ -11,15 +11,15 @@ use Rattle.rds_sync.specs.Counting.{plus}
 use Rattle.rds_sync.specs.Step.{run, items_of_end}
 use Rattle.rds_sync.specs.Totals.{totals_of}
 use Rattle.rds_live.specs.Gaps.{gaps_within}
-use Rattle.rds_live.specs.Live.{LiveOf, Terms, HasHeard, complete, report_at, signal_at}
+use Rattle.rds_live.specs.StreamDecoder.{LiveOf, Terms, HasHeard, complete, report_at, signal_at}
 use Rattle.rds_live.specs.Moving.{moved_item, moved_items}
 use Rattle.rds_live.specs.Next.{group_next, items_next, part_with, run_next}
 use Rattle.rds_live.proofs.Nexts.{count-next, group-next, part-begin, part-next, run-next, there}
 use Rattle.rds_live.proofs.Parts.{length-at}
 use Rattle.rds_live.proofs.Following.{at-most-more, state-in-part}
 use Rattle.rds_live.proofs.Ending.{IsLast, report-begin, report-to, totals-to}
-use Rattle.rds_live.proofs.live.Live.finish_with.Goals.{After-stream_end_of}
-use Rattle.rds_live.proofs.live.Live.finish_with.Goals as goal
+use Rattle.rds_live.proofs.stream_decoder.StreamDecoder.finish_with.Goals.{After-stream_end_of}
+use Rattle.rds_live.proofs.stream_decoder.StreamDecoder.finish_with.Goals as goal
 
 size-of : (part : Signal) (gaps : List (ℕ × ℕ)) (bytes : List ℕ) (n : ℕ) → part ≡ signal_at gaps bytes n → length_of part ≡ n
 size-of part gaps bytes n e = ap (λ (b : Signal). length_of b) e ∙ length-at gaps bytes n

@@ -8,7 +8,7 @@ use Rattle.rds_sync.specs.Advance.{group_item}
 use Rattle.rds_sync.specs.Step.{items_of_end}
 use Rattle.rds_live.specs.Places.{place_of}
 use Rattle.rds_live.proofs.ItemPlaces.{due-soon, end-early}
-use Rattle.rds_live.proofs.live.moved_end.Goals as goal
+use Rattle.rds_live.proofs.stream_decoder.moved_end.Goals as goal
 
 pub moved_group-requires : goal.moved_group-requires
 moved_group-requires c =

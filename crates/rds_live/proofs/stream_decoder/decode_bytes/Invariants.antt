@@ -1,8 +1,8 @@
 use Rattle.std.proofs.Common.{◌≡◌, ◌≤◌, ◌+◌, ◌-◌, ◌*◌, ◌++◌, List, drop, length, min, take, ℕ}
 use Rattle.std.specs.Prelude.{vec_capacity}
-use Rattle.rds_live.specs.Live.{HasHeard, complete}
+use Rattle.rds_live.specs.StreamDecoder.{HasHeard, complete}
 use Rattle.rds_live.specs.Next.{completed, live_next}
-use Rattle.rds_live.proofs.live.decode_bytes.Given as goal
+use Rattle.rds_live.proofs.stream_decoder.decode_bytes.Given as goal
 
 abbrev pub invariant-loop-rest : goal.invariant-loop-rest
 invariant-loop-rest l = record {
