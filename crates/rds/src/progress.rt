@@ -157,23 +157,23 @@ impl Gate for Progress<'_> {
 
 /// A reader or a writer whose bytes are counted.
 #[derive(Drop)]
-pub struct Told<'a, D> {
+pub struct Reporting<'a, D> {
     device: D,
     progress: &'a Progress<'a>,
 }
 
-impl<'a, D> Told<'a, D> {
-    pub fn new(device: D, progress: &'a Progress<'a>) -> Told<'a, D>
+impl<'a, D> Reporting<'a, D> {
+    pub fn new(device: D, progress: &'a Progress<'a>) -> Reporting<'a, D>
         ensures { result.device ≡ device }
     {
-        Told { device, progress }
+        Reporting { device, progress }
     }
 
     /// Only the device.
     pub fn into_inner(self) -> D
         ensures { result ≡ self.entry.device }
     {
-        let Told {
+        let Reporting {
             device,
             progress: _,
         } = self;
@@ -181,7 +181,7 @@ impl<'a, D> Told<'a, D> {
     }
 }
 
-impl<S: Source> Source for Told<'_, S> {
+impl<S: Source> Source for Reporting<'_, S> {
     ghost remaining = { λ told. S.remaining told.device };
 
     ghost given = { λ told. S.given told.device };
@@ -201,7 +201,7 @@ impl<S: Source> Source for Told<'_, S> {
     }
 }
 
-impl<K: Sink> Sink for Told<'_, K> {
+impl<K: Sink> Sink for Reporting<'_, K> {
     ghost contents = { λ told. K.contents told.device };
 
     ghost is_flushed = { λ told. K.is_flushed told.device };

@@ -7,7 +7,7 @@ ghost use Rattle.rds.specs.Session.{DoesAsked, HasDone, HasFollowed};
 ghost use Rattle.rds_tool.specs.Ends.{given_by, has_ended, is_flushed, read_failures, taken_by, write_failures};
 ghost use Rattle.rds_tool.specs.Refusals.{of_sync};
 
-use crate::progress::{Progress, Told};
+use crate::progress::{Progress, Reporting};
 use rds_sync::{Rules, SyncError};
 use rds_tool::{
     FromRead, Input, Job, Request, RuleNumbers, ToWrite, ToolError, follow, transcribe,
@@ -61,8 +61,8 @@ fn run_told<R: Threads + Wait + Sync>(
 ) -> Session
     ensures { HasDone job.now result }
 {
-    let mut reader = Told::new(FromRead::new(rt.stdin()), progress);
-    let mut writer = Told::new(ToWrite::new(rt.stdout()), progress);
+    let mut reader = Reporting::new(FromRead::new(rt.stdin()), progress);
+    let mut writer = Reporting::new(ToWrite::new(rt.stdout()), progress);
     let answer = transcribe_gated(crew, rt.alloc(), &mut reader, &mut writer, job, progress);
     Session {
         reader: reader.into_inner(),

@@ -262,7 +262,7 @@ fn go_on(
     let before = start.part.before;
     let from = range.0 - before;
     let to = range.1 - before;
-    let (end, number) = counted(alloc, start, from, to)?;
+    let (end, number) = count_items(alloc, start, from, to)?;
     *count = number as u64;
     if room.len() < number {
         return Err(Refusal::SmallRoom);
@@ -274,7 +274,7 @@ fn go_on(
 }
 
 /// The state at the end of a run over places of the part, and how many items it gives.
-fn counted(alloc: Global, start: &Start, from: u64, to: u64) -> Result<(State, usize), Refusal>
+fn count_items(alloc: Global, start: &Start, from: u64, to: u64) -> Result<(State, usize), Refusal>
     requires lawful { IsLawfulState start.now.rules from start.now.state }
     requires order { from ≤ to }
     requires within { to ≤ length_of start.now.part.recording }

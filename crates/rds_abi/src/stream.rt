@@ -58,12 +58,12 @@ fn totals_from_c(totals: RdsTotals) -> Totals
 
 /// The terms of a stream: the rules and the gaps.
 #[derive(Drop)]
-struct Told {
+struct StreamTerms {
     rules: Rules,
     gaps: Vec<(u64, u64)>,
 }
 
-impl Model for Told {
+impl Model for StreamTerms {
     ghost use Rattle.rds_live.specs.StreamDecoder.{Terms};
 
     ghost Value = { Terms };
@@ -86,7 +86,7 @@ fn rules_told(alloc: Global, rules: RdsRules, gaps: &[RdsGap]) -> Result<Rules, 
 }
 
 /// The terms of a stream, from C.
-fn told_of(alloc: Global, rules: RdsRules, gaps: &[RdsGap]) -> Result<Told, Refusal>
+fn told_of(alloc: Global, rules: RdsRules, gaps: &[RdsGap]) -> Result<StreamTerms, Refusal>
     ensures terms { IfOk result (λ told. told ≡ terms_of rules gaps.now) }
     ensures given { IfOk result (λ _. AreGiven rules) }
     ensures gaps { IfOk result (λ told. AreGaps (2 ^ 36) told.gaps) }
@@ -94,7 +94,7 @@ fn told_of(alloc: Global, rules: RdsRules, gaps: &[RdsGap]) -> Result<Told, Refu
 {
     let rules = rules_told(alloc, rules, gaps)?;
     let gaps = gaps_in(alloc, gaps)?;
-    Ok(Told { rules, gaps })
+    Ok(StreamTerms { rules, gaps })
 }
 
 /// The terms of a part of a stream, from C: the rules, and the gaps near the part that begins at `before` and
@@ -105,18 +105,18 @@ fn told_near(
     gaps: &[RdsGap],
     before: u64,
     len: u64,
-) -> Result<Told, Refusal>
+) -> Result<StreamTerms, Refusal>
     ensures near { IfOk result (λ told. IsNear (terms_of rules gaps.now) told before len) }
     ensures given { IfOk result (λ _. AreGiven rules) }
     ensures refused { IfErr result (RefusesTold rules gaps.now) }
 {
     let rules = rules_told(alloc, rules, gaps)?;
     let gaps = gaps_in(alloc, near(gaps, before, len))?;
-    Ok(Told { rules, gaps })
+    Ok(StreamTerms { rules, gaps })
 }
 
 /// The decoder of the stream that these numbers say.
-fn live_of<'r>(alloc: Global, told: &'r Told, stream: &RdsStream) -> Result<StreamDecoder<'r>, Refusal>
+fn live_of<'r>(alloc: Global, told: &'r StreamTerms, stream: &RdsStream) -> Result<StreamDecoder<'r>, Refusal>
     requires { AreGaps (2 ^ 36) told.now.gaps }
     ensures live { IfOk result (λ live. live ≡ the_stream_of told.now stream.now) }
     ensures left { IfOk result (λ _. IsLeft told.now stream.now) }
@@ -312,7 +312,7 @@ pub fn push(
 /// Takes the next bytes of a stream, as many as there is room for, and writes their items.
 fn go_on(
     alloc: Global,
-    told: &Told,
+    told: &StreamTerms,
     bytes: &[u8],
     stream: &mut RdsStream,
     room: &mut [RdsItem],
@@ -507,7 +507,7 @@ pub fn finish(
 /// Ends a stream, and writes the group in progress and the totals.
 fn close(
     alloc: Global,
-    told: &Told,
+    told: &StreamTerms,
     stream: &RdsStream,
     room: &mut [RdsItem],
     count: &mut u64,
@@ -598,7 +598,7 @@ fn left_of(
 /// The items that these bits complete, then the group in progress, and the totals of the report.
 fn last_of(
     alloc: Global,
-    told: &Told,
+    told: &StreamTerms,
     bytes: &[u8],
     bits: u64,
     stream: &RdsStream,
@@ -613,7 +613,7 @@ fn last_of(
 {
     let live = live_of(alloc, told, stream)?;
     refuse_last(live.place(), bytes, bits)?;
-    match ended(alloc, live, bytes, bits) {
+    match end_of_stream(alloc, live, bytes, bits) {
         Ok(left) => Ok(left),
         Err(_) => Err(Refusal::OutOfMemory),
     }
@@ -638,7 +638,7 @@ fn refuse_last(place: u64, bytes: &[u8], bits: u64) -> Result<(), Refusal>
 
 /// The items that the first `bits` bits complete, then the group in progress if the stream ends there, and
 /// the totals of the report.
-fn ended(
+fn end_of_stream(
     alloc: Global,
     live: StreamDecoder<'_>,
     bytes: &[u8],

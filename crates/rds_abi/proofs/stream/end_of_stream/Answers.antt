@@ -3,7 +3,7 @@ use Rattle.std.proofs.lemmas.List.{length-append, take-append-drop}
 use Rattle.rds_live.specs.StreamDecoder.{Terms, complete, report_at}
 use Rattle.rds_sync.specs.declared.item.Item.{Item}
 use Rattle.rds_sync.specs.Totals.{totals_of}
-use Rattle.rds_abi.proofs.stream.ended.Goals as goal
+use Rattle.rds_abi.proofs.stream.end_of_stream.Goals as goal
 
 -- the whole bytes are taken first, and then the bits of the one that is left
 same_end : (old new : Terms) (before bytes whole rest : List ℕ) (bits : ℕ) → new ≡ old → whole ≡ take (bits / 8) bytes → rest ≡ drop (bits / 8) bytes → length whole ≡ bits / 8
