@@ -19,7 +19,7 @@ use crate::part::near;
 use crate::ranges::{loss_in_c, state_in_c, state_of, write_end};
 use crate::refusal::Refusal;
 use rds_live::laws::{next_is_heard, pieces_join};
-use rds_live::{StreamDecoder, ResumeError};
+use rds_live::{ResumeError, StreamDecoder};
 use rds_stream::{MOST_BITS, StreamError};
 use rds_sync::{Group, Item, Rules, Totals, laws};
 use std::alloc::{AllocError, Global};
@@ -116,7 +116,11 @@ fn told_near(
 }
 
 /// The decoder of the stream that these numbers say.
-fn live_of<'r>(alloc: Global, told: &'r StreamTerms, stream: &RdsStream) -> Result<StreamDecoder<'r>, Refusal>
+fn live_of<'r>(
+    alloc: Global,
+    told: &'r StreamTerms,
+    stream: &RdsStream,
+) -> Result<StreamDecoder<'r>, Refusal>
     requires { AreGaps (2 ^ 36) told.now.gaps }
     ensures live { IfOk result (λ live. live ≡ the_stream_of told.now stream.now) }
     ensures left { IfOk result (λ _. IsLeft told.now stream.now) }

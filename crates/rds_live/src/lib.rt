@@ -79,4 +79,4 @@ mod error; // Why a decoder that was kept as numbers is refused.
 
 pub use error::ResumeError;
 pub use gaps::may_have_gaps;
-pub use stream_decoder::{StreamDecoder, MOST_ITEMS, StreamEnd};
+pub use stream_decoder::{MOST_ITEMS, StreamDecoder, StreamEnd};

@@ -469,7 +469,11 @@ impl<'r> StreamDecoder<'r> {
 }
 
 /// Has the decoder take all of these bytes, and gives the items that they complete.
-fn decode_bytes(alloc: Global, live: &mut StreamDecoder<'_>, bytes: &[u8]) -> Result<Vec<Item>, AllocError>
+fn decode_bytes(
+    alloc: Global,
+    live: &mut StreamDecoder<'_>,
+    bytes: &[u8],
+) -> Result<Vec<Item>, AllocError>
     requires fits { live.old.place + 8 * length bytes.now ≤ 2 ^ 36 }
     ensures heard { OnOk result ((before : List ℕ) → HasHeard live.old before
         → HasHeard live.new (before ++ bytes.now)) }

@@ -7,9 +7,9 @@ ghost use Rattle.rds_rows.specs.Gathered.{kept_in};
 ghost use Rattle.rds_rows.specs.Writes.{AppendsBut, AppendsPrefix};
 
 use crate::gathered::Gathered;
+use crate::handoff::Handoff;
 use crate::owned_sink::OwnedSink;
 use crate::rows::{Rows, fill_part};
-use crate::handoff::Handoff;
 use crate::sheet::Sheet;
 use crate::sink::Failed;
 use crate::slot::PartSpec;

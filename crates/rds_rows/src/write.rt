@@ -8,7 +8,7 @@ ghost use Rattle.rds_rows.specs.Written.{IsWritten};
 
 use crate::error::RowsError;
 use crate::gathered::Gathered;
-use crate::owned_sink::{OwnedSink, Lent};
+use crate::owned_sink::{Lent, OwnedSink};
 use crate::pool::{by_pool, seats_of};
 use crate::rows::Rows;
 use crate::sheet::Sheet;
@@ -161,7 +161,12 @@ fn by_value<R: Threads + Wait + Sync, T: Rows + Sync, W: OwnedSink + Drop>(
 }
 
 /// The rows, made and written with a seat for each sheet.
-fn write_by_handoffs<R: Threads + Wait + Sync, J: PartSpec + Send + Sync, T: Rows + Sync, W: OwnedSink + Drop>(
+fn write_by_handoffs<
+    R: Threads + Wait + Sync,
+    J: PartSpec + Send + Sync,
+    T: Rows + Sync,
+    W: OwnedSink + Drop,
+>(
     rt: &R,
     alloc: Global,
     rows: &T,

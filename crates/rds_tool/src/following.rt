@@ -19,7 +19,7 @@ use crate::listing::{push_items, push_named};
 use crate::rows::{CsvRows, rows_in_room, text_of_rows};
 use crate::text::write_flushed;
 use crate::{Failed, Sink, Source, ToolError};
-use rds_live::{StreamDecoder, MOST_ITEMS, StreamEnd};
+use rds_live::{MOST_ITEMS, StreamDecoder, StreamEnd};
 use rds_stream::MOST_BITS;
 use rds_sync::{Item, Rules, laws};
 use std::alloc::Global;

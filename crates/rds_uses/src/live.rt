@@ -5,7 +5,7 @@ ghost use Rattle.rds_sync.specs.Totals.{totals_of};
 ghost use Rattle.rds_live.specs.StreamDecoder.{HasHeard, by_rules, complete, live_of, report_of, signal_of};
 ghost use Rattle.rds_tool.specs.Outcome.{list_text};
 
-use rds_live::{StreamDecoder, ResumeError, StreamEnd};
+use rds_live::{ResumeError, StreamDecoder, StreamEnd};
 use rds_stream::StreamError;
 use rds_sync::{Item, Rules, State};
 use rds_tool::{FromRead, ToWrite, ToolError, follow};
@@ -112,7 +112,11 @@ pub fn one_by_one<'r>(
 }
 
 /// Takes the bytes of a stream one by one.
-fn take_one_by_one(alloc: Global, live: &mut StreamDecoder<'_>, bytes: &[u8]) -> Result<(), StreamError>
+fn take_one_by_one(
+    alloc: Global,
+    live: &mut StreamDecoder<'_>,
+    bytes: &[u8],
+) -> Result<(), StreamError>
     requires { HasHeard live.old [] }
     ensures { OnOk result (live.new ≡ live_of live.old.terms bytes.now) }
 {
