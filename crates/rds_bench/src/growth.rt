@@ -68,10 +68,5 @@ fn grows_as_its_recording(rt: &HostRuntime, form: Form, sample: Sample) -> Resul
 /// The time of a form over about `bits` bits of a sample.
 fn time_over(rt: &HostRuntime, form: Form, sample: Sample, bits: u64) -> Result<u64> {
     let heard = Heard::of(rt.alloc(), sample, bits)?;
-    nanos_over(rt, form, &heard)
-}
-
-fn nanos_over(rt: &HostRuntime, form: Form, heard: &Heard) -> Result<u64> {
-    let (nanos, _found) = least_time(rt, form, heard)?;
-    Ok(nanos)
+    Ok(least_time(rt, form, &heard)?.0)
 }

@@ -111,10 +111,11 @@ fn station(alloc: Global, bits: u64) -> Result<Vec<u8>, AllocError> {
 
 /// Appends the group of these words, thirteen bytes.
 fn push_group(bytes: &mut Vec<u8>, words: [u16; 4]) -> Result<(), AllocError> {
-    let mut packed = 0u128;
-    for block in encode_group(words) {
-        packed = packed << 26 | u128::from(block);
-    }
+    let [first, second, third, fourth] = encode_group(words);
+    let packed = (first as u128) << 78
+        | (second as u128) << 52
+        | (third as u128) << 26
+        | fourth as u128;
     bytes.extend_from_slice(&packed.to_be_bytes()[3..])
 }
 

@@ -56,6 +56,5 @@ fn show_row(
     found: u64,
 ) -> Result<(), io::Error> {
     let picoseconds = nanos / (BITS / 1000);
-    print!(rt; "{name:<20} {picoseconds} ps per bit, ")?;
-    println!(rt; "{of_first} % of the first, count {found}")
+    println!(rt; "{name:<20} {picoseconds} ps per bit, {of_first} % of the first, count {found}")
 }
