@@ -162,8 +162,8 @@ impl<'r> Live<'r> {
         ensures taken { IfOk result (λ live. IsLive live) }
         ensures bad_gaps { IsErrOf result ResumeError.BadGaps ↔ (AreGaps (2 ^ 36) gaps.now → ⊥) }
         ensures unlawful { IsErrOf result ResumeError.UnlawfulState
-            ↔ (AreGaps (2 ^ 36) gaps.now × (IsLive (live_with rules.now gaps.now tail.now place state totals)
-            → ⊥)) }
+            ↔ (AreGaps (2 ^ 36) gaps.now
+            × (IsLive (live_with rules.now gaps.now tail.now place state totals) → ⊥)) }
         ensures memory_last { IsErrOf result ResumeError.OutOfMemory
             → IsLive (live_with rules.now gaps.now tail.now place state totals) }
     {
