@@ -14,7 +14,6 @@ use Rattle.rds_sync.specs.Loss.{are_too_many}
 use Rattle.rds_sync.specs.Acquiring.{acquired}
 use Rattle.rds_sync.specs.Groups.{group}
 use Rattle.rds_sync.specs.Step.{items_of_end, run, step, items_at, bad_with, group_after}
-use Rattle.rds_sync.specs.Decoding.{DecoderOf, GivesNext}
 use Rattle.rds_sync.specs.Lawful.{IsLawful}
 use Rattle.rds_live.specs.Places.{place_of, is_due_below}
 use Rattle.rds_live.proofs.Bits.{items-searching, items-acquiring, items-waiting, items-keeping, items-losing}
