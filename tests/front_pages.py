@@ -41,7 +41,7 @@ use rds_stream::{Reader, Recording, read_heard, scan};""",
     ),
     (
         "rds_live",
-        "use rds_live::{StreamDecoder, MOST_ITEMS};\nuse rds_sync::Rules;",
+        "use rds_live::{MOST_ITEMS, StreamDecoder};\nuse rds_sync::Rules;",
         "alloc: Global, rules: Rules, chunks: Vec<&[u8]>",
         "MOST_ITEMS",
     ),

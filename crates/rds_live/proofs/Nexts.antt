@@ -9,7 +9,7 @@ use Rattle.rds_sync.specs.Counting.{TotalsJoin, plus}
 use Rattle.rds_sync.specs.Step.{run, items_of_end}
 use Rattle.rds_sync.specs.Totals.{totals_of}
 use Rattle.rds_live.specs.Gaps.{gaps_within}
-use Rattle.rds_live.specs.Live.{LiveOf, last_bytes, signal_at}
+use Rattle.rds_live.specs.StreamDecoder.{LiveOf, last_bytes, signal_at}
 use Rattle.rds_live.specs.Moving.{moved_items, moved_state}
 use Rattle.rds_live.specs.Next.{before_tail, completed, group_next, items_next, live_next, moved_back, part_with, run_next}
 use Rattle.rds_live.proofs.Following.{totals-moved}

@@ -1,6 +1,6 @@
 -- The next items and the next state of a decoder of a stream, only by its numbers: by those that a decoder
 -- was left with, and by others that are lawful and of no stream. `take`, `take_all`, `finish` and
--- `finish_with` of `Live` cite it. This project's rule.
+-- `finish_with` of `StreamDecoder` cite it. This project's rule.
 use Rattle.std.specs.Prelude.{◌≡◌, ℕ, ◌+◌, ◌-◌, ◌*◌, List, ◌++◌, length}
 use Rattle.rds_stream.specs.Recording.{Signal}
 use Rattle.rds_sync.specs.declared.state.State.{State}
@@ -11,7 +11,7 @@ use Rattle.rds_sync.specs.Ranges.{IsInRange}
 use Rattle.rds_sync.specs.Step.{run, items_of_end}
 use Rattle.rds_sync.specs.Totals.{totals_of}
 use Rattle.rds_live.specs.Gaps.{gaps_within}
-use Rattle.rds_live.specs.Live.{HasHeard, IsLive, LiveOf, complete, last_bytes, signal_at}
+use Rattle.rds_live.specs.StreamDecoder.{HasHeard, IsStreamDecoder, LiveOf, complete, last_bytes, signal_at}
 use Rattle.rds_live.specs.Moving.{moved_items, moved_state}
 
 -- the state, with all places moved back by d
@@ -63,14 +63,14 @@ live_next live bytes = record {
 
 -- bytes that are taken in two pieces give the same as at once
 abbrev pub PiecesJoin : Type 0
-PiecesJoin = (live : LiveOf) (first second : List ℕ) → IsInRange live.terms.rules → IsLive live
+PiecesJoin = (live : LiveOf) (first second : List ℕ) → IsInRange live.terms.rules → IsStreamDecoder live
     → (live_next (live_next live first) second ≡ live_next live (first ++ second))
     × (completed live first ++ completed (live_next live first) second ≡ completed live (first ++ second))
 
 -- the decoder of a heard stream is that of the longer stream after these bytes, and the items are those of
 -- the stream
 abbrev pub NextIsHeard : Type 0
-NextIsHeard = (live : LiveOf) (before bytes : List ℕ) → IsInRange live.terms.rules → IsLive live
+NextIsHeard = (live : LiveOf) (before bytes : List ℕ) → IsInRange live.terms.rules → IsStreamDecoder live
     → HasHeard live before
     → HasHeard (live_next live bytes) (before ++ bytes)
     × (complete live.terms before ++ completed live bytes ≡ complete live.terms (before ++ bytes))

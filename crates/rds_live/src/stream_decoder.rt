@@ -9,7 +9,7 @@ ghost use Rattle.rds_sync.specs.Ranges.{IsInRange};
 ghost use Rattle.rds_sync.specs.Step.{run, items_of_end};
 ghost use Rattle.rds_sync.specs.Totals.{totals_of};
 ghost use Rattle.rds_live.specs.Moving.{moved_items};
-ghost use Rattle.rds_live.specs.Live.{HasHeard, IsLive, Terms, by_rules, complete, last_bytes, live_of, live_with, most_counted, most_kept, report_at, report_of, signal_of};
+ghost use Rattle.rds_live.specs.StreamDecoder.{HasHeard, IsStreamDecoder, Terms, by_rules, complete, last_bytes, live_of, live_with, most_counted, most_kept, report_at, report_of, signal_of};
 ghost use Rattle.rds_live.specs.Next.{completed, group_next, items_next, live_next};
 ghost use Rattle.rds_live.specs.Places.{place_of};
 ghost use Rattle.rds_live.specs.Room.{slots_of};
@@ -29,7 +29,7 @@ use std::marker::Model;
 /// How many items a byte may complete: two per bit.
 const ITEMS_A_BYTE: usize = 16;
 
-/// Room for as many items as [`Live::take`] completes at once, whatever it is handed.
+/// Room for as many items as [`StreamDecoder::take`] completes at once, whatever it is handed.
 pub const MOST_ITEMS: usize = AT_ONCE * ITEMS_A_BYTE;
 
 const NO_GAPS: &[(u64, u64)] = &[];
@@ -39,7 +39,7 @@ const NO_GAPS: &[(u64, u64)] = &[];
 /// Contracts see its knowledge of the stream: its rules and gaps, the last bytes, how many bits there were,
 /// and the state after them.
 #[derive(Drop)]
-pub struct Live<'r> {
+pub struct StreamDecoder<'r> {
     rules: &'r Rules,
     gaps: &'r [(u64, u64)],
     /// The last bytes, and room for those that come next.
@@ -49,9 +49,9 @@ pub struct Live<'r> {
     totals: Totals,
 }
 
-impl<'r> Model for Live<'r> {
+impl<'r> Model for StreamDecoder<'r> {
     ghost use Rattle.std.specs.Prelude.{◌≤◌, length, min};
-    ghost use Rattle.rds_live.specs.Live.{LiveOf, IsLive};
+    ghost use Rattle.rds_live.specs.StreamDecoder.{LiveOf, IsStreamDecoder};
     ghost use Rattle.rds_live.specs.Room.{slots_of};
 
     ghost Value = { LiveOf };
@@ -64,7 +64,7 @@ impl<'r> Model for Live<'r> {
       totals = l.totals;
     } };
 
-    ghost invariant = { λ l. IsLive (record {
+    ghost invariant = { λ l. IsStreamDecoder (record {
       terms = record { rules = l.rules.now; gaps = l.gaps.now };
       tail = l.room.bytes;
       place = l.place;
@@ -83,15 +83,15 @@ pub struct StreamEnd {
     pub totals: Totals,
 }
 
-impl<'r> Live<'r> {
+impl<'r> StreamDecoder<'r> {
     /// A decoder that has heard nothing yet, of a stream without gaps.
     ///
     /// Fails only if memory is refused: it takes all that it will need.
-    pub fn new(alloc: Global, rules: &'r Rules) -> Result<Live<'r>, StreamError>
+    pub fn new(alloc: Global, rules: &'r Rules) -> Result<StreamDecoder<'r>, StreamError>
         ensures live { IfOk result (λ live. live ≡ live_of (by_rules rules.now) []) }
         ensures only_memory { IsOkUnless result StreamError.OutOfMemory }
     {
-        Ok(Live::start(alloc, rules, NO_GAPS)?)
+        Ok(StreamDecoder::start(alloc, rules, NO_GAPS)?)
     }
 
     /// A decoder that has heard nothing yet, of a stream with these gaps: each is the places from its first number to before
@@ -104,7 +104,7 @@ impl<'r> Live<'r> {
         alloc: Global,
         rules: &'r Rules,
         gaps: &'r [(u64, u64)],
-    ) -> Result<Live<'r>, StreamError>
+    ) -> Result<StreamDecoder<'r>, StreamError>
         ensures live { IfOk result (λ live. live
             ≡ live_of (record { rules = rules.now; gaps = gaps.now }) []) }
         ensures taken { IsOk result → AreGaps (2 ^ 36) gaps.now }
@@ -114,7 +114,7 @@ impl<'r> Live<'r> {
         if !may_have_gaps(gaps) {
             return Err(StreamError::BadGaps);
         }
-        Ok(Live::start(alloc, rules, gaps)?)
+        Ok(StreamDecoder::start(alloc, rules, gaps)?)
     }
 
     /// A decoder that has heard nothing yet.
@@ -122,12 +122,12 @@ impl<'r> Live<'r> {
         alloc: Global,
         rules: &'r Rules,
         gaps: &'r [(u64, u64)],
-    ) -> Result<Live<'r>, AllocError>
+    ) -> Result<StreamDecoder<'r>, AllocError>
         requires { AreGaps (2 ^ 36) gaps.now }
         ensures { IfOk result (λ live. live ≡ live_of (record { rules = rules.now; gaps = gaps.now }) []) }
     {
         let room = Room::new(alloc, gaps.len())?;
-        Ok(Live {
+        Ok(StreamDecoder {
             rules,
             gaps,
             room,
@@ -137,14 +137,14 @@ impl<'r> Live<'r> {
         })
     }
 
-    /// The decoder that has these gaps, and of the bits before `place` this [`tail`](Live::tail), [`state`](Live::state)
-    /// and these [`totals`](Live::totals), as they were asked of one that stopped there: it goes on as that one would. So a
+    /// The decoder that has these gaps, and of the bits before `place` this [`tail`](StreamDecoder::tail), [`state`](StreamDecoder::state)
+    /// and these [`totals`](StreamDecoder::totals), as they were asked of one that stopped there: it goes on as that one would. So a
     /// decoder can be kept as numbers between two chunks.
     ///
     /// `tail` is the last 30 bytes of the stream, or all of them if there are fewer; `place` is how many bits
     /// there were.
     ///
-    /// Refuses gaps as [`with_gaps`](Live::with_gaps) does, then numbers that no decoder by these rules has:
+    /// Refuses gaps as [`with_gaps`](StreamDecoder::with_gaps) does, then numbers that no decoder by these rules has:
     /// a place inside a byte or past 2^36, a tail of another length, a state that is not lawful at the place,
     /// or a count of the totals above 2^11 per bit. Then it fails only if memory is refused. Numbers that
     /// pass may still be of no stream: such a decoder continues from them all the same. It takes memory for a
@@ -157,15 +157,15 @@ impl<'r> Live<'r> {
         place: u64,
         state: State,
         totals: Totals,
-    ) -> Result<Live<'r>, ResumeError>
+    ) -> Result<StreamDecoder<'r>, ResumeError>
         ensures live { IfOk result (λ live. live ≡ live_with rules.now gaps.now tail.now place state totals) }
-        ensures taken { IfOk result (λ live. IsLive live) }
+        ensures taken { IfOk result (λ live. IsStreamDecoder live) }
         ensures bad_gaps { IsErrOf result ResumeError.BadGaps ↔ (AreGaps (2 ^ 36) gaps.now → ⊥) }
         ensures unlawful { IsErrOf result ResumeError.UnlawfulState
             ↔ (AreGaps (2 ^ 36) gaps.now
-            × (IsLive (live_with rules.now gaps.now tail.now place state totals) → ⊥)) }
+            × (IsStreamDecoder (live_with rules.now gaps.now tail.now place state totals) → ⊥)) }
         ensures memory_last { IsErrOf result ResumeError.OutOfMemory
-            → IsLive (live_with rules.now gaps.now tail.now place state totals) }
+            → IsStreamDecoder (live_with rules.now gaps.now tail.now place state totals) }
     {
         if !may_have_gaps(gaps) {
             return Err(ResumeError::BadGaps);
@@ -173,7 +173,7 @@ impl<'r> Live<'r> {
         if !can_be_live(rules, tail, place, state, &totals) {
             return Err(ResumeError::UnlawfulState);
         }
-        match Live::of(alloc, rules, gaps, tail, place, state, totals) {
+        match StreamDecoder::of(alloc, rules, gaps, tail, place, state, totals) {
             Ok(live) => Ok(live),
             Err(_) => Err(ResumeError::OutOfMemory),
         }
@@ -188,13 +188,13 @@ impl<'r> Live<'r> {
         place: u64,
         state: State,
         totals: Totals,
-    ) -> Result<Live<'r>, AllocError>
-        requires { IsLive (live_with rules.now gaps.now tail.now place state totals) }
+    ) -> Result<StreamDecoder<'r>, AllocError>
+        requires { IsStreamDecoder (live_with rules.now gaps.now tail.now place state totals) }
         ensures { IfOk result (λ live. live ≡ live_with rules.now gaps.now tail.now place state totals) }
     {
         let mut room = Room::new(alloc, gaps.len())?;
         room.push(tail);
-        Ok(Live {
+        Ok(StreamDecoder {
             rules,
             gaps,
             room,
@@ -205,11 +205,11 @@ impl<'r> Live<'r> {
     }
 
     /// The last bytes that were heard: 30, or all of them if there are fewer. With the place, the state and
-    /// the totals this is all that a decoder knows of a stream, from which [`resume`](Live::resume) goes on.
+    /// the totals this is all that a decoder knows of a stream, from which [`resume`](StreamDecoder::resume) goes on.
     pub fn tail(&self) -> &[u8]
         ensures value { result.now ≡ self.now.tail }
         ensures count { length result.now ≡ min most_kept (self.now.place / 8) }
-        ensures live { IsLive self.now }
+        ensures live { IsStreamDecoder self.now }
     {
         self.room.bytes()
     }
@@ -305,7 +305,7 @@ impl<'r> Live<'r> {
     ///
     /// Fails for more than 2^36 bits in all, and if memory is refused; it has then heard nothing.
     ///
-    /// Its cost: that of [`take`](Live::take) over and over, and memory for the list and for the items of 960 bytes.
+    /// Its cost: that of [`take`](StreamDecoder::take) over and over, and memory for the list and for the items of 960 bytes.
     pub fn take_all(&mut self, alloc: Global, bytes: &[u8]) -> Result<Vec<Item>, StreamError>
         ensures heard { OnOk result ((before : List ℕ) → HasHeard self.old before
             → HasHeard self.new (before ++ bytes.now)) }
@@ -337,7 +337,7 @@ impl<'r> Live<'r> {
 
     /// Its numbers are lawful, and its rules in their range.
     fn is_known(&self)
-        ensures live { IsLive self.now }
+        ensures live { IsStreamDecoder self.now }
         ensures range { IsInRange self.now.terms.rules }
     {
         prove!(1 <= self.rules.reach());
@@ -369,7 +369,7 @@ impl<'r> Live<'r> {
 
     /// Restores these numbers.
     fn go_back(&mut self, kept: &Kept)
-        requires lawful { IsLive (live_kept self.old.terms kept.now) }
+        requires lawful { IsStreamDecoder (live_kept self.old.terms kept.now) }
         requires within { kept.now.count ≤ 30 }
         ensures { self.new ≡ live_kept self.old.terms kept.now }
     {
@@ -394,7 +394,7 @@ impl<'r> Live<'r> {
         prove!(1 <= self.rules.reach());
         laws::runs_are_reports();
         laws::totals_join();
-        let Live {
+        let StreamDecoder {
             rules,
             gaps,
             room,
@@ -446,7 +446,7 @@ impl<'r> Live<'r> {
         laws::totals_join();
         runs_move();
         ends_move();
-        let Live {
+        let StreamDecoder {
             rules,
             gaps,
             room,
@@ -469,7 +469,7 @@ impl<'r> Live<'r> {
 }
 
 /// Has the decoder take all of these bytes, and gives the items that they complete.
-fn taken(alloc: Global, live: &mut Live<'_>, bytes: &[u8]) -> Result<Vec<Item>, AllocError>
+fn taken(alloc: Global, live: &mut StreamDecoder<'_>, bytes: &[u8]) -> Result<Vec<Item>, AllocError>
     requires fits { live.old.place + 8 * length bytes.now ≤ 2 ^ 36 }
     ensures heard { OnOk result ((before : List ℕ) → HasHeard live.old before
         → HasHeard live.new (before ++ bytes.now)) }
@@ -493,7 +493,7 @@ fn taken(alloc: Global, live: &mut Live<'_>, bytes: &[u8]) -> Result<Vec<Item>, 
 /// Has the decoder take as many of these bytes as it can at once, and appends the items that they complete to
 /// those before. Answers how many bytes these were.
 fn take_next(
-    live: &mut Live<'_>,
+    live: &mut StreamDecoder<'_>,
     bytes: &[u8],
     some: &mut Vec<Item>,
     items: &mut Vec<Item>,
