@@ -325,8 +325,8 @@ impl<'r> StreamDecoder<'r> {
         if bytes.len() as u64 > (MOST_BITS - self.place) / 8 {
             return Err(StreamError::TooLong);
         }
-        let before = self.kept();
-        match taken(alloc, self, bytes) {
+        let before = self.kept_numbers();
+        match decode_bytes(alloc, self, bytes) {
             Ok(items) => Ok(items),
             Err(_) => {
                 self.go_back(&before);
@@ -352,7 +352,7 @@ impl<'r> StreamDecoder<'r> {
     }
 
     /// Its numbers, without its terms.
-    fn kept(&self) -> Kept
+    fn kept_numbers(&self) -> Kept
         ensures { IsKept result self.now }
     {
         let tail = self.room.bytes();
@@ -403,7 +403,7 @@ impl<'r> StreamDecoder<'r> {
             totals,
         } = self;
         let group = group_at_end(rules, gaps, room, place, state);
-        ended(totals, group)
+        stream_end_of(totals, group)
     }
 
     /// Ends the stream with the first `bits` bits of these bytes, at most 7,680: gives the items that they complete in place of
@@ -464,12 +464,16 @@ impl<'r> StreamDecoder<'r> {
         let totals = totals.plus(Totals::of(items));
         move_on(items.as_mut_slice(), before);
         let group = moved_end(&part, rules, end, before);
-        Ok(ended(totals, group))
+        Ok(stream_end_of(totals, group))
     }
 }
 
 /// Has the decoder take all of these bytes, and gives the items that they complete.
-fn taken(alloc: Global, live: &mut StreamDecoder<'_>, bytes: &[u8]) -> Result<Vec<Item>, AllocError>
+fn decode_bytes(
+    alloc: Global,
+    live: &mut StreamDecoder<'_>,
+    bytes: &[u8],
+) -> Result<Vec<Item>, AllocError>
     requires fits { live.old.place + 8 * length bytes.now ≤ 2 ^ 36 }
     ensures heard { OnOk result ((before : List ℕ) → HasHeard live.old before
         → HasHeard live.new (before ++ bytes.now)) }
@@ -557,7 +561,7 @@ fn fill_from(
 }
 
 /// The result of the end of a stream, whose complete items have these totals.
-fn ended(totals: Totals, group: Option<Group>) -> StreamEnd
+fn stream_end_of(totals: Totals, group: Option<Group>) -> StreamEnd
     requires { IsAtMost (2 ^ 47) totals }
     ensures group { result.group ≡ group }
     ensures totals { result.totals ≡ plus totals (totals_of (group_item group)) }
