@@ -63,7 +63,8 @@ pub fn list_with_a_warning(alloc: Global) -> Result<Asked, CliFault>
 
 /// `rds follow --of 3 --share 2` asks for a stream to be followed, to its end and without gaps, that loses a lock by this share.
 pub fn follow_by_a_share(alloc: Global) -> Result<Asked, CliFault>
-    ensures { IfOk result (λ asked. asked.request ≡ Request.Follow (record { hex = false; bits = None; gaps = [] })
+    ensures { IfOk result (λ asked. asked.request
+        ≡ Request.Follow (record { hex = false; bits = None; gaps = [] })
         (record { burst = 2; reach = 3; loss = Share 2 3 })) }
 {
     asked_of(alloc, FOLLOW_BY_A_SHARE.as_slice())
@@ -88,7 +89,8 @@ pub fn help_of_list(alloc: Global) -> Result<Asked, CliFault>
 /// `rds --version` asks for nothing else: the version is shown, or memory was refused.
 pub fn version(alloc: Global) -> Result<Asked, CliFault>
     ensures no_job { OnOk result ⊥ }
-    ensures version { IfErr result (λ fault. (fault.kind ≡ FaultKind.Version) ⊎ (fault.kind ≡ FaultKind.Memory)) }
+    ensures version { IfErr result (λ fault.
+        (fault.kind ≡ FaultKind.Version) ⊎ (fault.kind ≡ FaultKind.Memory)) }
 {
     asked_of(alloc, VERSION.as_slice())
 }
