@@ -1,4 +1,4 @@
-use Rattle.std.proofs.Common.{◌≡◌, ◌<◌, ◌==◌, ℕ, arith, if◌then◌else◌, inl, inr, refl, sym, ◌∙◌}
+use Rattle.std.proofs.Common.{◌≡◌, ◌<◌, ◌==◌, ℕ, arith, if◌then◌else◌, inl, inr, sym, ◌∙◌}
 use Rattle.rds_sync.specs.Lawful.{AreInOrder}
 use Rattle.rds_sync.specs.Step.{lock_of}
 use Rattle.rds_sync.specs.declared.state.State.{State}

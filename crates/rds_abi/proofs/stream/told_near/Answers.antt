@@ -1,4 +1,3 @@
-use Rattle.std.proofs.Common.{refl}
 use Rattle.rds_stream.specs.Recording.{AreGaps}
 use Rattle.rds_live.specs.Gaps.{gaps_within}
 use Rattle.rds_abi.specs.Asked.{gaps_of}
