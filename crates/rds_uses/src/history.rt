@@ -46,7 +46,7 @@ pub fn input_to_output<R: Threads + Wait + Sync>(rt: &HostRuntime, crew: &R, job
 
 /// Between any devices: the text that is written is the outcome of the bytes that were read, and a refusal is
 /// the job's or that of these bytes.
-pub fn follow_stream<R: Threads + Wait + Sync, S: Source, K: Sink>(
+pub fn job_between_devices<R: Threads + Wait + Sync, S: Source, K: Sink>(
     rt: &R,
     alloc: Global,
     reader: &mut S,

@@ -53,8 +53,8 @@ plus-totals-requires c =
       c.of.ensures.small,
     )
 
-pub ended-requires : goal.ended-requires
-ended-requires c =
+pub stream_end_of-requires : goal.stream_end_of-requires
+stream_end_of-requires c =
     let live = c.self.invariant.0 in
     at-most-more (2 ^ 11 * c.self.inside.place + 2 ^ 10 * length c.deref.result.now) (2 ^ 47) c.plus-totals.result
     (omega (arith, ap length c.deref.ensures.value, c.fill_from-end.ensures.few, c.if-bits-self.false, live.limit))
