@@ -37,6 +37,3 @@ pub returns-then-bytes-stream-clause-refused : goal.returns-then-bytes-stream-cl
 returns-then-bytes-stream-clause-refused c =
     let left = c.in_ok-live.ensures.left in
     inr (inr (left, omega (arith, c.if-bytes-stream.true, left.live.limit), refl), refl)
-
-pub returns-in-Ok-clause-count : goal.returns-in-Ok-clause-count
-returns-in-Ok-clause-count c = rw c.in_ok-live.ensures.live at c.in-Ok.ensures.count

@@ -1,6 +1,3 @@
-use Rattle.rds_stream.specs.Recording.{AreGaps}
-use Rattle.rds_live.specs.Gaps.{gaps_within}
-use Rattle.rds_abi.specs.Asked.{gaps_of}
 use Rattle.rds_abi.proofs.stream.told_near.Goals as goal
 
 pub returns-clause-near : goal.returns-clause-near
