@@ -414,7 +414,8 @@ fn push_to_end(rows: &mut CsvRows, items: &[Item], end: &StreamEnd) -> Result<()
     requires { IsBetween rows.old }
     ensures between { OnOk result (IsBetween rows.new) }
     ensures text { OnOk result (text_of rows.new ≡ text_of rows.old
-        ++ (flat_map item_row items.now ++ (flat_map item_row (group_item end.now.group) ++ totals_text end.now.totals))) }
+        ++ (flat_map item_row items.now ++ (flat_map item_row (group_item end.now.group)
+        ++ totals_text end.now.totals))) }
     ensures refused { IsOkUnless result ToolError.OutOfMemory }
 {
     push_items(rows, items)?;
