@@ -1,5 +1,5 @@
 -- What the typed getters read, by the rows of a parse.
-use Rattle.std.proofs.Common.{◌<◌, ◌≤◌, ◌^◌, ◌≡◌, ◌⊎◌, inl, inr, arith, ◌∙◌, ℕ, List, [], Bool, Bor, Option, Some, None, Result, Ok, Err, sym, refl, codes, ap, true, false, if◌then◌else◌}
+use Rattle.std.proofs.Common.{◌<◌, ◌≤◌, ◌^◌, ◌≡◌, ◌⊎◌, inr, arith, ◌∙◌, ℕ, List, [], Bool, Bor, Option, Some, None, Result, Ok, Err, sym, refl, codes, ap, true, false, if◌then◌else◌}
 use Rattle.std.specs.Global.{Vec}
 use Rattle.std.specs.Option.{ok_or, option_map}
 use Rattle.std.specs.Prelude.{IfErr, IfOk, find, option_and_then}

@@ -1,7 +1,7 @@
 -- Commands that are made of the rows of a table, one after the other.
 use Rattle.std.proofs.Common.{◌+◌, ◌<◌, ◌≤◌, ◌||◌, ◌∙◌, ◌≡◌, List, ap, ap₂, drop, false, get_or, length, subst, sym, ℕ}
 use Rattle.std.proofs.lemmas.List.{drop_all, drop_more}
-use Rattle.clap.specs.Words.{AddsArg, AddsSubcommand, App, app_of, rule_of, with_rule, with_subcommand}
+use Rattle.clap.specs.Words.{AddsArg, AddsSubcommand, App, rule_of, with_rule, with_subcommand}
 use Rattle.clap.specs.declared.builder.arg.Arg.{Arg}
 use Rattle.clap.specs.declared.builder.command.Command.{Command}
 use Rattle.rds_tool.specs.CommandLine.{ReadsAs}

@@ -27,7 +27,6 @@ use Rattle.rds_tool.specs.declared.fault.FaultKind.TheVariants.{Help, Memory, Ve
 use Rattle.rds_tool.specs.declared.fault.NoJob.{NoJob}
 use Rattle.rds_tool.specs.declared.fault.NoJob.TheVariants as no
 use Rattle.rds_tool.specs.declared.job.Asked.{Asked}
-use Rattle.rds_tool.specs.declared.job.Cuts.{Cuts}
 use Rattle.rds_tool.specs.declared.job.Cuts.TheVariants.{Even}
 use Rattle.rds_tool.specs.declared.job.Ignored.{Ignored}
 use Rattle.rds_tool.specs.declared.job.Ignored.TheVariants as ignored
@@ -109,15 +108,15 @@ entries_of words = subcommand_of rds_app words
 abbrev pub faults_of : List Text → Kinds
 faults_of words = fault_of rds_app words
 
--- the number that a text spells in decimal digits, after a plus or not, if it is at most `most`
+-- the number that a text spells in decimal digits, with or without a plus before them, if it is at most `most`
 abbrev pub number_up_to : ℕ → Text → Option ℕ
 number_up_to most text = if is_unsigned_in 0 most text then Some (digits_value 10 (without_leading_plus text)) else None
 
--- that of an option, below 2^32
+-- the number of an option's entry, below 2^32
 abbrev pub number_of : Text → List Row → Option ℕ
 number_of name rows = option_and_then (number_up_to 4294967295) (one_of name rows)
 
--- the number that an entry spells, if there is one: `Some None` if there is no entry
+-- a number that may be left out: `Some None` if there is no entry, `None` if its text is no such number
 abbrev pub if_given : ℕ → Option Text → Option (Option ℕ)
 if_given most None = Some None
 if_given most (Some text) = option_map (λ n. Some n) (number_up_to most text)
@@ -193,37 +192,39 @@ request_of name rows input =
     else if bytes_eq name (codes "encode") then Some (with_progress rows (Encode input.hex))
     else None
 
--- that, over the input that the entries give with these gaps
+-- the request of a command, over the input that its entries and these gaps give
 abbrev pub request_with : Text → List Row → List (ℕ × ℕ) → Option Request
 request_with name rows gaps =
     option_and_then (λ bits. request_of name rows (record { hex = flag_of (codes "hex") rows; bits = bits; gaps = gaps }))
     (if_given 18446744073709551615 (one_of (codes "bits") rows))
 
--- that, and the option that they give in vain; or why they ask for nothing
+-- the request and the option that is ignored, or why there is no request
 abbrev pub asked_with : Text → List Row → Option (List (ℕ × ℕ)) → Result Asked NoJob
 asked_with name rows None = Err no.Gaps
 asked_with name rows (Some gaps) =
     ok_or (option_map (λ request. record { request = request; ignored = ignored_by rows }) (request_with name rows gaps)) no.Entries
 
+-- what a command and its entries ask for; a fault of the gaps comes before any other
 abbrev pub asked_by : Option (Text × List Row) → Result Asked NoJob
 asked_by None = Err no.Entries
 asked_by (Some entries) = asked_with entries.0 entries.1 (gaps_asked_for entries.1)
 
--- they spell no gaps, though they name some
+-- the gaps cannot be parsed
 abbrev pub HasBadGaps : Option (Text × List Row) → Type 0
 HasBadGaps entries = asked_by entries ≡ Err no.Gaps
 
--- the job among what is asked for: a stream is none
+-- the job of a request: a stream is none
 abbrev pub job_in : Request → Option Job
 job_in (AskedJob job progress) = Some job
 job_in (Follow input rules) = None
 
+-- the job that they ask for
 abbrev pub job_by : Option (Text × List Row) → Option Job
 job_by entries = option_and_then (λ asked. job_in asked.request) (result_ok (asked_by entries))
 
 -- ---- the answer
 
--- it is the one that is computed, or memory was refused
+-- the answer is the computed one, or memory was refused
 abbrev pub Gives : {T : Type 0} → Result T NoJob → Result T NoJob → Type 0
 Gives computed (Ok value) = computed ≡ Ok value
 Gives computed (Err why) = (why ≡ no.Memory) ⊎ (computed ≡ Err why)

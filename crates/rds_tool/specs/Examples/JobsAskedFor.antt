@@ -14,7 +14,6 @@ use Rattle.rds_sync.specs.declared.loss.Loss.TheVariants.{Run, Share}
 use Rattle.rds_tool.specs.CommandLine.{MayRefuse, asked_by, entries_of, faults_of, is_true, job_by, number_up_to}
 use Rattle.rds_tool.specs.declared.fault.FaultKind.{FaultKind}
 use Rattle.rds_tool.specs.declared.fault.FaultKind.TheVariants.{Help, Memory, Version, Words}
-use Rattle.rds_tool.specs.declared.fault.NoJob.{NoJob}
 use Rattle.rds_tool.specs.declared.fault.NoJob.TheVariants as no
 use Rattle.rds_tool.specs.declared.job.Asked.{Asked}
 use Rattle.rds_tool.specs.declared.job.Ignored.TheVariants as ignored

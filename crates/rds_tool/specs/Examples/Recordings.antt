@@ -67,5 +67,6 @@ gaps_of_no_bits = refl
 pub length_before_gaps : recording_of (record (raw_bits 68719476737) { gaps = (5, 5) ∷ [] }) [] ≡ Err TooLong
 length_before_gaps = refl
 
-pub bits_before_gaps : recording_of (record (raw_bits 9) { gaps = (5, 5) ∷ [] }) (0xFF ∷ []) ≡ Err BitsPastBytes
+pub bits_before_gaps : recording_of (record (raw_bits 9) { gaps = (5, 5) ∷ [] }) (0xFF ∷ [])
+    ≡ Err BitsPastBytes
 bits_before_gaps = refl

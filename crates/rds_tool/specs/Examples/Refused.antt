@@ -52,10 +52,12 @@ pub line_of_an_encoding : result_of_job (Encode false) (codes "123425405244532")
 line_of_an_encoding = refl
 
 -- gaps are looked at after the bits and before the cuts
-pub gaps_of_a_scan : result_of_job (Scan (record (raw_bits 8) { gaps = (5, 5) ∷ [] }) 4) (codes "1") ≡ Err BadGaps
+pub gaps_of_a_scan : result_of_job (Scan (record (raw_bits 8) { gaps = (5, 5) ∷ [] }) 4) (codes "1")
+    ≡ Err BadGaps
 gaps_of_a_scan = refl
 
-pub bits_before_gaps : result_of_job (Scan (record (raw_bits 9) { gaps = (5, 5) ∷ [] }) 4) (codes "1") ≡ Err BitsPastBytes
+pub bits_before_gaps : result_of_job (Scan (record (raw_bits 9) { gaps = (5, 5) ∷ [] }) 4) (codes "1")
+    ≡ Err BitsPastBytes
 bits_before_gaps = refl
 
 -- places are looked at once the bits are known
@@ -64,7 +66,8 @@ module _ (places : Vec ℕ) where
       ≡ Err BitsPastBytes
   bits_before_places = refl
 
-  pub gaps_before_places : result_of_job (ListJob (record (raw_bits 8) { gaps = (5, 5) ∷ [] }) (cut_settings 1 (At places))) (codes "1") ≡ Err BadGaps
+  pub gaps_before_places : result_of_job
+      (ListJob (record (raw_bits 8) { gaps = (5, 5) ∷ [] }) (cut_settings 1 (At places))) (codes "1") ≡ Err BadGaps
   gaps_before_places = refl
 
 -- ---- numbers and names
