@@ -17,7 +17,7 @@ use std::snapshot::Snapshot;
 // ---- recordings
 
 /// The first `bits` bits of the bytes, if these hold as many, and 2^36 at most.
-pub fn recording_of(bytes: Vec<u8>, bits: u64) -> Option<Recording>
+pub fn recording_from(bytes: Vec<u8>, bits: u64) -> Option<Recording>
     requires few { bits ≤ 2 ^ 36 }
     requires held { bits ≤ 8 * vec_len bytes }
     ensures { result ≡ Some (ungapped (bits_of bytes.items bits)) }
