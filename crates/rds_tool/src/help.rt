@@ -78,7 +78,7 @@ TYPE is 0 to 15, or '-' if block 2 is unknown. VERSION is A, B or ?, followed by
 
   none            not read: sent before sync, after its loss, or past the end
   lost            uncorrectable, or it touches a gap
-  B:2540          valid: offset word (A, B, C, Cx, D) and information word in hex
+  B:2540          valid: offset (A, B, C, Cx or D) and information word in hex
   C:0000~0008000  corrected: '~' is followed by the 26-bit error mask in hex,
                   16 information bits, then 10 check bits
 

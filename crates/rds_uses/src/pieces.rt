@@ -288,11 +288,11 @@ pub fn joined_guesses(
 {
     let work = RecordingWork::new(recording, rules, cutting);
     let (left, right) = two_guesses(alloc, &work)?;
-    join_lists(alloc, recording, rules, &left, &right)
+    join_guesses(alloc, recording, rules, &left, &right)
 }
 
 /// Two neighbours joined are the guess of both ranges.
-fn join_lists(
+fn join_guesses(
     alloc: Global,
     recording: &Recording,
     rules: &Rules,
@@ -322,8 +322,8 @@ pub fn joined_on_both_sides(
         (λ runs. runs.1 ≡ run_over recording.now rules.now two.now.from three.now.to) }
 {
     match (
-        join_lists(alloc, recording, rules, one, two),
-        join_lists(alloc, recording, rules, two, three),
+        join_guesses(alloc, recording, rules, one, two),
+        join_guesses(alloc, recording, rules, two, three),
     ) {
         (Ok(before), Ok(after)) => Ok((before, after)),
         _ => Err(PieceError::OutOfMemory),
