@@ -139,7 +139,7 @@ typedef struct rds_gap_t {
 /* The numbers of a decoder's rules: 32 bytes. */
 typedef struct rds_rules_t {
     uint32_t burst; /* the longest burst that is corrected, in bits: 0 to 5 */
-    uint32_t reach; /* sync needs two valid blocks, in sequence, at most so far apart in blocks: 1 to 8 */
+    uint32_t reach; /* sync needs two valid blocks that fit each other, at most this number of blocks apart: 1 to 8 */
     uint32_t loss;  /* how many bad blocks lose sync: 1 to 64 */
     uint32_t of;    /* 0 if these are bad blocks in a row; else among how many of the last blocks: loss to 64 */
     uint32_t reserved[4]; /* has to be 0 */

@@ -194,7 +194,7 @@ def facts(structs, reasons):
     yield r"up to limit bits, (\d+) to (\d+)", [0, burst]
     yield r"the span of their burst: (\d+) to (\d+) bits", [1, burst]
     yield r"reach is not (\d+) to (\d+)", reach
-    yield r"at most so far apart in blocks: (\d+) to (\d+)", reach
+    yield r"at most this number of blocks apart: (\d+) to (\d+)", reach
     yield r"loss is not (\d+) to (\d+)", loss
     yield r"how many bad blocks lose sync: (\d+) to (\d+)", loss
     yield r"loss is (\d+) or above of, or of above (\d+)", [0, ranges[15][1]]

@@ -107,7 +107,8 @@ class Rules:
     """A decoder's rules. The defaults are the program's.
 
     burst  correct error bursts of up to this number of bits, 0 to 5
-    reach  sync needs two valid blocks, in sequence, at most this number of blocks apart, 1 to 8
+    reach  sync needs two valid blocks, at most this number of blocks apart (1 to 8), whose
+           offset words fit each other
     loss   drop sync after this number of bad blocks, 1 to 64
     of     0 if these are in a row, else among how many of the last blocks, `loss` to 64
     """

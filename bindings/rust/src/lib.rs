@@ -144,7 +144,7 @@ pub enum LossRule {
 pub struct Rules {
     /// The longest burst that is corrected, in bits: 0 to 5.
     pub burst: u32,
-    /// Sync needs two valid blocks, in sequence, at most so far apart in blocks: 1 to 8.
+    /// Sync needs two valid blocks, at most this number of blocks apart (1 to 8), whose offset words fit each other.
     pub reach: u32,
     /// When sync is lost.
     pub loss: LossRule,

@@ -34,7 +34,7 @@ pub fn totals(
     }
 }
 
-/// Writes the items of the first `bits` bits of these bytes to the beginning of `room`, in order of place, and how many
+/// Writes the items of the first `bits` bits of these bytes to the beginning of `room`, in order, and how many
 /// they are to `count`.
 ///
 /// Refuses as [`totals`] does, and then `SmallRoom` if they are more than there is room for: `count` tells

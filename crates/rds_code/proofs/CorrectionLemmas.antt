@@ -12,7 +12,7 @@ use Rattle.rds_code.specs.Offsets.{word, number, all_offsets, offset_of}
 use Rattle.rds_code.specs.Bursts.{IsBurst}
 use Rattle.rds_code.specs.Reading.{information, IsValid, wanted_offsets, corrections, by_only, reading}
 use Rattle.rds_code.specs.Encoding.{IsBlockOf}
-use Rattle.rds_code.specs.Correction.{alone, other_version, version_burst, ReadsAsSent, CorrectsBurst, CorrectsThird, TakesOtherVersion}
+use Rattle.rds_code.specs.Correction.{alone, other_third_offset, version_burst, ReadsAsSent, CorrectsBurst, CorrectsThird, TakesOtherVersion}
 use Rattle.rds_code.proofs.RemainderLemmas.{rem-xor, twice}
 use Rattle.rds_code.proofs.BurstLemmas.{burst_is_one, rem-burst, longer}
 use Rattle.rds_code.proofs.ReadingLemmas.{one_fits, corrections_one, reads_valid, reads_corrected, only_A, only_B, only_D, third, wanted_1, wanted_2, wanted_4}
@@ -96,21 +96,21 @@ unfolding rem
 version_remainder_back = refl
 
 -- the burst that takes block 3 over to the other version
-takes_over : (e : ℕ) (o : Offset) → number o ≡ 3 → IsBurst 5 e → rem e ≡ bit_xor (word o) (word (other_version o)) → e ≡ version_burst
+takes_over : (e : ℕ) (o : Offset) → number o ≡ 3 → IsBurst 5 e → rem e ≡ bit_xor (word o) (word (other_third_offset o)) → e ≡ version_burst
 takes_over e C third burst same = burst_is_one e version_burst burst version_is_burst (same ∙ sym version_remainder)
 takes_over e Cx third burst same = burst_is_one e version_burst burst version_is_burst (same ∙ sym version_remainder_back)
 takes_over e A third burst same = absurd (omega (arith, third))
 takes_over e B third burst same = absurd (omega (arith, third))
 takes_over e D third burst same = absurd (omega (arith, third))
 
-pub taken_over : (o : Offset) → number o ≡ 3 → rem version_burst ≡ bit_xor (word o) (word (other_version o))
+pub taken_over : (o : Offset) → number o ≡ 3 → rem version_burst ≡ bit_xor (word o) (word (other_third_offset o))
 taken_over C third = version_remainder
 taken_over Cx third = version_remainder_back
 taken_over A third = absurd (omega (arith, third))
 taken_over B third = absurd (omega (arith, third))
 taken_over D third = absurd (omega (arith, third))
 
-pub other_number : (o : Offset) → number (other_version o) ≡ 3
+pub other_number : (o : Offset) → number (other_third_offset o) ≡ 3
 other_number A = refl
 other_number B = refl
 other_number C = refl
@@ -119,15 +119,15 @@ other_number D = refl
 
 pub takes_other_version : TakesOtherVersion
 takes_other_version w info o e h own burst = (
-  λ valid. takes_over e o own burst (became w info e 3 o (other_version o) h valid),
+  λ valid. takes_over e o own burst (became w info e 3 o (other_third_offset o) h valid),
   λ same.
-      let left : rem (bit_xor w e) ≡ word (other_version o) =
-      damaged w info e o h ∙ ap (λ (n : ℕ). bit_xor (word o) (rem n)) same ∙ ap (bit_xor (word o)) (taken_over o own) ∙ twice (word o) (word (other_version o)) in
-      record { offset = ap offset_of left ∙ word_offset (other_version o); own = other_number o },
+      let left : rem (bit_xor w e) ≡ word (other_third_offset o) =
+      damaged w info e o h ∙ ap (λ (n : ℕ). bit_xor (word o) (rem n)) same ∙ ap (bit_xor (word o)) (taken_over o own) ∙ twice (word o) (word (other_third_offset o)) in
+      record { offset = ap offset_of left ∙ word_offset (other_third_offset o); own = other_number o },
 )
 
 -- a valid block 3 has its own offset or the other
-pub own_or_other : (o p : Offset) → number o ≡ 3 → number p ≡ 3 → (p ≡ o) ⊎ (p ≡ other_version o)
+pub own_or_other : (o p : Offset) → number o ≡ 3 → number p ≡ 3 → (p ≡ o) ⊎ (p ≡ other_third_offset o)
 own_or_other C p ho hp = third p hp
 own_or_other Cx p ho hp = elim (third p hp) [ inl c ↦ inr c | inr cx ↦ inl cx ]
 own_or_other A p ho hp = absurd (omega (arith, ho))
@@ -137,7 +137,7 @@ own_or_other D p ho hp = absurd (omega (arith, ho))
 third_not_valid : (w info : ℕ) (o : Offset) (e : ℕ) → IsBlockOf w info o → number o ≡ 3 → IsBurst 5 e → e ≢ version_burst → (p : Offset) → IsValid (bit_xor w e) 3 p → ⊥
 third_not_valid w info o e h own burst apart p valid = elim (own_or_other o p own valid.own) [
   | inl same ↦ not_itself w info e 3 o h burst (subst (IsValid (bit_xor w e) 3) same valid)
-  | inr other ↦ apart (takes_over e o own burst (became w info e 3 o (other_version o) h (subst (IsValid (bit_xor w e) 3) other valid)))
+  | inr other ↦ apart (takes_over e o own burst (became w info e 3 o (other_third_offset o) h (subst (IsValid (bit_xor w e) 3) other valid)))
 ]
 
 pub alone_wanted : (o : Offset) → number o ≡ 3 → wanted_offsets 3 (alone o) ≡ o ∷ []

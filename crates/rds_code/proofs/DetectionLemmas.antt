@@ -15,7 +15,7 @@ use Rattle.rds_code.specs.Offsets.{word, number}
 use Rattle.rds_code.specs.Bursts.{burst_length, IsBurst, bursts}
 use Rattle.rds_code.specs.Reading.{information, IsReading, allows, wanted_offsets, corrections, by_only}
 use Rattle.rds_code.specs.Correction.{alone}
-use Rattle.rds_code.specs.Detection.{DetectsBitErrors, DetectsErrorBursts, SharesRemainders, CorrectsShares, remainders_near, burst_counts}
+use Rattle.rds_code.specs.Detection.{DetectsBitErrors, DetectsErrorBursts, HasOneWordPerRemainder, CountsAllCorrected, remainders_near, burst_counts}
 use Rattle.rds_code.proofs.RemainderLemmas.{rem-xor, rem-lt, twice}
 use Rattle.rds_code.proofs.SpanLemmas.{pattern_of, burst_pattern, at_least, ones-pattern}
 use Rattle.rds_code.proofs.CorrectionLemmas.{became}
@@ -147,7 +147,7 @@ detects_two_bits w info o p e h block some few valid =
 
 -- ---- how many words are corrected
 
-pub shares_remainders : SharesRemainders
+pub shares_remainders : HasOneWordPerRemainder
 shares_remainders info r upper small =
     let low : ℕ = bit_xor (rem (info * 2 ^ 10)) r in
     let ten : low < 2 ^ 10 = xor_lt 10 (rem (info * 2 ^ 10)) r (rem-lt (info * 2 ^ 10) (omega (arith, upper))) small in (
@@ -196,7 +196,7 @@ near w e o fits =
     sym (xor_zero_r (rem w)) ∙ ap (bit_xor (rem w)) (sym (xor_self (rem e))) ∙ sym (xor_assoc (rem w) (rem e) (rem e))
     ∙ ap (λ (n : ℕ). bit_xor n (rem e)) (sym (rem-xor w e) ∙ fits)
 
-pub corrects_shares : CorrectsShares
+pub corrects_shares : CountsAllCorrected
 corrects_shares o limit few = record {
   exactly = λ w. (
     λ found.

@@ -21,7 +21,7 @@ use Rattle.rds_code.specs.Offsets.{word, number, offset_of}
 use Rattle.rds_code.specs.Bursts.{burst_length, IsBurst, bursts}
 use Rattle.rds_code.specs.Reading.{information, IsValid, wanted_offsets, corrections, by_only, reading}
 use Rattle.rds_code.specs.Encoding.{IsBlockOf}
-use Rattle.rds_code.specs.Correction.{alone, other_version}
+use Rattle.rds_code.specs.Correction.{alone, other_third_offset}
 use Rattle.rds_code.specs.Detection.{error_masks, is_miscorrection, miscorrections, miscorrected, miscorrected_third, miscorrected_either, CountsAllMiscorrections}
 use Rattle.rds_code.proofs.RemainderLemmas.{rem-short, rem-xor, twice}
 use Rattle.rds_code.proofs.Membership.{is_among, all_below, passes_below, among_map, from_map, filter_agree}
@@ -295,7 +295,7 @@ others_are w info e limit D wanted h inside few pos apart = own_is w info e limi
 others_are w info e limit C wanted h inside few pos apart = absurd (apart refl)
 others_are w info e limit Cx wanted h inside few pos apart = absurd (apart refl)
 
-sum_of : (o : Offset) → number o ≡ 3 → bit_xor (word o) (word (other_version o)) ≡ 0x238
+sum_of : (o : Offset) → number o ≡ 3 → bit_xor (word o) (word (other_third_offset o)) ≡ 0x238
 sum_of C own = refl
 sum_of Cx own = refl
 sum_of A own = absurd (omega (arith, own))
@@ -316,9 +316,9 @@ third_makes w info e o h own none = (o, subst (λ (x : ℕ). IsValid (bit_xor w 
 
 third_takes : (w info e : ℕ) (o : Offset) → IsBlockOf w info o → number o ≡ 3 → rem e ≡ 0x238 → (p : Offset) × IsValid (bit_xor w e) 3 p
 third_takes w info e o h own here =
-    let left : rem (bit_xor w e) ≡ word (other_version o) =
-    damaged w info e o h ∙ ap (bit_xor (word o)) (here ∙ sym (sum_of o own)) ∙ twice (word o) (word (other_version o)) in
-    (other_version o, record { offset = ap offset_of left ∙ word_offset (other_version o); own = other_number o })
+    let left : rem (bit_xor w e) ≡ word (other_third_offset o) =
+    damaged w info e o h ∙ ap (bit_xor (word o)) (here ∙ sym (sum_of o own)) ∙ twice (word o) (word (other_third_offset o)) in
+    (other_third_offset o, record { offset = ap offset_of left ∙ word_offset (other_third_offset o); own = other_number o })
 
 third_is : (w info e limit : ℕ) (o : Offset) → IsBlockOf w info o → e < 2 ^ 26 → limit ≤ 5 → 0 < e → number o ≡ 3
     → is_miscorrection o info (reading (bit_xor w e) (number o) (alone o) limit) ≡ own_test 0x238 limit (rem e) (burst_length e)

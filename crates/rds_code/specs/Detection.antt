@@ -1,6 +1,6 @@
--- What the code detects, and which words are miscorrected (EN 50067:1998, 2.3 and Annex B). Blocks and
--- offset words are those of 2.1, 2.3 and Annex A; which bursts are corrected is this project's rule. The laws
--- `damage_is_detected`, `corrected_words_are_few` and `miscorrections_are_counted` are these.
+-- The errors that the code detects, and the words that are miscorrected (EN 50067:1998, 2.3 and Annex B). Blocks
+-- and offset words are those of 2.1, 2.3 and Annex A. The bursts that are corrected are this project's rule. Cited by
+-- the laws `damage_is_detected`, `corrected_words_are_few` and `miscorrections_are_counted`.
 use Rattle.std.specs.Prelude.{◌≡◌, ◌≢◌, ℕ, zero, suc, ◌+◌, ◌-◌, ◌<◌, ◌≤◌, ◌^◌, List, [], ◌∷◌, ◌++◌, map, filter, length, slice_index, slice_index_or, bit_xor, ◌↔◌, Contains, Bool, false, not, ◌==◌, ◌&&◌}
 use Rattle.std.specs.List.{AllPairs}
 use Rattle.std.specs.Int.Count.{ones}
@@ -29,9 +29,10 @@ DetectsErrorBursts n = (w info : ℕ) (o : Offset) (e : ℕ) → IsBlockOf w inf
 
 -- ---- noise: the share of all 26-bit words that is corrected (this project's rule)
 
--- With each 16-bit information word, each remainder is that of one 26-bit word. So each remainder is that of 2^16 words.
-abbrev pub SharesRemainders : Type 0
-SharesRemainders = (info r : ℕ) → info < 2 ^ 16 → r < 2 ^ 10
+-- For each 16-bit information word and each 10-bit remainder, one 26-bit word has both. So 2^16 words have each
+-- remainder.
+abbrev pub HasOneWordPerRemainder : Type 0
+HasOneWordPerRemainder = (info r : ℕ) → info < 2 ^ 16 → r < 2 ^ 10
     → (w : ℕ) × (w < 2 ^ 26) × (information w ≡ info) × (rem w ≡ r)
     × ((v : ℕ) → information v ≡ info → rem v ≡ r → v ≡ w)
 
@@ -43,15 +44,17 @@ remainders_near o limit = map (λ e. bit_xor (word o) (rem e)) (bursts limit)
 abbrev pub burst_counts : List ℕ
 burst_counts = 0 ∷ 26 ∷ 51 ∷ 99 ∷ 191 ∷ 367 ∷ []
 
--- If one offset is wanted, a word is corrected exactly if its remainder is one of these, and it is not valid. They are that many of 1024.
-pub record CorrectsShare (o : Offset) (limit : ℕ) : Type 0 where
+-- If one offset is wanted, a word is corrected exactly if it is not valid and its remainder is near the offset word.
+-- As many of the 1,024 remainders are near it as `burst_counts` says. For block 3 and limit 5, one of them is valid:
+-- the offset word of the other version.
+pub record CountsCorrected (o : Offset) (limit : ℕ) : Type 0 where
   pub exactly : (w : ℕ) → ((info : ℕ) × (e : ℕ) × (reading w (number o) (alone o) limit ≡ Corrected o info e))
       ↔ (Contains (remainders_near o limit) (rem w) × ((p : Offset) → IsValid w (number o) p → ⊥))
   pub distinct : AllPairs (λ (r s : ℕ). r ≢ s) (remainders_near o limit)
   pub many : length (remainders_near o limit) ≡ slice_index burst_counts limit
 
-abbrev pub CorrectsShares : Type 0
-CorrectsShares = (o : Offset) (limit : ℕ) → limit ≤ 5 → CorrectsShare o limit
+abbrev pub CountsAllCorrected : Type 0
+CountsAllCorrected = (o : Offset) (limit : ℕ) → limit ≤ 5 → CountsCorrected o limit
 
 -- ---- miscorrection: blocks with two, three and four bit errors (this project's rule)
 
@@ -95,7 +98,8 @@ abbrev pub miscorrected_either : List (List ℕ)
 miscorrected_either = (0 ∷ 27 ∷ 32 ∷ 40 ∷ 60 ∷ 91 ∷ []) ∷ (0 ∷ 76 ∷ 212 ∷ 402 ∷ 657 ∷ 1075 ∷ [])
     ∷ (0 ∷ 762 ∷ 1406 ∷ 2592 ∷ 4159 ∷ 6778 ∷ []) ∷ []
 
--- That many masks miscorrect a block, whatever its information word and offset are: the remainder of the mask decides.
+-- The tables count the masks that miscorrect a block. The information word does not matter; the block number and the
+-- wanted offsets do.
 pub record CountsMiscorrections (w info : ℕ) (o : Offset) (limit n : ℕ) : Type 0 where
   pub others : (wanted : Wanted) → number o ≢ 3
       → miscorrections w info o wanted limit n ≡ slice_index (slice_index_or miscorrected (n - 2) []) limit

@@ -8,7 +8,7 @@ use Rattle.rds_code.specs.Remainder.{rem}
 use Rattle.rds_code.specs.Offsets.{word}
 use Rattle.rds_code.specs.Reading.{information}
 
--- w is the block that carries the information word info with the offset o: info above, and the word of o as its remainder
+-- w is the block with information word info and offset o: its upper 16 bits are info, its remainder is the offset word
 pub record IsBlockOf (w info : ℕ) (o : Offset) : Type 0 where
   pub is_block : w < 2 ^ 26
   pub above : information w ≡ info
@@ -33,7 +33,7 @@ pub record IsGroupOf (blocks words : List ℕ) : Type 0 where
 
 -- ---- the same, computed
 
--- the information word, then the checkword: the remainder of the bits before it, plus the offset word
+-- the information word, then the checkword: the remainder of info * 2^10, xor the offset word (2.3 and Annex B)
 abbrev pub encoded : ℕ → Offset → ℕ
 encoded info o = info * 2 ^ 10 + bit_xor (rem (info * 2 ^ 10)) (word o)
 

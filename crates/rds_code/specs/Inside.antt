@@ -1,4 +1,4 @@
 -- Definitions that the bodies of this crate cite, and no contract of a public function.
 pub mod BurstShape
 pub mod BurstTable
-pub mod Kinds
+pub mod Outcomes

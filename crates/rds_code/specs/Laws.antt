@@ -1,5 +1,5 @@
--- The laws of remainders, bursts, readings and blocks, over only the definitions. Each is a clause of a
--- function in `laws`, which does nothing else.
+-- Laws of remainders, bursts, readings and blocks (EN 50067:1998, 2.3 and Annex B; readings are this project's rule).
+-- Each is a clause of a function in `laws`; these functions do nothing.
 use Rattle.std.specs.Prelude.{◌≡◌, ◌≢◌, ℕ, ◌<◌, ◌≤◌, ◌^◌, bit_xor, ◌↔◌, Contains}
 use Rattle.rds_code.specs.declared.offset.Offset.{Offset}
 use Rattle.rds_code.specs.declared.reading.Wanted.{Wanted}
@@ -13,7 +13,7 @@ use Rattle.rds_code.specs.Encoding.{IsBlockOf, encoded}
 abbrev pub HasRemainder : Type 0
 HasRemainder = (w : ℕ) → w < 2 ^ 26 → IsRemainder w (rem w)
 
--- and no block has two
+-- no block has two remainders
 abbrev pub HasOneRemainder : Type 0
 HasOneRemainder = (w r s : ℕ) → IsRemainder w r → IsRemainder w s → r ≡ s
 
@@ -25,13 +25,13 @@ IsLinear = (u v : ℕ) → rem (bit_xor u v) ≡ bit_xor (rem u) (rem v)
 abbrev pub ListsBursts : Type 0
 ListsBursts = (limit e : ℕ) → limit ≤ 5 → IsBurst limit e ↔ Contains (bursts limit) e
 
--- two bursts of up to five bits with one remainder are one
+-- two bursts of up to five bits with the same remainder are equal
 abbrev pub TellsBursts : Type 0
 TellsBursts = (d e : ℕ) → IsBurst 5 d → IsBurst 5 e → rem d ≡ rem e → d ≡ e
 
 -- no burst of up to five bits has remainder 0
-abbrev pub DetectsBursts : Type 0
-DetectsBursts = (e : ℕ) → IsBurst 5 e → rem e ≢ 0
+abbrev pub BurstsHaveNonzeroRemainders : Type 0
+BurstsHaveNonzeroRemainders = (e : ℕ) → IsBurst 5 e → rem e ≢ 0
 
 -- the reading that is computed is the one that the rule gives, and the rule gives no other
 abbrev pub ReadsByRule : Type 0

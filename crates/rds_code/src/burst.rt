@@ -35,7 +35,7 @@ impl Model for Burst {
 impl Burst {
     ghost use Rattle.std.specs.Prelude.{◌≤◌};
     ghost use Rattle.rds_code.specs.Bursts.{burst_length, IsBurst};
-    ghost use Rattle.rds_code.specs.Kinds.{kind_of_burst};
+    ghost use Rattle.rds_code.specs.Outcomes.{burst_outcome};
     ghost use Rattle.std.specs.Int.Count.{ones};
 
     /// The burst whose ones are those of `pattern`.
@@ -78,8 +78,8 @@ impl Burst {
 
     /// Which of the eleven pairs of a span and a number of ones it has: 3 to 13, by the span and then by the ones. This
     /// project's rule.
-    pub fn kind(self) -> u8
-        ensures value { result ≡ kind_of_burst (burst_length self) (ones self) }
+    pub fn outcome(self) -> u8
+        ensures value { result ≡ burst_outcome (burst_length self) (ones self) }
         ensures least { 3 ≤ result }
         ensures most { result ≤ 13 }
     {

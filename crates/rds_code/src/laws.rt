@@ -1,11 +1,11 @@
 //! Laws of the block code. Each call does nothing: its contract is a law of the definitions, whoever reads or writes.
-ghost use Rattle.rds_code.specs.Laws.{HasRemainder, HasOneRemainder, IsLinear, ListsBursts, TellsBursts, DetectsBursts, ReadsByRule, HasOneBlock};
+ghost use Rattle.rds_code.specs.Laws.{HasRemainder, HasOneRemainder, IsLinear, ListsBursts, TellsBursts, BurstsHaveNonzeroRemainders, ReadsByRule, HasOneBlock};
 ghost use Rattle.rds_code.specs.Correction.{ReadsAsSent, CorrectsBurst, CorrectsThird, TakesOtherVersion};
 ghost use Rattle.rds_code.specs.Detection.{
   DetectsBitErrors,
   DetectsErrorBursts,
-  SharesRemainders,
-  CorrectsShares,
+  HasOneWordPerRemainder,
+  CountsAllCorrected,
   ListsAllErrorMasks,
   CountsAllMiscorrections,
 };
@@ -29,7 +29,7 @@ pub fn bursts_are_listed()
 /// A remainder tells its burst of up to five bits, and shows that there is one: EN 50067:1998, Annex B.
 pub fn bursts_have_their_remainders()
     ensures told { TellsBursts }
-    ensures detected { DetectsBursts }
+    ensures detected { BurstsHaveNonzeroRemainders }
 {}
 
 /// The rule of reading gives one reading, the one that is computed.
@@ -57,10 +57,11 @@ pub fn damage_is_detected()
     ensures bursts { DetectsErrorBursts 10 }
 {}
 
-/// If one offset is wanted, 26, 51, 99, 191 and 367 of each 1,024 words of 26 bits are corrected, by limits of 1 to 5 bits.
+/// If one offset is wanted, 26, 51, 99, 191 and 367 of each 1,024 words of 26 bits are corrected, by limits of 1 to 5
+/// bits. For block 3 the last is 366.
 pub fn corrected_words_are_few()
-    ensures alike { SharesRemainders }
-    ensures shares { CorrectsShares }
+    ensures alike { HasOneWordPerRemainder }
+    ensures shares { CountsAllCorrected }
 {}
 
 /// How many error masks of two, three and four bit errors miscorrect a block, by limit. The tables are in `Detection`.

@@ -16,13 +16,13 @@ use Rattle.rds_sync.specs.declared.state.State.TheVariants.{Searching, Locked}
 use Rattle.rds_sync.specs.declared.item.Item.{Item}
 use Rattle.rds_sync.specs.declared.item.Item.TheVariants.{Acquired, Group, LostLock}
 use Rattle.rds_sync.specs.Rules.{RuleNumbers}
-use Rattle.rds_sync.specs.Loss.{IsLoss, bad_after, are_too_many}
+use Rattle.rds_sync.specs.Loss.{IsLossRule, bad_after, are_too_many}
 use Rattle.rds_sync.specs.Lawful.{IsLawful}
 use Rattle.rds_sync.specs.Acquiring.{acquired, has_number, has_partner, with_partner, is_in_step, is_numbered}
 use Rattle.rds_sync.specs.declared.item.Block.{Block}
 use Rattle.rds_sync.specs.Groups.{group, group_of, block_at, blocks_at, wanted_beside}
 use Rattle.rds_sync.specs.Ranges.{farthest_reach}
-use Rattle.rds_sync.specs.Step.{items_of_end, run, step, items_at, bad_with, group_after, lock_of, lock_after}
+use Rattle.rds_sync.specs.Step.{items_of_end, run, step, items_at, history_after_block, completed_group, lock_of, lock_after}
 use Rattle.rds_sync.specs.Laws.{AcquisitionsAreLate, StepsAreLawful}
 use Rattle.rds_live.proofs.Bits.{step-searching, items-searching, step-acquiring, items-acquiring, step-waiting, items-waiting, step-keeping, items-keeping, step-losing, items-losing}
 use Rattle.rds_live.specs.Moving.{IsPartHeard, moved_state, moved_item, moved_items}
@@ -137,15 +137,15 @@ module _ (whole part : Signal) (d from : ℕ) (h : IsPartHeard whole part d from
         let due : i + d + 26 ≡ i + 26 + d = omega arith in
         rw due refl
 
-    group_after-moved : (f x i : ℕ) → 26 * (x - f) + 25 ≤ i → i < length_of part → group_after whole rules f x (i + d) ≡ moved_items d (group_after part rules f x i)
-    group_after-moved f x i room within = at_case (eqb x 4) where
+    completed_group-moved : (f x i : ℕ) → 26 * (x - f) + 25 ≤ i → i < length_of part → completed_group whole rules f x (i + d) ≡ moved_items d (completed_group part rules f x i)
+    completed_group-moved f x i room within = at_case (eqb x 4) where
       at_case : (t : Bool) → elim t as (λ _. List Item) [ true ↦ Group (group whole rules f x (i + d)) ∷ [] | false ↦ [] ]
           ≡ moved_items d (elim t as (λ _. List Item) [ true ↦ Group (group part rules f x i) ∷ [] | false ↦ [] ])
       at_case true = ap (λ (item : Item). item ∷ []) (group-moved f x i room within)
       at_case false = refl
 
-    bad_with-moved : (i x bad : ℕ) → from ≤ i → i < length_of part → bad_with whole rules (i + d) x bad ≡ bad_with part rules i x bad
-    bad_with-moved i x bad order within = ap (λ (good : Bool). bad_after rules.loss good bad) (number-moved i x order within)
+    history_after_block-moved : (i x bad : ℕ) → from ≤ i → i < length_of part → history_after_block whole rules (i + d) x bad ≡ history_after_block part rules i x bad
+    history_after_block-moved i x bad order within = ap (λ (good : Bool). bad_after rules.loss good bad) (number-moved i x order within)
 
     module _ (reach : rules.reach ≤ farthest_reach) (late : AcquisitionsAreLate) (i : ℕ) (order : from ≤ i) (within : i < length_of part) where
       step_search-moved : step whole rules (i + d) Searching ≡ moved_state d (step part rules i Searching)
@@ -166,37 +166,37 @@ module _ (whole part : Signal) (d from : ℕ) (h : IsPartHeard whole part d from
         at_case (Some x) e =
             let place : 51 ≤ i = (late part rules i x e).0 in
             items-acquiring whole rules (i + d) x (acquired-moved reach i order within ∙ e)
-            ∙ ap (λ (items : List Item). Acquired (i + d) x ∷ items) (group_after-moved x x i (omega arith) within)
+            ∙ ap (λ (items : List Item). Acquired (i + d) x ∷ items) (completed_group-moved x x i (omega arith) within)
             ∙ ap (moved_items d) (sym (items-acquiring part rules i x e))
 
       module _ (x bad f : ℕ) (room : 26 * (x - f) + 25 ≤ i) where
         step_due-moved : step whole rules (i + d) (Locked (lock_of (i + d) x bad f)) ≡ moved_state d (step part rules i (Locked (lock_of i x bad f)))
         step_due-moved =
-            at_case (are_too_many rules.loss (bad_with part rules i x bad)) refl where
-              at_case : (t : Bool) → are_too_many rules.loss (bad_with part rules i x bad) ≡ t → step whole rules (i + d) (Locked (lock_of (i + d) x bad f)) ≡ moved_state d (step part rules i (Locked (lock_of i x bad f)))
+            at_case (are_too_many rules.loss (history_after_block part rules i x bad)) refl where
+              at_case : (t : Bool) → are_too_many rules.loss (history_after_block part rules i x bad) ≡ t → step whole rules (i + d) (Locked (lock_of (i + d) x bad f)) ≡ moved_state d (step part rules i (Locked (lock_of i x bad f)))
               at_case true e =
-                  let there : are_too_many rules.loss (bad_with whole rules (i + d) x bad) ≡ true = ap (λ (b : ℕ). are_too_many rules.loss b) (bad_with-moved i x bad order within) ∙ e in
+                  let there : are_too_many rules.loss (history_after_block whole rules (i + d) x bad) ≡ true = ap (λ (b : ℕ). are_too_many rules.loss b) (history_after_block-moved i x bad order within) ∙ e in
                   step-losing whole rules (lock_of (i + d) x bad f) there ∙ ap (moved_state d) (sym (step-losing part rules (lock_of i x bad f) e))
               at_case false e =
-                  let there : are_too_many rules.loss (bad_with whole rules (i + d) x bad) ≡ false = ap (λ (b : ℕ). are_too_many rules.loss b) (bad_with-moved i x bad order within) ∙ e in
+                  let there : are_too_many rules.loss (history_after_block whole rules (i + d) x bad) ≡ false = ap (λ (b : ℕ). are_too_many rules.loss b) (history_after_block-moved i x bad order within) ∙ e in
                   step-keeping whole rules (lock_of (i + d) x bad f) there
-                  ∙ ap (λ (b : ℕ). Locked (lock_after (i + d) x b f)) (bad_with-moved i x bad order within)
-                  ∙ locked-moved i x (bad_with part rules i x bad) f
+                  ∙ ap (λ (b : ℕ). Locked (lock_after (i + d) x b f)) (history_after_block-moved i x bad order within)
+                  ∙ locked-moved i x (history_after_block part rules i x bad) f
                   ∙ ap (moved_state d) (sym (step-keeping part rules (lock_of i x bad f) e))
 
         items_due-moved : items_at whole rules (i + d) (Locked (lock_of (i + d) x bad f)) ≡ moved_items d (items_at part rules i (Locked (lock_of i x bad f)))
         items_due-moved =
-            at_case (are_too_many rules.loss (bad_with part rules i x bad)) refl where
-              at_case : (t : Bool) → are_too_many rules.loss (bad_with part rules i x bad) ≡ t → items_at whole rules (i + d) (Locked (lock_of (i + d) x bad f)) ≡ moved_items d (items_at part rules i (Locked (lock_of i x bad f)))
+            at_case (are_too_many rules.loss (history_after_block part rules i x bad)) refl where
+              at_case : (t : Bool) → are_too_many rules.loss (history_after_block part rules i x bad) ≡ t → items_at whole rules (i + d) (Locked (lock_of (i + d) x bad f)) ≡ moved_items d (items_at part rules i (Locked (lock_of i x bad f)))
               at_case true e =
-                  let there : are_too_many rules.loss (bad_with whole rules (i + d) x bad) ≡ true = ap (λ (b : ℕ). are_too_many rules.loss b) (bad_with-moved i x bad order within) ∙ e in
+                  let there : are_too_many rules.loss (history_after_block whole rules (i + d) x bad) ≡ true = ap (λ (b : ℕ). are_too_many rules.loss b) (history_after_block-moved i x bad order within) ∙ e in
                   items-losing whole rules (lock_of (i + d) x bad f) there
                   ∙ ap (λ (item : Item). item ∷ LostLock (i + d) ∷ []) (group-moved f x i room within)
                   ∙ ap (moved_items d) (sym (items-losing part rules (lock_of i x bad f) e))
               at_case false e =
-                  let there : are_too_many rules.loss (bad_with whole rules (i + d) x bad) ≡ false = ap (λ (b : ℕ). are_too_many rules.loss b) (bad_with-moved i x bad order within) ∙ e in
+                  let there : are_too_many rules.loss (history_after_block whole rules (i + d) x bad) ≡ false = ap (λ (b : ℕ). are_too_many rules.loss b) (history_after_block-moved i x bad order within) ∙ e in
                   items-keeping whole rules (lock_of (i + d) x bad f) there
-                  ∙ group_after-moved f x i room within
+                  ∙ completed_group-moved f x i room within
                   ∙ ap (moved_items d) (sym (items-keeping part rules (lock_of i x bad f) e))
 
       step-moved : (s : State) → IsLawful rules i s → step whole rules (i + d) (moved_state d s) ≡ moved_state d (step part rules i s)
@@ -223,7 +223,7 @@ module _ (whole part : Signal) (d from : ℕ) (h : IsPartHeard whole part d from
             items-waiting whole rules (record lock { due = lock.due + d }) (i + d) there ∙ ap (moved_items d) (sym (items-waiting part rules lock i later))
       ]
 
-    module _ (reach : rules.reach ≤ farthest_reach) (late : AcquisitionsAreLate) (lawful_steps : StepsAreLawful) (loss : IsLoss rules.loss) where
+    module _ (reach : rules.reach ≤ farthest_reach) (late : AcquisitionsAreLate) (lawful_steps : StepsAreLawful) (loss : IsLossRule rules.loss) where
       pub run-moved : (s : State) (a bits : ℕ) → from ≤ a → a + bits ≤ length_of part → IsLawful rules a s
           → run whole rules (moved_state d s) (a + d) bits ≡ (moved_state d (run part rules s a bits).0, moved_items d (run part rules s a bits).1)
       run-moved s a zero order within lawful = refl

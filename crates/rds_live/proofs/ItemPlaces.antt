@@ -13,7 +13,7 @@ use Rattle.rds_sync.specs.Rules.{RuleNumbers}
 use Rattle.rds_sync.specs.Loss.{are_too_many}
 use Rattle.rds_sync.specs.Acquiring.{acquired}
 use Rattle.rds_sync.specs.Groups.{group}
-use Rattle.rds_sync.specs.Step.{items_of_end, run, step, items_at, bad_with, group_after}
+use Rattle.rds_sync.specs.Step.{items_of_end, run, step, items_at, history_after_block, completed_group}
 use Rattle.rds_sync.specs.Lawful.{IsLawful}
 use Rattle.rds_live.specs.Places.{place_of, is_due_below}
 use Rattle.rds_live.proofs.Bits.{items-searching, items-acquiring, items-waiting, items-keeping, items-losing}
@@ -33,7 +33,7 @@ module _ (b : Signal) (rules : RuleNumbers) (to : ℕ) where
   unfolding group
   group-early f x i h = let e : i - 26 * (x - f) - 25 < to = omega arith in e
 
-  after-early : (f x i : ℕ) → i < to → All Early (group_after b rules f x i)
+  after-early : (f x i : ℕ) → i < to → All Early (completed_group b rules f x i)
   after-early f x i h = at_case (eqb x 4) where
     at_case : (t : Bool) → All Early (elim t as (λ _. List Item) [ true ↦ Group (group b rules f x i) ∷ [] | false ↦ [] ])
     at_case true = all-cons (Group (group b rules f x i)) [] (group-early f x i h) all-nil
@@ -45,11 +45,11 @@ module _ (b : Signal) (rules : RuleNumbers) (to : ℕ) where
     at_case None e = subst (λ (items : List Item). All Early items) (sym (items-searching b rules i e)) all-nil
     at_case (Some x) e =
         subst (λ (items : List Item). All Early items) (sym (items-acquiring b rules i x e))
-        (all-cons (Acquired i x) (group_after b rules x x i) h (after-early x x i h))
+        (all-cons (Acquired i x) (completed_group b rules x x i) h (after-early x x i h))
 
   due-early : (lock : Lock) → lock.due < to → All Early (items_at b rules lock.due (Locked lock))
-  due-early lock h = at_case (are_too_many rules.loss (bad_with b rules lock.due lock.number lock.bad)) refl where
-    at_case : (t : Bool) → are_too_many rules.loss (bad_with b rules lock.due lock.number lock.bad) ≡ t → All Early (items_at b rules lock.due (Locked lock))
+  due-early lock h = at_case (are_too_many rules.loss (history_after_block b rules lock.due lock.number lock.bad)) refl where
+    at_case : (t : Bool) → are_too_many rules.loss (history_after_block b rules lock.due lock.number lock.bad) ≡ t → All Early (items_at b rules lock.due (Locked lock))
     at_case true e =
         subst (λ (items : List Item). All Early items) (sym (items-losing b rules lock e))
         (all-cons (Group (group b rules lock.first lock.number lock.due)) (LostLock lock.due ∷ [])

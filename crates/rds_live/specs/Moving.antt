@@ -7,7 +7,7 @@ use Rattle.rds_sync.specs.declared.state.State.TheVariants.{Searching, Locked}
 use Rattle.rds_sync.specs.declared.item.Item.{Item}
 use Rattle.rds_sync.specs.declared.item.Item.TheVariants.{Acquired, Group, LostLock}
 use Rattle.rds_sync.specs.Rules.{RuleNumbers}
-use Rattle.rds_sync.specs.Loss.{IsLoss}
+use Rattle.rds_sync.specs.Loss.{IsLossRule}
 use Rattle.rds_sync.specs.Lawful.{IsLawful}
 use Rattle.rds_sync.specs.Ranges.{farthest_reach}
 use Rattle.rds_sync.specs.Step.{run, items_of_end}
@@ -39,7 +39,7 @@ pub record IsPartHeard (whole part : Signal) (d from : ℕ) : Type 0 where
 -- a run over a part is the run over the whole there, except for the places
 abbrev pub RunsMove : Type 0
 RunsMove = (whole part : Signal) (rules : RuleNumbers) (d : ℕ) (s : State) (from bits : ℕ)
-    → IsLoss rules.loss → rules.reach ≤ farthest_reach → IsLawful rules from s
+    → IsLossRule rules.loss → rules.reach ≤ farthest_reach → IsLawful rules from s
     → IsPartHeard whole part d from → from + bits ≤ length_of part
     → let there = run part rules s from bits in
     run whole rules (moved_state d s) (from + d) bits ≡ (moved_state d there.0, moved_items d there.1)

@@ -8,7 +8,7 @@ use Rattle.rds_sync.specs.declared.state.State.TheVariants.{Searching, Locked}
 use Rattle.rds_sync.specs.declared.item.Item.{Item}
 use Rattle.rds_sync.specs.Rules.{RuleNumbers}
 use Rattle.rds_sync.specs.Lawful.{IsLawful, IsLawfulLock, IsBetweenGroups}
-use Rattle.rds_sync.specs.Loss.{IsLoss}
+use Rattle.rds_sync.specs.Loss.{IsLossRule}
 use Rattle.rds_sync.specs.Step.{run, step}
 use Rattle.rds_sync.specs.Hop.{IsHop}
 use Rattle.rds_pieces.specs.Meeting.{MeetAt}
@@ -94,7 +94,7 @@ module _ (laws : RunLaws) (b : Signal) (rules : RuleNumbers) where
         })
 
     -- after a hop of the run that is first
-    pub apart_hop : IsLoss rules.loss → IsLawful rules from s → (a : ℕ) (x : State) (c : ℕ) (y : State) (next : ℕ) (after : State) (reads : ℕ) → IsApart b rules s t from to a x c y
+    pub apart_hop : IsLossRule rules.loss → IsLawful rules from s → (a : ℕ) (x : State) (c : ℕ) (y : State) (next : ℕ) (after : State) (reads : ℕ) → IsApart b rules s t from to a x c y
         → ¬ ((a ≡ c) × (x ≡ y) × IsBetweenGroups x) → IsFirst a x c → IsHop b rules x a c to next after reads → IsApart b rules s t from to next after c y
     apart_hop some lawful a x c y next after reads h other first hop = record {
       inside = (let m = hop.moved in let i = h.inside in omega (arith, m, i), hop.moved.1, h.inside.2, h.inside.3);

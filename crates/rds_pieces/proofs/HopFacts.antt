@@ -11,7 +11,7 @@ use Rattle.rds_sync.specs.Acquiring.{acquired}
 use Rattle.rds_sync.specs.Hop.{mark}
 use Rattle.rds_sync.specs.Lawful.{IsLawful}
 use Rattle.rds_sync.specs.Loss.{are_too_many}
-use Rattle.rds_sync.specs.Step.{run, step, bad_with}
+use Rattle.rds_sync.specs.Step.{run, step, history_after_block}
 use Rattle.rds_pieces.specs.Inside.RunLaws.{RunLaws}
 use Rattle.rds_pieces.proofs.RunFacts.{step-acquiring, step-searching, step-waiting, step-keeping, step-losing, run_state-append}
 
@@ -26,7 +26,7 @@ module _ (b : Signal) (rules : RuleNumbers) where
     | inr other ↦ inl (sym (step-waiting b rules old i other) ∙ e)
     | inl same ↦
         let here : step b rules old.due (Locked old) ≡ Locked lock = ap (λ (p : ℕ). step b rules p (Locked old)) same ∙ e in
-        elim (cases_Bool (are_too_many rules.loss (bad_with b rules old.due old.number old.bad))) [
+        elim (cases_Bool (are_too_many rules.loss (history_after_block b rules old.due old.number old.bad))) [
           | inr kept ↦
               let due : old.due + 26 ≡ lock.due = ap (λ (s : State). mark 0 s) (sym (step-keeping b rules old kept) ∙ here) in
               inr (omega (arith, same, due))

@@ -1,5 +1,8 @@
--- Where the next mark of a run is: after the next stretch that gives an item.
-use Rattle.std.proofs.Common.{◌≡◌, ◌≢◌, ℕ, zero, suc, ◌+◌, ◌-◌, List, [], ◌∷◌, ◌++◌, length, refl, sym, ap, ap₂, ◌∙◌, arith, append_assoc, length-append}
+-- Where the next mark of a run is: after the next stretch that gives an item. The marks of a run are those that a walk
+-- bit by bit finds.
+use Rattle.std.proofs.Common.{◌≡◌, ◌≢◌, ℕ, zero, suc, ◌+◌, ◌-◌, Bool, List, [], ◌∷◌, ◌++◌, length, map, filter, cond, nat_lt, true, false, refl, sym, ap, ap₂, ◌∙◌, arith, append_assoc, length-append}
+use Rattle.std.proofs.lemmas.Bool.{le-ltb, lt-ltb}
+use Rattle.std.specs.List.{range_with_len}
 use Rattle.rds_stream.specs.Recording.{Signal}
 use Rattle.rds_sync.specs.declared.item.Item.{Item}
 use Rattle.rds_pieces.specs.declared.mark.Mark.{Mark}
@@ -10,13 +13,25 @@ use Rattle.rds_sync.specs.Rules.{RuleNumbers}
 use Rattle.rds_sync.specs.Step.{run, step, items_at}
 use Rattle.rds_sync.specs.Stretch.{IsStretch}
 use Rattle.rds_pieces.specs.Inside.RunLaws.{RunLaws}
-use Rattle.rds_pieces.specs.Marks.{mark_where, mark_at, marks_on}
+use Rattle.rds_pieces.specs.Marks.{mark_after_bits, gave_item, marks_of}
+use Rattle.rds_pieces.specs.Inside.MarkInside.{mark_where, mark_at, marks_on}
 use Rattle.rds_pieces.proofs.RunFacts.{none_first, none_rest, run-append}
 
 -- there is a mark if items were given
 mark_there : (given : List Item) (mark : Mark) → given ≢ [] → mark_where given mark ≡ mark ∷ []
 mark_there [] mark some = absurd (some refl)
 mark_there (item ∷ items) mark some = refl
+
+-- there is a mark if the count of items went up
+mark_counted : (f : ℕ → Mark) (k before : ℕ) (given : List Item) (ks : List ℕ)
+    → map f (cond (nat_lt before (before + length given)) (k ∷ ks) ks) ≡ mark_where given (f k) ++ map f ks
+mark_counted f k before [] ks =
+    let same : before + 0 ≡ before = omega arith in
+    let no : nat_lt before before ≡ false = le-ltb before before (omega arith) in
+    rw (same, no) refl
+mark_counted f k before (item ∷ items) ks =
+    let yes : nat_lt before (before + suc (length items)) ≡ true = lt-ltb before (before + suc (length items)) (omega arith) in
+    rw yes refl
 
 module _ (b : Signal) (rules : RuleNumbers) where
   -- bits that give nothing have no mark
@@ -26,7 +41,7 @@ module _ (b : Signal) (rules : RuleNumbers) where
       let given : List Item = items_at b rules a s in
       let here = none_first given _ e in
       let there = none_rest given _ e in
-      let mark : Mark = mark_at b rules (step b rules a s) (a + 1) (before + length given) in
+      let mark : Mark = mark_at (step b rules a s) (a + 1) (before + length given) in
       ap (λ (ms : List Mark). mark_where given mark ++ ms) (marks_on-quiet (step b rules a s) (a + 1) (before + length given) bits there)
       ∙ ap (λ (is : List Item). mark_where is mark ++ []) here
 
@@ -42,7 +57,7 @@ module _ (b : Signal) (rules : RuleNumbers) where
       let all : suc m + n ≡ suc (m + n) = omega arith in
       let spot : a + 1 + m ≡ a + suc m = omega arith in
       let given : List Item = items_at b rules a s in
-      let after : Mark = mark_at b rules (step b rules a s) (a + 1) (c + length given) in
+      let after : Mark = mark_at (step b rules a s) (a + 1) (c + length given) in
       let rest : State × List Item = run b rules (step b rules a s) (a + 1) m in
       let len = length-append given rest.1 in
       let count : c + length given + length rest.1 ≡ c + length (given ++ rest.1) = omega (arith, len) in
@@ -55,7 +70,7 @@ module _ (b : Signal) (rules : RuleNumbers) where
   marks_on-next : (s t : State) (a c m n : ℕ) → run b rules s a m ≡ (t, []) → items_at b rules (a + m) t ≢ []
       → let given : List Item = items_at b rules (a + m) t in
       let next : State = step b rules (a + m) t in
-      marks_on b rules s a c (m + suc n) ≡ mark_at b rules next (a + m + 1) (c + length given) ∷ marks_on b rules next (a + m + 1) (c + length given) n
+      marks_on b rules s a c (m + suc n) ≡ mark_at next (a + m + 1) (c + length given) ∷ marks_on b rules next (a + m + 1) (c + length given) n
   marks_on-next s t a c m n quiet some =
       let given : List Item = items_at b rules (a + m) t in
       let next : State = step b rules (a + m) t in
@@ -64,26 +79,58 @@ module _ (b : Signal) (rules : RuleNumbers) where
       ∙ ap (λ (ms : List Mark). ms ++ marks_on b rules (run b rules s a m).0 (a + m) (c + length (run b rules s a m).1) (suc n)) (marks_on-quiet s a c m (ap (λ (r : State × List Item). r.1) quiet))
       ∙ ap (λ (r : State × List Item). marks_on b rules r.0 (a + m) (c + length r.1) (suc n)) quiet
       ∙ ap (λ (k : ℕ). marks_on b rules t (a + m) k (suc n)) count
-      ∙ ap (λ (ms : List Mark). ms ++ marks_on b rules next (a + m + 1) (c + length given) n) (mark_there given (mark_at b rules next (a + m + 1) (c + length given)) some)
+      ∙ ap (λ (ms : List Mark). ms ++ marks_on b rules next (a + m + 1) (c + length given) n) (mark_there given (mark_at next (a + m + 1) (c + length given)) some)
 
   -- the same, by other names of the last bit's place, state and items
   marks_on-came : (s t u : State) (a c m n to : ℕ) (given : List Item) → run b rules s a m ≡ (t, []) → a + m + 1 ≡ to → u ≡ step b rules (a + m) t → given ≡ items_at b rules (a + m) t
-      → given ≢ [] → marks_on b rules s a c (m + suc n) ≡ mark_at b rules u to (c + length given) ∷ marks_on b rules u to (c + length given) n
+      → given ≢ [] → marks_on b rules s a c (m + suc n) ≡ mark_at u to (c + length given) ∷ marks_on b rules u to (c + length given) n
   marks_on-came s t u a c m n to given quiet last state items some =
       rw (← last, state, items) (marks_on-next s t a c m n quiet (λ none. some (items ∙ none)))
+
+  -- the run over one more bit
+  run_more : RunLaws → (s : State) (a m : ℕ) → let before : State × List Item = run b rules s a m in
+      run b rules s a (m + 1) ≡ (step b rules (a + m) before.0, before.1 ++ items_at b rules (a + m) before.0)
+  run_more laws s a m =
+      run-append laws b rules s a m 1
+      ∙ ap (λ (r : State × List Item). (r.0, (run b rules s a m).1 ++ r.1)) (laws.one_bit b rules (run b rules s a m).0 (a + m))
 
   -- after bits that give nothing, a run is that of its last bit
   run-last : RunLaws → (s t : State) (a m : ℕ) → run b rules s a m ≡ (t, []) → run b rules s a (m + 1) ≡ (step b rules (a + m) t, items_at b rules (a + m) t)
   run-last laws s t a m quiet =
-      run-append laws b rules s a m 1
-      ∙ ap (λ (r : State × List Item). ((run b rules r.0 (a + m) 1).0, r.1 ++ (run b rules r.0 (a + m) 1).1)) quiet
-      ∙ laws.one_bit b rules t (a + m)
+      run_more laws s a m ∙ ap (λ (r : State × List Item). (step b rules (a + m) r.0, r.1 ++ items_at b rules (a + m) r.0)) quiet
+
+  -- the marks after the first m bits are those of a walk from there
+  marks_from : RunLaws → (s : State) (a m n : ℕ) → map (mark_after_bits b rules s a) (filter (gave_item b rules s a) (range_with_len (m + 1) n))
+      ≡ marks_on b rules (run b rules s a m).0 (a + m) (length (run b rules s a m).1) n
+  marks_from laws s a m zero = refl
+  marks_from laws s a m (suc n) =
+      let f : ℕ → Mark = mark_after_bits b rules s a in
+      let ks : List ℕ = filter (gave_item b rules s a) (range_with_len (m + 1 + 1) n) in
+      let before : State × List Item = run b rules s a m in
+      let given : List Item = items_at b rules (a + m) before.0 in
+      let next : State = step b rules (a + m) before.0 in
+      let more = run_more laws s a m in
+      let back : m + 1 - 1 ≡ m = omega arith in
+      let spot : a + (m + 1) ≡ a + m + 1 = omega arith in
+      let count : length (before.1 ++ given) ≡ length before.1 + length given = length-append before.1 given in
+      let up : gave_item b rules s a (m + 1) ≡ nat_lt (length before.1) (length before.1 + length given) = ap₂ (λ (k c : ℕ). nat_lt (f k).items c) back (ap (λ (r : State × List Item). length r.1) more ∙ count) in
+      ap (λ (t : Bool). map f (cond t ((m + 1) ∷ ks) ks)) up
+      ∙ mark_counted f (m + 1) (length before.1) given ks
+      ∙ ap (λ (ms : List Mark). mark_where given (f (m + 1)) ++ ms) (marks_from laws s a (m + 1) n)
+      ∙ ap (λ (r : State × List Item). mark_where given (mark_at r.0 (a + (m + 1)) (length r.1)) ++ marks_on b rules r.0 (a + (m + 1)) (length r.1) n) more
+      ∙ ap₂ (λ (p c : ℕ). mark_where given (mark_at next p c) ++ marks_on b rules next p c n) spot count
+
+  -- all marks of a run are those of a walk from its first place
+  pub marks_of-by_bits : RunLaws → (s : State) (a bits : ℕ) → marks_of b rules s a bits ≡ mark_at s a 0 ∷ marks_on b rules s a 0 bits
+  marks_of-by_bits laws s a bits =
+      let spot : a + 0 ≡ a = omega arith in
+      ap (λ (ms : List Mark). mark_at s a 0 ∷ ms) (marks_from laws s a 0 bits ∙ ap (λ (p : ℕ). marks_on b rules s p 0 bits) spot)
 
   module _ (laws : RunLaws) (s : State) (place to before : ℕ) (reached : Step) (is : IsStretch b rules s place to reached) where
     -- over a stretch that gives items
     pub marks_on-stretch : items_in reached.items ≢ []
         → let count : ℕ = before + length (items_in reached.items) in
-        marks_on b rules s place before (to - place) ≡ mark_at b rules reached.state reached.place count ∷ marks_on b rules reached.state reached.place count (to - reached.place)
+        marks_on b rules s place before (to - place) ≡ mark_at reached.state reached.place count ∷ marks_on b rules reached.state reached.place count (to - reached.place)
     marks_on-stretch some =
         let m : ℕ = reached.place - 1 - place in
         let t : State = (run b rules s place m).0 in

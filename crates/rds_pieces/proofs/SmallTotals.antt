@@ -23,7 +23,7 @@ use Rattle.rds_sync.specs.Counting.{plus, TotalsJoin, IsAtMost, FitTogether}
 use Rattle.rds_sync.specs.Groups.{group, block_at, wanted_beside, are_complete}
 use Rattle.rds_sync.specs.Rules.{RuleNumbers}
 use Rattle.rds_sync.specs.Loss.{are_too_many}
-use Rattle.rds_sync.specs.Step.{run, step, items_at, group_after, bad_with}
+use Rattle.rds_sync.specs.Step.{run, step, items_at, completed_group, history_after_block}
 use Rattle.rds_pieces.proofs.RunFacts.{items-searching, items-acquiring, items-waiting, items-keeping, items-losing}
 use Rattle.rds_sync.specs.Totals.{totals_of, is_valid, is_lost, is_corrected_by, bits_corrected}
 
@@ -164,11 +164,11 @@ module _ (b : Signal) (rules : RuleNumbers) (law : ReadsByRule) (few : rules.bur
       at_case : (o : Option ℕ) → acquired b rules i ≡ o → IsAtMost per_bit (totals_of (items_at b rules i Searching))
       at_case None e = gives (items-searching b rules i e) (none_at_most per_bit)
       at_case (Some x) e = gives (items-acquiring b rules i x e) (at_most_more (1 + (2 ^ 28 - 4)) per_bit _ (lit≤ tt)
-          (both_at_most 1 (2 ^ 28 - 4) (Acquired i x ∷ []) (group_after b rules x x i) (acquired_at_most i x) (after_at_most x x i (x == 4))))
+          (both_at_most 1 (2 ^ 28 - 4) (Acquired i x ∷ []) (completed_group b rules x x i) (acquired_at_most i x) (after_at_most x x i (x == 4))))
     bit_at_most i (Locked lock) = elim (cases_eq lock.due i) [
       | inr other ↦ gives (items-waiting b rules lock i other) (none_at_most per_bit)
       | inl here ↦ subst (λ (p : ℕ). IsAtMost per_bit (totals_of (items_at b rules p (Locked lock)))) here
-          (elim (cases_Bool (are_too_many rules.loss (bad_with b rules lock.due lock.number lock.bad))) [
+          (elim (cases_Bool (are_too_many rules.loss (history_after_block b rules lock.due lock.number lock.bad))) [
             | inr few ↦ gives (items-keeping b rules lock few)
                 (at_most_more (2 ^ 28 - 4) per_bit _ (lit≤ tt) (after_at_most lock.first lock.number lock.due (lock.number == 4)))
             | inl many ↦ gives (items-losing b rules lock many) (at_most_more (2 ^ 28 - 4 + 1) per_bit _ (lit≤ tt)

@@ -8,7 +8,7 @@ use Rattle.rds_sync.specs.declared.item.Item.{Item}
 use Rattle.rds_sync.specs.Rules.{RuleNumbers}
 use Rattle.rds_sync.specs.Convergence.{sound_bits, SoundRangesHaveFours, RunsConverge}
 use Rattle.rds_sync.specs.Lawful.{IsLawful, IsBetweenGroups}
-use Rattle.rds_sync.specs.Loss.{IsLoss}
+use Rattle.rds_sync.specs.Loss.{IsLossRule}
 use Rattle.rds_sync.specs.Step.{run, lock_of}
 use Rattle.rds_pieces.specs.Meeting.{MeetAt, IsMeeting}
 use Rattle.rds_pieces.specs.Inside.RunLaws.{RunLaws}
@@ -28,7 +28,7 @@ module _ (b : Signal) (rules : RuleNumbers) (one other : State) (from to : ℕ) 
     ],
   )
 
-  pub soon_met : RunLaws → SoundRangesHaveFours → RunsConverge → IsLoss rules.loss → 1 ≤ rules.reach
+  pub soon_met : RunLaws → SoundRangesHaveFours → RunsConverge → IsLossRule rules.loss → 1 ≤ rules.reach
       → IsLawful rules from one → IsLawful rules from other → (met : Option ℕ) → IsMeeting b rules one other from to met
       → IsSoonMet b rules from to met
   soon_met laws fours converge loss reach one_lawful other_lawful met meeting j s p c sound low high =

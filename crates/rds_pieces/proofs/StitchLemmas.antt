@@ -13,7 +13,7 @@ use Rattle.rds_sync.specs.Rules.{RuleNumbers}
 use Rattle.rds_sync.specs.Ranges.{IsInRange}
 use Rattle.rds_sync.specs.Lawful.{IsLawful, IsBetweenGroups}
 use Rattle.rds_sync.specs.Report.{report_items}
-use Rattle.rds_sync.specs.Loss.{IsLoss}
+use Rattle.rds_sync.specs.Loss.{IsLossRule}
 use Rattle.rds_sync.specs.Step.{run, items_of_end}
 use Rattle.rds_pieces.specs.Meeting.{IsMeeting, MeetAt, distance}
 use Rattle.rds_pieces.specs.RunOf.{RunOf, FollowEachOther}
@@ -206,7 +206,7 @@ module _ (b : Signal) (rules : RuleNumbers) (runs : List RunOf) where
     items_at_end = done.items_are ∙ ap (λ (p : ℕ). (run b rules Searching 0 (p - 0)).1) end_is
 
     -- with the item of the end they are the report's
-    pub whole_at_end : RunLaws → IsLoss rules.loss → items ++ items_of_end b rules state ≡ report_items b rules
+    pub whole_at_end : RunLaws → IsLossRule rules.loss → items ++ items_of_end b rules state ≡ report_items b rules
     whole_at_end laws loss =
         let bits : length_of b - 0 ≡ length_of b = omega arith in
         ap₂ (λ (is : List Item) (s : State). is ++ items_of_end b rules s) items_at_end state_at_end

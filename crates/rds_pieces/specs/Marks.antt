@@ -1,32 +1,25 @@
--- The marks of a run: its first place, and the place after each bit that gave an item. There another run may meet it.
--- `PieceRun::marks` answers those of a guess. This project's rule.
-use Rattle.std.specs.Prelude.{ℕ, zero, suc, ◌+◌, List, [], ◌∷◌, ◌++◌, length}
+-- The marks of a run: its first place, and the place after each bit that gave an item. Two runs meet first at a mark of
+-- one of them. `PieceRun::marks` returns those of a guess. This project's rule.
+use Rattle.std.specs.Prelude.{ℕ, ◌+◌, ◌-◌, Bool, List, ◌∷◌, length, map, filter, nat_lt}
+use Rattle.std.specs.List.{range_with_len}
 use Rattle.rds_stream.specs.Recording.{Signal}
 use Rattle.rds_sync.specs.declared.state.State.{State}
-use Rattle.rds_sync.specs.declared.item.Item.{Item}
-use Rattle.rds_pieces.specs.declared.mark.Mark.{Mark}
 use Rattle.rds_sync.specs.Rules.{RuleNumbers}
-use Rattle.rds_sync.specs.Step.{step, items_at}
+use Rattle.rds_sync.specs.Step.{run}
+use Rattle.rds_pieces.specs.declared.mark.Mark.{Mark}
 
--- a mark, if its bit gave items
-abbrev pub mark_where : List Item → Mark → List Mark
-mark_where [] mark = []
-mark_where (item ∷ items) mark = mark ∷ []
+module _ (b : Signal) (rules : RuleNumbers) (s : State) (a : ℕ) where
+  -- the mark after k bits of the run from state s at place a: the place, the state and the number of items there
+  abbrev pub mark_after_bits : ℕ → Mark
+  mark_after_bits k =
+      record { place = a + k; state = (run b rules s a k).0; items = length (run b rules s a k).1 }
 
-module _ (b : Signal) (rules : RuleNumbers) where
-  -- the mark before the bit at place a, in state s, after `before` items
-  abbrev pub mark_at : State → ℕ → ℕ → Mark
-  mark_at s a before = record { place = a; state = s; items = before }
+  -- whether the k-th bit gave an item: the run over k bits has more items than the run over k - 1
+  abbrev pub gave_item : ℕ → Bool
+  gave_item k = nat_lt (mark_after_bits (k - 1)).items (mark_after_bits k).items
 
-  -- the marks after the next bits from place a, in state s, if `before` items were given before
-  abbrev pub marks_on : State → ℕ → ℕ → ℕ → List Mark
-  marks_on s a before zero = []
-  marks_on s a before (suc bits) =
-      let given : List Item = items_at b rules a s in
-      let count : ℕ = before + length given in
-      mark_where given (mark_at (step b rules a s) (a + 1) count)
-      ++ marks_on (step b rules a s) (a + 1) count bits
-
-  -- all marks of the run from state s over `bits` bits from place a
-  abbrev pub marks_of : State → ℕ → ℕ → List Mark
-  marks_of s a bits = mark_at s a 0 ∷ marks_on s a 0 bits
+  -- all marks of the run over `bits` bits: its first place, and the place after each bit that gave an item
+  abbrev pub marks_of : ℕ → List Mark
+  marks_of bits =
+      record { place = a; state = s; items = 0 }
+      ∷ map mark_after_bits (filter gave_item (range_with_len 1 bits))

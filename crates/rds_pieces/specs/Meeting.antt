@@ -1,5 +1,4 @@
--- Where two runs meet: this project's rule. `seam` answers the place, and bounds its reads by it; so does
--- `join_runs`.
+-- The place where two runs meet: this project's rule. `seam` returns it. `seam` and `join_runs` bound their reads by it.
 use Rattle.std.specs.Prelude.{◌≡◌, ℕ, ◌-◌, ◌<◌, ◌≤◌, Option, Some, None, MatchOption}
 use Rattle.rds_stream.specs.Recording.{Signal}
 use Rattle.rds_sync.specs.declared.state.State.{State}
@@ -8,7 +7,7 @@ use Rattle.rds_sync.specs.Lawful.{IsBetweenGroups}
 use Rattle.rds_sync.specs.Step.{run}
 
 module _ (b : Signal) (rules : RuleNumbers) (s t : State) (from to : ℕ) where
-  -- the runs from s and from t are in one state before bit p, with no group in progress; the range's end counts
+  -- before the bit at p both runs are in the same state, with no group in progress; p may be the range's end
   pub record MeetAt (p : ℕ) : Type 0 where
     pub inside : (from ≤ p) × (p ≤ to)
     pub same : (run b rules s from (p - from)).0 ≡ (run b rules t from (p - from)).0
@@ -23,6 +22,6 @@ module _ (b : Signal) (rules : RuleNumbers) (s t : State) (from to : ℕ) where
   abbrev pub IsMeeting : Option ℕ → Type 0
   IsMeeting met = MatchOption met ((q : ℕ) → ¬ MeetAt q) MeetFirstAt
 
--- how far the meeting, or the range's end if there is none, is from the range's first place
+-- the number of bits from the range's first place to the meeting, or to its end if the runs do not meet
 abbrev pub distance : ℕ → ℕ → Option ℕ → ℕ
 distance from to met = elim met [ None ↦ to - from | Some p ↦ p - from ]

@@ -1,10 +1,11 @@
-//! Decoding in pieces: a recording is cut, each piece is guessed as if nothing stood before it, and the guesses are put
-//! together into the report that one decoder gives which reads from the first bit.
+//! Decoding in pieces. A recording is cut, and each piece is decoded as if nothing came before it: this is its *guess*.
+//! The guesses are joined into the report of one decoder that reads from the first bit.
 //!
-//! A guess begins with a search, so that it may be wrong at first. The run that comes from the bits before is carried
-//! on over the piece until both are in one state with no group in progress: from there on the guess is right.
+//! A guess begins with a search, so its first items may be wrong. The run from the bits before continues over the
+//! piece, beside the guess. They *meet* when both are in one state with no group in progress. From there on the guess
+//! is right.
 //!
-//! The standard speaks of one receiver that reads from the first bit: all rules of pieces are this project's.
+//! The standard speaks of one receiver that reads from the first bit. All rules of pieces are this project's.
 //!
 //! # Example
 //!
@@ -19,7 +20,7 @@
 //! // The report that decode_plain gives.
 //! ```
 //!
-//! Neighbours can be joined before:
+//! Two neighbouring runs can be joined before they are stitched:
 //!
 //! ```text
 //! let left = speculate(alloc, &recording, &rules, &cutting, 0)?;
@@ -29,55 +30,52 @@
 //! let both = join_runs(alloc, &mut tape, &rules, &left, &right)?;
 //! ```
 //!
-//! # What there is
+//! # Contents
 //!
 //! - [`Cutting`]: the places at which a recording is cut.
-//! - [`speculate`]: the guess of a piece, a [`PieceRun`]: the run over it from Searching. It keeps the
-//!   totals, the end state and the spans of its items, which are decoded when recording and rules are lent
-//!   again.
-//! - [`Marks`]: where another run may meet a guess, a [`Mark`] each: its first place, and the place after each bit that
-//!   gave an item.
-//! - [`seam`]: carries the true state over a piece, side by side with the guess, until they are in one state with no
-//!   group in progress; from there on the items are the guess's, and nothing more is read. It answers a [`Seam`].
-//! - [`join_runs`]: does so with the end state of the run of the range before, and makes of both runs the
-//!   guess of both ranges. Thus any number of runs can be joined two by two, neighbours in any order.
-//! - [`stitch`]: the report, of runs in a row from the first bit to the last, by a seam over each.
-//! - [`Work`] and [`RecordingWork`]: all of these over one recording, one set of rules and one cutting.
+//! - [`speculate`]: returns the guess of a piece, a [`PieceRun`]. The run begins with a search. It keeps the totals, the
+//!   end state and the spans of the items, which are decoded when recording and rules are lent again.
+//! - [`Marks`]: the marks of a guess, in order. A [`Mark`] is its first place, or the place after a bit that gave an
+//!   item. Two runs meet first at a mark of one of them.
+//! - [`seam`]: continues the run from the bits before over a piece, until it meets the guess. From there on the items
+//!   are the guess's, and nothing more is read. It returns a [`Seam`].
+//! - [`join_runs`]: joins two neighbouring runs into the guess of both ranges, by a seam from the end state of the left
+//!   one. So any number of runs can be joined two by two, neighbours in any order.
+//! - [`stitch`]: makes the report from consecutive runs that cover the recording, by a seam over each.
+//! - [`Work`] and [`RecordingWork`]: these calls for one recording, one set of rules and one cutting.
 //! - [`laws`]: the laws of pieces themselves.
 //! - [`PieceError`]: the refusals `BadCutting` (6) and `OutOfMemory` (8).
 //!
-//! # What callers may rely on
+//! # Promises
 //!
-//! - A [`PieceRun`] is the guess of its range for the recording and the rules that it names, a joined one too. It
+//! - A [`PieceRun`], also a joined one, is the guess of its range for the recording and the rules that it names. It
 //!   borrows nothing and holds nothing of the recording.
-//! - A seam gives the items, their totals and the end state of the run from the state handed in. It says
-//!   where the two met or that they never did. It reads at most (reach + 2)(d + 1) windows; d is the number
-//!   of bits up to the meeting, or to the piece's end if they never meet; a join reads no more than the seam
-//!   in it.
-//! - The stitched report is that of whole locks, items and totals. Runs that are stitched or joined may be empty.
-//! - A guess is met by the end of any sound range in its piece; on other recordings nothing is promised. A guess that
-//!   locks at a false phase may never be met, and then a seam or a join reads its whole piece.
-//! - A run takes memory for the spans of its items, one in some hundred items. A seam and a join copy those that they
-//!   take over.
+//! - A seam gives the items, their totals and the end state of the run from the state that it is given. It tells the
+//!   place at which this run met the guess, if they met. It reads at most (reach + 2)(d + 1) windows; d is the number of
+//!   bits up to the meeting, or to the piece's end if they do not meet. A join reads no more than its seam.
+//! - The stitched report is that of [`decode_plain`](rds_sync::decode_plain), items and totals. Runs that are stitched
+//!   or joined may be empty.
+//! - If a piece has a sound range, the run meets its guess by the end of that range. Otherwise no meeting is promised. A
+//!   guess that locks at a false phase may never be met, and then a seam or a join reads its whole piece.
+//! - A run takes memory for its spans, each of some hundred items. A seam and a join copy those that they take over.
 //!
-//! # What it leaves to others
+//! # Left to others
 //!
-//! Who runs the pieces and the joins, and where: the crates above are lent a [`Work`], which is their only
-//! way to the bits. The report's items are decoded when recording and rules are lent again: see
-//! [`Items`](rds_sync::Items).
+//! The crates above decide which thread runs which piece and join. They are lent a [`Work`], which is their only way to
+//! the bits. The report's items are decoded when recording and rules are lent again: see [`Items`](rds_sync::Items).
 #![tactic(auto)]
 
 // In the order of reading: a piece and its guess, the way along a guess, and its uses.
 mod cutting; // Where a recording is cut.
 mod run; // The guess of a range of places, and how a piece is guessed.
 mod beside; // A run and its guess, side by side.
-mod mark; // Where another run may meet one.
-mod marks; // All such places of a guess.
+mod mark; // One mark of a run.
+mod marks; // The marks of a guess, one after the other.
 mod seams; // The items and totals of a piece, from the state before it.
-mod seaming; // That state carried over the piece.
+mod seaming; // `seam`, which makes them.
 mod joining; // Two neighbours joined.
 mod stitching; // The report of runs in a row.
-mod work; // All of these over one recording, for who runs them.
+mod work; // The calls above for one recording, one set of rules and one cutting.
 pub mod laws; // The laws of pieces themselves.
 mod error; // Why a call refuses.
 

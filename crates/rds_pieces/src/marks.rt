@@ -4,8 +4,8 @@ ghost use Rattle.rds_stream.specs.Recording.{length_of};
 ghost use Rattle.rds_sync.specs.Advance.{items_in};
 ghost use Rattle.rds_sync.specs.Lawful.{IsLawful};
 ghost use Rattle.std.specs.Iterator.{YieldsFirst, item_count};
-ghost use Rattle.rds_pieces.specs.Inside.MarkInside.{IsMarkIn};
-ghost use Rattle.rds_pieces.specs.Marks.{marks_of, marks_on};
+ghost use Rattle.rds_pieces.specs.Inside.MarkInside.{IsMarkIn, marks_on};
+ghost use Rattle.rds_pieces.specs.Marks.{marks_of};
 
 use crate::laws::run_laws;
 use crate::mark::Mark;
@@ -30,8 +30,7 @@ impl<'a> Model for Marks<'a> {
     ghost use Rattle.std.specs.Prelude.{List, [], ◌∷◌, ◌-◌, ◌≤◌, None, Some, IfSome};
     ghost use Rattle.rds_stream.specs.Recording.{length_of};
     ghost use Rattle.rds_pieces.specs.declared.mark.Mark.{Mark};
-    ghost use Rattle.rds_pieces.specs.Inside.MarkInside.{IsMarkIn};
-    ghost use Rattle.rds_pieces.specs.Marks.{marks_on};
+    ghost use Rattle.rds_pieces.specs.Inside.MarkInside.{IsMarkIn, marks_on};
 
     ghost Value = { List Mark };
 
@@ -50,6 +49,7 @@ impl<'a> Marks<'a> {
         requires within { to ≤ length_of rec.now }
         ensures { result ≡ marks_of rec.now rules.now State.Searching from (to - from) }
     {
+        run_laws();
         let first = Mark {
             place: from,
             state: State::Searching,

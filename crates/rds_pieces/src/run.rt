@@ -91,7 +91,7 @@ impl PieceRun {
         (self.from, self.to)
     }
 
-    /// The items that the bits of the piece give, in order of place, of the recording and by the rules that it is of.
+    /// The items that the bits of the piece give, in order, of the recording and by the rules that it is of.
     pub fn items<'a>(&'a self, rec: &'a Recording, rules: &'a Rules) -> ItemIter<'a>
         requires source { self.now.source ≡ rec.now }
         requires rules { self.now.rules ≡ rules.now }

@@ -4,7 +4,7 @@ use rds_sync::{Items, State, Totals};
 /// The items, totals and end state of a piece, from the state that was handed in.
 #[derive(Drop)]
 pub struct Seam {
-    /// The items that the bits of the piece give, in order of place: those before the meeting, and the guess's own from
+    /// The items that the bits of the piece give, in order: those before the meeting, and the guess's own from
     /// there on.
     pub items: Items,
     /// The totals of these items.

@@ -7,7 +7,7 @@ use Rattle.std.specs.Int.Count.{ones, ones_step}
 use Rattle.std.specs.Prelude.{count_ones, ⊤}
 use Rattle.rds_sync.specs.declared.loss.Loss.{Loss}
 use Rattle.rds_sync.specs.declared.loss.Loss.TheVariants.{Run, Share}
-use Rattle.rds_sync.specs.Loss.{IsLoss, IsLawfulBad, bad_after, are_too_many}
+use Rattle.rds_sync.specs.Loss.{IsLossRule, IsLawfulBad, bad_after, are_too_many}
 use Rattle.rds_sync.specs.Convergence.{sound_blocks}
 use Rattle.rds_sync.specs.Inside.Outcomes.{bad_over}
 use Rattle.rds_sync.specs.Inside.Words.{blocks_in}
@@ -89,7 +89,7 @@ pub needed_is : (loss : Loss) (j : ℕ) → (j + 1) * needed loss + 6 ≤ sound_
 needed_is (Run n) j = omega arith
 needed_is (Share n v) j = omega arith
 
-pub memory_is : (loss : Loss) (j : ℕ) → IsLoss loss → memory loss + 6 ≤ sound_blocks loss j
+pub memory_is : (loss : Loss) (j : ℕ) → IsLossRule loss → memory loss + 6 ≤ sound_blocks loss j
 memory_is (Run n) j h = let more : 1 * n ≤ (j + 1) * n = mul-le-mul_right n (omega arith) in omega (arith, more, h)
 memory_is (Share n v) j h = omega arith
 
@@ -106,7 +106,7 @@ pub row_short : (loss : Loss) (bad r : ℕ) → IsLawfulBad loss bad → HasRow 
 row_short (Run n) row r h l = omega (arith, h, l)
 row_short (Share n v) m r h l = omega (arith, h.1, lows_ones r m l)
 
-pub row_grows : (loss : Loss) (bad r : ℕ) → IsLoss loss → IsLawfulBad loss bad → HasRow loss bad r → HasRow loss (bad_after loss false bad) (suc r)
+pub row_grows : (loss : Loss) (bad r : ℕ) → IsLossRule loss → IsLawfulBad loss bad → HasRow loss bad r → HasRow loss (bad_after loss false bad) (suc r)
 row_grows (Run n) row r some h l = omega (arith, l)
 row_grows (Share n v) m r some h l =
     let short : r < n = row_short (Share n v) m r h l in

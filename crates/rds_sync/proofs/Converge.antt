@@ -11,14 +11,14 @@ use Rattle.rds_sync.specs.declared.lock.Lock.{Lock}
 use Rattle.rds_sync.specs.declared.state.State.{State}
 use Rattle.rds_sync.specs.declared.state.State.TheVariants.{Searching, Locked}
 use Rattle.rds_sync.specs.Rules.{RuleNumbers}
-use Rattle.rds_sync.specs.Loss.{IsLoss, IsLawfulBad, bad_after, are_too_many}
+use Rattle.rds_sync.specs.Loss.{IsLossRule, IsLawfulBad, bad_after, are_too_many}
 use Rattle.rds_sync.proofs.LossLemmas.{lawful_none, lawful_kept}
 use Rattle.rds_sync.proofs.BadRows.{good_keeps, needed, memory, needed_is, memory_is, HasRow, row_zero, row_short, row_grows, IsClean, clean_zero, clean_none, clean_more, clean_is}
 use Rattle.rds_sync.specs.Lawful.{IsLawful}
 use Rattle.rds_code.specs.declared.offset.Offset.{Offset}
 use Rattle.rds_code.specs.Offsets.{number}
 use Rattle.rds_sync.specs.Acquiring.{acquired, has_number, has_partner, with_partner}
-use Rattle.rds_sync.specs.Step.{run, step, bad_with, lock_of, lock_after}
+use Rattle.rds_sync.specs.Step.{run, step, history_after_block, lock_of, lock_after}
 use Rattle.rds_sync.specs.Convergence.{IsSound, IsLastFour, sound_blocks, SoundRangesHaveFours, RunsConverge}
 use Rattle.rds_sync.proofs.RivalLemmas.{every_26, few_in_phase}
 use Rattle.rds_sync.proofs.RunLemmas.{step-waiting, step-keeping, step-losing, step-searching, step-acquiring}
@@ -54,10 +54,10 @@ module _ (b : Signal) (rules : RuleNumbers) where
   LostBy s a limit = (m : ℕ) × (m ≤ limit) × (after s a m ≡ Searching)
 
   -- a block that is read with no loss
-  next_block : (due num bad f bad2 : ℕ) → bad_with b rules due num bad ≡ bad2 → are_too_many rules.loss bad2 ≡ false
+  next_block : (due num bad f bad2 : ℕ) → history_after_block b rules due num bad ≡ bad2 → are_too_many rules.loss bad2 ≡ false
       → after (Locked (lock_of due num bad f)) due 26 ≡ Locked (lock_after due num bad2 f)
   next_block due num bad f bad2 e h =
-      let ok : are_too_many rules.loss (bad_with b rules due num bad) ≡ false = ap (are_too_many rules.loss) e ∙ h in
+      let ok : are_too_many rules.loss (history_after_block b rules due num bad) ≡ false = ap (are_too_many rules.loss) e ∙ h in
       ap (λ (s : State). after s (due + 1) 25) (step-keeping b rules (lock_of due num bad f) ok ∙ ap (λ (n : ℕ). Locked (lock_after due num n f)) e)
       ∙ waits (lock_after due num bad2 f) (due + 1) 25 (omega arith)
 
@@ -65,7 +65,7 @@ module _ (b : Signal) (rules : RuleNumbers) where
   later s t a m limit e l = (m + l.0, omega (arith, l.1), after_more s a m l.0 ∙ ap (λ (u : State). after u (a + m) l.0) e ∙ l.2)
 
   -- a lock with few good blocks is lost: there are as many bad ones in a row as lose it
-  loses : IsLoss rules.loss → (n due num bad f r : ℕ) → IsLawfulBad rules.loss bad → HasRow rules.loss bad r
+  loses : IsLossRule rules.loss → (n due num bad f r : ℕ) → IsLawfulBad rules.loss bad → HasRow rules.loss bad r
       → (good_blocks due num n + 1) * needed rules.loss ≤ r + n → LostBy (Locked (lock_of due num bad f)) due (26 * n)
   loses some zero due num bad f r h in_row few = let short = row_short rules.loss bad r h in_row in absurd (omega arith)
   loses some (suc n) due num bad f r h in_row few =
@@ -73,7 +73,7 @@ module _ (b : Signal) (rules : RuleNumbers) where
       let short : r < needed rules.loss = row_short rules.loss bad r h in_row in
       elim (cases_Bool (has_number b due num)) [
         | inl good ↦
-            let next : bad_with b rules due num bad ≡ bad_after rules.loss true bad = ap (λ (g : Bool). bad_after rules.loss g bad) good in
+            let next : history_after_block b rules due num bad ≡ bad_after rules.loss true bad = ap (λ (g : Bool). bad_after rules.loss g bad) good in
             let kept = good_keeps rules.loss bad h in
             let count : good_blocks due num (suc n) ≡ 1 + good_blocks (due + 26) (num % 4 + 1) n = rw good refl in
             let fewer : (good_blocks (due + 26) (num % 4 + 1) n + 1) * needed rules.loss ≤ 0 + n = omega (arith, rw count at few) in
@@ -81,7 +81,7 @@ module _ (b : Signal) (rules : RuleNumbers) where
             (loses some n (due + 26) (num % 4 + 1) (bad_after rules.loss true bad) (cond (num == 4) 1 f) 0
             (lawful_kept rules.loss bad true h kept) (row_zero rules.loss (bad_after rules.loss true bad)) fewer))
         | inr ill ↦
-            let next : bad_with b rules due num bad ≡ bad_after rules.loss false bad = ap (λ (g : Bool). bad_after rules.loss g bad) ill in
+            let next : history_after_block b rules due num bad ≡ bad_after rules.loss false bad = ap (λ (g : Bool). bad_after rules.loss g bad) ill in
             let count : good_blocks due num (suc n) ≡ 0 + good_blocks (due + 26) (num % 4 + 1) n = rw ill refl in
             let fewer : (good_blocks (due + 26) (num % 4 + 1) n + 1) * needed rules.loss ≤ suc r + n = omega (arith, rw count at few) in
             elim (cases_Bool (are_too_many rules.loss (bad_after rules.loss false bad))) [
@@ -156,14 +156,14 @@ module _ (b : Signal) (rules : RuleNumbers) where
     stays zero k bad f r h clean long within four =
         let num : number_after c k ≡ 4 = rw add-zero at four in
         let good = sequence k (omega arith) in
-        let next : bad_with b rules (p + 26 * k) (number_after c k) bad ≡ bad_after rules.loss true bad = ap (λ (g : Bool). bad_after rules.loss g bad) good in
+        let next : history_after_block b rules (p + 26 * k) (number_after c k) bad ≡ bad_after rules.loss true bad = ap (λ (g : Bool). bad_after rules.loss g bad) good in
         let kept = good_keeps rules.loss bad h in
         let none : bad_after rules.loss true bad ≡ 0 =
         clean_is rules.loss (bad_after rules.loss true bad) (suc r) (lawful_kept rules.loss bad true h kept) (omega arith) (clean_more rules.loss bad r clean) in
         rw add-zero (step-keeping b rules (lock_of (p + 26 * k) (number_after c k) bad f) (ap (are_too_many rules.loss) next ∙ kept) ∙ rw (next, none, num) refl)
     stays (suc d) k bad f r h clean long within four =
         let good = sequence k (omega arith) in
-        let next : bad_with b rules (p + 26 * k) (number_after c k) bad ≡ bad_after rules.loss true bad = ap (λ (g : Bool). bad_after rules.loss g bad) good in
+        let next : history_after_block b rules (p + 26 * k) (number_after c k) bad ≡ bad_after rules.loss true bad = ap (λ (g : Bool). bad_after rules.loss g bad) good in
         let kept = good_keeps rules.loss bad h in
         let place : p + 26 * k + 26 ≡ p + 26 * suc k = omega arith in
         let count : 26 * suc d + 1 ≡ 26 + (26 * d + 1) = omega arith in
@@ -175,7 +175,7 @@ module _ (b : Signal) (rules : RuleNumbers) where
 
 module _ (b : Signal) (rules : RuleNumbers) (p c last : ℕ) (sequence : (k : ℕ) → k ≤ last → has_number b (p + 26 * k) (number_after c k) ≡ true) where
   -- a search that finds block k of the sequence is between two groups after the last block, which has number 4
-  search_joins : (d q k : ℕ) → IsLoss rules.loss → p + 26 * k ≡ q + d → k ≤ last → number_after c last ≡ 4
+  search_joins : (d q k : ℕ) → IsLossRule rules.loss → p + 26 * k ≡ q + d → k ≤ last → number_after c last ≡ 4
       → ((r : ℕ) → q ≤ r → r < q + d → acquired b rules r ≡ None) → acquired b rules (q + d) ≡ Some (number_after c k)
       → after b rules Searching q (p + 26 * last + 1 - q) ≡ Locked (lock_of (p + 26 * last + 26) 1 0 1)
   search_joins d q k loss place within four none found =
@@ -216,7 +216,7 @@ module _ (b : Signal) (rules : RuleNumbers) (p c last : ℕ) (sequence : (k : �
       rw (up, place) (acquires b rules (p + 26 * j) (number_after c (suc j)) (number_after c j) reach here (sequence j (omega arith)) (omega arith))
 
   -- a search on a sound range that begins before its second block is between two groups after the last block
-  search_on : (q : ℕ) → IsLoss rules.loss → 1 ≤ rules.reach → (1 ≤ c) × (c ≤ 4) → number_after c last ≡ 4 → 1 ≤ last → q ≤ p + 26 * last
+  search_on : (q : ℕ) → IsLossRule rules.loss → 1 ≤ rules.reach → (1 ≤ c) × (c ≤ 4) → number_after c last ≡ 4 → 1 ≤ last → q ≤ p + 26 * last
       → ((r : ℕ) → q ≤ r → r < p + 26 * last → ((k : ℕ) → r ≢ p + 26 * k) → acquired b rules r ≡ None)
       → after b rules Searching q (p + 26 * last + 1 - q) ≡ Locked (lock_of (p + 26 * last + 26) 1 0 1)
   search_on q loss reach range four some within quiet = elim (cases_lt p q) [
@@ -297,7 +297,7 @@ module _ (b : Signal) (rules : RuleNumbers) where
   ]
 
   -- from any lawful state, a run on a sound range is between two groups after the last block of number 4
-  module _ (j s p c last : ℕ) (sound : IsSound b rules j s p c) (loss : IsLoss rules.loss) (reach : 1 ≤ rules.reach)
+  module _ (j s p c last : ℕ) (sound : IsSound b rules j s p c) (loss : IsLossRule rules.loss) (reach : 1 ≤ rules.reach)
       (four : number_after c last ≡ 4) (in_range : p + 26 * last < s + 26 * sound_blocks rules.loss j) (is_last : s + 26 * sound_blocks rules.loss j ≤ p + 26 * (last + 4)) where
     seq : (k : ℕ) → k ≤ last → has_number b (p + 26 * k) (number_after c k) ≡ true
     seq k h = sound.sequence.numbers k (omega arith)

@@ -12,15 +12,15 @@ use Rattle.rds_sync.specs.Inside.Due.{state_of, IsKept, IsAfter}
 use Rattle.rds_sync.specs.Groups.{group}
 use Rattle.rds_sync.specs.Loss.{bad_after, are_too_many}
 use Rattle.rds_sync.specs.Rules.{RuleNumbers}
-use Rattle.rds_sync.specs.Step.{step, items_at, group_after, lock_of, lock_after}
+use Rattle.rds_sync.specs.Step.{step, items_at, completed_group, lock_of, lock_after}
 use Rattle.rds_sync.proofs.RunLemmas.{step-keeping, items-keeping, step-losing, items-losing}
 
-pub group_after-inside : (b : Signal) (rules : RuleNumbers) (first number due : ℕ) → number < 4 → group_after b rules first number due ≡ []
-group_after-inside b rules first number due inside = rw (ne_eqb number 4 (λ e. omega arith), group_after) refl
+pub completed_group-inside : (b : Signal) (rules : RuleNumbers) (first number due : ℕ) → number < 4 → completed_group b rules first number due ≡ []
+completed_group-inside b rules first number due inside = rw (ne_eqb number 4 (λ e. omega arith), completed_group) refl
 
-pub group_after-four : (b : Signal) (rules : RuleNumbers) (first number due : ℕ) → number ≡ 4
-    → group_after b rules first number due ≡ Group (group b rules first number due) ∷ []
-group_after-four b rules first number due four = rw (eq-eqb number 4 four, group_after) refl
+pub completed_group-four : (b : Signal) (rules : RuleNumbers) (first number due : ℕ) → number ≡ 4
+    → completed_group b rules first number due ≡ Group (group b rules first number due) ∷ []
+completed_group-four b rules first number due four = rw (eq-eqb number 4 four, completed_group) refl
 
 module _ (b : Signal) (rules : RuleNumbers) (lock : Lock) (good : Bool) (good_is : good ≡ has_number b lock.due lock.number) where
   -- whether the lock is lost, by whether its block is good
@@ -36,7 +36,7 @@ module _ (b : Signal) (rules : RuleNumbers) (lock : Lock) (good : Bool) (good_is
       ∙ ap (λ (lock : Lock). Locked lock) (sym kept.next_is)
 
   pub items-kept : (next : Lock) → IsKept rules.loss lock good next
-      → items_at b rules lock.due (Locked lock) ≡ group_after b rules lock.first lock.number lock.due
+      → items_at b rules lock.due (Locked lock) ≡ completed_group b rules lock.first lock.number lock.due
   items-kept next kept = items-keeping b rules lock (too_many false kept.few_bad)
 
   -- the block was read, and the lock is lost
@@ -55,11 +55,11 @@ module _ (b : Signal) (rules : RuleNumbers) (lock : Lock) (good : Bool) (good_is
 
   -- and its items are those of the step
   pub items-inside : (next : Lock) → IsAfter rules.loss lock good (Inside next) → items_at b rules lock.due (Locked lock) ≡ []
-  items-inside next after = items-kept next after.1 ∙ group_after-inside b rules lock.first lock.number lock.due after.0
+  items-inside next after = items-kept next after.1 ∙ completed_group-inside b rules lock.first lock.number lock.due after.0
 
   pub items-closed : (next : Lock) → IsAfter rules.loss lock good (Closed next)
       → items_at b rules lock.due (Locked lock) ≡ Group (group b rules lock.first lock.number lock.due) ∷ []
-  items-closed next after = items-kept next after.1 ∙ group_after-four b rules lock.first lock.number lock.due after.0
+  items-closed next after = items-kept next after.1 ∙ completed_group-four b rules lock.first lock.number lock.due after.0
 
 -- the lock goes on inside its group, with the block after
 pub kept-next : (lock next : Lock) (bad : ℕ) → lock.number < 4 → next ≡ lock_after lock.due lock.number bad lock.first

@@ -1,6 +1,6 @@
 -- The blocks of a group of which all four were heard, and its word.
 use Rattle.std.proofs.Common.{◌≡◌, ◌+◌, ◌-◌, ◌*◌, ◌≤◌, ℕ, List, [], ◌∷◌, Option, None, get_or, map, refl, sym, ap, ◌∙◌, arith}
-use Rattle.rds_code.specs.Kinds.{kind_of}
+use Rattle.rds_code.specs.Outcomes.{outcome_number}
 use Rattle.rds_code.specs.declared.reading.Wanted.{Wanted}
 use Rattle.rds_code.specs.declared.reading.Wanted.TheVariants.{Either}
 use Rattle.rds_code.specs.declared.reading.Reading.{Reading}
@@ -40,14 +40,14 @@ heard-blocks b rules due hs is wanted one two three four is_one is_two beside is
     ∙ ap (λ (w : Wanted). block_at b rules 1 4 (due + 78) w 3) beside)
     (read-there b rules due (due + 78) 4 Either four (omega arith) (omega arith) (omega arith) fourth)
 
--- the kind of a reading is the four bits of its block
-pub kind-nibble : (r : Reading) → kind_of r ≡ nibble (outcome_of (Read r))
-kind-nibble (Valid o info) = refl
-kind-nibble (Corrected o info e) = refl
-kind-nibble Lost = refl
+-- the outcome of a reading is the four bits of its block
+pub outcome-nibble : (r : Reading) → outcome_number r ≡ nibble (outcome_of (Read r))
+outcome-nibble (Valid o info) = refl
+outcome-nibble (Corrected o info e) = refl
+outcome-nibble Lost = refl
 
--- four kinds are a word
-pub word-of-kinds : (one two three four : Reading) (k l m n w : ℕ) → k ≡ kind_of one → l ≡ nibble (outcome_of (Read two)) → m ≡ kind_of three → n ≡ kind_of four
+-- four outcomes are a word
+pub word-of-outcomes : (one two three four : Reading) (k l m n w : ℕ) → k ≡ outcome_number one → l ≡ outcome_number two → m ≡ outcome_number three → n ≡ outcome_number four
     → w ≡ k + 16 * (l + 16 * (m + 16 * n)) → w ≡ word_of_blocks (map outcome_of (Read one ∷ Read two ∷ Read three ∷ Read four ∷ []))
-word-of-kinds one two three four k l m n w first second third fourth is =
-    omega (arith, is, first ∙ kind-nibble one, second, third ∙ kind-nibble three, fourth ∙ kind-nibble four)
+word-of-outcomes one two three four k l m n w first second third fourth is =
+    omega (arith, is, first ∙ outcome-nibble one, second ∙ outcome-nibble two, third ∙ outcome-nibble three, fourth ∙ outcome-nibble four)

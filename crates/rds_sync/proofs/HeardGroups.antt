@@ -1,12 +1,14 @@
 -- Whole groups that were heard at once.
-use Rattle.std.proofs.Common.{◌≡◌, ◌+◌, ◌-◌, ◌*◌, ◌<◌, ◌≤◌, ℕ, zero, suc, List, [], ◌∷◌, Bool, false, map, refl, sym, ap, ap₂, subst, ◌∙◌, arith}
+use Rattle.std.proofs.Common.{◌≡◌, ◌+◌, ◌-◌, ◌*◌, ◌<◌, ◌≤◌, ℕ, zero, suc, List, [], ◌∷◌, ◌++◌, Bool, false, map, refl, sym, ap, ap₂, subst, ◌∙◌, arith}
 use Rattle.rds_stream.specs.Recording.{Signal}
 use Rattle.rds_sync.specs.declared.item.Block.{Block}
 use Rattle.rds_sync.specs.declared.item.Group.{Group}
+use Rattle.rds_sync.specs.declared.item.Item.{Item}
+use Rattle.rds_sync.specs.declared.item.Item.TheVariants.{Group as GroupItem}
 use Rattle.rds_sync.specs.declared.loss.Loss.{Loss}
 use Rattle.rds_sync.specs.Groups.{blocks_at, group, group_of}
 use Rattle.rds_sync.specs.Inside.Outcomes.{Outcome, was_valid, outcome_of, bad_over}
-use Rattle.rds_sync.specs.Inside.WholeGroups.{IsWhole, outcomes_at}
+use Rattle.rds_sync.specs.Inside.WholeGroups.{HasPushed, IsWhole, outcomes_at}
 use Rattle.rds_sync.specs.Loss.{IsLawfulBad, are_too_many, bad_after}
 use Rattle.rds_sync.specs.Rules.{RuleNumbers}
 use Rattle.rds_sync.specs.Totals.{is_valid}
@@ -35,6 +37,14 @@ whole-is b rules due loss place bs os before after given late place_is bs_are os
       few = subst (λ (outcomes : List Outcome). (k : ℕ) → k < 4 → are_too_many rules.loss (bad_over rules.loss outcomes before 1 (k + 1)) ≡ false) os_are
           (subst (λ (l : Loss). (k : ℕ) → k < 4 → are_too_many l (bad_over l os before 1 (k + 1)) ≡ false) loss_is kept);
     }
+
+-- that group, appended
+pub pushed-is : (b : Signal) (rules : RuleNumbers) (due before after : ℕ) (given : Group) (items more : List Item)
+    → IsWhole b rules due before given after → more ≡ items ++ GroupItem given ∷ [] → HasPushed b rules due before items more after
+pushed-is b rules due before after given items more whole is = (
+  record { given_is = refl; bad_is = whole.bad_is; lawful = whole.lawful; few = whole.few },
+  is ∙ ap (λ (g : Group). items ++ GroupItem g ∷ []) whole.given_is,
+)
 
 -- the loss history after each of these four
 module _ (loss : Loss) (bs : List Block) (a b c d : Block) (are : bs ≡ a ∷ b ∷ c ∷ d ∷ []) (g h i j : Bool) (bad one two three four : ℕ)

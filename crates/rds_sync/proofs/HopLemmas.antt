@@ -10,7 +10,7 @@ use Rattle.rds_sync.specs.Acquiring.{acquired}
 use Rattle.rds_sync.specs.Hop.{mark, IsHop}
 use Rattle.rds_sync.specs.Lawful.{IsLawful, IsLawfulLock, IsBetweenGroups}
 use Rattle.rds_sync.specs.Laws.{ItemsMarkChanges}
-use Rattle.rds_sync.specs.Loss.{IsLoss}
+use Rattle.rds_sync.specs.Loss.{IsLossRule}
 use Rattle.rds_sync.specs.Rules.{RuleNumbers}
 use Rattle.rds_sync.specs.Step.{run, step, items_at}
 use Rattle.rds_sync.proofs.LawfulLemmas.{lawful-step}
@@ -45,7 +45,7 @@ same_state (Locked lock) (Locked lock2) = elim (cases_eq lock.due lock2.due) [
   ]
 ]
 
-module _ (changes : ItemsMarkChanges) (b : Signal) (rules : RuleNumbers) (some : IsLoss rules.loss) where
+module _ (changes : ItemsMarkChanges) (b : Signal) (rules : RuleNumbers) (some : IsLossRule rules.loss) where
   between_same : (s : State) (a n : ℕ) → IsLawful rules a s → (run b rules s a n).1 ≡ [] → IsBetweenGroups (run b rules s a n).0 → (run b rules s a n).0 ≡ s
   between_same s a zero lawful none between = refl
   between_same s a (suc n) lawful none between =

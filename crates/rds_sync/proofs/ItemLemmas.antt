@@ -3,9 +3,9 @@ use Rattle.std.proofs.Common.{◌≡◌, ◌≢◌, ℕ, zero, suc, ◌+◌, ◌
 use Rattle.std.proofs.lemmas.Bool.{eq-eqb, ne_eqb, cases_Bool, cases_eq}
 use Rattle.rds_stream.specs.Recording.{Signal, length_of}
 use Rattle.rds_sync.specs.Acquiring.{acquired}
-use Rattle.rds_sync.specs.Loss.{IsLoss, are_too_many}
+use Rattle.rds_sync.specs.Loss.{IsLossRule, are_too_many}
 use Rattle.rds_sync.specs.Report.{report_items}
-use Rattle.rds_sync.specs.Step.{bad_with, step, run, items_at, items_of_end, group_after}
+use Rattle.rds_sync.specs.Step.{history_after_block, step, run, items_at, items_of_end, completed_group}
 use Rattle.rds_sync.specs.declared.item.Item.{Item}
 use Rattle.rds_sync.specs.declared.state.State.{State}
 use Rattle.rds_sync.specs.declared.state.State.TheVariants.{Searching, Locked}
@@ -19,14 +19,14 @@ items_at-few b rules i Searching = at_case (acquired b rules i) refl where
   at_case : (w : Option ℕ) → acquired b rules i ≡ w → length (items_at b rules i Searching) ≤ 2
   at_case None e = rw (items-searching b rules i e) (omega arith)
   at_case (Some x) e = rw (items-acquiring b rules i x e) (elim (cases_eq x 4) [
-    | inl four ↦ rw (eq-eqb x 4 four, group_after) (omega arith)
-    | inr fewer ↦ rw (ne_eqb x 4 fewer, group_after) (omega arith)
+    | inl four ↦ rw (eq-eqb x 4 four, completed_group) (omega arith)
+    | inr fewer ↦ rw (ne_eqb x 4 fewer, completed_group) (omega arith)
   ])
 items_at-few b rules i (Locked lock) = elim (cases_eq lock.due i) [
-  | inl same ↦ rw (← same) (elim (cases_Bool (are_too_many rules.loss (bad_with b rules lock.due lock.number lock.bad))) [
+  | inl same ↦ rw (← same) (elim (cases_Bool (are_too_many rules.loss (history_after_block b rules lock.due lock.number lock.bad))) [
     | inr few ↦ rw (items-keeping b rules lock few) (elim (cases_eq lock.number 4) [
-      | inl four ↦ rw (eq-eqb lock.number 4 four, group_after) (omega arith)
-      | inr fewer ↦ rw (ne_eqb lock.number 4 fewer, group_after) (omega arith)
+      | inl four ↦ rw (eq-eqb lock.number 4 four, completed_group) (omega arith)
+      | inr fewer ↦ rw (ne_eqb lock.number 4 fewer, completed_group) (omega arith)
     ])
     | inl many ↦ rw (items-losing b rules lock many) (omega arith)
   ])
@@ -49,7 +49,7 @@ pub some_given : (given : List Item) (item : Item) (others : List Item) → give
 some_given given item others is none = cc
 
 -- the items of a run over a whole recording, with those of its end
-pub report-run : (b : Signal) (rules : RuleNumbers) (n : ℕ) (s : State) (items : List Item) → IsLoss rules.loss → n ≡ length_of b
+pub report-run : (b : Signal) (rules : RuleNumbers) (n : ℕ) (s : State) (items : List Item) → IsLossRule rules.loss → n ≡ length_of b
     → s ≡ (run b rules Searching 0 (n - 0)).0 → items ≡ (run b rules Searching 0 (n - 0)).1
     → items ++ items_of_end b rules s ≡ report_items b rules
 report-run b rules n s items loss whole state_is items_are =

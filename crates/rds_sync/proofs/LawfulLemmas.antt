@@ -12,10 +12,10 @@ use Rattle.rds_sync.specs.declared.lock.Lock.{Lock}
 use Rattle.rds_sync.specs.declared.state.State.{State}
 use Rattle.rds_sync.specs.declared.state.State.TheVariants.{Searching, Locked}
 use Rattle.rds_sync.specs.Rules.{RuleNumbers}
-use Rattle.rds_sync.specs.Loss.{IsLoss, IsLawfulBad, are_too_many}
+use Rattle.rds_sync.specs.Loss.{IsLossRule, IsLawfulBad, are_too_many}
 use Rattle.rds_sync.specs.Acquiring.{acquired, has_number, has_partner, is_numbered, with_partner}
 use Rattle.rds_sync.specs.Lawful.{IsLawful, IsLawfulLock}
-use Rattle.rds_sync.specs.Step.{run, step, bad_with, lock_of, lock_after}
+use Rattle.rds_sync.specs.Step.{run, step, history_after_block, lock_of, lock_after}
 use Rattle.rds_sync.proofs.LossLemmas.{lawful_none, lawful_kept}
 use Rattle.rds_sync.proofs.RunLemmas.{step-acquiring, step-searching, step-waiting, step-keeping, step-losing}
 
@@ -140,7 +140,7 @@ lawful-numbers rules place lock lawful =
 
 module _ (b : Signal) (rules : RuleNumbers) where
   -- one bit leads from a lawful state to a lawful state
-  pub lawful-step : IsLoss rules.loss → (i : ℕ) (s : State) → IsLawful rules i s → IsLawful rules (i + 1) (step b rules i s)
+  pub lawful-step : IsLossRule rules.loss → (i : ℕ) (s : State) → IsLawful rules i s → IsLawful rules (i + 1) (step b rules i s)
   lawful-step loss i Searching lawful = at_case (acquired b rules i) refl where
     at_case : (w : Option ℕ) → acquired b rules i ≡ w → IsLawful rules (i + 1) (step b rules i Searching)
     at_case None e = subst (λ (t : State). IsLawful rules (i + 1) t) (sym (step-searching b rules i e)) tt
@@ -151,7 +151,7 @@ module _ (b : Signal) (rules : RuleNumbers) where
         (lawful-lock_after rules i x 0 x (lawful_none rules.loss loss) p (omega arith) (omega (arith, r)) (omega arith) (omega (arith, r)))
   lawful-step loss i (Locked lock) lawful = elim (cases_eq lock.due i) [
     | inl same ↦
-        let bad : ℕ = bad_with b rules lock.due lock.number lock.bad in
+        let bad : ℕ = history_after_block b rules lock.due lock.number lock.bad in
         let n = lawful-numbers rules i lock lawful in
         subst (λ (p : ℕ). IsLawful rules (p + 1) (step b rules p (Locked lock))) same
         (elim (cases_Bool (are_too_many rules.loss bad)) [
@@ -167,14 +167,14 @@ module _ (b : Signal) (rules : RuleNumbers) where
   ]
 
   -- a run leads from a lawful state to a lawful state
-  pub lawful-run : IsLoss rules.loss → (s : State) (a n : ℕ) → IsLawful rules a s → IsLawful rules (a + n) (run b rules s a n).0
+  pub lawful-run : IsLossRule rules.loss → (s : State) (a n : ℕ) → IsLawful rules a s → IsLawful rules (a + n) (run b rules s a n).0
   lawful-run loss s a zero lawful = let e : a ≡ a + 0 = omega arith in subst (λ (p : ℕ). IsLawful rules p s) e lawful
   lawful-run loss s a (suc n) lawful =
       let e : a + 1 + n ≡ a + suc n = omega arith in
       subst (λ (p : ℕ). IsLawful rules p (run b rules (step b rules a s) (a + 1) n).0) e
       (lawful-run loss (step b rules a s) (a + 1) n (lawful-step loss a s lawful))
 
-  pub lawful-run_places : IsLoss rules.loss → (s : State) (from to : ℕ) → from ≤ to → IsLawful rules from s → IsLawful rules to (run b rules s from (to - from)).0
+  pub lawful-run_places : IsLossRule rules.loss → (s : State) (from to : ℕ) → from ≤ to → IsLawful rules from s → IsLawful rules to (run b rules s from (to - from)).0
   lawful-run_places loss s from to order lawful =
       let e : from + (to - from) ≡ to = omega arith in
       subst (λ (p : ℕ). IsLawful rules p (run b rules s from (to - from)).0) e (lawful-run loss s from (to - from) lawful)
@@ -191,7 +191,7 @@ lawful-waiting rules place later lock lawful order before =
     record { soon = (before, omega (arith, soon.1)); late = lawful.late; few_bad = lawful.few_bad; enough_bits = lawful.enough_bits; in_order = lawful.in_order }
 
 -- the state after the block that is due is lawful
-pub lawful-due : (b : Signal) (rules : RuleNumbers) (place : ℕ) (lock : Lock) → IsLoss rules.loss → IsLawfulLock rules place lock
+pub lawful-due : (b : Signal) (rules : RuleNumbers) (place : ℕ) (lock : Lock) → IsLossRule rules.loss → IsLawfulLock rules place lock
     → IsLawful rules (lock.due + 1) (step b rules lock.due (Locked lock))
 lawful-due b rules place lock loss lawful =
     lawful-step b rules loss lock.due (Locked lock) (lawful-waiting rules place lock.due lock lawful lawful.soon.0 (omega arith))

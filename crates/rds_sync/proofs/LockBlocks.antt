@@ -13,7 +13,7 @@ use Rattle.rds_sync.specs.Rules.{RuleNumbers}
 use Rattle.rds_sync.specs.Groups.{group}
 use Rattle.rds_sync.specs.Loss.{are_too_many, bad_at}
 use Rattle.rds_sync.specs.Report.{is_good, loses_at, first_of_group}
-use Rattle.rds_sync.specs.Step.{items_of_end, group_after, lock_of, lock_after}
+use Rattle.rds_sync.specs.Step.{items_of_end, completed_group, lock_of, lock_after}
 use Rattle.rds_sync.proofs.LossLemmas.{loses_is}
 use Rattle.rds_sync.proofs.RunLemmas.{items-keeping, step-keeping, items-losing, step-losing}
 use Rattle.rds_sync.proofs.WholeRuns.{whole, goes, skip, skip_to_end}
@@ -51,7 +51,7 @@ module _ (b : Signal) (rules : RuleNumbers) (a x : ℕ) where
   G k = Group (group b rules (first_of_group b rules a x k) (number_after x k) (a + 26 * k))
 
   abbrev pub closes : ℕ → List Item
-  closes k = group_after b rules (first_of_group b rules a x k) (number_after x k) (a + 26 * k)
+  closes k = completed_group b rules (first_of_group b rules a x k) (number_after x k) (a + 26 * k)
 
   first_next : 1 ≤ x → (k : ℕ) → cond (number_after x k == 4) 1 (first_of_group b rules a x k) ≡ first_of_group b rules a x (suc k)
   first_next low k = elim (cases_lt (x + k) 4) [
@@ -94,14 +94,14 @@ module _ (b : Signal) (rules : RuleNumbers) (a x : ℕ) where
   pub last_group : 1 ≤ x → (k : ℕ) → closes k ++ items_of_end b rules (S k) ≡ G k ∷ []
   last_group low k = elim (cases_eq (number_after x k) 4) [
     | inl four ↦ let next : number_after x (suc k) ≡ 1 = omega (arith, number_next k) in
-        rw (eq-eqb (number_after x k) 4 four, next, group_after, items_of_end) refl
+        rw (eq-eqb (number_after x k) 4 four, next, completed_group, items_of_end) refl
     | inr other ↦
         let next : number_after x (suc k) ≡ number_after x k + 1 = omega (arith, number_next k) in
         let ne : number_after x (suc k) ≢ 1 = λ e. omega arith in
         let back : number_after x (suc k) - 1 ≡ number_after x k = omega arith in
         let place : a + 26 * suc k - 26 ≡ a + 26 * k = omega arith in
         let f : first_of_group b rules a x k ≡ first_of_group b rules a x (suc k) = rw (ne_eqb (number_after x k) 4 other) at (first_next low k) in
-        rw (ne_eqb (number_after x k) 4 other, ne_eqb (number_after x (suc k)) 1 ne, back, place, f, group_after, items_of_end) refl
+        rw (ne_eqb (number_after x k) 4 other, ne_eqb (number_after x (suc k)) 1 ne, back, place, f, completed_group, items_of_end) refl
   ]
 
   pub first_first : x ≤ 4 → first_of_group b rules a x 0 ≡ x

@@ -25,11 +25,11 @@ use Rattle.rds_sync.specs.Acquiring.{acquired, has_number, has_partner, with_par
 use Rattle.rds_sync.specs.Groups.{block_at, blocks_at, group, group_of, info_of, wanted_beside}
 use Rattle.rds_sync.specs.Lawful.{IsLawful, IsLawfulLock}
 use Rattle.rds_sync.specs.Longer.{BeginsWith, BeginningsBegin, GoesOn, EndGoesOn, OnlyAddsItems, LongerRecordingsAddItems, AreNoLess, TotalsOnlyGrow}
-use Rattle.rds_sync.specs.Loss.{IsLoss, bad_after, are_too_many}
+use Rattle.rds_sync.specs.Loss.{IsLossRule, bad_after, are_too_many}
 use Rattle.rds_sync.specs.Report.{report_items}
 use Rattle.rds_sync.specs.Rules.{RuleNumbers}
-use Rattle.rds_sync.specs.Step.{run, step, items_at, after_bit, items_of_end, bad_with, group_after, lock_after, lock_of}
-use Rattle.rds_sync.specs.Totals.{totals_of, sum_blocks, count_blocks, is_valid, is_lost, is_corrected_by, bits_corrected, is_group, is_complete, is_acquired, is_loss}
+use Rattle.rds_sync.specs.Step.{run, step, items_at, after_bit, items_of_end, history_after_block, completed_group, lock_after, lock_of}
+use Rattle.rds_sync.specs.Totals.{totals_of, sum_blocks, count_blocks, is_valid, is_lost, is_corrected_by, bits_corrected, is_group, is_complete, is_acquired, is_sync_loss}
 use Rattle.rds_sync.proofs.GroupBlocks.{block_at-read, block_at-missing}
 use Rattle.rds_sync.proofs.LawfulLemmas.{lawful-run, lawful-due, lawful-numbers}
 use Rattle.rds_sync.proofs.RunIsReport.{run_is_report}
@@ -96,37 +96,37 @@ module _ (longer shorter : Signal) (begins : BeginsWith longer shorter) where
         (ap₂ (λ (a : Block) (rest : List Block). a ∷ rest) (block-alike f x p Either 2 within)
         (ap₂ (λ (a c : Block). a ∷ c ∷ []) third (block-alike f x p Either 4 within))))
 
-    after-alike : (f x i : ℕ) → i < length_of shorter → group_after longer rules f x i ≡ group_after shorter rules f x i
+    after-alike : (f x i : ℕ) → i < length_of shorter → completed_group longer rules f x i ≡ completed_group shorter rules f x i
     after-alike f x i within = ap (λ (g : GroupOf). elim (x == 4) as (λ _. List Item) [ true ↦ Group g ∷ [] | false ↦ [] ]) (group-alike f x i within)
 
     -- ---- the run
 
     bit-alike : (i : ℕ) (s : State) → i < length_of shorter → after_bit longer rules i s ≡ after_bit shorter rules i s
     bit-alike i Searching within =
-        let by_case : (w : Option ℕ) → elim w as (λ _. State × List Item) [ None ↦ (Searching, []) | Some x ↦ (Locked (lock_after i x 0 x), Acquired i x ∷ group_after longer rules x x i) ]
-        ≡ elim w as (λ _. State × List Item) [ None ↦ (Searching, []) | Some x ↦ (Locked (lock_after i x 0 x), Acquired i x ∷ group_after shorter rules x x i) ] =
-        λ w. elim w as (λ w. elim w as (λ _. State × List Item) [ None ↦ (Searching, []) | Some x ↦ (Locked (lock_after i x 0 x), Acquired i x ∷ group_after longer rules x x i) ]
-        ≡ elim w as (λ _. State × List Item) [ None ↦ (Searching, []) | Some x ↦ (Locked (lock_after i x 0 x), Acquired i x ∷ group_after shorter rules x x i) ]) [
+        let by_case : (w : Option ℕ) → elim w as (λ _. State × List Item) [ None ↦ (Searching, []) | Some x ↦ (Locked (lock_after i x 0 x), Acquired i x ∷ completed_group longer rules x x i) ]
+        ≡ elim w as (λ _. State × List Item) [ None ↦ (Searching, []) | Some x ↦ (Locked (lock_after i x 0 x), Acquired i x ∷ completed_group shorter rules x x i) ] =
+        λ w. elim w as (λ w. elim w as (λ _. State × List Item) [ None ↦ (Searching, []) | Some x ↦ (Locked (lock_after i x 0 x), Acquired i x ∷ completed_group longer rules x x i) ]
+        ≡ elim w as (λ _. State × List Item) [ None ↦ (Searching, []) | Some x ↦ (Locked (lock_after i x 0 x), Acquired i x ∷ completed_group shorter rules x x i) ]) [
           | None ↦ refl
           | Some x ↦ ap (λ (is : List Item). (Locked (lock_after i x 0 x), Acquired i x ∷ is)) (after-alike x x i within)
         ] in
         by_case (acquired longer rules i)
-        ∙ ap (λ (w : Option ℕ). elim w as (λ _. State × List Item) [ None ↦ (Searching, []) | Some x ↦ (Locked (lock_after i x 0 x), Acquired i x ∷ group_after shorter rules x x i) ]) (acquired-alike i within)
+        ∙ ap (λ (w : Option ℕ). elim w as (λ _. State × List Item) [ None ↦ (Searching, []) | Some x ↦ (Locked (lock_after i x 0 x), Acquired i x ∷ completed_group shorter rules x x i) ]) (acquired-alike i within)
     bit-alike i (Locked lock) within =
         let x : ℕ = lock.number in
         let f : ℕ = lock.first in
-        let bad : bad_with longer rules i x lock.bad ≡ bad_with shorter rules i x lock.bad = ap (λ (good : Bool). bad_after rules.loss good lock.bad) (number-alike i x within) in
+        let bad : history_after_block longer rules i x lock.bad ≡ history_after_block shorter rules i x lock.bad = ap (λ (good : Bool). bad_after rules.loss good lock.bad) (number-alike i x within) in
         ap (λ (d : ℕ). elim (lock.due == i) as (λ _. State × List Item) [
           | false ↦ (Locked lock, [])
           | true ↦ elim (are_too_many rules.loss d) as (λ _. State × List Item) [
-            | false ↦ (Locked (lock_after i x d f), group_after longer rules f x i)
+            | false ↦ (Locked (lock_after i x d f), completed_group longer rules f x i)
             | true ↦ (Searching, Group (group longer rules f x i) ∷ LostLock i ∷ [])
           ]
         ]) bad
         ∙ ap₂ (λ (g : GroupOf) (is : List Item). elim (lock.due == i) as (λ _. State × List Item) [
           | false ↦ (Locked lock, [])
-          | true ↦ elim (are_too_many rules.loss (bad_with shorter rules i x lock.bad)) as (λ _. State × List Item) [
-            | false ↦ (Locked (lock_after i x (bad_with shorter rules i x lock.bad) f), is)
+          | true ↦ elim (are_too_many rules.loss (history_after_block shorter rules i x lock.bad)) as (λ _. State × List Item) [
+            | false ↦ (Locked (lock_after i x (history_after_block shorter rules i x lock.bad) f), is)
             | true ↦ (Searching, Group g ∷ LostLock i ∷ [])
           ]
         ]) (group-alike f x i within) (after-alike f x i within)
@@ -177,7 +177,7 @@ module _ (b : Signal) (rules : RuleNumbers) where
     is = o.is ∙ ap (λ (r : ℕ). Group (group b rules f o.y r) ∷ o.rest) (omega (arith, o.order, at, some));
   }
 
-  module _ (loss : IsLoss rules.loss) where
+  module _ (loss : IsLossRule rules.loss) where
     opens : (k : ℕ) (lock : Lock) (place m : ℕ) → IsLawfulLock rules place lock → lock.number ≢ 1 → 4 < lock.number + k
         → Opens lock.first (lock.number - 1) (lock.due - 26) (to_end (Locked lock) place m)
     opens zero lock place m lawful inside fuel = absurd (omega (arith, fuel, (lawful-numbers rules place lock lawful).2))
@@ -202,7 +202,7 @@ module _ (b : Signal) (rules : RuleNumbers) where
               }
           | inl reached ↦
               let due : to_end (Locked lock) place m ≡ items_at b rules lock.due (Locked lock) ++ later = to_end-due lock place m lawful.soon.0 reached in
-              elim (cases_Bool (are_too_many rules.loss (bad_with b rules lock.due x lock.bad))) [
+              elim (cases_Bool (are_too_many rules.loss (history_after_block b rules lock.due x lock.bad))) [
                 | inl many ↦ record {
                   y = x;
                   rest = LostLock lock.due ∷ later;
@@ -220,7 +220,7 @@ module _ (b : Signal) (rules : RuleNumbers) where
                         ∙ ap (λ (q : ℕ). Group (group b rules lock.first x q) ∷ []) here);
                   }
                   | inr fewer ↦
-                      let bad : ℕ = bad_with b rules lock.due x lock.bad in
+                      let bad : ℕ = history_after_block b rules lock.due x lock.bad in
                       let n : x % 4 + 1 ≡ x + 1 = omega (arith, numbers, fewer) in
                       let after : Locked (lock_after lock.due x bad lock.first) ≡ Locked (lock_of (lock.due + 26) (x + 1) bad lock.first) =
                       ap₂ (λ (y f : ℕ). Locked (lock_of (lock.due + 26) y bad f)) n (ap (λ (t : Bool). if t then 1 else lock.first) (ne_eqb x 4 fewer)) in
@@ -287,7 +287,7 @@ module _ (b : Signal) (rules : RuleNumbers) (f x y p : ℕ) (low : 1 ≤ f) (ord
 
 -- ---- the reports
 
-module _ (longer shorter : Signal) (rules : RuleNumbers) (loss : IsLoss rules.loss) (begins : BeginsWith longer shorter) where
+module _ (longer shorter : Signal) (rules : RuleNumbers) (loss : IsLossRule rules.loss) (begins : BeginsWith longer shorter) where
   abbrev n : ℕ
   n = length_of shorter
 
@@ -440,7 +440,7 @@ module _ (shorter longer : List Item) (adds : OnlyAddsItems shorter longer) wher
     groups = grows (λ item. cond (is_group item) 1 0) (λ g h goes. omega arith);
     complete = grows (λ item. cond (is_complete item) 1 0) (λ g h goes. omega (arith, ap (λ (t : Bool). number_of t) (not_complete g h goes)));
     acquired = grows (λ item. cond (is_acquired item) 1 0) (λ g h goes. omega arith);
-    losses = grows (λ item. cond (is_loss item) 1 0) (λ g h goes. omega arith);
+    losses = grows (λ item. cond (is_sync_loss item) 1 0) (λ g h goes. omega arith);
   }
     where
       number_of : Bool → ℕ

@@ -14,7 +14,7 @@ use Rattle.std.specs.List.{list_all, range_with_len}
 use Rattle.rds_sync.specs.declared.loss.Loss.{Loss}
 use Rattle.rds_sync.specs.declared.loss.Loss.TheVariants.{Run, Share}
 use Rattle.rds_sync.specs.Laws.{MasksTellBlocks}
-use Rattle.rds_sync.specs.Loss.{IsLoss, IsLawfulBad, bad_at, bad_after, are_too_many, last_blocks, loses}
+use Rattle.rds_sync.specs.Loss.{IsLossRule, IsLawfulBad, bad_at, bad_after, are_too_many, last_blocks, loses}
 
 all_pass : (p : ℕ → Bool) (c d : ℕ) → ((j : ℕ) → c ≤ j → j < c + d → p j ≡ true) → list_all p (range_with_len c d) ≡ true
 all_pass p c zero h = refl
@@ -178,12 +178,12 @@ module _ (is_good : ℕ → Bool) where
       ap (are_too_many (Share n v)) (mask_is n v k)
       ∙ ap (nat_le n) (ones_are v k ∙ sym (bads_are v k))
 
-  none_lost : (loss : Loss) → IsLoss loss → are_too_many loss 0 ≡ false
+  none_lost : (loss : Loss) → IsLossRule loss → are_too_many loss 0 ≡ false
   unfolding ones
   none_lost (Run n) h = lt-leb n 0 h
   none_lost (Share n v) h = lt-leb n 0 h.0
 
-  pub never_0 : (loss : Loss) → IsLoss loss → loses loss is_good 0 ≡ false
+  pub never_0 : (loss : Loss) → IsLossRule loss → loses loss is_good 0 ≡ false
   never_0 loss h = sym (loses_is loss 0) ∙ none_lost loss h
 
   bads_le : (v k : ℕ) → bads v k ≤ v
@@ -267,7 +267,7 @@ none-kept (Run n) = refl
 none-kept (Share n v) = let some : 1 ≤ 2 ^ v = omega (arith, pow_pos v) in mod-eq_of_lt {n = 0} {m = 2 ^ v} some
 
 -- lawful: none, and the loss history of a lock that is not lost
-pub lawful_none : (loss : Loss) → IsLoss loss → IsLawfulBad loss 0
+pub lawful_none : (loss : Loss) → IsLossRule loss → IsLawfulBad loss 0
 lawful_none (Run n) h = h
 lawful_none (Share n v) h = (omega (arith, pow_pos v), omega (arith, ones_zero, h.0))
 

@@ -10,9 +10,9 @@ use Rattle.rds_sync.specs.declared.item.Item.{Item}
 use Rattle.rds_sync.specs.declared.item.Item.TheVariants.{Acquired, LostLock}
 use Rattle.rds_sync.specs.Rules.{RuleNumbers}
 use Rattle.rds_sync.specs.Acquiring.{acquired}
-use Rattle.rds_sync.specs.Loss.{IsLoss, are_too_many}
+use Rattle.rds_sync.specs.Loss.{IsLossRule, are_too_many}
 use Rattle.rds_sync.specs.Report.{is_good, loses_at, block_count, end, read_blocks, group_closed_by, loss_items, items_of_lock, first_lock, items_from, report_items}
-use Rattle.rds_sync.specs.Step.{run, items_of_end, group_after, lock_after}
+use Rattle.rds_sync.specs.Step.{run, items_of_end, completed_group, lock_after}
 use Rattle.rds_sync.proofs.LawfulLemmas.{acquired-range}
 use Rattle.rds_sync.proofs.LockBlocks.{bad, keeps, loses_here, number_first, first_first, S, G, closes, S_is, block_good, block_lost, block_end, last_group}
 use Rattle.rds_sync.proofs.LossLemmas.{never_0}
@@ -53,8 +53,8 @@ module _ (b : Signal) (rules : RuleNumbers) (a x : ℕ) where
 
   groups_step : (k r : ℕ) → k + 1 ≢ read_blocks b rules a x → groups_from k (suc r) ≡ closes b rules a x k ++ groups_from (suc k) r
   groups_step k r other = elim (cases_eq (number_after x k) 4) [
-    | inl four ↦ rw (← add-one k, eq-eqb (number_after x k) 4 four, group_after) refl
-    | inr fewer ↦ rw (← add-one k, ne_eqb (number_after x k) 4 fewer, ne_eqb (k + 1) (read_blocks b rules a x) other, group_after) refl
+    | inl four ↦ rw (← add-one k, eq-eqb (number_after x k) 4 four, completed_group) refl
+    | inr fewer ↦ rw (← add-one k, ne_eqb (number_after x k) 4 fewer, ne_eqb (k + 1) (read_blocks b rules a x) other, completed_group) refl
   ]
 
   groups_last : (k r : ℕ) → k + 1 ≡ read_blocks b rules a x → groups_from k (suc r) ≡ G b rules a x k ∷ groups_from (suc k) r
@@ -122,7 +122,7 @@ module _ (b : Signal) (rules : RuleNumbers) (a x : ℕ) where
 
 module _ (b : Signal) (rules : RuleNumbers) where
   -- one lock from its first place on
-  from_lock : (fuel : ℕ) → ((q m : ℕ) → q + m ≡ length_of b → m ≤ fuel → whole b rules Searching q m ≡ items_from b rules fuel q) → IsLoss rules.loss
+  from_lock : (fuel : ℕ) → ((q m : ℕ) → q + m ≡ length_of b → m ≤ fuel → whole b rules Searching q m ≡ items_from b rules fuel q) → IsLossRule rules.loss
       → (a x left : ℕ) → acquired b rules a ≡ Some x → a + (left + 1) ≡ length_of b → left ≤ fuel
       → whole b rules Searching a (suc left) ≡ items_of_lock b rules a x ++ rest b rules a x fuel
   from_lock fuel again loss a x left e total few =
@@ -132,14 +132,14 @@ module _ (b : Signal) (rules : RuleNumbers) where
       let num = number_first b rules a x low range.1 in
       let fst = first_first b rules a x range.1 in
       let begins : Locked (lock_after a x 0 x) ≡ S b rules a x 0 = rw (start, num, fst) at (S_is b rules a x low 0) in
-      let closed : closes b rules a x 0 ≡ group_after b rules x x a = rw (start, num, fst) refl in
+      let closed : closes b rules a x 0 ≡ completed_group b rules x x a = rw (start, num, fst) refl in
       let none_before : read_blocks b rules a x - 0 ≡ read_blocks b rules a x = omega arith in
       let d : ℕ = block_count b rules a x - 1 in
       let all : 1 + d ≡ block_count b rules a x = omega arith in
       let finds : end b rules a x ≡ find (loses_at b rules a x) (range_with_len 1 d) =
       ap (λ (n : ℕ). find (loses_at b rules a x) (range_with_len 0 n)) (sym all ∙ one-add d) ∙ find_later b rules a x 0 d (never_0 (is_good b rules a x) rules.loss loss) in
       let later = tail b rules a x fuel again low d 0 left all (omega arith) few finds in
-      goes b rules Searching (S b rules a x 0) (Acquired a x ∷ group_after b rules x x a) a left (items-acquiring b rules a x e) (step-acquiring b rules a x e ∙ begins)
+      goes b rules Searching (S b rules a x 0) (Acquired a x ∷ completed_group b rules x x a) a left (items-acquiring b rules a x e) (step-acquiring b rules a x e ∙ begins)
       ∙ ap (λ (t : List Item). Acquired a x ∷ t)
       (ap (λ (t : List Item). t ++ whole b rules (S b rules a x 0) (a + 1) left) (sym closed)
       ∙ ap (λ (p : ℕ). closes b rules a x 0 ++ whole b rules (S b rules a x 0) (p + 1) left) (sym start)
@@ -147,7 +147,7 @@ module _ (b : Signal) (rules : RuleNumbers) where
       ∙ ap (λ (r : ℕ). groups_from b rules a x 0 r ++ (loss_items b rules a x ++ rest b rules a x fuel)) none_before
       ∙ sym (append_assoc (groups_from b rules a x 0 (read_blocks b rules a x)) (loss_items b rules a x) (rest b rules a x fuel)))
 
-  locks_are : IsLoss rules.loss → (fuel q m : ℕ) → q + m ≡ length_of b → m ≤ fuel → whole b rules Searching q m ≡ items_from b rules fuel q
+  locks_are : IsLossRule rules.loss → (fuel q m : ℕ) → q + m ≡ length_of b → m ≤ fuel → whole b rules Searching q m ≡ items_from b rules fuel q
   locks_are loss zero q zero total few = refl
   locks_are loss zero q (suc m) total few = absurd (omega arith)
   locks_are loss (suc fuel) q m total few =
@@ -160,5 +160,5 @@ module _ (b : Signal) (rules : RuleNumbers) where
         at_case again (Some l) e h = rw e (h.4 ∙ from_lock fuel again loss l.0 l.1 h.0 h.3 (h.1 ∙ total) (omega (arith, h.1, h.2)))
 
   -- the items of the run over the whole recording, and of its end, are the report's
-  pub run_is_report : IsLoss rules.loss → (run b rules Searching 0 (length_of b)).1 ++ items_of_end b rules (run b rules Searching 0 (length_of b)).0 ≡ report_items b rules
+  pub run_is_report : IsLossRule rules.loss → (run b rules Searching 0 (length_of b)).1 ++ items_of_end b rules (run b rules Searching 0 (length_of b)).0 ≡ report_items b rules
   run_is_report loss = whole_is b rules Searching 0 (length_of b) ∙ locks_are loss (length_of b) 0 (length_of b) (omega arith) (omega arith)

@@ -21,7 +21,7 @@ use Rattle.rds_sync.specs.Acquiring.{acquired, has_number, has_partner, is_in_st
 use Rattle.rds_sync.specs.Counting.{plus}
 use Rattle.rds_sync.specs.Groups.{group}
 use Rattle.rds_sync.specs.Inside.Outcomes.{Outcome, outcome_of, was_valid, bad_over, good_at}
-use Rattle.rds_sync.specs.Loss.{IsLoss, are_too_many, bad_after}
+use Rattle.rds_sync.specs.Loss.{IsLossRule, are_too_many, bad_after}
 use Rattle.rds_sync.specs.Report.{report_items}
 use Rattle.rds_sync.specs.Rules.{RuleNumbers}
 use Rattle.rds_sync.specs.Sent.{IsHeardFrom, GroupIsHeard, AreHeard, block_sent, group_sent, items_sent, SentGroup, four_damages, AreHeardDamaged, items_damaged, bad_after_blocks, KeepLock, SentGroupsAreListed, LockedGroupsAreListed, DamagedGroupsAreListed, SoundSignalIsDecoded}
@@ -104,7 +104,7 @@ module _ (b : Signal) (rules : RuleNumbers) where
     at_case None e = refl
     at_case (Some x) e = absurd (omega (arith, acquired-place b rules i x e))
 
-  module _ (laws : CodeLaws) (loss : IsLoss rules.loss) (few : rules.burst ≤ 5) where
+  module _ (laws : CodeLaws) (loss : IsLossRule rules.loss) (few : rules.burst ≤ 5) where
     abbrev L : ℕ → ℕ
     L bad = bad_after rules.loss true bad
 

@@ -17,7 +17,7 @@ use Rattle.rds_sync.specs.declared.item.Group.{Group as GroupOf}
 use Rattle.rds_sync.specs.declared.item.Item.{Item}
 use Rattle.rds_sync.specs.declared.item.Item.TheVariants.{Acquired, Group, LostLock}
 use Rattle.rds_sync.specs.Sent.{SentGroup, block_sent, group_sent, items_damaged, four_damages, masks_read, totals_damaged, bits_with_damage, AreHeardDamaged, DamageTellsTotals, DamagedBitsTellTotals}
-use Rattle.rds_sync.specs.Totals.{totals_of, sum_blocks, is_valid, is_lost, is_corrected_by, bits_corrected, is_group, is_complete, is_acquired, is_loss}
+use Rattle.rds_sync.specs.Totals.{totals_of, sum_blocks, is_valid, is_lost, is_corrected_by, bits_corrected, is_group, is_complete, is_acquired, is_sync_loss}
 use Rattle.rds_sync.proofs.SentDamage.{groups_long, groups_there}
 use Rattle.rds_sync.proofs.SentGroups.{CodeLaws, info_is}
 use Rattle.rds_sync.proofs.SentRuns.{good_sent, damaged_groups_are_listed}
@@ -153,7 +153,7 @@ listed_totals g groups =
     (listed_items is_group 0 1 1 refl (λ h. refl) (λ place h. refl) g groups ∙ omega arith)
     (listed_items is_complete 0 0 1 refl (λ h. refl) (λ place h. ap (λ (t : Bool). cond t 1 0) (complete_sent place h.words h.damages)) g groups ∙ omega arith)
     (listed_items is_acquired 1 0 0 refl (λ h. refl) (λ place h. refl) g groups ∙ omega arith)
-    (listed_items is_loss 0 0 0 refl (λ h. refl) (λ place h. refl) g groups ∙ omega arith)
+    (listed_items is_sync_loss 0 0 0 refl (λ h. refl) (λ place h. refl) g groups ∙ omega arith)
 
 pub damage_tells_totals : CodeLaws → DamageTellsTotals
 damage_tells_totals laws b rules g groups loss reach few long h whole1 whole2 keep =

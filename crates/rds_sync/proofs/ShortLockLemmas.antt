@@ -4,7 +4,7 @@ use Rattle.std.proofs.Math.Nat.{mod-eq_of_lt, pow-suc}
 use Rattle.std.proofs.Math.Pow.{pow_pos}
 use Rattle.std.specs.Int.Count.{ones}
 use Rattle.std.specs.Prelude.{◌^◌, nat_le, count_ones}
-use Rattle.rds_code.specs.Kinds.{kind_of}
+use Rattle.rds_code.specs.Outcomes.{outcome_number}
 use Rattle.rds_code.specs.declared.reading.Wanted.{Wanted}
 use Rattle.rds_code.specs.declared.reading.Wanted.TheVariants.{Either}
 use Rattle.rds_code.specs.declared.reading.Reading.{Reading}
@@ -25,13 +25,13 @@ use Rattle.rds_sync.specs.Inside.Words.{nibble, word_of_blocks, blocks_in}
 use Rattle.rds_sync.specs.Lawful.{HaveRoom}
 use Rattle.rds_sync.specs.Loss.{bad_after, are_too_many}
 use Rattle.rds_sync.specs.Rules.{RuleNumbers}
-use Rattle.rds_sync.specs.Step.{items_at, run, bad_with, lock_after, lock_of}
+use Rattle.rds_sync.specs.Step.{items_at, run, history_after_block, lock_after, lock_of}
 use Rattle.rds_sync.specs.Totals.{is_valid}
 use Rattle.rds_sync.proofs.CleanGroups.{valid-only}
 use Rattle.rds_sync.proofs.CountLemmas.{lost-added}
 use Rattle.rds_sync.proofs.GroupBlocks.{block_at-read, block_at-missing}
 use Rattle.rds_sync.proofs.GroupOutcomes.{good_block}
-use Rattle.rds_sync.proofs.HeardBlocks.{kind-nibble}
+use Rattle.rds_sync.proofs.HeardBlocks.{outcome-nibble}
 use Rattle.rds_sync.proofs.HeardLemmas.{good-reading}
 use Rattle.rds_sync.proofs.RunLemmas.{step-acquiring, step-losing, items-losing, run-due, run-found, run-further}
 
@@ -45,16 +45,16 @@ share-of-one (suc v) some =
     let one : 1 % 2 ^ suc v ≡ 1 = mod-eq_of_lt {n = 1} {m = 2 ^ suc v} (omega arith) in
     ap (λ (m : ℕ). nat_le 1 (count_ones m)) one
 
--- a block of another kind than a valid one's is bad
-bad-kind : (r : Reading) → kind_of r ≢ 1 → is_valid (Read r) ≡ false
-bad-kind (Valid o info) h = absurd (h refl)
-bad-kind (Corrected o info e) h = refl
-bad-kind Lost h = refl
+-- a block of another outcome than a valid one's is bad
+bad-outcome : (r : Reading) → outcome_number r ≢ 1 → is_valid (Read r) ≡ false
+bad-outcome (Valid o info) h = absurd (h refl)
+bad-outcome (Corrected o info e) h = refl
+bad-outcome Lost h = refl
 
-pub bad-there : (b : Signal) (i x : ℕ) (wanted : Wanted) (limit k : ℕ) → 25 ≤ i → k ≡ kind_of (reading_at b i x wanted limit) → k ≢ 1 → has_number b i x ≡ false
+pub bad-there : (b : Signal) (i x : ℕ) (wanted : Wanted) (limit k : ℕ) → 25 ≤ i → k ≡ outcome_number (reading_at b i x wanted limit) → k ≢ 1 → has_number b i x ≡ false
 bad-there b i x wanted limit k late is other =
     sym (good-reading b i x (heard b i) wanted limit (reading_at b i x wanted limit) late refl refl)
-    ∙ bad-kind (reading_at b i x wanted limit) (λ e. other (is ∙ e))
+    ∙ bad-outcome (reading_at b i x wanted limit) (λ e. other (is ∙ e))
 
 -- the word of four blocks, by their four bits
 word-sum : (o p q r : Outcome) (k l m n : ℕ) → nibble o ≡ k → nibble p ≡ l → nibble q ≡ m → nibble r ≡ n
@@ -63,12 +63,12 @@ word-sum o p q r k l m n first second third fourth = omega (arith, first, second
 
 module _ (b : Signal) (rules : RuleNumbers) (f n p : ℕ) where
   -- the four bits of the last block, of one that is missing, and of a valid one
-  last-is : (wanted : Wanted) (k : ℕ) → f ≤ n → k ≡ kind_of (reading_at b p n wanted rules.burst) → nibble (outcome_of (block_at b rules f n p wanted n)) ≡ k
+  last-is : (wanted : Wanted) (k : ℕ) → f ≤ n → k ≡ outcome_number (reading_at b p n wanted rules.burst) → nibble (outcome_of (block_at b rules f n p wanted n)) ≡ k
   last-is wanted k low is =
       let place : p - 26 * (n - n) ≡ p = omega arith in
       ap (λ (block : Block). nibble (outcome_of block)) (block_at-read b rules f n p wanted n low (omega arith))
       ∙ ap (λ (q : ℕ). nibble (outcome_of (Read (reading_at b q n wanted rules.burst)))) place
-      ∙ sym (is ∙ kind-nibble (reading_at b p n wanted rules.burst))
+      ∙ sym (is ∙ outcome-nibble (reading_at b p n wanted rules.burst))
 
   missing-is : (wanted : Wanted) (y : ℕ) → (y < f) ⊎ (n < y) → nibble (outcome_of (block_at b rules f n p wanted y)) ≡ 0
   missing-is wanted y outside = ap (λ (block : Block). nibble (outcome_of block)) (block_at-missing b rules f n p wanted y outside)
@@ -91,7 +91,7 @@ word-are b rules f n p k l m r first second third fourth =
 
 -- the word of a valid block and the next one
 pub two-are : (b : Signal) (rules : RuleNumbers) (place x k : ℕ) → 25 ≤ place → 1 ≤ x → x ≤ 4 → has_number b place x ≡ true
-    → k ≡ kind_of (reading_at b (place + 26) (x % 4 + 1) (wanted_behind b rules place x) rules.burst)
+    → k ≡ outcome_number (reading_at b (place + 26) (x % 4 + 1) (wanted_behind b rules place x) rules.burst)
     → word_of_two x k ≡ word_of_blocks (map outcome_of (blocks_at b rules (first_behind x) (x % 4 + 1) (place + 26)))
 two-are b rules place zero k late low high valid is = absurd (omega arith)
 two-are b rules place (suc zero) k late low high valid is =
@@ -113,7 +113,7 @@ two-are b rules place (suc (suc zero)) k late low high valid is =
     sum ∙ word-are b rules 2 3 p 0 1 k 0
     (missing-is b rules 2 3 p Either 1 (inl (omega arith)))
     (valid-is b rules 2 3 p Either 2 place (omega arith) (omega arith) (omega arith) there valid)
-    (last-is b rules 2 3 p beside k (omega arith) (is ∙ ap (λ (block : Block). kind_of (reading_at b p 3 (wanted_beside block) rules.burst)) second))
+    (last-is b rules 2 3 p beside k (omega arith) (is ∙ ap (λ (block : Block). outcome_number (reading_at b p 3 (wanted_beside block) rules.burst)) second))
     (missing-is b rules 2 3 p Either 4 (inr (omega arith)))
 two-are b rules place (suc (suc (suc zero))) k late low high valid is =
     let p : ℕ = place + 26 in
@@ -140,7 +140,7 @@ module _ (b : Signal) (rules : RuleNumbers) (here x to word : ℕ) (acquires : a
   abbrev lock : State
   lock = Locked (lock_after here x 0 x)
 
-  many : are_too_many rules.loss (bad_with b rules (here + 26) (x % 4 + 1) 0) ≡ true
+  many : are_too_many rules.loss (history_after_block b rules (here + 26) (x % 4 + 1) 0) ≡ true
   many = ap (λ (good : Bool). are_too_many rules.loss (bad_after rules.loss good 0)) lost.bad ∙ lost.loses
 
   last-items : items_at b rules (here + 26) lock ≡ Group (group b rules (first_behind x) (x % 4 + 1) (here + 26)) ∷ LostLock (here + 26) ∷ []

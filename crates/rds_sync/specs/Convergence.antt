@@ -16,7 +16,7 @@ use Rattle.rds_sync.specs.declared.loss.Loss.TheVariants.{Run, Share}
 use Rattle.rds_sync.specs.declared.state.State.{State}
 use Rattle.rds_sync.specs.declared.state.State.TheVariants.{Locked}
 use Rattle.rds_sync.specs.Rules.{RuleNumbers}
-use Rattle.rds_sync.specs.Loss.{IsLoss}
+use Rattle.rds_sync.specs.Loss.{IsLossRule}
 use Rattle.rds_sync.specs.Lawful.{IsLawful}
 use Rattle.rds_sync.specs.Step.{run, lock_of}
 use Rattle.rds_sync.specs.Acquiring.{acquired, has_number}
@@ -87,5 +87,5 @@ SoundRangesHaveFours = (b : Signal) (rules : RuleNumbers) (j s p c : ℕ) → Is
 
 -- over a sound range, the runs from all lawful states are in one state after its last block of number 4
 abbrev pub RunsConverge : Type 0
-RunsConverge = (b : Signal) (rules : RuleNumbers) → IsLoss rules.loss → 1 ≤ rules.reach
+RunsConverge = (b : Signal) (rules : RuleNumbers) → IsLossRule rules.loss → 1 ≤ rules.reach
     → (s to : ℕ) (t : State) → IsLawful rules s t → IsConverged b rules s to (run b rules t s (to - s)).0

@@ -11,7 +11,7 @@ use Rattle.rds_sync.specs.declared.state.State.{State}
 use Rattle.rds_sync.specs.declared.state.State.TheVariants.{Searching, Locked}
 use Rattle.rds_sync.specs.declared.item.Item.{Item}
 use Rattle.rds_sync.specs.Rules.{RuleNumbers}
-use Rattle.rds_sync.specs.Loss.{IsLoss, bad_at, are_too_many, loses}
+use Rattle.rds_sync.specs.Loss.{IsLossRule, bad_at, are_too_many, loses}
 use Rattle.rds_sync.specs.Acquiring.{acquired}
 use Rattle.rds_sync.specs.Lawful.{IsLawful, IsBetweenGroups}
 use Rattle.rds_sync.specs.Step.{step, items_at, run, items_of_end}
@@ -19,7 +19,7 @@ use Rattle.rds_sync.specs.Report.{report_items}
 
 -- the items of the run over a whole recording, with those of its end, are the report's
 abbrev pub RunsAreReports : Type 0
-RunsAreReports = (b : Signal) (rules : RuleNumbers) → IsLoss rules.loss
+RunsAreReports = (b : Signal) (rules : RuleNumbers) → IsLossRule rules.loss
     → let whole = run b rules Searching 0 (length_of b) in
     whole.1 ++ items_of_end b rules whole.0 ≡ report_items b rules
 
@@ -32,12 +32,12 @@ RunsJoin = (b : Signal) (rules : RuleNumbers) (s : State) (from middle to : ℕ)
 
 -- one bit leads from a lawful state to a lawful state
 abbrev pub StepsAreLawful : Type 0
-StepsAreLawful = (b : Signal) (rules : RuleNumbers) → IsLoss rules.loss
+StepsAreLawful = (b : Signal) (rules : RuleNumbers) → IsLossRule rules.loss
     → (place : ℕ) (s : State) → IsLawful rules place s → IsLawful rules (place + 1) (step b rules place s)
 
 -- a run leads from a lawful state to a lawful state
 abbrev pub RunsAreLawful : Type 0
-RunsAreLawful = (b : Signal) (rules : RuleNumbers) → IsLoss rules.loss
+RunsAreLawful = (b : Signal) (rules : RuleNumbers) → IsLossRule rules.loss
     → (s : State) (from to : ℕ) → from ≤ to → IsLawful rules from s
     → IsLawful rules to (run b rules s from (to - from)).0
 

@@ -8,7 +8,7 @@ use Rattle.rds_sync.specs.declared.item.Item.{Item}
 use Rattle.rds_sync.specs.declared.item.Item.TheVariants.{Group as GroupItem}
 use Rattle.rds_sync.specs.declared.totals.Totals.{Totals}
 use Rattle.rds_sync.specs.Rules.{RuleNumbers}
-use Rattle.rds_sync.specs.Loss.{IsLoss}
+use Rattle.rds_sync.specs.Loss.{IsLossRule}
 use Rattle.rds_sync.specs.Report.{report_items}
 use Rattle.rds_sync.specs.Totals.{totals_of}
 
@@ -56,7 +56,7 @@ pub record OnlyAddsItems (shorter longer : List Item) : Type 0 where
   pub goes_on : EndGoesOn end later
 
 abbrev pub LongerRecordingsAddItems : Type 0
-LongerRecordingsAddItems = (longer shorter : Signal) (rules : RuleNumbers) → IsLoss rules.loss
+LongerRecordingsAddItems = (longer shorter : Signal) (rules : RuleNumbers) → IsLossRule rules.loss
     → BeginsWith longer shorter
     → OnlyAddsItems (report_items shorter rules) (report_items longer rules)
 
@@ -73,6 +73,6 @@ pub record AreNoLess (t u : Totals) : Type 0 where
 
 -- No total of the longer recording is less than that of the shorter one.
 abbrev pub TotalsOnlyGrow : Type 0
-TotalsOnlyGrow = (longer shorter : Signal) (rules : RuleNumbers) → IsLoss rules.loss
+TotalsOnlyGrow = (longer shorter : Signal) (rules : RuleNumbers) → IsLossRule rules.loss
     → BeginsWith longer shorter
     → AreNoLess (totals_of (report_items shorter rules)) (totals_of (report_items longer rules))

@@ -3,7 +3,7 @@
 use Rattle.std.specs.Prelude.{ℕ, ◌<◌, ◌≤◌, ◌⊎◌}
 use Rattle.rds_sync.specs.declared.loss.Loss.{Loss}
 use Rattle.rds_sync.specs.declared.loss.Loss.TheVariants.{Run, Share}
-use Rattle.rds_sync.specs.Loss.{IsLoss}
+use Rattle.rds_sync.specs.Loss.{IsLossRule}
 use Rattle.rds_sync.specs.Rules.{RuleNumbers}
 
 -- the longest burst that is corrected, the farthest partner, and the most blocks that a rule of loss looks at
@@ -23,7 +23,7 @@ blocks_seen (Share bad of) = of
 
 -- the numbers that a rule of loss may have
 abbrev pub IsLossInRange : Loss → Type 0
-IsLossInRange loss = IsLoss loss × (blocks_seen loss ≤ most_blocks)
+IsLossInRange loss = IsLossRule loss × (blocks_seen loss ≤ most_blocks)
 
 -- the numbers that rules may have
 pub record IsInRange (rules : RuleNumbers) : Type 0 where

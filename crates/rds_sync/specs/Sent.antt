@@ -26,11 +26,11 @@ use Rattle.rds_sync.specs.declared.totals.Totals.{Totals}
 use Rattle.rds_sync.specs.Groups.{type_in, version_of_bit, group}
 use Rattle.rds_sync.specs.Rules.{RuleNumbers}
 use Rattle.rds_sync.specs.declared.loss.Loss.{Loss}
-use Rattle.rds_sync.specs.Loss.{IsLoss, bad_after, are_too_many}
+use Rattle.rds_sync.specs.Loss.{IsLossRule, bad_after, are_too_many}
 use Rattle.rds_sync.specs.Lawful.{IsLawful}
 use Rattle.rds_sync.specs.Step.{run, lock_of}
 use Rattle.rds_sync.specs.Report.{report_items}
-use Rattle.rds_sync.specs.Totals.{by_span, totals_of}
+use Rattle.rds_sync.specs.Totals.{by_burst_length, totals_of}
 use Rattle.rds_sync.specs.Convergence.{IsSound, IsLastFour, sound_bits}
 
 -- ---- a group
@@ -109,7 +109,7 @@ totals_sent n = record {
 -- group acquires sync at bit 51. That group is listed without block 1, and each other group as it was sent.
 abbrev pub SentGroupsAreListed : Type 0
 SentGroupsAreListed = (b : Signal) (rules : RuleNumbers) (words : List ℕ) (groups : List (List ℕ))
-    → IsLoss rules.loss → 1 ≤ rules.reach → rules.burst ≤ 5
+    → IsLossRule rules.loss → 1 ≤ rules.reach → rules.burst ≤ 5
     → length_of b ≡ 104 * length (words ∷ groups) → AreHeard b 0 (words ∷ groups)
     → (report_items b rules ≡ Acquired 51 2 ∷ GroupItem (group_sent 2 26 words []) ∷ items_sent 104 groups)
     × (totals_of (report_items b rules) ≡ totals_sent (length (words ∷ groups)))
@@ -140,7 +140,8 @@ EncodedGroupsAreHeard = (before after : List ℕ) (groups : List (List ℕ)) →
 
 -- A recording of these bits only is decoded to the groups, whatever their words are, by all rules.
 abbrev pub EncodedGroupsAreListed : Type 0
-EncodedGroupsAreListed = (rules : RuleNumbers) (words : List ℕ) (groups : List (List ℕ)) → IsLoss rules.loss
+EncodedGroupsAreListed = (rules : RuleNumbers) (words : List ℕ) (groups : List (List ℕ))
+    → IsLossRule rules.loss
     → 1 ≤ rules.reach → rules.burst ≤ 5
     → AreWords (words ∷ groups)
     → let b : Signal = ungapped (bits_sent (words ∷ groups)) in
@@ -213,7 +214,7 @@ LockedGroupsAreListed = (b : Signal) (rules : RuleNumbers) → rules.burst ≤ 5
 -- block has at most one burst within the limit, and the damage does not lose sync.
 abbrev pub DamagedGroupsAreListed : Type 0
 DamagedGroupsAreListed = (b : Signal) (rules : RuleNumbers) (g : SentGroup) (groups : List SentGroup)
-    → IsLoss rules.loss → 1 ≤ rules.reach → rules.burst ≤ 5
+    → IsLossRule rules.loss → 1 ≤ rules.reach → rules.burst ≤ 5
     → length_of b ≡ 104 * length (g ∷ groups) → AreHeardDamaged b rules.burst 0 (g ∷ groups)
     → slice_index g.damages 0 ≡ 0 → slice_index g.damages 1 ≡ 0
     → KeepLock rules.loss 0 (slice_index g.damages 2 ∷ slice_index g.damages 3 ∷ flat_map four_damages groups)
@@ -232,7 +233,7 @@ masks_read g groups = slice_index g.damages 1 ∷ slice_index g.damages 2 ∷ sl
 abbrev pub totals_damaged : ℕ → List ℕ → Totals
 totals_damaged n masks = record {
   valid = count_by (λ e. e == 0) masks;
-  bursts = by_span (λ s. count_by (λ e. burst_length e == s) masks);
+  bursts = by_burst_length (λ s. count_by (λ e. burst_length e == s) masks);
   lost = 0;
   bits = sum_by count_ones masks;
   groups = n;
@@ -244,7 +245,7 @@ totals_damaged n masks = record {
 -- Such a recording has these totals: they follow from only the damage, whatever the words are.
 abbrev pub DamageTellsTotals : Type 0
 DamageTellsTotals = (b : Signal) (rules : RuleNumbers) (g : SentGroup) (groups : List SentGroup)
-    → IsLoss rules.loss → 1 ≤ rules.reach → rules.burst ≤ 5
+    → IsLossRule rules.loss → 1 ≤ rules.reach → rules.burst ≤ 5
     → length_of b ≡ 104 * length (g ∷ groups) → AreHeardDamaged b rules.burst 0 (g ∷ groups)
     → slice_index g.damages 0 ≡ 0 → slice_index g.damages 1 ≡ 0
     → KeepLock rules.loss 0 (slice_index g.damages 2 ∷ slice_index g.damages 3 ∷ flat_map four_damages groups)
@@ -281,8 +282,8 @@ DamagedGroupsAreHeard = (before after : List ℕ) (limit : ℕ) (groups : List S
 
 -- A recording of these bits only is decoded to the words that were sent, if the damage does not lose sync.
 abbrev pub DamagedBitsAreDecoded : Type 0
-DamagedBitsAreDecoded = (rules : RuleNumbers) (g : SentGroup) (groups : List SentGroup) → IsLoss rules.loss
-    → 1 ≤ rules.reach → rules.burst ≤ 5
+DamagedBitsAreDecoded = (rules : RuleNumbers) (g : SentGroup) (groups : List SentGroup)
+    → IsLossRule rules.loss → 1 ≤ rules.reach → rules.burst ≤ 5
     → AreCorrectable rules.burst (g ∷ groups) → slice_index g.damages 0 ≡ 0 → slice_index g.damages 1 ≡ 0
     → KeepLock rules.loss 0 (slice_index g.damages 2 ∷ slice_index g.damages 3 ∷ flat_map four_damages groups)
     → report_items (ungapped (flat_map bits_with_damage (g ∷ groups))) rules
@@ -290,8 +291,8 @@ DamagedBitsAreDecoded = (rules : RuleNumbers) (g : SentGroup) (groups : List Sen
 
 -- The totals of such a recording follow from its error masks, too.
 abbrev pub DamagedBitsTellTotals : Type 0
-DamagedBitsTellTotals = (rules : RuleNumbers) (g : SentGroup) (groups : List SentGroup) → IsLoss rules.loss
-    → 1 ≤ rules.reach → rules.burst ≤ 5
+DamagedBitsTellTotals = (rules : RuleNumbers) (g : SentGroup) (groups : List SentGroup)
+    → IsLossRule rules.loss → 1 ≤ rules.reach → rules.burst ≤ 5
     → AreCorrectable rules.burst (g ∷ groups) → slice_index g.damages 0 ≡ 0 → slice_index g.damages 1 ≡ 0
     → KeepLock rules.loss 0 (slice_index g.damages 2 ∷ slice_index g.damages 3 ∷ flat_map four_damages groups)
     → totals_of (report_items (ungapped (flat_map bits_with_damage (g ∷ groups))) rules)
@@ -302,7 +303,7 @@ DamagedBitsTellTotals = (rules : RuleNumbers) (g : SentGroup) (groups : List Sen
 -- A run from any lawful state covers a sound range, up to its last block 4. From there on it gives each group
 -- that is heard, with the words that were sent, and nothing else, if the damage does not lose sync.
 abbrev pub SoundSignalIsDecoded : Type 0
-SoundSignalIsDecoded = (b : Signal) (rules : RuleNumbers) → IsLoss rules.loss → 1 ≤ rules.reach
+SoundSignalIsDecoded = (b : Signal) (rules : RuleNumbers) → IsLossRule rules.loss → 1 ≤ rules.reach
     → rules.burst ≤ 5
     → (s : ℕ) (t : State) → IsLawful rules s t
     → (j p c last : ℕ) → IsSound b rules j s p c → IsLastFour b s (s + sound_bits rules.loss j) p c last

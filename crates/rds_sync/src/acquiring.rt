@@ -7,7 +7,7 @@ ghost use Rattle.rds_stream.specs.Recording.{Signal, length_of, heard, offset_at
 ghost use Rattle.rds_sync.specs.Acquiring.{acquired, has_partner, is_in_step};
 ghost use Rattle.rds_sync.specs.Advance.{items_in};
 ghost use Rattle.rds_sync.specs.Groups.{group};
-ghost use Rattle.rds_sync.specs.Step.{items_at, lock_after, group_after};
+ghost use Rattle.rds_sync.specs.Step.{items_at, lock_after, completed_group};
 ghost use Rattle.rds_sync.specs.declared.item.Item.TheVariants.{Acquired};
 
 use crate::item::{Block, Group, Item};
@@ -40,7 +40,7 @@ impl Acquisition {
         requires block { (25 ≤ self.now.place) × IfSome self.now.heard (λ window. window < 2 ^ 26) }
         ensures { (b : Signal) → self.now.heard ≡ heard b self.now.place → items_in result
             ≡ Acquired self.now.place self.now.number
-            ∷ group_after b rules.now self.now.number self.now.number self.now.place }
+            ∷ completed_group b rules.now self.now.number self.now.number self.now.place }
     {
         let number = self.number.get();
         let acquired = Item::Acquired {

@@ -17,7 +17,7 @@ use rds_stream::{FIRST_WINDOW, Reader, Recording};
 use std::iter::FusedIterator;
 use std::marker::Model;
 
-/// The items of a run over a range of a recording, in order of place, and the state at its end. Runs are this project's
+/// The items of a run over a range of a recording, in order, and the state at its end. Runs are this project's
 /// rule, after EN 50067:1998, annex C.
 ///
 /// It reads no further than it is asked for, and takes no memory. Contracts see the items that are still to

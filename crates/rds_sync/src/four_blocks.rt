@@ -1,70 +1,83 @@
 //! Four blocks of a lock that were heard at once: the group of them, or its word, and the loss history after
 //! them.
 
-ghost use Rattle.std.specs.Prelude.{◌≡◌, ◌≤◌, ◌<◌, ◌+◌, ◌-◌, ◌^◌, ◌∷◌, [], false, map, ℕ, All, IfSome};
+ghost use Rattle.std.specs.Prelude.{◌≡◌, ◌≤◌, ◌<◌, ◌+◌, ◌-◌, ◌^◌, ◌∷◌, [], None, false, length, map, vec_capacity, ℕ, All, IfSome};
+ghost use Rattle.rds_code.specs.Outcomes.{outcome_number};
 ghost use Rattle.rds_code.specs.Offsets.{number};
 ghost use Rattle.rds_code.specs.declared.reading.Wanted.{Wanted as TheWanted};
+ghost use Rattle.rds_code.specs.declared.reading.Wanted.TheVariants.{Either};
 ghost use Rattle.rds_stream.specs.InARow.{four_heard};
 ghost use Rattle.rds_stream.specs.Recording.{Signal, length_of, reading_heard};
-ghost use Rattle.rds_sync.specs.Groups.{blocks_at, group};
+ghost use Rattle.rds_sync.specs.Groups.{blocks_at, group, wanted_beside};
 ghost use Rattle.rds_sync.specs.Inside.Outcomes.{valid, outcome_of, bad_over};
-ghost use Rattle.rds_sync.specs.Inside.WholeGroups.{IsWhole};
+ghost use Rattle.rds_sync.specs.Inside.WholeGroups.{HasPushed, IsWhole};
 ghost use Rattle.rds_sync.specs.Inside.Words.{blocks_in};
 ghost use Rattle.rds_sync.specs.Loss.{IsLawfulBad, bad_after, are_too_many};
 ghost use Rattle.rds_sync.specs.Ranges.{IsLossInRange};
 ghost use Rattle.rds_sync.specs.Rules.{RuleNumbers};
 ghost use Rattle.rds_sync.specs.declared.item.Block.TheVariants.{Read};
 
-use crate::item::{Block, Group};
+use crate::item::{Block, Group, Item};
 use crate::loss::{Loss, NONE_BAD};
+use crate::push::push_one;
 use crate::rules::Rules;
-use crate::words::{CLEAN, nibble, was_valid};
+use crate::words::{CLEAN, was_valid};
 use rds_code::laws::{bursts_are_listed, readings_follow_the_rule};
-use rds_code::{BlockNumber, Offset, Reading, Wanted, rem26};
+use rds_code::{BlockNumber, Offset, Outcomes, Reading, Wanted, rem26};
 use rds_stream::Reader;
 
-/// The group of four blocks that were heard, the first of which begins at `place`, and the loss history after
-/// it: none if a block of it loses the lock.
+/// Appends the group of four blocks that were heard, the first of which begins at `place`. The loss history after it:
+/// none if a block of it loses the lock, and then nothing is appended.
 #[inline(always)]
-pub(crate) fn whole_heard(
+pub(crate) fn push_whole(
+    part: &mut Vec<Item>,
     rules: &Rules,
     loss: Loss,
     place: u64,
-    heard: [Option<u32>; 4],
+    heard: &[Option<u32>; 4],
     bad: u64,
-) -> Option<(Group, u64)>
-    requires blocks { All (λ heard. IfSome heard (λ window. window < 2 ^ 26)) heard }
+) -> Option<u64>
+    requires free { length part.old.items < vec_capacity part.old }
+    requires blocks { All (λ heard. IfSome heard (λ window. window < 2 ^ 26)) heard.now }
     requires loss { loss ≡ rules.now.loss }
     requires range { IsLossInRange loss }
     requires lawful { IsLawfulBad loss bad }
-    ensures { IfSome result (λ whole. (b : Signal) (due : ℕ) → 25 ≤ due → place ≡ due - 25
-        → heard ≡ four_heard b due
-        → IsWhole b rules.now due bad whole.0 whole.1) }
+    ensures pushed { IfSome result (λ after. (b : Signal) (due : ℕ) → 25 ≤ due → place ≡ due - 25
+        → heard.now ≡ four_heard b due
+        → HasPushed b rules.now due bad part.old.items part.new.items after) }
+    ensures none { result ≡ None → part.new.items ≡ part.old.items }
+    ensures room { vec_capacity part.new ≡ vec_capacity part.old }
 {
+    // A clean group is made in its place: what a call returns would be copied.
     match valid_blocks(heard) {
         Some(blocks) => {
             let after = bad_after_clean(loss, bad)?;
-            Some((Group::of_blocks(place, blocks), after))
+            push_one(part, &Item::Group(Group::of_blocks(place, blocks)));
+            Some(after)
         }
-        None => damaged_heard(rules, loss, place, heard, bad),
+        None => {
+            let (group, after) = any_heard(rules, loss, place, heard, bad)?;
+            push_one(part, &Item::Group(group));
+            Some(after)
+        }
     }
 }
 
-/// The same, whether or not all four blocks are valid. It is not in line, so that a clean group takes no call.
-#[inline(never)]
-fn damaged_heard(
+/// The group of four blocks that were heard, the first of which begins at `place`, and the loss history after
+/// it: none if a block of it loses the lock.
+pub(crate) fn any_heard(
     rules: &Rules,
     loss: Loss,
     place: u64,
-    heard: [Option<u32>; 4],
+    heard: &[Option<u32>; 4],
     bad: u64,
 ) -> Option<(Group, u64)>
-    requires blocks { All (λ heard. IfSome heard (λ window. window < 2 ^ 26)) heard }
+    requires blocks { All (λ heard. IfSome heard (λ window. window < 2 ^ 26)) heard.now }
     requires loss { loss ≡ rules.now.loss }
     requires range { IsLossInRange loss }
     requires lawful { IsLawfulBad loss bad }
     ensures { IfSome result (λ whole. (b : Signal) (due : ℕ) → 25 ≤ due → place ≡ due - 25
-        → heard ≡ four_heard b due
+        → heard.now ≡ four_heard b due
         → IsWhole b rules.now due bad whole.0 whole.1) }
 {
     let blocks = blocks_of(rules, heard);
@@ -81,39 +94,52 @@ pub(crate) fn whole_word(reader: &mut Reader<'_>, rules: &Rules, due: u64) -> u1
     ensures blocks { blocks_in result ≡ map outcome_of (group reader.old rules.now 1 4 (due + 78)).blocks }
     ensures same { reader.new ≡ reader.old }
 {
-    let heard = reader.four_windows(due);
-    match valid_blocks(heard) {
-        Some(_) => CLEAN,
-        None => damaged_word(rules, heard),
-    }
+    word_heard(rules, &reader.four_windows(due))
 }
 
-/// The word of a group of which this was heard.
-fn damaged_word(rules: &Rules, heard: [Option<u32>; 4]) -> u16
-    requires { All (λ heard. IfSome heard (λ window. window < 2 ^ 26)) heard }
-    ensures { (b : Signal) (due : ℕ) → heard ≡ four_heard b due
+/// The word of a group whose four blocks were heard: from a table, since no branch foresees damage.
+fn word_heard(rules: &Rules, heard: &[Option<u32>; 4]) -> u16
+    requires { All (λ heard. IfSome heard (λ window. window < 2 ^ 26)) heard.now }
+    ensures { (b : Signal) (due : ℕ) → heard.now ≡ four_heard b due
         → blocks_in result ≡ map outcome_of (group b rules.now 1 4 (due + 78)).blocks }
 {
     // The outcome of each reading has a word.
     bursts_are_listed();
     readings_follow_the_rule();
     prove!(rules.burst() <= 5);
-    let [one, two, three, four] = heard;
+    let [one, two, three, four] = *heard;
+    let first = rules.outcome(one, BlockNumber::ONE, Wanted::Either);
+    let second = rules.outcome(two, BlockNumber::TWO, Wanted::Either);
+    let third = third_outcome(rules, two, three);
+    let fourth = rules.outcome(four, BlockNumber::FOUR, Wanted::Either);
+    first + 16 * (second + 16 * (third + 16 * fourth))
+}
+
+/// How block 3 comes out beside block 2, which tells its version: that is asked only if block 3 is not valid.
+#[inline(always)]
+fn third_outcome(rules: &Rules, two: Option<u32>, three: Option<u32>) -> u16
+    requires two { IfSome two (λ window. window < 2 ^ 26) }
+    requires three { IfSome three (λ window. window < 2 ^ 26) }
+    ensures value { result ≡ outcome_number (reading_heard three 3
+        (wanted_beside (Read (reading_heard two 2 Either rules.now.burst))) rules.now.burst) }
+    ensures most { result ≤ 13 }
+{
+    let either = rules.outcome(three, BlockNumber::THREE, Wanted::Either);
+    if either == u16::from(Outcomes::VALID) {
+        return either;
+    }
     let second = Block::Read(rules.read(two, BlockNumber::TWO, Wanted::Either));
-    let first = rules.kind(one, BlockNumber::ONE, Wanted::Either);
-    let third = rules.kind(three, BlockNumber::THREE, second.wanted_beside());
-    let fourth = rules.kind(four, BlockNumber::FOUR, Wanted::Either);
-    first + 16 * (nibble(&second) + 16 * (third + 16 * fourth))
+    rules.outcome(three, BlockNumber::THREE, second.wanted_beside())
 }
 
 /// The four blocks of that group.
 #[inline(always)]
-fn blocks_of(rules: &Rules, heard: [Option<u32>; 4]) -> [Block; 4]
-    requires { All (λ heard. IfSome heard (λ window. window < 2 ^ 26)) heard }
-    ensures { (b : Signal) (due : ℕ) → heard ≡ four_heard b due
+fn blocks_of(rules: &Rules, heard: &[Option<u32>; 4]) -> [Block; 4]
+    requires { All (λ heard. IfSome heard (λ window. window < 2 ^ 26)) heard.now }
+    ensures { (b : Signal) (due : ℕ) → heard.now ≡ four_heard b due
         → result ≡ blocks_at b rules.now 1 4 (due + 78) }
 {
-    let [one, two, three, four] = heard;
+    let [one, two, three, four] = *heard;
     let first = Block::Read(rules.read(one, BlockNumber::ONE, Wanted::Either));
     let second = Block::Read(rules.read(two, BlockNumber::TWO, Wanted::Either));
     let third = Block::Read(rules.read(three, BlockNumber::THREE, second.wanted_beside()));
@@ -123,14 +149,14 @@ fn blocks_of(rules: &Rules, heard: [Option<u32>; 4]) -> [Block; 4]
 
 /// The four blocks that were heard, if all of them are valid with the numbers 1 to 4.
 #[inline(always)]
-fn valid_blocks(heard: [Option<u32>; 4]) -> Option<[Block; 4]>
-    requires { All (λ heard. IfSome heard (λ window. window < 2 ^ 26)) heard }
+fn valid_blocks(heard: &[Option<u32>; 4]) -> Option<[Block; 4]>
+    requires { All (λ heard. IfSome heard (λ window. window < 2 ^ 26)) heard.now }
     ensures blocks { IfSome result (λ blocks. (b : Signal) (rules : RuleNumbers) (due : ℕ)
-        → heard ≡ four_heard b due
+        → heard.now ≡ four_heard b due
         → blocks ≡ blocks_at b rules 1 4 (due + 78)) }
     ensures valid { IfSome result (λ blocks. map outcome_of blocks ≡ valid ∷ valid ∷ valid ∷ valid ∷ []) }
 {
-    let [one, two, three, four] = heard;
+    let [one, two, three, four] = *heard;
     let first = valid_reading(one, Offset::A)?;
     let second = valid_reading(two, Offset::B)?;
     let third = valid_third(three)?;

@@ -20,10 +20,10 @@ use rds_stream::{Counted, Reader, Recording};
 use std::alloc::Global;
 use std::snapshot::Snapshot;
 
-/// The result of decoding a recording: its items, in order of place, and their totals. This project's rule.
+/// The result of decoding a recording: its items, in order, and their totals. This project's rule.
 #[derive(Drop)]
 pub struct Report {
-    /// Acquisitions, groups and losses, in order of place.
+    /// Acquisitions, groups and losses, in order of the bit that completes them.
     pub items: Items,
     /// The twelve totals of these items.
     pub totals: Totals,

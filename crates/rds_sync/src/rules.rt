@@ -1,14 +1,14 @@
 //! The rules by which sync is acquired, kept and lost.
 
 ghost use Rattle.std.specs.Prelude.{◌≡◌, ◌≢◌, ◌<◌, ◌≤◌, ◌⊎◌, ◌↔◌, ◌^◌, IfErr, IfOk, IfSome, IsErrOf};
-ghost use Rattle.rds_code.specs.Kinds.{kind_of};
+ghost use Rattle.rds_code.specs.Outcomes.{outcome_number};
 ghost use Rattle.rds_stream.specs.Recording.{reading_heard};
 ghost use Rattle.rds_sync.specs.Ranges.{IsInRange, IsRunOutside, IsShareOutside, farthest_reach, longest_burst, most_blocks};
 ghost use Rattle.rds_sync.specs.declared.loss.Loss.TheVariants.{Run, Share};
 
 use crate::error::SyncError;
 use crate::loss::Loss;
-use rds_code::{BlockNumber, BurstLimit, BurstTable, Kinds, Reading, Wanted};
+use rds_code::{BlockNumber, BurstLimit, BurstTable, Outcomes, Reading, Wanted};
 use rds_stream::read_heard;
 use std::alloc::Global;
 use std::marker::Model;
@@ -27,12 +27,12 @@ pub struct RuleNumbers {
 }
 
 /// The rules of a synchroniser: their numbers, with the table of bursts that its corrections are
-/// looked up in, and that of the kinds of blocks. Building them takes memory; using them takes none.
+/// looked up in, and that of the outcomes of blocks. Building them takes memory; using them takes none.
 #[derive(Drop)]
 pub struct Rules {
     numbers: RuleNumbers,
     table: BurstTable,
-    kinds: Kinds,
+    outcomes: Outcomes,
 }
 
 impl Model for Rules {
@@ -44,7 +44,7 @@ impl Model for Rules {
 
     ghost view = { λ r. r.numbers };
 
-    ghost invariant = { λ r. IsInRange r.numbers × (r.kinds ≡ r.numbers.burst) };
+    ghost invariant = { λ r. IsInRange r.numbers × (r.outcomes ≡ r.numbers.burst) };
 }
 
 impl Rules {
@@ -67,11 +67,11 @@ impl Rules {
     {
         let limit = limit_of(numbers)?;
         let table = BurstTable::new(alloc)?;
-        let kinds = Kinds::new(alloc, &table, limit)?;
+        let outcomes = Outcomes::new(alloc, &table, limit)?;
         Ok(Rules {
             numbers,
             table,
-            kinds,
+            outcomes,
         })
     }
 
@@ -174,19 +174,19 @@ impl Rules {
         requires { IfSome heard (λ window. window < 2 ^ 26) }
         ensures { result ≡ reading_heard heard number wanted self.now.burst }
     {
-        read_heard(&self.table, heard, number, wanted, self.kinds.limit())
+        read_heard(&self.table, heard, number, wanted, self.outcomes.limit())
     }
 
-    /// How it comes out: the kind of that reading, which takes less time.
+    /// The outcome of that reading, which takes less time.
     #[inline(always)]
-    pub(crate) fn kind(&self, heard: Option<u32>, number: BlockNumber, wanted: Wanted) -> u16
+    pub(crate) fn outcome(&self, heard: Option<u32>, number: BlockNumber, wanted: Wanted) -> u16
         requires { IfSome heard (λ window. window < 2 ^ 26) }
-        ensures value { result ≡ kind_of (reading_heard heard number wanted self.now.burst) }
+        ensures value { result ≡ outcome_number (reading_heard heard number wanted self.now.burst) }
         ensures most { result ≤ 13 }
     {
         match heard {
-            Some(window) => u16::from(self.kinds.of_block(window, number, wanted)),
-            None => u16::from(Kinds::LOST),
+            Some(window) => u16::from(self.outcomes.of_block(window, number, wanted)),
+            None => u16::from(Outcomes::LOST),
         }
     }
 }

@@ -2,7 +2,7 @@
 
 ghost use Rattle.std.specs.Prelude.{◌≡◌, ◌≤◌, ◌<◌, ◌+◌, ◌^◌, true, IfSome};
 ghost use Rattle.rds_code.specs.Cycle.{next_number};
-ghost use Rattle.rds_code.specs.Kinds.{kind_of};
+ghost use Rattle.rds_code.specs.Outcomes.{outcome_number};
 ghost use Rattle.rds_stream.specs.Recording.{length_of, reading_at};
 ghost use Rattle.rds_sync.specs.Acquiring.{has_number};
 ghost use Rattle.rds_sync.specs.Inside.ShortLocks.{IsLostAtOnce, wanted_behind, word_of_two};
@@ -11,7 +11,7 @@ use crate::item::Block;
 use crate::lock::BLOCK_PLACES;
 use crate::rules::Rules;
 use rds_code::laws::{bursts_are_listed, readings_follow_the_rule};
-use rds_code::{BlockNumber, Kinds, Wanted};
+use rds_code::{BlockNumber, Outcomes, Wanted};
 use rds_stream::Reader;
 
 /// The word of the group of a lock that begins with block `number` at `place`, if the next block, before
@@ -40,43 +40,43 @@ pub(crate) fn word_if_lost(
     let loss = rules.loss();
     if loss.loses_by_one() {
         prove!(number.get() <= 4);
-        let kind = kind_behind(reader, rules, place, number);
-        if kind != u16::from(Kinds::VALID) {
-            return Some(word_of_two(number, kind));
+        let outcome = outcome_after(reader, rules, place, number);
+        if outcome != u16::from(Outcomes::VALID) {
+            return Some(word_of_two(number, outcome));
         }
     }
     None
 }
 
-/// The word of a group of a valid block of this number and the next one of this kind; after block 4, of only
+/// The word of a group of a valid block of this number and the next one of this outcome; after block 4, of only
 /// that one.
 #[inline(always)]
-fn word_of_two(number: BlockNumber, kind: u16) -> u16
-    requires kind { kind ≤ 13 }
-    ensures { result ≡ word_of_two number kind }
+fn word_of_two(number: BlockNumber, outcome: u16) -> u16
+    requires outcome { outcome ≤ 13 }
+    ensures { result ≡ word_of_two number outcome }
 {
     match number.get() {
-        1 => 0x0001 + 0x0010 * kind,
-        2 => 0x0010 + 0x0100 * kind,
-        3 => 0x0100 + 0x1000 * kind,
-        _ => kind,
+        1 => 0x0001 + 0x0010 * outcome,
+        2 => 0x0010 + 0x0100 * outcome,
+        3 => 0x0100 + 0x1000 * outcome,
+        _ => outcome,
     }
 }
 
 /// How the next block after one of this number at `place` came out.
 #[inline(always)]
-fn kind_behind(reader: &mut Reader<'_>, rules: &Rules, place: u64, number: BlockNumber) -> u16
+fn outcome_after(reader: &mut Reader<'_>, rules: &Rules, place: u64, number: BlockNumber) -> u16
     requires first { 25 ≤ place }
     requires within { place + 26 < length_of reader.old }
     requires near { place < 2 ^ 36 }
-    ensures value { result ≡ kind_of
+    ensures value { result ≡ outcome_number
         (reading_at reader.old (place + 26) (next_number number)
         (wanted_behind reader.old rules.now place number) rules.now.burst) }
     ensures most { result ≤ 13 }
     ensures same { reader.new ≡ reader.old }
 {
     let wanted = wanted_behind(reader, rules, place, number);
-    rules.kind(reader.window(place + BLOCK_PLACES), number.next(), wanted)
+    rules.outcome(reader.window(place + BLOCK_PLACES), number.next(), wanted)
 }
 
 /// The offsets that are tried for that block.

@@ -10,10 +10,9 @@ ghost use Rattle.rds_sync.specs.Stretch.{IsStretch};
 ghost use Rattle.rds_sync.specs.declared.state.State.TheVariants.{Locked};
 
 use crate::counts::Counts;
-use crate::four_blocks::{bad_after_four, whole_heard, whole_word};
+use crate::four_blocks::{any_heard, bad_after_four, push_whole, whole_word};
 use crate::item::Item;
 use crate::lock::{BLOCK_PLACES, Lock};
-use crate::push::push_one;
 use crate::rules::Rules;
 use crate::state::State;
 use crate::step::Step;
@@ -84,12 +83,11 @@ pub(crate) fn push_whole_groups(
     let loss = rules.loss();
     let mut now = lock;
     while now.due + 3 * BLOCK_PLACES < to && part.len() < most {
-        let heard = reader.four_windows(now.due);
-        let Some((group, bad)) = whole_heard(rules, loss, now.due - FIRST_WINDOW, heard, now.bad)
-        else {
+        let place = now.due - FIRST_WINDOW;
+        let heard = &reader.four_windows(now.due);
+        let Some(bad) = push_whole(part, rules, loss, place, heard, now.bad) else {
             break;
         };
-        push_one(part, &Item::Group(group));
         now.bad = bad;
         now.due += 4 * BLOCK_PLACES;
     }
@@ -117,8 +115,8 @@ pub(crate) fn whole_group(
     if !lock.begins_group_at(place) || to <= last {
         return None;
     }
-    let heard = reader.four_windows(lock.due);
-    let (group, bad) = whole_heard(rules, rules.loss(), place, heard, lock.bad)?;
+    let heard = &reader.four_windows(lock.due);
+    let (group, bad) = any_heard(rules, rules.loss(), place, heard, lock.bad)?;
     Some(Step {
         place: last + 1,
         state: State::Locked(Lock::after_block(last, 4, bad, 1)),

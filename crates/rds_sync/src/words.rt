@@ -20,7 +20,7 @@ pub(crate) fn nibble(block: &Block) -> u16
         Block::Missing => 0,
         Block::Read(Reading::Valid { .. }) => 1,
         Block::Read(Reading::Lost) => 2,
-        Block::Read(Reading::Corrected { burst, .. }) => u16::from(burst.kind()),
+        Block::Read(Reading::Corrected { burst, .. }) => u16::from(burst.outcome()),
     }
 }
 

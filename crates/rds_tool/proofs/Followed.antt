@@ -1,12 +1,12 @@
 -- The progress of a stream so far, and where it breaks off.
-use Rattle.std.proofs.Common.{◌≡◌, ◌≢◌, ◌+◌, ◌-◌, ◌*◌, ◌/◌, ◌%◌, ◌^◌, ◌<◌, ◌≤◌, ◌++◌, ◌⊎◌, ◌↔◌, ℕ, List, [], ◌∷◌, Err, None, Ok, Option, Result, Some, inl, inr, length, map, min, take, refl, sym, zero, suc, ap, ap₂, ◌∙◌, subst, arith, append_assoc}
+use Rattle.std.proofs.Common.{◌≡◌, ◌≢◌, ◌+◌, ◌-◌, ◌*◌, ◌/◌, ◌%◌, ◌^◌, ◌<◌, ◌≤◌, ◌++◌, ◌⊎◌, ◌↔◌, ℕ, List, [], ◌∷◌, Err, None, Ok, Option, Result, Some, eqb, false, inl, inr, length, map, min, take, refl, sym, zero, suc, ap, ap₂, ◌∙◌, subst, arith, append_assoc}
 use Rattle.std.specs.Prelude.{IfErr, IfSome, OnErr, OnOk}
 use Rattle.std.specs.Int.{bit_at}
 use Rattle.std.specs.List.{flat_map, range_with_len}
 use Rattle.std.specs.Io.KnownBytes.{Appends, Consumes, IsAtEnd, Keeps}
 use Rattle.std.proofs.KnownBytes.{Appends-nil, Appends-trans, Consumes-kept, Consumes-nil, Consumes-trans}
 use Rattle.std.proofs.Math.ListN.{get_or-append}
-use Rattle.std.proofs.lemmas.Bool.{le-ltb}
+use Rattle.std.proofs.lemmas.Bool.{eqb-false, le-ltb}
 use Rattle.std.proofs.lemmas.Grind.{flat_map-append}
 use Rattle.std.proofs.lemmas.List.{append-nil, length-append, length-take, nil_from_length}
 use Rattle.std.proofs.lemmas.List.FromFn.{length-map-range_with_len}
@@ -15,7 +15,7 @@ use Rattle.rds_stream.specs.Recording.{AreGaps, bits_of, length_of, packed_bit}
 use Rattle.rds_sync.specs.declared.item.Item.{Item}
 use Rattle.rds_sync.specs.declared.state.State.TheVariants.{Searching}
 use Rattle.rds_sync.specs.Laws.{RunsAreReports}
-use Rattle.rds_sync.specs.Loss.{IsLoss}
+use Rattle.rds_sync.specs.Loss.{IsLossRule}
 use Rattle.rds_sync.specs.Step.{items_of_end, run}
 use Rattle.rds_sync.specs.declared.totals.Totals.{Totals}
 use Rattle.rds_sync.specs.Totals.{totals_of}
@@ -24,6 +24,7 @@ use Rattle.rds_tool.specs.Input.{and_then, claimed, first_bits}
 use Rattle.rds_tool.specs.Inside.Streams.{IsFollowed, IsNearEnd, IsPlaceOf, IsShortEnough, bits_left}
 use Rattle.rds_tool.specs.Listing.{item_row, report_text, totals_text}
 use Rattle.rds_tool.specs.Outcome.{Writes, WritesPrefix, list_text}
+use Rattle.rds_tool.specs.Refusals.{number_of}
 use Rattle.rds_tool.specs.declared.error.ToolError.{ToolError}
 use Rattle.rds_tool.specs.declared.error.ToolError.TheVariants.{BadGaps, BitsPastBytes, OutOfMemory, Read, TooLong, Write}
 use Rattle.rds_tool.proofs.GapLists.{pass_as_gaps}
@@ -109,7 +110,7 @@ module _ (terms : Terms) (bits : Option ℕ) where
   nothing_done from old = ([], [], omega arith, all_none bits, Consumes-nil from, Appends-nil old)
 
   -- the listing of a stream begins with the rows so far
-  listing_begins : RunsAreReports → IsLoss terms.rules.loss → (bytes : List ℕ) → AllCount bits bytes
+  listing_begins : RunsAreReports → IsLossRule terms.rules.loss → (bytes : List ℕ) → AllCount bits bytes
       → stream_text terms bits bytes ≡ rows_so_far terms bytes
       ++ (flat_map item_row (items_of_end (signal_of terms.gaps bytes) terms.rules (run_of terms bytes).0) ++ totals_text (totals_of (report_at terms bytes (8 * length bytes))))
   listing_begins reports loss bytes all =
@@ -197,7 +198,7 @@ module _ (terms : Terms) (bits : Option ℕ) where
                 }
 
             -- a beginning of their rows was written
-            pub stops_in_rows : RunsAreReports → IsLoss terms.rules.loss → length bytes ≤ 65536
+            pub stops_in_rows : RunsAreReports → IsLossRule terms.rules.loss → length bytes ≤ 65536
                 → ((before : List ℕ) → HasHeard live before → (rows : List ℕ) × HasRows live.terms before bytes rows × WritesPrefix new later (Ok rows))
                 → StopsInRows terms bits from after old later
             stops_in_rows reports loss few wrote =
@@ -241,9 +242,18 @@ rest_is front items last report totals text whole sum is =
     ∙ ap (λ (ys : List ℕ). rows front ++ ys) (sym is)
 
 -- what is left is short enough
-pub short_left : (bits : Option ℕ) (place : ℕ) → place ≤ 2 ^ 36 → IsShortEnough bits → IsPlaceOf bits place → place + bits_left bits place ≤ 2 ^ 36
+short_left : (bits : Option ℕ) (place : ℕ) → place ≤ 2 ^ 36 → IsShortEnough bits → IsPlaceOf bits place → place + bits_left bits place ≤ 2 ^ 36
 short_left None place limit short order = omega (arith, limit)
 short_left (Some n) place limit short order = omega (arith, limit, short, order)
+
+pub rest_fits : (bits : Option ℕ) (place there left : ℕ) → place ≡ there → place ≤ 2 ^ 36 → left ≡ bits_left bits place → IsShortEnough bits → IsPlaceOf bits there → there + left ≤ 2 ^ 36
+rest_fits bits place there left same limit told short order =
+    let fits = short_left bits there (omega (arith, same, limit)) short order in
+    let is : left ≡ bits_left bits there = told ∙ ap (bits_left bits) same in
+    omega (arith, fits, is)
+
+pub few_bits : (left n : ℕ) → left ≤ 8 * n → n ≤ 1 → left ≤ 8
+few_bits left n held few = omega (arith, held, few)
 
 module _ (bits : Option ℕ) (place left : ℕ) (heard bytes : List ℕ) (place_is : place ≡ 8 * length heard) (all : AllCount bits heard) (left_is : left ≡ bits_left bits place)
     (few : left ≤ 8 * length bytes) (less : 8 * length bytes < left + 8) where
@@ -522,6 +532,14 @@ early_has_bytes e (inr (inr (inl w))) p = let bad : Write ≡ BitsPastBytes = sy
 early_has_bytes e (inr (inr (inr (inl t)))) p = let bad : TooLong ≡ BitsPastBytes = sym t ∙ p in cc bad
 early_has_bytes e (inr (inr (inr (inr g)))) p = let bad : BadGaps ≡ BitsPastBytes = sym g ∙ p in cc bad
 
+-- refusals with different numbers differ
+pub differ : (a b : ToolError) → eqb (number_of a) (number_of b) ≡ false → a ≢ b
+differ a b unlike = λ p. eqb-false (number_of a) (number_of b) unlike (ap number_of p)
+
+-- what counted none did not fail
+pub none_counted : {X : Type 0} (start before after : ℕ) → before ≡ start → after ≡ before → start < after → X
+none_counted start before after kept still failed = absurd (omega (arith, kept, still, failed))
+
 -- an answer is of neither kind but these
 pub of_neither : (e a b k : ToolError) → (e ≡ a) ⊎ (e ≡ b) → a ≢ k → b ≢ k → e ≢ k
 of_neither e a b k (inl is) other _ p = other (sym is ∙ p)
@@ -531,6 +549,10 @@ module _ {T : Type 0} (r : Result T ToolError) (e : ToolError) (same : r ≡ Err
   -- what is not of this kind is no device's refusal, and the device did not fail
   pub not_told : (k : ToolError) → e ≢ k → (start before after : ℕ) → before ≡ start → after ≡ before → (r ≡ Err k) ↔ (start < after)
   not_told k other start before after kept still = (λ p. absurd (other (passed_kind r e k same p)), λ q. absurd (omega (arith, kept, still, q)))
+
+  -- what is of this kind tells that the device failed
+  pub told_by : (k : ToolError) → e ≡ k → (start before after : ℕ) → before ≡ start → before < after → (r ≡ Err k) ↔ (start < after)
+  told_by k is start before after kept failed = (λ _. subst (λ n. n < after) kept failed, λ _. same ∙ ap (λ x. Err x) is)
 
   pub no_such : {X : Type 0} (k : ToolError) → e ≢ k → r ≡ Err k → X
   no_such k other p = absurd (other (passed_kind r e k same p))

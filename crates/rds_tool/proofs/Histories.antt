@@ -12,7 +12,7 @@ use Rattle.rds_tool.specs.Inside.Streams.{IsFollowed, IsNearAnswer, IsNearEnd, b
 use Rattle.rds_tool.specs.Outcome.{Writes}
 use Rattle.rds_tool.specs.declared.error.ToolError.{ToolError}
 use Rattle.rds_tool.specs.declared.error.ToolError.TheVariants.{BadGaps, BitsPastBytes, Read, TooLong, Write}
-use Rattle.rds_tool.proofs.Followed.{nothing_done, place_is, stops_here}
+use Rattle.rds_tool.proofs.Followed.{differ, nothing_done, place_is, stops_here}
 
 -- bytes given so far, and then these
 pub gave_more : (a b c xs more : List ℕ) → b ≡ a ++ xs → c ≡ b ++ more → c ≡ a ++ (xs ++ more)
@@ -165,5 +165,5 @@ pub broke_at_write : {T : Type 0} (r : Result T ToolError) (terms : Terms) (bits
 broke_at_write (Ok x) terms bits given given' bytes ended old new flushed kind gave rows = tt
 broke_at_write (Err e) terms bits given given' bytes ended old new flushed kind gave rows =
     let not : (k : ToolError) → Write ≢ k → e ≢ k = λ k other p. other (sym kind ∙ p) in
-    broke_after terms bits given given' ended old new flushed e bytes gave (not Read (λ p. cc p), not BitsPastBytes (λ p. cc p))
-    (λ other. absurd (other kind)) (λ p. rows (ap (λ x. Err x) p)) (λ p. absurd (not TooLong (λ q. cc q) p)) (λ p. absurd (not BadGaps (λ q. cc q) p))
+    broke_after terms bits given given' ended old new flushed e bytes gave (not Read (differ _ _ refl), not BitsPastBytes (differ _ _ refl))
+    (λ other. absurd (other kind)) (λ p. rows (ap (λ x. Err x) p)) (λ p. absurd (not TooLong (differ _ _ refl) p)) (λ p. absurd (not BadGaps (differ _ _ refl) p))

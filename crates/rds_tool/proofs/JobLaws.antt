@@ -11,7 +11,7 @@ use Rattle.hex.specs.Hex.{IsBytes, decode_of, decode_sized, encode_lower, encode
 use Rattle.hex.specs.declared.error.FromHexError.{FromHexError}
 use Rattle.hex.proofs.HexLemmas.{IsDigits-lower_digits, decode_of-encode_lower, decode_of-ok, decode_sized-ok, decode_sized-twice}
 use Rattle.rds_stream.specs.Recording.{Signal, bits_of, length_of, packed_bit, ungapped}
-use Rattle.rds_sync.specs.Loss.{IsLoss}
+use Rattle.rds_sync.specs.Loss.{IsLossRule}
 use Rattle.rds_sync.specs.Report.{report_items}
 use Rattle.rds_sync.specs.Rules.{RuleNumbers}
 use Rattle.rds_sync.specs.Sent.{AreWords, EncodedGroupsAreListed as SentGroupsAreListed, PackedGroupsAreSent, bits_sent, packed_group, packed_groups}
@@ -162,11 +162,11 @@ untested true error rest made is = cc is
 untested false error rest made is = (refl, is)
 
 record AreLawful (rules : RuleNumbers) : Type 0 where
-  loss : IsLoss rules.loss
+  loss : IsLossRule rules.loss
   reach : 1 ≤ rules.reach
   burst : rules.burst ≤ 5
 
-loss_lawful : (asked loss : Loss) → loss_of asked ≡ Ok loss → IsLoss loss
+loss_lawful : (asked loss : Loss) → loss_of asked ≡ Ok loss → IsLossRule loss
 loss_lawful (Run n) loss is =
     let inside = untested (nat_lt n 1 || nat_lt 64 n) LossRange _ loss is in
     rw (← same-ok (Run n) loss inside.1) (grind (arith, nat_tests, inside.0))

@@ -5,9 +5,9 @@ use Rattle.clap.specs.Words.{AddsArg, AddsSubcommand, App, rule_of, with_rule, w
 use Rattle.clap.specs.declared.builder.arg.Arg.{Arg}
 use Rattle.clap.specs.declared.builder.command.Command.{Command}
 use Rattle.rds_tool.specs.CommandLine.{ReadsAs}
-use Rattle.rds_tool.specs.Inside.Commands.{app_of_row, rule_of_row, with_command, with_each, with_option}
+use Rattle.rds_tool.specs.Inside.Commands.{app_of_row, rule_of_option, with_command, with_each, with_option}
 use Rattle.rds_tool.specs.declared.commands.CommandRow.{CommandRow}
-use Rattle.rds_tool.specs.declared.commands.OptionRow.{OptionRow}
+use Rattle.rds_tool.specs.declared.commands.CommandOption.{CommandOption}
 
 -- with the rows that are left, the command reads as the whole
 pub record HasRest {X : Type 0} (add : App → X → App) (made : Command) (rows : List X) (whole : App) : Type 0 where
@@ -23,7 +23,7 @@ module _ {X : Type 0} (add : App → X → App) (whole : App) where
   ended made rows i has none =
       subst (ReadsAs made) (sym (ap (with_each add has.reads) (drop_all i rows none)) ∙ has.rest) has.now
 
-  next : (old new : Command) (rows : List X) (i : ℕ) (d : X) → HasRest add old (drop i rows) whole → i < length rows
+  pub next : (old new : Command) (rows : List X) (i : ℕ) (d : X) → HasRest add old (drop i rows) whole → i < length rows
       → ((reads : App) → ReadsAs old reads → ReadsAs new (add reads (get_or rows i d))) → HasRest add new (drop (i + 1) rows) whole
   next old new rows i d has some adds = record {
     reads = add has.reads (get_or rows i d);
@@ -31,28 +31,22 @@ module _ {X : Type 0} (add : App → X → App) (whole : App) where
     rest = sym (ap (with_each add has.reads) (drop_more rows i d some)) ∙ has.rest;
   }
 
-with_one_option : (old new : Command) (option : Arg) (row : OptionRow) → AddsArg old option new → option.global ≡ false → rule_of option ≡ rule_of_row row
-    → (reads : App) → ReadsAs old reads → ReadsAs new (with_option reads row)
-with_one_option old new option row adds local is reads now = record {
-  app = adds.shape local ∙ ap₂ with_rule now.app is;
-  local = adds.globals ∙ ap₂ (λ a b. a || b) now.local local;
-}
-
-pub next_option : (whole : App) (old new : Command) (option : Arg) (rows : List OptionRow) (i : ℕ) (d : OptionRow)
-    → HasRest with_option old (drop i rows) whole → i < length rows
-    → AddsArg old option new → option.global ≡ false → rule_of option ≡ rule_of_row (get_or rows i d) → HasRest with_option new (drop (i + 1) rows) whole
-next_option whole old new option rows i d has some adds local is =
-    next with_option whole old new rows i d has some (with_one_option old new option (get_or rows i d) adds local is)
-
-with_one_command : (old new sub : Command) (row : CommandRow) → AddsSubcommand old sub new → ReadsAs sub (app_of_row row)
+pub with_one_command : (old new sub : Command) (row : CommandRow) → AddsSubcommand old sub new → ReadsAs sub (app_of_row row)
     → (reads : App) → ReadsAs old reads → ReadsAs new (with_command reads row)
 with_one_command old new sub row adds is reads now = record {
   app = adds.shape is.local ∙ ap₂ (λ (a b : App). with_subcommand a b.top) now.app is.app;
   local = adds.globals ∙ ap₂ (λ a b. a || b) now.local is.local;
 }
 
-pub next_command : (whole : App) (old new sub : Command) (rows : List CommandRow) (i : ℕ) (d : CommandRow)
-    → HasRest with_command old (drop i rows) whole → i < length rows
-    → AddsSubcommand old sub new → ReadsAs sub (app_of_row (get_or rows i d)) → HasRest with_command new (drop (i + 1) rows) whole
-next_command whole old new sub rows i d has some adds is =
-    next with_command whole old new rows i d has some (with_one_command old new sub (get_or rows i d) adds is)
+with_one_option : (old new : Command) (arg : Arg) (option : CommandOption) → AddsArg old arg new → arg.global ≡ false → rule_of arg ≡ rule_of_option option
+    → (reads : App) → ReadsAs old reads → ReadsAs new (with_option reads option)
+with_one_option old new arg option adds local is reads now = record {
+  app = adds.shape local ∙ ap₂ with_rule now.app is;
+  local = adds.globals ∙ ap₂ (λ a b. a || b) now.local local;
+}
+
+pub next_option : (whole : App) (old new : Command) (arg : Arg) (rows : List CommandOption) (i : ℕ) (d : CommandOption)
+    → HasRest with_option old (drop i rows) whole → i < length rows
+    → AddsArg old arg new → arg.global ≡ false → rule_of arg ≡ rule_of_option (get_or rows i d) → HasRest with_option new (drop (i + 1) rows) whole
+next_option whole old new arg rows i d has some adds local is =
+    next with_option whole old new rows i d has some (with_one_option old new arg (get_or rows i d) adds local is)

@@ -11,7 +11,7 @@ use Rattle.rds_sync.specs.Counting.{IsAtMost, TotalsJoin, plus}
 use Rattle.rds_sync.specs.Decoding.{DecoderOf, decoder_of}
 use Rattle.rds_sync.specs.Lawful.{IsLawful}
 use Rattle.rds_sync.specs.Laws.{RunsAreLawful, RunsAreReports, RunsGiveFewItems}
-use Rattle.rds_sync.specs.Loss.{IsLoss}
+use Rattle.rds_sync.specs.Loss.{IsLossRule}
 use Rattle.rds_sync.specs.Report.{report_items}
 use Rattle.rds_sync.specs.Rules.{RuleNumbers}
 use Rattle.rds_sync.specs.Step.{items_of_end, run}
@@ -72,7 +72,7 @@ prefix_first a b xs ys zs e p = subst (λ (ws : List ℕ). AppendsPrefix a b ws)
 
 -- ---- the run over a whole recording
 
-module _ (b : Signal) (rules : RuleNumbers) (len : ℕ) (is : len ≡ length_of b) (d : DecoderOf) (of : d ≡ decoder_of b rules Searching 0 len) (loss : IsLoss rules.loss) where
+module _ (b : Signal) (rules : RuleNumbers) (len : ℕ) (is : len ≡ length_of b) (d : DecoderOf) (of : d ≡ decoder_of b rules Searching 0 len) (loss : IsLossRule rules.loss) where
   -- its items, and then those of the end, are the report's
   whole_report : RunsAreReports → (end : State) → end ≡ d.end → d.items ++ items_of_end b rules end ≡ report_items b rules
   whole_report reports end ends =

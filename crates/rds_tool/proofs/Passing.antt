@@ -1,6 +1,6 @@
 -- A refusal that `?` passes on.
 use Rattle.std.proofs.Common.{◌≡◌, Err, Ok, Result, ap, subst, sym}
-use Rattle.std.specs.Prelude.{IfErr, OnErr, OnOk}
+use Rattle.std.specs.Prelude.{IfErr, IfOk, OnErr}
 use Rattle.std.specs.Result.{IsErr, IsErrAnd}
 use Rattle.rds_tool.specs.declared.error.ToolError.{ToolError}
 
@@ -22,7 +22,7 @@ on_any_err (Ok x) p = tt
 on_any_err (Err e) p = p
 
 -- if there is an error, nothing need hold of an answer
-pub no_ok : {T E : Type 0} (P : Type 0) (r : Result T E) (e : E) → r ≡ Err e → OnOk r P
+pub no_ok : {T E : Type 0} (P : T → Type 0) (r : Result T E) (e : E) → r ≡ Err e → IfOk r P
 no_ok P (Ok x) e h = cc h
 no_ok P (Err x) e h = tt
 

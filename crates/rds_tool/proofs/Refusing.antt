@@ -6,7 +6,7 @@ use Rattle.clap.specs.Values.{kind_of}
 use Rattle.clap.specs.declared.error.Error.{Error}
 use Rattle.clap.specs.declared.error.kind.ErrorKind.{ErrorKind}
 use Rattle.clap.specs.declared.error.kind.ErrorKind.TheVariants as kind
-use Rattle.rds_tool.specs.CommandLine.{IsFault, MayRefuse, job_in}
+use Rattle.rds_tool.specs.CommandLine.{IsFault, MayAnswer, job_in}
 use Rattle.rds_tool.specs.declared.job.Asked.{Asked}
 use Rattle.rds_tool.specs.declared.job.Job.{Job}
 use Rattle.rds_tool.specs.declared.fault.FaultKind.{FaultKind}
@@ -17,7 +17,7 @@ pub refused_by : {T : Type 0} (faults : Kinds) (asked : Option T) (e : Error) (a
     → (answer ≡ Help → kind_of e ≡ kind.DisplayHelp)
     → (answer ≡ Version → kind_of e ≡ kind.DisplayVersion)
     → (answer ≡ Words → IsFault (kind_of e))
-    → MayRefuse faults asked answer
+    → MayAnswer faults asked answer
 refused_by faults asked e Memory h help version words = tt
 refused_by faults asked e Help (inl m) help version words = let bad : kind.DisplayHelp ≡ kind.OutOfMemory = sym (help refl) ∙ m in cc bad
 refused_by faults asked e Help (inr a) help version words = subst (λ (k : ErrorKind). IsAmong k faults) (help refl) a
@@ -27,8 +27,8 @@ refused_by faults asked e Words (inl m) help version words = absurd ((words refl
 refused_by faults asked e Words (inr a) help version words = inl (kind_of e, words refl, a)
 
 -- where nothing is asked for, no job is
-pub no_job : (faults : Kinds) (asked : Option Asked) (answer : FaultKind) → MayRefuse faults asked answer
-    → MayRefuse faults (option_and_then (λ (a : Asked). job_in a.request) asked) answer
+pub no_job : (faults : Kinds) (asked : Option Asked) (answer : FaultKind) → MayAnswer faults asked answer
+    → MayAnswer faults (option_and_then (λ (a : Asked). job_in a.request) asked) answer
 no_job faults asked Help may = may
 no_job faults asked Version may = may
 no_job faults asked Memory may = tt
@@ -37,6 +37,6 @@ no_job faults asked Words (inr none) = inr (none.0, ap (option_and_then (λ (a :
 
 -- a stream is no job
 pub of_stream : (faults : Kinds) (job : Option Job) (answer : FaultKind) → faults ≡ [] → job ≡ None → (answer ≡ Memory) ⊎ (answer ≡ Words)
-    → MayRefuse faults job answer
+    → MayAnswer faults job answer
 of_stream faults job answer none without (inl memory) = rw memory tt
 of_stream faults job answer none without (inr words) = rw words (inr (none, without))

@@ -1,9 +1,10 @@
 -- The text that `csv` writes for fields that need no quotes.
-use Rattle.std.proofs.Common.{◌/◌, ◌%◌, ◌||◌, Bool, Option, Some, None, get_or, slice_index, suc, true, zero, ◌++◌, ◌+◌, ◌*◌, ◌<◌, ◌^◌, ◌∙◌, ◌∷◌, ◌≡◌, ◌≤◌, List, [], ap, append-nil, arith, false, length, map, refl, ℕ, Bor}
+use Rattle.std.proofs.Common.{◌/◌, ◌%◌, ◌||◌, Bool, Option, Some, None, get_or, slice_index, suc, true, zero, ◌++◌, ◌+◌, ◌*◌, ◌<◌, ◌^◌, ◌∙◌, ◌∷◌, ◌≡◌, ◌≤◌, List, [], ap, append-nil, arith, false, leb, length, map, refl, ℕ, Bor}
 use Rattle.std.specs.Prelude.{IfSome, decimal}
 use Rattle.std.specs.Char.{digit_value}
 use Rattle.std.specs.List.{AllByRecursion, join_with_byte}
 use Rattle.std.specs.Str.Parse.{AllDigits}
+use Rattle.std.proofs.lemmas.Bool.{leb-true}
 use Rattle.std.proofs.lemmas.Bool.Decides.{nat_tests}
 use Rattle.std.proofs.lemmas.Grind.{common_steps}
 use Rattle.std.proofs.lemmas.Fmt.{decimal_is_IsNumeral}
@@ -71,6 +72,10 @@ name_plain B = refl
 name_plain C = refl
 name_plain Cx = refl
 name_plain D = refl
+
+-- a text of at most as many bytes as a number that is short enough
+pub shorter : (text : List ℕ) (n : ℕ) → length text ≤ n → leb n 20 ≡ true → IsShort text
+shorter text n few short = omega (arith, few, leb-true n 20 short)
 
 pub name_short : (o : Offset) → IsShort (name o)
 name_short A = omega arith

@@ -1,7 +1,7 @@
 -- How a transcription ends: its settings are refused, or its bytes, or its writer's turn has come.
-use Rattle.std.proofs.Common.{Bool, Err, List, None, Ok, Option, Result, Some, [], true, ◌++◌, ap, inl, inr, refl, subst, sym, ◌<◌, ◌≡◌, ◌≢◌, ◌⊎◌, ◌↔◌, ◌∙◌, ℕ}
+use Rattle.std.proofs.Common.{Bool, Err, List, None, Ok, Option, Result, Some, [], true, ◌++◌, ap, inl, inr, refl, subst, sym, ◌<◌, ◌≡◌, ◌≢◌, ◌≤◌, ◌⊎◌, ◌↔◌, ◌∙◌, length, ℕ}
 use Rattle.std.specs.Prelude.{IfErr, IfSome, OnOk}
-use Rattle.std.specs.Io.KnownBytes.{Appends, IsAtEnd}
+use Rattle.std.specs.Io.KnownBytes.{Appends, Consumes, IsAtEnd}
 use Rattle.std.proofs.lemmas.List.{append-nil}
 use Rattle.rds_rows.specs.declared.sink.Sink.{Ghosts as Sink}
 use Rattle.rds_tool.specs.History.{Gave}
@@ -15,7 +15,8 @@ use Rattle.rds_tool.specs.declared.error.ToolError.{ToolError}
 use Rattle.rds_tool.specs.declared.error.ToolError.TheVariants.{NoWorker, OutOfMemory, Read, TooManyTurns, Write}
 use Rattle.rds_tool.specs.declared.job.Job.{Job}
 use Rattle.rds_tool.specs.declared.task.Task.{Task}
-use Rattle.rds_tool.proofs.Followed.{on_any_ok}
+use Rattle.rds_tool.proofs.Followed.{no_such, not_told, of_call, on_any_ok, told_on}
+use Rattle.rds_tool.proofs.Histories.{of_none}
 use Rattle.rds_tool.proofs.Passing.{no_err, no_ok, passed_kind}
 use Rattle.rds_tool.proofs.Texts.{asked, not_called, passed_inside, prefix_is, refused_inside, settings_inside, started, written_is}
 
@@ -49,6 +50,12 @@ text_refused_by X job task given given' held ended e is gave done (inl memory) =
 text_refused_by X job task given given' held ended e is gave done (inr (inl threads)) = inl (inr (inl threads.0))
 text_refused_by X job task given given' held ended e is gave done (inr (inr refused)) =
     inr (held, gave, (ap (λ r. and_then r (λ (t : Task). text_of_task t held)) is ∙ refused, inr done))
+
+-- one of the reader is a device's, or for want of memory
+outside_of_read : (e : ToolError) → (e ≡ OutOfMemory) ⊎ ((e ≡ Read) ⊎ (e ≡ TooManyTurns)) → IsOutside e
+outside_of_read e (inl memory) = inl memory
+outside_of_read e (inr (inl read)) = inr (inr (inl read))
+outside_of_read e (inr (inr turns)) = inr (inr (inr (inr turns)))
 
 -- and one of the writer is a device's
 write_refused : {T : Type 0} (P : ToolError → Type 0) (r : Result T ToolError) → IfErr r (λ e. (e ≡ OutOfMemory) ⊎ (e ≡ Write)) → IfErr r (λ e. IsOutside e ⊎ P e)
@@ -116,6 +123,37 @@ module _ {R W : Type 0} (source : Source R) (sink : Sink W) (job : Job) (reader 
         prefix = λ p. absurd (inside.1 p);
         broke_off = λ p. absurd (inside.1 p);
       }
+
+  -- reading is refused
+  module _ {T : Type 0} (reader' : R) (task : Task) (e : ToolError) (is : task_of job ≡ Ok task) (same : r ≡ Err e) where
+    abbrev refused : Result T ToolError
+    refused = Err e
+
+    pub at_read : (e ≡ OutOfMemory) ⊎ ((e ≡ Read) ⊎ (e ≡ TooManyTurns)) → (refused ≡ Err Read ↔ (source.failed reader < source.failed reader'))
+        → (refused ≡ Err TooManyTurns → (more : List ℕ) × Consumes (source.remaining reader) (source.remaining reader') more × (16777216 ≤ length more))
+        → (refused ≡ Err TooManyTurns → Gave (source.given reader) (source.given reader') (λ bytes. 16777216 ≤ length bytes))
+        → IsTranscribed source sink job reader reader' writer writer r
+    at_read kinds failed turns turned =
+        let no_write : e ≢ Write = of_none e OutOfMemory Read TooManyTurns Write kinds (λ p. cc p) (λ p. cc p) (λ p. cc p) in
+        let no_worker : e ≢ NoWorker = of_none e OutOfMemory Read TooManyTurns NoWorker kinds (λ p. cc p) (λ p. cc p) (λ p. cc p) in
+        record {
+          end = no_ok _ _ _ same;
+          ok = no_ok _ _ _ same;
+          heard = no_ok _ _ _ same;
+          ended = no_ok _ _ _ same;
+          flushed = no_ok _ _ _ same;
+          read = told_on r e same Read _ _ _ refl failed;
+          write = not_told r e same Write no_write _ _ _ refl refl;
+          turns = λ p. turns (of_call r e same TooManyTurns p);
+          no_worker = no_such r e same NoWorker no_worker;
+          refused = on_err _ r e same (inl (outside_of_read e kinds));
+          turned = λ p. turned (of_call r e same TooManyTurns p);
+          refused_by = on_err _ r e same (inl (outside_of_read e kinds));
+          settings = no_err _ _ _ is;
+          untouched = on_err _ r e same (λ other. refl);
+          prefix = no_such r e same Write no_write;
+          broke_off = no_such r e same Write no_write;
+        }
 
   -- all was read
   module _ (reader' : R) (task : Task) (held : List ℕ) (is : task_of job ≡ Ok task) (all : IfSome (source.remaining reader) (λ bytes. held ≡ bytes))

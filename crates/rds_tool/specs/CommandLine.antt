@@ -39,12 +39,12 @@ use Rattle.rds_tool.specs.declared.job.Job.TheVariants.{Encode, List as ListJob,
 
 -- ---- the input of a command
 
--- it reads the words so, and none of its options is for its subcommands too
+-- the command parses words as `reads` describes, and none of its options is global
 pub record ReadsAs (command : Command) (reads : App) : Type 0 where
   pub app : app_of command ≡ reads
   pub local : (fields_of command).has_globals ≡ false
 
--- the command that was made reads so, if one was made
+-- if a command was made, it parses words as `app` describes
 abbrev pub Makes : {E : Type 0} → Result Command E → App → Type 0
 Makes made app = IfOk made (λ command. ReadsAs command app)
 
@@ -55,47 +55,52 @@ abbrev pub value_rule : Text → ValueParser → List Text → Rule
 value_rule name takes defaults =
     record (new_rule name) { long = Some name; action = Some Set; value_names = 1; parser = Some takes; defaults = defaults }
 
--- a number below 2^32
+-- the option `--name` with a number below 2^32
 abbrev pub number_rule : Text → List Text → Rule
 number_rule name defaults = value_rule name (parser.Signed (pos 0) (pos 4294967295)) defaults
 
 abbrev pub flag_rule : Text → Rule
 flag_rule name = record (new_rule name) { long = Some name; action = Some SetTrue; parser = Some parser.Bool }
 
--- which bits of a recording or a stream mean something: their number, at most 2^40, and a text of gaps
+-- `--bits`, the number of bits, at most 2^40 (more than 2^36 is refused later, as error 5); `--gaps`, the ranges of bits
+-- without meaning
 abbrev pub bits_and_gaps : List Rule
 bits_and_gaps = value_rule (codes "bits") (parser.Unsigned 0 1099511627776) [] ∷ value_rule (codes "gaps") parser.String [] ∷ []
 
--- the rules of a synchroniser
-abbrev pub sync_rules : List Rule
-sync_rules =
+-- the options for the rules of sync
+abbrev pub sync_options : List Rule
+sync_options =
     number_rule (codes "burst") (codes "2" ∷ []) ∷ number_rule (codes "reach") (codes "3" ∷ [])
     ∷ number_rule (codes "loss") (codes "10" ∷ []) ∷ number_rule (codes "share") [] ∷ number_rule (codes "of") (codes "64" ∷ []) ∷ []
 
--- how many threads work, and whether they tell how far they are
-abbrev pub crew : List Rule
-crew = number_rule (codes "workers") (codes "4" ∷ []) ∷ flag_rule (codes "progress") ∷ []
+-- `--workers`, the number of threads; `--progress`, which shows progress
+abbrev pub worker_options : List Rule
+worker_options = number_rule (codes "workers") (codes "4" ∷ []) ∷ flag_rule (codes "progress") ∷ []
 
 abbrev pub scan_options : List Rule
-scan_options = flag_rule (codes "hex") ∷ bits_and_gaps ++ crew
+scan_options = flag_rule (codes "hex") ∷ bits_and_gaps ++ worker_options
 
 abbrev pub report_options : List Rule
-report_options = flag_rule (codes "hex") ∷ bits_and_gaps ++ sync_rules ++ number_rule (codes "pieces") (codes "16" ∷ []) ∷ crew
+report_options =
+    flag_rule (codes "hex") ∷ bits_and_gaps ++ sync_options ++ number_rule (codes "pieces") (codes "16" ∷ [])
+    ∷ worker_options
 
--- a stream comes as the bytes themselves, and one thread decodes it as it comes
+-- `follow` has none of the other options: one thread decodes raw bytes as they arrive
 abbrev pub follow_options : List Rule
-follow_options = bits_and_gaps ++ sync_rules
+follow_options = bits_and_gaps ++ sync_options
 
-abbrev pub command : Text → List Rule → Shape
-command name options = record (new_shape name) { rules = options }
+-- the command `name` with these options
+abbrev pub command_shape : Text → List Rule → Shape
+command_shape name options = record (new_shape name) { rules = options }
 
 -- the program, which has a version and wants a command
 abbrev pub rds_app : App
 rds_app = record {
   top = record (new_shape (codes "rds")) { is_leaf = false; has_version = true; subcommand_required = true };
   subs =
-      command (codes "scan") scan_options ∷ command (codes "list") report_options ∷ command (codes "follow") follow_options
-      ∷ command (codes "totals") report_options ∷ command (codes "encode") (flag_rule (codes "hex") ∷ []) ∷ [];
+      command_shape (codes "scan") scan_options ∷ command_shape (codes "list") report_options
+      ∷ command_shape (codes "follow") follow_options ∷ command_shape (codes "totals") report_options
+      ∷ command_shape (codes "encode") (flag_rule (codes "hex") ∷ []) ∷ [];
 }
 
 -- ---- the entries that the words give
@@ -133,11 +138,11 @@ abbrev pub gaps_spelled : Option Text → Option (List (ℕ × ℕ))
 gaps_spelled None = Some []
 gaps_spelled (Some text) = gaps_of text
 
--- the gaps that the entries ask for, if they spell some
+-- the gaps of the entry `--gaps`: `Some []` if it is not given, `None` if its text cannot be parsed
 abbrev pub gaps_asked_for : List Row → Option (List (ℕ × ℕ))
 gaps_asked_for rows = gaps_spelled (first_of (codes "gaps") rows)
 
--- the rule of loss: by the share, if there is one, of as many blocks as `--of` says, or else by `--loss` in a row
+-- the rule of loss: a share by `--share` and `--of` if `--share` is given, else `--loss` bad blocks in a row
 abbrev pub loss_by : List Row → Option ℕ → Option Loss
 loss_by rows None = option_map Run (number_of (codes "loss") rows)
 loss_by rows (Some bad) = option_map (Share bad) (number_of (codes "of") rows)
@@ -160,12 +165,12 @@ ignored_by rows =
     then (if is_given (codes "loss") rows then Some ignored.Loss else None)
     else (if is_given (codes "of") rows then Some ignored.Of else None)
 
--- the warning of it
+-- the warning about the ignored option
 abbrev pub warning_of : Ignored → Text
 warning_of ignored.Loss = codes "--loss is ignored with --share"
 warning_of ignored.Of = codes "--of is ignored without --share"
 
--- the numbers of a synchroniser's rules
+-- the numbers of the rules of sync
 abbrev pub rules_of : List Row → Option RuleNumbers
 rules_of rows =
     option_and_then (λ burst. option_and_then (λ reach. option_map (λ loss.
@@ -178,7 +183,7 @@ settings_of rows =
     record { burst = rules.burst; reach = rules.reach; loss = rules.loss; workers = workers; cuts = Even pieces })
     (number_of (codes "pieces") rows)) (number_of (codes "workers") rows)) (rules_of rows)
 
--- the job, and whether its progress is told
+-- the job, with its progress shown if `--progress` is given
 abbrev pub with_progress : List Row → Job → Request
 with_progress rows job = AskedJob job (flag_of (codes "progress") rows)
 
@@ -204,7 +209,7 @@ asked_with name rows None = Err no.Gaps
 asked_with name rows (Some gaps) =
     ok_or (option_map (λ request. record { request = request; ignored = ignored_by rows }) (request_with name rows gaps)) no.Entries
 
--- what a command and its entries ask for; a fault of the gaps comes before any other
+-- the request of a command and its entries, or the fault: bad gaps come before any other
 abbrev pub asked_by : Option (Text × List Row) → Result Asked NoJob
 asked_by None = Err no.Entries
 asked_by (Some entries) = asked_with entries.0 entries.1 (gaps_asked_for entries.1)
@@ -218,7 +223,7 @@ abbrev pub job_in : Request → Option Job
 job_in (AskedJob job progress) = Some job
 job_in (Follow input rules) = None
 
--- the job that they ask for
+-- the job that a command and its entries ask for, if any
 abbrev pub job_by : Option (Text × List Row) → Option Job
 job_by entries = option_and_then (λ asked. job_in asked.request) (result_ok (asked_by entries))
 
@@ -229,22 +234,23 @@ abbrev pub Gives : {T : Type 0} → Result T NoJob → Result T NoJob → Type 0
 Gives computed (Ok value) = computed ≡ Ok value
 Gives computed (Err why) = (why ≡ no.Memory) ⊎ (computed ≡ Err why)
 
--- the kind is a fault of the words: nothing to be shown was asked for, and memory is not at fault
+-- a fault of the words: neither help nor the version, and memory was not refused
 abbrev pub IsFault : ErrorKind → Type 0
 IsFault k = (k ≢ kind.DisplayHelp) × (k ≢ kind.DisplayVersion) × (k ≢ kind.OutOfMemory)
 
--- the kind of answer that these faults allow: help or the version if it was asked for; a refusal of the words
--- if they have a fault, or have none and yet ask for nothing, `asked`; `Memory` in any case
-abbrev pub MayRefuse : {T : Type 0} → Kinds → Option T → FaultKind → Type 0
-MayRefuse faults asked Help = IsAmong kind.DisplayHelp faults
-MayRefuse faults asked Version = IsAmong kind.DisplayVersion faults
-MayRefuse faults asked Words = ((k : ErrorKind) × IsFault k × IsAmong k faults) ⊎ ((faults ≡ []) × (asked ≡ None))
-MayRefuse faults asked Memory = ⊤
+-- whether this kind of answer is allowed, by the faults that `clap` finds and the request `asked`. Help and the version
+-- must be asked for. A refusal of the words needs a fault, or words without fault and without request. `Memory` is
+-- always allowed.
+abbrev pub MayAnswer : {T : Type 0} → Kinds → Option T → FaultKind → Type 0
+MayAnswer faults asked Help = IsAmong kind.DisplayHelp faults
+MayAnswer faults asked Version = IsAmong kind.DisplayVersion faults
+MayAnswer faults asked Words = ((k : ErrorKind) × IsFault k × IsAmong k faults) ⊎ ((faults ≡ []) × (asked ≡ None))
+MayAnswer faults asked Memory = ⊤
 
 -- the text that is shown if the gaps can't be parsed
 abbrev pub bad_gaps_text : Text
 bad_gaps_text = codes "bad --gaps" ++ 10 ∷ []
 
--- that, or memory was refused
+-- the fault has that text, or memory was refused
 abbrev pub SaysBadGaps : CliFault → Type 0
 SaysBadGaps fault = (fault.kind ≡ Memory) ⊎ ((fault.kind ≡ Words) × (string_bytes fault.text ≡ bad_gaps_text))

@@ -37,16 +37,16 @@ scan_text recording = flat_map window_row (valid_windows recording 0 (length_of 
 
 -- ---- the fields of a group
 
--- the last digits of a number to the base 16, that many, highest first and in upper case
+-- the lowest `width` hexadecimal digits of a number, highest first, in upper case
 abbrev pub hex_digits : ℕ → ℕ → List ℕ
 hex_digits zero n = []
 hex_digits (suc width) n = hex_digits width (n / 16) ++ slice_index upper_digits (n % 16) ∷ []
 
--- a block that was read and is not lost: its offset and its information word
+-- a valid or corrected block: its offset, a colon (58) and its information word
 abbrev pub word_text : Offset → ℕ → List ℕ
 word_text offset info = name offset ++ 58 ∷ hex_digits 4 info
 
--- a block; a corrected one ends in the burst
+-- a block; a corrected one ends in a tilde (126) and its error mask of 26 bits, in seven digits
 abbrev pub block_text : Block → List ℕ
 block_text Missing = codes "none"
 block_text (Read Lost) = codes "lost"
@@ -68,6 +68,7 @@ version_text Unknown conflict = codes "?"
 
 -- ---- the items of a report
 
+-- the eight fields of an item; unused ones are dashes
 abbrev pub item_fields : Item → List (List ℕ)
 item_fields (Acquired place number) = codes "acquired" ∷ decimal place ∷ decimal number ∷ dash ∷ dash ∷ dash ∷ dash ∷ dash ∷ []
 item_fields (LostLock place) = codes "lost" ∷ decimal place ∷ dash ∷ dash ∷ dash ∷ dash ∷ dash ∷ dash ∷ []
@@ -79,6 +80,7 @@ item_row item = row (item_fields item)
 
 -- ---- the totals
 
+-- the row of a total, which has eight fields too
 abbrev pub total_row : List ℕ × ℕ → List ℕ
 total_row total = row (codes "total" ∷ total.0 ∷ decimal total.1 ∷ dash ∷ dash ∷ dash ∷ dash ∷ dash ∷ [])
 

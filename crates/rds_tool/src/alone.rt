@@ -120,8 +120,7 @@ fn totals_of(
 {
     let recording = recording_of(alloc, input, held)?;
     check_cuts(alloc, plan, &recording)?;
-    let totals = count(alloc, &recording, plan.rules())?;
-    Ok(totals)
+    count(alloc, &recording, plan.rules())
 }
 
 /// The totals of the report of a recording, of which no list is kept.

@@ -4,7 +4,7 @@ ghost use Rattle.std.specs.Result.{result_ok};
 ghost use Rattle.clap.specs.Kinds.{FailsBy};
 ghost use Rattle.clap.specs.Values.{kind_of};
 ghost use Rattle.clap.specs.Words.{subcommand_rows_of};
-ghost use Rattle.rds_tool.specs.CommandLine.{HasBadGaps, IsFault, MayRefuse, SaysBadGaps, asked_by, entries_of, faults_of, job_by, job_in as the_job_in};
+ghost use Rattle.rds_tool.specs.CommandLine.{HasBadGaps, IsFault, MayAnswer, SaysBadGaps, asked_by, entries_of, faults_of, job_by, job_in as the_job_in};
 
 use crate::commands::rds_command;
 use crate::entries::asked_in;
@@ -24,7 +24,7 @@ pub fn asked_of(alloc: Global, words: &[&str]) -> Result<Asked, CliFault>
     ensures entries { IfOk result (λ asked. asked_by (entries_of (map (λ word. word.now) words.now))
         ≡ Ok asked) }
     ensures faultless { OnOk result (faults_of (map (λ word. word.now) words.now) ≡ []) }
-    ensures refused { IfErr result (λ fault. MayRefuse (faults_of (map (λ word. word.now) words.now))
+    ensures refused { IfErr result (λ fault. MayAnswer (faults_of (map (λ word. word.now) words.now))
         (result_ok (asked_by (entries_of (map (λ word. word.now) words.now)))) fault.kind) }
     ensures gaps { faults_of (map (λ word. word.now) words.now) ≡ []
         → HasBadGaps (entries_of (map (λ word. word.now) words.now)) → IsErrAnd result SaysBadGaps }
@@ -45,7 +45,7 @@ pub fn asked_of(alloc: Global, words: &[&str]) -> Result<Asked, CliFault>
 pub fn job_of(alloc: Global, words: &[&str]) -> Result<Job, CliFault>
     ensures entries { IfOk result (λ job. job_by (entries_of (map (λ word. word.now) words.now)) ≡ Some job) }
     ensures faultless { OnOk result (faults_of (map (λ word. word.now) words.now) ≡ []) }
-    ensures refused { IfErr result (λ fault. MayRefuse (faults_of (map (λ word. word.now) words.now))
+    ensures refused { IfErr result (λ fault. MayAnswer (faults_of (map (λ word. word.now) words.now))
         (job_by (entries_of (map (λ word. word.now) words.now))) fault.kind) }
     ensures gaps { faults_of (map (λ word. word.now) words.now) ≡ []
         → HasBadGaps (entries_of (map (λ word. word.now) words.now)) → IsErrAnd result SaysBadGaps }

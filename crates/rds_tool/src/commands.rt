@@ -2,14 +2,55 @@
 ghost use Rattle.std.specs.Prelude.{◌≡◌, false};
 ghost use Rattle.clap.specs.Words.{App, new_app, rule_of};
 ghost use Rattle.rds_tool.specs.CommandLine.{Makes, ReadsAs, rds_app};
-ghost use Rattle.rds_tool.specs.Inside.Commands.{app_of_row, bare_app, rule_of_row, with_command, with_each};
+ghost use Rattle.rds_tool.specs.Inside.Commands.{app_of_row, bare_app, rule_of_option, rule_of_row, with_command as the_with_command, with_each};
 
 use crate::help;
+use CommandOption::{
+    Bits, Burst, Gaps, HexInput, HexOutput, Loss, Of, Pieces, Progress, Reach, Share, Workers,
+};
 use clap::builder::ValueParser;
 use clap::{Arg, ArgAction, Command};
 use std::alloc::{AllocError, Global};
 
 /// An option of a command.
+#[derive(Clone, Copy)]
+enum CommandOption {
+    HexInput,
+    HexOutput,
+    Bits,
+    Gaps,
+    Burst,
+    Reach,
+    Loss,
+    Share,
+    Of,
+    Pieces,
+    Workers,
+    Progress,
+}
+
+impl CommandOption {
+    fn row(self) -> OptionRow
+        ensures { rule_of_row result ≡ rule_of_option self }
+    {
+        match self {
+            HexInput => HEX_INPUT,
+            HexOutput => HEX_OUTPUT,
+            Bits => BITS,
+            Gaps => GAPS,
+            Burst => BURST,
+            Reach => REACH,
+            Loss => LOSS,
+            Share => SHARE,
+            Of => OF,
+            Pieces => PIECES,
+            Workers => WORKERS,
+            Progress => PROGRESS,
+        }
+    }
+}
+
+/// How an option is read, and its help.
 #[derive(Clone, Copy)]
 struct OptionRow {
     name: &'static str,
@@ -28,7 +69,7 @@ struct CommandRow {
     about: &'static str,
     usage: &'static str,
     after: &'static str,
-    options: &'static [OptionRow],
+    options: &'static [CommandOption],
 }
 
 const FLAG: OptionRow = OptionRow {
@@ -137,7 +178,7 @@ static COMMANDS: [CommandRow; 5] = [
         about: help::SCAN,
         usage: help::SCAN_USAGE,
         after: help::SCAN_AFTER,
-        options: &[HEX_INPUT, BITS, GAPS, WORKERS, PROGRESS],
+        options: &[HexInput, Bits, Gaps, Workers, Progress],
     },
     CommandRow {
         name: "list",
@@ -145,7 +186,7 @@ static COMMANDS: [CommandRow; 5] = [
         usage: help::LIST_USAGE,
         after: help::LIST_AFTER,
         options: &[
-            HEX_INPUT, BITS, GAPS, BURST, REACH, LOSS, SHARE, OF, PIECES, WORKERS, PROGRESS,
+            HexInput, Bits, Gaps, Burst, Reach, Loss, Share, Of, Pieces, Workers, Progress,
         ],
     },
     CommandRow {
@@ -153,7 +194,7 @@ static COMMANDS: [CommandRow; 5] = [
         about: help::FOLLOW,
         usage: help::FOLLOW_USAGE,
         after: help::FOLLOW_AFTER,
-        options: &[BITS, GAPS, BURST, REACH, LOSS, SHARE, OF],
+        options: &[Bits, Gaps, Burst, Reach, Loss, Share, Of],
     },
     CommandRow {
         name: "totals",
@@ -161,7 +202,7 @@ static COMMANDS: [CommandRow; 5] = [
         usage: help::TOTALS_USAGE,
         after: help::TOTALS_AFTER,
         options: &[
-            HEX_INPUT, BITS, GAPS, BURST, REACH, LOSS, SHARE, OF, PIECES, WORKERS, PROGRESS,
+            HexInput, Bits, Gaps, Burst, Reach, Loss, Share, Of, Pieces, Workers, Progress,
         ],
     },
     CommandRow {
@@ -169,7 +210,7 @@ static COMMANDS: [CommandRow; 5] = [
         about: help::ENCODE,
         usage: help::ENCODE_USAGE,
         after: help::ENCODE_AFTER,
-        options: &[HEX_OUTPUT],
+        options: &[HexOutput],
     },
 ];
 
@@ -208,13 +249,24 @@ fn with_commands<'a>(
     top: Command<'a>,
     rows: &[CommandRow],
 ) -> Result<Command<'a>, AllocError>
-    ensures { (app : App) → ReadsAs top.entry app → Makes result (with_each with_command app rows.now) }
+    ensures { (app : App) → ReadsAs top.entry app → Makes result (with_each the_with_command app rows.now) }
 {
     let mut top = top;
     for row in rows {
-        top = top.subcommand(command_of(alloc, row)?)?;
+        top = with_command(alloc, top, row)?;
     }
     Ok(top)
+}
+
+fn with_command<'a>(
+    alloc: Global,
+    top: Command<'a>,
+    row: &CommandRow,
+) -> Result<Command<'a>, AllocError>
+    ensures { (app : App) → ReadsAs top.entry app → Makes result (the_with_command app row.now) }
+{
+    let command = command_of(alloc, row)?;
+    top.subcommand(command)
 }
 
 fn command_of<'a>(alloc: Global, row: &CommandRow) -> Result<Command<'a>, AllocError>
@@ -222,7 +274,7 @@ fn command_of<'a>(alloc: Global, row: &CommandRow) -> Result<Command<'a>, AllocE
 {
     let mut command = bare_command(alloc, row.name, row.about, row.usage, row.after);
     for option in row.options {
-        command = command.arg(option_of(alloc, option))?;
+        command = command.arg(option_of(alloc, &option.row()))?;
     }
     Ok(command)
 }

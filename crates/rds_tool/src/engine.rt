@@ -1,7 +1,8 @@
 //! From a reader to a writer.
-ghost use Rattle.std.specs.Prelude.{◌+◌, ◌++◌, ◌<◌, ◌^◌, ◌≡◌, ◌≤◌, ◌⊎◌, ◌↔◌, IfErr, IfOk, IfSome, IsErrOf, List, OnOk, Option, false, length, true, ℕ};
+ghost use Rattle.std.specs.Prelude.{◌+◌, ◌++◌, ◌<◌, ◌^◌, ◌≡◌, ◌≤◌, ◌⊎◌, ◌↔◌, IfErr, IfOk, IfSome, IsErrOf, List, Ok, OnOk, Option, false, length, true, ℕ};
 ghost use Rattle.std.specs.Io.KnownBytes.{Consumes, IsAtEnd};
 ghost use Rattle.rds_tool.specs.History.{Gave};
+ghost use Rattle.rds_tool.specs.Tasks.{task_of};
 ghost use Rattle.rds_tool.specs.Transcribed.{IsTranscribed};
 
 use crate::alone::transcribe_alone;
@@ -82,6 +83,23 @@ pub fn transcribe_gated<R: Threads + Wait + Sync, S: Source, K: Sink, G: Gate + 
     ensures { IsTranscribed S.Source K.Sink job.now reader.old reader.new writer.old writer.new result }
 {
     let task = Task::of(alloc, job)?;
+    transcribe_task(rt, alloc, reader, writer, task, gate)
+}
+
+/// The same of a job whose settings were looked at.
+fn transcribe_task<R: Threads + Wait + Sync, S: Source, K: Sink, G: Gate + Sync>(
+    rt: &R,
+    alloc: Global,
+    reader: &mut S,
+    writer: &mut K,
+    task: Task<'_>,
+    gate: &G,
+) -> Result<(), ToolError>
+    requires reads { S.failed reader.old < 2 ^ 63 }
+    requires writes { K.failed writer.old < 2 ^ 63 }
+    ensures { (job : Job) → task_of job ≡ Ok task.entry
+        → IsTranscribed S.Source K.Sink job reader.old reader.new writer.old writer.new result }
+{
     let held = read_all(alloc, reader)?;
     let text = task.text(rt, alloc, held, gate)?;
     text.write_to(rt, alloc, writer)

@@ -60,10 +60,7 @@ impl<'a> Task<'a> {
     {
         match self {
             Task::Scan(input, workers) => windows_of(alloc, input, workers, held),
-            Task::List(input, plan) if plan.is_for_one() && !gate.wants_calls() => {
-                one_pass_of(alloc, input, plan, held)
-            }
-            Task::List(input, plan) => report_of(rt, alloc, input, plan, held, gate),
+            Task::List(input, plan) => list_of(rt, alloc, input, plan, held, gate),
             Task::Totals(input, plan) => rows_of_totals(rt, alloc, input, &plan, held, gate),
             Task::Encode { hex } => blocks_of(alloc, hex, held.as_slice()),
         }
@@ -101,6 +98,27 @@ fn windows_of<'a>(
     Ok(Text::Windows(recording, workers))
 }
 
+/// The listing of the recording that the bytes give. One worker decodes it while it is written, unless the gate wants calls.
+fn list_of<'a, R: Threads + Wait, G: Gate + Sync>(
+    rt: &R,
+    alloc: Global,
+    input: Input,
+    plan: Plan<'a>,
+    held: Vec<u8>,
+    gate: &G,
+) -> Result<Text<'a>, ToolError>
+    ensures ok { IfOk result (λ text. text_of_task (task.List input plan.entry) held.items
+        ≡ Ok (bytes_of text)) }
+    ensures refused { IfErr result (IsShortageOrErrOf (1 < plan.entry.workers)
+        (text_of_task (task.List input plan.entry) held.items)) }
+{
+    if plan.is_for_one() && !gate.wants_calls() {
+        return one_pass_of(alloc, input, plan, held);
+    }
+    let listing = listing_of(rt, alloc, input, plan, held, gate)?;
+    Ok(Text::Listing(listing))
+}
+
 /// The recording that the bytes give, whose report is written while it is decoded.
 fn one_pass_of<'a>(
     alloc: Global,
@@ -115,24 +133,6 @@ fn one_pass_of<'a>(
 {
     let recording = recording_of(alloc, input, held)?;
     Ok(Text::OnePass(recording, plan))
-}
-
-/// The report of the recording that the bytes give, as a text.
-fn report_of<'a, R: Threads + Wait, G: Gate + Sync>(
-    rt: &R,
-    alloc: Global,
-    input: Input,
-    plan: Plan<'a>,
-    held: Vec<u8>,
-    gate: &G,
-) -> Result<Text<'a>, ToolError>
-    ensures ok { IfOk result (λ text. text_of_task (task.List input plan.entry) held.items
-        ≡ Ok (bytes_of text)) }
-    ensures refused { IfErr result (IsShortageOrErrOf (1 < plan.entry.workers)
-        (text_of_task (task.List input plan.entry) held.items)) }
-{
-    let listing = listing_of(rt, alloc, input, plan, held, gate)?;
-    Ok(Text::Listing(listing))
 }
 
 /// The report of the recording that the bytes give. Its items are decoded again when their rows are made, so

@@ -8,7 +8,7 @@ use Rattle.clap.specs.Words.{Kinds, Text}
 use Rattle.clap.specs.declared.error.kind.ErrorKind.{ErrorKind}
 use Rattle.clap.specs.declared.error.kind.ErrorKind.TheVariants as kind
 use Rattle.rds_sync.specs.declared.loss.Loss.TheVariants.{Share}
-use Rattle.rds_tool.specs.CommandLine.{HasBadGaps, MayRefuse, asked_by, entries_of, faults_of, job_by}
+use Rattle.rds_tool.specs.CommandLine.{HasBadGaps, MayAnswer, asked_by, entries_of, faults_of, job_by}
 use Rattle.rds_tool.specs.declared.fault.FaultKind.{FaultKind}
 use Rattle.rds_tool.specs.declared.fault.FaultKind.TheVariants.{Help, Memory, Version, Words}
 use Rattle.rds_tool.specs.declared.job.Asked.{Asked}
@@ -26,7 +26,7 @@ same_job : (computed : Option Job) (x y : Job) → computed ≡ Some x → compu
 same_job computed x y is given = let both : Some x ≡ Some y = sym is ∙ given in cc
 
 -- words without a fault that ask for something are refused only for memory
-only_memory : {T : Type 0} (faults : Kinds) (asked : Option T) (x : T) (answer : FaultKind) → faults ≡ [] → asked ≡ Some x → MayRefuse faults asked answer → answer ≡ Memory
+only_memory : {T : Type 0} (faults : Kinds) (asked : Option T) (x : T) (answer : FaultKind) → faults ≡ [] → asked ≡ Some x → MayAnswer faults asked answer → answer ≡ Memory
 only_memory faults asked x Memory none some may = refl
 only_memory faults asked x Help none some may = absurd (rw none at may)
 only_memory faults asked x Version none some may = absurd (rw none at may)
@@ -59,7 +59,7 @@ pub is_job_of_digits : (given : Job) → job_by (entries_of scan_of_digits) ≡ 
 unfolding walked
 is_job_of_digits given is = same_job (job_by (entries_of scan_of_digits)) digits_job given refl is
 
-pub refused_for_memory : (answer : FaultKind) → MayRefuse (faults_of scan_of_digits) (result_ok (asked_by (entries_of scan_of_digits))) answer → answer ≡ Memory
+pub refused_for_memory : (answer : FaultKind) → MayAnswer (faults_of scan_of_digits) (result_ok (asked_by (entries_of scan_of_digits))) answer → answer ≡ Memory
 refused_for_memory answer =
     only_memory (faults_of scan_of_digits) (result_ok (asked_by (entries_of scan_of_digits))) digits_asked answer no_faults (ap result_ok asks_for_digits)
 
@@ -125,7 +125,7 @@ pub no_job_of_stream : (given : Job) → job_by (entries_of follow_by_a_share) �
 unfolding walked
 no_job_of_stream given is = let no : None ≡ Some given = is in cc
 
-pub words_or_memory : (answer : FaultKind) → MayRefuse (faults_of follow_by_a_share) (job_by (entries_of follow_by_a_share)) answer → (answer ≡ Words) ⊎ (answer ≡ Memory)
+pub words_or_memory : (answer : FaultKind) → MayAnswer (faults_of follow_by_a_share) (job_by (entries_of follow_by_a_share)) answer → (answer ≡ Words) ⊎ (answer ≡ Memory)
 words_or_memory Words may = inl refl
 words_or_memory Memory may = inr refl
 words_or_memory Help may = absurd (rw no_fault_of_stream at may)
@@ -157,7 +157,7 @@ pub asks_for_help : faults_of help_of_list ≡ kind.DisplayHelp ∷ []
 unfolding walked bundle_met flags_pass walk_passes flags_fault walk_fault defaults_fault
 asks_for_help = refl
 
-pub help_or_memory : (answer : FaultKind) → MayRefuse (faults_of help_of_list) (result_ok (asked_by (entries_of help_of_list))) answer → (answer ≡ Help) ⊎ (answer ≡ Memory)
+pub help_or_memory : (answer : FaultKind) → MayAnswer (faults_of help_of_list) (result_ok (asked_by (entries_of help_of_list))) answer → (answer ≡ Help) ⊎ (answer ≡ Memory)
 help_or_memory Help may = inl refl
 help_or_memory Memory may = inr refl
 help_or_memory Version may =
@@ -176,7 +176,7 @@ pub asks_for_version : faults_of version ≡ kind.DisplayVersion ∷ []
 unfolding walked bundle_met flags_pass walk_passes flags_fault walk_fault defaults_fault
 asks_for_version = refl
 
-pub version_or_memory : (answer : FaultKind) → MayRefuse (faults_of version) (result_ok (asked_by (entries_of version))) answer → (answer ≡ Version) ⊎ (answer ≡ Memory)
+pub version_or_memory : (answer : FaultKind) → MayAnswer (faults_of version) (result_ok (asked_by (entries_of version))) answer → (answer ≡ Version) ⊎ (answer ≡ Memory)
 version_or_memory Version may = inl refl
 version_or_memory Memory may = inr refl
 version_or_memory Help may =

@@ -4,7 +4,7 @@ use native.Mathlib.Numerals.{unary_clauses}
 use Rattle.std.proofs.lemmas.List.{map-append, take_at}
 use Rattle.rds_stream.specs.Recording.{Signal, length_of}
 use Rattle.rds_sync.specs.Laws.{RunsAreReports, RunsJoin}
-use Rattle.rds_sync.specs.Loss.{IsLoss}
+use Rattle.rds_sync.specs.Loss.{IsLossRule}
 use Rattle.rds_sync.specs.Report.{report_items}
 use Rattle.rds_sync.specs.Rules.{RuleNumbers}
 use Rattle.rds_sync.specs.Step.{items_of_end, run}
@@ -12,7 +12,7 @@ use Rattle.rds_sync.specs.declared.item.Item.{Item}
 use Rattle.rds_sync.specs.declared.state.State.{State}
 use Rattle.rds_sync.specs.declared.state.State.TheVariants.{Searching}
 
-module _ {B : Type 0} (f : Item → B) (join : RunsJoin) (report : RunsAreReports) (b : Signal) (rules : RuleNumbers) (loss : IsLoss rules.loss)
+module _ {B : Type 0} (f : Item → B) (join : RunsJoin) (report : RunsAreReports) (b : Signal) (rules : RuleNumbers) (loss : IsLossRule rules.loss)
     (bits : ℕ) (len : length_of b ≡ bits) (middle : ℕ) (within : middle ≤ bits) (s1 s2 : State)
     (at_middle : s1 ≡ (run b rules Searching 0 (middle - 0)).0) (at_end : s2 ≡ (run b rules s1 middle (bits - middle)).0) where
   abbrev first : List Item

@@ -14,7 +14,7 @@ ghost use Rattle.rds_code.specs.Encoding.{IsBlockOf, third_offset};
 ghost use Rattle.rds_code.specs.Correction.{ReadsAsSent, version_burst};
 
 use rds_code::{
-    BlockNumber, Burst, BurstLimit, BurstTable, CodeError, Kinds, Offset, Reading, Wanted,
+    BlockNumber, Burst, BurstLimit, BurstTable, CodeError, Offset, Outcomes, Reading, Wanted,
     encode_block, encode_group, is_block, laws, offset_of, plain, read_block, rem26,
 };
 use std::alloc::Global;
@@ -189,20 +189,24 @@ pub fn is_the_block(w: u32, info: u16, offset: Offset) -> bool
 }
 
 /// A block that is sent comes out valid, whatever else may be corrected.
-pub fn sent_and_told(kinds: &Kinds, info: u16, offset: Offset, wanted: Wanted) -> u8
+pub fn sent_and_told(outcomes: &Outcomes, info: u16, offset: Offset, wanted: Wanted) -> u8
     ensures { result ≡ 1 }
 {
     laws::blocks_are_read_as_sent();
     let sent = encode_block(info, offset);
-    kinds.of_block(sent, offset.number(), wanted)
+    outcomes.of_block(sent, offset.number(), wanted)
 }
 
-/// Kinds are by the limit that they were made for.
-pub fn limit_of_kinds(alloc: Global, table: &BurstTable, limit: BurstLimit) -> Result<u8, CodeError>
+/// Outcomes are by the limit that they were made for.
+pub fn limit_of_outcomes(
+    alloc: Global,
+    table: &BurstTable,
+    limit: BurstLimit,
+) -> Result<u8, CodeError>
     ensures { IfOk result (λ bits. (bits ≡ limit) × (bits ≤ 5)) }
 {
-    let kinds = Kinds::new(alloc, table, limit)?;
-    Ok(kinds.limit().bits())
+    let outcomes = Outcomes::new(alloc, table, limit)?;
+    Ok(outcomes.limit().bits())
 }
 
 /// Bursts of three bits may be corrected, and those of six may not.
@@ -225,11 +229,11 @@ pub fn number_behind_last() -> Option<u8>
     }
 }
 
-/// Each burst has one of eleven kinds.
-pub fn kind_from_0(burst: Burst) -> u8
+/// Each burst has one of eleven outcomes.
+pub fn outcome_from_0(burst: Burst) -> u8
     ensures { result < 11 }
 {
-    burst.kind() - 3
+    burst.outcome() - 3
 }
 
 /// A block that is sent and read, whatever else may be corrected.

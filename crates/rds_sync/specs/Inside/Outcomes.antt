@@ -10,7 +10,7 @@ use Rattle.rds_sync.specs.declared.item.Block.TheVariants.{Missing, Read}
 use Rattle.rds_sync.specs.declared.loss.Loss.{Loss}
 use Rattle.rds_sync.specs.declared.totals.Totals.{Totals}
 use Rattle.rds_sync.specs.Loss.{bad_after}
-use Rattle.rds_sync.specs.Totals.{by_span}
+use Rattle.rds_sync.specs.Totals.{by_burst_length}
 
 -- how a block came out: missing, valid, lost, or corrected, with the span of its burst and how many bits were inverted
 pub data Outcome : Type 0 where
@@ -55,7 +55,7 @@ has_info o = false
 abbrev pub group_totals : List Outcome → Totals
 group_totals os = record {
   valid = count_by was_valid os;
-  bursts = by_span (λ s. count_by (has_span s) os);
+  bursts = by_burst_length (λ s. count_by (has_span s) os);
   lost = count_by was_lost os;
   bits = sum_by bits_inverted os;
   groups = 1;

@@ -22,7 +22,7 @@ wanted_behind b rules place x = if x == 2 then wanted_beside
 abbrev pub first_behind : ℕ → ℕ
 first_behind x = if x == 4 then 1 else x
 
--- the word of a group of a valid block x and the next block of kind k; after block 4, of only the next block
+-- the word of a group of a valid block x and the next block of outcome k; after block 4, of only the next block
 abbrev pub word_of_two : ℕ → ℕ → ℕ
 word_of_two x k = if x == 1 then 1 + 16 * k else
     (if x == 2 then 16 + 256 * k else (if x == 3 then 256 + 4096 * k else k))

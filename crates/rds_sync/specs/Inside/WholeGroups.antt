@@ -1,10 +1,11 @@
 -- Whole groups of a lock: one that does not lose it, and how far several in a row lead, as items. Cited by the bodies below
 -- `Decoder::fill`, and by no public call.
-use Rattle.std.specs.Prelude.{◌≡◌, ℕ, ◌+◌, ◌-◌, ◌<◌, ◌≤◌, List, ◌++◌, false, length, map}
+use Rattle.std.specs.Prelude.{◌≡◌, ℕ, ◌+◌, ◌-◌, ◌<◌, ◌≤◌, List, [], ◌∷◌, ◌++◌, false, length, map}
 use Rattle.rds_stream.specs.Recording.{Signal}
 use Rattle.rds_sync.specs.declared.lock.Lock.{Lock}
 use Rattle.rds_sync.specs.declared.item.Group.{Group}
 use Rattle.rds_sync.specs.declared.item.Item.{Item}
+use Rattle.rds_sync.specs.declared.item.Item.TheVariants.{Group as GroupItem}
 use Rattle.rds_sync.specs.declared.state.State.TheVariants.{Locked}
 use Rattle.rds_sync.specs.Groups.{group}
 use Rattle.rds_sync.specs.Inside.Outcomes.{Outcome, outcome_of, bad_over}
@@ -24,6 +25,12 @@ pub record IsWhole (b : Signal) (rules : RuleNumbers) (due before : ℕ) (given 
   pub lawful : IsLawfulBad rules.loss after
   pub few : (k : ℕ) → k < 4 → are_too_many rules.loss
       (bad_over rules.loss (outcomes_at b rules due) before 1 (k + 1)) ≡ false
+
+-- that group was appended to the items before, and this is the loss history after it
+abbrev pub HasPushed : Signal → RuleNumbers → ℕ → ℕ → List Item → List Item → ℕ → Type 0
+HasPushed b rules due before items more after =
+    IsWhole b rules due before (group b rules 1 4 (due + 78)) after
+    × (more ≡ items ++ GroupItem (group b rules 1 4 (due + 78)) ∷ [])
 
 -- the lock came from between two groups to between two others, and the items of the groups in between were appended
 pub record HasGiven (b : Signal) (rules : RuleNumbers) (lock : Lock) (to : ℕ) (before : List Item)

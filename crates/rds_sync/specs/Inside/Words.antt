@@ -2,15 +2,15 @@
 -- `run_report` and `Decoder::fill`, and by no public call. This project's rule.
 use Rattle.std.specs.Prelude.{◌≡◌, ℕ, ◌+◌, ◌*◌, ◌/◌, ◌%◌, ◌≤◌, min, List, [], ◌∷◌, length, ⊤, slice_index_or}
 use Rattle.std.specs.List.{All}
-use Rattle.rds_code.specs.Kinds.{kind_of_burst}
+use Rattle.rds_code.specs.Outcomes.{burst_outcome}
 use Rattle.rds_sync.specs.Inside.Outcomes.{Outcome, missing, valid, lost, corrected}
 
--- four bits: none for a missing block, else the kind that it came out as
+-- four bits: none for a missing block, else its outcome
 abbrev pub nibble : Outcome → ℕ
 nibble missing = 0
 nibble valid = 1
 nibble lost = 2
-nibble (corrected s n) = kind_of_burst s n
+nibble (corrected s n) = burst_outcome s n
 
 -- the outcomes in the order of these numbers
 abbrev pub outcomes_in_order : List Outcome

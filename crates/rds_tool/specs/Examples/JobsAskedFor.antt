@@ -11,7 +11,7 @@ use Rattle.clap.specs.declared.error.kind.ErrorKind.{ErrorKind}
 use Rattle.clap.specs.declared.error.kind.ErrorKind.TheVariants as kind
 use Rattle.rds_sync.specs.Rules.{RuleNumbers}
 use Rattle.rds_sync.specs.declared.loss.Loss.TheVariants.{Run, Share}
-use Rattle.rds_tool.specs.CommandLine.{MayRefuse, asked_by, entries_of, faults_of, is_true, job_by, number_up_to}
+use Rattle.rds_tool.specs.CommandLine.{MayAnswer, asked_by, entries_of, faults_of, is_true, job_by, number_up_to}
 use Rattle.rds_tool.specs.declared.fault.FaultKind.{FaultKind}
 use Rattle.rds_tool.specs.declared.fault.FaultKind.TheVariants.{Help, Memory, Version, Words}
 use Rattle.rds_tool.specs.declared.fault.NoJob.TheVariants as no
@@ -140,18 +140,18 @@ abbrev pub is_empty : List ErrorKind → Bool
 is_empty [] = true
 is_empty (k ∷ ks) = false
 
--- what the words may be answered
-abbrev pub MayAnswer : List Text → FaultKind → Type 0
-MayAnswer words answer = MayRefuse (faults_of words) (result_ok (asked_by (entries_of words))) answer
+-- whether these words may be answered so
+abbrev pub MayBeAnswered : List Text → FaultKind → Type 0
+MayBeAnswered words answer = MayAnswer (faults_of words) (result_ok (asked_by (entries_of words))) answer
 
--- what such faults may be, if nothing is asked for
+-- whether such faults may be answered so, if nothing is asked for
 abbrev pub Without : Kinds → FaultKind → Type 0
-Without faults answer = let none : Option Asked = None in MayRefuse faults none answer
+Without faults answer = let none : Option Asked = None in MayAnswer faults none answer
 
 abbrev pub for_help : List Text
 for_help = codes "rds" ∷ codes "scan" ∷ codes "--help" ∷ []
 
-pub help : MayAnswer for_help Help
+pub help : MayBeAnswered for_help Help
 unfolding walked bundle_met flags_pass walk_passes flags_fault walk_fault defaults_fault
 help = inl refl
 
@@ -165,7 +165,7 @@ no_fault_of_help (inr (no_faults, without)) = false≢true (ap is_empty no_fault
 abbrev pub for_version : List Text
 for_version = codes "rds" ∷ codes "--version" ∷ []
 
-pub version : MayAnswer for_version Version
+pub version : MayBeAnswered for_version Version
 unfolding walked bundle_met flags_pass walk_passes flags_fault walk_fault defaults_fault
 version = inl refl
 
@@ -189,7 +189,7 @@ no_version_by_help (inr other) = other
 abbrev pub no_command : List Text
 no_command = codes "rds" ∷ []
 
-pub fault : MayAnswer no_command Words
+pub fault : MayBeAnswered no_command Words
 unfolding walked bundle_met flags_pass walk_passes flags_fault walk_fault defaults_fault
 fault = inl (
   kind.MissingSubcommand,
@@ -201,18 +201,18 @@ fault = inl (
   inl refl,
 )
 
-pub no_help : MayAnswer no_command Help → ⊥
+pub no_help : MayBeAnswered no_command Help → ⊥
 unfolding walked bundle_met flags_pass walk_passes flags_fault walk_fault defaults_fault
 no_help (inl is) = false≢true (sym (ap is_help is))
 no_help (inr other) = other
 
 -- words without a fault that yet ask for nothing
-pub no_job : MayAnswer for_bad_gaps Words
+pub no_job : MayBeAnswered for_bad_gaps Words
 unfolding walked bundle_met flags_pass walk_passes flags_fault walk_fault defaults_fault
 no_job = inr (refl, refl)
 
 -- if there is a job, neither help nor a refusal of the words may be answered
-pub not_help : MayAnswer each_option Help → ⊥
+pub not_help : MayBeAnswered each_option Help → ⊥
 unfolding walked bundle_met flags_pass walk_passes flags_fault walk_fault defaults_fault
 not_help among = among
 
@@ -220,7 +220,7 @@ abbrev pub is_none : Option Asked → Bool
 is_none None = true
 is_none (Some asked) = false
 
-pub not_words : MayAnswer each_option Words → ⊥
+pub not_words : MayBeAnswered each_option Words → ⊥
 unfolding walked bundle_met flags_pass walk_passes flags_fault walk_fault defaults_fault
 not_words (inl (k, is_fault, among)) = among
 not_words (inr (faultless, none)) = false≢true (ap is_none none)

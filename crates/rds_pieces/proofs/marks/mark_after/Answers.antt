@@ -1,7 +1,7 @@
 use Rattle.std.proofs.Common.{◌≡◌, ◌≢◌, ◌-◌, ◌+◌, ℕ, [], ◌∷◌, length, inl, inr, ap, sym, ◌∙◌, arith}
 use Rattle.std.proofs.lemmas.List.{nil_from_length}
 use Rattle.rds_sync.specs.Advance.{items_in}
-use Rattle.rds_pieces.specs.Marks.{mark_at, marks_on}
+use Rattle.rds_pieces.specs.Inside.MarkInside.{mark_at, marks_on}
 use Rattle.rds_pieces.proofs.MarkLemmas.{marks_on-stretch, marks_on-none}
 use Rattle.rds_pieces.proofs.marks.mark_after.Goals as goal
 
@@ -25,4 +25,4 @@ returns-clause-next c =
     let count = c.count_of-count.ensures.value in
     let some : items_in step.items ≢ [] = λ none. omega (arith, ap length none, count, c.if-count-eq0.false) in
     marks_on-stretch b rules c.run_laws.ensures now.state now.place c.args.to now.items step c.stretch-step.ensures.reached some
-    ∙ ap (λ (n : ℕ). mark_at b rules step.state step.place (now.items + n) ∷ marks_on b rules step.state step.place (now.items + n) (c.args.to - step.place)) (sym count)
+    ∙ ap (λ (n : ℕ). mark_at step.state step.place (now.items + n) ∷ marks_on b rules step.state step.place (now.items + n) (c.args.to - step.place)) (sym count)

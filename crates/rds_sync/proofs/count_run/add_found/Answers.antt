@@ -5,7 +5,7 @@ use Rattle.rds_sync.specs.Acquiring.{has_number}
 use Rattle.rds_sync.specs.Groups.{group}
 use Rattle.rds_sync.specs.Inside.Counts.{CountOf, joined, group_count, acquired_count, added}
 use Rattle.rds_sync.specs.Inside.Words.{blocks_in}
-use Rattle.rds_sync.specs.Step.{group_after}
+use Rattle.rds_sync.specs.Step.{completed_group}
 use Rattle.rds_sync.proofs.CleanGroups.{last-alone}
 use Rattle.rds_sync.proofs.CountLemmas.{group-added}
 use Rattle.rds_sync.proofs.LawfulLemmas.{acquired-number}
@@ -22,5 +22,5 @@ returns-then-get-eq4-clause-given c = λ b rules e.
     c.add_group.ensures
     ∙ ap (λ (k : CountOf). joined k (group_count (blocks_in 4096))) c.add_acquired.ensures
     ∙ group-added (joined old acquired_count) (group b rules 4 4 place) (blocks_in 4096) (sym (last-alone b rules place c.requires.late there))
-    ∙ ap (λ (n : ℕ). added old (Acquired place n ∷ group_after b rules n n place)) (sym four)
+    ∙ ap (λ (n : ℕ). added old (Acquired place n ∷ completed_group b rules n n place)) (sym four)
     ∙ ap (λ (is : List Item). added old is) (sym (items-acquiring b rules place number e))

@@ -10,7 +10,7 @@ use Rattle.rds_sync.specs.declared.state.State.TheVariants.{Locked}
 use Rattle.rds_sync.specs.Lawful.{IsLawful}
 use Rattle.rds_sync.specs.Inside.Due.{state_of}
 use Rattle.rds_sync.specs.Inside.Locks.{IsFollowed}
-use Rattle.rds_sync.specs.Loss.{IsLoss}
+use Rattle.rds_sync.specs.Loss.{IsLossRule}
 use Rattle.rds_sync.specs.Rules.{RuleNumbers}
 use Rattle.rds_sync.specs.Step.{step, items_at, run}
 use Rattle.rds_sync.specs.Inside.Counts.{CountOf, added}
@@ -21,7 +21,7 @@ use Rattle.rds_sync.proofs.count_run.keep_group.Invariants.{HasFollowedOn}
 use Rattle.rds_sync.proofs.count_run.keep_group.Goals as goal
 
 module _ (b read : Signal) (rules : RuleNumbers) (s : State) (place to : ℕ) (now : Lock) (before counts : CountOf) (blocks : List Block)
-    (loss : IsLoss rules.loss) (followed : HasFollowedOn b read rules s place to before now blocks counts) where
+    (loss : IsLossRule rules.loss) (followed : HasFollowedOn b read rules s place to before now blocks counts) where
   abbrev lock : State
   lock = Locked now
 

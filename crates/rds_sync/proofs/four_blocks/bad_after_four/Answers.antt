@@ -1,6 +1,6 @@
 use Rattle.std.proofs.Common.{subst}
 use Rattle.rds_sync.specs.declared.loss.Loss.{Loss}
-use Rattle.rds_sync.specs.Loss.{IsLoss}
+use Rattle.rds_sync.specs.Loss.{IsLossRule}
 use Rattle.rds_sync.proofs.BadRows.{clean_kept}
 use Rattle.rds_sync.proofs.four_blocks.bad_after_four.Goals as goal
 
@@ -8,4 +8,4 @@ pub returns-in-Run-clause-kept : goal.returns-in-Run-clause-kept
 returns-in-Run-clause-kept c k h =
     let rule = c.in-Run.is in
     rw (rule, c.if-word-eq-CLEAN.true)
-    (clean_kept c.in-Run.field-0 c.args.bad k (subst (λ (loss : Loss). IsLoss loss) rule c.requires.range.0) h)
+    (clean_kept c.in-Run.field-0 c.args.bad k (subst (λ (loss : Loss). IsLossRule loss) rule c.requires.range.0) h)

@@ -12,7 +12,7 @@ use Rattle.rds_sync.specs.declared.state.State.TheVariants.{Locked}
 use Rattle.rds_sync.specs.Lawful.{IsLawful}
 use Rattle.rds_sync.specs.Inside.Due.{state_of}
 use Rattle.rds_sync.specs.Inside.Locks.{IsFollowed, items_of_due}
-use Rattle.rds_sync.specs.Loss.{IsLoss}
+use Rattle.rds_sync.specs.Loss.{IsLossRule}
 use Rattle.rds_sync.specs.Rules.{RuleNumbers}
 use Rattle.rds_sync.specs.Step.{step, items_at, run}
 use Rattle.rds_sync.proofs.LawfulLemmas.{lawful-due, lawful-waiting}
@@ -21,7 +21,7 @@ use Rattle.rds_sync.proofs.stretches.keep_lock.Invariants.{HasFollowed}
 use Rattle.rds_sync.proofs.stretches.keep_lock.Goals as goal
 
 module _ (b read : Signal) (rules : RuleNumbers) (s : State) (place to : ℕ) (now : Lock) (blocks : List Block)
-    (loss : IsLoss rules.loss) (followed : HasFollowed b read rules s place to now blocks) where
+    (loss : IsLossRule rules.loss) (followed : HasFollowed b read rules s place to now blocks) where
   abbrev lock : State
   lock = Locked now
 

@@ -14,7 +14,7 @@ use Rattle.rds_sync.specs.Inside.Counts.{CountOf, joined, group_count, added}
 use Rattle.rds_sync.specs.Inside.CountRuns.{IsCountStretch}
 use Rattle.rds_sync.specs.Inside.Due.{state_of, IsAfter}
 use Rattle.rds_sync.specs.Lawful.{IsLawful}
-use Rattle.rds_sync.specs.Loss.{IsLoss}
+use Rattle.rds_sync.specs.Loss.{IsLossRule}
 use Rattle.rds_sync.specs.Rules.{RuleNumbers}
 use Rattle.rds_sync.specs.Step.{step, items_at, run}
 use Rattle.rds_sync.specs.Inside.Words.{blocks_in}
@@ -27,7 +27,7 @@ use Rattle.rds_sync.proofs.tape_run.keep.Invariants.{HasKept}
 use Rattle.rds_sync.proofs.tape_run.keep.Goals as goal
 
 module _ (b : Signal) (rules : RuleNumbers) (lock : Lock) (place to : ℕ) (now : Lock) (blocks : List Block) (reads : ℕ)
-    (loss : IsLoss rules.loss) (kept : HasKept b rules lock place to now blocks reads) where
+    (loss : IsLossRule rules.loss) (kept : HasKept b rules lock place to now blocks reads) where
   one_more : run b rules (Locked lock) place (now.due + 1 - place) ≡ (step b rules now.due (Locked now), items_at b rules now.due (Locked now))
   one_more =
       let soon = kept.lawful.soon in

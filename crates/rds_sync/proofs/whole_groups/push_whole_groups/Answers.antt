@@ -6,7 +6,8 @@ use Rattle.rds_sync.specs.declared.item.Item.{Item}
 use Rattle.rds_sync.specs.declared.item.Item.TheVariants.{Group}
 use Rattle.rds_sync.specs.declared.state.State.{State}
 use Rattle.rds_sync.specs.declared.state.State.TheVariants.{Locked}
-use Rattle.rds_sync.specs.Inside.WholeGroups.{HasGiven, IsWhole}
+use Rattle.rds_sync.specs.Groups.{group}
+use Rattle.rds_sync.specs.Inside.WholeGroups.{HasGiven, HasPushed, IsWhole}
 use Rattle.rds_sync.specs.Rules.{RuleNumbers}
 use Rattle.rds_sync.specs.Step.{run, lock_of}
 use Rattle.rds_sync.proofs.RunLemmas.{run-append}
@@ -64,17 +65,18 @@ loop-now-preserved c =
     let now = l.now in
     let far = l.invariant.0 in
     let late : 25 ≤ now.due = omega (arith, c.requires.start, far.given.from_on) in
-    let whole = subst (λ (s : Signal). IsWhole s rules now.due now.bad c.in-Some.group c.in-Some.bad) far.same
-    (c.in-Some.ensures l.reader now.due late refl c.four_windows-heard.ensures.value) in
-    let pushed = c.push_one.ensures.items in
-    let longer : length c.push_one.new.part.items ≡ length l.part.items + 1 =
-    ap (λ (is : List Item). length is) pushed ∙ length-append l.part.items (Group c.in-Some.group ∷ []) in (
+    let found : GroupRecord = group b rules 1 4 (now.due + 78) in
+    let more = c.push_whole.new.part.items in
+    let pushed = subst (λ (s : Signal). HasPushed s rules now.due now.bad l.part.items more c.in-Some.bad) far.same
+    (c.in-Some.ensures.pushed l.reader now.due late refl c.four_windows.ensures.value) in
+    let longer : length more ≡ length l.part.items + 1 =
+    ap (λ (is : List Item). length is) pushed.1 ∙ length-append l.part.items (Group found ∷ []) in (
       record {
-        same = c.four_windows-heard.ensures.same ∙ far.same;
+        same = c.four_windows.ensures.same ∙ far.same;
         near = omega (arith, c.loop-now-test.true, c.if-prove.false, c.len.ensures.limit);
-        given = further b rules c.args.lock now c.args.to c.args.part.now.items l.part.items c.push_one.new.part.items far.given c.requires.start c.loop-now-test.true
-            c.in-Some.group c.in-Some.bad whole pushed;
+        given = further b rules c.args.lock now c.args.to c.args.part.now.items l.part.items more far.given c.requires.start c.loop-now-test.true
+            found c.in-Some.bad pushed.0 pushed.1;
         within = omega (arith, longer, c.if-len-most.true);
       },
-      c.push_one.ensures.room ∙ l.invariant.1,
+      c.push_whole.ensures.room ∙ l.invariant.1,
     )

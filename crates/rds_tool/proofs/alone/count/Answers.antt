@@ -3,7 +3,7 @@ use Rattle.rds_stream.specs.Recording.{Signal, length_of}
 use Rattle.rds_stream.specs.Tape.{TapeState}
 use Rattle.rds_sync.specs.Counting.{TotalsJoin, plus}
 use Rattle.rds_sync.specs.Laws.{RunsAreReports}
-use Rattle.rds_sync.specs.Loss.{IsLoss}
+use Rattle.rds_sync.specs.Loss.{IsLossRule}
 use Rattle.rds_sync.specs.Report.{report_items}
 use Rattle.rds_sync.specs.Rules.{RuleNumbers}
 use Rattle.rds_sync.specs.Step.{items_of_end, run}
@@ -15,7 +15,7 @@ use Rattle.rds_sync.specs.declared.totals.Totals.{Totals}
 use Rattle.rds_tool.proofs.alone.count.Goals as goal
 
 -- the totals of the run over a recording, with those of its end, are the report's
-all : (b : Signal) (rules : RuleNumbers) (n : ℕ) → TotalsJoin → RunsAreReports → IsLoss rules.loss → n ≡ length_of b → (end : State) → end ≡ (run b rules Searching 0 (n - 0)).0
+all : (b : Signal) (rules : RuleNumbers) (n : ℕ) → TotalsJoin → RunsAreReports → IsLossRule rules.loss → n ≡ length_of b → (end : State) → end ≡ (run b rules Searching 0 (n - 0)).0
     → (t u : Totals) (ended : List Item) → t ≡ totals_of (run b rules Searching 0 (n - 0)).1 → u ≡ totals_of ended → ended ≡ items_of_end b rules end
     → plus t u ≡ totals_of (report_items b rules)
 all b rules n join reports loss long end end_is t u ended t_is u_is ended_is =

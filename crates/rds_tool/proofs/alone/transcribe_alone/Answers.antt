@@ -5,7 +5,7 @@ use Rattle.rds_tool.specs.declared.error.ToolError.{ToolError}
 use Rattle.rds_tool.specs.declared.error.ToolError.TheVariants.{NoWorker, OutOfMemory, Read, TooManyTurns}
 use Rattle.rds_tool.proofs.Passing.{passed, passed_kind}
 use Rattle.rds_tool.proofs.Texts.{no_failure, settings_inside, started}
-use Rattle.rds_tool.proofs.Transcribing.{at_bytes, at_settings, at_writer, no_thread, writer_alone}
+use Rattle.rds_tool.proofs.Transcribing.{at_bytes, at_read, at_settings, at_writer, no_thread, writer_alone}
 use Rattle.rds_tool.proofs.alone.transcribe_alone.Goals as goal
 
 -- no thread is wanted
@@ -25,6 +25,12 @@ returns-in_err-task-clause-done g c =
 pub returns-in_err-task-clause-no_worker : goal.returns-in_err-task-clause-no_worker
 returns-in_err-task-clause-no_worker g c = λ p.
     (settings_inside c.args.job.now c.in_err-task.field-0.0 c.in_err-task.ensures.refused).1 (passed_kind _ _ NoWorker (passed _ _ c.from_residual.ensures) p)
+
+pub returns-in_err-held-clause-done : goal.returns-in_err-held-clause-done
+returns-in_err-held-clause-done g c =
+    let read = c.in_err-held.ensures in
+    at_read g.S.Source g.K.Sink c.args.job.now _ _ _ _ c.in_ok-task.task c.in_err-held.field-0.0 c.in_ok-task.ensures.ok
+    (passed _ _ c.from_residual-in_err-held.ensures) read.kinds read.read read.turns read.turned
 
 pub returns-in_err-held-clause-no_worker : goal.returns-in_err-held-clause-no_worker
 returns-in_err-held-clause-no_worker g c = λ p.

@@ -1,5 +1,6 @@
-use Rattle.std.proofs.Common.{◌≡◌, ap}
-use Rattle.rds_tool.specs.CommandLine.{rds_app}
+use Rattle.std.proofs.Common.{◌≡◌, ap, subst}
+use Rattle.clap.specs.Words.{App}
+use Rattle.rds_tool.specs.CommandLine.{Makes, rds_app}
 use Rattle.rds_tool.specs.Inside.Commands.{bare_app, with_command, with_each}
 use Rattle.rds_tool.proofs.commands.rds_command.Goals as goal
 
@@ -7,5 +8,4 @@ use Rattle.rds_tool.proofs.commands.rds_command.Goals as goal
 pub returns : goal.returns
 returns c =
     let rows_are : with_each with_command bare_app c.as_slice.result.now ≡ rds_app = ap (with_each with_command bare_app) c.as_slice.ensures in
-    let made = c.with_commands.ensures _ c.top_command.ensures in
-    rw rows_are at made
+    subst (λ (app : App). Makes c.with_commands.result app) rows_are (c.with_commands.ensures _ c.top_command.ensures)

@@ -1,6 +1,6 @@
 use Rattle.std.proofs.Common.{refl}
 use Rattle.rds_tool.specs.Inside.Commands.{with_command, with_each}
-use Rattle.rds_tool.proofs.Options.{begun, ended, next_command}
+use Rattle.rds_tool.proofs.Options.{begun, ended, next}
 use Rattle.rds_tool.proofs.commands.with_commands.Goals as goal
 
 pub loop-row-init : goal.loop-row-init
@@ -8,8 +8,8 @@ loop-row-init c = λ app reads. begun with_command (with_each with_command app c
 
 pub loop-row-preserved : goal.loop-row-preserved
 loop-row-preserved c = λ app reads.
-    next_command (with_each with_command app c.args.rows.now) c.loop-row.top c.in_ok-top.top c.in_ok-command_of.field-0 c.args.rows.now c.loop-row.row-index _
-    (c.loop-row.invariant app reads) c.loop-row-test.true c.in_ok-top.ensures c.in_ok-command_of.ensures
+    next with_command (with_each with_command app c.args.rows.now) c.loop-row.top c.in_ok-top.top c.args.rows.now c.loop-row.row-index _
+    (c.loop-row.invariant app reads) c.loop-row-test.true c.in_ok-top.ensures
 
 pub returns : goal.returns
 returns c = λ app reads.

@@ -1,6 +1,7 @@
-use Rattle.std.proofs.Common.{arith, refl, rules}
+use Rattle.std.proofs.Common.{refl, rules}
+use Rattle.std.proofs.lemmas.Bool.{leb-true}
 use Rattle.rds_tool.specs.Inside.RowWriter.{IsPlain, IsShort}
-use Rattle.rds_tool.proofs.RowText.{decimal_plain}
+use Rattle.rds_tool.proofs.RowText.{decimal_plain, shorter}
 use Rattle.rds_tool.proofs.fields.push_acquired.Goals as goal
 
 pub push_row-requires-clause-plain : goal.push_row-requires-clause-plain
@@ -12,5 +13,5 @@ push_row-requires-clause-plain g c =
 pub push_row-requires-clause-short : goal.push_row-requires-clause-short
 push_row-requires-clause-short g c =
     let place : IsShort c.as_bytes-place.result.now = rw c.as_bytes-place.ensures.value c.format.ensures.fits in
-    let number : IsShort c.as_bytes-number.result.now = rw c.as_bytes-number.ensures.value (omega (arith, c.format-2.ensures.fits)) in
-    rw c.as_slice.ensures (omega arith, (place, (number, (omega arith, (omega arith, (omega arith, (omega arith, (omega arith, tt))))))))
+    let number : IsShort c.as_bytes-number.result.now = rw c.as_bytes-number.ensures.value (shorter _ _ c.format-2.ensures.fits refl) in
+    rw c.as_slice.ensures (leb-true _ _ refl, (place, (number, (leb-true _ _ refl, (leb-true _ _ refl, (leb-true _ _ refl, (leb-true _ _ refl, (leb-true _ _ refl, tt))))))))

@@ -1,8 +1,9 @@
-use Rattle.std.proofs.Common.{Bor, List, arith, get_or, length, map, refl, rules, ◌≡◌, ℕ}
+use Rattle.std.proofs.Common.{Bor, List, get_or, length, map, refl, rules, ◌≡◌, ℕ}
+use Rattle.std.proofs.lemmas.Bool.{leb-true}
 use Rattle.rds_sync.specs.declared.item.Item.TheVariants.{Group}
 use Rattle.rds_tool.specs.Listing.{item_fields}
 use Rattle.rds_tool.specs.Inside.RowWriter.{IsPlain, IsShort}
-use Rattle.rds_tool.proofs.RowText.{block_plain, decimal_plain, four_blocks, version_plain, version_short}
+use Rattle.rds_tool.proofs.RowText.{block_plain, decimal_plain, four_blocks, shorter, version_plain, version_short}
 use Rattle.rds_tool.proofs.fields.push_group.Goals as goal
 
 pub push_row-requires-clause-plain : goal.push_row-requires-clause-plain
@@ -44,8 +45,8 @@ pub push_row-requires-clause-short : goal.push_row-requires-clause-short
 push_row-requires-clause-short g c =
     let place : IsShort c.as_bytes-place.result.now = rw c.as_bytes-place.ensures.value c.format.ensures.fits in
     let version : IsShort c.as_bytes-version.result.now = rw (c.as_bytes-version.ensures.value, c.version_name.ensures) (version_short c.args.group.now.version c.args.group.now.conflict) in
-    let one : IsShort c.as_bytes.result.now = omega (arith, c.as_bytes.ensures.short) in
-    let two : IsShort c.as_bytes-2.result.now = omega (arith, c.as_bytes-2.ensures.short) in
-    let three : IsShort c.as_bytes-3.result.now = omega (arith, c.as_bytes-3.ensures.short) in
-    let four : IsShort c.as_bytes-4.result.now = omega (arith, c.as_bytes-4.ensures.short) in
-    rw c.as_slice.ensures (omega arith, (place, (c.kind_digits-kind.ensures.short, (version, (one, (two, (three, (four, tt))))))))
+    let one : IsShort c.as_bytes.result.now = shorter _ _ c.as_bytes.ensures.short refl in
+    let two : IsShort c.as_bytes-2.result.now = shorter _ _ c.as_bytes-2.ensures.short refl in
+    let three : IsShort c.as_bytes-3.result.now = shorter _ _ c.as_bytes-3.ensures.short refl in
+    let four : IsShort c.as_bytes-4.result.now = shorter _ _ c.as_bytes-4.ensures.short refl in
+    rw c.as_slice.ensures (leb-true _ _ refl, (place, (c.kind_digits-kind.ensures.short, (version, (one, (two, (three, (four, tt))))))))

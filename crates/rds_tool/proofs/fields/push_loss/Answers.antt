@@ -1,4 +1,5 @@
-use Rattle.std.proofs.Common.{arith, refl, rules}
+use Rattle.std.proofs.Common.{refl, rules}
+use Rattle.std.proofs.lemmas.Bool.{leb-true}
 use Rattle.rds_tool.specs.Inside.RowWriter.{IsPlain, IsShort}
 use Rattle.rds_tool.proofs.RowText.{decimal_plain}
 use Rattle.rds_tool.proofs.fields.push_loss.Goals as goal
@@ -11,4 +12,4 @@ push_row-requires-clause-plain g c =
 pub push_row-requires-clause-short : goal.push_row-requires-clause-short
 push_row-requires-clause-short g c =
     let place : IsShort c.as_bytes-place.result.now = rw c.as_bytes-place.ensures.value c.format.ensures.fits in
-    rw c.as_slice.ensures (omega arith, (place, (omega arith, (omega arith, (omega arith, (omega arith, (omega arith, (omega arith, tt))))))))
+    rw c.as_slice.ensures (leb-true _ _ refl, (place, (leb-true _ _ refl, (leb-true _ _ refl, (leb-true _ _ refl, (leb-true _ _ refl, (leb-true _ _ refl, (leb-true _ _ refl, tt))))))))

@@ -1,4 +1,5 @@
-use Rattle.std.proofs.Common.{arith, refl, rules}
+use Rattle.std.proofs.Common.{refl, rules}
+use Rattle.std.proofs.lemmas.Bool.{leb-true}
 use Rattle.rds_tool.specs.Inside.RowWriter.{IsPlain, IsShort}
 use Rattle.rds_tool.proofs.RowText.{decimal_plain}
 use Rattle.rds_tool.proofs.fields.push_total.Goals as goal
@@ -13,4 +14,4 @@ pub push_row-requires-clause-short : goal.push_row-requires-clause-short
 push_row-requires-clause-short g c =
     let name : IsShort c.as_bytes.result.now = rw c.as_bytes.ensures.value c.requires.short in
     let value : IsShort c.as_bytes-value.result.now = rw c.as_bytes-value.ensures.value c.format.ensures.fits in
-    rw c.as_slice.ensures (omega arith, (name, (value, (omega arith, (omega arith, (omega arith, (omega arith, (omega arith, tt))))))))
+    rw c.as_slice.ensures (leb-true _ _ refl, (name, (value, (leb-true _ _ refl, (leb-true _ _ refl, (leb-true _ _ refl, (leb-true _ _ refl, (leb-true _ _ refl, tt))))))))

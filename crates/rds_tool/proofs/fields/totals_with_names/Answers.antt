@@ -1,6 +1,7 @@
-use Rattle.std.proofs.Common.{◌∷◌, Bor, List, [], arith, refl, ℕ}
+use Rattle.std.proofs.Common.{◌∷◌, Bor, List, [], refl, ℕ}
 use Rattle.std.specs.List.{All}
 use Rattle.std.specs.Prelude.{codes}
+use Rattle.std.proofs.lemmas.Bool.{leb-true}
 use Rattle.std.proofs.lemmas.List.Elements.{All-from_recursion}
 use Rattle.rds_tool.specs.Inside.RowWriter.{IsPlain, IsShort}
 use Rattle.rds_tool.proofs.fields.totals_with_names.Goals as goal
@@ -28,16 +29,16 @@ returns-clause-plain c =
 
 pub returns-clause-short : goal.returns-clause-short
 returns-clause-short c =
-    let valid : IsShort (codes "valid") = omega arith in
-    let burst1 : IsShort (codes "burst1") = omega arith in
-    let burst2 : IsShort (codes "burst2") = omega arith in
-    let burst3 : IsShort (codes "burst3") = omega arith in
-    let burst4 : IsShort (codes "burst4") = omega arith in
-    let burst5 : IsShort (codes "burst5") = omega arith in
-    let lost : IsShort (codes "lost") = omega arith in
-    let bits : IsShort (codes "bits") = omega arith in
-    let groups : IsShort (codes "groups") = omega arith in
-    let complete : IsShort (codes "complete") = omega arith in
-    let acquired : IsShort (codes "acquired") = omega arith in
-    let losses : IsShort (codes "losses") = omega arith in
+    let valid : IsShort (codes "valid") = leb-true _ _ refl in
+    let burst1 : IsShort (codes "burst1") = leb-true _ _ refl in
+    let burst2 : IsShort (codes "burst2") = leb-true _ _ refl in
+    let burst3 : IsShort (codes "burst3") = leb-true _ _ refl in
+    let burst4 : IsShort (codes "burst4") = leb-true _ _ refl in
+    let burst5 : IsShort (codes "burst5") = leb-true _ _ refl in
+    let lost : IsShort (codes "lost") = leb-true _ _ refl in
+    let bits : IsShort (codes "bits") = leb-true _ _ refl in
+    let groups : IsShort (codes "groups") = leb-true _ _ refl in
+    let complete : IsShort (codes "complete") = leb-true _ _ refl in
+    let acquired : IsShort (codes "acquired") = leb-true _ _ refl in
+    let losses : IsShort (codes "losses") = leb-true _ _ refl in
     twelve (λ (total : Bor (List ℕ) × ℕ). IsShort total.0.now) _ _ _ _ _ _ _ _ _ _ _ _ valid burst1 burst2 burst3 burst4 burst5 lost bits groups complete acquired losses

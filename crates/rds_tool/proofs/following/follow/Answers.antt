@@ -1,4 +1,4 @@
-use Rattle.std.proofs.Common.{◌≡◌, ◌≢◌, ◌⊎◌, ◌↔◌, Err, ◌+◌, ◌^◌, ◌<◌, ◌≤◌, ◌++◌, ◌∙◌, ℕ, [], List, Some, ap, arith, inl, inr, refl, subst, sym, take}
+use Rattle.std.proofs.Common.{◌≡◌, ◌≢◌, ◌⊎◌, ◌↔◌, Err, ◌+◌, ◌<◌, ◌++◌, ◌∙◌, ℕ, [], List, Some, ap, inl, inr, refl, subst, sym, take}
 use Rattle.std.specs.Prelude.{IfSome}
 use Rattle.rds_live.specs.StreamDecoder.{LiveOf, Terms}
 use Rattle.rds_stream.specs.Recording.{AreGaps}
@@ -7,7 +7,7 @@ use Rattle.rds_tool.specs.Input.{claimed}
 use Rattle.rds_tool.specs.Inside.Streams.{bits_left}
 use Rattle.rds_tool.specs.declared.error.ToolError.{ToolError}
 use Rattle.rds_tool.specs.declared.error.ToolError.TheVariants.{BadGaps, BitsPastBytes, OutOfMemory, Read, TooLong, Write}
-use Rattle.rds_tool.proofs.Followed.{after_no_write, after_refusal, early_has_bytes, ends_short, few_last, is_place, no_such, no_such_gaps, not_told, of_call, of_err, of_neither, on_any_ok, only_write, read_as_far, short_left, stops_at_end, stops_behind, stops_here, told_on, write_alone, write_breaks, wrote_all}
+use Rattle.rds_tool.proofs.Followed.{after_no_write, after_refusal, differ, early_has_bytes, ends_short, few_bits, few_last, is_place, no_such, no_such_gaps, none_counted, not_told, of_call, of_err, of_neither, on_any_ok, only_write, read_as_far, rest_fits, stops_at_end, stops_behind, stops_here, told_on, write_alone, write_breaks, wrote_all}
 use Rattle.rds_tool.proofs.Histories.{broke_after, broke_at_read, broke_at_write, ends_short_of, gave_more, heard_all, heard_out, held, near_last, still_none, stops_all, took_rest}
 use Rattle.rds_tool.proofs.Passing.{passed, passes}
 use Rattle.rds_tool.proofs.following.follow.Goals as goal
@@ -57,19 +57,19 @@ pub returns-in_err-count-clause-read : goal.returns-in_err-count-clause-read
 returns-in_err-count-clause-read g c = told_on _ _ (passed _ _ c.from_residual-in_err-count.ensures) _ _ _ _ c.in_ok-live.ensures.reads c.in_err-count.ensures.read
 
 pub returns-in_err-count-clause-write : goal.returns-in_err-count-clause-write
-returns-in_err-count-clause-write g c = not_told _ _ (passed _ _ c.from_residual-in_err-count.ensures) Write (of_neither _ Read BitsPastBytes Write c.in_err-count.ensures.kinds (λ p. cc p) (λ p. cc p)) _ _ _ c.in_ok-live.ensures.writes refl
+returns-in_err-count-clause-write g c = not_told _ _ (passed _ _ c.from_residual-in_err-count.ensures) Write (of_neither _ Read BitsPastBytes Write c.in_err-count.ensures.kinds (differ _ _ refl) (differ _ _ refl)) _ _ _ c.in_ok-live.ensures.writes refl
 
 pub returns-in_err-count-clause-too_long : goal.returns-in_err-count-clause-too_long
-returns-in_err-count-clause-too_long g c = no_such _ _ (passed _ _ c.from_residual-in_err-count.ensures) TooLong (of_neither _ Read BitsPastBytes TooLong c.in_err-count.ensures.kinds (λ p. cc p) (λ p. cc p))
+returns-in_err-count-clause-too_long g c = no_such _ _ (passed _ _ c.from_residual-in_err-count.ensures) TooLong (of_neither _ Read BitsPastBytes TooLong c.in_err-count.ensures.kinds (differ _ _ refl) (differ _ _ refl))
 
 pub returns-in_err-count-clause-bad_gaps : goal.returns-in_err-count-clause-bad_gaps
-returns-in_err-count-clause-bad_gaps g c = no_such _ _ (passed _ _ c.from_residual-in_err-count.ensures) BadGaps (of_neither _ Read BitsPastBytes BadGaps c.in_err-count.ensures.kinds (λ p. cc p) (λ p. cc p))
+returns-in_err-count-clause-bad_gaps g c = no_such _ _ (passed _ _ c.from_residual-in_err-count.ensures) BadGaps (of_neither _ Read BitsPastBytes BadGaps c.in_err-count.ensures.kinds (differ _ _ refl) (differ _ _ refl))
 
 pub returns-in_err-count-clause-refused : goal.returns-in_err-count-clause-refused
 returns-in_err-count-clause-refused g c = passes _ _ _ c.from_residual-in_err-count.ensures (last_is_any _ c.in_err-count.ensures.kinds)
 
 pub returns-in_err-count-clause-within : goal.returns-in_err-count-clause-within
-returns-in_err-count-clause-within g c = no_such _ _ (passed _ _ c.from_residual-in_err-count.ensures) Write (of_neither _ Read BitsPastBytes Write c.in_err-count.ensures.kinds (λ p. cc p) (λ p. cc p))
+returns-in_err-count-clause-within g c = no_such _ _ (passed _ _ c.from_residual-in_err-count.ensures) Write (of_neither _ Read BitsPastBytes Write c.in_err-count.ensures.kinds (differ _ _ refl) (differ _ _ refl))
 
 pub returns-in_err-count-clause-past : goal.returns-in_err-count-clause-past
 returns-in_err-count-clause-past g c = λ p.
@@ -84,22 +84,22 @@ returns-in_err-count-clause-between g c =
     after_refusal _ (stops_here _ _ _ _ _ _ _ heard f _ c.in_err-count.ensures.kept)
 
 pub returns-in_err-rows-clause-read : goal.returns-in_err-rows-clause-read
-returns-in_err-rows-clause-read g c = not_told _ _ (passed _ _ c.from_residual-in_err-rows.ensures) Read (of_neither _ OutOfMemory BadGaps Read c.in_err-rows.ensures.kinds (λ p. cc p) (λ p. cc p)) _ _ _ c.in_ok-live.ensures.reads c.in_ok-count.ensures.count
+returns-in_err-rows-clause-read g c = not_told _ _ (passed _ _ c.from_residual-in_err-rows.ensures) Read (of_neither _ OutOfMemory BadGaps Read c.in_err-rows.ensures.kinds (differ _ _ refl) (differ _ _ refl)) _ _ _ c.in_ok-live.ensures.reads c.in_ok-count.ensures.count
 
 pub returns-in_err-rows-clause-write : goal.returns-in_err-rows-clause-write
-returns-in_err-rows-clause-write g c = not_told _ _ (passed _ _ c.from_residual-in_err-rows.ensures) Write (of_neither _ OutOfMemory BadGaps Write c.in_err-rows.ensures.kinds (λ p. cc p) (λ p. cc p)) _ _ _ c.in_ok-live.ensures.writes refl
+returns-in_err-rows-clause-write g c = not_told _ _ (passed _ _ c.from_residual-in_err-rows.ensures) Write (of_neither _ OutOfMemory BadGaps Write c.in_err-rows.ensures.kinds (differ _ _ refl) (differ _ _ refl)) _ _ _ c.in_ok-live.ensures.writes refl
 
 pub returns-in_err-rows-clause-too_long : goal.returns-in_err-rows-clause-too_long
-returns-in_err-rows-clause-too_long g c = no_such _ _ (passed _ _ c.from_residual-in_err-rows.ensures) TooLong (of_neither _ OutOfMemory BadGaps TooLong c.in_err-rows.ensures.kinds (λ p. cc p) (λ p. cc p))
+returns-in_err-rows-clause-too_long g c = no_such _ _ (passed _ _ c.from_residual-in_err-rows.ensures) TooLong (of_neither _ OutOfMemory BadGaps TooLong c.in_err-rows.ensures.kinds (differ _ _ refl) (differ _ _ refl))
 
 pub returns-in_err-rows-clause-past : goal.returns-in_err-rows-clause-past
-returns-in_err-rows-clause-past g c = no_such _ _ (passed _ _ c.from_residual-in_err-rows.ensures) BitsPastBytes (of_neither _ OutOfMemory BadGaps BitsPastBytes c.in_err-rows.ensures.kinds (λ p. cc p) (λ p. cc p))
+returns-in_err-rows-clause-past g c = no_such _ _ (passed _ _ c.from_residual-in_err-rows.ensures) BitsPastBytes (of_neither _ OutOfMemory BadGaps BitsPastBytes c.in_err-rows.ensures.kinds (differ _ _ refl) (differ _ _ refl))
 
 pub returns-in_err-rows-clause-refused : goal.returns-in_err-rows-clause-refused
 returns-in_err-rows-clause-refused g c = passes _ _ _ c.from_residual-in_err-rows.ensures (rest_is_any _ c.in_err-rows.ensures.kinds)
 
 pub returns-in_err-rows-clause-within : goal.returns-in_err-rows-clause-within
-returns-in_err-rows-clause-within g c = no_such _ _ (passed _ _ c.from_residual-in_err-rows.ensures) Write (of_neither _ OutOfMemory BadGaps Write c.in_err-rows.ensures.kinds (λ p. cc p) (λ p. cc p))
+returns-in_err-rows-clause-within g c = no_such _ _ (passed _ _ c.from_residual-in_err-rows.ensures) Write (of_neither _ OutOfMemory BadGaps Write c.in_err-rows.ensures.kinds (differ _ _ refl) (differ _ _ refl))
 
 pub returns-in_err-rows-clause-bad_gaps : goal.returns-in_err-rows-clause-bad_gaps
 returns-in_err-rows-clause-bad_gaps g c = λ p.
@@ -125,10 +125,9 @@ returns-clause-end g c =
 pub returns-clause-ok : goal.returns-clause-ok
 returns-clause-ok g c =
     let (heard, f, gave, flush) = c.in_ok-live.ensures.followed in
-    let left_is : c.bits_left-left.result ≡ bits_left c.args.bits c.in_ok-live.live.place = c.bits_left-left.ensures ∙ ap (bits_left c.args.bits) c.place.ensures.value in
-    let limit : c.in_ok-live.live.place ≤ 2 ^ 36 = omega (arith, c.place.ensures.value, c.place.ensures.limit) in
-    let enough = short_left c.args.bits c.in_ok-live.live.place limit c.in_ok-live.ensures.claims (is_place _ _ _ _ _ _ _ heard f) in
-    let short : c.in_ok-live.live.place + c.bits_left-left.result ≤ 2 ^ 36 = omega (arith, enough, left_is) in
+    let short =
+    rest_fits c.args.bits c.place.result c.in_ok-live.live.place c.bits_left-left.result c.place.ensures.value c.place.ensures.limit c.bits_left-left.ensures c.in_ok-live.ensures.claims
+    (is_place _ _ _ _ _ _ _ heard f) in
     let gaps_are = ap (λ (l : LiveOf). l.terms.gaps) f.live_is in
     wrote_all _ _ _ _ _ _ _ heard f c.in_ok-live.ensures.near_end _ c.in_ok-count.count c.read_last.new.last c.in_ok-count.ensures.taken
     c.bits_left-left.result c.place.result c.bits_left-left.ensures c.place.ensures.value c.in_ok-count.ensures.within c.in_ok-count.ensures.still _
@@ -136,20 +135,20 @@ returns-clause-ok g c =
     c.write_flushed.result short (subst (λ (gs : List (ℕ × ℕ)). AreGaps (c.in_ok-live.live.place + c.bits_left-left.result) gs) gaps_are c.in_ok-rows.ensures.gaps) c.write_flushed.ensures.ok
 
 pub returns-clause-read : goal.returns-clause-read
-returns-clause-read g c = (only_write _ Read (λ p. cc p) c.write_flushed.ensures.kinds, λ q. absurd (omega (arith, c.in_ok-live.ensures.reads, c.in_ok-count.ensures.count, q)))
+returns-clause-read g c = (only_write _ Read (differ _ _ refl) c.write_flushed.ensures.kinds, none_counted _ _ _ c.in_ok-live.ensures.reads c.in_ok-count.ensures.count)
 
 pub returns-clause-write : goal.returns-clause-write
 returns-clause-write g c =
     subst (λ (n : ℕ). (c.write_flushed.result ≡ Err Write) ↔ (n < g.K.Sink.failed c.write_flushed.new.writer)) c.in_ok-live.ensures.writes c.write_flushed.ensures.write
 
 pub returns-clause-too_long : goal.returns-clause-too_long
-returns-clause-too_long g c = only_write _ TooLong (λ p. cc p) c.write_flushed.ensures.kinds
+returns-clause-too_long g c = only_write _ TooLong (differ _ _ refl) c.write_flushed.ensures.kinds
 
 pub returns-clause-past : goal.returns-clause-past
-returns-clause-past g c = only_write _ BitsPastBytes (λ p. cc p) c.write_flushed.ensures.kinds
+returns-clause-past g c = only_write _ BitsPastBytes (differ _ _ refl) c.write_flushed.ensures.kinds
 
 pub returns-clause-bad_gaps : goal.returns-clause-bad_gaps
-returns-clause-bad_gaps g c = only_write _ BadGaps (λ p. cc p) c.write_flushed.ensures.kinds
+returns-clause-bad_gaps g c = only_write _ BadGaps (differ _ _ refl) c.write_flushed.ensures.kinds
 
 pub returns-clause-refused : goal.returns-clause-refused
 returns-clause-refused g c = write_breaks _ c.write_flushed.ensures.kinds
@@ -166,7 +165,7 @@ returns-clause-within g c = λ p.
     (few_last c.in_ok-count.count _ c.read_last.new.last refl c.in_ok-count.ensures.few) (of_err _ _ p c.write_flushed.ensures.prefix)
 
 pub rows_of_rest-requires-clause-few : goal.rows_of_rest-requires-clause-few
-rows_of_rest-requires-clause-few g c = omega (arith, c.in_ok-count.ensures.within, c.in_ok-count.ensures.few)
+rows_of_rest-requires-clause-few g c = few_bits _ _ c.in_ok-count.ensures.within.1 c.in_ok-count.ensures.few
 
 -- ---- at every device
 
@@ -180,7 +179,7 @@ returns-in_err-count-clause-broke_off g c =
     let not : (k : ToolError) → Read ≢ k → BitsPastBytes ≢ k → c.in_err-count.field-0.0 ≢ k = λ k. of_neither _ Read BitsPastBytes k c.in_err-count.ensures.kinds in
     passes _ _ _ c.from_residual-in_err-count.ensures
     (broke_at_read _ _ _ _ _ _ _ _ _ heard (c.in_err-count.ensures.none_given ∙ gave) f.written flush (stops_all _ _ _ _ _ _ _ heard f)
-    (not Write (λ p. cc p) (λ p. cc p), not TooLong (λ p. cc p) (λ p. cc p), not BadGaps (λ p. cc p) (λ p. cc p))
+    (not Write (differ _ _ refl) (differ _ _ refl), not TooLong (differ _ _ refl) (differ _ _ refl), not BadGaps (differ _ _ refl) (differ _ _ refl))
     (λ p. ends_short_of _ _ _ _ _ _ _ heard f _ _ _ left_is c.in_ok-live.ensures.near_answer (c.in_err-count.ensures.past_answer (ap (λ x. Err x) p))))
 
 pub returns-in_err-rows-clause-broke_off : goal.returns-in_err-rows-clause-broke_off
@@ -197,9 +196,9 @@ returns-in_err-rows-clause-broke_off g c =
     let not : (k : ToolError) → OutOfMemory ≢ k → BadGaps ≢ k → c.in_err-rows.field-0.0 ≢ k = λ k. of_neither _ OutOfMemory BadGaps k kinds in
     passes _ _ _ c.from_residual-in_err-rows.ensures
     (broke_after _ _ _ _ _ _ _ _ _ (heard ++ last) (gave_more _ _ _ heard last gave read.given)
-    (not Read (λ p. cc p) (λ p. cc p), not BitsPastBytes (λ p. cc p) (λ p. cc p))
+    (not Read (differ _ _ refl) (differ _ _ refl), not BitsPastBytes (differ _ _ refl) (differ _ _ refl))
     (λ _. stops_behind _ _ _ _ _ _ _ heard f' (Some []) _ _ (took_rest _ last _ refl) last refl (few_last c.in_ok-count.count last buf refl read.few))
-    (λ p. absurd (not Write (λ q. cc q) (λ q. cc q) p)) (λ p. absurd (not TooLong (λ q. cc q) (λ q. cc q) p))
+    (λ p. absurd (not Write (differ _ _ refl) (differ _ _ refl) p)) (λ p. absurd (not TooLong (differ _ _ refl) (differ _ _ refl) p))
     (λ p. subst (λ (gs : List (ℕ × ℕ)). AreGaps (claimed c.args.bits (heard ++ last)) gs → ⊥) gaps_are
     (no_such_gaps _ _ _ _ _ _ _ heard f' near _ c.in_ok-count.count buf (took_rest _ last _ refl)
     c.bits_left-left.result c.place.result c.bits_left-left.ensures c.place.ensures.value read.within still c.in_ok-live.live.terms.gaps
@@ -208,10 +207,9 @@ returns-in_err-rows-clause-broke_off g c =
 pub returns-clause-heard : goal.returns-clause-heard
 returns-clause-heard g c =
     let (heard, f, gave, flush) = c.in_ok-live.ensures.followed in
-    let left_is : c.bits_left-left.result ≡ bits_left c.args.bits c.in_ok-live.live.place = c.bits_left-left.ensures ∙ ap (bits_left c.args.bits) c.place.ensures.value in
-    let limit : c.in_ok-live.live.place ≤ 2 ^ 36 = omega (arith, c.place.ensures.value, c.place.ensures.limit) in
-    let enough = short_left c.args.bits c.in_ok-live.live.place limit c.in_ok-live.ensures.claims (is_place _ _ _ _ _ _ _ heard f) in
-    let short : c.in_ok-live.live.place + c.bits_left-left.result ≤ 2 ^ 36 = omega (arith, enough, left_is) in
+    let short =
+    rest_fits c.args.bits c.place.result c.in_ok-live.live.place c.bits_left-left.result c.place.ensures.value c.place.ensures.limit c.bits_left-left.ensures c.in_ok-live.ensures.claims
+    (is_place _ _ _ _ _ _ _ heard f) in
     let gaps_are = ap (λ (l : LiveOf). l.terms.gaps) f.live_is in
     let buf = c.read_last.new.last in
     let last = take c.in_ok-count.count buf in

@@ -1,11 +1,11 @@
-use Rattle.std.proofs.Common.{◌+◌, ◌*◌, ◌≡◌, ◌≢◌, ◌≤◌, Err, List, Option, Some, ◌⊎◌, ◌++◌, [], inl, inr, arith, ap, refl, sym, subst, ◌∙◌, drop, length, take, ℕ}
+use Rattle.std.proofs.Common.{◌+◌, ◌*◌, ◌≡◌, ◌≢◌, ◌≤◌, Err, List, Option, Some, ◌⊎◌, ◌++◌, [], inl, inr, ap, refl, sym, subst, ◌∙◌, drop, length, take, ℕ}
 use Rattle.std.specs.Prelude.{IfSome}
 use Rattle.std.proofs.lemmas.List.{append-nil}
 use Rattle.rds_tool.specs.Following.{MayBreakEarly}
 use Rattle.rds_tool.specs.Inside.Streams.{IsNearAnswer, IsNearEnd, IsPlaceOf}
 use Rattle.rds_tool.specs.declared.error.ToolError.{ToolError}
 use Rattle.rds_tool.specs.declared.error.ToolError.TheVariants.{BadGaps, BitsPastBytes, OutOfMemory, Read, TooLong, Write}
-use Rattle.rds_tool.proofs.Followed.{after_no_write, after_refusal, chunk_breaks, few_taken, fits_room, followed_end, followed_more, followed_none, front_is, is_place, lent_whole, near_end_by, no_gaps_told, no_such, not_told, nothing_done, of_call, of_neither, read_not_told, smaller, some_taken, stops_behind, stops_here, stops_in_rows, stops_untouched, told_on, too_many}
+use Rattle.rds_tool.proofs.Followed.{after_no_write, after_refusal, chunk_breaks, differ, few_taken, fits_room, followed_end, followed_more, followed_none, front_is, is_place, lent_whole, near_end_by, no_gaps_told, no_such, not_told, nothing_done, of_call, of_neither, read_not_told, smaller, some_taken, stops_behind, stops_here, stops_in_rows, stops_untouched, told_by, told_on, too_many}
 use Rattle.rds_tool.proofs.Histories.{broke_after, broke_at_once, broke_at_read, gave_more, gave_none, held, near_answer_by, of_none, stops_all, took_rest}
 use Rattle.rds_tool.proofs.Passing.{passed, passed_kind, passes}
 use Rattle.rds_tool.proofs.following.follow_bytes.Goals as goal
@@ -17,10 +17,10 @@ begin_breaks e (inr (inl long)) = inr (inr (inr (inl long)))
 begin_breaks e (inr (inr gaps)) = inr (inr (inr (inr gaps)))
 
 pub returns-in_err-live-clause-read : goal.returns-in_err-live-clause-read
-returns-in_err-live-clause-read g c = not_told _ _ (passed _ _ c.from_residual.ensures) Read (of_none _ OutOfMemory TooLong BadGaps Read c.in_err-live.ensures.kinds (λ p. cc p) (λ p. cc p) (λ p. cc p)) _ _ _ refl refl
+returns-in_err-live-clause-read g c = not_told _ _ (passed _ _ c.from_residual.ensures) Read (of_none _ OutOfMemory TooLong BadGaps Read c.in_err-live.ensures.kinds (differ _ _ refl) (differ _ _ refl) (differ _ _ refl)) _ _ _ refl refl
 
 pub returns-in_err-live-clause-write : goal.returns-in_err-live-clause-write
-returns-in_err-live-clause-write g c = not_told _ _ (passed _ _ c.from_residual.ensures) Write (of_none _ OutOfMemory TooLong BadGaps Write c.in_err-live.ensures.kinds (λ p. cc p) (λ p. cc p) (λ p. cc p)) _ _ _ refl refl
+returns-in_err-live-clause-write g c = not_told _ _ (passed _ _ c.from_residual.ensures) Write (of_none _ OutOfMemory TooLong BadGaps Write c.in_err-live.ensures.kinds (differ _ _ refl) (differ _ _ refl) (differ _ _ refl)) _ _ _ refl refl
 
 pub returns-in_err-live-clause-too_long : goal.returns-in_err-live-clause-too_long
 returns-in_err-live-clause-too_long g c = λ p. inl (c.in_err-live.ensures.too_long (of_call _ _ (passed _ _ c.from_residual.ensures) _ p))
@@ -29,7 +29,7 @@ pub returns-in_err-live-clause-bad_gaps : goal.returns-in_err-live-clause-bad_ga
 returns-in_err-live-clause-bad_gaps g c = λ p. c.in_err-live.ensures.bad_gaps (of_call _ _ (passed _ _ c.from_residual.ensures) _ p)
 
 pub returns-in_err-live-clause-within : goal.returns-in_err-live-clause-within
-returns-in_err-live-clause-within g c = no_such _ _ (passed _ _ c.from_residual.ensures) Write (of_none _ OutOfMemory TooLong BadGaps Write c.in_err-live.ensures.kinds (λ p. cc p) (λ p. cc p) (λ p. cc p))
+returns-in_err-live-clause-within g c = no_such _ _ (passed _ _ c.from_residual.ensures) Write (of_none _ OutOfMemory TooLong BadGaps Write c.in_err-live.ensures.kinds (differ _ _ refl) (differ _ _ refl) (differ _ _ refl))
 
 pub returns-in_err-live-clause-refused : goal.returns-in_err-live-clause-refused
 returns-in_err-live-clause-refused g c = passes _ _ _ c.from_residual.ensures (begin_breaks _ c.in_err-live.ensures.kinds)
@@ -45,22 +45,22 @@ reads-init g c = record {
 
 pub returns-in_err-count-clause-read : goal.returns-in_err-count-clause-read
 returns-in_err-count-clause-read g c =
-    (λ _. omega (arith, c.reads.invariant.reads, c.in_err-count.ensures.failed), λ _. passed _ _ c.from_residual-in_err-count.ensures ∙ ap (λ e. Err e) c.in_err-count.ensures.kinds)
+    told_by _ _ (passed _ _ c.from_residual-in_err-count.ensures) Read c.in_err-count.ensures.kinds _ _ _ c.reads.invariant.reads c.in_err-count.ensures.failed
 
 pub returns-in_err-count-clause-write : goal.returns-in_err-count-clause-write
-returns-in_err-count-clause-write g c = not_told _ _ (passed _ _ c.from_residual-in_err-count.ensures) Write (of_neither _ Read Read Write (inl c.in_err-count.ensures.kinds) (λ p. cc p) (λ p. cc p)) _ _ _ c.reads.invariant.writes refl
+returns-in_err-count-clause-write g c = not_told _ _ (passed _ _ c.from_residual-in_err-count.ensures) Write (of_neither _ Read Read Write (inl c.in_err-count.ensures.kinds) (differ _ _ refl) (differ _ _ refl)) _ _ _ c.reads.invariant.writes refl
 
 pub returns-in_err-count-clause-too_long : goal.returns-in_err-count-clause-too_long
-returns-in_err-count-clause-too_long g c = no_such _ _ (passed _ _ c.from_residual-in_err-count.ensures) TooLong (of_neither _ Read Read TooLong (inl c.in_err-count.ensures.kinds) (λ p. cc p) (λ p. cc p))
+returns-in_err-count-clause-too_long g c = no_such _ _ (passed _ _ c.from_residual-in_err-count.ensures) TooLong (of_neither _ Read Read TooLong (inl c.in_err-count.ensures.kinds) (differ _ _ refl) (differ _ _ refl))
 
 pub returns-in_err-count-clause-bad_gaps : goal.returns-in_err-count-clause-bad_gaps
-returns-in_err-count-clause-bad_gaps g c = no_such _ _ (passed _ _ c.from_residual-in_err-count.ensures) BadGaps (of_neither _ Read Read BadGaps (inl c.in_err-count.ensures.kinds) (λ p. cc p) (λ p. cc p))
+returns-in_err-count-clause-bad_gaps g c = no_such _ _ (passed _ _ c.from_residual-in_err-count.ensures) BadGaps (of_neither _ Read Read BadGaps (inl c.in_err-count.ensures.kinds) (differ _ _ refl) (differ _ _ refl))
 
 pub returns-in_err-count-clause-refused : goal.returns-in_err-count-clause-refused
 returns-in_err-count-clause-refused g c = passes _ _ MayBreakEarly c.from_residual-in_err-count.ensures (inr (inl c.in_err-count.ensures.kinds))
 
 pub returns-in_err-count-clause-within : goal.returns-in_err-count-clause-within
-returns-in_err-count-clause-within g c = no_such _ _ (passed _ _ c.from_residual-in_err-count.ensures) Write (of_neither _ Read Read Write (inl c.in_err-count.ensures.kinds) (λ p. cc p) (λ p. cc p))
+returns-in_err-count-clause-within g c = no_such _ _ (passed _ _ c.from_residual-in_err-count.ensures) Write (of_neither _ Read Read Write (inl c.in_err-count.ensures.kinds) (differ _ _ refl) (differ _ _ refl))
 
 pub returns-in_err-count-clause-between : goal.returns-in_err-count-clause-between
 returns-in_err-count-clause-between g c =
@@ -97,8 +97,8 @@ reads-preserved g c =
       );
       reads = c.in_ok-count.ensures.count ∙ c.reads.invariant.reads;
       writes = c.in_ok-follow_chunk.ensures.count ∙ c.reads.invariant.writes;
-      room = let same = ap (λ xs. length xs) (lent_whole c.reads.buf.len c.read_once.new.buf (drop (length c.read_once.new.buf) c.reads.buf.items) long) in omega (arith, same, long, c.reads.buf.ok.0, c.reads.invariant.room);
-      items = omega (arith, c.in_ok-follow_chunk.ensures.room, c.reads.invariant.items);
+      room = ap (λ xs. length xs) (lent_whole c.reads.buf.len c.read_once.new.buf (drop (length c.read_once.new.buf) c.reads.buf.items) long) ∙ long ∙ c.reads.buf.ok.0 ∙ c.reads.invariant.room;
+      items = subst (λ (n : ℕ). 16 ≤ n) (sym c.in_ok-follow_chunk.ensures.room) c.reads.invariant.items;
     }
 
 pub returns-in_err-follow_chunk-clause-read : goal.returns-in_err-follow_chunk-clause-read
@@ -124,7 +124,7 @@ returns-in_err-follow_chunk-clause-between g c =
     let (heard, f, gave, flush) = c.reads.invariant.followed in
     let long = c.read_once.auto.buf ∙ c.as_mut_slice.ensures.len in
     let bytes_are = front_is c.in_ok-count.count c.reads.buf.len c.deref.result.now c.read_once.new.buf (drop (length c.read_once.new.buf) c.reads.buf.items) long c.deref.ensures.value in
-    let few = few_taken _ _ _ bytes_are (omega (arith, long, c.reads.buf.ok.0, c.reads.invariant.room)) in
+    let few = few_taken _ _ _ bytes_are (long ∙ c.reads.buf.ok.0 ∙ c.reads.invariant.room) in
     after_no_write _ c.in_err-follow_chunk.field-0.0 (passed _ _ c.from_residual-in_err-follow_chunk.ensures) (λ other.
     stops_untouched g.K.Sink.contents _ _ _ _ _ _ _ (c.in_err-follow_chunk.ensures.untouched other)
     (stops_behind _ _ _ _ _ _ _ heard f _ _ _ c.in_ok-count.ensures.taken _ bytes_are few))
@@ -137,7 +137,7 @@ returns-in_err-follow_chunk-clause-within g c = λ p.
     let within : IfSome c.args.bits (λ (n : ℕ). c.reads.live.place + 8 * c.room_before_end-room.result ≤ n) =
     subst (λ (p : ℕ). IfSome c.args.bits (λ (n : ℕ). p + 8 * c.room_before_end-room.result ≤ n)) c.place.ensures.value c.room_before_end-room.ensures.within in
     let fit = fits_room _ c.room_before_end-room.result _ _ bytes_are c.in_ok-count.ensures.within.1 in
-    let few = few_taken _ _ _ bytes_are (omega (arith, long, c.reads.buf.ok.0, c.reads.invariant.room)) in
+    let few = few_taken _ _ _ bytes_are (long ∙ c.reads.buf.ok.0 ∙ c.reads.invariant.room) in
     stops_in_rows _ _ _ _ _ _ _ heard f _ _ _ c.in_ok-count.ensures.taken _ bytes_are _ _ within fit c.runs_are_reports.ensures c.reach.ensures.range.loss.0 few
     (c.in_err-follow_chunk.ensures.prefix (of_call _ _ (passed _ _ c.from_residual-in_err-follow_chunk.ensures) _ p))
 
@@ -177,7 +177,7 @@ returns-in_err-live-clause-broke_off g c =
     let not : (k : ToolError) → OutOfMemory ≢ k → TooLong ≢ k → BadGaps ≢ k → c.in_err-live.field-0.0 ≢ k = λ k. of_none _ OutOfMemory TooLong BadGaps k c.in_err-live.ensures.kinds in
     passes _ _ _ c.from_residual.ensures
     (broke_at_once _ _ _ _ _ _ _ _ _ refl refl
-    (not Read (λ p. cc p) (λ p. cc p) (λ p. cc p), not Write (λ p. cc p) (λ p. cc p) (λ p. cc p), not BitsPastBytes (λ p. cc p) (λ p. cc p) (λ p. cc p))
+    (not Read (differ _ _ refl) (differ _ _ refl) (differ _ _ refl), not Write (differ _ _ refl) (differ _ _ refl) (differ _ _ refl), not BitsPastBytes (differ _ _ refl) (differ _ _ refl) (differ _ _ refl))
     (λ p. inl (c.in_err-live.ensures.too_long (ap (λ x. Err x) p))) (λ p. c.in_err-live.ensures.bad_gaps (ap (λ x. Err x) p)))
 
 pub returns-in_err-count-clause-broke_off : goal.returns-in_err-count-clause-broke_off
@@ -186,7 +186,7 @@ returns-in_err-count-clause-broke_off g c =
     let not : (k : ToolError) → Read ≢ k → c.in_err-count.field-0.0 ≢ k = λ k other. of_neither _ Read Read k (inl c.in_err-count.ensures.kinds) other other in
     passes _ _ _ c.from_residual-in_err-count.ensures
     (broke_at_read _ _ _ _ _ _ _ _ _ heard (c.in_err-count.ensures.none_given ∙ gave) f.written flush (stops_all _ _ _ _ _ _ _ heard f)
-    (not Write (λ p. cc p), not TooLong (λ p. cc p), not BadGaps (λ p. cc p)) (λ p. absurd (not BitsPastBytes (λ q. cc q) p)))
+    (not Write (differ _ _ refl), not TooLong (differ _ _ refl), not BadGaps (differ _ _ refl)) (λ p. absurd (not BitsPastBytes (differ _ _ refl) p)))
 
 pub returns-in_err-follow_chunk-clause-broke_off : goal.returns-in_err-follow_chunk-clause-broke_off
 returns-in_err-follow_chunk-clause-broke_off g c =
@@ -197,7 +197,7 @@ returns-in_err-follow_chunk-clause-broke_off g c =
     let within : IfSome c.args.bits (λ (n : ℕ). c.reads.live.place + 8 * c.room_before_end-room.result ≤ n) =
     subst (λ (p : ℕ). IfSome c.args.bits (λ (n : ℕ). p + 8 * c.room_before_end-room.result ≤ n)) c.place.ensures.value c.room_before_end-room.ensures.within in
     let fit = fits_room _ c.room_before_end-room.result _ _ bytes_are c.in_ok-count.ensures.within.1 in
-    let few = few_taken _ _ _ bytes_are (omega (arith, long, c.reads.buf.ok.0, c.reads.invariant.room)) in
+    let few = few_taken _ _ _ bytes_are (long ∙ c.reads.buf.ok.0 ∙ c.reads.invariant.room) in
     let kinds = c.in_err-follow_chunk.ensures.kinds in
     let f' = held _ _ _ _ _ _ _ heard f bytes in
     let all : Option (List ℕ) = Some (heard ++ bytes) in
@@ -206,7 +206,7 @@ returns-in_err-follow_chunk-clause-broke_off g c =
     passes _ _ _ c.from_residual-in_err-follow_chunk.ensures
     (broke_after _ _ _ _ _ _ _ _ _ (heard ++ bytes)
     (gave_more _ _ _ heard bytes gave (c.in_ok-count.ensures.given ∙ ap (λ xs. g.S.Source.given c.reads.reader ++ xs) (sym bytes_are)))
-    (of_none _ OutOfMemory Write TooLong Read kinds (λ p. cc p) (λ p. cc p) (λ p. cc p), of_none _ OutOfMemory Write TooLong BitsPastBytes kinds (λ p. cc p) (λ p. cc p) (λ p. cc p))
+    (of_none _ OutOfMemory Write TooLong Read kinds (differ _ _ refl) (differ _ _ refl) (differ _ _ refl), of_none _ OutOfMemory Write TooLong BitsPastBytes kinds (differ _ _ refl) (differ _ _ refl) (differ _ _ refl))
     (λ other. stops_untouched g.K.Sink.contents _ _ all none _ _ _ (c.in_err-follow_chunk.ensures.untouched other) (stops_behind _ _ _ _ _ _ _ heard f' none _ _ took bytes bytes_are few))
     (λ p. stops_in_rows _ _ _ _ _ _ _ heard f' none _ _ took bytes bytes_are _ _ within fit c.runs_are_reports.ensures c.reach.ensures.range.loss.0 few (c.in_err-follow_chunk.ensures.prefix (ap (λ x. Err x) p)))
     (λ p. too_many _ _ _ _ _ _ _ heard f' none _ _ took bytes bytes_are (c.in_err-follow_chunk.ensures.too_long (ap (λ x. Err x) p)))

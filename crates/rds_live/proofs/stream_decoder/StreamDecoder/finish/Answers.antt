@@ -6,7 +6,7 @@ use Rattle.rds_sync.specs.declared.totals.Totals.{Totals}
 use Rattle.rds_sync.specs.Advance.{group_item}
 use Rattle.rds_sync.specs.Counting.{TotalsJoin, plus}
 use Rattle.rds_sync.specs.Laws.{RunsAreReports}
-use Rattle.rds_sync.specs.Loss.{IsLoss}
+use Rattle.rds_sync.specs.Loss.{IsLossRule}
 use Rattle.rds_sync.specs.Step.{run, items_of_end}
 use Rattle.rds_sync.specs.Totals.{totals_of}
 use Rattle.rds_live.specs.StreamDecoder.{LiveOf, Terms, HasHeard, complete, report_of, run_of, signal_of}
@@ -15,7 +15,7 @@ use Rattle.rds_live.proofs.Parts.{length-signal}
 use Rattle.rds_live.proofs.stream_decoder.StreamDecoder.finish.Goals as goal
 
 -- the items of a stream with the group in progress at its end are those of its report
-all-items : (reports : RunsAreReports) (terms : Terms) (loss : IsLoss terms.rules.loss) (bytes : List ℕ) (last : List Item)
+all-items : (reports : RunsAreReports) (terms : Terms) (loss : IsLossRule terms.rules.loss) (bytes : List ℕ) (last : List Item)
     → last ≡ items_of_end (signal_of terms.gaps bytes) terms.rules (run_of terms bytes).0 → complete terms bytes ++ last ≡ report_of terms bytes
 all-items reports terms loss bytes last is =
     let whole = signal_of terms.gaps bytes in
@@ -24,7 +24,7 @@ all-items reports terms loss bytes last is =
     ∙ reports whole terms.rules loss
 
 -- and so are its totals
-all-totals : (join : TotalsJoin) (reports : RunsAreReports) (terms : Terms) (loss : IsLoss terms.rules.loss) (bytes : List ℕ) (last : List Item) (totals sum : Totals)
+all-totals : (join : TotalsJoin) (reports : RunsAreReports) (terms : Terms) (loss : IsLossRule terms.rules.loss) (bytes : List ℕ) (last : List Item) (totals sum : Totals)
     → last ≡ items_of_end (signal_of terms.gaps bytes) terms.rules (run_of terms bytes).0 → totals ≡ totals_of (complete terms bytes) → sum ≡ plus totals (totals_of last)
     → sum ≡ totals_of (report_of terms bytes)
 all-totals join reports terms loss bytes last totals sum is totals_is sum_is =

@@ -1,0 +1,191 @@
+-- How a block came out, by the outcomes of its window with the offsets that it may have.
+use Rattle.std.proofs.Common.{◌≡◌, ℕ, zero, suc, ◌<◌, ◌≤◌, List, [], ◌∷◌, ◌++◌, length, slice_index, map, refl, sym, ap, ◌∙◌, arith, inl, inr, ◌⊎◌, bit_xor, subst, Some}
+use Rattle.std.specs.Int.Bits.{xor_self, xor_zero_r}
+use Rattle.std.specs.Int.Count.{ones}
+use Rattle.std.proofs.lemmas.List.{get_or_append_left, length-append}
+use Rattle.std.proofs.Math.Seq.{get_or-append_seam}
+use borrow.Author.Count.{below_more}
+use Rattle.rds_code.specs.declared.offset.Offset.{Offset}
+use Rattle.rds_code.specs.declared.offset.Offset.TheVariants.{C, Cx}
+use Rattle.rds_code.specs.declared.reading.Wanted.{Wanted}
+use Rattle.rds_code.specs.declared.reading.Wanted.TheVariants.{OnlyC, OnlyCx, Either}
+use Rattle.rds_code.specs.declared.reading.Reading.{Reading}
+use Rattle.rds_code.specs.declared.reading.Reading.TheVariants.{Corrected, Lost}
+use Rattle.rds_code.specs.Remainder.{rem}
+use Rattle.rds_code.specs.Offsets.{word, number, offset_of}
+use Rattle.rds_code.specs.Bursts.{IsBurst, burst_length}
+use Rattle.rds_code.specs.Outcomes.{outcome_number, burst_outcome}
+use Rattle.rds_code.specs.Inside.Outcomes.{HasBurst, HasNoBurst, IsOutcome, StandIn}
+use Rattle.rds_code.specs.Reading.{information, IsValid, wanted_offsets, corrections, by_only, reading}
+use Rattle.rds_code.proofs.RemainderLemmas.{twice}
+use Rattle.rds_code.proofs.BurstLemmas.{rem-burst, longer}
+use Rattle.rds_code.proofs.SpanLemmas.{ones_pos, ones-le_span}
+use Rattle.rds_code.proofs.CorrectionLemmas.{valid_word, word_offset}
+use Rattle.rds_code.proofs.ReadingLemmas.{NoneFits, OneFits, none_by_table, one_by_table, corrections_none, corrections_one, corrections_two, fitting, reads_valid, reads_corrected, third}
+
+-- one outcome more in the table
+pub one_more : (limit : ℕ) (outcomes : List ℕ) (k : ℕ) → StandIn limit outcomes → IsOutcome limit (length outcomes) k → StandIn limit (outcomes ++ k ∷ [])
+one_more limit outcomes k stand here d less =
+    below_more (λ (n : ℕ). IsOutcome limit n (slice_index (outcomes ++ k ∷ []) n)) (length outcomes)
+    (λ n before. subst (IsOutcome limit n) (sym (get_or_append_left outcomes (k ∷ []) 0 n before)) (stand n before))
+    (subst (IsOutcome limit (length outcomes)) (sym (get_or-append_seam outcomes k [] 0)) here)
+    d (omega (arith, less, length-append outcomes (k ∷ [])))
+
+-- ---- the meaning of a outcome
+
+-- the remainder added to the word of an offset is 0 only if it is this word
+alike : (r s : ℕ) → bit_xor r s ≡ 0 → s ≡ r
+alike r s same = sym (twice r s) ∙ ap (bit_xor r) same ∙ xor_zero_r r
+
+-- no burst of up to five bits has a outcome above 13
+outcome_most : (s n : ℕ) → s ≤ 5 → n ≤ s → burst_outcome s n ≤ 13
+outcome_most zero n few within = omega (arith, within)
+outcome_most (suc zero) n few within = omega (arith, within)
+outcome_most (suc (suc zero)) n few within = omega (arith, within)
+outcome_most (suc (suc (suc zero))) n few within = omega (arith, within)
+outcome_most (suc (suc (suc (suc zero)))) n few within = omega (arith, within)
+outcome_most (suc (suc (suc (suc (suc zero))))) n few within = omega (arith, within)
+outcome_most (suc (suc (suc (suc (suc (suc s)))))) n few within = absurd (omega (arith, few))
+
+pub at_most_13 : (limit d k : ℕ) → limit ≤ 5 → IsOutcome limit d k → k ≤ 13
+at_most_13 limit d k few (inl h) = omega (arith, h.1)
+at_most_13 limit d k few (inr (inl h)) = omega (arith, h.2)
+at_most_13 limit d k few (inr (inr h)) =
+    let e : ℕ = h.0 in
+    omega (arith, h.2, outcome_most (burst_length e) (ones e) (omega (arith, h.1.0.short)) (ones-le_span limit e h.1.0))
+
+-- the facts about the outcome of a window that is damaged
+abbrev pub Damage : ℕ → ℕ → ℕ → Type 0
+Damage limit d k = ((0 < d) × HasNoBurst limit d × (k ≡ 2)) ⊎ ((e : ℕ) × HasBurst limit d e × (k ≡ burst_outcome (burst_length e) (ones e)))
+
+module _ (limit d k : ℕ) (few : limit ≤ 5) where
+  at_least_three : (e : ℕ) → IsBurst limit e → 3 ≤ burst_outcome (burst_length e) (ones e)
+  at_least_three e burst = omega (arith, ones_pos limit e burst)
+
+  -- a burst is no valid window
+  pub not_zero : (e : ℕ) → HasBurst limit d e → 0 < d
+  not_zero e has = elim (zero_or_more d) [
+    | inl none ↦ absurd (rem-burst e (longer limit e few has.0) (has.1 ∙ none))
+    | inr more ↦ more
+  ]
+    where
+      zero_or_more : (n : ℕ) → (n ≡ 0) ⊎ (0 < n)
+      zero_or_more zero = inl refl
+      zero_or_more (suc n) = inr (omega arith)
+
+  pub valid_by_outcome : IsOutcome limit d k → k ≡ 1 → d ≡ 0
+  valid_by_outcome (inl h) one = h.0
+  valid_by_outcome (inr (inl h)) one = absurd (omega (arith, h.2, one))
+  valid_by_outcome (inr (inr h)) one = absurd (omega (arith, h.2, one, at_least_three h.0 h.1.0))
+
+  -- of a window that is not valid: lost, or corrected by a burst
+  pub damaged : IsOutcome limit d k → (k ≡ 1 → ⊥) → Damage limit d k
+  damaged (inl h) not = absurd (not h.1)
+  damaged (inr h) not = h
+
+  pub burst_is_not_lost : (e : ℕ) → HasBurst limit d e → k ≡ burst_outcome (burst_length e) (ones e) → k ≡ 2 → ⊥
+  burst_is_not_lost e has is lost = omega (arith, is, lost, at_least_three e has.0)
+
+module _ (w limit : ℕ) (few : limit ≤ 5) where
+  abbrev pub sum_with : Offset → ℕ
+  sum_with o = bit_xor (rem w) (word o)
+
+  none_with : (o : Offset) → HasNoBurst limit (sum_with o) → NoneFits limit w o
+  none_with o none = none_by_table limit w (rem w) (word o) o few refl refl none
+
+  one_with : (o : Offset) (e : ℕ) → HasBurst limit (sum_with o) e → OneFits limit w o e
+  one_with o e has = one_by_table limit w (rem w) (word o) o e few refl refl has.0 has.1
+
+  valid_with : (o : Offset) (x : ℕ) → number o ≡ x → sum_with o ≡ 0 → IsValid w x o
+  valid_with o x own none = record { offset = ap offset_of (sym (alike (rem w) (word o) none)) ∙ word_offset o; own = own }
+
+  more_than_zero : (o : Offset) (k : ℕ) → Damage limit (sum_with o) k → 0 < sum_with o
+  more_than_zero o k (inl h) = h.0
+  more_than_zero o k (inr h) = not_zero limit (sum_with o) k few h.0 h.1
+
+  -- a damaged window has not the offset
+  other_offset : (o p : Offset) (k : ℕ) → Damage limit (sum_with o) k → offset_of (rem w) ≡ Some p → p ≡ o → ⊥
+  other_offset o p k h is same =
+      let none : sum_with o ≡ 0 = ap (bit_xor (rem w)) (ap word (sym same) ∙ valid_word (rem w) p is) ∙ xor_self (rem w) in
+      omega (arith, more_than_zero o k h, none)
+
+  -- a damaged block for which one offset is wanted
+  pub by_one : (x : ℕ) (wanted : Wanted) (o : Offset) (k : ℕ) → wanted_offsets x wanted ≡ o ∷ [] → ((p : Offset) → IsValid w x p → ⊥) → Damage limit (sum_with o) k
+      → k ≡ outcome_number (reading w x wanted limit)
+  by_one x wanted o k list not_valid (inl h) =
+      let is : reading w x wanted limit ≡ Lost =
+      reads_corrected w x wanted limit not_valid ∙ ap (λ (os : List Offset). by_only w (corrections os limit w)) list ∙ ap (by_only w) (corrections_none limit w o (none_with o h.1)) in
+      h.2 ∙ sym (ap outcome_number is)
+  by_one x wanted o k list not_valid (inr h) =
+      let e : ℕ = h.0 in
+      let is : reading w x wanted limit ≡ Corrected o (information (bit_xor w e)) e =
+      reads_corrected w x wanted limit not_valid ∙ ap (λ (os : List Offset). by_only w (corrections os limit w)) list ∙ ap (by_only w) (corrections_one limit w o e (one_with o e h.1)) in
+      h.2 ∙ sym (ap outcome_number is)
+
+  -- a block of a number that one offset has
+  pub by_single : (x : ℕ) (wanted : Wanted) (o : Offset) (k : ℕ) → wanted_offsets x wanted ≡ o ∷ [] → number o ≡ x → ((p : Offset) → number p ≡ x → p ≡ o) → IsOutcome limit (sum_with o) k
+      → k ≡ outcome_number (reading w x wanted limit)
+  by_single x wanted o k list own alone (inl h) = h.1 ∙ sym (ap outcome_number (reads_valid w x wanted limit o (valid_with o x own h.0)))
+  by_single x wanted o k list own alone (inr h) = by_one x wanted o k list (λ p valid. other_offset o p k h valid.offset (alone p valid.own)) h
+
+  pub valid_third : (wanted : Wanted) (o : Offset) (k : ℕ) → number o ≡ 3 → IsOutcome limit (sum_with o) k → k ≡ 1 → 1 ≡ outcome_number (reading w 3 wanted limit)
+  valid_third wanted o k own is one = sym (ap outcome_number (reads_valid w 3 wanted limit o (valid_with o 3 own (valid_by_outcome limit (sum_with o) k few is one))))
+
+  module _ (a b : ℕ) (version_a : Damage limit (sum_with C) a) (version_b : Damage limit (sum_with Cx) b) where
+    not_third : (p : Offset) → IsValid w 3 p → ⊥
+    not_third p valid = elim (third p valid.own) [
+      | inl c ↦ other_offset C p a version_a valid.offset c
+      | inr cx ↦ other_offset Cx p b version_b valid.offset cx
+    ]
+
+    pub third_as_c : a ≡ outcome_number (reading w 3 OnlyC limit)
+    third_as_c = by_one 3 OnlyC C a refl not_third version_a
+
+    pub third_as_cx : b ≡ outcome_number (reading w 3 OnlyCx limit)
+    third_as_cx = by_one 3 OnlyCx Cx b refl not_third version_b
+
+    abbrev pub either : Reading
+    either = reading w 3 Either limit
+
+    by_lists : (es ds : List ℕ) → fitting limit w C ≡ es → fitting limit w Cx ≡ ds → either ≡ by_only w (map {B = Offset × ℕ} (λ e. (C, e)) es ++ (map {B = Offset × ℕ} (λ e. (Cx, e)) ds ++ []))
+    by_lists es ds hc hcx = reads_corrected w 3 Either limit not_third ∙ ap (by_only w) (corrections_two limit w C Cx es ds hc hcx)
+
+  -- if both are wanted: the outcome of the one if the other is lost, and lost if neither is
+  pub record IsEither (a b k : ℕ) : Type 0 where
+    pub first_lost : a ≡ 2 → b ≡ k
+    pub second_lost : (a ≡ 2 → ⊥) → b ≡ 2 → a ≡ k
+    pub both : (a ≡ 2 → ⊥) → (b ≡ 2 → ⊥) → 2 ≡ k
+
+  pub third_as_either : (a b : ℕ) (version_a : Damage limit (sum_with C) a) (version_b : Damage limit (sum_with Cx) b) → IsEither a b (outcome_number (reading w 3 Either limit))
+  third_as_either a b (inl c) (inl cx) =
+      let is : reading w 3 Either limit ≡ Lost = by_lists a b (inl c) (inl cx) [] [] (none_with C c.1).list (none_with Cx cx.1).list in
+      record {
+        first_lost = λ lost. cx.2 ∙ sym (ap outcome_number is);
+        second_lost = λ not lost. absurd (not c.2);
+        both = λ not also. absurd (not c.2);
+      }
+  third_as_either a b (inl c) (inr cx) =
+      let e : ℕ = cx.0 in
+      let is : reading w 3 Either limit ≡ Corrected Cx (information (bit_xor w e)) e = by_lists a b (inl c) (inr cx) [] (e ∷ []) (none_with C c.1).list (one_with Cx e cx.1).list in
+      record {
+        first_lost = λ lost. cx.2 ∙ sym (ap outcome_number is);
+        second_lost = λ not lost. absurd (not c.2);
+        both = λ not also. absurd (not c.2);
+      }
+  third_as_either a b (inr c) (inl cx) =
+      let e : ℕ = c.0 in
+      let is : reading w 3 Either limit ≡ Corrected C (information (bit_xor w e)) e = by_lists a b (inr c) (inl cx) (e ∷ []) [] (one_with C e c.1).list (none_with Cx cx.1).list in
+      record {
+        first_lost = λ lost. absurd (burst_is_not_lost limit (sum_with C) a few e c.1 c.2 lost);
+        second_lost = λ not lost. c.2 ∙ sym (ap outcome_number is);
+        both = λ not also. absurd (also cx.2);
+      }
+  third_as_either a b (inr c) (inr cx) =
+      let e : ℕ = c.0 in
+      let d : ℕ = cx.0 in
+      let is : reading w 3 Either limit ≡ Lost = by_lists a b (inr c) (inr cx) (e ∷ []) (d ∷ []) (one_with C e c.1).list (one_with Cx d cx.1).list in
+      record {
+        first_lost = λ lost. absurd (burst_is_not_lost limit (sum_with C) a few e c.1 c.2 lost);
+        second_lost = λ not lost. absurd (burst_is_not_lost limit (sum_with Cx) b few d cx.1 cx.2 lost);
+        both = λ not also. sym (ap outcome_number is);
+      }
