@@ -85,7 +85,8 @@ measure() {
     ((spent > ${least[size]:-spent})) || least[size]=$spent
 }
 
-# words_of SIZE WORDS..: the words of the job of this size, a line each; PIECES, GAPS and COUNT grow as the input does, to a million
+# words_of SIZE WORDS..: the words of the job of this size, a line each; PIECES, GAPS, COUNT and CHUNK grow as the input does, COUNT
+# to a million
 words_of() {
     local size=$1 word
     shift
@@ -94,6 +95,7 @@ words_of() {
             PIECES) echo $((16 * size)) ;;
             GAPS) gaps $((300 * size)) ;;
             COUNT) echo $((62500 * size)) ;;
+            CHUNK) echo $((16384 * size)) ;;
             *) echo "$word" ;;
         esac
     done
@@ -205,9 +207,10 @@ by_library() {
     beside 4 cat station.16 "$work/run" 16384 beside "${one[@]}"
     beside 8 cat station.16 "$work/run" 4096 beside "${one[@]}"
     beside 2 cat station.16 "$work/push" 65536 10000 beside "${one[@]}" --gaps "$many"
-    # a million gaps: over the whole stream, and at each call for a few bytes
+    # a million gaps: over the whole stream, in as many calls as for fewer gaps, since each looks at all of them; and at each call
+    # for a few bytes
     program="$work/push"
-    job station 65536 COUNT
+    job station CHUNK COUNT
     head -c 8192 "$work/station.1" >"$work/few"
     beside 4 cat few "$work/push" 64 1000000 beside "$work/push" 64 1000000 look
 }
