@@ -72,7 +72,7 @@ mod beside; // A run and its guess, side by side.
 mod mark; // One mark of a run.
 mod marks; // The marks of a guess, one after the other.
 mod seams; // The items and totals of a piece, from the state before it.
-mod seaming; // `seam`, which makes them.
+mod seaming; // `seam`: how the state before a piece runs over it.
 mod joining; // Two neighbours joined.
 mod stitching; // The report of runs in a row.
 mod work; // The calls above for one recording, one set of rules and one cutting.
