@@ -8,7 +8,7 @@ ghost use Rattle.rds_live.specs.StreamDecoder.{HasHeard, IsStreamDecoder, comple
 ghost use Rattle.rds_live.specs.Next.{completed, live_next};
 ghost use Rattle.rds_sync.specs.Ranges.{IsInRange};
 ghost use Rattle.rds_abi.specs.Asked.{AreGiven, IsFilled, IsTooMuch, gaps_of, rules_of as the_rules_of};
-ghost use Rattle.rds_abi.specs.Stream.{AreClosed, AreCompleted, AreLast, AreLeft, AreTooMany, AreWritten, IsFollowed, IsLeft, IsMostTaken, IsNamed, IsNear, RefusesEnd, RefusesFollowed, RefusesLast, RefusesPush, RefusesStream, RefusesTold, place_after, rules_in_c as the_rules_in_c, stream_in_c as the_stream_in_c, stream_of as the_stream_of, terms_of, totals_from_c, unheard};
+ghost use Rattle.rds_abi.specs.Stream.{AreClosed, AreCompleted, AreLast, AreLeft, AreTooMany, AreWritten, IsFollowed, IsLeft, IsMostTaken, IsNamed, IsNear, RefusesEnd, RefusesFollowed, RefusesGaps, RefusesLast, RefusesPush, RefusesStream, RefusesTold, place_after, rules_in_c as the_rules_in_c, stream_in_c as the_stream_in_c, stream_of as the_stream_of, terms_of, totals_from_c, unheard};
 ghost use Rattle.rds_abi.specs.Layout.{item_in_c, totals_in_c};
 ghost use Rattle.rds_abi.specs.declared.refusal.Refusal.TheVariants.{BadGaps, BitsPastBytes, OutOfMemory, SmallRoom, TooLong};
 
@@ -79,10 +79,19 @@ fn rules_told(alloc: Global, rules: RdsRules, gaps: &[RdsGap]) -> Result<Rules, 
     ensures refused { IfErr result (RefusesTold rules gaps.now) }
 {
     let rules = rules_of(alloc, rules)?;
+    refuse_gaps(gaps)?;
+    Ok(rules)
+}
+
+/// Refuses gaps that no stream may have.
+fn refuse_gaps(gaps: &[RdsGap]) -> Result<(), Refusal>
+    ensures lawful { OnOk result (AreGaps (2 ^ 36) (gaps_of gaps.now)) }
+    ensures refused { IfErr result (λ refusal. (refusal ≡ BadGaps) × RefusesGaps gaps.now refusal) }
+{
     if !are_gaps(gaps, MOST_BITS) {
         return Err(Refusal::BadGaps);
     }
-    Ok(rules)
+    Ok(())
 }
 
 /// The terms of a stream, from C.
@@ -132,7 +141,7 @@ fn live_of<'r>(
         return Err(Refusal::UnlawfulState);
     };
     let tail = &stream.tail[..kept_of(stream) as usize];
-    if tail_in_c(tail) != stream.tail || !(is_unheard(stream) || is_named(rules, stream)) {
+    if !is_written(rules, tail, stream) {
         return Err(Refusal::UnlawfulState);
     }
     let totals = totals_from_c(stream.totals);
@@ -141,6 +150,16 @@ fn live_of<'r>(
         Err(ResumeError::OutOfMemory) => Err(Refusal::OutOfMemory),
         Err(_) => Err(Refusal::UnlawfulState),
     }
+}
+
+/// Whether a call writes such numbers around the state of a stream with this tail, or all are 0.
+fn is_written(rules: &Rules, tail: &[u8], stream: &RdsStream) -> bool
+    requires { length tail.now ≤ 30 }
+    ensures { (result ≡ true)
+        ↔ ((stream.now.tail ≡ tail.now ++ replicate (32 - length tail.now) 0)
+        × ((stream.now ≡ unheard) ⊎ IsNamed rules.now stream.now)) }
+{
+    stream.tail == tail_in_c(tail) && (is_unheard(stream) || is_named(rules, stream))
 }
 
 /// Whether nothing was heard of the stream, and no call has left it.
@@ -351,14 +370,11 @@ fn go_on(
         × (count.new ≡ count.old))) }
 {
     let mut live = live_of(alloc, told, stream)?;
-    if bytes.len() as u64 > (MOST_BITS - stream.place) / 8 {
-        return Err(Refusal::TooLong);
-    }
+    refuse_long(stream.place, bytes)?;
     let mut some = Vec::with_capacity(alloc, ITEMS_A_BYTE * bytes.len().clamp(1, AT_ONCE))?;
     match take_fitting(&mut live, &told.rules, bytes, stream, room, &mut some) {
         Ok(fit) => {
-            *taken = fit.taken as u64;
-            *count = fit.count as u64;
+            fit.tell(taken, count);
             Ok(())
         }
         Err(needed) => {
@@ -368,11 +384,35 @@ fn go_on(
     }
 }
 
+/// Refuses bytes with which a stream would be too long.
+fn refuse_long(place: u64, bytes: &[u8]) -> Result<(), Refusal>
+    requires { place ≤ 2 ^ 36 }
+    ensures fits { OnOk result (place + 8 * length bytes.now ≤ 2 ^ 36) }
+    ensures refused { IfErr result
+        (λ refusal. (refusal ≡ TooLong) × (2 ^ 36 < place + 8 * length bytes.now)) }
+{
+    if bytes.len() as u64 > (MOST_BITS - place) / 8 {
+        return Err(Refusal::TooLong);
+    }
+    Ok(())
+}
+
 /// How many bytes were taken, and how many items they completed.
 #[derive(Clone, Copy)]
 struct Fit {
     taken: usize,
     count: usize,
+}
+
+impl Fit {
+    /// Writes both numbers.
+    fn tell(self, taken: &mut u64, count: &mut u64)
+        ensures taken { taken.new ≡ self.taken }
+        ensures count { count.new ≡ self.count }
+    {
+        *taken = self.taken as u64;
+        *count = self.count as u64;
+    }
 }
 
 /// Has the decoder take as many of the next bytes as there is room for the items that they complete, and
@@ -465,17 +505,40 @@ fn take_piece(
     let piece = &bytes[..bytes.len().min(most)];
     match live.take(piece, some) {
         Ok(taken) => {
-            let items = some.as_slice();
-            let count = items.len();
-            if room.len() < count {
-                return Err(count);
-            }
-            fill_room(room, items);
-            *stream = stream_in_c(rules, live);
+            let count = write_taken(live, rules, some, stream, room)?;
             Ok(Fit { taken, count })
         }
         Err(_) => unreachable!(),
     }
+}
+
+/// Writes the items, and the stream that the decoder has after them. Refuses if they do not fit. Either way
+/// it tells how many they are.
+fn write_taken(
+    live: &StreamDecoder<'_>,
+    rules: &Rules,
+    items: &[Item],
+    stream: &mut RdsStream,
+    room: &mut [RdsItem],
+) -> Result<usize, usize>
+    requires { live.now.terms.rules ≡ rules.now }
+    ensures laid { OnOk result (stream.new ≡ the_stream_in_c live.now) }
+    ensures says { OnOk result (the_stream_of live.now.terms stream.new ≡ live.now) }
+    ensures live { OnOk result (IsStreamDecoder live.now) }
+    ensures filled { OnOk result (IsFilled (map item_in_c items.now) room.old room.new) }
+    ensures count { IfOk result (λ count. count ≡ length items.now) }
+    ensures room { OnOk result (length items.now ≤ length room.old) }
+    ensures small { OnErr result (length room.old < length items.now) }
+    ensures needed { IfErr result (λ needed. needed ≡ length items.now) }
+    ensures untouched { OnErr result ((room.new ≡ room.old) × (stream.new ≡ stream.old)) }
+{
+    let count = items.len();
+    if room.len() < count {
+        return Err(count);
+    }
+    fill_room(room, items);
+    *stream = stream_in_c(rules, live);
+    Ok(count)
 }
 
 /// Ends a stream: writes the group in progress, as far as it was read, to the beginning of `room`, and to
