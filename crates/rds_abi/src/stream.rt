@@ -1,6 +1,6 @@
 //! A stream that is followed chunk by chunk, from the numbers that the caller keeps of it.
 
-ghost use Rattle.std.specs.Prelude.{◌≡◌, ◌++◌, ◌<◌, ◌≤◌, ◌⊎◌, ◌↔◌, true, ◌+◌, ◌-◌, ◌*◌, ◌/◌, ◌^◌, ℕ, List, IfErr, IfOk, OnErr, OnOk, length, map, min, replicate, take, vec_capacity};
+ghost use Rattle.std.specs.Prelude.{◌≡◌, ◌++◌, ◌<◌, ◌≤◌, ◌⊎◌, ◌↔◌, None, true, ◌+◌, ◌-◌, ◌*◌, ◌/◌, ◌^◌, ℕ, List, IfErr, IfOk, IfSome, OnErr, OnOk, drop, length, map, min, replicate, take, vec_capacity};
 ghost use Rattle.rds_stream.specs.Recording.{AreGaps};
 ghost use Rattle.rds_sync.specs.Advance.{group_item};
 ghost use Rattle.rds_sync.specs.Totals.{totals_of};
@@ -405,6 +405,33 @@ struct Fit {
 }
 
 impl Fit {
+    /// The bytes that were not taken, if there are any.
+    fn rest_of(self, bytes: &[u8]) -> Option<&[u8]>
+        requires { self.taken ≤ length bytes.now }
+        ensures rest { IfSome result (λ rest. rest.now ≡ drop self.taken bytes.now) }
+        ensures some { IfSome result (λ rest. self.taken < length bytes.now) }
+        ensures none { result ≡ None → self.taken ≡ length bytes.now }
+    {
+        if self.taken < bytes.len() {
+            Some(&bytes[self.taken..])
+        } else {
+            None
+        }
+    }
+
+    /// What was taken in both.
+    fn plus(self, more: Fit) -> Fit
+        requires taken { self.taken + more.taken < 2 ^ 64 }
+        requires count { self.count + more.count < 2 ^ 64 }
+        ensures taken { result.taken ≡ self.taken + more.taken }
+        ensures count { result.count ≡ self.count + more.count }
+    {
+        Fit {
+            taken: self.taken + more.taken,
+            count: self.count + more.count,
+        }
+    }
+
     /// Writes both numbers.
     fn tell(self, taken: &mut u64, count: &mut u64)
         ensures taken { taken.new ≡ self.taken }
@@ -447,21 +474,10 @@ fn take_fitting(
 {
     pieces_join();
     let mut fit = take_piece(live, rules, bytes, stream, room, some)?;
-    while fit.taken < bytes.len() {
-        match take_piece(
-            live,
-            rules,
-            &bytes[fit.taken..],
-            stream,
-            &mut room[fit.count..],
-            some,
-        ) {
-            Ok(more) => {
-                fit = Fit {
-                    taken: fit.taken + more.taken,
-                    count: fit.count + more.count,
-                };
-            }
+    while let Some(rest) = fit.rest_of(bytes) {
+        let free = &mut room[fit.count..];
+        match take_piece(live, rules, rest, stream, free, some) {
+            Ok(more) => fit = fit.plus(more),
             Err(_) => return Ok(fit),
         }
     }
