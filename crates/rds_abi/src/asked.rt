@@ -3,7 +3,7 @@
 ghost use Rattle.std.specs.Prelude.{◌≡◌, ◌*◌, ◌<◌, ◌≤◌, ◌↔◌, IfErr, IfOk, OnOk, length, true};
 ghost use Rattle.std.specs.List.{All, AllAdjacentBelow};
 ghost use Rattle.rds_stream.specs.Recording.{AreGaps, length_of};
-ghost use Rattle.rds_abi.specs.Asked.{IsLawful, AreGiven, IsRecording, Refuses, RefusesGiven, RefusesRecording, asked, gaps_of, loss_of as the_loss_of, recording_of as the_recording_of, rules_of as the_rules_of};
+ghost use Rattle.rds_abi.specs.Asked.{IsLawful, AreGiven, AreReserved, IsRecording, Refuses, RefusesGiven, RefusesRecording, asked, gaps_of, loss_of as the_loss_of, recording_of as the_recording_of, rules_of as the_rules_of};
 
 use crate::layout::{RdsGap, RdsRules};
 use crate::refusal::Refusal;
@@ -36,13 +36,20 @@ fn numbers_of(asked: RdsRules) -> RuleNumbers
     }
 }
 
+/// Whether the reserved fields are 0.
+fn are_reserved(asked: RdsRules) -> bool
+    ensures { (result ≡ true) ↔ AreReserved asked }
+{
+    asked.reserved == [0; 4]
+}
+
 /// The rules of these numbers.
 pub(crate) fn rules_of(alloc: Global, asked: RdsRules) -> Result<Rules, Refusal>
     ensures rules { IfOk result (λ rules. rules ≡ the_rules_of asked) }
     ensures given { IfOk result (λ _. AreGiven asked) }
     ensures refused { IfErr result (RefusesGiven asked) }
 {
-    if asked.reserved != [0; 4] {
+    if !are_reserved(asked) {
         return Err(Refusal::ReservedField);
     }
     match Rules::of(alloc, numbers_of(asked)) {

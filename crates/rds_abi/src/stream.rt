@@ -650,7 +650,25 @@ pub fn finish_with(
         ⊎ (RefusesEnd rules gaps.now stream.now bytes.now bits refusal × (count.new ≡ count.old))) }
 {
     let (items, found) = left_of(alloc, bytes, bits, gaps, rules, stream)?;
-    write_items(room, &items, count)?;
+    write_left(room, &items, found, count, totals)?;
+    Ok(())
+}
+
+/// Writes the items to the beginning of the room, how many they are to the count, and the totals.
+fn write_left(
+    room: &mut [RdsItem],
+    items: &[Item],
+    found: Totals,
+    count: &mut u64,
+    totals: &mut RdsTotals,
+) -> Result<(), Refusal>
+    ensures filled { OnOk result (IsFilled (map item_in_c items.now) room.old room.new) }
+    ensures totals { OnOk result (totals.new ≡ totals_in_c found) }
+    ensures count { count.new ≡ length items.now }
+    ensures untouched { OnErr result ((room.new ≡ room.old) × (totals.new ≡ totals.old)) }
+    ensures refused { IfErr result (λ refusal. (refusal ≡ SmallRoom) × (length room.old < length items.now)) }
+{
+    write_items(room, items, count)?;
     *totals = totals_in_c(found);
     Ok(())
 }
