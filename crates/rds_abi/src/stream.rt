@@ -124,6 +124,27 @@ fn told_near(
     Ok(StreamTerms { rules, gaps })
 }
 
+/// The terms by which the next bytes of a stream are heard, from C. The gaps are those near them and the
+/// bytes before that are known.
+fn told_around(
+    alloc: Global,
+    rules: RdsRules,
+    gaps: &[RdsGap],
+    stream: &RdsStream,
+    bytes: &[u8],
+) -> Result<StreamTerms, Refusal>
+    ensures near { IfOk result
+        (λ told. IsNear (terms_of rules gaps.now) told
+        (stream.now.place - 8 * min most_kept (stream.now.place / 8))
+        (8 * (min most_kept (stream.now.place / 8) + min (2 ^ 33) (length bytes.now)))) }
+    ensures given { IfOk result (λ _. AreGiven rules) }
+    ensures refused { IfErr result (RefusesTold rules gaps.now) }
+{
+    let kept = kept_of(stream);
+    let len = kept + MOST_BYTES.min(bytes.len() as u64);
+    told_near(alloc, rules, gaps, stream.place - 8 * kept, 8 * len)
+}
+
 /// The decoder of the stream that these numbers say.
 fn live_of<'r>(
     alloc: Global,
@@ -323,9 +344,7 @@ pub fn push(
         ≡ length (completed (the_stream_of (terms_of rules gaps.now) stream.old)
         (take taken.new bytes.now))) }
 {
-    let kept = kept_of(stream);
-    let len = kept + MOST_BYTES.min(bytes.len() as u64);
-    let told = told_near(alloc, rules, gaps, stream.place - 8 * kept, 8 * len)?;
+    let told = told_around(alloc, rules, gaps, stream, bytes)?;
     laws::runs_give_few_items();
     next_is_heard();
     go_on(alloc, &told, bytes, stream, room, taken, count)?;
