@@ -7,7 +7,7 @@ ghost use Rattle.rds_abi.specs.Asked.{IsLawful, AreGiven, AreReserved, IsRecordi
 
 use crate::layout::{RdsGap, RdsRules};
 use crate::refusal::Refusal;
-use rds_stream::{MOST_BITS, Recording, StreamError};
+use rds_stream::{MOST_BITS, Recording};
 use rds_sync::{Loss, RuleNumbers, Rules, SyncError};
 use std::alloc::{AllocError, Global};
 
@@ -93,14 +93,12 @@ fn recording_of(
     ensures lawful { IfOk result (λ _. IsRecording bytes.now bits gaps.now) }
     ensures refused { IfErr result (RefusesRecording bytes.now bits gaps.now) }
 {
+    refuse_recording(bytes, bits, gaps)?;
     let copy = Vec::from_slice(alloc, &bytes[..held_bytes(bytes, bits)])?;
     let places = gaps_in(alloc, gaps)?;
     match Recording::with_gaps(copy, bits, places) {
         Ok(recording) => Ok(recording),
-        Err((StreamError::TooLong, _, _)) => Err(Refusal::TooLong),
-        Err((StreamError::BitsPastBytes, _, _)) => Err(Refusal::BitsPastBytes),
-        Err((StreamError::BadGaps, _, _)) => Err(Refusal::BadGaps),
-        Err((StreamError::OutOfMemory, _, _)) => Err(Refusal::OutOfMemory),
+        Err(_) => unreachable!(),
     }
 }
 

@@ -124,8 +124,8 @@ fn told_near(
     Ok(StreamTerms { rules, gaps })
 }
 
-/// The terms by which the next bytes of a stream are heard, from C. The gaps are those near them and the
-/// bytes before that are known.
+/// The terms by which the next bytes of a stream are heard, from C: the rules, and the gaps near these bytes
+/// and near the known ones before them.
 fn told_around(
     alloc: Global,
     rules: RdsRules,
@@ -140,9 +140,8 @@ fn told_around(
     ensures given { IfOk result (λ _. AreGiven rules) }
     ensures refused { IfErr result (RefusesTold rules gaps.now) }
 {
-    let kept = kept_of(stream);
-    let len = kept + MOST_BYTES.min(bytes.len() as u64);
-    told_near(alloc, rules, gaps, stream.place - 8 * kept, 8 * len)
+    let len = kept_of(stream) + MOST_BYTES.min(bytes.len() as u64);
+    told_near(alloc, rules, gaps, known_from(stream), 8 * len)
 }
 
 /// The decoder of the stream that these numbers say.
@@ -221,6 +220,13 @@ fn kept_of(stream: &RdsStream) -> u64
     ensures { result ≡ min most_kept (stream.now.place / 8) }
 {
     MOST_KEPT.min(stream.place / 8)
+}
+
+/// The place of the first of these bytes.
+fn known_from(stream: &RdsStream) -> u64
+    ensures { result ≡ stream.now.place - 8 * min most_kept (stream.now.place / 8) }
+{
+    stream.place - 8 * kept_of(stream)
 }
 
 /// The last bytes of a stream, for C.
@@ -438,7 +444,7 @@ impl Fit {
         }
     }
 
-    /// What was taken in both.
+    /// The bytes and the items of both.
     fn plus(self, more: Fit) -> Fit
         requires taken { self.taken + more.taken < 2 ^ 64 }
         requires count { self.count + more.count < 2 ^ 64 }
@@ -451,7 +457,7 @@ impl Fit {
         }
     }
 
-    /// Writes both numbers.
+    /// Writes the two numbers.
     fn tell(self, taken: &mut u64, count: &mut u64)
         ensures taken { taken.new ≡ self.taken }
         ensures count { count.new ≡ self.count }
