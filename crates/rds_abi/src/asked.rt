@@ -4,6 +4,7 @@ ghost use Rattle.std.specs.Prelude.{◌≡◌, ◌*◌, ◌<◌, ◌≤◌, ◌�
 ghost use Rattle.std.specs.List.{All, AllAdjacentBelow};
 ghost use Rattle.rds_stream.specs.Recording.{AreGaps, length_of};
 ghost use Rattle.rds_abi.specs.Asked.{IsLawful, AreGiven, AreReserved, IsRecording, Refuses, RefusesGiven, RefusesRecording, asked, gaps_of, loss_of as the_loss_of, recording_of as the_recording_of, rules_of as the_rules_of};
+ghost use Rattle.rds_abi.specs.declared.refusal.Refusal.TheVariants.{BadGaps};
 
 use crate::layout::{RdsGap, RdsRules};
 use crate::refusal::Refusal;
@@ -104,7 +105,7 @@ fn recording_of(
 
 /// Whether a recording of `bits` bits may have these gaps: each has a place and is within the bits, and each
 /// begins at or after the end of the one before it.
-pub(crate) fn are_gaps(gaps: &[RdsGap], bits: u64) -> bool
+fn are_gaps(gaps: &[RdsGap], bits: u64) -> bool
     ensures { (result ≡ true) ↔ AreGaps bits (gaps_of gaps.now) }
 {
     are_within(gaps, bits) && are_apart(gaps)
@@ -137,6 +138,15 @@ pub(crate) fn refuse_recording(bytes: &[u8], bits: u64, gaps: &[RdsGap]) -> Resu
     if bits.div_ceil(8) > bytes.len() as u64 {
         return Err(Refusal::BitsPastBytes);
     }
+    refuse_gaps(gaps, bits)
+}
+
+/// Refuses gaps that a recording of `bits` bits may not have.
+pub(crate) fn refuse_gaps(gaps: &[RdsGap], bits: u64) -> Result<(), Refusal>
+    ensures lawful { OnOk result (AreGaps bits (gaps_of gaps.now)) }
+    ensures refused { IfErr result
+        (λ refusal. (refusal ≡ BadGaps) × (AreGaps bits (gaps_of gaps.now) → ⊥)) }
+{
     if !are_gaps(gaps, bits) {
         return Err(Refusal::BadGaps);
     }

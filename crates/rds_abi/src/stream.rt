@@ -8,11 +8,11 @@ ghost use Rattle.rds_live.specs.StreamDecoder.{HasHeard, IsStreamDecoder, comple
 ghost use Rattle.rds_live.specs.Next.{completed, live_next};
 ghost use Rattle.rds_sync.specs.Ranges.{IsInRange};
 ghost use Rattle.rds_abi.specs.Asked.{AreGiven, IsFilled, IsTooMuch, gaps_of, rules_of as the_rules_of};
-ghost use Rattle.rds_abi.specs.Stream.{AreClosed, AreCompleted, AreLast, AreLeft, AreTooMany, AreWritten, IsFollowed, IsLeft, IsMostTaken, IsNamed, IsNear, RefusesEnd, RefusesFollowed, RefusesGaps, RefusesLast, RefusesPush, RefusesStream, RefusesTold, place_after, rules_in_c as the_rules_in_c, stream_in_c as the_stream_in_c, stream_of as the_stream_of, terms_of, totals_from_c, unheard};
+ghost use Rattle.rds_abi.specs.Stream.{AreClosed, AreCompleted, AreLast, AreLeft, AreTooMany, AreWritten, IsFollowed, IsLeft, IsMostTaken, IsNamed, IsNear, RefusesEnd, RefusesFollowed, RefusesLast, RefusesPush, RefusesStream, RefusesTold, place_after, rules_in_c as the_rules_in_c, stream_in_c as the_stream_in_c, stream_of as the_stream_of, terms_of, totals_from_c, unheard};
 ghost use Rattle.rds_abi.specs.Layout.{item_in_c, totals_in_c};
-ghost use Rattle.rds_abi.specs.declared.refusal.Refusal.TheVariants.{BadGaps, BitsPastBytes, OutOfMemory, SmallRoom, TooLong};
+ghost use Rattle.rds_abi.specs.declared.refusal.Refusal.TheVariants.{BitsPastBytes, OutOfMemory, SmallRoom, TooLong};
 
-use crate::asked::{are_gaps, gaps_in, rules_of};
+use crate::asked::{gaps_in, refuse_gaps, rules_of};
 use crate::in_c::{item_in_c, totals_in_c};
 use crate::layout::{RdsGap, RdsItem, RdsRules, RdsStream, RdsTotals};
 use crate::part::near;
@@ -79,19 +79,8 @@ fn rules_told(alloc: Global, rules: RdsRules, gaps: &[RdsGap]) -> Result<Rules, 
     ensures refused { IfErr result (RefusesTold rules gaps.now) }
 {
     let rules = rules_of(alloc, rules)?;
-    refuse_gaps(gaps)?;
+    refuse_gaps(gaps, MOST_BITS)?;
     Ok(rules)
-}
-
-/// Refuses gaps that no stream may have.
-fn refuse_gaps(gaps: &[RdsGap]) -> Result<(), Refusal>
-    ensures lawful { OnOk result (AreGaps (2 ^ 36) (gaps_of gaps.now)) }
-    ensures refused { IfErr result (λ refusal. (refusal ≡ BadGaps) × RefusesGaps gaps.now refusal) }
-{
-    if !are_gaps(gaps, MOST_BITS) {
-        return Err(Refusal::BadGaps);
-    }
-    Ok(())
 }
 
 /// The terms of a stream, from C.
