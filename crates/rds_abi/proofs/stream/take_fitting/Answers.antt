@@ -1,4 +1,4 @@
-use Rattle.std.proofs.Common.{◌≡◌, ◌-◌, ◌+◌, ◌<◌, ◌≤◌, ◌∙◌, ℕ, List, ap, arith, drop, length, subst, take}
+use Rattle.std.proofs.Common.{◌≡◌, ◌-◌, ◌+◌, ◌<◌, ◌≤◌, ◌∙◌, ℕ, List, ap, arith, drop, inl, length, refl, subst, take}
 use Rattle.std.proofs.lemmas.List.{length-drop, length-take}
 use Rattle.rds_live.specs.StreamDecoder.{LiveOf, Terms}
 use Rattle.rds_live.specs.Next.{completed, live_next}
@@ -66,3 +66,6 @@ returns-in-Err-clause-most c =
       length-drop c.loop-rest.fit.count room,
       inv.same,
     ))
+
+pub returns-clause-most : goal.returns-clause-most
+returns-clause-most c = inl (c.in_default.ensures.none refl)
