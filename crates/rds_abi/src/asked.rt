@@ -3,11 +3,12 @@
 ghost use Rattle.std.specs.Prelude.{◌≡◌, ◌*◌, ◌<◌, ◌≤◌, ◌↔◌, IfErr, IfOk, OnOk, length, true};
 ghost use Rattle.std.specs.List.{All, AllAdjacentBelow};
 ghost use Rattle.rds_stream.specs.Recording.{AreGaps, length_of};
-ghost use Rattle.rds_abi.specs.Asked.{IsLawful, AreGiven, IsRecording, Refuses, RefusesGiven, RefusesRecording, asked, gaps_of, loss_of as the_loss_of, recording_of as the_recording_of, rules_of as the_rules_of};
+ghost use Rattle.rds_abi.specs.Asked.{IsLawful, AreGiven, AreReserved, IsRecording, Refuses, RefusesGiven, RefusesRecording, asked, gaps_of, loss_of as the_loss_of, recording_of as the_recording_of, rules_of as the_rules_of};
+ghost use Rattle.rds_abi.specs.declared.refusal.Refusal.TheVariants.{BadGaps};
 
 use crate::layout::{RdsGap, RdsRules};
 use crate::refusal::Refusal;
-use rds_stream::{MOST_BITS, Recording, StreamError};
+use rds_stream::{MOST_BITS, Recording};
 use rds_sync::{Loss, RuleNumbers, Rules, SyncError};
 use std::alloc::{AllocError, Global};
 
@@ -36,13 +37,20 @@ fn numbers_of(asked: RdsRules) -> RuleNumbers
     }
 }
 
+/// Whether the reserved fields are 0.
+fn are_reserved(asked: RdsRules) -> bool
+    ensures { (result ≡ true) ↔ AreReserved asked }
+{
+    asked.reserved == [0; 4]
+}
+
 /// The rules of these numbers.
 pub(crate) fn rules_of(alloc: Global, asked: RdsRules) -> Result<Rules, Refusal>
     ensures rules { IfOk result (λ rules. rules ≡ the_rules_of asked) }
     ensures given { IfOk result (λ _. AreGiven asked) }
     ensures refused { IfErr result (RefusesGiven asked) }
 {
-    if asked.reserved != [0; 4] {
+    if !are_reserved(asked) {
         return Err(Refusal::ReservedField);
     }
     match Rules::of(alloc, numbers_of(asked)) {
@@ -86,20 +94,18 @@ fn recording_of(
     ensures lawful { IfOk result (λ _. IsRecording bytes.now bits gaps.now) }
     ensures refused { IfErr result (RefusesRecording bytes.now bits gaps.now) }
 {
+    refuse_recording(bytes, bits, gaps)?;
     let copy = Vec::from_slice(alloc, &bytes[..held_bytes(bytes, bits)])?;
     let places = gaps_in(alloc, gaps)?;
     match Recording::with_gaps(copy, bits, places) {
         Ok(recording) => Ok(recording),
-        Err((StreamError::TooLong, _, _)) => Err(Refusal::TooLong),
-        Err((StreamError::BitsPastBytes, _, _)) => Err(Refusal::BitsPastBytes),
-        Err((StreamError::BadGaps, _, _)) => Err(Refusal::BadGaps),
-        Err((StreamError::OutOfMemory, _, _)) => Err(Refusal::OutOfMemory),
+        Err(_) => unreachable!(),
     }
 }
 
 /// Whether a recording of `bits` bits may have these gaps: each has a place and is within the bits, and each
 /// begins at or after the end of the one before it.
-pub(crate) fn are_gaps(gaps: &[RdsGap], bits: u64) -> bool
+fn are_gaps(gaps: &[RdsGap], bits: u64) -> bool
     ensures { (result ≡ true) ↔ AreGaps bits (gaps_of gaps.now) }
 {
     are_within(gaps, bits) && are_apart(gaps)
@@ -132,6 +138,15 @@ pub(crate) fn refuse_recording(bytes: &[u8], bits: u64, gaps: &[RdsGap]) -> Resu
     if bits.div_ceil(8) > bytes.len() as u64 {
         return Err(Refusal::BitsPastBytes);
     }
+    refuse_gaps(gaps, bits)
+}
+
+/// Refuses gaps that a recording of `bits` bits may not have.
+pub(crate) fn refuse_gaps(gaps: &[RdsGap], bits: u64) -> Result<(), Refusal>
+    ensures lawful { OnOk result (AreGaps bits (gaps_of gaps.now)) }
+    ensures refused { IfErr result
+        (λ refusal. (refusal ≡ BadGaps) × (AreGaps bits (gaps_of gaps.now) → ⊥)) }
+{
     if !are_gaps(gaps, bits) {
         return Err(Refusal::BadGaps);
     }

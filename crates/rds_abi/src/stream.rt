@@ -1,6 +1,6 @@
 //! A stream that is followed chunk by chunk, from the numbers that the caller keeps of it.
 
-ghost use Rattle.std.specs.Prelude.{◌≡◌, ◌++◌, ◌<◌, ◌≤◌, ◌⊎◌, ◌↔◌, true, ◌+◌, ◌-◌, ◌*◌, ◌/◌, ◌^◌, ℕ, List, IfErr, IfOk, OnErr, OnOk, length, map, min, replicate, take, vec_capacity};
+ghost use Rattle.std.specs.Prelude.{◌≡◌, ◌++◌, ◌<◌, ◌≤◌, ◌⊎◌, ◌↔◌, None, true, ◌+◌, ◌-◌, ◌*◌, ◌/◌, ◌^◌, ℕ, List, IfErr, IfOk, IfSome, OnErr, OnOk, drop, length, map, min, replicate, take, vec_capacity};
 ghost use Rattle.rds_stream.specs.Recording.{AreGaps};
 ghost use Rattle.rds_sync.specs.Advance.{group_item};
 ghost use Rattle.rds_sync.specs.Totals.{totals_of};
@@ -10,9 +10,9 @@ ghost use Rattle.rds_sync.specs.Ranges.{IsInRange};
 ghost use Rattle.rds_abi.specs.Asked.{AreGiven, IsFilled, IsTooMuch, gaps_of, rules_of as the_rules_of};
 ghost use Rattle.rds_abi.specs.Stream.{AreClosed, AreCompleted, AreLast, AreLeft, AreTooMany, AreWritten, IsFollowed, IsLeft, IsMostTaken, IsNamed, IsNear, RefusesEnd, RefusesFollowed, RefusesLast, RefusesPush, RefusesStream, RefusesTold, place_after, rules_in_c as the_rules_in_c, stream_in_c as the_stream_in_c, stream_of as the_stream_of, terms_of, totals_from_c, unheard};
 ghost use Rattle.rds_abi.specs.Layout.{item_in_c, totals_in_c};
-ghost use Rattle.rds_abi.specs.declared.refusal.Refusal.TheVariants.{BadGaps, BitsPastBytes, OutOfMemory, SmallRoom, TooLong};
+ghost use Rattle.rds_abi.specs.declared.refusal.Refusal.TheVariants.{BitsPastBytes, OutOfMemory, SmallRoom, TooLong};
 
-use crate::asked::{are_gaps, gaps_in, rules_of};
+use crate::asked::{gaps_in, refuse_gaps, rules_of};
 use crate::in_c::{item_in_c, totals_in_c};
 use crate::layout::{RdsGap, RdsItem, RdsRules, RdsStream, RdsTotals};
 use crate::part::near;
@@ -79,9 +79,7 @@ fn rules_told(alloc: Global, rules: RdsRules, gaps: &[RdsGap]) -> Result<Rules, 
     ensures refused { IfErr result (RefusesTold rules gaps.now) }
 {
     let rules = rules_of(alloc, rules)?;
-    if !are_gaps(gaps, MOST_BITS) {
-        return Err(Refusal::BadGaps);
-    }
+    refuse_gaps(gaps, MOST_BITS)?;
     Ok(rules)
 }
 
@@ -115,6 +113,26 @@ fn told_near(
     Ok(StreamTerms { rules, gaps })
 }
 
+/// The terms by which the next bytes of a stream are heard, from C: the rules, and the gaps near these bytes
+/// and near the known ones before them.
+fn told_around(
+    alloc: Global,
+    rules: RdsRules,
+    gaps: &[RdsGap],
+    stream: &RdsStream,
+    bytes: &[u8],
+) -> Result<StreamTerms, Refusal>
+    ensures near { IfOk result
+        (λ told. IsNear (terms_of rules gaps.now) told
+        (stream.now.place - 8 * min most_kept (stream.now.place / 8))
+        (8 * (min most_kept (stream.now.place / 8) + min (2 ^ 33) (length bytes.now)))) }
+    ensures given { IfOk result (λ _. AreGiven rules) }
+    ensures refused { IfErr result (RefusesTold rules gaps.now) }
+{
+    let len = kept_of(stream) + MOST_BYTES.min(bytes.len() as u64);
+    told_near(alloc, rules, gaps, known_from(stream), 8 * len)
+}
+
 /// The decoder of the stream that these numbers say.
 fn live_of<'r>(
     alloc: Global,
@@ -132,7 +150,7 @@ fn live_of<'r>(
         return Err(Refusal::UnlawfulState);
     };
     let tail = &stream.tail[..kept_of(stream) as usize];
-    if tail_in_c(tail) != stream.tail || !(is_unheard(stream) || is_named(rules, stream)) {
+    if !is_written(rules, tail, stream) {
         return Err(Refusal::UnlawfulState);
     }
     let totals = totals_from_c(stream.totals);
@@ -141,6 +159,16 @@ fn live_of<'r>(
         Err(ResumeError::OutOfMemory) => Err(Refusal::OutOfMemory),
         Err(_) => Err(Refusal::UnlawfulState),
     }
+}
+
+/// Whether a call writes such numbers around the state of a stream with this tail, or all are 0.
+fn is_written(rules: &Rules, tail: &[u8], stream: &RdsStream) -> bool
+    requires { length tail.now ≤ 30 }
+    ensures { (result ≡ true)
+        ↔ ((stream.now.tail ≡ tail.now ++ replicate (32 - length tail.now) 0)
+        × ((stream.now ≡ unheard) ⊎ IsNamed rules.now stream.now)) }
+{
+    stream.tail == tail_in_c(tail) && (is_unheard(stream) || is_named(rules, stream))
 }
 
 /// Whether nothing was heard of the stream, and no call has left it.
@@ -181,6 +209,13 @@ fn kept_of(stream: &RdsStream) -> u64
     ensures { result ≡ min most_kept (stream.now.place / 8) }
 {
     MOST_KEPT.min(stream.place / 8)
+}
+
+/// The place of the first of these bytes.
+fn known_from(stream: &RdsStream) -> u64
+    ensures { result ≡ stream.now.place - 8 * min most_kept (stream.now.place / 8) }
+{
+    stream.place - 8 * kept_of(stream)
 }
 
 /// The last bytes of a stream, for C.
@@ -304,9 +339,7 @@ pub fn push(
         ≡ length (completed (the_stream_of (terms_of rules gaps.now) stream.old)
         (take taken.new bytes.now))) }
 {
-    let kept = kept_of(stream);
-    let len = kept + MOST_BYTES.min(bytes.len() as u64);
-    let told = told_near(alloc, rules, gaps, stream.place - 8 * kept, 8 * len)?;
+    let told = told_around(alloc, rules, gaps, stream, bytes)?;
     laws::runs_give_few_items();
     next_is_heard();
     go_on(alloc, &told, bytes, stream, room, taken, count)?;
@@ -351,14 +384,11 @@ fn go_on(
         × (count.new ≡ count.old))) }
 {
     let mut live = live_of(alloc, told, stream)?;
-    if bytes.len() as u64 > (MOST_BITS - stream.place) / 8 {
-        return Err(Refusal::TooLong);
-    }
+    refuse_long(stream.place, bytes)?;
     let mut some = Vec::with_capacity(alloc, ITEMS_A_BYTE * bytes.len().clamp(1, AT_ONCE))?;
     match take_fitting(&mut live, &told.rules, bytes, stream, room, &mut some) {
         Ok(fit) => {
-            *taken = fit.taken as u64;
-            *count = fit.count as u64;
+            fit.tell(taken, count);
             Ok(())
         }
         Err(needed) => {
@@ -368,11 +398,62 @@ fn go_on(
     }
 }
 
+/// Refuses bytes with which a stream would be too long.
+fn refuse_long(place: u64, bytes: &[u8]) -> Result<(), Refusal>
+    requires { place ≤ 2 ^ 36 }
+    ensures fits { OnOk result (place + 8 * length bytes.now ≤ 2 ^ 36) }
+    ensures refused { IfErr result
+        (λ refusal. (refusal ≡ TooLong) × (2 ^ 36 < place + 8 * length bytes.now)) }
+{
+    if bytes.len() as u64 > (MOST_BITS - place) / 8 {
+        return Err(Refusal::TooLong);
+    }
+    Ok(())
+}
+
 /// How many bytes were taken, and how many items they completed.
 #[derive(Clone, Copy)]
 struct Fit {
     taken: usize,
     count: usize,
+}
+
+impl Fit {
+    /// The bytes that were not taken, if there are any.
+    fn rest_of(self, bytes: &[u8]) -> Option<&[u8]>
+        requires { self.taken ≤ length bytes.now }
+        ensures rest { IfSome result (λ rest. rest.now ≡ drop self.taken bytes.now) }
+        ensures some { IfSome result (λ rest. self.taken < length bytes.now) }
+        ensures none { result ≡ None → self.taken ≡ length bytes.now }
+    {
+        if self.taken < bytes.len() {
+            Some(&bytes[self.taken..])
+        } else {
+            None
+        }
+    }
+
+    /// The bytes and the items of both.
+    fn plus(self, more: Fit) -> Fit
+        requires taken { self.taken + more.taken < 2 ^ 64 }
+        requires count { self.count + more.count < 2 ^ 64 }
+        ensures taken { result.taken ≡ self.taken + more.taken }
+        ensures count { result.count ≡ self.count + more.count }
+    {
+        Fit {
+            taken: self.taken + more.taken,
+            count: self.count + more.count,
+        }
+    }
+
+    /// Writes the two numbers.
+    fn tell(self, taken: &mut u64, count: &mut u64)
+        ensures taken { taken.new ≡ self.taken }
+        ensures count { count.new ≡ self.count }
+    {
+        *taken = self.taken as u64;
+        *count = self.count as u64;
+    }
 }
 
 /// Has the decoder take as many of the next bytes as there is room for the items that they complete, and
@@ -407,21 +488,10 @@ fn take_fitting(
 {
     pieces_join();
     let mut fit = take_piece(live, rules, bytes, stream, room, some)?;
-    while fit.taken < bytes.len() {
-        match take_piece(
-            live,
-            rules,
-            &bytes[fit.taken..],
-            stream,
-            &mut room[fit.count..],
-            some,
-        ) {
-            Ok(more) => {
-                fit = Fit {
-                    taken: fit.taken + more.taken,
-                    count: fit.count + more.count,
-                };
-            }
+    while let Some(rest) = fit.rest_of(bytes) {
+        let free = &mut room[fit.count..];
+        match take_piece(live, rules, rest, stream, free, some) {
+            Ok(more) => fit = fit.plus(more),
             Err(_) => return Ok(fit),
         }
     }
@@ -465,17 +535,40 @@ fn take_piece(
     let piece = &bytes[..bytes.len().min(most)];
     match live.take(piece, some) {
         Ok(taken) => {
-            let items = some.as_slice();
-            let count = items.len();
-            if room.len() < count {
-                return Err(count);
-            }
-            fill_room(room, items);
-            *stream = stream_in_c(rules, live);
+            let count = write_taken(live, rules, some, stream, room)?;
             Ok(Fit { taken, count })
         }
         Err(_) => unreachable!(),
     }
+}
+
+/// Writes the items, and the stream that the decoder has after them. Refuses if they do not fit. Either way
+/// it tells how many they are.
+fn write_taken(
+    live: &StreamDecoder<'_>,
+    rules: &Rules,
+    items: &[Item],
+    stream: &mut RdsStream,
+    room: &mut [RdsItem],
+) -> Result<usize, usize>
+    requires { live.now.terms.rules ≡ rules.now }
+    ensures laid { OnOk result (stream.new ≡ the_stream_in_c live.now) }
+    ensures says { OnOk result (the_stream_of live.now.terms stream.new ≡ live.now) }
+    ensures live { OnOk result (IsStreamDecoder live.now) }
+    ensures filled { OnOk result (IsFilled (map item_in_c items.now) room.old room.new) }
+    ensures count { IfOk result (λ count. count ≡ length items.now) }
+    ensures room { OnOk result (length items.now ≤ length room.old) }
+    ensures small { OnErr result (length room.old < length items.now) }
+    ensures needed { IfErr result (λ needed. needed ≡ length items.now) }
+    ensures untouched { OnErr result ((room.new ≡ room.old) × (stream.new ≡ stream.old)) }
+{
+    let count = items.len();
+    if room.len() < count {
+        return Err(count);
+    }
+    fill_room(room, items);
+    *stream = stream_in_c(rules, live);
+    Ok(count)
 }
 
 /// Ends a stream: writes the group in progress, as far as it was read, to the beginning of `room`, and to
@@ -571,7 +664,25 @@ pub fn finish_with(
         ⊎ (RefusesEnd rules gaps.now stream.now bytes.now bits refusal × (count.new ≡ count.old))) }
 {
     let (items, found) = left_of(alloc, bytes, bits, gaps, rules, stream)?;
-    write_items(room, &items, count)?;
+    write_left(room, &items, found, count, totals)?;
+    Ok(())
+}
+
+/// Writes the items to the beginning of the room, how many they are to the count, and the totals.
+fn write_left(
+    room: &mut [RdsItem],
+    items: &[Item],
+    found: Totals,
+    count: &mut u64,
+    totals: &mut RdsTotals,
+) -> Result<(), Refusal>
+    ensures filled { OnOk result (IsFilled (map item_in_c items.now) room.old room.new) }
+    ensures totals { OnOk result (totals.new ≡ totals_in_c found) }
+    ensures count { count.new ≡ length items.now }
+    ensures untouched { OnErr result ((room.new ≡ room.old) × (totals.new ≡ totals.old)) }
+    ensures refused { IfErr result (λ refusal. (refusal ≡ SmallRoom) × (length room.old < length items.now)) }
+{
+    write_items(room, items, count)?;
     *totals = totals_in_c(found);
     Ok(())
 }

@@ -4,8 +4,8 @@ use Rattle.rds_stream.specs.Recording.{bits_of, length_of, packed_bit}
 use Rattle.rds_abi.proofs.PartRuns.{bits-of-first}
 use Rattle.rds_abi.proofs.asked.recording_of.Goals as goal
 
-pub returns-in-Ok-clause-held : goal.returns-in-Ok-clause-held
-returns-in-Ok-clause-held c =
+pub returns-clause-held : goal.returns-clause-held
+returns-clause-held c =
     let bits = c.args.bits in
     let first : List ℕ = take c.held_bytes.result c.args.bytes.now in
     let copied = c.in_ok-copy.ensures.items in
@@ -14,6 +14,6 @@ returns-in-Ok-clause-held c =
     ∙ ap₂ (λ (all : List ℕ) (gaps : List (ℕ × ℕ)). record { bits = all; gaps = gaps })
     (ap (λ (bytes : List ℕ). bits_of bytes bits) copied ∙ bits-of-first c.args.bytes.now c.held_bytes.result bits held) c.in_ok-places.ensures
 
-pub returns-in-Ok-clause-len : goal.returns-in-Ok-clause-len
-returns-in-Ok-clause-len c =
+pub returns-clause-len : goal.returns-clause-len
+returns-clause-len c =
     ap length_of c.in-Ok.ensures.held ∙ length-map-range_with_len (packed_bit c.in_ok-copy.copy.items) 0 c.args.bits

@@ -1,4 +1,4 @@
-use Rattle.std.proofs.Common.{◌-◌, ◌<◌, ◌^◌, ap, arith, subst, sym, ◌∙◌}
+use Rattle.std.proofs.Common.{◌-◌, ◌<◌, ◌^◌, ap, arith, refl, subst, sym, ◌∙◌}
 use Rattle.std.specs.List.{All}
 use Rattle.rds_sync.specs.declared.item.Item.{Item}
 use Rattle.rds_live.specs.Places.{place_of}
@@ -21,19 +21,19 @@ fill_run-requires-clause-early c =
 pub returns-clause-laid : goal.returns-clause-laid
 returns-clause-laid c =
     let before = c.args.start.now.part.before in
-    c.state_in_c.ensures.value ∙ ap (state_in_c c.args.start.now.rules) (c.moved_on.ensures ∙ ap (moved_state before) c.in_ok-end.ensures.state)
+    c.end_in_c.ensures.value ∙ ap (λ (s : State). state_in_c c.args.start.now.rules (moved_state before s)) c.in_ok-end.ensures.state
 
 pub returns-clause-state : goal.returns-clause-state
 returns-clause-state c =
     let start = c.args.start.now in
     let before = start.part.before in
-    let there = lawful-on start.rules before (c.args.range.1 - before) c.args.range.1 c.in_ok-end.end c.moved_on.result c.moved_on.ensures c.in_ok-end.ensures.lawful (omega (arith, c.requires.begins, c.requires.order)) in
-    c.state_in_c.ensures.says start.rules c.args.range.1 there ∙ c.moved_on.ensures ∙ ap (moved_state before) c.in_ok-end.ensures.state
+    let there = lawful-on start.rules before (c.args.range.1 - before) c.args.range.1 c.in_ok-end.end (moved_state before c.in_ok-end.end) refl c.in_ok-end.ensures.lawful (omega (arith, c.requires.begins, c.requires.order)) in
+    c.end_in_c.ensures.says start.rules c.args.range.1 there ∙ ap (moved_state before) c.in_ok-end.ensures.state
 
 pub returns-clause-next : goal.returns-clause-next
 returns-clause-next c =
     let start = c.args.start.now in
     let before = start.part.before in
-    let there = lawful-on start.rules before (c.args.range.1 - before) c.args.range.1 c.in_ok-end.end c.moved_on.result c.moved_on.ensures c.in_ok-end.ensures.lawful (omega (arith, c.requires.begins, c.requires.order)) in
-    let says = c.state_in_c.ensures.says start.rules c.args.range.1 there in
-    (subst (λ (s : State). IsLawful start.rules c.args.range.1 s) (sym says) there, c.state_in_c.ensures.value ∙ ap (state_in_c start.rules) (sym says))
+    let there = lawful-on start.rules before (c.args.range.1 - before) c.args.range.1 c.in_ok-end.end (moved_state before c.in_ok-end.end) refl c.in_ok-end.ensures.lawful (omega (arith, c.requires.begins, c.requires.order)) in
+    let says = c.end_in_c.ensures.says start.rules c.args.range.1 there in
+    (subst (λ (s : State). IsLawful start.rules c.args.range.1 s) (sym says) there, c.end_in_c.ensures.value ∙ ap (state_in_c start.rules) (sym says))

@@ -1,25 +1,25 @@
-use Rattle.std.proofs.Common.{inl, length, refl, subst, sym}
+use Rattle.std.proofs.Common.{inl, length, subst, sym}
 use Rattle.std.proofs.lemmas.Result.{err_from_is_err_and}
 use Rattle.rds_abi.specs.Stream.{AreLeft, AreTooMany, terms_of}
 use Rattle.rds_abi.specs.declared.refusal.Refusal.{Refusal}
 use Rattle.rds_abi.proofs.Streams.{too_many}
 use Rattle.rds_abi.proofs.stream.finish_with.Goals as goal
 
-pub returns-in_err-write_items-clause-refused : goal.returns-in_err-write_items-clause-refused
-returns-in_err-write_items-clause-refused c =
-    let p = err_from_is_err_and c.from_residual-in_err-write_items.result c.from_residual-in_err-write_items.ensures.1 in
+pub returns-in_err-write_left-clause-refused : goal.returns-in_err-write_left-clause-refused
+returns-in_err-write_left-clause-refused c =
+    let p = err_from_is_err_and c.from_residual-in_err-write_left.result c.from_residual-in_err-write_left.ensures.1 in
     let left = c.in_ok-items.ensures in
     let wanted = AreLeft (terms_of c.args.rules c.args.gaps.now) c.args.stream.now c.args.bytes.now c.args.bits in
-    let told = rw c.deref.ensures.value at c.in_err-write_items.ensures.count in
-    let refused = rw c.deref.ensures.value at c.in_err-write_items.ensures.refused in
+    let told = rw c.deref.ensures.value at c.in_err-write_left.ensures.count in
+    let refused = rw c.deref.ensures.value at c.in_err-write_left.ensures.refused in
     rw (p.1, p.2) (inl (
       left.lawful.0,
       left.lawful.1,
-      subst (λ (r : Refusal). AreTooMany wanted (length c.args.room.now) r c.write_items.new.count) (sym refused.0)
+      subst (λ (r : Refusal). AreTooMany wanted (length c.args.room.now) r c.write_left.new.count) (sym refused.0)
           (too_many wanted c.in_ok-items.items.items left.items _ told _ refused.1),
     ))
 
-pub returns-in_err-write_items-clause-untouched : goal.returns-in_err-write_items-clause-untouched
-returns-in_err-write_items-clause-untouched c =
-    let p = err_from_is_err_and c.from_residual-in_err-write_items.result c.from_residual-in_err-write_items.ensures.1 in
-    rw p.1 (c.in_err-write_items.ensures.untouched, refl)
+pub returns-in_err-write_left-clause-untouched : goal.returns-in_err-write_left-clause-untouched
+returns-in_err-write_left-clause-untouched c =
+    let p = err_from_is_err_and c.from_residual-in_err-write_left.result c.from_residual-in_err-write_left.ensures.1 in
+    rw p.1 c.in_err-write_left.ensures.untouched

@@ -7,13 +7,13 @@ use Rattle.rds_abi.specs.Layout.{item_in_c}
 use Rattle.rds_abi.proofs.stream.go_on.Goals as goal
 
 pub returns-in-Ok-clause-after : goal.returns-in-Ok-clause-after
-returns-in-Ok-clause-after c = rw c.in_ok-live.ensures.live at c.in-Ok.ensures.after
+returns-in-Ok-clause-after c = rw (← c.tell.ensures.taken, c.in_ok-live.ensures.live) at c.in-Ok.ensures.after
 
 pub returns-in-Ok-clause-filled : goal.returns-in-Ok-clause-filled
-returns-in-Ok-clause-filled c = rw c.in_ok-live.ensures.live at c.in-Ok.ensures.filled
+returns-in-Ok-clause-filled c = rw (← c.tell.ensures.taken, c.in_ok-live.ensures.live) at c.in-Ok.ensures.filled
 
 pub returns-in-Ok-clause-most : goal.returns-in-Ok-clause-most
-returns-in-Ok-clause-most c = rw c.in_ok-live.ensures.live at c.in-Ok.ensures.most
+returns-in-Ok-clause-most c = rw (← c.tell.ensures.taken, c.in_ok-live.ensures.live) at c.in-Ok.ensures.most
 
 pub returns-in-Ok-clause-next : goal.returns-in-Ok-clause-next
 returns-in-Ok-clause-next c = record {
@@ -27,13 +27,4 @@ returns-clause-refused c =
     let found = completed (stream_of c.args.told.now c.args.stream.now) (take 1 c.args.bytes.now) in
     let small : length c.args.room.now < length found = rw c.in_ok-live.ensures.live at c.in-Err.ensures.small in
     let told : c.in-Err.needed ≡ length found = rw c.in_ok-live.ensures.live at c.in-Err.ensures.needed in
-    inl (
-      left,
-      omega (arith, c.if-bytes-stream.false, left.live.limit),
-      (refl, omega (arith, small, length-map found item_in_c), omega (arith, told, length-map found item_in_c)),
-    )
-
-pub returns-then-bytes-stream-clause-refused : goal.returns-then-bytes-stream-clause-refused
-returns-then-bytes-stream-clause-refused c =
-    let left = c.in_ok-live.ensures.left in
-    inr (inr (left, omega (arith, c.if-bytes-stream.true, left.live.limit), refl), refl)
+    inl (left, c.in_ok-refuse_long.ensures.fits, (refl, omega (arith, small, length-map found item_in_c), omega (arith, told, length-map found item_in_c)))

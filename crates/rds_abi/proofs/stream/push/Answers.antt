@@ -1,7 +1,8 @@
-use Rattle.std.proofs.Common.{◌∙◌, List, ap, arith, length, map, subst, take}
+use Rattle.std.proofs.Common.{◌∙◌, ◌/◌, ◌^◌, List, ap, arith, length, map, min, refl, subst, take}
 use Rattle.std.proofs.lemmas.List.{length-take}
 use Rattle.std.proofs.lemmas.Result.{err_from_is_err_and}
 use Rattle.rds_live.specs.Next.{completed}
+use Rattle.rds_live.specs.StreamDecoder.{most_kept}
 use Rattle.rds_sync.specs.declared.item.Item.{Item}
 use Rattle.rds_abi.specs.Asked.{IsFilled, gaps_of}
 use Rattle.rds_abi.specs.Stream.{stream_in_c, stream_of, terms_of, totals_from_c}
@@ -17,8 +18,8 @@ pub returns-clause-after : goal.returns-clause-after
 returns-clause-after c =
     let told = c.in_ok-told.ensures in
     let went = c.in_ok-go_on.ensures in
-    pushed-after (terms_of c.args.rules c.args.gaps.now) c.in_ok-told.told c.args.stream.now c.args.bytes.now c.kept_of-kept.result c.min.result
-    told.near c.kept_of-kept.ensures c.min.ensures went.lawful went.fits c.go_on.new.taken c.go_on.new.stream went.after
+    pushed-after (terms_of c.args.rules c.args.gaps.now) c.in_ok-told.told c.args.stream.now c.args.bytes.now (min most_kept (c.args.stream.now.place / 8)) (min (2 ^ 33) (length c.args.bytes.now))
+    told.near refl refl went.lawful went.fits c.go_on.new.taken c.go_on.new.stream went.after
 
 pub returns-clause-heard : goal.returns-clause-heard
 returns-clause-heard c before h =
@@ -27,23 +28,23 @@ returns-clause-heard c before h =
     let all = terms_of c.args.rules c.args.gaps.now in
     heard-next c.next_is_heard.ensures all c.args.stream.now (take c.go_on.new.taken c.args.bytes.now) told.given.range
     (left-near all c.in_ok-told.told c.args.stream.now _ _ told.near went.lawful) c.go_on.new.stream
-    (pushed-after all c.in_ok-told.told c.args.stream.now c.args.bytes.now c.kept_of-kept.result c.min.result
-    told.near c.kept_of-kept.ensures c.min.ensures went.lawful went.fits c.go_on.new.taken c.go_on.new.stream went.after) before h
+    (pushed-after all c.in_ok-told.told c.args.stream.now c.args.bytes.now (min most_kept (c.args.stream.now.place / 8)) (min (2 ^ 33) (length c.args.bytes.now))
+    told.near refl refl went.lawful went.fits c.go_on.new.taken c.go_on.new.stream went.after) before h
 
 pub returns-clause-filled : goal.returns-clause-filled
 returns-clause-filled c =
     let told = c.in_ok-told.ensures in
     let went = c.in_ok-go_on.ensures in
-    let same = pushed-completed (terms_of c.args.rules c.args.gaps.now) c.in_ok-told.told c.args.stream.now c.args.bytes.now c.kept_of-kept.result c.min.result
-    told.near c.kept_of-kept.ensures c.min.ensures went.lawful went.fits c.go_on.new.taken in
+    let same = pushed-completed (terms_of c.args.rules c.args.gaps.now) c.in_ok-told.told c.args.stream.now c.args.bytes.now (min most_kept (c.args.stream.now.place / 8)) (min (2 ^ 33) (length c.args.bytes.now))
+    told.near refl refl went.lawful went.fits c.go_on.new.taken in
     subst (λ (items : List Item). IsFilled (map item_in_c items) c.args.room.now c.go_on.new.room) same went.filled
 
 pub returns-clause-count : goal.returns-clause-count
 returns-clause-count c =
     let told = c.in_ok-told.ensures in
     let went = c.in_ok-go_on.ensures in
-    let same = pushed-completed (terms_of c.args.rules c.args.gaps.now) c.in_ok-told.told c.args.stream.now c.args.bytes.now c.kept_of-kept.result c.min.result
-    told.near c.kept_of-kept.ensures c.min.ensures went.lawful went.fits c.go_on.new.taken in
+    let same = pushed-completed (terms_of c.args.rules c.args.gaps.now) c.in_ok-told.told c.args.stream.now c.args.bytes.now (min most_kept (c.args.stream.now.place / 8)) (min (2 ^ 33) (length c.args.bytes.now))
+    told.near refl refl went.lawful went.fits c.go_on.new.taken in
     went.count ∙ ap (λ (items : List Item). length items) same
 
 pub returns-clause-items : goal.returns-clause-items
@@ -52,8 +53,8 @@ returns-clause-items c =
     let went = c.in_ok-go_on.ensures in
     let all = terms_of c.args.rules c.args.gaps.now in
     let more = take c.go_on.new.taken c.args.bytes.now in
-    let same = pushed-completed all c.in_ok-told.told c.args.stream.now c.args.bytes.now c.kept_of-kept.result c.min.result
-    told.near c.kept_of-kept.ensures c.min.ensures went.lawful went.fits c.go_on.new.taken in (
+    let same = pushed-completed all c.in_ok-told.told c.args.stream.now c.args.bytes.now (min most_kept (c.args.stream.now.place / 8)) (min (2 ^ 33) (length c.args.bytes.now))
+    told.near refl refl went.lawful went.fits c.go_on.new.taken in (
       completed (stream_of all c.args.stream.now) more,
       are-completed c.next_is_heard.ensures all c.args.stream.now more told.given.range (left-near all c.in_ok-told.told c.args.stream.now _ _ told.near went.lawful),
       subst (λ (items : List Item). IsFilled (map item_in_c items) c.args.room.now c.go_on.new.room) same went.filled,
@@ -64,8 +65,8 @@ pub returns-clause-most : goal.returns-clause-most
 returns-clause-most c =
     let told = c.in_ok-told.ensures in
     let went = c.in_ok-go_on.ensures in
-    pushed-most (terms_of c.args.rules c.args.gaps.now) c.in_ok-told.told c.args.stream.now c.args.bytes.now c.kept_of-kept.result c.min.result
-    told.near c.kept_of-kept.ensures c.min.ensures went.lawful went.fits (length c.args.room.now) c.go_on.new.taken went.most
+    pushed-most (terms_of c.args.rules c.args.gaps.now) c.in_ok-told.told c.args.stream.now c.args.bytes.now (min most_kept (c.args.stream.now.place / 8)) (min (2 ^ 33) (length c.args.bytes.now))
+    told.near refl refl went.lawful went.fits (length c.args.room.now) c.go_on.new.taken went.most
 
 pub returns-clause-few : goal.returns-clause-few
 returns-clause-few c =
@@ -97,8 +98,8 @@ returns-in_err-go_on-clause-refused c =
     let all = terms_of c.args.rules c.args.gaps.now in
     rw (p.1, p.2)
     (refused_push c.args.rules c.args.gaps.now c.args.stream.now c.args.bytes.now c.in_err-go_on.field-0.0 _ _ told.given
-    (pushed-refused all c.in_ok-told.told c.args.stream.now c.args.bytes.now c.kept_of-kept.result c.min.result
-    told.near c.kept_of-kept.ensures c.min.ensures c.in_err-go_on.field-0.0 (length c.args.room.now) c.go_on.new.count _ c.in_err-go_on.ensures.refused))
+    (pushed-refused all c.in_ok-told.told c.args.stream.now c.args.bytes.now (min most_kept (c.args.stream.now.place / 8)) (min (2 ^ 33) (length c.args.bytes.now))
+    told.near refl refl c.in_err-go_on.field-0.0 (length c.args.room.now) c.go_on.new.count _ c.in_err-go_on.ensures.refused))
 
 pub returns-in_err-go_on-clause-roomy : goal.returns-in_err-go_on-clause-roomy
 returns-in_err-go_on-clause-roomy c =
