@@ -1,5 +1,7 @@
-use Rattle.std.proofs.Common.{arith, ◌∙◌}
+use Rattle.std.proofs.Common.{arith, refl, sym, ◌∙◌}
+use Rattle.std.proofs.KnownBytes.{Consumes-nil}
 use Rattle.std.proofs.lemmas.Grind.{common_steps}
+use Rattle.std.proofs.lemmas.List.{append-nil}
 use Rattle.rds_tool.proofs.Passing.{passed, passes}
 use Rattle.rds_tool.proofs.Reading.{end_told, given_more, kind_told, ok_told, read_more, read_told, read_whole, turns_not_told}
 use Rattle.rds_tool.proofs.engine.read_all.Goals as goal
@@ -12,6 +14,15 @@ returns-then-is_at_end-clause-ok g c =
 pub returns-then-is_at_end-clause-given : goal.returns-then-is_at_end-clause-given
 returns-then-is_at_end-clause-given g c =
     let read = c.in_ok-is_at_end.ensures in given_more _ _ _ _ _ _ c.turns.invariant.given read.given.1 read.given.2
+
+pub turns-init : goal.turns-init
+turns-init g c = record {
+  count = refl;
+  taken = rw c.new-bytes.ensures.items (Consumes-nil _);
+  given = rw c.new-bytes.ensures.items (sym (append-nil _));
+  turns = omega arith;
+  room = c.in_ok-buf.ensures;
+}
 
 pub turns-preserved : goal.turns-preserved
 turns-preserved g c =

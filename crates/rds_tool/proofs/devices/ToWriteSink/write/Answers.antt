@@ -16,3 +16,8 @@ pub invariant_of-self-else-count-eq0 : goal.invariant_of-self-else-count-eq0
 invariant_of-self-else-count-eq0 g c = record {
   tied = ∥∥₁_map c.args.self.now.tied (λ t. rw c.note.ensures (appends_more _ _ _ _ _ t c.in-Ok.ensures.bytes));
 }
+
+pub invariant_of-self-else-not-is_empty : goal.invariant_of-self-else-not-is_empty
+invariant_of-self-else-not-is_empty g c = record {
+  tied = ∥∥₁_map c.args.self.now.tied (λ t. rw c.note.ensures (appends_more _ _ _ _ _ t c.in-Ok.ensures.bytes));
+}
