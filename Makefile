@@ -77,8 +77,9 @@ proofs:
 	@exit $$(cat build/proofs.status)
 
 # The library for C over what `proofs` has just built, so that `lib` has nothing left to do: it would prove all of that once more.
-# That for arm64 is made where there is a compiler for it.
-archives: archive-amd64 $(if $(shell command -v $(TOOLS_arm64)gcc),archive-arm64)
+# That for arm64 is made if there is a compiler for it, over the proof of rds_c that the first one keeps.
+archives:
+	@for it in amd64 $(if $(shell command -v $(TOOLS_arm64)gcc),arm64); do $(MAKE) --no-print-directory archive-$$it || exit 1; done
 
 wrong-bodies:
 	nice tests/wrong_bodies.py $(WHEN)

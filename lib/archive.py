@@ -1,8 +1,8 @@
 #!/usr/bin/env python3
 """Compiles the library for C for a processor: lib/archive.py amd64|arm64 ARCHIVE
 
-The libraries below rds_c have to be proved: where `rt` built one of them before its sources changed last, `rt lib` proves them. Then rds_c
-itself is proved, and compiled with what was built of the others, for the oldest x86-64, or for arm64.
+The libraries below rds_c have to be proved: if `rt` built one of them before its sources changed last, `rt lib` proves them. Then rds_c
+itself is proved, and compiled with what was built of the others, for the oldest x86-64, or for arm64. Its proof is kept for the other one.
 """
 
 import os
@@ -17,6 +17,8 @@ from holes import KIT, RT, below, is_built, of_kit, over, used_by  # noqa: E402
 CRATE = "rds_c"
 # The seconds that a command may take: to prove all libraries takes half an hour on two processors.
 LIMIT = 3600
+# The proof of rds_c, which is the same for both processors. `rattle` looks whether it is of the same sources.
+KEPT = f"{TOP}/build/kept_{CRATE}"
 PROCESSORS = {"amd64": ["--cpu", "x86-64"], "arm64": ["--target", "aarch64-unknown-linux-gnu"]}
 
 
@@ -27,7 +29,8 @@ def main(processor, archive):
         if status:
             return status
     words = [f"{KIT}/bin/rattle", "build", *of_kit(CRATE, {"std", *used_by(CRATE)[1]}), *over(CRATE), "--crate-type", "staticlib"]
-    words += ["--links", f"{CRATE}=", "--toolchain", f"{KIT}/toolchain", "--backend", "llvm", *PROCESSORS[processor], "-o", archive]
+    words += ["--links", f"{CRATE}=", "--toolchain", f"{KIT}/toolchain", "--backend", "llvm", *PROCESSORS[processor]]
+    words += ["--incremental", KEPT, "-o", archive]
     os.makedirs(os.path.dirname(archive), exist_ok=True)
     ran = subprocess.run(words, cwd=folder, stdout=subprocess.PIPE, stderr=subprocess.STDOUT, encoding="utf-8", timeout=LIMIT)
     print(ran.stdout[-2000:] if ran.returncode else ran.stdout.rstrip("\n").rpartition("\n")[2])

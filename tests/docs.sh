@@ -30,11 +30,11 @@ fi
 
 # A proof by hand could set a history to anything, so there are two: of how a history begins, and of how it grows.
 find crates -name Proof.antt -not -path '*/out/*' | sort > "$work/by_hand"
-printf 'crates/rds_trace/proofs/trace/Trace/%s/Proof.antt\n' new note > "$work/wanted"
+printf 'crates/rds_tool/proofs/trace/Trace/%s/Proof.antt\n' new note > "$work/wanted"
 if cmp -s "$work/wanted" "$work/by_hand"; then
     pass
 else
-    fail 'whole proofs by hand are not those of rds_trace'
+    fail 'whole proofs by hand are not those of Trace'
     cat "$work/by_hand"
 fi
 

@@ -9,7 +9,7 @@ from dataclasses import dataclass
 TOP = os.path.dirname(os.path.dirname(os.path.abspath(__file__)))
 RT = shutil.which(os.environ.get("RT", "rt")) or sys.exit("there is no Rattle toolchain (rt) on the PATH")
 KIT = os.path.dirname(os.path.dirname(os.path.realpath(RT)))
-LIBRARIES = ["rds_code", "rds_stream", "rds_sync", "rds_live", "rds_abi", "rds_pieces", "rds_crew", "rds_trace", "rds_rows", "rds_tool"]
+LIBRARIES = ["rds_code", "rds_stream", "rds_sync", "rds_live", "rds_abi", "rds_pieces", "rds_crew", "rds_rows", "rds_tool"]
 # What C calls: a library that no crate stands on.
 EXPORTED = "rds_c"
 # The callers of the libraries, proved from contracts alone.

@@ -24,7 +24,8 @@
 //!   them, and writes the whole text to a [`Sink`]. [`transcribe_gated`] is the same with a gate, by which a
 //!   caller hears of the workers. [`transcribe_alone`] starts no thread and waits for none.
 //! - [`follow`]: the same listing of a stream, row by row as its bytes come.
-//! - [`FromRead`] and [`ToWrite`]: a source and a sink of a reader and a writer of std.
+//! - [`FromRead`] and [`ToWrite`]: a source and a sink of a reader and a writer of std. [`Trace`]: the bytes that
+//!   one gave or took, for contracts alone.
 //! - [`ToolError`]: the refusals 1 to 16.
 //!
 //! # What callers may rely on
@@ -68,6 +69,7 @@ mod job; // The jobs that can be asked for.
 mod engine; // From a reader to a writer.
 mod alone; // The same in the calling thread only.
 mod devices; // The two ends of that.
+mod trace; // The bytes that went through them, for contracts alone.
 mod task; // A job whose settings were looked at, and the text that it writes.
 mod making; // From a job to its task, and on to its text.
 mod plan; // Rules, workers and pieces.
@@ -97,3 +99,4 @@ pub use following::follow;
 pub use job::{Asked, Cuts, Ignored, Input, Job, Request, Settings};
 pub use rds_rows::{Failed, Sink, write_all};
 pub use rds_sync::{Loss, RuleNumbers};
+pub use trace::Trace;

@@ -5,9 +5,8 @@ ghost use Rattle.std.specs.Prelude.{◌^◌, ◌<◌, ◌≡◌, Some};
 use crate::tool::jobs::Scan;
 use rds_crew::{Gate, OpenGate};
 use rds_tool::{
-    Failed, FromRead, Job, Sink, Source, ToWrite, ToolError, transcribe, transcribe_gated,
+    Failed, FromRead, Job, Sink, Source, ToWrite, ToolError, Trace, transcribe, transcribe_gated,
 };
-use rds_trace::Trace;
 use std::alloc::{AllocError, Global};
 use std::io;
 use std::io::Write;

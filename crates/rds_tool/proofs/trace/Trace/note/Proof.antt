@@ -25,12 +25,12 @@ use denote.Triple.Entry.{on_entry}
 use denote.Triple.Spec.{Meets, triple_of}
 use denote.Triple.Table.{entered}
 use denote.Triple.Walked.{says, Stays, stay_ref, walk_of, AllGo, Goes-ref, Walks, ends_at, walked, walk_Meets}
-use Rattle.rds_trace.specs.declared.trace.Trace.{Trace}
-use Rattle.rds_trace.specs.contracts.trace.Trace as T
-use Rattle.rds_trace.specs.contracts.trace.Trace.note.Key.{name as #it}
-use Rattle.rds_trace.specs.contracts.trace.Trace.note as it
-use Rattle.rds_trace.proofs.trace.Trace.note.Statement as stated
-use Rattle.rds_trace.proofs.trace.Trace.note.Code as code
+use Rattle.rds_tool.specs.declared.trace.Trace.{Trace}
+use Rattle.rds_tool.specs.contracts.trace.Trace as T
+use Rattle.rds_tool.specs.contracts.trace.Trace.note.Key.{name as #it}
+use Rattle.rds_tool.specs.contracts.trace.Trace.note as it
+use Rattle.rds_tool.proofs.trace.Trace.note.Statement as stated
+use Rattle.rds_tool.proofs.trace.Trace.note.Code as code
 use denote.Ref.{Bor}
 use denote.Builtin.{u8}
 use denote.Exit.{yes}

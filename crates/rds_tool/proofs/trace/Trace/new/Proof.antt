@@ -21,12 +21,12 @@ use denote.Triple.Entry.{on_entry}
 use denote.Triple.Spec.{Meets, triple_of}
 use denote.Triple.Table.{entered}
 use denote.Triple.Walked.{says, ends_at, walked, walk_Meets}
-use Rattle.rds_trace.specs.declared.trace.Trace.{Trace}
-use Rattle.rds_trace.specs.contracts.trace.Trace as T
-use Rattle.rds_trace.specs.contracts.trace.Trace.new.Key.{name as #it}
-use Rattle.rds_trace.specs.contracts.trace.Trace.new as it
-use Rattle.rds_trace.proofs.trace.Trace.new.Statement as stated
-use Rattle.rds_trace.proofs.trace.Trace.new.Code as code
+use Rattle.rds_tool.specs.declared.trace.Trace.{Trace}
+use Rattle.rds_tool.specs.contracts.trace.Trace as T
+use Rattle.rds_tool.specs.contracts.trace.Trace.new.Key.{name as #it}
+use Rattle.rds_tool.specs.contracts.trace.Trace.new as it
+use Rattle.rds_tool.proofs.trace.Trace.new.Statement as stated
+use Rattle.rds_tool.proofs.trace.Trace.new.Code as code
 
 abbrev v : Val
 v = vstruct (vcons (vstruct vnil) vnil)
