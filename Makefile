@@ -84,11 +84,12 @@ archives:
 wrong-bodies:
 	nice tests/wrong_bodies.py $(WHEN)
 
-# Those of the flags that make hands on say how many lanes there are: the scripts have lanes of their own.
+# Those of the flags that make hands on say how many lanes there are: the scripts have lanes of their own. They leave the wrong bodies
+# their share, so that both end at about the same time.
 built: proofs
 	+$(MAKE) --no-print-directory archives
 	tests/front_pages.py
-	MAKEFLAGS= make --no-print-directory -j $$(nproc) -O $(SCRIPTS)
+	MAKEFLAGS= nice make --no-print-directory -j $$(nproc) -O $(SCRIPTS)
 
 # The scripts over what is built; those that take longest come first.
 SCRIPTS := $(addprefix tests/,library.sh monitor.sh refusals.sh differential.py scripts.sh docs.sh package.sh work.sh program.sh \
