@@ -335,8 +335,8 @@ def wait_for(crates, where, proofs):
 
 
 class Lanes:
-    """The processors that are left to wrong bodies. Of the crates that wait for one, the dearest comes first, so that it is not
-    alone at the end: as a rule one with many edits, which stands on many others."""
+    """The processors that are left to wrong bodies. Of the crates that wait for one, that with most edits comes first, so that it is
+    not alone at the end."""
 
     def __init__(self, free):
         self.free, self.waiting, self.changed = free, {}, Condition()
@@ -349,7 +349,7 @@ class Lanes:
     def try_in_turn(self, room, crate, *how):
         """Tries the wrong bodies of a crate when it has its turn."""
         with self.changed:
-            self.waiting[crate] = (1 + len(below(crate))) * len(os.listdir(f"{CRATES}/{crate}/wrong"))
+            self.waiting[crate] = len(os.listdir(f"{CRATES}/{crate}/wrong"))
             self.changed.wait_for(lambda: self.free and crate == max(self.waiting, key=self.waiting.get))
             del self.waiting[crate]
             self.free -= 1
