@@ -92,7 +92,7 @@ built: proofs
 	MAKEFLAGS= nice make --no-print-directory -j $$(nproc) -O $(SCRIPTS)
 
 # The scripts over what is built; those that take longest come first.
-SCRIPTS := $(addprefix tests/,library.sh monitor.sh refusals.sh differential.py scripts.sh docs.sh package.sh work.sh program.sh \
+SCRIPTS := $(addprefix tests/,library.sh monitor.sh scripts.sh refusals.sh differential.py docs.sh package.sh work.sh program.sh \
   recipes.sh streams.py progress.py listings.sh)
 RDS := crates/rds/out/rds
 OVER = $(RDS)

@@ -204,14 +204,14 @@ fn rules_in_c(rules: &Rules) -> RdsRules
     }
 }
 
-/// How many of the last bytes of the stream are known.
+/// How many of the last bytes of a stream are known.
 fn kept_of(stream: &RdsStream) -> u64
     ensures { result ≡ min most_kept (stream.now.place / 8) }
 {
     MOST_KEPT.min(stream.place / 8)
 }
 
-/// The place of the first of these bytes.
+/// The place from which the bits of a stream are known.
 fn known_from(stream: &RdsStream) -> u64
     ensures { result ≡ stream.now.place - 8 * min most_kept (stream.now.place / 8) }
 {

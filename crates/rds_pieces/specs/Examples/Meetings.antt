@@ -28,9 +28,9 @@ abbrev pub cut_at_190 : RuleNumbers → ℕ → Type 0
 cut_at_190 rules = MeetAt b rules (Locked (lock_of 207 4 0 1)) Searching 190 312
 
 -- the guess acquires at that block, and both wait for the next block 1
-pub behind_207 : cut_at_190 (rules_of 2 3 10) 208
+pub at_208 : cut_at_190 (rules_of 2 3 10) 208
 unfolding acquired has_number group rem window touched heard offset_at
-behind_207 = record { inside = (leb-true 190 208 refl, leb-true 208 312 refl); same = refl; between = refl }
+at_208 = record { inside = (leb-true 190 208 refl, leb-true 208 312 refl); same = refl; between = refl }
 
 pub not_before : cut_at_190 (rules_of 2 3 10) 207 → ⊥
 unfolding acquired has_number group rem window touched heard offset_at
