@@ -56,10 +56,22 @@ if has c++; then
   tried 'C++ with the shared library' c++ -o "$work/layout" "$work/layout.o" "-L$library" -lrds "-Wl,-rpath,$library"
   tried 'a call from C++' "$work/layout"
 fi
+# the compiler warns of an error that a program does not look at
+for it in return ''; do
+  printf '#include <rds.h>\nint main(void) { uint16_t found; %s rds_remainder(0, &found); }\n' "$it" >"$work/looks.c"
+  "${CC:-cc}" -std=c11 "${strict[@]}" -c -o "$work/looks.o" "$work/looks.c" 2>/dev/null && echo "'$it' is taken"
+done >"$work/said"
+same 'an error that nobody looks at' "'return' is taken" "$(cat "$work/said")"
 declared=$(sed -n -e '/^static/d' -e 's/^[a-z0-9_ ]*[ *]\(rds_[a-z_]*\)(.*/\1/p' lib/rds.h | sort)
 same 'what librds.so.0 shows' "$declared" "$(nm -D --defined-only "$library/librds.so.0" | awk '$2 == "T" {sub("@.*", "", $3); print $3}' | sort)"
 same 'what librds.a shows' "$declared" "$(nm --defined-only -g "$library/librds.a" | awk 'NF == 3 {print $3}' | sort)"
 same 'what librds.a needs' 'free malloc memcpy memmove memset realloc' "$(nm -u "$library/librds.a" | awk 'NF == 2 {print $2}' | sort | tr '\n' ' ' | sed 's/ $//')"
+same 'where librds.so leads' librds.so.0 "$(readlink "$library/librds.so")"
+for it in librds.a librds.so.0; do
+  same "folders of this machine in $it" '' "$(strings "$library/$it" | grep -m 1 "^${TMPDIR:-/tmp}/")"
+done
+# an array of no values is handed on as this, which has the alignment of max_align_t
+same 'the size of none in lib/border.c' 0000000000000020 "$(nm -S "$library/librds.a" | awk '$4 == "none" {print $2}')"
 
 # Programs of version 0.2: compiled against its header, linked with a library that had its names and did nothing, run with this one.
 earlier=$work/earlier
@@ -100,6 +112,9 @@ if has cargo; then
   tried 'the crate for Rust, and its tests' cargo test --quiet --offline --manifest-path bindings/rust/Cargo.toml
   tried 'its documentation, without the library' env -u RDS_LIB_DIR PKG_CONFIG_LIBDIR=/ \
     cargo doc --quiet --offline --no-deps --manifest-path bindings/rust/Cargo.toml
+  # A folder that was named later counts, too.
+  same 'a folder without the library' "$work/librds.a is not there: \`make lib\` builds it" \
+    "$(RDS_LIB_DIR=$work cargo build --offline --manifest-path bindings/rust/Cargo.toml 2>&1 | grep -o '/[^ ]*librds.a is not there.*')"
   tried 'a relative RDS_LIB_DIR' sh -c 'cd "$1/.." && RDS_LIB_DIR=${1##*/} cargo build --quiet --offline --examples --manifest-path "$2"' \
     sh "$library" "$PWD/bindings/rust/Cargo.toml"
   tried 'programs in Rust' cargo build --quiet --offline --examples --manifest-path bindings/rust/Cargo.toml
@@ -135,6 +150,9 @@ if has pkg-config make; then
     read -ra found < <(PKG_CONFIG_ALLOW_SYSTEM_CFLAGS=1 PKG_CONFIG_ALLOW_SYSTEM_LIBS=1 pkg-config --cflags --libs rds)
     tried 'the program in C' "${CC:-cc}" -Wall -Wextra -Werror -o "$work/readme" "$work/readme.c" "${found[@]}"
     same 'what it says' "$wanted" "$(LD_LIBRARY_PATH=$work/root/usr/lib said "$work/readme")"
+    tried 'installing below /opt/rds' "${install[@]}" "DESTDIR=$work/other" PREFIX=/opt/rds
+    same 'its folders' '-I/opt/rds/include -L/opt/rds/lib -lrds' \
+      "$(PKG_CONFIG_SYSROOT_DIR='' PKG_CONFIG_PATH=$work/other/opt/rds/lib/pkgconfig pkg-config --cflags --libs rds | sed 's/ *$//')"
     for it in totals programmes; do
       tried "$it.c" "${CC:-cc}" -std=c11 -Wall -Wextra -Wpedantic -Werror -o "$work/$it" "bindings/c/$it.c" "${found[@]}"
     done
@@ -144,6 +162,30 @@ if has pkg-config make; then
     same 'programmes of a stream' \
       "$("$program" list <"$work/twice" | awk -F'[,:~]' '$1 == "group" && $5 == "A" && $6 != last {print last = $6}')" \
       "$(LD_LIBRARY_PATH=$work/root/usr/lib "$work/programmes" <"$work/twice")"
+    # Programmes change, one in a damaged block and one in a group that is cut off; a file is longer than the first room.
+    printf '%s 0548 E100 5041\n' 1234 1234 1234 5678 1234 9ABC | "$program" encode >"$work/three"
+    printf '\x60' | dd of="$work/three" bs=1 seek=40 conv=notrunc status=none
+    truncate -s 75 "$work/three"
+    same 'programmes that change' "1234
+5678
+1234
+9ABC" "$(LD_LIBRARY_PATH=$work/root/usr/lib "$work/programmes" <"$work/three")"
+    mkfifo "$work/slow"
+    LD_LIBRARY_PATH=$work/root/usr/lib timeout 60 "$work/programmes" <"$work/slow" >"$work/soon" &
+    exec {to_slow}>"$work/slow"
+    cat "$work/three" >&"$to_slow"
+    for ((tries = 0; tries < 100; tries++)); do
+      [ ! -s "$work/soon" ] || break
+      sleep 0.1
+    done
+    same 'a programme as soon as it is known' 1234 "$(head -n 1 "$work/soon")"
+    exec {to_slow}>&-
+    wait
+    for it in 1 2 3 4 5 6 7 8 9; do cat "$sample"; done >"$work/nine"
+    same 'totals of a long file' \
+      "$("$program" totals <"$work/nine" | awk -F, '{n[$2] = $3} END {printf "%d groups, %d of them complete; %d bits corrected", n["groups"], n["complete"], n["bits"]}')" \
+      "$(LD_LIBRARY_PATH=$work/root/usr/lib "$work/totals" "$work/nine")"
+    same 'totals of no file' 2 "$(LD_LIBRARY_PATH=$work/root/usr/lib "$work/totals" 2>"$work/said"; echo $?)"
   else
     echo 'skipped: what is installed, which is of build/lib'
   fi
@@ -175,6 +217,10 @@ if has cargo; then
   printf '[package]\nname = "readme"\nversion = "0.1.0"\nedition = "2021"\n[dependencies]\nrds = { path = "%s/bindings/rust" }\n' "$PWD" \
     >"$work/readme_rs/Cargo.toml"
   same 'the program in Rust' "$wanted" "$(said cargo run --quiet --offline --manifest-path "$work/readme_rs/Cargo.toml")"
+  if [ -d "$work/root" ]; then
+    same 'the program in Rust, by pkg-config' "$wanted" \
+      "$(LD_LIBRARY_PATH=$work/root/usr/lib said env -u RDS_LIB_DIR cargo run --quiet --offline --manifest-path "$work/readme_rs/Cargo.toml")"
+  fi
 fi
 
 # ---- what is declared, number by number and pointer by pointer

@@ -170,13 +170,30 @@ $libdir/pkgconfig/rds.pc" "$(files_there | grep -E "^($libdir|/usr/include)/")"
   fi
   if has cmake; then
     mkdir "$work/cmake" && cp "$work/readme.c" "$work/cmake/readme.c"
-    printf 'cmake_minimum_required(VERSION 3.16)\nproject(readme C)\nfind_package(rds 0.2 REQUIRED)\nadd_executable(readme readme.c)\n%s\n' \
-      'target_link_libraries(readme rds::static)' > "$work/cmake/CMakeLists.txt"
+    cat > "$work/cmake/CMakeLists.txt" << 'CMAKE'
+cmake_minimum_required(VERSION 3.16)
+project(readme C)
+set(folder "${rds_DIR}")
+foreach(other 0.1 0.3 1.0)
+  find_package(rds ${other} QUIET)
+  if(rds_FOUND)
+    message(FATAL_ERROR "found for ${other}")
+  endif()
+  set(rds_DIR "${folder}" CACHE PATH "" FORCE)
+endforeach()
+find_package(rds 0.2 REQUIRED)
+foreach(kind static rds)
+  add_executable(${kind} readme.c)
+  target_link_libraries(${kind} rds::${kind})
+endforeach()
+CMAKE
     # the files name where the library is once it is installed
     sed -i "s|\"/usr|\"$root/usr|" "$root$libdir/cmake/rds/rds-config.cmake"
     { cmake -S "$work/cmake" -B "$work/cmake/made" "-Drds_DIR=$root$libdir/cmake/rds" &&
       cmake --build "$work/cmake/made"; } > "$work/said" 2>&1 || cat "$work/said"
-    same 'a program by CMake' '7691 valid, 1923 groups' "$("$work/cmake/made/readme" < examples/station.bin)"
+    for it in static rds; do
+      same "a program by CMake, over rds::$it" '7691 valid, 1923 groups' "$("$work/cmake/made/$it" < examples/station.bin)"
+    done
   fi
   dpkg_there --force-depends --purge rds rds-monitor python3-librds librds-dev librds0-dbgsym librds0 || fail 'they are not removed'
   same 'what is left of them' '' "$(files_there)$(find "$root/usr" 2>/dev/null)"

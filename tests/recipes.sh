@@ -88,6 +88,13 @@ same 'what comes after a kill' "$complete"$'\n'"$(tail -c +10006 examples/statio
 printf 'a row\ncut o' | examples/rotate.sh "$work/cut_rows"
 same 'a row that was cut off' "$(printf 'a row\ncut o')" "$(cat "$work/cut_rows"/*Z.csv)"
 refused 'rotation without a folder' 2 'usage: rotate.sh [--by FORMAT] FOLDER < LISTING' examples/rotate.sh < /dev/null
+refused 'rotation with an option that it has not' 2 'usage: rotate.sh [--by FORMAT] FOLDER < LISTING' \
+  env -C "$work" "$PWD/examples/rotate.sh" -by < /dev/null
+mkdir "$work/clock"
+printf '#!/bin/sh\nexec %s -d "2026-11-24 15:30 UTC" "$@"\n' "$(command -v date)" > "$work/clock/date"
+chmod +x "$work/clock/date"
+echo 'a row' | TZ=XYZ-5:30 PATH=$work/clock:$PATH examples/rotate.sh "$work/hour"
+same 'a file by the hour in UTC' 2026-11-24T15Z.csv "$(ls "$work/hour")"
 refused 'rotation with a folder too many' 2 'usage: rotate.sh [--by FORMAT] FOLDER < LISTING' examples/rotate.sh a b < /dev/null
 mkdir "$work/full.d" && ln -s /dev/full "$work/full.d/full.csv"
 if station 2> /dev/null | examples/rotate.sh --by full "$work/full.d" 2> /dev/null; then fail 'rotation onto a full device'; else pass; fi
@@ -115,6 +122,9 @@ if has perl awk && has_numpy; then
   same 'what was made' 'bits 12824967 turned 12846 off_air_s 3600 4500 slip_s 5400 programme_s 7200 dropped 2510' \
     "$(examples/make_day.sh "$work/day.bin" | tr '\n' ' ' | sed 's/ $//')"
   fails 'a day by an encoder that fails' 'make_day: false encode failed' env RDS=false examples/make_day.sh "$work/none"
+  examples/make_day.sh "$work/seed_1" 0.1 > /dev/null
+  examples/make_day.sh "$work/seed_2" 0.1 2 > /dev/null
+  same 'another seed makes another day' 1 "$(cmp -s "$work/seed_1" "$work/seed_2"; echo $?)"
   same 'nothing is left of it' '' "$(find "$work" -name 'none*')"
   "$program" list < "$work/day.bin" > "$work/day.csv"
   day=$work/day.bin
@@ -160,6 +170,7 @@ if has perl awk && has_numpy; then
   fails 'no listing by a log of something else' 'gaps: "104 + 1" is not a start and a length' \
     eval 'gaps=$(examples/gaps.sh <<< "104 + 1") && "$program" list $gaps < examples/station.bin'
   same 'a log in any order' --gaps=5-6,104-115,120-130 "$(printf '120 10\n104 1\n\n110 5\n5 1\n105 7\n7 0\n' | examples/gaps.sh)"
+  same 'a gap inside another' --gaps=104-204,300-301 "$(printf '104 100\n110 5\n300 1\n' | examples/gaps.sh)"
   same 'nothing dropped' '' "$(examples/gaps.sh < /dev/null)"
   fails 'a log of something else' 'gaps: "104 + 1" is not a start and a length' examples/gaps.sh <<< '104 + 1'
 
@@ -170,6 +181,7 @@ if has perl awk && has_numpy; then
     printf '#!/bin/sh\nexec %s "$@"\n' "$awk" > "$work/awk/awk"
     chmod +x "$work/awk/awk"
     same "gaps by $awk" "$gaps" "$(PATH=$work/awk:$PATH examples/gaps.sh < "$work/day.bin.dropped")"
+    same "the last places by $awk" --gaps=68719476730-68719476736 "$(PATH=$work/awk:$PATH examples/gaps.sh <<< '68719476730 6')"
   done
 fi
 

@@ -2,12 +2,19 @@
 
 from __future__ import annotations
 
+import array
+import base64
+import email
+import hashlib
 import importlib
 import os
 import pickle
+import shutil
 import subprocess
 import sys
 import threading
+import typing
+import zipfile
 
 import numpy
 import pytest
@@ -233,3 +240,158 @@ def test_a_wheel_with_the_library(tmp_path, station: bytes) -> None:
         text=True,
     )
     assert other.returncode == 1 and "a wheel cannot need" in other.stderr
+
+
+# ---- calls that the table of tests/library does not have
+
+DENSE = librds.Rules(0, 8, 1)
+
+
+@pytest.fixture(scope="module")
+def dense() -> bytes:
+    """A recording with 24 items per 27 bytes: a push of it has more than its room."""
+    make = [sys.executable, str(TOP / "tests" / "worst_inputs.py"), "short_locks", "4000"]
+    return subprocess.run(make, capture_output=True, check=True).stdout
+
+
+def test_a_push_in_parts(dense: bytes, monkeypatch: pytest.MonkeyPatch) -> None:
+    whole = librds.items_array(dense, rules=DENSE)
+    assert len(whole) > 2 * (16 + len(dense) // 4)
+    by_items, by_rows = librds.Follower(DENSE), librds.Follower(DENSE)
+    items, rows = by_items.push(dense), by_rows.push_array(dense)
+    last, totals = by_rows.finish_array()
+    assert numpy.array_equal(numpy.concatenate([rows, last]), whole) and totals == librds.totals(dense, rules=DENSE)
+    assert items == list(librds.items(dense, rules=DENSE))[: len(rows)] and by_items.stream == by_rows.stream
+    # the memory for a second part is missing: the stream is as it was
+    before, real, calls = by_items.stream, librds._object_room, []
+
+    def once(count: int) -> tuple:
+        calls.append(count)
+        if len(calls) > 1:
+            raise MemoryError
+        return real(count)
+
+    monkeypatch.setattr(librds, "_object_room", once)
+    with pytest.raises(MemoryError):
+        by_items.push(dense)
+    assert len(calls) == 2 and by_items.stream == before
+
+
+def test_no_bytes_and_signed_bytes(station: bytes) -> None:
+    assert librds.Follower().push(b"") == [] and len(librds.Follower().push_array(b"")) == 0
+    for data in (array.array("b", station), numpy.frombuffer(station, "i1")):
+        assert librds.totals(data) == librds.totals(station)
+
+
+def test_a_follower_refuses_at_once(station: bytes) -> None:
+    by_other_rules = librds.Follower(librds.Rules(burst=1))
+    by_other_rules.push(station[:100])
+    stream = by_other_rules.stream
+    for call, number in (
+        (lambda: librds.Follower(librds.Rules(burst=6)), 1),
+        (lambda: librds.Follower(gaps=[(5, 5)]), 16),
+        (lambda: librds.Follower(stream=stream), 65),
+        (lambda: librds.items(b"", rules=librds.Rules(burst=6)), 1),
+    ):
+        with pytest.raises(librds.Refused) as error:
+            call()
+        assert error.value.number == number
+    for length in (255, 257):
+        with pytest.raises(ValueError, match="256 bytes"):
+            librds.Follower(stream=bytes(length))
+
+
+def test_a_follower_keeps_its_gaps_and_rules(station: bytes) -> None:
+    rules, gaps = librds.Rules(0, 2, 5, 20), [(104, 130), (90000, 90999)]
+    follower = librds.Follower(rules, iter(gaps))
+    items = follower.push(station[:9999])
+    again = pickle.loads(pickle.dumps(follower))
+    for it in (follower, again):
+        last, totals = it.finish_with(station[9999:])
+        assert items + last == list(librds.items(station, None, gaps, rules))
+        assert totals == librds.totals(station, None, gaps, rules)
+
+
+def test_words_of_0_and_the_default_limit() -> None:
+    group = [it for it in librds.items(librds.encode([(0, 0, 0, 0)] * 2)) if isinstance(it, librds.Group)][1]
+    assert group.words == (0, 0, 0, 0)
+    assert librds.correct(0x095_00C8 ^ 0x18, "A").kind == librds.Kind.CORRECTED
+    assert librds.correct(0x095_00C8 ^ 0x38, "A").kind == librds.Kind.LOST
+
+
+def test_names_and_texts_of_the_module() -> None:
+    """Names, kinds of values, and the examples in its texts."""
+    own = {name for name, it in vars(librds).items() if getattr(it, "__module__", "") == "librds" and name[0] != "_"}
+    assert set(librds.__all__) == {*own, "ITEM"} and len(librds.__all__) == len(own) + 1
+    assert issubclass(librds.Refused, ValueError)
+    assert len({librds.Rules(), librds.Rules(2), librds.Totals(0, (), 0, 0, 0, 0, 0, 0)}) == 2
+    with pytest.raises(AttributeError):
+        librds.Rules().burst = 3
+    assert {bytes, bytearray, memoryview} <= set(typing.get_args(librds.Buffer))
+    examples = [
+        line.strip()
+        for name in librds.__all__
+        for line in (getattr(librds, name).__doc__ or "").splitlines()
+        if line.strip().startswith("librds.") and " == " in line
+    ]
+    assert len(examples) == 3 and all(eval(it, {"librds": librds}) for it in examples), examples
+
+
+def test_which_library_comes_first(tmp_path) -> None:
+    """That of RDS_LIBRARY, the one beside the module, the system's, the linker's. None takes the place of a named one."""
+    path = os.path.realpath(os.environ["RDS_LIBRARY"])
+    package = tmp_path / "librds"
+    shutil.copytree(os.path.dirname(librds.__file__), package, ignore=shutil.ignore_patterns("__pycache__"))
+    environment = {key: value for key, value in os.environ.items() if key != "RDS_LIBRARY"}
+    environment["PYTHONPATH"] = str(tmp_path)
+
+    def loaded(first: str = "", **more: str) -> str:
+        code = f"import sys, ctypes.util; sys.path.insert(0, {str(tmp_path)!r}); {first}\nimport librds; print(librds._library._name)"
+        done = subprocess.run([sys.executable, "-c", code], env={**environment, **more}, capture_output=True, text=True)
+        return done.stdout.strip() or done.stderr
+
+    linker = f"ctypes.util.find_library = {{'rds': {path!r}}}.get"
+    assert "install librds" in loaded(linker, RDS_LIBRARY=str(tmp_path / "none"))
+    if "install librds" in loaded():  # else the system has one
+        assert loaded(linker) == path
+    own = package / "librds.so.0"
+    own.symlink_to(path)
+    assert loaded(LD_LIBRARY_PATH=os.path.dirname(path)) == str(own)
+    own.unlink()
+    own.write_bytes(b"no library")
+    assert loaded(RDS_LIBRARY=path) == path
+    later = "import librds._ffi as it; it.VERSION = (-1, 0, 0); it.load()"
+    done = subprocess.run([sys.executable, "-c", later], capture_output=True, text=True)
+    assert "but this module needs -1.0.0 or later" in done.stderr
+
+
+def test_files_and_sums_of_a_wheel(tmp_path) -> None:
+    """Its needs are those of pyproject.toml. A library of another processor has no wheel."""
+    folder = TOP / "bindings" / "python"
+    library = os.path.realpath(os.environ["RDS_LIBRARY"])
+    make = [sys.executable, folder / "make_wheel.py"]
+    path = subprocess.run([*make, library, tmp_path], capture_output=True, text=True, check=True).stdout.strip()
+    with zipfile.ZipFile(path) as wheel:
+        files = {name: wheel.read(name) for name in wheel.namelist()}
+    record = next(name for name in files if name.endswith("/RECORD"))
+    lines = [it.split(",") for it in files[record].decode().splitlines()]
+    assert {name for name, *_ in lines} == set(files)
+    for name, sum_of, length in lines:
+        if name != record:
+            wanted = base64.urlsafe_b64encode(hashlib.sha256(files[name]).digest()).rstrip(b"=").decode()
+            assert (sum_of, length) == (f"sha256={wanted}", str(len(files[name])))
+    assert {it for it in files if it.startswith("librds/")} == {
+        f"librds/{it}" for it in ("__init__.py", "_ffi.py", "py.typed", "librds.so.0")
+    }
+    project = (folder / "pyproject.toml").read_text()
+    says = email.message_from_bytes(files[record.replace("RECORD", "METADATA")])
+    assert f'requires-python = "{says["Requires-Python"]}"' in project and f'version = "{says["Version"]}"' in project
+    assert says.get_all("Requires-Dist") == ["numpy; extra == 'arrays'"] and 'arrays = ["numpy"]' in project
+    assert 'package-data = { librds = ["py.typed"] }' in project
+    other = tmp_path / "other.so"
+    data = bytearray(open(library, "rb").read())
+    data[18:20] = (243).to_bytes(2, "little")  # of RISC-V
+    other.write_bytes(data)
+    for it in (other, folder / "make_wheel.py"):
+        done = subprocess.run([*make, it, tmp_path], capture_output=True, text=True)
+        assert done.returncode == 1 and "no library of x86_64 or aarch64" in done.stderr

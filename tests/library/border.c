@@ -189,6 +189,7 @@ static void name_of_bad_pointer(void)
     see(is_small, &f, "a byte too little for a name", 0, 0);
     bool is_spelled = rds_refusal_name(RDS_BAD_POINTER, room, 11) == 0 && !strcmp((const char *)room, "BadPointer") && room[11] == 'x';
     see(is_spelled, &f, "just enough for a name", 0, 0);
+    see(rds_refusal_name(RDS_BAD_POINTER, NULL, sizeof room) == RDS_BAD_POINTER, &f, "NULL for the name of 70", 0, 0);
 }
 
 int main(void)

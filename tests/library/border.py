@@ -32,6 +32,9 @@ def write(path, text):
 
 # ---- the table
 
+# The highest bit of each type: a number that is handed on in fewer bits is another one.
+HIGHEST = {"uint8_t": 1 << 7, "uint32_t": 1 << 31, "uint64_t": 1 << 63}
+
 
 def functions_of(header):
     """Each function with its arguments: (declaration, type, whether it is a pointer, name)."""
@@ -65,8 +68,9 @@ def table_of(header):
                 given.append(f"call->count[{row}]")
                 noted.append(f"seen.with.count[{row}] = {argument};")
             else:
-                given.append(str(place))
-                noted.append(f"seen.has_scalars = seen.has_scalars && {argument} == {place};")
+                number = f"{place + HIGHEST[plain]}u"
+                given.append(number)
+                noted.append(f"seen.has_scalars = seen.has_scalars && {argument} == {number};")
         calls.append(
             f"static uint8_t call_{name}(const struct call *call) {{ return {name}({', '.join(given)}); }}\n"
             f"#ifdef STUBS\nuint8_t proved_{name}({', '.join(declared)});\nuint8_t proved_{name}({', '.join(declared)})\n"

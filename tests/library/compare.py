@@ -13,13 +13,20 @@ import sys
 from concurrent.futures import ThreadPoolExecutor
 
 TOP = os.path.dirname(os.path.dirname(os.path.dirname(os.path.abspath(__file__))))
-sys.path.insert(0, f"{TOP}/bindings/python")
+sys.path[:0] = [f"{TOP}/bindings/python", f"{TOP}/tests"]
 
 import librds  # noqa: E402
+import worst_inputs  # noqa: E402
+
+RING = worst_inputs.ring_of(worst_inputs.short_locks)
 
 
 def recording(r, sample):
     """Bytes, bits, gaps and rules."""
+    if r.random() < 0.05:
+        # more items than there is room for, so that a chunk is taken in parts
+        data = RING * r.randrange(1, 100)
+        return data, 8 * len(data) - r.randrange(9), [], librds.Rules(0, 8, 1)
     start = r.randrange(len(sample))
     data = bytearray(sample[start : start + r.choice([0, 1, 30, 500, 3000])])
     if r.random() < 0.1:

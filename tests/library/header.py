@@ -17,7 +17,9 @@ import sys
 
 sys.path.insert(0, os.path.dirname(os.path.abspath(__file__)))
 
-from layout import TOP, layout_of, listed, of_crates, of_header_text, refusals_of_crate, text_of, without_comments, words  # noqa: E402
+from layout import (  # noqa: E402
+    BAD_POINTER, TOP, allocating, layout_of, listed, names_of_header, of_crates, of_header_text, refusals_of_crate, text_of, without_comments, words,
+)
 
 SAID = {}
 
@@ -109,7 +111,9 @@ def compare_versions(faults, text, library, program):
     packed = parts[0] << 16 | parts[1] << 8 | parts[2]
     faults.same("RDS_VERSION", packed, int(re.search(r"#define RDS_VERSION (0x\d+)", text)[1], 16))
     faults.same("rds_version", packed, ctypes.CDLL(f"{library}/librds.so.0").rds_version())
-    for path, pattern in (("lib/rds.pc.in", r"^Version: (.*)$"), ("bindings/rust/Cargo.toml", r'^version = "(.*)"$'),
+    for path, pattern in (("lib/rds.pc.in", r"^Version: (.*)$"), ("lib/rds-config.cmake.in", r"^set\(rds_VERSION (.*)\)$"),
+                          ("lib/rds-config-version.cmake", r"^set\(PACKAGE_VERSION (.*)\)$"),
+                          ("bindings/rust/Cargo.toml", r'^version = "(.*)"$'),
                           ("bindings/python/pyproject.toml", r'^version = "(.*)"$')):
         faults.same(f"{path}, version", parts, three_of(re.search(pattern, text_of(f"{TOP}/{path}"), re.M)[1]))
     nodes = dict(re.findall(r"^RDS_([\d.]+) \{\s*global:(.*?)(?:local:|\})", text_of(f"{TOP}/lib/rds.map"), re.M | re.S))
@@ -211,11 +215,12 @@ def facts(structs, reasons):
 def refusal_lists():
     """The order of errors at each function, as rds_abi's docs have it too."""
     yield "rds_totals", [71, 1, 2, 3, 15, 5, 4, 16, 8]
-    yield "rds_items", [64]
-    yield "rds_run", [66, 65, 64]
+    yield "rds_items", ["rds_totals", 64]
+    yield "rds_run", ["rds_totals", 66, 65, 64]
+    yield "rds_finish_run", ["rds_run"]
     yield "rds_push", [71, 1, 2, 3, 15, 16, 65, 5, 64, 8]
-    yield "rds_finish", [5]
-    yield "rds_finish_with", [4, 5]
+    yield "rds_finish", ["rds_push", "except", 5]
+    yield "rds_finish_with", ["rds_push", 4, "after", 5]
     yield "rds_remainder", [67]
     yield "rds_correct", [67, 68, 1, 8]
     yield "rds_encode", [64]
@@ -235,7 +240,8 @@ def compare_comments(faults, text, structs):
     functions = re.findall(r"/\*((?:(?!\*/).)*)\*/\s*(?:RDS_MUST_USE\s+)?\w+ (rds_\w+)\(", text, re.S)
     lists = {name: re.sub(r"\s*\n \* ?", " ", comment).partition(" Errors")[2] for comment, name in functions}
     numbers_of = definitions()
-    got = {name: [numbers_of.get(it) for it in re.findall(r"\bRDS_\w+", text)] for name, text in lists.items()}
+    said = r"\b(?:RDS_\w+|rds_\w+|before|after|except)\b"
+    got = {name: [numbers_of.get(it, it) for it in re.findall(said, text)] for name, text in lists.items()}
     wanted = dict(refusal_lists())
     for name, numbers in wanted.items():
         faults.same(f"errors of {name}", numbers, got.get(name))
@@ -252,6 +258,38 @@ def compare_comments(faults, text, structs):
         faults.append(f"a number that nothing here names: {left}")
 
 
+def compare_names(faults, text):
+    """What comments name is declared: functions, types, enumerators, macros and parameters; and what calls malloc is what may."""
+    comments, rest = " ".join(re.findall(r"/\*.*?\*/", text, re.S)), without_comments(text)
+    known = {*re.findall(r"\brds_\w+|\bRDS_\w+", rest)}
+    faults.extend(f"a comment names {it}" for it in sorted({*re.findall(r"\brds_\w+|\bRDS_\w+", comments)} - known))
+    names = names_of_header(text)
+    for comment, name in re.findall(r"/\*((?:(?!\*/).)*)\*/\s*(?:RDS_MUST_USE\s+)?\w+ (rds_\w+)\(", text, re.S):
+        said = [it for row in re.findall(r"^ \*   (\w+(?:, \w+)*)  ", comment, re.M) for it in row.split(", ")]
+        faults.extend(f"{name} has no parameter {it}" for it in said if it not in names[name])
+    enums = [re.findall(r"RDS_\w+", body) for body in re.findall(r"enum \{(.*?)\}", rest, re.S)]
+    for field, first in (("kind", "RDS_MISSING"), ("offset", "RDS_A"), ("what", "RDS_ACQUIRED"), ("version", "RDS_VERSION_A")):
+        comment = re.search(rf"uint8_t {field}; +/\*(.*?)\*/", text)[1]
+        wanted = [it for enum in enums if enum[0] == first for it in enum if it != "RDS_C_OR_CX"]
+        faults.same(f"what {field} may be", wanted, re.findall(r"RDS_\w+", comment))
+    for name, number in (("BITS_PAST_BYTES", 4), ("TOO_LONG", 5), ("BLOCK_RANGE", 67)):
+        said = re.search(rf"RDS_{name} = \d+, +/\* (.*?) \*/", text)[1]
+        faults.same(f"what is said of RDS_{name}", refusals_of_crate()[number][1], said)
+    callers = re.search(r"\bOnly ([\w\s,*]+) call malloc", comments)
+    faults.same("what calls malloc", allocating(), {*re.findall(r"rds_\w+", callers[1])} if callers else None)
+    must_use = {*re.findall(r"^RDS_MUST_USE\nuint8_t (rds_\w+)\(", rest, re.M)}
+    faults.same("results that must be used", {it for it in names if it not in ("rds_refusal_name", "rds_version")}, must_use)
+
+
+def compare_reasons(faults, library):
+    """What the library says of each number."""
+    reason = ctypes.CDLL(f"{library}/librds.so.0").rds_refusal_reason
+    reason.restype = ctypes.c_char_p
+    reasons = {number: said for number, (_, said) in refusals_of_crate().items()} | {70: BAD_POINTER}
+    for number in range(256):
+        faults.same(f"the reason of {number}", reasons.get(number, "unknown"), reason(number).decode())
+
+
 def faults_of(text, library, program):
     """What is wrong with a header of this text."""
     faults = Faults()
@@ -262,6 +300,7 @@ def faults_of(text, library, program):
         compare_macros(faults, text, program)
         compare_versions(faults, text, library, program)
         compare_comments(faults, text, structs)
+        compare_names(faults, text)
         compare_with_earlier(faults, text)
     return faults
 
@@ -270,6 +309,7 @@ def main():
     library, program = sys.argv[1:]
     text = text_of(f"{TOP}/lib/rds.h")
     faults = faults_of(text, library, program)
+    compare_reasons(faults, library)
     print("\n".join(faults) or f"{len(definitions())} enumerators, as they are defined")
     numbers = list(re.finditer(r"(?<![\w])(?:0x)?\d+\b", text))
     changed = (f"{text[: it.start()]}{it[0]}1{text[it.end() :]}" for it in numbers)

@@ -77,6 +77,12 @@ def of_header_text(text):
     return structs, functions
 
 
+def names_of_header(text):
+    """The names of each function's parameters."""
+    found = re.findall(r"^\w+ (rds_\w+)\(([^;]*?)\);", without_comments(text), re.S | re.M)
+    return {name: [re.search(r"\w+$", it)[0] for it in listed(given) if it != "void"] for name, given in found}
+
+
 # ---- Rattle and Rust
 
 def structs_of_rust(text):
@@ -108,12 +114,35 @@ def arguments_of_rattle(text):
     return found
 
 
+def source_of(crate):
+    return "\n".join(without_comments(text_of(it)) for it in sorted(glob(f"{TOP}/crates/{crate}/src/*.rt")))
+
+
+def exported_functions():
+    return re.findall(r'pub extern "C" fn (\w+)\((.*?)\)(?: -> (\w+))?', source_of("rds_c"), re.S)
+
+
+@functools.cache
+def names_of_crates():
+    """The names of each function's parameters, and of a slice that of its length too."""
+    names = {}
+    for function, given, _ in exported_functions():
+        parts = [it.split(": ", 1) for it in listed(given)]
+        rows = [[name, f"{name}_len"] if "[" in kind else [name] for name, kind in parts if kind != "Global"]
+        names[function] = [name for row in rows for name in row]
+    return names
+
+
+@functools.cache
+def allocating():
+    """The functions that may ask for memory."""
+    return {name for name, given, _ in exported_functions() if "Global" in given}
+
+
 @functools.cache
 def of_crates():
-    read = lambda crate: "\n".join(without_comments(text_of(it)) for it in sorted(glob(f"{TOP}/crates/{crate}/src/*.rt")))
-    exported = re.findall(r'pub extern "C" fn (\w+)\((.*?)\)(?: -> (\w+))?', read("rds_c"), re.S)
-    functions = {name: (result or "()", arguments_of_rattle(given)) for name, given, result in exported}
-    return spaced(structs_of_rust(read("rds_abi"))), functions
+    functions = {name: (result or "()", arguments_of_rattle(given)) for name, given, result in exported_functions()}
+    return spaced(structs_of_rust(source_of("rds_abi"))), functions
 
 
 def of_rust():
@@ -223,8 +252,10 @@ def main():
     wrong += [f"bindings/python: struct {it}" for it in {*structs, *their_structs} if structs.get(it) != their_structs.get(it)]
     wrong += [f"bindings/python: {it}" for it in {*mine, *their_functions} if mine.get(it) != their_functions.get(it)]
     wrong += wrong_refusals(header)
+    names, their_names = names_of_header(text_of(header)), names_of_crates()
+    wrong += [f"rds_c: the names of {it}'s parameters" for it in {*names, *their_names} if names.get(it) != their_names.get(it)]
     with open(f"{folder}/layout.c", "w", encoding="utf-8") as it:
-        print('#include "rds.h"\n#ifdef __cplusplus\n#define HOLDS static_assert\n#else\n#define HOLDS _Static_assert\n#endif', file=it)
+        print('#include "rds.h"\n#include "rds.h"\n#ifdef __cplusplus\n#define HOLDS static_assert\n#else\n#define HOLDS _Static_assert\n#endif', file=it)
         for test, what in assertions(structs):
             print(f'HOLDS({test}, "{what}");', file=it)
         print("int main(void) { return rds_version() != RDS_VERSION; }", file=it)

@@ -1,0 +1,75 @@
+//! Calls that the table of tests/library does not have: texts of errors, methods of items, `resume`, `read`.
+
+use rds::{Block, Follower, Item, LossRule, ReadError, Recording, Refused, Rules};
+use std::error::Error;
+use std::fmt::Write;
+
+const GROUP: [u16; 4] = [0xD393, 0x0548, 0xE100, 0x5041];
+
+/// Encoded groups, of which the block that ends at each 520th bit has a burst of two bits.
+fn damaged() -> Vec<u8> {
+    let mut bytes = rds::encode(&[GROUP; 50]).unwrap();
+    bytes.iter_mut().skip(60).step_by(65).for_each(|byte| *byte ^= 0x18);
+    bytes
+}
+
+fn refused(number: u8) -> Refused {
+    let rules = Rules::default();
+    let found = match number {
+        5 => rds::totals(&Recording { bits: (1 << 36) + 1, ..Recording::of(&[]) }, &rules).err(),
+        15 => rds::totals(&Recording::of(&[]), &Rules { loss: LossRule::Share { bad: 10, of: 0 }, ..rules }).err(),
+        _ => Follower::new(&rules, &[5..5]).err(),
+    };
+    found.expect("it is refused")
+}
+
+#[test]
+fn errors_are_told() {
+    assert_eq!(refused(5).to_string(), "refused 5 TooLong: more than 2^36 bits");
+    assert_eq!(refused(15).to_string(), "refused 15 ShareRange: the share is not 1 to 64 bad blocks of as many or more, up to 64");
+    assert_eq!(refused(16).to_string(), "refused 16 BadGaps: gaps that are empty, out of order or past the bits");
+    let read = ReadError::from(refused(16));
+    assert_eq!(read.to_string(), refused(16).to_string());
+    assert_eq!(read.source().map(|it| it.to_string()), Some(refused(16).to_string()));
+}
+
+#[test]
+fn a_stream_by_other_rules_is_refused_at_once() {
+    let mut follower = Follower::new(&Rules { burst: 1, ..Rules::default() }, &[]).unwrap();
+    follower.push(&damaged()).unwrap();
+    assert_eq!(Follower::resume(&Rules::default(), &[], *follower.stream()).unwrap_err().number, 65);
+    assert_eq!(Follower::new(&Rules { burst: 6, ..Rules::default() }, &[]).unwrap_err().number, 1);
+}
+
+#[test]
+fn items_tell_their_place_and_words() {
+    let bytes = damaged();
+    let items: Vec<Item> = rds::items(&Recording::of(&bytes), &Rules::default()).unwrap().collect();
+    assert_eq!(items.iter().take(3).map(Item::place).collect::<Vec<_>>(), [51, 26, 104]);
+    let groups = items.iter().filter_map(|it| if let Item::Group(group) = it { Some(group) } else { None });
+    let corrected = groups.filter(|it| it.blocks.iter().any(|block| matches!(block, Block::Corrected { .. })));
+    assert!(corrected.map(|it| assert_eq!(it.words(), GROUP.map(Some))).count() > 0);
+    let noise = rds::items(&Recording::of(&[&bytes[..], &[0x55; 200]].concat()), &Rules::default()).unwrap().last();
+    assert!(matches!(noise, Some(Item::Loss { place }) if noise.unwrap().place() == place));
+}
+
+#[test]
+fn read_takes_rules_and_gaps() {
+    let bytes = damaged();
+    let (rules, gaps) = (Rules { burst: 0, ..Rules::default() }, vec![104..130, 1000..1001]);
+    let recording = Recording { gaps: gaps.clone(), ..Recording::of(&bytes) };
+    let mut items = rds::read(&bytes[..], &rules, &gaps).unwrap();
+    let read: Vec<Item> = items.by_ref().map(Result::unwrap).collect();
+    assert_eq!(read, rds::items(&recording, &rules).unwrap().collect::<Vec<_>>());
+    assert_eq!(items.totals().unwrap(), rds::totals(&recording, &rules).unwrap());
+}
+
+#[test]
+fn a_follower_can_be_cloned_and_sent() {
+    fn is<T: Clone + Send + Sync + std::fmt::Debug>(_: &T) {}
+    let follower = Follower::new(&Rules::default(), &[]).unwrap();
+    is(&follower);
+    let mut text = String::new();
+    write!(text, "{follower:?}").unwrap();
+    assert!(std::thread::spawn(move || follower.place()).join().unwrap() == 0 && text.starts_with("Follower"));
+}
