@@ -144,8 +144,11 @@ beside() {
         ((spent > least_of_these)) || least_of_these=$spent
         ((attempt < 3 || least_of_these > times * least_of_those)) || break
     done
-    if ((least_of_these > times * least_of_those)); then
-        text="${these[*]} of $input into $reader"
+    text="${these[*]} of $input into $reader"
+    # the first value is left of a job that was refused, or wrote nothing
+    if ((least_of_these == 60000 || least_of_those == 60000)); then
+        fail "${text:0:200}, or what it is compared with: not done"
+    elif ((least_of_these > times * least_of_those)); then
         fail "${text:0:200}: $least_of_these ms of a processor, and not $times times $least_of_those ($attempt attempts)"
     else
         pass

@@ -100,6 +100,12 @@ dpkg_there() {
     > "$work/said" 2>&1 || { cat "$work/said"; return 1; }
 }
 
+# differing: the installed files that are missing, or other than they were
+differing() { dpkg --root="$root" --verify 2> /dev/null; }
+
+# said_by_lintian WORD..: its errors and warnings
+said_by_lintian() { lintian --allow-root --tag-display-limit 0 "$@" 2>&1 | grep '^[EW]:'; }
+
 # files_there: the files in the root folder but for dpkg's own
 files_there() { (cd "$root" && find . -path ./var/lib/dpkg -prune -o ! -type d -print | sed 's/^\.//' | sort); }
 
@@ -118,8 +124,9 @@ if has dpkg dpkg-architecture dpkg-deb dpkg-shlibdeps readelf strip lintian "${a
   expected+=(python3-librds:all rds-monitor:all rds:amd64)
   same 'their names' "$(for it in "${expected[@]}"; do echo "$work/a folder/${it%:*}_${version}_${it#*:}.deb"; done)" \
     "$(printf '%s\n' "${packages[@]}")"
-  same 'errors and warnings of lintian' '' \
-    "$(lintian --allow-root --suppress-tags "$left_to_the_archive" --tag-display-limit 0 "${packages[@]}" 2>&1 | grep '^[EW]:')"
+  same 'errors and warnings of lintian' '' "$(said_by_lintian --suppress-tags "$left_to_the_archive" "${packages[@]}")"
+  same 'a warning of lintian' "${left_to_the_archive%,*}" \
+    "$(said_by_lintian "${packages[-1]}" | grep -o "${left_to_the_archive%,*}" | uniq)"
   cksum "${packages[@]}" > "$work/first"
   packaging/make_deb.sh "$built" "$library" "$work/a folder" "${for_arm64[@]}" > /dev/null
   same 'the same again' "$(cat "$work/first")" "$(cksum "${packages[@]}")"
@@ -132,7 +139,9 @@ if has dpkg dpkg-architecture dpkg-deb dpkg-shlibdeps readelf strip lintian "${a
   dpkg_there --force-depends --install "${here_installed[@]}" 2> /dev/null || fail 'they are not installed'
   same 'the installed files' "$(for it in "${here_installed[@]}"; do files_of "$it"; done | sort)" "$(files_there)"
   same 'the service is there, and off' /usr/lib/systemd/system/rds-monitor-watch.service "$(files_there | grep -F rds-monitor-watch.service)"
-  same 'nothing is missing or other than it was' '' "$(dpkg --root="$root" --verify 2> /dev/null)"
+  same 'nothing is missing or other than it was' '' "$(differing)"
+  echo >> "$root/usr/share/rds/examples/gaps.sh"
+  same 'a file with a byte more' /usr/share/rds/examples/gaps.sh "$(differing | grep -o '/.*')"
   same 'the installed program' "$(station | cksum)" \
     "$("$root/usr/bin/rds" list < "$root/usr/share/rds/examples/station.bin" | cksum)"
   same 'the installed manual page' "$(cksum < rds.1)" "$(gzip -dc "$root/usr/share/man/man1/rds.1.gz" | cksum)"

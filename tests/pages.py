@@ -212,8 +212,16 @@ def compare_tests():
     same("docs/TESTING.md, minutes of a script", count_in(r"timeout (\d+) \$@", makefile), str(60 * minutes))
     sums = len(read("tests/listings.sums").splitlines())
     same("docs/TESTING.md, sums of listings.sh", str(sums), str(count_in(r"compares the sums of ([\d,]+) texts", page)))
+    jobs = len(re.findall(r"^[^#]", read("tests/work.bounds"), re.M))
+    same("docs/TESTING.md, jobs of work.sh", str(jobs), str(count_in(r"`tests/work.sh` runs (\d+) jobs", page)))
     jobs = len(re.findall(r"^(?:job|all_of) ", read("tests/refusals.sh"), re.M))
     same("docs/TESTING.md, jobs of refusals.sh", str(jobs), str(count_in(r"start of a thread of (\d+) jobs", page)))
+    # each job that is compared with another, and its bound
+    table, growth = between(read("docs/TESTING.md"), "\n| Job | At most | Beside |\n", "\n\n"), read("tests/growth.sh")
+    rows = re.findall(r"^\| (.*?) \| (\d+) times \|", table, re.M)
+    told = {f"{job} {times}" for text, times in rows for job in re.findall(r"(?:`|rds_)(\w+)", text)}
+    calls = re.findall(r'\bbeside (\d+) \w+ \S+ "\$(?:rds|work/(\w+))"(?: (\w+))?', growth)
+    same("docs/TESTING.md, ratios of growth.sh", {f"{program or command} {times}" for times, program, command in calls}, told)
 
 
 # A path in backquotes, or the name of a file; and names of functions, types or constants in a row.

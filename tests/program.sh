@@ -43,6 +43,10 @@ matches() {
     esac
 }
 
+# A text that is not there does not match.
+echo 'a text' >"$work/out"
+if matches '*another text' "$work/out" || matches 'a' "$work/out"; then fail 'a text matches another'; else pass; fi
+
 # help_begins LINE [COMMAND]: the first line of the program's help, or of a command's, by who reads all of it
 help_begins() {
     local line=$1

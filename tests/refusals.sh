@@ -158,14 +158,21 @@ program=$bench
 is_refusal() { [ "$1" = 1 ] && [ -s "$work/err" ]; }
 timeout "$LIMIT" "$program" --calls >"$work/wanted" || exit 1
 [ -s "$work/wanted" ] || fail 'rds_bench --calls prints nothing'
+of_jobs=${tried[alloc]}
 each alloc --calls
 
+# each call is refused alone, and with all after it
+refused=$((passed + failed)) calls=0
+[ "${tried[alloc]}" -gt "$of_jobs" ] || fail 'rds_bench --calls makes no call'
 for call in "${!tried[@]}"; do
+    calls=$((calls + tried[$call]))
     if [ "${tried[$call]}" = 0 ]; then
         fail "no job makes a call of the kind $call"
     fi
 done
-
+if [ $refused != $((2 * calls)) ]; then
+    fail "$refused of $((2 * calls)) refusals were tried"
+fi
 if [ "$rows" != 6 ]; then
     fail "the jobs start $rows threads for rows, and not 6"
 fi

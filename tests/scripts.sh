@@ -7,7 +7,7 @@
 # is called without a program, and those that read a table with an empty one, and with one whose last line is cut off, missing,
 # or there twice. So is wrong_bodies.py.
 # Each script is called over programs that are wrong, up to its first failure, and has to count that; wrong_bodies.py over an edit
-# that nothing refuses; and `make proofs` over a toolchain that fails.
+# that nothing refuses; `make proofs` over a toolchain that fails; and `make test` over scripts that do nothing, one of which fails.
 # The last line is 'N passed, M failed', and the exit status says whether all passed.
 
 usage='usage: tests/scripts.sh PATH-TO-RDS LIBRARY-FOLDER'
@@ -42,6 +42,14 @@ put_links() {
         ln -s "$(PATH=$all_tools type -P "$tool")" "$folder/$tool" || exit 1
     done
 }
+
+# ---- common.sh
+
+# by_common TEXT: how a script ends that sources common.sh and has this text
+by_common() { PATH=$all_tools bash -c "usage=; . '$here/common.sh' && $1" >"$work/out" 2>&1; }
+if by_common 'pass && finish'; then pass; else fail 'a script that passes ends otherwise'; fi
+if by_common finish; then fail 'a script that tries nothing passes'; else pass; fi
+if by_common 'false | true'; then fail 'a status is lost in a pipe'; else pass; fi
 
 # ---- tools that are missing
 
@@ -91,6 +99,14 @@ for words in "recipes $rds" "library $work $rds" "package $rds $work" "scripts $
     refused "${words[0]}.sh without a tool of all" "${words[0]}.sh: there is no '" "$work/few" \
         "$bash" "$here/${words[0]}.sh" "${words[@]:1}"
     refused "${words[0]}.sh without a program" 'usage: tests/' "$all_tools" bash "$here/${words[0]}.sh"
+done
+
+# Where a tool is missing its tests are skipped, so a misspelt one would skip them everywhere: .ci/run names each but these.
+others=' dpkg-architecture dpkg-deb readelf strip objdump qemu-x86_64 '
+mapfile -t tools < <(sed -nE 's/^ *if has ([a-z0-9_+ -]+).*/\1/p' "$here"/{recipes,package,library,monitor}.sh | grep -oE '[^ ]+')
+[ ${#tools[@]} -gt 20 ] || fail 'the tools of the skipped tests are not to be found'
+for tool in "${tools[@]}"; do
+    if [[ $others == *" $tool "* ]] || grep -qwF -e "$tool" "$here/../.ci/run"; then pass; else fail "$tool: .ci/run does not name it"; fi
 done
 
 # ---- tables that are not whole
@@ -190,6 +206,14 @@ for row in 'docs silent misprinting' 'program silent one_byte_short content othe
         notices "${row%% *}.sh" "$program" bash "$here/${row%% *}.sh" "$work/$program"
     done
 done
+# without UNTIL_FAILURE growth.sh has two lanes, and adds up their failures
+if PATH=$all_tools timeout 300 "$here/growth.sh" "$work/silent" >"$work/out" 2>&1; then
+    fail 'both lanes of growth.sh over the program that is silent: status 0'
+elif tail -n 1 "$work/out" | grep -qxE '0 passed, [1-9][0-9]* failed'; then
+    pass
+else
+    fail "both lanes of growth.sh over the program that is silent: $(tail -n 1 "$work/out")"
+fi
 # gives_up SCRIPT WORDS..: it ends in another status than 0, though each call of the program hangs
 gives_up() {
     local status
@@ -209,6 +233,30 @@ gives_up streams.py "$work/hanging" 1 4
 for program in silent one_byte_short other_rules; do
     notices differential.py $program "$here/differential.py" "$work/$program" 1 3
     notices streams.py $program "$here/streams.py" "$work/$program" 1 30
+done
+# wrong in one job alone, or in one way
+wrong crew_differs <<<'[[ " $* " == *" --workers 1 "* || "$*" != *--workers* ]] && exec "$rds" "$@"; "$rds" "$@" | head -c -1'
+wrong noisy <<<'echo a word >&2; exec "$rds" "$@"'
+wrong encode_short <<<'[ "$1" = encode ] || exec "$rds" "$@"; "$rds" "$@" | head -c -1; exit "${PIPESTATUS[0]}"'
+wrong takes_any_line <<<'[ "$1" != encode ] || { "$rds" "$@"; exit 0; }; exec "$rds" "$@"'
+notices listings.sh crew_differs bash "$here/listings.sh" "$work/crew_differs"
+notices program.sh noisy bash "$here/program.sh" "$work/noisy"
+notices streams.py noisy "$here/streams.py" "$work/noisy" 1 4
+notices differential.py noisy "$here/differential.py" "$work/noisy" 1 1
+notices differential.py encode_short "$here/differential.py" "$work/encode_short" 3 3
+notices differential.py takes_any_line "$here/differential.py" "$work/takes_any_line" 1 1
+# seeds differ: over the program that is wrong by some rules, some streams fail and some do not
+PATH=$all_tools "$here/streams.py" "$work/other_rules" 1 30 </dev/null >"$work/out" 2>&1
+said=$(tail -n 1 "$work/out")
+if [[ $said =~ ^[1-9][0-9]*\ passed,\ [1-9] ]]; then pass; else fail "streams.py by other rules: $said"; fi
+# two seconds too many are left, of bits or of pieces
+for kind in bits pieces; do
+    wrong "later_by_$kind" <<END
+exec "\$rds" "\$@" 2> >(exec python3 -c 'import os, re
+while said := os.read(0, 4096):
+    os.write(2, re.sub(rb"(?<=$kind, )\d+(?= s left)", lambda left: b"%d" % (int(left[0]) + 2), said))')
+END
+    notices progress.py "later_by_$kind" "$here/progress.py" "$work/later_by_$kind"
 done
 wrong no_progress <<<'"$rds" "$@" 2>/dev/null'
 notices progress.py no_progress "$here/progress.py" "$work/no_progress"
@@ -238,10 +286,12 @@ for part in src specs proofs; do
     cp -r "$here/../crates/rds_code/$part" "$work/copy/crates/rds_code" || exit 1
 done
 rm "$work"/copy/crates/rds_code/wrong/*
+# the goals of another edit of the same file must not count for this one
+cp "$here/../crates/rds_code/wrong/no_block_behind_the_fourth.edit" "$work/copy/crates/rds_code/wrong" || exit 1
 cat >"$work/copy/crates/rds_code/wrong/nothing_is_changed.edit" <<'END'
-file: src/remainder.rt
-old:     low ^ of_middle(middle) ^ of_high(high)
-new:     low ^ of_middle(middle) ^ of_high(high) // the same
+file: src/block_number.rt
+old: 1..=4 => Some(BlockNumber { number }),
+new: 1..=4 => Some(BlockNumber { number }), // the same
 END
 sed '/^rds_code/d' "$told" >"$work/copy/tests/wrong_bodies.answers"
 # failing NAME TEXT COMMAND..: the command ends in another status than 0, with TEXT in what it writes
@@ -255,11 +305,47 @@ failing() {
         tail -n 5 "$work/out"
     fi
 }
-failing 'wrong_bodies.py over an edit that changes nothing' 'rds_code/nothing_is_changed.edit: NOT REFUSED' \
+failing 'wrong_bodies.py over an edit that changes nothing' '1 as they must be, 1 not: rds_code/nothing_is_changed.edit' \
     python3 "$work/copy/tests/wrong_bodies.py" rds_code
+mkdir "$work/copy/crates/rds_code/must-fail"
+printf '%s\n' 'file: src/remainder.rt' 'old: a text that is nowhere' 'new: another' >"$work/copy/crates/rds_code/must-fail/none.edit"
+failing 'wrong_bodies.py over an edit that cannot be made' 'the text stands 0 times' python3 "$work/copy/tests/wrong_bodies.py" none
+(cd "$here/.." && cp --parents crates/*/src/lib.rt "$work/copy") || exit 1
+failing 'front_pages.py over libraries that are not built' 'the examples do not compile' python3 "$work/copy/tests/front_pages.py"
 wrong failing_rt <<<'echo "rt: rds_code NOT PROVED"; exit 1'
 failing 'make proofs over a toolchain that fails' 'rt: rds_code NOT PROVED' \
     make -C "$work/copy" "RT=$work/failing_rt" proofs
 if grep -qx 'proofs: ended' "$work/copy/build/proofs.log"; then pass; else fail 'the log of proofs that fail has no end'; fi
+
+# ---- the gate, of scripts that do nothing, one of which fails
+
+gate=$work/gate
+mkdir -p "$gate"/{tests,lib,.ci,build,tools} && cp "$here/../Makefile" "$gate" && cp "$here/../.ci/run" "$gate/.ci" || exit 1
+: >"$gate/crates.txt"
+# each notes its words, and fails if $FAILING is its name
+cat >"$work/stub" <<'END'
+#!/bin/sh
+echo "${0##*/} $*" >>called
+[ "${0##*/}" != "$FAILING" ]
+END
+chmod +x "$work/stub" || exit 1
+beside=(growth.sh wrong_bodies.py front_pages.py)
+for it in "${scripts[@]/#/tests/}" "${beside[@]/#/tests/}" lib/{archive.py,make_library.sh} tools/{rt,git,apt-get}; do
+    cp "$work/stub" "$gate/$it" || exit 1
+done
+# gated NAME COMMAND..: the command in that gate, where the script of this name fails
+gated() { (cd "$gate" && MAKEFLAGS='' FAILING=$1 PATH=$gate/tools:$all_tools timeout 60 "${@:2}" >said 2>&1); }
+if gated '' make test RT=rt; then pass; else fail "make test over scripts that pass: $(tail -n 3 "$gate/said")"; fi
+# each has all words that its usage names
+for it in growth:3 library:3 package:3 refusals:2 monitor:2 scripts:2; do
+    read -ra given < <(sed -n "s/^${it%:*}\.sh //p" "$gate/called")
+    if [ ${#given[@]} = "${it#*:}" ]; then pass; else fail "make test calls ${it%:*}.sh with the words '${given[*]}'"; fi
+done
+for it in "${scripts[@]}" "${beside[@]}" archive.py make_library.sh rt; do
+    if gated "$it" make test RT=rt; then fail "make test passes, though $it fails"; else pass; fi
+done
+printf 'test:\n\tfalse\n' >"$gate/Makefile"
+# apt-get fails too, so that nothing is installed
+if gated apt-get .ci/run; then fail '.ci/run over a gate that fails: status 0'; else pass; fi
 
 finish

@@ -4,7 +4,7 @@
 # Counts the allocations, the bytes that they ask for, the most bytes held at a time and the threads of some jobs, and
 # compares them with the bounds of tests/work.bounds: a second pass over a recording, a run that is made again, a list that
 # is copied or one that is kept for too long shows there, and nowhere else. Less than half of a bound fails too, since then the bound
-# holds nothing, or the job was not done. Threads are as many as the line says. Each job
+# holds nothing, or the job was not done. Of a job without threads, less than four fifths does. Threads are as many as the line says. Each job
 # has one line there, and is found by its name: its input, and its words. Reads and writes are counted too: one for each
 # 64 KiB, and a few, are allowed. A job that writes nothing has failed, but of no bits.
 # Recordings are a few megabytes long, but for those of the smallest jobs, where a table that is made twice shows.
@@ -204,8 +204,8 @@ within() {
     fi
 }
 
-# bounded NAME MEASURED BOUND: whether it is from half of the bound to the bound
-bounded() { within "$1" "$2" $((($3 + 1) / 2)) "$3"; }
+# bounded NAME MEASURED BOUND: whether it is from half of the bound to the bound, or from four fifths where no thread is started
+bounded() { within "$1" "$2" $((bound[3] ? ($3 + 1) / 2 : $3 * 4 / 5)) "$3"; }
 
 # some BYTES: how many reads or writes so many bytes may take
 some() { echo $(($1 / 65536 + 4)); }
@@ -260,5 +260,8 @@ while read -r job; do
     # shellcheck disable=SC2086
     try "${bounds[$job]}" $job
 done <todo
+# each bound is looked at
+past=$(UNTIL_FAILURE='' try '1 1 1 99' sample scan --workers 4 | grep -c FAILED)
+if [ "$past" = 4 ]; then pass; else fail "of four bounds that are too small, $past are told"; fi
 
 finish
