@@ -90,7 +90,7 @@ def tried(rds, seed):
 def main(rds, first="1", last=None):
     first, last = int(first), int(last or max(int(first), SEEDS))
     if any(make(1) == make(2) for make in (making.recording, making.lines)):
-        sys.exit("making.py: two seeds make the same")
+        sys.exit("making.py: two seeds make the same input")
     passed = failed = 0
     with ThreadPoolExecutor(2) as pool:
         for trial in pool.map(lambda seed: tried(rds, seed), range(first, last + 1)):

@@ -33,7 +33,7 @@ find crates -name Proof.antt -not -path '*/out/*' | sort > "$work/by_hand"
 printf 'crates/rds_tool/proofs/trace/Trace/%s/Proof.antt\n' new note > "$work/wanted"
 by_hand_are() { cmp -s "$1" "$work/by_hand"; }
 if by_hand_are <(sed 1d "$work/wanted"); then
-    fail 'a proof by hand more is not found'
+    fail 'one more proof by hand is not found'
 elif by_hand_are "$work/wanted"; then
     pass
 else

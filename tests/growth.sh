@@ -145,9 +145,9 @@ beside() {
         ((attempt < 3 || least_of_these > times * least_of_those)) || break
     done
     text="${these[*]} of $input into $reader"
-    # the first value is left of a job that was refused, or wrote nothing
+    # a job that was refused, or wrote nothing, leaves the first value
     if ((least_of_these == 60000 || least_of_those == 60000)); then
-        fail "${text:0:200}, or what it is compared with: not done"
+        fail "${text:0:200}, or the job beside it: not done"
     elif ((least_of_these > times * least_of_those)); then
         fail "${text:0:200}: $least_of_these ms of a processor, and not $times times $least_of_those ($attempt attempts)"
     else

@@ -101,7 +101,7 @@ for words in "recipes $rds" "library $work $rds" "package $rds $work" "scripts $
     refused "${words[0]}.sh without a program" 'usage: tests/' "$all_tools" bash "$here/${words[0]}.sh"
 done
 
-# Where a tool is missing its tests are skipped, so a misspelt one would skip them everywhere: .ci/run names each but these.
+# If a tool is missing, its tests are skipped, and a misspelt one would skip them everywhere: .ci/run names each but these.
 others=' dpkg-architecture dpkg-deb readelf strip objdump qemu-x86_64 '
 mapfile -t tools < <(sed -nE 's/^ *if has ([a-z0-9_+ -]+).*/\1/p' "$here"/{recipes,package,library,monitor}.sh | grep -oE '[^ ]+')
 [ ${#tools[@]} -gt 20 ] || fail 'the tools of the skipped tests are not to be found'

@@ -69,7 +69,7 @@ def same_minutes(it: Network, session: int, path: str) -> None:
     assert [row[0] for row in found] == list(range(len(wanted)))
     for row, line in zip(found, wanted):
         assert row[2:5] == tuple(map(int, line[3:6]))
-        # At the start of an hour both parts may count a block that lies in both.
+        # A block that crosses an hour may be counted in each.
         assert abs(row[1] - int(line[2])) <= 1 and abs(row[5] - int(line[6])) <= 1
 
 

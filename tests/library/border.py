@@ -32,7 +32,7 @@ def write(path, text):
 
 # ---- the table
 
-# The highest bit of each type: a number that is handed on in fewer bits is another one.
+# A number with this bit set changes if it is handed on in fewer bits.
 HIGHEST = {"uint8_t": 1 << 7, "uint32_t": 1 << 31, "uint64_t": 1 << 63}
 
 

@@ -213,7 +213,7 @@ def facts(structs, reasons):
 
 
 def refusal_lists():
-    """The order of errors at each function, as rds_abi's docs have it too."""
+    """The order of errors at each function, as rds_abi's docs have it too. A name is a function that has the same errors."""
     yield "rds_totals", [71, 1, 2, 3, 15, 5, 4, 16, 8]
     yield "rds_items", ["rds_totals", 64]
     yield "rds_run", ["rds_totals", 66, 65, 64]
@@ -259,7 +259,7 @@ def compare_comments(faults, text, structs):
 
 
 def compare_names(faults, text):
-    """What comments name is declared: functions, types, enumerators, macros and parameters; and what calls malloc is what may."""
+    """Compares the names in comments with the declarations, and the functions that call malloc with those that are lent memory."""
     comments, rest = " ".join(re.findall(r"/\*.*?\*/", text, re.S)), without_comments(text)
     known = {*re.findall(r"\brds_\w+|\bRDS_\w+", rest)}
     faults.extend(f"a comment names {it}" for it in sorted({*re.findall(r"\brds_\w+|\bRDS_\w+", comments)} - known))
@@ -271,18 +271,18 @@ def compare_names(faults, text):
     for field, first in (("kind", "RDS_MISSING"), ("offset", "RDS_A"), ("what", "RDS_ACQUIRED"), ("version", "RDS_VERSION_A")):
         comment = re.search(rf"uint8_t {field}; +/\*(.*?)\*/", text)[1]
         wanted = [it for enum in enums if enum[0] == first for it in enum if it != "RDS_C_OR_CX"]
-        faults.same(f"what {field} may be", wanted, re.findall(r"RDS_\w+", comment))
+        faults.same(f"values of {field}", wanted, re.findall(r"RDS_\w+", comment))
     for name, number in (("BITS_PAST_BYTES", 4), ("TOO_LONG", 5), ("BLOCK_RANGE", 67)):
         said = re.search(rf"RDS_{name} = \d+, +/\* (.*?) \*/", text)[1]
-        faults.same(f"what is said of RDS_{name}", refusals_of_crate()[number][1], said)
+        faults.same(f"the comment of RDS_{name}", refusals_of_crate()[number][1], said)
     callers = re.search(r"\bOnly ([\w\s,*]+) call malloc", comments)
-    faults.same("what calls malloc", allocating(), {*re.findall(r"rds_\w+", callers[1])} if callers else None)
+    faults.same("functions that call malloc", allocating(), {*re.findall(r"rds_\w+", callers[1])} if callers else None)
     must_use = {*re.findall(r"^RDS_MUST_USE\nuint8_t (rds_\w+)\(", rest, re.M)}
     faults.same("results that must be used", {it for it in names if it not in ("rds_refusal_name", "rds_version")}, must_use)
 
 
 def compare_reasons(faults, library):
-    """What the library says of each number."""
+    """Compares the reason that the library gives for each number."""
     reason = ctypes.CDLL(f"{library}/librds.so.0").rds_refusal_reason
     reason.restype = ctypes.c_char_p
     reasons = {number: said for number, (_, said) in refusals_of_crate().items()} | {70: BAD_POINTER}
