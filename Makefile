@@ -2,7 +2,7 @@
 # crate before it builds it.
 RT     ?= rt
 PREFIX ?= /usr/local
-# what is installed, and where completion for zsh goes
+# the installed program, and the folder of the completion for zsh
 PROGRAM ?= build/rds
 ZSH_COMPLETIONS ?= $(PREFIX)/share/zsh/site-functions
 # tests/*.py ask for it by this name
@@ -19,7 +19,7 @@ toolchain:
 	  echo "rds: the Rattle toolchain is missing: there is no '$(RT)' on the PATH (README.md, 'Try it')" >&2; exit 1; }
 
 # `rt run` proves and builds what is missing, keeps the program, and runs it: here for its help alone. The toolchain is asked
-# for only where there is something to build, so that a program that stands can be installed without it.
+# for only if there is something to build, so that a built program can be installed without it.
 build/rds: $(SOURCES)
 	@$(MAKE) --no-print-directory toolchain
 	cd crates/rds && $(RT) run -- --help >/dev/null
@@ -38,7 +38,7 @@ $(FOLDER_amd64)/librds.so.0 $(FOLDER_arm64)/librds.so.0: $(SOURCES) $(wildcard l
 	@$(MAKE) --no-print-directory toolchain
 	@$(MAKE) --no-print-directory archive-$(if $(filter $(FOLDER_arm64)/%,$@),arm64,amd64)
 
-# over what is proved already, as in the gate
+# over the crates that are proved already, as in the gate
 archive-%:
 	lib/archive.py $* build/librds-$*.a
 	lib/make_library.sh build/librds-$*.a $(FOLDER_$*) $(TOOLS_$*)
@@ -55,8 +55,8 @@ run: toolchain
 quick: toolchain
 	tests/quick.sh
 
-# The wrong bodies have what `rt ci` leaves of the processors: it has one crate to prove for much of its time, since most stand on
-# one another. What it built is tried when all is proved, and timed when nothing else runs.
+# The wrong bodies get the processors that `rt ci` leaves free: most crates use one another, so it often proves a single crate. The
+# scripts try the built programs once all is proved. Times are measured last, when nothing else runs.
 test: toolchain
 	@mkdir -p build
 	@rm -f $(LOG)
@@ -64,11 +64,11 @@ test: toolchain
 	+$(MAKE) --no-print-directory tests/growth.sh
 	@[ -n "$$(git status --porcelain)" ] || git rev-parse HEAD > build/passed
 
-# what `rt ci` says, for the wrong bodies that wait for it
+# the output of `rt ci`, for which the wrong bodies wait
 LOG := build/proofs.log
 
-# A proof that is alone gets all processors from `rt ci`, and then takes a fifth more of them. Where there are but two, the wrong
-# bodies have better use for the second, so each proof gets one.
+# `rt ci` gives a single proof all processors, and then it takes a fifth more CPU time. If there are only two, the wrong bodies use
+# the second better, so each proof gets one.
 proofs:
 	@mkdir -p build
 	@echo $(RT) ci
@@ -76,16 +76,16 @@ proofs:
 	  { $(RT) ci; echo $$? > build/proofs.status; echo "proofs: ended"; } 2>&1 | tee $(LOG)
 	@exit $$(cat build/proofs.status)
 
-# The library for C over what `proofs` has just built, so that `lib` has nothing left to do: it would prove all of that once more.
-# That for arm64 is made if there is a compiler for it, over the proof of rds_c that the first one keeps.
+# The library for C over the crates that `proofs` has just built: `lib` would prove all of them once more. The one for arm64 is made if
+# there is a compiler for it, over the proof of rds_c that the first one keeps.
 archives:
 	@for it in amd64 $(if $(shell command -v $(TOOLS_arm64)gcc),arm64); do $(MAKE) --no-print-directory archive-$$it || exit 1; done
 
 wrong-bodies:
 	nice tests/wrong_bodies.py $(WHEN)
 
-# Those of the flags that make hands on say how many lanes there are: the scripts have lanes of their own. They leave the wrong bodies
-# their share, so that both end at about the same time.
+# MAKEFLAGS is empty since the flags that make hands on name its number of jobs: the scripts have their own. `nice` leaves the wrong
+# bodies their share of the processors, so that both end at about the same time.
 built: proofs
 	+$(MAKE) --no-print-directory archives
 	tests/front_pages.py
@@ -103,8 +103,8 @@ tests/monitor.sh tests/scripts.sh: OVER = $(RDS) build/lib
 tests/growth.sh: OVER = $(RDS) build/lib crates/rds_bench/out/rds_bench
 tests/library.sh tests/package.sh tests/monitor.sh tests/scripts.sh tests/growth.sh: lib
 
-# A script that hangs is ended, and named: all of them take a few minutes together. `timeout` puts it out of the terminal's
-# reach, so an interrupt is handed on.
+# A script that hangs is ended, and named: all scripts take a few minutes together. `timeout` takes it out of the terminal's group, so
+# an interrupt is handed on.
 .PHONY: $(SCRIPTS) tests/growth.sh
 $(SCRIPTS) tests/growth.sh:
 	@echo $@ $(OVER)
@@ -161,7 +161,7 @@ install-lib: $(LIBRARY)/librds.so.0
 	install -m 644 lib/rds-config-version.cmake $(DESTDIR)$(LIBDIR)/cmake/rds/rds-config-version.cmake
 	sed 's|@libdir@|$(LIBDIR)|; s|@includedir@|$(PREFIX)/include|' lib/rds-config.cmake.in > $(DESTDIR)$(LIBDIR)/cmake/rds/rds-config.cmake
 
-# All of that as Debian packages below build: those for arm64 too where `make lib ARCH=arm64` was run.
+# All of that as Debian packages below build, and those for arm64 if `make lib ARCH=arm64` was run.
 deb: $(PROGRAM) $(LIBRARY)/librds.so.0
 	@mkdir -p build
 	@packaging/make_deb.sh $(PROGRAM) $(LIBRARY) build $(patsubst %/librds.so.0,%,$(wildcard $(FOLDER_arm64)/librds.so.0))

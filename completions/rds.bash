@@ -32,5 +32,5 @@ _rds() {
   mapfile -t COMPREPLY < <(compgen -W "$offered" -- "$word")
 }
 
-# What stands behind < and > is a file's name, which bash completes by itself.
+# A file name follows < or >: bash completes it by itself.
 complete -F _rds rds

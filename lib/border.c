@@ -22,7 +22,7 @@ struct lent {
 #define ONE_WRITTEN(p) LENT(p, 1, true)
 #define MANY_WRITTEN(p) LENT(p, p##_len, true)
 
-/* Whether no such values can lie there. */
+/* Whether no such values can be there. */
 static bool is_nowhere(const struct lent *it)
 {
     return it->count && (!it->at || it->at % it->alignment || it->count > PTRDIFF_MAX / it->size ||
@@ -34,7 +34,7 @@ static bool do_overlap(const struct lent *a, const struct lent *b)
     return a->count && b->count && a->at < b->at + b->count * b->size && b->at < a->at + a->count * a->size;
 }
 
-/* Whether some of it can't be what the caller says, or lies over what is written. What is only read stands first. */
+/* Whether some values cannot be there, or share bytes with values that are written. Values that are only read come first. */
 static bool are_bad(const struct lent *lent, size_t count)
 {
     for (size_t k = 0; k < count; k++)
@@ -54,7 +54,7 @@ static bool are_bad(const struct lent *lent, size_t count)
             return RDS_BAD_POINTER;                                                                                                   \
     } while (0)
 
-/* What values in a row are handed on by: where there are none, a pointer that is not NULL. */
+/* The pointer and the number of values in a row, for the proved function. Without values the pointer is not NULL. */
 static max_align_t none;
 #define ROW(p) (p##_len ? (p) : (__typeof__(p))&none), p##_len
 

@@ -1,9 +1,9 @@
-/* How the proved code asks for memory: by malloc, for every processor. The toolchain's own page of C is for x86-64 alone. Like
- * border.c it is no part of the proof. */
+/* The proved code gets memory by malloc, on every processor. The toolchain's own C file is only for x86-64. Like border.c, this file is
+ * no part of the proof. */
 #include <stdint.h>
 #include <stdlib.h>
 
-/* In two registers: 1 and where the memory is, or 0 where there is none. */
+/* In two registers: 1 and the address of the memory, or 0 if there is none. */
 struct answer {
     uint64_t ok;
     void *at;

@@ -3,8 +3,8 @@
 
     tests/chunks.py SEED MOST [PAUSE]
 
-Each chunk has 0 to MOST bytes, by the seed, and is written and flushed before the next; behind it the script waits for up to
-PAUSE seconds, where that is given. A reader that goes away ends it.
+Each chunk has 0 to MOST bytes, by the seed, and is written and flushed before the next. With PAUSE the script waits for up to PAUSE
+seconds after each. It ends if the reader of its output ends.
 """
 
 import random

@@ -93,7 +93,7 @@ def examples_of(crate):
 
 
 def module(example, uses, parameters):
-    """A file that has the example in a function: its items stand before it."""
+    """A file that has the example in a function, after the example's items."""
     items = "".join(re.findall(r"^(?:struct|impl)\b[^\n]*(?:;\n|\n(?:.*\n)*?\}\n)", example, re.M))
     body = re.sub(r"^(?:struct|impl)\b[^\n]*(?:;\n|\n(?:.*\n)*?\}\n)", "", example, flags=re.M)
     kinds = [f"{name}: {bound}" for name, bound in BOUNDS.items() if re.search(rf": {name}\b", parameters)]

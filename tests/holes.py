@@ -1,4 +1,4 @@
-"""Copies of crates in which functions have a hole for their proof, so that few are proved anew."""
+"""Copies of crates in which functions have a hole for their proof, so that few are proved again."""
 
 import os
 import re
@@ -10,12 +10,12 @@ TOP = os.path.dirname(os.path.dirname(os.path.abspath(__file__)))
 RT = shutil.which(os.environ.get("RT", "rt")) or sys.exit("there is no Rattle toolchain (rt) on the PATH")
 KIT = os.path.dirname(os.path.dirname(os.path.realpath(RT)))
 LIBRARIES = ["rds_code", "rds_stream", "rds_sync", "rds_live", "rds_abi", "rds_pieces", "rds_crew", "rds_rows", "rds_tool"]
-# What C calls: a library that no crate stands on.
+# The library for C: no crate uses it.
 EXPORTED = "rds_c"
 # The callers of the libraries, proved from contracts alone.
 CALLERS = "rds_uses"
 PROGRAM = "rds"
-# The hole is of any type: its goal is printed, and the statement of a function takes long to print.
+# The hole has any type: its goal is printed, and to print the statement of a function takes long.
 HOLE = """use Rattle.{crate}.proofs.{path}.Statement.{{statement}}
 
 hole : {{A : Type 2}} → A
@@ -45,7 +45,7 @@ class Function:
         return bool(self.body) and self.path.replace(".", "").isidentifier()
 
     def put_hole(self, folder):
-        """Puts a hole in the place of its proof."""
+        """Replaces its proof by a hole."""
         if self.has_room_for_hole():
             shutil.rmtree(self.proof(folder), ignore_errors=True)
             os.makedirs(self.proof(folder))
@@ -64,7 +64,7 @@ def write(path, text):
 
 
 def blanked(text):
-    """The text without its comments and strings, all else in its place."""
+    """The text with spaces for its comments and strings."""
     return re.sub(r"//.*|\"(?:\\.|[^\"\\])*\"|'(?:\\.|[^'\\])'", lambda it: re.sub(r"[^\n]", " ", it[0]), text)
 
 
@@ -78,7 +78,7 @@ def past(text, at):
 
 
 def holders(text):
-    """Each `impl` and `trait`: where it begins and ends, the type or trait, and what proofs call it."""
+    """Each `impl` and `trait`: its start and end, the type or trait, and its name in proofs."""
     for it in re.finditer(r"^(?:pub(?:\(crate\))? )?(?:impl|trait)\b([^{;]*)", text, re.M):
         said = re.sub(r"&(?:'\w+ )?", "Ref", re.sub(r"\bFrom<(\w+)[^ ]* for", r"From\1 for", it[1]))
         while "<" in said:
@@ -102,7 +102,7 @@ def functions_of(folder):
         inside = list(holders(text))
         for it in re.finditer(r"^(?: *#\[.*\]\n)* *(pub(?:\(crate\))? |)(?:const |extern +)?fn (\w+)", text, re.M):
             kind, owner = next((names for start, end, *names in inside if start < it.end() < end), (None, None))
-            # The result's type, which may hold `[T; N]`, ends where clauses, a body or a `;` begin.
+            # The result's type, which may hold `[T; N]`, ends before the clauses, the body or a `;`.
             at, clauses = past(text, text.index("(", it.end())), []
             at += re.match(r"(?:\[.*?\]|(?!\s(?:requires|ensures|ghost|where)\b)[^{;])*", text[at:]).end()
             while said := re.match(r"\s*(requires|ensures|ghost)\b\*?\s*(\w*)[^{;]*(?={)", text[at:]):
@@ -121,9 +121,9 @@ def functions_of(folder):
 
 
 def copied(folder, crates, with_holes=(*LIBRARIES, EXPORTED)):
-    """Copies crates to `folder`, with holes for the proofs of those that are named; gives the functions of these.
+    """Copies crates to `folder`, with holes for the proofs of those that are named, and returns the functions of these.
 
-    What a copying that was broken off left there is written over.
+    Files of an interrupted copy are overwritten.
     """
     functions = []
     for crate in crates:
@@ -136,19 +136,19 @@ def copied(folder, crates, with_holes=(*LIBRARIES, EXPORTED)):
 
 
 def used_by(crate):
-    """What a crate stands on, by crates.txt: libraries of this repository, and others."""
+    """The libraries that a crate uses, by crates.txt: those of this repository, and others."""
     names = re.search(rf"^{crate}\b[^:#\n]*:(.*)", read(f"{TOP}/crates.txt"), re.M)[1].split()
     return [it for it in LIBRARIES if it in names], [it for it in names if it not in LIBRARIES]
 
 
 def below(crate):
-    """The libraries that a crate and those below it stand on, lowest first."""
+    """The libraries that a crate and those below it use, lowest first."""
     found = {it for name in used_by(crate)[0] for it in [name, *below(name)]}
     return [it for it in LIBRARIES if it in found]
 
 
 def is_built(crate):
-    """Whether what `rt` built of a library is newer than its sources and theirs below it."""
+    """Whether the built library is newer than its sources and those below it."""
     folders = [f"{TOP}/crates/{it}/{part}" for it in [*below(crate), crate] for part in ("src", "specs", "proofs")]
     files = (f"{at}/{name}" for folder in folders for at, _, names in os.walk(folder) for name in names)
     rlib = built(crate)
@@ -156,12 +156,12 @@ def is_built(crate):
 
 
 def built(crate):
-    """Where `rt` puts what it builds of a library."""
+    """Where `rt` puts a library that it builds."""
     return f"{TOP}/crates/{crate}/out/rlib/{crate}.rlib"
 
 
 def over(crate, where=built):
-    """The words that name the libraries below a crate, as `rt` built them."""
+    """The words that name the built libraries below a crate."""
     said = []
     for it in below(crate):
         rlib = where(it)
@@ -178,13 +178,13 @@ def of_kit(crate, kit):
 
 
 def checked(crate):
-    """The words that check a crate, but for those of the libraries below it in this repository."""
+    """The words that check a crate, without those for the libraries of this repository below it."""
     kit = {"core", "std", *(name for it in [*below(crate), crate] for name in used_by(it)[1])}
     return [f"{KIT}/bin/rattle", "check", *of_kit(crate, kit)]
 
 
 def words(folder, crate, only, where=None):
-    """The words that check these functions of a copy. The libraries below are copies beside it, or built `where` it says."""
+    """The words that check these functions of a copy. The libraries below are copies beside it, or built ones at `where`."""
     said = [*checked(crate), "--allow-holes", "--incremental", f"{folder}/kept_{crate}"]
     if where:
         said += over(crate, where)

@@ -9,7 +9,7 @@ exec perl -e '
   use File::Temp;
   my ($groups, $seed) = @ARGV;
   my $rds = $ENV{RDS} //= "rds";
-  # The shell lines below name both by the environment, since any byte may stand in their names. The file goes with $file.
+  # The shell lines below take both names from the environment, since a name may have any byte. The file is removed with $file.
   my $file = File::Temp->new;
   $ENV{SENT} = "$file";
   $SIG{$_} = sub { exit 1 } for qw(HUP INT TERM);

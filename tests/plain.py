@@ -104,7 +104,7 @@ def corrections(limit):
 
 @dataclass(frozen=True)
 class Rules:
-    """`bad` blocks of the last `of` lose a lock; so many in a row are so many of the last so many."""
+    """`bad` bad blocks of the last `of` lose sync; N in a row are N of the last N."""
 
     burst: int = 2
     reach: int = 3
@@ -166,7 +166,7 @@ class Recording:
             after = places[-1] if is_lost else self.bits
 
     def read(self, places, wanted, limit):
-        """How the blocks at these places come out, for these offsets to be tried: their offsets (0 where lost), bursts and words."""
+        """The blocks at these places, read with these offsets: their offsets (0 if lost), bursts and words."""
         burst, offsets = corrections(limit)[wanted, self.remainders[places]].T.copy()
         is_valid = self.numbers[places] == np.where(wanted == C_OR_CX, 3, NUMBERS[wanted % C_OR_CX])
         burst[is_valid] = 0
@@ -192,7 +192,7 @@ class Recording:
 
 @dataclass
 class Read:
-    """A block of a group that was read. Its offset is 0 where it is lost."""
+    """A block of a group that was read. Its offset is 0 if it is lost."""
 
     offset: int
     burst: int
@@ -291,7 +291,7 @@ def bytes_of(digits):
 
 
 def groups_of(lines):
-    """The words of the groups that lines spell, or None where a line is no group."""
+    """The words of the groups in these lines, or None if a line is no group."""
     rows = [re.sub(rb"[ \t\r]", b"", line) for line in lines.split(b"\n")]
     if not all(re.fullmatch(rb"(?:[0-9A-Fa-f]{16})?", row) for row in rows):
         return None
@@ -307,7 +307,7 @@ def packed(words):
 
 
 def encoded(lines, is_hex):
-    """What `rds encode` writes of lines, or None where one is no group."""
+    """The output of `rds encode` for these lines, or None if one is no group."""
     groups = groups_of(lines)
     if groups is None:
         return None

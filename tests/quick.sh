@@ -1,10 +1,10 @@
 #!/usr/bin/env bash
-# What a change is likely to have broken: tests/quick.sh, or `make quick`
+# The checks that a change is likely to break: tests/quick.sh, or `make quick`
 #
-# Checks each crate of which a file differs from the commit that last passed `make test` (build/passed; where there is none,
-# from the last commit), lowest first, and runs its tests where it is one of tests; builds the program; and runs those tests
-# of the built program that take seconds. Over warm `out/` folders that takes up to five minutes. It tries no wrong body, and
-# neither proves nor runs a crate above that did not change, unless the program stands on it: that is for `make test`.
+# Compares the files with the commit that last passed `make test` (build/passed), or else with the last commit. Checks each crate
+# that changed, lowest first, and runs the tests of a test crate. Then it builds the program, and runs the tests of the program that
+# take seconds. Over warm `out/` folders that takes up to five minutes. It tries no wrong body, and leaves out unchanged crates
+# above, unless the program uses them: `make test` does all of that.
 
 set -euo pipefail
 cd "$(dirname "$(realpath "$0")")/.."

@@ -1,11 +1,10 @@
-/* Refuses one call of a program to the C library, for tests/refusals.sh, which preloads this library, and counts calls.
+/* Refuses one call of a program to the C library, and counts calls: a library that tests/refusals.sh preloads.
  *
- * REFUSE_CALL names the call: alloc, read, write or thread. REFUSE_AT is the number of the call that is refused, from 1 on
- * (0 refuses none); where REFUSE_ON is set, all after it are refused too. REFUSE_COUNT names a file to which is written,
- * when the program ends, a line for each of these four with the number of such calls, and the lines bytes and peak: the
- * bytes that allocations asked for, and the most that were held at a time. tests/work.sh looks at all of them. Reads are
- * those of standard input, writes those of standard output. A program that takes more seconds than LIMIT says
- * (60) is ended by SIGALRM.
+ * REFUSE_CALL names the call: alloc, read, write or thread. Reads are those of standard input, writes those of standard output.
+ * REFUSE_AT is the number of the refused call, from 1 on (0 refuses none). If REFUSE_ON is set, all later calls are refused too.
+ * REFUSE_COUNT names a file. When the program ends, it gets a line for each of the four with the number of calls. The lines
+ * `bytes` and `peak` follow: the bytes that allocations asked for, and the most held at a time. tests/work.sh reads all of them.
+ * LIMIT is the time limit in seconds (60): SIGALRM ends a program that takes longer.
  */
 #define _GNU_SOURCE
 #include <dlfcn.h>
@@ -72,7 +71,7 @@ void _exit(int status)
     __builtin_unreachable();
 }
 
-/* Whether an allocation of so many bytes is refused. */
+/* Whether an allocation of `size` bytes is refused. */
 static int is_refused_memory(size_t size)
 {
     if (!has_ended)
@@ -122,7 +121,7 @@ void *calloc(size_t count, size_t size)
     return is_refused_memory(count * size) ? refused_memory() : taken(__libc_calloc(count, size));
 }
 
-/* Memory that moves is counted once, where it comes to. */
+/* Memory that moves is counted once, at its new place. */
 void *realloc(void *old, size_t size)
 {
     if (is_refused_memory(size))

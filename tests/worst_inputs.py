@@ -1,13 +1,12 @@
 #!/usr/bin/env python3
-"""Recordings of which a run keeps the most: bits whose windows are valid where that is wanted.
+"""Recordings of which a run keeps the most: bits that are valid windows at chosen places.
 
     tests/worst_inputs.py PLAN BYTES > RECORDING
 
-That the window which ends at some place is valid with some offset word is ten linear equations, modulo 2, of its 26 bits: their
-remainder by the generator is that word (EN 50067:1998, Annex B). The windows of a plan come again after some number of bytes, so
-the equations are solved once, for a ring of so many bits, and the ring is written again and again. Bits that they leave free are
-pseudo-random: those of the first seed for which no other window is valid, since another might acquire, or be the next block of a
-lock. The same words give the same bytes.
+A window is valid with an offset word if its remainder by the generator is that word (EN 50067:1998, Annex B): ten linear equations,
+modulo 2, of its 26 bits. The windows of a plan repeat after some number of bytes. So the equations are solved once, for a ring of that
+length, and the ring is written again and again. The free bits are pseudo-random, by the first seed for which no other window is
+valid: another window might acquire sync, or be the next block. The same words give the same bytes.
 """
 import argparse
 import itertools
@@ -23,10 +22,10 @@ WORDS = {1: 0x0FC, 2: 0x198, 3: 0x168, 4: 0x1B4}
 # ---- plans: the length of a ring in bits, and its windows, each by its last place and the number of its block
 
 def short_locks():
-    """For `--loss 1 --reach 8`: a lock each 27 bits, by block 4, which the next block loses.
+    """For `--loss 1 --reach 8`: every 27 bits a block 4 acquires sync, and the next block loses it.
 
-    Windows of block 4 stand each 27 bits, and of block 2 six bits behind them: so each block 4 has a block 2 six blocks
-    before it, behind the block 4 that is six windows before.
+    There is a window of block 4 every 27 bits, and one of block 2 six bits after each. So each block 4 has a block 2 six blocks
+    before it, six bits after an earlier block 4.
     """
     starts = range(0, 8 * 27, 27)
     return 8 * 27, [(start, 4) for start in starts] + [(start + 6, 2) for start in starts]
@@ -35,9 +34,9 @@ def short_locks():
 def three_phases():
     """For `--loss 1`: three phases of locks, 13 bits apart, of which none ever meets another.
 
-    A window stands each 13 bits, and the sixth before it is its partner, three blocks before. The second behind it is
-    another block than the next: it loses the lock, and the third, 39 bits behind, is acquired. While a run in one phase
-    searches, those in the other two are locked.
+    There is a window every 13 bits, and the sixth before it is its partner, three blocks before. The second after it is not the
+    next block, so sync is lost there, and the third, 39 bits later, acquires it. While a run in one phase searches, runs in the
+    other two are in sync.
     """
     numbers = [1] * 6
     while len(numbers) < 24:

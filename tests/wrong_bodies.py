@@ -1,28 +1,28 @@
 #!/usr/bin/env python3
-"""Makes the wrong bodies of crates/*/wrong/, all of a crate at once, and fails unless the prover refuses each.
+"""Tries the wrong bodies in crates/*/wrong/, one run per crate, and fails unless the prover refuses each.
 
     tests/wrong_bodies.py [--right] [--beside LOG] [CRATE..]
     tests/wrong_bodies.py --cut [CRATE..]
 
-A wrong body is an edit, as those of must-fail/ are; a line `fails: FUNCTION` names one that it makes wrong from outside
-its body, by a constant say. In a copy every function has a hole for its proof and a body that calls nothing, but for the edited
-ones, which are checked from the contracts of what they call. A second edit of a function is made in a twin of it, a copy of
-the function behind it under another name, with the same contract and the same proof. A wrong body is refused
+A wrong body is an edit, in the form of those in must-fail/. If it makes a function wrong from outside its body, for example by a
+constant, a line `fails: FUNCTION` names that function. The edits are made in a copy of the crate. There each other function has a
+hole for its proof and a body that calls nothing, so an edited function is checked against the contracts of its callees. A second edit
+of a function is made in a twin: a copy of the function that follows it, with another name and the same contract and proof.
+A wrong body is refused
 
-- by a goal, where `search` leaves one of its function open that it proves of the right body: one, that is, for which
-  the right proof, checked by `rt ci`, has no answer by hand;
-- else by a line of those answers, where the prover refuses what stands there; not where it names what is gone. An edit that
-  leaves the meaning as it was can do as much, since answers follow the form of the body: so this counts only for an edit of
-  which tests/wrong_bodies.answers says what is false of it, in a line 'CRATE/EDIT: WHAT'.
+- by a goal that `search` proves of the right body and not of this one. For such a goal the right proof, which `rt ci` checks, has
+  no answer by hand;
+- otherwise by a line of those answers that the prover refuses, unless the line only names something that the edit removed. Answers
+  follow the form of a body, so an edit that keeps the meaning can be refused like this, too. So this counts only if
+  tests/wrong_bodies.answers states the false claim of the edit, in a line 'CRATE/EDIT: CLAIM'.
 
-An edit with a line `equal: WHY` leaves the meaning as it was: it may be refused by lines, and by no goal.
+An edit with a line `equal: WHY` keeps the meaning: lines may refuse it, goals may not.
 
-It fails, too, where an edit of must-fail/ cannot be made, of which `rt ci` only warns.
+The script also fails if an edit of must-fail/ cannot be made: `rt ci` only warns of that.
 
-With --right the right bodies are tried in the same way, in the place of the wrong ones, and none may be refused. With --cut each
-crate is checked as its edits of must-fail/ cut it, without what they make wrong: it must be proved. With --beside
-what `rt ci` says is written to LOG meanwhile, with a line 'proofs: ended' behind it: each crate waits until those that it
-stands on are proved, and until all are, half of the processors are left to `rt ci`.
+--right tries the right bodies in the same way, and none may be refused. --cut checks each crate as the edits of must-fail/ cut it,
+without their errors: it must be proved. With --beside, `rt ci` runs meanwhile and its output goes to LOG, ended by the line
+'proofs: ended'. Each crate waits until the crates below it are proved. Until all are proved, `rt ci` has half of the processors.
 """
 
 import argparse
@@ -42,18 +42,18 @@ from holes import (
 )
 
 CRATES = f"{TOP}/crates"
-# The table that says what is false of an edit that is refused by lines of answers alone.
+# The table with the false claim of each edit that only lines of answers refuse.
 TOLD = "tests/wrong_bodies.answers"
-# The seconds that one check may take; beside other proofs one takes some minutes.
+# The time limit of one check, in seconds; beside other proofs a check takes some minutes.
 LIMIT = 1800
-# The line behind all that `rt ci` says.
+# The line that ends the log of `rt ci`.
 ENDED = re.compile(r"^proofs: ended$", re.M)
-# What stands before a body that says more than its contract: a constant is worked out of it, and a type.
+# The heads of functions whose bodies say more than their contracts: a constant or a type follows from the body.
 KEEPS_BODY = r"\bconst fn\b|->\s*impl\b"
-# What a check says of an answer that names what an edit took away, and of the answer to no goal below.
+# Errors of an answer that names something that the edit removed, and of NO_GOAL.
 GONE = "has no field|is not in scope|has no `|was not admitted|^`no-such-goal`"
-# An answer to a goal that no function has. Where an answer is refused, the check writes no answers to start from for what is
-# left open, which takes it 5 to 10 s a crate. So it is put behind the right ones, and what is said of it is passed over.
+# An answer to a goal that no function has. If an answer is refused, the check does not write draft answers for open goals, which
+# saves 5 to 10 s per crate. So this follows the right answers, and its error is ignored.
 NO_GOAL = """
 pub no-such-goal : goal.no-such-goal
 no-such-goal c = tt
@@ -65,12 +65,12 @@ class WrongBody:
     name: str
     edits: list  # (file, place, old, new)
     functions: list
-    is_equal: bool  # it leaves the meaning as it was
-    goals: list = ()  # what the prover refuses of it
+    is_equal: bool  # it keeps the meaning
+    goals: list = ()  # the goals that refuse it
     lines: list = ()
 
     def is_refused(self, told):
-        """Whether that is a refusal, where these edits are told of."""
+        """Whether that is a refusal, if the table has these edits."""
         return bool(self.goals) or bool(self.lines) and self.name.removesuffix(".edit") in told
 
     def report(self, told):
@@ -82,7 +82,7 @@ class WrongBody:
 
 
 def told_of():
-    """The edits of which the table tells what is false. Each stands there once, and has to be there."""
+    """The edits in the table with their false claims. Each has one line, and its file has to exist."""
     text = read(f"{TOP}/{TOLD}")
     rows = [it for it in text.splitlines() if not it.startswith("#")]
     if not rows:
@@ -124,14 +124,14 @@ def wrong_body(crate, file, functions):
 
 
 def edited(text, edits):
-    """The text with these edits; from the back, so that the places before stay as they are."""
+    """The text with these edits, made from the last to the first, so that places before an edit stay valid."""
     for _, at, old, new in sorted(edits, key=lambda it: it[1], reverse=True):
         text = text[:at] + new + text[at + len(old) :]
     return text
 
 
 def put_twin(folder, body, number):
-    """Makes this wrong body one of a twin of its function."""
+    """Moves this wrong body to a twin of its function."""
     f, start, end = body.functions[0], *body.functions[0].place
     if len(body.functions) > 1 or not all(start <= at < end for _, at, _, _ in body.edits):
         sys.exit(f"{body.name}: another wrong body has {f.path}, and this one is no edit of that function alone")
@@ -145,7 +145,7 @@ def put_twin(folder, body, number):
 
 
 def put_proof(folder, f, twin):
-    """Puts the right proof of a function into the copy, for it or a twin of it."""
+    """Puts the right proof of a function into the copy, for the function or its twin."""
     shutil.rmtree(twin.proof(folder), ignore_errors=True)
     os.makedirs(twin.proof(folder))
     for at, _, names in os.walk(f.proof(CRATES)):
@@ -160,7 +160,7 @@ def put_proof(folder, f, twin):
 
 
 def put_loops(folder, crate, edited):
-    """Gives each other function of the copy that has a hole a body that calls nothing: a check goes over what is called, too."""
+    """Replaces the body of each other function that has a hole by one that calls nothing: a check also covers callees."""
     functions = [f for f in functions_of(f"{folder}/{crate}") if f.has_room_for_hole() and f.path not in edited]
     for file in {f.file for f in functions}:
         text = read(f"{folder}/{file}")
@@ -191,7 +191,7 @@ def prepare(folder, crate, bodies):
 
 
 def refusal(folder, body, said):
-    """What the prover refuses of a wrong body, if it does: goals, or lines of the answers by hand."""
+    """The goals, and the lines of answers by hand, by which the prover refuses a wrong body."""
     goals, lines = [], []
     for f in body.functions:
         first, last = (read(f"{folder}/{f.file}").count("\n", 0, at) + 1 for at in f.place)
@@ -208,14 +208,14 @@ def refusal(folder, body, said):
 
 
 def is_as_wanted(body, told, are_right):
-    """Whether a wrong body is refused, and one that leaves the meaning as it was is not; nor any right one."""
+    """Whether a wrong body is refused, and one that keeps the meaning, or a right one, is not."""
     if are_right:
         return not body.goals and not body.lines
     return not body.is_refused(told) if body.is_equal else body.is_refused(told)
 
 
 def try_all(room, crate, where, told, are_right):
-    """Tries the wrong bodies of a crate over the libraries there, all in one run, or the right ones in their places."""
+    """Tries the wrong bodies of a crate, or the right ones, in one run over the libraries at `where`."""
     functions = copied(room, [crate], [crate])
     files = sorted(it for it in os.listdir(f"{CRATES}/{crate}/wrong") if it.endswith(".edit"))
     bodies = [wrong_body(crate, it, functions) for it in files]
@@ -234,22 +234,22 @@ def try_all(room, crate, where, told, are_right):
         sys.exit(f"{crate}: the run came to no end:\n{ran.stdout[-3000:]}")
     for body in bodies:
         body.goals, body.lines = refusal(room, body, ran.stdout)
-        kind = ", which leaves the meaning as it was" if body.is_equal else ""
+        kind = ", which keeps the meaning" if body.is_equal else ""
         print(f"{body.name}{kind}: {body.report(told)}", flush=True)
     if not all(is_as_wanted(it, told, are_right) for it in bodies):
-        print(f"{crate}: the end of what was said in that run:\n{ran.stdout[-3000:]}", flush=True)
+        print(f"{crate}: the end of that run's output:\n{ran.stdout[-3000:]}", flush=True)
     return bodies
 
 
 def build(crates):
-    """Builds the libraries that these crates stand on, where they are not built."""
+    """Builds the libraries below these crates that are not built yet."""
     for it in (it for it in LIBRARIES if any(it in below(crate) for crate in crates) and not is_built(it)):
         if subprocess.run([RT, "lib"], cwd=f"{CRATES}/{it}", stdout=subprocess.DEVNULL, timeout=LIMIT).returncode:
             sys.exit(f"{it} is not proved: no wrong body is tried above it")
 
 
 def pairs_of(crate, file):
-    """The pairs of an edit of must-fail/: a file of the crate, the text that goes, and what comes in its place."""
+    """The pairs of an edit of must-fail/: a file of the crate, the old text, and the new text."""
     path, old = "", ""
     for it in read(f"{CRATES}/{crate}/must-fail/{file}").splitlines():
         key, _, said = it.partition(": ")
@@ -260,7 +260,7 @@ def pairs_of(crate, file):
 
 
 def check_pairs(crate):
-    """Fails where an edit of must-fail/ cannot be made: `rt ci` only warns of that."""
+    """Fails if an edit of must-fail/ cannot be made: `rt ci` only warns of that."""
     for file in sorted(os.listdir(f"{CRATES}/{crate}/must-fail")):
         texts = {}
         for path, old, new in pairs_of(crate, file):
@@ -273,14 +273,14 @@ def check_pairs(crate):
 
 
 def cut(folder, crate):
-    """Leaves out of a copy what the crate's edits of must-fail/ leave out: all pairs of an edit but the first, which makes it wrong."""
+    """Makes the pairs of each edit of must-fail/ in a copy, except the first pair, which is the error."""
     for file in sorted(os.listdir(f"{CRATES}/{crate}/must-fail")):
         for path, old, new in [*pairs_of(crate, file)][1:]:
             write(f"{folder}/{crate}/{path}", read(f"{folder}/{crate}/{path}").replace(old, new))
 
 
 def is_cut_proved(crate):
-    """Whether a crate is proved as its edits of must-fail/ cut it."""
+    """Whether a crate is proved as the edits of must-fail/ cut it."""
     with tempfile.TemporaryDirectory(prefix="cut-") as room:
         shutil.copytree(f"{CRATES}/{crate}", f"{room}/{crate}", ignore=shutil.ignore_patterns("out"))
         cut(room, crate)
@@ -305,7 +305,7 @@ def try_cuts(names):
 
 
 def link(path, to):
-    """Links a file, or copies it where no link can be made."""
+    """Links a file, or copies it if no link can be made."""
     try:
         os.link(path, to)
     except OSError:
@@ -313,7 +313,7 @@ def link(path, to):
 
 
 def follow(log, where):
-    """Links the libraries that `rt ci` proves, by what it says in its log: at its end it puts back what it found at its start."""
+    """Links each library once the log of `rt ci` calls it proved: at its end `rt ci` restores the files it found at its start."""
     is_ended = False
     while not is_ended:
         said = read(log) if os.path.isfile(log) else ""
@@ -335,8 +335,8 @@ def wait_for(crates, where, proofs):
 
 
 class Lanes:
-    """The processors that are left to wrong bodies. Of the crates that wait for one, that with most edits comes first, so that it is
-    not alone at the end."""
+    """The processors for wrong bodies. Of the waiting crates, the one with most edits comes first, so that it does not run alone at
+    the end."""
 
     def __init__(self, free):
         self.free, self.waiting, self.changed = free, {}, Condition()
@@ -347,7 +347,7 @@ class Lanes:
             self.changed.notify_all()
 
     def try_in_turn(self, room, crate, *how):
-        """Tries the wrong bodies of a crate when it has its turn."""
+        """Tries the wrong bodies of a crate on its turn."""
         with self.changed:
             self.waiting[crate] = len(os.listdir(f"{CRATES}/{crate}/wrong"))
             self.changed.wait_for(lambda: self.free and crate == max(self.waiting, key=self.waiting.get))

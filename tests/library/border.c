@@ -1,5 +1,5 @@
 /* Each pointer of each function of rds.h in each bad and each good place. tests/library/border.py writes border_table.h: for each
- * function its arguments, a call of it, and, where STUBS is defined, a proved_* that only notes how it was called.
+ * function its arguments, a call of it, and, with STUBS, a proved_* that only notes its arguments.
  *
  * With STUBS this is linked with lib/border.c alone: a bad pointer must be refused before the proved function is called, and a good
  * call must reach it with the arguments it was given. Without, it is linked with the library: a bad pointer must be refused, and

@@ -1,8 +1,8 @@
-/* Random calls of librds against a second decoder (model.c): each answer and everything written has to be what docs/MODEL.md says.
+/* Random calls of librds against a second decoder (model.c): each answer and every value written has to agree with docs/MODEL.md.
  *
- * With -fsanitize=fuzzer and -DWITH_LIBFUZZER this is libFuzzer's harness. Else: fuzz SECONDS SEED < CORPUS, where each line of the
- * corpus is an input in hexadecimal. It runs each, and then bytes that are made of them at random, for so many seconds of processor
- * time. At the first difference it prints what differs and the input, and aborts. */
+ * With -fsanitize=fuzzer and -DWITH_LIBFUZZER this is libFuzzer's harness. Otherwise: fuzz SECONDS SEED < CORPUS. Each line of the
+ * corpus is an input in hexadecimal. It runs each, and then random changes of them, for SECONDS CPU-seconds. At the first difference
+ * it prints the difference and the input, and aborts. */
 #include "model.h"
 
 #include <stdio.h>
@@ -31,7 +31,7 @@ static void fail(int line, const char *what)
             fail(__LINE__, #__VA_ARGS__);                                                                                             \
     } while (0)
 
-/* ---- what is asked, made of the input's bytes */
+/* ---- a call, made of the input's bytes */
 
 struct input {
     const uint8_t *at, *end;
@@ -325,7 +325,7 @@ static void try_alone(struct input *in)
     unsigned refusal = word >> 26 ? RDS_BLOCK_RANGE : offset < 1 || offset > 6 ? RDS_OFFSET_RANGE : limit > 5 ? RDS_BURST_RANGE : 0;
     HOLDS(rds_correct(word, (uint8_t)offset, (uint8_t)limit, &block) == refusal);
     if (!refusal) {
-        /* C alone and C' alone are tried where the other is not valid either */
+        /* C and C' are also tried alone if the other is not valid */
         rds_block_t wanted = model_reading(word, offset, limit);
         HOLDS(!memcmp(&block, &wanted, sizeof block));
     }

@@ -109,7 +109,7 @@ static rds_block_t block_of(unsigned kind, unsigned offset, uint32_t word, uint3
     return (rds_block_t){burst, (uint16_t)((word ^ burst) >> 10), (uint8_t)kind, (uint8_t)offset};
 }
 
-/* A word read as the block with this offset; where it is valid, any offset of that number will do. */
+/* A word read as the block with this offset. If it is valid, any offset of that block number will do. */
 rds_block_t model_reading(uint32_t word, unsigned offset, unsigned limit)
 {
     unsigned first = offset == RDS_C_OR_CX ? C : offset, last = offset == RDS_C_OR_CX ? CX : offset;

@@ -1,7 +1,7 @@
 /* Each allocation of the library's calls refused in turn, alone and with all after it: refused FILE
  *
- * A call answers RDS_OUT_OF_MEMORY, and has written nothing, or what it answers where none is refused; it never keeps
- * memory. Prints how many refusals were made of each call, and ends in status 0. For the C library of GNU.
+ * A call answers RDS_OUT_OF_MEMORY and writes nothing, or answers as it does if none is refused. It never keeps memory. Prints the
+ * number of refused allocations of each call, and ends with status 0. Needs the GNU C library.
  */
 #include "rds.h"
 
@@ -90,7 +90,7 @@ static int is_untouched(const void *at, size_t count)
     return 1;
 }
 
-/* How many of its allocations were refused, or -1 where it answered otherwise than it may. */
+/* How many of its allocations were refused, or -1 for an answer that is not allowed. */
 static long refused_in(uint8_t call(void))
 {
     long number = 0;

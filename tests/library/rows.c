@@ -114,8 +114,8 @@ static int is_next(const uint8_t *bytes, size_t len, const rds_gap_t *gaps, size
     return done == *count && !memcmp(stream, &again, sizeof again);
 }
 
-/* Whether a stream of the first bits, from one of zeros, gives the same items and totals as they do whole: ended with its last bytes,
- * inside a byte or not, and behind its last whole byte. What is known of it are the same bytes as of one that came at once. */
+/* Whether the first bits give the same items and totals as a stream, from a state of zeros, as they do at once. The stream ends with its
+ * last bytes, inside a byte or not, or after its last whole byte. Its state has the same bytes as that of a stream pushed at once. */
 static int is_same_in_chunks(const uint8_t *bytes, uint64_t bits, const rds_gap_t *gaps, size_t gaps_len, const rds_rules_t *rules,
                              const rds_item_t *items, uint64_t number, const rds_totals_t *wanted)
 {

@@ -31,7 +31,7 @@ static int items(const uint8_t *bytes, size_t len)
     return rds_items(bytes, len, 8 * (uint64_t)len, &none, 0, &rules, room, ROOM, &count);
 }
 
-/* The least of TURNS times of so many calls, or -1 where one was refused. */
+/* The least time of `calls` calls in TURNS turns, or -1 if one was refused. */
 static double least(int (*call)(const uint8_t *, size_t), const uint8_t *bytes, size_t len, int calls)
 {
     double found = -1;

@@ -1,4 +1,4 @@
-/* How much stack each call takes: stack FILE prints the bytes of each, and fails where one takes more than rds.h says. */
+/* The stack that each call takes: stack FILE prints the bytes of each, and fails if one takes more than rds.h says. */
 #define _GNU_SOURCE
 #include "rds.h"
 
@@ -67,7 +67,7 @@ static void *called(void *answer)
     return NULL;
 }
 
-/* The bytes of the stack that a call has written to, or -1 where it was refused. */
+/* The bytes of the stack that a call has written to, or -1 if it was refused. */
 static long taken_by(uint8_t (*it)(void))
 {
     static _Alignas(4096) uint8_t stack[GIVEN];
