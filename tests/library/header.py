@@ -194,7 +194,7 @@ def facts(structs, reasons):
     yield r"items that (\d+) bytes may complete", [at_once]
     yield r"(\d+)\^(\d+) bits", [2, most_bits]
     yield r'such as "(\d+)\.(\d+)\.(\d+)"', three_of(re.search(r"^Version: (.*)$", text_of(f"{TOP}/lib/rds.pc.in"), re.M)[1])
-    yield r"at most (\d+) bytes of stack", [number_in("tests/library/stack.c", r"MOST = (\d+),")]
+    yield r"Stack and memory\. A call takes at most (\d+) bytes of stack", [number_in("tests/library/stack.c", r"MOST = (\d+),")]
     yield r"hears up to (\d+) bits before", [word * reach[1] + word - 1]
     yield r"gaps of the range and of the (\d+) bits before it", [number_in("crates/rds_abi/src/part.rt", r"HEARD_BEFORE: u64 = (\d+);")]
     yield r"word of (?:more than )?(\d+) bits", [word]
@@ -288,6 +288,7 @@ def compare_names(faults, text):
     """Compares the names in comments with the declarations, and the functions that call malloc with those that are lent memory."""
     comments, rest = " ".join(re.findall(r"/\*.*?\*/", text, re.S)), without_comments(text)
     known = {*re.findall(r"\brds_\w+|\bRDS_\w+", rest)}
+    faults.extend(f"a comment names {it}" for it in re.findall(r"\bdocs/[\w/.]*\w", comments) if not os.path.isfile(f"{TOP}/{it}"))
     faults.extend(f"a comment names {it}" for it in sorted({*re.findall(r"\brds_\w+|\bRDS_\w+", comments)} - known))
     names = names_of_header(text)
     for comment, name in re.findall(r"/\*((?:(?!\*/).)*)\*/\s*(?:RDS_MUST_USE\s+)?\w+ (rds_\w+)\(", text, re.S):
@@ -314,9 +315,30 @@ def rules_in_words(library):
     return sentences.sentences(f"{library}/librds.so.0", names_of_header(text), of_header_text(text)[1], errors_in_order())
 
 
+def squeezed(text):
+    return " ".join(re.sub(r"\n \*(?!/)", " ", text).split())
+
+
 def compare_sentences(faults, text, library):
-    squeezed = " ".join(re.sub(r"\n \* ?", " ", text).split())
-    faults.extend(f"no comment says: {it}" for it in rules_in_words(library) if it not in squeezed)
+    page = squeezed(text)
+    faults.extend(f"no comment says: {it}" for it in rules_in_words(library) if it not in page)
+
+
+# Comments that compare_comments and compare_names read.
+LISTS = [r"Errors(?:, in this order)?: [^.]*\.", r"\bOnly [\w, ]+ (?=call malloc)", r"/\* (?:(?:RDS_\w+|or),? )+\*/", r"The program's default rules\."]
+
+
+def compare_rest(faults, text, structs, library):
+    """Finds the words of comments that no rule, no number and no list has."""
+    page = squeezed(re.sub(r"^ \*     .*\n", "", text, flags=re.M))
+    reasons = {number: said for number, (_, said) in refusals_of_crate().items()}
+    known = [*map(re.escape, [*rules_in_words(library), *reasons.values()]), *(it for it, _ in facts(structs, reasons)), *LISTS, *PLAIN]
+    is_known = [False] * len(page)
+    for at, end in (it.span() for pattern in known for it in re.finditer(pattern, page)):
+        is_known[at:end] = [True] * (end - at)
+    for it in re.finditer(r"/\*.*?\*/", page):
+        rest = "".join("\n" if is_known[at] else page[at] for at in range(*it.span()))
+        faults.extend(f"words that nothing here names: {words}" for words in rest.split("\n") if len(re.findall(r"\w+", words)) > 1)
 
 
 def with_other_words(text):
@@ -358,6 +380,7 @@ def faults_of(text, library, program, is_changed=False):
         lambda: compare_names(faults, text),
         lambda: compare_with_earlier(faults, text),
         lambda: compare_versions(faults, text, library, program),
+        lambda: compare_rest(faults, text, structs, library),
     ]
     for check in checks:
         check()

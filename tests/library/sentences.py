@@ -32,25 +32,34 @@ INSTEAD = dict(OPPOSITES) | {other: word for word, other in OPPOSITES} | {
 # What no call decides: what the caller owes, what takes time or memory, and what other tests hold.
 PROMISES = [
     "librds: the decoder of Radio Data System bits, for C and C++.",
-    "RDS_OUT_OF_MEMORY can occur at any point.",
+    "Of every function: Errors. A function that returns uint8_t returns 0, or the number of an error. rds_refusal_text and rds_refusal_reason put it into words.",
+    "RDS_OUT_OF_MEMORY can occur at any point. Pointers, by their declaration: const T *p to one T",
     "to one T, aligned, that no other thread writes during the call; it is only read",
-    "to one T of the caller's, aligned, that nobody else reads or writes during the call",
+    "T *p to one T of the caller's, aligned, that nobody else reads or writes during the call",
     "C cannot check the rest: the memory must exist, and no other thread may write it during the call.",
     "Nothing is kept after a call: no handle, no thread, no lock, no global state, nothing to free.",
     "Calls may run at the same time if no two write to the same memory.",
-    "and they free what they took before they return.",
+    "call malloc, and they free what they took before they return.",
     "A call takes time for the bits that it decodes and for the gaps that it is given, whatever the length of the recording or stream.",
     "bytes, bytes_len the recording, or the next bytes of a stream bits the recording",
-    "lists the proofs, and the parts that are only trusted.",
+    "Parameters that several functions share: bytes, bytes_len",
+    "rules the decoder's rules room, room_len receives the items",
+    "The results are proved of the library's code: docs/PROOFS.md lists the proofs, and the parts that are only trusted.",
     "Compilers that know it warn where the result of such a function is not used.",
     "RDS_OUT_OF_MEMORY = 8, /* memory was refused */",
+    "Errors: the program's, by its numbers, and the library's own from",
     "No number ever changes its meaning.",
     "RDS_BAD_POINTER = 70, /* a pointer that does not meet its requirement */",
     "So a call without room asks for the number, and takes as long as a second one.",
     "The call copies the bytes and gaps of the range and of the 233 bits before it,",
     "its cost depends on these and not on the length of the recording.",
     "The call takes memory for the tables of the rules, the gaps near the bytes, and the items that 960 bytes may complete.",
+    "The remainder of a 26-bit word by",
     "A 26-bit word, read as a block.",
+    "have, RDS_A to RDS_C_OR_CX limit a burst",
+    "Groups as they are sent. groups, groups_len the information words",
+    "Print it as (const char *)room. number the error room, room_len receives the name; RDS_NAME_ROOM bytes",
+    "The version of this header: 65536 times",
     "Texts that last as long as the program.",
     "That of the library, in the same way.",
 ]
@@ -186,7 +195,7 @@ def of_recordings(c):
     rest = c("rds_finish_run", bytes=data, rules=rules, state=state)
     together = [bytes_of(it) for items in [*steps, rest.room[: rest.count.value]] for it in items]
     are_whole = together == [bytes_of(it) for it in c.items(bytes=data, rules=rules)]
-    yield f"finds items, in order of {pick(are_whole, 'completion', 'place')}: acquisitions"
+    yield f"The decoder finds items, in order of {pick(are_whole, 'completion', 'place')}: acquisitions of block sync, groups of four blocks, and losses of block sync."
     yield f"There are at most {('no', 'one', 'two', 'three')[max(map(len, steps))]} items per bit."
     yield (
         "The items of a range of a recording: a list of any length through a small room. Each run continues from the state that the run before it left, the first from a state of zeros "
@@ -283,7 +292,7 @@ def of_states(c):
     yield f"uint32_t first; /* the number of the {pick(state.first == 2 and run(200).first == 1, 'first', 'last')} block that was read in the group in progress */"
     yield f"uint64_t bad; /* how many blocks in {pick([run(26 * k).bad for k in (5, 6, 7, 8)] == [0, 1, 2, 0], 'a row', 'all')} were bad; or"
     masks = [run(26 * k, rules=(0, 3, 10, 20)).bad for k in (6, 7, 8)]
-    yield f"a mask of the {pick(masks[:2] == [1, 3], 'bad', 'good')} ones, the newest {pick(masks[2] == 6, 'lowest', 'highest')} */"
+    yield f"were bad; or, by a share, a mask of the {pick(masks[:2] == [1, 3], 'bad', 'good')} ones, the newest {pick(masks[2] == 6, 'lowest', 'highest')} */"
     share = run(60, rules=(0, 3, 10, 20))
     yield f"uint32_t loss; /* the rule of loss of a lock, {pick((state.loss, state.of, share.loss, share.of) == (10, 0, 10, 20), 'as', 'unlike')} rules have it, or 0 */ uint32_t of; /* the same */"
     yield f"40 bytes, all 0 without sync, as {pick(bytes_of(run(40)) == bytes(40), 'before', 'after')} the first bit."
@@ -291,10 +300,10 @@ def of_states(c):
     yield f"Equal states are {pick(bytes_of(again) == bytes_of(run(200)), 'equal', 'different')} bytes."
     error = lambda rules: c.error("rds_run", bytes=bad, rules=rules, state=run(60), **{"from": 60})
     yield f"It may be copied, stored, and continued elsewhere by the {pick(error((0, 3, 11, 0)), 'same', 'any')} rules. Equal states"
-    yield f"another rule is the error {pick(error((0, 3, 11, 0)) == error((0, 3, 10, 20)) == 65, 'RDS_UNLAWFUL_STATE', 'none')}."
+    yield f"With sync it names the rule of loss that counted its bad blocks; another rule is the error {pick(error((0, 3, 11, 0)) == error((0, 3, 10, 20)) == 65, 'RDS_UNLAWFUL_STATE', 'none')}."
     heard = [c("rds_run", bytes=packed(flipped(bits, place)), **{"from": 40, "to": 60}).count.value for place in (3, 61)]
     yield f"A run hears up to 233 bits {pick(heard == [0, 1], 'before', 'after')} from."
-    yield f"the range: the places from from to {pick(run(51).number == 0 and run(52).number == 3, 'before', 'past')} to "
+    yield f"from, to the range: the places from from to {pick(run(51).number == 0 and run(52).number == 3, 'before', 'past')} to "
     yield f"the state at from; receives the state {pick(bytes_of(again) == bytes_of(run(200)), 'at to', 'at from')} A run"
 
 
@@ -305,6 +314,7 @@ def of_streams(c):
     head = {"RDS_STREAM_MAGIC": stream.magic, "RDS_STREAM_VERSION": stream.version}
     yield f"uint32_t magic; /* {named(head, 0x31534452)} */ uint32_t version; /* {named(head, 1)} */"
     run = c("rds_run", bytes=data, to=800)
+    yield f"rds_rules_t rules; /* {pick(tuple(bytes_of(stream.rules)[:12:4]) == RULES[:3], 'by', 'after')} which the stream is decoded */"
     yield f"rds_state_t state; /* the state {pick(bytes_of(run.state) == bytes_of(stream.state), 'after', 'before')} them */"
     groups = sum(it.what == 2 for it in run.room[: run.count.value])
     yield f"rds_totals_t totals; /* of the items that are {pick(stream.totals.groups == groups, 'complete', 'begun')} */"
@@ -422,7 +432,7 @@ def of_errors(c):
     yield f"RDS_BAD_GAPS = 16, /* a gap without a place, past the bits, or that begins {pick(gaps[0] == 0 and gaps[2] == 16, 'before', 'at')} the end of the one before it"
     told = [words for words, error in zip(("is empty", "overlaps another", "goes past the end"), gaps[1:]) if error == 16]
     order, touch = pick(gaps[4] == 16, "in order", "in any order"), pick(gaps[0] == 0, "may", "must not")
-    yield f"the gaps, {order}; two {touch} touch, and none {told[0]}, {told[1].replace('is ', '')} or {told[2]}"
+    yield f"gaps, gaps_len the gaps, {order}; two {touch} touch, and none {told[0]}, {told[1].replace('is ', '')} or {told[2]}"
     reserved = [c.error("rds_totals", rules=(*RULES, tuple(int(k == at) for k in range(4)))) for at in range(4)]
     yield f"RDS_RESERVED_FIELD = 71 /* a reserved field of the rules is {pick(reserved == [71] * 4, 'not', 'always')} 0"
 
@@ -477,7 +487,7 @@ def of_pushes(c):
     yield f"they may be {pick(later.error == 0 and later.count.value == 7, 'later', 'earlier')} than all bytes"
     here = c.pushed(whole[13:], stream=c.pushed(whole[:13], gaps=[(208, 234)]).stream, gaps=[(208, 234)])
     kinds = [it.blocks[0].kind for it in here.room[: here.count.value] if it.place == 208]
-    yield f"by their places in the {pick(kinds == [1], 'stream', 'bytes')}; they may"
+    yield f"gaps, gaps_len by their places in the {pick(kinds == [1], 'stream', 'bytes')}; they may"
     near = c.pushed(bytes(30) + whole[:6]).stream
     near.place = (1 << 36) - 8
     yield f"RDS_TOO_LONG means that the stream would go past 2^36 bits with {pick(c.error('rds_push', bytes=whole[6:], stream=near, room=1) == 5, 'all offered', 'the taken')} bytes."
@@ -490,6 +500,7 @@ def of_pushes(c):
 
 def of_ends(c):
     whole = c.usual["bytes"]
+    yield f"The totals of a recording. found receives the {pick(c.totals().groups == 6, 'totals', 'items')} Errors"
     stream = c.pushed(whole[:50]).stream
     end = c("rds_finish", stream=stream)
     yield f"the group in progress, {pick(end.count.value == 1 and end.room[0].blocks[3].kind == 0, 'as far as it was read', 'if it is complete')}, and the totals."
@@ -498,6 +509,7 @@ def of_ends(c):
     yield f"The end of a stream: the group in progress, as far as it was read,"
     yield f"receives the totals of everything heard, {pick(end.totals.groups == stream.totals.groups + 1, 'with', 'without')} that group"
     of_none = [c("rds_finish", stream=RdsStream()).count.value, c("rds_finish_run", bits=600).count.value]
+    yield f"The stream is {only_read}. stream the state of the stream count receives"
     yield f"receives whether there is one, {end.count.value} or {of_none[0]}"
     of_run = c("rds_finish_run", state=c("rds_run", to=600).state, bits=600)
     yield f"The group in progress at the end of a recording, {pick(of_run.count.value == 1 and of_run.room[0].blocks[3].kind == 0, 'as far as it was read', 'whole')}."
@@ -506,8 +518,9 @@ def of_ends(c):
     last = c("rds_finish_with", stream=stream, bytes=whole[50:], bits=100)
     items = c.items(bits=500)
     are_whole = stream.totals.groups + stream.totals.acquired + last.count.value == len(items) and bytes_of(last.totals) == bytes_of(c.totals(bits=500))
-    yield f"the items that the {pick(are_whole, 'first', 'last')} bits bits of these bytes complete, then the group in progress"
-    yield f"over the whole. The stream is {pick(bytes_of(last.stream) == bytes_of(stream), 'only read, and can continue', 'changed')}."
+    yield f"the items that the {pick(are_whole, 'first', 'last')} bits bits of these bytes complete, then the group in progress, and the totals. The"
+    only_read = pick(bytes_of(last.stream) == bytes_of(stream), "only read, and can continue", "changed")
+    yield f"over the whole. The stream is {only_read}. stream the state of the stream totals receives"
     yield f"The end of a stream whose last bytes were not pushed, inside a byte {pick(c.error('rds_finish_with', stream=stream, bits=3) == 0, 'too', 'never')}: the items"
     yield f"receives the totals of everything heard {pick(are_whole, 'and', 'without those')} of these bits"
     yield f"The items of all chunks and these are {pick(are_whole, 'those', 'none')} of rds_items over the whole."
@@ -524,6 +537,7 @@ def of_blocks(c):
     yield f"so that groups in a row are {pick(c.totals(bytes=c.encoded([GROUP] * 2)).complete == 1, 'a recording', 'none')}."
     largest = max(c("rds_remainder", word=1 << k).found.value for k in range(26))
     yield f"by the generator of the block code, {pick(512 <= largest < 1024, 'below', 'above')} 1024."
+    yield "found receives the block Errors"
     kinds = [c("rds_correct", word=0x09500C8 ^ burst, limit=limit).found.kind for burst, limit in ((0, 0), (24, 2), (24, 1), (7, 2), (7, 3))]
     yield f"a burst of {pick(kinds == [2, 3, 1, 1, 3], 'up to', 'from')} limit bits, 0 to 5, is corrected"
     yield f"is corrected if {pick(c('rds_correct', word=0x3840283, offset=3, limit=2).found.kind == 1, 'exactly one fits', 'any fits')}"
