@@ -68,8 +68,12 @@ same 'what librds.a shows' "$declared" "$(nm --defined-only -g "$library/librds.
 same 'what librds.a needs' 'free malloc memcpy memmove memset realloc' "$(nm -u "$library/librds.a" | awk 'NF == 2 {print $2}' | sort | tr '\n' ' ' | sed 's/ $//')"
 same 'where librds.so leads' librds.so.0 "$(readlink "$library/librds.so")"
 for it in librds.a librds.so.0; do
-  same "folders of this machine in $it" '' "$(strings "$library/$it" | grep -m 1 "^${TMPDIR:-/tmp}/")"
+  same "folders of this machine in $it" '' "$(strings "$library/$it" | grep -m 1 -e "^${TMPDIR:-/tmp}/" -e "^$PWD/")"
 done
+same 'owner, year and object in librds.a' '0/0 1970 rds.o' "$(TZ=UTC ar tv "$library/librds.a" | awk '{print $2, $(NF - 1), $NF}')"
+# no state is kept: both of these are only pointed at
+same 'what a call may change in librds.a' 'none nowhere' "$(nm -f sysv "$library/librds.a" |
+  awk -F'|' 'NF > 6 && $7 !~ /^(\.text|\.rodata|\.data\.rel\.ro|\*(UND|ABS)\*|$)/ {sub(" *$", "", $1); print $1}' | sort | tr '\n' ' ' | sed 's/ $//')"
 # an array of no values is handed on as this, which has the alignment of max_align_t
 same 'the size of none in lib/border.c' 0000000000000020 "$(nm -S "$library/librds.a" | awk '$4 == "none" {print $2}')"
 

@@ -329,7 +329,7 @@ LISTS = [r"Errors(?:, in this order)?: [^.]*\.", r"\bOnly [\w, ]+ (?=call malloc
 
 
 def compare_rest(faults, text, structs, library):
-    """Finds the words of comments that no rule, no number and no list has."""
+    """Finds what no rule, no number and no list has: two words of a comment or more, or a sentence of one."""
     page = squeezed(re.sub(r"^ \*     .*\n", "", text, flags=re.M))
     reasons = {number: said for number, (_, said) in refusals_of_crate().items()}
     known = [*map(re.escape, [*rules_in_words(library), *reasons.values()]), *(it for it, _ in facts(structs, reasons)), *LISTS, *PLAIN]
@@ -338,7 +338,7 @@ def compare_rest(faults, text, structs, library):
         is_known[at:end] = [True] * (end - at)
     for it in re.finditer(r"/\*.*?\*/", page):
         rest = "".join("\n" if is_known[at] else page[at] for at in range(*it.span()))
-        faults.extend(f"words that nothing here names: {words}" for words in rest.split("\n") if len(re.findall(r"\w+", words)) > 1)
+        faults.extend(f"words that nothing here names: {words}" for words in rest.split("\n") if re.search(r"\w\W+\w|\b[A-Z]\w*\.", words))
 
 
 def with_other_words(text):

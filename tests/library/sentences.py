@@ -37,10 +37,10 @@ PROMISES = [
     "to one T, aligned, that no other thread writes during the call; it is only read",
     "T *p to one T of the caller's, aligned, that nobody else reads or writes during the call",
     "C cannot check the rest: the memory must exist, and no other thread may write it during the call.",
-    "Nothing is kept after a call: no handle, no thread, no lock, no global state, nothing to free.",
+    "Threads. Nothing is kept after a call: no handle, no thread, no lock, no global state, nothing to free.",
     "Calls may run at the same time if no two write to the same memory.",
     "call malloc, and they free what they took before they return.",
-    "A call takes time for the bits that it decodes and for the gaps that it is given, whatever the length of the recording or stream.",
+    "Time. A call takes time for the bits that it decodes and for the gaps that it is given, whatever the length of the recording or stream.",
     "bytes, bytes_len the recording, or the next bytes of a stream bits the recording",
     "Parameters that several functions share: bytes, bytes_len",
     "rules the decoder's rules room, room_len receives the items",
@@ -91,6 +91,11 @@ def lent(kind, value, is_row):
     return (kind._type_ * len(value))(*value) if is_row else kind._type_(*value)
 
 
+def untouched(kind):
+    """A value that nothing was written to."""
+    return kind.from_buffer_copy(b"Z" * ctypes.sizeof(kind))
+
+
 def bytes_of(value):
     return bytes(value) if isinstance(value, (ctypes.Structure, ctypes.Array, ctypes._SimpleCData)) else b""
 
@@ -107,7 +112,7 @@ class Calls:
         for name, (result, kinds) in FUNCTIONS.items():
             function = getattr(self.library, name)
             function.restype, function.argtypes = result, kinds
-        self.usual = {"gaps": [], "rules": RULES, "groups": [(GROUP,)] * 6, "number": 1, "offset": 1, "limit": 2, "word": 0, "from": 0}
+        self.usual = {"gaps": [], "rules": RULES, "groups": [(GROUP,)] * 6, "number": 1, "offset": 1, "limit": 2, "word": 0, "from": 0, "state": (), "stream": ()}
         self.usual["bytes"] = self.encoded([GROUP] * 6)
 
     def encoded(self, groups):
@@ -120,9 +125,9 @@ class Calls:
             value = named.get(name, self.usual.get(name))
             if issubclass(kind, ctypes._Pointer):
                 if name == "room" and isinstance(named.get(name, MANY), int):
-                    value = (kind._type_ * named.get(name, MANY))()
+                    value = untouched(kind._type_ * named.get(name, MANY))
                 is_row = f"{name}_len" in self.names[function]
-                value = kind._type_() if value is None and name not in named else lent(kind, value, is_row)
+                value = untouched(kind._type_) if value is None and name not in named else lent(kind, value, is_row)
                 pointers[name] = bytes_of(value)
             elif name.endswith("_len"):
                 value = named[name] if name in named else len(at[name[:-4]] or ())
@@ -403,10 +408,10 @@ def of_order(c, lists):
     yield f"On error, arguments are unchanged, except {said}."
     part, all_of_them = c("rds_items", room=1), c("rds_items")
     yield f"receives the number of items, {pick(part.error and part.count.value == all_of_them.count.value, 'also', 'not')} on RDS_SMALL_ROOM"
-    yield f"The items of a recording. If they do not fit, {pick(bytes_of(part.room) == bytes(48), 'only', 'also')} count is written."
+    yield f"The items of a recording. If they do not fit, {pick(bytes_of(part.room) == b'Z' * 48, 'only', 'also')} count is written."
     of_run = c("rds_run", room=1)
-    yield f"If the items do not fit, {pick(bytes_of(of_run.room) == bytes(48) and of_run.state.due == 0, 'only', 'also')} count is written."
-    is_from_first = bytes_of(all_of_them.room[0]) != bytes(48) and bytes_of(all_of_them.room[MANY - 1]) == bytes(48)
+    yield f"If the items do not fit, {pick(bytes_of(of_run.room) == b'Z' * 48 and of_run.state.due == 0, 'only', 'also')} count is written."
+    is_from_first = bytes_of(all_of_them.room)[7 * 48 :] == b'Z' * 48 * (MANY - 7) and all_of_them.room[0].what == 1
     yield f"receives the items from its {pick(is_from_first, 'beginning', 'end')} on, if they fit"
 
 
