@@ -67,6 +67,7 @@ same 'what librds.so.0 shows' "$declared" "$(nm -D --defined-only "$library/libr
 same 'what librds.a shows' "$declared" "$(nm --defined-only -g "$library/librds.a" | awk 'NF == 3 {print $3}' | sort)"
 same 'what librds.a needs' 'free malloc memcpy memmove memset realloc' "$(nm -u "$library/librds.a" | awk 'NF == 2 {print $2}' | sort | tr '\n' ' ' | sed 's/ $//')"
 same 'where librds.so leads' librds.so.0 "$(readlink "$library/librds.so")"
+same 'the header beside the library' "$(cat lib/rds.h)" "$(cat "$library/rds.h")"
 for it in librds.a librds.so.0; do
   same "folders of this machine in $it" '' "$(strings "$library/$it" | grep -m 1 -e "^${TMPDIR:-/tmp}/" -e "^$PWD/")"
 done
@@ -101,6 +102,8 @@ make_program() {
 }
 for it in rows refused threads states streams cases texts stack; do make_program "$it"; done
 tried 'texts' "$work/texts"
+tried 'making heap' "${CC:-cc}" -std=c11 "${strict[@]}" -o "$work/heap" tests/library/heap.c
+tried 'sizes and places of lib/heap.c' "$work/heap"
 tried 'the stack that calls take' "$work/stack" "$sample"
 
 # One table of calls with their answers, for C, Python, Rust and the second decoder.
