@@ -118,6 +118,8 @@ def compare_versions(faults, text, library, program):
                           ("bindings/rust/Cargo.toml", r'^version = "(.*)"$'),
                           ("bindings/python/pyproject.toml", r'^version = "(.*)"$')):
         faults.same(f"{path}, version", parts, three_of(re.search(pattern, text_of(f"{TOP}/{path}"), re.M)[1]))
+    described = re.search(r"librds: the (decoder of .*?), for C", text)[1]
+    faults.same("name and description of rds.pc.in", [("rds", described)], re.findall(r"^Name: (.*)\nDescription: (.*)$", text_of(f"{TOP}/lib/rds.pc.in"), re.M))
     nodes = dict(re.findall(r"^RDS_([\d.]+) \{\s*global:(.*?)(?:local:|\})", text_of(f"{TOP}/lib/rds.map"), re.M | re.S))
     shown = {name: f"RDS_{node}" for node, names in nodes.items() for name in re.findall(r"(\w+);", names)}
     names = dict(re.findall(r" T (\w+)@@([\w.]+)$", says("nm", "-D", "--defined-only", f"{library}/librds.so.0"), re.M))
