@@ -112,6 +112,29 @@ files_there() { (cd "$root" && find . -path ./var/lib/dpkg -prune -o ! -type d -
 # files_of NAME: the files that a package holds
 files_of() { dpkg-deb --contents "$1" | awk '!/^d/ { sub(/.* \.\//, "/"); sub(/ -> .*/, ""); print }'; }
 
+# fields_of PACKAGE: its name, section, and the packages that it needs
+fields_of() { dpkg-deb --show --showformat '${Package}, ${Section}, ${Multi-Arch}: ${Depends}; ${Recommends}\n' "$1"; }
+
+# newest_libc FILE: the newest version of the C library that it calls
+newest_libc() { readelf -V "$1" | grep -o 'GLIBC_[0-9.]*' | sort -V | tail -n 1 | sed 's/.*_//'; }
+
+# sums FILE..: the checksum of each, uncompressed if it is compressed, and its name
+sums() {
+  local it
+  for it in "$@"; do
+    case $it in *.gz) printf '%s %s\n' "$(gzip -dc "$it" | cksum | tr ' ' -)" "$it" ;; *) printf '%s %s\n' "$(cksum <"$it" | tr ' ' -)" "$it" ;; esac
+  done
+}
+
+# uninstalled: the files of the tree that a package should have and that none has as they are
+uninstalled() {
+  local there
+  mapfile -t there < <(find "$root" -type f -size -1024k)
+  awk 'NR == FNR { known[$1] = 1; next } !($1 in known) { print $2 }' <(sums "${there[@]}") \
+    <(sums packaging/* examples/* completions/* docs/*.md rds.1 README.md CHANGELOG.md lib/rds.h monitor/{WATCHING.md,rds-monitor{,.1}} monitor/completions/* \
+      monitor/rds_monitor/{*.py,page/*,watch/*.py} bindings/python/librds/{*.py,py.typed})
+}
+
 station() { "$program" list < examples/station.bin; }
 
 if has dpkg dpkg-architecture dpkg-deb dpkg-shlibdeps readelf strip lintian "${as_root[@]}"; then
@@ -127,6 +150,14 @@ if has dpkg dpkg-architecture dpkg-deb dpkg-shlibdeps readelf strip lintian "${a
   same 'errors and warnings of lintian' '' "$(said_by_lintian --suppress-tags "$left_to_the_archive" "${packages[@]}")"
   same 'a warning of lintian' "${left_to_the_archive%,*}" \
     "$(said_by_lintian "${packages[-1]}" | grep -o "${left_to_the_archive%,*}" | uniq)"
+  python=$(sed -n 's/^requires-python = ">=\(.*\)"$/\1/p' bindings/python/pyproject.toml)
+  same 'what they need' "librds-dev, libdevel, same: librds0 (= $version)
+librds0, libs, same: libc6 (>= $(newest_libc "$library/librds.so.0"))
+librds0-dbgsym, debug, no: librds0 (= $version)
+python3-librds, python, no: python3 (>= $python), librds0 (>= $version); python3-numpy
+rds, hamradio, no: libc6 (>= $(newest_libc "$built")); rds-monitor
+rds-monitor, hamradio, no: python3 (>= $python), python3-numpy, python3-librds (= $version); rds, libjs-d3, python3-jinja2" \
+    "$(for it in "${packages[@]}"; do fields_of "$it"; done | sed 's/; $//' | sort -u)"
   cksum "${packages[@]}" > "$work/first"
   packaging/make_deb.sh "$built" "$library" "$work/a folder" "${for_arm64[@]}" > /dev/null
   same 'the same again' "$(cat "$work/first")" "$(cksum "${packages[@]}")"
@@ -138,6 +169,7 @@ if has dpkg dpkg-architecture dpkg-deb dpkg-shlibdeps readelf strip lintian "${a
   mapfile -t here_installed < <(printf '%s\n' "${packages[@]}" | grep -v '_arm64\.deb$')
   dpkg_there --force-depends --install "${here_installed[@]}" 2> /dev/null || fail 'they are not installed'
   same 'the installed files' "$(for it in "${here_installed[@]}"; do files_of "$it"; done | sort)" "$(files_there)"
+  same 'files that no package has' "$(printf '%s\n' packaging/make_deb.sh docs/{ARCHITECTURE,CHANGING,DECISIONS,MODEL,PROOFS,TESTING}.md)" "$(uninstalled)"
   same 'the service is there, and off' /usr/lib/systemd/system/rds-monitor-watch.service "$(files_there | grep -F rds-monitor-watch.service)"
   same 'nothing is missing or other than it was' '' "$(differing)"
   echo >> "$root/usr/share/rds/examples/gaps.sh"
