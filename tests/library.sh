@@ -154,13 +154,31 @@ wanted='7691 valid, 1923 groups'
 sed -n 's/^ \*     //p' lib/rds.h >"$work/header.c"
 tried 'the program of rds.h' "${CC:-cc}" -std=c11 "${strict[@]}" -o "$work/header" "$work/header.c" "$library/librds.a"
 same 'what it says' "$wanted" "$(said "$work/header")"
-# a newer header makes the library anew, for either processor
-for it in 'amd64 build/lib' 'arm64 build/lib-arm64 aarch64-linux-gnu-'; do
-  read -ra words <<<"$it"
-  same "make lib for ${words[0]}" "lib/archive.py ${words[0]} build/librds-${words[0]}.a
+if has make; then
+  # a newer header makes the library anew, for either processor
+  for it in 'amd64 build/lib' 'arm64 build/lib-arm64 aarch64-linux-gnu-'; do
+    read -ra words <<<"$it"
+    same "make lib for ${words[0]}" "lib/archive.py ${words[0]} build/librds-${words[0]}.a
 lib/make_library.sh build/librds-${words[0]}.a ${words[*]:1}" \
-    "$(make --no-print-directory -n -W lib/rds.h lib "ARCH=${words[0]}" RT=true | sed -n 's/ *$//; /^lib/p')"
+      "$(make --no-print-directory -n -W lib/rds.h lib "ARCH=${words[0]}" RT=true | sed -n 's/ *$//; /^lib/p')"
+  done
+fi
+# lib/archive.py over a toolchain that notes what it is asked for, and fails; and over libraries that are not built
+mkdir -p "$work/kit/bin" "$work/tree"
+printf '#!/bin/sh\necho "${0##*/} $*" >"${0%%/*}/../called"\necho no proof\nexit 1\n' | tee "$work/kit/bin/rt" >"$work/kit/bin/rattle"
+chmod +x "$work/kit/bin"/*
+for it in 'amd64 --cpu x86-64' 'arm64 --target aarch64-unknown-linux-gnu'; do
+  same "what is asked for a library for ${it%% *}" "no proof
+status 1
+--backend llvm ${it#* } --incremental" "$(RT=$work/kit/bin/rt lib/archive.py "${it%% *}" "$work/none.a"
+    echo "status $?"
+    grep -o -e '--backend.*--incremental' "$work/kit/called")"
 done
+cp --parents -r lib crates.txt tests/holes.py crates/*/src/lib.rt "$work/tree"
+same 'what is asked if the libraries are not built' 'status 1
+rt lib' "$(RT=$work/kit/bin/rt "$work/tree/lib/archive.py" amd64 "$work/none.a"
+  echo "status $?"
+  cat "$work/kit/called")"
 install=(make -s -o build/lib/librds.so.0 install-lib "DESTDIR=$work/root" PREFIX=/usr)
 if has pkg-config make; then
   if [ "$library" = "$(realpath build/lib)" ]; then

@@ -120,10 +120,8 @@ newest_libc() { readelf -V "$1" | grep -o 'GLIBC_[0-9.]*' | sort -V | tail -n 1 
 
 # sums FILE..: the checksum of each, uncompressed if it is compressed, and its name
 sums() {
-  local it
-  for it in "$@"; do
-    case $it in *.gz) printf '%s %s\n' "$(gzip -dc "$it" | cksum | tr ' ' -)" "$it" ;; *) printf '%s %s\n' "$(cksum <"$it" | tr ' ' -)" "$it" ;; esac
-  done
+  printf '%s\n' "$@" | grep -v '\.gz$' | xargs cksum | awk '{ print $1 "-" $2, $3 }'
+  printf '%s\n' "$@" | grep '\.gz$' | while read -r it; do gzip -dc "$it" | cksum | awk -v name="$it" '{ print $1 "-" $2, name }'; done
 }
 
 # uninstalled: the files of the tree that a package should have and that none has as they are
@@ -215,7 +213,7 @@ $libdir/pkgconfig/rds.pc" "$(files_there | grep -E "^($libdir|/usr/include)/")"
 cmake_minimum_required(VERSION 3.16)
 project(readme C)
 set(folder "${rds_DIR}")
-foreach(other 0.1 0.3 1.0)
+foreach(other 0.1 0.2.1 0.3 1.0)
   find_package(rds ${other} QUIET)
   if(rds_FOUND)
     message(FATAL_ERROR "found for ${other}")
@@ -223,6 +221,10 @@ foreach(other 0.1 0.3 1.0)
   set(rds_DIR "${folder}" CACHE PATH "" FORCE)
 endforeach()
 find_package(rds 0.2 REQUIRED)
+find_package(rds 0.2.0 EXACT REQUIRED)
+if(NOT rds_VERSION VERSION_EQUAL 0.2)
+  message(FATAL_ERROR "version ${rds_VERSION}")
+endif()
 foreach(kind static rds)
   add_executable(${kind} readme.c)
   target_link_libraries(${kind} rds::${kind})
@@ -239,6 +241,8 @@ CMAKE
   dpkg_there --force-depends --purge rds rds-monitor python3-librds librds-dev librds0-dbgsym librds0 || fail 'they are not removed'
   same 'what is left of them' '' "$(files_there)$(find "$root/usr" 2>/dev/null)"
 
+  same 'make deb' "packaging/make_deb.sh $built $library build $library" \
+    "$(make -n -o "$library/librds.so.0" deb "PROGRAM=$built" "LIBRARY=$library" "FOLDER_arm64=$library" | tail -n 1)"
   same 'a package of no program' 'make_deb: examples is no program' "$(packaging/make_deb.sh examples "$library" "$work" 2>&1)"
   same 'a package of no library' 'make_deb: there is no library in examples' \
     "$(packaging/make_deb.sh "$built" examples "$work" 2>&1)"
