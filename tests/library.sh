@@ -165,7 +165,7 @@ lib/make_library.sh build/librds-${words[0]}.a ${words[*]:1}" \
 fi
 # lib/archive.py over a toolchain that notes what it is asked for, and fails; and over libraries that are not built
 mkdir -p "$work/kit/bin" "$work/tree"
-printf '#!/bin/sh\necho "${0##*/} $*" >"${0%%/*}/../called"\necho no proof\nexit 1\n' | tee "$work/kit/bin/rt" >"$work/kit/bin/rattle"
+printf '#!/bin/sh\necho "${0##*/} $*" >"${0%%/*}/../called"\nprintf "no proof"\nexit 1\n' | tee "$work/kit/bin/rt" >"$work/kit/bin/rattle"
 chmod +x "$work/kit/bin"/*
 for it in 'amd64 --cpu x86-64' 'arm64 --target aarch64-unknown-linux-gnu'; do
   same "what is asked for a library for ${it%% *}" "no proof
