@@ -170,12 +170,13 @@ chmod +x "$work/kit/bin"/*
 for it in 'amd64 --cpu x86-64' 'arm64 --target aarch64-unknown-linux-gnu'; do
   same "what is asked for a library for ${it%% *}" "no proof
 status 1
---backend llvm ${it#* } --incremental" "$(RT=$work/kit/bin/rt lib/archive.py "${it%% *}" "$work/none.a"
+--backend llvm ${it#* } --incremental $PWD/build/kept_rds_c -o $work/none.a" "$(RT=$work/kit/bin/rt lib/archive.py "${it%% *}" "$work/none.a"
     echo "status $?"
-    grep -o -e '--backend.*--incremental' "$work/kit/called")"
+    grep -o -e '--backend.*' "$work/kit/called")"
 done
 cp --parents -r lib crates.txt tests/holes.py crates/*/src/lib.rt "$work/tree"
-same 'what is asked if the libraries are not built' 'status 1
+mkdir -p "$work/tree/crates/rds_code/out/rlib/rds_code.rlib"
+same 'what is asked if only one library is built' 'status 1
 rt lib' "$(RT=$work/kit/bin/rt "$work/tree/lib/archive.py" amd64 "$work/none.a"
   echo "status $?"
   cat "$work/kit/called")"
