@@ -72,8 +72,8 @@ for it in librds.a librds.so.0; do
   same "folders of this machine in $it" '' "$(strings "$library/$it" | grep -m 1 -e "^${TMPDIR:-/tmp}/" -e "^$PWD/")"
 done
 same 'owner, year and object in librds.a' '0/0 1970 rds.o' "$(TZ=UTC ar tv "$library/librds.a" | awk '{print $2, $(NF - 1), $NF}')"
-# no state is kept: both of these are only pointed at
-same 'what a call may change in librds.a' 'none nowhere' "$(nm -f sysv "$library/librds.a" |
+# Nothing is kept after a call: both of these are only pointed at.
+same 'writable data of librds.a' 'none nowhere' "$(nm -f sysv "$library/librds.a" |
   awk -F'|' 'NF > 6 && $7 !~ /^(\.text|\.rodata|\.data\.rel\.ro|\*(UND|ABS)\*|$)/ {sub(" *$", "", $1); print $1}' | sort | tr '\n' ' ' | sed 's/ $//')"
 # an array of no values is handed on as this, which has the alignment of max_align_t
 same 'the size of none in lib/border.c' 0000000000000020 "$(nm -S "$library/librds.a" | awk '$4 == "none" {print $2}')"
@@ -87,7 +87,7 @@ cp tests/library/rds_0_2.h "$earlier/rds.h"
 echo 'RDS_0.2 { global: rds_*; local: *; };' >"$earlier/stub.map"
 tried 'the library that does nothing' "${CC:-cc}" -std=c11 -g -fPIC -Wall -Werror -shared -Wl,-soname,librds.so.0 "-Wl,--version-script=$earlier/stub.map" \
   -o "$earlier/librds.so.0" "$earlier/stub.c"
-# and one that refuses each call, whose texts are the names of their functions
+# One that refuses each call. Its texts are the names of their functions.
 refusing=$work/refusing
 mkdir "$refusing"
 sed -e '/^const/s/return 0/return __func__/' -e 's/return 0/return 5/' "$earlier/stub.c" >"$refusing/stub.c"
@@ -155,7 +155,7 @@ sed -n 's/^ \*     //p' lib/rds.h >"$work/header.c"
 tried 'the program of rds.h' "${CC:-cc}" -std=c11 "${strict[@]}" -o "$work/header" "$work/header.c" "$library/librds.a"
 same 'what it says' "$wanted" "$(said "$work/header")"
 if has make; then
-  # a newer header makes the library anew, for either processor
+  # After a change of the header the library is made anew, for either processor.
   for it in 'amd64 build/lib' 'arm64 build/lib-arm64 aarch64-linux-gnu-'; do
     read -ra words <<<"$it"
     same "make lib for ${words[0]}" "lib/archive.py ${words[0]} build/librds-${words[0]}.a
@@ -163,12 +163,12 @@ lib/make_library.sh build/librds-${words[0]}.a ${words[*]:1}" \
       "$(make --no-print-directory -n -W lib/rds.h lib "ARCH=${words[0]}" RT=true | sed -n 's/ *$//; /^lib/p')"
   done
 fi
-# lib/archive.py over a toolchain that notes what it is asked for, and fails; and over libraries that are not built
+# lib/archive.py over a toolchain that notes its arguments and fails, and over libraries of which only one is built
 mkdir -p "$work/kit/bin" "$work/tree"
 printf '#!/bin/sh\necho "${0##*/} $*" >"${0%%/*}/../called"\nprintf "no proof"\nexit 1\n' | tee "$work/kit/bin/rt" >"$work/kit/bin/rattle"
 chmod +x "$work/kit/bin"/*
 for it in 'amd64 --cpu x86-64' 'arm64 --target aarch64-unknown-linux-gnu'; do
-  same "what is asked for a library for ${it%% *}" "no proof
+  same "the toolchain's call for ${it%% *}" "no proof
 status 1
 --backend llvm ${it#* } --incremental $PWD/build/kept_rds_c -o $work/none.a" "$(RT=$work/kit/bin/rt lib/archive.py "${it%% *}" "$work/none.a"
     echo "status $?"
@@ -176,7 +176,7 @@ status 1
 done
 cp --parents -r lib crates.txt tests/holes.py crates/*/src/lib.rt "$work/tree"
 mkdir -p "$work/tree/crates/rds_code/out/rlib/rds_code.rlib"
-same 'what is asked if only one library is built' 'status 1
+same 'the call if only one library is built' 'status 1
 rt lib' "$(RT=$work/kit/bin/rt "$work/tree/lib/archive.py" amd64 "$work/none.a"
   echo "status $?"
   cat "$work/kit/called")"
@@ -184,7 +184,7 @@ install=(make -s -o build/lib/librds.so.0 install-lib "DESTDIR=$work/root" PREFI
 if has pkg-config make; then
   if [ "$library" = "$(realpath build/lib)" ]; then
     tried 'installing' "${install[@]}"
-    same 'what is installed' '-rw-r--r-- usr/include/rds.h
+    same 'installed files' '-rw-r--r-- usr/include/rds.h
 -rw-r--r-- usr/lib/cmake/rds/rds-config-version.cmake
 -rw-r--r-- usr/lib/cmake/rds/rds-config.cmake
 -rw-r--r-- usr/lib/librds.a
@@ -208,7 +208,7 @@ lrwxrwxrwx usr/lib/librds.so' "$(find "$work/root" ! -type d -printf '%M %P\n' |
     same 'totals of a file' '1923 groups, 1922 of them complete; 0 bits corrected' \
       "$(LD_LIBRARY_PATH=$work/root/usr/lib "$work/totals" "$sample")"
     cat "$sample" <(head -c 9999 /dev/zero) "$sample" >"$work/twice"
-    # a room of two items takes a chunk in parts
+    # With room for two items a chunk is taken in parts.
     sed 's/ROOM = 16 \* CHUNK/ROOM = 2/' bindings/c/programmes.c >"$work/in_parts.c"
     tried 'programmes.c with little room' "${CC:-cc}" -std=c11 -fsanitize=address -o "$work/in_parts" "$work/in_parts.c" "${found[@]}"
     same 'programmes of a stream' \
@@ -221,7 +221,8 @@ lrwxrwxrwx usr/lib/librds.so' "$(find "$work/root" ! -type d -printf '%M %P\n' |
     for it in programmes in_parts; do
       same "$it that change" '1234 0678 1234 9ABC ' "$(LD_LIBRARY_PATH=$work/root/usr/lib "$work/$it" <"$work/three" | tr '\n' ' ')"
     done
-    same 'a programme of the number 0' 0000 "$(printf '0000 0548 E100 5041\n%.0s' 1 2 | "$program" encode | LD_LIBRARY_PATH=$work/root/usr/lib "$work/programmes")"
+    printf '0000 0548 E100 5041\n%.0s' 1 2 | "$program" encode >"$work/zeros"
+    same 'a programme of the number 0' 0000 "$(LD_LIBRARY_PATH=$work/root/usr/lib "$work/programmes" <"$work/zeros")"
     for it in programmes "totals $sample"; do
       read -ra words <<<"$it"
       same "a refused call of ${words[0]}" 'refused 5 rds_refusal_text: rds_refusal_reason, 1' \

@@ -149,7 +149,7 @@ if has dpkg dpkg-architecture dpkg-deb dpkg-shlibdeps readelf strip lintian "${a
   same 'a warning of lintian' "${left_to_the_archive%,*}" \
     "$(said_by_lintian "${packages[-1]}" | grep -o "${left_to_the_archive%,*}" | uniq)"
   python=$(sed -n 's/^requires-python = ">=\(.*\)"$/\1/p' bindings/python/pyproject.toml)
-  same 'what they need' "librds-dev, libdevel, same: librds0 (= $version)
+  same 'packages that they need' "librds-dev, libdevel, same: librds0 (= $version)
 librds0, libs, same: libc6 (>= $(newest_libc "$library/librds.so.0"))
 librds0-dbgsym, debug, no: librds0 (= $version)
 python3-librds, python, no: python3 (>= $python), librds0 (>= $version); python3-numpy

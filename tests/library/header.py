@@ -1,12 +1,12 @@
 #!/usr/bin/env python3
-"""Every number in lib/rds.h against its source: tests/library/header.py LIBRARY-FOLDER PATH-TO-RDS
+"""Every number in lib/rds.h against its source, and every rule in words: tests/library/header.py LIBRARY-FOLDER PATH-TO-RDS
 
 Enumerators are compared with the definitions of rds_abi, the default rules with the program's help, sizes in comments with the structs,
-and every other number in a comment with the place that it comes from. A number that no line below names is a fault. Rules in words are
-compared with what calls do (sentences.py). The versions of the header, the library, pkg-config, the bindings and the program are one, and each function has the symbol version of rds.map. All that an
-earlier header of this so.0 declares is still declared.
-Then each number of the header is changed in turn, each word of its comments that has an opposite, and each declaration of the earlier one,
-which has to be noticed.
+and every other number in a comment with the place that it comes from. Rules in words are compared with what calls do (sentences.py). A
+number is a fault if no line below names it, and so are words. The versions of the header, the library, pkg-config, the bindings and the
+program are one, and each function has the symbol version of rds.map. All that an earlier header of this so.0 declares is still declared.
+Then each number of the header is changed in turn, each word of its comments that has an opposite, and each declaration of the earlier
+one. Comments of two fields are exchanged. Each has to be noticed.
 """
 
 import ctypes
@@ -119,7 +119,8 @@ def compare_versions(faults, text, library, program):
                           ("bindings/python/pyproject.toml", r'^version = "(.*)"$')):
         faults.same(f"{path}, version", parts, three_of(re.search(pattern, text_of(f"{TOP}/{path}"), re.M)[1]))
     described = re.search(r"librds: the (decoder of .*?), for C", text)[1]
-    faults.same("name and description of rds.pc.in", [("rds", described)], re.findall(r"^Name: (.*)\nDescription: (.*)$", text_of(f"{TOP}/lib/rds.pc.in"), re.M))
+    told = re.findall(r"^Name: (.*)\nDescription: (.*)$", text_of(f"{TOP}/lib/rds.pc.in"), re.M)
+    faults.same("name and description of rds.pc.in", [("rds", described)], told)
     nodes = dict(re.findall(r"^RDS_([\d.]+) \{\s*global:(.*?)(?:local:|\})", text_of(f"{TOP}/lib/rds.map"), re.M | re.S))
     shown = {name: f"RDS_{node}" for node, names in nodes.items() for name in re.findall(r"(\w+);", names)}
     names = dict(re.findall(r" T (\w+)@@([\w.]+)$", says("nm", "-D", "--defined-only", f"{library}/librds.so.0"), re.M))
@@ -327,7 +328,12 @@ def compare_sentences(faults, text, library):
 
 
 # Comments that compare_comments and compare_names read.
-LISTS = [r"Errors(?:, in this order)?: [^.]*\.", r"\bOnly [\w, ]+ (?=call malloc)", r"/\* (?:(?:RDS_\w+|or),? )+\*/", r"The program's default rules\."]
+LISTS = [
+    r"Errors(?:, in this order)?: [^.]*\.",
+    r"\bOnly [\w, ]+ (?=call malloc)",
+    r"/\* (?:(?:RDS_\w+|or),? )+\*/",
+    r"The program's default rules\.",
+]
 
 
 def compare_rest(faults, text, structs, library):

@@ -1,4 +1,4 @@
-/* lib/heap.c over a C library of this page, which notes what it is asked for: each size and place has to be handed on as it is. */
+/* lib/heap.c over a malloc, realloc and free that note their arguments: each size and place has to be handed on unchanged. */
 #include <stdbool.h>
 #include <stdint.h>
 #include <stdio.h>
@@ -29,7 +29,7 @@ static void noted_free(void *at) { note(at, 0); }
 #define free noted_free
 #include "../../lib/heap.c"
 
-/* Whether this was asked once, of this place. */
+/* Whether there was one call, with this place and size. */
 static bool is_asked(const void *at, size_t size)
 {
     const bool is_right = asked.times == 1 && asked.at == at && asked.size == size;

@@ -1,6 +1,6 @@
-"""The rules that lib/rds.h states in words, as calls of the library decide them: what a call does chooses one of two wordings.
+"""The rules that lib/rds.h states in words. The result of a call chooses between two wordings of each.
 
-`sentences` yields each rule with the wording that is true. header.py wants them in the header, and exchanges each of OPPOSITES in turn.
+`sentences` gives each rule with the true wording. header.py looks for them in the header, and replaces each word of INSTEAD in turn.
 """
 
 import ctypes
@@ -17,7 +17,7 @@ BAD_POINTER, SMALL_ROOM = 70, 64
 GROUP = (0x1234, 0x0548, 0xE100, 0x5041)
 RULES = (2, 3, 10, 0)
 MANY = 400
-# Words of which one says the opposite of another, and words with another meaning in their place.
+# Words with their opposites, and words that change a rule in the place of others.
 OPPOSITES = [
     ("first", "last"), ("before", "after"), ("most", "least"), ("highest", "lowest"), ("newest", "oldest"), ("above", "below"), ("more", "fewer"),
     ("longest", "shortest"), ("begin", "end"), ("begins", "ends"), ("none", "all"), ("only", "also"), ("next", "previous"), ("bit", "byte"),
@@ -29,10 +29,11 @@ INSTEAD = dict(OPPOSITES) | {other: word for word, other in OPPOSITES} | {
     "neither": "either", "different": "the same", "together": "alone", "except": "and", "exactly": "at least", "later": "earlier", "items": "groups",
     "in order": "in any order", "nothing": "all", "completion": "place", "corrected": "lost", "empty": "full", "overlaps": "touches",
 }
-# What no call decides: what the caller owes, what takes time or memory, and what other tests hold.
+# Sentences that no call decides: duties of the caller, time and memory, headings, and rules that other tests check.
 PROMISES = [
     "librds: the decoder of Radio Data System bits, for C and C++.",
-    "Of every function: Errors. A function that returns uint8_t returns 0, or the number of an error. rds_refusal_text and rds_refusal_reason put it into words.",
+    "Of every function: Errors. A function that returns uint8_t returns 0, or the number of an error.",
+    "the number of an error. rds_refusal_text and rds_refusal_reason put it into words.",
     "RDS_OUT_OF_MEMORY can occur at any point. Pointers, by their declaration: const T *p to one T",
     "to one T, aligned, that no other thread writes during the call; it is only read",
     "T *p to one T of the caller's, aligned, that nobody else reads or writes during the call",
@@ -79,7 +80,7 @@ def named(words, value):
 
 
 def lent(kind, value, is_row):
-    """What a pointer of this type gets: NULL, a place, or the values themselves."""
+    """The argument for a pointer of this type: NULL, a place, or the values themselves."""
     if isinstance(value, ctypes.c_void_p):
         return ctypes.cast(value, kind)
     if isinstance(value, ctypes.Structure):
@@ -106,20 +107,21 @@ class Calls:
     def __init__(self, path, names, functions):
         self.names = names
         self.constant = {name: [it.startswith("*const") for it in kinds] for name, (_, kinds) in functions.items()}
-        # What calls wrote though it is only read; and for each error, the parameters that it left changed.
+        # Parameters that are only read, and were written; and for each error, the parameters that it changed.
         self.overwritten, self.changed = set(), set()
         self.library = ctypes.CDLL(path)
         for name, (result, kinds) in FUNCTIONS.items():
             function = getattr(self.library, name)
             function.restype, function.argtypes = result, kinds
-        self.usual = {"gaps": [], "rules": RULES, "groups": [(GROUP,)] * 6, "number": 1, "offset": 1, "limit": 2, "word": 0, "from": 0, "state": (), "stream": ()}
+        self.usual = {"gaps": [], "rules": RULES, "groups": [(GROUP,)] * 6, "state": (), "stream": ()}
+        self.usual |= {"number": 1, "offset": 1, "limit": 2, "word": 0, "from": 0}
         self.usual["bytes"] = self.encoded([GROUP] * 6)
 
     def encoded(self, groups):
         return bytes_of(self("rds_encode", groups=[(it,) for it in groups], room=len(groups)).room)
 
     def __call__(self, function, **named):
-        """The arguments after the call, and the error. A number for room_len's array is its length."""
+        """The arguments after the call, and the error. A number as `room` is the length of that array."""
         at, pointers = {}, {}
         for name, kind in zip(self.names[function], FUNCTIONS[function][1]):
             value = named.get(name, self.usual.get(name))
@@ -187,7 +189,8 @@ def damaged(c):
 def of_recordings(c):
     whole = c.usual["bytes"]
     turned = bytes(int(f"{it:08b}"[::-1], 2) for it in whole)
-    yield f"Bits are packed into bytes, {pick(c.totals(bytes=whole).valid > c.totals(bytes=turned).valid, 'most', 'least')} significant bit first."
+    said = pick(c.totals(bytes=whole).valid > c.totals(bytes=turned).valid, "most", "least")
+    yield f"Bits are packed into bytes, {said} significant bit first."
     first = c.items()[0]
     yield f"A place is the position of a bit, from {first.place - 51}."
     data = damaged(c)
@@ -200,13 +203,16 @@ def of_recordings(c):
     rest = c("rds_finish_run", bytes=data, rules=rules, state=state)
     together = [bytes_of(it) for items in [*steps, rest.room[: rest.count.value]] for it in items]
     are_whole = together == [bytes_of(it) for it in c.items(bytes=data, rules=rules)]
-    yield f"The decoder finds items, in order of {pick(are_whole, 'completion', 'place')}: acquisitions of block sync, groups of four blocks, and losses of block sync."
+    said = pick(are_whole, "completion", "place")
+    yield f"The decoder finds items, in order of {said}: acquisitions of block sync, groups of four blocks, and losses of block sync."
     yield f"There are at most {('no', 'one', 'two', 'three')[max(map(len, steps))]} items per bit."
     yield (
-        "The items of a range of a recording: a list of any length through a small room. Each run continues from the state that the run before it left, the first from a state of zeros "
+        "The items of a range of a recording: a list of any length through a small room. Each run continues from the state that the "
+        "run before it left, the first from a state of zeros "
         f"at place 0. Then rds_finish_run gives the last group, and all together are {pick(are_whole, 'the', 'not the')} items of rds_items."
     )
-    yield f"the recording is the {pick(bytes_of(c.totals(bits=104)) == bytes_of(c.totals(bytes=whole[:13])), 'first', 'last')} bits bits of the bytes"
+    said = pick(bytes_of(c.totals(bits=104)) == bytes_of(c.totals(bytes=whole[:13])), "first", "last")
+    yield f"the recording is the {said} bits bits of the bytes"
 
 
 def of_totals(c):
@@ -251,14 +257,18 @@ def of_items(c):
     yield f"uint8_t version; /* of a group RDS_VERSION_A, RDS_VERSION_B or RDS_VERSION_UNKNOWN; else {acquired.version + loss.version} */"
     conflicts = [it for it in c.items(bytes=damaged(c)) if it.conflict]
     differ = len(conflicts) == 1 and (conflicts[0].blocks[1].info >> 11 & 1) != (conflicts[0].blocks[2].offset == 4)
-    yield f"uint8_t conflict; /* {conflicts[0].conflict} for a group whose blocks 2 and 3 name {pick(differ, 'different versions', 'the same version')} */"
+    said = pick(differ, "different versions", "the same version")
+    yield f"uint8_t conflict; /* {conflicts[0].conflict} for a group whose blocks 2 and 3 name {said} */"
     block = c("rds_correct", word=0x09500D0, limit=2).found
     is_right = c("rds_remainder", word=0x09500D0 ^ block.burst).found.value == c("rds_remainder", word=0x09500C8).found.value
-    yield f"uint32_t burst; /* the error mask: the {pick(is_right and block.burst, 'ones', 'zeros')} of a word of 26 bits were corrected; or 0 */"
+    said = pick(is_right and block.burst, "ones", "zeros")
+    yield f"uint32_t burst; /* the error mask: the {said} of a word of 26 bits were corrected; or 0 */"
     other = c("rds_correct", word=0x0100000 ^ 0x09500C8, limit=1).found
-    yield f"uint16_t info; /* the information word, {pick(other.info == 0x2540 and block.info == 0x2540, 'corrected', 'as it was read')}, or 0 */"
+    said = pick(other.info == 0x2540 and block.info == 0x2540, "corrected", "as it was read")
+    yield f"uint16_t info; /* the information word, {said}, or 0 */"
     not_read = c("rds_correct", word=0x09500D0, limit=1).found
-    yield f"uint8_t offset; /* {pick((not_read.kind, not_read.offset, not_read.info) == (1, 0, 0), '0 none', '0 any')}, or RDS_A, RDS_B, RDS_C, RDS_CX or RDS_D */"
+    said = pick((not_read.kind, not_read.offset, not_read.info) == (1, 0, 0), "0 none", "0 any")
+    yield f"uint8_t offset; /* {said}, or RDS_A, RDS_B, RDS_C, RDS_CX or RDS_D */"
     gapped = c.items(gaps=[(104, 130)])[2].blocks
     yield f"the places from begin to {pick(gapped[0].kind == 1 and gapped[1].kind == 2, 'before', 'past')} end."
     yield f"whose bits mean {pick(gapped[0].info == 0 and c.items(gaps=[(0, 26)])[0].place == 77, 'nothing', 'zeros')}: the places"
@@ -274,7 +284,8 @@ def of_rules(c):
     bits = c.bits([GROUP])
     apart = packed(bits[:26] + "0" * 52 + bits[78:])
     by = [c.totals(bytes=apart, rules=(0, reach, 10, 0)).acquired for reach in (1, 2, 3, 4)]
-    yield f"uint32_t reach; /* sync needs {pick(not c.totals(bytes=packed(bits[:26] + '0' * 78)).acquired, 'two', 'one')} valid blocks that fit each other"
+    said = pick(not c.totals(bytes=packed(bits[:26] + "0" * 78)).acquired, "two", "one")
+    yield f"uint32_t reach; /* sync needs {said} valid blocks that fit each other"
     yield f"at {pick(by == [0, 0, 1, 1], 'most', 'least')} this number of blocks apart: 1 to 8 */"
     order = packed(bits[26:52] + "0" * 26 + bits[:26] + "0" * 26)
     yield f"two valid blocks that {pick(not c.totals(bytes=order, rules=(0, 1, 10, 0)).acquired, 'fit', 'follow')} each other"
@@ -293,19 +304,26 @@ def of_states(c):
     run = lambda to, data=bad, rules=(0, 3, 10, 0): c("rds_run", bytes=data, rules=rules, to=to).state
     state = run(60)
     yield f"uint64_t due; /* where the next block {pick(state.due == 3 * 26 - 1, 'ends', 'begins')} */"
-    yield f"uint32_t number; /* the number of the {pick(state.number == 3 and run(104).number == 1, 'next', 'last')} block, 1 to 4, or {run(40).number} without sync */"
-    yield f"uint32_t first; /* the number of the {pick(state.first == 2 and run(200).first == 1, 'first', 'last')} block that was read in the group in progress */"
-    yield f"uint64_t bad; /* how many blocks in {pick([run(26 * k).bad for k in (5, 6, 7, 8)] == [0, 1, 2, 0], 'a row', 'all')} were bad; or"
+    said = pick(state.number == 3 and run(104).number == 1, "next", "last")
+    yield f"uint32_t number; /* the number of the {said} block, 1 to 4, or {run(40).number} without sync */"
+    said = pick(state.first == 2 and run(200).first == 1, "first", "last")
+    yield f"uint32_t first; /* the number of the {said} block that was read in the group in progress */"
+    said = pick([run(26 * k).bad for k in (5, 6, 7, 8)] == [0, 1, 2, 0], "a row", "all")
+    yield f"uint64_t bad; /* how many blocks in {said} were bad; or"
     masks = [run(26 * k, rules=(0, 3, 10, 20)).bad for k in (6, 7, 8)]
-    yield f"were bad; or, by a share, a mask of the {pick(masks[:2] == [1, 3], 'bad', 'good')} ones, the newest {pick(masks[2] == 6, 'lowest', 'highest')} */"
+    said = pick(masks[:2] == [1, 3], "bad", "good")
+    other_said = pick(masks[2] == 6, "lowest", "highest")
+    yield f"were bad; or, by a share, a mask of the {said} ones, the newest {other_said} */"
     share = run(60, rules=(0, 3, 10, 20))
-    yield f"uint32_t loss; /* the rule of loss of a lock, {pick((state.loss, state.of, share.loss, share.of) == (10, 0, 10, 20), 'as', 'unlike')} rules have it, or 0 */ uint32_t of; /* the same */"
+    said = pick((state.loss, state.of, share.loss, share.of) == (10, 0, 10, 20), "as", "unlike")
+    yield f"uint32_t loss; /* the rule of loss of a lock, {said} rules have it, or 0 */ uint32_t of; /* the same */"
     yield f"40 bytes, all 0 without sync, as {pick(bytes_of(run(40)) == bytes(40), 'before', 'after')} the first bit."
     again = c("rds_run", bytes=bad, rules=(0, 3, 10, 0), state=run(60), **{"from": 60, "to": 200}).state
     yield f"Equal states are {pick(bytes_of(again) == bytes_of(run(200)), 'equal', 'different')} bytes."
     error = lambda rules: c.error("rds_run", bytes=bad, rules=rules, state=run(60), **{"from": 60})
     yield f"It may be copied, stored, and continued elsewhere by the {pick(error((0, 3, 11, 0)), 'same', 'any')} rules. Equal states"
-    yield f"With sync it names the rule of loss that counted its bad blocks; another rule is the error {pick(error((0, 3, 11, 0)) == error((0, 3, 10, 20)) == 65, 'RDS_UNLAWFUL_STATE', 'none')}."
+    said = pick(error((0, 3, 11, 0)) == error((0, 3, 10, 20)) == 65, "RDS_UNLAWFUL_STATE", "none")
+    yield f"With sync it names the rule of loss that counted its bad blocks; another rule is the error {said}."
     heard = [c("rds_run", bytes=packed(flipped(bits, place)), **{"from": 40, "to": 60}).count.value for place in (3, 61)]
     yield f"A run hears up to 233 bits {pick(heard == [0, 1], 'before', 'after')} from."
     yield f"from, to the range: the places from from to {pick(run(51).number == 0 and run(52).number == 3, 'before', 'past')} to "
@@ -315,7 +333,9 @@ def of_states(c):
 def of_streams(c):
     data = damaged(c)
     stream = c.pushed(data[:100]).stream
-    yield f"uint64_t place; /* the number of {pick(stream.place == 800, 'bits', 'bytes')} heard, which is the place of the {pick(stream.place == 800, 'next', 'last')} */"
+    said = pick(stream.place == 800, "bits", "bytes")
+    other_said = pick(stream.place == 800, "next", "last")
+    yield f"uint64_t place; /* the number of {said} heard, which is the place of the {other_said} */"
     head = {"RDS_STREAM_MAGIC": stream.magic, "RDS_STREAM_VERSION": stream.version}
     yield f"uint32_t magic; /* {named(head, 0x31534452)} */ uint32_t version; /* {named(head, 1)} */"
     run = c("rds_run", bytes=data, to=800)
@@ -325,10 +345,13 @@ def of_streams(c):
     yield f"rds_totals_t totals; /* of the items that are {pick(stream.totals.groups == groups, 'complete', 'begun')} */"
     short = c.pushed(data[:9]).stream
     tail = bytes(stream.tail) == data[70:100] + bytes(2) and bytes(short.tail) == data[:9] + bytes(23)
-    yield f"uint8_t tail[32]; /* the {pick(tail, 'last', 'first')} 30 bytes that were heard, or all, {pick(tail, 'then zeros', 'after zeros')} */"
+    said = pick(tail, "last", "first")
+    other_said = pick(tail, "then zeros", "after zeros")
+    yield f"uint8_t tail[32]; /* the {said} 30 bytes that were heard, or all, {other_said} */"
     begun = c.pushed(data[:50]).stream
     cut = c.pushed(data[50:100], stream=begun).stream
-    yield f"However a stream was cut, by the same rules and gaps the {pick(bytes_of(cut) == bytes_of(stream), 'same', 'other')} 256 bytes are left, so they can be compared and hashed."
+    said = pick(bytes_of(cut) == bytes_of(stream), "same", "other")
+    yield f"However a stream was cut, by the same rules and gaps the {said} 256 bytes are left, so they can be compared and hashed."
     yield f"256 bytes, all 0 {pick(c.error('rds_push', stream=RdsStream()) == 0, 'before', 'after')} the first call."
     yield "It may be copied, stored, and continued elsewhere by the same rules and gaps. However"
     yield f"in the {pick(bytes(stream)[:4] == (0x31534452).to_bytes(4, sys.byteorder), 'processor', 'network')}'s byte order"
@@ -407,7 +430,8 @@ def of_order(c, lists):
     said = f"{', '.join(sorted(names))} on {', '.join(map(str, sorted(errors)))}".replace("64", "RDS_SMALL_ROOM")
     yield f"On error, arguments are unchanged, except {said}."
     part, all_of_them = c("rds_items", room=1), c("rds_items")
-    yield f"receives the number of items, {pick(part.error and part.count.value == all_of_them.count.value, 'also', 'not')} on RDS_SMALL_ROOM"
+    said = pick(part.error and part.count.value == all_of_them.count.value, "also", "not")
+    yield f"receives the number of items, {said} on RDS_SMALL_ROOM"
     yield f"The items of a recording. If they do not fit, {pick(bytes_of(part.room) == b'Z' * 48, 'only', 'also')} count is written."
     of_run = c("rds_run", room=1)
     yield f"If the items do not fit, {pick(bytes_of(of_run.room) == b'Z' * 48 and of_run.state.due == 0, 'only', 'also')} count is written."
@@ -434,7 +458,8 @@ def of_errors(c):
     unlawful = c.error("rds_run", state=(1, 0, 9)), c.error("rds_push", stream=(1, 1))
     yield f"RDS_UNLAWFUL_STATE = 65, /* a state or a stream that {pick(unlawful == (65, 65), 'no', 'a')} call can have left"
     gaps = [c.error("rds_totals", gaps=it) for it in ([(5, 9), (9, 12)], [(5, 5)], [(5, 9), (8, 12)], [(620, 625)], [(9, 12), (5, 9)])]
-    yield f"RDS_BAD_GAPS = 16, /* a gap without a place, past the bits, or that begins {pick(gaps[0] == 0 and gaps[2] == 16, 'before', 'at')} the end of the one before it"
+    said = pick(gaps[0] == 0 and gaps[2] == 16, "before", "at")
+    yield f"RDS_BAD_GAPS = 16, /* a gap without a place, past the bits, or that begins {said} the end of the one before it"
     told = [words for words, error in zip(("is empty", "overlaps another", "goes past the end"), gaps[1:]) if error == 16]
     order, touch = pick(gaps[4] == 16, "in order", "in any order"), pick(gaps[0] == 0, "may", "must not")
     yield f"gaps, gaps_len the gaps, {order}; two {touch} touch, and none {told[0]}, {told[1].replace('is ', '')} or {told[2]}"
@@ -459,7 +484,8 @@ def of_pointers(c):
         c.error(name, **{row: place, f"{row}_len": 0, "bits": 0, "to": 0}) == BAD_POINTER
         for name, names in rows.items() for row in names for place in (None, ctypes.c_void_p(1), over(rules))
     ]
-    yield f"p, p_len the same of p_len values in a row; if p_len is 0, p may be {pick(not any(empty) and len(empty) > 30, 'any pointer, NULL too', 'no pointer but NULL')}"
+    said = pick(not any(empty) and len(empty) > 30, "any pointer, NULL too", "no pointer but NULL")
+    yield f"p, p_len the same of p_len values in a row; if p_len is 0, p may be {said}"
     yield f"during the call; it is {pick(not c.overwritten, 'only read', 'written')}"
 
 
@@ -471,7 +497,8 @@ def of_pushes(c):
     small = c.pushed(whole, room=2)
     following = c.pushed(whole[small.taken.value : small.taken.value + 1], stream=small.stream, room=0)
     is_full = small.count.value == 2 and following.error == SMALL_ROOM
-    yield f"Takes the next bytes of a stream, as many as there is room for, and writes the items that they {pick(is_full, 'complete', 'begin')}."
+    said = pick(is_full, "complete", "begin")
+    yield f"Takes the next bytes of a stream, as many as there is room for, and writes the items that they {said}."
     again = c.pushed(whole[small.taken.value :], stream=small.stream)
     yield f"Offer the {pick(small.count.value + again.count.value == 7 and again.stream.place == 624, 'other', 'same')} bytes again."
     yield f"It stops only if the items of one more byte do {pick(is_full, 'not fit', 'fit')}. A byte completes"
@@ -484,7 +511,8 @@ def of_pushes(c):
     finished = c("rds_finish", stream=again.stream)
     items = [*small.room[: small.count.value], *again.room[: again.count.value], *finished.room[: finished.count.value]]
     are_whole = [*map(bytes_of, items)] == [*map(bytes_of, c.items())]
-    yield f"From a stream of zeros on, however it is cut, the items are {pick(are_whole, 'those', 'some')} of rds_items over all bytes so far, except the"
+    said = pick(are_whole, "those", "some")
+    yield f"From a stream of zeros on, however it is cut, the items are {said} of rds_items over all bytes so far, except the"
     yield f"except the group in progress, which rds_finish gives. {pick(are_whole, 'No later', 'A later')} byte changes them."
     none = c.pushed(b"")
     yield f"bytes, bytes_len any number of bytes, none {pick((none.error, none.taken.value) == (0, 0), 'too', 'never')}"
@@ -495,11 +523,13 @@ def of_pushes(c):
     yield f"gaps, gaps_len by their places in the {pick(kinds == [1], 'stream', 'bytes')}; they may"
     near = c.pushed(bytes(30) + whole[:6]).stream
     near.place = (1 << 36) - 8
-    yield f"RDS_TOO_LONG means that the stream would go past 2^36 bits with {pick(c.error('rds_push', bytes=whole[6:], stream=near, room=1) == 5, 'all offered', 'the taken')} bytes."
+    said = pick(c.error("rds_push", bytes=whole[6:], stream=near, room=1) == 5, "all offered", "the taken")
+    yield f"RDS_TOO_LONG means that the stream would go past 2^36 bits with {said} bytes."
     tail = c.pushed(whole[:20]).stream
     tail.tail[20] = 1
     errors = [c.error("rds_push", stream=tail), c.error("rds_push", stream=changed(near, place=(1 << 36) - 8 * 78))]
-    yield f"A state that no call can have left is the error RDS_UNLAWFUL_STATE, such as one with a byte {pick(errors[0] == 65, 'after', 'in')} the tail that is not zero."
+    said = pick(errors[0] == 65, "after", "in")
+    yield f"A state that no call can have left is the error RDS_UNLAWFUL_STATE, such as one with a byte {said} the tail that is not zero."
     yield f"Any other is {pick(errors[1] == 0, 'continued', 'an error')}, whoever wrote it."
 
 
@@ -508,7 +538,8 @@ def of_ends(c):
     yield f"The totals of a recording. found receives the {pick(c.totals().groups == 6, 'totals', 'items')} Errors"
     stream = c.pushed(whole[:50]).stream
     end = c("rds_finish", stream=stream)
-    yield f"the group in progress, {pick(end.count.value == 1 and end.room[0].blocks[3].kind == 0, 'as far as it was read', 'if it is complete')}, and the totals."
+    said = pick(end.count.value == 1 and end.room[0].blocks[3].kind == 0, "as far as it was read", "if it is complete")
+    yield f"the group in progress, {said}, and the totals."
     only_read = pick(bytes_of(end.stream) == bytes_of(stream), "only read, and can continue", "changed")
     yield f"as far as it was read, and the totals. The stream is {only_read}."
     yield f"The end of a stream: the group in progress, as far as it was read,"
@@ -517,16 +548,20 @@ def of_ends(c):
     yield f"The stream is {only_read}. stream the state of the stream count receives"
     yield f"receives whether there is one, {end.count.value} or {of_none[0]}"
     of_run = c("rds_finish_run", state=c("rds_run", to=600).state, bits=600)
-    yield f"The group in progress at the end of a recording, {pick(of_run.count.value == 1 and of_run.room[0].blocks[3].kind == 0, 'as far as it was read', 'whole')}."
+    said = pick(of_run.count.value == 1 and of_run.room[0].blocks[3].kind == 0, "as far as it was read", "whole")
+    yield f"The group in progress at the end of a recording, {said}."
     early = c.error("rds_finish_run", state=c("rds_run", to=500).state)
     yield f"the state that a run up to the {pick(early == 65 and of_run.error == 0, 'end', 'beginning')} left"
     last = c("rds_finish_with", stream=stream, bytes=whole[50:], bits=100)
     items = c.items(bits=500)
-    are_whole = stream.totals.groups + stream.totals.acquired + last.count.value == len(items) and bytes_of(last.totals) == bytes_of(c.totals(bits=500))
-    yield f"the items that the {pick(are_whole, 'first', 'last')} bits bits of these bytes complete, then the group in progress, and the totals. The"
+    are_whole = stream.totals.groups + stream.totals.acquired + last.count.value == len(items)
+    are_whole = are_whole and bytes_of(last.totals) == bytes_of(c.totals(bits=500))
+    said = pick(are_whole, "first", "last")
+    yield f"the items that the {said} bits bits of these bytes complete, then the group in progress, and the totals. The"
     only_read = pick(bytes_of(last.stream) == bytes_of(stream), "only read, and can continue", "changed")
     yield f"over the whole. The stream is {only_read}. stream the state of the stream totals receives"
-    yield f"The end of a stream whose last bytes were not pushed, inside a byte {pick(c.error('rds_finish_with', stream=stream, bits=3) == 0, 'too', 'never')}: the items"
+    said = pick(c.error("rds_finish_with", stream=stream, bits=3) == 0, "too", "never")
+    yield f"The end of a stream whose last bytes were not pushed, inside a byte {said}: the items"
     yield f"receives the totals of everything heard {pick(are_whole, 'and', 'without those')} of these bits"
     yield f"The items of all chunks and these are {pick(are_whole, 'those', 'none')} of rds_items over the whole."
 
@@ -537,8 +572,10 @@ def of_blocks(c):
     highest = pick(high, "highest", "lowest")
     yield f"the word, the first bit of a block {highest} found receives the remainder"
     yield f"the word, the first bit of a block {highest} offset the offset"
-    yield f"104 bits of a group as it is sent, the first bit {pick(c.encoded([GROUP])[:2] == bytes((0x12, 0x34)), 'highest', 'lowest')}: 13 bytes"
-    yield f"information words of each group room, room_len receives the {pick(len(c.encoded([GROUP] * 2)) == 26, 'bits', 'words')} of each group"
+    said = pick(c.encoded([GROUP])[:2] == bytes((0x12, 0x34)), "highest", "lowest")
+    yield f"104 bits of a group as it is sent, the first bit {said}: 13 bytes"
+    said = pick(len(c.encoded([GROUP] * 2)) == 26, "bits", "words")
+    yield f"information words of each group room, room_len receives the {said} of each group"
     yield f"so that groups in a row are {pick(c.totals(bytes=c.encoded([GROUP] * 2)).complete == 1, 'a recording', 'none')}."
     largest = max(c("rds_remainder", word=1 << k).found.value for k in range(26))
     yield f"by the generator of the block code, {pick(512 <= largest < 1024, 'below', 'above')} 1024."
@@ -548,7 +585,8 @@ def of_blocks(c):
     yield f"is corrected if {pick(c('rds_correct', word=0x3840283, offset=3, limit=2).found.kind == 1, 'exactly one fits', 'any fits')}"
     offsets = [c("rds_correct", word=int(c.bits([GROUP])[26 * k : 26 * k + 26], 2), offset=(1, 2, 3, 5)[k]).found.kind for k in range(4)]
     yield f"the offset that the block {pick(offsets == [2] * 4, 'should', 'should not')} have"
-    yield f"RDS_SMALL_ROOM if there is room for {pick([c.error('rds_encode', room=it) for it in (5, 6, 7)] == [64, 0, 0], 'fewer', 'more')} groups."
+    said = pick([c.error("rds_encode", room=it) for it in (5, 6, 7)] == [64, 0, 0], "fewer", "more")
+    yield f"RDS_SMALL_ROOM if there is room for {said} groups."
 
 
 def of_names(c):
@@ -556,7 +594,8 @@ def of_names(c):
     yield f'The name of an error, such as "{bytes(room).split(bytes(1))[0].decode()}", followed by a NUL.'
     rooms = {c.error("rds_refusal_name", number=number, room=16) for number in range(256)}
     yield f"RDS_NAME_ROOM bytes are enough for {pick(rooms == {0, 69}, 'any', 'some')} "
-    yield f"Enough bytes for the name of any error and its {pick(room[7] == 0 and c.error('rds_refusal_name', number=5, room=7) == 64, 'final', 'first')} NUL."
+    said = pick(room[7] == 0 and c.error("rds_refusal_name", number=5, room=7) == 64, "final", "first")
+    yield f"Enough bytes for the name of any error and its {said} NUL."
     texts = {}
     for name in ("rds_refusal_text", "rds_refusal_reason", "rds_offset_text"):
         text = getattr(c.library, name)
@@ -573,7 +612,7 @@ def of_names(c):
 
 
 def sentences(path, names, functions, lists):
-    """What the header must say, one rule each."""
+    """The sentences that the header must have."""
     c = Calls(path, names, functions)
     parts = [of_recordings, of_totals, of_items, of_rules, of_states, of_streams, of_pushes, of_ends, of_blocks, of_names, of_errors]
     return [*PROMISES, *(it for part in parts for it in part(c)), *of_order(c, lists), *of_pointers(c)]
