@@ -10,7 +10,7 @@
 #include <stdio.h>
 #include <string.h>
 
-enum { MOST = 12, APART = 4096, COUNT = 3, REACHED = 200 };
+enum { MOST = 12, APART = 1024, COUNT = 3, REACHED = 200 };
 
 struct argument {
     const char *name;
