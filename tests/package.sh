@@ -156,6 +156,8 @@ python3-librds, python, no: python3 (>= $python), librds0 (>= $version); python3
 rds, hamradio, no: libc6 (>= $(newest_libc "$built")); rds-monitor
 rds-monitor, hamradio, no: python3 (>= $python), python3-numpy, python3-librds (= $version); rds, libjs-d3, python3-jinja2" \
     "$(for it in "${packages[@]}"; do fields_of "$it"; done | sed 's/; $//' | sort -u)"
+  same 'processors of the program' "$(grep -oh 'x86-64-v[0-9]' README.md docs/START.md | sort -u)" \
+    "$(dpkg-deb --field "${packages[-1]}" Description | grep -o 'x86-64-v[0-9]')"
   cksum "${packages[@]}" > "$work/first"
   packaging/make_deb.sh "$built" "$library" "$work/a folder" "${for_arm64[@]}" > /dev/null
   same 'the same again' "$(cat "$work/first")" "$(cksum "${packages[@]}")"
@@ -168,6 +170,11 @@ rds-monitor, hamradio, no: python3 (>= $python), python3-numpy, python3-librds (
   dpkg_there --force-depends --install "${here_installed[@]}" 2> /dev/null || fail 'they are not installed'
   same 'the installed files' "$(for it in "${here_installed[@]}"; do files_of "$it"; done | sort)" "$(files_there)"
   same 'files that no package has' "$(printf '%s\n' packaging/make_deb.sh docs/{ARCHITECTURE,CHANGING,DECISIONS,MODEL,PROOFS,TESTING}.md)" "$(uninstalled)"
+  libdir=/usr/lib/$(dpkg-architecture -qDEB_HOST_MULTIARCH)
+  same 'folders with files' "$(printf '%s\n' /usr/{bin,include,lib/debug/.build-id/ID,lib/python3/dist-packages/librds,lib/systemd/system,lib/sysusers.d} \
+    "$libdir"{,/cmake/rds,/pkgconfig} /usr/share/{bash-completion/completions,doc{,/librds{0,-dev},/python3-librds,/rds{,/docs},/rds-monitor{,/examples}}} \
+    /usr/share/{man/man1,rds-monitor/rds_monitor{,/page,/watch},rds/examples,zsh/vendor-completions} | sort)" \
+    "$(files_there | sed 's|/[^/]*$||; s|\(build-id/\)..$|\1ID|' | sort -u)"
   same 'the service is there, and off' /usr/lib/systemd/system/rds-monitor-watch.service "$(files_there | grep -F rds-monitor-watch.service)"
   same 'nothing is missing or other than it was' '' "$(differing)"
   echo >> "$root/usr/share/rds/examples/gaps.sh"
@@ -176,7 +183,6 @@ rds-monitor, hamradio, no: python3 (>= $python), python3-numpy, python3-librds (
     "$("$root/usr/bin/rds" list < "$root/usr/share/rds/examples/station.bin" | cksum)"
   same 'the installed manual page' "$(cksum < rds.1)" "$(gzip -dc "$root/usr/share/man/man1/rds.1.gz" | cksum)"
   same 'an installed script' "$(examples/gaps.sh <<< '104 1')" "$("$root/usr/share/rds/examples/gaps.sh" <<< '104 1')"
-  libdir=/usr/lib/$(dpkg-architecture -qDEB_HOST_MULTIARCH)
   same 'the library' "/usr/include/rds.h
 $libdir/cmake/rds/rds-config-version.cmake
 $libdir/cmake/rds/rds-config.cmake
