@@ -163,23 +163,25 @@ lib/make_library.sh build/librds-${words[0]}.a ${words[*]:1}" \
       "$(make --no-print-directory -n -W lib/rds.h lib "ARCH=${words[0]}" RT=true | sed -n 's/ *$//; /^lib/p')"
   done
 fi
-# lib/archive.py over a toolchain that notes its arguments and fails, and over libraries of which only one is built
+# lib/archive.py over a toolchain that notes its arguments and fails: first only one library is built, then all are
 mkdir -p "$work/kit/bin" "$work/tree"
 printf '#!/bin/sh\necho "${0##*/} $*" >"${0%%/*}/../called"\nprintf "no proof"\nexit 1\n' | tee "$work/kit/bin/rt" >"$work/kit/bin/rattle"
 chmod +x "$work/kit/bin"/*
-for it in 'amd64 --cpu x86-64' 'arm64 --target aarch64-unknown-linux-gnu'; do
-  same "the toolchain's call for ${it%% *}" "no proof
-status 1
---backend llvm ${it#* } --incremental $PWD/build/kept_rds_c -o $work/none.a" "$(RT=$work/kit/bin/rt lib/archive.py "${it%% *}" "$work/none.a"
-    echo "status $?"
-    grep -o -e '--backend.*' "$work/kit/called")"
-done
 cp --parents -r lib crates.txt tests/holes.py crates/*/src/lib.rt "$work/tree"
 mkdir -p "$work/tree/crates/rds_code/out/rlib/rds_code.rlib"
 same 'the call if only one library is built' 'status 1
 rt lib' "$(RT=$work/kit/bin/rt "$work/tree/lib/archive.py" amd64 "$work/none.a"
   echo "status $?"
   cat "$work/kit/called")"
+for it in "$work"/tree/crates/*; do mkdir -p "$it/out/rlib/${it##*/}.rlib"; done
+for it in 'amd64 --cpu x86-64' 'arm64 --target aarch64-unknown-linux-gnu'; do
+  same "the toolchain's call for ${it%% *}" "no proof
+status 1
+--backend llvm ${it#* } --incremental $work/tree/build/kept_rds_c -o $work/none.a" "$(
+    RT=$work/kit/bin/rt "$work/tree/lib/archive.py" "${it%% *}" "$work/none.a"
+    echo "status $?"
+    grep -o -e '--backend.*' "$work/kit/called")"
+done
 install=(make -s -o build/lib/librds.so.0 install-lib "DESTDIR=$work/root" PREFIX=/usr)
 if has pkg-config make; then
   if [ "$library" = "$(realpath build/lib)" ]; then
