@@ -1,7 +1,7 @@
 /* librds: the decoder of Radio Data System bits, for C and C++.
  *
  * Bits are packed into bytes, most significant bit first. A place is the position of a bit, from 0. The decoder finds items, in order of
- * place: acquisitions of block sync, groups of four blocks, and losses of block sync. There are at most two items per bit.
+ * completion: acquisitions of block sync, groups of four blocks, and losses of block sync. There are at most two items per bit.
  *
  *     #include <rds.h>
  *     #include <stdio.h>
@@ -118,7 +118,7 @@ enum { RDS_A = 1, RDS_B = 2, RDS_C = 3, RDS_CX = 4, RDS_D = 5, RDS_C_OR_CX = 6 }
 
 /* An item of a report: 48 bytes. */
 typedef struct rds_item_t {
-    uint64_t place;        /* of the block that acquired or lost, or of a group's first bit that was read */
+    uint64_t place;        /* of the last bit of the block that acquired or lost, or of the first bit of a group that was read */
     rds_block_t blocks[4]; /* of a group, or all missing */
     uint8_t what;          /* RDS_ACQUIRED, RDS_GROUP or RDS_LOSS */
     uint8_t number;        /* of an acquisition its block, 1 to 4; of a group its type, 0 to 15, or 255 if unknown */

@@ -67,9 +67,14 @@ same 'what librds.so.0 shows' "$declared" "$(nm -D --defined-only "$library/libr
 same 'what librds.a shows' "$declared" "$(nm --defined-only -g "$library/librds.a" | awk 'NF == 3 {print $3}' | sort)"
 same 'what librds.a needs' 'free malloc memcpy memmove memset realloc' "$(nm -u "$library/librds.a" | awk 'NF == 2 {print $2}' | sort | tr '\n' ' ' | sed 's/ $//')"
 same 'where librds.so leads' librds.so.0 "$(readlink "$library/librds.so")"
+tried 'the header beside the library' cmp lib/rds.h "$library/rds.h"
 for it in librds.a librds.so.0; do
-  same "folders of this machine in $it" '' "$(strings "$library/$it" | grep -m 1 "^${TMPDIR:-/tmp}/")"
+  same "folders of this machine in $it" '' "$(strings "$library/$it" | grep -m 1 -e "^${TMPDIR:-/tmp}/" -e "^$PWD/")"
 done
+same 'owner, year and object in librds.a' '0/0 1970 rds.o' "$(TZ=UTC ar tv "$library/librds.a" | awk '{print $2, $(NF - 1), $NF}')"
+# Nothing is kept after a call: both of these are only pointed at.
+same 'writable data of librds.a' 'none nowhere' "$(nm -f sysv "$library/librds.a" |
+  awk -F'|' 'NF > 6 && $7 !~ /^(\.text|\.rodata|\.data\.rel\.ro|\*(UND|ABS)\*|$)/ {sub(" *$", "", $1); print $1}' | sort | tr '\n' ' ' | sed 's/ $//')"
 # an array of no values is handed on as this, which has the alignment of max_align_t
 same 'the size of none in lib/border.c' 0000000000000020 "$(nm -S "$library/librds.a" | awk '$4 == "none" {print $2}')"
 
@@ -82,6 +87,12 @@ cp tests/library/rds_0_2.h "$earlier/rds.h"
 echo 'RDS_0.2 { global: rds_*; local: *; };' >"$earlier/stub.map"
 tried 'the library that does nothing' "${CC:-cc}" -std=c11 -g -fPIC -Wall -Werror -shared -Wl,-soname,librds.so.0 "-Wl,--version-script=$earlier/stub.map" \
   -o "$earlier/librds.so.0" "$earlier/stub.c"
+# One that refuses each call. Its texts are the names of their functions.
+refusing=$work/refusing
+mkdir "$refusing"
+sed -e '/^const/s/return 0/return __func__/' -e 's/return 0/return 5/' "$earlier/stub.c" >"$refusing/stub.c"
+tried 'the library that refuses' "${CC:-cc}" -std=c11 "-I$earlier" -fPIC -Wall -Werror -shared -Wl,-soname,librds.so.0 \
+  "-Wl,--version-script=$earlier/stub.map" -o "$refusing/librds.so.0" "$refusing/stub.c"
 for it in rows cases; do
   tried "$it of 0.2" "${CC:-cc}" -std=c11 -D_DEFAULT_SOURCE "-I$earlier" "${strict[@]}" -o "$work/$it-0.2" "tests/library/$it.c" "$earlier/librds.so.0" \
     "-Wl,-rpath,$library"
@@ -97,6 +108,8 @@ make_program() {
 }
 for it in rows refused threads states streams cases texts stack; do make_program "$it"; done
 tried 'texts' "$work/texts"
+tried 'making heap' "${CC:-cc}" -std=c11 "${strict[@]}" -o "$work/heap" tests/library/heap.c
+tried 'sizes and places of lib/heap.c' "$work/heap"
 tried 'the stack that calls take' "$work/stack" "$sample"
 
 # One table of calls with their answers, for C, Python, Rust and the second decoder.
@@ -141,16 +154,54 @@ wanted='7691 valid, 1923 groups'
 sed -n 's/^ \*     //p' lib/rds.h >"$work/header.c"
 tried 'the program of rds.h' "${CC:-cc}" -std=c11 "${strict[@]}" -o "$work/header" "$work/header.c" "$library/librds.a"
 same 'what it says' "$wanted" "$(said "$work/header")"
+if has make; then
+  # After a change of the header the library is made anew, for either processor.
+  for it in 'amd64 build/lib' 'arm64 build/lib-arm64 aarch64-linux-gnu-'; do
+    read -ra words <<<"$it"
+    same "make lib for ${words[0]}" "lib/archive.py ${words[0]} build/librds-${words[0]}.a
+lib/make_library.sh build/librds-${words[0]}.a ${words[*]:1}" \
+      "$(make --no-print-directory -n -W lib/rds.h lib "ARCH=${words[0]}" RT=true | sed -n 's/ *$//; /^lib/p')"
+  done
+fi
+# lib/archive.py over a toolchain that notes its arguments and fails: first only one library is built, then all are
+mkdir -p "$work/kit/bin" "$work/tree"
+printf '#!/bin/sh\necho "${0##*/} $*" >"${0%%/*}/../called"\nprintf "no proof"\nexit 1\n' | tee "$work/kit/bin/rt" >"$work/kit/bin/rattle"
+chmod +x "$work/kit/bin"/*
+cp --parents -r lib crates.txt tests/holes.py crates/*/src/lib.rt "$work/tree"
+mkdir -p "$work/tree/crates/rds_code/out/rlib/rds_code.rlib"
+same 'the call if only one library is built' 'status 1
+rt lib' "$(RT=$work/kit/bin/rt "$work/tree/lib/archive.py" amd64 "$work/none.a"
+  echo "status $?"
+  cat "$work/kit/called")"
+for it in "$work"/tree/crates/*; do mkdir -p "$it/out/rlib/${it##*/}.rlib"; done
+for it in 'amd64 --cpu x86-64' 'arm64 --target aarch64-unknown-linux-gnu'; do
+  same "the toolchain's call for ${it%% *}" "no proof
+status 1
+--backend llvm ${it#* } --incremental $work/tree/build/kept_rds_c -o $work/none.a" "$(
+    RT=$work/kit/bin/rt "$work/tree/lib/archive.py" "${it%% *}" "$work/none.a"
+    echo "status $?"
+    grep -o -e '--backend.*' "$work/kit/called")"
+done
 install=(make -s -o build/lib/librds.so.0 install-lib "DESTDIR=$work/root" PREFIX=/usr)
 if has pkg-config make; then
   if [ "$library" = "$(realpath build/lib)" ]; then
     tried 'installing' "${install[@]}"
+    same 'installed files' '-rw-r--r-- usr/include/rds.h
+-rw-r--r-- usr/lib/cmake/rds/rds-config-version.cmake
+-rw-r--r-- usr/lib/cmake/rds/rds-config.cmake
+-rw-r--r-- usr/lib/librds.a
+-rw-r--r-- usr/lib/pkgconfig/rds.pc
+-rwxr-xr-x usr/lib/librds.so.0
+lrwxrwxrwx usr/lib/librds.so' "$(find "$work/root" ! -type d -printf '%M %P\n' | sort)"
     export PKG_CONFIG_SYSROOT_DIR=$work/root PKG_CONFIG_PATH=$work/root/usr/lib/pkgconfig
     readme_program c >"$work/readme.c"
     read -ra found < <(PKG_CONFIG_ALLOW_SYSTEM_CFLAGS=1 PKG_CONFIG_ALLOW_SYSTEM_LIBS=1 pkg-config --cflags --libs rds)
     tried 'the program in C' "${CC:-cc}" -Wall -Wextra -Werror -o "$work/readme" "$work/readme.c" "${found[@]}"
     same 'what it says' "$wanted" "$(LD_LIBRARY_PATH=$work/root/usr/lib said "$work/readme")"
     tried 'installing below /opt/rds' "${install[@]}" "DESTDIR=$work/other" PREFIX=/opt/rds
+    tried 'installing once more' "${install[@]}" "DESTDIR=$work/other" PREFIX=/opt/rds
+    same 'its folders for CMake' '/opt/rds/include /opt/rds/lib/librds.a /opt/rds/lib/librds.so.0' \
+      "$(grep -o '/opt[^"]*' "$work/other/opt/rds/lib/cmake/rds/rds-config.cmake" | sort -u | tr '\n' ' ' | sed 's/ $//')"
     same 'its folders' '-I/opt/rds/include -L/opt/rds/lib -lrds' \
       "$(PKG_CONFIG_SYSROOT_DIR='' PKG_CONFIG_PATH=$work/other/opt/rds/lib/pkgconfig pkg-config --cflags --libs rds | sed 's/ *$//')"
     for it in totals programmes; do
@@ -159,17 +210,26 @@ if has pkg-config make; then
     same 'totals of a file' '1923 groups, 1922 of them complete; 0 bits corrected' \
       "$(LD_LIBRARY_PATH=$work/root/usr/lib "$work/totals" "$sample")"
     cat "$sample" <(head -c 9999 /dev/zero) "$sample" >"$work/twice"
+    # With room for two items a chunk is taken in parts.
+    sed 's/ROOM = 16 \* CHUNK/ROOM = 2/' bindings/c/programmes.c >"$work/in_parts.c"
+    tried 'programmes.c with little room' "${CC:-cc}" -std=c11 -fsanitize=address -o "$work/in_parts" "$work/in_parts.c" "${found[@]}"
     same 'programmes of a stream' \
       "$("$program" list <"$work/twice" | awk -F'[,:~]' '$1 == "group" && $5 == "A" && $6 != last {print last = $6}')" \
       "$(LD_LIBRARY_PATH=$work/root/usr/lib "$work/programmes" <"$work/twice")"
     # Programmes change, one in a damaged block and one in a group that is cut off; a file is longer than the first room.
-    printf '%s 0548 E100 5041\n' 1234 1234 1234 5678 1234 9ABC | "$program" encode >"$work/three"
+    printf '%s 0548 E100 5041\n' 1234 1234 1234 0678 1234 9ABC | "$program" encode >"$work/three"
     printf '\x60' | dd of="$work/three" bs=1 seek=40 conv=notrunc status=none
     truncate -s 75 "$work/three"
-    same 'programmes that change' "1234
-5678
-1234
-9ABC" "$(LD_LIBRARY_PATH=$work/root/usr/lib "$work/programmes" <"$work/three")"
+    for it in programmes in_parts; do
+      same "$it that change" '1234 0678 1234 9ABC ' "$(LD_LIBRARY_PATH=$work/root/usr/lib "$work/$it" <"$work/three" | tr '\n' ' ')"
+    done
+    printf '0000 0548 E100 5041\n%.0s' 1 2 | "$program" encode >"$work/zeros"
+    same 'a programme of the number 0' 0000 "$(LD_LIBRARY_PATH=$work/root/usr/lib "$work/programmes" <"$work/zeros")"
+    for it in programmes "totals $sample"; do
+      read -ra words <<<"$it"
+      same "a refused call of ${words[0]}" 'refused 5 rds_refusal_text: rds_refusal_reason, 1' \
+        "$(LD_LIBRARY_PATH=$refusing "$work/${words[0]}" "${words[@]:1}" <"$sample" 2>&1 | tr '\n' ,; echo " ${PIPESTATUS[0]}")"
+    done
     mkfifo "$work/slow"
     LD_LIBRARY_PATH=$work/root/usr/lib timeout 60 "$work/programmes" <"$work/slow" >"$work/soon" &
     exec {to_slow}>"$work/slow"
@@ -185,7 +245,11 @@ if has pkg-config make; then
     same 'totals of a long file' \
       "$("$program" totals <"$work/nine" | awk -F, '{n[$2] = $3} END {printf "%d groups, %d of them complete; %d bits corrected", n["groups"], n["complete"], n["bits"]}')" \
       "$(LD_LIBRARY_PATH=$work/root/usr/lib "$work/totals" "$work/nine")"
-    same 'totals of no file' 2 "$(LD_LIBRARY_PATH=$work/root/usr/lib "$work/totals" 2>"$work/said"; echo $?)"
+    for it in '' "$sample $sample"; do
+      read -ra words <<<"$it"
+      same "totals of ${#words[@]} files" 'usage: totals FILE, 2' \
+        "$(LD_LIBRARY_PATH=$work/root/usr/lib "$work/totals" "${words[@]}" 2>&1 | tr '\n' ,; echo " ${PIPESTATUS[0]}")"
+    done
   else
     echo 'skipped: what is installed, which is of build/lib'
   fi

@@ -112,6 +112,27 @@ files_there() { (cd "$root" && find . -path ./var/lib/dpkg -prune -o ! -type d -
 # files_of NAME: the files that a package holds
 files_of() { dpkg-deb --contents "$1" | awk '!/^d/ { sub(/.* \.\//, "/"); sub(/ -> .*/, ""); print }'; }
 
+# fields_of PACKAGE: its name, section, and the packages that it needs
+fields_of() { dpkg-deb --show --showformat '${Package}, ${Section}, ${Multi-Arch}: ${Depends}; ${Recommends}\n' "$1"; }
+
+# newest_libc FILE: the newest version of the C library that it calls
+newest_libc() { readelf -V "$1" | grep -o 'GLIBC_[0-9.]*' | sort -V | tail -n 1 | sed 's/.*_//'; }
+
+# sums FILE..: the checksum of each, uncompressed if it is compressed, and its name
+sums() {
+  printf '%s\n' "$@" | grep -v '\.gz$' | xargs cksum | awk '{ print $1 "-" $2, $3 }'
+  printf '%s\n' "$@" | grep '\.gz$' | while read -r it; do gzip -dc "$it" | cksum | awk -v name="$it" '{ print $1 "-" $2, name }'; done
+}
+
+# uninstalled: the files of the tree that a package should have and that none has as they are
+uninstalled() {
+  local there
+  mapfile -t there < <(find "$root" -type f -size -1024k)
+  awk 'NR == FNR { known[$1] = 1; next } !($1 in known) { print $2 }' <(sums "${there[@]}") \
+    <(sums packaging/* examples/* completions/* docs/*.md rds.1 README.md CHANGELOG.md lib/rds.h monitor/{WATCHING.md,rds-monitor{,.1}} monitor/completions/* \
+      monitor/rds_monitor/{*.py,page/*,watch/*.py} bindings/python/librds/{*.py,py.typed})
+}
+
 station() { "$program" list < examples/station.bin; }
 
 if has dpkg dpkg-architecture dpkg-deb dpkg-shlibdeps readelf strip lintian "${as_root[@]}"; then
@@ -127,6 +148,16 @@ if has dpkg dpkg-architecture dpkg-deb dpkg-shlibdeps readelf strip lintian "${a
   same 'errors and warnings of lintian' '' "$(said_by_lintian --suppress-tags "$left_to_the_archive" "${packages[@]}")"
   same 'a warning of lintian' "${left_to_the_archive%,*}" \
     "$(said_by_lintian "${packages[-1]}" | grep -o "${left_to_the_archive%,*}" | uniq)"
+  python=$(sed -n 's/^requires-python = ">=\(.*\)"$/\1/p' bindings/python/pyproject.toml)
+  same 'packages that they need' "librds-dev, libdevel, same: librds0 (= $version)
+librds0, libs, same: libc6 (>= $(newest_libc "$library/librds.so.0"))
+librds0-dbgsym, debug, no: librds0 (= $version)
+python3-librds, python, no: python3 (>= $python), librds0 (>= $version); python3-numpy
+rds, hamradio, no: libc6 (>= $(newest_libc "$built")); rds-monitor
+rds-monitor, hamradio, no: python3 (>= $python), python3-numpy, python3-librds (= $version); rds, libjs-d3, python3-jinja2" \
+    "$(for it in "${packages[@]}"; do fields_of "$it"; done | sed 's/; $//' | sort -u)"
+  same 'processors of the program' "$(grep -oh 'x86-64-v[0-9]' README.md docs/START.md | sort -u)" \
+    "$(dpkg-deb --field "${packages[-1]}" Description | grep -o 'x86-64-v[0-9]')"
   cksum "${packages[@]}" > "$work/first"
   packaging/make_deb.sh "$built" "$library" "$work/a folder" "${for_arm64[@]}" > /dev/null
   same 'the same again' "$(cat "$work/first")" "$(cksum "${packages[@]}")"
@@ -138,6 +169,12 @@ if has dpkg dpkg-architecture dpkg-deb dpkg-shlibdeps readelf strip lintian "${a
   mapfile -t here_installed < <(printf '%s\n' "${packages[@]}" | grep -v '_arm64\.deb$')
   dpkg_there --force-depends --install "${here_installed[@]}" 2> /dev/null || fail 'they are not installed'
   same 'the installed files' "$(for it in "${here_installed[@]}"; do files_of "$it"; done | sort)" "$(files_there)"
+  same 'files that no package has' "$(printf '%s\n' packaging/make_deb.sh docs/{ARCHITECTURE,CHANGING,DECISIONS,MODEL,PROOFS,TESTING}.md)" "$(uninstalled)"
+  libdir=/usr/lib/$(dpkg-architecture -qDEB_HOST_MULTIARCH)
+  same 'folders with files' "$(printf '%s\n' /usr/{bin,include,lib/debug/.build-id/ID,lib/python3/dist-packages/librds,lib/systemd/system,lib/sysusers.d} \
+    "$libdir"{,/cmake/rds,/pkgconfig} /usr/share/{bash-completion/completions,doc{,/librds{0,-dev},/python3-librds,/rds{,/docs},/rds-monitor{,/examples}}} \
+    /usr/share/{man/man1,rds-monitor/rds_monitor{,/page,/watch},rds/examples,zsh/vendor-completions} | sort)" \
+    "$(files_there | sed 's|/[^/]*$||; s|\(build-id/\)..$|\1ID|' | sort -u)"
   same 'the service is there, and off' /usr/lib/systemd/system/rds-monitor-watch.service "$(files_there | grep -F rds-monitor-watch.service)"
   same 'nothing is missing or other than it was' '' "$(differing)"
   echo >> "$root/usr/share/rds/examples/gaps.sh"
@@ -146,7 +183,6 @@ if has dpkg dpkg-architecture dpkg-deb dpkg-shlibdeps readelf strip lintian "${a
     "$("$root/usr/bin/rds" list < "$root/usr/share/rds/examples/station.bin" | cksum)"
   same 'the installed manual page' "$(cksum < rds.1)" "$(gzip -dc "$root/usr/share/man/man1/rds.1.gz" | cksum)"
   same 'an installed script' "$(examples/gaps.sh <<< '104 1')" "$("$root/usr/share/rds/examples/gaps.sh" <<< '104 1')"
-  libdir=/usr/lib/$(dpkg-architecture -qDEB_HOST_MULTIARCH)
   same 'the library' "/usr/include/rds.h
 $libdir/cmake/rds/rds-config-version.cmake
 $libdir/cmake/rds/rds-config.cmake
@@ -183,7 +219,7 @@ $libdir/pkgconfig/rds.pc" "$(files_there | grep -E "^($libdir|/usr/include)/")"
 cmake_minimum_required(VERSION 3.16)
 project(readme C)
 set(folder "${rds_DIR}")
-foreach(other 0.1 0.3 1.0)
+foreach(other 0.1 0.2.1 0.3 1.0)
   find_package(rds ${other} QUIET)
   if(rds_FOUND)
     message(FATAL_ERROR "found for ${other}")
@@ -191,6 +227,10 @@ foreach(other 0.1 0.3 1.0)
   set(rds_DIR "${folder}" CACHE PATH "" FORCE)
 endforeach()
 find_package(rds 0.2 REQUIRED)
+find_package(rds 0.2.0 EXACT REQUIRED)
+if(NOT rds_VERSION VERSION_EQUAL 0.2)
+  message(FATAL_ERROR "version ${rds_VERSION}")
+endif()
 foreach(kind static rds)
   add_executable(${kind} readme.c)
   target_link_libraries(${kind} rds::${kind})
@@ -207,6 +247,8 @@ CMAKE
   dpkg_there --force-depends --purge rds rds-monitor python3-librds librds-dev librds0-dbgsym librds0 || fail 'they are not removed'
   same 'what is left of them' '' "$(files_there)$(find "$root/usr" 2>/dev/null)"
 
+  same 'make deb' "packaging/make_deb.sh $built $library build $library" \
+    "$(make -n -o "$library/librds.so.0" deb "PROGRAM=$built" "LIBRARY=$library" "FOLDER_arm64=$library" | tail -n 1)"
   same 'a package of no program' 'make_deb: examples is no program' "$(packaging/make_deb.sh examples "$library" "$work" 2>&1)"
   same 'a package of no library' 'make_deb: there is no library in examples' \
     "$(packaging/make_deb.sh "$built" examples "$work" 2>&1)"

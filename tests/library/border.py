@@ -32,10 +32,6 @@ def write(path, text):
 
 # ---- the table
 
-# A number with this bit set changes if it is handed on in fewer bits.
-HIGHEST = {"uint8_t": 1 << 7, "uint32_t": 1 << 31, "uint64_t": 1 << 63}
-
-
 def functions_of(header):
     """Each function with its arguments: (declaration, type, whether it is a pointer, name)."""
     text = re.sub(r"/\*.*?\*/", "", header, flags=re.S)
@@ -68,7 +64,7 @@ def table_of(header):
                 given.append(f"call->count[{row}]")
                 noted.append(f"seen.with.count[{row}] = {argument};")
             else:
-                number = f"{place + HIGHEST[plain]}u"
+                number = f"({plain})number_at({place})"
                 given.append(number)
                 noted.append(f"seen.has_scalars = seen.has_scalars && {argument} == {number};")
         calls.append(

@@ -1,11 +1,12 @@
 #!/usr/bin/env python3
-"""Every number in lib/rds.h against its source: tests/library/header.py LIBRARY-FOLDER PATH-TO-RDS
+"""Every number in lib/rds.h against its source, and every rule in words: tests/library/header.py LIBRARY-FOLDER PATH-TO-RDS
 
 Enumerators are compared with the definitions of rds_abi, the default rules with the program's help, sizes in comments with the structs,
-and every other number in a comment with the place that it comes from. A number that no line below names is a fault. The versions of
-the header, the library, pkg-config, the bindings and the program are one, and each function has the symbol version of rds.map. All that an
-earlier header of this so.0 declares is still declared.
-Then each number of the header is changed in turn, and each declaration of the earlier one, which has to be noticed.
+and every other number in a comment with the place that it comes from. Rules in words are compared with what calls do (sentences.py). A
+number is a fault if no line below names it, and so are words. The versions of the header, the library, pkg-config, the bindings and the
+program are one, and each function has the symbol version of rds.map. All that an earlier header of this so.0 declares is still declared.
+Then each number of the header is changed in turn, each word of its comments that has an opposite, and each declaration of the earlier
+one. Comments of two fields are exchanged. Each has to be noticed.
 """
 
 import ctypes
@@ -17,6 +18,7 @@ import sys
 
 sys.path.insert(0, os.path.dirname(os.path.abspath(__file__)))
 
+import sentences  # noqa: E402
 from layout import (  # noqa: E402
     BAD_POINTER, TOP, allocating, layout_of, listed, names_of_header, of_crates, of_header_text, refusals_of_crate, text_of, without_comments, words,
 )
@@ -116,6 +118,9 @@ def compare_versions(faults, text, library, program):
                           ("bindings/rust/Cargo.toml", r'^version = "(.*)"$'),
                           ("bindings/python/pyproject.toml", r'^version = "(.*)"$')):
         faults.same(f"{path}, version", parts, three_of(re.search(pattern, text_of(f"{TOP}/{path}"), re.M)[1]))
+    described = re.search(r"librds: the (decoder of .*?), for C", text)[1]
+    told = re.findall(r"^Name: (.*)\nDescription: (.*)$", text_of(f"{TOP}/lib/rds.pc.in"), re.M)
+    faults.same("name and description of rds.pc.in", [("rds", described)], told)
     nodes = dict(re.findall(r"^RDS_([\d.]+) \{\s*global:(.*?)(?:local:|\})", text_of(f"{TOP}/lib/rds.map"), re.M | re.S))
     shown = {name: f"RDS_{node}" for node, names in nodes.items() for name in re.findall(r"(\w+);", names)}
     names = dict(re.findall(r" T (\w+)@@([\w.]+)$", says("nm", "-D", "--defined-only", f"{library}/librds.so.0"), re.M))
@@ -144,9 +149,14 @@ def declared(text):
     yield from (words(it) for it in re.findall(r"^#define (RDS_.* .*)$", text, re.M) if not re.match("RDS_(VERSION|MUST_USE) ", it))
 
 
+@functools.cache
+def declared_earlier():
+    return [*declared(text_of(EARLIER))]
+
+
 def compare_with_earlier(faults, text):
     now = [*declared(text)]
-    faults.extend(f"no longer declared: {it}" for it in declared(text_of(EARLIER)) if it not in now)
+    faults.extend(f"no longer declared: {it}" for it in declared_earlier() if it not in now)
 
 
 def unseen_in_earlier():
@@ -187,7 +197,7 @@ def facts(structs, reasons):
     yield r"items that (\d+) bytes may complete", [at_once]
     yield r"(\d+)\^(\d+) bits", [2, most_bits]
     yield r'such as "(\d+)\.(\d+)\.(\d+)"', three_of(re.search(r"^Version: (.*)$", text_of(f"{TOP}/lib/rds.pc.in"), re.M)[1])
-    yield r"at most (\d+) bytes of stack", [number_in("tests/library/stack.c", r"MOST = (\d+),")]
+    yield r"Stack and memory\. A call takes at most (\d+) bytes of stack", [number_in("tests/library/stack.c", r"MOST = (\d+),")]
     yield r"hears up to (\d+) bits before", [word * reach[1] + word - 1]
     yield r"gaps of the range and of the (\d+) bits before it", [number_in("crates/rds_abi/src/part.rt", r"HEARD_BEFORE: u64 = (\d+);")]
     yield r"word of (?:more than )?(\d+) bits", [word]
@@ -227,6 +237,25 @@ def refusal_lists():
     yield "rds_refusal_name", [69, 64]
 
 
+def errors_in_order():
+    """The same, all as numbers."""
+    lists = {}
+    for name, parts in refusal_lists():
+        numbers, rest = [], iter(parts)
+        for it in rest:
+            if it in lists:
+                numbers += lists[it]
+            elif it == "except":
+                numbers.remove(next(rest))
+            elif it == "after":
+                last = numbers.pop()
+                numbers.insert(numbers.index(next(rest)) + 1, last)
+            else:
+                numbers.append(it)
+        lists[name] = numbers
+    return lists
+
+
 # Numbers that say what they are by themselves, such as a place from 0.
 PLAIN = [r"from 0\b", r"bytes\[4096\]", r"fread\(bytes, 1, sizeof bytes, stdin\)\) > 0\)", r"items\[0\] to items\[count - 1\]", r"return 1;",
          r"NULL, 0, &rules", r"at = 0;", r"items, 1, &count", r"returns 0, or", r"if p_len is 0\b", r"all 0 (?:if|without|before)", r"; or 0\b",
@@ -262,6 +291,7 @@ def compare_names(faults, text):
     """Compares the names in comments with the declarations, and the functions that call malloc with those that are lent memory."""
     comments, rest = " ".join(re.findall(r"/\*.*?\*/", text, re.S)), without_comments(text)
     known = {*re.findall(r"\brds_\w+|\bRDS_\w+", rest)}
+    faults.extend(f"a comment names {it}" for it in re.findall(r"\bdocs/[\w/.]*\w", comments) if not os.path.isfile(f"{TOP}/{it}"))
     faults.extend(f"a comment names {it}" for it in sorted({*re.findall(r"\brds_\w+|\bRDS_\w+", comments)} - known))
     names = names_of_header(text)
     for comment, name in re.findall(r"/\*((?:(?!\*/).)*)\*/\s*(?:RDS_MUST_USE\s+)?\w+ (rds_\w+)\(", text, re.S):
@@ -281,6 +311,61 @@ def compare_names(faults, text):
     faults.same("results that must be used", {it for it in names if it not in ("rds_refusal_name", "rds_version")}, must_use)
 
 
+@functools.cache
+def rules_in_words(library):
+    """The sentences that the header must have, as calls of the library decide them."""
+    text = text_of(f"{TOP}/lib/rds.h")
+    return sentences.sentences(f"{library}/librds.so.0", names_of_header(text), of_header_text(text)[1], errors_in_order())
+
+
+def squeezed(text):
+    return " ".join(re.sub(r"\n \*(?!/)", " ", text).split())
+
+
+def compare_sentences(faults, text, library):
+    page = squeezed(text)
+    faults.extend(f"no comment says: {it}" for it in rules_in_words(library) if it not in page)
+
+
+# Comments that compare_comments and compare_names read.
+LISTS = [
+    r"Errors(?:, in this order)?: [^.]*\.",
+    r"\bOnly [\w, ]+ (?=call malloc)",
+    r"/\* (?:(?:RDS_\w+|or),? )+\*/",
+    r"The program's default rules\.",
+]
+
+
+def compare_rest(faults, text, structs, library):
+    """Finds what no rule, no number and no list has: two words of a comment or more, or a sentence of one."""
+    page = squeezed(re.sub(r"^ \*     .*\n", "", text, flags=re.M))
+    reasons = {number: said for number, (_, said) in refusals_of_crate().items()}
+    known = [*map(re.escape, [*rules_in_words(library), *reasons.values()]), *(it for it, _ in facts(structs, reasons)), *LISTS, *PLAIN]
+    is_known = [False] * len(page)
+    for at, end in (it.span() for pattern in known for it in re.finditer(pattern, page)):
+        is_known[at:end] = [True] * (end - at)
+    for it in re.finditer(r"/\*.*?\*/", page):
+        rest = "".join("\n" if is_known[at] else page[at] for at in range(*it.span()))
+        faults.extend(f"words that nothing here names: {words}" for words in rest.split("\n") if re.search(r"\w\W+\w|\b[A-Z]\w*\.", words))
+
+
+def with_other_words(text):
+    """Each word of a comment in turn replaced with its opposite, outside of the program: the place, and the text."""
+    words_of = re.compile(rf"(?<![\w-])(?:{'|'.join(sorted(sentences.INSTEAD, key=len, reverse=True))})(?![\w-])")
+    for comment in re.finditer(r"/\*.*?\*/", text, re.S):
+        for it in words_of.finditer(text, comment.start(), comment.end()):
+            if not text[: it.start()].rpartition("\n")[2].startswith(" *     "):
+                yield it.start(), f"{text[: it.start()]}{sentences.INSTEAD[it[0]]}{text[it.end() :]}"
+
+
+def with_comments_exchanged(text):
+    """The comments of a field or an enumerator and the next exchanged."""
+    for it in re.finditer(r"^    \w.*?(/\*.*?\*/)$(?=\n    \w.*?(/\*.*?\*/)$)", text, re.M):
+        if it[1] != it[2]:
+            after = text[it.end() :].replace(it[2], it[1], 1)
+            yield it.start(1), f"{text[: it.start(1)]}{it[2]}{after}"
+
+
 def compare_reasons(faults, library):
     """Compares the reason that the library gives for each number."""
     reason = ctypes.CDLL(f"{library}/librds.so.0").rds_refusal_reason
@@ -290,18 +375,25 @@ def compare_reasons(faults, library):
         faults.same(f"the reason of {number}", reasons.get(number, "unknown"), reason(number).decode())
 
 
-def faults_of(text, library, program):
-    """What is wrong with a header of this text."""
+def faults_of(text, library, program, is_changed=False):
+    """What is wrong with a header of this text. In one that was changed, the first check that notices it is enough."""
     faults = Faults()
     structs, functions = of_header_text(text)
-    faults.same("structs and functions", of_crates(), (structs, functions))
-    if not faults:
-        compare_enumerators(faults, text)
-        compare_macros(faults, text, program)
-        compare_versions(faults, text, library, program)
-        compare_comments(faults, text, structs)
-        compare_names(faults, text)
-        compare_with_earlier(faults, text)
+    checks = [
+        lambda: faults.same("structs and functions", of_crates(), (structs, functions)),
+        lambda: compare_sentences(faults, text, library),
+        lambda: compare_comments(faults, text, structs),
+        lambda: compare_enumerators(faults, text),
+        lambda: compare_macros(faults, text, program),
+        lambda: compare_names(faults, text),
+        lambda: compare_with_earlier(faults, text),
+        lambda: compare_versions(faults, text, library, program),
+        lambda: compare_rest(faults, text, structs, library),
+    ]
+    for check in checks:
+        check()
+        if faults and (is_changed or check is checks[0]):
+            break
     return faults
 
 
@@ -311,14 +403,15 @@ def main():
     faults = faults_of(text, library, program)
     compare_reasons(faults, library)
     print("\n".join(faults) or f"{len(definitions())} enumerators, as they are defined")
-    numbers = list(re.finditer(r"(?<![\w])(?:0x)?\d+\b", text))
-    changed = (f"{text[: it.start()]}{it[0]}1{text[it.end() :]}" for it in numbers)
-    unseen = [text[max(0, it.start() - 40) : it.end() + 20] for it, other in zip(numbers, changed) if not faults_of(other, library, program)]
+    numbers = [(it.start(), f"{text[: it.end()]}1{text[it.end() :]}") for it in re.finditer(r"(?<![\w])(?:0x)?\d+\b", text)]
+    words = [*with_other_words(text)]
+    comments = [*with_comments_exchanged(text)]
+    unseen = [text[max(0, at - 40) : at + 20] for at, other in numbers + words + comments if not faults_of(other, library, program, is_changed=True)]
     unseen += unseen_in_earlier()
-    print(f"{len(numbers)} numbers changed, {len(unseen)} not noticed")
+    print(f"{len(numbers)} numbers and {len(words)} words changed, {len(comments)} comments exchanged, {len(unseen)} not noticed")
     for it in unseen:
         print(f"  {it!r}")
-    return bool(faults or unseen) or len(numbers) < 140
+    return bool(faults or unseen) or len(numbers) < 140 or len(words) < 300 or len(comments) < 40
 
 
 if __name__ == "__main__":
