@@ -136,6 +136,12 @@ make_refuse
 # station COUNT: a station's groups, so many times over
 station() { for _ in $(seq "$1"); do cat "$here/../examples/station.bin"; done; }
 
+# repeated COUNT: its input, so many times over
+repeated() {
+    cat >part
+    for _ in $(seq "$1"); do cat part; done
+}
+
 # wrong SHARE COUNT: a station's groups, so many times over, with at most that share of their bits turned
 wrong() {
     station "$2" | PATH=$all_tools python3 -c '
@@ -164,9 +170,12 @@ make_input() {
         # a byte of every 64 spoilt
         damaged) station 40 | od -An -v -tx1 | awk 'NR % 4 == 0 { $2 = "ff" } 1' ;;
         # groups of version B, whose block 3 has the programme of block 1
-        version_b) words 23 300000 | awk '{ print "d393" substr($0, 5, 1) "8" substr($0, 7, 2) "d393" substr($0, 13) }' | "$limited" encode ;;
+        version_b)
+            words 23 30000 | awk '{ print "d393" substr($0, 5, 1) "8" substr($0, 7, 2) "d393" substr($0, 13) }' \
+                | "$limited" encode | repeated 10
+            ;;
         wrong*) wrong "${1#wrong}" 40 ;;
-        worst) words 47 150000 | "$limited" encode --hex | past_mending | as_bytes ;;
+        worst) words 47 15000 | "$limited" encode --hex | past_mending | as_bytes | repeated 10 ;;
         short_locks | three_phases) PATH=$all_tools python3 "$here/worst_inputs.py" "$1" 2005250 ;;
         *) return 1 ;;
     esac >"$1"
