@@ -211,6 +211,8 @@ growing() {
     job worst totals --loss 1 --pieces PIECES --workers 2
     job worst list --loss 1 --pieces 1 --workers 1
     job station list --pieces PIECES --workers 2
+    # pieces of many parts of rows
+    job station list --pieces 2 --workers 2
     job station list --gaps GAPS --workers 1
     job losing totals --gaps GAPS --pieces PIECES --workers 1
     job lines encode

@@ -23,7 +23,7 @@ check_programs "${1:-}"
 if [ $# -gt 1 ] && { [ "$2" != --measure ] || [ $# = 2 ]; }; then misused; fi
 rds=$(realpath "$1")
 limit_time "$rds"
-needs basenc cat cp grep od python3 seq stat tr
+needs basenc cat cp grep head od python3 seq stat tr
 table=$here/work.bounds
 cd "$work" || exit 1
 
@@ -183,6 +183,13 @@ make_input() {
 
 # ---- what a job takes
 
+# give_up STATUS INPUT WORDS..: ends the script at a job that ended so
+give_up() {
+    fail "${*:2}: status $1, $(head -c 500 err)"
+    finish
+    exit 1
+}
+
 # prepare INPUT WORDS..: makes the input, and puts the words of the job into $words
 prepare() {
     local name
@@ -195,7 +202,7 @@ prepare() {
 count() {
     local name number words
     prepare "$@"
-    REFUSE_COUNT="$work/counts" LD_PRELOAD="$work/refuse.so" "$rds" "${words[@]}" <"$1" >out 2>err || exit 1
+    REFUSE_COUNT="$work/counts" LD_PRELOAD="$work/refuse.so" "$rds" "${words[@]}" <"$1" >out 2>err || give_up $? "$@"
     while read -r name number; do
         case $name in
             alloc) allocations=$number ;;
@@ -213,7 +220,7 @@ count_instructions() {
     local words
     prepare "$@"
     PATH=$all_tools timeout "$LIMIT" valgrind --tool=cachegrind --cache-sim=no --cachegrind-out-file=/dev/null --log-file=counts \
-        "$rds" "${words[@]}" <"$1" >out 2>err || exit 1
+        "$rds" "${words[@]}" <"$1" >out 2>err || give_up $? "$@"
     instructions=$(awk '/ I *refs: / { gsub(",", "", $NF); print $NF }' counts)
     [ -n "$instructions" ] || exit 1
 }
