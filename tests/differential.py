@@ -14,6 +14,7 @@ import os
 import random
 import sys
 from concurrent.futures import ThreadPoolExecutor
+from functools import lru_cache
 
 import making
 import plain
@@ -22,6 +23,12 @@ from streams import followed, ran
 # How many seeds there are, and how many runs of each.
 SEEDS = 120
 RUNS = 13
+
+
+@lru_cache(4)
+def recorded(held, bits, gaps):
+    """A recording, which the runs of a seed share."""
+    return plain.Recording(held, bits, gaps)
 
 
 class Trial:
@@ -43,7 +50,10 @@ class Trial:
 
     def wanted(self, words, held):
         """What plain.py writes of these words."""
-        return plain.text_of(plain.arguments().parse_args(words), held)
+        parsed = plain.arguments().parse_args(words)
+        if parsed.job == "encode":
+            return plain.text_of(parsed, held)
+        return plain.listing(parsed.job, recorded(held, parsed.bits, tuple(parsed.gaps)), plain.rules_of(parsed)).encode()
 
     def try_recording(self, held):
         """A scan, two lists and the totals, each of the latter by two crews; some from digits."""

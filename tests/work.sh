@@ -88,26 +88,23 @@ station list --workers 32
 station list --progress
 instructions sample scan --workers 1
 instructions sample list --workers 1
-instructions sample list --workers 1 --gaps FAR
 instructions sample list --pieces 16 --workers 4 --progress
-instructions sample follow
-instructions sample follow --gaps GAPS
+instructions sample follow --gaps NEAR
 instructions samples totals --workers 1
 instructions static totals --workers 1
 instructions few_wrong list --workers 1
-instructions few_worst list --loss 1 --workers 1
 instructions few_worst totals --loss 1 --workers 1
 instructions lines encode --hex
 END
 
-# gaps EACH COUNT: the text of so many gaps of one place, one of a place in each EACH
-gaps() { awk -v each="$1" -v n="$2" 'BEGIN { for (; k < n; k++) printf "%s%d-%d", k ? "," : "", each * k + 5, each * k + 6; print "" }'; }
+# gaps COUNT: the text of so many gaps of one place
+gaps() { awk -v n="$1" 'BEGIN { for (; k < n; k++) printf "%s%d-%d", k ? "," : "", 9 * k + 5, 9 * k + 6; print "" }'; }
 
-# word WORD: the word of a job; GAPS is ten thousand gaps, FAR so few that most groups touch none
+# word WORD: the word of a job; GAPS is ten thousand gaps, NEAR so many that most groups touch none
 word() {
     case $1 in
-        GAPS) gaps 9 10000 ;;
-        FAR) gaps 1000 190 ;;
+        GAPS) gaps 10000 ;;
+        NEAR) gaps 3000 ;;
         *) echo "$1" ;;
     esac
 }
@@ -354,7 +351,6 @@ while read -r job; do
     fi
 done <todo
 are_shared station scan --workers 4
-are_shared station list --pieces 4 --workers 4
 [ -n "${has_valgrind:-}" ] || echo 'skipped: instructions, which valgrind counts'
 # each bound is looked at
 past=$(UNTIL_FAILURE='' try '1 1 1 99' sample scan --workers 4 | grep -c FAILED)
