@@ -58,8 +58,8 @@ class Trial:
     def try_recording(self, held):
         """A scan, two lists and the totals, each of the latter by two crews; some from digits."""
         chance = self.chance
-        bits = max(0, 8 * len(held) - chance.randint(0, 40))
-        source = ["--bits", str(bits), *making.gaps(chance, bits)]
+        bits = max(0, 8 * len(held) - chance.choice([0, 0, chance.randint(0, 40)]))
+        source = (["--bits", str(bits)] if bits < 8 * len(held) else []) + making.gaps(chance, bits)
         for job in ("scan", "list", "list", "totals"):
             words = source + (making.rules(chance) if job != "scan" else [])
             wanted = self.wanted([job, *words], held)
