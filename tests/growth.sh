@@ -7,8 +7,8 @@
 # of seconds. Other programs disturb a measurement: the least time of a size counts, and a job has failed where it grows
 # so in fifteen attempts.
 # Then it compares jobs that do the same in two ways: a stream and a list, both with ten thousand gaps too, a reader
-# that is slow and a file, many workers and one, many gaps and none, calls of the library for C and a list. Of these calls valgrind counts
-# the instructions, where it is installed, since no other program changes them.
+# that is slow and a file, many workers and one, many gaps and none, calls of the library for C and a list. valgrind, if it is installed,
+# counts the instructions of these calls, which no other program changes.
 # The last line is 'N passed, M failed', and the exit status says whether all passed.
 
 usage='usage: tests/growth.sh PATH-TO-RDS [LIBRARY-FOLDER [PATH-TO-RDS_BENCH]]'
@@ -255,7 +255,7 @@ by_instructions() {
     counted 125 fewer "$work/push" 64 100000 beside "$work/push" 64 100000 look
 }
 
-# by_times: the same by the time of a processor, if nothing counts instructions
+# by_times: the same by CPU time, if nothing counts instructions
 by_times() {
     echo 'skipped: instructions of calls of the library, which valgrind counts'
     beside 2 cat station.16 "$work/push" 65536 0 beside "${one[@]}"

@@ -8,8 +8,8 @@
 # has one line there, and is found by its name: its input, and its words. Reads and writes are counted too: one for each
 # 64 KiB, and a few, are allowed. A job that writes nothing has failed, but of no bits.
 # Recordings are a few megabytes long, but for those of the smallest jobs, where a table that is made twice shows.
-# Of jobs named 'instructions ..' valgrind counts the processor's instructions, where it is installed: a slow form shows there, however
-# the machine is loaded. Less than nine tenths of that bound fails too.
+# valgrind, if it is installed, counts the instructions of the jobs named 'instructions ..': a slow form shows there, also on a loaded
+# machine. Less than nine tenths of such a bound fails too.
 # With --measure the bounds of the jobs that are named, such as 'empty list --workers 1', are written anew, and shown: the
 # most of three runs, and a tenth to spare, of the smallest jobs a hundredth, of instructions a twentieth. The threads of a new job are
 # those that it started.
@@ -115,7 +115,8 @@ declare -A bounds=()
 check_table "$table"
 while read -r line; do
     case $line in '#'*) continue ;; esac
-    [[ $line =~ ^([0-9]+\ [0-9]+\ [0-9]+\ [0-9]+)\ ([^i0-9].*)$ || $line =~ ^([0-9]+)\ (instructions\ .*)$ ]] || broken "$table" "no line of bounds: $line"
+    [[ $line =~ ^([0-9]+\ [0-9]+\ [0-9]+\ [0-9]+)\ ([^i0-9].*)$ || $line =~ ^([0-9]+)\ (instructions\ .*)$ ]] \
+        || broken "$table" "no line of bounds: $line"
     [ -z "${bounds[${BASH_REMATCH[2]}]:-}" ] || broken "$table" "two lines of the job ${BASH_REMATCH[2]}"
     bounds[${BASH_REMATCH[2]}]=${BASH_REMATCH[1]}
 done <"$table"
@@ -280,7 +281,7 @@ try() {
     within 'bytes written' "$written" "$least" $((1 << 40))
 }
 
-# shares INPUT WORDS..: the milliseconds of the processor of the thread that writes, of all others together, and of the one that has most
+# shares INPUT WORDS..: the CPU-milliseconds of the thread that writes, of all others together, and of the busiest of these
 shares() {
     PATH=$all_tools timeout "$LIMIT" python3 -c '
 import os, subprocess, sys, time
@@ -299,7 +300,7 @@ writer = spent.pop(child.pid, 0)
 print(writer, sum(spent.values()), max(spent.values(), default=0))' "$rds" "$@"
 }
 
-# are_shared INPUT WORDS..: whether no thread of four has more than half of what all have, and the one that writes waits asleep
+# are_shared INPUT WORDS..: whether no worker has more than half of the workers' CPU time, and the thread that writes sleeps while it waits
 are_shared() {
     local writer all most
     for _ in 1 2 3; do
@@ -309,7 +310,7 @@ are_shared() {
             return
         fi
     done
-    fail "$*: $most ms of $all for one of the threads, and $writer ms for the one that writes"
+    fail "$*: $most of $all CPU-milliseconds for one worker, and $writer for the thread that writes"
 }
 
 # ---- the bounds of some jobs, written anew
