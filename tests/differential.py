@@ -5,7 +5,8 @@
 
 For each seed from FIRST (1) to LAST (120, or FIRST where that is more) tests/making.py makes a recording, and lines of groups. `rds`
 scans, lists and totals the recording, by rules, gaps, cuttings and workers that are drawn from the seed. It follows it in chunks of
-random lengths, and its first 2,000 bytes one by one; and it encodes the lines. A run that differs is shown by its seed and its words.
+random lengths, and its first 2,000 bytes one by one; and it encodes the lines. Each seed has a byte that is no digit and no blank, which
+is refused. A run that differs is shown by its seed and its words.
 The last line is 'N passed, M failed', and the exit status says whether all passed.
 """
 
@@ -13,6 +14,7 @@ import os
 import random
 import sys
 from concurrent.futures import ThreadPoolExecutor
+from functools import lru_cache
 
 import making
 import plain
@@ -20,7 +22,13 @@ from streams import followed, ran
 
 # How many seeds there are, and how many runs of each.
 SEEDS = 120
-RUNS = 11
+RUNS = 13
+
+
+@lru_cache(4)
+def recorded(held, bits, gaps):
+    """A recording, which the runs of a seed share."""
+    return plain.Recording(held, bits, gaps)
 
 
 class Trial:
@@ -42,13 +50,16 @@ class Trial:
 
     def wanted(self, words, held):
         """What plain.py writes of these words."""
-        return plain.text_of(plain.arguments().parse_args(words), held)
+        parsed = plain.arguments().parse_args(words)
+        if parsed.job == "encode":
+            return plain.text_of(parsed, held)
+        return plain.listing(parsed.job, recorded(held, parsed.bits, tuple(parsed.gaps)), plain.rules_of(parsed)).encode()
 
     def try_recording(self, held):
         """A scan, two lists and the totals, each of the latter by two crews; some from digits."""
         chance = self.chance
-        bits = max(0, 8 * len(held) - chance.randint(0, 40))
-        source = ["--bits", str(bits), *making.gaps(chance, bits)]
+        bits = max(0, 8 * len(held) - chance.choice([0, 0, chance.randint(0, 40)]))
+        source = (["--bits", str(bits)] if bits < 8 * len(held) else []) + making.gaps(chance, bits)
         for job in ("scan", "list", "list", "totals"):
             words = source + (making.rules(chance) if job != "scan" else [])
             wanted = self.wanted([job, *words], held)
@@ -78,12 +89,20 @@ class Trial:
             else:
                 self.compare(words, lines, wanted)
 
+    def try_strange(self):
+        """A line of a group that begins with a byte that is no digit and no blank, and digits of a recording that end with it."""
+        byte, digits = bytes([making.STRANGE[self.seed % len(making.STRANGE)]]), b"1234254052445320"
+        line, text = byte + digits, digits + byte
+        self.note(ran(self.rds, ["encode"], line) == (1, b"", b"refused 12 GroupText\n"), f"rds encode of {line}")
+        self.note(ran(self.rds, ["scan", "--hex"], text) == (1, b"", b"refused 11 HexText\n"), f"rds scan --hex of {text}")
+
 
 def tried(rds, seed):
     """The trial of a seed."""
     trial = Trial(rds, seed)
     trial.try_recording(making.recording(seed))
     trial.try_lines(making.lines(seed))
+    trial.try_strange()
     return trial
 
 

@@ -7,7 +7,8 @@
 # of seconds. Other programs disturb a measurement: the least time of a size counts, and a job has failed where it grows
 # so in fifteen attempts.
 # Then it compares jobs that do the same in two ways: a stream and a list, both with ten thousand gaps too, a reader
-# that is slow and a file, many workers and one, many gaps and none, calls of the library for C and a list.
+# that is slow and a file, many workers and one, many gaps and none, calls of the library for C and a list. valgrind, if it is installed,
+# counts the instructions of these calls, which no other program changes.
 # The last line is 'N passed, M failed', and the exit status says whether all passed.
 
 usage='usage: tests/growth.sh PATH-TO-RDS [LIBRARY-FOLDER [PATH-TO-RDS_BENCH]]'
@@ -20,7 +21,7 @@ if [ $# -gt 2 ]; then check_programs "$3" && bench=$(realpath "$3"); fi
 rds=$(realpath "$1")
 library=${2:+$(realpath "$2")}
 limit_time "$rds"
-needs basenc cat head seq sleep tr
+needs basenc cat cp head seq sleep tr
 cd "$work" || exit 1
 
 # How many times the time of a size the next may take, and how often a job is measured.
@@ -155,6 +156,43 @@ beside() {
     fi
 }
 
+# ---- instructions of calls of the library
+
+declare -A instructions=()
+
+# count_instructions INPUT COMMAND..: how many instructions it takes by valgrind, into $counted; each job is counted once
+count_instructions() {
+    counted=${instructions[$*]:-}
+    [ -z "$counted" ] || return 0
+    PATH=$all_tools timeout "$LIMIT" valgrind --tool=cachegrind --cache-sim=no --cachegrind-out-file=/dev/null --log-file=counts \
+        "${@:2}" <"$work/$1" >out 2>err || return 1
+    counted=$(awk '/ I *refs: / { gsub(",", "", $NF); print $NF }' counts)
+    instructions[$*]=$counted
+    [ -n "$counted" ]
+}
+
+# counted PERCENT INPUT COMMAND.. beside COMMAND..: whether the first takes at most that share of the instructions of the second; less
+# than four fifths of it fails too, since then the bound holds nothing
+counted() {
+    local most=$1 input=$2 these=() counted share
+    shift 2
+    while [ "$1" != beside ]; do
+        these+=("$1")
+        shift
+    done
+    shift
+    if ! count_instructions "$input" "${these[@]}" || ! share=$counted || ! count_instructions "$input" "$@"; then
+        fail "${these[*]} of $input, or the job beside it: not done"
+        return
+    fi
+    share=$((100 * share / counted))
+    if ((share <= most && share >= most * 4 / 5)); then
+        pass
+    else
+        fail "${these[*]} of $input: $share % of the instructions, where $((most * 4 / 5)) to $most are allowed"
+    fi
+}
+
 # ---- the lanes
 
 one=("$rds" list --workers 1)
@@ -173,6 +211,8 @@ growing() {
     job worst totals --loss 1 --pieces PIECES --workers 2
     job worst list --loss 1 --pieces 1 --workers 1
     job station list --pieces PIECES --workers 2
+    # pieces of many parts of rows
+    job station list --pieces 2 --workers 2
     job station list --gaps GAPS --workers 1
     job losing totals --gaps GAPS --pieces PIECES --workers 1
     job lines encode
@@ -200,16 +240,39 @@ in_two_ways() {
     beside 3 cat hiss.4 "$rds" scan --workers 1 --gaps "$far" beside "$rds" scan --workers 1
 }
 
-# by_library: calls of the library, beside a list
-by_library() {
-    PATH=$all_tools ${CC:-cc} -O2 -I"$library" -o "$work/push" "$here/push.c" "$library/librds.a" || exit 1
+# by_instructions: calls of the library, beside a list
+by_instructions() {
+    local near
+    near=$(gaps 2000 9 5)
+    cp "$here/../examples/station.bin" "$work/sample"
+    counted 36 sample "$work/push" 65536 0 beside "${one[@]}"
+    counted 62 sample "$work/push" 1024 0 beside "${one[@]}"
+    counted 80 sample "$work/push" 1024 2000 beside "${one[@]}" --gaps "$near"
+    counted 80 sample "$work/run" 0 0 beside "${one[@]}"
+    counted 116 sample "$work/run" 4096 0 beside "${one[@]}"
+    counted 163 sample "$work/run" 4096 2000 beside "${one[@]}" --gaps "$near"
+    head -c 640 "$work/sample" >"$work/fewer"
+    counted 125 fewer "$work/push" 64 100000 beside "$work/push" 64 100000 look
+}
+
+# by_times: the same by CPU time, if nothing counts instructions
+by_times() {
+    echo 'skipped: instructions of calls of the library, which valgrind counts'
     beside 2 cat station.16 "$work/push" 65536 0 beside "${one[@]}"
     beside 2 cat station.16 "$work/push" 1024 0 beside "${one[@]}"
-    PATH=$all_tools ${CC:-cc} -O2 -I"$library" -o "$work/run" "$here/run.c" "$library/librds.a" || exit 1
     # ranges of 16,384 bits, and of 4,096
-    beside 4 cat station.16 "$work/run" 16384 beside "${one[@]}"
-    beside 8 cat station.16 "$work/run" 4096 beside "${one[@]}"
+    beside 4 cat station.16 "$work/run" 16384 0 beside "${one[@]}"
+    beside 8 cat station.16 "$work/run" 4096 0 beside "${one[@]}"
     beside 2 cat station.16 "$work/push" 65536 10000 beside "${one[@]}" --gaps "$many"
+}
+
+# by_library: calls of the library
+by_library() {
+    local name
+    for name in push run; do
+        PATH=$all_tools ${CC:-cc} -O2 -I"$library" -o "$work/$name" "$here/$name.c" "$library/librds.a" || exit 1
+    done
+    if [ -n "$(PATH=$all_tools type -P valgrind)" ]; then by_instructions; else by_times; fi
     # a million gaps: over the whole stream, in as many calls as for fewer gaps, since each looks at all of them; and at each call
     # for a few bytes
     program="$work/push"

@@ -145,6 +145,10 @@ def as_digits(chance, held):
     return chance.choice(["\n", "\r\n", " ", "\t"]).join(text[k : k + width] for k in range(0, len(text), width)).encode()
 
 
+# Bytes that are neither digits nor blanks: all below 128, and some above.
+STRANGE = [it for it in [*range(128), 0x80, 0x85, *range(0xA0, 0xB0), 0xFF] if chr(it) not in "0123456789abcdefABCDEF \t\r\n"]
+
+
 # ---- words of the command line
 
 
@@ -152,9 +156,9 @@ def rules(chance):
     """Rules of either kind."""
     words = ["--burst", str(chance.randint(0, 5)), "--reach", str(chance.randint(1, 8))]
     if chance.random() < 0.6:
-        return words + ["--loss", str(chance.choice([chance.randint(1, 6), chance.randint(1, 64)]))]
-    of = chance.randint(1, 64)
-    return words + ["--share", str(chance.choice([chance.randint(1, of), (of + 3) // 4])), "--of", str(of)]
+        return words + ["--loss", str(chance.choice([chance.randint(1, 6), chance.randint(1, 64), 64]))]
+    of = chance.choice([chance.randint(1, 64), 64])
+    return words + ["--share", str(chance.choice([chance.randint(1, of), (of + 3) // 4, of])), "--of", str(of)]
 
 
 def crew(chance):

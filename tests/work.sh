@@ -8,8 +8,11 @@
 # has one line there, and is found by its name: its input, and its words. Reads and writes are counted too: one for each
 # 64 KiB, and a few, are allowed. A job that writes nothing has failed, but of no bits.
 # Recordings are a few megabytes long, but for those of the smallest jobs, where a table that is made twice shows.
+# valgrind, if it is installed, counts the instructions of the jobs named 'instructions ..': a slow form shows there, also on a loaded
+# machine. Less than nine tenths of such a bound fails too.
 # With --measure the bounds of the jobs that are named, such as 'empty list --workers 1', are written anew, and shown: the
-# most of three runs, and a tenth to spare, of the smallest jobs a hundredth. The threads of a new job are those that it started.
+# most of three runs, and a tenth to spare, of the smallest jobs a hundredth, of instructions a twentieth. The threads of a new job are
+# those that it started.
 # Calls are counted by the library of tests/refuse.c, which refuses none of them here.
 # The last line is 'N passed, M failed', and the exit status says whether all passed.
 
@@ -20,7 +23,7 @@ check_programs "${1:-}"
 if [ $# -gt 1 ] && { [ "$2" != --measure ] || [ $# = 2 ]; }; then misused; fi
 rds=$(realpath "$1")
 limit_time "$rds"
-needs basenc cat cp grep od python3 seq stat tr
+needs basenc cat cp grep head od python3 seq stat tr
 table=$here/work.bounds
 cd "$work" || exit 1
 
@@ -83,12 +86,25 @@ station scan --workers 32
 station list --workers 8
 station list --workers 32
 station list --progress
+instructions sample scan --workers 1
+instructions sample list --workers 1
+instructions sample list --pieces 16 --workers 4 --progress
+instructions sample follow --gaps NEAR
+instructions samples totals --workers 1
+instructions static totals --workers 1
+instructions few_wrong list --workers 1
+instructions few_worst totals --loss 1 --workers 1
+instructions lines encode --hex
 END
 
-# word WORD: the word of a job; GAPS is ten thousand gaps of one place
+# gaps COUNT: the text of so many gaps of one place
+gaps() { awk -v n="$1" 'BEGIN { for (; k < n; k++) printf "%s%d-%d", k ? "," : "", 9 * k + 5, 9 * k + 6; print "" }'; }
+
+# word WORD: the word of a job; GAPS is ten thousand gaps, NEAR so many that most groups touch none
 word() {
     case $1 in
-        GAPS) awk 'BEGIN { for (; k < 10000; k++) printf "%s%d-%d", k ? "," : "", 9 * k + 5, 9 * k + 6; print "" }' ;;
+        GAPS) gaps 10000 ;;
+        NEAR) gaps 3000 ;;
         *) echo "$1" ;;
     esac
 }
@@ -99,7 +115,8 @@ declare -A bounds=()
 check_table "$table"
 while read -r line; do
     case $line in '#'*) continue ;; esac
-    [[ $line =~ ^([0-9]+\ [0-9]+\ [0-9]+\ [0-9]+)\ (.*)$ ]] || broken "$table" "no line of bounds: $line"
+    [[ $line =~ ^([0-9]+\ [0-9]+\ [0-9]+\ [0-9]+)\ ([^i0-9].*)$ || $line =~ ^([0-9]+)\ (instructions\ .*)$ ]] \
+        || broken "$table" "no line of bounds: $line"
     [ -z "${bounds[${BASH_REMATCH[2]}]:-}" ] || broken "$table" "two lines of the job ${BASH_REMATCH[2]}"
     bounds[${BASH_REMATCH[2]}]=${BASH_REMATCH[1]}
 done <"$table"
@@ -117,21 +134,20 @@ make_refuse
 # station COUNT: a station's groups, so many times over
 station() { for _ in $(seq "$1"); do cat "$here/../examples/station.bin"; done; }
 
-# wrong SHARE: a station's groups with about that share of their bits turned, one of a byte at most
+# repeated COUNT: its input, so many times over
+repeated() {
+    cat >part
+    for _ in $(seq "$1"); do cat part; done
+}
+
+# wrong SHARE COUNT: a station's groups, so many times over, with at most that share of their bits turned
 wrong() {
-    station 40 | od -An -v -tx1 | awk -v share="$1" -v x=41 '
-        function digit(text, at) { return index("0123456789abcdef", substr(text, at, 1)) - 1 }
-        {
-            for (i = 1; i <= NF; i++) {
-                x = x * 16807 % 2147483647
-                if (x < 8 * share * 2147483647) {
-                    bit = 2 ^ (x % 8)
-                    byte = 16 * digit($i, 1) + digit($i, 2)
-                    $i = sprintf("%02x", int(byte / bit) % 2 ? byte - bit : byte + bit)
-                }
-            }
-            print
-        }' | as_bytes
+    station "$2" | PATH=$all_tools python3 -c '
+import random, sys
+held, chance = bytearray(sys.stdin.buffer.read()), random.Random(41)
+for _ in range(int(8 * len(held) * float(sys.argv[1]))):
+    held[chance.randrange(len(held))] ^= 1 << chance.randrange(8)
+sys.stdout.buffer.write(held)' "$1"
 }
 
 # make_input NAME: writes an input of a job; of the last two a sixteenth and a thousandth are bits that put each next guess on the
@@ -140,6 +156,11 @@ make_input() {
     case $1 in
         empty) : ;;
         sample) station 1 ;;
+        samples) station 4 ;;
+        static) words 17 7500 | as_bytes ;;
+        few_wrong) wrong 0.01 1 ;;
+        few_worst) words 47 700 | "$limited" encode --hex | past_mending | as_bytes ;;
+        lines) words 19 3000 ;;
         station) station 160 ;;
         noise) words 17 200000 ;;
         words) words 19 160000 ;;
@@ -147,9 +168,12 @@ make_input() {
         # a byte of every 64 spoilt
         damaged) station 40 | od -An -v -tx1 | awk 'NR % 4 == 0 { $2 = "ff" } 1' ;;
         # groups of version B, whose block 3 has the programme of block 1
-        version_b) words 23 300000 | awk '{ print "d393" substr($0, 5, 1) "8" substr($0, 7, 2) "d393" substr($0, 13) }' | "$limited" encode ;;
-        wrong*) wrong "${1#wrong}" ;;
-        worst) words 47 150000 | "$limited" encode --hex | past_mending | as_bytes ;;
+        version_b)
+            words 23 30000 | awk '{ print "d393" substr($0, 5, 1) "8" substr($0, 7, 2) "d393" substr($0, 13) }' \
+                | "$limited" encode | repeated 10
+            ;;
+        wrong*) wrong "${1#wrong}" 40 ;;
+        worst) words 47 15000 | "$limited" encode --hex | past_mending | as_bytes | repeated 10 ;;
         short_locks | three_phases) PATH=$all_tools python3 "$here/worst_inputs.py" "$1" 2005250 ;;
         *) return 1 ;;
     esac >"$1"
@@ -157,13 +181,26 @@ make_input() {
 
 # ---- what a job takes
 
-# count INPUT WORDS..: the counts of the job, into $allocations, $bytes, $peak, $reads, $writes and $threads
-count() {
-    local input=$1 name number words
-    [ -e "$input" ] || make_input "$input" || exit 1
+# give_up STATUS INPUT WORDS..: ends the script at a job that ended so
+give_up() {
+    fail "${*:2}: status $1, $(head -c 500 err)"
+    finish
+    exit 1
+}
+
+# prepare INPUT WORDS..: makes the input, and puts the words of the job into $words
+prepare() {
+    local name
+    [ -e "$1" ] || make_input "$1" || exit 1
     mapfile -t words < <(for name in "${@:2}"; do word "$name"; done)
     rm -f counts
-    REFUSE_COUNT="$work/counts" LD_PRELOAD="$work/refuse.so" "$rds" "${words[@]}" <"$input" >out 2>err || exit 1
+}
+
+# count INPUT WORDS..: the counts of the job, into $allocations, $bytes, $peak, $reads, $writes and $threads
+count() {
+    local name number words
+    prepare "$@"
+    REFUSE_COUNT="$work/counts" LD_PRELOAD="$work/refuse.so" "$rds" "${words[@]}" <"$1" >out 2>err || give_up $? "$@"
     while read -r name number; do
         case $name in
             alloc) allocations=$number ;;
@@ -176,6 +213,16 @@ count() {
     done <counts || exit 1
 }
 
+# count_instructions INPUT WORDS..: how many instructions the job takes, into $instructions
+count_instructions() {
+    local words
+    prepare "$@"
+    PATH=$all_tools timeout "$LIMIT" valgrind --tool=cachegrind --cache-sim=no --cachegrind-out-file=/dev/null --log-file=counts \
+        "$rds" "${words[@]}" <"$1" >out 2>err || give_up $? "$@"
+    instructions=$(awk '/ I *refs: / { gsub(",", "", $NF); print $NF }' counts)
+    [ -n "$instructions" ] || exit 1
+}
+
 # keep_most: the most so far of each number that has a bound
 keep_most() {
     ((allocations <= most[0])) || most[0]=$allocations
@@ -186,6 +233,11 @@ keep_most() {
 # measured INPUT WORDS..: bounds of the job, from three runs
 measured() {
     local most=(0 0 0) spare=10 kept
+    if [ "$1" = instructions ]; then
+        count_instructions "${@:2}"
+        echo $((instructions + instructions / 20))
+        return
+    fi
     for _ in 1 2 3; do
         count "$@"
         keep_most
@@ -229,6 +281,38 @@ try() {
     within 'bytes written' "$written" "$least" $((1 << 40))
 }
 
+# shares INPUT WORDS..: the CPU-milliseconds of the thread that writes, of all others together, and of the busiest of these
+shares() {
+    PATH=$all_tools timeout "$LIMIT" python3 -c '
+import os, subprocess, sys, time
+with open(sys.argv[2]) as held:
+    child = subprocess.Popen([sys.argv[1], *sys.argv[3:]], stdin=held, stdout=subprocess.DEVNULL)
+tasks, spent = f"/proc/{child.pid}/task", {}
+while child.poll() is None:
+    time.sleep(0.002)
+    try:
+        for task in os.listdir(tasks):
+            with open(f"{tasks}/{task}/schedstat") as it:
+                spent[int(task)] = int(it.read().split()[0]) // 10**6
+    except (OSError, IndexError):
+        pass
+writer = spent.pop(child.pid, 0)
+print(writer, sum(spent.values()), max(spent.values(), default=0))' "$rds" "$@"
+}
+
+# are_shared INPUT WORDS..: whether no worker has more than half of the workers' CPU time, and the thread that writes sleeps while it waits
+are_shared() {
+    local writer all most
+    for _ in 1 2 3; do
+        read -r writer all most < <(shares "$@")
+        if ((all > 0 && most <= all / 2 && writer <= all / 2)); then
+            pass
+            return
+        fi
+    done
+    fail "$*: $most of $all CPU-milliseconds for one worker, and $writer for the thread that writes"
+}
+
 # ---- the bounds of some jobs, written anew
 
 if [ $# -gt 1 ]; then
@@ -236,7 +320,7 @@ if [ $# -gt 1 ]; then
         before=${bounds[$job]:-}
         # shellcheck disable=SC2086
         now=$(measured $job) || exit 1
-        if [ -z "$before" ]; then
+        if [ -z "$before" ] && [[ $job != instructions* ]]; then
             # shellcheck disable=SC2086
             count $job
             now="${now% } $threads"
@@ -256,10 +340,19 @@ fi
 
 # ---- all jobs
 
+[ -z "$(PATH=$all_tools type -P valgrind)" ] || has_valgrind=1
 while read -r job; do
-    # shellcheck disable=SC2086
-    try "${bounds[$job]}" $job
+    if [[ $job != instructions* ]]; then
+        # shellcheck disable=SC2086
+        try "${bounds[$job]}" $job
+    elif [ -n "${has_valgrind:-}" ]; then
+        # shellcheck disable=SC2086
+        count_instructions ${job#* }
+        within instructions "$instructions" $((${bounds[$job]} * 9 / 10)) "${bounds[$job]}"
+    fi
 done <todo
+are_shared station scan --workers 4
+[ -n "${has_valgrind:-}" ] || echo 'skipped: instructions, which valgrind counts'
 # each bound is looked at
 past=$(UNTIL_FAILURE='' try '1 1 1 99' sample scan --workers 4 | grep -c FAILED)
 if [ "$past" = 4 ]; then pass; else fail "of four bounds that are too small, $past are told"; fi
