@@ -350,6 +350,8 @@ def test_words_of_0_and_the_default_limit() -> None:
     assert group.words == (0, 0, 0, 0)
     assert librds.correct(0x095_00C8 ^ 0x18, "A").kind == librds.Kind.CORRECTED
     assert librds.correct(0x095_00C8 ^ 0x38, "A").kind == librds.Kind.LOST
+    assert librds.correct(0x384_0283, "C or C'") == librds.Block(librds.Kind.CORRECTED, "C'", 0xE100, 0x30)
+    assert librds.correct(0x384_0283, "C").kind == librds.Kind.LOST
 
 
 def test_names_and_texts_of_the_module() -> None:
