@@ -107,7 +107,7 @@ def test_the_end_of_a_part(two: bytes) -> None:
     assert said("programmes", "--unfinished", data=two)[1:] == []
     # An outage of just the shortest length is told: 0.08 s are 95 bits.
     ends = [said("outages", "--unfinished", "--shortest", 0.08, "--length", it, data=two)[-1].split(",")[3] for it in (406, 407)]
-    assert ends == ["0", "312"]
+    assert ends == ["begin_place", "312"]
     assert [run("errors", "--rate", it, data=two).status for it in (1068, 1307)] == [2, 2]
 
 

@@ -4,6 +4,7 @@ from __future__ import annotations
 
 import importlib
 import re
+import syslog
 from pathlib import Path
 from typing import Any
 
@@ -14,7 +15,7 @@ from made import run
 from network import stations
 from rds_monitor.items import Fault
 from rds_monitor import watch
-from rds_monitor.watch import alarms, asked, loop, receiver, table, times
+from rds_monitor.watch import alarms, asked, journal, loop, receiver, table, times
 from rds_monitor.watch.table import Keep, Limits, StationTable, table_of
 
 ALPHA = ('name = "Alpha"', 'command = ["receiver", "-f", "98.1M"]')
@@ -137,15 +138,21 @@ def test_numbers_of_the_page() -> None:
     """What the page says of pauses and limits, and the constants that it means."""
     patience = StationTable("", ()).patience
     for told, numbers in (
-        (f"gives no byte for `patience` seconds ({patience:g}). The pause is a second, and doubles up to a minute; a run of a minute", {
-            1: receiver.FIRST_PAUSE, 60: receiver.LONGEST_PAUSE, 60.0: receiver.GOOD_RUN}),
-        ("is set forward by more than a second", {1: times.STEP}),
-        ("come more than half a second later for ten seconds", {0.5: times.Arrivals.LATE, 10: times.Arrivals.WINDOW}),
-        ("correct it, for the first second", {1: times.Arrivals.SETTLING}),
-        ("up to 8 MB per station", {8 << 20: loop.MOST_WAITING}),
-        ("Twice a second the new rows are appended", {0.5: watch.TICK}),
-        ("Pages and metrics are written anew each minute", {60: loop.PAGES_EVERY}),
-        ("without a shell, for at most a minute", {60: loop.HOOK_SECONDS}),
-        ("UNKNOWN if the watch has not written for a minute", {60: asked.NEWS}),
+        (f"gives no byte for `patience` seconds ({patience:g}). The pause is a second, and doubles up to a minute; a run of a minute", [
+            (1, receiver.FIRST_PAUSE), (60, receiver.LONGEST_PAUSE), (60, receiver.GOOD_RUN)]),
+        ("is set forward by more than a second", [(1, times.STEP)]),
+        ("come more than half a second later for ten seconds", [(0.5, times.Arrivals.LATE), (10, times.Arrivals.WINDOW)]),
+        ("correct it, for the first second", [(1, times.Arrivals.SETTLING)]),
+        ("up to 8 MB per station", [(8 << 20, loop.MOST_WAITING)]),
+        ("Twice a second the new rows are appended", [(0.5, watch.TICK)]),
+        ("Pages and metrics are written anew each minute", [(60, loop.PAGES_EVERY)]),
+        ("without a shell, for at most a minute", [(60, loop.HOOK_SECONDS)]),
+        ("UNKNOWN if the watch has not written for a minute", [(60, asked.NEWS)]),
     ):
-        assert told in PAGE and all(wanted == found for wanted, found in numbers.items()), told
+        assert told in PAGE and all(wanted == found for wanted, found in numbers), told
+
+
+def test_priorities_of_the_journal() -> None:
+    """Those of syslog, by which systemd takes them."""
+    wanted = {"error": syslog.LOG_ERR, "warning": syslog.LOG_WARNING, "notice": syslog.LOG_NOTICE, "info": syslog.LOG_INFO}
+    assert journal.PRIORITIES == wanted
