@@ -13,9 +13,6 @@ export RDS RDS_LIBRARY
 RDS=$(realpath "$1")
 RDS_LIBRARY=$(realpath "$2")/librds.so.0
 cd "$here/.." || exit 1
-# Each module is compiled once for all processes, and nothing is written into the project.
-unset PYTHONDONTWRITEBYTECODE
-export PYTHONPYCACHEPREFIX=$work/compiled
 python=${PYTHON:-/usr/bin/python3}
 
 # tried NAME COMMAND..: passes if the command ends in status 0, and else shows its output
@@ -44,7 +41,7 @@ if has numpy pytest hypothesis; then
     files=$(mktemp -d -p /dev/shm) || exit 1
     trap 'rm -rf "$work" "$files"' EXIT
   fi
-  tried 'the tests of monitor/' "$python" -m pytest -q -rs -p no:cacheprovider --basetemp "$files/of_tests" "${workers[@]}" monitor/tests
+  tried 'the tests of monitor/' "$python" -B -m pytest -q -rs -p no:cacheprovider --basetemp "$files/of_tests" "${workers[@]}" monitor/tests
   sed -n 's/^SKIPPED/skipped:/p' "$work/said"
   tail -n 1 "$work/said"
 

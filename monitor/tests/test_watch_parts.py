@@ -9,11 +9,14 @@ from typing import List, Optional
 import pytest
 
 from network import START, Air
+from rds_monitor.content import Event
 from rds_monitor.watch import loop
 from rds_monitor.watch.live import Append
 from rds_monitor.watch.loop import Hooks
 from rds_monitor.watch.receiver import Keeper
-from rds_monitor.watch.records import Records
+from rds_monitor.watch.records import Records, RunBegan
+from rds_monitor.watch.session import Contents, Part
+from rds_monitor.watch.times import Timing
 from rds_monitor.watch.writer import Batch, Writer, WriterThread
 from test_watch_network import ALPHA, network
 
@@ -78,5 +81,40 @@ def test_bytes_that_came_just_before_a_stop(tmp_path: Path) -> None:
     it.end()
     ((_, run),) = it.given
     assert len(run.given) == air.at(30.9) - air.at(1.0)
+    for path, size in it.asked("SELECT path, bytes FROM hour_files"):
+        assert (tmp_path / path).stat().st_size == size
     assert [text for text in it.said if "clock was set" in text] == [
         f"the machine's clock was set {way} by {seconds} s" for way, seconds in (("forward", 100.0), ("back", 50.0))]
+
+
+def test_the_last_minute_of_a_station(tmp_path: Path) -> None:
+    """Pages and plugins are told what the database has of it."""
+    air = Air(ALPHA, START, 100)
+    air._data[4000:12000:41] ^= 0x10
+    it = network(tmp_path, air)
+    it.run(90)
+    state = it.watch.stations["Alpha"].state(0.0)["minute"]
+    ((sent, valid, corrected, lost),) = it.asked(
+        "SELECT sent, valid, corrected, lost FROM minute_rows ORDER BY session DESC, minute DESC LIMIT 1")
+    assert (state["sent"], state["valid"], state["corrected"]) == (sent, valid, corrected) and 0 < corrected != lost
+    it.end()
+
+
+def test_changes_that_are_too_many() -> None:
+    """Of an item six are stored per minute, and the others counted."""
+    part = Part(Timing(0.0), 0, Contents(1187.5))
+    for number in range(9):
+        part._keep(Event(104 * number, 0xD318, "ps", str(number), None, str(number)))
+    part.pass_to(3 * 71250)
+    told = part.taken()
+    assert [it.text for it in told.events] == list("012345") and [it.more for it in told.minutes] == [3, 0]
+
+
+def test_runs_of_a_watch_that_was_killed(tmp_path: Path) -> None:
+    """None ends before it began, though the machine's clock was set back."""
+    records = Records(str(tmp_path / "watch.db"))
+    records.write([RunBegan("Alpha", 100.0)])
+    records.end_runs(50.0)
+    rows = records.database.execute("SELECT begin_at, end_at, reason FROM run_rows").fetchall()
+    assert rows == [(100.0, 100.0, "the watch was killed")]
+    records.close()
