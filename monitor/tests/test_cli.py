@@ -319,3 +319,32 @@ def test_options_that_exclude_each_other() -> None:
     for words in (["--loss", "3", "--share", "3"], ["--loss", "3", "--of", "3"]):
         assert b"ignored" in subprocess.run([PROGRAM, "list", *words], input=b"", capture_output=True).stderr
     assert options_of_rds("list")["--gaps"][1].count("FROM-TO") and ":FROM-TO,..'" in (TOP / ZSH).read_text()
+
+
+# ---- the manual page of rds
+
+# Numbers of the page that no help says: from standards, processors, and an example.
+OF_THE_PAGE = {"62106 baseband", "62106 earlier", "50067", "1998", "64 processor", "2 and", "2009 on", "104", "130"}
+
+
+def test_numbers_on_the_manual_page_of_rds() -> None:
+    """Each is in the program's help, before the same word."""
+    help_of_all = " ".join(" ".join(rds(*words, "--help").decode() for words in ((), *((it,) for it in commands_of_rds() if it != "help"))).split())
+    text = re.sub(r"^\.(?:Dd|Dt|It \d+|Xr|Bl).*|^\.\w+ ?", "", (TOP / "rds.1").read_text(), flags=re.M)
+    page = " ".join(text.split())
+    digits, most = 2 * len(rds("encode", data=b"0" * 16)), 2**36
+    known = {*OF_THE_PAGE, f"{digits} digits", f"1 to {len(str(most)) + 1} digits"}
+    found = re.findall(r"\b\d+(?: (?:to|is) \d+)?\b(?: \w+)?", page)
+    assert [it for it in found if it not in known and it not in help_of_all] == [] and known <= {*found}
+    assert rds("list", "--gaps", "104-130", "--bits", 130, data=bytes(20))
+    for claim in ("first position after a gap", "16 information bits, then 10 check bits", "eight fields"):
+        assert claim in page and claim in help_of_all
+    assert "at most twice a second" in page and "in seven hex digits" in page and "The position of the last bit of the block that acquired" in page
+    assert "0 The output is complete, or" in " ".join(re.sub(r"^\.It ", "", (TOP / "rds.1").read_text(), flags=re.M).split())
+
+
+def test_numbers_of_errors_on_the_manual_page_of_rds() -> None:
+    """Each error has the numbers that the help gives it."""
+    told = dict(re.findall(r"^ +(\d+ [A-Z]\w+) +((?:.*\n(?! +\d+ [A-Z]|\n))*.*)", rds("--help").decode(), re.M))
+    page = dict(re.findall(r"^\.It (\d+ [A-Z]\w+)\n((?:(?!\.It |\.El).*\n)*)", (TOP / "rds.1").read_text(), re.M))
+    assert len(told) == 16 and {name: re.findall(r"\d+", it) for name, it in told.items()} == {name: re.findall(r"\d+", it) for name, it in page.items()}

@@ -14,7 +14,7 @@ from typing import Any, Dict, List
 import numpy
 import pytest
 from conftest import encode, monitor, rds
-from rds_monitor.overview import Span, last_minute, line_of, polyline, tile_of
+from rds_monitor.overview import Span, bad_percent, last_minute, line_of, polyline, tile_of
 from rds_monitor.report import encoded, told_of
 
 pytest.importorskip("jinja2")
@@ -118,7 +118,7 @@ def test_lines_of_a_tile() -> None:
     """The last quarter of an hour is the last point; 0 per cent is at the bottom, and nothing received is no line."""
     assert polyline([None, 0.0, 100.0, None, 50.0]) == ["1,20.0 2,20.0 2,0.0 3,0.0", "4,10.0 5,10.0"]
     line = line_of([Span(0, 900, numpy.array([10] * 2), numpy.array([10, 5]))], 1800.0)
-    assert line == [None] * 94 + [0.0, 50.0] and line_of([], 5.0) == [None] * 96 and last_minute([]) == 100.0
+    assert line == [None] * 94 + [0.0, 50.0] and line_of([], 5.0) == [None] * 96 and last_minute([]) == bad_percent(0, 0) == 100.0
 
 
 @needs_d3
