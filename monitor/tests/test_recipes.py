@@ -2,6 +2,7 @@
 
 from __future__ import annotations
 
+import functools
 import os
 import re
 import shutil
@@ -54,6 +55,12 @@ def told_by_the_clock() -> bytes:
 folder, done, D3 = test_readme.folder, test_readme.done, test_readme.D3
 
 
+@functools.cache
+def signal() -> bytes:
+    """Five seconds of the station as MPX."""
+    return stored(mpx(STATION.read_bytes()[:750], 171000), "s16")
+
+
 @pytest.fixture
 def kitchen(folder: Path) -> Path:
     """All that the recipes name."""
@@ -65,7 +72,7 @@ def kitchen(folder: Path) -> Path:
     (folder / "growing.csv").write_bytes(rds("list", data=station).split(b"total,")[0])
     (folder / "dropped.log").write_text("104 26\n")
     (folder / "groups.txt").write_text("D393 0549 E100 584F\nD393 054A C4E1\n")
-    (folder / "sent.s16").write_bytes(stored(mpx(station[:1500], 171000), "s16"))
+    (folder / "sent.s16").write_bytes(signal())
     for name, said in (("rtl_fm", 'case "$*" in *"-s 171k"*) exec cat sent.s16 ;; esac; exit 1'), ("receiver", "exec head -c 1300 recording.bin"),
                        ("redsea", '[ "$*" = "--input hex" ] && grep -q "D393 0549 E100 584F"')):
         (folder / "bin" / name).write_text(f"#!/bin/sh\n{said}\n")
