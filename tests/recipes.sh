@@ -95,6 +95,9 @@ printf '#!/bin/sh\nexec %s -d "2026-11-24 15:30 UTC" "$@"\n' "$(command -v date)
 chmod +x "$work/clock/date"
 echo 'a row' | TZ=XYZ-5:30 PATH=$work/clock:$PATH examples/rotate.sh "$work/hour"
 same 'a file by the hour in UTC' 2026-11-24T15Z.csv "$(ls "$work/hour")"
+refused 'rotation into a folder without a name' 2 'usage: rotate.sh [--by FORMAT] FOLDER < LISTING' examples/rotate.sh '' < /dev/null
+printf '  two\\tblanks \\\\n\n' | examples/rotate.sh --by row "$work/hour"
+same 'a row with blanks and backslashes' '  two\tblanks \\n' "$(cat "$work/hour/row.csv")"
 refused 'rotation with a folder too many' 2 'usage: rotate.sh [--by FORMAT] FOLDER < LISTING' examples/rotate.sh a b < /dev/null
 mkdir "$work/full.d" && ln -s /dev/full "$work/full.d/full.csv"
 if station 2> /dev/null | examples/rotate.sh --by full "$work/full.d" 2> /dev/null; then fail 'rotation onto a full device'; else pass; fi
@@ -126,6 +129,17 @@ if has perl awk && has_numpy; then
   examples/make_day.sh "$work/seed_2" 0.1 2 > /dev/null
   same 'another seed makes another day' 1 "$(cmp -s "$work/seed_1" "$work/seed_2"; echo $?)"
   same 'nothing is left of it' '' "$(find "$work" -name 'none*')"
+  odd="$work/it's \$(false) \"a\" day"
+  mkdir "$odd"
+  cp "$program" "$odd/rds"
+  RDS=$odd/rds examples/make_day.sh "$odd/it" 0.1 > /dev/null
+  same 'a day and a program of any name' "$(cksum < "$work/seed_1")" "$(cksum < "$odd/it")"
+  for it in full_day full_day.dropped; do
+    ln -sf /dev/full "$work/$it"
+    fails "$it on a full device" "make_day: $work/$it cannot be written" examples/make_day.sh "$work/full_day" 0.1
+    rm "$work/full_day"*
+  done
+  refused 'a day without a file' 2 'usage: make_day.sh FILE [HOURS [SEED]]' examples/make_day.sh
   "$program" list < "$work/day.bin" > "$work/day.csv"
   day=$work/day.bin
   same 'block errors by the half hour' 'begin_s,end_s,sent,valid,corrected,lost,missing,bad_percent
@@ -172,6 +186,10 @@ if has perl awk && has_numpy; then
   same 'a log in any order' --gaps=5-6,104-115,120-130 "$(printf '120 10\n104 1\n\n110 5\n5 1\n105 7\n7 0\n' | examples/gaps.sh)"
   same 'a gap inside another' --gaps=104-204,300-301 "$(printf '104 100\n110 5\n300 1\n' | examples/gaps.sh)"
   same 'nothing dropped' '' "$(examples/gaps.sh < /dev/null)"
+  for it in '104' '104 1 x' '-4 1' '0x10 1'; do
+    same "a good line and '$it'" '2 and nothing' "$(out=$(printf '5 1\n%s\n' "$it" | examples/gaps.sh 2> /dev/null); echo "$? and ${out:-nothing}")"
+  done
+  refused 'a log as a file' 2 'usage: gaps.sh < LOG' examples/gaps.sh "$work/day.bin.dropped"
   fails 'a log of something else' 'gaps: "104 + 1" is not a start and a length' examples/gaps.sh <<< '104 + 1'
 
   # under each awk there is

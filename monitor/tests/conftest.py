@@ -5,6 +5,7 @@ from __future__ import annotations
 import os
 import subprocess
 import sys
+import time
 from pathlib import Path
 from typing import Any, Callable, Iterable, Sequence
 
@@ -17,6 +18,10 @@ settings.register_profile(
     "gate", derandomize=True, database=None, deadline=None, suppress_health_check=[HealthCheck.too_slow]
 )
 settings.load_profile("gate")
+
+# In another time zone than UTC a local time is seen, in this process and in those that it starts.
+os.environ["TZ"] = "XYZ-5:30"
+time.tzset()
 
 TOP = Path(__file__).resolve().parents[2]
 PROGRAM = os.environ.get("RDS", str(TOP / "build" / "rds"))
@@ -44,6 +49,13 @@ def monitor(*words: Any, data: bytes = b"", **options: Any) -> "subprocess.Compl
     return subprocess.run(
         [sys.executable, "-m", "rds_monitor", *map(str, words)], input=data, capture_output=True, **options
     )
+
+
+def pytest_collection_modifyitems(items: "list[Any]") -> None:
+    """One worker has all tests of a file, and makes its fixtures once. Those of the watch have none that are dear, and wait a lot."""
+    for it in items:
+        if not it.path.stem.startswith("test_watch") and it.get_closest_marker("xdist_group") is None:
+            it.add_marker(pytest.mark.xdist_group(it.path.stem))
 
 
 @pytest.fixture(scope="session")

@@ -3,6 +3,7 @@
 from __future__ import annotations
 
 import base64
+import importlib
 import re
 from datetime import datetime
 from pathlib import Path
@@ -22,6 +23,7 @@ LACKING = [*missing(), *([] if Path(D3).exists() else ["libjs-d3"])]
 pytestmark = [
     pytest.mark.skipif(bool(LACKING), reason="needs " + " and ".join(LACKING)), pytest.mark.xdist_group("browser")]
 pytest.importorskip("jinja2")
+Keys: Any = None if LACKING else importlib.import_module("selenium.webdriver.common.keys").Keys
 
 HOSTILE = printable("\u202eabc <img src=x onerror=alert(1)> A" + "\u0301" * 64 + "\x1b[31m 'q\" &lt;")
 
@@ -63,6 +65,12 @@ def folder(tmp_path_factory: Any) -> Path:
     session = {
         "start": None, "begin": 0, "end": 600, "step": 1, "counts": [[45, 45, 0, 0, 0]] * 600, "outages": [], "mix": [], "clock": [],
         "events": [[9, "RT", HOSTILE], [9, "PS", HOSTILE]], "more": 0, "held": {"PS": HOSTILE, "RT": HOSTILE}, "silent": 0}
+    events = [[10 + 30 * n, "PTY", str(n + 1)] for n in range(210)]
+    mix = {f"{n}A": 10 * n for n in range(1, 13)}
+    counted = {
+        **session, "end": 7200, "counts": [[45, 40, 3, 1, 1]] * 7200, "outages": [[60, 61.5], [5400, 5401]], "events": events, "more": 7,
+        "mix": [[0, {**mix, "0A": 8, "15B": 9}], [1, mix]], "held": {}}
+    (made / "counted.html").write_text(page_of("Pages", [told_of("counted", [counted])]), "utf-8")
     (made / "hostile.html").write_text(page_of("Pages", [told_of(HOSTILE, [session])]), "utf-8")
     return made
 
@@ -93,6 +101,10 @@ def seconds_in_view(driver: Any) -> int:
     text = all_of(driver, "output")[0].text
     first, last = (sum(60**k * int(it) for k, it in enumerate(reversed(found))) for found in re.findall(r"(\d\d):(\d\d):(\d\d)Z", text))
     return int(last - first)
+
+
+def begin_of_view(driver: Any) -> str:
+    return str(all_of(driver, "output")[0].text[:20])
 
 
 def click(driver: Any, zoom: str) -> None:
@@ -144,6 +156,41 @@ def test_zoom_by_keys(opened: Any) -> None:
     assert abs(seconds_in_view(page) - whole / 4) <= 1
     chart.send_keys("-")
     assert abs(seconds_in_view(page) - whole / 2) <= 1
+    middle = begin_of_view(page)
+    chart.send_keys(Keys.ARROW_LEFT)
+    assert begin_of_view(page) < middle
+    chart.send_keys(Keys.ARROW_RIGHT)
+    assert begin_of_view(page) == middle
+    chart.send_keys(Keys.HOME)
+    assert seconds_in_view(page) == whole
+    for up, share in ((-1, 0.8), (1, 1.0)):
+        page.execute_script("arguments[0].dispatchEvent(new WheelEvent('wheel', {deltaY: arguments[1], clientX: 300}))", chart, up)
+        assert abs(seconds_in_view(page) - share * whole) <= 1
+    for name, seconds in (("minute", 60), ("hour", 3600), ("day", whole)):
+        click(page, name)
+        assert seconds_in_view(page) == seconds
+
+
+def test_what_the_lines_and_tables_say(opened: Any, folder: Path) -> None:
+    """Numbers of the page's data: times without a start, per cent of bad blocks, sessions, outages in view, and rows that are too many."""
+    page = opened("counted")
+    assert all_of(page, "output")[0].text == "00:00:00 to 02:00:00: 11.11 % bad blocks"
+    assert [it.text for it in all_of(page, ".sessions tbody td")] == ["00:00:00", "02:00:00", "324000", "288000"]
+    assert [it.text for it in all_of(page, ".outages tbody td")] == ["00:01:00", "00:01:01", "1.500", "01:30:00", "01:30:01", "1.000"]
+    rows = [it.text for it in all_of(page, ".events tbody tr")]
+    assert len(rows) == 202 and rows[200:] == ["10 more: zoom in", "7 more are not on this page"] and rows[0] == "00:00:10 PTY 1"
+    lane = [it.get_attribute("textContent") for it in all_of(page, "rect.item title")]
+    assert lane and lane[0] == "PTY from 00:00:10: 1"
+    types = [it.text.strip() for it in all_of(page, ".types span")]
+    assert types == [*sorted(f"{n}A" for n in range(1, 13)), "other"]
+    titles = [it.get_attribute("textContent") for it in all_of(page, "rect.mix title")]
+    assert any(it.startswith("other: 17 groups") for it in titles)
+    heights = {kind: float(all_of(page, f"rect.{kind}")[0].get_attribute("height")) for kind in ("valid", "missing", "lost", "corrected")}
+    assert abs(heights["corrected"] / heights["valid"] - 3 / 45) < 0.01 and heights["corrected"] > heights["missing"]
+    click(page, "minute")
+    page.execute_script("arguments[0].focus()", all_of(page, ".chart")[0])
+    all_of(page, ".chart")[0].send_keys(Keys.HOME + "+" * 9)
+    assert len(all_of(page, ".outages tbody tr")) == 0 and len(all_of(page, ".sessions tbody tr")) == 1
 
 
 def test_an_outage_is_seen_at_any_zoom(opened: Any) -> None:

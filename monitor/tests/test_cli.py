@@ -2,17 +2,19 @@
 
 from __future__ import annotations
 
+import argparse
 import os
 import pty
+import re
 import shutil
 import subprocess
 import sys
 
 import pytest
 
-from conftest import TOP, monitor
+from conftest import PROGRAM, TOP, monitor, rds
 from made import run, said
-from rds_monitor import cli, items, manual
+from rds_monitor import check, cli, items, manual
 
 MONITOR = TOP / "monitor"
 
@@ -197,10 +199,52 @@ def test_the_manual_page_is_right() -> None:
         assert f".SS {command.name}\n" in text
 
 
-def completed(*words: str) -> list:
+def test_statuses_on_the_manual_page() -> None:
+    named = ", ".join(f"{status} {check.WORDS[status]}" for status in (check.OK, check.WARNING, check.CRITICAL, check.UNKNOWN))
+    text = (MONITOR / "rds-monitor.1").read_text()
+    assert f"ends in the statuses of a plugin: {named}." in text
+    for words, status in ((["errors", TOP / "examples" / "station.bin"], 0), (["errors", "/none"], 1), (["errors", "-x"], 2)):
+        assert run(*words).status == status and f"\n.TP\n{status}\n" in text
+
+
+def actions() -> dict:
+    """The options and arguments of each command."""
+    return {it.name: cli.parser_of(it)._actions for it in cli.COMMANDS}
+
+
+def test_each_option_is_on_each_page() -> None:
+    """By the parsers alone: the generator may leave nothing out."""
+    text = (MONITOR / "rds-monitor.1").read_text().replace("\\-", "-")
+    zsh = (MONITOR / "completions" / "_rds-monitor").read_text()
+    assert zsh.startswith("#compdef rds-monitor\n")
+    for command, found in actions().items():
+        (row,) = re.findall(rf"^    {command}\) (_arguments .* '\*:file:_files') ;;$", zsh, re.M)
+        of_page = text.split(f"\n.SS {command}\n")[1].split("\n.S")[0]
+        assert completed(command, "-") == [name for action in found for name in action.option_strings]
+        for action in found:
+            wanted = [str(it) for it in action.choices or ()]
+            for name in action.option_strings:
+                assert re.search(rf"'\*?{name}\[", row) and (not wanted or f"({' '.join(wanted)})" in row)
+                assert name in ("-h", "--help") or re.search(rf"\\fB(?:.* \\fR,\\fB )?{name}(?: \\fR,\\fB .*)?\\fR", of_page)
+                assert not wanted or completed(command, name, "") == wanted
+
+
+def test_defaults_are_those_of_the_help() -> None:
+    """A number in brackets at the end of an option's help is its default."""
+    told = 0
+    for command, action in ((command, action) for command, found in actions().items() for action in found):
+        number = re.search(r"\((\d+(?:\.\d+)?)(?: [^()]*)?\)(?:;|:|$)", action.help or "")
+        if number and isinstance(action.default, (int, float)) and action.default is not argparse.SUPPRESS:
+            assert float(number[1]) == action.default, (command, action.option_strings)
+            told += 1
+    assert told > 5
+
+
+def completed(*words: str, program: str = "rds-monitor", file: str = "monitor/completions/rds-monitor.bash") -> list:
+    """What bash offers for the last word, by the function that it was told to call."""
     ask = (
-        f"source '{MONITOR}/completions/rds-monitor.bash'; COMP_WORDS=(rds-monitor \"$@\");"
-        " COMP_CWORD=$#; _rds_monitor;"
+        f"source '{TOP}/{file}'; COMP_WORDS=({program} \"$@\"); COMP_CWORD=$#;"
+        f" told=$(complete -p {program}) && set -- $told && ${{@: -2:1}};"
         " printf '%s\\n' \"${COMPREPLY[@]}\""
     )
     return subprocess.run(["bash", "-c", ask, "-", *words], capture_output=True, text=True, check=True).stdout.split()
@@ -212,10 +256,95 @@ def test_completion_in_bash() -> None:
         completed("out") == ["outages"]
         and "--shortest" in completed("outages", "--s")
         and completed("outages", "st") == []
+        and "--shortest" in completed("outages", "-")
     )
+    # Where nothing is offered, bash completes names of files.
+    assert "complete -o default -F" in (MONITOR / "completions" / "rds-monitor.bash").read_text()
 
 
 def test_completion_in_zsh() -> None:
     if not shutil.which("zsh"):
         pytest.skip("no zsh")
     assert subprocess.run(["zsh", "-n", MONITOR / "completions" / "_rds-monitor"], capture_output=True).stderr == b""
+
+
+# ---- completion of rds
+
+BASH, ZSH = "completions/rds.bash", "completions/_rds"
+
+
+def options_of_rds(command: str) -> dict:
+    """The options of the program's help: whether each takes a value, and its text."""
+    entries = re.findall(r"^ +(?:-\w, )?(--[a-z]+)( <\w+>)?  +((?:.*\n(?! +-|\n))*.*)", rds(command, "--help").decode().split("Options:\n")[1], re.M)
+    return {name: (bool(value), " ".join(text.split())) for name, value, text in entries}
+
+
+def commands_of_rds() -> dict:
+    text = rds("--help").decode().split("Commands:\n")[1].split("\n\n")[0]
+    return dict(re.findall(r"^  ([a-z]+) +(.*)", text, re.M))
+
+
+def test_values_that_completion_of_rds_offers() -> None:
+    """They are all numbers of the range, or some of them; an option is not followed by another one in place of its value."""
+    for command in commands_of_rds().keys() - {"help"}:
+        for name, (takes_value, text) in options_of_rds(command).items():
+            offered = completed(command, name, "", program="rds", file=BASH)
+            if not takes_value:
+                assert "--help" in offered
+                continue
+            first, last = re.search(r"(\d+) (?:to (\d+)|or more)", text + " 0 to 0").groups()  # type: ignore[union-attr]
+            numbers = [int(it) for it in offered]
+            in_zsh = re.search(rf"'(?:\([^)]*\))?{name}\[[^]]*\]:[^:']*:\(([\d ]*)\)'", (TOP / ZSH).read_text())
+            assert numbers == ([int(it) for it in in_zsh[1].split()] if in_zsh else [])
+            assert all(int(first) <= it <= int(last) for it in numbers)
+            if name in ("--burst", "--reach"):
+                assert numbers == list(range(int(first), int(last) + 1))
+
+
+def test_texts_of_completion_of_rds() -> None:
+    """zsh shows the beginning of what the help says."""
+    text = (TOP / ZSH).read_text()
+    assert text.startswith("#compdef rds\n")
+    for command, summary in commands_of_rds().items():
+        assert command == "help" or f"'{command}:{summary[0].lower()}{summary[1:]}'" in text
+        for name, (_, told) in {} if command in ("help", "encode") else options_of_rds(command).items():
+            (shown,) = re.findall(rf"'(?:\([^)]*\))?(?:{name}|\{{-h,{name}\}}')\[([^]]*)\]", text.replace("{-h,--help}'", "--help"))[:1]
+            assert name == "--bits" or shown in told.replace(",", "").lower().replace(" n ", " N "), name
+
+
+def test_options_that_exclude_each_other() -> None:
+    """As zsh has them: --loss and --share, of which --of is a part."""
+    excluded = dict(re.findall(r"'\(([^)]*)\)(--[a-z]+)\[", (TOP / ZSH).read_text()))
+    assert excluded == {"--share --of": "--loss", "--loss": "--of"} and "'(--loss)--share[" in (TOP / ZSH).read_text()
+    for words in (["--loss", "3", "--share", "3"], ["--loss", "3", "--of", "3"]):
+        assert b"ignored" in subprocess.run([PROGRAM, "list", *words], input=b"", capture_output=True).stderr
+    assert options_of_rds("list")["--gaps"][1].count("FROM-TO") and ":FROM-TO,..'" in (TOP / ZSH).read_text()
+
+
+# ---- the manual page of rds
+
+# Numbers of the page that no help says: from standards, processors, and an example.
+OF_THE_PAGE = {"62106 baseband", "62106 earlier", "50067", "1998", "64 processor", "2 and", "2009 on", "104", "130"}
+
+
+def test_numbers_on_the_manual_page_of_rds() -> None:
+    """Each is in the program's help, before the same word."""
+    help_of_all = " ".join(" ".join(rds(*words, "--help").decode() for words in ((), *((it,) for it in commands_of_rds() if it != "help"))).split())
+    text = re.sub(r"^\.(?:Dd|Dt|It \d+|Xr|Bl).*|^\.\w+ ?", "", (TOP / "rds.1").read_text(), flags=re.M)
+    page = " ".join(text.split())
+    digits, most = 2 * len(rds("encode", data=b"0" * 16)), 2**36
+    known = {*OF_THE_PAGE, f"{digits} digits", f"1 to {len(str(most)) + 1} digits"}
+    found = re.findall(r"\b\d+(?: (?:to|is) \d+)?\b(?: \w+)?", page)
+    assert [it for it in found if it not in known and it not in help_of_all] == [] and known <= {*found}
+    assert rds("list", "--gaps", "104-130", "--bits", 130, data=bytes(20))
+    for claim in ("first position after a gap", "16 information bits, then 10 check bits", "eight fields"):
+        assert claim in page and claim in help_of_all
+    assert "at most twice a second" in page and "in seven hex digits" in page and "The position of the last bit of the block that acquired" in page
+    assert "0 The output is complete, or" in " ".join(re.sub(r"^\.It ", "", (TOP / "rds.1").read_text(), flags=re.M).split())
+
+
+def test_numbers_of_errors_on_the_manual_page_of_rds() -> None:
+    """Each error has the numbers that the help gives it."""
+    told = dict(re.findall(r"^ +(\d+ [A-Z]\w+) +((?:.*\n(?! +\d+ [A-Z]|\n))*.*)", rds("--help").decode(), re.M))
+    page = dict(re.findall(r"^\.It (\d+ [A-Z]\w+)\n((?:(?!\.It |\.El).*\n)*)", (TOP / "rds.1").read_text(), re.M))
+    assert len(told) == 16 and {name: re.findall(r"\d+", it) for name, it in told.items()} == {name: re.findall(r"\d+", it) for name, it in page.items()}

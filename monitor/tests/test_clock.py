@@ -121,9 +121,10 @@ def test_clock_times_that_are_none() -> None:
         bad = good.copy()
         bad[field] = value
         assert ticks_of(bad) == []
-    hour = good.copy()
-    hour["info3"], hour["info4"] = hour["info3"] | 1, 0xF000
-    assert ticks_of(hour) == []
+    for rest in (0x8000, 0xF000):
+        hour = good.copy()
+        hour["info3"], hour["info4"] = hour["info3"] | 1, rest
+        assert ticks_of(hour) == []
 
 
 @settings(max_examples=60, deadline=None)

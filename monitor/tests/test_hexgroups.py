@@ -67,6 +67,8 @@ def test_times() -> None:
         said("groups", "--unfinished", "--spy", "--start", "2026-03-29T23:59:59.95Z", data=listing)
         == "D318 0548 E0CD 5041 @2026/03/30 00:00:00.03\n"
     )
+    assert said("groups", "--unfinished", "--spy", "--start", "2026-03-29T23:59:59.952Z", data=listing)[-3:] == "04\n"
+    assert said("groups", "--unfinished", "--whole", "--times", "--start", "2026-03-29T00:30:00Z", data=listing)[-5:] == "088Z\n"
 
 
 def test_spy_needs_a_start() -> None:
@@ -97,6 +99,7 @@ def test_a_log_of_rds_spy() -> None:
     assert groups["info1"].tolist() == [0xD318, 0xD318, 0, 0xD318] and groups["number"].tolist() == [0, 0, 255, 0]
     assert groups["place"].tolist() == [0, 104, 208, round(99.91 * 1187.5)]
     assert source.start == 1774744200.09
+    assert rows["place"].tolist() == [25, 0, 104, 208, 311, groups["place"][3] + 25, groups["place"][3]]
     assert rows["what"].tolist() == [1, 2, 2, 2, 3, 1, 2] and source.length == groups["place"][-1] + 104
     assert (
         source.totals.groups == 4
@@ -105,6 +108,13 @@ def test_a_log_of_rds_spy() -> None:
         and source.totals.lost == 4
     )
     assert source.totals.acquired == 2 and source.totals.losses == 1
+
+
+@pytest.mark.parametrize("late, losses", [(1.2, 0), (1.4, 1)])
+def test_times_that_are_late(late: float, losses: int) -> None:
+    """A computer that is late writes a time up to 1.25 s after the group. The last line needs no end."""
+    source, rows = read(f"D318 0548 E0CD 5041 @2026-03-29 00:30:00\nD318 0549 E0CD 584F @2026-03-29 00:30:0{late + 0.0876:.2f}".encode())
+    assert source.totals.losses == losses and source.totals.groups == 2 and len(rows) == 3 + 2 * losses
 
 
 def test_a_log_gives_times() -> None:

@@ -4,11 +4,15 @@ from __future__ import annotations
 
 import array
 import base64
+import ctypes
+import dataclasses
 import email
 import hashlib
 import importlib
+import inspect
 import os
 import pickle
+import re
 import shutil
 import subprocess
 import sys
@@ -37,6 +41,7 @@ def test_a_buffer_of_bytes_is_needed(station: bytes) -> None:
         memoryview(station),
         numpy.frombuffer(station, "u1"),
         memoryview(station + b"x")[:-1],
+        memoryview(station).cast("c"),
     ):
         assert librds.totals(data) == wanted
     doubled = numpy.repeat(numpy.frombuffer(station, "u1"), 2)
@@ -196,7 +201,9 @@ def test_the_library_that_is_loaded(tmp_path) -> None:
     )
     assert "install librds (make install-lib), or name its librds.so.0 in RDS_LIBRARY" in none.stderr
     ffi = importlib.import_module("librds._ffi")
-    assert ffi.VERSION <= librds.version()
+    nodes = re.findall(r"^RDS_(\d+)\.(\d+) \{(.*?)\}", (TOP / "lib" / "rds.map").read_text(), re.M | re.S)
+    needed = [(int(first), int(second)) for first, second, names in nodes if any(f"{it};" in names for it in ffi.FUNCTIONS)]
+    assert max(needed) == ffi.VERSION[:2] and ffi.VERSION <= librds.version()
     late = "import librds._ffi as it; it.VERSION = (0, 99, 0); it.load()"
     older = subprocess.run([sys.executable, "-c", late], capture_output=True, text=True)
     assert "but this module needs 0.99.0 or later" in older.stderr
@@ -310,6 +317,32 @@ def test_a_follower_keeps_its_gaps_and_rules(station: bytes) -> None:
         last, totals = it.finish_with(station[9999:])
         assert items + last == list(librds.items(station, None, gaps, rules))
         assert totals == librds.totals(station, None, gaps, rules)
+    before, changed = librds.totals(station, None, gaps, rules), librds.Follower(rules, gaps)
+    gaps.clear()
+    assert changed.finish_with(station)[1] == before
+
+
+def test_each_end_of_a_stream_is_the_same(station: bytes) -> None:
+    """Wherever it is cut, inside a block too."""
+    for end in range(100, 114):
+        follower = librds.Follower()
+        follower.push(station[:end])
+        (group, totals), (rows, of_rows), (items, of_items) = follower.finish(), follower.finish_array(), follower.finish_with(b"")
+        assert totals == of_rows == of_items == librds.totals(station[:end])
+        assert items == ([] if group is None else [group]) and rows["place"].tolist() == [it.place for it in items]
+        assert follower.place == 8 * end
+
+
+def test_defaults() -> None:
+    """The rules are those of rds.h, and a function's other defaults leave nothing out."""
+    (numbers,) = re.findall(r"define RDS_RULES \{(\d+), (\d+), (\d+), (\d+),", (TOP / "lib" / "rds.h").read_text())
+    assert dataclasses.astuple(librds.Rules()) == tuple(map(int, numbers))
+    wanted = {"bits": None, "gaps": (), "rules": librds.Rules(), "limit": int(numbers[0]), "stream": bytes(256), "data": b"",
+              "offset": None, "info": None, "burst": 0}
+    calls = [getattr(librds, name) for name in librds.__all__ if name not in ("ITEM", "Rules", "Kind")]
+    calls += [it for name, it in vars(librds.Follower).items() if inspect.isfunction(it)]
+    found = {(name, it.default) for call in calls for name, it in inspect.signature(call).parameters.items() if it.default is not it.empty}
+    assert found == {*wanted.items()}
 
 
 def test_words_of_0_and_the_default_limit() -> None:
@@ -317,6 +350,8 @@ def test_words_of_0_and_the_default_limit() -> None:
     assert group.words == (0, 0, 0, 0)
     assert librds.correct(0x095_00C8 ^ 0x18, "A").kind == librds.Kind.CORRECTED
     assert librds.correct(0x095_00C8 ^ 0x38, "A").kind == librds.Kind.LOST
+    assert librds.correct(0x384_0283, "C or C'") == librds.Block(librds.Kind.CORRECTED, "C'", 0xE100, 0x30)
+    assert librds.correct(0x384_0283, "C").kind == librds.Kind.LOST
 
 
 def test_names_and_texts_of_the_module() -> None:
@@ -324,7 +359,11 @@ def test_names_and_texts_of_the_module() -> None:
     own = {name for name, it in vars(librds).items() if getattr(it, "__module__", "") == "librds" and name[0] != "_"}
     assert set(librds.__all__) == {*own, "ITEM"} and len(librds.__all__) == len(own) + 1
     assert issubclass(librds.Refused, ValueError)
+    values = [it for it in vars(librds).values() if dataclasses.is_dataclass(it)]
+    assert len(values) == 6 and all(it.__dataclass_params__.frozen for it in values)
     assert len({librds.Rules(), librds.Rules(2), librds.Totals(0, (), 0, 0, 0, 0, 0, 0)}) == 2
+    # A call of any other kind of library holds up Python's other threads.
+    assert type(librds._library) is ctypes.CDLL
     with pytest.raises(AttributeError):
         librds.Rules().burst = 3
     assert {bytes, bytearray, memoryview} <= set(typing.get_args(librds.Buffer))
@@ -373,6 +412,9 @@ def test_files_and_sums_of_a_wheel(tmp_path) -> None:
     path = subprocess.run([*make, library, tmp_path], capture_output=True, text=True, check=True).stdout.strip()
     with zipfile.ZipFile(path) as wheel:
         files = {name: wheel.read(name) for name in wheel.namelist()}
+        forms = {(it.date_time, it.external_attr >> 16, it.compress_type) for it in wheel.infolist()}
+    # So the same library gives the same bytes, and all may read what is installed.
+    assert forms == {((1980, 1, 1, 0, 0, 0), 0o100644, zipfile.ZIP_DEFLATED)}
     record = next(name for name in files if name.endswith("/RECORD"))
     lines = [it.split(",") for it in files[record].decode().splitlines()]
     assert {name for name, *_ in lines} == set(files)
@@ -386,10 +428,18 @@ def test_files_and_sums_of_a_wheel(tmp_path) -> None:
     project = (folder / "pyproject.toml").read_text()
     says = email.message_from_bytes(files[record.replace("RECORD", "METADATA")])
     assert f'requires-python = "{says["Requires-Python"]}"' in project and f'version = "{says["Version"]}"' in project
-    assert says.get_all("Requires-Dist") == ["numpy; extra == 'arrays'"] and 'arrays = ["numpy"]' in project
+    form = email.message_from_bytes(files[record.replace("RECORD", "WHEEL")])
+    assert (form["Root-Is-Purelib"], f"librds-{says['Version']}-{form['Tag']}.whl") == ("false", os.path.basename(path))
+    assert says.get_all("Provides-Extra") == ["arrays"] and says.get_all("Requires-Dist") == ["numpy; extra == 'arrays'"] and 'arrays = ["numpy"]' in project
     assert 'package-data = { librds = ["py.typed"] }' in project
     other = tmp_path / "other.so"
     data = bytearray(open(library, "rb").read())
+    other.write_bytes(data.replace(b"GLIBC_2.14\0", b"GLIBC_2.34\0"))
+    if other.read_bytes() != data:  # else another processor's library
+        later = subprocess.run([*make, other, tmp_path], capture_output=True, text=True, check=True).stdout
+        assert "-py3-none-manylinux_2_34_" in later
+    other.write_bytes(data.replace(b"libc.so.6\0", b"libm.so.6\0"))
+    assert "a wheel cannot need libm.so.6" in subprocess.run([*make, other, tmp_path], capture_output=True, text=True).stderr
     data[18:20] = (243).to_bytes(2, "little")  # of RISC-V
     other.write_bytes(data)
     for it in (other, folder / "make_wheel.py"):

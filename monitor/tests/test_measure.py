@@ -95,6 +95,40 @@ def test_outages_by_their_places(outages: bytes) -> None:
     places = [tuple(it.split(",")[3:]) for it in said(*ask, "--density", 5, data=outages)[1:]]
     assert places == [("31200", "33280"), ("93600", "124800"), ("124904", "156000")]
     assert run(*ask, "--density", 101, data=outages).status == 2
+    # A second has no 46 blocks, so none counts.
+    for shortest in (1, 60):
+        assert said(*ask, "--density", 100, "--shortest", shortest, data=outages)[1:] == ["0.000,175.158,175.158,0,208000"]
+
+
+def test_the_end_of_a_part(two: bytes) -> None:
+    """It ends with its last row, after which there is no outage, however short; nor is a stretch of two groups told."""
+    assert said("errors", "--unfinished", *START, data=two)[-1].endswith(",2026-03-29T00:30:00.263Z")
+    assert said("outages", "--unfinished", "--shortest", 0, "--length", 312, data=two)[2:] == []
+    assert said("programmes", "--unfinished", data=two)[1:] == []
+    # An outage of just the shortest length is told: 0.08 s are 95 bits.
+    ends = [said("outages", "--unfinished", "--shortest", 0.08, "--length", it, data=two)[-1].split(",")[3] for it in (406, 407)]
+    assert ends == ["begin_place", "312"]
+    assert [run("errors", "--rate", it, data=two).status for it in (1068, 1307)] == [2, 2]
+
+
+@pytest.mark.parametrize("seconds, programmes", [(9.9, 1), (10.1, 2)])
+def test_a_pause_by_default(seconds: float, programmes: int) -> None:
+    begins = [104 * n for n in range(5)]
+    rows = [group_row(place, WORDS) for place in begins + [begins[-1] + 104 + int(seconds * 1187.5) + it for it in begins]]
+    assert len(said("programmes", "--unfinished", data=listing(rows, totals=False))) == 1 + programmes
+
+
+@pytest.mark.parametrize("command", ["errors", "outages", "programmes", "types", "corrected", "table", "groups", "json", "info", "report"])
+def test_recordings_of_nothing(command: str) -> None:
+    """No bit, less than a block, and some blocks of noise: nothing is divided by what is not there."""
+    if command == "report":
+        pytest.importorskip("jinja2")
+    assert run(command).err == f"rds-monitor {command}: the input is empty\n"
+    for data, rows in ((b"\0", {"errors": ["0,0,0,0,0,0,0,0.00"]}), (b"\0" * 100, {"errors": ["0,1,30,0,0,0,30,100.00"], "outages": []})):
+        done = run(command, data=data)
+        assert done.status == 0 or command == "report" and "needs D3" in done.err, done.err
+        if command in rows:
+            assert done.out.splitlines()[1:] == rows[command]
 
 
 def test_a_longer_pause_makes_one_programme(outages: bytes) -> None:
@@ -113,6 +147,7 @@ def test_group_types(station: bytes) -> None:
         "11,A,73,0,2.189,166.137",
     ]
     mix = [it.split(",") for it in said("types", "--every", 60, *START, data=station)[1:]]
+    assert run("types", "--every", 0.5, data=station).status == 2
     assert sum(int(it[4]) for it in mix) == 1923 and mix[0][:5] == ["0", "60", "0", "A", "108"]
     assert mix[-1][:3] == ["120", "180", "11"] and mix[-1][6] == "2026-03-29T00:32:00.000Z"
 
@@ -290,7 +325,7 @@ def test_intervals_against_a_loop(kind: Type[Errors], rows: Rows, cuts: List[int
 
 @settings(max_examples=150, deadline=None)
 @given(
-    SEEDS, st.lists(st.integers(0, 60), max_size=3), st.sampled_from([1, 10, 40, 100]), st.sampled_from([0.0, 0.1, 1.0])
+    SEEDS, st.lists(st.integers(0, 60), max_size=3), st.sampled_from([1, 10, 40, 100]), st.sampled_from([0.0, 0.08, 1.0])
 )
 def test_outages_against_a_loop(rows: Rows, cuts: List[int], share: float, shortest: float) -> None:
     outages = Outages(1187.5, share, shortest)

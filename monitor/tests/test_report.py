@@ -11,8 +11,11 @@ import sqlite3
 from pathlib import Path
 from typing import Any, Dict, List
 
+import numpy
 import pytest
 from conftest import encode, monitor, rds
+from rds_monitor.overview import Span, bad_percent, last_minute, line_of, polyline, tile_of
+from rds_monitor.report import encoded, told_of
 
 pytest.importorskip("jinja2")
 D3 = os.environ.get("RDS_D3", "/usr/share/javascript/d3/d3.min.js")
@@ -53,6 +56,69 @@ def test_counts_are_those_of_errors(station: bytes) -> None:
     for name, column in (("sent", 2), ("corrected", 4), ("lost", 5), ("missing", 6)):
         assert list(base64.b64decode(blocks[name])) == [int(it[column]) for it in rows]
     assert told["totals"]["sent"] == sum(int(it[2]) for it in rows)
+
+
+@needs_d3
+def test_numbers_on_the_page(tmp_path: Path) -> None:
+    """The page says in words and tables what its data say, each number in its place."""
+    damaged = bytearray(station(rounds=1200))
+    damaged[3000:4000], damaged[12000:12400] = bytes(1000), bytes(400)
+    for at in range(100, 2900, 70):
+        damaged[at] ^= 0x40
+    for at in range(5000, 9000, 90):
+        damaged[at] ^= 0xB5
+    for name in ("a.bin", "b.bin"):
+        (tmp_path / name).write_bytes(bytes(damaged) + bytes(900))
+    text = page(tmp_path / "a.bin", tmp_path / "b.bin")
+    told = data_of(text)[0]
+    totals, tile = told["totals"], told["tile"]
+    assert len({*totals.values()}) == 5 and tile["minute"] != told["bad_percent"] != tile["silent"] and told["outages"] not in (0, len(told["sessions"]))
+    plain = " ".join(re.sub(r"<[^>]*>", " ", re.sub(r"<script.*?</script>", "", text, flags=re.S)).split())
+    counts = " ".join(str(totals[it]) for it in ("sent", "valid", "corrected", "lost", "missing"))
+    for said in (f"Blocks sent valid corrected uncorrectable not read {counts} ", f"a.bin : {told['bad_percent']} % of the blocks sent are bad.",
+                 f"{tile['minute']} % bad blocks in the last minute", f"last whole group {tile['silent']} s before the end"):
+        assert said in plain
+    assert f"{totals['valid']} of {totals['sent']} blocks sent are valid, {told['outages']} outages." in text
+    assert told["bad_percent"] == round(100 * (totals["sent"] - totals["valid"]) / totals["sent"], 2)
+
+
+def test_sizes_of_numbers() -> None:
+    """Each count fits into its bytes, at the edges too."""
+    for most, size in ((255, 1), (256, 2), (65535, 2), (65536, 4)):
+        counts = numpy.array([[most, 0, 0, 1, most], [1, 1, 0, 0, 0]], "i8")
+        made = encoded(counts)
+        columns = {name: numpy.frombuffer(base64.b64decode(made[name]), f"<u{size}").tolist() for name in ("sent", "lost", "missing")}
+        assert made["bytes"] == str(size) and columns == {"sent": [most, 1], "lost": [1, 0], "missing": [most, 0]}
+
+
+def session_of(**changes: Any) -> Dict[str, Any]:
+    """A session of a hundred seconds as the page has it."""
+    known = {"start": None, "begin": 0, "end": 100, "step": 1, "counts": [[45, 40, 3, 1, 1]] * 100, "outages": [[1, 2]], "mix": [],
+             "clock": [], "events": [], "more": 0, "held": {}, "silent": 0}
+    return {**known, **changes}
+
+
+def test_what_is_told_of_sessions() -> None:
+    """The alarm is that of the last one, the contents are the last that there were, and events that are too many are counted."""
+    first = session_of(start=1000.0, silent=50.0, held={"PS": "OLD"}, events=[[1, "PS", "X"]] * 2003)
+    told = told_of("it", [first, session_of(start=1500.0, held={"PS": "NEW"}), session_of(start=900.0, end=10, counts=[[45, 45, 0, 0, 0]] * 10)])
+    assert told["held"] == {"PS": "NEW"} and told["tile"]["alarm"] == "" and told["end"] == 700 and told["start"] == 900
+    assert [it["more"] for it in told["sessions"]] == [3, 0, 0] and len(told["sessions"][0]["events"]) == 2000 and told["outages"] == 3
+    year = told_of("it", [session_of(end=300000, counts=[[45, 45, 0, 0, 0]] * 300000)])["sessions"][0]
+    assert year["step"] == 4 and len(base64.b64decode(year["blocks"]["sent"])) == 75000
+
+
+@pytest.mark.parametrize("silent, bad, alarm", [(10, 50, ""), (10.6, 0, "no whole group for 11 s"), (None, 51, "51 % bad blocks in the last minute")])
+def test_when_a_tile_has_an_alarm(silent: Any, bad: int, alarm: str) -> None:
+    spans = [Span(0, 1, numpy.array([100] * 100), numpy.array([0] * 40 + [100 - bad] * 60))]
+    assert tile_of(spans, 100.0, silent)["alarm"] == alarm
+
+
+def test_lines_of_a_tile() -> None:
+    """The last quarter of an hour is the last point; 0 per cent is at the bottom, and nothing received is no line."""
+    assert polyline([None, 0.0, 100.0, None, 50.0]) == ["1,20.0 2,20.0 2,0.0 3,0.0", "4,10.0 5,10.0"]
+    line = line_of([Span(0, 900, numpy.array([10] * 2), numpy.array([10, 5]))], 1800.0)
+    assert line == [None] * 94 + [0.0, 50.0] and line_of([], 5.0) == [None] * 96 and last_minute([]) == bad_percent(0, 0) == 100.0
 
 
 @needs_d3

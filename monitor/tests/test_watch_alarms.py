@@ -76,6 +76,7 @@ def test_block_errors() -> None:
     assert [(name, begins) for name, begins, _ in it.found] == [("errors", True), ("errors", False)]
     assert it.found[0][2] == 6 and it.found[1][2] == 15
     assert Judged("[station.alarms]", "errors = false").minutes(*[99.0] * 9).found == []
+    assert Judged().minutes(*[30.0] * 9).found == []
 
 
 def test_another_pi() -> None:

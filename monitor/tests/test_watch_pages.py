@@ -11,8 +11,9 @@ from html.parser import HTMLParser
 from pathlib import Path
 from typing import Any, Dict, List, Tuple
 
+from rds_monitor.watch.alarms import NAMES
 from rds_monitor.watch.metrics import METRICS, metrics_text
-from rds_monitor.watch.pages import Bar, bars_of, overview, picture, station_page, worst_first, write_pages
+from rds_monitor.watch.pages import Bar, bars_of, overview, picture, severity, station_page, worst_first, write_pages
 from rds_monitor.watch.records import AlarmChanged, PartKey, PartOpened, PartTold, Records
 from rds_monitor.watch.session import EventRow, MinuteRow, Told
 from rds_monitor.measure import Interval
@@ -81,6 +82,19 @@ def test_a_tile() -> None:
     assert "no minute yet; no whole group yet" in Tags(overview({"A": state(minute=None, last_group_utc=None)}, {"A": []}, UTC, 60)).text
 
 
+def test_a_picture_is_in_proportion() -> None:
+    """Of 40 pixels those of bad blocks are at the top, then those of corrected ones."""
+    drawn = re.findall(r'class="(\w+)" x="0" y="([\d.]+)" width="1" height="([\d.]+)"', picture([Bar(100, 70, 20)], 40, "Alpha"))
+    assert drawn == [("fine", "12.0", "28.0"), ("fixed", "4.0", "8.0"), ("bad", "0.0", "4.0")]
+
+
+def test_stations_with_an_alarm_are_counted_once() -> None:
+    states = {"a": state(alarms={"ta": "", "pi": ""}), "b": state()}
+    assert "2 stations, 1 with an alarm" in Tags(overview(states, {"a": [], "b": []}, UTC, 60)).text
+    for alarm in NAMES:
+        assert severity(state(alarms={alarm: ""})) == ("critical" if alarm in ("silent", "no_rds", "pi") else "warning")
+
+
 def test_the_worst_first() -> None:
     states = {
         "a": state(), "b": state(minute={"sent": 10, "valid": 1, "corrected": 0}), "c": state(alarms={"ta": ""}), "d": state(alarms={"no_rds": ""}),
@@ -98,7 +112,7 @@ def filled(folder: Path) -> Records:
     records = Records(str(folder / "watch.db"))
     key, timing = PartKey("Alpha 1", 0), Timing(UTC - 3600)
     minutes = [
-        MinuteRow(n, Interval(n * 71250, (n + 1) * 71250, 2740, 2740 - 100 * (n == 30), 0, 0, 100 * (n == 30)), {"0A": 5}, {"ps": "ALPHA"}, None, 0)
+        MinuteRow(n, Interval(n * 71250, (n + 1) * 71250, 2740, 2740 - 100 * (n == 30), 7, 0, 100 * (n == 30)), {"0A": 5}, {"ps": "ALPHA"}, None, 0)
         for n in range(60)
     ]
     told = Told(minutes, [EventRow(104, 0, "ps", "ALPHA"), EventRow(71250, 0, "ps", None)], [], [], [])
@@ -109,13 +123,20 @@ def filled(folder: Path) -> Records:
 
 def test_pages_of_a_database(tmp_path: Path) -> None:
     records = filled(tmp_path)
+    records.write([AlarmChanged("Alpha", "pi", True, UTC - 90, "PI D319"), AlarmChanged("Alpha", "pi", False, UTC - 75, "")])
     bars = bars_of(records.database, "Alpha", UTC)
     assert len(bars) == 360 and sum(bar.sent for bar in bars) == 60 * 2740 and sum(bar.sent - bar.valid for bar in bars) == 100
-    assert [at for at, bar in enumerate(bars) if bar.valid < bar.sent] in ([351], [352])
+    # The last one has just begun. The minute of the fault is 30 minutes old, in the eighth before.
+    assert [at for at, bar in enumerate(bars) if bar.valid < bar.sent] == [351] and not bars[359].sent and bars[358].sent == 4 * 2740
+    assert sum(bar.corrected for bar in bars) == 60 * 7
     write_pages(str(tmp_path / "pages"), {"Alpha": state(), "Be ta": state()}, UTC, records.database, 60)
     assert sorted(it.name for it in (tmp_path / "pages").iterdir()) == ["Alpha.html", "Be ta.html", "index.html"]
     page = (tmp_path / "pages" / "Alpha.html").read_text()
-    assert "TA is on" in page and "2026-11-27 02:59:00" in page and "ALPHA" in page
+    # Newest first: an alarm that lasts has no end, and an item that is no longer sent no value.
+    alarms, changes = (re.findall(r"<td class=\"text\"><bdi>(.*?)</bdi>", it) for it in page.split("<h2>Alarms</h2>")[1].split("<h2>"))
+    assert alarms == ["ta", "2026-11-27 02:59:00", "", "TA is on", "pi", "2026-11-27 02:58:30", "2026-11-27 02:58:45", "PI D319"]
+    assert changes == ["2026-11-27 02:01:00", "PS", "none", "2026-11-27 02:00:00", "PS", "ALPHA"]
+    assert "3 starts of the receiver" in page and "24 h ago</span><span>12 h ago</span><span>now" in page
     assert 'href="Be%20ta.html"' in (tmp_path / "pages" / "index.html").read_text()
     begin = time.process_time()
     write_pages(str(tmp_path / "pages"), {f"S{n}": state() for n in range(30)}, UTC, records.database, 60)
@@ -147,4 +168,9 @@ def test_metrics() -> None:
     assert 'rds_alarm{station="Al\\"pha\\\\\\n",alarm="ta"} 1' in lines and 'rds_alarm{station="Beta",alarm="ta"} 0' in lines
     assert 'rds_bad_blocks_ratio{station="Al\\"pha\\\\\\n"} 0.1' in lines and f"rds_watch_timestamp_seconds {UTC:.15g}" in lines
     assert len([line for line in lines if line.startswith("rds_clock_offset")]) == 1
+    # The rest of one station, and a minute in which nothing was sent.
+    (other,) = [metrics_text({"B": state(running=False, held={"pi": "D319"}, minute={"sent": 0, "valid": 0})}, UTC)]
+    values = dict(re.findall(r'^rds_(\w+)\{station="B"(?:,outcome="valid")?\} (.*)$', other, re.M))
+    assert values == {"receiver_up": "0", "receiver_starts_total": "3", "blocks_total": "10", "last_group_timestamp_seconds": f"{UTC - 0.5:.15g}",
+                      "clock_offset_seconds": "-0.25", "pi_as_expected": "0", "snr_db": "21.5"}
     assert [line.split()[2] for line in lines if line.startswith("# TYPE")] == [it.name for it in METRICS]

@@ -3,6 +3,8 @@
 from __future__ import annotations
 
 import importlib
+import re
+import syslog
 from pathlib import Path
 from typing import Any
 
@@ -12,8 +14,9 @@ from conftest import TOP
 from made import run
 from network import stations
 from rds_monitor.items import Fault
-from rds_monitor.watch import table
-from rds_monitor.watch.table import Keep, Limits, table_of
+from rds_monitor import watch
+from rds_monitor.watch import alarms, asked, journal, loop, receiver, table, times
+from rds_monitor.watch.table import Keep, Limits, StationTable, table_of
 
 ALPHA = ('name = "Alpha"', 'command = ["receiver", "-f", "98.1M"]')
 
@@ -113,3 +116,43 @@ def test_the_tables_that_are_shown() -> None:
     shown = "\n".join(line[4:] for line in text.splitlines() if line.startswith("    "))
     assert table_of(shown).stations[0].name == "Alpha"
     assert len(table_of((TOP / "packaging" / "stations.toml").read_text()).stations) >= 1
+
+
+PAGE = " ".join((TOP / "monitor" / "WATCHING.md").read_text().split())
+
+
+def test_limits_of_the_page() -> None:
+    """The defaults of the alarms, and for how long the fault has to be gone."""
+    rows = re.findall(r"\| `(\w+)` \| [^|]* \| ([^|]*) \| ([^|]*) \|", PAGE.split("## Alarms")[1])
+    assert [name for name, _, _ in rows] == list(alarms.NAMES)
+    for name, default, ends in rows:
+        numbers = [float(it) for it in re.findall(r"\d+", default)] or [None]
+        more = {"errors": ["errors_percent"], "ct": ["ct_offset"]}.get(name, [])
+        assert [getattr(Limits(), it) for it in (name, *more)] == numbers, name
+        clear = re.match(r"(\d+) s(?: |$)", ends)
+        assert alarms.CLEAR.get(name) == (float(clear[1]) if clear else None), name
+    assert alarms.RECOVERED == 4 / 5 and "as many minutes below 4/5 of that" in PAGE
+
+
+def test_numbers_of_the_page() -> None:
+    """What the page says of pauses and limits, and the constants that it means."""
+    patience = StationTable("", ()).patience
+    for told, numbers in (
+        (f"gives no byte for `patience` seconds ({patience:g}). The pause is a second, and doubles up to a minute; a run of a minute", [
+            (1, receiver.FIRST_PAUSE), (60, receiver.LONGEST_PAUSE), (60, receiver.GOOD_RUN)]),
+        ("is set forward by more than a second", [(1, times.STEP)]),
+        ("come more than half a second later for ten seconds", [(0.5, times.Arrivals.LATE), (10, times.Arrivals.WINDOW)]),
+        ("correct it, for the first second", [(1, times.Arrivals.SETTLING)]),
+        ("up to 8 MB per station", [(8 << 20, loop.MOST_WAITING)]),
+        ("Twice a second the new rows are appended", [(0.5, watch.TICK)]),
+        ("Pages and metrics are written anew each minute", [(60, loop.PAGES_EVERY)]),
+        ("without a shell, for at most a minute", [(60, loop.HOOK_SECONDS)]),
+        ("UNKNOWN if the watch has not written for a minute", [(60, asked.NEWS)]),
+    ):
+        assert told in PAGE and all(wanted == found for wanted, found in numbers), told
+
+
+def test_priorities_of_the_journal() -> None:
+    """Those of syslog, by which systemd takes them."""
+    wanted = {"error": syslog.LOG_ERR, "warning": syslog.LOG_WARNING, "notice": syslog.LOG_NOTICE, "info": syslog.LOG_INFO}
+    assert journal.PRIORITIES == wanted

@@ -1,8 +1,10 @@
 //! Calls that the table of tests/library does not have: texts of errors, methods of items, `resume`, `read`.
 
-use rds::{Block, Follower, Item, LossRule, ReadError, Recording, Refused, Rules};
+use rds::{Block, Follower, Group, Item, LossRule, Offset, ReadError, ReadItems, Recording, Refused, Rules, Totals, Version};
 use std::error::Error;
-use std::fmt::Write;
+use std::fmt::{Debug, Write};
+use std::hash::Hash;
+use std::io::{self, Read};
 
 const GROUP: [u16; 4] = [0xD393, 0x0548, 0xE100, 0x5041];
 
@@ -72,4 +74,79 @@ fn a_follower_can_be_cloned_and_sent() {
     let mut text = String::new();
     write!(text, "{follower:?}").unwrap();
     assert!(std::thread::spawn(move || follower.place()).join().unwrap() == 0 && text.starts_with("Follower"));
+}
+
+#[test]
+fn values_can_be_compared_hashed_and_sent() {
+    fn is_value<T: Copy + Eq + Hash + Debug + Send + Sync + 'static>() {}
+    fn is_sent<T: Debug + Send + Sync>() {}
+    is_value::<Rules>();
+    is_value::<LossRule>();
+    is_value::<Block>();
+    is_value::<Offset>();
+    is_value::<Version>();
+    is_value::<Group>();
+    is_value::<Item>();
+    is_value::<Totals>();
+    is_value::<rds::ffi::RdsStream>();
+    is_sent::<Refused>();
+    is_sent::<Recording<'_>>();
+    is_sent::<ReadItems<&[u8]>>();
+    is_sent::<ReadError>();
+}
+
+/// An acquisition by a block 2, and a loss, each 52 bits: more items than there is room for at first.
+fn dense() -> (Vec<u8>, Rules) {
+    let group = rds::encode(&[GROUP]).unwrap();
+    let bits = group.iter().flat_map(|byte| (0..8).rev().map(move |k| byte >> k & 1)).collect::<Vec<u8>>();
+    let part: Vec<u8> = [&bits[..52], &[0; 26]].concat().repeat(800);
+    let bytes = part.chunks(8).map(|byte| byte.iter().fold(0, |sum, bit| sum << 1 | bit)).collect();
+    (bytes, Rules { burst: 0, reach: 1, loss: LossRule::Run(1) })
+}
+
+#[test]
+fn items_that_do_not_fit_at_first() {
+    let (bytes, rules) = dense();
+    let whole = rds::items(&Recording::of(&bytes), &rules).unwrap();
+    let count = whole.len();
+    let whole: Vec<Item> = whole.collect();
+    assert!(whole.len() == count && count > 8 + bytes.len() / 4, "{count} items of {} bytes", bytes.len());
+    let mut follower = Follower::new(&rules, &[]).unwrap();
+    let (items, totals) = follower.finish_with(&bytes, 8 * bytes.len() as u64).unwrap();
+    assert_eq!((items.len(), totals), (count, rds::totals(&Recording::of(&bytes), &rules).unwrap()));
+    assert_eq!(items.collect::<Vec<_>>(), whole);
+    let pushed = follower.push(&bytes).unwrap();
+    assert_eq!(pushed.len() + usize::from(follower.finish().unwrap().0.is_some()), count);
+}
+
+/// Gives these bytes at the first read, and then an error.
+struct Cut(Vec<u8>);
+
+impl Read for Cut {
+    fn read(&mut self, into: &mut [u8]) -> io::Result<usize> {
+        if self.0.is_empty() {
+            return Err(io::ErrorKind::BrokenPipe.into());
+        }
+        let first = self.0.split_off(0);
+        into[..first.len()].copy_from_slice(&first);
+        Ok(first.len())
+    }
+}
+
+#[test]
+fn items_before_an_error_come_first() {
+    let bytes = damaged();
+    let mut wanted = Follower::new(&Rules::default(), &[]).unwrap();
+    let wanted: Vec<Item> = wanted.push(&bytes).unwrap().collect();
+    let mut items = rds::read(Cut(bytes), &Rules::default(), &[]).unwrap();
+    assert_eq!(items.by_ref().map_while(Result::ok).collect::<Vec<_>>(), wanted);
+    assert!(items.next().is_none() && items.totals().unwrap().groups > 40);
+}
+
+#[test]
+fn a_third_block_may_be_of_either_version() {
+    let corrected = |offset, burst| Ok(Block::Corrected { offset, info: 0xE100, burst });
+    assert_eq!(rds::correct_third(0x384_00BB, 2), corrected(Offset::C, 0x30));
+    assert_eq!(rds::correct_third(0x384_0283, 2), corrected(Offset::Cx, 0x30));
+    assert_eq!(rds::correct(0x384_0283, Offset::C, 2), Ok(Block::Lost));
 }

@@ -1,0 +1,120 @@
+"""Parts of the watch by themselves: the last bytes of a receiver, the last batch of a writer, and commands in their order."""
+
+from __future__ import annotations
+
+import time
+from pathlib import Path
+from typing import List, Optional
+
+import pytest
+
+from network import START, Air
+from rds_monitor.content import Event
+from rds_monitor.watch import loop
+from rds_monitor.watch.live import Append
+from rds_monitor.watch.loop import Hooks
+from rds_monitor.watch.receiver import Keeper
+from rds_monitor.watch.records import Records, RunBegan
+from rds_monitor.watch.session import Contents, Part
+from rds_monitor.watch.times import Timing
+from rds_monitor.watch.writer import Batch, Writer, WriterThread
+from test_watch_network import ALPHA, network
+
+
+class Leaving:
+    """A command that writes its last bytes between a read and its end."""
+
+    def __init__(self) -> None:
+        self._left: List[Optional[bytes]] = [b"first", b"", b"last", b"", b""]
+
+    def read(self) -> Optional[bytes]:
+        return self._left.pop(0)
+
+    def ended(self) -> Optional[str]:
+        return "ended with status 0" if len(self._left) < 4 else None
+
+    def terminate(self) -> None: ...
+
+    def kill(self) -> None: ...
+
+    def close(self) -> None: ...
+
+
+def test_the_last_bytes_of_a_receiver() -> None:
+    keeper = Keeper(["it"], 10.0, lambda words: Leaving(), 0.0)
+    assert [keeper.read(now) for now in (0.0, 0.1, 0.2, 0.3)] == [b"", b"first", b"last", None]
+    assert keeper.reason == "ended with status 0" and not keeper.is_running
+
+
+def test_the_last_batch_of_a_writer(tmp_path: Path) -> None:
+    """It was given before the end, and is written."""
+    records = Records(str(tmp_path / "watch.db"))
+    thread = WriterThread(Writer(str(tmp_path), records, lambda priority, text: None))
+    thread.give(Batch([Append("listings/Alpha/it.csv", b"row\n", closes=True)], [], []))
+    thread._ending = True
+    thread.start()
+    thread.end(10.0)
+    assert (tmp_path / "listings" / "Alpha" / "it.csv").read_bytes() == b"row\n" and not thread.is_alive()
+    records.close()
+
+
+def test_commands_in_their_order(tmp_path: Path, monkeypatch: pytest.MonkeyPatch) -> None:
+    monkeypatch.setattr(loop, "MOST_HOOKS", 1)
+    hooks, path = Hooks(lambda priority, text: None), tmp_path / "said"
+    for word in "123":
+        hooks.add(("sh", "-c", 'echo "$1" >> "$2"', "-", word, str(path)))
+    end = time.monotonic() + 30
+    while time.monotonic() < end and not (path.exists() and path.read_text().count("\n") == 3):
+        hooks.work(0.0)
+        time.sleep(0.01)
+    assert path.read_text() == "1\n2\n3\n"
+
+
+def test_bytes_that_came_just_before_a_stop(tmp_path: Path) -> None:
+    """They are read once more. Steps of the machine's clock are told with their direction."""
+    air = Air(ALPHA, START, 40)
+    it = network(tmp_path, air)
+    for seconds in (0.0, 100.0, -50.0):
+        it.times.utc += seconds
+        it.run(10)
+    it.times.pass_by(0.9)
+    it.end()
+    ((_, run),) = it.given
+    assert len(run.given) == air.at(30.9) - air.at(1.0)
+    for path, size in it.asked("SELECT path, bytes FROM hour_files"):
+        assert (tmp_path / path).stat().st_size == size
+    assert [text for text in it.said if "clock was set" in text] == [
+        f"the machine's clock was set {way} by {seconds} s" for way, seconds in (("forward", 100.0), ("back", 50.0))]
+
+
+def test_the_last_minute_of_a_station(tmp_path: Path) -> None:
+    """Pages and plugins are told what the database has of it."""
+    air = Air(ALPHA, START, 100)
+    air._data[4000:12000:41] ^= 0x10
+    it = network(tmp_path, air)
+    it.run(90)
+    state = it.watch.stations["Alpha"].state(0.0)["minute"]
+    ((sent, valid, corrected, lost),) = it.asked(
+        "SELECT sent, valid, corrected, lost FROM minute_rows ORDER BY session DESC, minute DESC LIMIT 1")
+    assert (state["sent"], state["valid"], state["corrected"]) == (sent, valid, corrected) and 0 < corrected != lost
+    it.end()
+
+
+def test_changes_that_are_too_many() -> None:
+    """Of an item six are stored per minute, and the others counted."""
+    part = Part(Timing(0.0), 0, Contents(1187.5))
+    for number in range(9):
+        part._keep(Event(104 * number, 0xD318, "ps", str(number), None, str(number)))
+    part.pass_to(3 * 71250)
+    told = part.taken()
+    assert [it.text for it in told.events] == list("012345") and [it.more for it in told.minutes] == [3, 0]
+
+
+def test_runs_of_a_watch_that_was_killed(tmp_path: Path) -> None:
+    """None ends before it began, though the machine's clock was set back."""
+    records = Records(str(tmp_path / "watch.db"))
+    records.write([RunBegan("Alpha", 100.0)])
+    records.end_runs(50.0)
+    rows = records.database.execute("SELECT begin_at, end_at, reason FROM run_rows").fetchall()
+    assert rows == [(100.0, 100.0, "the watch was killed")]
+    records.close()
