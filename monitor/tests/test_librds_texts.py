@@ -117,7 +117,7 @@ def test_numbers_in_texts(text: Callable[[], str]) -> None:
 CLAIMS = """\
 Bits are packed into bytes, most significant bit first; a place is the position of a bit, from 0.
 The totals of a recording.
-The items of a recording, in order of place
+The items of a recording, in order of completion
 However it is cut, the items of all chunks and the group at the end are those that `items` gives for the whole.
 laces in the stream, and may be later than all bytes so far.
 On error the stream is unchanged.

@@ -7,7 +7,7 @@ import os
 import re
 import shutil
 from pathlib import Path
-from typing import Any, Callable, Dict, Iterator, List
+from typing import Callable, Dict, List
 
 import pytest
 
@@ -84,13 +84,7 @@ def test_each_recipe_is_tried() -> None:
     assert {title for title, found in BLOCKS.items() if found} == {*WANTED, "A network", "Encode groups"}
 
 
-def recipes() -> Iterator[Any]:
-    """The second command of the database names columns that its view does not have."""
-    for title in WANTED:
-        yield pytest.param(title, marks=pytest.mark.xfail(reason="a column of another name")) if title == "A database" else title
-
-
-@pytest.mark.parametrize("title", recipes())
+@pytest.mark.parametrize("title", WANTED)
 def test_a_recipe(title: str, kitchen: Path, done: Callable[[str], str]) -> None:
     for module in NEEDS.get(title, []):
         pytest.importorskip(module)

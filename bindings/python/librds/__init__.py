@@ -352,7 +352,7 @@ def _items(rooms: Callable[[int], tuple[Any, Any]], asked: _Asked) -> Any:
 
 
 def items(data: Buffer, bits: Optional[int] = None, gaps: Gaps = (), rules: Rules = Rules()) -> Iterator[Item]:
-    """The items of a recording, in order of place: `Acquired`, `Group` and `Loss`.
+    """The items of a recording, in order of completion: `Acquired`, `Group` and `Loss`.
 
         for item in librds.items(data, gaps=[(104, 130)], rules=librds.Rules(burst=0)):
             if isinstance(item, librds.Group):

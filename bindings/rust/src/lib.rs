@@ -218,7 +218,7 @@ pub enum Offset {
     D,
 }
 
-/// An entry of a report, in order of place.
+/// An entry of a report.
 #[derive(Clone, Copy, Debug, PartialEq, Eq, Hash)]
 pub enum Item {
     /// Block sync was acquired.
@@ -334,7 +334,7 @@ pub fn totals(recording: &Recording<'_>, rules: &Rules) -> Result<Totals, Refuse
     Ok(found)
 }
 
-/// The items of a recording, in order of place. The errors are those of [`totals`].
+/// The items of a recording, in order of completion. The errors are those of [`totals`].
 ///
 /// ```
 /// let bytes = rds::encode(&[[0xD393, 0x0548, 0xE100, 0x5041]; 3])?;
