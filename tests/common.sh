@@ -28,17 +28,18 @@ own_words=$#
 
 # How many checks a script makes if it is given all words of its usage. Under a pip before 22.3 library.sh makes one more.
 declare -A checks=([docs.sh]=83 [growth.sh]=46 [library.sh]='101 102' [listings.sh]=119 [monitor.sh]=6 [package.sh]=44
-    [program.sh]=348 [recipes.sh]=45 [scripts.sh]=345 [work.sh]=400)
+    [program.sh]=348 [recipes.sh]=45 [scripts.sh]=343 [work.sh]=400)
 
 # needs TOOL..: the tools that a script calls beside those of this page. From here on it finds no others, so that the row is
 # whole; and it ends where one is missing.
 needs() {
-    local tool at
+    local tool found=()
     mkdir "$work/tools" || exit 1
     for tool in dirname realpath mktemp rm mkdir tail awk chmod timeout "$@"; do
-        at=$(type -P "$tool") || command_not_found_handle "$tool"
-        ln -sf "$at" "$work/tools/$tool" || exit 1
+        hash "$tool" 2>/dev/null || command_not_found_handle "$tool"
+        found+=("${BASH_CMDS[$tool]}")
     done
+    ln -s "${found[@]}" "$work/tools" || exit 1
     # shellcheck disable=SC2123
     PATH=$work/tools
 }

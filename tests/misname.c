@@ -3,7 +3,7 @@
  * HOW says which fault it has:
  *   name    it tells another refusal
  *   on      it does so only if all calls after that one are refused too
- *   row     it writes a row more
+ *   row     with a refusal it writes a row more
  *   part    it writes a part of a row in the place of the rows before a refusal
  *   status  a refusal has another status
  *   late    an answer without a refusal has the status of one
@@ -60,7 +60,7 @@ int main(int argc, char **argv)
         fputs("acq", stdout);
     else
         copy(out, stdout);
-    if (!strcmp(how, "row"))
+    if (!strcmp(how, "row") && status)
         puts("lost,1,-,-,-,-,-,-");
     if ((!strcmp(how, "name") || !strcmp(how, "on")) && status)
         fputs("refused 11 HexText\n", stderr);

@@ -44,10 +44,23 @@ put_links() {
     done
 }
 
+# failing NAME TEXT COMMAND..: the command ends in another status than 0, with TEXT in what it writes
+failing() {
+    if PATH=$all_tools timeout 600 "${@:3}" </dev/null >"$work/out" 2>&1; then
+        fail "$1: status 0"
+    elif grep -qF -e "$2" "$work/out"; then
+        pass
+    else
+        fail "$1: without the words '$2'"
+        tail -n 5 "$work/out"
+    fi
+}
 # sees COMMAND..: a function of this page counts a failure
 sees() { if [[ $("$@") == FAILED:* ]]; then pass; else fail "not told: $*"; fi; }
 sees refused 'a command that passes' '' "$all_tools" true
 sees refused 'a command that fails without the words' words "$all_tools" false
+sees failing 'a command that passes' '' true
+sees failing 'a command that fails without the words' words false
 
 # ---- common.sh
 
@@ -311,7 +324,7 @@ gives_up progress.py "$work/hanging"
 gives_up differential.py "$work/hanging" 1 1
 gives_up streams.py "$work/hanging" 1 4
 for program in silent one_byte_short other_rules; do
-    notices differential.py $program "$here/differential.py" "$work/$program" 1 3
+    notices differential.py $program "$here/differential.py" "$work/$program" 1 1
     notices streams.py $program "$here/streams.py" "$work/$program" 1 30
 done
 # wrong in one job alone, or in one way
@@ -336,8 +349,8 @@ done
 exec "$rds" "$@"
 END
 wrong other_status <<<'"$rds" "$@"; exit 3'
-notices differential.py hex_short "$here/differential.py" "$work/hex_short" 1 3
-notices differential.py without_gaps "$here/differential.py" "$work/without_gaps" 1 3
+notices differential.py hex_short "$here/differential.py" "$work/hex_short" 2 3
+notices differential.py without_gaps "$here/differential.py" "$work/without_gaps" 4 5
 notices differential.py other_status "$here/differential.py" "$work/other_status" 1 1
 notices differential.py encode_short "$here/differential.py" "$work/encode_short" 3 3
 notices differential.py takes_any_line "$here/differential.py" "$work/takes_any_line" 1 1
@@ -347,21 +360,19 @@ notices streams.py other_status "$here/streams.py" "$work/other_status" 1 4
 PATH=$all_tools "$here/streams.py" "$work/other_rules" 1 30 </dev/null >"$work/out" 2>&1
 said=$(tail -n 1 "$work/out")
 if [[ $said =~ ^[1-9][0-9]*\ passed,\ [1-9] ]]; then pass; else fail "streams.py by other rules: $said"; fi
-# a number of a line is too high: by NAME, what stands before it and after it, and how much
-while read -r name before after more; do
+# numbers of both kinds of lines are too high
+while read -r name more numbers; do
     wrong "$name" <<END
 exec "\$rds" "\$@" 2> >(exec python3 -c 'import os, re
 while said := os.read(0, 4096):
-    os.write(2, re.sub(rb"(?<=$before)\d+(?=$after)", lambda it: b"%d" % (int(it[0]) + $more), said))')
+    os.write(2, re.sub(rb"$numbers", lambda it: b"%d" % (int(it[0]) + $more), said))')
 END
     notices progress.py "$name" "$here/progress.py" "$work/$name"
+    [ "$(grep -o '^FAILED: [a-z]*' "$work/out" | sort -u | grep -c .)" = 2 ] || fail "progress.py over the program that is $name: one kind is not told"
 done <<'END'
-later_by_bits bits,. .s.left 2
-later_by_pieces pieces,. .s.left 2
-more_share of. .% 9
-more_written written. .MB 2
-more_pieces of. .pieces 1
-more_done decoded. .of 9
+later 2 (?<=bits, )\d+(?= s left)|(?<=pieces, )\d+(?= s left)
+beyond 9 (?<=of )\d+(?= %| pieces)
+ahead 9 (?<=written )\d+(?= MB)|(?<=decoded )\d+(?= of)
 END
 wrong progress_short <<<'[[ $* == *--progress* ]] || exec "$rds" "$@"; "$rds" "$@" | head -c -1; exit "${PIPESTATUS[0]}"'
 notices progress.py progress_short "$here/progress.py" "$work/progress_short"
@@ -398,7 +409,13 @@ done
 # one worker of pytest is enough to see a failure
 OMP_NUM_THREADS=1 PYTEST_ADDOPTS=-x notices monitor.sh silent bash "$here/monitor.sh" "$work/silent" "$library"
 notices package.sh silent bash "$here/package.sh" "$work/silent" "$library"
-RDS_LIBRARY_RECORDINGS=20 notices library.sh other_rules bash "$here/library.sh" "$library" "$work/other_rules"
+mkdir "$work/bare" && : >"$work/bare/librds.so.0" || exit 1
+notices library.sh 'right, with a library that has nothing' bash "$here/library.sh" "$work/bare" "$rds"
+export RDS_LIBRARY=$library/librds.so.0
+failing 'compare.py over other rules' 'librds of Python gives other rows' python3 -B "$here/library/compare.py" 20 "$work/other_rules"
+failing 'compare.py over rows that are not there' 'silent (0) gives other rows' \
+    python3 -B "$here/library/compare.py" 20 "$rds" "$work/silent"
+unset RDS_LIBRARY
 
 mapfile -t scripts < <(sed -n '/^SCRIPTS := /,/)$/p' "$here/../Makefile" | grep -oE '[a-z]+\.(sh|py)')
 for script in "${scripts[@]}" growth.sh; do
@@ -421,19 +438,6 @@ old: 1..=4 => Some(BlockNumber { number }),
 new: 1..=4 => Some(BlockNumber { number }), // the same
 END
 sed '/^rds_code/d' "$told" >"$work/copy/tests/wrong_bodies.answers"
-# failing NAME TEXT COMMAND..: the command ends in another status than 0, with TEXT in what it writes
-failing() {
-    if PATH=$all_tools timeout 600 "${@:3}" </dev/null >"$work/out" 2>&1; then
-        fail "$1: status 0"
-    elif grep -qF -e "$2" "$work/out"; then
-        pass
-    else
-        fail "$1: without the words '$2'"
-        tail -n 5 "$work/out"
-    fi
-}
-sees failing 'a command that passes' '' true
-sees failing 'a command that fails without the words' words false
 failing 'wrong_bodies.py over an edit that changes nothing' '1 as they must be, 1 not: rds_code/nothing_is_changed.edit' \
     python3 "$work/copy/tests/wrong_bodies.py" rds_code
 mkdir "$work/copy/crates/rds_code/must-fail"
@@ -487,12 +491,9 @@ done
 PATH=$all_tools ln -s "$(PATH=$all_tools type -P dirname)" "$gate/few" || exit 1
 ci() { (cd "$gate" && : >called && FAILING=$1 PATH=$gate/few "$bash" .ci/run >said 2>&1); }
 if ci make; then fail '.ci/run over a gate that fails: status 0'; else pass; fi
-for it in '' apt-get; do
-    if ci "$it" && [ "$(tail -n 1 "$gate/called")" = 'make test' ]; then pass; else fail ".ci/run does not run make test${it:+ without $it}"; fi
-done
-ci '' || fail '.ci/run fails'
 for it in $(sed -n '/^tools=(/,/)$/s/^tools=(\|)$//gp' "$gate/.ci/run"); do
     if grep -q "^apt-get install .* ${it#*:}\b" "$gate/called"; then pass; else fail ".ci/run does not install ${it#*:}"; fi
 done
+if ci apt-get && [ "$(tail -n 1 "$gate/called")" = 'make test' ]; then pass; else fail '.ci/run without apt-get does not run make test'; fi
 
 finish
