@@ -28,18 +28,18 @@ own_words=$#
 
 # How many checks a script makes if it is given all words of its usage. Under a pip before 22.3 library.sh makes one more.
 declare -A checks=([docs.sh]=83 [growth.sh]=46 [library.sh]='101 102' [listings.sh]=119 [monitor.sh]=6 [package.sh]=44
-    [program.sh]=348 [recipes.sh]=45 [scripts.sh]=343 [work.sh]=400)
+    [program.sh]=348 [recipes.sh]=45 [scripts.sh]=342 [work.sh]=400)
 
 # needs TOOL..: the tools that a script calls beside those of this page. From here on it finds no others, so that the row is
 # whole; and it ends where one is missing.
 needs() {
-    local tool found=()
+    local tool its_tools=()
     mkdir "$work/tools" || exit 1
     for tool in dirname realpath mktemp rm mkdir tail awk chmod timeout "$@"; do
         hash "$tool" 2>/dev/null || command_not_found_handle "$tool"
-        found+=("${BASH_CMDS[$tool]}")
+        its_tools+=("${BASH_CMDS[$tool]}")
     done
-    ln -s "${found[@]}" "$work/tools" || exit 1
+    ln -s "${its_tools[@]}" "$work/tools" || exit 1
     # shellcheck disable=SC2123
     PATH=$work/tools
 }
@@ -83,10 +83,10 @@ fail() {
 
 # lacks_tool: whether a tool or a Python module that some checks of this script need is missing
 lacks_tool() {
-    local rows tools tool
-    mapfile -t rows < <(PATH=$all_tools sed -nE 's/^ *if has ([^;&]*).*/\1/p; s/.*import (numpy|ensurepip).*/\1/p' "$0")
-    eval "tools=(${rows[*]})"
-    for tool in "${tools[@]}"; do
+    local named_tools asked_tools tool
+    mapfile -t named_tools < <(PATH=$all_tools sed -nE 's/^ *if has ([^;&]*).*/\1/p; s/.*import (numpy|ensurepip).*/\1/p' "$0")
+    eval "asked_tools=(${named_tools[*]})"
+    for tool in "${asked_tools[@]}"; do
         PATH=$all_tools type -P "$tool" >/dev/null || /usr/bin/python3 -c "import $tool" 2>/dev/null || return 0
     done
     return 1
@@ -94,9 +94,9 @@ lacks_tool() {
 
 # makes_all_checks: whether as many checks were made as $checks says, if the words and the tools are there for all of them
 makes_all_checks() {
-    local wanted=${checks[$own_name]:-} words=${usage%%\[--*}
-    read -ra words <<<"$words"
-    [ -z "$wanted" ] || ((own_words < ${#words[@]} - 2)) || [[ " $wanted " == *" $passed "* ]] || lacks_tool
+    local wanted=${checks[$own_name]:-} of_usage
+    read -ra of_usage <<<"${usage%%\[--*}"
+    [ -z "$wanted" ] || ((own_words < ${#of_usage[@]} - 2)) || [[ " $wanted " == *" $passed "* ]] || lacks_tool
 }
 
 # finish: the last line, and whether all passed; nothing tried is no success, nor are more or fewer checks than there are

@@ -4,7 +4,7 @@
  *   name    it tells another refusal
  *   on      it does so only if all calls after that one are refused too
  *   row     with a refusal it writes a row more
- *   part    it writes a part of a row in the place of the rows before a refusal
+ *   part    with a refusal a stream writes a part of a row
  *   status  a refusal has another status
  *   late    an answer without a refusal has the status of one
  *   cut     it writes nothing and tells of no refusal
@@ -46,7 +46,6 @@ int main(int argc, char **argv)
     int is_wrong = kind && call && at && !strcmp(call, kind) && strcmp(at, "0");
     FILE *out = tmpfile(), *err = tmpfile();
     int status;
-    (void)argc;
     if (!program || !how || !out || !err)
         return 99;
     status = run(program, argv, out, err);
@@ -56,7 +55,7 @@ int main(int argc, char **argv)
         return fputs("refused 14 NoWorker\n", stderr), 1;
     if (!strcmp(how, "cut"))
         return 0;
-    if (!strcmp(how, "part") && status)
+    if (!strcmp(how, "part") && status && argc > 1 && !strcmp(argv[1], "follow"))
         fputs("acq", stdout);
     else
         copy(out, stdout);

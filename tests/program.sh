@@ -430,11 +430,15 @@ line_of() {
     fi
 }
 
-# Each fault of such a job is seen: its status, its text, its lines, a line that is left, and too many of them.
+# Each fault of such a job is told: another status, no such line, too many lines, a line that is not erased, another text.
 echo rows | tee "$work/wanted" >"$work/out"
 printf '1 s left\r2 s left\r3 s left\r   ' >"$work/told"
 if is_line_of 0 '. s left' 1; then pass; else fail 'a line of progress is not found'; fi
-if is_line_of 1 '. s left' 1 || is_line_of 0 '. m left' 1 || is_line_of 0 '. s left' 0; then fail 'a fault of progress is not told'; else pass; fi
+if is_line_of 1 '. s left' 1 || is_line_of 0 '. m left' 1 || is_line_of 0 '. s left' 0; then
+    fail 'a fault of progress is not told'
+else
+    pass
+fi
 printf '1 s left' >"$work/told"
 if is_line_of 0 '. s left' 1; then fail 'a line that is left is not told'; else pass; fi
 printf '1 s left\r ' >"$work/told"
@@ -578,7 +582,7 @@ judge 'output that does not block' 1 $? '' 'refused 10 Write\n'
 judge 'a length that is too long, of an input that is read to its end' 1 "${PIPESTATUS[1]}" '' 'refused 5 TooLong\n'
 if [ -s "$work/given" ]; then pass; else fail 'an input is read to its end before its length is refused'; fi
 
-# A text that is only looked for in part sees less.
+# A part of a text says less than the whole, so their number is fixed.
 if [ $parts = 76 ]; then pass; else fail "$parts texts are looked for in part"; fi
 
 finish

@@ -55,7 +55,7 @@ failing() {
         tail -n 5 "$work/out"
     fi
 }
-# sees COMMAND..: a function of this page counts a failure
+# sees COMMAND..: whether a function of this page counts a failure
 sees() { if [[ $("$@") == FAILED:* ]]; then pass; else fail "not told: $*"; fi; }
 sees refused 'a command that passes' '' "$all_tools" true
 sees refused 'a command that fails without the words' words "$all_tools" false
@@ -69,7 +69,7 @@ by_common() {
     PATH=$all_tools bash -c "usage='usage: tests/a.sh PATH'; . '$here/common.sh' && $1" "${2:-a.sh}" a >"$work/said" 2>"$work/err"
 }
 
-# This script counts by common.sh too, and so ends at once.
+# broken_if FAULT COMMAND..: ends this script if the command succeeds: it counts by common.sh too
 broken_if() { if "${@:2}"; then echo "scripts.sh: common.sh: $1" >&2; exit 1; fi; }
 broken_if 'a script that passes fails' eval '! by_common "pass; finish"'
 broken_if 'a script that fails passes' by_common 'pass; fail no; finish'
@@ -368,7 +368,9 @@ while said := os.read(0, 4096):
     os.write(2, re.sub(rb"$numbers", lambda it: b"%d" % (int(it[0]) + $more), said))')
 END
     notices progress.py "$name" "$here/progress.py" "$work/$name"
-    [ "$(grep -o '^FAILED: [a-z]*' "$work/out" | sort -u | grep -c .)" = 2 ] || fail "progress.py over the program that is $name: one kind is not told"
+    for kind in rows pieces; do
+        grep -q "^FAILED: $kind" "$work/out" || fail "progress.py over the program that is $name: no line on $kind is told"
+    done
 done <<'END'
 later 2 (?<=bits, )\d+(?= s left)|(?<=pieces, )\d+(?= s left)
 beyond 9 (?<=of )\d+(?= %| pieces)
@@ -401,7 +403,7 @@ notices refusals.sh silent bash "$here/refusals.sh" "$work/silent" "$work/bench_
 gives_up refusals.sh "$work/hanging" "$work/bench_told"
 notices refusals.sh bench_silent bash "$here/refusals.sh" "$rds" "$work/bench_silent"
 export MISNAME=$rds KIND HOW
-for it in {alloc,read,write,thread}:{name,row} alloc:{cut,status} read:{part,on} write:part thread:{cut,late,none}; do
+for it in {alloc,read,write,thread}:{name,row} alloc:{cut,status} read:{part,on} thread:{cut,late,none}; do
     KIND=${it%:*} HOW=${it#*:}
     KINDS=$KIND notices refusals.sh "misnaming, $it" bash "$here/refusals.sh" "$work/misnaming" "$work/bench_told"
     grep -q ": $KIND [0-9]* of" "$work/out" || fail "refusals.sh over the program that is misnaming, $it: another failure"
@@ -463,7 +465,8 @@ echo "${0##*/} $*" >>called
 END
 chmod +x "$work/stub" || exit 1
 beside=(growth.sh wrong_bodies.py front_pages.py)
-for it in "${scripts[@]/#/tests/}" "${beside[@]/#/tests/}" lib/{archive.py,make_library.sh} tools/{rt,git,apt-get,aarch64-linux-gnu-gcc} few/{make,apt-get}; do
+for it in "${scripts[@]/#/tests/}" "${beside[@]/#/tests/}" lib/{archive.py,make_library.sh} \
+    tools/{rt,git,apt-get,aarch64-linux-gnu-gcc} few/{make,apt-get}; do
     cp "$work/stub" "$gate/$it" || exit 1
 done
 # gated NAME COMMAND..: the command in that gate, where the script of this name fails
@@ -482,12 +485,12 @@ done
 for it in 'archive.py arm64 build/librds-arm64.a' 'make_library.sh build/librds-amd64.a build/lib *' 'rt ci'; do
     if grep -qx "$it" "$gate/called"; then pass; else fail "make test does not call $it"; fi
 done
-# the library is there already, as it is if an earlier run made it
+# the library is there, as if an earlier run had made it
 : >"$gate/build/lib/librds.so.0"
 for it in "${scripts[@]}" "${beside[@]}" 'archive.py amd64' 'archive.py arm64' make_library.sh rt; do
     if gated "$it" make test RT=rt; then fail "make test passes, though $it fails"; else pass; fi
 done
-# .ci/run installs each package if no tool is there, goes on if it can't, and ends as `make test` does
+# .ci/run installs each package if all tools are missing, goes on if that fails, and ends as `make test` does
 PATH=$all_tools ln -s "$(PATH=$all_tools type -P dirname)" "$gate/few" || exit 1
 ci() { (cd "$gate" && : >called && FAILING=$1 PATH=$gate/few "$bash" .ci/run >said 2>&1); }
 if ci make; then fail '.ci/run over a gate that fails: status 0'; else pass; fi
