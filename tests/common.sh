@@ -28,7 +28,7 @@ own_words=$#
 
 # How many checks a script makes if it is given all words of its usage. Under a pip before 22.3 library.sh makes one more.
 declare -A checks=([docs.sh]=83 [growth.sh]=46 [library.sh]='101 102' [listings.sh]=119 [monitor.sh]=6 [package.sh]=44
-    [program.sh]=348 [recipes.sh]=45 [scripts.sh]=342 [work.sh]=400)
+    [program.sh]=348 [recipes.sh]=45 [scripts.sh]=343 [work.sh]=400)
 
 # needs TOOL..: the tools that a script calls beside those of this page. From here on it finds no others, so that the row is
 # whole; and it ends where one is missing.

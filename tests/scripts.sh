@@ -349,9 +349,11 @@ done
 exec "$rds" "$@"
 END
 wrong other_status <<<'"$rds" "$@"; exit 3'
+wrong scan_status <<<'"$rds" "$@" && [ "$1" != scan ]'
 notices differential.py hex_short "$here/differential.py" "$work/hex_short" 2 3
 notices differential.py without_gaps "$here/differential.py" "$work/without_gaps" 4 5
 notices differential.py other_status "$here/differential.py" "$work/other_status" 1 1
+notices differential.py scan_status "$here/differential.py" "$work/scan_status" 1 1
 notices differential.py encode_short "$here/differential.py" "$work/encode_short" 3 3
 notices differential.py takes_any_line "$here/differential.py" "$work/takes_any_line" 1 1
 notices streams.py without_gaps "$here/streams.py" "$work/without_gaps" 1 30
