@@ -2,7 +2,7 @@
 # What the scripts of this folder have in common. Each sources it, and says before in $usage how it is called.
 #
 # It makes a folder $work that goes when the script ends, and counts what passes and fails. If UNTIL_FAILURE is set, a script ends at
-# its first failure.
+# its first failure. A script has failed, too, if it makes another number of checks than $checks says.
 
 set -uo pipefail
 export LC_ALL=C
@@ -23,16 +23,23 @@ trap 'rm -rf "$work"' EXIT
 all_tools=$PATH
 passed=0
 failed=0
+own_name=${0##*/}
+own_words=$#
+
+# How many checks a script makes if it is given all words of its usage. Under a pip before 22.3 library.sh makes one more.
+declare -A checks=([docs.sh]=83 [growth.sh]=46 [library.sh]='101 102' [listings.sh]=119 [monitor.sh]=6 [package.sh]=44
+    [program.sh]=348 [recipes.sh]=45 [scripts.sh]=343 [work.sh]=400)
 
 # needs TOOL..: the tools that a script calls beside those of this page. From here on it finds no others, so that the row is
 # whole; and it ends where one is missing.
 needs() {
-    local tool at
+    local tool its_tools=()
     mkdir "$work/tools" || exit 1
     for tool in dirname realpath mktemp rm mkdir tail awk chmod timeout "$@"; do
-        at=$(type -P "$tool") || command_not_found_handle "$tool"
-        ln -sf "$at" "$work/tools/$tool" || exit 1
+        hash "$tool" 2>/dev/null || command_not_found_handle "$tool"
+        its_tools+=("${BASH_CMDS[$tool]}")
     done
+    ln -s "${its_tools[@]}" "$work/tools" || exit 1
     # shellcheck disable=SC2123
     PATH=$work/tools
 }
@@ -74,8 +81,30 @@ fail() {
     fi
 }
 
-# finish: the last line, and whether all passed; nothing tried is no success
+# lacks_tool: whether a tool or a Python module that some checks of this script need is missing
+lacks_tool() {
+    local named_tools asked_tools tool
+    mapfile -t named_tools < <(PATH=$all_tools sed -nE 's/^ *if has ([^;&]*).*/\1/p; s/.*import (numpy|ensurepip).*/\1/p' "$0")
+    eval "asked_tools=(${named_tools[*]})"
+    for tool in "${asked_tools[@]}"; do
+        PATH=$all_tools type -P "$tool" >/dev/null || /usr/bin/python3 -c "import $tool" 2>/dev/null || return 0
+    done
+    return 1
+}
+
+# makes_all_checks: whether as many checks were made as $checks says, if the words and the tools are there for all of them
+makes_all_checks() {
+    local wanted=${checks[$own_name]:-} of_usage
+    read -ra of_usage <<<"${usage%%\[--*}"
+    [ -z "$wanted" ] || ((own_words < ${#of_usage[@]} - 2)) || [[ " $wanted " == *" $passed "* ]] || lacks_tool
+}
+
+# finish: the last line, and whether all passed; nothing tried is no success, nor are more or fewer checks than there are
 finish() {
+    if [ "$failed" = 0 ] && ! makes_all_checks; then
+        failed=1
+        echo "FAILED: $own_name makes $passed checks, and not ${checks[$own_name]} as tests/common.sh has it"
+    fi
     echo "$passed passed, $failed failed"
     [ "$failed" = 0 ] && [ "$passed" -gt 0 ]
 }

@@ -94,6 +94,19 @@ unlinked() {
     rm "$copy/$1" || exit 1
 }
 
+# counts COMMAND..: a function of this page counts a failure
+counts() {
+    local before=$failed UNTIL_FAILURE=''
+    "$@" > "$work/counted"
+    if [ $failed = $((before + 1)) ]; then failed=$before && pass; else fail "not told: $*"; fi
+}
+counts planted README.md '/there is no such line/d' ''
+counts planted README.md '$s/$/ /' ''
+counts planted README.md 's|(docs/USING.md)|(docs/USAGE.md)|' 'other words'
+: > "$copy/tests/NEW.md"
+counts unlinked tests/NEW.md
+if by_hand_are /dev/null; then fail 'no proofs by hand are those of Trace'; else pass; fi
+
 using=docs/USING.md
 planted $using '/^| `encode` | from/d' "$using, commands"
 planted $using '/^| `--reach N`/d' "$using, options of list"
@@ -105,6 +118,7 @@ planted $using 's/refused 10 Write/refused 10 Writing/' "$using, refusals in the
 output=docs/OUTPUT.md
 planted $output 's/^| `acquired` |/| `locked` |/' "$output, rows"
 planted $output 's/^| `bits` |/| `bit` |/' "$output, totals"
+planted rds.1 's/^\.Cm encode$/.Cm encodes/' 'rds.1, commands'
 planted rds.1 '/^\.Cm encode$/,/^\.Nm$/s/^\.Op Fl -hex$/.Op Fl -bits/' 'rds.1, options of encode'
 planted rds.1 's/^bits, 0 to 5; default 2/bits, 0 to 5; default 1/' 'rds.1, default of --burst'
 planted rds.1 's/threads, 1 to 256;/threads, 1 to 255;/' 'rds.1, range of --workers'
@@ -146,6 +160,15 @@ planted tests/library/threads.c 's/THREADS = 8/THREADS = 2/' 'as in tests/librar
 planted tests/growth.sh 's/^most=8$/most=80/' 'as in tests/growth.sh'
 planted tests/work.sh 's/ spare=10 kept/ spare=1 kept/' 'as in tests/work.sh'
 planted tests/work.sh 's/65536 + 4/65536 + 400/' 'as in tests/work.sh'
+# what the page says of crates, which the copy shares
+planted $testing 's/may take eight times/may take four times/' 'as in crates/rds_bench/src/growth.rt'
+planted $testing 's/past its bound eight times/past its bound four times/' 'as in crates/rds_bench/src/standards.rt'
+planted tests/growth.sh 's/for size in 1 4 16/for size in 1 8 16/' 'as in tests/growth.sh'
+planted tests/work.sh 's/ || spare=100$/ || spare=8/' "$testing, 'it is a "
+planted $testing 's/compares 2,000 streams/compares 200 streams/' "$testing, 'compares "
+planted $testing 's/| 2,000 random recordings through/| 200 random recordings through/' 'random recordings through a pipe'
+planted tests/refuse.c 's/: 60)/: 600)/' 'tests, the seconds that a call may take'
+planted tests/common.sh 's/LIMIT:-60/LIMIT:-600/' 'tests, the seconds that a call may take'
 planted tests/growth.sh 's/beside 2 \(.*rds" follow beside\)/beside 20 \1/' "$testing, ratios of growth.sh"
 planted tests/listings.sums '1d' "$testing, sums of listings.sh"
 planted tests/work.bounds '$d' "$testing, jobs of work.sh"

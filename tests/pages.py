@@ -185,6 +185,10 @@ TOLD = (
 )
 
 
+# How a test names the seconds that one call of a program may take, unless it is told.
+LIMITED = r'LIMIT(?:=\$\{LIMIT:-|", )(\d+)|atoi\(limit\) : (\d+)'
+
+
 def count_in(pattern, text):
     """The number that a text says where the pattern first fits."""
     found = re.search(pattern, text, re.M)
@@ -210,6 +214,9 @@ def compare_tests():
     same("docs/TESTING.md, runs of differential.py", str(seeds * runs), str(count_in(r"All ([\d,]+) runs", page)))
     minutes = int(count_in(r"after (\d+) minutes", page) or 0)
     same("docs/TESTING.md, minutes of a script", count_in(r"timeout (\d+) \$@", makefile), str(60 * minutes))
+    tests = [read(f"tests/{name}") for name in os.listdir("tests") if re.search(r"\.(sh|py|c)$", name)]
+    limits = {found[1] or found[2] for text in tests for found in re.finditer(LIMITED, text)}
+    same("tests, the seconds that a call may take", {"60"}, limits)
     sums = len(read("tests/listings.sums").splitlines())
     same("docs/TESTING.md, sums of listings.sh", str(sums), str(count_in(r"compares the sums of ([\d,]+) texts", page)))
     jobs = len(re.findall(r"^[^#]", read("tests/work.bounds"), re.M))

@@ -36,9 +36,15 @@ judge() {
     fi
 }
 
+# How many texts are not compared as a whole.
+parts=0
+
 matches() {
     case $1 in
-        '*'*) grep -qF -- "${1#\*}" "$2" ;;
+        '*'*)
+            parts=$((parts + 1))
+            grep -qF -- "${1#\*}" "$2"
+            ;;
         *) printf "$1" | cmp -s - "$2" ;;
     esac
 }
@@ -46,6 +52,16 @@ matches() {
 # A text that is not there does not match.
 echo 'a text' >"$work/out"
 if matches '*another text' "$work/out" || matches 'a' "$work/out"; then fail 'a text matches another'; else pass; fi
+# A run fails by its status, its standard output or its standard error.
+: >"$work/err"
+told=$(
+    UNTIL_FAILURE=''
+    judge status 1 0 'a text\n' ''
+    judge output 0 0 'a text' ''
+    judge error 0 0 'a text\n' 'a word'
+    judge none 0 0 'a text\n' ''
+)
+if [ "$(grep -c '^FAILED: ' <<<"$told")" = 3 ]; then pass; else fail "of three faults of a run these are told: $told"; fi
 
 # help_begins LINE [COMMAND]: the first line of the program's help, or of a command's, by who reads all of it
 help_begins() {
@@ -389,8 +405,15 @@ judge 'a stream without an end, to a reader that leaves early' 1 "$(cat "$work/s
 
 # ---- progress
 
-# line_of NAME TEXT WORDS..: whether a job whose input and whose reader are late tells this text, no more than twice a second,
-# takes it away at the end, and writes what it writes without
+# is_line_of STATUS TEXT SECONDS: whether a job that ended so wrote what it has to, and told this text, no more than twice a second, and
+# took it away at the end
+is_line_of() {
+    tr '\r' '\n' <"$work/told" >"$work/lines"
+    [ "$1" = 0 ] && cmp -s "$work/out" "$work/wanted" && grep -qxE -e "$2" "$work/lines" \
+        && [ "$(tail -n 1 "$work/lines" | tr -d ' ')" = '' ] && [ "$(grep -c left "$work/lines")" -le $((2 * $3 + 2)) ]
+}
+
+# line_of NAME TEXT WORDS..: whether a job whose input and whose reader are late tells this text, and writes what it writes without
 line_of() {
     local name=$1 text=$2 status
     shift 2
@@ -399,15 +422,28 @@ line_of() {
     { sleep 0.8; cat "$work/stations"; } | { "$rds" "$@" --progress 2>"$work/told"; echo $? >"$work/status"; } \
         | { sleep 2; cat; } >"$work/out"
     status=$(cat "$work/status")
-    if [ "$status" = 0 ] && cmp -s "$work/out" "$work/wanted" && tr '\r' '\n' <"$work/told" | grep -qxE -e "$text" \
-        && [ "$(tr '\r' '\n' <"$work/told" | tail -n 1 | tr -d ' ')" = '' ] \
-        && [ "$(tr '\r' '\n' <"$work/told" | grep -c left)" -le $((2 * SECONDS + 2)) ]; then
+    if is_line_of "$status" "$text" "$SECONDS"; then
         pass
     else
         fail "$name (status $status, $SECONDS s)"
-        tr '\r' '\n' <"$work/told" | sed 's/^/    told: /' | head -20
+        sed 's/^/    told: /' "$work/lines" | head -20
     fi
 }
+
+# Each fault of such a job is told: another status, no such line, too many lines, a line that is not erased, another text.
+echo rows | tee "$work/wanted" >"$work/out"
+printf '1 s left\r2 s left\r3 s left\r   ' >"$work/told"
+if is_line_of 0 '. s left' 1; then pass; else fail 'a line of progress is not found'; fi
+if is_line_of 1 '. s left' 1 || is_line_of 0 '. m left' 1 || is_line_of 0 '. s left' 0; then
+    fail 'a fault of progress is not told'
+else
+    pass
+fi
+printf '1 s left' >"$work/told"
+if is_line_of 0 '. s left' 1; then fail 'a line that is left is not told'; else pass; fi
+printf '1 s left\r ' >"$work/told"
+echo more >>"$work/out"
+if is_line_of 0 '. s left' 1; then fail 'another text beside progress is not told'; else pass; fi
 
 for _ in 1 2 3 4 5 6 7 8; do cat "$here/../examples/station.bin"; done >"$work/stations"
 share='written [0-9]+ MB, rows of [1-9][0-9]? % of the bits, [0-9]+ s left'
@@ -545,5 +581,8 @@ judge 'output that does not block' 1 $? '' 'refused 10 Write\n'
 { cat "$station" "$station" "$station" && echo whole >"$work/given"; } | "$rds" scan --bits 68719476737 >"$work/out" 2>"$work/err"
 judge 'a length that is too long, of an input that is read to its end' 1 "${PIPESTATUS[1]}" '' 'refused 5 TooLong\n'
 if [ -s "$work/given" ]; then pass; else fail 'an input is read to its end before its length is refused'; fi
+
+# A part of a text says less than the whole, so their number is fixed.
+if [ $parts = 76 ]; then pass; else fail "$parts texts are looked for in part"; fi
 
 finish

@@ -41,6 +41,19 @@ refused() {
   same "$name" "$wanted" "$status ${said%%$'\n'*}"
 }
 
+# Each of these tells its faults: another text, and of commands another status.
+told=$(
+  UNTIL_FAILURE=''
+  same text a b
+  fails status words sh -c 'echo words >&2'
+  fails words words sh -c 'echo other words >&2; exit 1'
+  refused status 1 words sh -c 'echo words >&2; exit 2'
+  refused words 1 words sh -c 'echo other words >&2; exit 1'
+  same none a a
+  refused none 1 words sh -c 'echo words >&2; exit 1'
+)
+same 'the faults that are told' 5 "$(grep -c '^FAILED: ' <<< "$told")"
+
 # has TOOL..: whether they are here; says what is left out where one isn't
 has() {
   local tool

@@ -8,6 +8,7 @@
 # or there twice. So is wrong_bodies.py.
 # Each script is called over programs that are wrong, up to its first failure, and has to count that; wrong_bodies.py over an edit
 # that nothing refuses; `make proofs` over a toolchain that fails; and `make test` over scripts that do nothing, one of which fails.
+# The functions of this page, and those of common.sh, have to count what they are there for.
 # The last line is 'N passed, M failed', and the exit status says whether all passed.
 
 usage='usage: tests/scripts.sh PATH-TO-RDS LIBRARY-FOLDER'
@@ -17,7 +18,7 @@ check_programs "${1:-}"
 [ -f "${2:-}/librds.so.0" ] || misused
 rds=$(realpath "$1")
 library=$(realpath "$2")
-needs bash cat cp grep head ln make sed sort
+needs bash cat cp grep head ln make mv sed sort
 scripts=(docs program listings refusals work growth)
 
 # refused NAME TEXT PATH COMMAND..: the command by that PATH ends in another status than 0, with TEXT on standard error
@@ -43,13 +44,49 @@ put_links() {
     done
 }
 
+# failing NAME TEXT COMMAND..: the command ends in another status than 0, with TEXT in what it writes
+failing() {
+    if PATH=$all_tools timeout 600 "${@:3}" </dev/null >"$work/out" 2>&1; then
+        fail "$1: status 0"
+    elif grep -qF -e "$2" "$work/out"; then
+        pass
+    else
+        fail "$1: without the words '$2'"
+        tail -n 5 "$work/out"
+    fi
+}
+# sees COMMAND..: whether a function of this page counts a failure
+sees() { if [[ $("$@") == FAILED:* ]]; then pass; else fail "not told: $*"; fi; }
+sees refused 'a command that passes' '' "$all_tools" true
+sees refused 'a command that fails without the words' words "$all_tools" false
+sees failing 'a command that passes' '' true
+sees failing 'a command that fails without the words' words false
+
 # ---- common.sh
 
-# by_common TEXT: how a script ends that sources common.sh and has this text
-by_common() { PATH=$all_tools bash -c "usage=; . '$here/common.sh' && $1" >"$work/out" 2>&1; }
-if by_common 'pass && finish'; then pass; else fail 'a script that passes ends otherwise'; fi
-if by_common finish; then fail 'a script that tries nothing passes'; else pass; fi
-if by_common 'false | true'; then fail 'a status is lost in a pipe'; else pass; fi
+# by_common TEXT [NAME]: how a script of that name ends that sources common.sh and has this text; its output goes to $work/said
+by_common() {
+    PATH=$all_tools bash -c "usage='usage: tests/a.sh PATH'; . '$here/common.sh' && $1" "${2:-a.sh}" a >"$work/said" 2>"$work/err"
+}
+
+# broken_if FAULT COMMAND..: ends this script if the command succeeds: it counts by common.sh too
+broken_if() { if "${@:2}"; then echo "scripts.sh: common.sh: $1" >&2; exit 1; fi; }
+broken_if 'a script that passes fails' eval '! by_common "pass; finish"'
+broken_if 'a script that fails passes' by_common 'pass; fail no; finish'
+broken_if 'a failure is not counted' eval '! grep -qx "1 passed, 1 failed" "$work/said"'
+broken_if 'a script that tries nothing passes' by_common finish
+broken_if 'a status is lost in a pipe' by_common 'false | true'
+broken_if 'a name that is not set is taken' by_common ': "$of_nothing"; pass; finish'
+broken_if 'a tool that `needs` does not name is found' by_common 'needs cat; sed p; pass; finish'
+broken_if 'its folder is left' eval 'by_common "pass; finish; echo \$work"; [ -d "$(tail -n 1 "$work/said")" ]'
+broken_if 'a failure does not end a script' eval 'UNTIL_FAILURE=1 by_common "fail no; echo on" || grep -qx on "$work/said"'
+for script in docs program listings work recipes package library monitor growth scripts; do
+    broken_if "$script.sh with one check passes" by_common 'pass; finish' $script.sh
+done
+broken_if 'another number of checks is not told' eval '! grep -q "^FAILED: scripts.sh makes 1 checks" "$work/said"'
+for it in "$work/none" "$here/common.sh"; do
+    refused "a program that is none: $it" 'usage: tests/' "$all_tools" bash "$here/refusals.sh" "$rds" "$it"
+done
 
 # ---- tools that are missing
 
@@ -69,12 +106,12 @@ for script in "${scripts[@]}"; do
     mapfile -t tools < <(printf '%s\n' "${tools[@]}" | sort -u)
     programs=("$rds")
     [ "$script" != refusals ] || programs+=("$rds")
+    folder=$work/without-$script
+    put_links "$folder" "${tools[@]}"
     for tool in "${tools[@]}"; do
-        folder=$work/without/$script-$tool
-        mkdir -p "$work/without"
-        put_links "$folder" "${tools[@]}"
-        rm "$folder/$tool"
+        mv "$folder/$tool" "$work/tool" || exit 1
         refused "$script.sh without $tool" "$tool" "$folder" "$bash" "$here/$script.sh" "${programs[@]}"
+        mv "$work/tool" "$folder/$tool" || exit 1
     done
     refused "$script.sh without a program" 'usage: tests/' "$all_tools" bash "$here/$script.sh"
     refused "$script.sh of a program that is not there" 'usage: tests/' "$all_tools" bash "$here/$script.sh" "$work/none"
@@ -108,6 +145,16 @@ mapfile -t tools < <(sed -nE 's/^ *if has ([a-z0-9_+ -]+).*/\1/p' "$here"/{recip
 for tool in "${tools[@]}"; do
     if [[ $others == *" $tool "* ]] || grep -qwF -e "$tool" "$here/../.ci/run"; then pass; else fail "$tool: .ci/run does not name it"; fi
 done
+
+# A comparison of a text with itself can't fail.
+itself='(same|cmp|judge|\[).* ("?\$.+) (==? )?\2( |$|;|\))|(^|[^.a-z_])([a-z_.]+) [!=]= \6([^.a-z_]|$)'
+if grep -qE "$itself" <<<'cmp -s "$a" "$a"; then' && grep -qE "$itself" <<<'if [ $a = $a ]' && grep -qE "$itself" <<<'if a == a:'; then
+    pass
+else
+    fail 'a comparison of a text with itself is not found'
+fi
+found=$(grep -nE "$itself" "$here"/*.{sh,py} "$here"/library/*.py | grep -v itself)
+if [ -z "$found" ]; then pass; else fail "a text is compared with itself: $found"; fi
 
 # ---- tables that are not whole
 
@@ -200,20 +247,62 @@ notices() {
     fi
 }
 
+sees notices a.sh right true
+sees notices a.sh 'of another end' sh -c 'echo 1 passed, 0 failed; exit 1'
+sees notices a.sh 'of another status' sh -c 'echo 0 passed, 1 failed'
+
 for row in 'docs silent misprinting' 'program silent one_byte_short content other_rules' 'listings silent one_byte_short other_rules' \
     'work silent one_worker_more' 'growth silent squared' 'recipes silent'; do
     for program in ${row#* }; do
         notices "${row%% *}.sh" "$program" bash "$here/${row%% *}.sh" "$work/$program"
     done
 done
+# reads or writes of at most 100 bytes, or writes that go nowhere
+PATH=$all_tools ${CC:-cc} -O1 -shared -fPIC -o "$work/small.so" -x c - -ldl <<'END' || exit 1
+#define _GNU_SOURCE
+#include <dlfcn.h>
+#include <stdlib.h>
+#include <string.h>
+#include <unistd.h>
+static size_t most(const char *call, size_t size)
+{
+    return !strcmp(getenv("SMALL"), call) && size > 100 ? 100 : size;
+}
+ssize_t read(int from, void *to, size_t size)
+{
+    ssize_t (*real)(int, void *, size_t) = (ssize_t (*)(int, void *, size_t))dlsym(RTLD_NEXT, "read");
+    return real(from, to, most("read", size));
+}
+ssize_t write(int to, const void *from, size_t size)
+{
+    ssize_t (*real)(int, const void *, size_t) = (ssize_t (*)(int, const void *, size_t))dlsym(RTLD_NEXT, "write");
+    return to == 1 && !strcmp(getenv("SMALL"), "none") ? (ssize_t)size : real(to, from, most("write", size));
+}
+END
+for it in 'read reads' 'write writes' 'none bytes written'; do
+    kind=${it%% *}
+    wrong "small_$kind" <<END
+SMALL=$kind LD_PRELOAD="$work/small.so:\${LD_PRELOAD:-}" exec "\$rds" "\$@"
+END
+    notices work.sh "small_$kind" bash "$here/work.sh" "$work/small_$kind"
+    grep -q "^FAILED: .* ${it#* }, where" "$work/out" || fail "work.sh over the program that is small_$kind: another failure"
+done
+# bounds that hold nothing, of jobs without threads and with some
+for threads in 0 1; do
+    awk -v is="$threads" '!/^#/ && ($4 > 0) == is { for (k = 1; k < 4; k++) $k = int($k * (is ? 2.2 : 1.4)) } 1' "$here/work.bounds" \
+        >"$work/copy/tests/work.bounds"
+    notices work.sh "right, by wide bounds ($threads)" bash "$work/copy/tests/work.sh" "$rds"
+    grep -q '^FAILED: .* allocations, where' "$work/out" || fail 'work.sh by wide bounds: another failure'
+done
 # without UNTIL_FAILURE growth.sh has two lanes, and adds up their failures
 if PATH=$all_tools timeout 300 "$here/growth.sh" "$work/silent" >"$work/out" 2>&1; then
     fail 'both lanes of growth.sh over the program that is silent: status 0'
-elif tail -n 1 "$work/out" | grep -qxE '0 passed, [1-9][0-9]* failed'; then
+elif [ "$(tail -n 1 "$work/out")" = "0 passed, $(grep -c '^FAILED: ' "$work/out") failed" ]; then
     pass
 else
     fail "both lanes of growth.sh over the program that is silent: $(tail -n 1 "$work/out")"
 fi
+notices growth.sh 'a bench that fails' bash "$here/growth.sh" "$rds" "$library" "$(PATH=$all_tools type -P false)"
 # gives_up SCRIPT WORDS..: it ends in another status than 0, though each call of the program hangs
 gives_up() {
     local status
@@ -222,16 +311,20 @@ gives_up() {
     if [ $status != 0 ] && [ $status != 124 ]; then pass; else fail "$1 over a program that hangs: status $status"; fi
 }
 
+for status in 0 124; do
+    printf '#!/bin/sh\nexit %s\n' $status >"$work/ends.sh"
+    chmod +x "$work/ends.sh" && here=$work sees gives_up ends.sh
+done
+
 for script in docs program listings work recipes; do
     gives_up $script.sh "$work/hanging"
 done
-gives_up refusals.sh "$work/hanging" "$rds"
 gives_up package.sh "$work/hanging" "$library"
 gives_up progress.py "$work/hanging"
 gives_up differential.py "$work/hanging" 1 1
 gives_up streams.py "$work/hanging" 1 4
 for program in silent one_byte_short other_rules; do
-    notices differential.py $program "$here/differential.py" "$work/$program" 1 3
+    notices differential.py $program "$here/differential.py" "$work/$program" 1 1
     notices streams.py $program "$here/streams.py" "$work/$program" 1 30
 done
 # wrong in one job alone, or in one way
@@ -243,35 +336,90 @@ notices listings.sh crew_differs bash "$here/listings.sh" "$work/crew_differs"
 notices program.sh noisy bash "$here/program.sh" "$work/noisy"
 notices streams.py noisy "$here/streams.py" "$work/noisy" 1 4
 notices differential.py noisy "$here/differential.py" "$work/noisy" 1 1
+# of the jobs that each seed has, only one is wrong
+for job in scan list totals follow; do
+    wrong ${job}_short <<<"[ \$1 = $job ] || exec \"\$rds\" \"\$@\"; \"\$rds\" \"\$@\" | head -c -1; exit \"\${PIPESTATUS[0]}\""
+    notices differential.py ${job}_short "$here/differential.py" "$work/${job}_short" 1 1
+done
+wrong hex_short <<<'[[ $1 != encode && " $* " == *" --hex "* ]] || exec "$rds" "$@"; "$rds" "$@" | head -c -1'
+wrong without_gaps <<'END'
+for ((k = 1; k < $#; k++)); do
+    [ "${!k}" != --gaps ] || set -- "${@:1:k-1}" "${@:k+2}"
+done
+exec "$rds" "$@"
+END
+wrong other_status <<<'"$rds" "$@"; exit 3'
+wrong scan_status <<<'"$rds" "$@" && [ "$1" != scan ]'
+notices differential.py hex_short "$here/differential.py" "$work/hex_short" 2 3
+notices differential.py without_gaps "$here/differential.py" "$work/without_gaps" 4 5
+notices differential.py other_status "$here/differential.py" "$work/other_status" 1 1
+notices differential.py scan_status "$here/differential.py" "$work/scan_status" 1 1
 notices differential.py encode_short "$here/differential.py" "$work/encode_short" 3 3
 notices differential.py takes_any_line "$here/differential.py" "$work/takes_any_line" 1 1
+notices streams.py without_gaps "$here/streams.py" "$work/without_gaps" 1 30
+notices streams.py other_status "$here/streams.py" "$work/other_status" 1 4
 # seeds differ: over the program that is wrong by some rules, some streams fail and some do not
 PATH=$all_tools "$here/streams.py" "$work/other_rules" 1 30 </dev/null >"$work/out" 2>&1
 said=$(tail -n 1 "$work/out")
 if [[ $said =~ ^[1-9][0-9]*\ passed,\ [1-9] ]]; then pass; else fail "streams.py by other rules: $said"; fi
-# two seconds too many are left, of bits or of pieces
-for kind in bits pieces; do
-    wrong "later_by_$kind" <<END
+# numbers of both kinds of lines are too high
+while read -r name more numbers; do
+    wrong "$name" <<END
 exec "\$rds" "\$@" 2> >(exec python3 -c 'import os, re
 while said := os.read(0, 4096):
-    os.write(2, re.sub(rb"(?<=$kind, )\d+(?= s left)", lambda left: b"%d" % (int(left[0]) + 2), said))')
+    os.write(2, re.sub(rb"$numbers", lambda it: b"%d" % (int(it[0]) + $more), said))')
 END
-    notices progress.py "later_by_$kind" "$here/progress.py" "$work/later_by_$kind"
-done
+    notices progress.py "$name" "$here/progress.py" "$work/$name"
+    for kind in rows pieces; do
+        grep -q "^FAILED: $kind" "$work/out" || fail "progress.py over the program that is $name: no line on $kind is told"
+    done
+done <<'END'
+later 2 (?<=bits, )\d+(?= s left)|(?<=pieces, )\d+(?= s left)
+beyond 9 (?<=of )\d+(?= %| pieces)
+ahead 9 (?<=written )\d+(?= MB)|(?<=decoded )\d+(?= of)
+END
+wrong progress_short <<<'[[ $* == *--progress* ]] || exec "$rds" "$@"; "$rds" "$@" | head -c -1; exit "${PIPESTATUS[0]}"'
+notices progress.py progress_short "$here/progress.py" "$work/progress_short"
 wrong no_progress <<<'"$rds" "$@" 2>/dev/null'
 notices progress.py no_progress "$here/progress.py" "$work/no_progress"
 notices progress.py silent "$here/progress.py" "$work/silent"
-notices refusals.sh silent bash "$here/refusals.sh" "$work/silent" "$rds"
-# another refusal, of each kind of calls in turn
+# a wrong answer to a refused call, of each kind in turn; and a bench that refuses in no words
 PATH=$all_tools ${CC:-cc} -O1 -static -o "$work/misnaming" "$here/misname.c" || exit 1
-export MISNAME=$rds KIND
-for KIND in alloc read write thread; do
-    notices refusals.sh misnaming bash "$here/refusals.sh" "$work/misnaming" "$rds"
-    grep -q ": $KIND [0-9]* of" "$work/out" || fail "refusals.sh over the program that is misnaming, $KIND: another failure"
+for it in told silent; do
+    PATH=$all_tools ${CC:-cc} -x c -o "$work/bench_$it" - <<'END' || exit 1
+#include <stdio.h>
+#include <stdlib.h>
+#include <string.h>
+int main(int count, char **words)
+{
+    void *volatile memory = malloc(100);
+    if (memory)
+        return puts("done") < 0;
+    if (count && strstr(words[0], "told"))
+        fputs("no memory\n", stderr);
+    return 1;
+}
+END
 done
-PYTEST_ADDOPTS=-x notices monitor.sh silent bash "$here/monitor.sh" "$work/silent" "$library"
+notices refusals.sh silent bash "$here/refusals.sh" "$work/silent" "$work/bench_told"
+gives_up refusals.sh "$work/hanging" "$work/bench_told"
+notices refusals.sh bench_silent bash "$here/refusals.sh" "$rds" "$work/bench_silent"
+export MISNAME=$rds KIND HOW
+for it in {alloc,read,write,thread}:{name,row} alloc:{cut,status} read:{part,on} thread:{cut,late,none}; do
+    KIND=${it%:*} HOW=${it#*:}
+    KINDS=$KIND notices refusals.sh "misnaming, $it" bash "$here/refusals.sh" "$work/misnaming" "$work/bench_told"
+    grep -q ": $KIND [0-9]* of" "$work/out" || fail "refusals.sh over the program that is misnaming, $it: another failure"
+done
+# one worker of pytest is enough to see a failure
+OMP_NUM_THREADS=1 PYTEST_ADDOPTS=-x notices monitor.sh silent bash "$here/monitor.sh" "$work/silent" "$library"
 notices package.sh silent bash "$here/package.sh" "$work/silent" "$library"
-RDS_LIBRARY_RECORDINGS=20 notices library.sh other_rules bash "$here/library.sh" "$library" "$work/other_rules"
+mkdir "$work/bare" && : >"$work/bare/librds.so.0" || exit 1
+notices library.sh 'right, with a library that has nothing' bash "$here/library.sh" "$work/bare" "$rds"
+export RDS_LIBRARY=$library/librds.so.0
+failing 'compare.py over other rules' 'librds of Python gives other rows' python3 -B "$here/library/compare.py" 20 "$work/other_rules"
+failing 'compare.py over rows that are not there' 'silent (0) gives other rows' \
+    python3 -B "$here/library/compare.py" 20 "$rds" "$work/silent"
+unset RDS_LIBRARY
 
 mapfile -t scripts < <(sed -n '/^SCRIPTS := /,/)$/p' "$here/../Makefile" | grep -oE '[a-z]+\.(sh|py)')
 for script in "${scripts[@]}" growth.sh; do
@@ -294,17 +442,6 @@ old: 1..=4 => Some(BlockNumber { number }),
 new: 1..=4 => Some(BlockNumber { number }), // the same
 END
 sed '/^rds_code/d' "$told" >"$work/copy/tests/wrong_bodies.answers"
-# failing NAME TEXT COMMAND..: the command ends in another status than 0, with TEXT in what it writes
-failing() {
-    if PATH=$all_tools timeout 600 "${@:3}" </dev/null >"$work/out" 2>&1; then
-        fail "$1: status 0"
-    elif grep -qF -e "$2" "$work/out"; then
-        pass
-    else
-        fail "$1: without the words '$2'"
-        tail -n 5 "$work/out"
-    fi
-}
 failing 'wrong_bodies.py over an edit that changes nothing' '1 as they must be, 1 not: rds_code/nothing_is_changed.edit' \
     python3 "$work/copy/tests/wrong_bodies.py" rds_code
 mkdir "$work/copy/crates/rds_code/must-fail"
@@ -320,32 +457,48 @@ if grep -qx 'proofs: ended' "$work/copy/build/proofs.log"; then pass; else fail 
 # ---- the gate, of scripts that do nothing, one of which fails
 
 gate=$work/gate
-mkdir -p "$gate"/{tests,lib,.ci,build,tools} && cp "$here/../Makefile" "$gate" && cp "$here/../.ci/run" "$gate/.ci" || exit 1
+mkdir -p "$gate"/{tests,lib,.ci,build/lib,tools,few} && cp "$here/../Makefile" "$gate" && cp "$here/../.ci/run" "$gate/.ci" || exit 1
 : >"$gate/crates.txt"
-# each notes its words, and fails if $FAILING is its name
+# each notes its words, and fails if $FAILING is its name, or its name and its first word
 cat >"$work/stub" <<'END'
 #!/bin/sh
 echo "${0##*/} $*" >>called
-[ "${0##*/}" != "$FAILING" ]
+[ "${0##*/}" != "$FAILING" ] && [ "${0##*/} $1" != "$FAILING" ]
 END
 chmod +x "$work/stub" || exit 1
 beside=(growth.sh wrong_bodies.py front_pages.py)
-for it in "${scripts[@]/#/tests/}" "${beside[@]/#/tests/}" lib/{archive.py,make_library.sh} tools/{rt,git,apt-get}; do
+for it in "${scripts[@]/#/tests/}" "${beside[@]/#/tests/}" lib/{archive.py,make_library.sh} \
+    tools/{rt,git,apt-get,aarch64-linux-gnu-gcc} few/{make,apt-get}; do
     cp "$work/stub" "$gate/$it" || exit 1
 done
 # gated NAME COMMAND..: the command in that gate, where the script of this name fails
 gated() { (cd "$gate" && MAKEFLAGS='' FAILING=$1 PATH=$gate/tools:$all_tools timeout 60 "${@:2}" >said 2>&1); }
 if gated '' make test RT=rt; then pass; else fail "make test over scripts that pass: $(tail -n 3 "$gate/said")"; fi
-# each has all words that its usage names
-for it in growth:3 library:3 package:3 refusals:2 monitor:2 scripts:2; do
-    read -ra given < <(sed -n "s/^${it%:*}\.sh //p" "$gate/called")
-    if [ ${#given[@]} = "${it#*:}" ]; then pass; else fail "make test calls ${it%:*}.sh with the words '${given[*]}'"; fi
+# each is called with what its usage names
+declare -A given=([PATH-TO-RDS]=crates/rds/out/rds [PATH-TO-RDS_BENCH]=crates/rds_bench/out/rds_bench [FOLDER]=build/lib
+    [LIBRARY-FOLDER]=build/lib [FOLDER-FOR-ARM64]=build/lib-arm64)
+for it in "${scripts[@]}" growth.sh; do
+    wanted=$it
+    for word in $(grep -ohm 1 "tests/$it [PF].*" "$here/$it" | sed 's/[^A-Z0-9_ -]//g'); do
+        wanted+=${given[$word]:+ ${given[$word]}}
+    done
+    if grep -qx "$wanted" "$gate/called"; then pass; else fail "make test does not call $wanted"; fi
 done
-for it in "${scripts[@]}" "${beside[@]}" archive.py make_library.sh rt; do
+for it in 'archive.py arm64 build/librds-arm64.a' 'make_library.sh build/librds-amd64.a build/lib *' 'rt ci'; do
+    if grep -qx "$it" "$gate/called"; then pass; else fail "make test does not call $it"; fi
+done
+# the library is there, as if an earlier run had made it
+: >"$gate/build/lib/librds.so.0"
+for it in "${scripts[@]}" "${beside[@]}" 'archive.py amd64' 'archive.py arm64' make_library.sh rt; do
     if gated "$it" make test RT=rt; then fail "make test passes, though $it fails"; else pass; fi
 done
-printf 'test:\n\tfalse\n' >"$gate/Makefile"
-# apt-get fails too, so that nothing is installed
-if gated apt-get .ci/run; then fail '.ci/run over a gate that fails: status 0'; else pass; fi
+# .ci/run installs each package if all tools are missing, goes on if that fails, and ends as `make test` does
+PATH=$all_tools ln -s "$(PATH=$all_tools type -P dirname)" "$gate/few" || exit 1
+ci() { (cd "$gate" && : >called && FAILING=$1 PATH=$gate/few "$bash" .ci/run >said 2>&1); }
+if ci make; then fail '.ci/run over a gate that fails: status 0'; else pass; fi
+for it in $(sed -n '/^tools=(/,/)$/s/^tools=(\|)$//gp' "$gate/.ci/run"); do
+    if grep -q "^apt-get install .* ${it#*:}\b" "$gate/called"; then pass; else fail ".ci/run does not install ${it#*:}"; fi
+done
+if ci apt-get && [ "$(tail -n 1 "$gate/called")" = 'make test' ]; then pass; else fail '.ci/run without apt-get does not run make test'; fi
 
 finish
