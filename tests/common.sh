@@ -1,14 +1,13 @@
 # shellcheck shell=bash
-# What the scripts of this folder have in common. Each sources it, and says before in $usage how it is called.
+# Functions of all scripts of this folder. A script sets $usage, the text of its usage, and sources this file.
 #
-# It makes a folder $work that goes when the script ends, and counts what passes and fails. If UNTIL_FAILURE is set, a script ends at
-# its first failure. A script has failed, too, if it makes another number of checks than $checks says.
+# It makes a folder $work, which is removed when the script ends, and counts passed and failed checks. If UNTIL_FAILURE is set, a script
+# ends at its first failure. A script also fails if its number of checks is not the one in $checks.
 
 set -uo pipefail
 export LC_ALL=C
 
-# Where a tool is missing a script ends, and says which, wherever the errors of that command go. This is called in a process
-# of its own.
+# If a tool is missing, a script ends and names it, even if the command's errors go elsewhere. bash calls this in a process of its own.
 exec {own_errors}>&2
 trap 'exit 1' TERM
 command_not_found_handle() {
@@ -26,12 +25,13 @@ failed=0
 own_name=${0##*/}
 own_words=$#
 
-# How many checks a script makes if it is given all words of its usage. Under a pip before 22.3 library.sh makes one more.
-declare -A checks=([docs.sh]=83 [growth.sh]=46 [library.sh]='101 102' [listings.sh]=119 [monitor.sh]=6 [package.sh]=44
-    [program.sh]=348 [recipes.sh]=45 [scripts.sh]=343 [work.sh]=400)
+# How many checks a script makes, given all words of its usage and all tools. Under a pip before 22.3 library.sh makes one more, without
+# the library for arm64 package.sh makes one fewer, and without valgrind growth.sh makes 47 and work.sh 401.
+declare -A checks=([docs.sh]=83 [growth.sh]='47 49' [library.sh]='121 122' [listings.sh]=119 [monitor.sh]=6 [package.sh]='48 49'
+    [program.sh]=348 [recipes.sh]=56 [scripts.sh]=345 [work.sh]='401 410')
 
-# needs TOOL..: the tools that a script calls beside those of this page. From here on it finds no others, so that the row is
-# whole; and it ends where one is missing.
+# needs TOOL..: the tools that a script calls besides those of this page. It ends if one is missing. After this call it finds no other
+# tools, so that the list is complete.
 needs() {
     local tool its_tools=()
     mkdir "$work/tools" || exit 1
@@ -50,7 +50,7 @@ misused() {
     exit 2
 }
 
-# check_programs PATH..: ends the script where one is no program
+# check_programs PATH..: ends the script if one is no program
 check_programs() {
     local it
     for it in "$@"; do
@@ -58,10 +58,10 @@ check_programs() {
     done
 }
 
-# The seconds that one call of a program may take. None takes more than three or four. refuse.c and the scripts in Python know it too.
+# The time limit of one call of a program, in seconds. None takes more than three or four. refuse.c and the Python scripts use it too.
 export LIMIT=${LIMIT:-60}
 
-# limit_time PATH: makes a program of the same name that runs that one, and ends it after so many seconds; its path goes into $limited
+# limit_time PATH: makes a program of the same name that runs that one, and ends it after LIMIT seconds; its path goes into $limited
 limit_time() {
     mkdir -p "$work/limited"
     limited=$work/limited/${1##*/}
@@ -99,7 +99,7 @@ makes_all_checks() {
     [ -z "$wanted" ] || ((own_words < ${#of_usage[@]} - 2)) || [[ " $wanted " == *" $passed "* ]] || lacks_tool
 }
 
-# finish: the last line, and whether all passed; nothing tried is no success, nor are more or fewer checks than there are
+# finish: the last line, and whether all passed; without any check it fails, nor are more or fewer checks than there are
 finish() {
     if [ "$failed" = 0 ] && ! makes_all_checks; then
         failed=1
@@ -109,13 +109,13 @@ finish() {
     [ "$failed" = 0 ] && [ "$passed" -gt 0 ]
 }
 
-# broken FILE TEXT..: ends the script, since a table of its can't be used
+# broken FILE TEXT..: ends the script, since its table cannot be used
 broken() {
     echo "${0##*/}: ${1##*/}: ${*:2}" >&2
     exit 1
 }
 
-# check_table FILE: ends the script where the table is empty, or was cut off within a line
+# check_table FILE: ends the script if the table is empty, or cut off within a line
 check_table() {
     [ -s "$1" ] || broken "$1" 'there is no line'
     [ -z "$(tail -c 1 "$1")" ] || broken "$1" 'the last line is cut off'
@@ -130,8 +130,8 @@ readme_program() {
 # as_bytes: the bytes of digits; who calls it needs basenc and tr
 as_bytes() { tr a-f A-F | basenc -d --base16 -i; }
 
-# past_mending: the groups of some lines with three bits each of their blocks 2 and 4 turned, which are no burst. Where one
-# bad block loses a lock, each is lost as soon as it is acquired.
+# past_mending: the groups of some lines, with three bit errors each in blocks 2 and 4, which are no burst. If one bad block loses sync,
+# sync is lost as soon as it is acquired.
 past_mending() {
     awk '
         BEGIN { count = split("8 2 11 8 13 2 21 2 24 8 26 2", turned) }
@@ -147,7 +147,7 @@ past_mending() {
         }'
 }
 
-# words SEED COUNT: so many lines of four pseudo-random words of four digits each
+# words SEED COUNT: COUNT lines of four pseudo-random words of four digits each
 words() {
     awk -v x="$1" -v n="$2" 'function word() { x = x * 16807 % 2147483647; return int(x / 32768) }
         BEGIN { while (n--) printf "%04x%04x%04x%04x\n", word(), word(), word(), word() }'

@@ -45,7 +45,7 @@ class Trial:
         self.failures += [] if is_right else [f"seed {self.seed}: {text}"]
 
     def compare(self, words, held, wanted):
-        """Whether these words write of an input what is wanted."""
+        """Whether these words write the wanted text of an input."""
         self.note(ran(self.rds, words, held) == (0, wanted, b""), f"rds {' '.join(words)}")
 
     def wanted(self, words, held):
@@ -73,7 +73,7 @@ class Trial:
         self.try_follow(begun, making.gaps(chance, 8 * len(begun)), 1)
 
     def try_follow(self, held, source, most):
-        """A stream that comes in chunks of up to so many bytes."""
+        """A stream in chunks of limited size."""
         words = source + making.rules(self.chance)
         given = followed(self.rds, words, held, most, 0, self.chance)
         wanted = 0, self.wanted(["list", *words], held), b""

@@ -152,7 +152,7 @@ planted $testing '/^| 8 | `tests.refusals.sh`/d' "$testing, scripts of the gate"
 planted tests/README.md '/^| `work.sh`, /d' 'tests/README.md, scripts of the gate'
 planted Makefile 's/timeout 1200 /timeout 120 /' "$testing, minutes of a script"
 planted tests/differential.py 's/^SEEDS = 120$/SEEDS = 12/' 'as in tests/differential.py'
-planted tests/differential.py 's/^RUNS = 11$/RUNS = 1/' "$testing, runs of differential.py"
+planted tests/differential.py 's/^RUNS = 13$/RUNS = 1/' "$testing, runs of differential.py"
 planted tests/streams.py 's/^SEEDS = 2000$/SEEDS = 20/' 'as in tests/streams.py'
 planted tests/library.sh 's/RECORDINGS:-2000/RECORDINGS:-20/' 'as in tests/library.sh'
 planted tests/library/states.c 's/k < 200000/k < 2000/' 'as in tests/library/states.c'

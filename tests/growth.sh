@@ -1,14 +1,13 @@
 #!/usr/bin/env bash
 # Time that grows as the input does: tests/growth.sh PATH-TO-RDS [LIBRARY-FOLDER [PATH-TO-RDS_BENCH]]
 #
-# Runs jobs over inputs of three sizes, each four times the one before, and compares the processor time that they take: it
-# may grow eightfold from one size to the next. A job that goes over its input some times takes four times as long; one
-# that goes over it once more for each acquisition, gap, piece or row takes sixteen times. No time is compared with a number
-# of seconds. Other programs disturb a measurement: the least time of a size counts, and a job has failed where it grows
-# so in fifteen attempts.
-# Then it compares jobs that do the same in two ways: a stream and a list, both with ten thousand gaps too, a reader
-# that is slow and a file, many workers and one, many gaps and none, calls of the library for C and a list. valgrind, if it is installed,
-# counts the instructions of these calls, which no other program changes.
+# Runs jobs over inputs of three sizes, each four times the one before, and compares their CPU time: it may grow eightfold from one size
+# to the next. A job that goes over its input a few times takes four times as long. One that goes over it once per acquisition, gap, piece
+# or row takes sixteen times. No time is compared with a number of seconds. Other programs disturb a measurement, so the least time of a
+# size counts, and a job fails only after fifteen attempts.
+# Then it compares jobs that do the same in two ways: a stream and a list, both with ten thousand gaps too, a slow reader and a file, many
+# workers and one, many gaps and none, calls of the library for C and a list. If valgrind is installed, it counts the instructions of these
+# calls, which no other program changes.
 # The last line is 'N passed, M failed', and the exit status says whether all passed.
 
 usage='usage: tests/growth.sh PATH-TO-RDS [LIBRARY-FOLDER [PATH-TO-RDS_BENCH]]'
@@ -24,19 +23,19 @@ limit_time "$rds"
 needs basenc cat cp head seq sleep tr
 cd "$work" || exit 1
 
-# How many times the time of a size the next may take, and how often a job is measured.
+# The largest ratio of the times of two sizes, and how often a job is measured.
 most=8
 attempts=15
 
 # ---- inputs of one size, and of four and sixteen times that
 
-# noise SEED COUNT: so many lines of 26 digits
+# noise SEED COUNT: COUNT lines of 26 digits
 noise() { words "$1" "$2" | awk '{ print $0 substr($0, 1, 10) }'; }
 
 words 23 12000 | "$limited" encode --hex >sent || exit 1
 as_bytes <sent >station || exit 1
 noise 29 12000 | as_bytes >hiss || exit 1
-# Two groups of a station and four of noise, by turns: each time a lock is acquired, and lost.
+# Two groups of a station and four of noise, by turns: each time sync is acquired, and lost.
 noise 31 12000 >heard
 awk 'NR % 6 > 1 { getline < "heard" } 1' sent | as_bytes >losing || exit 1
 # one digit in some hundred is another
@@ -50,7 +49,7 @@ for input in station hiss losing damaged worst lines; do
     done
 done
 
-# gaps COUNT [EACH [FROM]]: the text of so many gaps, one of a place in each 500, or in EACH, the first one there
+# gaps COUNT [EACH [FROM]]: the text of COUNT gaps of one bit, one in each 500 bits, or in EACH, from bit FROM on
 gaps() {
     awk -v n="$1" -v each="${2:-500}" -v from="${3:-0}" \
         'BEGIN { for (; k < n; k++) printf "%s%d-%d", k ? "," : "", k * each + from, k * each + from + 1; print "" }'
@@ -58,14 +57,14 @@ gaps() {
 
 # ---- times
 
-# What reads the output of a job.
+# The command that reads the output of a job.
 reader='cat'
 
-# slowly: what it reads, 64 KiB at a time, and waits after each
+# slowly: copies its input, 64 KiB at a time, and waits after each
 slowly() { while head -c 65536 >piece && [ -s piece ]; do cat piece && sleep 0.005; done; }
 
-# spend MOST INPUT COMMAND..: the milliseconds of a processor that the job takes, into $spent; it is ended where it has not
-# done in ten seconds and four times as much, since others may have the processor meanwhile, and counts as longer than MOST
+# spend MOST INPUT COMMAND..: the CPU time of the job, in milliseconds, into $spent. It is ended after four times MOST and ten seconds,
+# since other programs may have the processor meanwhile, and counts as longer than MOST
 spend() {
     local most=$1 limit=$(($1 * 4 / 1000 + 10)) input=$2 TIMEFORMAT='%U %S' times
     shift 2
@@ -126,8 +125,8 @@ job() {
 
 # ---- jobs that do the same in two ways
 
-# beside TIMES READER INPUT COMMAND.. beside COMMAND..: whether the first job, whose output goes to that reader, takes at most so many
-# times as long as the second, whose goes to cat; the least of at least three times each counts
+# beside TIMES READER INPUT COMMAND.. beside COMMAND..: whether the first job, whose output goes to READER, takes at most TIMES the time
+# of the second, whose output goes to cat; the least of at least three measurements of each counts
 beside() {
     local times=$1 reader_of_these=$2 input=$3 these=() attempt least_of_these=60000 least_of_those=60000 reader text
     shift 3

@@ -1,10 +1,10 @@
 #!/usr/bin/env bash
 # The library for C, Rust and Python: tests/library.sh FOLDER PATH-TO-RDS [FOLDER-FOR-ARM64]
 #
-# FOLDER holds what lib/make_library.sh laid out. What rds.h declares is compared with the sources and with the bindings, and
-# with what both libraries show; programs in C, Rust and Python decode random recordings as the program does; each
-# allocation is refused; eight threads call at once; random states and streams, and bad pointers, are handed over. What a
-# tool is missing for is skipped, by name. The last line is 'N passed, M failed', and the exit status says whether all passed.
+# FOLDER has the files that lib/make_library.sh makes. The declarations of rds.h are compared with the sources, the bindings, and the names
+# that both libraries export. Programs in C, Rust and Python decode random recordings as the program does. Each allocation is refused. Eight
+# threads call at once. Random states and streams, and bad pointers, are passed. A test whose tool is missing is skipped, by name. The last
+# line is 'N passed, M failed', and the exit status says whether all passed.
 
 usage='usage: tests/library.sh FOLDER PATH-TO-RDS [FOLDER-FOR-ARM64]'
 # shellcheck source-path=SCRIPTDIR source=common.sh
@@ -21,7 +21,7 @@ sample=examples/station.bin
 strict=(-Wall -Wextra -Wpedantic -Werror -O2 "-I$library")
 count=${RDS_LIBRARY_RECORDINGS:-2000}
 
-# has TOOL..: whether they are here; says what is left out where one isn't
+# has TOOL..: whether all are here; if not, names the tests that are left out
 has() {
   local tool
   for tool in "$@"; do
@@ -29,7 +29,7 @@ has() {
   done
 }
 
-# tried NAME COMMAND..: passes where the command ends in status 0, and shows what it said where not
+# tried NAME COMMAND..: passes if the command ends with status 0, and otherwise shows its output
 tried() {
   local name=$1
   shift
@@ -46,7 +46,7 @@ same() {
   fi
 }
 
-# ---- what is declared and shown
+# ---- declarations and exported names
 
 tried 'the declarations' tests/library/layout.py lib/rds.h "$work"
 tried 'the layout in C' "${CC:-cc}" -std=c11 "${strict[@]}" -o "$work/layout" "$work/layout.c" "$library/librds.a"
@@ -101,7 +101,7 @@ if has abidiff; then
   tried 'the names, calls and structs of so.0' abidiff --no-added-syms "$earlier/librds.so.0" "$library/librds.so.0"
 fi
 
-# ---- what is decoded
+# ---- decoding
 
 make_program() {
   tried "making $1" "${CC:-cc}" -std=c11 -D_DEFAULT_SOURCE "${strict[@]}" -o "$work/$1" "tests/library/$1.c" "$library/librds.a" -lpthread
@@ -251,7 +251,7 @@ lrwxrwxrwx usr/lib/librds.so' "$(find "$work/root" ! -type d -printf '%M %P\n' |
         "$(LD_LIBRARY_PATH=$work/root/usr/lib "$work/totals" "${words[@]}" 2>&1 | tr '\n' ,; echo " ${PIPESTATUS[0]}")"
     done
   else
-    echo 'skipped: what is installed, which is of build/lib'
+    echo 'skipped: the installed files, which are of build/lib'
   fi
 fi
 if has python3; then
@@ -287,7 +287,7 @@ if has cargo; then
   fi
 fi
 
-# ---- what is declared, number by number and pointer by pointer
+# ---- numbers and pointers of the header
 
 tried 'every number of the header' tests/library/header.py "$library" "$program"
 mkdir "$work/border"

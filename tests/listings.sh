@@ -50,7 +50,7 @@ while read -r job; do
     [ -n "${2:-}${wanted[$job]:-}" ] || broken "$table" "no line of $job"
 done <texts
 
-# damaged SEED RARITY: lines of digits, of which one digit in so many is another
+# damaged SEED RARITY: lines of digits, with one digit in RARITY changed
 damaged() {
     awk -v x="$1" -v m="$2" '{
         line = ""
@@ -62,7 +62,7 @@ damaged() {
     }'
 }
 
-# slipped EVERY: lines of digits; each so many-th loses its first digit, and 50 lines on one has a digit more
+# slipped EVERY: lines of digits; one line in EVERY loses its first digit, and one 50 lines later has an additional digit
 slipped() { awk -v m="$1" 'NR % m == 0 { $0 = substr($0, 2) } NR % m == 50 { $0 = "5" $0 } { print }'; }
 
 # ---- the recordings

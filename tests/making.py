@@ -23,7 +23,7 @@ def sent(blocks):
 
 
 def burst_of(chance, longest):
-    """A burst of up to so many bits, anywhere in a block."""
+    """A burst of up to `longest` bits, anywhere in a block."""
     length = chance.randint(1, longest)
     form = 1 | chance.getrandbits(length) | 1 << (length - 1)
     return form << chance.randint(0, BLOCK - length)
@@ -89,7 +89,7 @@ def islands(chance):
 
 
 def phases(chance):
-    """Valid blocks of any numbers, each begun within the one before, which spoils that one, or some bits behind it."""
+    """Valid blocks of any numbers. Each begins within the one before, and spoils it, or some bits after it."""
     bits = ""
     for _ in range(chance.randint(2, 60)):
         bits = bits[: max(0, len(bits) - chance.choice([0, 0, 1, 13]))]
@@ -169,7 +169,7 @@ def crew(chance):
 
 
 def gaps(chance, bits):
-    """No gaps, or up to 36 within so many bits; some begin where the one before ends, some are long, and some end the bits."""
+    """No gaps, or up to 36 within `bits` bits. Some begin at the end of the one before, some are long, and some end the bits."""
     count = max(0, chance.randint(-3, 6)) ** 2
     pairs, end = [], 0
     for _ in range(count):

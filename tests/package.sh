@@ -1,9 +1,9 @@
 #!/usr/bin/env bash
 # Completion and the Debian packages: tests/package.sh PATH-TO-RDS LIBRARY-FOLDER [FOLDER-FOR-ARM64]
 #
-# What completion offers is compared with the program's help (tests/docs.sh compares that with the pages). The packages are built, checked
-# by lintian, installed in a root folder of their own, tried and removed: a program of README.md is linked with the installed library, by
-# both of its forms, by pkg-config and by CMake, and run. What a tool is missing for is skipped, by name.
+# Completion is compared with the program's help (tests/docs.sh compares that with the pages). The packages are built, checked by lintian,
+# installed in a root folder of their own, tried and removed. A program of README.md is linked with both forms of the installed library, by
+# pkg-config and by CMake, and run. A test whose tool is missing is skipped, by name.
 
 usage='usage: tests/package.sh PATH-TO-RDS LIBRARY-FOLDER [FOLDER-FOR-ARM64]'
 # shellcheck source-path=SCRIPTDIR source=common.sh
@@ -32,7 +32,7 @@ same() {
   fi
 }
 
-# has TOOL..: whether they are here; says what is left out where one isn't
+# has TOOL..: whether all are here; if not, names the tests that are left out
 has() {
   local tool
   for tool in "$@"; do
@@ -51,7 +51,7 @@ commands_of() { "$program" --help | sed -n '/^Commands:/,/^$/s/^  \([a-z]*\)  .*
 # options_of [COMMAND]: the long options that help names
 options_of() { "$program" "$@" --help | sed -n '/^Options:/,/^$/s/^ *\(-[a-zA-Z], \)\{0,1\}\(--[a-z-]*\) .*/\2/p' | one_line; }
 
-# by_bash WORD..: what bash offers for the last word of the line
+# by_bash WORD..: the completions of bash for the last word of the line
 by_bash() {
   # shellcheck disable=SC1091
   (. completions/rds.bash && COMP_WORDS=("$@") && COMP_CWORD=$(($# - 1)) && _rds && printf '%s\n' "${COMPREPLY[@]}" | one_line)
@@ -236,7 +236,7 @@ foreach(kind static rds)
   target_link_libraries(${kind} rds::${kind})
 endforeach()
 CMAKE
-    # the files name where the library is once it is installed
+    # the files name the folder of the installed library
     sed -i "s|\"/usr|\"$root/usr|" "$root$libdir/cmake/rds/rds-config.cmake"
     { cmake -S "$work/cmake" -B "$work/cmake/made" "-Drds_DIR=$root$libdir/cmake/rds" &&
       cmake --build "$work/cmake/made"; } > "$work/said" 2>&1 || cat "$work/said"

@@ -167,7 +167,7 @@ def compare_numbers():
 # Numbers as words.
 COUNTED = {"four": 4, "eight": 8, "tenth": 10, "hundredth": 100}
 
-# What docs/TESTING.md says of a test, and where the test says it.
+# A number in docs/TESTING.md, and the same number in the test.
 TOLD = (
     (r"a recording for each of ([\d,]+) seeds", "tests/differential.py", r"^SEEDS = (\d+)"),
     (r"compares ([\d,]+) streams", "tests/streams.py", r"^SEEDS = (\d+)"),
@@ -190,7 +190,7 @@ LIMITED = r'LIMIT(?:=\$\{LIMIT:-|", )(\d+)|atoi\(limit\) : (\d+)'
 
 
 def count_in(pattern, text):
-    """The number that a text says where the pattern first fits."""
+    """The number at the first match of the pattern."""
     found = re.search(pattern, text, re.M)
     said = found and found[1].replace(",", "").lower()
     return said and COUNTED.get(said, said)
@@ -250,7 +250,7 @@ def named_in(text):
 
 
 def defined_in(path):
-    """What a file defines; what stands in an impl also as `Type::function`."""
+    """The names that a file defines; those inside an impl also as `Type::function`."""
     return defined_by(read(path))
 
 
@@ -268,7 +268,7 @@ def places_in(text):
         named = token[1].partition("/")[0]
         crate = named if os.path.isdir(f"crates/{named}") else crate
         if PLACE.fullmatch(token[0]):
-            # names that stand beside a place lie no farther away
+            # names beside a place are no farther away
             before, after = text[max(0, token.start() - 200) : token.start()], text[token.end() : token.end() + 200]
             beside = [
                 re.search(rf"({NAMES}) \($", before),  # `name` (`path`
@@ -410,7 +410,7 @@ TURNS = re.compile(
     r"|in a row of its own|by one worker and by|what (?:is|was|are|were) [a-z]+ed|that which)\b",
     re.I,
 )
-# How many are left where other things than words are changed now. These only shrink.
+# How many are left in texts that other work changes now. These only shrink.
 TURNS_LEFT = {"help": 2}
 
 
@@ -432,7 +432,7 @@ def compare_words(program, pages):
 
 @of_text
 def commands_of(text, is_manual):
-    """The lines of code of a page, and what stands in backquotes; of the manual page all lines."""
+    """The lines of code of a page, and its text in backquotes; of the manual page all lines."""
     if is_manual:
         return text.replace("$EXAMPLES/", "examples/").splitlines()
     return re.findall(r"^    (?:\$ )?(\S.*)$", text, re.M) + re.findall(r"`([^`\n]+)`", text)

@@ -96,7 +96,7 @@ for command in scan list follow totals encode; do
     check "help of $command" 0 "*Usage: rds $command" '' '' "$command" --help
     check "help on $command" 0 "*Usage: rds $command" '' '' help "$command"
 done
-# Each option stands beside its own meaning, and each command is told of.
+# Help describes each option and each command.
 cat >"$work/options" <<'END'
 Options:
       --hex          The input is hex digits of either case; blanks and line
@@ -255,7 +255,7 @@ for crew in '1 1' '2 2' '208 1' '208 256'; do
     check "list of two bad blocks of three by pieces and workers $crew" 0 "$two_of_three" '' "$two_bad" \
         list --hex --share 2 --of 3 --pieces "${crew% *}" --workers "${crew#* }"
 done
-check 'list of two bad blocks that never stand together' 0 \
+check 'list of two bad blocks that are never together' 0 \
     "${first}group,104,0,A,lost,B:0000,lost,D:0000\n$(totals 5 0 0 0 0 0 2 0 2 0 1 0)" '' "$two_bad" list --hex --share 2 --of 2
 check 'totals by a share of the default' 0 "$(totals 5 0 0 0 0 0 2 0 3 0 2 1)" '' "$two_bad" totals --hex --share 2
 # An option that the rule of loss leaves out is ignored, whatever its number, and one line warns of it.
@@ -333,7 +333,7 @@ check 'a stream of a gap from end to end' 0 "$(totals 0 0 0 0 0 0 0 0 0 0 0 0)" 
 head -c 400 "$here/../examples/station.bin" >"$work/in"
 for bits in 0 1 7 8 9 3100 3101 3102 3103 3104 3105 3106 3107 3108 3109 3110 3111 3112 3199 3200; do
     for gaps in '' --gaps=1591-1593,1600-1608,1999-2000,2300-2600; do
-        # Gaps behind the bits are another test's.
+        # Gaps after the bits are another test's.
         [ "$bits" -ge 3100 ] || [ -z "$gaps" ] || continue
         # shellcheck disable=SC2086
         "$rds" list --bits "$bits" $gaps <"$work/in" >"$work/wanted"
@@ -345,10 +345,10 @@ for bits in 0 1 7 8 9 3100 3101 3102 3103 3104 3105 3106 3107 3108 3109 3110 311
             "$(cat "$work/wanted")\n" ''
     done
 done
-# What lies behind the bits that count is not read.
+# Nothing is read after the last byte of the bits asked for.
 { "$rds" follow --bits 803 >"$work/out" 2>"$work/err"; echo $? >"$work/status"; cat >"$work/rest"; } <"$work/in"
 judge 'a stream of 803 bits of more' 0 "$(cat "$work/status")" "$("$rds" list --bits 803 <"$work/in")\n" ''
-if tail -c +102 "$work/in" | cmp -s - "$work/rest"; then pass; else fail 'the byte behind the last bit is left to the next reader'; fi
+if tail -c +102 "$work/in" | cmp -s - "$work/rest"; then pass; else fail 'the byte after the last bit is left to the next reader'; fi
 "$rds" list --burst 5 --share 3 --of 9 <"$here/../examples/station.bin" >"$work/wanted"
 { head -c 100; sleep 0.1; cat; } <"$here/../examples/station.bin" \
     | "$rds" follow --burst 5 --share 3 --of 9 >"$work/out" 2>"$work/err"
@@ -371,7 +371,7 @@ status=$?
 head -n "$(wc -l <"$work/complete")" "$work/early" | cmp -s - "$work/complete" || echo 'rows are late' >>"$work/err"
 judge 'rows of a stream before more of it comes' 0 $status "$("$rds" list <"$work/begun")\n" ''
 
-# What was flushed stands where the program is ended in the middle of a stream.
+# Flushed rows stay if the program is ended in the middle of a stream.
 for signal in INT TERM; do
     env --default-signal=INT "$rds" follow <"$work/air" >"$work/out" 2>"$work/err" &
     exec 9>"$work/air"
@@ -451,7 +451,7 @@ line_of 'the pieces of a list are told' 'decoded [12] of 2 pieces, [0-9]+ s left
 line_of 'the pieces of a list by one worker are told' 'decoded [12] of 2 pieces, [0-9]+ s left' list --pieces 2 --workers 1
 line_of 'the share of the rows of a list is told' "$share" list --workers 1
 line_of 'the share of the rows of a scan is told' "$share" scan --workers 2
-line_of 'the share of so many bits is told' "$share" scan --bits 1500000
+line_of 'the share of 1,500,000 bits is told' "$share" scan --bits 1500000
 check 'no progress is told of short work' 0 "$first$(totals 3 0 0 0 0 0 0 0 1 0 1 0)" '' "$zero" list --hex --progress
 
 # ---- encode

@@ -38,7 +38,7 @@ DECODED = re.compile(r"decoded (\d+) of (\d+) pieces, (\d+) s left")
 
 
 class Job:
-    """A run with --progress: what it wrote, and each look at what it told, with how much was read by then."""
+    """A run with --progress: its output, and each look at its progress line, with the bytes read by then."""
 
     def __init__(self, rds, words, held):
         self.text, self.said, self.looks = b"", b"", [(0, 0, 0)]
@@ -56,7 +56,7 @@ class Job:
         self.handed = time.monotonic()
 
     def look(self):
-        """Notes what was told since the last look."""
+        """Notes the text written since the last look."""
         try:
             self.said += os.read(self.child.stderr.fileno(), 65536)
         except BlockingIOError:
@@ -70,11 +70,11 @@ class Job:
         self.child.send_signal(signal.SIGCONT)
 
     def has_written(self, seconds):
-        """Whether there is something to read, after so many seconds at most."""
+        """Whether there is something to read, within a time limit."""
         return bool(select.select([self.child.stdout], [], [], seconds)[0])
 
     def read(self, pause):
-        """Reads all that it writes, and waits and looks before each read."""
+        """Reads all output, and waits and looks before each read."""
         while True:
             time.sleep(pause)
             self.look()
@@ -118,7 +118,7 @@ class Job:
 
 
 def place_at(text, at):
-    """The place of the last whole row before so many bytes; of a total there is none."""
+    """The position of the last whole row within the first bytes; a total has none."""
     row = text[: max(0, text.rfind(b"\n", 0, at))].rpartition(b"\n")[2].split(b",")
     at = 0 if row[0].isdigit() else 1
     return int(row[at]) if row[at : at + 1] and row[at].isdigit() else None
@@ -129,7 +129,7 @@ def seconds_left(spent, done, whole):
 
 
 def rows_faults(job, bits, first, last):
-    """What is wrong with lines on rows, of which the first write was begun from one time to another."""
+    """The faults of lines on rows, if the first write began between two times."""
     found, shares_told = 0, set()
     for line, k in job.lines():
         earlier, later, before, after = job.seen(k)
@@ -152,7 +152,7 @@ def rows_faults(job, bits, first, last):
 
 
 def pieces_faults(job):
-    """What is wrong with lines on pieces."""
+    """The faults of lines on pieces."""
     before, counts = 0, set()
     for line, k in job.lines():
         if not (told := DECODED.fullmatch(line)):

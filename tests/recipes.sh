@@ -54,7 +54,7 @@ told=$(
 )
 same 'the faults that are told' 5 "$(grep -c '^FAILED: ' <<< "$told")"
 
-# has TOOL..: whether they are here; says what is left out where one isn't
+# has TOOL..: whether all are here; if not, names the recipes that are left out
 has() {
   local tool
   for tool in "$@"; do
@@ -93,7 +93,7 @@ done 2> "$work/said"
 kill -KILL "$following"
 wait "$following" 2> "$work/said"
 exec {receiver}>&-
-wait "$rotating" || fail 'rotation of what was killed'
+wait "$rotating" || fail 'rotation of a stream that was killed'
 same 'the rows before a kill' "$complete" "$(cat "$work/killed/listing.csv")"
 tail -c +10006 examples/station.bin | "$program" follow | examples/rotate.sh --by listing "$work/killed"
 same 'what comes after a kill' "$complete"$'\n'"$(tail -c +10006 examples/station.bin | "$program" list)" \

@@ -1,11 +1,11 @@
 #!/usr/bin/env bash
 # Refused calls: tests/refusals.sh PATH-TO-RDS PATH-TO-RDS_BENCH
 #
-# Each allocation, read, write and start of a thread of some jobs is refused in turn, and then that one and all after
-# it. The answer has to be the job's own, or the refusal's with nothing written (with a prefix of the text, where a write
-# is refused, and with whole rows of a beginning, where a stream is followed), and never another. Where a thread for rows is not started, the rows are made without it, and the answer is
-# the job's own. Each allocation of `rds_bench --calls` is refused too, which makes calls of the libraries by themselves, and those
-# that are refused once more. The calls are refused by a small library, which the C compiler makes of tests/refuse.c.
+# Each allocation, read, write and start of a thread of some jobs is refused in turn, and then that one and all after it. The answer has to
+# be the job's own, or the error with nothing written. If a write is refused, a prefix of the text may be written. If a stream is followed,
+# its first rows may be, each whole. If a thread for rows is not started, the rows are made without it, and the answer is the job's own.
+# Each allocation of `rds_bench --calls` is refused too: that job calls the libraries directly, and repeats each refused call. The calls are
+# refused by a small library, which the C compiler makes of tests/refuse.c.
 # If KINDS is set, jobs have only calls of these kinds refused.
 # The last line is 'N passed, M failed', and the exit status says whether all passed.
 
@@ -31,7 +31,7 @@ run() {
         "$program" "$@" <"$work/in" >"$work/out" 2>"$work/err"
 }
 
-# is_refusal NAME..: whether the last run, whose status is given first, answered with one of these refusals; rds_bench does so in
+# is_refusal STATUS NAME..: whether the last run, with that status, answered with one of these errors; rds_bench does so in
 # words of its own
 is_refusal() {
     local status=$1 name said
@@ -55,7 +55,7 @@ wrote_nothing() { [ ! -s "$work/out" ]; }
 # wrote_rows: whether a stream's rows so far were written, each whole
 wrote_rows() { is_prefix && { wrote_nothing || [ "$(tail -c 1 "$work/out" | od -An -tx1)" = ' 0a' ]; }; }
 
-# left_as_it_may: whether the last run left what it may where the writer was not refused
+# left_as_it_may: whether the output of the last run is allowed, if no write was refused
 left_as_it_may() { if [ -n "$streams" ]; then wrote_rows; else wrote_nothing; fi; }
 
 # calls_of CALL WORDS..: how many such calls a job makes
@@ -65,8 +65,8 @@ calls_of() {
     sed -n "s/^$1 //p" "$work/count" | grep .
 }
 
-# judge CALL STATUS AT: whether the last run answered as it may where call AT of that kind is refused; the threads that
-# are started first are those of the crew
+# judge CALL STATUS AT: whether the answer of the last run is allowed, with call AT of that kind refused; the threads that start first are
+# those of the crew
 judge() {
     case $1 in
         alloc) is_whole "$2" || { is_refusal "$2" '8 OutOfMemory' '14 NoWorker' && left_as_it_may; } ;;

@@ -1,13 +1,12 @@
 #!/usr/bin/env bash
 # The test scripts themselves: tests/scripts.sh PATH-TO-RDS LIBRARY-FOLDER
 #
-# A script whose tool or table is missing must not pass. Each script of this folder that says what it needs is called with
-# each of these tools away in turn, and has to end in another status than 0, with the tool's name on standard error; it finds
-# no others (`needs` of common.sh), so that its row is whole where it passes. The others are called with the fewest tools. And each
-# is called without a program, and those that read a table with an empty one, and with one whose last line is cut off, missing,
-# or there twice. So is wrong_bodies.py.
-# Each script is called over programs that are wrong, up to its first failure, and has to count that; wrong_bodies.py over an edit
-# that nothing refuses; `make proofs` over a toolchain that fails; and `make test` over scripts that do nothing, one of which fails.
+# A script whose tool or table is missing must not pass. Each script that names its tools is called with each of them missing in turn: it
+# has to end in another status than 0, with the tool's name on standard error. It finds no other tools (`needs` of common.sh), so its list is
+# complete if it passes. The others are called with the fewest tools. Each is also called without a program. Those that read a table are
+# called with an empty one, and with one whose last line is cut off, missing, or there twice, and so is wrong_bodies.py.
+# Each script is called over wrong programs, up to its first failure, and has to count that; wrong_bodies.py over an edit that nothing
+# refuses; `make proofs` over a toolchain that fails; and `make test` over scripts that do nothing, one of which fails.
 # The functions of this page, and those of common.sh, have to count what they are there for.
 # The last line is 'N passed, M failed', and the exit status says whether all passed.
 
@@ -64,7 +63,7 @@ sees failing 'a command that fails without the words' words false
 
 # ---- common.sh
 
-# by_common TEXT [NAME]: how a script of that name ends that sources common.sh and has this text; its output goes to $work/said
+# by_common TEXT [NAME]: runs a script of that name that sources common.sh and has this text; its output goes to $work/said
 by_common() {
     PATH=$all_tools bash -c "usage='usage: tests/a.sh PATH'; . '$here/common.sh' && $1" "${2:-a.sh}" a >"$work/said" 2>"$work/err"
 }
@@ -90,7 +89,7 @@ done
 
 # ---- tools that are missing
 
-# What `needs` looks for in any script.
+# The tools that `needs` adds for each script.
 common=$(sed -n 's/^ *for tool in \(.*\) "\$@"; do$/\1/p' "$here/common.sh")
 [ -n "$common" ] || fail 'the tools of common.sh are not to be found'
 bash=$(type -P bash)
@@ -435,7 +434,7 @@ for part in src specs proofs; do
 done
 rm "$work"/copy/crates/rds_code/wrong/*
 # the goals of another edit of the same file must not count for this one
-cp "$here/../crates/rds_code/wrong/no_block_behind_the_fourth.edit" "$work/copy/crates/rds_code/wrong" || exit 1
+cp "$here/../crates/rds_code/wrong/no_block_after_the_fourth.edit" "$work/copy/crates/rds_code/wrong" || exit 1
 cat >"$work/copy/crates/rds_code/wrong/nothing_is_changed.edit" <<'END'
 file: src/block_number.rt
 old: 1..=4 => Some(BlockNumber { number }),
@@ -446,7 +445,7 @@ failing 'wrong_bodies.py over an edit that changes nothing' '1 as they must be, 
     python3 "$work/copy/tests/wrong_bodies.py" rds_code
 mkdir "$work/copy/crates/rds_code/must-fail"
 printf '%s\n' 'file: src/remainder.rt' 'old: a text that is nowhere' 'new: another' >"$work/copy/crates/rds_code/must-fail/none.edit"
-failing 'wrong_bodies.py over an edit that cannot be made' 'the text stands 0 times' python3 "$work/copy/tests/wrong_bodies.py" none
+failing 'wrong_bodies.py over an edit that cannot be made' 'the text occurs 0 times' python3 "$work/copy/tests/wrong_bodies.py" none
 (cd "$here/.." && cp --parents crates/*/src/lib.rt "$work/copy") || exit 1
 failing 'front_pages.py over libraries that are not built' 'the examples do not compile' python3 "$work/copy/tests/front_pages.py"
 wrong failing_rt <<<'echo "rt: rds_code NOT PROVED"; exit 1'
@@ -471,7 +470,7 @@ for it in "${scripts[@]/#/tests/}" "${beside[@]/#/tests/}" lib/{archive.py,make_
     tools/{rt,git,apt-get,aarch64-linux-gnu-gcc} few/{make,apt-get}; do
     cp "$work/stub" "$gate/$it" || exit 1
 done
-# gated NAME COMMAND..: the command in that gate, where the script of this name fails
+# gated NAME COMMAND..: the command in that gate, in which the script of this name fails
 gated() { (cd "$gate" && MAKEFLAGS='' FAILING=$1 PATH=$gate/tools:$all_tools timeout 60 "${@:2}" >said 2>&1); }
 if gated '' make test RT=rt; then pass; else fail "make test over scripts that pass: $(tail -n 3 "$gate/said")"; fi
 # each is called with what its usage names

@@ -52,7 +52,7 @@ def recording(sent, chance):
 
 
 def gaps(chance, bits):
-    """The words of some gaps within so many bits, or none."""
+    """The words of some gaps within `bits` bits, or none."""
     places = sorted(chance.sample(range(bits + 1), 2 * chance.choice([0, 0, 0, 1, 3, 12]))) if bits > 30 else []
     pairs = zip(places[::2], places[1::2])
     return ["--gaps", ",".join(f"{start}-{end}" for start, end in pairs)] if places else []

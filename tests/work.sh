@@ -1,18 +1,16 @@
 #!/usr/bin/env bash
 # Work done twice: tests/work.sh PATH-TO-RDS [--measure JOB..]
 #
-# Counts the allocations, the bytes that they ask for, the most bytes held at a time and the threads of some jobs, and
-# compares them with the bounds of tests/work.bounds: a second pass over a recording, a run that is made again, a list that
-# is copied or one that is kept for too long shows there, and nowhere else. Less than half of a bound fails too, since then the bound
-# holds nothing, or the job was not done. Of a job without threads, less than four fifths does. Threads are as many as the line says. Each job
-# has one line there, and is found by its name: its input, and its words. Reads and writes are counted too: one for each
-# 64 KiB, and a few, are allowed. A job that writes nothing has failed, but of no bits.
-# Recordings are a few megabytes long, but for those of the smallest jobs, where a table that is made twice shows.
-# valgrind, if it is installed, counts the instructions of the jobs named 'instructions ..': a slow form shows there, also on a loaded
+# Counts the allocations of some jobs, the bytes that they ask for, the most bytes held at a time, and the threads. It compares them with
+# the bounds of tests/work.bounds. Only there shows a second pass over a recording, a run that is made again, or a list that is copied or
+# kept for too long. Less than half of a bound fails too: then the bound is too wide, or the job was not done. If a job starts no thread,
+# less than four fifths fails. The number of threads is exact. Each job has one line there, found by its name: its input and its words.
+# Reads and writes are counted too: one per 64 KiB, and a few more, are allowed. A job that writes nothing has failed, except with no bits.
+# Recordings are a few megabytes long, but for the smallest jobs: there a table that is made twice shows.
+# If valgrind is installed, it counts the instructions of the jobs named 'instructions ..': a slow form shows there, even on a loaded
 # machine. Less than nine tenths of such a bound fails too.
-# With --measure the bounds of the jobs that are named, such as 'empty list --workers 1', are written anew, and shown: the
-# most of three runs, and a tenth to spare, of the smallest jobs a hundredth, of instructions a twentieth. The threads of a new job are
-# those that it started.
+# With --measure the bounds of the named jobs, such as 'empty list --workers 1', are written again, and shown: the most of three runs and a
+# tenth to spare, a hundredth for the smallest jobs, a twentieth for instructions. The threads of a new job are those that it started.
 # Calls are counted by the library of tests/refuse.c, which refuses none of them here.
 # The last line is 'N passed, M failed', and the exit status says whether all passed.
 
@@ -131,7 +129,7 @@ done <todo
 
 make_refuse
 
-# station COUNT: a station's groups, so many times over
+# station COUNT: a station's groups, COUNT times
 station() { for _ in $(seq "$1"); do cat "$here/../examples/station.bin"; done; }
 
 # repeated COUNT: its input, so many times over
@@ -256,10 +254,10 @@ within() {
     fi
 }
 
-# bounded NAME MEASURED BOUND: whether it is from half of the bound to the bound, or from four fifths where no thread is started
+# bounded NAME MEASURED BOUND: whether it is from half of the bound to the bound, or from four fifths if no thread is started
 bounded() { within "$1" "$2" $((bound[3] ? ($3 + 1) / 2 : $3 * 4 / 5)) "$3"; }
 
-# some BYTES: how many reads or writes so many bytes may take
+# some BYTES: how many reads or writes BYTES bytes may take
 some() { echo $(($1 / 65536 + 4)); }
 
 # try BOUNDS INPUT WORDS..: whether the job keeps within its bounds

@@ -114,7 +114,7 @@ def wrong_body(crate, file, functions):
         if key == "new":
             text = read(f"{CRATES}/{path}")
             if text.count(old) != 1:
-                sys.exit(f"{body.name}: the text stands {text.count(old)} times in {path}, and not once: {old}")
+                sys.exit(f"{body.name}: the text occurs {text.count(old)} times in {path}, and not once: {old}")
             at = text.index(old)
             body.edits.append((path, at, old, said))
             body.functions += [f for f in functions if f.file == path and f.place[0] <= at < f.place[1]]
@@ -266,7 +266,7 @@ def check_pairs(crate):
         for path, old, new in pairs_of(crate, file):
             text = texts.get(path) or read(f"{CRATES}/{crate}/{path}")
             if text.count(old) != 1:
-                sys.exit(f"{crate}/must-fail/{file}: the text stands {text.count(old)} times in {path}, and not once: {old}")
+                sys.exit(f"{crate}/must-fail/{file}: the text occurs {text.count(old)} times in {path}, and not once: {old}")
             texts[path] = text.replace(old, new)
         if not texts:
             sys.exit(f"{crate}/must-fail/{file}: it changes nothing")

@@ -90,7 +90,7 @@ def without_a_check(border):
             mistakes = {"left out": others, "as read": [*looks[:place], look.replace("_WRITTEN", ""), *looks[place + 1 :]]}
             mistakes["as one"] = [*looks[:place], look.replace("MANY", "ONE"), *looks[place + 1 :]]
             for what, said in mistakes.items():
-                # A function that is lent one thing has nothing for it to lie over.
+                # A function with one pointer has no second value for it to overlap.
                 if said != looks and said and (what != "as read" or len(looks) > 1):
                     yield f"{function}: {look} {what}", border[: call.start(1)] + ", ".join(said) + border[call.end(1) :]
     for row in re.finditer(r"(?<= )?ROW\((\w+)\)", border):

@@ -232,11 +232,11 @@ def assertions(structs):
         at = 0
         for field, kind in fields:
             size, align = layout_of(kind, structs)
-            # There is no hole between two fields, nor behind the last: each byte of a struct is one of a number.
+            # There is no hole between two fields, or after the last: each byte of a struct belongs to a field.
             assert at % align == 0, f"a hole before {name}.{field}"
             yield f"offsetof({c_name}, {field}) == {at} && sizeof((({c_name} *)0)->{field}) == {size}", f"{name}.{field}"
             at += size
-        assert at == layout_of(name, structs)[0], f"a hole behind {name}"
+        assert at == layout_of(name, structs)[0], f"a hole after {name}"
         yield f"sizeof({c_name}) == {at}", name
 
 
