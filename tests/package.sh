@@ -248,7 +248,7 @@ CMAKE
   same 'what is left of them' '' "$(files_there)$(find "$root/usr" 2>/dev/null)"
 
   same 'make deb' "packaging/make_deb.sh $built $library build $library" \
-    "$(make -n -o "$library/librds.so.0" deb "PROGRAM=$built" "LIBRARY=$library" "FOLDER_arm64=$library" | tail -n 1)"
+    "$(MAKEFLAGS='' make --no-print-directory -n -o "$library/librds.so.0" deb "PROGRAM=$built" "LIBRARY=$library" "FOLDER_arm64=$library" | tail -n 1)"
   same 'a package of no program' 'make_deb: examples is no program' "$(packaging/make_deb.sh examples "$library" "$work" 2>&1)"
   same 'a package of no library' 'make_deb: there is no library in examples' \
     "$(packaging/make_deb.sh "$built" examples "$work" 2>&1)"

@@ -288,7 +288,7 @@ END
 done
 # bounds that hold nothing, of jobs without threads and with some
 for threads in 0 1; do
-    awk -v is="$threads" '!/^#/ && ($4 > 0) == is { for (k = 1; k < 4; k++) $k = int($k * (is ? 2.2 : 1.4)) } 1' "$here/work.bounds" \
+    awk -v is="$threads" '$2 ~ /^[0-9]/ && ($4 > 0) == is { for (k = 1; k < 4; k++) $k = int($k * (is ? 2.2 : 1.4)) } 1' "$here/work.bounds" \
         >"$work/copy/tests/work.bounds"
     notices work.sh "right, by wide bounds ($threads)" bash "$work/copy/tests/work.sh" "$rds"
     grep -q '^FAILED: .* allocations, where' "$work/out" || fail 'work.sh by wide bounds: another failure'
