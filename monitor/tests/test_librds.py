@@ -413,7 +413,7 @@ def test_files_and_sums_of_a_wheel(tmp_path) -> None:
     with zipfile.ZipFile(path) as wheel:
         files = {name: wheel.read(name) for name in wheel.namelist()}
         forms = {(it.date_time, it.external_attr >> 16, it.compress_type) for it in wheel.infolist()}
-    # So the same library gives the same bytes, and all may read what is installed.
+    # So the same library gives the same bytes, and all may read the installed files.
     assert forms == {((1980, 1, 1, 0, 0, 0), 0o100644, zipfile.ZIP_DEFLATED)}
     record = next(name for name in files if name.endswith("/RECORD"))
     lines = [it.split(",") for it in files[record].decode().splitlines()]
