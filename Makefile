@@ -84,12 +84,13 @@ archives:
 wrong-bodies:
 	nice tests/wrong_bodies.py $(WHEN)
 
-# MAKEFLAGS is empty since the flags that make hands on name its number of jobs: the scripts have their own. `nice` leaves the wrong
-# bodies their share of the processors, so that both end at about the same time.
+# MAKEFLAGS is empty since the flags that make hands on name its number of jobs: the scripts have their own, one more than there are
+# processors, as some of them wait for half of their time. `nice` leaves the wrong bodies their share of the processors, so that both end
+# at about the same time.
 built: proofs
 	+$(MAKE) --no-print-directory archives
 	tests/front_pages.py
-	MAKEFLAGS= nice make --no-print-directory -j $$(nproc) -O $(SCRIPTS)
+	MAKEFLAGS= nice make --no-print-directory -j $$(($$(nproc) + 1)) -O $(SCRIPTS)
 
 # The scripts over what is built; those that take longest come first.
 SCRIPTS := $(addprefix tests/,library.sh monitor.sh scripts.sh refusals.sh differential.py docs.sh package.sh work.sh program.sh \

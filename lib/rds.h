@@ -65,7 +65,7 @@
 extern "C" {
 #endif
 
-/* Compilers that know it warn where the result of such a function is not used. */
+/* Compilers that know it warn if the result of such a function is not used. */
 #if defined(__GNUC__)
 #define RDS_MUST_USE __attribute__((warn_unused_result))
 #else

@@ -157,34 +157,31 @@ beside() {
 
 # ---- instructions of calls of the library
 
-declare -A instructions=()
+declare -A known=()
 
-# count_instructions INPUT COMMAND..: how many instructions it takes by valgrind, into $counted; each job is counted once
-count_instructions() {
-    counted=${instructions[$*]:-}
-    [ -z "$counted" ] || return 0
-    PATH=$all_tools timeout "$LIMIT" valgrind --tool=cachegrind --cache-sim=no --cachegrind-out-file=/dev/null --log-file=counts \
-        "${@:2}" <"$work/$1" >out 2>err || return 1
-    counted=$(awk '/ I *refs: / { gsub(",", "", $NF); print $NF }' counts)
-    instructions[$*]=$counted
-    [ -n "$counted" ]
+# count_once INPUT COMMAND..: count_instructions, and the same number again for the same command
+count_once() {
+    instructions=${known[$*]:-}
+    [ -z "$instructions" ] || return 0
+    count_instructions "$work/$1" "${@:2}" || return
+    known[$*]=$instructions
 }
 
 # counted PERCENT INPUT COMMAND.. beside COMMAND..: whether the first takes at most that share of the instructions of the second; less
 # than four fifths of it fails too, since then the bound holds nothing
 counted() {
-    local most=$1 input=$2 these=() counted share
+    local most=$1 input=$2 these=() instructions share
     shift 2
     while [ "$1" != beside ]; do
         these+=("$1")
         shift
     done
     shift
-    if ! count_instructions "$input" "${these[@]}" || ! share=$counted || ! count_instructions "$input" "$@"; then
+    if ! count_once "$input" "${these[@]}" || ! share=$instructions || ! count_once "$input" "$@"; then
         fail "${these[*]} of $input, or the job beside it: not done"
         return
     fi
-    share=$((100 * share / counted))
+    share=$((100 * share / instructions))
     if ((share <= most && share >= most * 4 / 5)); then
         pass
     else
@@ -250,6 +247,10 @@ by_instructions() {
     counted 80 sample "$work/run" 0 0 beside "${one[@]}"
     counted 116 sample "$work/run" 4096 0 beside "${one[@]}"
     counted 163 sample "$work/run" 4096 2000 beside "${one[@]}" --gaps "$near"
+    # several chunks and ranges
+    for _ in 1 2 3 4 5 6 7 8; do cat "$work/sample"; done >"$work/samples"
+    counted 44 samples "$work/push" 65536 10000 beside "${one[@]}" --gaps "$many"
+    counted 85 samples "$work/run" 16384 0 beside "${one[@]}"
     head -c 640 "$work/sample" >"$work/fewer"
     counted 125 fewer "$work/push" 64 100000 beside "$work/push" 64 100000 look
 }

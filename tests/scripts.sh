@@ -414,6 +414,7 @@ OMP_NUM_THREADS=1 PYTEST_ADDOPTS=-x notices monitor.sh silent bash "$here/monito
 notices package.sh silent bash "$here/package.sh" "$work/silent" "$library"
 mkdir "$work/bare" && : >"$work/bare/librds.so.0" || exit 1
 notices library.sh 'right, with a library that has nothing' bash "$here/library.sh" "$work/bare" "$rds"
+RDS_LIBRARY_RECORDINGS=20 notices library.sh other_rules bash "$here/library.sh" "$library" "$work/other_rules"
 export RDS_LIBRARY=$library/librds.so.0
 failing 'compare.py over other rules' 'librds of Python gives other rows' python3 -B "$here/library/compare.py" 20 "$work/other_rules"
 failing 'compare.py over rows that are not there' 'silent (0) gives other rows' \

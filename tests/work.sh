@@ -211,14 +211,11 @@ count() {
     done <counts || exit 1
 }
 
-# count_instructions INPUT WORDS..: how many instructions the job takes, into $instructions
-count_instructions() {
+# count_job INPUT WORDS..: how many instructions the job takes, into $instructions
+count_job() {
     local words
     prepare "$@"
-    PATH=$all_tools timeout "$LIMIT" valgrind --tool=cachegrind --cache-sim=no --cachegrind-out-file=/dev/null --log-file=counts \
-        "$rds" "${words[@]}" <"$1" >out 2>err || give_up $? "$@"
-    instructions=$(awk '/ I *refs: / { gsub(",", "", $NF); print $NF }' counts)
-    [ -n "$instructions" ] || exit 1
+    count_instructions "$1" "$rds" "${words[@]}" || give_up $? "$@"
 }
 
 # keep_most: the most so far of each number that has a bound
@@ -232,7 +229,7 @@ keep_most() {
 measured() {
     local most=(0 0 0) spare=10 kept
     if [ "$1" = instructions ]; then
-        count_instructions "${@:2}"
+        count_job "${@:2}"
         echo $((instructions + instructions / 20))
         return
     fi
@@ -345,7 +342,7 @@ while read -r job; do
         try "${bounds[$job]}" $job
     elif [ -n "${has_valgrind:-}" ]; then
         # shellcheck disable=SC2086
-        count_instructions ${job#* }
+        count_job ${job#* }
         within instructions "$instructions" $((${bounds[$job]} * 9 / 10)) "${bounds[$job]}"
     fi
 done <todo

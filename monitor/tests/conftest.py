@@ -51,13 +51,6 @@ def monitor(*words: Any, data: bytes = b"", **options: Any) -> "subprocess.Compl
     )
 
 
-def pytest_collection_modifyitems(items: "list[Any]") -> None:
-    """One worker has all tests of a file, and makes its fixtures once. Those of the watch have none that are dear, and wait a lot."""
-    for it in items:
-        if not it.path.stem.startswith("test_watch") and it.get_closest_marker("xdist_group") is None:
-            it.add_marker(pytest.mark.xdist_group(it.path.stem))
-
-
 @pytest.fixture(scope="session")
 def station() -> bytes:
     return STATION.read_bytes()

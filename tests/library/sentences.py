@@ -46,7 +46,7 @@ PROMISES = [
     "Parameters that several functions share: bytes, bytes_len",
     "rules the decoder's rules room, room_len receives the items",
     "The results are proved of the library's code: docs/PROOFS.md lists the proofs, and the parts that are only trusted.",
-    "Compilers that know it warn where the result of such a function is not used.",
+    "Compilers that know it warn if the result of such a function is not used.",
     "RDS_OUT_OF_MEMORY = 8, /* memory was refused */",
     "Errors: the program's, by its numbers, and the library's own from",
     "No number ever changes its meaning.",

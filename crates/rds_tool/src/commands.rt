@@ -30,22 +30,22 @@ enum CommandOption {
 }
 
 impl CommandOption {
-    fn row(self) -> OptionRow
-        ensures { rule_of_row result ≡ rule_of_option self }
+    fn row(self) -> &'static OptionRow
+        ensures { rule_of_row result.now ≡ rule_of_option self }
     {
         match self {
-            HexInput => HEX_INPUT,
-            HexOutput => HEX_OUTPUT,
-            Bits => BITS,
-            Gaps => GAPS,
-            Burst => BURST,
-            Reach => REACH,
-            Loss => LOSS,
-            Share => SHARE,
-            Of => OF,
-            Pieces => PIECES,
-            Workers => WORKERS,
-            Progress => PROGRESS,
+            HexInput => &HEX_INPUT,
+            HexOutput => &HEX_OUTPUT,
+            Bits => &BITS,
+            Gaps => &GAPS,
+            Burst => &BURST,
+            Reach => &REACH,
+            Loss => &LOSS,
+            Share => &SHARE,
+            Of => &OF,
+            Pieces => &PIECES,
+            Workers => &WORKERS,
+            Progress => &PROGRESS,
         }
     }
 }
@@ -91,26 +91,26 @@ const NUMBER: OptionRow = OptionRow {
     help: "",
 };
 
-const HEX_INPUT: OptionRow = OptionRow {
+static HEX_INPUT: OptionRow = OptionRow {
     name: "hex",
     help: help::HEX_INPUT,
     ..FLAG
 };
 
-const HEX_OUTPUT: OptionRow = OptionRow {
+static HEX_OUTPUT: OptionRow = OptionRow {
     name: "hex",
     help: help::HEX_OUTPUT,
     ..FLAG
 };
 
-const BITS: OptionRow = OptionRow {
+static BITS: OptionRow = OptionRow {
     name: "bits",
     parser: ValueParser::Unsigned(0, 1_099_511_627_776),
     help: help::BITS,
     ..NUMBER
 };
 
-const GAPS: OptionRow = OptionRow {
+static GAPS: OptionRow = OptionRow {
     name: "gaps",
     value: &["TEXT"],
     parser: ValueParser::String,
@@ -118,55 +118,55 @@ const GAPS: OptionRow = OptionRow {
     ..NUMBER
 };
 
-const BURST: OptionRow = OptionRow {
+static BURST: OptionRow = OptionRow {
     name: "burst",
     default: &["2"],
     help: help::BURST,
     ..NUMBER
 };
 
-const REACH: OptionRow = OptionRow {
+static REACH: OptionRow = OptionRow {
     name: "reach",
     default: &["3"],
     help: help::REACH,
     ..NUMBER
 };
 
-const LOSS: OptionRow = OptionRow {
+static LOSS: OptionRow = OptionRow {
     name: "loss",
     default: &["10"],
     help: help::LOSS,
     ..NUMBER
 };
 
-const SHARE: OptionRow = OptionRow {
+static SHARE: OptionRow = OptionRow {
     name: "share",
     help: help::SHARE,
     ..NUMBER
 };
 
-const OF: OptionRow = OptionRow {
+static OF: OptionRow = OptionRow {
     name: "of",
     default: &["64"],
     help: help::OF,
     ..NUMBER
 };
 
-const PIECES: OptionRow = OptionRow {
+static PIECES: OptionRow = OptionRow {
     name: "pieces",
     default: &["16"],
     help: help::PIECES,
     ..NUMBER
 };
 
-const WORKERS: OptionRow = OptionRow {
+static WORKERS: OptionRow = OptionRow {
     name: "workers",
     default: &["4"],
     help: help::WORKERS,
     ..NUMBER
 };
 
-const PROGRESS: OptionRow = OptionRow {
+static PROGRESS: OptionRow = OptionRow {
     name: "progress",
     help: help::PROGRESS,
     ..FLAG
@@ -274,7 +274,7 @@ fn command_of<'a>(alloc: Global, row: &CommandRow) -> Result<Command<'a>, AllocE
 {
     let mut command = bare_command(alloc, row.name, row.about, row.usage, row.after);
     for option in row.options {
-        command = command.arg(option_of(alloc, &option.row()))?;
+        command = command.arg(option_of(alloc, option.row()))?;
     }
     Ok(command)
 }
