@@ -229,6 +229,13 @@ size=$(($(stat -L -c %s /dev/stdin) / 1500))
 for ((k = 0; k < size * size; k++)); do :; done
 exec "$rds" "$@"
 END
+# slow from the second size on, or at the third alone
+for it in second:500000 third:2000000; do
+    wrong "slow_${it%:*}" <<END
+(( \$(stat -L -c %s /dev/stdin) < ${it#*:} )) || for ((k = 0; k < 80000; k++)); do :; done
+exec "\$rds" "\$@"
+END
+done
 
 declare -A noticed=()
 
@@ -251,7 +258,7 @@ sees notices a.sh 'of another end' sh -c 'echo 1 passed, 0 failed; exit 1'
 sees notices a.sh 'of another status' sh -c 'echo 0 passed, 1 failed'
 
 for row in 'docs silent misprinting' 'program silent one_byte_short content other_rules' 'listings silent one_byte_short other_rules' \
-    'work silent one_worker_more' 'growth silent squared' 'recipes silent'; do
+    'work silent one_worker_more' 'growth silent squared slow_second slow_third' 'recipes silent'; do
     for program in ${row#* }; do
         notices "${row%% *}.sh" "$program" bash "$here/${row%% *}.sh" "$work/$program"
     done
@@ -335,10 +342,14 @@ notices listings.sh crew_differs bash "$here/listings.sh" "$work/crew_differs"
 notices program.sh noisy bash "$here/program.sh" "$work/noisy"
 notices streams.py noisy "$here/streams.py" "$work/noisy" 1 4
 notices differential.py noisy "$here/differential.py" "$work/noisy" 1 1
-# of the jobs that each seed has, only one is wrong
+# of the jobs that each seed has, only one is wrong: its text, its status, or its standard error
 for job in scan list totals follow; do
     wrong ${job}_short <<<"[ \$1 = $job ] || exec \"\$rds\" \"\$@\"; \"\$rds\" \"\$@\" | head -c -1; exit \"\${PIPESTATUS[0]}\""
-    notices differential.py ${job}_short "$here/differential.py" "$work/${job}_short" 1 1
+    wrong ${job}_status <<<"\"\$rds\" \"\$@\" && [ \$1 != $job ]"
+    wrong ${job}_noisy <<<"[ \$1 != $job ] || echo a word >&2; exec \"\$rds\" \"\$@\""
+    for it in short status noisy; do
+        notices differential.py ${job}_$it "$here/differential.py" "$work/${job}_$it" 1 1
+    done
 done
 wrong hex_short <<<'[[ $1 != encode && " $* " == *" --hex "* ]] || exec "$rds" "$@"; "$rds" "$@" | head -c -1'
 wrong without_gaps <<'END'
@@ -348,11 +359,11 @@ done
 exec "$rds" "$@"
 END
 wrong other_status <<<'"$rds" "$@"; exit 3'
-wrong scan_status <<<'"$rds" "$@" && [ "$1" != scan ]'
+wrong encode_status <<<'"$rds" "$@" && [ "$1" != encode ]'
 notices differential.py hex_short "$here/differential.py" "$work/hex_short" 2 3
 notices differential.py without_gaps "$here/differential.py" "$work/without_gaps" 4 5
 notices differential.py other_status "$here/differential.py" "$work/other_status" 1 1
-notices differential.py scan_status "$here/differential.py" "$work/scan_status" 1 1
+notices differential.py encode_status "$here/differential.py" "$work/encode_status" 3 3
 notices differential.py encode_short "$here/differential.py" "$work/encode_short" 3 3
 notices differential.py takes_any_line "$here/differential.py" "$work/takes_any_line" 1 1
 notices streams.py without_gaps "$here/streams.py" "$work/without_gaps" 1 30
