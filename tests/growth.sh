@@ -159,7 +159,7 @@ beside() {
 
 declare -A known=()
 
-# count_once INPUT COMMAND..: count_instructions, and the same number again for the same command
+# count_once INPUT COMMAND..: how many instructions the command takes, into $instructions; each command is counted once
 count_once() {
     instructions=${known[$*]:-}
     [ -z "$instructions" ] || return 0
@@ -255,7 +255,7 @@ by_instructions() {
     counted 125 fewer "$work/push" 64 100000 beside "$work/push" 64 100000 look
 }
 
-# by_times: the same by CPU time, if nothing counts instructions
+# by_times: some of these by CPU time, if nothing counts instructions
 by_times() {
     echo 'skipped: instructions of calls of the library, which valgrind counts'
     beside 2 cat station.16 "$work/push" 65536 0 beside "${one[@]}"

@@ -308,7 +308,7 @@ done
 
 # Random calls are answered as a second decoder answers, which was written from docs/MODEL.md alone.
 tried 'making fuzz' "${CC:-cc}" -std=c11 "${strict[@]}" -o "$work/fuzz" tests/library/fuzz.c tests/library/model.c "$library/librds.a"
-tried 'random calls' sh -c '"$1" "$2" "$3" < tests/library/corpus.txt' sh "$work/fuzz" "${RDS_FUZZ_SECONDS:-30}" "${RDS_FUZZ_SEED:-1}"
+tried 'random calls' sh -c '"$1" "$2" "$3" < tests/library/corpus.txt' sh "$work/fuzz" "${RDS_FUZZ_SECONDS:-60}" "${RDS_FUZZ_SEED:-1}"
 
 tried 'allocations refused' "$work/refused" "$sample"
 tried 'eight threads' "$work/threads" "$sample"

@@ -23,7 +23,7 @@ from concurrent.futures import ThreadPoolExecutor
 LIMIT = int(os.environ.get("LIMIT", 60))
 ATTEMPTS = 1 if os.environ.get("UNTIL_FAILURE") else 3
 HERE = os.path.dirname(os.path.realpath(__file__))
-# What the pipe holds, and the seconds from a look at the clock to its line, as others may have the processor.
+# The bytes that the pipe holds, and the seconds from a look at the clock to its line, as others may have the processor.
 HELD = 65536
 LATE = 0.1
 # The least seconds between two lines, and those by which input and reader are late.
