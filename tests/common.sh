@@ -26,9 +26,9 @@ own_name=${0##*/}
 own_words=$#
 
 # How many checks a script makes, given all words of its usage and all tools. Under a pip before 22.3 library.sh makes one more, without
-# the library for arm64 package.sh makes one fewer, and without valgrind growth.sh makes 47 and work.sh 401.
-declare -A checks=([docs.sh]=83 [growth.sh]='47 51' [library.sh]='121 122' [listings.sh]=119 [monitor.sh]=6 [package.sh]='48 49'
-    [program.sh]=348 [recipes.sh]=56 [scripts.sh]=357 [work.sh]='401 410')
+# the library for arm64 package.sh makes one fewer, and without valgrind growth.sh makes 75 and work.sh 401.
+declare -A checks=([docs.sh]=82 [growth.sh]='75 79' [library.sh]='121 122' [listings.sh]=119 [monitor.sh]=6 [package.sh]='48 49'
+    [program.sh]=352 [recipes.sh]=56 [scripts.sh]=363 [work.sh]='401 410')
 
 # needs TOOL..: the tools that a script calls besides those of this page. It ends if one is missing. After this call it finds no other
 # tools, so that the list is complete.
@@ -130,21 +130,20 @@ readme_program() {
 # as_bytes: the bytes of digits; who calls it needs basenc and tr
 as_bytes() { tr a-f A-F | basenc -d --base16 -i; }
 
+# A function for awk: turn(PLACE, BIT) turns that bit, of the value BIT, of the line's digit at PLACE.
+# shellcheck disable=SC2016
+turn='function turn(place, bit,  digit) {
+    digit = index("0123456789abcdef", tolower(substr($0, place, 1))) - 1
+    digit += int(digit / bit) % 2 ? -bit : bit
+    $0 = substr($0, 1, place - 1) sprintf("%x", digit) substr($0, place + 1)
+}'
+
 # past_mending: the groups of some lines, with three bit errors each in blocks 2 and 4, which are no burst. If one bad block loses sync,
 # sync is lost as soon as it is acquired.
 past_mending() {
-    awk '
+    awk "$turn"'
         BEGIN { count = split("8 2 11 8 13 2 21 2 24 8 26 2", turned) }
-        {
-            for (k = 1; k < count; k += 2) {
-                at = turned[k]
-                digit = index("0123456789ABCDEF", toupper(substr($0, at, 1))) - 1
-                bit = turned[k + 1]
-                digit += int(digit / bit) % 2 ? -bit : bit
-                $0 = substr($0, 1, at - 1) substr("0123456789ABCDEF", digit + 1, 1) substr($0, at + 1)
-            }
-            print
-        }'
+        { for (k = 1; k < count; k += 2) turn(turned[k], turned[k + 1]); print }'
 }
 
 # words SEED COUNT: COUNT lines of four pseudo-random words of four digits each

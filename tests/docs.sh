@@ -160,9 +160,7 @@ planted tests/library/threads.c 's/THREADS = 8/THREADS = 2/' 'as in tests/librar
 planted tests/growth.sh 's/^most=8$/most=80/' 'as in tests/growth.sh'
 planted tests/work.sh 's/ spare=10 kept/ spare=1 kept/' 'as in tests/work.sh'
 planted tests/work.sh 's/65536 + 4/65536 + 400/' 'as in tests/work.sh'
-# what the page says of crates, which the copy shares
-planted $testing 's/may take eight times/may take four times/' 'as in crates/rds_bench/src/growth.rt'
-planted $testing 's/past its bound eight times/past its bound four times/' 'as in crates/rds_bench/src/standards.rt'
+planted tests/growth.sh 's/^turns=8$/turns=80/' 'as in tests/growth.sh'
 planted tests/growth.sh 's/for size in 1 4 16/for size in 1 8 16/' 'as in tests/growth.sh'
 planted tests/work.sh 's/ || spare=100$/ || spare=8/' "$testing, 'it is a "
 planted $testing 's/compares 2,000 streams/compares 200 streams/' "$testing, 'compares "

@@ -8,6 +8,8 @@
 # Then it compares jobs that do the same in two ways: a stream and a list, both with ten thousand gaps too, a slow reader and a file, many
 # workers and one, many gaps and none, calls of the library for C and a list. If valgrind is installed, it counts the instructions of these
 # calls, which no other program changes.
+# With rds_bench, it times calls of the Rust libraries over three sizes, and compares forms of one task. If their times get too close, the
+# slow form may have replaced the fast one.
 # The last line is 'N passed, M failed', and the exit status says whether all passed.
 
 usage='usage: tests/growth.sh PATH-TO-RDS [LIBRARY-FOLDER [PATH-TO-RDS_BENCH]]'
@@ -23,9 +25,10 @@ limit_time "$rds"
 needs basenc cat cp head seq sleep tr
 cd "$work" || exit 1
 
-# The largest ratio of the times of two sizes, and how often a job is measured.
+# The largest ratio of the times of two sizes, and how often a job and a pair of forms are measured.
 most=8
 attempts=15
+turns=8
 
 # ---- inputs of one size, and of four and sixteen times that
 
@@ -117,7 +120,7 @@ job() {
         grows_too_fast || break
     done
     if grows_too_fast; then
-        fail "$* of $input: ${least[*]} ms of a processor for one, four and sixteen times as much ($attempt attempts)"
+        fail "${program##*/} $* of $input: ${least[*]} ms of a processor for one, four and sixteen times as much ($attempt attempts)"
     else
         pass
     fi
@@ -150,6 +153,38 @@ beside() {
         fail "${text:0:200}, or the job beside it: not done"
     elif ((least_of_these > times * least_of_those)); then
         fail "${text:0:200}: $least_of_these ms of a processor, and not $times times $least_of_those ($attempt attempts)"
+    else
+        pass
+    fi
+}
+
+# ---- forms of one task
+
+# answer: copies the line of rds_bench, a time and a count; any other output is no answer
+answer() { awk '/^[1-9][0-9]* [1-9][0-9]*$/'; }
+
+# time_form INPUT FORM [LOSS]: nanoseconds of the form over the input into $nanos, and its count into $found; a run without both is a
+# failure
+time_form() {
+    spend 60000 "$1" "$bench" "${@:2}"
+    ((spent > 60000)) || ! read -r nanos found <out || return 0
+    fail "rds_bench ${*:2} of $1: no time and count: $(<err)"
+    return 1
+}
+
+# pair PERCENT SLOW FAST INPUT [LOSS]: whether both forms find the same count, and SLOW takes at least PERCENT of the time of FAST
+pair() {
+    local share=$1 slow=$2 fast=$3 input=$4 attempt nanos found slow_nanos slow_found text="rds_bench $2${5:+ $5} of $4"
+    for attempt in $(seq $turns); do
+        time_form "$input" "$slow" "${@:5}" || return
+        slow_nanos=$nanos slow_found=$found
+        time_form "$input" "$fast" "${@:5}" || return
+        ((slow_found == found && 100 * slow_nanos < share * nanos)) || break
+    done
+    if [ "$slow_found" != "$found" ]; then
+        fail "$text finds $slow_found, and $fast $found"
+    elif ((100 * slow_nanos < share * nanos)); then
+        fail "$text: $slow_nanos ns, less than $share % of the $nanos ns of $fast ($attempt attempts)"
     else
         pass
     fi
@@ -281,9 +316,42 @@ by_library() {
     beside 4 cat few "$work/push" 64 1000000 beside "$work/push" 64 1000000 look
 }
 
+# turned COUNT: the groups of some lines, with a bit turned in about one byte of COUNT
+turned() {
+    awk -v count="$1" -v x=43 "$turn"'
+        {
+            for (at = 1; at < 26; at += 2) {
+                x = x * 16807 % 2147483647
+                n = int(x / count)
+                if (x % count == 0) turn(at + n % 2, substr("1248", int(n / 2) % 4 + 1, 1))
+            }
+            print
+        }'
+}
+
+# by_bench: forms of one task, beside one another and over three sizes
+by_bench() {
+    local program=$bench reader='answer' form input count
+    pair 250 places scan hiss.4
+    pair 250 places windows hiss.4
+    pair 200 divided places hiss.4
+    pair 150 items guess station.4
+    # of the bits 0.0005, 0.003, 0.01 and 0.03 are wrong
+    for count in 250 42 12 4; do
+        turned $count <"$work/sent" | as_bytes >rare || exit 1
+        cat rare rare rare rare >"$work/one_in_$count"
+        pair 150 items guess one_in_$count
+    done
+    pair 100 items guess worst.4 1
+    for form in scan windows report guess items; do
+        for input in station losing hiss; do job $input $form; done
+        job worst $form 1
+    done
+}
+
 first_lane() { in_two_ways; }
 second_lane() {
-    [ -z "$bench" ] || if timeout 600 "$bench" --check >checked 2>&1; then pass; else fail "rds_bench --check: $(<checked)"; fi
+    [ -z "$bench" ] || by_bench
     growing
     if [ -n "$library" ]; then by_library; else echo 'skipped: calls of the library, which is not given'; fi
 }

@@ -296,6 +296,24 @@ for crew in '1 1' '2 2' '208 256' '4294967295 3'; do
         "${first}group,104,0,A,A:0000,B:0000,C:0000,D:0000\n$(totals 7 0 0 0 0 0 0 0 2 1 1 0)" '' \
         "$zero$zero" list --hex --pieces "${crew% *}" --workers "${crew#* }"
 done
+# each_makes NAME TEXT INPUT LAST WORDS..: whether the job makes this text with each number from 1 to LAST after its words
+each_makes() {
+    local number
+    for ((number = 1; number <= $4; number++)); do
+        "$rds" "${@:5}" "$number" <<<"$3" 2>&1 | cmp -s - <(printf "$2") || break
+    done
+    if ((number > $4)); then pass; else fail "$1 $number"; fi
+}
+each_makes 'list of a loss by workers' "$by_one" "$one_bad" 256 list --hex --loss 1 --workers
+each_makes 'totals of a loss by workers' "$(totals 6 0 0 0 0 0 1 0 3 0 2 1)" "$one_bad" 256 totals --hex --loss 1 --workers
+eight=$first
+for at in 104 208 312 416 520 624 728; do eight+="group,$at,0,A,A:0000,B:0000,C:0000,D:0000\n"; done
+eight+=$(totals 31 0 0 0 0 0 0 0 8 7 1 0)
+# by a reach of four some guesses lock on a false phase, and stay on it
+for reach in 3 4; do
+    each_makes "list of eight groups by a reach of $reach and pieces" "$eight" "$zero$zero$zero$zero$zero$zero$zero$zero" 208 \
+        list --hex --reach $reach --workers 2 --pieces
+done
 with_gap="${first}group,104,0,A,lost,B:0000,C:0000,D:0000\n"
 check 'list of a gap in a block' 0 "$with_gap$(totals 6 0 0 0 0 0 1 0 2 0 1 0)" '' "$zero$zero" list --hex --gaps 104-105
 for crew in '1 1' '2 2' '208 1' '208 256'; do

@@ -308,7 +308,25 @@ elif [ "$(tail -n 1 "$work/out")" = "0 passed, $(grep -c '^FAILED: ' "$work/out"
 else
     fail "both lanes of growth.sh over the program that is silent: $(tail -n 1 "$work/out")"
 fi
-notices growth.sh 'a bench that fails' bash "$here/growth.sh" "$rds" "$library" "$(PATH=$all_tools type -P false)"
+# a bench of fixed answers, wrong in one form, or slow over larger inputs
+while IFS=@ read -r name edit text; do
+    wrong "bench_$name" <<END
+declare -A times=([scan]=1 [windows]=1 [places]=4 [divided]=16 [report]=1 [guess]=1 [items]=4)
+found=7 status=0
+$edit
+echo "\${times[\$1]} \$found" && exit \$status
+END
+    notices growth.sh "right, with a bench that is $name" bash "$here/growth.sh" "$rds" "$library" "$work/bench_$name"
+    grep -q "^FAILED: $text" "$work/out" || fail "growth.sh with a bench that is $name: another failure"
+done <<'END'
+failing@[ $1 != guess ] || status=1@rds_bench guess of station.4: no time and count
+silent@[ $1 != items ] || exit 0@rds_bench items of station.4: no time and count
+other_words@[ $1 != scan ] || found=windows@rds_bench scan of hiss.4: no time and count
+miscounting@[ $1 != divided ] || found=8@rds_bench divided of hiss.4 finds 8, and places 7
+fast@times[items]=1@rds_bench items of station.4: 1 ns, less than 150 % of the 1 ns of guess
+squared@n=$(($(stat -L -c %s /dev/stdin) / 2000)); [ $1 != windows ] || for ((k = 0; k < n * n; k++)); do :; done@bench_squared windows of
+reportless@[ $1 != report ] || exit 1@bench_reportless report of
+END
 # gives_up SCRIPT WORDS..: it ends in another status than 0, though each call of the program hangs
 gives_up() {
     local status

@@ -170,6 +170,14 @@ def put_loops(folder, crate, edited):
         write(f"{folder}/{file}", text)
 
 
+def drop_main(folder, crate):
+    """Takes `main` out of a program. Without it the crate is a library, and its check links no code."""
+    for f in (it for it in functions_of(f"{folder}/{crate}") if it.path == "main"):
+        text = read(f"{folder}/{f.file}")
+        write(f"{folder}/{f.file}", text[: f.place[0]] + text[f.place[1] :])
+        shutil.rmtree(f.proof(folder))
+
+
 def prepare(folder, crate, bodies):
     """Puts the wrong bodies into the copy, and the right proofs of their functions."""
     count = {}
@@ -185,6 +193,7 @@ def prepare(folder, crate, bodies):
     for path in {it[0] for it in edits}:
         write(f"{folder}/{path}", edited(read(f"{CRATES}/{path}"), [it for it in edits if it[0] == path]))
     put_loops(folder, crate, {f.path for body in bodies for f in body.functions})
+    drop_main(folder, crate)
     places = {f.path: f.place for f in functions_of(f"{folder}/{crate}")}
     for body in bodies:
         body.functions = [replace(f, place=places[f.path]) for f in body.functions]

@@ -1,5 +1,4 @@
 //! The forms of each task, over a whole recording.
-use crate::sample::Heard;
 use rds_code::{offset_of, plain};
 use rds_pieces::{Cutting, speculate};
 use rds_stream::{Recording, ValidWindows, scan};
@@ -26,27 +25,22 @@ pub enum Form {
 }
 
 impl Form {
-    /// The forms that find the valid windows.
-    pub const WINDOWS: [Form; 4] = [Form::Scan, Form::Windows, Form::Places, Form::DividedPlaces];
-
-    /// The forms that find the valid blocks.
-    pub const BLOCKS: [Form; 3] = [Form::Report, Form::Guess, Form::Items];
-
-    pub fn name(self) -> &'static str {
-        match self {
-            Form::Scan => "windows as a list",
-            Form::Windows => "one after the other",
-            Form::Places => "place by place",
-            Form::DividedPlaces => "by long division",
-            Form::Report => "one decoder",
-            Form::Guess => "a guess",
-            Form::Items => "item by item",
+    /// The form of this name.
+    pub fn named(name: &str) -> Option<Form> {
+        match name {
+            "scan" => Some(Form::Scan),
+            "windows" => Some(Form::Windows),
+            "places" => Some(Form::Places),
+            "divided" => Some(Form::DividedPlaces),
+            "report" => Some(Form::Report),
+            "guess" => Some(Form::Guess),
+            "items" => Some(Form::Items),
+            _ => None,
         }
     }
 
     /// Does the task. Answers a number that depends on its whole result, or none if memory is refused.
-    pub fn find(self, alloc: Global, heard: &Heard) -> Option<u64> {
-        let (recording, rules) = (&heard.recording, &heard.rules);
+    pub fn find(self, alloc: Global, recording: &Recording, rules: &Rules) -> Option<u64> {
         match self {
             Form::Scan => count_windows(alloc, recording),
             Form::Windows => Some(one_after_the_other(recording)),

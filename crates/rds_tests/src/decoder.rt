@@ -1,20 +1,14 @@
 //! Tests of the libraries of the decoder.
 //!
 //! - `crew`: the calls that a crew makes of gates and works, and the answers of dealers to many threads.
-//! - `windows`: each range of a recording scanned, and readings counted.
-//! - `cuttings`: lists that are refused.
 //! - `meetings` and `convergence`: where a run meets a guess, from the true state and from all others.
 //! - `stitches`: how many windows are read for a report.
 //! - `sizes`: how much memory a reading and an item take.
-//! - `front_pages`: examples of the front pages of the two lowest.
 //! - `samples`: the recordings that they decode.
 
 mod convergence;
 pub mod crew;
-mod cuttings;
-mod front_pages;
 mod meetings;
 pub mod samples;
 mod sizes;
 mod stitches;
-mod windows;

@@ -1,15 +1,14 @@
 //! Tests of `rds_tool`: that workers run at the same time, and that calls succeed if memory and threads are there.
 //!
 //! - `words`: a job as its words ask for it.
-//! - `workers`: lists and totals by as many workers as are asked for, in all kinds of pieces.
+//! - `workers`: lists by as many workers as are asked for, at the same time.
 //! - `following`: a stream, whose rows come as soon as they are complete.
-//! - `failing`: devices that withhold, fail or have no end.
-//! - `devices`, `jobs` and `samples`: shared by these.
+//! - `failing`: devices that withhold, or have no end.
+//! - `devices` and `jobs`: shared by these.
 
 mod devices;
 mod failing;
 mod following;
 mod jobs;
-mod samples;
 mod words;
 mod workers;

@@ -15,7 +15,7 @@ const ZERO_GROUP: [u8; 13] = [
 ];
 
 /// The bytes of zero groups sent one after the other, at least `bits` bits.
-pub fn zero_bytes(alloc: Global, bits: u64) -> Result<Vec<u8>, AllocError> {
+fn zero_bytes(alloc: Global, bits: u64) -> Result<Vec<u8>, AllocError> {
     let mut bytes = Vec::new(alloc);
     for _ in 0..bits.div_ceil(104) {
         bytes.extend_from_slice(&ZERO_GROUP)?;

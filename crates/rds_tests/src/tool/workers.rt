@@ -2,14 +2,54 @@
 //! the same time.
 use crate::decoder::crew::gates::Watch;
 use crate::decoder::crew::journal::Journal;
-use crate::tool::samples::Pieces::{At, Even};
-use crate::tool::samples::{A_LOSS, EIGHT_BY_FOUR, EIGHT_GROUPS, Pieces, Rows, TWO_GROUPS};
+use crate::tool::devices::gives_for;
+use crate::tool::jobs::ungapped;
 use rds_crew::Gate;
 use rds_pieces::PieceRun;
+use rds_tool::{Cuts, Job, Loss, Settings};
 use std::alloc::Global;
 use std::sync::Wait;
 use std::sync::atomic::{AtomicU64, Ordering};
 use std::thread::Threads;
+
+/// The group of four zero words, twice, in hexadecimal digits.
+const DIGITS: &[u8] = b"00003f000019800005a00001b4 00003f000019800005a00001b4";
+
+/// The list of it.
+const LIST: &[u8] = b"acquired,51,2,-,-,-,-,-\n\
+    group,26,0,A,none,B:0000,C:0000,D:0000\n\
+    group,104,0,A,A:0000,B:0000,C:0000,D:0000\n\
+    total,valid,7,-,-,-,-,-\n\
+    total,burst1,0,-,-,-,-,-\n\
+    total,burst2,0,-,-,-,-,-\n\
+    total,burst3,0,-,-,-,-,-\n\
+    total,burst4,0,-,-,-,-,-\n\
+    total,burst5,0,-,-,-,-,-\n\
+    total,lost,0,-,-,-,-,-\n\
+    total,bits,0,-,-,-,-,-\n\
+    total,groups,2,-,-,-,-,-\n\
+    total,complete,1,-,-,-,-,-\n\
+    total,acquired,1,-,-,-,-,-\n\
+    total,losses,0,-,-,-,-,-\n";
+
+/// Whether this crew lists the two groups, at this gate.
+fn are_listed<R: Threads + Wait + Sync, G: Gate + Sync>(
+    rt: &R,
+    alloc: Global,
+    workers: u32,
+    pieces: u64,
+    gate: &G,
+) -> bool {
+    let settings = Settings {
+        burst: 2,
+        reach: 3,
+        loss: Loss::Run(10),
+        workers,
+        cuts: Cuts::Even(pieces),
+    };
+    let job = Job::List(ungapped(alloc, true, None), settings);
+    gives_for(rt, alloc, &job, DIGITS, gate, LIST)
+}
 
 /// The turns after which a worker no longer waits for the others.
 const MOST_TURNS: u64 = 1_000_000_000;
@@ -52,22 +92,21 @@ fn work_at_once<R: Sync + Threads + Wait>(
     rt: &R,
     alloc: Global,
     workers: u32,
-    pieces: Pieces<'_>,
+    pieces: u64,
     at_once: u64,
 ) -> bool {
     let barrier = Barrier::new(at_once);
-    TWO_GROUPS.is_written(rt, alloc, Rows::OfList, workers, pieces, &barrier)
-        && barrier.misses.load(Ordering::SeqCst) == 0
+    are_listed(rt, alloc, workers, pieces, &barrier) && barrier.misses.load(Ordering::SeqCst) == 0
 }
 
 /// Workers, pieces, and how many of these are begun before the first is done.
-static CREWS: [(u32, Pieces<'static>, u64); 6] = [
-    (2, At(&[104]), 2),
-    (3, At(&[52, 104]), 3),
-    (4, Even(4), 4),
-    (4, Even(16), 4),
-    (8, Even(8), 8),
-    (256, Even(4), 4),
+static CREWS: [(u32, u64, u64); 6] = [
+    (2, 2, 2),
+    (3, 3, 3),
+    (4, 4, 4),
+    (4, 16, 4),
+    (8, 8, 8),
+    (256, 4, 4),
 ];
 
 // With fewer threads than that the first pieces would wait in vain for the last.
@@ -81,56 +120,11 @@ fn as_many_workers_as_asked_for_run_at_the_same_time(rt: HostRuntime) {
     }
 }
 
-#[test]
-fn each_number_of_workers_gives_the_same_bytes(rt: HostRuntime) {
-    for workers in 1..257u32 {
-        assert!(rt;
-            A_LOSS.is_given(&rt, rt.alloc(), workers, Even(16)),
-            "{workers} workers"
-        );
-    }
-}
-
-/// Crews that list two groups: cut at each place, into few pieces, and within the first window and its neighbours.
-static OF_TWO: [(u32, Pieces<'static>); 9] = [
-    (1, Even(208)),
-    (2, Even(208)),
-    (256, Even(208)),
-    (2, Even(3)),
-    (2, Even(5)),
-    (2, At(&[1])),
-    (2, At(&[25])),
-    (2, At(&[26])),
-    (2, At(&[51])),
-];
-
-/// Those that list eight: cut where a guess may lock on a false phase, and into few pieces.
-static OF_EIGHT: [(u32, Pieces<'static>); 5] = [
-    (1, At(&[190])),
-    (2, At(&[190])),
-    (256, At(&[190])),
-    (2, Even(3)),
-    (2, Even(5)),
-];
-
-#[test]
-fn each_cut_gives_the_same_bytes(rt: HostRuntime) {
-    let crew = TWO_GROUPS.first_wrong(&rt, rt.alloc(), &OF_TWO);
-    assert!(rt; crew == 9, "crew {crew} of two groups");
-    let crew = EIGHT_GROUPS.first_wrong(&rt, rt.alloc(), &OF_EIGHT);
-    assert!(rt; crew == 5, "crew {crew} of eight groups");
-    let crew = EIGHT_BY_FOUR.first_wrong(&rt, rt.alloc(), &OF_EIGHT);
-    assert!(rt;
-        crew == 5,
-        "crew {crew} of eight groups with a reach of four"
-    );
-}
-
 /// Whether a gate hears two workers make the halves of two groups for a list, one beside the other.
 fn both_are_heard<R: Sync + Threads + Wait>(rt: &R, alloc: Global) -> bool {
     let journal = Journal::new(rt, alloc);
     let watch = Watch::new(&journal);
-    TWO_GROUPS.is_written(rt, alloc, Rows::OfList, 2, At(&[104]), &watch) && watch.heard_both()
+    are_listed(rt, alloc, 2, 2, &watch) && watch.heard_both()
 }
 
 #[test]

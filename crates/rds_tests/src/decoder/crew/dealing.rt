@@ -1,4 +1,4 @@
-//! Dealers and their seats: the answer of each call, to one thread and to many.
+//! Dealers: the draws of many threads, and progress as pieces are finished.
 ghost use Rattle.std.specs.Prelude.{◌≡◌, All, IfSome, None, Some, length};
 ghost use Rattle.rds_crew.specs.Seats.{IsFresh, IsOf, HasRested};
 
@@ -55,80 +55,6 @@ fn many_threads_draw_a_thousand_pieces(rt: HostRuntime) {
     }
 }
 
-// By one seat or two.
-#[test]
-fn two_draws_that_were_finished_are_closed_as_two_of_each(rt: HostRuntime) {
-    assert!(rt; are_dealt(&rt, rt.alloc(), 2, 1) && are_dealt(&rt, rt.alloc(), 2, 2));
-}
-
-/// Whether the seat of a dealer of one piece tells the number that it holds, and how many it has finished and
-/// was told.
-fn tells_its_steps(dealer: &Dealer, seat: Seat) -> bool
-    requires { IsFresh dealer.now seat }
-{
-    let (Some(j), seat) = dealer.draw(seat) else {
-        return false;
-    };
-    let holds_it = holds(&seat, j);
-    let (done, seat) = dealer.progress(dealer.finish(seat, j));
-    holds_it && has_done_one(&seat, done)
-}
-
-/// Whether a seat holds that piece as its first.
-fn holds(seat: &Seat, j: u64) -> bool {
-    seat.holding() == Some(j) && seat.finished() == 0 && !seat.ended()
-}
-
-/// Whether a seat has finished one piece, and was told that one is finished.
-fn has_done_one(seat: &Seat, done: u64) -> bool {
-    done == 1 && seat.told() == 1 && seat.finished() == 1
-}
-
-#[test]
-fn a_seat_tells_what_it_holds_and_has_done(rt: HostRuntime) {
-    assert!(rt; one_seat_does(rt.alloc()));
-}
-
-/// Whether the one seat of a dealer of one piece tells its steps.
-fn one_seat_does(alloc: Global) -> bool {
-    let Ok((dealer, mut seats)) = Dealer::new(alloc, 1, 1) else {
-        return false;
-    };
-    match seats.pop() {
-        Some(seat) => tells_its_steps(&dealer, seat),
-        None => false,
-    }
-}
-
-/// The seat of a dealer of no pieces, which gets none, and once more none.
-fn twice_without_piece(dealer: &Dealer, seat: Seat) -> Option<Seat>
-    requires { IsFresh dealer.now seat }
-    ensures own { IfSome result (λ seat. IsOf dealer.now seat) }
-    ensures rested { IfSome result (λ seat. HasRested seat) }
-{
-    let (first, seat) = dealer.draw(seat);
-    if first.is_some() {
-        return None;
-    }
-    let (second, seat) = dealer.draw(seat);
-    let has_ended = second.is_none() && seat.ended() && seat.holding().is_none();
-    if has_ended { Some(seat) } else { None }
-}
-
-/// Whether a dealer of no pieces and one seat is closed with none drawn and none finished.
-fn is_closed_without_piece(alloc: Global) -> bool {
-    let Ok((dealer, mut seats)) = Dealer::new(alloc, 0, 1) else {
-        return false;
-    };
-    let Some(seat) = seats.pop() else {
-        return false;
-    };
-    match twice_without_piece(&dealer, seat) {
-        Some(seat) => seats.push(seat).is_ok() && is_closed_with(dealer, seats, 0),
-        None => false,
-    }
-}
-
 /// Whether a dealer is closed with that number drawn and finished.
 fn is_closed_with(dealer: Dealer, seats: Vec<Seat>, all: u64) -> bool
     requires all { length seats.items ≡ dealer.seats }
@@ -137,11 +63,6 @@ fn is_closed_with(dealer: Dealer, seats: Vec<Seat>, all: u64) -> bool
 {
     let closed = dealer.close(seats);
     closed.drawn == all && closed.finished == all
-}
-
-#[test]
-fn a_dealer_of_no_pieces_is_drawn_from_twice(rt: HostRuntime) {
-    assert!(rt; is_closed_without_piece(rt.alloc()));
 }
 
 /// Two new seats, after the first drew 0 and the second 1, and they went on so.
