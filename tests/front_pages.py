@@ -1,9 +1,9 @@
 #!/usr/bin/env python3
-"""Compiles the examples on the front pages of the libraries, over the libraries that `rt` built: tests/front_pages.py
+"""Compiles the examples on the front pages of the libraries, and surface.txt, over the libraries that `rt` built: tests/front_pages.py
 
 An example is a block `text` in the head of crates/NAME/src/lib.rt. Here it becomes the body of a function, whose parameters have
-the names that the example uses. It is compiled, and nothing is proved of it. Then it is tried with a name in it that is not there:
-the compiler must refuse that.
+the names that the example uses. surface.txt has each public call, by its types. All of it is compiled, and nothing is proved of it.
+Then it is tried with a name in it that is not there: the compiler must refuse that.
 """
 
 import os
@@ -82,6 +82,9 @@ use rds_rows::{Rows, Sheet, Sink, write_rows};""",
     ),
 ]
 
+# The file with each public call, and a name in it.
+SURFACE, CALLED = f"{TOP}/tests/surface.txt", "decode_plain"
+
 # What an example asks of types that it leaves open.
 BOUNDS = {"R": "Threads + Wait + Sync + Drop", "K": "Sink + Drop"}
 
@@ -135,9 +138,9 @@ def refused(said):
 
 
 def misnamed(text, name):
-    """A module whose example has another name in the place of this one."""
-    uses, _, body = text.partition("pub fn example")
-    return f"{uses}pub fn example{re.sub(rf'{name}(?=[^a-z_])', f'{name}_of_another_name', body)}"
+    """A module whose functions have another name in the place of this one."""
+    uses, first, body = text.partition("pub fn")
+    return uses + first + re.sub(rf"{name}(?=[^a-z_])", f"{name}_of_another_name", body)
 
 
 def main():
@@ -153,13 +156,14 @@ def main():
     for crate in LIBRARIES:
         if len(examples_of(crate)) != count.get(crate, 0):
             faults.append(f"{crate}: {len(examples_of(crate))} examples, and {count.get(crate, 0)} are compiled")
+    modules["surface"], names["surface"] = read(SURFACE), CALLED
     said = compiled(modules)
     if not re.search(r"^only=\d+ ", said, re.M) or refused(said):
         faults.append(f"the examples do not compile:\n{said[-3000:]}")
     wrong = {it: misnamed(text, names[it]) for it, text in modules.items()}
     for it in sorted(set(wrong) - refused(compiled(wrong))):
         faults.append(f"{it}: {names[it]} is taken under another name")
-    print("\n".join(faults) or f"{len(modules)} examples compile, and none with another name")
+    print("\n".join(faults) or f"{len(modules) - 1} examples and surface.txt compile, and none with another name")
     return bool(faults)
 
 

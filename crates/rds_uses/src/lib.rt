@@ -30,7 +30,6 @@
 //! | | [`history`] | the same of the bytes that a reader gave and a writer took, standard input and output too |
 //! | several | [`sent`] | laws of groups that were sent: encoded, damaged, decoded, listed |
 //! | each | [`refusals`] | numbers and names, which all crates share |
-//! | | [`surface`] | each public call, by its types |
 //!
 //! `rds_rows` has its callers in `rds_tests`.
 #![tactic(auto)]
@@ -53,6 +52,5 @@ pub mod pieces;
 pub mod refusals;
 pub mod sent;
 pub mod stream;
-pub mod surface;
 pub mod sync;
 pub mod tool;
