@@ -28,7 +28,7 @@ own_words=$#
 # How many checks a script makes, given all words of its usage and all tools. Under a pip before 22.3 library.sh makes one more, without
 # the library for arm64 package.sh makes one fewer, and without valgrind growth.sh makes 75 and work.sh 401.
 declare -A checks=([docs.sh]=82 [growth.sh]='75 79' [library.sh]='121 122' [listings.sh]=119 [monitor.sh]=6 [package.sh]='48 49'
-    [program.sh]=352 [recipes.sh]=56 [scripts.sh]=363 [work.sh]='401 410')
+    [program.sh]=352 [recipes.sh]=56 [scripts.sh]=364 [work.sh]='401 410')
 
 # needs TOOL..: the tools that a script calls besides those of this page. It ends if one is missing. After this call it finds no other
 # tools, so that the list is complete.

@@ -358,6 +358,16 @@ wrong encode_short <<<'[ "$1" = encode ] || exec "$rds" "$@"; "$rds" "$@" | head
 wrong takes_any_line <<<'[ "$1" != encode ] || { "$rds" "$@"; exit 0; }; exec "$rds" "$@"'
 notices listings.sh crew_differs bash "$here/listings.sh" "$work/crew_differs"
 notices program.sh noisy bash "$here/program.sh" "$work/noisy"
+# wrong for the last number alone of workers or pieces
+wrong last_number <<'END'
+case $* in *'--loss 1 --workers 256' | *'--reach '?' --workers 2 --pieces 208') "$rds" "$@" | head -c -1 ;; *) exec "$rds" "$@" ;; esac
+END
+PATH=$all_tools timeout 300 "$here/program.sh" "$work/last_number" >"$work/out" 2>&1
+if [[ $(tail -n 1 "$work/out") == *' passed, 4 failed' && $(grep -cE '^FAILED: .* (256|208)$' "$work/out") == 4 ]]; then
+    pass
+else
+    fail "program.sh over the program that is last_number: $(tail -n 1 "$work/out")"
+fi
 notices streams.py noisy "$here/streams.py" "$work/noisy" 1 4
 notices differential.py noisy "$here/differential.py" "$work/noisy" 1 1
 # of the jobs that each seed has, only one is wrong: its text, its status, or its standard error
