@@ -62,6 +62,22 @@ pub fn second_of(items: &Items, recording: &Recording, rules: &Rules) -> Option<
     items.range(recording, rules, 1, items.len()).next()
 }
 
+/// Any item by its index, once all are collected.
+pub fn collected_at(
+    alloc: Global,
+    items: &Items,
+    recording: &Recording,
+    rules: &Rules,
+    k: usize,
+) -> Result<Option<Item>, AllocError>
+    requires source { items.now.source ≡ recording.now }
+    requires rules { items.now.rules ≡ rules.now }
+    ensures { IfOk result (λ item. item ≡ slice_get items.now.list k) }
+{
+    let collected = items.to_vec(alloc, recording, rules)?;
+    Ok(collected.get(k).copied())
+}
+
 // ---- lists that are made
 
 /// One list and another of the same recording by the same rules.

@@ -1,11 +1,12 @@
 //! Facts that a user of a rule of loss relies on: the history that is kept of bad blocks says when a lock is
 //! lost, as its blocks do.
-ghost use Rattle.std.specs.Prelude.{◌≡◌, ℕ, ◌≤◌, Bool, if◌then◌else◌};
+ghost use Rattle.std.specs.Prelude.{◌≡◌, ℕ, ◌≤◌, Bool, Some, if◌then◌else◌};
 ghost use Rattle.std.specs.Int.{bit_at};
-ghost use Rattle.rds_sync.specs.declared.loss.Loss.TheVariants.{Share};
-ghost use Rattle.rds_sync.specs.Loss.{bad_at, loses};
+ghost use Rattle.rds_sync.specs.declared.loss.Loss.TheVariants.{Run, Share};
+ghost use Rattle.rds_sync.specs.Loss.{IsLawfulBad, bad_at, loses};
+ghost use Rattle.rds_sync.specs.Ranges.{IsLossInRange};
 
-use rds_sync::{Loss, laws};
+use rds_sync::{Bad, Lock, Loss, laws};
 
 /// A lock is lost if the mask that is kept of its last blocks has too many ones.
 pub fn lost_by_mask(bad: u32, of: u32, mask: u64) -> bool
@@ -36,5 +37,29 @@ pub fn as_share(loss: Loss) -> Loss
             of: blocks,
         },
         share => share,
+    }
+}
+
+/// A lock that bad blocks in a row lose tells how many it has.
+pub fn bad_in_a_row(lock: Lock, most: u32) -> Option<u8>
+    requires range { IsLossInRange (Run most) }
+    requires lawful { IsLawfulBad (Run most) lock.bad }
+    ensures { result ≡ Some lock.bad }
+{
+    match lock.bad_by(Loss::Run(most)) {
+        Bad::Run(blocks) => Some(blocks),
+        Bad::Mask(_) => None,
+    }
+}
+
+/// One that a share loses tells its mask.
+pub fn mask_of_bad(lock: Lock, bad: u32, of: u32) -> Option<u64>
+    requires range { IsLossInRange (Share bad of) }
+    requires lawful { IsLawfulBad (Share bad of) lock.bad }
+    ensures { result ≡ Some lock.bad }
+{
+    match lock.bad_by(Loss::Share { bad, of }) {
+        Bad::Mask(mask) => Some(mask),
+        Bad::Run(_) => None,
     }
 }
