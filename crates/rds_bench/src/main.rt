@@ -12,7 +12,8 @@ use anyhow::Result;
 use forms::Form;
 use std::env;
 
-const USAGE: &str = "usage: rds_bench FORM [LOSS]  times a form over packed bits: ns, and the count
+const USAGE: &str =
+    "usage: rds_bench FORM [LOSS]  prints the nanoseconds of a form over the packed bits on standard input, and its count
        rds_bench --calls      calls that a crew is made of, each by itself, and once more if it is refused
 Forms that find valid windows: scan, windows, places, divided. Forms that find valid blocks: report, guess, items.
 LOSS: how many bad blocks in a row lose sync [default: 10]

@@ -3,7 +3,7 @@
 //! - `words`: a job as its words ask for it.
 //! - `workers`: lists by as many workers as are asked for, at the same time.
 //! - `following`: a stream, whose rows come as soon as they are complete.
-//! - `failing`: devices that withhold, or have no end.
+//! - `failing`: devices that withhold, fail or have no end.
 //! - `devices` and `jobs`: shared by these.
 
 mod devices;

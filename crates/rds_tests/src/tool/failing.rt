@@ -1,7 +1,8 @@
 //! Devices that withhold the bytes that they are given, or have no end.
 use crate::tool::devices::{SlowReader, Withholding, scan_gives, written_to};
 use crate::tool::jobs::Scan;
-use rds_tool::ToolError;
+use crate::writer::{Failure, SlowWriter};
+use rds_tool::{FromRead, ToolError, transcribe};
 use std::alloc::{AllocError, Global};
 use std::sync::Wait;
 use std::thread::Threads;
@@ -87,4 +88,46 @@ fn is_read<R: Threads + Wait + Sync>(
     let mut reader = SlowReader::new(bytes, step, 0);
     let is_given = scan_gives(rt, alloc, Scan::Nothing, &mut reader, wanted);
     is_given && reader.reads == reads && reader.least_buffer == 65_536
+}
+
+/// Whether the scan of a zero group is refused whose reader gives a digit per read and fails at that read.
+fn is_unread<R: Threads + Wait + Sync>(rt: &R, alloc: Global, at: u64) -> bool {
+    let mut reader = SlowReader::new(ZERO_GROUP, 1, at);
+    scan_gives(rt, alloc, Scan::Digits, &mut reader, Err(ToolError::Read))
+}
+
+#[test]
+fn a_reader_may_fail_at_each_read(rt: HostRuntime) {
+    for at in 1..28u64 {
+        assert!(rt; is_unread(&rt, rt.alloc(), at), "read {at}");
+    }
+}
+
+/// Whether that scan is refused whose writer takes a byte per write and fails so, and this number of bytes is left.
+fn is_cut_off<R: Threads + Wait + Sync>(
+    rt: &R,
+    alloc: Global,
+    failure: Failure,
+    left: usize,
+) -> bool {
+    let mut reader = FromRead::new(ZERO_GROUP);
+    let mut writer = SlowWriter::new(alloc, 1, failure);
+    let answer = transcribe(
+        rt,
+        alloc,
+        &mut reader,
+        &mut writer,
+        &Scan::Digits.job(alloc),
+    );
+    answer == Err(ToolError::Write) && ROWS.get(..left) == Some(writer.held.as_slice())
+}
+
+#[test]
+fn a_writer_may_fail_at_each_write(rt: HostRuntime) {
+    for left in 0..26u8 {
+        let at = u64::from(left) + 1;
+        let is_refused = is_cut_off(&rt, rt.alloc(), Failure::Refuses(at), usize::from(left));
+        let is_untaken = is_cut_off(&rt, rt.alloc(), Failure::TakesNone(at), usize::from(left));
+        assert!(rt; is_refused && is_untaken, "write {at}");
+    }
 }
