@@ -2,16 +2,18 @@
 # crate before it builds it.
 RT     ?= rt
 PREFIX ?= /usr/local
+PYTHON ?= /usr/bin/python3
 # the installed program, and the folder of the completion for zsh
 PROGRAM ?= build/rds
 ZSH_COMPLETIONS ?= $(PREFIX)/share/zsh/site-functions
 # tests/*.py ask for it by this name
 export RT
+PYTHON ?= /usr/bin/python3
 
 SOURCES := crates.txt $(shell find crates -name out -prune -o \( -name '*.rt' -o -name '*.antt' \) -print)
 
-.PHONY: all run quick lib test proofs built archives wrong-bodies install install-program install-monitor install-python \
-  install-lib deb wheel monitor-demo clean toolchain
+.PHONY: all run quick lib test proofs built tried archives wrong-bodies install install-program install-monitor install-python \
+  install-lib uninstall deb wheel monitor-demo clean toolchain
 all: build/rds
 
 toolchain:
@@ -56,13 +58,19 @@ quick: toolchain
 	tests/quick.sh
 
 # The wrong bodies get the processors that `rt ci` leaves free: most crates use one another, so it often proves a single crate. The
-# scripts try the built programs once all is proved. Times are measured last, when nothing else runs.
+# tests try the built programs once all is proved.
 test: toolchain
 	@mkdir -p build
 	@rm -f $(LOG)
 	+$(MAKE) --no-print-directory -j 2 WHEN='--beside $(LOG)' wrong-bodies built
-	+$(MAKE) --no-print-directory tests/growth.sh
+	+$(MAKE) --no-print-directory tried
 	@[ -n "$$(git status --porcelain)" ] || git rev-parse HEAD > build/passed
+
+# All tests by pytest, over what is built. It prints which tests are skipped and why, and fails if there are fewer cases than in
+# tests/counts.tsv. Times are measured last, when nothing else runs.
+tried:
+	timeout 3600 $(PYTHON) -m pytest -n auto $(TESTS)
+TESTS ?= tests monitor/tests
 
 # the output of `rt ci`, for which the wrong bodies wait
 LOG := build/proofs.log
@@ -84,83 +92,79 @@ archives:
 wrong-bodies:
 	nice tests/wrong_bodies.py $(WHEN)
 
-# MAKEFLAGS is empty since the flags that make hands on name its number of jobs: the scripts have their own, one more than there are
-# processors, as some of them wait for half of their time. `nice` leaves the wrong bodies their share of the processors, so that both end
-# at about the same time.
 built: proofs
 	+$(MAKE) --no-print-directory archives
-	tests/front_pages.py
-	MAKEFLAGS= nice make --no-print-directory -j $$(($$(nproc) + 1)) -O $(SCRIPTS)
-
-# The scripts over what is built; those that take longest come first.
-SCRIPTS := $(addprefix tests/,library.sh monitor.sh scripts.sh refusals.sh differential.py docs.sh package.sh work.sh program.sh \
-  recipes.sh streams.py progress.py listings.sh)
-RDS := crates/rds/out/rds
-OVER = $(RDS)
-tests/refusals.sh: OVER = $(RDS) crates/rds_bench/out/rds_bench
-tests/library.sh: OVER = build/lib $(RDS) $(FOLDER_arm64)
-tests/package.sh: OVER = $(RDS) build/lib $(FOLDER_arm64)
-tests/monitor.sh tests/scripts.sh: OVER = $(RDS) build/lib
-tests/growth.sh: OVER = $(RDS) build/lib crates/rds_bench/out/rds_bench
-tests/library.sh tests/package.sh tests/monitor.sh tests/scripts.sh tests/growth.sh: lib
-
-# A script that hangs is ended, and named: all scripts take a few minutes together. `timeout` takes it out of the terminal's group, so
-# an interrupt is handed on.
-.PHONY: $(SCRIPTS) tests/growth.sh
-$(SCRIPTS) tests/growth.sh:
-	@echo $@ $(OVER)
-	@trap 'kill $$!' INT TERM; timeout 1200 $@ $(OVER) & wait $$! || { status=$$?; \
-	  [ $$status != 124 ] || echo "$@: ended, since it ran for more than 1200 seconds" >&2; exit $$status; }
 
 # The program, with its manual page, completion for bash and zsh and the examples; and rds-monitor with the Python module librds.
+# DESTDIR may have blanks; the other folders become parts of files, and may not.
+ifneq ($(words x$(PREFIX) x$(LIBDIR) x$(PYTHON_DIR) x$(ZSH_COMPLETIONS)),4)
+$(error PREFIX, LIBDIR, PYTHON_DIR and ZSH_COMPLETIONS are folders without blanks in their names)
+endif
 SHARE = $(DESTDIR)$(PREFIX)/share
 install: install-program install-monitor
 
 install-program: $(PROGRAM)
-	install -d $(DESTDIR)$(PREFIX)/bin $(SHARE)/man/man1 $(SHARE)/rds/examples $(SHARE)/bash-completion/completions
-	install -d $(DESTDIR)$(ZSH_COMPLETIONS)
-	install -m 755 $(PROGRAM) $(DESTDIR)$(PREFIX)/bin/rds
-	install -m 644 rds.1 $(SHARE)/man/man1/rds.1
-	install -m 755 examples/*.sh $(SHARE)/rds/examples
-	install -m 644 $(filter-out %.sh,$(wildcard examples/*.*)) $(SHARE)/rds/examples
-	install -m 644 completions/rds.bash $(SHARE)/bash-completion/completions/rds
-	install -m 644 completions/_rds $(DESTDIR)$(ZSH_COMPLETIONS)/_rds
+	install -d "$(DESTDIR)$(PREFIX)/bin" "$(SHARE)/man/man1" "$(SHARE)/rds/examples" "$(SHARE)/bash-completion/completions"
+	install -d "$(DESTDIR)$(ZSH_COMPLETIONS)"
+	install -m 755 $(PROGRAM) "$(DESTDIR)$(PREFIX)/bin/rds"
+	install -m 644 rds.1 "$(SHARE)/man/man1/rds.1"
+	install -m 755 examples/*.sh "$(SHARE)/rds/examples"
+	install -m 644 $(filter-out %.sh,$(wildcard examples/*.*)) "$(SHARE)/rds/examples"
+	install -m 644 completions/rds.bash "$(SHARE)/bash-completion/completions/rds"
+	install -m 644 completions/_rds "$(DESTDIR)$(ZSH_COMPLETIONS)/_rds"
 
-# `rds-monitor` finds its package, and librds if no system package has it, in share/rds-monitor.
+# `rds-monitor` finds its package, and librds if no system package has it, in share/rds-monitor. Its manual page and completions are made
+# here, by argparse-manpage and shtab. Without these the rest is installed, unless PAGES_NEEDED is set, as for a package.
 MONITOR_DIR := $(PREFIX)/share/rds-monitor
+ROOMS       := rows content measures signal db page watch
 PYTHON_TOO  ?= install-python
 install-monitor: $(PYTHON_TOO)
-	install -d $(DESTDIR)$(PREFIX)/bin $(DESTDIR)$(MONITOR_DIR)/rds_monitor $(SHARE)/man/man1 $(SHARE)/bash-completion/completions
-	install -d $(DESTDIR)$(ZSH_COMPLETIONS)
-	install -m 644 monitor/rds_monitor/*.py $(DESTDIR)$(MONITOR_DIR)/rds_monitor
-	install -d $(DESTDIR)$(MONITOR_DIR)/rds_monitor/page $(DESTDIR)$(MONITOR_DIR)/rds_monitor/watch
-	install -m 644 monitor/rds_monitor/watch/*.py $(DESTDIR)$(MONITOR_DIR)/rds_monitor/watch
-	install -m 644 monitor/rds_monitor/page/* $(DESTDIR)$(MONITOR_DIR)/rds_monitor/page
-	install -m 755 monitor/rds-monitor $(DESTDIR)$(PREFIX)/bin/rds-monitor
-	install -m 644 monitor/rds-monitor.1 $(SHARE)/man/man1/rds-monitor.1
-	install -m 644 monitor/completions/rds-monitor.bash $(SHARE)/bash-completion/completions/rds-monitor
-	install -m 644 monitor/completions/_rds-monitor $(DESTDIR)$(ZSH_COMPLETIONS)/_rds-monitor
+	install -d "$(DESTDIR)$(PREFIX)/bin" "$(DESTDIR)$(MONITOR_DIR)/rds_monitor" "$(SHARE)/man/man1" "$(SHARE)/bash-completion/completions"
+	install -d "$(DESTDIR)$(ZSH_COMPLETIONS)"
+	install -m 644 monitor/rds_monitor/*.py "$(DESTDIR)$(MONITOR_DIR)/rds_monitor"
+	for room in $(ROOMS); do install -d "$(DESTDIR)$(MONITOR_DIR)/rds_monitor/$$room" || exit 1; \
+	  install -m 644 monitor/rds_monitor/$$room/*.* "$(DESTDIR)$(MONITOR_DIR)/rds_monitor/$$room" || exit 1; done
+	install -m 755 monitor/rds-monitor "$(DESTDIR)$(PREFIX)/bin/rds-monitor"
+	$(PYTHON) packaging/make_pages.py build/pages && \
+	  install -m 644 build/pages/rds-monitor.1 "$(SHARE)/man/man1/rds-monitor.1" && \
+	  install -m 644 build/pages/rds-monitor.bash "$(SHARE)/bash-completion/completions/rds-monitor" && \
+	  install -m 644 build/pages/_rds-monitor "$(DESTDIR)$(ZSH_COMPLETIONS)/_rds-monitor" || \
+	  { [ -z "$(PAGES_NEEDED)" ] && echo 'rds-monitor is installed without its manual page and completions' >&2; }
 
 # The Python module, which loads librds.so.0.
 PYTHON_DIR ?= $(MONITOR_DIR)
 install-python:
-	install -d $(DESTDIR)$(PYTHON_DIR)/librds
-	install -m 644 bindings/python/librds/*.py bindings/python/librds/py.typed $(DESTDIR)$(PYTHON_DIR)/librds
+	install -d "$(DESTDIR)$(PYTHON_DIR)/librds"
+	install -m 644 bindings/python/librds/*.py bindings/python/librds/py.typed "$(DESTDIR)$(PYTHON_DIR)/librds"
 
-# The library for C, its header, and the files for pkg-config and CMake.
+# The library for C, its header, its manual pages, and the files for pkg-config and CMake.
 LIBDIR ?= $(PREFIX)/lib
 # the folder of the library that is installed
 LIBRARY ?= build/lib
 install-lib: $(LIBRARY)/librds.so.0
-	install -d $(DESTDIR)$(LIBDIR)/pkgconfig $(DESTDIR)$(PREFIX)/include
-	install -m 644 $(LIBRARY)/librds.a $(DESTDIR)$(LIBDIR)/librds.a
-	install -m 755 $(LIBRARY)/librds.so.0 $(DESTDIR)$(LIBDIR)/librds.so.0
-	ln -sf librds.so.0 $(DESTDIR)$(LIBDIR)/librds.so
-	install -m 644 lib/rds.h $(DESTDIR)$(PREFIX)/include/rds.h
-	sed 's|@prefix@|$(PREFIX)|; s|@libdir@|$(LIBDIR)|' lib/rds.pc.in > $(DESTDIR)$(LIBDIR)/pkgconfig/rds.pc
-	install -d $(DESTDIR)$(LIBDIR)/cmake/rds
-	install -m 644 lib/rds-config-version.cmake $(DESTDIR)$(LIBDIR)/cmake/rds/rds-config-version.cmake
-	sed 's|@libdir@|$(LIBDIR)|; s|@includedir@|$(PREFIX)/include|' lib/rds-config.cmake.in > $(DESTDIR)$(LIBDIR)/cmake/rds/rds-config.cmake
+	install -d "$(DESTDIR)$(LIBDIR)/pkgconfig" "$(DESTDIR)$(LIBDIR)/cmake/rds" "$(DESTDIR)$(PREFIX)/include" "$(SHARE)/man/man3"
+	install -m 644 $(LIBRARY)/librds.a "$(DESTDIR)$(LIBDIR)/librds.a"
+	install -m 755 $(LIBRARY)/librds.so.0 "$(DESTDIR)$(LIBDIR)/librds.so.0"
+	ln -sf librds.so.0 "$(DESTDIR)$(LIBDIR)/librds.so"
+	install -m 644 lib/rds.h "$(DESTDIR)$(PREFIX)/include/rds.h"
+	sed 's|@prefix@|$(PREFIX)|; s|@libdir@|$(LIBDIR)|' lib/rds.pc.in > "$(DESTDIR)$(LIBDIR)/pkgconfig/rds.pc"
+	install -m 644 lib/rds-config-version.cmake "$(DESTDIR)$(LIBDIR)/cmake/rds/rds-config-version.cmake"
+	sed "s|@include@|$$(realpath -m --relative-to=$(LIBDIR) $(PREFIX)/include)|" lib/rds-config.cmake.in \
+	  > "$(DESTDIR)$(LIBDIR)/cmake/rds/rds-config.cmake"
+	$(PYTHON) lib/make_pages.py "$(SHARE)/man/man3" || \
+	  { [ -z "$(PAGES_NEEDED)" ] && echo 'librds is installed without its manual pages' >&2; }
+
+# Removes the files that `install` and `install-lib` write with the same DESTDIR and folders, and then the folders that are only for rds.
+STAGE := build/uninstall
+# what `install-monitor` may have left out
+MAYBE = $(PREFIX)/share/man/man1/rds-monitor.1 $(PREFIX)/share/bash-completion/completions/rds-monitor $(ZSH_COMPLETIONS)/_rds-monitor
+uninstall:
+	@rm -rf $(STAGE) && mkdir -p $(STAGE)/made && touch $(addprefix $(STAGE)/made/,rds librds.a librds.so.0)
+	@$(MAKE) -s install install-lib DESTDIR=$(STAGE)/root PROGRAM=$(STAGE)/made/rds LIBRARY=$(STAGE)/made 2>/dev/null
+	@touch $(addprefix $(STAGE)/root,$(MAYBE))
+	@root=$$(realpath "$(DESTDIR)/") && cd $(STAGE)/root && find . ! -type d -print0 | (cd "$$root" && xargs -0 rm -f) && \
+	  find . -depth -type d -path '*rds*' -print0 | (cd "$$root" && xargs -0 rmdir --ignore-fail-on-non-empty 2>/dev/null || true)
+	@rm -rf $(STAGE)
 
 # All of that as Debian packages below build, and those for arm64 if `make lib ARCH=arm64` was run.
 deb: $(PROGRAM) $(LIBRARY)/librds.so.0
@@ -173,7 +177,6 @@ wheel: $(FOLDER_$(ARCH))/librds.so.0
 
 # Three simulated stations on a page, by the library of `make lib`, by build/rds, by the system's library, or else by a program that is
 # built without proof, in a minute or so.
-PYTHON ?= /usr/bin/python3
 monitor-demo:
 	$(PYTHON) monitor/demo/run.py $(DEMO)
 

@@ -1,6 +1,6 @@
 # Completion of rds for bash: source it, or install it as rds below bash-completion's folder completions.
 
-# What each command takes; tests/package.sh compares it with the program's help.
+# What each command takes; tests/test_package.py compares it with the program's help.
 _rds_options() {
   local part='--bits --gaps' input='--hex --bits --gaps' rules='--burst --reach --loss --share --of' crew='--workers --progress'
   case $1 in

@@ -24,15 +24,32 @@ PROCESSORS = {"amd64": ["--cpu", "x86-64"], "arm64": ["--target", "aarch64-unkno
 
 def main(processor, archive):
     folder = f"{TOP}/crates/{CRATE}"
-    if not all(is_built(it) for it in below(CRATE)):
+    if not all(is_built(name) for name in below(CRATE)):
         status = subprocess.run([RT, "lib"], cwd=folder, stdout=subprocess.DEVNULL, timeout=LIMIT).returncode
         if status:
             return status
-    words = [f"{KIT}/bin/rattle", "build", *of_kit(CRATE, {"std", *used_by(CRATE)[1]}), *over(CRATE), "--crate-type", "staticlib"]
-    words += ["--links", f"{CRATE}=", "--toolchain", f"{KIT}/toolchain", "--backend", "llvm", *PROCESSORS[processor]]
+    words = [
+        f"{KIT}/bin/rattle",
+        "build",
+        *of_kit(CRATE, {"std", *used_by(CRATE)[1]}),
+        *over(CRATE),
+        "--crate-type",
+        "staticlib",
+    ]
+    words += [
+        "--links",
+        f"{CRATE}=",
+        "--toolchain",
+        f"{KIT}/toolchain",
+        "--backend",
+        "llvm",
+        *PROCESSORS[processor],
+    ]
     words += ["--incremental", KEPT, "-o", archive]
     os.makedirs(os.path.dirname(archive), exist_ok=True)
-    ran = subprocess.run(words, cwd=folder, stdout=subprocess.PIPE, stderr=subprocess.STDOUT, encoding="utf-8", timeout=LIMIT)
+    ran = subprocess.run(
+        words, cwd=folder, stdout=subprocess.PIPE, stderr=subprocess.STDOUT, encoding="utf-8", timeout=LIMIT
+    )
     print(ran.stdout[-2000:] if ran.returncode else ran.stdout.rstrip("\n").rpartition("\n")[2])
     return ran.returncode
 

@@ -3,11 +3,13 @@
  * Each function has the name and the arguments that rds.h declares, and refuses what the proved function of that name requires of
  * its caller and cannot see: lib/make_library.sh renames that one to proved_*. So this page is no part of the proof;
  * tests/library/border.py tries each pointer of each function. */
+#include "heap.h"
 #include "rds.h"
 
 #include <stdbool.h>
 #include <stddef.h>
 #include <stdint.h>
+#include <string.h>
 
 /* Values in a row that a call is lent. */
 struct lent {
@@ -101,6 +103,20 @@ uint8_t rds_push(const uint8_t *bytes, size_t bytes_len, const rds_gap_t *gaps, 
     return proved_rds_push(ROW(bytes), ROW(gaps), rules, stream, ROW(room), taken, count);
 }
 
+/* The scratch is lent only for the call. What was lent before, to a call that a signal has interrupted, is lent again after it. */
+uint8_t rds_push_with(const uint8_t *bytes, size_t bytes_len, const rds_gap_t *gaps, size_t gaps_len, const rds_rules_t *rules,
+                      rds_stream_t *stream, rds_item_t *room, size_t room_len, uint64_t *taken, uint64_t *count, uint8_t *scratch,
+                      size_t scratch_len)
+{
+    LOOK_AT(MANY(bytes), MANY(gaps), ONE(rules), ONE_WRITTEN(stream), MANY_WRITTEN(room), ONE_WRITTEN(taken), ONE_WRITTEN(count),
+            MANY_WRITTEN(scratch));
+    const struct scratch before = heap_scratch;
+    heap_scratch = (struct scratch){true, (uintptr_t)scratch, (uintptr_t)scratch + scratch_len};
+    const uint8_t number = proved_rds_push(ROW(bytes), ROW(gaps), rules, stream, ROW(room), taken, count);
+    heap_scratch = before;
+    return number;
+}
+
 PROVED(rds_finish);
 uint8_t rds_finish(const rds_gap_t *gaps, size_t gaps_len, const rds_rules_t *rules, const rds_stream_t *stream, rds_item_t *room,
                    size_t room_len, uint64_t *count, rds_totals_t *totals)
@@ -116,6 +132,28 @@ uint8_t rds_finish_with(const uint8_t *bytes, size_t bytes_len, uint64_t bits, c
 {
     LOOK_AT(MANY(bytes), MANY(gaps), ONE(rules), ONE(stream), MANY_WRITTEN(room), ONE_WRITTEN(count), ONE_WRITTEN(totals));
     return proved_rds_finish_with(ROW(bytes), bits, ROW(gaps), rules, stream, ROW(room), count, totals);
+}
+
+/* The cause of an error, if it is RDS_UNLAWFUL_STATE and its cause has a name. */
+static uint8_t cause_of(uint8_t number, const rds_rules_t *rules, const rds_stream_t *stream)
+{
+    if (number != RDS_UNLAWFUL_STATE)
+        return number;
+    if (stream->magic != RDS_STREAM_MAGIC)
+        return RDS_NOT_A_STREAM;
+    if (stream->version != RDS_STREAM_VERSION)
+        return RDS_OTHER_VERSION;
+    const rds_rules_t *their = &stream->rules;
+    if (their->burst != rules->burst || their->reach != rules->reach || their->loss != rules->loss || their->of != rules->of)
+        return RDS_OTHER_RULES;
+    return number;
+}
+
+PROVED(rds_check);
+uint8_t rds_check(const rds_gap_t *gaps, size_t gaps_len, const rds_rules_t *rules, const rds_stream_t *stream)
+{
+    LOOK_AT(MANY(gaps), ONE(rules), ONE(stream));
+    return cause_of(proved_rds_check(ROW(gaps), rules, stream), rules, stream);
 }
 
 PROVED(rds_remainder);
@@ -139,25 +177,12 @@ uint8_t rds_encode(const rds_words_t *groups, size_t groups_len, rds_packed_t *r
     return proved_rds_encode(ROW(groups), ROW(room));
 }
 
-PROVED(rds_refusal_name);
-uint8_t rds_refusal_name(uint8_t number, uint8_t *room, size_t room_len)
-{
-    static const char name[] = "BadPointer";
-    LOOK_AT(MANY_WRITTEN(room));
-    if (number != RDS_BAD_POINTER)
-        return proved_rds_refusal_name(number, ROW(room));
-    if (room_len < sizeof name)
-        return RDS_SMALL_ROOM;
-    for (size_t k = 0; k < sizeof name; k++)
-        room[k] = (uint8_t)name[k];
-    return 0;
-}
-
-/* The names are those that the proved rds_refusal_name writes: tests/library/texts.c compares them. */
-static const struct {
+/* The names are those that the proved rds_refusal_name writes: tests/test_library.py compares them. */
+static const struct refusal {
     uint8_t number;
     const char *name, *reason;
 } refusals[] = {
+    {0, "Success", "no error"},
     {RDS_BURST_RANGE, "BurstRange", "the burst limit is above 5"},
     {RDS_REACH_RANGE, "ReachRange", "the reach is not 1 to 8"},
     {RDS_LOSS_RANGE, "LossRange", "the loss is not 1 to 64"},
@@ -174,24 +199,52 @@ static const struct {
     {RDS_NO_REFUSAL, "NoRefusal", "a number that is none of a refusal"},
     {RDS_BAD_POINTER, "BadPointer", "a pointer that is not as required"},
     {RDS_RESERVED_FIELD, "ReservedField", "a reserved field that is not 0"},
+    {RDS_NOT_A_STREAM, "NotAStream", "a stream that was not zeroed, or is in another byte order"},
+    {RDS_OTHER_VERSION, "OtherVersion", "a stream of another version"},
+    {RDS_OTHER_RULES, "OtherRules", "a stream that is decoded by other rules"},
 };
 
 static const char unknown[] = "unknown";
+static const struct refusal no_refusal = {0, unknown, unknown};
 
-const char *rds_refusal_text(uint8_t number)
+static const struct refusal *refusal_of(uint8_t number)
 {
     for (size_t k = 0; k < sizeof refusals / sizeof *refusals; k++)
         if (refusals[k].number == number)
-            return refusals[k].name;
-    return unknown;
+            return &refusals[k];
+    return &no_refusal;
+}
+
+const char *rds_refusal_text(uint8_t number)
+{
+    return refusal_of(number)->name;
 }
 
 const char *rds_refusal_reason(uint8_t number)
 {
-    for (size_t k = 0; k < sizeof refusals / sizeof *refusals; k++)
-        if (refusals[k].number == number)
-            return refusals[k].reason;
-    return unknown;
+    return refusal_of(number)->reason;
+}
+
+/* Whether only this page has the error. */
+static bool is_of_c(uint8_t number)
+{
+    return number == RDS_BAD_POINTER || (number >= RDS_NOT_A_STREAM && number <= RDS_OTHER_RULES);
+}
+
+static uint8_t write_name(const char *name, uint8_t *room, size_t room_len)
+{
+    const size_t len = strlen(name) + 1;
+    if (room_len < len)
+        return RDS_SMALL_ROOM;
+    memcpy(room, name, len);
+    return 0;
+}
+
+PROVED(rds_refusal_name);
+uint8_t rds_refusal_name(uint8_t number, uint8_t *room, size_t room_len)
+{
+    LOOK_AT(MANY_WRITTEN(room));
+    return is_of_c(number) ? write_name(refusal_of(number)->name, room, room_len) : proved_rds_refusal_name(number, ROW(room));
 }
 
 const char *rds_offset_text(uint8_t offset)
@@ -200,9 +253,9 @@ const char *rds_offset_text(uint8_t offset)
     case RDS_A: return "A";
     case RDS_B: return "B";
     case RDS_C: return "C";
-    case RDS_CX: return "C'";
+    case RDS_CX: return "Cx";
     case RDS_D: return "D";
-    case RDS_C_OR_CX: return "C or C'";
+    case RDS_C_OR_CX: return "C or Cx";
     default: return unknown;
     }
 }

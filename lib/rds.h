@@ -38,10 +38,12 @@
  * write it during the call.
  *
  * Threads. Nothing is kept after a call: no handle, no thread, no lock, no global state, nothing to free. Calls may run at the same time
- * if no two write to the same memory.
+ * if none writes what another uses. So several threads may call rds_finish for one stream, but not while one pushes to it.
  *
  * Stack and memory. A call takes at most 8192 bytes of stack. Only rds_totals, rds_items, rds_run, rds_finish_run, rds_push, rds_finish,
- * rds_finish_with and rds_correct call malloc, and they free what they took before they return.
+ * rds_finish_with, rds_check and rds_correct call malloc, and they free what they took before they return. rds_totals and rds_items copy
+ * the recording, and take up to 1.2 bytes per byte of it. rds_push takes at most 1 MB, and less if there is less room: use it for any
+ * long recording. rds_push_with takes its memory from the caller instead.
  *
  * Time. A call takes time for the bits that it decodes and for the gaps that it is given, whatever the length of the recording or stream.
  *
@@ -89,7 +91,11 @@ enum {
     RDS_OFFSET_RANGE = 68,    /* an offset that is none of RDS_A to RDS_C_OR_CX */
     RDS_NO_REFUSAL = 69,      /* no refusal has this number */
     RDS_BAD_POINTER = 70,     /* a pointer that does not meet its requirement */
-    RDS_RESERVED_FIELD = 71   /* a reserved field of the rules is not 0 */
+    RDS_RESERVED_FIELD = 71,  /* a reserved field of the rules is not 0 */
+    /* The causes of RDS_UNLAWFUL_STATE that rds_check names. */
+    RDS_NOT_A_STREAM = 72,    /* a stream that was not zeroed before its first call, or is in another byte order */
+    RDS_OTHER_VERSION = 73,   /* a stream of another RDS_STREAM_VERSION */
+    RDS_OTHER_RULES = 74      /* a stream that is decoded by other rules */
 };
 
 /* The twelve totals of a report: 128 bytes. */
@@ -230,20 +236,37 @@ uint8_t rds_finish_run(const uint8_t *bytes, size_t bytes_len, uint64_t bits, co
 /* Takes the next bytes of a stream, as many as there is room for, and writes the items that they complete. Offer the other bytes again. It
  * stops only if the items of one more byte do not fit. A byte completes at most 16 items: room for 16 is never too little, and count is at
  * most 16 times taken. From a stream of zeros on, however it is cut, the items are those of rds_items over all bytes so far, except the
- * group in progress, which rds_finish gives. No later byte changes them.
+ * group in progress, which rds_finish gives. No later byte changes them. With room for 16 items per byte a push is fastest.
  *   bytes, bytes_len  any number of bytes, none too
  *   gaps, gaps_len    by their places in the stream; they may be later than all bytes
  *   stream            the state of the stream, zeros at its start; receives the state after the bytes taken
  *   taken             receives the number of bytes taken
  * A state that no call can have left is the error RDS_UNLAWFUL_STATE, such as one with a byte after the tail that is not zero. Any other is
- * continued, whoever wrote it. The call takes memory for the tables of the rules, the gaps near the bytes, and the items that 960 bytes may
- * complete. RDS_TOO_LONG means that the stream would go past 2^36 bits with all offered bytes. RDS_SMALL_ROOM means that the items of
- * the first byte do not fit.
+ * continued, whoever wrote it. The call takes memory for the tables of the rules, the gaps near the bytes, and as many items as there is
+ * room for, or as 960 bytes may complete. RDS_TOO_LONG means that the stream would go past 2^36 bits with all offered bytes.
+ * RDS_SMALL_ROOM means that the items of the first byte do not fit.
  * Errors, in this order: RDS_RESERVED_FIELD, RDS_BURST_RANGE, RDS_REACH_RANGE, RDS_LOSS_RANGE, RDS_SHARE_RANGE, RDS_BAD_GAPS,
  * RDS_UNLAWFUL_STATE, RDS_TOO_LONG, RDS_SMALL_ROOM, RDS_OUT_OF_MEMORY. */
 RDS_MUST_USE
 uint8_t rds_push(const uint8_t *bytes, size_t bytes_len, const rds_gap_t *gaps, size_t gaps_len, const rds_rules_t *rules,
                              rds_stream_t *stream, rds_item_t *room, size_t room_len, uint64_t *taken, uint64_t *count);
+
+/* Enough bytes of scratch for rds_push_with, without gaps: 10240 for tables and bytes, and 56 per item that is found at once. */
+#define RDS_PUSH_SCRATCH(len, room)                                                                                                    \
+    (11136 + ((size_t)(len) < 960 && 16 * (size_t)(len) < (size_t)(room) ? 896 * (size_t)(len)                                          \
+             : (size_t)(room) < 15360                                   ? 56 * (size_t)(room)                                          \
+                                                                        : (size_t)860160))
+
+/* rds_push without malloc, for real-time threads: the call takes its memory from the caller's scratch. Apart from that it is rds_push.
+ *   scratch, scratch_len  bytes that the call may overwrite, also on error; it does not keep them
+ * RDS_PUSH_SCRATCH(bytes_len, room_len) bytes are enough without gaps. Each gap that touches the bytes, or the 240 bits before them, takes
+ * up to 64 bytes more. With too few, or none, the error is RDS_OUT_OF_MEMORY. Threads may call it at the same time, each with its own
+ * scratch.
+ * Errors: those of rds_push. */
+RDS_MUST_USE
+uint8_t rds_push_with(const uint8_t *bytes, size_t bytes_len, const rds_gap_t *gaps, size_t gaps_len, const rds_rules_t *rules,
+                      rds_stream_t *stream, rds_item_t *room, size_t room_len, uint64_t *taken, uint64_t *count, uint8_t *scratch,
+                      size_t scratch_len);
 
 /* The end of a stream: the group in progress, as far as it was read, and the totals. The stream is only read, and can continue.
  *   stream            the state of the stream
@@ -264,6 +287,13 @@ RDS_MUST_USE
 uint8_t rds_finish_with(const uint8_t *bytes, size_t bytes_len, uint64_t bits, const rds_gap_t *gaps, size_t gaps_len,
                                     const rds_rules_t *rules, const rds_stream_t *stream, rds_item_t *room, size_t room_len,
                                     uint64_t *count, rds_totals_t *totals);
+
+/* Whether a stream can be continued by these rules and gaps, such as one that was stored. In place of RDS_UNLAWFUL_STATE it returns the
+ * cause, if that has a name: RDS_NOT_A_STREAM, RDS_OTHER_VERSION or RDS_OTHER_RULES.
+ *   stream            the state of the stream
+ * Errors: those of rds_finish, except RDS_SMALL_ROOM, and the causes. */
+RDS_MUST_USE
+uint8_t rds_check(const rds_gap_t *gaps, size_t gaps_len, const rds_rules_t *rules, const rds_stream_t *stream);
 
 /* The remainder of a 26-bit word by the generator of the block code, below 1024.
  *   word              the word, the first bit of a block highest
@@ -288,9 +318,9 @@ uint8_t rds_correct(uint32_t word, uint8_t offset, uint8_t limit, rds_block_t *f
 RDS_MUST_USE
 uint8_t rds_encode(const rds_words_t *groups, size_t groups_len, rds_packed_t *room, size_t room_len);
 
-/* Texts that last as long as the program. The name of an error, such as "TooLong", and its reason, such as "more than 2^36 bits"; the
- * name of an offset, RDS_A to RDS_C_OR_CX, such as "C'"; and the version of the library, such as "0.2.0". Any other number gives
- * "unknown". */
+/* Texts that last as long as the program. The name of an error, such as "TooLong", and its reason, such as "more than 2^36 bits", or
+ * "Success" and "no error" of 0; the name of an offset, RDS_A to RDS_C_OR_CX, as listings have it, such as "Cx" for the standard's C'; and
+ * the version of the library, such as "0.2.0". Any other number gives "unknown". */
 const char *rds_refusal_text(uint8_t number);
 const char *rds_refusal_reason(uint8_t number);
 const char *rds_offset_text(uint8_t offset);
@@ -305,7 +335,7 @@ uint8_t rds_refusal_name(uint8_t number, uint8_t *room, size_t room_len);
 /* The version of this header: 65536 times the first number, 256 times the second, and the third. */
 #define RDS_VERSION 0x000200
 
-/* That of the library, in the same way. */
+/* The version of the library, as RDS_VERSION has it. */
 uint32_t rds_version(void);
 
 #ifdef __cplusplus

@@ -5,7 +5,7 @@
 # Makefile install: rds, librds0, librds0-dbgsym, librds-dev, python3-librds and rds-monitor, and with ARM64 the three of the library
 # for arm64 too. The names are printed, a line each. The version is the program's own; the date is SOURCE_DATE_EPOCH, or else that
 # of the last commit, so that the same tree, program and library make the same packages.
-# Needs dpkg-dev, strip and make; for arm64 Debian's binutils-aarch64-linux-gnu.
+# Needs dpkg-dev, strip and make; python3-argparse-manpage and python3-shtab; for arm64 Debian's binutils-aarch64-linux-gnu.
 set -euo pipefail
 export LC_ALL=C
 umask 022
@@ -83,7 +83,7 @@ library() {
   rm -rf "$lib" && mkdir "$lib"
   "$4"strip --strip-unneeded -o "$lib/librds.so.0" "$2/librds.so.0"
   "$4"strip --strip-debug --enable-deterministic-archives -o "$lib/librds.a" "$2/librds.a"
-  installed install-lib librds-dev LIBRARY="$lib" LIBDIR="$libdir"
+  installed install-lib librds-dev LIBRARY="$lib" LIBDIR="$libdir" PAGES_NEEDED=1
   install -d "$work/$name$libdir"
   mv "$work/librds-dev$libdir/librds.so.0" "$work/$name$libdir/"
   # as Debian has libraries
@@ -100,7 +100,12 @@ Build-Ids: $id" "debug symbols for librds0"
 
   documents "$name"
   install -d "$work/$name/DEBIAN"
-  echo 'librds 0 librds0' > "$work/$name/DEBIAN/shlibs"
+  # each name needs the version that first had it; a program built against another name than these needs this version
+  { echo "librds.so.0 $name #MINVER#"
+    sed -n 's/^RDS_\([0-9.]*\) {/\1/p; s/^ *\(rds_[a-z_]*\);/ \1/p' lib/rds.map |
+      awk '/^[0-9]/ {node = $1; print " RDS_" node "@RDS_" node " " node; next} {print " " $1 "@RDS_" node " " node}'; } \
+    > "$work/$name/DEBIAN/symbols"
+  echo "librds 0 $name (>= ${version%-*})" > "$work/$name/DEBIAN/shlibs"
   echo 'activate-noawait ldconfig' > "$work/$name/DEBIAN/triggers"
   package "$name" "$1" libs "Multi-Arch: same
 Depends: libc6 (>= 2.14)" "decoder of $about, shared library
@@ -108,12 +113,13 @@ Depends: libc6 (>= 2.14)" "decoder of $about, shared library
  corrected and uncorrectable blocks, and sync losses. It encodes groups, too.
  The decoder's code is proved to meet its definitions."
 
-  documents librds-dev lib/rds.h
-  rm "$work/librds-dev/usr/share/doc/librds-dev/rds.h"
+  documents librds-dev docs/LIBRARY.md
+  install -D -m 644 -t "$work/librds-dev/usr/share/doc/librds-dev/examples" bindings/c/*.c
+  gzip -9n "$work"/librds-dev/usr/share/man/man3/*.3
   package librds-dev "$1" libdevel "Multi-Arch: same
 Depends: $name (= $version)" "decoder of $about, development files
- The header, the static library, and the files for pkg-config and CMake, for
- programs in C and C++."
+ The header, the static library, manual pages, examples, and the files for
+ pkg-config and CMake, for programs in C and C++."
 }
 
 triplet() { dpkg-architecture -a"$1" -qDEB_HOST_MULTIARCH 2>/dev/null; }
@@ -129,7 +135,7 @@ Recommends: python3-numpy" "decoder of $about, Python module
  The module librds decodes recordings and live streams of RDS bits, into
  Python values or numpy arrays."
 
-installed install-monitor rds-monitor ZSH_COMPLETIONS=/usr/share/zsh/vendor-completions PYTHON_TOO=
+installed install-monitor rds-monitor ZSH_COMPLETIONS=/usr/share/zsh/vendor-completions PYTHON_TOO= PAGES_NEEDED=1
 gzip -9n "$work"/rds-monitor/usr/share/man/man1/*.1
 documents rds-monitor
 # The service is off until it is enabled.

@@ -50,7 +50,9 @@ def copies(folder):
 
 def check_without(folder, clauses, callers):
     """What a check says of each of these callers, once these clauses are gone."""
-    for file in (f"{it}/src/{entry}" for it in LIBRARIES for entry in os.listdir(f"{folder}/as_was/{it}/src")):
+    for file in (
+        f"{it}/src/{entry}" for it in LIBRARIES for entry in os.listdir(f"{folder}/as_was/{it}/src")
+    ):
         text = read(f"{folder}/as_was/{file}")
         for start, end in (it.place for it in clauses if it.file == file):
             text = text[:start] + re.sub(r"[^\n]", " ", text[start:end]) + text[end:]

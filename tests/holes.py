@@ -9,7 +9,17 @@ from dataclasses import dataclass
 TOP = os.path.dirname(os.path.dirname(os.path.abspath(__file__)))
 RT = shutil.which(os.environ.get("RT", "rt")) or sys.exit("there is no Rattle toolchain (rt) on the PATH")
 KIT = os.path.dirname(os.path.dirname(os.path.realpath(RT)))
-LIBRARIES = ["rds_code", "rds_stream", "rds_sync", "rds_live", "rds_abi", "rds_pieces", "rds_crew", "rds_rows", "rds_tool"]
+LIBRARIES = [
+    "rds_code",
+    "rds_stream",
+    "rds_sync",
+    "rds_live",
+    "rds_abi",
+    "rds_pieces",
+    "rds_crew",
+    "rds_rows",
+    "rds_tool",
+]
 # The library for C: no crate uses it.
 EXPORTED = "rds_c"
 # The callers of the libraries, proved from contracts alone.
@@ -65,7 +75,9 @@ def write(path, text):
 
 def blanked(text):
     """The text with spaces for its comments and strings."""
-    return re.sub(r"//.*|\"(?:\\.|[^\"\\])*\"|'(?:\\.|[^'\\])'", lambda it: re.sub(r"[^\n]", " ", it[0]), text)
+    return re.sub(
+        r"//.*|\"(?:\\.|[^\"\\])*\"|'(?:\\.|[^'\\])'", lambda it: re.sub(r"[^\n]", " ", it[0]), text
+    )
 
 
 def past(text, at):
@@ -84,7 +96,9 @@ def holders(text):
         while "<" in said:
             said = re.sub(r"<[^<>]*>", "", said)
         trait, _, kind = re.sub(r":(?!:).*", "", said).rpartition(" for ")
-        yield it.end(), past(text, it.end()), kind.split()[0], kind.split()[0] + trait.strip().rpartition(":")[2]
+        yield it.end(), past(text, it.end()), kind.split()[0], kind.split()[0] + trait.strip().rpartition(
+            ":"
+        )[2]
 
 
 def root_of(folder):
@@ -97,11 +111,19 @@ def functions_of(folder):
     crate, modules = os.path.basename(folder), sorted(it[:-3] for it in os.listdir(f"{folder}/src"))
     root, texts = root_of(folder), {it: blanked(read(f"{folder}/src/{it}.rt")) for it in modules}
     exported = set(re.findall(r"\w+", " ".join(re.findall(r"pub (?:use \w+::|mod )([^;]*);", texts[root]))))
-    home = {kind: it for it in texts for kind in re.findall(r"^pub.* (?:struct|enum|trait) (\w+)", texts[it], re.M)}
+    home = {
+        kind: it
+        for it in texts
+        for kind in re.findall(r"^pub.* (?:struct|enum|trait) (\w+)", texts[it], re.M)
+    }
     for module, text in texts.items():
         inside = list(holders(text))
-        for it in re.finditer(r"^(?: *#\[.*\]\n)* *(pub(?:\(crate\))? |)(?:const |extern +)?fn (\w+)", text, re.M):
-            kind, owner = next((names for start, end, *names in inside if start < it.end() < end), (None, None))
+        for it in re.finditer(
+            r"^(?: *#\[.*\]\n)* *(pub(?:\(crate\))? |)(?:const |extern +)?fn (\w+)", text, re.M
+        ):
+            kind, owner = next(
+                (names for start, end, *names in inside if start < it.end() < end), (None, None)
+            )
             # The result's type, which may hold `[T; N]`, ends before the clauses, the body or a `;`.
             at, clauses = past(text, text.index("(", it.end())), []
             at += re.match(r"(?:\[.*?\]|(?!\s(?:requires|ensures|ghost|where)\b)[^{;])*", text[at:]).end()
@@ -149,7 +171,9 @@ def below(crate):
 
 def is_built(crate):
     """Whether the built library is newer than its sources and those below it."""
-    folders = [f"{TOP}/crates/{it}/{part}" for it in [*below(crate), crate] for part in ("src", "specs", "proofs")]
+    folders = [
+        f"{TOP}/crates/{it}/{part}" for it in [*below(crate), crate] for part in ("src", "specs", "proofs")
+    ]
     files = (f"{at}/{name}" for folder in folders for at, _, names in os.walk(folder) for name in names)
     rlib = built(crate)
     return os.path.isdir(rlib) and os.path.getmtime(rlib) > max(os.path.getmtime(it) for it in files)
@@ -172,7 +196,13 @@ def over(crate, where=built):
 
 def of_kit(crate, kit):
     """The words of each command over a crate and these libraries of the toolchain."""
-    said = ["--crate-name", crate, f"src/{root_of(f'{TOP}/crates/{crate}')}.rt", "--logic-built", f"{KIT}/logic_built"]
+    said = [
+        "--crate-name",
+        crate,
+        f"src/{root_of(f'{TOP}/crates/{crate}')}.rt",
+        "--logic-built",
+        f"{KIT}/logic_built",
+    ]
     said += ["--antt-project", f"{KIT}/rattle/logic/antt-project.json", "-L", f"dependency={KIT}/rlibs"]
     return said + [word for it in sorted(kit) for word in ("--extern", f"{it}={KIT}/rlibs/{it}.rlib")]
 
@@ -190,5 +220,8 @@ def words(folder, crate, only, where=None):
         said += over(crate, where)
     else:
         for it in below(crate):
-            said += ["--lib", f"{it}:{','.join(['core', 'std', *sum(used_by(it), [])])}={folder}/{it}/src/lib.rt"]
+            said += [
+                "--lib",
+                f"{it}:{','.join(['core', 'std', *sum(used_by(it), [])])}={folder}/{it}/src/lib.rt",
+            ]
     return said + [word for it in sorted(only) for word in ("--only", it)]

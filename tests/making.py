@@ -1,5 +1,5 @@
 #!/usr/bin/python3
-"""Random recordings, lines of groups, and words for `rds`: what differential.py and streams.py try.
+"""Random recordings, lines of groups, and words for `rds`, as test_differential.py tries them.
 
     tests/making.py SEED > RECORDING
 
@@ -93,7 +93,9 @@ def phases(chance):
     bits = ""
     for _ in range(chance.randint(2, 60)):
         bits = bits[: max(0, len(bits) - chance.choice([0, 0, 1, 13]))]
-        bits += sent([block(chance.getrandbits(16), chance.choice([A, B, C, CX, D]))]) + "0" * chance.choice([0, 0, 0, 1, 26])
+        bits += sent([block(chance.getrandbits(16), chance.choice([A, B, C, CX, D]))]) + "0" * chance.choice(
+            [0, 0, 0, 1, 26]
+        )
     return bits
 
 
@@ -133,7 +135,9 @@ def lines(seed):
         rows.append("" if chance.random() < 0.1 else "".join(spelled(chance, it) for it in words))
     if rows and chance.random() < 0.25:
         at = chance.randrange(len(rows))
-        rows[at] = chance.choice([rows[at] + "0", "123456789abcde", "0000 0000 0000 000g", "0" * 32, "\0" + rows[at]])
+        rows[at] = chance.choice(
+            [rows[at] + "0", "123456789abcde", "0000 0000 0000 000g", "0" * 32, "\0" + rows[at]]
+        )
     return ("\n".join(rows) + chance.choice(["", "\n"])).encode()
 
 
@@ -142,11 +146,19 @@ def as_digits(chance, held):
     text = held.hex()
     text = text.upper() if chance.random() < 0.3 else text
     width = chance.randint(1, 100)
-    return chance.choice(["\n", "\r\n", " ", "\t"]).join(text[k : k + width] for k in range(0, len(text), width)).encode()
+    return (
+        chance.choice(["\n", "\r\n", " ", "\t"])
+        .join(text[k : k + width] for k in range(0, len(text), width))
+        .encode()
+    )
 
 
 # Bytes that are neither digits nor blanks: all below 128, and some above.
-STRANGE = [it for it in [*range(128), 0x80, 0x85, *range(0xA0, 0xB0), 0xFF] if chr(it) not in "0123456789abcdefABCDEF \t\r\n"]
+STRANGE = [
+    it
+    for it in [*range(128), 0x80, 0x85, *range(0xA0, 0xB0), 0xFF]
+    if chr(it) not in "0123456789abcdefABCDEF \t\r\n"
+]
 
 
 # ---- words of the command line
@@ -158,7 +170,12 @@ def rules(chance):
     if chance.random() < 0.6:
         return words + ["--loss", str(chance.choice([chance.randint(1, 6), chance.randint(1, 64), 64]))]
     of = chance.choice([chance.randint(1, 64), 64])
-    return words + ["--share", str(chance.choice([chance.randint(1, of), (of + 3) // 4, of])), "--of", str(of)]
+    return words + [
+        "--share",
+        str(chance.choice([chance.randint(1, of), (of + 3) // 4, of])),
+        "--of",
+        str(of),
+    ]
 
 
 def crew(chance):

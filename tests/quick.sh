@@ -28,11 +28,7 @@ for crate in "${crates[@]}"; do
 done
 
 make --no-print-directory build/rds
-for script in program listings work growth; do
-    echo "tests/$script.sh build/rds"
-    "tests/$script.sh" build/rds
-done
-for script in differential streams; do
-    echo "tests/$script.py build/rds 1 20"
-    "tests/$script.py" build/rds 1 20
-done
+cd tests
+/usr/bin/python3 -m pytest -q -n auto --rds=../build/rds test_program.py test_listings.py test_work.py
+/usr/bin/python3 -m pytest -q -n 0 --rds=../build/rds test_growth.py -k "growth and not forms or two_ways"
+/usr/bin/python3 -m pytest -q --rds=../build/rds "test_differential.py::test_recordings_and_lines[1]" "test_differential.py::test_streams[1]"

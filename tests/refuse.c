@@ -1,9 +1,9 @@
-/* Refuses one call of a program to the C library, and counts calls: a library that tests/refusals.sh preloads.
+/* Refuses one call of a program to the C library, and counts calls: a library that tests/test_refusals.py preloads.
  *
  * REFUSE_CALL names the call: alloc, read, write or thread. Reads are those of standard input, writes those of standard output.
  * REFUSE_AT is the number of the refused call, from 1 on (0 refuses none). If REFUSE_ON is set, all later calls are refused too.
  * REFUSE_COUNT names a file. When the program ends, it gets a line for each of the four with the number of calls. The lines
- * `bytes` and `peak` follow: the bytes that allocations asked for, and the most held at a time. tests/work.sh reads all of them.
+ * `bytes` and `peak` follow: the bytes that allocations asked for, and the most held at a time. tests/test_work.py reads all of them.
  * LIMIT is the time limit in seconds (60): SIGALRM ends a program that takes longer.
  */
 #define _GNU_SOURCE

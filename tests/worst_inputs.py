@@ -15,11 +15,18 @@ import sys
 
 GENERATOR = 0x5B9
 BLOCK = 26
-NUMBERS = {0x0FC: 1, 0x198: 2, 0x168: 3, 0x350: 3, 0x1B4: 4}  # the offset words, with the numbers of their blocks
+NUMBERS = {
+    0x0FC: 1,
+    0x198: 2,
+    0x168: 3,
+    0x350: 3,
+    0x1B4: 4,
+}  # the offset words, with the numbers of their blocks
 WORDS = {1: 0x0FC, 2: 0x198, 3: 0x168, 4: 0x1B4}
 
 
 # ---- plans: the length of a ring in bits, and its windows, each by its last place and the number of its block
+
 
 def short_locks():
     """For `--loss 1 --reach 8`: every 27 bits a block 4 acquires sync, and the next block loses it.
@@ -48,6 +55,7 @@ PLANS = {plan.__name__: plan for plan in (short_locks, three_phases)}
 
 
 # ---- bits that have the windows of a plan
+
 
 def remainder(block):
     """The remainder of 26 bits by the generator."""
@@ -111,13 +119,18 @@ def ring_of(plan):
             return int("".join(map(str, bits)), 2).to_bytes(length // 8, "big")
 
 
+def recording(name, size):
+    """So many bytes of a plan."""
+    ring = ring_of(PLANS[name])
+    return (ring * (size // len(ring) + 1))[:size]
+
+
 def main():
     parser = argparse.ArgumentParser(description=__doc__.split("\n")[0])
     parser.add_argument("plan", choices=PLANS)
     parser.add_argument("bytes", type=int, help="how long the recording is")
     args = parser.parse_args()
-    ring = ring_of(PLANS[args.plan])
-    sys.stdout.buffer.write((ring * (args.bytes // len(ring) + 1))[:args.bytes])
+    sys.stdout.buffer.write(recording(args.plan, args.bytes))
 
 
 if __name__ == "__main__":

@@ -36,9 +36,25 @@ import time
 from concurrent.futures import ThreadPoolExecutor
 from dataclasses import dataclass, replace
 from threading import Condition
+from typing import Sequence
 
 from holes import (
-    CALLERS, EXPORTED, LIBRARIES, PROGRAM, RT, TOP, below, built, checked, copied, functions_of, is_built, over, read, words, write
+    CALLERS,
+    EXPORTED,
+    LIBRARIES,
+    PROGRAM,
+    RT,
+    TOP,
+    below,
+    built,
+    checked,
+    copied,
+    functions_of,
+    is_built,
+    over,
+    read,
+    words,
+    write,
 )
 
 CRATES = f"{TOP}/crates"
@@ -66,8 +82,8 @@ class WrongBody:
     edits: list  # (file, place, old, new)
     functions: list
     is_equal: bool  # it keeps the meaning
-    goals: list = ()  # the goals that refuse it
-    lines: list = ()
+    goals: Sequence = ()  # the goals that refuse it
+    lines: Sequence = ()
 
     def is_refused(self, told):
         """Whether that is a refusal, if the table has these edits."""
@@ -114,7 +130,9 @@ def wrong_body(crate, file, functions):
         if key == "new":
             text = read(f"{CRATES}/{path}")
             if text.count(old) != 1:
-                sys.exit(f"{body.name}: the text occurs {text.count(old)} times in {path}, and not once: {old}")
+                sys.exit(
+                    f"{body.name}: the text occurs {text.count(old)} times in {path}, and not once: {old}"
+                )
             at = text.index(old)
             body.edits.append((path, at, old, said))
             body.functions += [f for f in functions if f.file == path and f.place[0] <= at < f.place[1]]
@@ -132,12 +150,20 @@ def edited(text, edits):
 
 def put_twin(folder, body, number):
     """Moves this wrong body to a twin of its function."""
-    f, start, end = body.functions[0], *body.functions[0].place
+    f = body.functions[0]
+    start, end = f.place
     if len(body.functions) > 1 or not all(start <= at < end for _, at, _, _ in body.edits):
-        sys.exit(f"{body.name}: another wrong body has {f.path}, and this one is no edit of that function alone")
+        sys.exit(
+            f"{body.name}: another wrong body has {f.path}, and this one is no edit of that function alone"
+        )
     inside = [(path, at - start, old, new) for path, at, old, new in body.edits]
     name = f.path.rpartition(".")[2]
-    text = re.sub(rf"\bfn {name}\b", f"fn {name}_{number}", edited(read(f"{CRATES}/{f.file}")[start:end], inside), count=1)
+    text = re.sub(
+        rf"\bfn {name}\b",
+        f"fn {name}_{number}",
+        edited(read(f"{CRATES}/{f.file}")[start:end], inside),
+        count=1,
+    )
     body.edits = [(f.file, end, "", f"\n\n{text}")]
     twin = replace(f, path=f"{f.path}_{number}")
     body.functions = [twin]
@@ -155,16 +181,22 @@ def put_proof(folder, f, twin):
             write(f"{to}/{it}", re.sub(rf"\bproofs\.{f.path}\b", f"proofs.{twin.path}", read(f"{at}/{it}")))
     if not os.path.isfile(f"{twin.proof(folder)}/Proof.antt"):
         path = f"{twin.proof(folder)}/Answers.antt"
-        said = read(path) if os.path.isfile(path) else f"use Rattle.{f.crate}.proofs.{twin.path}.Goals as goal\n"
+        said = (
+            read(path) if os.path.isfile(path) else f"use Rattle.{f.crate}.proofs.{twin.path}.Goals as goal\n"
+        )
         write(path, said + NO_GOAL)
 
 
 def put_loops(folder, crate, edited):
     """Replaces the body of each other function that has a hole by one that calls nothing: a check also covers callees."""
-    functions = [f for f in functions_of(f"{folder}/{crate}") if f.has_room_for_hole() and f.path not in edited]
+    functions = [
+        f for f in functions_of(f"{folder}/{crate}") if f.has_room_for_hole() and f.path not in edited
+    ]
     for file in {f.file for f in functions}:
         text = read(f"{folder}/{file}")
-        for start, end, size in sorted((*f.place, len(f.body)) for f in functions if f.file == file)[::-1]:
+        for start, end, size in sorted(
+            (f.place[0], f.place[1], len(f.body)) for f in functions if f.file == file
+        )[::-1]:
             if not re.search(KEEPS_BODY, text[start : end - size]):
                 text = f"{text[:end - size]}{{ loop {{}} }}{text[end:]}"
         write(f"{folder}/{file}", text)
@@ -205,7 +237,9 @@ def refusal(folder, body, said):
     for f in body.functions:
         first, last = (read(f"{folder}/{f.file}").count("\n", 0, at) + 1 for at in f.place)
         answers = f"{f.proof('.').partition(f'{f.crate}/')[2]}/Answers.antt"
-        text = read(f"{folder}/{f.crate}/{answers}") if os.path.isfile(f"{folder}/{f.crate}/{answers}") else ""
+        text = (
+            read(f"{folder}/{f.crate}/{answers}") if os.path.isfile(f"{folder}/{f.crate}/{answers}") else ""
+        )
         by_hand = re.findall(r"^pub (\S+) : goal\.", text, re.M)
         source = f.file.partition("/")[2]
         left_open = rf"^note: {source}:(\d+):\d+: .*\(`([^`]+)`\)(?:;|$)"
@@ -253,7 +287,9 @@ def try_all(room, crate, where, told, are_right):
 def build(crates):
     """Builds the libraries below these crates that are not built yet."""
     for it in (it for it in LIBRARIES if any(it in below(crate) for crate in crates) and not is_built(it)):
-        if subprocess.run([RT, "lib"], cwd=f"{CRATES}/{it}", stdout=subprocess.DEVNULL, timeout=LIMIT).returncode:
+        if subprocess.run(
+            [RT, "lib"], cwd=f"{CRATES}/{it}", stdout=subprocess.DEVNULL, timeout=LIMIT
+        ).returncode:
             sys.exit(f"{it} is not proved: no wrong body is tried above it")
 
 
@@ -275,7 +311,9 @@ def check_pairs(crate):
         for path, old, new in pairs_of(crate, file):
             text = texts.get(path) or read(f"{CRATES}/{crate}/{path}")
             if text.count(old) != 1:
-                sys.exit(f"{crate}/must-fail/{file}: the text occurs {text.count(old)} times in {path}, and not once: {old}")
+                sys.exit(
+                    f"{crate}/must-fail/{file}: the text occurs {text.count(old)} times in {path}, and not once: {old}"
+                )
             texts[path] = text.replace(old, new)
         if not texts:
             sys.exit(f"{crate}/must-fail/{file}: it changes nothing")
@@ -302,7 +340,10 @@ def is_cut_proved(crate):
             timeout=LIMIT,
         )
     is_proved = "\nlogic=proved" in ran.stdout
-    print(f"{crate}, as it is cut: {'proved' if is_proved else f'NOT PROVED:{chr(10)}{ran.stdout[-2000:]}'}", flush=True)
+    print(
+        f"{crate}, as it is cut: {'proved' if is_proved else f'NOT PROVED:{chr(10)}{ran.stdout[-2000:]}'}",
+        flush=True,
+    )
     return is_proved
 
 
@@ -372,7 +413,9 @@ class Lanes:
 def tried(crates, are_right, log):
     """Tries the wrong bodies of these crates, over what is built or beside `rt ci`."""
     told, lanes = told_of(), len(os.sched_getaffinity(0))
-    with tempfile.TemporaryDirectory(prefix="wrong-bodies-") as room, ThreadPoolExecutor(len(crates) + 1) as pool:
+    with tempfile.TemporaryDirectory(prefix="wrong-bodies-") as room, ThreadPoolExecutor(
+        len(crates) + 1
+    ) as pool:
         if not log:
             build(crates)
             free = Lanes(lanes)
@@ -408,12 +451,16 @@ def main(names, are_right, log):
     bodies = tried([it for it in crates if it in (names or crates)], are_right, log)
     failed = [it.name for it in bodies if not is_as_wanted(it, told, are_right)]
     kind = "right" if are_right else "wrong"
-    print(f"{kind} bodies: {len(bodies) - len(failed)} as they must be, {len(failed)} not: {' '.join(failed)}")
+    print(
+        f"{kind} bodies: {len(bodies) - len(failed)} as they must be, {len(failed)} not: {' '.join(failed)}"
+    )
     return 1 if failed or not bodies else 0
 
 
 if __name__ == "__main__":
-    parser = argparse.ArgumentParser(description=__doc__, formatter_class=argparse.RawDescriptionHelpFormatter)
+    parser = argparse.ArgumentParser(
+        description=__doc__, formatter_class=argparse.RawDescriptionHelpFormatter
+    )
     parser.add_argument("--right", action="store_true")
     parser.add_argument("--cut", action="store_true")
     parser.add_argument("--beside", metavar="LOG")

@@ -1,8 +1,9 @@
 #!/usr/bin/env python3
 """A wheel of librds with the library in it: bindings/python/make_wheel.py LIBRARY FOLDER
 
-Prints its path. The rules are those of auditwheel: the library may need libc.so.6 alone, and by the newest of its
-symbol versions the wheel says on which systems it runs. The same library gives the same bytes. Needs objdump.
+Prints its path. The rules are those of auditwheel: the library may need only the C library, and by the newest of its
+symbol versions the wheel says on which systems it runs. The same library gives the same bytes. Needs Python 3.11 or
+later, and objdump.
 """
 
 from __future__ import annotations
@@ -12,14 +13,16 @@ import hashlib
 import re
 import subprocess
 import sys
+import tomllib
 import zipfile
 from pathlib import Path
-from typing import Dict
+from typing import Any, Dict
 
 HERE = Path(__file__).resolve().parent
 # By the ELF header's number of the machine.
 MACHINES = {62: "x86_64", 183: "aarch64"}
 OLDEST_GLIBC = (2, 17)
+C_LIBRARY = {"libc.so.6", "ld-linux-aarch64.so.1"}
 
 
 def platform_of(library: Path) -> str:
@@ -30,26 +33,37 @@ def platform_of(library: Path) -> str:
         sys.exit(f"{library}: no library of {' or '.join(MACHINES.values())}")
     said = subprocess.run(["objdump", "-pT", str(library)], capture_output=True, text=True, check=True).stdout
     needed = set(re.findall(r"^ *NEEDED +(\S+)", said, re.M))
-    if not needed <= {"libc.so.6"}:
-        sys.exit(f"{library}: a wheel cannot need {', '.join(sorted(needed - {'libc.so.6'}))}")
-    found = [tuple(map(int, it.split("."))) for it in re.findall(r"GLIBC_([0-9.]+)", said)]
-    major, minor = max([OLDEST_GLIBC, *(it[:2] for it in found)])
+    if not needed <= C_LIBRARY:
+        sys.exit(f"{library}: a wheel cannot need {', '.join(sorted(needed - C_LIBRARY))}")
+    found = [tuple(map(int, text.split("."))) for text in re.findall(r"GLIBC_([0-9.]+)", said)]
+    major, minor = max([OLDEST_GLIBC, *(entry[:2] for entry in found)])
     return f"manylinux_{major}_{minor}_{machine}"
 
 
-def files_of(library: Path, version: str, tag: str) -> Dict[str, bytes]:
+def metadata_of(project: Dict[str, Any]) -> str:
+    """What pyproject.toml says, with README.md as the long description."""
+    lines = ["Metadata-Version: 2.1", f"Name: {project['name']}", f"Version: {project['version']}"]
+    lines += [f"Summary: {project['description']}", f"Keywords: {','.join(project['keywords'])}"]
+    lines += [f"Classifier: {name}" for name in project["classifiers"]]
+    lines += [f"Requires-Python: {project['requires-python']}"]
+    for extra, needs in project["optional-dependencies"].items():
+        lines += [
+            f"Provides-Extra: {extra}",
+            *(f"Requires-Dist: {need}; extra == '{extra}'" for need in needs),
+        ]
+    readme = (HERE / project["readme"]).read_text(encoding="utf-8")
+    return "\n".join([*lines, "Description-Content-Type: text/markdown", "", readme])
+
+
+def files_of(library: Path, project: Dict[str, Any], tag: str) -> Dict[str, bytes]:
     files = {
         f"librds/{path.name}": path.read_bytes()
         for path in sorted((HERE / "librds").glob("*.*"))
         if path.suffix in (".py", ".typed")
     }
     files["librds/librds.so.0"] = library.read_bytes()
-    info = f"librds-{version}.dist-info"
-    summary = re.search(r'^description = "(.*)"', (HERE / "pyproject.toml").read_text(), re.M)
-    files[f"{info}/METADATA"] = (
-        f"Metadata-Version: 2.1\nName: librds\nVersion: {version}\nSummary: {summary[1] if summary else ''}\n"
-        "Requires-Python: >=3.9\nProvides-Extra: arrays\nRequires-Dist: numpy; extra == 'arrays'\n"
-    ).encode()
+    info = f"librds-{project['version']}.dist-info"
+    files[f"{info}/METADATA"] = metadata_of(project).encode()
     files[
         f"{info}/WHEEL"
     ] = f"Wheel-Version: 1.0\nGenerator: make_wheel.py\nRoot-Is-Purelib: false\nTag: {tag}\n".encode()
@@ -66,12 +80,11 @@ def main() -> int:
     if len(sys.argv) != 3:
         sys.exit("usage: make_wheel.py LIBRARY FOLDER")
     library, folder = Path(sys.argv[1]), Path(sys.argv[2])
-    version = re.search(r'^version = "(.*)"', (HERE / "pyproject.toml").read_text(), re.M)
-    assert version
+    project = tomllib.loads((HERE / "pyproject.toml").read_text(encoding="utf-8"))["project"]
     tag = f"py3-none-{platform_of(library)}"
-    path = folder / f"librds-{version[1]}-{tag}.whl"
+    path = folder / f"librds-{project['version']}-{tag}.whl"
     with zipfile.ZipFile(path, "w", zipfile.ZIP_DEFLATED) as wheel:
-        for name, data in files_of(library, version[1], tag).items():
+        for name, data in files_of(library, project, tag).items():
             entry = zipfile.ZipInfo(name)
             entry.external_attr = 0o100644 << 16
             entry.compress_type = zipfile.ZIP_DEFLATED

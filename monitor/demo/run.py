@@ -29,18 +29,34 @@ TOP = HERE.parents[1]
 SPEED, SLOW = 200, 60
 LONGEST_START = 100.0
 
-STATIONS: "tuple[tuple[str, float, str, str, str, list[str]], ...]" = (
-    ("Alpha", 98.1, "D318", "ALPHA", "Now: Harbour Lights, by the Night Shift", []),
-    ("Beta", 100.3, "D319", "BETA FM", "Traffic: all roads are clear", ["--errors", "0.005", "--outage", "7200:900"]),
-    ("Gamma", 103.7, "D31A", "GAMMA", "News at the hour", ["--dies", "5400", "--wrong-pi", "10800:1800"]),
+STATIONS = (
+    ("Alpha", 98.1, "D318", "ALPHA", "Now: Harbour Lights, by the Night Shift", ""),
+    ("Beta", 100.3, "D319", "BETA FM", "Traffic: all roads are clear", "--errors 0.005 --outage 7200:900"),
+    ("Gamma", 103.7, "D31A", "GAMMA", "News at the hour", "--dies 5400 --wrong-pi 10800:1800"),
 )
 
 
 def table(folder: Path) -> str:
     lines = [f"folder = {json.dumps(str(folder))}"]
     for name, frequency, pi, ps, rt, more in STATIONS:
-        command = [sys.executable, str(HERE / "station.py"), "--pi", pi, "--ps", ps, "--rt", rt, *more]
-        lines += ["[[station]]", f'name = "{name}"', f"frequency = {frequency}", f'pi = "{pi}"', f'ps = "{ps}"']
+        command = [
+            sys.executable,
+            str(HERE / "station.py"),
+            "--pi",
+            pi,
+            "--ps",
+            ps,
+            "--rt",
+            rt,
+            *more.split(),
+        ]
+        lines += [
+            "[[station]]",
+            f'name = "{name}"',
+            f"frequency = {frequency}",
+            f'pi = "{pi}"',
+            f'ps = "{ps}"',
+        ]
         lines.append(f"command = {json.dumps(command)}")
     return "\n".join(lines) + "\n"
 
@@ -56,7 +72,9 @@ def environment() -> "dict[str, str]":
 
 
 def has(module: str, known: "dict[str, str]") -> bool:
-    return not subprocess.run([sys.executable, "-c", f"import {module}"], env=known, stderr=subprocess.DEVNULL).returncode
+    return not subprocess.call(
+        [sys.executable, "-c", f"import {module}"], env=known, stderr=subprocess.DEVNULL
+    )
 
 
 def decoder(known: "dict[str, str]") -> "list[str]":
@@ -69,7 +87,8 @@ def decoder(known: "dict[str, str]") -> "list[str]":
     if has("librds", known):
         return told("the librds of this machine", SPEED)
     if not is_new(unproved):
-        print("there is no build/lib and no build/rds: rds is built without proof, in a minute or so", file=sys.stderr, flush=True)
+        text = "there is no build/lib and no build/rds: rds is built without proof, in a minute or so"
+        print(text, file=sys.stderr, flush=True)
         build(unproved)
     return told(f"{unproved}, which is not proved", SLOW, "--program", str(unproved))
 
@@ -86,14 +105,15 @@ def shows_all(page: Path) -> bool:
 
 def main() -> int:
     parser = argparse.ArgumentParser(description=(__doc__ or "").split("\n")[0])
-    parser.add_argument("--seconds", type=float, default=0.0, help="end after so long (default: when interrupted)")
+    text = "end after so long (default: when interrupted)"
+    parser.add_argument("--seconds", type=float, default=0.0, help=text)
     parser.add_argument("--folder", help="where to write (default: a new folder)")
-    it = parser.parse_args()
+    arguments = parser.parse_args()
     known = environment()
     if not has("numpy", known):
         sys.exit("the demonstration needs numpy: install python3-numpy")
     options = decoder(known)
-    folder = Path(it.folder or tempfile.mkdtemp(prefix="rds-monitor-demo-")).resolve()
+    folder = Path(arguments.folder or tempfile.mkdtemp(prefix="rds-monitor-demo-")).resolve()
     folder.mkdir(parents=True, exist_ok=True)
     (folder / "stations.toml").write_text(table(folder))
     page = folder / "pages" / "index.html"
@@ -106,7 +126,7 @@ def main() -> int:
                 sys.exit("the watch did not begin")
             time.sleep(0.2)
         print(f"{page.as_uri()}", flush=True)
-        watch.wait(it.seconds or None)
+        watch.wait(arguments.seconds or None)
     except (KeyboardInterrupt, subprocess.TimeoutExpired):
         pass
     finally:

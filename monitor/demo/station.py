@@ -14,7 +14,7 @@ import argparse
 import os
 import sys
 import time
-from typing import Any, Iterable, Iterator, List, NamedTuple, Optional, Sequence, Tuple
+from typing import Any, Iterable, Iterator, List, NamedTuple, Optional, Tuple
 
 RATE, GROUP_BITS, GROUP_BYTES = 1187.5, 104, 13
 GROUPS_PER_SECOND = RATE / GROUP_BITS
@@ -72,11 +72,6 @@ def clock_words(minutes: int, common: int) -> Tuple[int, int, int]:
     return 4 << 12 | common | day >> 15, (day & 0x7FFF) << 1 | hour >> 4, (hour & 15) << 12 | minute << 6
 
 
-def number_of(words: Sequence[int]) -> Optional[int]:
-    """The number of a group that has it."""
-    return words[2] << 16 | words[3] if words[1] >> 12 == 6 else None
-
-
 # ---- bits
 
 # x^10 + x^8 + x^7 + x^5 + x^4 + x^3 + 1, and the offset words A, B, C and D.
@@ -113,19 +108,20 @@ def encoded(groups: Iterable[Words]) -> bytes:
 class Air:
     """Bytes as they are sent, group by group, from the one that is on the air."""
 
-    def __init__(self, it: argparse.Namespace):
+    def __init__(self, namespace: argparse.Namespace):
         self._random: Any = None
-        if it.errors or it.outage:
+        if namespace.errors or namespace.outage:
             # Its import takes ten times as long as all else here.
             import numpy
 
             self._numpy: Any = numpy
-            self._random = numpy.random.default_rng(int(it.pi, 16))
-        self._programme = Programme(int(it.pi, 16), it.ps, it.rt, it.pty, wrong_pi=it.wrong_pi)
-        self._errors, self._outage = it.errors, it.outage
+            self._random = numpy.random.default_rng(int(namespace.pi, 16))
+        words = int(namespace.pi, 16), namespace.ps, namespace.rt, namespace.pty
+        self._programme = Programme(*words, wrong_pi=namespace.wrong_pi)
+        self._errors, self._outage = namespace.errors, namespace.outage
 
     def groups(self, numbers: range) -> bytes:
-        data = encoded(self._programme.group(it) for it in numbers)
+        data = encoded(self._programme.group(number) for number in numbers)
         return self._damaged(data, numbers) if self._random else data
 
     def _damaged(self, data: bytes, numbers: range) -> bytes:
@@ -134,7 +130,8 @@ class Air:
         if self._errors:
             sent = sent ^ numpy.packbits(self._random.random((len(sent), GROUP_BITS)) < self._errors, axis=1)
         if self._outage:
-            noise = numpy.array([self._outage.holds(it / GROUPS_PER_SECOND) for it in numbers])[:, None]
+            begins = [number / GROUPS_PER_SECOND for number in numbers]
+            noise = numpy.array([self._outage.holds(begin) for begin in begins])[:, None]
             sent = numpy.where(noise, self._random.integers(0, 256, sent.shape, "u1"), sent)
         return bytes(sent.tobytes())
 
@@ -168,21 +165,21 @@ def options() -> argparse.Namespace:
 
 
 def main() -> int:
-    it = options()
-    air, first, sent = Air(it), None, 0
-    log: List[int] = [os.open(it.sent, os.O_WRONLY | os.O_APPEND | os.O_CREAT)] if it.sent else []
+    plan = options()
+    air, first, sent = Air(plan), None, 0
+    log: List[int] = [os.open(plan.sent, os.O_WRONLY | os.O_APPEND | os.O_CREAT)] if plan.sent else []
     for utc in moments():
         number = int(utc * GROUPS_PER_SECOND)
         if first is None:
             first, sent, begin = number, number, utc
-        if it.hangs is not None and utc - begin >= it.hangs:
+        if plan.hangs is not None and utc - begin >= plan.hangs:
             time.sleep(3600)
         if number > sent:
             os.write(1, air.groups(range(sent, number)))
             for file in log:
                 os.write(file, f"{sent} {number} {time.time():.6f}\n".encode())
             sent = number
-        if it.dies is not None and utc - begin >= it.dies:
+        if plan.dies is not None and utc - begin >= plan.dies:
             print("the dongle was unplugged", file=sys.stderr)
             return 1
     return 0

@@ -6,7 +6,10 @@ import sys
 # Nothing that is imported is garbage, and to look for it takes a tenth of the time of a short command.
 gc.set_threshold(100000)
 
-from .cli import main  # noqa: E402
+try:
+    from .cli import main
+except ModuleNotFoundError as error:
+    sys.exit(f"rds-monitor needs the Python module {error.name}: install python3-{error.name}")
 
 
 def run() -> None:

@@ -19,8 +19,8 @@ import sys
 import tempfile
 from typing import IO, Iterator, List, NamedTuple, Optional, Tuple
 
-from .items import Fault, Misuse
-from .listing import CUT
+from .rows.items import Fault, Misuse
+from .rows.listing import CUT
 
 LOCK, WORK = ".batch.lock", ".batch-"
 COMPLETE = re.compile(rb"^total,complete,([0-9]+),", re.MULTILINE)
@@ -45,7 +45,7 @@ examples:
   rds-monitor batch recordings listings --sshlogin anna,bert"""
 
 
-class Recording(NamedTuple):
+class Job(NamedTuple):
     path: str
     listing: str
 
@@ -53,16 +53,17 @@ class Recording(NamedTuple):
 def options_batch(parser: argparse.ArgumentParser) -> None:
     parser.description = DESCRIPTION
     parser.epilog = EXAMPLES
-    parser.add_argument("--suffix", default=".bin", metavar="TEXT",
-                        help="names of recordings end in TEXT (%(default)s)")
+    text = "names of recordings end in TEXT (%(default)s)"
+    parser.add_argument("--suffix", default=".bin", metavar="TEXT", help=text)
     parser.add_argument("--options", default="", metavar="WORDS", help="options of rds list")
-    parser.add_argument("--demod", metavar="WORDS",
-                        help="the recordings are signals: demodulate them, with these options of demod")
+    text = "the recordings are signals: demodulate them, with these options of demod"
+    parser.add_argument("--demod", metavar="WORDS", help=text)
     parser.add_argument("--shared", action="store_true", help="other machines see the same folders")
     parser.add_argument("--wait", action="store_true", help="wait while another batch is at work in LISTINGS")
     parser.add_argument("recordings", metavar="RECORDINGS")
     parser.add_argument("listings", metavar="LISTINGS")
-    parser.add_argument("parallel", nargs=argparse.REMAINDER, metavar="OPTION", help="options of GNU parallel")
+    text = "options of GNU parallel"
+    parser.add_argument("parallel", nargs=argparse.REMAINDER, metavar="OPTION", help=text)
 
 
 # ---- folders
@@ -85,13 +86,13 @@ def clean(folder: str) -> None:
             shutil.rmtree(entry.path, ignore_errors=True)
 
 
-def recordings_of(folder: str, listings: str, suffix: str) -> List[Recording]:
+def recordings_of(folder: str, listings: str, suffix: str) -> List[Job]:
     """The recordings of a folder, in order of name."""
     found = []
     for entry in sorted(os.scandir(folder), key=lambda entry: entry.name):
         stem = entry.name[: len(entry.name) - len(suffix)]
         if entry.name.endswith(suffix) and stem and entry.is_file():
-            found.append(Recording(entry.path, os.path.join(listings, stem + ".csv")))
+            found.append(Job(entry.path, os.path.join(listings, stem + ".csv")))
     return found
 
 
@@ -112,8 +113,10 @@ def job_text(arguments: argparse.Namespace, program: str) -> str:
     else:
         demod = " ".join(map(shlex.quote, shlex.split(arguments.demod)))
         python = f"{shlex.quote(sys.executable)} -m rds_monitor"
-        work = (f"{python} demod {demod} {{}}.in > {{}}.bits && {decode} < {{}}.bits > {{}}.csv; s=$?; "
-                "rm -f {}.bits; exit $s")
+        work = (
+            f"{python} demod {demod} {{}}.in > {{}}.bits && {decode} < {{}}.bits > {{}}.csv; s=$?; "
+            "rm -f {}.bits; exit $s"
+        )
     # rds says what is wrong in its first line, and the demodulator in its last one.
     line = "head" if arguments.demod is None else "tail"
     said = f'"$(printf %s "$said" | {line} -n 1)"'
@@ -129,15 +132,17 @@ def parallel_words(arguments: argparse.Namespace, text: str) -> List[str]:
     return [*words, *arguments.parallel, text]
 
 
-def run_jobs(arguments: argparse.Namespace, work: str, count: int, lock: IO[bytes]) -> Iterator[Tuple[int, int, str]]:
+def run_jobs(
+    arguments: argparse.Namespace, work: str, count: int, lock: IO[bytes]
+) -> Iterator[Tuple[int, int, str]]:
     """The number, the status and the words of each job as it ends."""
     program = os.environ.get("RDS", "rds")
     words = parallel_words(arguments, job_text(arguments, program))
     signal.signal(signal.SIGPIPE, signal.SIG_IGN)
     # rsync follows the links to the recordings.
     environment = {**os.environ, "PARALLEL_RSYNC_OPTS": "-rLDzR", "PARALLEL_SHELL": "/bin/sh"}
-    process = subprocess.Popen(words, cwd=work, env=environment, stdin=subprocess.PIPE, stdout=subprocess.PIPE,
-                               pass_fds=(lock.fileno(),))
+    pipe, lent = subprocess.PIPE, (lock.fileno(),)
+    process = subprocess.Popen(words, cwd=work, env=environment, stdin=pipe, stdout=pipe, pass_fds=lent)
     assert process.stdin and process.stdout
     try:
         process.stdin.write("".join(f"{number}\n" for number in range(count)).encode())
@@ -152,33 +157,35 @@ def run_jobs(arguments: argparse.Namespace, work: str, count: int, lock: IO[byte
     process.wait()
 
 
+def end_of(made: str) -> bytes:
+    """The end of a listing, with its totals."""
+    with open(made, "rb") as file:
+        file.seek(max(0, os.path.getsize(made) - 1024))
+        return file.read()
+
+
 def fault_of(made: str, status: int, said: str) -> Optional[str]:
     """Why a job made no whole listing."""
     if status:
         return f"failed: {said or f'status {status}'}"
     try:
-        with open(made, "rb") as file:
-            file.seek(max(0, os.path.getsize(made) - 1024))
-            end = file.read()
+        return None if LAST.search(end_of(made)) else f"failed: {CUT}"
     except FileNotFoundError:
         return "failed: its listing did not come back"
-    return None if LAST.search(end) else f"failed: {CUT}"
 
 
 def has_station(made: str) -> bool:
-    with open(made, "rb") as file:
-        file.seek(max(0, os.path.getsize(made) - 1024))
-        match = COMPLETE.search(file.read())
+    match = COMPLETE.search(end_of(made))
     return match is not None and int(match[1]) >= LEAST
 
 
 # ---- the command
 
 
-class Batch:
+class BatchRun:
     """What became of the recordings so far."""
 
-    def __init__(self, recordings: List[Recording], work: str):
+    def __init__(self, recordings: List[Job], work: str):
         self._recordings, self._work = recordings, work
         self._waiting = set(range(len(recordings)))
         self._shows = sys.stderr.isatty()
@@ -202,7 +209,7 @@ class Batch:
             done = len(self._recordings) - len(self._waiting)
             print(f"\r{done} of {len(self._recordings)}\x1b[K", end="", file=sys.stderr, flush=True)
 
-    def name(self, recording: Recording, fault: str) -> None:
+    def name(self, recording: Job, fault: str) -> None:
         self.bad += 1
         clear = "\r\x1b[K" if self._shows else ""
         # In one write, since GNU parallel writes to the same stream.
@@ -232,15 +239,15 @@ def run_batch(arguments: argparse.Namespace) -> int:
     with locked(arguments.listings, arguments.wait) as lock:
         clean(arguments.listings)
         every = recordings_of(arguments.recordings, arguments.listings, arguments.suffix)
-        recordings = [it for it in every if not os.path.exists(it.listing)]
+        recordings = [job for job in every if not os.path.exists(job.listing)]
         work = tempfile.mkdtemp(prefix=WORK, dir=arguments.listings)
         try:
-            for number, it in enumerate(recordings):
-                os.symlink(os.path.abspath(it.path), os.path.join(work, f"{number}.in"))
-            batch = Batch(recordings, work)
-            for it in every:
-                if it not in recordings and not has_station(it.listing):
-                    batch.name(it, "no station")
+            for number, recording in enumerate(recordings):
+                os.symlink(os.path.abspath(recording.path), os.path.join(work, f"{number}.in"))
+            batch = BatchRun(recordings, work)
+            for job in every:
+                if job not in recordings and not has_station(job.listing):
+                    batch.name(job, "no station")
             if recordings:
                 for number, status, said in run_jobs(arguments, work, len(recordings), lock):
                     batch.take(number, status, said)

@@ -14,9 +14,10 @@ import signal
 import sys
 from typing import Any, Callable, NamedTuple, NoReturn, Optional, Sequence
 
+from . import __doc__ as about
 from . import __version__
-from .items import Fault, Misuse
-from .hours import take_hour
+from .rows.hours import take_hour
+from .rows.items import Fault, Misuse
 
 
 class Command(NamedTuple):
@@ -35,25 +36,25 @@ class Command(NamedTuple):
 
 
 COMMANDS = (
-    Command("errors", "errors", "block errors by interval"),
-    Command("outages", "outages", "when no RDS was received"),
-    Command("programmes", "measure", "which PI codes were received, and when"),
-    Command("types", "measure", "which group types were received, and how many"),
-    Command("corrected", "measure", "which blocks were corrected, and how"),
-    Command("clock", "clock", "the sampler's clock by that of the station"),
-    Command("info", "info", "what the station says of itself"),
-    Command("json", "jsonl", "a line of JSON per event, row, or group as redsea does"),
-    Command("groups", "hexgroups", "the groups as lines of hexadecimal words"),
-    Command("table", "table", "the rows with times, as CSV or Parquet"),
-    Command("db", "store", "add recordings to an SQLite database"),
-    Command("report", "report", "a page to look at, of HTML"),
+    Command("errors", "measures.errors", "block errors by interval"),
+    Command("outages", "measures.outages", "when no RDS was received"),
+    Command("programmes", "measures.measure", "which PI codes were received, and when"),
+    Command("types", "measures.measure", "which group types were received, and how many"),
+    Command("corrected", "measures.measure", "which blocks were corrected, and how"),
+    Command("clock", "measures.clock", "the sampler's clock by that of the station"),
+    Command("info", "content.info", "what the station says of itself"),
+    Command("json", "content.jsonl", "a line of JSON per event, row, or group as redsea does"),
+    Command("groups", "measures.groups", "the groups as lines of hexadecimal words"),
+    Command("table", "measures.table", "the rows with times, as CSV or Parquet"),
+    Command("db", "db.store", "add recordings to an SQLite database"),
+    Command("report", "page.report", "a page to look at, of HTML"),
     Command("why", "why", "why rds refused an input"),
-    Command("check", "check", "judge the reception, as a plugin of Nagios or Icinga"),
-    Command("form", "form", "identify the format of a file, and how to convert it to packed bits"),
-    Command("pack", "pack", "convert bits and samples to packed bits"),
-    Command("demod", "demod", "demodulate MPX or IQ to packed bits"),
+    Command("check", "watch.check", "judge the reception, as a plugin of Nagios or Icinga"),
+    Command("form", "signal.form", "identify the format of a file, and how to convert it to packed bits"),
+    Command("pack", "signal.pack", "convert bits and samples to packed bits"),
+    Command("demod", "signal.demod", "demodulate MPX or IQ to packed bits"),
     Command("batch", "batch", "decode a folder of recordings"),
-    Command("watch", "watch", "watch stations day and night: listings, database, pages, alarms"),
+    Command("watch", "watch.service", "watch stations day and night: listings, database, pages, alarms"),
 )
 
 
@@ -69,54 +70,35 @@ class Parser(argparse.ArgumentParser):
         self.exit(2, f"{self.prog}: {message}\n{self.format_usage()}")
 
 
-class Help(argparse.RawDescriptionHelpFormatter):
-    """Help as wide as the terminal: argparse imports shutil for that, even for a command that prints no help."""
-
-    def __init__(self, prog: str):
-        super().__init__(prog, width=_columns() - 2)
-
-
-def _columns() -> int:
-    told = os.environ.get("COLUMNS", "")
-    try:
-        return int(told) if told.isdigit() and int(told) else os.get_terminal_size(1).columns
-    except OSError:
-        return 80
-
-
 def parser_of(command: Command) -> Parser:
     parser = Parser(
         prog=f"rds-monitor {command.name}",
         description=command.summary[0].upper() + command.summary[1:] + ".",
-        formatter_class=Help,
+        formatter_class=argparse.RawDescriptionHelpFormatter,
         allow_abbrev=False,
     )
     command.options(parser)
     return parser
 
 
+OVERVIEW = f"""\
+usage: rds-monitor COMMAND [options] [INPUT]
+
+{about}
+
+An input is a recording of packed bits or a listing of `rds list` or `rds follow`, told apart by content;
+without one, standard input is read.
+
+commands:
+%s
+
+rds-monitor COMMAND --help describes a command, with an example.
+"""
+
+
 def overview() -> str:
-    width = max(len(it.name) for it in COMMANDS)
-    lines = [f"  {it.name:{width}}  {it.summary}" for it in COMMANDS]
-    return (
-        "\n".join(
-            [
-                "usage: rds-monitor COMMAND [options] [INPUT]",
-                "",
-                (__import__("rds_monitor").__doc__ or ""),
-                "",
-                "An input is a recording of packed bits or a listing of `rds list` or `rds follow`, told apart by "
-                "content;",
-                "without one, standard input is read.",
-                "",
-                "commands:",
-                *lines,
-                "",
-                "rds-monitor COMMAND --help describes a command, with an example.",
-            ]
-        )
-        + "\n"
-    )
+    width = max(len(command.name) for command in COMMANDS)
+    return OVERVIEW % "\n".join(f"  {command.name:{width}}  {command.summary}" for command in COMMANDS)
 
 
 def chosen(words: Sequence[str]) -> Optional[Command]:
@@ -127,7 +109,7 @@ def chosen(words: Sequence[str]) -> Optional[Command]:
     if words[0] in ("-V", "--version"):
         print(f"rds-monitor {__version__}")
         return None
-    found = next((it for it in COMMANDS if it.name == words[0]), None)
+    found = next((command for command in COMMANDS if command.name == words[0]), None)
     if not found:
         raise Misuse(f"there is no command {words[0]!r}: rds-monitor --help lists them")
     return found

@@ -1,4 +1,4 @@
-"""Why `rds` refused an input: the line, byte or gap that is at fault."""
+"""Why `rds` refused an input, or decoded little of it: the line, byte or gap at fault, or blocks that are not decoded."""
 
 from __future__ import annotations
 
@@ -8,9 +8,11 @@ import re
 import signal
 import subprocess
 import sys
-from typing import Callable, Dict, List, Optional, Sequence
+from typing import Any, Callable, Dict, List, Optional, Sequence
 
-from .items import Fault
+import numpy
+
+from .rows.items import Fault
 
 HEX_TEXT = re.compile(rb"[0-9A-Fa-f \t\r\n]*")
 DIGITS = b"0123456789ABCDEFabcdef"
@@ -19,11 +21,17 @@ DIGITS = b"0123456789ABCDEFabcdef"
 def options_why(parser: argparse.ArgumentParser) -> None:
     parser.description = (
         "Runs rds with the same words and the same input, and tells where the fault is: for 12 GroupText each line that is no group, for "
-        "11 HexText the first byte that is no digit, for 16 BadGaps the gap, for 4 BitsPastBytes how many bits there are. The exit status "
-        "is that of rds. RDS names the program (rds).")
-    parser.epilog = ("example:\n  rds-monitor why encode < groups.txt\n"
-                     "  rds-monitor why list --hex --gaps=104-105,100-130 < recording.hex")
-    parser.add_argument("words", metavar="WORD", nargs=argparse.REMAINDER, help="the words that rds was called with")
+        "11 HexText the first byte that is no digit, for 16 BadGaps the gap, for 4 BitsPastBytes how many bits there are. Of bits "
+        "that are not refused it tells how many blocks have offset word E of RBDS, which is not decoded. The exit status "
+        "is that of rds. RDS names the program (rds)."
+    )
+    parser.epilog = (
+        "example:\n  rds-monitor why encode < groups.txt\n"
+        "  rds-monitor why list --hex --gaps=104-105,100-130 < recording.hex"
+    )
+    parser.add_argument(
+        "words", metavar="WORD", nargs=argparse.REMAINDER, help="the words that rds was called with"
+    )
 
 
 def run_why(arguments: argparse.Namespace) -> int:
@@ -32,15 +40,17 @@ def run_why(arguments: argparse.Namespace) -> int:
     # rds may refuse before it has read all: then the pipe is closed, which is no end of this command.
     signal.signal(signal.SIGPIPE, signal.SIG_IGN)
     try:
-        ran = subprocess.run([program, *words], input=held, stdout=subprocess.DEVNULL, stderr=subprocess.PIPE, check=False)
+        ran = subprocess.run(
+            [program, *words], input=held, stdout=subprocess.DEVNULL, stderr=subprocess.PIPE, check=False
+        )
     except OSError as error:
         raise Fault(f"{program}: {error.strerror}") from None
     said = ran.stderr.decode("utf-8", "replace")
     sys.stdout.write(said)
     refusal = re.search(r"^refused (\d+) ", said, re.M)
-    tell = TELLERS.get(int(refusal[1])) if refusal else None
+    tell = TELLERS.get(int(refusal[1])) if refusal else blocks_e if "encode" not in words else None
     if tell:
-        sys.stdout.write("".join(f"{it}\n" for it in tell(words, held)))
+        sys.stdout.write("".join(f"{line}\n" for line in tell(words, held)))
     return ran.returncode
 
 
@@ -69,7 +79,9 @@ def hex_text(_words: Sequence[str], held: bytes) -> List[str]:
     at = found.end() if found else 0
     if at < len(held):
         line, column = held.count(b"\n", 0, at) + 1, at - (held.rfind(b"\n", 0, at) + 1) + 1
-        return [f"byte {at + 1} (line {line}, column {column}) is 0x{held[at]:02X}, neither a digit nor blank"]
+        return [
+            f"byte {at + 1} (line {line}, column {column}) is 0x{held[at]:02X}, neither a digit nor blank"
+        ]
     return [f"there are {bits_held(['--hex'], held) // 4} digits, an odd number"]
 
 
@@ -88,8 +100,11 @@ def bad_gaps(words: Sequence[str], held: bytes) -> List[str]:
     for number, gap in enumerate((option(words, "gaps") or "").split(","), 1):
         begin, _, after = gap.partition("-")
         start, stop = int(begin), int(after)
-        faults = [(start >= stop, "is empty"), (stop > bits, f"goes past the end of the recording, {bits} bits"),
-                  (start < end, f"begins before {end}, the end of the one before it")]
+        faults = [
+            (start >= stop, "is empty"),
+            (stop > bits, f"goes past the end of the recording, {bits} bits"),
+            (start < end, f"begins before {end}, the end of the one before it"),
+        ]
         for is_bad, fault in faults:
             if is_bad:
                 return [f"gap {number}, {gap}, {fault}"]
@@ -97,4 +112,49 @@ def bad_gaps(words: Sequence[str], held: bytes) -> List[str]:
     return []
 
 
-TELLERS: Dict[int, Callable[[Sequence[str], bytes], List[str]]] = {4: bits_of_input, 11: hex_text, 12: group_text, 16: bad_gaps}
+# The least number of blocks E in a row that are told, and how many bits are looked at.
+LEAST_E, MOST_BITS = 4, 1 << 22
+
+
+def first_bits(words: Sequence[str], held: bytes) -> Any:
+    """The first bits of the input, one per byte."""
+    if "--hex" in words:
+        digits = held[: MOST_BITS // 4].translate(None, b" \t\r\n")
+        held = bytes.fromhex(digits[: len(digits) // 2 * 2].decode())
+    bits = numpy.unpackbits(numpy.frombuffer(held[: MOST_BITS // 8], "u1"))
+    return bits[: int(option(words, "bits") or MOST_BITS)]
+
+
+def blocks_e(words: Sequence[str], held: bytes) -> List[str]:
+    """How many blocks have offset word E, which adds nothing to the check bits: MMBS sends them between groups."""
+    bits = first_bits(words, held)
+    count = len(bits) - 25
+    if count < 26 * LEAST_E:
+        return []
+    remainders, ones = numpy.zeros(count, "u2"), numpy.zeros(count, "u1")
+    check = 1
+    for begin in range(25, -1, -1):
+        remainders ^= bits[begin : begin + count] * numpy.uint16(check)
+        ones |= bits[begin : begin + count]
+        check = check << 1 ^ (0x5B9 if check >> 9 else 0)
+    is_e = (remainders == 0) & (ones > 0)
+    last, is_told = count - 26 * (LEAST_E - 1), numpy.zeros(count, bool)
+    runs = numpy.logical_and.reduce([is_e[26 * k : last + 26 * k] for k in range(LEAST_E)])
+    for k in range(LEAST_E):
+        is_told[26 * k : last + 26 * k] |= runs
+    # Without an offset word, windows a few bits beside blocks may be blocks too: those of one bit position count.
+    found = int(numpy.bincount(numpy.flatnonzero(is_told) % 26, minlength=26).max())
+    if not found:
+        return []
+    return [
+        f"{found} of the blocks in the first {len(bits)} bits have offset word E (RBDS with MMBS): they count as bad, and 10 in "
+        "a row lose sync; --loss 64 keeps it"
+    ]
+
+
+TELLERS: Dict[int, Callable[[Sequence[str], bytes], List[str]]] = {
+    4: bits_of_input,
+    11: hex_text,
+    12: group_text,
+    16: bad_gaps,
+}

@@ -11,7 +11,7 @@ from typing import Any, Iterator, List
 
 def missing() -> List[str]:
     """What a browser needs and is not here."""
-    found = [it for it in ("chromium", "chromedriver") if not shutil.which(it)]
+    found = [name for name in ("chromium", "chromedriver") if not shutil.which(name)]
     return found if find_spec("selenium") else [*found, "python3-selenium"]
 
 
@@ -24,9 +24,17 @@ def browser(folder: Path, width: int = 1100, height: int = 900, dark: bool = Fal
     options = webdriver.ChromeOptions()
     options.binary_location = shutil.which("chromium") or ""
     # A root user has no sandbox, and a container little shared memory.
-    for word in ("--headless=new", "--no-sandbox", "--disable-dev-shm-usage", "--disable-gpu", "--hide-scrollbars",
-                 "--host-resolver-rules=MAP * ~NOTFOUND", f"--user-data-dir={folder}/profile", f"--window-size={width},{height}",
-                 *(["--force-dark-mode", "--blink-settings=preferredColorScheme=0"] if dark else [])):
+    for word in (
+        "--headless=new",
+        "--no-sandbox",
+        "--disable-dev-shm-usage",
+        "--disable-gpu",
+        "--hide-scrollbars",
+        "--host-resolver-rules=MAP * ~NOTFOUND",
+        f"--user-data-dir={folder}/profile",
+        f"--window-size={width},{height}",
+        *(["--force-dark-mode", "--blink-settings=preferredColorScheme=0"] if dark else []),
+    ):
         options.add_argument(word)
     options.set_capability("goog:loggingPrefs", {"browser": "ALL"})
     driver = webdriver.Chrome(service=Service(shutil.which("chromedriver")), options=options)

@@ -30,11 +30,18 @@ sys.path[:0] = [str(TOP / "monitor"), str(TOP / "bindings" / "python")]
 os.environ["PYTHONPATH"] = os.pathsep.join(sys.path[:2])
 
 STATION = TOP / "examples" / "station.bin"
+# The command, as a process of its own.
+COMMAND = [sys.executable, "-m", "rds_monitor"]
 
 
 def rds(*words: Any, data: bytes = b"") -> bytes:
     """What the program writes."""
     return subprocess.run([PROGRAM, *map(str, words)], input=data, capture_output=True, check=True).stdout
+
+
+def ran(words: Sequence[Any], **options: Any) -> "subprocess.CompletedProcess[str]":
+    """A process that has ended, and what it wrote."""
+    return subprocess.run([*map(str, words)], capture_output=True, text=True, **options)
 
 
 def encode(groups: Iterable[Sequence[int]]) -> bytes:
@@ -46,9 +53,7 @@ def monitor(*words: Any, data: bytes = b"", **options: Any) -> "subprocess.Compl
     """The command, in a process of its own; in another environment, in one that has imported nothing yet."""
     if "env" not in options:
         return forked.run(*words, data=data, **options)
-    return subprocess.run(
-        [sys.executable, "-m", "rds_monitor", *map(str, words)], input=data, capture_output=True, **options
-    )
+    return subprocess.run([*COMMAND, *map(str, words)], input=data, capture_output=True, **options)
 
 
 @pytest.fixture(scope="session")

@@ -65,7 +65,9 @@ class Server:
         self._asked.close()
         self._it.wait()
 
-    def run(self, words: Sequence[str], data: bytes, folder: str, environment: Dict[str, str]) -> "subprocess.CompletedProcess[bytes]":
+    def run(
+        self, words: Sequence[str], data: bytes, folder: str, environment: Dict[str, str]
+    ) -> "subprocess.CompletedProcess[bytes]":
         pipes = [os.pipe() for _ in range(3)]
         theirs = [pipes[0][0], pipes[1][1], pipes[2][1]]
         said: List[bytes] = [b"", b""]
@@ -76,7 +78,10 @@ class Server:
                 os.close(file)
             threads = [
                 threading.Thread(target=_write, args=(os.fdopen(pipes[0][1], "wb", 0), data)),
-                *(threading.Thread(target=_read, args=(os.fdopen(pipes[1 + k][0], "rb"), said, k)) for k in (0, 1)),
+                *(
+                    threading.Thread(target=_read, args=(os.fdopen(pipes[1 + k][0], "rb"), said, k))
+                    for k in (0, 1)
+                ),
             ]
             for thread in threads:
                 thread.start()
@@ -109,4 +114,4 @@ def run(*words: Any, data: bytes = b"", cwd: Any = None) -> "subprocess.Complete
     """The command with these words, as `subprocess.run` does it."""
     global _server
     _server = _server or Server()
-    return _server.run([str(it) for it in words], data, str(cwd or os.getcwd()), dict(os.environ))
+    return _server.run([str(word) for word in words], data, str(cwd or os.getcwd()), dict(os.environ))

@@ -21,9 +21,10 @@ import sys
 import tempfile
 import time
 from pathlib import Path
-from typing import Dict, List
+from typing import Callable, Dict, List
 
 import conftest  # noqa: F401 - it names the library
+import modulator
 from network import START, Air, Network, Plan, Programme, Simulated, SimulatedTimes, decoders_of
 from station import GROUPS_PER_SECOND, RATE
 
@@ -46,7 +47,8 @@ def names(count: int) -> List[str]:
 
 
 def table(count: int, *lines: str) -> str:
-    return "\n".join("\n".join(["[[station]]", f'name = "{name}"', f'command = ["{name}"]', *lines]) for name in names(count)) + "\n"
+    every = [["[[station]]", f'name = "{name}"', f'command = ["{name}"]', *lines] for name in names(count)]
+    return "\n".join(line for station in every for line in station) + "\n"
 
 
 def said(text: str, within: bool) -> int:
@@ -58,33 +60,37 @@ def bits(folder: Path) -> int:
     """Ten minutes first, in which all that is sent becomes known."""
     seconds, tick = 3600.0, 50.0
     air = Air(Programme(0xD318, "ALPHA", "Now: nothing much", wrong_pi=None), START, seconds + 700)
-    it = Network(folder, table(COUNT), {name: air for name in names(COUNT)})
-    it.run(600, tick)
+    network = Network(folder, table(COUNT), {name: air for name in names(COUNT)})
+    network.run(600, tick)
     begin = cpu_seconds()
-    it.run(seconds, tick)
+    network.run(seconds, tick)
     used = cpu_seconds() - begin
-    it.end()
+    network.end()
     speed = seconds / used
-    return said(f"bits: {COUNT} stations, {seconds:.0f} s in {used:.1f} s of a processor, {speed:.0f} times real time, limit {SPEED}; {memory_mb():.0f} MB", speed >= SPEED)
+    text = (
+        f"bits: {COUNT} stations, {seconds:.0f} s in {used:.1f} s of a processor, {speed:.0f} times real time"
+    )
+    return said(f"{text}, limit {SPEED}; {memory_mb():.0f} MB", speed >= SPEED)
 
 
 def live(folder: Path, name: str = "live", *options: str) -> int:
     lines = [f'folder = "{folder}"']
     for n, station in enumerate(names(COUNT)):
-        words = [sys.executable, str(STATION), "--pi", f"{0xD300 + n:04X}", "--ps", station, "--rt", "Now: nothing", "--errors", "0.001"]
+        words = [sys.executable, str(STATION), "--pi", f"{0xD300 + n:04X}", "--ps", station]
+        words += ["--rt", "Now: nothing", "--errors", "0.001"]
         lines += ["[[station]]", f'name = "{station}"', f"command = {words!r}".replace("'", '"')]
     (folder / "stations.toml").write_text("\n".join(lines))
     words = [sys.executable, "-m", "rds_monitor", "watch", *options, str(folder / "stations.toml")]
-    it = subprocess.Popen(words, stderr=subprocess.DEVNULL)
+    process = subprocess.Popen(words, stderr=subprocess.DEVNULL)
     time.sleep(30)
-    all_of_it = [it.pid, *decoders_of(it.pid)]
+    all_of_it = [process.pid, *decoders_of(process.pid)]
     before = sum(map(used_by, all_of_it))
     time.sleep(60)
     used = sum(map(used_by, all_of_it)) - before
     pages = sum(int(Path(f"/proc/{pid}/statm").read_text().split()[1]) for pid in all_of_it)
-    memory, count = pages * resource.getpagesize() / 1e6, len(list(Path(f"/proc/{it.pid}/fd").iterdir()))
-    it.send_signal(signal.SIGTERM)
-    it.wait()
+    memory, count = pages * resource.getpagesize() / 1e6, len(list(Path(f"/proc/{process.pid}/fd").iterdir()))
+    process.send_signal(signal.SIGTERM)
+    process.wait()
     within = memory <= MEMORY_MB * COUNT and count <= DESCRIPTORS * COUNT
     text = f"{name}: {COUNT} stations, {100 * used / 60:.0f} % of a processor, {memory:.0f} MB, {count} descriptors"
     return said(f"{text}, {len(all_of_it)} processes", within)
@@ -100,38 +106,42 @@ def program(folder: Path) -> int:
     return live(folder, "program", "--program", conftest.PROGRAM)
 
 
+def parts(first: int, after: int, size: int, part: Callable[[int], bytes]) -> bytes:
+    """Bytes from position to position of parts that have the same size."""
+    numbers = range(first // size, after // size + 1)
+    return b"".join(part(n)[max(first, n * size) - n * size : after - n * size] for n in numbers)
+
+
 class MpxAir:
     """Seconds of MPX, over and over."""
 
     RATE = 192000
 
     def __init__(self) -> None:
-        from modulator import mpx, stored
-
         programme = Programme(0xD318, "ALPHA", "Now: nothing")
         data = conftest.encode([programme.group(n) for n in range(120)])
-        self._data = stored(mpx(data, self.RATE), "s16")
+        self._data = modulator.stored(modulator.mpx(data, self.RATE), "s16")
         self.begin = START
 
     def at(self, seconds: float) -> int:
         return int(seconds * self.RATE) * 2
 
     def bytes(self, first: int, after: int) -> bytes:
-        size = len(self._data)
-        return b"".join(self._data[max(first, n * size) - n * size : after - n * size] for n in range(first // size, after // size + 1))
+        return parts(first, after, len(self._data), lambda n: self._data)
 
 
 def mpx(folder: Path) -> int:
     air, seconds = MpxAir(), 30
     text = table(COUNT, 'form = "mpx"', 'raw = "s16"', f"rate = {MpxAir.RATE}")
-    it = Network(folder, text, {name: air for name in names(COUNT)})  # type: ignore[misc]
-    it.run(5)
+    network = Network(folder, text, {name: air for name in names(COUNT)})  # type: ignore[misc]
+    network.run(5)
     begin = cpu_seconds()
-    it.run(seconds)
+    network.run(seconds)
     used = (cpu_seconds() - begin) / seconds
-    it.end()
+    network.end()
     within = used <= 1.8 and memory_mb() <= MEMORY_MB * COUNT
-    return said(f"mpx: {COUNT} stations, {100 * used:.0f} % of a processor, limit 180 %; {memory_mb():.0f} MB", within)
+    text = f"mpx: {COUNT} stations, {100 * used:.0f} % of a processor, limit 180 %"
+    return said(f"{text}; {memory_mb():.0f} MB", within)
 
 
 class Endless:
@@ -148,14 +158,13 @@ class Endless:
         """The groups of an hour."""
         count = 41100
         if number not in self._hours:
-            text = self._programme._replace(rt=f"Song number {number}")
-            self._hours = {number - 1: self._hours.get(number - 1, b""), number: b""}
-            self._hours[number] = conftest.encode([text.group(self.first + number * count + n) for n in range(count)])
+            text, first = self._programme._replace(rt=f"Song number {number}"), self.first + number * count
+            groups = [text.group(first + n) for n in range(count)]
+            self._hours = {number - 1: self._hours.get(number - 1, b""), number: conftest.encode(groups)}
         return self._hours[number]
 
     def bytes(self, first: int, after: int) -> bytes:
-        size = 41100 * 13
-        return b"".join(self._hour(n)[max(first, n * size) - n * size : after - n * size] for n in range(first // size, after // size + 1))
+        return parts(first, after, 41100 * 13, self._hour)
 
 
 def week(folder: Path) -> int:
@@ -163,17 +172,18 @@ def week(folder: Path) -> int:
     keep = "[keep]\nlistings_days = 1\ndatabase_days = 2\n"
     airs = {name: Endless(Programme(0xD318 + n, "ALPHA", "")) for n, name in enumerate(names(2))}
     plans = {name: [Plan(dies=18000.0) for _ in range(60)] for name in airs}
-    it = Network(folder, keep + table(2), airs, plans)  # type: ignore[arg-type]
-    it.times = SimulatedTimes()
-    it.begin()
+    network = Network(folder, keep + table(2), airs, plans)  # type: ignore[arg-type]
+    network.times = SimulatedTimes()
+    network.begin()
     seen = []
     for day in range(1, 8):
         begin = cpu_seconds()
-        it.run(86400, 50)
+        network.run(86400, 50)
         size = sum(path.stat().st_size for path in folder.rglob("*") if path.is_file()) / 1e6
         seen.append((memory_mb(), size))
-        print(f"week: day {day}, {cpu_seconds() - begin:.0f} s, {seen[-1][0]:.0f} MB of memory, {size:.1f} MB in the folder", flush=True)
-    it.end()
+        used = f"{cpu_seconds() - begin:.0f} s, {seen[-1][0]:.0f} MB of memory"
+        print(f"week: day {day}, {used}, {size:.1f} MB in the folder", flush=True)
+    network.end()
     (memory3, size3), (memory7, size7) = seen[2], seen[6]
     return said("week: no growth from the third day on", memory7 < 1.05 * memory3 + 5 and size7 < 1.1 * size3)
 

@@ -3,16 +3,30 @@
 from __future__ import annotations
 
 import io
+import os
+import pty
+import subprocess
 import sys
-from typing import Any, Iterator, List, NamedTuple, Optional, Sequence
+from typing import Any, Dict, Iterator, List, NamedTuple, Optional, Sequence
 from unittest import mock
 
 import numpy
 
 from rds_monitor import cli
-from rds_monitor.items import ACQUIRED, CORRECTED, GROUP, ITEM, LOSS, LOST, VALID, Rows, totals_of
-from rds_monitor.listing import Listing, text_of, totals_text
-from rds_monitor.parse import _set_types
+from rds_monitor.rows.items import (
+    ACQUIRED,
+    CORRECTED,
+    GROUP,
+    ITEM,
+    LOSS,
+    LOST,
+    VALID,
+    Reading,
+    Rows,
+    totals_of,
+)
+from rds_monitor.rows.listing import Listing, text_of, totals_text
+from rds_monitor.rows.parse import _set_types
 
 BLOCK_OFFSETS = (1, 2, 3, 5)
 
@@ -21,7 +35,11 @@ def block(row: Any, number: int, word: Optional[int], burst: int = 0) -> None:
     """Sets a block of a row: valid, corrected with a burst, or without a word uncorrectable."""
     row[f"kind{number}"] = LOST if word is None else CORRECTED if burst else VALID
     if word is not None:
-        row[f"info{number}"], row[f"burst{number}"], row[f"offset{number}"] = word, burst, BLOCK_OFFSETS[number - 1]
+        row[f"info{number}"], row[f"burst{number}"], row[f"offset{number}"] = (
+            word,
+            burst,
+            BLOCK_OFFSETS[number - 1],
+        )
 
 
 def group_row(place: int, words: Sequence[Optional[int]], first: int = 1, prime: bool = False) -> Rows:
@@ -63,8 +81,13 @@ def listing(rows: Sequence[Rows], totals: bool = True) -> bytes:
 
 def read(text: bytes, **options: Any) -> Rows:
     """The rows of a listing."""
-    source = Listing(io.BytesIO(text), b"", **options)
+    source = Listing(io.BytesIO(text), b"", Reading(**options))
     return numpy.concatenate([numpy.zeros(0, ITEM), *source.chunks()])
+
+
+def split(words: Sequence[Any]) -> List[Any]:
+    """Texts that have an option in front as several words; paths, names and other values as they are."""
+    return [one for word in words for one in (word.split() if str(word)[:1] == "-" else [word])]
 
 
 class Done(NamedTuple):
@@ -76,22 +99,62 @@ class Done(NamedTuple):
 def run(*words: Any, data: bytes = b"") -> Done:
     """A command, in this process."""
     streams = [io.TextIOWrapper(io.BytesIO(given), "utf-8", write_through=True) for given in (data, b"", b"")]
-    with mock.patch.multiple(sys, stdin=streams[0], stdout=streams[1], stderr=streams[2]), mock.patch("signal.signal"):
+    with mock.patch.multiple(sys, stdin=streams[0], stdout=streams[1], stderr=streams[2]), mock.patch(
+        "signal.signal"
+    ):
         try:
-            status = cli.main([str(it) for it in words])
+            status = cli.main([str(word) for word in words])
         except SystemExit as end:
             status = end.code if isinstance(end.code, int) else 1
-    out, err = (it.detach().getvalue().decode() for it in streams[1:])  # type: ignore[attr-defined]
+    out, err = (stream.detach().getvalue().decode() for stream in streams[1:])  # type: ignore[attr-defined]
     return Done(status, out, err)
 
 
-def said(*words: Any, data: bytes = b"") -> List[str]:
-    """The lines of a command that succeeds."""
+def output(*words: Any, data: bytes = b"") -> str:
+    """What a command that succeeds writes."""
     done = run(*words, data=data)
     assert done.status == 0, done.err
-    return done.out.splitlines()
+    return done.out
+
+
+def said(*words: Any, data: bytes = b"") -> List[str]:
+    """The same as lines."""
+    return output(*words, data=data).splitlines()
+
+
+def on_a_terminal(*words: str) -> bytes:
+    """Standard error of a command, where that is a terminal."""
+    ours, theirs = pty.openpty()
+    process = subprocess.Popen([sys.executable, *words], stdout=subprocess.DEVNULL, stderr=theirs)
+    os.close(theirs)
+    said = b""
+    try:
+        while True:
+            said += os.read(ours, 65536)
+    except OSError:
+        pass
+    os.close(ours)
+    assert process.wait() == 0
+    return said
+
+
+def peak_memory(*words: str, data: bytes) -> int:
+    """The most memory of a process of the command, in kB."""
+    code = (
+        "import sys; from rds_monitor.cli import main; main(sys.argv[1:]); "
+        "(peak,) = [line.split()[1] for line in open('/proc/self/status') if line.startswith('VmHWM')]; "
+        "print(peak, file=sys.stderr)"
+    )
+    done = subprocess.run([sys.executable, "-c", code, *words], input=data, capture_output=True)
+    return int(done.stderr.splitlines()[-1])
 
 
 def chunks_of(data: bytes, size: int) -> Iterator[bytes]:
     for begin in range(0, len(data), size):
         yield data[begin : begin + size]
+
+
+def session_of(**changes: Any) -> Dict[str, Any]:
+    """A session of a hundred seconds as the page of `report` has it."""
+    known = dict(start=None, begin=0, end=100, step=1, counts=[[45, 40, 3, 1, 1]] * 100, outages=[[1, 2]])
+    return {**known, **dict(mix=[], clock=[], events=[], carried=[], more=0, held={}, silent=0), **changes}

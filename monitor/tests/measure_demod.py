@@ -1,137 +1,182 @@
 #!/usr/bin/env python3
-"""Measures the demodulator: groups received by the noise, by multipath, and the processor's time. No test, since it
-takes minutes.
+"""Measures the demodulator, and prints the tables of docs/ACCURACY.md and docs/PERFORMANCE.md. It takes minutes.
 
-    RDS=build/rds monitor/tests/measure_demod.py [--groups 500] [--seeds 2] [--beside OLD]
-
-Prints tables in Markdown. OLD is another program from MPX to packed bits to compare with, called with --raw f32
---rate N --packed.
+    RDS=build/rds monitor/tests/measure_demod.py [--only noise levels jumps multipath time] [--seed 1]
 """
 
 from __future__ import annotations
 
 import argparse
-import os
 import resource
 import subprocess
-import sys
 import tempfile
-from typing import Any, List, Optional, Sequence, Tuple
+from typing import Any, Callable, Dict, List, NamedTuple, Sequence, Tuple
 
-from conftest import encode, monitor, rds
-from modulator import Array, iq, mpx, stored, wav, words
+import numpy
+from conftest import COMMAND, encode, rds
+from made import peak_memory
+from modulator import Array, dropped, iq, mpx, stored, wav, words
 
-LEVELS = (30, 20, 15, 12, 10, 8, 6, 4, 2, 1, 0, -1, -2, -3, -4)
-MULTIPATH: Tuple[Tuple[str, List[Tuple[float, float, float, float]], float], ...] = (
-    ("none", [], 30), ("none", [], 20), ("none", [], 14), ("none", [], 12), ("none", [], 10),
-    ("10 µs, −6 dB", [(10, 0.5, 90, 0)], 30), ("10 µs, −6 dB", [(10, 0.5, 90, 0)], 15),
-    ("10 µs, −3 dB", [(10, 0.7, 180, 0)], 30), ("10 µs, −1 dB", [(10, 0.9, 180, 0)], 30),
-    ("30 µs, −3 dB", [(30, 0.7, 90, 0)], 30),
-    ("5 µs, −4 dB and 12 µs, −6 dB", [(5, 0.6, 120, 0), (12, 0.5, 250, 0)], 30),
-    ("10 µs, −3 dB, 2 Hz", [(10, 0.7, 0, 2)], 30), ("30 µs, −2 dB, 10 Hz", [(30, 0.8, 0, 10)], 30))
+from rds_monitor.signal.receiver import Receiver
+
+Words = Tuple[int, ...]
+RATE = 192000
 
 
-def right(bits: bytes, sent: "set[tuple[int, ...]]") -> int:
-    """How many of the groups that were sent are complete in the listing of the bits."""
-    found = set()
+def whole_groups(bits: bytes) -> List[Words]:
+    """The words of the complete groups that rds finds."""
+    found = []
     for line in rds("list", data=bits).decode().splitlines():
         fields = line.split(",")
         if fields[0] == "group" and not {"none", "lost"} & set(fields[4:]):
-            found.add(tuple(int(block.split(":")[1][:4], 16) for block in fields[4:]))
-    return len(found & sent)
+            found.append(tuple(int(block.split(":")[1][:4], 16) for block in fields[4:]))
+    return found
 
 
-def timed(words_: Sequence[str]) -> Tuple[bytes, bytes, float]:
-    """What a command wrote, and its seconds of processor time."""
+def received(
+    signal: Array, rate: int, block: int = 65536, **options: Any
+) -> Tuple[List[Words], Dict[str, Any]]:
+    """The groups of a signal, handed over a block at a time, and the report."""
+    receiver = Receiver(rate, numpy.iscomplexobj(signal), **options)
+    parts = [receiver.push(signal[at : at + block]) for at in range(0, signal.size, block)]
+    groups = whole_groups(numpy.packbits(numpy.concatenate([*parts, receiver.finish()])).tobytes())
+    return groups, receiver.quality.report()
+
+
+def right(groups: Sequence[Words], signal: Array, rate: int = RATE, **options: Any) -> int:
+    """How many of the groups are received as they were sent."""
+    return len(set(received(signal, rate, **options)[0]) & set(groups))
+
+
+# ---- rows
+
+
+def noise(seed: int, snr: float) -> List[Any]:
+    groups = words(seed, 500)
+    return [sum(right(groups, mpx(encode(groups), RATE, snr=snr, seed=own)) for own in (seed, seed + 1))]
+
+
+def jumps(seed: int, change: Dict[str, float], lost: int) -> List[Any]:
+    """`lost` samples are dropped each second."""
+    groups = words(seed, 120)
+    signals = (mpx(encode(groups), RATE, snr=snr, seed=seed, **change) for snr in (30, 5, 0, -2))
+    return [right(groups, dropped(signal, lost, RATE) if lost else signal) for signal in signals]
+
+
+def levels(seed: int, rate: int, cnr: float) -> List[Any]:
+    """Of a silent and a loud programme, with 2.25 kHz."""
+    found = []
+    for loudness in (0, 0.8):
+        signal = iq(mpx(encode(words(seed, 40)), rate, snr=60, loudness=loudness), rate, cnr=cnr, seed=seed)
+        found += [received(signal, rate, equalise=value)[1]["rds_khz"] for value in (False, True)]
+    return found
+
+
+def multipath(seed: int, paths: List[Tuple[float, float, float, float]], cnr: float) -> List[Any]:
+    groups, rate = words(seed, 100), 256000
+    signal = iq(mpx(encode(groups), rate, snr=60), rate, paths, cnr, seed=seed)
+    return [right(groups, signal, rate, equalise=value) for value in (False, True)]
+
+
+class Table(NamedTuple):
+    columns: Sequence[str]
+    row: Callable[..., List[Any]]
+    cases: Dict[str, Tuple[Any, ...]]  # by the first cells of their rows
+
+
+TABLES = {
+    "noise": Table(
+        ("SNR", "received of 1000"),
+        noise,
+        {f"{snr:g} dB".replace("-", "−"): (snr,) for snr in (4, 2, 0, -1, -2, -3, -4)},
+    ),
+    "jumps": Table(
+        ("signal", "30 dB", "5 dB", "0 dB", "−2 dB"),
+        jumps,
+        {
+            "no jump": ({}, 0),
+            "pilot jumps by 30° four times per second": ({"jump": 30}, 0),
+            "100 samples dropped per second": ({}, 100),
+            "500 samples dropped per second": ({}, 500),
+        },
+    ),
+    "levels": Table(
+        ("samples per second | carrier to noise", "silent", "equalised", "loud", "equalised"),
+        levels,
+        {
+            f"{rate:,} | {cnr} dB": (rate, cnr)
+            for rate, cnr in (
+                (171000, 15),
+                (171000, 50),
+                (250000, 15),
+                (250000, 50),
+                (1024000, 30),
+                (2400000, 15),
+                (2400000, 50),
+            )
+        },
+    ),
+    "multipath": Table(
+        ("second path | carrier to noise", "without equaliser", "with it"),
+        multipath,
+        {
+            "none | 30 dB": ([], 30),
+            "none | 12 dB": ([], 12),
+            "10 µs, −6 dB | 15 dB": ([(10, 0.5, 90, 0)], 15),
+            "10 µs, −1 dB | 30 dB": ([(10, 0.9, 180, 0)], 30),
+            "30 µs, −3 dB | 30 dB": ([(30, 0.7, 90, 0)], 30),
+            "10 µs, −3 dB, 2 Hz Doppler | 30 dB": ([(10, 0.7, 0, 2)], 30),
+            "30 µs, −2 dB, 10 Hz Doppler | 30 dB": ([(30, 0.8, 0, 10)], 30),
+        },
+    ),
+}
+
+
+def print_table(table: Table, seed: int) -> None:
+    head = "| " + " | ".join(table.columns) + " |"
+    print(f"\n{head}\n{'|---' * (head.count('|') - 1)}|")
+    for name, case in table.cases.items():
+        print(f"| {name} | {' | '.join(map(str, table.row(seed, *case)))} |", flush=True)
+
+
+def cpu_seconds(*command: str) -> float:
     before = resource.getrusage(resource.RUSAGE_CHILDREN)
-    done = subprocess.run(words_, capture_output=True)
+    subprocess.run([*COMMAND, *command], capture_output=True, check=True)
     after = resource.getrusage(resource.RUSAGE_CHILDREN)
-    return done.stdout, done.stderr, after.ru_utime + after.ru_stime - before.ru_utime - before.ru_stime
+    return after.ru_utime + after.ru_stime - before.ru_utime - before.ru_stime
 
 
-def by_noise(levels: Sequence[float], count: int, seeds: int, other: Optional[str]) -> None:
-    rate, groups = 250000, words(3, count)
-    sent = set(groups)
-    print(f"| Signal to noise | `demod`, of {count * seeds} |" + (f" `{os.path.basename(other)}` |" if other else ""))
-    print("|---|---|" + ("---|" if other else ""))
-    cases: List[Tuple[str, Any]] = [(f"{level:g} dB", {"snr": level}) for level in levels]
-    if len(levels) == len(LEVELS):
-        cases += [("20 dB, 57 kHz off by 5 Hz", {"snr": 20, "carrier_offset": 5}),
-                  ("20 dB, bits 100 ppm too fast", {"snr": 20, "clock_offset": 100})]
-    for name, options in cases:
-        ours = theirs = 0
-        for seed in range(1, seeds + 1):
-            with tempfile.NamedTemporaryFile() as file:
-                file.write(stored(mpx(encode(groups), rate, seed=seed, **options), "f32"))
-                file.flush()
-                ours += right(monitor("demod", "--raw", "f32", "--rate", rate, file.name).stdout, sent)
-                if other:
-                    command = [sys.executable, other, "--raw", "f32", "--rate", str(rate), "--packed", file.name]
-                    theirs += right(timed(command)[0], sent)
-        print(f"| {name} | {ours} |" + (f" {theirs} |" if other else ""), flush=True)
-
-
-def by_multipath(count: int) -> None:
-    rate, groups = 1024000, words(3, count)
-    signal = mpx(encode(groups), rate, snr=60)
-    print(f"\n| Second path | Carrier to noise in 200 kHz | Groups of {count}, signal to noise, plain | equalised |")
-    print("|---|---|---|---|")
-    for name, paths, cnr in MULTIPATH:
-        cells = []
-        received: Array = iq(signal, rate, paths, cnr)
-        with tempfile.NamedTemporaryFile() as file:
-            file.write(stored(received.astype("c16"), "s16", peak=8.0))
-            file.flush()
-            for options in (["--no-equaliser"], []):
-                done = monitor("demod", "--raw", "s16", "--iq", "--rate", rate, *options, file.name)
-                said = [part for part in done.stderr.decode().split("; ") if part.startswith("signal to noise")]
-                cells.append(f"{right(done.stdout, set(groups))}, {said[0][16:] if said else 'no RDS'}")
-        print(f"| {name} | {cnr} dB | {' | '.join(cells)} |", flush=True)
-
-
-def by_time(other: Optional[str]) -> None:
-    """A minute of 192 kHz MPX in WAV, and of 1.024 MHz IQ."""
-    command = [sys.executable, "-m", "rds_monitor", "demod"]
+def print_times() -> None:
+    """Of a minute of 192 kHz MPX in WAV, and of 1.024 MHz IQ."""
     groups = words(4, 684)
+    minute = wav(stored(mpx(encode(groups), RATE), "s16"), "s16", RATE)
+    part = stored(iq(mpx(encode(groups[:114]), 1024000), 1024000, cnr=30), "u8")
     print("\n| A minute of | CPU s | peak MB |\n|---|---|---|")
-    with tempfile.NamedTemporaryFile() as file:
-        file.write(wav(stored(mpx(encode(groups), 192000), "s16"), "s16", 192000))
-        file.flush()
-        print(f"| 192 kHz MPX | {timed([*command, file.name])[2]:.2f} | {peak(file.name)} |")
-        if other:
-            time = timed([sys.executable, other, "--packed", file.name])[2]
-            print(f"| the same, `{os.path.basename(other)}` | {time:.2f} | |", flush=True)
-    with tempfile.NamedTemporaryFile() as file:
-        part = stored(iq(mpx(encode(groups[:114]), 1024000), 1024000, cnr=30), "u8")
-        for _ in range(6):
-            file.write(part)
-        file.flush()
-        for options in (["--no-equaliser"], []):
-            time = timed([*command, "--raw", "u8", "--iq", "--rate", "1024000", *options, file.name])[2]
-            print(f"| 1.024 MHz IQ {' '.join(options)} | {time:.2f} | |", flush=True)
-
-
-def peak(path: str) -> int:
-    """The most memory that the command had, which the system's own count would mix with that of this program."""
-    code = ("import sys; from rds_monitor.cli import main; main(sys.argv[1:]); "
-            "print([line.split()[1] for line in open('/proc/self/status') if line.startswith('VmHWM')][0])")
-    return int(timed([sys.executable, "-c", code, "demod", "--output", os.devnull, path])[0]) // 1024
+    raw = ("--raw", "u8", "--iq", "--rate", "1024000")
+    for name, data, options in (
+        ("192 kHz MPX", minute, ()),
+        ("1.024 MHz IQ, without equaliser", part * 6, (*raw, "--no-equaliser")),
+        ("1.024 MHz IQ", part * 6, raw),
+    ):
+        with tempfile.NamedTemporaryFile() as file:
+            file.write(data)
+            file.flush()
+            command = ("demod", *options, "--output", "/dev/null", file.name)
+            print(f"| {name} | {cpu_seconds(*command):.2f} | {peak_memory(*command, data=b'') // 1024} |")
 
 
 def main() -> None:
-    parser = argparse.ArgumentParser(description=__doc__, formatter_class=argparse.RawDescriptionHelpFormatter)
-    parser.add_argument("--groups", type=int, default=500)
-    parser.add_argument("--seeds", type=int, default=2)
-    parser.add_argument("--levels", type=float, nargs="+", default=LEVELS, metavar="DB")
-    parser.add_argument("--beside", metavar="OLD")
-    parser.add_argument("--only", choices=["noise", "multipath", "time"])
+    parser = argparse.ArgumentParser(
+        description=__doc__, formatter_class=argparse.RawDescriptionHelpFormatter
+    )
+    parser.add_argument("--only", nargs="+", choices=[*TABLES, "time"], default=[*TABLES, "time"])
+    parser.add_argument("--seed", type=int, default=1)
     options = parser.parse_args()
-    if options.only in (None, "time"):
-        by_time(options.beside)
-    if options.only in (None, "noise"):
-        by_noise(options.levels, options.groups, options.seeds, options.beside)
-    if options.only in (None, "multipath"):
-        by_multipath(max(1, options.groups // 5))
+    for name in options.only:
+        if name == "time":
+            print_times()
+        else:
+            print_table(TABLES[name], options.seed)
 
 
 if __name__ == "__main__":

@@ -74,7 +74,9 @@ def longer_audio(longer: int, rate: int) -> Array:
     random = numpy.random.default_rng(5)
     # Half of the power of each channel is in both.
     both, difference = (low_noise(random, longer, rate) for _ in range(2))
-    programme = numpy.sqrt(3) * both + difference * numpy.sin(4 * numpy.pi * PILOT_HZ / rate * numpy.arange(longer))
+    programme = numpy.sqrt(3) * both + difference * numpy.sin(
+        4 * numpy.pi * PILOT_HZ / rate * numpy.arange(longer)
+    )
     result: Array = programme / (4 * numpy.std(programme))
     result.setflags(write=False)
     return result
@@ -96,20 +98,34 @@ def sent(data: bytes, rate: int, clock_offset: float) -> Array:
 
 
 @lru_cache(maxsize=8)
-def mpx(data: bytes, rate: int = 192000, snr: float = 30, carrier_offset: float = 0, clock_offset: float = 0,
-        phase: float = 0, flip: Optional[float] = None, stereo: bool = True, seed: int = 1) -> Array:
+def mpx(
+    data: bytes,
+    rate: int = 192000,
+    snr: float = 30,
+    carrier_offset: float = 0,
+    clock_offset: float = 0,
+    phase: float = 0,
+    flip: Optional[float] = None,
+    stereo: bool = True,
+    seed: int = 1,
+    jump: float = 0,
+    level: float = RDS_LEVEL,
+    loudness: float = AUDIO_LEVEL,
+) -> Array:
     """The MPX of packed bits. Offsets are in Hz of the 57 kHz and in parts in a million of the bits, `phase` is in
-    degrees, and from second `flip` on it is inverted."""
+    degrees, and from second `flip` on it is inverted. The pilot's phase jumps by `jump` degrees each quarter of a
+    second, and that of RDS by three times as many."""
     random = numpy.random.default_rng(seed)
     shape = sent(data, rate, clock_offset)
     times = numpy.arange(shape.size) / rate
-    carrier = numpy.sin(2 * numpy.pi * (CARRIER_HZ + carrier_offset) * times + numpy.radians(phase))
-    rds = shape * carrier * RDS_LEVEL
+    jumps = numpy.radians(jump) * numpy.floor(4 * times)
+    carrier = 2 * numpy.pi * (CARRIER_HZ + carrier_offset) * times + numpy.radians(phase) + 3 * jumps
+    rds = shape * numpy.sin(carrier) * level
     # White noise has its power spread evenly up to half of the sample rate.
     noise = numpy.mean(rds**2) / 10 ** (snr / 10) * (rate / 2) / CHANNEL_HZ
-    signal = rds + random.standard_normal(times.size) * numpy.sqrt(noise) + AUDIO_LEVEL * audio(times.size, rate)
+    signal = rds + random.standard_normal(times.size) * numpy.sqrt(noise) + loudness * audio(times.size, rate)
     if stereo:
-        signal += PILOT_LEVEL * numpy.sin(2 * numpy.pi * PILOT_HZ * times)
+        signal += PILOT_LEVEL * numpy.sin(2 * numpy.pi * PILOT_HZ * times + jumps)
     result: Array = signal if flip is None else numpy.where(times < flip, signal, -signal)
     # Several tests have it.
     result.setflags(write=False)
@@ -119,6 +135,21 @@ def mpx(data: bytes, rate: int = 192000, snr: float = 30, carrier_offset: float 
 Path = Tuple[float, float, float, float]
 
 
+def dropped(signal: Array, count: int, every: int) -> Array:
+    """Without `count` of each `every` samples."""
+    places = numpy.arange(signal.size)
+    return signal[(places < every) | (places % every >= count)]
+
+
+def phases(multiplex: Array, rate: int) -> Array:
+    """The integral of the frequency at each sample: of the means between samples, whose response is a sinc."""
+    size = 1 << multiplex.size.bit_length()
+    spectrum = numpy.fft.rfft(multiplex, size) * numpy.sinc(numpy.fft.rfftfreq(size))
+    means = numpy.fft.irfft(spectrum)[: multiplex.size]
+    result: Array = 2 * numpy.pi * DEVIATION_HZ / rate * numpy.cumsum(means)
+    return result
+
+
 def delayed(signal: Array, samples: float) -> Array:
     """By a number of samples that need not be whole."""
     frequencies = numpy.fft.fftfreq(signal.size)
@@ -126,12 +157,18 @@ def delayed(signal: Array, samples: float) -> Array:
     return result
 
 
-def iq(multiplex: Array, rate: int, paths: Sequence[Path] = (), cnr: Optional[float] = None, offset: float = 0,
-       seed: int = 1) -> Array:
+def iq(
+    multiplex: Array,
+    rate: int,
+    paths: Sequence[Path] = (),
+    cnr: Optional[float] = None,
+    offset: float = 0,
+    seed: int = 1,
+) -> Array:
     """FM by MPX of the same rate. Each path beside the first has a delay in microseconds, a gain, a phase in degrees
     and a Doppler shift in Hz. `cnr` is the ratio of carrier to noise in 200 kHz in dB, `offset` the station's from
     the centre in Hz."""
-    sent = numpy.exp(2j * numpy.pi * DEVIATION_HZ / rate * numpy.cumsum(multiplex))
+    sent = numpy.exp(1j * phases(multiplex, rate))
     times = numpy.arange(sent.size) / rate
     received = sent.copy()
     for delay, gain, phase, doppler in paths:
@@ -140,7 +177,9 @@ def iq(multiplex: Array, rate: int, paths: Sequence[Path] = (), cnr: Optional[fl
     if cnr is not None:
         random = numpy.random.default_rng(seed + 100)
         power = numpy.mean(numpy.abs(received) ** 2) / 10 ** (cnr / 10) * rate / 200e3
-        received += numpy.sqrt(power / 2) * (random.standard_normal(sent.size) + 1j * random.standard_normal(sent.size))
+        received += numpy.sqrt(power / 2) * (
+            random.standard_normal(sent.size) + 1j * random.standard_normal(sent.size)
+        )
     result: Array = received * numpy.exp(2j * numpy.pi * offset * times)
     return result
 
@@ -154,7 +193,9 @@ def stored(values: Array, form: str, peak: float = 3.0) -> bytes:
     if form in ("f32", "f64"):
         return flat.astype("<f4" if form == "f32" else "<f8").tobytes()
     bits = {"u8": 8, "s16": 16, "s24": 24, "s32": 32}[form]
-    whole = numpy.clip(numpy.rint(flat / peak * (2 ** (bits - 1) - 1)), -(2 ** (bits - 1)), 2 ** (bits - 1) - 1)
+    whole = numpy.clip(
+        numpy.rint(flat / peak * (2 ** (bits - 1) - 1)), -(2 ** (bits - 1)), 2 ** (bits - 1) - 1
+    )
     if form == "u8":
         return (whole + 128).astype("u1").tobytes()
     if form == "s24":
@@ -166,7 +207,9 @@ def _chunk(name: bytes, body: bytes) -> bytes:
     return name + struct.pack("<I", len(body)) + body
 
 
-def wav(data: bytes, form: str, rate: int, channels: int = 1, long_form: bool = False, more: bytes = b"") -> bytes:
+def wav(
+    data: bytes, form: str, rate: int, channels: int = 1, long_form: bool = False, more: bytes = b""
+) -> bytes:
     """A WAV file of samples; the long form is RF64, whose lengths are in a chunk of their own. `more` is a chunk
     before them."""
     code, width = (3 if form[0] == "f" else 1), int(form[1:]) // 8

@@ -3,6 +3,7 @@
 from __future__ import annotations
 
 import os
+import sqlite3
 import sys
 from pathlib import Path
 from typing import Any, Callable, Dict, List, NamedTuple, Optional, Sequence, Tuple
@@ -10,30 +11,30 @@ from typing import Any, Callable, Dict, List, NamedTuple, Optional, Sequence, Tu
 import numpy
 
 from conftest import TOP, encode
-from rds_monitor.items import Rows
-from rds_monitor.hours import Hour, hour_of
+from rds_monitor.rows.hours import Hour, hour_of
+from rds_monitor.rows.items import Rows
 from rds_monitor.watch.decoders import ByLibrary, NewDecoder
 from rds_monitor.watch.loop import Watch
+from rds_monitor.watch.receiver import Process
 from rds_monitor.watch.records import Records
 from rds_monitor.watch.recover import recover, rows_of
-from rds_monitor.watch.table import Table, table_of
-from rds_monitor.watch.times import Now
-from rds_monitor.watch.writer import Batch, Writer
+from rds_monitor.watch.table import table_of
+from rds_monitor.watch.times import Now, Times
+from rds_monitor.watch.writer import Batch, Writer, WriterThread
 
 sys.path.insert(0, str(TOP / "monitor" / "demo"))
 
-from station import GROUPS_PER_SECOND, RATE, Programme, number_of  # noqa: E402
+from station import GROUPS_PER_SECOND, RATE, Programme  # noqa: E402
 
 # Half a minute before an hour of UTC, on 2026-11-27.
 START = 1795748370.0
 
 
-class SimulatedTimes:
+class SimulatedTimes(Times):
     """A clock that stands still between two calls of `pass_by`."""
 
-    speed = 1.0
-
     def __init__(self, utc: float = START):
+        super().__init__()
         self.steady, self.utc = 1000.0, utc
 
     def now(self) -> Now:
@@ -67,14 +68,18 @@ class Air:
 
 
 class Plan(NamedTuple):
-    """What a run of a receiver does, in seconds of the run: it dies or hangs, or is so slow to tell that bytes come late."""
+    """What a run of a receiver does, in seconds of the run: it dies or hangs, is so slow to tell that bytes come late, gives them in
+    bursts, drops some from a moment on, or is that many times too fast."""
 
     dies: Optional[float] = None
     hangs: Optional[float] = None
     late: float = 0.0
+    burst: float = 0.0
+    drops: Tuple[float, float] = (0.0, 0.0)
+    pace: float = 1.0
 
 
-class Simulated:
+class Simulated(Process):
     """A run of a receiver. Its bytes are kept, to be compared, but not those of a week."""
 
     keeps = True
@@ -88,14 +93,18 @@ class Simulated:
 
     def _lasted(self) -> float:
         lasted = self._times.steady - self._began
-        ends = [it for it in (self._plan.dies, self._plan.hangs) if it is not None]
+        ends = [one for one in (self._plan.dies, self._plan.hangs) if one is not None]
         return min([lasted, *ends])
 
     def read(self) -> Optional[bytes]:
         if self._killed:
             return None
-        upto = self._air.at(self._began - self._zero + self._lasted() - self._plan.late)
-        data, self._at = self._air.bytes(self._at, upto), max(self._at, upto)
+        lasted, begin, (at, seconds) = self._lasted(), self._began - self._zero, self._plan.drops
+        lasted = lasted // self._plan.burst * self._plan.burst if self._plan.burst else lasted
+        upto = self._air.at(begin + lasted * self._plan.pace - self._plan.late)
+        last, again = (self._air.at(begin + moment) for moment in (at, at + seconds))
+        kept = ((self._at, min(last, upto)), (max(self._at, again), upto)) if seconds else ((self._at, upto),)
+        data, self._at = b"".join(self._air.bytes(*part) for part in kept), max(self._at, upto)
         if self.keeps:
             self.given += data
         if not data and self._plan.dies is not None and self._lasted() >= self._plan.dies:
@@ -109,29 +118,25 @@ class Simulated:
             return "ended with status 1: unplugged"
         return None
 
-    def terminate(self) -> None:
-        self._killed = True
-
     def kill(self) -> None:
         self._killed = True
+
+    terminate = kill
 
     def close(self) -> None:
         pass
 
 
-class InTurn:
+class InTurn(WriterThread):
     """A writer without a thread: it tries again at each look."""
 
     def __init__(self, writer: Writer):
+        super().__init__(writer)
         self.writer = writer
 
     @property
     def is_idle(self) -> bool:
         return self.writer.is_idle or (self.writer.work() and self.writer.is_idle)
-
-    @property
-    def fault(self) -> Optional[str]:
-        return self.writer.fault
 
     def give(self, batch: Batch) -> None:
         self.writer.give(batch)
@@ -161,12 +166,11 @@ class Network:
         """A watch begins, perhaps after one that was killed."""
         self.records = Records(str(self.folder / "watch.db"))
         table = table_of(self.text)
-        self.recovered = recover(str(self.folder), [it.name for it in table.stations], self.records)
+        self.recovered = recover(str(self.folder), [station.name for station in table.stations], self.records)
         self.records.end_runs(self.times.utc)
         self.writer = InTurn(Writer(str(self.folder), self.records, self._say))
-        self.watch = Watch(
-            table, str(self.folder), self.times, self._launch, self.decoder, self.writer, self.records, self._say
-        )
+        given = self.times, self._launch, self.decoder, self.writer, self.records, self._say
+        self.watch = Watch(table, str(self.folder), *given)
 
     def _say(self, priority: str, text: str) -> None:
         self.said.append(text)
@@ -203,32 +207,46 @@ class Network:
 
     def reload(self, text: str) -> None:
         self.text = text
-        table: Table = table_of(text)
-        self.watch.reload(table)
+        self.watch.reload(table_of(text))
 
     def asked(self, query: str, *given: Any) -> List[Tuple[Any, ...]]:
-        import sqlite3
-
-        data = sqlite3.connect(self.folder / "watch.db")
-        try:
-            return data.execute(query, given).fetchall()
-        finally:
-            data.close()
+        return asked(self.folder, query, *given)
 
     def texts(self, station: str) -> List[bytes]:
         """The hours' files, joined by session."""
-        query = (
-            "SELECT name, path FROM hour_files JOIN sessions ON sessions.id = session JOIN recordings ON recordings.id = recording"
-            " WHERE station = ? ORDER BY recordings.id, number"
-        )
         found: Dict[str, bytes] = {}
-        for name, path in self.asked(query, station):
+        for name, path in self.asked(
+            f"SELECT name, path {HOURS} WHERE station = ? ORDER BY recordings.id, number", station
+        ):
             whole = self.folder / path
             found[name] = found.get(name, b"") + (whole.read_bytes() if whole.exists() else b"")
         return list(found.values())
 
     def hours(self, station: str) -> "List[Tuple[Hour, Rows]]":
         return hours_in(self.folder, station)
+
+
+HOURS = "FROM hour_files JOIN sessions ON sessions.id = session JOIN recordings ON recordings.id = recording"
+
+
+def asked(folder: Path, query: str, *given: Any) -> List[Tuple[Any, ...]]:
+    """Rows of the database of a watch."""
+    data = sqlite3.connect(folder / "watch.db", timeout=60)
+    try:
+        return data.execute(query, given).fetchall()
+    finally:
+        data.close()
+
+
+def told_once(folder: Path) -> None:
+    """The blocks of the minutes are those of the files, no hour is open, and each session names its PS at most once."""
+    valid = sum(
+        int(sum((rows[f"kind{n}"] == 2).sum() for n in (1, 2, 3, 4))) for _, rows in hours_in(folder, "Alpha")
+    )
+    assert asked(folder, "SELECT SUM(valid) FROM minute_rows") == [(valid,)]
+    assert asked(folder, "SELECT COUNT(*) FROM hour_files WHERE is_open") == [(0,)]
+    (names,) = asked(folder, "SELECT COUNT(*) FROM events WHERE item = 'ps'")
+    assert names[0] <= asked(folder, "SELECT COUNT(*) FROM recordings")[0][0]
 
 
 def hours_in(folder: Path, station: str) -> "List[Tuple[Hour, Rows]]":
@@ -248,8 +266,7 @@ def numbers_in(hours: "List[Tuple[Hour, Rows]]") -> List[Tuple[int, float]]:
     for hour, rows in hours:
         for row in rows[(rows["what"] == 2) & (rows["number"] == 6) & (rows["version"] == 1)]:
             if all(row[f"kind{block}"] == 2 for block in (1, 2, 3, 4)):
-                number = number_of([int(row[f"info{block}"]) for block in (1, 2, 3, 4)])
-                assert number is not None
+                number = int(row["info3"]) << 16 | int(row["info4"])
                 found.append((number, hour.start + float(row["place"]) / hour.rate))
     return found
 
@@ -257,9 +274,13 @@ def numbers_in(hours: "List[Tuple[Hour, Rows]]") -> List[Tuple[int, float]]:
 def decoders_of(pid: int) -> List[int]:
     """The processes `rds follow` of a watch."""
     children = Path(f"/proc/{pid}/task/{pid}/children").read_text().split()
-    return [int(it) for it in children if Path(f"/proc/{it}/cmdline").read_bytes().split(b"\0")[1:2] == [b"follow"]]
+    return [
+        int(one)
+        for one in children
+        if Path(f"/proc/{one}/cmdline").read_bytes().split(b"\0")[1:2] == [b"follow"]
+    ]
 
 
 def stations(*lines: str) -> str:
     """A table of a station, from its lines, or of several, parted by '--'."""
-    return "[[station]]\n" + "\n".join("[[station]]" if it == "--" else it for it in lines) + "\n"
+    return "[[station]]\n" + "\n".join("[[station]]" if line == "--" else line for line in lines) + "\n"

@@ -40,7 +40,9 @@ def sent(pi: int, names: Sequence[bytes], texts: Sequence[bytes]) -> bytes:
     for minute in range(24 * 60):
         hour = minute // 60
         if minute % 60 == 0:
-            cycle = bits(name(names[hour % len(names)]) + text(texts[hour % len(texts)], hour % 2) + [group("8A", 0)])
+            cycle = bits(
+                name(names[hour % len(names)]) + text(texts[hour % len(texts)], hour % 2) + [group("8A", 0)]
+            )
         count = int((minute + 1) * 60 * PACE) - groups - 1
         groups += count + 1
         after = minute + 1
@@ -56,7 +58,7 @@ def received(bits: bytes, rates: Sequence[float], outages: Sequence[Sequence[int
     for part, rate in zip(numpy.array_split(every, len(rates)), rates):
         part ^= numpy.packbits(random.random(8 * len(part)) < rate)
     for begin, end in outages:
-        low, high = (int(it * 1187.5 / 8) for it in (begin, end))
+        low, high = (int(value * 1187.5 / 8) for value in (begin, end))
         every[low:high] = random.integers(0, 256, high - low)
     return every.tobytes()
 
@@ -84,12 +86,19 @@ def network(into: Path) -> None:
 
 
 def report(into: Path) -> None:
+    names, texts = [b"ALPHA   ", b"ALPHA FM"], [
+        b"The morning show\r",
+        b"News on the hour",
+        b"Music all day long\r",
+    ]
+    rates = [0.001] * 8 + [0.004, 0.01, 0.02, 0.01, 0.004] + [0.001] * 11
+    alpha = received(sent(0xD312, names, texts), rates, [(30000, 30002), (61000, 61900)], 1)
+    beta = received(sent(0xD313, [b"BETA 104"], [b"Classics\r"]), [0.002], [], 2)
+    gamma = sent(0xD314, [b" GAMMA  "], [b"Talk\r", b"Traffic\r"])
     stations = {
-        "alpha.bin": received(
-            sent(0xD312, [b"ALPHA   ", b"ALPHA FM"], [b"The morning show\r", b"News on the hour", b"Music all day long\r"]),
-            [0.001] * 8 + [0.004, 0.01, 0.02, 0.01, 0.004] + [0.001] * 11, [(30000, 30002), (61000, 61900)], 1),
-        "beta.bin": received(sent(0xD313, [b"BETA 104"], [b"Classics\r"]), [0.002], [], 2),
-        "gamma.bin": received(sent(0xD314, [b" GAMMA  "], [b"Talk\r", b"Traffic\r"]), [0.015], [(86360, 86390)], 3),
+        "alpha.bin": alpha,
+        "beta.bin": beta,
+        "gamma.bin": received(gamma, [0.015], [(86360, 86390)], 3),
     }
     with tempfile.TemporaryDirectory() as given:
         folder = Path(given)

@@ -6,14 +6,16 @@ from typing import Any, List, NamedTuple, Optional, Sequence, Tuple
 
 import numpy
 
-from rds_monitor.content import Decoder, Event
-from rds_monitor.items import ACQUIRED, CORRECTED, GROUP, ITEM, LOST, VALID, Rows
+from rds_monitor.content.decoder import Decoder, Event
+from rds_monitor.rows.items import ACQUIRED, CORRECTED, GROUP, ITEM, LOST, VALID, Rows
 
 Words = Tuple[int, int, int, int]
 PI = 0xD318
 
 
-def group(kind: str, low: int, third: int = 0, fourth: int = 0, pi: int = PI, tp: int = 1, pty: int = 10) -> Words:
+def group(
+    kind: str, low: int, third: int = 0, fourth: int = 0, pi: int = PI, tp: int = 1, pty: int = 10
+) -> Words:
     """A group of a type such as 0A: five bits of block 2, and blocks 3 and 4. Version B repeats the PI in block 3."""
     is_b = kind[-1] == "B"
     second = int(kind[:-1]) << 12 | is_b << 11 | tp << 10 | pty << 5 | low
@@ -34,23 +36,35 @@ def name(
     return [group(kind, flags | k, lists[k], pair, **options) for k, pair in enumerate(pairs(text, 4))]
 
 
+def segments(kind: str, content: bytes, count: int = 0, first: int = 0, **options: Any) -> List[Words]:
+    """Groups with four characters each, numbered from `first` on: as many as the text needs, or this number."""
+    words = pairs(content, 2 * (count or -(-len(content) // 4)))
+    return [group(kind, first + k, *two, **options) for k, two in enumerate(zip(words[::2], words[1::2]))]
+
+
 def text(content: bytes, flag: int = 0, kind: str = "2A", **options: Any) -> List[Words]:
     """Groups 2: RadioText, in as many groups as it needs."""
-    per_group = 4 if kind == "2A" else 2
-    count = -(-len(content) // per_group)
-    words = pairs(content, count * per_group // 2)
     if kind == "2A":
-        return [group(kind, flag << 4 | k, words[2 * k], words[2 * k + 1], **options) for k in range(count)]
-    return [group(kind, flag << 4 | k, 0, words[k], **options) for k in range(count)]
+        return segments(kind, content, first=flag << 4, **options)
+    words = pairs(content, -(-len(content) // 2))
+    return [group(kind, flag << 4 | k, 0, word, **options) for k, word in enumerate(words)]
+
+
+def type_name(content: bytes, flag: int = 0) -> List[Words]:
+    return segments("10A", content, 2, flag << 4)
+
+
+def eon(variant: int, third: int, pi: int = 0xD312, tp: int = 0) -> Words:
+    return group("14A", tp << 4 | variant, third, pi)
+
+
+def eon_name(content: bytes, pi: int = 0xD312) -> List[Words]:
+    return [eon(k, pair, pi) for k, pair in enumerate(pairs(content, 4))]
 
 
 def clock(day: int, hour: int, minute: int, half_hours: int) -> Words:
-    return group(
-        "4A",
-        day >> 15,
-        (day & 0x7FFF) << 1 | hour >> 4,
-        (hour & 15) << 12 | minute << 6 | (half_hours < 0) << 5 | abs(half_hours),
-    )
+    days, hours = (day & 0x7FFF) << 1 | hour >> 4, (hour & 15) << 12
+    return group("4A", day >> 15, days, hours | minute << 6 | (half_hours < 0) << 5 | abs(half_hours))
 
 
 def label(variant: int, value: int, pin: int = 0, linkage: int = 0) -> Words:
@@ -64,12 +78,9 @@ def oda(aid: int, kind: str, message: int = 0) -> Words:
 def tags(toggle: int, running: int, *tag: Tuple[int, int, int], kind: str = "11A") -> Words:
     """A group of RadioText Plus: up to two tags of content type, start, and length less one."""
     (class1, start1, more1), (class2, start2, more2) = (*tag, (0, 0, 0), (0, 0, 0))[:2]
-    return group(
-        kind,
-        toggle << 4 | running << 3 | class1 >> 3,
-        (class1 & 7) << 13 | start1 << 7 | more1 << 1 | class2 >> 5,
-        (class2 & 31) << 11 | start2 << 5 | more2,
-    )
+    third = (class1 & 7) << 13 | start1 << 7 | more1 << 1 | class2 >> 5
+    fourth = (class2 & 31) << 11 | start2 << 5 | more2
+    return group(kind, toggle << 4 | running << 3 | class1 >> 3, third, fourth)
 
 
 class Damage(NamedTuple):
@@ -80,7 +91,9 @@ class Damage(NamedTuple):
     word: Optional[int] = None
 
 
-def rows_of(groups: Sequence[Words], damage: Sequence[Tuple[int, Damage]] = (), acquired: Sequence[int] = (0,)) -> Rows:
+def rows_of(
+    groups: Sequence[Words], damage: Sequence[Tuple[int, Damage]] = (), acquired: Sequence[int] = (0,)
+) -> Rows:
     """The rows of groups, with damage to some, and acquisitions before others."""
     by_group: dict[int, List[Damage]] = {}
     for number, one in damage:
@@ -99,12 +112,15 @@ def rows_of(groups: Sequence[Words], damage: Sequence[Tuple[int, Damage]] = (), 
                 block[:3] = [1, block[1] if one.word is None else one.word, CORRECTED]
         lost = blocks[1][2] == LOST
         kind, version = (255, 3) if lost else (blocks[1][1] >> 12, 2 if blocks[1][1] >> 11 & 1 else 1)
-        found.append((104 * number, *(it for block in blocks for it in block), GROUP, kind, version, 0))
+        found.append((104 * number, *(entry for block in blocks for entry in block), GROUP, kind, version, 0))
     return numpy.array(found, ITEM)
 
 
 def events_of(
-    groups: Sequence[Words], damage: Sequence[Tuple[int, Damage]] = (), acquired: Sequence[int] = (0,), **options: Any
+    groups: Sequence[Words],
+    damage: Sequence[Tuple[int, Damage]] = (),
+    acquired: Sequence[int] = (0,),
+    **options: Any,
 ) -> List[Event]:
     return Decoder(**options).feed(rows_of(groups, damage, acquired))
 

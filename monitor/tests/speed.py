@@ -16,7 +16,7 @@ import tempfile
 from pathlib import Path
 from typing import List, NamedTuple, Optional, Sequence, Tuple
 
-from conftest import PROGRAM, STATION
+from conftest import COMMAND, PROGRAM, STATION
 
 GROUPS = 985000
 # Of all commands but report.
@@ -32,12 +32,13 @@ class Limit(NamedTuple):
 
 
 LIMITS = (
-    Limit(("errors",), 1, 8),
-    Limit(("outages",), 1, 8),
-    Limit(("groups",), 1, 8),
+    Limit(("errors",), 2, 8),
+    Limit(("outages",), 2, 8),
+    Limit(("groups",), 2, 8),
     Limit(("programmes",), 2, 8),
     Limit(("types",), 2, 8),
-    Limit(("info",), 10, 20),
+    Limit(("info",), 25, 30),
+    Limit(("json", "--redsea"), 35, 40),
     Limit(("db", "--name", "day", "{folder}/day.db"), 10, 20),
 )
 
@@ -51,10 +52,10 @@ def make_day(path: Path) -> None:
     words = numpy.stack([rows[f"info{block}"] for block in (1, 2, 3, 4)], 1)
     sent = (librds.encode(words.tolist()) * (GROUPS // len(words) + 1))[: 13 * GROUPS]
     random, size = numpy.random.default_rng(1), 1 << 20
-    with open(path, "wb") as it:
+    with open(path, "wb") as file:
         for begin in range(0, len(sent), size):
             part = numpy.frombuffer(sent[begin : begin + size], "u1")
-            it.write(part ^ numpy.packbits(random.random(8 * len(part)) < 0.01))
+            file.write(part ^ numpy.packbits(random.random(8 * len(part)) < 0.01))
 
 
 def measured(words: Sequence[str], given: Optional[Path], into: Path, runs: int) -> Tuple[float, float]:
@@ -81,26 +82,19 @@ def main(runs: int) -> int:
         lister = [PROGRAM, "list", "--workers", "1"]
         unit, _ = measured(lister, day, listing, runs)
         print(f"rds list --workers 1: {unit:.2f} s")
-        print(
-            f"{'command':12} {'recording':>9} {'times':>6} {'limit':>5} {'MB':>4}   "
-            f"{'listing':>9} {'times':>6} "
-            f"{'limit':>5} {'MB':>4}"
-        )
+        columns = f"{'times':>6} {'limit':>5} {'MB':>4}"
+        print(f"{'command':13} {'recording':>9} {columns}   {'listing':>9} {columns}")
         for limit in LIMITS:
-            row = [f"{limit.words[0]:12}"]
+            row = [f"{' '.join(limit.words[:2])[:13]:13}"]
             for path, most in ((day, limit.recording), (listing, limit.listing)):
-                words = [
-                    sys.executable,
-                    "-m",
-                    "rds_monitor",
-                    *(it.format(folder=folder) for it in limit.words),
-                    str(path),
-                ]
+                words = [*COMMAND, *(word.format(folder=folder) for word in limit.words), str(path)]
                 seconds, memory = measured(words, None, folder / "out", runs)
                 unit = min(unit, measured(lister, day, folder / "again", runs)[0])
                 within = seconds <= most * unit and memory < MEMORY_MB
                 failed += not within
-                row.append(f"{seconds:9.2f} {seconds / unit:6.1f} {most:5.0f} {memory:4.0f} {' ' if within else '!'}")
+                row.append(
+                    f"{seconds:9.2f} {seconds / unit:6.1f} {most:5.0f} {memory:4.0f} {' ' if within else '!'}"
+                )
             print(" ".join(row), flush=True)
         failed += not report_within_its_limit(folder, runs)
         failed += not demod_within_its_limit(folder, runs)
@@ -114,11 +108,12 @@ DEMOD_SECONDS = 1.0
 
 
 def report_within_its_limit(folder: Path, runs: int) -> bool:
-    words = [sys.executable, "-m", "rds_monitor", "report", "--start", "2026-03-29T00:30:00Z", str(folder / "day.bin")]
-    seconds, _ = measured(words, None, folder / "out", runs)
+    words = ["report", "--start", "2026-03-29T00:30:00Z", str(folder / "day.bin")]
+    seconds, _ = measured([*COMMAND, *words], None, folder / "out", runs)
     size = (folder / "out").stat().st_size
     within = seconds <= REPORT_SECONDS and size < REPORT_BYTES
-    print(f"report of a day: {seconds:.2f} s, limit {REPORT_SECONDS}; {size} bytes, limit {REPORT_BYTES} {' ' if within else '!'}")
+    limits = f"limit {REPORT_SECONDS}; {size} bytes, limit {REPORT_BYTES}"
+    print(f"report of a day: {seconds:.2f} s, {limits} {' ' if within else '!'}")
     return within
 
 
@@ -126,10 +121,10 @@ def demod_within_its_limit(folder: Path, runs: int) -> bool:
     from modulator import make_minute
 
     subprocess.run([sys.executable, make_minute.__code__.co_filename, str(folder / "mpx.wav")], check=True)
-    words = [sys.executable, "-m", "rds_monitor", "demod", str(folder / "mpx.wav")]
-    seconds, memory = measured(words, None, folder / "out", runs)
+    seconds, memory = measured([*COMMAND, "demod", str(folder / "mpx.wav")], None, folder / "out", runs)
     within = seconds <= DEMOD_SECONDS and memory < MEMORY_MB
-    print(f"demod of a minute of 192 kHz MPX: {seconds:.2f} s, limit {DEMOD_SECONDS}, {memory:.0f} MB {' ' if within else '!'}")
+    limits = f"limit {DEMOD_SECONDS}, {memory:.0f} MB"
+    print(f"demod of a minute of 192 kHz MPX: {seconds:.2f} s, {limits} {' ' if within else '!'}")
     return within
 
 

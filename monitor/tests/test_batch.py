@@ -9,14 +9,13 @@ import shutil
 import signal
 import socket
 import subprocess
-import sys
 import time
 from pathlib import Path
 from typing import Any, Iterator, List
 
 import numpy
 import pytest
-from conftest import PROGRAM, STATION, encode, monitor, rds
+from conftest import COMMAND, PROGRAM, STATION, encode, monitor, rds
 from made import run
 from modulator import mpx, stored, wav, words
 
@@ -25,7 +24,15 @@ from rds_monitor.batch import WORK
 pytestmark = pytest.mark.skipif(not shutil.which("parallel"), reason="GNU parallel is not installed")
 
 NOISE = numpy.random.default_rng(1).bytes(20000)
-NAMES = ["a.bin", "it's.bin", 'a "b" $(c) `d`; e & f.bin', "line\nfeed.bin", "-n.bin", "{} {#} ü.bin", " .bin"]
+NAMES = [
+    "a.bin",
+    "it's.bin",
+    'a "b" $(c) `d`; e & f.bin',
+    "line\nfeed.bin",
+    "-n.bin",
+    "{} {#} ü.bin",
+    " .bin",
+]
 
 
 @pytest.fixture
@@ -59,7 +66,8 @@ def test_listings_of_whatever_name(folders: Any, station_listing: bytes) -> None
     (folders[1] / "a.csv").write_bytes(b"mine\n" + station_listing[-400:])
     (folders[1] / "-n.csv").unlink()
     assert monitor("batch", *folders).returncode == 0
-    assert listings(folders[1])["-n.csv"] == station_listing and listings(folders[1])["a.csv"].startswith(b"mine\n")
+    assert listings(folders[1])["-n.csv"] == station_listing
+    assert listings(folders[1])["a.csv"].startswith(b"mine\n")
 
 
 def test_no_station_is_named_each_time(folders: Any) -> None:
@@ -89,10 +97,15 @@ def test_what_failed_is_named_and_the_others_are_decoded(folders: Any, station_l
     assert listings(folders[1]) == {"good.csv": station_listing}
 
 
-@pytest.mark.parametrize("words_,status,said", [
-    (("none such", "listings"), 1, b"there is no folder"), (("x",), 2, b"usage"),
-    (("--suffix", "/", ".", "listings"), 2, b"suffix"),
-    (("--options", "'", ".", "listings"), 2, b"--options: No closing quotation")])
+@pytest.mark.parametrize(
+    "words_,status,said",
+    [
+        (("none such", "listings"), 1, b"there is no folder"),
+        (("x",), 2, b"usage"),
+        (("--suffix", "/", ".", "listings"), 2, b"suffix"),
+        (("--options", "'", ".", "listings"), 2, b"--options: No closing quotation"),
+    ],
+)
 def test_folders_that_are_not_there(words_: Any, status: int, said: bytes, tmp_path: Path) -> None:
     done = monitor("batch", *words_, cwd=tmp_path)
     assert done.returncode == status and said in done.stderr
@@ -123,7 +136,9 @@ def batch_by(program_: str, *words_: Any) -> "subprocess.CompletedProcess[bytes]
     return monitor("batch", *words_, env={**os.environ, "RDS": program_})
 
 
-def test_a_listing_is_moved_into_its_place(folders: Any, monkeypatch: pytest.MonkeyPatch, station_listing: bytes) -> None:
+def test_a_listing_is_moved_into_its_place(
+    folders: Any, monkeypatch: pytest.MonkeyPatch, station_listing: bytes
+) -> None:
     """From the same file system, when it is whole: who looks at the folder meanwhile never sees a part of one."""
     fill(folders[0], NAMES[:2])
     moved, replace = [], os.replace
@@ -139,12 +154,21 @@ def test_a_listing_is_moved_into_its_place(folders: Any, monkeypatch: pytest.Mon
     assert set(listings(folders[1]).values()) == {station_listing}
 
 
-@pytest.mark.parametrize("text,said", [
-    (f"'{PROGRAM}' \"$@\" | head -c 5000", b"a.bin: failed: the listing does not end in its totals"),
-    (f"'{PROGRAM}' \"$@\"; rm ./*.csv", b"a.bin: failed: its listing did not come back"),
-    ("exit 3", b"a.bin: failed: status 3"),
-    ("echo 'refused 8 OutOfMemory' >&2; echo more >&2; exit 1", b"a.bin: failed: refused 8 OutOfMemory\n")])
-def test_what_is_no_listing_does_not_come_into_its_place(text: str, said: bytes, folders: Any, tmp_path: Path) -> None:
+@pytest.mark.parametrize(
+    "text,said",
+    [
+        (f"'{PROGRAM}' \"$@\" | head -c 5000", b"a.bin: failed: the listing does not end in its totals"),
+        (f"'{PROGRAM}' \"$@\"; rm ./*.csv", b"a.bin: failed: its listing did not come back"),
+        ("exit 3", b"a.bin: failed: status 3"),
+        (
+            "echo 'refused 8 OutOfMemory' >&2; echo more >&2; exit 1",
+            b"a.bin: failed: refused 8 OutOfMemory\n",
+        ),
+    ],
+)
+def test_what_is_no_listing_does_not_come_into_its_place(
+    text: str, said: bytes, folders: Any, tmp_path: Path
+) -> None:
     fill(folders[0], ["a.bin"])
     done = batch_by(program(tmp_path, text), *folders)
     assert done.returncode == 1 and said in done.stderr
@@ -154,8 +178,10 @@ def test_what_is_no_listing_does_not_come_into_its_place(text: str, said: bytes,
 def test_what_was_not_decoded_is_named(folders: Any, tmp_path: Path) -> None:
     fill(folders[0], ["a.bin", "b.bin", "c.bin"])
     done = batch_by(program(tmp_path, "exit 1"), *folders, "--jobs", "1", "--halt", "now,fail=1")
-    named = [line.split(b"/")[-1] for line in done.stderr.splitlines() if line.startswith(b"rds-monitor batch: ")]
-    assert done.returncode == 1 and named == [b"a.bin: failed: status 1", b"b.bin: was not decoded", b"c.bin: was not decoded"]
+    lines = [line for line in done.stderr.splitlines() if line.startswith(b"rds-monitor batch: ")]
+    named = [line.split(b"/")[-1] for line in lines]
+    assert done.returncode == 1
+    assert named == [b"a.bin: failed: status 1", b"b.bin: was not decoded", b"c.bin: was not decoded"]
 
 
 # ---- two at once, and killed ones
@@ -166,13 +192,15 @@ class SlowRds:
 
     def __init__(self, folder: Path):
         self.path, self._go = folder / "slow rds", folder / "go"
-        self.path.write_text(f"""#!/bin/sh
+        self.path.write_text(
+            f"""#!/bin/sh
 '{PROGRAM}' "$@" > "$0.$$" || exit
 head -c 5000 "$0.$$"
 while [ -e "$0" ] && [ ! -e '{self._go}' ]; do sleep 0.1; done
 tail -c +5001 "$0.$$"
 rm "$0.$$"
-""")
+"""
+        )
         self.path.chmod(0o755)
 
     def go_on(self) -> None:
@@ -180,8 +208,8 @@ rm "$0.$$"
 
 
 def started(folders: Any, program: Any, *options: str) -> "subprocess.Popen[bytes]":
-    return subprocess.Popen([sys.executable, "-m", "rds_monitor", "batch", *options, *map(str, folders)],
-                            stderr=subprocess.PIPE, env={**os.environ, "RDS": str(program)}, start_new_session=True)
+    words_, known = [*COMMAND, "batch", *options, *map(str, folders)], {**os.environ, "RDS": str(program)}
+    return subprocess.Popen(words_, stderr=subprocess.PIPE, env=known, start_new_session=True)
 
 
 def wait_for(condition: Any) -> None:
@@ -216,7 +244,9 @@ def test_two_at_once(folders: Any, tmp_path: Path, station_listing: bytes) -> No
 
 
 @pytest.mark.parametrize("whole_session", [False, True])
-def test_one_that_is_killed(whole_session: bool, folders: Any, tmp_path: Path, station_listing: bytes) -> None:
+def test_one_that_is_killed(
+    whole_session: bool, folders: Any, tmp_path: Path, station_listing: bytes
+) -> None:
     fill(folders[0])
     slow = SlowRds(tmp_path)
     first = started(folders, slow.path)
@@ -237,8 +267,18 @@ def test_a_full_disk(folders: Any) -> None:
     fill(folders[0], ["a.bin", "b.bin"])
     folders[1].mkdir()
     mount = 'mount -t tmpfs -o size=64k none "$0"'
-    words_ = ["unshare", "--mount", "sh", "-c", mount + ' && "$@"; s=$?; ls -A "$0" >&2; exit $s', str(folders[1]),
-              sys.executable, "-m", "rds_monitor", "batch", *map(str, folders)]
+    inside = mount + ' && "$@"; s=$?; ls -A "$0" >&2; exit $s'
+    words_ = [
+        "unshare",
+        "--mount",
+        "sh",
+        "-c",
+        inside,
+        str(folders[1]),
+        *COMMAND,
+        "batch",
+        *map(str, folders),
+    ]
     if subprocess.run([*words_[:4], mount, str(folders[1])], capture_output=True).returncode:
         pytest.skip("no file system can be mounted here")
     done = subprocess.run(words_, capture_output=True)
@@ -251,9 +291,9 @@ def test_a_full_disk(folders: Any) -> None:
 
 
 def free_port() -> int:
-    with socket.socket() as it:
-        it.bind(("127.0.0.1", 0))
-        return int(it.getsockname()[1])
+    with socket.socket() as sock:
+        sock.bind(("127.0.0.1", 0))
+        return int(sock.getsockname()[1])
 
 
 @pytest.fixture
@@ -273,15 +313,15 @@ def machines(tmp_path: Path) -> Iterator[List[str]]:
     servers, logins = [], []
     for _ in range(2):
         port = free_port()
-        options = ["ListenAddress=127.0.0.1", f"Port={port}", f"HostKey={folder}/host",
-                   f"AuthorizedKeysFile={folder}/authorized", "StrictModes=no", "UsePAM=no", "PidFile=none",
-                   # sshd drops connections at random if more than 10 are slow to begin, as on a machine that is loaded.
-                   "MaxStartups=100",
-                   "PermitRootLogin=yes", "PasswordAuthentication=no"]
-        servers.append(subprocess.Popen([sshd, "-D", "-e", "-f", "/dev/null", *(f"-o{it}" for it in options)],
-                                        stderr=subprocess.DEVNULL))
-        logins.append(f"ssh -p {port} -i {folder}/user -o StrictHostKeyChecking=no -o UserKnownHostsFile=/dev/null "
-                      f"-o LogLevel=ERROR {getpass.getuser()}@127.0.0.1")
+        # sshd drops connections at random if more than 10 are slow to begin, as on a machine that is loaded.
+        options = f"ListenAddress=127.0.0.1 Port={port} HostKey={folder}/host AuthorizedKeysFile={folder}/authorized"
+        options += " StrictModes=no UsePAM=no PidFile=none MaxStartups=100 PermitRootLogin=yes PasswordAuthentication=no"
+        words_ = [sshd, "-D", "-e", "-f", "/dev/null", *(f"-o{option}" for option in options.split())]
+        servers.append(subprocess.Popen(words_, stderr=subprocess.DEVNULL))
+        logins.append(
+            f"ssh -p {port} -i {folder}/user -o StrictHostKeyChecking=no -o UserKnownHostsFile=/dev/null "
+            f"-o LogLevel=ERROR {getpass.getuser()}@127.0.0.1"
+        )
     try:
         for login in logins:
             end = time.monotonic() + 60

@@ -13,18 +13,22 @@ import pytest
 
 from browser import browser, missing
 from conftest import encode, monitor
-from rds_monitor.charset import printable
-from rds_monitor.report import D3, page_of, told_of
+from made import session_of
+from rds_monitor.content.charset import printable
+from rds_monitor.page.report import D3, page_of, told_of
 from sent import clock, group
 from test_report import EVIL, station
 
 LACKING = [*missing(), *([] if Path(D3).exists() else ["libjs-d3"])]
 # In one worker, so that there is one browser.
 pytestmark = [
-    pytest.mark.skipif(bool(LACKING), reason="needs " + " and ".join(LACKING)), pytest.mark.xdist_group("browser")]
+    pytest.mark.skipif(bool(LACKING), reason="needs " + " and ".join(LACKING)),
+    pytest.mark.xdist_group("browser"),
+]
 pytest.importorskip("jinja2")
 Keys: Any = None if LACKING else importlib.import_module("selenium.webdriver.common.keys").Keys
 
+START = ("--start", "2026-03-29T00:30:00Z")
 HOSTILE = printable("\u202eabc <img src=x onerror=alert(1)> A" + "\u0301" * 64 + "\x1b[31m 'q\" &lt;")
 
 
@@ -48,37 +52,48 @@ def folder(tmp_path_factory: Any) -> Path:
     (made / "long.bin").write_bytes(groups[:500000] + bytes(300) + groups[500300:])
     (made / "good.bin").write_bytes(station(0xD312, "good"))
     (made / "bad.bin").write_bytes(station(0xD313, "bad") + bytes(4000))
-    for name, words in (("one", ["--start", "2026-03-29T00:30:00Z", "long.bin"]), ("three", ["good.bin", "bad.bin", "long.bin"])):
-        done = monitor("report", *words, cwd=made)
-        assert done.returncode == 0, done.stderr
-        (made / f"{name}.html").write_bytes(done.stdout)
+    write(made, "one", *START, "long.bin")
+    write(made, "three", "good.bin", "bad.bin", "long.bin")
     for month, path in (("01", "good.bin"), ("07", "long.bin"), ("12", "bad.bin")):
-        words = ["--station", "Year", "--name", month, "--start", f"2025-{month}-31T00:30:00Z", "year.db", path]
+        start = f"2025-{month}-31T00:30:00Z"
+        words = ("--station", "Year", "--name", month, "--start", start, "year.db", path)
         assert monitor("db", *words, cwd=made).returncode == 0
-    done = monitor("report", "year.db", cwd=made)
-    assert done.returncode == 0, done.stderr
-    (made / "year.html").write_bytes(done.stdout)
+    write(made, "year", "year.db")
     (made / "clock.bin").write_bytes(told_the_time(600, 0.001))
-    done = monitor("report", "--start", "2026-03-29T00:30:00Z", "clock.bin", cwd=made)
-    assert done.returncode == 0, done.stderr
-    (made / "clock.html").write_bytes(done.stdout)
-    session = {
-        "start": None, "begin": 0, "end": 600, "step": 1, "counts": [[45, 45, 0, 0, 0]] * 600, "outages": [], "mix": [], "clock": [],
-        "events": [[9, "RT", HOSTILE], [9, "PS", HOSTILE]], "more": 0, "held": {"PS": HOSTILE, "RT": HOSTILE}, "silent": 0}
-    events = [[10 + 30 * n, "PTY", str(n + 1)] for n in range(210)]
+    write(made, "clock", *START, "clock.bin")
     mix = {f"{n}A": 10 * n for n in range(1, 13)}
-    counted = {
-        **session, "end": 7200, "counts": [[45, 40, 3, 1, 1]] * 7200, "outages": [[60, 61.5], [5400, 5401]], "events": events, "more": 7,
-        "mix": [[0, {**mix, "0A": 8, "15B": 9}], [1, mix]], "held": {}}
+    counted = session_of(
+        end=7200,
+        counts=[[45, 40, 3, 1, 1]] * 7200,
+        outages=[[60, 61.5], [5400, 5401]],
+        events=[[10 + 30 * n, "PTY", str(n + 1)] for n in range(210)],
+        more=7,
+        mix=[[0, {**mix, "0A": 8, "15B": 9}], [1, mix]],
+    )
     (made / "counted.html").write_text(page_of("Pages", [told_of("counted", [counted])]), "utf-8")
-    (made / "hostile.html").write_text(page_of("Pages", [told_of(HOSTILE, [session])]), "utf-8")
+    texts = {"PS": HOSTILE, "RT": HOSTILE}
+    events = [[9, "RT", HOSTILE], [9, "PS", HOSTILE]]
+    hostile = session_of(end=600, counts=[[45, 45, 0, 0, 0]] * 600, outages=[], events=events, held=texts)
+    (made / "hostile.html").write_text(page_of("Pages", [told_of(HOSTILE, [hostile])]), "utf-8")
+    hours = [
+        session_of(start=1000.0, events=[[5, "RT", "One"]]),
+        session_of(start=1100.0, carried=[["RT", "One"]]),
+    ]
+    (made / "hours.html").write_text(page_of("Pages", [told_of("hours", hours)]), "utf-8")
     return made
+
+
+def write(folder: Path, name: str, *words: str) -> None:
+    """The page of some inputs."""
+    done = monitor("report", *words, cwd=folder)
+    assert done.returncode == 0, done.stderr
+    (folder / f"{name}.html").write_bytes(done.stdout)
 
 
 @pytest.fixture(scope="module")
 def driver(tmp_path_factory: Any) -> Iterator[Any]:
-    with browser(tmp_path_factory.mktemp("browser")) as it:
-        yield it
+    with browser(tmp_path_factory.mktemp("browser")) as driver:
+        yield driver
 
 
 @pytest.fixture
@@ -99,7 +114,10 @@ def all_of(driver: Any, selector: str) -> List[Any]:
 def seconds_in_view(driver: Any) -> int:
     """By the line above the chart."""
     text = all_of(driver, "output")[0].text
-    first, last = (sum(60**k * int(it) for k, it in enumerate(reversed(found))) for found in re.findall(r"(\d\d):(\d\d):(\d\d)Z", text))
+    first, last = (
+        sum(60**k * int(text) for k, text in enumerate(reversed(found)))
+        for found in re.findall(r"(\d\d):(\d\d):(\d\d)Z", text)
+    )
     return int(last - first)
 
 
@@ -131,12 +149,16 @@ def test_zoom_from_a_year_to_a_minute(opened: Any) -> None:
     page = opened("year")
 
     def view() -> List[datetime]:
-        text = all_of(page, "output")[0].text
-        return [datetime.strptime(it, "%Y-%m-%d %H:%M:%S") for it in re.findall(r"(\d{4}-\d\d-\d\d \d\d:\d\d:\d\d)Z", text)]
+        text, form = all_of(page, "output")[0].text, "%Y-%m-%d %H:%M:%S"
+        return [
+            datetime.strptime(one, form) for one in re.findall(r"(\d{4}-\d\d-\d\d \d\d:\d\d:\d\d)Z", text)
+        ]
 
     first, last = view()
     assert first == datetime(2025, 1, 31, 0, 30) and 334 <= (last - first).days <= 335
-    assert all_of(page, "rect.valid") and len(all_of(page, "rect.session")) == 3 and len(all_of(page, "rect.outage")) >= 1
+    assert all_of(page, "rect.valid")
+    assert len(all_of(page, "rect.session")) == 3
+    assert len(all_of(page, "rect.outage")) >= 1
     zooms = 0
     while (view()[1] - view()[0]).total_seconds() > 60:
         click(page, "in")
@@ -164,7 +186,8 @@ def test_zoom_by_keys(opened: Any) -> None:
     chart.send_keys(Keys.HOME)
     assert seconds_in_view(page) == whole
     for up, share in ((-1, 0.8), (1, 1.0)):
-        page.execute_script("arguments[0].dispatchEvent(new WheelEvent('wheel', {deltaY: arguments[1], clientX: 300}))", chart, up)
+        wheel = "arguments[0].dispatchEvent(new WheelEvent('wheel', {deltaY: arguments[1], clientX: 300}))"
+        page.execute_script(wheel, chart, up)
         assert abs(seconds_in_view(page) - share * whole) <= 1
     for name, seconds in (("minute", 60), ("hour", 3600), ("day", whole)):
         click(page, name)
@@ -175,22 +198,39 @@ def test_what_the_lines_and_tables_say(opened: Any, folder: Path) -> None:
     """Numbers of the page's data: times without a start, per cent of bad blocks, sessions, outages in view, and rows that are too many."""
     page = opened("counted")
     assert all_of(page, "output")[0].text == "00:00:00 to 02:00:00: 11.11 % bad blocks"
-    assert [it.text for it in all_of(page, ".sessions tbody td")] == ["00:00:00", "02:00:00", "324000", "288000"]
-    assert [it.text for it in all_of(page, ".outages tbody td")] == ["00:01:00", "00:01:01", "1.500", "01:30:00", "01:30:01", "1.000"]
-    rows = [it.text for it in all_of(page, ".events tbody tr")]
-    assert len(rows) == 202 and rows[200:] == ["10 more: zoom in", "7 more are not on this page"] and rows[0] == "00:00:10 PTY 1"
-    lane = [it.get_attribute("textContent") for it in all_of(page, "rect.item title")]
+    cells = {
+        kind: [cell.text for cell in all_of(page, f".{kind} tbody td")] for kind in ("sessions", "outages")
+    }
+    assert cells["sessions"] == ["00:00:00", "02:00:00", "324000", "288000"]
+    assert cells["outages"] == ["00:01:00", "00:01:01", "1.500", "01:30:00", "01:30:01", "1.000"]
+    rows = [element.text for element in all_of(page, ".events tbody tr")]
+    assert len(rows) == 202
+    assert rows[200:] == ["10 more: zoom in", "7 more are not on this page"]
+    assert rows[0] == "00:00:10 PTY 1"
+    lane = [element.get_attribute("textContent") for element in all_of(page, "rect.item title")]
     assert lane and lane[0] == "PTY from 00:00:10: 1"
-    types = [it.text.strip() for it in all_of(page, ".types span")]
+    types = [element.text.strip() for element in all_of(page, ".types span")]
     assert types == [*sorted(f"{n}A" for n in range(1, 13)), "other"]
-    titles = [it.get_attribute("textContent") for it in all_of(page, "rect.mix title")]
-    assert any(it.startswith("other: 17 groups") for it in titles)
-    heights = {kind: float(all_of(page, f"rect.{kind}")[0].get_attribute("height")) for kind in ("valid", "missing", "lost", "corrected")}
-    assert abs(heights["corrected"] / heights["valid"] - 3 / 45) < 0.01 and heights["corrected"] > heights["missing"]
+    titles = [element.get_attribute("textContent") for element in all_of(page, "rect.mix title")]
+    assert any(title.startswith("other: 17 groups") for title in titles)
+    kinds = ("valid", "missing", "lost", "corrected")
+    heights = {kind: float(all_of(page, f"rect.{kind}")[0].get_attribute("height")) for kind in kinds}
+    assert abs(heights["corrected"] / heights["valid"] - 3 / 45) < 0.01
+    assert heights["corrected"] > heights["missing"]
     click(page, "minute")
     page.execute_script("arguments[0].focus()", all_of(page, ".chart")[0])
     all_of(page, ".chart")[0].send_keys(Keys.HOME + "+" * 9)
     assert len(all_of(page, ".outages tbody tr")) == 0 and len(all_of(page, ".sessions tbody tr")) == 1
+
+
+def test_a_text_is_drawn_in_each_hour(opened: Any) -> None:
+    """Though it is told only once, where it changed."""
+    page = opened("hours")
+    bars, rows = all_of(page, "rect.item"), all_of(page, ".events tbody tr")
+    assert len(bars) == 2 and [row.text for row in rows] == ["1970-01-01 00:16:45Z RT One"]
+    assert all(bar.get_attribute("textContent").endswith(": One") for bar in bars)
+    first, second = (float(bar.get_attribute("x")) for bar in bars)
+    assert abs(first + float(bars[0].get_attribute("width")) - second) < 1
 
 
 def test_an_outage_is_seen_at_any_zoom(opened: Any) -> None:
@@ -209,9 +249,8 @@ def test_an_outage_is_seen_at_any_zoom(opened: Any) -> None:
 
 def test_all_lanes_are_drawn(opened: Any) -> None:
     page = opened("one")
-    names = [it.text for it in all_of(page, ".chart svg > text")]
-    for name in ("outages", "sessions", "groups", "PI", "PS", "RT", "PTY", "TP", "TA"):
-        assert name in names
+    names = [element.text for element in all_of(page, ".chart svg > text")]
+    assert set("outages sessions groups PI PS RT PTY TP TA".split()) <= set(names)
     for kind in ("valid", "missing", "outage", "session", "mix", "item"):
         assert all_of(page, f"rect.{kind}"), kind
 
@@ -219,7 +258,8 @@ def test_all_lanes_are_drawn(opened: Any) -> None:
 def test_the_stations_clock(opened: Any) -> None:
     """A lane shows how far it is from that of the recording: by a minute's 60 ms more each minute."""
     page = opened("clock")
-    assert "station's clock, less that of the recording" in [it.text for it in all_of(page, ".chart svg > text")]
+    names = [element.text for element in all_of(page, ".chart svg > text")]
+    assert "station's clock, less that of the recording" in names
     ((line,), (title,)) = all_of(page, ".clock path"), all_of(page, ".clock title")
     assert len(re.findall("[ML]", line.get_attribute("d"))) + line.get_attribute("d").count(",") > 8
     first, last = map(float, re.findall(r"(-?[\d.]+) s", title.get_attribute("textContent")))
@@ -237,8 +277,11 @@ def test_local_time(opened: Any) -> None:
 def test_tiles_of_three_stations_the_worst_first(opened: Any) -> None:
     page = opened("three")
     tiles = all_of(page, ".tiles a")
-    assert [it.find_element("css selector", ".file").text for it in tiles] == ["bad.bin", "good.bin", "long.bin"]
-    assert [it.find_element("css selector", "strong").text for it in tiles] == ["no whole group for 27 s", "no alarm", "no alarm"]
+    names, alarms = (
+        [tile.find_element("css selector", part).text for tile in tiles] for part in (".file", "strong")
+    )
+    assert names == ["bad.bin", "good.bin", "long.bin"]
+    assert alarms == ["no whole group for 27 s", "no alarm", "no alarm"]
     assert "D313" in tiles[0].text and "bad" in tiles[0].text and tiles[0].get_attribute("class") == "alarm"
     assert len(all_of(page, ".tiles polyline")) == 3 and len(all_of(page, ".chart svg")) == 3
     page.execute_script("arguments[0].click()", tiles[2])
@@ -248,16 +291,16 @@ def test_tiles_of_three_stations_the_worst_first(opened: Any) -> None:
 def test_markup_in_radiotext_is_text(opened: Any) -> None:
     page = opened("one")
     assert len(all_of(page, "script")) == 3
-    cells = [it.text for it in all_of(page, ".events td")]
+    cells = [element.text for element in all_of(page, ".events td")]
     assert EVIL in cells
-    lane = [it.get_attribute("textContent") for it in all_of(page, "rect.item title")]
-    assert any(it.endswith(EVIL) for it in lane)
+    lane = [element.get_attribute("textContent") for element in all_of(page, "rect.item title")]
+    assert any(text.endswith(EVIL) for text in lane)
 
 
 def test_hostile_texts_stay_where_they_are(opened: Any) -> None:
     page = opened("hostile")
     assert not all_of(page, "img") and len(all_of(page, "script")) == 3
-    found = [it for it in all_of(page, "td bdi") if it.text == HOSTILE]
+    found = [element for element in all_of(page, "td bdi") if element.text == HOSTILE]
     assert len(found) == 4
     lines = page.execute_script("return arguments[0].getBoundingClientRect().height / 16", found[0])
     # Two marks of the 64 are drawn, and all others written.
@@ -267,17 +310,19 @@ def test_hostile_texts_stay_where_they_are(opened: Any) -> None:
 def test_it_is_read_aloud(opened: Any) -> None:
     page = opened("three")
     for chart in all_of(page, ".chart"):
-        assert chart.get_attribute("role") == "img" and "blocks sent are valid" in chart.get_attribute("aria-label")
+        assert chart.get_attribute("role") == "img"
+        assert "blocks sent are valid" in chart.get_attribute("aria-label")
         assert chart.get_attribute("tabindex") == "0"
-    assert all(it.get_attribute("aria-label") for it in all_of(page, "section"))
-    assert all(it.text for it in all_of(page, "caption")) and len(all_of(page, "html[lang]")) == 1
+    assert all(element.get_attribute("aria-label") for element in all_of(page, "section"))
+    assert all(element.text for element in all_of(page, "caption")) and len(all_of(page, "html[lang]")) == 1
 
 
 def test_dark_and_light(opened: Any) -> None:
     colours = []
     for scheme in ("light", "dark"):
         page = opened("one")
-        page.execute_cdp_cmd("Emulation.setEmulatedMedia", {"features": [{"name": "prefers-color-scheme", "value": scheme}]})
+        feature = {"name": "prefers-color-scheme", "value": scheme}
+        page.execute_cdp_cmd("Emulation.setEmulatedMedia", {"features": [feature]})
         colours.append(page.execute_script("return getComputedStyle(document.body).color"))
     page.execute_cdp_cmd("Emulation.setEmulatedMedia", {"features": []})
     assert colours == ["rgb(0, 0, 0)", "rgb(255, 255, 255)"]
@@ -288,4 +333,4 @@ def test_it_prints_on_a4(opened: Any) -> None:
     paper = base64.b64decode(page.execute_cdp_cmd("Page.printToPDF", {"preferCSSPageSize": True})["data"])
     assert paper.startswith(b"%PDF")
     sizes = re.findall(rb"/MediaBox ?\[ ?0 0 ([\d.]+) ([\d.]+)\]", paper)
-    assert sizes and all((round(float(it[0])), round(float(it[1]))) == (595, 842) for it in sizes)
+    assert sizes and all((round(float(size[0])), round(float(size[1]))) == (595, 842) for size in sizes)

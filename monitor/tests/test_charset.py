@@ -8,8 +8,8 @@ import unicodedata
 import pytest
 from hypothesis import given, strategies as st
 
-from rds_monitor import charset
-from rds_monitor.charset import character, decode, printable, safe_json
+from rds_monitor.content import charset
+from rds_monitor.content.charset import character, decode, printable, safe_json
 
 # Table E.1 as it is printed: a line per low digit, a column per high digit, 2 to F. The blanks of 7F and FF are empty
 # cells.
@@ -80,7 +80,9 @@ def test_printable(text: str, shown: str) -> None:
 def test_printable_is_one_safe_line(text: str) -> None:
     shown = printable(text)
     assert shown.encode("utf-8").decode("utf-8") == shown
-    assert not [sign for sign in shown if unicodedata.category(sign) in ("Cc", "Cf", "Cs", "Co", "Cn", "Zl", "Zp")]
+    assert not [
+        sign for sign in shown if unicodedata.category(sign) in ("Cc", "Cf", "Cs", "Co", "Cn", "Zl", "Zp")
+    ]
     assert "\n" not in shown
 
 
@@ -93,11 +95,15 @@ def test_printable_tells_texts_apart(one: str, other: str) -> None:
 def test_json_is_looked_at_where_it_may_be_unsafe(text: str) -> None:
     whole = json.dumps(text, ensure_ascii=False)
     pairs = zip(whole, charset._marks(whole))
-    assert safe_json(text) == "".join(json.dumps(sign)[1:-1] if bad or charset._is_unsafe(sign) else sign for sign, bad in pairs)
+    assert safe_json(text) == "".join(
+        json.dumps(sign)[1:-1] if bad or charset._is_unsafe(sign) else sign for sign, bad in pairs
+    )
 
 
 @given(st.text())
 def test_json_is_safe_and_the_same(text: str) -> None:
     line = safe_json({"value": text})
     assert json.loads(line) == {"value": text}
-    assert not [sign for sign in line if unicodedata.category(sign) in ("Cc", "Cf", "Cs", "Co", "Cn", "Zl", "Zp")]
+    assert not [
+        sign for sign in line if unicodedata.category(sign) in ("Cc", "Cf", "Cs", "Co", "Cn", "Zl", "Zp")
+    ]

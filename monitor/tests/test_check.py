@@ -5,29 +5,27 @@ from __future__ import annotations
 import fnmatch
 import os
 import subprocess
-import sys
 import time
 from typing import Any, List
 
 import numpy
 import pytest
 
-from conftest import encode, monitor, rds
-from made import group_row, listing, lock, run
+from conftest import COMMAND, encode, monitor, ran, rds
+from made import group_row, listing, lock, run, split
 
 VALID = "99.98 % of the blocks valid, last valid group 0.007 s ago"
 DATA = "valid=99.98%;90:;50:;0;100 corrected=0.00%;;;0;100 age=0.007s;10;60;0"
+WHOLE = "RDS OK - 100.00 % of the blocks valid, last valid group 0.??? s ago"
 ROW = "row 1: 'begin_s,end_s' is no row of a listing"
 
 
 def judged(status: int, pattern: str, *words: Any, data: bytes = b"") -> str:
-    """One line and its status; the pattern has no brackets."""
-    done = run("check", *words, data=data)
+    """One line and its status. The pattern has no brackets, and a word may be several, parted by blanks."""
+    done = run("check", *split(words), data=data)
     assert done.err == "" and done.out.endswith("\n") and done.out.count("\n") == 1
-    assert (done.status, fnmatch.fnmatchcase(done.out[:-1], pattern.replace("[", "[[]"))) == (status, True), (
-        done.status,
-        done.out,
-    )
+    fits = fnmatch.fnmatchcase(done.out[:-1], pattern.replace("[", "[[]"))
+    assert (done.status, fits) == (status, True), (done.status, done.out)
     return done.out
 
 
@@ -59,8 +57,7 @@ def test_a_good_reception(sample, listed) -> None:
     judged(
         0,
         "RDS OK - 99.99 % of the blocks valid, last valid group 0.000 s ago, name PAXOLIDU | *",
-        "--name",
-        "PAXOLIDU",
+        "--name PAXOLIDU",
         listed,
     )
     judged(0, "RDS OK - 99.98 % *", "-", data=sample.read_bytes())
@@ -76,7 +73,9 @@ def test_a_station_that_is_gone(tmp_path, station: bytes) -> None:
     path.write_bytes(station + bytes(10000))
     judged(2, "RDS CRITICAL - 71.42 % of the blocks valid, last valid group 67.375 s ago | *", path)
     judged(2, "RDS CRITICAL - 0.00 % of the blocks valid, no valid group | *;100 age=U", "--last", 60, path)
-    judged(2, "RDS CRITICAL - 43.8? % of the blocks valid, last valid group 67.??? s ago | *", "--last", 120, path)
+    judged(
+        2, "RDS CRITICAL - 43.8? % of the blocks valid, last valid group 67.??? s ago | *", "--last 120", path
+    )
     judged(1, "RDS WARNING - 71.42 % of the blocks valid, *", "-C", 90, "--", path)
 
 
@@ -86,19 +85,15 @@ def test_a_station_that_is_gone(tmp_path, station: bytes) -> None:
 def test_a_growing_listing(tmp_path, station_listing: bytes) -> None:
     path = tmp_path / "growing.csv"
     path.write_bytes(b"".join(station_listing.splitlines(keepends=True)[:1000]) + b"group,1037")
-    judged(
-        0,
-        "RDS OK - 100.00 % of the blocks valid, last valid group 0.??? s ago, programme D393 | *",
-        "--last",
-        20,
-        "--pi",
-        "D393",
-        path,
-    )
+    judged(0, f"{WHOLE}, programme D393 | *", "--last 20 --pi D393", path)
     ago(path, 30)
-    judged(2, "RDS CRITICAL - 39.?? % of the blocks valid, last valid group 30.??? s ago | *", "--last", 20, path)
+    judged(
+        2, "RDS CRITICAL - 39.?? % of the blocks valid, last valid group 30.??? s ago | *", "--last 20", path
+    )
     ago(path, 15)
-    judged(1, "RDS WARNING - 85.?? % of the blocks valid, last valid group 15.??? s ago | *", "--last", 300, path)
+    judged(
+        1, "RDS WARNING - 85.?? % of the blocks valid, last valid group 15.??? s ago | *", "--last 300", path
+    )
 
 
 def test_an_hours_file_that_began_40_seconds_ago(tmp_path, station_listing: bytes) -> None:
@@ -107,34 +102,20 @@ def test_an_hours_file_that_began_40_seconds_ago(tmp_path, station_listing: byte
     before, now = tmp_path / "00Z.csv", tmp_path / "01Z.csv"
     before.write_bytes(b"".join(lines[:943]))
     now.write_bytes(b"".join(lines[943:]))
-    judged(
-        0,
-        "RDS OK - 100.00 % of the blocks valid, last valid group 0.??? s ago, programme D393 | *",
-        "--last",
-        300,
-        "--pi",
-        "D393",
-        now,
-    )
-    judged(0, "RDS OK - 100.00 % of the blocks valid, last valid group 0.??? s ago | *", "--last", 300, before, now)
+    judged(0, f"{WHOLE}, programme D393 | *", "--last 300 --pi D393", now)
+    judged(0, f"{WHOLE} | *", "--last 300", before, now)
     judged(0, "RDS OK - 100.00 % *", "--last", 50, before, now)
     # One that has no row yet: the hour before is judged.
     now.write_bytes(b"")
     judged(0, "RDS OK - 100.00 % *", "--last", 300, before, now)
     # An hour's file in which the station went away.
-    damage = b"".join(
-        b"group,%d,-,?,lost,lost,lost,lost\n" % (int(lines[1399].split(b",")[1]) + 104 * n) for n in range(1, 300)
-    )
+    place = int(lines[1399].split(b",")[1])
+    damage = b"".join(b"group,%d,-,?,lost,lost,lost,lost\n" % (place + 104 * n) for n in range(1, 300))
     now.write_bytes(b"".join(lines[943:]) + damage)
     judged(
         2,
         "RDS CRITICAL - 6?.?? % of the blocks valid, last valid group 26.??? s ago | *",
-        "--last",
-        300,
-        "-W",
-        5,
-        "-C",
-        20,
+        "--last 300 -W 5 -C 20",
         now,
     )
 
@@ -170,10 +151,7 @@ def test_a_stream_that_was_restarted_then_noise(tmp_path, totals: bool) -> None:
     judged(
         2,
         "RDS CRITICAL - ??.?? % of the blocks valid, last valid group 7?.??? s ago, programme D393 | *",
-        "--last",
-        300,
-        "--pi",
-        "D393",
+        "--last 300 --pi D393",
         path,
     )
 
@@ -181,7 +159,7 @@ def test_a_stream_that_was_restarted_then_noise(tmp_path, totals: bool) -> None:
 def test_a_stream_that_was_restarted_well(tmp_path) -> None:
     rows = rds("follow", data=encode([(0xD312, 0x0548 + n % 4, 0xE0CD, 0x5041) for n in range(200)]))
     path = restarted(tmp_path, rows, False)
-    judged(0, "RDS OK - 100.00 % of the blocks valid, *, programme D312 | *", "--last", 300, "--pi", "D312", path)
+    judged(0, "RDS OK - 100.00 % of the blocks valid, *, programme D312 | *", "--last 300 --pi D312", path)
     judged(0, "RDS OK - 99.?? % of the blocks valid, *, programme D312 | *", "--pi", "D312", path)
     judged(2, "RDS CRITICAL - * programme D312 instead of D393 | *", "--last", 300, "--pi", "D393", path)
 
@@ -202,20 +180,28 @@ def test_only_the_end_of_a_long_file_is_read(tmp_path) -> None:
 
 def test_a_dead_tail(listed, station: bytes) -> None:
     judged(
-        2, "RDS CRITICAL - 46.78 % of the blocks valid, last valid group 191.569 s ago | *", "--length", 427480, listed
+        2,
+        "RDS CRITICAL - 46.78 % of the blocks valid, last valid group 191.569 s ago | *",
+        "--length 427480",
+        listed,
     )
     longer = listed.parent / "it.bin"
     longer.write_bytes(station + bytes(1000))
-    judged(0, "RDS OK - 96.14 % of the blocks valid, last valid group 6.744 s ago | *", "--length", longer, listed)
+    judged(
+        0,
+        "RDS OK - 96.14 % of the blocks valid, last valid group 6.744 s ago | *",
+        "--length",
+        longer,
+        listed,
+    )
 
 
 def names(*texts: str, each: int = 4) -> List[List[int]]:
     groups = []
     for text in texts:
-        for n in range(4 * each):
-            groups.append(
-                [0xD393, 0x0548 + n % 4, 0xE0CD, int.from_bytes(text.encode("ascii").ljust(8)[n % 4 * 2 :][:2], "big")]
-            )
+        padded = text.encode("ascii").ljust(8)
+        words = [int.from_bytes(padded[2 * n : 2 * n + 2], "big") for n in range(4)]
+        groups += [[0xD393, 0x0548 + n % 4, 0xE0CD, words[n % 4]] for n in range(4 * each)]
     return groups
 
 
@@ -236,7 +222,7 @@ def test_a_pattern_for_dynamic_ps(tmp_path) -> None:
         )
     judged(0, "RDS OK - *, name ALPHA FM | *", "--name", "BETA*", "--name", "ALPHA*", path)
     judged(
-        2, "RDS CRITICAL - *, name the Day instead of BETA? or GAMMA | *", "--name", "BETA?", "--name", "GAMMA", path
+        2, "RDS CRITICAL - *, name the Day instead of BETA? or GAMMA | *", "--name BETA? --name GAMMA", path
     )
     # A name more than a minute before the end does not count.
     path = of_names(tmp_path / "it.csv", "ALPHA FM", *["BETA FM", "Now"] * 8, each=20)
@@ -267,7 +253,12 @@ def test_what_cannot_be_judged(tmp_path, listed, station_listing: bytes) -> None
     judged(3, "RDS UNKNOWN - the listing does not end in its totals: *", cut)
     judged(3, f"RDS UNKNOWN - {ROW}*", table)
     judged(3, f"RDS UNKNOWN - {ROW}*", "--last", 60, table)
-    judged(3, "RDS UNKNOWN - a row is of bit 199991, past the 100 bits of the recording: *", "--length", 100, listed)
+    judged(
+        3,
+        "RDS UNKNOWN - a row is of bit 199991, past the 100 bits of the recording: *",
+        "--length 100",
+        listed,
+    )
     judged(3, "RDS UNKNOWN - --length 'none': No such file or directory", "--length", "none", listed)
     judged(3, "RDS UNKNOWN - *: Is a directory", tmp_path)
 
@@ -303,16 +294,9 @@ def test_limits_of_which_one_is_given(sample) -> None:
 
 
 def test_no_library_is_unknown(sample, tmp_path) -> None:
-    done = subprocess.run(
-        [sys.executable, "-m", "rds_monitor", "check", str(sample)],
-        capture_output=True,
-        text=True,
-        env={**os.environ, "RDS_LIBRARY": str(tmp_path / "none")},
-    )
+    done = ran([*COMMAND, "check", str(sample)], env={**os.environ, "RDS_LIBRARY": str(tmp_path / "none")})
     assert done.returncode == 3 and done.stdout.startswith("RDS UNKNOWN - ")
     done = subprocess.run(
-        [sys.executable, "-m", "rds_monitor", "check", str(sample)],
-        stdout=open("/dev/full", "w"),
-        stderr=subprocess.PIPE,
+        [*COMMAND, "check", str(sample)], stdout=open("/dev/full", "w"), stderr=subprocess.PIPE
     )
     assert done.returncode not in (0, 2)

@@ -8,45 +8,34 @@ import numpy
 import pytest
 from hypothesis import given, settings, strategies as st
 
+from conftest import STATION
 from made import group_row, listing, run, said
-from rds_monitor.clock import Clock, Tick, fit, start_of, ticks_of, utc_text, utc_texts
-from rds_monitor.items import Fault
+from rds_monitor.measures.clock import Tick, fit, ticks_of
+from rds_monitor.rows.clock import Clock, start_of, utc_text, utc_texts
+from rds_monitor.rows.items import Fault
 
-STARTS = (
-    "1970-01-01T00:00:00Z",
-    "1999-12-31T23:59:59Z",
-    "2000-02-28T23:59:59Z",
-    "2024-02-29T12:00:00Z",
-    "2026-03-29T00:30:00Z",
-    "2026-12-31T23:59:59Z",
-    "2100-02-28T23:30:00Z",
-)
+STARTS = """
+1970-01-01T00:00:00Z 1999-12-31T23:59:59Z 2000-02-28T23:59:59Z 2024-02-29T12:00:00Z 2026-03-29T00:30:00Z
+2026-12-31T23:59:59Z 2100-02-28T23:30:00Z
+""".split()
 
 
 @pytest.mark.parametrize("start", STARTS)
 def test_utc(start: str) -> None:
+    clock, begin = Clock(start_of(start)), datetime.datetime.strptime(start, "%Y-%m-%dT%H:%M:%SZ")
     for place in (0, 1188, 5937500, 68719476700):
-        clock = Clock(start_of(start))
-        whole = datetime.datetime.strptime(start, "%Y-%m-%dT%H:%M:%SZ") + datetime.timedelta(
-            seconds=place / 1187.5 + 0.0005
-        )
+        whole = begin + datetime.timedelta(seconds=place / 1187.5 + 0.0005)
         assert clock.utc(place) == [whole.isoformat(timespec="milliseconds")[:23] + "Z"]
         assert utc_texts(numpy.array([(clock.start or 0) + place / 1187.5])) == clock.utc(place)
 
 
-@pytest.mark.parametrize(
-    "start",
-    [
-        "2026-03-29",
-        "2026-02-29T00:00:00Z",
-        "2026-13-01T00:00:00Z",
-        "2026-03-29T24:00:00Z",
-        "2026-03-29 00:30:00Z",
-        "1969-12-31T00:00:00Z",
-        "2026-03-29T00:30:00",
-        "",
-    ],
-)
+NO_STARTS = """
+2026-03-29 2026-02-29T00:00:00Z 2026-13-01T00:00:00Z 2026-03-29T24:00:00Z 1969-12-31T00:00:00Z 2026-03-29T00:30:00
+9999-12-31T23:59:59Z
+""".split()
+
+
+@pytest.mark.parametrize("start", [*NO_STARTS, "2026-03-29 00:30:00Z", ""])
 def test_starts_that_are_none(start: str) -> None:
     done = run("errors", "--start", start)
     assert done.status == 2 and "is no time in UTC, such as 2026-03-29T00:30:00Z" in done.err
@@ -56,6 +45,13 @@ def test_starts_that_are_none(start: str) -> None:
 def test_rates_that_are_none(rate: str) -> None:
     done = run("errors", f"--rate={rate}")
     assert done.status == 2 and "1187.5 within a tenth" in done.err
+
+
+def test_the_last_start_has_times_to_the_end_of_the_longest_recording() -> None:
+    for command in (["json", "--redsea"], ["json"], ["info", "--csv"], ["groups", "--times"], ["table"]):
+        rows = said(*command, "--start", "9990-12-31T23:59:59Z", STATION)
+        assert "9991-01-01T00:0" in rows[-1]
+    assert Clock(start_of("9990-12-31T23:59:59Z"), 1068.1).utc(2**36)[0].startswith("9993-01-14T")
 
 
 # ---- the station's clock
@@ -91,13 +87,13 @@ def test_the_samplers_clock(ppm: float, dropped: int) -> None:
     assert head == "groups,stretches,hours,rate,ppm,within_ppm,start_utc"
     found = dict(zip(head.split(","), row.split(",")))
     assert abs(float(found["ppm"]) - ppm) < 0.5 and float(found["within_ppm"]) < 1
-    assert (
-        found["start_utc"].startswith("2026-03-29T00:30:17") and found["groups"] == "1439" and found["hours"] == "23.97"
-    )
+    assert found["start_utc"].startswith("2026-03-29T00:30:17")
+    assert found["groups"] == "1439"
+    assert found["hours"] == "23.97"
     options = said("clock", "--unfinished", "--options", data=text)[0].split()
     assert options[::2] == ["--start", "--rate"]
     steps = said("clock", "--unfinished", "--steps", data=text)[1:]
-    assert [round(float(it.split(",")[2]), 0) for it in steps] == ([10] if dropped else [])
+    assert [round(float(step.split(",")[2]), 0) for step in steps] == ([10] if dropped else [])
     # By these options a minute begins as it should.
     place = int(1187.5 * (1 + ppm / 1e6) * 42.75)
     rows = said("types", "--unfinished", *options, data=listing([group_row(place, (1, 2, 3, 4))], False))

@@ -3,16 +3,18 @@
 from __future__ import annotations
 
 import re
-from typing import Any, Dict, List, NamedTuple, Sequence
+from itertools import chain
+from typing import Any, Dict, List, NamedTuple, Sequence, Tuple
 
 import pytest
 
 import sent
 from conftest import encode
-from rds_monitor.content import ITEMS, Decoder, Event
-from rds_monitor.content_networks import FrequencyList
-from rds_monitor.items import open_source
-from sent import PI, Words, clock, events_of, group, label, name, oda, pairs, tags, text, told
+from rds_monitor.content.decoder import ITEMS, Decoder, Event
+from rds_monitor.content.networks import FrequencyList
+from rds_monitor.rows.opening import open_source
+from sent import Words, clock, eon, eon_name, events_of, group, label, name, oda, segments, tags, text, told
+from sent import type_name
 
 LONG = b"The first text, of the standard's length for once, all 64 of it."
 
@@ -20,7 +22,7 @@ LONG = b"The first text, of the standard's length for once, all 64 of it."
 def decoded(groups: Sequence[Words], tmp_path: Any, **options: Any) -> List[Event]:
     """The events of groups, as bits. Sync is acquired in the first group, which has no content, since it is not whole."""
     path = tmp_path / "groups.bin"
-    path.write_bytes(encode([group("15A", 0x1F, 0x2020, 0x2020), *groups]))
+    path.write_bytes(encode([group("15A", 0x1F, 0x2020, 0x2020, pi=groups[0][0]), *groups]))
     decoder = Decoder(**options)
     return [event for rows in open_source(str(path)).chunks() for event in decoder.feed(rows)]
 
@@ -34,29 +36,12 @@ class Case(NamedTuple):
     texts: Dict[str, str] = {}
 
 
-def eon(variant: int, third: int, pi: int = 0xD312, tp: int = 0) -> Words:
-    return group("14A", tp << 4 | variant, third, pi)
-
-
-def eon_name(content: bytes, pi: int = 0xD312) -> List[Words]:
-    return [eon(k, pair, pi) for k, pair in enumerate(pairs(content, 4))]
-
-
-def long_name(content: bytes) -> List[Words]:
-    words = pairs(content, 16)
-    return [group("15A", k, words[2 * k], words[2 * k + 1]) for k in range(8)]
-
-
-def type_name(content: bytes, flag: int = 0) -> List[Words]:
-    words = pairs(content, 4)
-    return [group("10A", flag << 4 | k, words[2 * k], words[2 * k + 1]) for k in range(2)]
-
-
-def enhanced(content: bytes, kind: str) -> List[Words]:
-    count = -(-len(content) // 4)
-    words = pairs(content, 2 * count)
-    return [group(kind, k, words[2 * k], words[2 * k + 1]) for k in range(count)]
-
+DI = ("di_stereo", "di_artificial_head", "di_compressed", "di_dynamic_pty")
+# The RadioText that the tags below are of, a song's title and artist.
+RT_PLUS, SONG, TITLE, ARTIST = oda(0x4BD7, "11A"), text(b"Song by Singer\r"), (1, 0, 3), (4, 8, 5)
+TAGGED = {"rt_plus:item.title": "Song", "rt_plus:item.artist": "Singer"}
+SCOPE = ["national", "regional"]
+TRAFFIC = segments("8A", b"Traffic1", 2, 0x14)
 
 CASES: Dict[str, Case] = {
     "PI, TP, PTY": Case(
@@ -65,6 +50,9 @@ CASES: Dict[str, Case] = {
     "no traffic programme, no programme type": Case(
         [group("6A", 0, tp=0, pty=0)], {"tp": False, "pty": 0}, texts={"pty": "0 None"}
     ),
+    # The standard's own example is KGTB.
+    "call letters": Case([group("6A", 0, pi=0x21C7)], {"pi": "21C7", "call_letters": "KGTB"}, {"rbds": True}),
+    "no call letters but of RBDS": Case([group("6A", 0, pi=0x21C7)], {"call_letters": None}),
     "PTY of RBDS": Case([group("6A", 0)], {"pty": 10}, {"rbds": True}, {"pty": "10 Country"}),
     "alarm": Case([group("6A", 0, pty=31)], {"pty": 31}, texts={"pty": "31 Alarm"}),
     "0A: PS": Case(name(b"PAXO 318"), {"ps": "PAXO 318"}),
@@ -73,14 +61,8 @@ CASES: Dict[str, Case] = {
     "0A: music, no TA": Case(name(b"PAXO 318", flags=8), {"ms": "music", "ta": False}),
     "0B: speech, TA": Case(name(b"PAXO 318", flags=16, kind="0B"), {"ms": "speech", "ta": True}),
     "15B: TA, music": Case([group("15B", 0x18, 0, 0xFD58)], {"ms": "music", "ta": True}),
-    "0A: DI, all": Case(
-        name(b"PAXO 318", flags=12),
-        {"di_stereo": True, "di_artificial_head": True, "di_compressed": True, "di_dynamic_pty": True},
-    ),
-    "0A: DI, none": Case(
-        name(b"PAXO 318"),
-        {"di_stereo": False, "di_artificial_head": False, "di_compressed": False, "di_dynamic_pty": False},
-    ),
+    "0A: DI, all": Case(name(b"PAXO 318", flags=12), dict.fromkeys(DI, True)),
+    "0A: DI, none": Case(name(b"PAXO 318"), dict.fromkeys(DI, False)),
     "DI: segment 0 is dynamic PTY": Case([group("0B", 4)], {"di_dynamic_pty": True}),
     "DI: segment 1 is compressed": Case([group("0B", 5)], {"di_compressed": True}),
     "DI: segment 2 is artificial head": Case([group("15B", 6)], {"di_artificial_head": True}),
@@ -106,7 +88,9 @@ CASES: Dict[str, Case] = {
     "2A: RT without an end": Case(3 * text(b"Twelve signs"), {"rt": "Twelve signs"}),
     "2A: RT without an end, once": Case(text(b"Twelve signs"), {"rt": None}),
     "2A: line break, headline, soft hyphen": Case(text(b"a\nb\x0bc\x1fd\r"), {"rt": "a b cd"}),
-    "2B: RT": Case(text(b"A text of 32 characters in all..", kind="2B"), {"rt": "A text of 32 characters in all.."}),
+    "2B: RT": Case(
+        text(b"A text of 32 characters in all..", kind="2B"), {"rt": "A text of 32 characters in all.."}
+    ),
     "3A: ODA": Case(
         [oda(0x4BD7, "11A")],
         {"oda:4BD7": {"group": "11A", "name": "RadioText Plus (RT+)"}},
@@ -129,6 +113,21 @@ CASES: Dict[str, Case] = {
     "4A: no day": Case([clock(0, 0, 0, 0)], {"ct": None}),
     "5A: TDC": Case([group("5A", 3, 0xFF01, 0x0203)], {"tdc:3": True}),
     "5B: TDC": Case([group("5B", 31, 0, 0x0203)], {"tdc:31": True}),
+    "5A: bytes": Case([group("5A", 3, 0xFF01, 0x0203)], {"tdc_data:3": "FF 01 02 03"}, {"data": True}),
+    "5B: bytes": Case([group("5B", 31, 0, 0x0203)], {"tdc_data:31": "02 03"}, {"data": True}),
+    "5A: bytes of another application": Case(
+        [group("5A", 3, 1, 2), oda(0x1234, "5A"), group("5A", 3, 1, 3)], {"tdc_data:3": None}, {"data": True}
+    ),
+    "6A: in-house data": Case(
+        [group("6A", 0x1F, 0x1234, 0x5678)], {"ih_data": "1F 1234 5678"}, {"data": True}
+    ),
+    "6B: in-house data": Case([group("6B", 3, 0, 0x5678)], {"ih_data": "03 5678"}, {"data": True}),
+    "6A: in-house data of another application": Case(
+        [group("6A", 3, 1, 2), oda(0x1234, "6A"), group("6A", 3, 1, 3)], {"ih_data": None}, {"data": True}
+    ),
+    "6A: in-house data only if they are asked for": Case(
+        [group("6A", 3, 1, 2)], {"ih": True, "ih_data": None}
+    ),
     "6A: in-house": Case([group("6A", 3, 1, 2)], {"ih": True}),
     "6B: in-house": Case([group("6B", 3, 1, 2)], {"ih": True}),
     "7A: radio paging": Case([group("7A", 3, 1, 2)], {"rp": True}),
@@ -138,32 +137,42 @@ CASES: Dict[str, Case] = {
     "8A: TMC service": Case(
         [oda(0xCD46, "8A", 0x0066), oda(0xCD46, "8A", 0x6280)],
         {
-            "tmc_service": {
-                "location_table": 1,
-                "alternative_frequencies": True,
-                "mode": "basic",
-                "scope": ["national", "regional"],
-                "service": 10,
-            }
+            "tmc_service": dict(
+                location_table=1, alternative_frequencies=True, mode="basic", scope=SCOPE, service=10
+            )
         },
         texts={"tmc_service": "location table 1, service 10, national regional"},
     ),
-    "8A: TMC provider": Case(
-        [group("8A", 0x14, *pairs(b"Traf", 2)), group("8A", 0x15, *pairs(b"fic1", 2))], {"tmc_provider": "Traffic1"}
+    "8A: TMC message in one group": Case(
+        [group("8A", 0b01101, 1 << 15 | 1 << 14 | 3 << 11 | 701, 4321)],
+        {
+            "tmc_message": dict(
+                event=701, location=4321, direction="negative", extent=3, diversion=True, duration=5
+            )
+        },
+        texts={"tmc_message": "event 701 at location 4321, extent -3, duration 5, diversion advised"},
     ),
-    "8A: another application": Case(
-        [oda(0x1234, "8A"), group("8A", 0x14, *pairs(b"Traf", 2)), group("8A", 0x15, *pairs(b"fic1", 2))],
-        {"tmc": None, "tmc_provider": None},
+    "8A: TMC message in several groups": Case(
+        [group("8A", 0b00010, 1 << 15 | 2 << 11 | 2047, 65535), group("8A", 0b00010, 1 << 14 | 77, 78)],
+        {"tmc_message": dict(event=2047, location=65535, direction="positive", extent=2)},
+        texts={"tmc_message": "event 2047 at location 65535, extent +2"},
     ),
+    "8A: TMC message of another application": Case(
+        [oda(0x1234, "8A"), group("8A", 0b01101, 701, 4321)], {"tmc_message": None}
+    ),
+    "8A: TMC provider": Case(TRAFFIC, {"tmc_provider": "Traffic1"}),
+    "8A: another application": Case([oda(0x1234, "8A"), *TRAFFIC], {"tmc": None, "tmc_provider": None}),
     "5A: another application": Case([oda(0x1234, "5A"), group("5A", 3, 1, 2)], {"tdc:3": None}),
     "7A: an application that comes later": Case([group("7A", 3, 1, 2), oda(0x1234, "7A")], {"rp": None}),
     "9A: EWS": Case([group("9A", 0x1F, 0x1234, 0x5678)], {"ews": "1F 1234 5678"}),
     "9A: another application": Case([oda(0x1234, "9A"), group("9A", 0x1F, 0x1234, 0x5678)], {"ews": None}),
     "10A: PTYN": Case(type_name(b"Football"), {"ptyn": "Football"}),
     "10A: PTYN, another": Case(type_name(b"Football") + type_name(b"Handball", 1), {"ptyn": "Handball"}),
-    "14A: PS of another network": Case(eon_name(b"OTHER FM"), {"eon:D312.ps": "OTHER FM", "eon:D312.tp": False}),
+    "14A: PS of another network": Case(
+        eon_name(b"OTHER FM"), {"eon:D312.ps": "OTHER FM", "eon:D312.tp": False}
+    ),
     "14A: PS of two networks at once": Case(
-        [it for both in zip(eon_name(b"OTHER FM"), eon_name(b"THIRD FM", 0xD313)) for it in both],
+        [entry for both in zip(eon_name(b"OTHER FM"), eon_name(b"THIRD FM", 0xD313)) for entry in both],
         {"eon:D312.ps": "OTHER FM", "eon:D313.ps": "THIRD FM"},
     ),
     "14A: TP of another network": Case([eon(15, 0, tp=1)], {"eon:D312.tp": True}),
@@ -178,49 +187,95 @@ CASES: Dict[str, Case] = {
     ),
     "14A: linkage": Case(
         [eon(12, 0xC123)],
-        {"eon:D312.linkage": {"linked": True, "extended_generic": True, "international": False, "set": 0x123}},
+        {"eon:D312.linkage": dict(linked=True, extended_generic=True, international=False, set=0x123)},
         texts={"eon:D312.linkage": "linked, set 123"},
     ),
+    "14A: linkage between countries": Case(
+        [eon(12, 0x1042)],
+        {"eon:D312.linkage": dict(linked=False, extended_generic=False, international=True, set=0x042)},
+        texts={"eon:D312.linkage": "not linked, set 042, international"},
+    ),
     "14A: PTY and TA": Case(
-        [eon(13, 17 << 11 | 1)], {"eon:D312.pty": 17, "eon:D312.ta": True}, texts={"eon:D312.pty": "17 Finance"}
+        [eon(13, 17 << 11 | 1)],
+        {"eon:D312.pty": 17, "eon:D312.ta": True},
+        texts={"eon:D312.pty": "17 Finance"},
     ),
     "14A: PIN": Case([eon(14, 2 << 11 | 7 << 6 | 8)], {"eon:D312.pin": "02 07:08"}),
-    "14B: TA of another network": Case([group("14B", 0x18, 0, 0xD312)], {"eon:D312.tp": True, "eon:D312.ta": True}),
-    "14B: no TA of another network": Case([group("14B", 0x10, 0, 0xD312)], {"eon:D312.tp": True, "eon:D312.ta": False}),
-    "15A: long PS": Case(long_name("Straße der Lieder, täglich\r".encode()), {"lps": "Straße der Lieder, täglich"}),
+    "14B: TA of another network": Case(
+        [group("14B", 0x18, 0, 0xD312)], {"eon:D312.tp": True, "eon:D312.ta": True}
+    ),
+    "14B: no TA of another network": Case(
+        [group("14B", 0x10, 0, 0xD312)], {"eon:D312.tp": True, "eon:D312.ta": False}
+    ),
+    "15A: long PS": Case(
+        segments("15A", "Straße der Lieder, täglich\r".encode(), 8), {"lps": "Straße der Lieder, täglich"}
+    ),
     "15A: long PS of 32 bytes": Case(
-        long_name(b"A long PS has 32 bytes, as here."), {"lps": "A long PS has 32 bytes, as here."}
+        segments("15A", b"A long PS has 32 bytes, as here."), {"lps": "A long PS has 32 bytes, as here."}
     ),
     "RT+": Case(
-        [oda(0x4BD7, "11A"), *text(b"Song by Singer\r"), tags(1, 1, (1, 0, 3), (4, 8, 5))],
-        {"rt_plus:item.title": "Song", "rt_plus:item.artist": "Singer", "rt_plus_running": True, "rt_plus_toggle": 1},
+        [RT_PLUS, *SONG, tags(1, 1, TITLE, ARTIST)], {**TAGGED, "rt_plus_running": True, "rt_plus_toggle": 1}
     ),
     "RT+ before its text": Case(
-        [
-            oda(0x4BD7, "12A"),
-            *text(b"Song by Singer\r")[:1],
-            tags(0, 0, (1, 0, 3), (4, 8, 5), kind="12A"),
-            *text(b"Song by Singer\r")[1:],
-        ],
-        {"rt_plus:item.title": "Song", "rt_plus:item.artist": "Singer", "rt_plus_running": False},
+        [oda(0x4BD7, "12A"), SONG[0], tags(0, 0, TITLE, ARTIST, kind="12A"), *SONG[1:]],
+        {**TAGGED, "rt_plus_running": False},
     ),
     "RT+ of a text before": Case(
-        [oda(0x4BD7, "11A"), *text(b"Song by Singer\r"), tags(1, 1, (1, 0, 3)), *text(b"Other words\r", 1)],
+        [RT_PLUS, *SONG, tags(1, 1, TITLE), *text(b"Other words\r", 1)],
         {"rt_plus:item.title": "Song", "rt": "Other words"},
     ),
-    "RT+ in a group that is not its own": Case(
-        [*text(b"Song by Singer\r"), tags(1, 1, (1, 0, 3))], {"rt_plus:item.title": None}
-    ),
+    "RT+ in a group that is not its own": Case([*SONG, tags(1, 1, TITLE)], {"rt_plus:item.title": None}),
     "RT+ past the end": Case(
-        [oda(0x4BD7, "11A"), *text(b"Song\r"), tags(1, 1, (1, 40, 3))], {"rt_plus:item.title": None}
+        [RT_PLUS, *text(b"Song\r"), tags(1, 1, (1, 40, 3))], {"rt_plus:item.title": None}
     ),
     "eRT": Case(
-        [oda(0x6552, "13A", 1), *enhanced("Ελληνικά 中文\r".encode(), "13A")], {"ert": "Ελληνικά 中文", "erp": None}
+        [oda(0x6552, "13A", 1), *segments("13A", "Ελληνικά 中文\r".encode())],
+        {"ert": "Ελληνικά 中文", "erp": None},
     ),
     "eRT in UCS-2": Case(
-        [oda(0x6552, "12A", 0), *enhanced("Žluťoučký kůň\r".encode("utf-16-be"), "12A")], {"ert": "Žluťoučký kůň"}
+        [oda(0x6552, "12A", 0), *segments("12A", "Žluťoučký kůň\r".encode("utf-16-be"))],
+        {"ert": "Žluťoučký kůň"},
     ),
-    "eRT of another application": Case([oda(0x1234, "12A", 1), *enhanced(b"Text\r", "12A")], {"ert": None}),
+    "RT+ for eRT": Case(
+        [
+            *(oda(0x6552, "13A", 1), oda(0x4BD8, "12A")),
+            *segments("13A", "Τραγούδι, Φωνή\r".encode()),
+            tags(0, 1, (1, 0, 7), (4, 10, 3), kind="12A"),
+        ],
+        {
+            **{"ert_plus:item.title": "Τραγούδι", "ert_plus:item.artist": "Φωνή"},
+            **{"ert_plus_running": True, "ert_plus_toggle": 0},
+        },
+    ),
+    "RT+ of two tags of one class": Case(
+        [RT_PLUS, *text(b"Anna and Berta\r"), tags(1, 1, (4, 0, 3), (4, 9, 4))],
+        {"rt_plus:item.artist": "Anna", "rt_plus:item.artist:2": "Berta"},
+    ),
+    "RT+ over the end": Case(
+        [RT_PLUS, *SONG, tags(1, 1, TITLE, (4, 8, 6))],
+        {"rt_plus:item.title": "Song", "rt_plus:item.artist": None},
+    ),
+    "RT+ in no group of its own": Case(
+        [group("3A", 0, 0, 0x4BD7), *SONG, group("0A", 1, 0x2000, 0x2046)],
+        {"rt_plus:item.title": None, "rt_plus_running": None},
+    ),
+    "RT+ in a group that no application may have": Case(
+        [oda(0x4BD7, "2B"), *SONG, tags(1, 1, TITLE, kind="2B")],
+        {"rt_plus:item.title": None},
+        texts={"oda:4BD7": "RadioText Plus (RT+) in 2B, which carries none"},
+    ),
+    "RT+ that moved": Case(
+        [RT_PLUS, oda(0x4BD7, "12A"), *SONG, tags(1, 1, TITLE), tags(1, 1, ARTIST, kind="12A")],
+        {"rt_plus:item.title": None, "rt_plus:item.artist": "Singer"},
+    ),
+    "names filled up by zeros": Case(
+        [*name(b"PAX\0\0\0\0\0"), *type_name(b"Jazz\0\0\0\0"), *eon_name(b"OTHER\0\0\0")],
+        {"ps": "PAX", "ptyn": "Jazz", "eon:D312.ps": "OTHER"},
+    ),
+    "1A: language of background sound": Case(
+        [label(3, 0x40)], {"language": "40"}, texts={"language": "40 Background sound, clean feed"}
+    ),
+    "eRT of another application": Case([oda(0x1234, "12A", 1), *segments("12A", b"Text\r")], {"ert": None}),
     "DAB link": Case(
         [oda(0x0093, "12A"), group("12A", 4 | 220352 // 16 >> 16, 220352 // 16 & 0xFFFF, 0x10A5)],
         {"dab:220.352": {"ensemble": "10A5", "channel": "11C", "mode": "I"}},
@@ -267,7 +322,7 @@ def test_values_that_hold(title: str, tmp_path: Any) -> None:
     assert {item: held.get(item) for item in case.held} == case.held
     assert {item: texts.get(item) for item in case.texts} == case.texts
     # Nothing else is told than what all groups say, or groups of the same type.
-    assert all(event.pi == PI for event in decoder_events)
+    assert {event.pi for event in decoder_events} == {case.groups[0][0]}
 
 
 def test_every_item_is_listed_and_has_a_case() -> None:
@@ -281,78 +336,81 @@ def test_every_item_is_listed_and_has_a_case() -> None:
 
 
 def test_every_group_type_has_a_case() -> None:
-    kinds = {f"{words[1] >> 12}{'AB'[words[1] >> 11 & 1]}" for case in CASES.values() for words in case.groups}
-    assert kinds >= {
-        "0A",
-        "0B",
-        "1A",
-        "1B",
-        "2A",
-        "2B",
-        "3A",
-        "4A",
-        "5A",
-        "5B",
-        "6A",
-        "6B",
-        "7A",
-        "8A",
-        "9A",
-        "10A",
-        "11A",
-        "12A",
-        "13A",
-        "14A",
-        "14B",
-        "15A",
-        "15B",
+    kinds = {
+        f"{words[1] >> 12}{'AB'[words[1] >> 11 & 1]}" for case in CASES.values() for words in case.groups
     }
-
-
-def events(groups: Sequence[Words], **options: Any) -> List[Event]:
-    return sent.events_of(groups, **options)
+    assert kinds >= set(
+        """
+        0A 0B 1A 1B 2A 2B 3A 4A 5A 5B 6A 6B 7A 8A 9A 10A 11A 12A 13A 14A 14B 15A 15B
+    """.split()
+    )
 
 
 def values(groups: Sequence[Words], item: str) -> List[Any]:
-    return sent.told(events(groups), item)
+    return told(events_of(groups), item)
 
 
 def test_a_change_of_ps_is_an_event_with_its_place() -> None:
-    found = [it for it in events(name(b"PAXO 318") + name(b"PAXO NEW") + name(b"PAXO NEW")) if it.item == "ps"]
-    # The second name is told once its segment 3, which differs, is followed by the other three.
-    assert [(it.value, it.before, it.place) for it in found] == [
+    groups = name(b"PAXO 318") + name(b"PAXO NEW") + name(b"PAXO NEW")
+    found = [event for event in events_of(groups) if event.item == "ps"]
+    # The second name is told with the last segment of its first turn.
+    assert [(event.value, event.before, event.place) for event in found] == [
         ("PAXO 318", None, 3 * 104),
-        ("PAXO NEW", "PAXO 318", 9 * 104),
+        ("PAXO NEW", "PAXO 318", 7 * 104),
     ]
 
 
 def test_dynamic_ps_is_no_mixture() -> None:
     frames = [b"Now on a", b"ir: the ", b"news    "]
-    groups = [it for frame in 3 * frames for it in name(frame)]
+    groups = [entry for frame in 3 * frames for entry in name(frame)]
     assert set(values(groups, "ps")) <= {frame.decode().rstrip() for frame in frames}
     assert len(values(groups, "ps")) >= 8
 
 
-def test_the_flag_of_rt_turned_with_the_same_text_is_an_event() -> None:
-    groups = text(b"The same\r", 0) + text(b"The same\r", 1) + text(b"The same\r", 0)
-    assert values(groups, "rt_ab") == ["A", "B", "A"]
-    assert values(groups, "rt") == ["The same"]
+SAME = text(b"The same\r", 0) + text(b"The same\r", 1) + text(b"The same\r", 0)
+A_B_C, A_B_D = text(b"AAAABBBBCCCC\r"), text(b"AAAABBBBDDDD\r", 1)
+A_X_C = text(b"AAAAXXXXCCCC\r")
+FOOTBALL, FOOTHILL = type_name(b"Football"), type_name(b"Foothill", 1)
+NUMBER, NO_HOUR = 15 << 11 | 20 << 6 | 30, 16 << 11 | 24 << 6
+TMC = group("8A", 1, 2, 3)
+# Groups, an item, and all of its values in their order.
+SEQUENCES: Dict[str, Tuple[List[Words], str, List[Any]]] = {
+    "the flag of RT turned": (SAME, "rt_ab", ["A", "B", "A"]),
+    "the same text under another flag": (SAME, "rt", ["The same"]),
+    "the end of a text of 8": (10 * text(b"Traffic\r"), "rt", ["Traffic"]),
+    "the end of a text of 6": (10 * text(b"Talks\r"), "rt", ["Talks"]),
+    "the end of a text of 16": (10 * text(b"0123456789ABCDE\r"), "rt", ["0123456789ABCDE"]),
+    "signs after the end of a text": (6 * text(b"Hello\r  "), "rt", ["Hello"]),
+    "a text after a turned flag": (A_B_C + A_B_D[2:] + A_B_D, "rt", ["AAAABBBBCCCC", "AAAABBBBDDDD"]),
+    "half a text after a turned flag": (A_B_C + A_B_D[2:], "rt", ["AAAABBBBCCCC"]),
+    "a text that changes without a flag": (
+        *(A_B_C + A_X_C[1:3] + A_B_C[3:] + A_X_C, "rt"),
+        ["AAAABBBBCCCC", "AAAAXXXXCCCC"],
+    ),
+    "half a PTYN after a turned flag": (FOOTBALL + FOOTHILL[1:], "ptyn", ["Football"]),
+    "a PTYN after a turned flag": (FOOTBALL + FOOTHILL, "ptyn", ["Football", "Foothill"]),
+    "a PIN that is none, and one that ends": (
+        *([label(0, 0, number) for number in (NUMBER, NO_HOUR, 0)], "pin"),
+        ["15 20:30", None],
+    ),
+    "the same of another network": (
+        *([eon(14, number) for number in (NUMBER, NO_HOUR, 0)], "eon:D312.pin"),
+        ["15 20:30", None],
+    ),
+    "TMC whose application is told": ([TMC, oda(0xCD46, "8A"), TMC], "tmc", [True]),
+    "TMC whose groups another application has": ([TMC, oda(0x1234, "8A"), TMC], "tmc", [True, None]),
+    "TA of 14B and of variant 13": (
+        *([eon(13, 17 << 11), group("14B", 0x18, 0, 0xD312), eon(13, 17 << 11)], "eon:D312.ta"),
+        [False, True, False],
+    ),
+    "names of two networks": (name(b"PAXO 318") + eon_name(b"OTHER FM"), "ps", ["PAXO 318"]),
+}
 
 
-@pytest.mark.parametrize("content", [b"Traffic", b"Talks", b"0123456789ABCDE"])
-def test_the_end_of_a_text_is_no_part_of_it_however_often_it_comes(content: bytes) -> None:
-    assert values(10 * text(content + b"\r"), "rt") == [content.decode()]
-
-
-def test_a_text_after_a_turned_flag_is_no_mixture() -> None:
-    first, second = text(b"AAAABBBBCCCC\r"), text(b"AAAABBBBDDDD\r", 1)
-    assert values(first + second[2:] + second[:2], "rt") == ["AAAABBBBCCCC", "AAAABBBBDDDD"]
-    assert values(first + second[2:], "rt") == ["AAAABBBBCCCC"]
-
-
-def test_a_text_that_changes_without_a_flag_is_no_mixture() -> None:
-    first, second = text(b"AAAABBBBCCCC\r"), text(b"AAAAXXXXCCCC\r")
-    assert values(first + second[1:3] + first[3:] + second, "rt") == ["AAAABBBBCCCC", "AAAAXXXXCCCC"]
+@pytest.mark.parametrize("title", SEQUENCES)
+def test_values_in_their_order(title: str) -> None:
+    groups, item, expected = SEQUENCES[title]
+    assert values(groups, item) == expected
 
 
 @pytest.mark.parametrize("segments", [(3, 4), (4, 5)])
@@ -360,120 +418,83 @@ def test_a_text_without_an_end_is_not_cut_where_groups_are_lost(segments: Sequen
     groups = 4 * text(b"A text that has no end")
     gone = [number for number in range(len(groups)) if number % 6 in segments]
     lost = [(number, sent.Damage(block, sent.LOST)) for number in gone for block in (3, 4)]
-    assert sent.told(sent.events_of(groups, lost), "rt") == []
-    assert sent.told(sent.events_of(groups), "rt") == ["A text that has no end"]
+    assert told(events_of(groups, lost), "rt") == []
+    assert told(events_of(groups), "rt") == ["A text that has no end"]
     decoder, rows = Decoder(), sent.rows_of(groups, lost)
-    assert sent.told([it for k in range(len(rows)) for it in decoder.feed(rows[k : k + 1])], "rt") == []
-
-
-def test_a_programme_type_name_after_a_turned_flag_is_no_mixture() -> None:
-    first, second = type_name(b"Football"), type_name(b"Foothill", 1)
-    assert values(first + second[1:], "ptyn") == ["Football"]
-    assert values(first + second, "ptyn") == ["Football", "Foothill"]
-
-
-def test_a_pin_that_ends_and_one_that_is_none() -> None:
-    number, no_hour = 15 << 11 | 20 << 6 | 30, 16 << 11 | 24 << 6
-    assert values([label(0, 0, number), label(0, 0, no_hour), label(0, 0, 0)], "pin") == ["15 20:30", None]
-    assert values([eon(14, number), eon(14, no_hour), eon(14, 0)], "eon:D312.pin") == ["15 20:30", None]
-
-
-def test_tmc_stays_when_its_application_is_told() -> None:
-    assert values([group("8A", 1, 2, 3), oda(0xCD46, "8A"), group("8A", 1, 2, 3)], "tmc") == [True]
-    assert values([group("8A", 1, 2, 3), oda(0x1234, "8A"), group("8A", 1, 2, 3)], "tmc") == [True, None]
-
-
-def test_ta_of_14b_and_variant_13_is_one_item() -> None:
-    groups = [eon(13, 17 << 11), group("14B", 0x18, 0, 0xD312), eon(13, 17 << 11)]
-    assert values(groups, "eon:D312.ta") == [False, True, False]
-
-
-def test_items_of_another_network_do_not_mix_with_the_tuned() -> None:
-    groups = name(b"PAXO 318") + eon_name(b"OTHER FM")
-    assert values(groups, "ps") == ["PAXO 318"]
+    assert sent.told([event for k in range(len(rows)) for event in decoder.feed(rows[k : k + 1])], "rt") == []
 
 
 # ---- lists of frequencies that change
 
 
 def lists(*cycles: Sequence[int]) -> List[Any]:
-    groups = [group("0A", 8 | k % 4, pair, 0x2020) for k, pair in enumerate(it for cycle in cycles for it in cycle)]
-    return [event.value for event in events(groups) if event.item.startswith("af")]
+    groups = [group("0A", 8 | k % 4, pair, 0x2020) for k, pair in enumerate(chain(*cycles))]
+    return [event.value for event in events_of(groups) if event.item.startswith("af")]
 
 
 A = [0xE50A, 0x1E32, 0x465A]
 
 
-def test_method_a_that_changes_one_entry() -> None:
-    changed = [0xE50A, 0x1E32, 0x4664]
-    assert lists(*10 * [A], *10 * [changed], *10 * [A]) == [
-        [88500, 90500, 92500, 94500, 96500],
-        [88500, 90500, 92500, 94500, 97500],
-        [88500, 90500, 92500, 94500, 96500],
-    ]
+ALL_OF_A = [88500, 90500, 92500, 94500, 96500]
+CHANGED, ALL_CHANGED = [0xE50A, 0x1E32, 0x4664], [88500, 90500, 92500, 94500, 97500]
+B, B_CHANGED, OTHER = [0xE512, 0x1278, 0x8E12], [0xE512, 0x127D, 0x8E12], [0xE30F, 0x0F4B]
 
 
-def test_method_a_that_grows() -> None:
-    assert lists(*5 * [A], *5 * [[0xE60A, 0x1E32, 0x465A, 0x64CD]]) == [
-        [88500, 90500, 92500, 94500, 96500],
-        [88500, 90500, 92500, 94500, 96500, 97500],
-    ]
+def by_b(tuned: int, same: Sequence[int], regional: Sequence[int] = ()) -> Dict[str, Any]:
+    return {"tuned": tuned, "same": [*same], "regional": [*regional]}
+
+
+ALL_OF_B, ALL_B_CHANGED = by_b(89300, [99500], [101700]), by_b(89300, [100000], [101700])
+
+
+@pytest.mark.parametrize(
+    "cycles, found",
+    [
+        ([*10 * [A], *10 * [CHANGED], *10 * [A]], [ALL_OF_A, ALL_CHANGED, ALL_OF_A]),
+        ([*5 * [A], *5 * [[0xE60A, 0x1E32, 0x465A, 0x64CD]]], [ALL_OF_A, [*ALL_OF_A, 97500]]),
+        ([*10 * [B], *10 * [B_CHANGED], *10 * [B]], [ALL_OF_B, ALL_B_CHANGED, ALL_OF_B]),
+        # The order of a pair alone says whether its frequency is of a regional variant.
+        (
+            [*10 * [[0xE312, 0x1278]], *10 * [[0xE312, 0x7812]]],
+            [by_b(89300, [99500]), by_b(89300, [], [99500])],
+        ),
+    ],
+    ids=[
+        "method A changes one entry",
+        "method A grows",
+        "method B changes one entry",
+        "method B becomes regional",
+    ],
+)
+def test_a_list_that_changes(cycles: Sequence[Sequence[int]], found: List[Any]) -> None:
+    assert lists(*cycles) == found
 
 
 def test_a_change_is_told_within_two_turns() -> None:
-    changed = [0xE50A, 0x1E32, 0x4664]
-    assert lists(*3 * [A], *2 * [changed])[-1] == [88500, 90500, 92500, 94500, 97500]
+    assert lists(*3 * [A], *2 * [CHANGED])[-1] == ALL_CHANGED
 
 
 def test_the_same_frequencies_in_another_order_are_the_same_list() -> None:
     """The list begins anew after pairs that were never completed, and then a pair of each turn is lost."""
     found = FrequencyList(A[0])
-    assert [found.take(pair) for pair in A][-1] == [88500, 90500, 92500, 94500, 96500]
+    assert [found.take(pair) for pair in A][-1] == ALL_OF_A
     heard = [0x99CD, *FrequencyList.TURNS * [0x465A, A[0], 0x1E32], A[0], 0x1E32, A[0], 0x465A]
-    assert [it for it in map(found.take, heard) if it is not None] == [[88500, 90500, 92500, 94500, 96500]]
-
-
-def test_method_b_that_changes_one_entry() -> None:
-    before, after = [0xE512, 0x1278, 0x8E12], [0xE512, 0x127D, 0x8E12]
-    assert lists(*10 * [before], *10 * [after], *10 * [before]) == [
-        {"tuned": 89300, "same": [99500], "regional": [101700]},
-        {"tuned": 89300, "same": [100000], "regional": [101700]},
-        {"tuned": 89300, "same": [99500], "regional": [101700]},
-    ]
+    assert [entry for entry in map(found.take, heard) if entry is not None] == [ALL_OF_A]
 
 
 def test_method_b_of_several_transmitters_that_changes_one_entry() -> None:
-    other = [0xE30F, 0x0F4B]
-    before, after = [0xE512, 0x1278, 0x8E12, *other], [0xE512, 0x127D, 0x8E12, *other]
-    found = lists(*10 * [before], *10 * [after])
-    assert [it for it in found if it["tuned"] == 89300] == [
-        {"tuned": 89300, "same": [99500], "regional": [101700]},
-        {"tuned": 89300, "same": [100000], "regional": [101700]},
-    ]
-    assert [it for it in found if it["tuned"] == 89000] == [{"tuned": 89000, "same": [95000], "regional": []}]
-
-
-def test_method_b_that_becomes_regional() -> None:
-    """The order of a pair alone says whether its frequency is of a regional variant."""
-    found = lists(*10 * [[0xE312, 0x1278]], *10 * [[0xE312, 0x7812]])
-    assert found == [
-        {"tuned": 89300, "same": [99500], "regional": []},
-        {"tuned": 89300, "same": [], "regional": [99500]},
-    ]
+    found = lists(*10 * [[*B, *OTHER]], *10 * [[*B_CHANGED, *OTHER]])
+    assert [entry for entry in found if entry["tuned"] == 89300] == [ALL_OF_B, ALL_B_CHANGED]
+    assert [entry for entry in found if entry["tuned"] == 89000] == [by_b(89000, [95000])]
 
 
 def test_another_method_replaces_the_list() -> None:
     held = {}
-    for event in events([group("0A", 8, pair, 0) for pair in 3 * A + 3 * [0xE312, 0x1278]]):
+    for event in events_of([group("0A", 8, pair, 0) for pair in 3 * A + 3 * [0xE312, 0x1278]]):
         held[event.item] = event.value
     assert held["af"] is None and held["af:89.3"]["same"] == [99500]
 
 
 def test_a_wrong_pair_does_not_stay() -> None:
     wrong = [0xE50A, 0x1E32, 0x9999, 0x465A]
-    assert lists(*4 * [A], wrong, *6 * [A])[-1] == [88500, 90500, 92500, 94500, 96500]
-
-
-def test_a_text_with_an_end_is_told_once() -> None:
-    """However often it is sent: what comes after its end is no part of it."""
-    assert told(events_of(text(b"Hello\r  ") * 6), "rt") == ["Hello"]
+    assert lists(*4 * [A], wrong, *6 * [A])[-1] == ALL_OF_A

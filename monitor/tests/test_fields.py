@@ -2,25 +2,24 @@
 
 from __future__ import annotations
 
+from itertools import chain
 from typing import Dict
 
 import numpy
 import pytest
 
-from rds_monitor import looks, names
-from rds_monitor.fields import FIELDS, TABLE
-from rds_monitor.received import payload
+from rds_monitor.content import looks, names
+from rds_monitor.content.fields import FIELDS, TABLE
+from rds_monitor.content.columns import payload
 from sent import clock, group, label, tags
 
 
 def test_every_line_is_a_field() -> None:
     assert len(FIELDS) == len(TABLE.strip().splitlines()) - 1
     for field in FIELDS.values():
-        assert (
-            field.clause
-            and field.meaning
-            and all(1 <= block <= 4 and shift + mask.bit_length() <= 16 for block, shift, mask in field.parts)
-        )
+        assert field.clause
+        assert field.meaning
+        assert all(1 <= block <= 4 and shift + mask.bit_length() <= 16 for block, shift, mask in field.parts)
 
 
 READ: Dict[str, tuple[tuple[int, int, int, int], int]] = {
@@ -40,6 +39,11 @@ READ: Dict[str, tuple[tuple[int, int, int, int], int]] = {
     "rt.kind": (group("2B", 0x10), 3),
     "rt.segment": (group("2A", 0x1F), 15),
     "oda.group": (group("3A", 22), 22),
+    "tdc.channel": (group("5A", 31), 31),
+    "tdc.data": (group("5A", 0, 0x1234, 0x5678), 0x12345678),
+    "tdc.short": (group("5B", 0, 0, 0x5678), 0x5678),
+    "ih": (group("6A", 31, 0x1234, 0x5678), 31 << 32 | 0x12345678),
+    "ih.short": (group("6B", 31, 0, 0x5678), 31 << 16 | 0x5678),
     "ct.day": (clock(0x1FFFF, 0, 0, 0), 0x1FFFF),
     "ct.hour": (clock(0, 31, 0, 0), 31),
     "ct.minute": (clock(0, 0, 63, 0), 63),
@@ -80,52 +84,75 @@ def test_a_payload_is_the_37_bits_of_a_group() -> None:
 
 
 def test_every_look_is_of_known_fields_in_groups_that_have_them() -> None:
-    every = [
-        *looks.LOOKS,
-        *looks.LOOK_EON_TA,
-        *looks.LOOK_RT,
-        *looks.LOOK_PTYN,
-        looks.LOOK_TP_PTY,
-        looks.LOOK_ODA,
-        looks.LOOK_AF,
-        looks.LOOK_EON_AF,
-        looks.LOOK_CT,
-        looks.LOOK_RT_KIND,
-        looks.LOOK_PTYN_FLAG,
-        looks.LOOK_TAGS,
-        looks.LOOK_ODA_MESSAGE,
-        *(look for look, _ in looks.APPLIED),
-    ]
-    for look in every:
+    for look in chain(*looks.LOOKS.values()):
         for name in filter(None, (look.value, look.position, look.message, look.when)):
             groups = set(FIELDS[name].groups)
             assert groups >= set(look.groups.split()) or groups == {"all"}, (look, name)
 
 
+def test_every_text_is_of_known_fields_in_groups_that_have_them() -> None:
+    for look in looks.TEXTS:
+        for name in filter(None, (look.segment, *look.pairs, look.message)):
+            assert set(FIELDS[name].groups) >= set(look.groups.split()), (look, name)
+        most = (1 << FIELDS[look.segment].width) - look.first
+        assert len(look.pairs) == look.shape.pairs and look.shape.segments <= most
+
+
+def test_which_groups_may_carry_an_application() -> None:
+    """IEC 62106, clause 6.1.5.4, table 6: all types but 0 to 2, 3A, 4A, 10A, 14 and 15, and but 1B."""
+    assert [looks.name_of(code) for code in range(32) if looks.may_carry_application(code)] == (
+        "3B 4B 5A 5B 6A 6B 7A 7B 8A 8B 9A 9B 10B 11A 11B 12A 12B 13A 13B".split()
+    )
+
+
+def test_call_letters() -> None:
+    """NRSC-4-B, annex D.7: the first and last of K and W, both kinds of zeros, and PI that have none."""
+    shown = {
+        0x1000: "KAAA",
+        0x54A7: "KZZZ",
+        0x54A8: "WAAA",
+        0x994F: "WZZZ",
+        0x7106: "WKTI",
+        0xA123: "KABJ",
+        0xAF12: "KATS",
+        0x9950: None,
+        0x0FFF: None,
+        0xB001: None,
+    }
+    assert {pi: names.call_letters(pi) for pi in shown} == shown
+
+
 def test_names() -> None:
-    assert len(names.PROGRAMME_TYPES) == len(names.PROGRAMME_TYPES_RBDS) == 32 and len(names.CONTENT_TYPES) == 64
+    assert len(names.PROGRAMME_TYPES) == len(names.PROGRAMME_TYPES_RBDS) == 32
+    assert len(names.CONTENT_TYPES) == 64
     assert names.programme_type(31) == "Alarm" and names.programme_type(31, True) == "Emergency"
-    assert [names.language(code) for code in (0, 8, 0x2B, 0x2C, 0x44, 0x45, 0x7F, 0x80)] == [
+    assert [names.language(code) for code in (0, 8, 0x2B, 0x2C, 0x40, 0x44, 0x45, 0x7F, 0x80)] == [
         "Unknown",
         "German",
         "Walloon",
         None,
+        "Background sound, clean feed",
         None,
         "Zulu",
         "Amharic",
         None,
     ]
     assert [
-        names.country(*it)
-        for it in ((0xE0, 0xD318), (0xE1, 0xF201), (0xE0, 0x1234), (0xA0, 0x1234), (0xE0, 0x0234), (0x00, 0xD318))
+        names.country(*one)
+        for one in (
+            (0xE0, 0xD318),
+            (0xE1, 0xF201),
+            (0xE0, 0x1234),
+            (0xA0, 0x1234),
+            (0xE0, 0x0234),
+            (0x00, 0xD318),
+        )
     ] == ["de", "fr", "de", "us", None, None]
     assert all(
         code in names.COUNTRY_NAMES
         for extended in range(256)
         for code in filter(None, (names.country(extended, digit << 12) for digit in range(16)))
     )
-    assert (
-        names.DAB_CHANNELS[174928] == "5A"
-        and names.DAB_CHANNELS[220352] == "11C"
-        and names.DAB_CHANNELS[239200] == "13F"
-    )
+    assert names.DAB_CHANNELS[174928] == "5A"
+    assert names.DAB_CHANNELS[220352] == "11C"
+    assert names.DAB_CHANNELS[239200] == "13F"

@@ -7,16 +7,16 @@ import subprocess
 import sys
 import unittest.mock
 from pathlib import Path
-from typing import Any, List, Sequence, Tuple
+from typing import Any, List, Optional, Sequence, Tuple
 
 import numpy
 import pytest
-from conftest import PROGRAM, STATION, encode, monitor, rds
+from conftest import COMMAND, PROGRAM, STATION, encode, monitor, rds
 from hypothesis import given, settings
 from hypothesis import strategies as st
 from modulator import Array, iq, mpx, stored, wav, words
 
-from rds_monitor.pack import READERS, Change, bits_of, packed_of
+from rds_monitor.signal.pack import READERS, Conversion, bits_of, packed_of
 
 STATION_BYTES = STATION.read_bytes()
 BITS = numpy.unpackbits(numpy.frombuffer(STATION_BYTES, "u1"))
@@ -44,7 +44,10 @@ def shell(command: str, tmp_path: Path) -> bytes:
     """What a command writes, with the programs that it names on the path."""
     tools = tmp_path / "tools"
     tools.mkdir(exist_ok=True)
-    for name, text in (("rds-monitor", f'exec {sys.executable} -m rds_monitor "$@"'), ("rds", f'exec {PROGRAM} "$@"')):
+    for name, text in (
+        ("rds-monitor", f'exec {sys.executable} -m rds_monitor "$@"'),
+        ("rds", f'exec {PROGRAM} "$@"'),
+    ):
         (tools / name).write_text(f"#!/bin/sh\n{text}\n")
         (tools / name).chmod(0o755)
     environment = {**os.environ, "PATH": f"{tools}:{os.environ['PATH']}"}
@@ -60,35 +63,41 @@ def lowest_first(data: bytes) -> bytes:
     return numpy.packbits(numpy.unpackbits(numpy.frombuffer(data, "u1")).reshape(-1, 8)[:, ::-1]).tobytes()
 
 
+INVERTED = bytes(byte ^ 255 for byte in STATION_BYTES)
+ONE_SAMPLE = "a WAV file of one sample per bit"
+
+# The options of `pack` that give packed bits again.
 FORMS = [
-    ("packed bits", STATION_BYTES, "cat "),
-    ("packed bits, lowest bit first", lowest_first(STATION_BYTES), "rds-monitor pack --from packed --lsb-first "),
-    ("packed bits, inverted", bytes(byte ^ 255 for byte in STATION_BYTES), "rds-monitor pack --from packed --invert "),
-    ("packed bits, before differential decoding", DIFFERENTIAL, "rds-monitor pack --from packed --differential "),
-    ("packed bits, lowest bit first, before differential decoding", lowest_first(DIFFERENTIAL),
-     "rds-monitor pack --from packed --lsb-first --differential "),
-    ("hexadecimal digits", HEX, "rds-monitor pack --from hex "),
-    ("hexadecimal digits, inverted", bytes(byte ^ 255 for byte in STATION_BYTES).hex().encode(),
-     "rds-monitor pack --from hex --invert "),
-    ("unpacked bits, bytes 0 and 1", samples("u1", 0, 1), "rds-monitor pack --from bytes "),
-    ("unpacked bits, bytes 0 and 255", samples("u1", 0, 255), "rds-monitor pack --from bytes255 "),
-    ("a text of 0 and 1", samples("u1", 48, 49), "rds-monitor pack --from text "),
-    ("signed bytes, one sample per bit", samples("i1", -1, 1), "rds-monitor pack --from s8 "),
-    ("16-bit samples, one per bit", samples("<i2", -1200, 900), "rds-monitor pack --from s16 "),
-    ("16-bit samples, one per bit, inverted", samples("<i2", 900, -1200), "rds-monitor pack --from s16 --invert "),
-    ("soft bits, 32-bit floating point", samples("<f4", -0.8, 1.3), "rds-monitor pack --from f32 "),
-    ("a WAV file of one sample per bit", wav(samples("u1", 40, 210), "u8", 1187), "rds-monitor pack --from wav "),
-    ("a WAV file of one sample per bit", wav(samples("<i2", -1200, 900), "s16", 1187, more=LIST_CHUNK) + b"LIST",
-     "rds-monitor pack --from wav "),
-    ("a WAV file of one sample per bit", wav(samples("<f4", -0.8, 1.3), "f32", 1187), "rds-monitor pack --from wav "),
+    ("packed bits", STATION_BYTES, None),
+    ("packed bits, lowest bit first", lowest_first(STATION_BYTES), "packed --lsb-first"),
+    ("packed bits, inverted", INVERTED, "packed --invert"),
+    ("packed bits, before differential decoding", DIFFERENTIAL, "packed --differential"),
+    (
+        "packed bits, lowest bit first, before differential decoding",
+        lowest_first(DIFFERENTIAL),
+        "packed --lsb-first --differential",
+    ),
+    ("hexadecimal digits", HEX, "hex"),
+    ("hexadecimal digits, inverted", INVERTED.hex().encode(), "hex --invert"),
+    ("unpacked bits, bytes 0 and 1", samples("u1", 0, 1), "bytes"),
+    ("unpacked bits, bytes 0 and 255", samples("u1", 0, 255), "bytes255"),
+    ("a text of 0 and 1", samples("u1", 48, 49), "text"),
+    ("signed bytes, one sample per bit", samples("i1", -1, 1), "s8"),
+    ("16-bit samples, one per bit", samples("<i2", -1200, 900), "s16"),
+    ("16-bit samples, one per bit, inverted", samples("<i2", 900, -1200), "s16 --invert"),
+    ("soft bits, 32-bit floating point", samples("<f4", -0.8, 1.3), "f32"),
+    (ONE_SAMPLE, wav(samples("u1", 40, 210), "u8", 1187), "wav"),
+    (ONE_SAMPLE, wav(samples("<i2", -1200, 900), "s16", 1187, more=LIST_CHUNK) + b"LIST", "wav"),
+    (ONE_SAMPLE, wav(samples("<f4", -0.8, 1.3), "f32", 1187), "wav"),
 ]
 
 
-@pytest.mark.parametrize("name,data,command", FORMS, ids=[f"{at}-{it[0]}" for at, it in enumerate(FORMS)])
-def test_the_form_and_its_cure(name: str, data: bytes, command: str, tmp_path: Path) -> None:
+@pytest.mark.parametrize("name,data,options", FORMS, ids=[f"{at}-{one[0]}" for at, one in enumerate(FORMS)])
+def test_the_form_and_its_cure(name: str, data: bytes, options: Optional[str], tmp_path: Path) -> None:
     path = tmp_path / "it's a $(file)"
     path.write_bytes(data)
     groups, found, cure = forms(path)[0]
+    command = f"rds-monitor pack --from {options} " if options else "cat "
     assert (found, cure.startswith(command)) == (name, True) and groups >= 500
     assert shell(cure, tmp_path) == STATION_BYTES
 
@@ -111,9 +120,11 @@ def test_a_station_that_comes_late(tmp_path: Path) -> None:
     assert forms(tmp_path / "late")[0][1] == "packed bits"
 
 
-@pytest.mark.parametrize("data,said", [(b"", "is empty"),
-                                       (numpy.random.default_rng(1).bytes(320000), "two complete groups")],
-                         ids=["empty", "noise"])
+@pytest.mark.parametrize(
+    "data,said",
+    [(b"", "is empty"), (numpy.random.default_rng(1).bytes(320000), "two complete groups")],
+    ids=["empty", "noise"],
+)
 def test_no_form(data: bytes, said: str, tmp_path: Path) -> None:
     (tmp_path / "noise").write_bytes(data)
     done = monitor("form", tmp_path / "noise")
@@ -148,8 +159,10 @@ def radio() -> Array:
     return iq(mpx(SENT, 256000, snr=40), 256000, cnr=40)
 
 
-@pytest.mark.parametrize("name,form", [("mpx.wav", "s16"), ("mpx.s16", "s16"), ("mpx.f32", "f32"), ("iq.wav", "s16"),
-                                       ("iq.u8", "u8")])
+@pytest.mark.parametrize(
+    "name,form",
+    [("mpx.wav", "s16"), ("mpx.s16", "s16"), ("mpx.f32", "f32"), ("iq.wav", "s16"), ("iq.u8", "u8")],
+)
 def test_signals(name: str, form: str, signal: Array, radio: Array, tmp_path: Path) -> None:
     is_iq = name.startswith("iq")
     rate = 256000 if is_iq else 192000
@@ -173,20 +186,25 @@ def test_mpx_in_the_second_channel_and_in_flac(signal: Array, tmp_path: Path) ->
 # ---- pack
 
 
-@pytest.mark.parametrize("words_,data,said", [
-    (("--from", "bytes"), b"\0\1\2", "byte 3 is 0x02, neither 0x00 nor 0x01"),
-    (("--from", "bytes255"), b"\1\0", "byte 1 is 0x01, neither 0x00 nor 0xFF"),
-    (("--from", "text"), b"01 2", "character 4 is neither 0 nor 1"),
-    (("--from", "text"), b" \n", "there is no bit in the input"),
-    (("--from", "hex"), b"12\n3g", "byte 5 is 0x67, neither a hexadecimal digit nor blank"),
-    (("--from", "hex"), b"1 2\n3", "there is an odd number of hexadecimal digits"),
-    (("--from", "s8"), b"\1\0\1", "no sample is below zero"), (("--from", "s8"), b"\xff\0", "no sample is above zero"),
-    (("--from", "f32"), b"", "there is no bit in the input"),
-    (("--from", "s16"), b"\1\0\xff", "the last sample is cut off"),
-    (("--from", "f32"), b"\0\0\x80\x7f", "a sample is no number"),
-    (("--from", "wav"), STATION_BYTES, "neither WAV nor FLAC"),
-    (("--from", "wav"), wav(bytes(8), "s16", 1187, channels=2), "the WAV file has 2 channels"),
-    (("--from", "bytes", "none such"), b"", "none such: No such file or directory")])
+@pytest.mark.parametrize(
+    "words_,data,said",
+    [
+        (("--from", "bytes"), b"\0\1\2", "byte 3 is 0x02, neither 0x00 nor 0x01"),
+        (("--from", "bytes255"), b"\1\0", "byte 1 is 0x01, neither 0x00 nor 0xFF"),
+        (("--from", "text"), b"01 2", "character 4 is neither 0 nor 1"),
+        (("--from", "text"), b" \n", "there is no bit in the input"),
+        (("--from", "hex"), b"12\n3g", "byte 5 is 0x67, neither a hexadecimal digit nor blank"),
+        (("--from", "hex"), b"1 2\n3", "there is an odd number of hexadecimal digits"),
+        (("--from", "s8"), b"\1\0\1", "no sample is below zero"),
+        (("--from", "s8"), b"\xff\0", "no sample is above zero"),
+        (("--from", "f32"), b"", "there is no bit in the input"),
+        (("--from", "s16"), b"\1\0\xff", "the last sample is cut off"),
+        (("--from", "f32"), b"\0\0\x80\x7f", "a sample is no number"),
+        (("--from", "wav"), STATION_BYTES, "neither WAV nor FLAC"),
+        (("--from", "wav"), wav(bytes(8), "s16", 1187, channels=2), "the WAV file has 2 channels"),
+        (("--from", "bytes", "none such"), b"", "none such: No such file or directory"),
+    ],
+)
 def test_inputs_that_are_no_bits(words_: Sequence[str], data: bytes, said: str) -> None:
     done = monitor("pack", *words_, data=data)
     assert done.returncode == 1 and said in done.stderr.decode()
@@ -206,8 +224,9 @@ def test_the_number_of_bits_is_told_if_the_last_byte_is_not_full() -> None:
 @pytest.mark.skipif(not os.path.exists("/dev/full"), reason="there is no /dev/full")
 def test_a_full_disk(tmp_path: Path) -> None:
     with open("/dev/full", "wb") as full:
-        done = subprocess.run([sys.executable, "-m", "rds_monitor", "pack", "--from", "packed", str(STATION)],
-                              stdout=full, stderr=subprocess.PIPE)
+        done = subprocess.run(
+            [*COMMAND, "pack", "--from", "packed", str(STATION)], stdout=full, stderr=subprocess.PIPE
+        )
     assert done.returncode == 1 and b"No space left on device" in done.stderr
 
 
@@ -224,31 +243,45 @@ class Trickle:
 
 
 ENCODINGS = {
-    "packed": lambda bits: numpy.packbits(bits).tobytes(), "bytes": lambda bits: bits.tobytes(),
+    "packed": lambda bits: numpy.packbits(bits).tobytes(),
+    "bytes": lambda bits: bits.tobytes(),
     "bytes255": lambda bits: (bits * 255).astype("u1").tobytes(),
     "text": lambda bits: (bits + 48).astype("u1").tobytes(),
     "hex": lambda bits: numpy.packbits(bits).tobytes().hex().encode(),
     "s8": lambda bits: (2 * bits.astype("i1") - 1).tobytes(),
     "s16": lambda bits: (2 * bits.astype("<i2") - 1).tobytes(),
     "f32": lambda bits: (2 * bits.astype("<f4") - 1).tobytes(),
-    "wav": lambda bits: wav((2 * bits.astype("<i2") - 1).tobytes(), "s16", 1187)}
+    "wav": lambda bits: wav((2 * bits.astype("<i2") - 1).tobytes(), "s16", 1187),
+}
 
 
 def test_every_form_has_a_reader() -> None:
     assert set(ENCODINGS) == set(READERS)
 
 
-@given(form=st.sampled_from(sorted(READERS)), data=st.binary(min_size=1, max_size=40), inverted=st.booleans(),
-       differential=st.booleans(), steps=st.lists(st.integers(1, 9), max_size=20), chunk=st.sampled_from([8, 24, 1 << 20]))
+@given(
+    form=st.sampled_from(sorted(READERS)),
+    data=st.binary(min_size=1, max_size=40),
+    inverted=st.booleans(),
+    differential=st.booleans(),
+    steps=st.lists(st.integers(1, 9), max_size=20),
+    chunk=st.sampled_from([8, 24, 1 << 20]),
+)
 @settings(max_examples=150, deadline=None)
-def test_what_was_written_in_a_form_is_read(form: str, data: bytes, inverted: bool, differential: bool,
-                                            steps: List[int], chunk: int) -> None:
+def test_what_was_written_in_a_form_is_read(
+    form: str, data: bytes, inverted: bool, differential: bool, steps: List[int], chunk: int
+) -> None:
     # The first byte has both values, so that samples are on both sides of zero.
     bits = numpy.unpackbits(numpy.frombuffer(b"\x5a" + data, "u1"))
     sent = numpy.bitwise_xor.accumulate(bits) if differential else bits
     sent = sent ^ 1 if inverted else sent
     stream: Any = Trickle(ENCODINGS[form](sent.astype("u1")), steps if form != "wav" else [])
-    with unittest.mock.patch("rds_monitor.pack.CHUNK", chunk):
-        parts = list(packed_of(bits_of(stream, form, Change(inverted=inverted, differential=differential))))
+    with unittest.mock.patch("rds_monitor.signal.pack.CHUNK", chunk):
+        parts = list(
+            packed_of(bits_of(stream, form, Conversion(inverted=inverted, differential=differential)))
+        )
     if set(sent.tolist()) == {0, 1}:
-        assert (b"".join(part for part, _ in parts), sum(count for _, count in parts)) == (b"\x5a" + data, bits.size)
+        assert (b"".join(part for part, _ in parts), sum(count for _, count in parts)) == (
+            b"\x5a" + data,
+            bits.size,
+        )

@@ -13,7 +13,7 @@ from typing import Dict, List
 import pytest
 
 from conftest import STATION, encode
-from inside import said
+from made import output as said
 from sent import Words, clock, group, name, text
 
 READER = Path(__file__).with_name("gnuradio_reader.py")
@@ -48,7 +48,9 @@ def local(clock_time: str) -> str:
     assert match
     day, month, year, hour, minute = map(int, match.groups()[:5])
     time = datetime.datetime(year, month, day, hour, minute, tzinfo=datetime.timezone.utc)
-    return time.astimezone(datetime.timezone(datetime.timedelta(hours=float(match[6])))).isoformat(timespec="minutes")
+    return time.astimezone(datetime.timezone(datetime.timedelta(hours=float(match[6])))).isoformat(
+        timespec="minutes"
+    )
 
 
 LONG = b"A text that is as long as it is, and ends in blanks alone".ljust(64)
@@ -56,7 +58,11 @@ AF = [0xE301, 0x3264]
 CASES: Dict[str, List[Words]] = {
     "all flags": [*name(b"PAXO 318", AF, flags=28), *text(LONG), clock(61128, 1, 30, 4)],
     "no flags": [*name(b"ABCDEFGH", AF, flags=0, tp=0), *text(LONG, tp=0)],
-    "version B": [*name(b"PAXO 318", flags=8, kind="0B"), *text(LONG[:32], kind="2B"), clock(61128, 22, 59, -7)],
+    "version B": [
+        *name(b"PAXO 318", flags=8, kind="0B"),
+        *text(LONG[:32], kind="2B"),
+        clock(61128, 22, 59, -7),
+    ],
     "a feature each": [
         *name(b"PAXO 318", AF, flags=8),
         group("1A", 0, 0xE0),
@@ -71,7 +77,9 @@ CASES: Dict[str, List[Words]] = {
 @pytest.mark.parametrize("which", [*CASES, "the sample"])
 def test_a_reading_by_gnuradio_agrees(which: str, tmp_path: Path) -> None:
     path = tmp_path / "reading.bin"
-    path.write_bytes(STATION.read_bytes() if which == "the sample" else encode([group("15A", 0x1F), *2 * CASES[which]]))
+    path.write_bytes(
+        STATION.read_bytes() if which == "the sample" else encode([group("15A", 0x1F), *2 * CASES[which]])
+    )
     read, held = theirs(path), ours(path)
     assert read["pi"] == held["pi"] and read["ps"] == held["ps"] and read["rt"] == held["rt"]
     assert read["pty"].lower() == held["pty"].split(" ", 1)[1].lower()
@@ -81,4 +89,6 @@ def test_a_reading_by_gnuradio_agrees(which: str, tmp_path: Path) -> None:
     if "ct" in read:
         assert local(read["ct"]) == held["ct"]
     if "af" in read and "af" in held:
-        assert {f"{float(it):.1f}" for it in re.findall(r"[\d.]+(?=MHz)", read["af"])} <= set(held["af"].split())
+        assert {f"{float(one):.1f}" for one in re.findall(r"[\d.]+(?=MHz)", read["af"])} <= set(
+            held["af"].split()
+        )

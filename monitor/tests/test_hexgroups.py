@@ -11,11 +11,12 @@ import pytest
 from hypothesis import given, settings, strategies as st
 
 from conftest import STATION, encode, monitor, rds
-from rds_monitor.columns import Items
-from rds_monitor.heads import is_groups
-from rds_monitor.hexgroups import GroupLines, text_of
-from rds_monitor.items import GROUP, LOST, VALID, Fault
-from inside import said
+from rds_monitor.measures.groups import text_of
+from rds_monitor.rows.group_lines import GroupLines
+from rds_monitor.rows.heads import is_groups
+from rds_monitor.rows.items import GROUP, LOST, VALID, Fault
+from rds_monitor.rows.listing import groups_in
+from made import output as said
 from sent import group, name, text
 
 
@@ -30,23 +31,32 @@ def read(data: bytes) -> Any:
 
 def test_lines_are_the_words_of_the_listing(station_listing: bytes) -> None:
     rows = [row.split(",")[4:] for row in station_listing.decode().splitlines() if row.startswith("group,")]
-    lines = [" ".join(it.partition(":")[2][:4] or "----" for it in row) for row in rows]
+    lines = [" ".join(word.partition(":")[2][:4] or "----" for word in row) for row in rows]
     assert said("groups", STATION).splitlines() == lines
     assert said("groups", data=station_listing).splitlines() == lines
-    assert said("groups", "--whole", STATION).splitlines() == [it for it in lines if "-" not in it]
+    assert said("groups", "--whole", STATION).splitlines() == [line for line in lines if "-" not in line]
 
 
-def test_partial_groups_are_kept() -> None:
-    listing = b"group,0,-,?,A:D318,lost,lost,none\n"
-    assert said("groups", "--unfinished", data=listing) == "D318 ---- ---- ----\n"
-    assert said("groups", "--unfinished", "--whole", data=listing) == ""
+PARTIAL = "group,0,-,?,A:D318,lost,lost,none"
+WHOLE = "group,104,0,A,A:D318,B:0548,C:E0CD,D:5041"
+LINE = "D318 0548 E0CD 5041"
 
 
-def test_corrected_blocks_are_words() -> None:
-    assert (
-        said("groups", "--unfinished", data=b"group,0,0,A,A:D318~0000001,B:0548,C:E0CD,D:5041\n")
-        == "D318 0548 E0CD 5041\n"
-    )
+@pytest.mark.parametrize(
+    "row,options,line",
+    [
+        (PARTIAL, "", "D318 ---- ---- ----\n"),
+        (PARTIAL, "--whole", ""),
+        (WHOLE.replace("D318", "D318~0000001"), "", f"{LINE}\n"),
+        (WHOLE, "--times", f"{LINE} 0.088\n"),
+        (WHOLE, "--times --start 2026-03-29T00:30:00Z", f"{LINE} 2026-03-29T00:30:00.088Z\n"),
+        (WHOLE, "--whole --times --start 2026-03-29T00:30:00Z", f"{LINE} 2026-03-29T00:30:00.088Z\n"),
+        (WHOLE, "--spy --start 2026-03-29T23:59:59.95Z", f"{LINE} @2026/03/30 00:00:00.03\n"),
+        (WHOLE, "--spy --start 2026-03-29T23:59:59.952Z", f"{LINE} @2026/03/30 00:00:00.04\n"),
+    ],
+)
+def test_lines_of_a_row(row: str, options: str, line: str) -> None:
+    assert said("groups", "--unfinished", *options.split(), data=f"{row}\n".encode()) == line
 
 
 def test_whole_groups_go_back_into_the_encoder() -> None:
@@ -54,21 +64,6 @@ def test_whole_groups_go_back_into_the_encoder() -> None:
     assert rds("encode", data=lines.encode()) in STATION.read_bytes() or rds(
         "list", data=rds("encode", data=lines.encode())
     )
-
-
-def test_times() -> None:
-    listing = b"group,104,0,A,A:D318,B:0548,C:E0CD,D:5041\n"
-    assert said("groups", "--unfinished", "--times", data=listing) == "D318 0548 E0CD 5041 0.088\n"
-    assert (
-        said("groups", "--unfinished", "--times", "--start", "2026-03-29T00:30:00Z", data=listing)
-        == "D318 0548 E0CD 5041 2026-03-29T00:30:00.088Z\n"
-    )
-    assert (
-        said("groups", "--unfinished", "--spy", "--start", "2026-03-29T23:59:59.95Z", data=listing)
-        == "D318 0548 E0CD 5041 @2026/03/30 00:00:00.03\n"
-    )
-    assert said("groups", "--unfinished", "--spy", "--start", "2026-03-29T23:59:59.952Z", data=listing)[-3:] == "04\n"
-    assert said("groups", "--unfinished", "--whole", "--times", "--start", "2026-03-29T00:30:00Z", data=listing)[-5:] == "088Z\n"
 
 
 def test_spy_needs_a_start() -> None:
@@ -96,24 +91,25 @@ def test_a_log_of_rds_spy() -> None:
         [LOST, LOST, VALID, LOST],
         [VALID] * 4,
     ]
-    assert groups["info1"].tolist() == [0xD318, 0xD318, 0, 0xD318] and groups["number"].tolist() == [0, 0, 255, 0]
+    assert groups["info1"].tolist() == [0xD318, 0xD318, 0, 0xD318]
+    assert groups["number"].tolist() == [0, 0, 255, 0]
     assert groups["place"].tolist() == [0, 104, 208, round(99.91 * 1187.5)]
     assert source.start == 1774744200.09
     assert rows["place"].tolist() == [25, 0, 104, 208, 311, groups["place"][3] + 25, groups["place"][3]]
     assert rows["what"].tolist() == [1, 2, 2, 2, 3, 1, 2] and source.length == groups["place"][-1] + 104
-    assert (
-        source.totals.groups == 4
-        and source.totals.complete == 2
-        and source.totals.valid == 12
-        and source.totals.lost == 4
-    )
+    assert source.totals.groups == 4
+    assert source.totals.complete == 2
+    assert source.totals.valid == 12
+    assert source.totals.lost == 4
     assert source.totals.acquired == 2 and source.totals.losses == 1
 
 
 @pytest.mark.parametrize("late, losses", [(1.2, 0), (1.4, 1)])
 def test_times_that_are_late(late: float, losses: int) -> None:
     """A computer that is late writes a time up to 1.25 s after the group. The last line needs no end."""
-    source, rows = read(f"D318 0548 E0CD 5041 @2026-03-29 00:30:00\nD318 0549 E0CD 584F @2026-03-29 00:30:0{late + 0.0876:.2f}".encode())
+    source, rows = read(
+        f"D318 0548 E0CD 5041 @2026-03-29 00:30:00\nD318 0549 E0CD 584F @2026-03-29 00:30:0{late + 0.0876:.2f}".encode()
+    )
     assert source.totals.losses == losses and source.totals.groups == 2 and len(rows) == 3 + 2 * losses
 
 
@@ -137,7 +133,7 @@ def test_a_log_gives_times() -> None:
 )
 def test_forms_of_a_line(line: str) -> None:
     _, rows = read(line.encode() + b"\n")
-    assert text_of(Items.of(rows))[:20] == b"D318 0548 E0CD 5041\n"
+    assert text_of(groups_in(rows))[:20] == b"D318 0548 E0CD 5041\n"
 
 
 @pytest.mark.parametrize(
@@ -173,14 +169,20 @@ def test_told_apart_from_recordings_and_listings(station_listing: bytes) -> None
 
 def test_every_command_reads_lines() -> None:
     groups = name(b"PAXO 318") + text(b"A text\r")
-    lines = "".join("%04X %04X %04X %04X\n" % it for it in groups)
+    lines = "".join("%04X %04X %04X %04X\n" % word for word in groups)
     assert "PAXO 318" in said("info", data=lines.encode()) and "A text" in said("info", data=lines.encode())
     assert said("groups", data=lines.encode()) == lines
-    recorded: List[Any] = [json.loads(it) for it in said("json", data=encode([group("6A", 0), *groups])).splitlines()]
-    logged = [json.loads(it) for it in said("json", data=lines.encode()).splitlines()]
+    recorded: List[Any] = [
+        json.loads(line) for line in said("json", data=encode([group("6A", 0), *groups])).splitlines()
+    ]
+    logged = [json.loads(line) for line in said("json", data=lines.encode()).splitlines()]
 
     def contents(found: List[Any]) -> Any:
-        return [(it["item"], it["value"]) for it in found if it["kind"] == "content" and it["item"] != "ih"]
+        return [
+            (entry["item"], entry["value"])
+            for entry in found
+            if entry["kind"] == "content" and entry["item"] != "ih"
+        ]
 
     assert contents(recorded) == contents(logged)
 
@@ -191,9 +193,11 @@ WORD = st.one_of(st.none(), st.integers(0, 0xFFFF))
 @settings(max_examples=100, deadline=None)
 @given(st.lists(st.tuples(WORD, WORD, WORD, WORD), max_size=20))
 def test_lines_that_are_read_are_written_the_same(words: List[Any]) -> None:
-    lines = "".join(" ".join("----" if it is None else f"{it:04X}" for it in one) + "\n" for one in words).encode()
+    lines = "".join(
+        " ".join("----" if entry is None else f"{entry:04X}" for entry in word) + "\n" for word in words
+    ).encode()
     source, rows = read(lines)
-    assert text_of(Items.of(rows)) == lines
+    assert text_of(groups_in(rows)) == lines
     assert source.length == 104 * len(words) and source.totals.groups == len(words)
 
 

@@ -5,16 +5,18 @@ from __future__ import annotations
 import csv
 import io
 import json
+import os
 import subprocess
-import sys
+import time
 import unicodedata
 from typing import Any, Dict, List
 
 import pytest
 
-from conftest import STATION, encode, monitor, rds
-from inside import said
-from sent import Words, clock, group, label, name, oda, tags, text
+from conftest import COMMAND, PROGRAM, STATION, encode, monitor, rds
+from made import output as said
+from rds_monitor.rows.listing import TOTAL_NAMES
+from sent import Words, clock, eon, group, label, name, oda, segments, tags, text
 
 LONG = b"The first text, of the standard's length for once, all 64 of it."
 START = group("15A", 0x1F, 0x2020, 0x2020)
@@ -50,7 +52,7 @@ def test_changes_as_csv() -> None:
     """What the old station_info.py told of these groups, in the same order, with the names of today."""
     found = rows(said("info", "--csv", data=bits(*STATION_GROUPS)))
     old = ("pi", "tp", "pty", "ta", "ms", "af", "ps", "rt", "ecc", "language", "ct")
-    assert [(it["pi"], it["item"], it["value"]) for it in found if it["item"] in old] == [
+    assert [(entry["pi"], entry["item"], entry["value"]) for entry in found if entry["item"] in old] == [
         ("D318", "pi", "D318"),
         ("D318", "tp", "yes"),
         ("D318", "pty", "10 Pop music"),
@@ -70,8 +72,8 @@ def test_changes_as_csv() -> None:
 
 
 def test_times_and_places() -> None:
-    found = said("info", "--csv", "--start", "2026-03-29T00:30:00Z", "--rate", "1190", data=bits(*STATION_GROUPS))
-    assert found.splitlines()[:2] == [
+    clock_of = ("--start", "2026-03-29T00:30:00Z", "--rate", "1190")
+    assert said("info", "--csv", *clock_of, data=bits(*STATION_GROUPS)).splitlines()[:2] == [
         "time_s,pi,item,value,place,time_utc",
         "0.087,D318,pi,D318,104,2026-03-29T00:30:00.087Z",
     ]
@@ -81,8 +83,8 @@ def test_csv_and_json_and_listing_agree() -> None:
     data = bits(*STATION_GROUPS)
     table = rows(said("info", "--csv", data=data))
     objects = lines(said("info", "--json", data=data))
-    assert [(it["pi"], it["item"], it["text"], it["place"]) for it in objects] == [
-        (it["pi"], it["item"], it["value"], int(it["place"])) for it in table
+    assert [(entry["pi"], entry["item"], entry["text"], entry["place"]) for entry in objects] == [
+        (row["pi"], row["item"], row["value"], int(row["place"])) for row in table
     ]
     assert said("info", "--json", data=rds("list", data=data)) == said("info", "--json", data=data)
 
@@ -108,32 +110,16 @@ def test_the_summary_of_two_programmes() -> None:
 
 
 def test_no_station() -> None:
-    listing = b"".join(
-        b"total,%s,0,-,-,-,-,-\n" % it.encode()
-        for it in [
-            "valid",
-            "burst1",
-            "burst2",
-            "burst3",
-            "burst4",
-            "burst5",
-            "lost",
-            "bits",
-            "groups",
-            "complete",
-            "acquired",
-            "losses",
-        ]
-    )
+    listing = b"".join(b"total,%s,0,-,-,-,-,-\n" % name.encode() for name in TOTAL_NAMES)
     assert said("info", data=listing) == "no station: no PI was received in valid blocks\n"
     assert said("info", "--csv", data=listing) == "time_s,pi,item,value,place\n"
 
 
 def test_the_sample() -> None:
     found = said("info", STATION)
-    assert (
-        found.startswith("D393 PAXOLIDU\n") and "Verified RDS decoding" in found and "RDS-TMC: ALERT-C in 8A" in found
-    )
+    assert found.startswith("D393 PAXOLIDU\n")
+    assert "Verified RDS decoding" in found
+    assert "RDS-TMC: ALERT-C in 8A" in found
 
 
 def test_rbds() -> None:
@@ -153,16 +139,24 @@ HOSTILE = {
 }
 
 
+def told(item: str, data: bytes) -> List[Any]:
+    return [entry["value"] for entry in lines(said("json", data=data)) if entry.get("item") == item]
+
+
+def shown_anywhere(data: bytes) -> str:
+    return "".join(
+        said(*words, data=data) for words in (["info"], ["info", "--csv"], ["json"], ["json", "--redsea"])
+    )
+
+
 @pytest.mark.parametrize("which", HOSTILE)
 def test_hostile_texts_are_shown_as_text(which: str) -> None:
     content, shown = HOSTILE[which]
     data = bits(*text(content))
-    assert [it["value"] for it in rows(said("info", "--csv", data=data)) if it["item"] == "rt"] == [shown]
+    assert [row["value"] for row in rows(said("info", "--csv", data=data)) if row["item"] == "rt"] == [shown]
     assert shown in said("info", data=data)
-    raw = content[:-1].decode("latin-1")
-    assert [it["value"] for it in lines(said("json", data=data)) if it.get("item") == "rt"] == [raw]
-    for command in (("info",), ("info", "--csv"), ("json",), ("json", "--redsea")):
-        assert "\x1b" not in said(*command, data=data) and "\0" not in said(*command, data=data)
+    assert told("rt", data) == [content[:-1].decode("latin-1")]
+    assert "\x1b" not in shown_anywhere(data) and "\0" not in shown_anywhere(data)
 
 
 MARKS = {
@@ -176,22 +170,18 @@ MARKS = {
 @pytest.mark.parametrize("which", MARKS)
 def test_hostile_marks_in_utf8_are_shown_as_text(which: str) -> None:
     content = MARKS[which].encode()[:120] + b"\r"
-    words = [int.from_bytes(content.ljust(128)[2 * k : 2 * k + 2], "big") for k in range(64)]
-    data = bits(oda(0x6552, "12A", 1), *(group("12A", k, words[2 * k], words[2 * k + 1]) for k in range(32)))
-    expected = content[:-1].decode("utf-8", "replace")
-    assert [it["value"] for it in lines(said("json", data=data)) if it.get("item") == "ert"] == [expected]
-    for command in (("info",), ("info", "--csv"), ("json",), ("json", "--redsea")):
-        shown = said(*command, data=data)
-        assert not [it for it in shown if it != "\n" and unicodedata.category(it) in ("Cc", "Cf", "Zl", "Zp")]
-        assert "\u0301" * 3 not in shown
+    data = bits(oda(0x6552, "12A", 1), *segments("12A", content, 32))
+    assert told("ert", data) == [content[:-1].decode("utf-8", "replace")]
+    shown = shown_anywhere(data)
+    assert not [
+        sign for sign in shown if sign != "\n" and unicodedata.category(sign) in ("Cc", "Cf", "Zl", "Zp")
+    ]
+    assert "\u0301" * 3 not in shown
 
 
 def test_output_is_utf8_whatever_the_locale() -> None:
-    import os
-
-    done = monitor(
-        "info", "--csv", data=bits(*name(b"K\x97ln \x24\xab ")), env={**os.environ, "LC_ALL": "C", "PYTHONUTF8": "0"}
-    )
+    environment = {**os.environ, "LC_ALL": "C", "PYTHONUTF8": "0"}
+    done = monitor("info", "--csv", data=bits(*name(b"K\x97ln \x24\xab ")), env=environment)
     assert done.returncode == 0 and "Köln ¤$" in done.stdout.decode("utf-8")
 
 
@@ -200,7 +190,7 @@ def test_output_is_utf8_whatever_the_locale() -> None:
 
 def test_a_stream_is_told_as_it_comes(station_listing: bytes) -> None:
     """Events of rows that were written are told while the stream goes on."""
-    command = [sys.executable, "-m", "rds_monitor", "json", "--unfinished"]
+    command = [*COMMAND, "json", "--unfinished"]
     with subprocess.Popen(command, stdin=subprocess.PIPE, stdout=subprocess.PIPE) as process:
         assert process.stdin and process.stdout
         process.stdin.write(station_listing[:8000])
@@ -211,20 +201,40 @@ def test_a_stream_is_told_as_it_comes(station_listing: bytes) -> None:
         assert process.stdout.read() and process.wait() == 0
 
 
+@pytest.mark.parametrize("first", [[PROGRAM, "follow"], ["cat"]], ids=["rds follow", "bits"])
+def test_a_row_comes_with_the_last_bit_of_its_group(first: List[str], station: bytes) -> None:
+    """No more is sent before the row is there, which takes a fifth of a second at the most, by the least of some."""
+    pipe = subprocess.PIPE
+    with subprocess.Popen(first, stdin=pipe, stdout=pipe) as source:
+        with subprocess.Popen([*COMMAND, "json", "--rows"], stdin=source.stdout, stdout=pipe) as process:
+            assert source.stdin and process.stdout
+            delays, rows_at_once = [], 2
+            for number in range(12):
+                source.stdin.write(station[13 * number : 13 * number + 13])
+                source.stdin.flush()
+                sent_at = time.monotonic()
+                found = [json.loads(process.stdout.readline()) for _ in range(rows_at_once)]
+                delays.append(time.monotonic() - sent_at)
+                assert found[-1]["kind"] == "group" and found[-1]["place"] == (104 * number or 26)
+                rows_at_once = 1
+            source.stdin.close()
+            assert min(delays[1:]) < 0.2 and process.wait() == 0
+
+
 def test_events_in_order() -> None:
     found = lines(said("json", STATION))
     assert found[0] == {"kind": "acquired", "place": 51, "time_s": 0.043, "number": 2}
-    assert found[1] == {
-        "kind": "content",
-        "place": 104,
-        "time_s": 0.088,
-        "pi": "D393",
-        "item": "pi",
-        "value": "D393",
-        "before": None,
-        "text": "D393",
-    }
-    assert [it["place"] for it in found] == sorted(it["place"] for it in found)
+    first = dict(
+        kind="content", place=104, time_s=0.088, pi="D393", item="pi", value="D393", before=None, text="D393"
+    )
+    assert found[1] == first
+    assert [entry["place"] for entry in found] == sorted(entry["place"] for entry in found)
+
+
+def block_text(block: Any) -> str:
+    if block is None or "lost" in block:
+        return "lost" if block else "none"
+    return f"{block['offset']}:{block['word']}" + (f"~{block['burst']}" if "burst" in block else "")
 
 
 def test_rows_are_those_of_the_listing() -> None:
@@ -235,14 +245,7 @@ def test_rows_are_those_of_the_listing() -> None:
         fields = row.split(",")
         assert one["kind"] == fields[0]
         if fields[0] == "group":
-            blocks = [
-                "none"
-                if it is None
-                else "lost"
-                if "lost" in it
-                else f"{it['offset']}:{it['word']}" + (f"~{it['burst']}" if "burst" in it else "")
-                for it in one["blocks"]
-            ]
+            blocks = map(block_text, one["blocks"])
             assert [str(one["place"]), str(one["type"]), one["version"], *blocks] == fields[1:]
         elif fields[0] == "total":
             assert [one["name"], str(one["value"])] == fields[1:3]
@@ -255,23 +258,17 @@ def test_rows_of_damaged_groups() -> None:
         "group,208,-,?,A:D318,none,none,none\nlost,233,-,-,-,-,-,-\n"
     )
     found = lines(said("json", "--rows", "--unfinished", data=listing.encode()))
-    assert found[1] == {
-        "kind": "group",
-        "place": 0,
-        "time_s": 0.0,
-        "type": None,
-        "version": None,
-        "conflict": False,
-        "blocks": [{"offset": "A", "word": "D318"}, {"lost": True}, {"lost": True}, {"offset": "D", "word": "5041"}],
-    }
-    assert (
-        found[2]["conflict"]
-        and found[2]["version"] == "A"
-        and found[2]["blocks"][:2]
-        == [{"offset": "A", "word": "D318", "burst": "0000001"}, {"offset": "B", "word": "0D49"}]
-    )
+    lost, first, last = {"lost": True}, {"offset": "A", "word": "D318"}, {"offset": "D", "word": "5041"}
+    group_0 = dict(kind="group", place=0, time_s=0.0, type=None, version=None, conflict=False)
+    assert found[1] == {**group_0, "blocks": [first, lost, lost, last]}
+    assert found[2]["conflict"] and found[2]["version"] == "A"
+    assert found[2]["blocks"][:2] == [{**first, "burst": "0000001"}, {"offset": "B", "word": "0D49"}]
     assert found[3]["blocks"][1:] == [None, None, None]
     assert found[4] == {"kind": "lost", "place": 233, "time_s": 0.196}
+
+
+def redsea(*groups: Words) -> List[Dict[str, Any]]:
+    return lines(said("json", "--redsea", data=bits(*groups)))
 
 
 def test_redsea_has_a_line_per_group_with_its_keys() -> None:
@@ -283,39 +280,46 @@ def test_redsea_has_a_line_per_group_with_its_keys() -> None:
         oda(0x4BD7, "11A"),
         tags(1, 1, (1, 0, 3), (4, 8, 5)),
         clock(61128, 1, 30, 4),
-        group("14A", 13, 17 << 11 | 1, 0xD312),
+        eon(13, 17 << 11 | 1),
         group("14B", 0x18, 0, 0xD312),
         group("5A", 3, 0xFF01, 0x0203),
     ]
-    found = lines(said("json", "--redsea", data=bits(*groups)))
+    found = redsea(*groups)
     assert len(found) == len(groups)
-    assert all(it["pi"] == "0xD318" and it["prog_type"] == "Pop music" and it["tp"] for it in found)
-    assert [it["group"] for it in found[:5]] == ["0A"] * 4 + ["1A"]
-    assert found[3] == {
-        "pi": "0xD318",
-        "group": "0A",
-        "tp": True,
-        "prog_type": "Pop music",
-        "ta": False,
-        "is_music": True,
-        "di": {"stereo": False},
-        "ps": "PAXO 318",
-        "alt_frequencies_a": [87600, 153, 107900],
-    }
+    every = {"pi": "0xD318", "tp": True, "prog_type": "Pop music"}
+    assert all({**entry, **every} == entry for entry in found)
+    assert [entry["group"] for entry in found[:5]] == ["0A"] * 4 + ["1A"]
+    first = {**every, "group": "0A", "ta": False, "is_music": True, "di": {"stereo": False}}
+    assert found[3] == {**first, "ps": "PAXO 318", "alt_frequencies_a": [87600, 153, 107900]}
     assert found[4]["country"] == "de" and found[4]["has_linkage"] is False
     assert found[4]["prog_item_started"] == {"day": 15, "time": "20:30"}
     assert found[5]["language"] == "German"
     assert found[9]["radiotext"] == "Song by Singer" and found[9]["rt_ab"] == "A"
-    assert found[10]["open_data_app"] == {"oda_group": "11A", "app_name": "RadioText Plus (RT+)", "message": 0}
-    assert found[11]["radiotext_plus"] == {
-        "item_running": True,
-        "item_toggle": 1,
-        "tags": [{"content-type": "item_title", "data": "Song"}, {"content-type": "item_artist", "data": "Singer"}],
-    }
+    assert found[10]["open_data_app"] == dict(oda_group="11A", app_name="RadioText Plus (RT+)", message=0)
+    told_tags = [
+        {"content-type": "item_title", "data": "Song"},
+        {"content-type": "item_artist", "data": "Singer"},
+    ]
+    assert found[11]["radiotext_plus"] == dict(item_running=True, item_toggle=1, tags=told_tags)
     assert found[12]["clock_time"] == "2026-03-29T03:30:00+02:00"
     assert found[13]["other_network"] == {"pi": "0xD312", "tp": False, "ta": True, "prog_type": "Finance"}
     assert found[14]["other_network"] == {"pi": "0xD312", "tp": True, "ta": True}
     assert found[15]["transparent_data"] == {"address": 3, "raw": "FF 01 02 03"}
+
+
+def test_json_has_the_bytes_of_channels_and_in_house_data() -> None:
+    """Each change of them; info has none."""
+    changing = [
+        group("5A", 3, 0xFF01, 0x0203),
+        group("6A", 1, 2, 3),
+        group("5A", 3, 0xFF01, 0x0203),
+        group("5A", 3, 4, 5),
+    ]
+    data = bits(*name(b"PAXO 318"), *changing)
+    found = [(entry["item"], entry["value"]) for entry in lines(said("json", data=data)) if "item" in entry]
+    told = [(item, value) for item, value in found if "_data" in item]
+    assert told == [("tdc_data:3", "FF 01 02 03"), ("ih_data", "01 0002 0003"), ("tdc_data:3", "00 04 00 05")]
+    assert "FF 01" not in said("info", data=data)
 
 
 def test_redsea_has_the_keys_of_groups_that_are_rare() -> None:
@@ -326,19 +330,19 @@ def test_redsea_has_the_keys_of_groups_that_are_rare() -> None:
         label(1, 0x123),
         group("6A", 0x1F, 0x1234, 0x5678),
         group("6B", 3, 0xD318, 0x5678),
-        group("14A", 4, 0xE101, 0xD312),
-        group("14A", 5, 0x0102, 0xD312),
-        group("14A", 9, 0x0110, 0xD312),
-        group("14A", 12, 0x8042, 0xD312),
-        group("14A", 12, 0x0042, 0xD312),
-        group("14A", 14, 15 << 11 | 20 << 6 | 30, 0xD312),
+        eon(4, 0xE101),
+        eon(5, 0x0102),
+        eon(9, 0x0110),
+        eon(12, 0x8042),
+        eon(12, 0x0042),
+        eon(14, 15 << 11 | 20 << 6 | 30),
     ]
-    found = lines(said("json", "--redsea", data=bits(*groups)))[4:]
+    found = redsea(*groups)[4:]
     assert found[0]["clock_time"] == "2026-03-29T01:30:00Z"
     assert found[1]["tmc_id"] == 0x123
     assert found[2]["in_house_data"] == [0x1F, 0x1234, 0x5678] and found[3]["in_house_data"] == [3, 0x5678]
-    others = [it["other_network"] for it in found[4:]]
-    assert all(it.pop("pi") == "0xD312" and it.pop("tp") is False for it in others)
+    others = [entry["other_network"] for entry in found[4:]]
+    assert all(other.pop("pi") == "0xD312" and other.pop("tp") is False for other in others)
     assert others == [
         {"alt_frequencies": [87600]},
         {"kilohertz": 87700},
@@ -351,24 +355,23 @@ def test_redsea_has_the_keys_of_groups_that_are_rare() -> None:
 
 def test_redsea_has_a_ps_as_soon_as_it_is_whole() -> None:
     sent = name(b"PAXO 318")
-    found = lines(said("json", "--redsea", data=bits(*sent[1:], sent[0])))
-    assert [it.get("ps") for it in found] == [None, None, None, "PAXO 318"]
+    assert [line.get("ps") for line in redsea(*sent[1:], *sent)] == [None] * 6 + ["PAXO 318"]
 
 
 def test_redsea_has_no_line_of_a_programme_that_does_not_count() -> None:
-    data = bits(*name(b"ONE"), group("6A", 0, pi=0xD319), *name(b"ONE"), group("6A", 0, pi=0xD31A), *name(b"TWO", pi=0xD31A))
+    first, second = (group("6A", 0, pi=pi) for pi in (0xD319, 0xD31A))
+    data = bits(*name(b"ONE"), first, *name(b"ONE"), second, *name(b"TWO", pi=0xD31A))
     listing = [row for row in rds("list", data=data).decode().splitlines() if not row.startswith("total")]
     once = next(k for k, row in enumerate(listing) if "A:D319" in row)
     listing[once] = listing[once].rsplit(",", 1)[0] + ",lost"
     found = lines(said("json", "--redsea", "--unfinished", data="\n".join([*listing, ""]).encode()))
-    assert [it["pi"] for it in found] == 8 * ["0xD318"] + 5 * ["0xD31A"]
-    assert [it.get("ps") for it in found if it["pi"] == "0xD31A"] == [None, None, None, None, "TWO"]
+    assert [entry["pi"] for entry in found] == 8 * ["0xD318"] + 5 * ["0xD31A"]
+    assert [entry.get("ps") for entry in found if entry["pi"] == "0xD31A"] == [None, None, None, None, "TWO"]
 
 
 def test_redsea_has_nothing_of_the_programme_before() -> None:
-    data = bits(*text(b"A text\r"), *text(b"Another text\r", pi=0xD31A))
-    found = lines(said("json", "--redsea", data=data))
-    assert [it.get("radiotext") for it in found] == [None, "A text", None, None, None, "Another text"]
+    found = redsea(*text(b"A text\r"), *text(b"Another text\r", pi=0xD31A))
+    assert [entry.get("radiotext") for entry in found] == [None, "A text", None, None, None, "Another text"]
 
 
 def test_a_cut_listing_is_refused(station_listing: bytes) -> None:

@@ -3,6 +3,7 @@
 from __future__ import annotations
 
 import array
+import asyncio
 import base64
 import ctypes
 import dataclasses
@@ -10,20 +11,24 @@ import email
 import hashlib
 import importlib
 import inspect
+import io
 import os
 import pickle
 import re
 import shutil
+import socket
 import subprocess
 import sys
 import threading
+import tracemalloc
 import typing
 import zipfile
+from typing import Callable
 
 import numpy
 import pytest
 
-from conftest import TOP
+from conftest import TOP, ran
 
 librds = (
     pytest.importorskip("librds")
@@ -53,6 +58,13 @@ def test_a_buffer_of_bytes_is_needed(station: bytes) -> None:
             librds.Follower().push(data)
 
 
+def refusal(call: Callable[[], object]) -> int:
+    """The number of the error that a call raises."""
+    with pytest.raises(librds.Refused) as error:
+        call()
+    return int(error.value.number)
+
+
 def test_a_group_is_four_words_of_16_bits() -> None:
     assert len(librds.encode([GROUP, list(GROUP)])) == 26
     for group in ((1, 2, 3), (1, 2, 3, 4, 5), (1, 2, 3, 65536), (1, 2, 3, -1)):
@@ -64,28 +76,22 @@ def test_a_group_is_four_words_of_16_bits() -> None:
 
 def test_the_words_of_a_group() -> None:
     """Sync is acquired on a block 2, so the first group lacks its block 1."""
-    groups = [it.words for it in librds.items(librds.encode([GROUP] * 3)) if isinstance(it, librds.Group)]
+    items = librds.items(librds.encode([GROUP] * 3))
+    groups = [item.words for item in items if isinstance(item, librds.Group)]
     assert groups == [(None, *GROUP[1:]), GROUP, GROUP]
 
 
-@pytest.mark.parametrize(
-    "rules, number",
-    [
-        ((6,), 1),
-        ((-1,), 1),
-        ((2**32 + 2,), 1),
-        ((2, 0), 2),
-        ((2, 2**32 + 3), 2),
-        ((2, 3, 0), 3),
-        ((2, 3, 2**64 + 10), 3),
-        ((2, 3, 5, 65), 15),
-        ((2, 3, 5, -1), 15),
-    ],
-)
+RULES = {
+    1: [(6,), (-1,), (2**32 + 2,)],
+    2: [(2, 0), (2, 2**32 + 3)],
+    3: [(2, 3, 0), (2, 3, 2**64 + 10)],
+    15: [(2, 3, 5, 65), (2, 3, 5, -1)],
+}
+
+
+@pytest.mark.parametrize("rules, number", [(rules, number) for number in RULES for rules in RULES[number]])
 def test_limits_are_ranges(rules: tuple, number: int) -> None:
-    with pytest.raises(librds.Refused) as error:
-        librds.totals(b"", rules=librds.Rules(*rules))
-    assert error.value.number == number
+    assert refusal(lambda: librds.totals(b"", rules=librds.Rules(*rules))) == number
     with pytest.raises(TypeError):
         librds.totals(b"", rules=librds.Rules(burst=2.0))
 
@@ -94,27 +100,17 @@ def test_words_and_their_limits() -> None:
     packed = int.from_bytes(librds.encode([GROUP]), "big")
     assert librds.correct(packed >> 78, "A") == librds.Block(librds.Kind.VALID, "A", 0xD393)
     assert librds.remainder(packed >> 78) == 0xFC
-    for call, number in (
-        (lambda: librds.remainder(2**64), 67),
-        (lambda: librds.remainder(-1), 67),
-        (lambda: librds.remainder(2**26), 67),
-        (lambda: librds.correct(1, "E"), 68),
-        (lambda: librds.correct(1, "A", 6), 1),
-        (lambda: librds.correct(1, "A", -1), 1),
-        (lambda: librds.correct(1, "A", 256), 1),
-        (lambda: librds.correct(1, "A", 2**64), 1),
-    ):
-        with pytest.raises(librds.Refused) as error:
-            call()
-        assert error.value.number == number
+    for word in (2**64, -1, 2**26):
+        assert refusal(lambda: librds.remainder(word)) == 67
+    assert refusal(lambda: librds.correct(1, "E")) == 68
+    for limit in (6, -1, 256, 2**64):
+        assert refusal(lambda: librds.correct(1, "A", limit)) == 1
 
 
 def test_places_and_gaps(station: bytes) -> None:
     for bits, number in ((200001, 4), (2**64 - 1, 5)):
         for call in (librds.totals, librds.items_array, lambda *it: list(librds.items(*it))):
-            with pytest.raises(librds.Refused) as error:
-                call(station, bits)
-            assert error.value.number == number
+            assert refusal(lambda: call(station, bits)) == number
     for bits in (-1, 2**64):
         with pytest.raises(OverflowError):
             librds.totals(station, bits)
@@ -132,7 +128,7 @@ def test_memory_is_by_the_bytes() -> None:
         "try: librds.items_array(b'x', 2**36)\nexcept librds.Refused as it: print(it.number)\n"
         "try: list(librds.items(b'x', 2**36))\nexcept librds.Refused as it: print(it.number)"
     )
-    done = subprocess.run([sys.executable, "-c", code], capture_output=True, text=True)
+    done = ran([sys.executable, "-c", code])
     assert done.stdout == "4\n4\n", done.stderr
 
 
@@ -140,6 +136,31 @@ def test_errors_can_be_pickled() -> None:
     again = pickle.loads(pickle.dumps(librds.Refused(5)))
     assert (again.number, again.name, str(again)) == (5, "TooLong", "refused 5 TooLong: more than 2^36 bits")
     assert librds.Refused(300).name == ""
+    memory = pickle.loads(pickle.dumps(librds.Refused(8)))
+    assert type(memory) is librds.OutOfMemory and isinstance(memory, (MemoryError, librds.Refused))
+    assert str(memory) == "refused 8 OutOfMemory: out of memory"
+    other = pickle.loads(pickle.dumps(librds.Refused(65, 74)))
+    assert (other.number, other.cause, other.name) == (65, librds.Error.OTHER_RULES, "UnlawfulState")
+    assert other.reason == "a stream that is decoded by other rules"
+
+
+def test_memory_that_is_refused() -> None:
+    code = (
+        "import resource, librds; data = bytes(100 << 20)\n"
+        "held = int(open('/proc/self/statm').read().split()[0]) * resource.getpagesize()\n"
+        "resource.setrlimit(resource.RLIMIT_AS, (held + (50 << 20),) * 2)\n"
+        "try: librds.totals(data)\nexcept MemoryError as it: print(repr(it))"
+    )
+    assert ran([sys.executable, "-c", code]).stdout == "OutOfMemory('refused 8 OutOfMemory: out of memory')\n"
+
+
+@pytest.mark.parametrize("rules", [None, (2, 3, 10, 0), "2"])
+def test_rules_are_rules(rules: object) -> None:
+    for call in (librds.totals, librds.items, librds.items_array):
+        with pytest.raises(TypeError, match="rules are a librds.Rules, not"):
+            call(b"", rules=rules)
+    with pytest.raises(TypeError, match="rules are a librds.Rules, not"):
+        librds.Follower(rules)
 
 
 def test_rows_are_flat_and_typed(station: bytes) -> None:
@@ -149,7 +170,7 @@ def test_rows_are_flat_and_typed(station: bytes) -> None:
     assert tuple(rows[2][f"info{n}"] for n in (1, 2, 3, 4)) == (0xD393, 0x0549, 0xE100, 0x584F)
     assert [rows[1][f"kind{n}"] for n in (1, 2, 3, 4)] == [0, 2, 2, 2] and rows[2]["offset3"] == 3
     assert (rows[2]["number"], rows[2]["version"], rows[2]["conflict"]) == (0, 1, 0)
-    from rds_monitor.items import ITEM
+    from rds_monitor.rows.items import ITEM
 
     assert ITEM == librds.ITEM
 
@@ -157,7 +178,8 @@ def test_rows_are_flat_and_typed(station: bytes) -> None:
 def test_pandas_takes_them(station: bytes) -> None:
     pandas = pytest.importorskip("pandas")
     frame = pandas.DataFrame(librds.items_array(station))
-    assert list(frame.columns) == list(librds.ITEM.names) and (frame.number[frame.what == 2] == 2).sum() == 1184
+    assert list(frame.columns) == list(librds.ITEM.names)
+    assert (frame.number[frame.what == 2] == 2).sum() == 1184
 
 
 def test_a_stream_in_arrays(station: bytes) -> None:
@@ -178,10 +200,10 @@ def test_threads_may_share_a_follower(station: bytes) -> None:
         counts.append(sum(len(follower.push_array(station)) for _ in range(40)))
 
     threads = [threading.Thread(target=work) for _ in range(4)]
-    for it in threads:
-        it.start()
-    for it in threads:
-        it.join()
+    for thread in threads:
+        thread.start()
+    for thread in threads:
+        thread.join()
     alone = librds.Follower()
     assert sum(counts) == len(alone.push_array(station * 160)) and follower.stream == alone.stream
 
@@ -192,45 +214,49 @@ def test_the_library_that_is_loaded(tmp_path) -> None:
     environment = {key: value for key, value in os.environ.items() if key != "RDS_LIBRARY"}
     (tmp_path / "librds.so.0").symlink_to(path)
     ask = [sys.executable, "-c", "import librds; print(librds.version())"]
-    found = subprocess.run(ask, env={**environment, "LD_LIBRARY_PATH": str(tmp_path)}, capture_output=True, text=True)
+    found = ran(ask, env={**environment, "LD_LIBRARY_PATH": str(tmp_path)})
     assert found.stdout == f"{librds.version()}\n", found.stderr
-    other = subprocess.run(ask, env={**environment, "RDS_LIBRARY": "libc.so.6"}, capture_output=True, text=True)
+    other = ran(ask, env={**environment, "RDS_LIBRARY": "libc.so.6"})
     assert "libc.so.6: this is not librds, or an older one: it has no rds_totals" in other.stderr
-    none = subprocess.run(
-        ask, env={**environment, "RDS_LIBRARY": str(tmp_path / "none")}, capture_output=True, text=True
-    )
+    none = ran(ask, env={**environment, "RDS_LIBRARY": str(tmp_path / "none")})
     assert "install librds (make install-lib), or name its librds.so.0 in RDS_LIBRARY" in none.stderr
     ffi = importlib.import_module("librds._ffi")
     nodes = re.findall(r"^RDS_(\d+)\.(\d+) \{(.*?)\}", (TOP / "lib" / "rds.map").read_text(), re.M | re.S)
-    needed = [(int(first), int(second)) for first, second, names in nodes if any(f"{it};" in names for it in ffi.FUNCTIONS)]
+    needed = [
+        (int(first), int(second))
+        for first, second, names in nodes
+        if any(f"{function};" in names for function in ffi.FUNCTIONS)
+    ]
     assert max(needed) == ffi.VERSION[:2] and ffi.VERSION <= librds.version()
     late = "import librds._ffi as it; it.VERSION = (0, 99, 0); it.load()"
-    older = subprocess.run([sys.executable, "-c", late], capture_output=True, text=True)
+    older = ran([sys.executable, "-c", late])
     assert "but this module needs 0.99.0 or later" in older.stderr
 
 
 def installed(python: str, inside: "os.PathLike[str]", wheel: str, environment: dict) -> bool:
     """Whether a fresh environment was made, and has the wheel."""
     folder = os.path.dirname(os.path.dirname(inside))
-    commands = (
-        [python, "-m", "venv", "--without-pip", folder],
-        [python, "-m", "pip", "--python", inside, "install", "-q", "--no-index", "--disable-pip-version-check", wheel],
+    install = "install -q --no-index --disable-pip-version-check".split()
+    pip = [python, "-m", "pip", "--python", inside, *install]
+    commands = ([python, "-m", "venv", "--without-pip", folder], [*pip, wheel])
+    return all(
+        subprocess.run(command, env=environment, capture_output=True).returncode == 0 for command in commands
     )
-    return all(subprocess.run(it, env=environment, capture_output=True).returncode == 0 for it in commands)
 
 
 def test_a_wheel_with_the_library(tmp_path, station: bytes) -> None:
     """It is installed into a fresh environment, where nothing else knows of the library."""
     make = [sys.executable, TOP / "bindings" / "python" / "make_wheel.py"]
     library = os.path.realpath(os.environ["RDS_LIBRARY"])
-    made = [
-        subprocess.run([*make, library, tmp_path], capture_output=True, text=True, check=True).stdout.strip()
-        for _ in range(2)
-    ]
+    made = [ran([*make, library, tmp_path], check=True).stdout.strip() for _ in range(2)]
     assert made[0] == made[1] and "-py3-none-manylinux_2_17_" in made[0]
     inside = tmp_path / "venv" / "bin" / "python"
-    environment = {key: value for key, value in os.environ.items() if key not in ("RDS_LIBRARY", "PYTHONPATH")}
-    python = next((it for it in ("python3", sys.executable) if installed(it, inside, made[0], environment)), None)
+    environment = {
+        key: value for key, value in os.environ.items() if key not in ("RDS_LIBRARY", "PYTHONPATH")
+    }
+    python = next(
+        (name for name in ("python3", sys.executable) if installed(name, inside, made[0], environment)), None
+    )
     if python is None:
         pytest.skip("no pip of 22.3 or later, or no venv")
     code = "import sys, librds; print(librds.__file__); print(librds.totals(sys.stdin.buffer.read()).groups)"
@@ -241,11 +267,7 @@ def test_a_wheel_with_the_library(tmp_path, station: bytes) -> None:
         str(next((tmp_path / "venv").glob("lib/*/site-packages/librds")) / "__init__.py"),
         "1923",
     ]
-    other = subprocess.run(
-        [*make, next(it for it in ("/bin/bash", "/bin/ls") if os.path.exists(it)), tmp_path],
-        capture_output=True,
-        text=True,
-    )
+    other = ran([*make, next(name for name in ("/bin/bash", "/bin/ls") if os.path.exists(name)), tmp_path])
     assert other.returncode == 1 and "a wheel cannot need" in other.stderr
 
 
@@ -267,20 +289,21 @@ def test_a_push_in_parts(dense: bytes, monkeypatch: pytest.MonkeyPatch) -> None:
     by_items, by_rows = librds.Follower(DENSE), librds.Follower(DENSE)
     items, rows = by_items.push(dense), by_rows.push_array(dense)
     last, totals = by_rows.finish_array()
-    assert numpy.array_equal(numpy.concatenate([rows, last]), whole) and totals == librds.totals(dense, rules=DENSE)
+    assert numpy.array_equal(numpy.concatenate([rows, last]), whole)
+    assert totals == librds.totals(dense, rules=DENSE)
     assert items == list(librds.items(dense, rules=DENSE))[: len(rows)] and by_items.stream == by_rows.stream
     # the memory for a second part is missing: the stream is as it was
-    before, real, calls = by_items.stream, librds._object_room, []
+    before, real, calls, more = by_items.stream, librds._values, [], 4 * dense
 
-    def once(count: int) -> tuple:
+    def once(room: object, count: int) -> object:
         calls.append(count)
         if len(calls) > 1:
             raise MemoryError
-        return real(count)
+        return real(room, count)
 
-    monkeypatch.setattr(librds, "_object_room", once)
+    monkeypatch.setattr(librds, "_values", once)
     with pytest.raises(MemoryError):
-        by_items.push(dense)
+        by_items.push(more)
     assert len(calls) == 2 and by_items.stream == before
 
 
@@ -294,18 +317,119 @@ def test_a_follower_refuses_at_once(station: bytes) -> None:
     by_other_rules = librds.Follower(librds.Rules(burst=1))
     by_other_rules.push(station[:100])
     stream = by_other_rules.stream
-    for call, number in (
-        (lambda: librds.Follower(librds.Rules(burst=6)), 1),
-        (lambda: librds.Follower(gaps=[(5, 5)]), 16),
-        (lambda: librds.Follower(stream=stream), 65),
-        (lambda: librds.items(b"", rules=librds.Rules(burst=6)), 1),
-    ):
-        with pytest.raises(librds.Refused) as error:
-            call()
-        assert error.value.number == number
+    assert refusal(lambda: librds.Follower(librds.Rules(burst=6))) == 1
+    assert refusal(lambda: librds.Follower(gaps=[(5, 5)])) == 16
+    assert refusal(lambda: librds.Follower(stream=stream)) == librds.Error.UNLAWFUL_STATE
+    assert refusal(lambda: librds.items(b"", rules=librds.Rules(burst=6))) == 1
     for length in (255, 257):
         with pytest.raises(ValueError, match="256 bytes"):
             librds.Follower(stream=bytes(length))
+
+
+def test_a_stream_that_cannot_be_continued(station: bytes) -> None:
+    """Each cause by its name: the stream's first number, its version, its rules, and any other damage."""
+    follower = librds.Follower()
+    follower.push(station[:100])
+    stream = follower.stream
+    for damaged, cause in (
+        (b"x" * 256, librds.Error.NOT_A_STREAM),
+        (stream[:4] + b"\2" + stream[5:], librds.Error.OTHER_VERSION),
+        (stream[:8] + b"\1" + stream[9:], librds.Error.OTHER_RULES),
+        (stream[:-1] + b"\1", librds.Error.UNLAWFUL_STATE),
+    ):
+        with pytest.raises(librds.Refused) as error:
+            librds.Follower(stream=damaged)
+        assert (error.value.number, error.value.cause) == (librds.Error.UNLAWFUL_STATE, cause)
+
+
+def test_gaps_are_taken_once(station: bytes) -> None:
+    """A stream's gaps are looked at when it begins, and not again by each push."""
+    seen = []
+
+    class Gap(tuple):
+        def __iter__(self) -> typing.Iterator[int]:
+            seen.append(self)
+            return super().__iter__()
+
+    gaps = [Gap((k, k + 1)) for k in range(0, 2000, 2)]
+    follower = librds.Follower(gaps=gaps)
+    before = len(seen)
+    for k in range(0, 1000, 10):
+        follower.push(station[k : k + 10])
+    assert before == len(seen) == 1000 and follower.finish()[1] == librds.totals(station[:1000], gaps=gaps)
+
+
+def test_memory_of_a_long_push() -> None:
+    """A push needs memory for the items that it gives, and not for those that might come: of zeros there are none."""
+    data = bytes(8 << 20)
+    tracemalloc.start()
+    items = librds.Follower().push(data), librds.Follower().push_array(data)
+    most = tracemalloc.get_traced_memory()[1]
+    tracemalloc.stop()
+    assert (len(items[0]), len(items[1])) == (0, 0) and most < 3 << 20
+
+
+# ---- files and sockets
+
+
+def test_items_of_a_file(station: bytes, tmp_path) -> None:
+    path = tmp_path / "station.bin"
+    path.write_bytes(station)
+    wanted = list(librds.items(station))
+    for buffering in (-1, 0):
+        with open(path, "rb", buffering) as file:
+            assert list(librds.read(file)) == wanted
+    assert list(librds.read(io.BytesIO(station))) == wanted
+    with open(path, encoding="latin-1") as file:
+        with pytest.raises(TypeError):
+            list(librds.read(file))
+
+
+def test_items_of_a_socket_as_they_come(station: bytes) -> None:
+    """Each is there once its last bit was sent. After a timeout, and without bytes, reading goes on where it was."""
+    sender, receiver = socket.socketpair()
+    follower = librds.Follower(librds.Rules(burst=0), [(104, 130)])
+    wanted = librds.items(station, None, [(104, 130)], librds.Rules(burst=0))
+    with sender, receiver:
+        items = librds.read(receiver, follower)
+        sender.sendall(station[:40])
+        found = [next(items) for _ in range(3)]
+        assert follower.place == 8 * 40
+        receiver.settimeout(0.01)
+        with pytest.raises(TimeoutError if sys.version_info >= (3, 10) else socket.timeout):
+            found += items
+        receiver.setblocking(False)
+        with pytest.raises(BlockingIOError):
+            found += librds.read(receiver, follower)
+        receiver.setblocking(True)
+        sender.sendall(station[40:])
+        sender.close()
+        found += librds.read(receiver, follower)
+    assert found == list(wanted) and follower.finish()[1].groups == 1923
+
+
+def test_a_pipe_without_bytes() -> None:
+    reading, writing = os.pipe()
+    os.set_blocking(reading, False)
+    with open(reading, "rb", 0) as file, open(writing, "wb"):
+        with pytest.raises(BlockingIOError, match="the stream has no bytes yet"):
+            next(librds.read(file))
+
+
+def test_items_of_an_asynchronous_reader(station: bytes) -> None:
+    async def items() -> list:
+        reader = asyncio.StreamReader()
+        reader.feed_data(station[:40])
+        found, follower = [], librds.Follower()
+        async for item in librds.read_async(reader, follower):
+            found.append(item)
+            if follower.place == 8 * 40 and len(found) == 3:
+                reader.feed_data(station[40:])
+                reader.feed_eof()
+        assert follower.finish()[1] == librds.totals(station)
+        return found
+
+    assert asyncio.run(items()) == list(librds.items(station))
 
 
 def test_a_follower_keeps_its_gaps_and_rules(station: bytes) -> None:
@@ -313,8 +437,8 @@ def test_a_follower_keeps_its_gaps_and_rules(station: bytes) -> None:
     follower = librds.Follower(rules, iter(gaps))
     items = follower.push(station[:9999])
     again = pickle.loads(pickle.dumps(follower))
-    for it in (follower, again):
-        last, totals = it.finish_with(station[9999:])
+    for value in (follower, again):
+        last, totals = value.finish_with(station[9999:])
         assert items + last == list(librds.items(station, None, gaps, rules))
         assert totals == librds.totals(station, None, gaps, rules)
     before, changed = librds.totals(station, None, gaps, rules), librds.Follower(rules, gaps)
@@ -327,40 +451,62 @@ def test_each_end_of_a_stream_is_the_same(station: bytes) -> None:
     for end in range(100, 114):
         follower = librds.Follower()
         follower.push(station[:end])
-        (group, totals), (rows, of_rows), (items, of_items) = follower.finish(), follower.finish_array(), follower.finish_with(b"")
+        (group, totals), (rows, of_rows), (items, of_items) = (
+            follower.finish(),
+            follower.finish_array(),
+            follower.finish_with(b""),
+        )
         assert totals == of_rows == of_items == librds.totals(station[:end])
-        assert items == ([] if group is None else [group]) and rows["place"].tolist() == [it.place for it in items]
+        assert items == ([] if group is None else [group])
+        assert rows["place"].tolist() == [item.place for item in items]
         assert follower.place == 8 * end
 
 
 def test_defaults() -> None:
     """The rules are those of rds.h, and a function's other defaults leave nothing out."""
-    (numbers,) = re.findall(r"define RDS_RULES \{(\d+), (\d+), (\d+), (\d+),", (TOP / "lib" / "rds.h").read_text())
+    (numbers,) = re.findall(
+        r"define RDS_RULES \{(\d+), (\d+), (\d+), (\d+),", (TOP / "lib" / "rds.h").read_text()
+    )
     assert dataclasses.astuple(librds.Rules()) == tuple(map(int, numbers))
-    wanted = {"bits": None, "gaps": (), "rules": librds.Rules(), "limit": int(numbers[0]), "stream": bytes(256), "data": b"",
-              "offset": None, "info": None, "burst": 0}
-    calls = [getattr(librds, name) for name in librds.__all__ if name not in ("ITEM", "Rules", "Kind")]
-    calls += [it for name, it in vars(librds.Follower).items() if inspect.isfunction(it)]
-    found = {(name, it.default) for call in calls for name, it in inspect.signature(call).parameters.items() if it.default is not it.empty}
+    wanted = dict(
+        bits=None, gaps=(), rules=librds.Rules(), limit=int(numbers[0]), stream=bytes(256), data=b""
+    )
+    wanted |= dict(offset=None, info=None, burst=0, cause=0, follower=None)
+    calls = [
+        getattr(librds, name) for name in librds.__all__ if name not in ("ITEM", "Rules", "Kind", "Error")
+    ]
+    calls += [value for name, value in vars(librds.Follower).items() if inspect.isfunction(value)]
+    found = {
+        (name, value.default)
+        for call in calls
+        for name, value in inspect.signature(call).parameters.items()
+        if value.default is not value.empty
+    }
     assert found == {*wanted.items()}
 
 
 def test_words_of_0_and_the_default_limit() -> None:
-    group = [it for it in librds.items(librds.encode([(0, 0, 0, 0)] * 2)) if isinstance(it, librds.Group)][1]
-    assert group.words == (0, 0, 0, 0)
+    items = librds.items(librds.encode([(0, 0, 0, 0)] * 2))
+    assert [item.words for item in items if isinstance(item, librds.Group)][1] == (0, 0, 0, 0)
     assert librds.correct(0x095_00C8 ^ 0x18, "A").kind == librds.Kind.CORRECTED
     assert librds.correct(0x095_00C8 ^ 0x38, "A").kind == librds.Kind.LOST
-    assert librds.correct(0x384_0283, "C or C'") == librds.Block(librds.Kind.CORRECTED, "C'", 0xE100, 0x30)
+    assert librds.correct(0x384_0283, "C or Cx") == librds.Block(librds.Kind.CORRECTED, "Cx", 0xE100, 0x30)
     assert librds.correct(0x384_0283, "C").kind == librds.Kind.LOST
+    for name, spelled in (("Cx", "C'"), ("C or Cx", "C or C'")):
+        assert librds.correct(0x384_0283, name) == librds.correct(0x384_0283, spelled)
 
 
 def test_names_and_texts_of_the_module() -> None:
     """Names, kinds of values, and the examples in its texts."""
-    own = {name for name, it in vars(librds).items() if getattr(it, "__module__", "") == "librds" and name[0] != "_"}
+    own = {
+        name
+        for name, value in vars(librds).items()
+        if getattr(value, "__module__", "") == "librds" and name[0] != "_"
+    }
     assert set(librds.__all__) == {*own, "ITEM"} and len(librds.__all__) == len(own) + 1
     assert issubclass(librds.Refused, ValueError)
-    values = [it for it in vars(librds).values() if dataclasses.is_dataclass(it)]
-    assert len(values) == 6 and all(it.__dataclass_params__.frozen for it in values)
+    values = [var for var in vars(librds).values() if dataclasses.is_dataclass(var)]
+    assert len(values) == 6 and all(value.__dataclass_params__.frozen for value in values)
     assert len({librds.Rules(), librds.Rules(2), librds.Totals(0, (), 0, 0, 0, 0, 0, 0)}) == 2
     # A call of any other kind of library holds up Python's other threads.
     assert type(librds._library) is ctypes.CDLL
@@ -373,7 +519,7 @@ def test_names_and_texts_of_the_module() -> None:
         for line in (getattr(librds, name).__doc__ or "").splitlines()
         if line.strip().startswith("librds.") and " == " in line
     ]
-    assert len(examples) == 3 and all(eval(it, {"librds": librds}) for it in examples), examples
+    assert len(examples) == 3 and all(eval(example, {"librds": librds}) for example in examples), examples
 
 
 def test_which_library_comes_first(tmp_path) -> None:
@@ -386,7 +532,7 @@ def test_which_library_comes_first(tmp_path) -> None:
 
     def loaded(first: str = "", **more: str) -> str:
         code = f"import sys, ctypes.util; sys.path.insert(0, {str(tmp_path)!r}); {first}\nimport librds; print(librds._library._name)"
-        done = subprocess.run([sys.executable, "-c", code], env={**environment, **more}, capture_output=True, text=True)
+        done = ran([sys.executable, "-c", code], env={**environment, **more})
         return done.stdout.strip() or done.stderr
 
     linker = f"ctypes.util.find_library = {{'rds': {path!r}}}.get"
@@ -400,7 +546,7 @@ def test_which_library_comes_first(tmp_path) -> None:
     own.write_bytes(b"no library")
     assert loaded(RDS_LIBRARY=path) == path
     later = "import librds._ffi as it; it.VERSION = (-1, 0, 0); it.load()"
-    done = subprocess.run([sys.executable, "-c", later], capture_output=True, text=True)
+    done = ran([sys.executable, "-c", later])
     assert "but this module needs -1.0.0 or later" in done.stderr
 
 
@@ -409,39 +555,51 @@ def test_files_and_sums_of_a_wheel(tmp_path) -> None:
     folder = TOP / "bindings" / "python"
     library = os.path.realpath(os.environ["RDS_LIBRARY"])
     make = [sys.executable, folder / "make_wheel.py"]
-    path = subprocess.run([*make, library, tmp_path], capture_output=True, text=True, check=True).stdout.strip()
+    path = ran([*make, library, tmp_path], check=True).stdout.strip()
     with zipfile.ZipFile(path) as wheel:
         files = {name: wheel.read(name) for name in wheel.namelist()}
-        forms = {(it.date_time, it.external_attr >> 16, it.compress_type) for it in wheel.infolist()}
+        forms = {
+            (entry.date_time, entry.external_attr >> 16, entry.compress_type) for entry in wheel.infolist()
+        }
     # So the same library gives the same bytes, and all may read the installed files.
     assert forms == {((1980, 1, 1, 0, 0, 0), 0o100644, zipfile.ZIP_DEFLATED)}
     record = next(name for name in files if name.endswith("/RECORD"))
-    lines = [it.split(",") for it in files[record].decode().splitlines()]
+    lines = [name.split(",") for name in files[record].decode().splitlines()]
     assert {name for name, *_ in lines} == set(files)
     for name, sum_of, length in lines:
         if name != record:
             wanted = base64.urlsafe_b64encode(hashlib.sha256(files[name]).digest()).rstrip(b"=").decode()
             assert (sum_of, length) == (f"sha256={wanted}", str(len(files[name])))
-    assert {it for it in files if it.startswith("librds/")} == {
-        f"librds/{it}" for it in ("__init__.py", "_ffi.py", "py.typed", "librds.so.0")
+    assert {file for file in files if file.startswith("librds/")} == {
+        f"librds/{name}" for name in ("__init__.py", "_ffi.py", "py.typed", "librds.so.0")
     }
     project = (folder / "pyproject.toml").read_text()
     says = email.message_from_bytes(files[record.replace("RECORD", "METADATA")])
-    assert f'requires-python = "{says["Requires-Python"]}"' in project and f'version = "{says["Version"]}"' in project
+    assert f'requires-python = "{says["Requires-Python"]}"' in project
+    assert f'version = "{says["Version"]}"' in project
     form = email.message_from_bytes(files[record.replace("RECORD", "WHEEL")])
-    assert (form["Root-Is-Purelib"], f"librds-{says['Version']}-{form['Tag']}.whl") == ("false", os.path.basename(path))
-    assert says.get_all("Provides-Extra") == ["arrays"] and says.get_all("Requires-Dist") == ["numpy; extra == 'arrays'"] and 'arrays = ["numpy"]' in project
+    assert (form["Root-Is-Purelib"], f"librds-{says['Version']}-{form['Tag']}.whl") == (
+        "false",
+        os.path.basename(path),
+    )
+    assert says.get_all("Provides-Extra") == ["arrays"]
+    listed = re.findall(r'^    "(.*)",$', project, re.M)
+    assert len(listed) > 3 and says.get_all("Classifier") == listed and "RDS" in says["Keywords"].split(",")
+    assert says["Description-Content-Type"] == "text/markdown"
+    assert says.get_payload() == (folder / "README.md").read_text()
+    assert says.get_all("Requires-Dist") == ["numpy; extra == 'arrays'"]
+    assert 'arrays = ["numpy"]' in project
     assert 'package-data = { librds = ["py.typed"] }' in project
     other = tmp_path / "other.so"
     data = bytearray(open(library, "rb").read())
     other.write_bytes(data.replace(b"GLIBC_2.14\0", b"GLIBC_2.34\0"))
     if other.read_bytes() != data:  # else another processor's library
-        later = subprocess.run([*make, other, tmp_path], capture_output=True, text=True, check=True).stdout
+        later = ran([*make, other, tmp_path], check=True).stdout
         assert "-py3-none-manylinux_2_34_" in later
     other.write_bytes(data.replace(b"libc.so.6\0", b"libm.so.6\0"))
-    assert "a wheel cannot need libm.so.6" in subprocess.run([*make, other, tmp_path], capture_output=True, text=True).stderr
+    assert "a wheel cannot need libm.so.6" in ran([*make, other, tmp_path]).stderr
     data[18:20] = (243).to_bytes(2, "little")  # of RISC-V
     other.write_bytes(data)
-    for it in (other, folder / "make_wheel.py"):
-        done = subprocess.run([*make, it, tmp_path], capture_output=True, text=True)
+    for value in (other, folder / "make_wheel.py"):
+        done = ran([*make, value, tmp_path])
         assert done.returncode == 1 and "no library of x86_64 or aarch64" in done.stderr

@@ -4,7 +4,7 @@ row."""
 from __future__ import annotations
 
 import io
-from typing import List, Optional
+from typing import Any, List, Optional
 
 import numpy
 import pytest
@@ -12,19 +12,20 @@ from hypothesis import HealthCheck, given, settings, strategies as st
 
 from conftest import encode, rds
 from made import acquired_row, block, group_row, listing, lock, loss_row, read
-from rds_monitor import listing as of_listing
-from rds_monitor.items import GROUP, ITEM, VALID, Fault, Rows, Rules, open_source, totals_of
-from rds_monitor.heads import HEADER
-from rds_monitor.listing import Listing, text_of, totals_text
-from rds_monitor.parse import _set_types, parse
+from rds_monitor.rows import listing as of_listing
+from rds_monitor.rows.heads import HEADER
+from rds_monitor.rows.items import GROUP, ITEM, VALID, Fault, Reading, Rows, Rules, totals_of
+from rds_monitor.rows.listing import Listing, text_of, totals_text
+from rds_monitor.rows.opening import open_source
+from rds_monitor.rows.parse import _set_types, parse
 
 WORDS = (0xD393, 0x0548, 0xE0CD, 0x5041)
 
 
-def written(source: Listing) -> bytes:
+def written(source: Any) -> bytes:
+    """The rows of a source and its totals, as text."""
     rows = numpy.concatenate([numpy.zeros(0, ITEM), *source.chunks()])
-    assert source.totals is not None
-    return text_of(rows) + totals_text(source.totals)
+    return text_of(rows) + (totals_text(source.totals) if source.totals else b"")
 
 
 def refused(text: bytes, **options: object) -> str:
@@ -45,29 +46,22 @@ def noisy(station: bytes) -> bytes:
     return bytes(numpy.frombuffer(station, "u1") ^ damage) + noise.tobytes() + station
 
 
-@pytest.mark.parametrize(
-    "options",
-    [
-        [],
-        ["--burst", 5, "--reach", 8, "--loss", 1],
-        ["--burst", 5, "--reach", 8, "--loss", 64],
-        ["--burst", 0, "--share", 3, "--of", 5],
-    ],
-)
-def test_a_listing_is_read_and_written_again(noisy: bytes, options: list) -> None:
-    text = rds("list", *options, data=noisy)
+OPTIONS = ("", "--burst 5 --reach 8 --loss 1", "--burst 5 --reach 8 --loss 64", "--burst 0 --share 3 --of 5")
+
+
+@pytest.mark.parametrize("options", OPTIONS)
+def test_a_listing_is_read_and_written_again(noisy: bytes, options: str) -> None:
+    text = rds("list", *options.split(), data=noisy)
     assert written(Listing(io.BytesIO(text), b"")) == text
 
 
 def test_a_recording_and_its_listing_are_the_same_rows(noisy: bytes, tmp_path) -> None:
     path = tmp_path / "noisy.bin"
     path.write_bytes(noisy)
-    source = open_source(str(path), rules=Rules(5, 8, 64))
-    rows = numpy.concatenate(list(source.chunks()))
     text = rds("list", "--burst", 5, "--reach", 8, "--loss", 64, data=noisy)
-    assert text_of(rows) + totals_text(source.totals) == text
-    assert (read(text) == rows).all()
-    assert source.length == 8 * len(noisy) and source.totals == totals_of(rows)
+    source = open_source(str(path), Reading(rules=Rules(5, 8, 64)))
+    assert written(source) == text
+    assert source.length == 8 * len(noisy) and source.totals == totals_of(read(text))
 
 
 @pytest.mark.parametrize("size", [1, 7, 1000])
@@ -82,22 +76,21 @@ def test_the_cut_of_reads_changes_nothing(station_listing: bytes, size: int, mon
 
 def test_bits_gaps_and_hexadecimal_text(station: bytes, tmp_path) -> None:
     (tmp_path / "it.hex").write_text(station.hex(" ", 7) + "\n")
-    source = open_source(str(tmp_path / "it.hex"), hex=True, bits=100003, gaps=[(104, 105), (50000, 50300)])
-    rows = numpy.concatenate(list(source.chunks()))
+    path = str(tmp_path / "it.hex")
+    gaps = [(104, 105), (50000, 50300)]
     wanted = rds("list", "--bits", 100003, "--gaps", "104-105,50000-50300", data=station)
-    assert text_of(rows) + totals_text(source.totals) == wanted
+    assert written(open_source(path, Reading(hex=True, bits=100003, gaps=gaps))) == wanted
     for options, fault in (
         ({"bits": 300000}, "BitsPastBytes"),
         ({"gaps": [(0, 300000)]}, "BadGaps"),
         ({"rules": Rules(6)}, "BurstRange"),
     ):
         with pytest.raises(Fault, match=fault):
-            list(open_source(str(tmp_path / "it.hex"), hex=True, **options).chunks())
-    (tmp_path / "odd.hex").write_text("123")
-    (tmp_path / "none.hex").write_text("12 3x")
-    for name in ("odd", "none"):
+            list(open_source(path, Reading(hex=True, **options)).chunks())
+    for text in ("123", "12 3x"):
+        (tmp_path / "it.hex").write_text(text)
         with pytest.raises(Fault, match="refused 11 HexText"):
-            list(open_source(str(tmp_path / f"{name}.hex"), hex=True).chunks())
+            list(open_source(path, Reading(hex=True)).chunks())
 
 
 # ---- other hands
@@ -121,42 +114,47 @@ def test_windows_lines_are_the_same_table(station_listing: bytes, tmp_path, said
     assert said("errors", tmp_path / "it.csv") == said("errors", data=station_listing)
 
 
-@pytest.mark.parametrize(
-    "text, reason",
-    [
-        (b"group,x,0,A,A:D393,B:0548,C:E0CD,D:5041\n", "row 1: its second field is no place: 'group,x,"),
-        (b"group,007,0,A,A:D393,B:0548,C:E0CD,D:5041\n", "no place"),
-        (b"group,-1,0,A,A:D393,B:0548,C:E0CD,D:5041\n", "no place"),
-        (b"group,68719476736,0,A,A:D393,B:0548,C:E0CD,D:5041\n", "no place"),
-        (b"group,,0,A,A:D393,B:0548,C:E0CD,D:5041\n", "no place"),
-        (b"group,26,0,A,A:D39G,B:0548,C:E0CD,D:5041\n", "its block 1 is no block"),
-        (b"group,26,0,A,A:d393,B:0548,C:E0CD,D:5041\n", "its block 1 is no block"),
-        (b"group,26,0,A,A:D393,A:0548,C:E0CD,D:5041\n", "its block 2 is no block"),
-        (b"group,26,0,A,A:D393,B:0548,C:E0CD~0000000,D:5041\n", "its block 3 is no block"),
-        (b"group,26,0,A,A:D393,B:0548,C:E0CD~0000041,D:5041\n", "its block 3 is no block"),
-        (b"group,26,0,A,A:D393,B:0548,C:E0CD~8000000,D:5041\n", "its block 3 is no block"),
-        (b"group,26,0,A,A:D393,B:0548,none,D:5041\n", "not in a row"),
-        (b"group,26,-,?,none,none,none,none\n", "not in a row"),
-        (b"group,26,1,A,A:D393,B:0548,C:E0CD,D:5041\n", "type and version"),
-        (b"group,26,0,B,A:D393,B:0548,C:E0CD,D:5041\n", "type and version"),
-        (b"group,26,0,A!,A:D393,B:0548,C:E0CD,D:5041\n", "type and version"),
-        (b"group,26,0,A,A:D393,B:0548,C:E0CD\n", "it has 7 fields in place of 8"),
-        (b"group,26,0,A,A:D393,B:0548,C:E0CD,D:5041,\n", "it has 9 fields in place of 8"),
-        (b"group,26,0,A,A:D393,B:0548,C:E0CD,D:5041 \n", "its block 4 is no block"),
-        (b"group;26;0;A;A:D393;B:0548;C:E0CD;D:5041\n", "it has 1 fields"),
-        (b'"group","26","0","A","A:D393","B:0548","C:E0CD","D:5041"\n', "it begins with none"),
-        (b"acquired,26,5,-,-,-,-,-\n", "no row of an acquisition"),
-        (b"acquired,24,1,-,-,-,-,-\n", "no row of an acquisition"),
-        (b"acquired,26,1,-,-,-,-,x\n", "no row of an acquisition"),
-        (b"lost,26,-,-,-,-,-,1\n", "no row of a loss"),
-        (b"total,valid,07,-,-,-,-,-\n", "no row of a total"),
-        (b"total,groups,0,-,-,-,-,-\n", "the total 'valid' is missing before it"),
-        (b"\n", "it has 1 fields"),
-        (b"begin_s,end_s,sent,valid,corrected,lost,missing,bad_percent\n", "begins with none"),
-        (b"acquired,51,1,-,-,-,-,-\r\r\n", "no row of an acquisition"),
-    ],
-)
-def test_rows_that_are_none(text: bytes, reason: str) -> None:
+# Rows, and the fault of each; \\r and \\n are the ends of lines.
+BAD_ROWS = r"""
+group,x,0,A,A:D393,B:0548,C:E0CD,D:5041               row 1: its second field is no place: 'group,x,
+group,007,0,A,A:D393,B:0548,C:E0CD,D:5041             no place
+group,-1,0,A,A:D393,B:0548,C:E0CD,D:5041              no place
+group,68719476736,0,A,A:D393,B:0548,C:E0CD,D:5041     no place
+group,,0,A,A:D393,B:0548,C:E0CD,D:5041                no place
+group,26,0,A,A:D39G,B:0548,C:E0CD,D:5041              its block 1 is no block
+group,26,0,A,A:d393,B:0548,C:E0CD,D:5041              its block 1 is no block
+group,26,0,A,A:D393,A:0548,C:E0CD,D:5041              its block 2 is no block
+group,26,0,A,A:D393,B:0548,C:E0CD~0000000,D:5041      its block 3 is no block
+group,26,0,A,A:D393,B:0548,C:E0CD~0000041,D:5041      its block 3 is no block
+group,26,0,A,A:D393,B:0548,C:E0CD~8000000,D:5041      its block 3 is no block
+group,26,0,A,A:D393,B:0548,C:E0CD~000800x,D:5041      its block 3 is no block
+group,26,0,A,A:D393,B:0548,C:E0CD~0x08000,D:5041      its block 3 is no block
+group,26,0,A,A:D393,B:0548,C:E0CD~000l000,D:5041      its block 3 is no block
+group,26,0,A,A:D393,B:0548,none,D:5041                not in a row
+group,26,-,?,none,none,none,none                      not in a row
+group,26,1,A,A:D393,B:0548,C:E0CD,D:5041              type and version
+group,26,0,B,A:D393,B:0548,C:E0CD,D:5041              type and version
+group,26,0,A!,A:D393,B:0548,C:E0CD,D:5041             type and version
+group,26,0,A,A:D393,B:0548,C:E0CD                     it has 7 fields in place of 8
+group,26,0,A,A:D393,B:0548,C:E0CD,D:5041,             it has 9 fields in place of 8
+group,26,0,A,A:D393,B:0548,C:E0CD,D:5041\x20          its block 4 is no block
+group;26;0;A;A:D393;B:0548;C:E0CD;D:5041              it has 1 fields
+"group","26","0","A","A:D393","B:0548","C:E0CD","D:5041" it begins with none
+acquired,26,5,-,-,-,-,-                               no row of an acquisition
+acquired,24,1,-,-,-,-,-                               no row of an acquisition
+acquired,26,1,-,-,-,-,x                               no row of an acquisition
+lost,26,-,-,-,-,-,1                                   no row of a loss
+total,valid,07,-,-,-,-,-                              no row of a total
+total,groups,0,-,-,-,-,-                              the total 'valid' is missing before it
+begin_s,end_s,sent,valid,corrected,lost,missing,bad_percent begins with none
+acquired,51,1,-,-,-,-,-\r\r                           no row of an acquisition
+"""
+ROWS = [line.split(maxsplit=1) for line in BAD_ROWS.strip().splitlines()] + [["", "it has 1 fields"]]
+
+
+@pytest.mark.parametrize("row, reason", ROWS)
+def test_rows_that_are_none(row: str, reason: str) -> None:
+    text = row.encode().decode("unicode_escape").encode() + b"\n"
     assert reason in refused(text, unfinished_ok=True)
     rows = listing(lock(26, [WORDS] * 40, lost=False), totals=False)
     said = refused(rows + text.replace(b",26,", b",4186,"), unfinished_ok=True)
@@ -209,20 +207,22 @@ def test_a_second_listing_is_named(station_listing: bytes) -> None:
     empty = listing([])
     assert "a second listing" in refused(empty * 2)
     # A restart whose places are above those before.
-    assert "a second listing" in refused(listing(lock(26, [WORDS], False) + lock(500, [WORDS])), unfinished_ok=True)
+    assert "a second listing" in refused(
+        listing(lock(26, [WORDS], False) + lock(500, [WORDS])), unfinished_ok=True
+    )
 
 
 def test_sessions_are_told_apart(station_listing: bytes) -> None:
     rows = station_listing[: station_listing.index(b"total,")]
     for text, count in ((station_listing * 3, 3), (rows + rows + station_listing, 3), (rows * 2, 2)):
-        source = Listing(io.BytesIO(text), b"", sessions=True, unfinished_ok=True)
+        source = Listing(io.BytesIO(text), b"", Reading(sessions=True, unfinished_ok=True))
         found: dict = {}
         for chunk in source.chunks():
             found.setdefault(source.session, []).append(chunk)
         assert sorted(found) == list(range(count))
         for chunks in found.values():
             assert (numpy.concatenate(chunks) == read(station_listing)).all()
-    source = Listing(io.BytesIO(rows * 2), b"", sessions=True)
+    source = Listing(io.BytesIO(rows * 2), b"", Reading(sessions=True))
     with pytest.raises(Fault, match="does not end in its totals"):
         list(source.chunks())
 
@@ -286,19 +286,17 @@ def locks(draw) -> List[Rows]:
             first = 1
             if last != 4:
                 break
-        if draw(st.booleans()) or True:
-            rows.append(loss_row(place - 1))
+        rows.append(loss_row(place - 1))
     return rows
 
 
 def random_group(draw, place: int, first: int, last: int) -> Rows:
-    rows = numpy.zeros(1, ITEM)
-    rows["what"], rows["place"] = GROUP, place
+    rows = group_row(place, ())
     for number in range(first, last + 1):
         word: Optional[int] = draw(st.one_of(st.none(), st.integers(0, 65535)))
         length = draw(st.integers(0, 5))
-        burst = 0 if not length else (1 if length == 1 else 1 << length - 1 | 1) << draw(st.integers(0, 26 - length))
-        block(rows[0], number, word, burst)
+        shift = draw(st.integers(0, 26 - length)) if length else 0
+        block(rows[0], number, word, (0, 1, 3, 5, 9, 17)[length] << shift)
     if rows["kind3"][0] >= VALID and draw(st.booleans()):
         rows["offset3"] = 4
     _set_types(rows)
@@ -321,7 +319,9 @@ def test_random_listings_are_read_as_they_were_written(rows: List[Rows]) -> None
 BYTES = st.sampled_from(b"0123456789ABCDEFabx:~,-!?\r\n gl\0\xff")
 
 
-@settings(max_examples=400, deadline=None, suppress_health_check=[HealthCheck.filter_too_much, HealthCheck.too_slow])
+@settings(
+    max_examples=400, deadline=None, suppress_health_check=[HealthCheck.filter_too_much, HealthCheck.too_slow]
+)
 @given(st.data())
 def test_damage_is_refused_or_read_as_it_stands(data) -> None:
     text = bytearray(data.draw(st.sampled_from(DAMAGED)))
@@ -330,19 +330,16 @@ def test_damage_is_refused_or_read_as_it_stands(data) -> None:
         way = data.draw(st.sampled_from("change insert delete line swap double".split()))
         damage(text, at, way, data.draw(BYTES))
     for part in (False, True):
-        source = Listing(io.BytesIO(bytes(text)), b"", unfinished_ok=part)
         try:
-            rows = numpy.concatenate([numpy.zeros(0, ITEM), *source.chunks()])
+            again = written(Listing(io.BytesIO(bytes(text)), b"", Reading(unfinished_ok=part)))
         except Fault:
             continue
-        again = text_of(rows) + (totals_text(source.totals) if source.totals else b"")
         plain = bytes(text).removeprefix(HEADER + b"\n").replace(b"\r\n", b"\n")
         if part:
             # What is cut off is no row, and totals may be cut off too.
             assert plain.startswith(again) or again.startswith(plain)
-            assert b"\n" not in plain[len(again) :].replace(b"total,", b"", 12) or plain[len(again) :].startswith(
-                b"total,"
-            )
+            rest = plain[len(again) :]
+            assert b"\n" not in rest.replace(b"total,", b"", 12) or rest.startswith(b"total,")
         else:
             assert again == plain or again == plain + b"\n"
 
@@ -372,10 +369,10 @@ def _damaged() -> List[bytes]:
     rows: List[Rows] = []
     place = 26
     for count in (3, 1, 6):
-        rows += lock(place, [[int(it) for it in random.integers(0, 65536, 4)] for _ in range(count)])
+        rows += lock(place, random.integers(0, 65536, (count, 4)).tolist())
         place += 104 * count + 700
     text = listing(rows)
-    groups = encode([[int(it) for it in random.integers(0, 65536, 4)] for _ in range(12)])
+    groups = encode(random.integers(0, 65536, (12, 4)).tolist())
     flipped = numpy.frombuffer(groups, "u1") ^ numpy.packbits(random.random(8 * len(groups)) < 0.02)
     return [text, rds("list", "--burst", 5, data=flipped.tobytes())]
 
@@ -386,7 +383,7 @@ DAMAGED = _damaged()
 def test_a_long_listing_is_read_in_chunks(station: bytes) -> None:
     text = rds("list", data=station)
     rows, _ = parse(text)
-    groups = [it for it in rows if it["what"] == GROUP]
+    groups = [row for row in rows if row["what"] == GROUP]
     many = numpy.tile(numpy.array(groups[1:1001], ITEM), 40)
     many["place"] = 104 * numpy.arange(len(many)) + 104
     for number in (1, 2, 3, 4):

@@ -2,8 +2,10 @@
 
 from __future__ import annotations
 
+import importlib.util
 import math
-from typing import Dict, Iterator, List, Tuple, Type
+from collections import Counter
+from typing import Iterator, List, Tuple
 
 import numpy
 import pytest
@@ -11,9 +13,11 @@ from hypothesis import given, settings, strategies as st
 
 from conftest import rds
 from made import BLOCK_OFFSETS, block, group_row, listing, run, said
-from rds_monitor.items import CORRECTED, GROUP, ITEM, LOST, VALID, Rows
-from rds_monitor.measure import Errors, Outages, Programmes, ShortErrors
-from rds_monitor.parse import _set_types
+from rds_monitor.measures.errors import Errors
+from rds_monitor.measures.measure import Programmes
+from rds_monitor.measures.outages import Outages
+from rds_monitor.rows.items import CORRECTED, GROUP, ITEM, LOST, VALID, Rows
+from rds_monitor.rows.parse import _set_types
 
 WORDS = (0xD393, 0x0548, 0xE0CD, 0x5041)
 START = ("--start", "2026-03-29T00:30:00Z")
@@ -69,18 +73,18 @@ def test_a_correction_with_its_times(two: bytes) -> None:
 
 
 def test_programmes_by_a_clock_that_is_off(two: bytes) -> None:
-    assert said(
-        "programmes", "--unfinished", "--rate", 1200, "--start", "2026-03-29T00:30:00.5Z", "--least", 2, data=two
-    ) == [
+    clock = ("--rate", 1200, "--start", "2026-03-29T00:30:00.5Z")
+    assert said("programmes", "--unfinished", *clock, "--least", 2, data=two) == [
         "begin_s,end_s,programme,groups,begin_place,end_place,begin_utc,end_utc",
         "0.087,0.260,D393,2,104,312,2026-03-29T00:30:00.587Z,2026-03-29T00:30:00.760Z",
     ]
 
 
 def test_outages_with_their_times(two: bytes) -> None:
-    assert said("outages", "--unfinished", *START, "--rate", 1200, "--shortest", 0.5, "--length", 1200, data=two)[
-        1:
-    ] == ["0.260,1.000,0.740,312,1200,2026-03-29T00:30:00.260Z,2026-03-29T00:30:01.000Z"]
+    ask = ("outages", "--unfinished", *START, "--rate", 1200, "--shortest", 0.5, "--length", 1200)
+    assert said(*ask, data=two)[1:] == [
+        "0.260,1.000,0.740,312,1200,2026-03-29T00:30:00.260Z,2026-03-29T00:30:01.000Z"
+    ]
 
 
 def test_outages_by_their_places(outages: bytes) -> None:
@@ -90,14 +94,18 @@ def test_outages_by_their_places(outages: bytes) -> None:
         "26.274,28.025,1.752,31200,33280",
         "78.821,131.368,52.547,93600,156000",
     ]
-    places = [tuple(it.split(",")[3:]) for it in said(*ask, "--shortest", 0.4, data=outages)[1:]]
-    assert places == [("10400", "10920"), ("31200", "33280"), ("93600", "156000"), ("206960", "208000")]
-    places = [tuple(it.split(",")[3:]) for it in said(*ask, "--density", 5, data=outages)[1:]]
-    assert places == [("31200", "33280"), ("93600", "124800"), ("124904", "156000")]
+    for words, places in (
+        (("--shortest", 0.4), "10400-10920 31200-33280 93600-156000 206960-208000"),
+        (("--density", 5), "31200-33280 93600-124800 124904-156000"),
+    ):
+        found = [line.split(",")[3:] for line in said(*ask, *words, data=outages)[1:]]
+        assert " ".join(map("-".join, found)) == places
     assert run(*ask, "--density", 101, data=outages).status == 2
     # A second has no 46 blocks, so none counts.
     for shortest in (1, 60):
-        assert said(*ask, "--density", 100, "--shortest", shortest, data=outages)[1:] == ["0.000,175.158,175.158,0,208000"]
+        assert said(*ask, "--density", 100, "--shortest", shortest, data=outages)[1:] == [
+            "0.000,175.158,175.158,0,208000"
+        ]
 
 
 def test_the_end_of_a_part(two: bytes) -> None:
@@ -106,25 +114,35 @@ def test_the_end_of_a_part(two: bytes) -> None:
     assert said("outages", "--unfinished", "--shortest", 0, "--length", 312, data=two)[2:] == []
     assert said("programmes", "--unfinished", data=two)[1:] == []
     # An outage of just the shortest length is told: 0.08 s are 95 bits.
-    ends = [said("outages", "--unfinished", "--shortest", 0.08, "--length", it, data=two)[-1].split(",")[3] for it in (406, 407)]
+    ends = [
+        said("outages", "--unfinished", "--shortest", 0.08, "--length", value, data=two)[-1].split(",")[3]
+        for value in (406, 407)
+    ]
     assert ends == ["begin_place", "312"]
-    assert [run("errors", "--rate", it, data=two).status for it in (1068, 1307)] == [2, 2]
+    assert [run("errors", "--rate", value, data=two).status for value in (1068, 1307)] == [2, 2]
 
 
 @pytest.mark.parametrize("seconds, programmes", [(9.9, 1), (10.1, 2)])
 def test_a_pause_by_default(seconds: float, programmes: int) -> None:
     begins = [104 * n for n in range(5)]
-    rows = [group_row(place, WORDS) for place in begins + [begins[-1] + 104 + int(seconds * 1187.5) + it for it in begins]]
+    later = [begins[-1] + 104 + int(seconds * 1187.5) + begin for begin in begins]
+    rows = [group_row(place, WORDS) for place in begins + later]
     assert len(said("programmes", "--unfinished", data=listing(rows, totals=False))) == 1 + programmes
 
 
-@pytest.mark.parametrize("command", ["errors", "outages", "programmes", "types", "corrected", "table", "groups", "json", "info", "report"])
+@pytest.mark.parametrize(
+    "command",
+    ["errors", "outages", "programmes", "types", "corrected", "table", "groups", "json", "info", "report"],
+)
 def test_recordings_of_nothing(command: str) -> None:
     """No bit, less than a block, and some blocks of noise: nothing is divided by what is not there."""
     if command == "report":
         pytest.importorskip("jinja2")
     assert run(command).err == f"rds-monitor {command}: the input is empty\n"
-    for data, rows in ((b"\0", {"errors": ["0,0,0,0,0,0,0,0.00"]}), (b"\0" * 100, {"errors": ["0,1,30,0,0,0,30,100.00"], "outages": []})):
+    for data, rows in (
+        (b"\0", {"errors": ["0,0,0,0,0,0,0,0.00"]}),
+        (b"\0" * 100, {"errors": ["0,1,30,0,0,0,30,100.00"], "outages": []}),
+    ):
         done = run(command, data=data)
         assert done.status == 0 or command == "report" and "needs D3" in done.err, done.err
         if command in rows:
@@ -132,7 +150,9 @@ def test_recordings_of_nothing(command: str) -> None:
 
 
 def test_a_longer_pause_makes_one_programme(outages: bytes) -> None:
-    assert said("programmes", "--unfinished", "--pause", 60, data=outages)[1:] == ["0.000,174.282,D393,1366,0,206960"]
+    assert said("programmes", "--unfinished", "--pause", 60, data=outages)[1:] == [
+        "0.000,174.282,D393,1366,0,206960"
+    ]
 
 
 def test_group_types(station: bytes) -> None:
@@ -146,9 +166,9 @@ def test_group_types(station: bytes) -> None:
         "8,A,74,0,2.102,168.327",
         "11,A,73,0,2.189,166.137",
     ]
-    mix = [it.split(",") for it in said("types", "--every", 60, *START, data=station)[1:]]
+    mix = [line.split(",") for line in said("types", "--every", 60, *START, data=station)[1:]]
     assert run("types", "--every", 0.5, data=station).status == 2
-    assert sum(int(it[4]) for it in mix) == 1923 and mix[0][:5] == ["0", "60", "0", "A", "108"]
+    assert sum(int(row[4]) for row in mix) == 1923 and mix[0][:5] == ["0", "60", "0", "A", "108"]
     assert mix[-1][:3] == ["120", "180", "11"] and mix[-1][6] == "2026-03-29T00:32:00.000Z"
 
 
@@ -177,7 +197,7 @@ def test_the_rows_as_a_table(station: bytes, station_listing: bytes) -> None:
         "kind,place,type,version,block1,block2,block3,block4,time_s,time_utc",
         "acquired,51,2,-,-,-,-,-,0.043,2026-03-29T00:30:00.043Z",
     ]
-    plain = [it.rsplit(",", 2)[0] for it in table[1:]]
+    plain = [row.rsplit(",", 2)[0] for row in table[1:]]
     assert plain == station_listing.decode().splitlines()[:-12]
     assert said("table", data=station)[2] == "group,26,0,A,none,B:0548,C:E100,D:5041,0.022"
 
@@ -197,7 +217,9 @@ def test_parquet(station: bytes, tmp_path) -> None:
 # ---- other tables, and parts
 
 
-@pytest.mark.parametrize("command", ["errors", "outages", "programmes", "types", "corrected", "table", "clock"])
+@pytest.mark.parametrize(
+    "command", ["errors", "outages", "programmes", "types", "corrected", "table", "clock"]
+)
 def test_inputs_that_are_no_listing(command: str, station_listing: bytes) -> None:
     table = "\n".join(said("errors", data=station_listing)).encode()
     done = run(command, data=table)
@@ -212,8 +234,8 @@ def test_inputs_that_are_no_listing(command: str, station_listing: bytes) -> Non
 def test_a_part_of_a_listing(station_listing: bytes) -> None:
     lines = station_listing.splitlines(keepends=True)
     part = b"".join(lines[500:1500])
-    rows = [it.split(",") for it in said("errors", "--unfinished", data=part)[1:]]
-    assert sum(int(it[2]) for it in rows) == 4000 == sum(int(it[3]) for it in rows)
+    rows = [line.split(",") for line in said("errors", "--unfinished", data=part)[1:]]
+    assert sum(int(row[2]) for row in rows) == 4000 == sum(int(row[3]) for row in rows)
     assert said("outages", "--unfinished", data=part)[1:] == []
     assert run("errors", data=part).status == 1
 
@@ -233,11 +255,27 @@ def test_a_recording_longer_than_its_rows(station_listing: bytes) -> None:
     assert done.status == 2 and "--length is for a listing" in done.err
 
 
+@pytest.mark.parametrize(
+    "command", ["errors", "outages", "programmes", "types", "corrected", "table", "report"]
+)
+def test_a_listing_has_the_tables_of_its_recording(command: str, station: bytes) -> None:
+    """In all fields, if its length is told: it may end in bits of no row."""
+    random = numpy.random.default_rng(4)
+    damaged = numpy.frombuffer(station, "u1") ^ numpy.packbits(random.random(8 * len(station)) < 0.02)
+    data = damaged.tobytes() + random.bytes(9000) + station[:5000] + bytes(700)
+    of_recording = run(command, *START, data=data)
+    if "needs D3" in of_recording.err or command == "report" and not importlib.util.find_spec("jinja2"):
+        pytest.skip("needs libjs-d3 and jinja2")
+    listing = rds("list", data=data)
+    assert run(command, *START, "--length", 8 * len(data), data=listing) == of_recording
+    assert of_recording.status == 0
+
+
 def test_dropped_bits_and_gaps(station: bytes) -> None:
     """2,400 bits from bit 80,000 on are absent: as with a bit slip, sync is lost and acquired again, and gaps take good
     bits away."""
     absent = station[:10000] + station[10300:]
-    whole = [[it for it in said("types", *gaps, data=absent)] for gaps in ((), ("--gaps", "80000-82400"))]
+    whole = [said("types", *gaps, data=absent) for gaps in ((), ("--gaps", "80000-82400"))]
     counts = [sum(int(row.split(",")[2]) for row in rows[1:]) for rows in whole]
     assert counts[0] > counts[1]
 
@@ -271,7 +309,7 @@ def noise(seed: int) -> Rows:
     return rows
 
 
-SEEDS = st.integers(0, 2**32 - 1).map(noise)
+SEEDS, CUTS = st.integers(0, 2**32 - 1).map(noise), st.lists(st.integers(0, 60), max_size=3)
 
 
 def blocks_in(rows: Rows) -> Iterator[Tuple[int, int]]:
@@ -286,52 +324,37 @@ def blocks_in(rows: Rows) -> Iterator[Tuple[int, int]]:
 
 
 def in_chunks(rows: Rows, cuts: List[int]) -> Iterator[Rows]:
-    edges = [0, *sorted(it % (len(rows) + 1) for it in cuts), len(rows)]
+    edges = [0, *sorted(cut % (len(rows) + 1) for cut in cuts), len(rows)]
     return (rows[begin:end] for begin, end in zip(edges, edges[1:]))
 
 
-@pytest.mark.parametrize("kind", [Errors, ShortErrors])
 @settings(max_examples=150, deadline=None)
-@given(
-    rows=SEEDS,
-    cuts=st.lists(st.integers(0, 60), max_size=3),
-    bits=st.sampled_from([26.0, 77.5, 104.0, 1187.5, 5000.3]),
-    tail=st.integers(0, 900),
-)
-def test_intervals_against_a_loop(kind: Type[Errors], rows: Rows, cuts: List[int], bits: float, tail: int) -> None:
-    errors = kind(bits)
+@given(SEEDS, CUTS, st.sampled_from([26.0, 77.5, 104.0, 1187.5, 5000.3]), st.integers(0, 900))
+def test_intervals_against_a_loop(rows: Rows, cuts: List[int], bits: float, tail: int) -> None:
+    errors = Errors(bits)
     for chunk in in_chunks(rows, cuts):
         errors.add(chunk)
     places = list(blocks_in(rows))
     end = places[-1][0] + 26 + tail
     found = list(errors.intervals(0, end))
-    counts: Dict[int, Dict[int, int]] = {}
-    for place, outcome in places:
-        counts.setdefault(int(place / bits), {}).setdefault(outcome, 0)
-        counts[int(place / bits)][outcome] += 1
-    for at, it in enumerate(found):
-        wanted = counts.get(at, {})
-        assert (it.valid, it.corrected, it.lost) == (
-            wanted.get(VALID, 0),
-            wanted.get(CORRECTED, 0),
-            wanted.get(LOST, 0),
-        )
-        assert it.sent == it.valid + it.corrected + it.lost + it.missing
+    counts = Counter((int(place / bits), outcome) for place, outcome in places)
+    for at, entry in enumerate(found):
+        wanted = [counts[at, outcome] for outcome in (VALID, CORRECTED, LOST)]
+        assert [entry.valid, entry.corrected, entry.lost] == wanted
+        assert entry.sent == entry.valid + entry.corrected + entry.lost + entry.missing
     # All of it adds up to what was sent.
     assert len(found) == math.ceil(end / bits)
-    assert sum(it.sent for it in found) in (end // 26, end // 26 + 1)
-    assert sum(it.sent - it.missing for it in found) == len(places)
+    assert sum(interval.sent for interval in found) in (end // 26, end // 26 + 1)
+    assert sum(interval.sent - interval.missing for interval in found) == len(places)
 
 
 @settings(max_examples=150, deadline=None)
-@given(
-    SEEDS, st.lists(st.integers(0, 60), max_size=3), st.sampled_from([1, 10, 40, 100]), st.sampled_from([0.0, 0.08, 1.0])
-)
+@given(SEEDS, CUTS, st.sampled_from([1, 10, 40, 100]), st.sampled_from([0.0, 0.08, 1.0]))
 def test_outages_against_a_loop(rows: Rows, cuts: List[int], share: float, shortest: float) -> None:
     outages = Outages(1187.5, share, shortest)
     outages.begin(0)
     end = max(place for place, _ in blocks_in(rows)) + 500
-    found = [it for chunk in in_chunks(rows, cuts) for it in outages.add(chunk)] + outages.close(end)
+    found = [outage for chunk in in_chunks(rows, cuts) for outage in outages.add(chunk)] + outages.close(end)
     valid = [place for place, kind in blocks_in(rows) if kind == VALID]
     needed = max(1, math.ceil(share / 100 * 1187.5 / 26))
     counting = [
@@ -351,10 +374,10 @@ def test_outages_against_a_loop(rows: Rows, cuts: List[int], share: float, short
 
 
 @settings(max_examples=100, deadline=None)
-@given(SEEDS, st.lists(st.integers(0, 60), max_size=3), st.integers(1, 3))
+@given(SEEDS, CUTS, st.integers(1, 3))
 def test_programmes_against_a_loop(rows: Rows, cuts: List[int], least: int) -> None:
     programmes = Programmes(least, 1000)
-    found = [it for chunk in in_chunks(rows, cuts) for it in programmes.add(chunk)] + programmes.close()
+    found = [one for chunk in in_chunks(rows, cuts) for one in programmes.add(chunk)] + programmes.close()
     stretches: List[List[int]] = []
     for row in rows:
         if row["kind1"] != VALID:
@@ -366,7 +389,7 @@ def test_programmes_against_a_loop(rows: Rows, cuts: List[int], least: int) -> N
             stretches[-1][3] = last + 26
         else:
             stretches.append([pi, 1, place, last + 26])
-    assert [list(it) for it in found] == [it for it in stretches if it[1] >= least]
+    assert [list(entry) for entry in found] == [stretch for stretch in stretches if stretch[1] >= least]
 
 
 def test_counts_are_those_of_the_totals(station: bytes) -> None:
@@ -375,19 +398,19 @@ def test_counts_are_those_of_the_totals(station: bytes) -> None:
     for rate in (0.001, 0.02, 0.08, 0.5):
         damage = numpy.packbits(random.random(8 * len(station)) < rate)
         data = (numpy.frombuffer(station, "u1") ^ damage).tobytes()
-        totals = dict(line.split(",")[1:3] for line in rds("totals", "--loss", 20, data=data).decode().splitlines())
-        rows = [
-            [int(it) for it in line.split(",")[2:7]]
-            for line in said("errors", "--loss", 20, "--every", 7, data=data)[1:]
-        ]
+        told = rds("totals", "--loss", 20, data=data).decode().splitlines()
+        totals = dict(line.split(",")[1:3] for line in told)
+        lines = said("errors", "--loss", 20, "--every", 7, data=data)[1:]
+        rows = [[int(entry) for entry in line.split(",")[2:7]] for line in lines]
         sums = numpy.sum(rows, axis=0).tolist()
         corrected = sum(int(totals[f"burst{n}"]) for n in range(1, 6))
-        assert sums[1:4] == [int(totals["valid"]), corrected, int(totals["lost"])] and sums[0] == sum(sums[1:])
+        assert sums[1:4] == [int(totals["valid"]), corrected, int(totals["lost"])]
+        assert sums[0] == sum(sums[1:])
         # A block that begins before the end and is cut there was not sent whole.
         assert sums[0] in (8 * len(data) // 26, 8 * len(data) // 26 + 1)
         assert len(said("corrected", "--loss", 20, data=data)) == corrected + 1
         mix = [line.split(",") for line in said("types", "--loss", 20, data=data)[1:]]
-        assert sum(int(it[2]) + int(it[3]) for it in mix) == int(totals["groups"])
+        assert sum(int(row[2]) + int(row[3]) for row in mix) == int(totals["groups"])
 
 
 def test_the_output_is_awks_too(station: bytes) -> None:

@@ -1,6 +1,6 @@
 """The commands of README.md, as they are printed there: the session, each task of the table, and the live pipe.
 
-The `make` commands and the programs of the library have tests of their own (tests/package.sh, tests/library.sh).
+The `make` commands and the programs of the library have tests of their own (tests/test_package.py, tests/test_library.py).
 """
 
 from __future__ import annotations
@@ -30,7 +30,7 @@ def section(title: str) -> str:
 
 def block(text: str) -> List[str]:
     """The lines of the first indented block."""
-    return [it[4:] for it in re.search(r"(?:^    .*\n)+", text, re.M)[0].splitlines()]  # type: ignore[index]
+    return [line[4:] for line in re.search(r"(?:^    .*\n)+", text, re.M)[0].splitlines()]  # type: ignore[index]
 
 
 # The command of each task, with a text that its output or its file has.
@@ -61,8 +61,14 @@ def folder(tmp_path: Path) -> Path:
 def started(folder: Path, command: str) -> "subprocess.Popen[str]":
     path = os.pathsep.join([str(folder / "bin"), os.environ["PATH"]])
     return subprocess.Popen(
-        ["bash", "-o", "pipefail", "-c", command], cwd=folder, env={**os.environ, "PATH": path}, stdin=subprocess.DEVNULL,
-        stdout=subprocess.PIPE, stderr=subprocess.PIPE, text=True, start_new_session=True,
+        ["bash", "-o", "pipefail", "-c", command],
+        cwd=folder,
+        env={**os.environ, "PATH": path},
+        stdin=subprocess.DEVNULL,
+        stdout=subprocess.PIPE,
+        stderr=subprocess.PIPE,
+        text=True,
+        start_new_session=True,
     )
 
 
@@ -104,7 +110,9 @@ def test_a_task(command: str, folder: Path, done: Callable[[str], str]) -> None:
 
 def test_a_watch(folder: Path) -> None:
     words = json.dumps(["sh", "-c", f"cat '{STATION}'; sleep 600"])
-    (folder / "stations.toml").write_text(f'folder = "{folder}"\n[[station]]\nname = "Alpha"\ncommand = {words}\n')
+    (folder / "stations.toml").write_text(
+        f'folder = "{folder}"\n[[station]]\nname = "Alpha"\ncommand = {words}\n'
+    )
     process = started(folder, f"exec {WATCH}")
     try:
         end = time.monotonic() + PATIENCE
@@ -131,11 +139,12 @@ def test_the_live_pipe(folder: Path, done: Callable[[str], str]) -> None:
     """Ten seconds of the station as a receiver's MPX, given by a program of the receiver's name."""
     command = "\n".join(block(section("Live, from an RTL-SDR")))
     rate = int(re.search(r"--rate (\d+)", command)[1])  # type: ignore[index]
-    assert command.startswith(f"rtl_fm -M fm -l 0 -A std -p 0 -s {rate // 1000}k ") and " --raw s16 " in command
+    assert command.startswith(f"rtl_fm -M fm -l 0 -A std -p 0 -s {rate // 1000}k ")
+    assert " --raw s16 " in command
     (folder / "mpx.s16").write_bytes(stored(mpx(STATION.read_bytes()[: 10 * 1188 // 8], rate), "s16"))
     receiver = folder / "bin" / "rtl_fm"
     receiver.write_text(f"#!/bin/sh\nexec cat '{folder / 'mpx.s16'}'\n")
     receiver.chmod(0o755)
     told = [json.loads(line) for line in done(command).splitlines()]
-    assert [it["value"] for it in told if it.get("item") == "pi"] == ["D393"]
-    assert any(it.get("item") == "ps" and it["value"] == "PAXOLIDU" for it in told)
+    assert [entry["value"] for entry in told if entry.get("item") == "pi"] == ["D393"]
+    assert any(entry.get("item") == "ps" and entry["value"] == "PAXOLIDU" for entry in told)

@@ -18,7 +18,7 @@ from sent import clock, group
 
 PAGE = (TOP / "docs" / "RECIPES.md").read_text(encoding="utf-8")
 BLOCKS: Dict[str, List[str]] = {
-    title.strip(): [re.sub("^    ", "", it, flags=re.M) for it in re.findall(r"(?:^    .*\n)+", text, re.M)]
+    title.strip(): [re.sub("^    ", "", one, flags=re.M) for one in re.findall(r"(?:^    .*\n)+", text, re.M)]
     for title, text in re.findall(r"^##? (.*)\n((?:(?!##? ).*\n)*)", PAGE, re.M)
 }
 # Of each block of commands a text that it writes, on its output or into a file.
@@ -73,8 +73,11 @@ def kitchen(folder: Path) -> Path:
     (folder / "dropped.log").write_text("104 26\n")
     (folder / "groups.txt").write_text("D393 0549 E100 584F\nD393 054A C4E1\n")
     (folder / "sent.s16").write_bytes(signal())
-    for name, said in (("rtl_fm", 'case "$*" in *"-s 171k"*) exec cat sent.s16 ;; esac; exit 1'), ("receiver", "exec head -c 1300 recording.bin"),
-                       ("redsea", '[ "$*" = "--input hex" ] && grep -q "D393 0549 E100 584F"')):
+    for name, said in (
+        ("rtl_fm", 'case "$*" in *"-s 171k"*) exec cat sent.s16 ;; esac; exit 1'),
+        ("receiver", "exec head -c 1300 recording.bin"),
+        ("redsea", '[ "$*" = "--input hex" ] && grep -q "D393 0549 E100 584F"'),
+    ):
         (folder / "bin" / name).write_text(f"#!/bin/sh\n{said}\n")
         (folder / "bin" / name).chmod(0o755)
     return folder
@@ -93,10 +96,16 @@ def test_a_recipe(title: str, kitchen: Path, done: Callable[[str], str]) -> None
     for commands, wanted in zip(BLOCKS[title], WANTED[title]):
         if "clock" in commands:
             (kitchen / "recording.bin").write_bytes(told_by_the_clock())
-        out = done(f"set -e\n{commands}" if title != "Explain an error" else f"{commands.rstrip()} 2>&1 || [ $? = 1 ]")
-        files = [kitchen / it for it in re.findall(r"> (\S+)", commands)] + [*kitchen.glob("listings/*.csv")]
-        assert all(it.stat().st_size for it in files)
-        assert wanted in out + "".join(it.read_bytes().decode("latin-1") for it in files)
+        out = done(
+            f"set -e\n{commands}"
+            if title != "Explain an error"
+            else f"{commands.rstrip()} 2>&1 || [ $? = 1 ]"
+        )
+        files = [kitchen / text for text in re.findall(r"> (\S+)", commands)] + [
+            *kitchen.glob("listings/*.csv")
+        ]
+        assert all(file.stat().st_size for file in files)
+        assert wanted in out + "".join(file.read_bytes().decode("latin-1") for file in files)
 
 
 def test_a_session(done: Callable[[str], str]) -> None:

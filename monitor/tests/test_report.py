@@ -14,14 +14,15 @@ from typing import Any, Dict, List
 import numpy
 import pytest
 from conftest import encode, monitor, rds
-from rds_monitor.overview import Span, bad_percent, last_minute, line_of, polyline, tile_of
-from rds_monitor.report import encoded, told_of
+from made import session_of
+from rds_monitor.page.overview import Span, bad_percent, last_minute, line_of, polyline, tile_of
+from rds_monitor.page.report import encoded, told_of
 
 pytest.importorskip("jinja2")
 D3 = os.environ.get("RDS_D3", "/usr/share/javascript/d3/d3.min.js")
 needs_d3 = pytest.mark.skipif(not os.path.exists(D3), reason="needs libjs-d3")
 
-EVIL = '<script>alert("1")</script> &amp; \'q\' x'
+EVIL = "<script>alert(\"1\")</script> &amp; 'q' x"
 
 
 def station(pi: int = 0xD393, text: str = "hello", rounds: int = 40) -> bytes:
@@ -31,7 +32,7 @@ def station(pi: int = 0xD393, text: str = "hello", rounds: int = 40) -> bytes:
     for n in range(rounds):
         k = n % 16
         groups.append([pi, 0x0408 | n % 4, 0xE0E0, [0x5041, 0x584F, 0x4C49, 0x4455][n % 4]])
-        signs = [ord(it) for it in text[4 * k : 4 * k + 4]]
+        signs = [ord(row) for row in text[4 * k : 4 * k + 4]]
         groups.append([pi, 0x2400 | k, signs[0] << 8 | signs[1], signs[2] << 8 | signs[3]])
     return encode(groups)
 
@@ -52,10 +53,11 @@ def data_of(text: str) -> List[Dict[str, Any]]:
 def test_counts_are_those_of_errors(station: bytes) -> None:
     told = data_of(page(data=station))[0]
     blocks = told["sessions"][0]["blocks"]
-    rows = [it.split(",") for it in monitor("errors", "--every", "1", data=station).stdout.decode().splitlines()[1:]]
+    errors = monitor("errors", "--every", "1", data=station).stdout.decode()
+    rows = [row.split(",") for row in errors.splitlines()[1:]]
     for name, column in (("sent", 2), ("corrected", 4), ("lost", 5), ("missing", 6)):
-        assert list(base64.b64decode(blocks[name])) == [int(it[column]) for it in rows]
-    assert told["totals"]["sent"] == sum(int(it[2]) for it in rows)
+        assert list(base64.b64decode(blocks[name])) == [int(row[column]) for row in rows]
+    assert told["totals"]["sent"] == sum(int(row[2]) for row in rows)
 
 
 @needs_d3
@@ -72,11 +74,17 @@ def test_numbers_on_the_page(tmp_path: Path) -> None:
     text = page(tmp_path / "a.bin", tmp_path / "b.bin")
     told = data_of(text)[0]
     totals, tile = told["totals"], told["tile"]
-    assert len({*totals.values()}) == 5 and tile["minute"] != told["bad_percent"] != tile["silent"] and told["outages"] not in (0, len(told["sessions"]))
+    assert len({*totals.values()}) == 5
+    assert tile["minute"] != told["bad_percent"] != tile["silent"]
+    assert told["outages"] not in (0, len(told["sessions"]))
     plain = " ".join(re.sub(r"<[^>]*>", " ", re.sub(r"<script.*?</script>", "", text, flags=re.S)).split())
-    counts = " ".join(str(totals[it]) for it in ("sent", "valid", "corrected", "lost", "missing"))
-    for said in (f"Blocks sent valid corrected uncorrectable not read {counts} ", f"a.bin : {told['bad_percent']} % of the blocks sent are bad.",
-                 f"{tile['minute']} % bad blocks in the last minute", f"last whole group {tile['silent']} s before the end"):
+    counts = " ".join(str(totals[row]) for row in ("sent", "valid", "corrected", "lost", "missing"))
+    for said in (
+        f"Blocks sent valid corrected uncorrectable not read {counts} ",
+        f"a.bin : {told['bad_percent']} % of the blocks sent are bad.",
+        f"{tile['minute']} % bad blocks in the last minute",
+        f"last whole group {tile['silent']} s before the end",
+    ):
         assert said in plain
     assert f"{totals['valid']} of {totals['sent']} blocks sent are valid, {told['outages']} outages." in text
     assert told["bad_percent"] == round(100 * (totals["sent"] - totals["valid"]) / totals["sent"], 2)
@@ -87,28 +95,34 @@ def test_sizes_of_numbers() -> None:
     for most, size in ((255, 1), (256, 2), (65535, 2), (65536, 4)):
         counts = numpy.array([[most, 0, 0, 1, most], [1, 1, 0, 0, 0]], "i8")
         made = encoded(counts)
-        columns = {name: numpy.frombuffer(base64.b64decode(made[name]), f"<u{size}").tolist() for name in ("sent", "lost", "missing")}
-        assert made["bytes"] == str(size) and columns == {"sent": [most, 1], "lost": [1, 0], "missing": [most, 0]}
-
-
-def session_of(**changes: Any) -> Dict[str, Any]:
-    """A session of a hundred seconds as the page has it."""
-    known = {"start": None, "begin": 0, "end": 100, "step": 1, "counts": [[45, 40, 3, 1, 1]] * 100, "outages": [[1, 2]], "mix": [],
-             "clock": [], "events": [], "more": 0, "held": {}, "silent": 0}
-    return {**known, **changes}
+        columns = {}
+        for name in ("sent", "lost", "missing"):
+            columns[name] = numpy.frombuffer(base64.b64decode(made[name]), f"<u{size}").tolist()
+        assert made["bytes"] == str(size)
+        assert columns == {"sent": [most, 1], "lost": [1, 0], "missing": [most, 0]}
 
 
 def test_what_is_told_of_sessions() -> None:
     """The alarm is that of the last one, the contents are the last that there were, and events that are too many are counted."""
     first = session_of(start=1000.0, silent=50.0, held={"PS": "OLD"}, events=[[1, "PS", "X"]] * 2003)
-    told = told_of("it", [first, session_of(start=1500.0, held={"PS": "NEW"}), session_of(start=900.0, end=10, counts=[[45, 45, 0, 0, 0]] * 10)])
-    assert told["held"] == {"PS": "NEW"} and told["tile"]["alarm"] == "" and told["end"] == 700 and told["start"] == 900
-    assert [it["more"] for it in told["sessions"]] == [3, 0, 0] and len(told["sessions"][0]["events"]) == 2000 and told["outages"] == 3
+    second = session_of(start=1500.0, held={"PS": "NEW"})
+    third = session_of(start=900.0, end=10, counts=[[45, 45, 0, 0, 0]] * 10)
+    told = told_of("it", [first, second, third])
+    assert told["held"] == {"PS": "NEW"}
+    assert told["tile"]["alarm"] == ""
+    assert told["end"] == 700
+    assert told["start"] == 900
+    assert [entry["more"] for entry in told["sessions"]] == [3, 0, 0]
+    assert len(told["sessions"][0]["events"]) == 2000
+    assert told["outages"] == 3
     year = told_of("it", [session_of(end=300000, counts=[[45, 45, 0, 0, 0]] * 300000)])["sessions"][0]
     assert year["step"] == 4 and len(base64.b64decode(year["blocks"]["sent"])) == 75000
 
 
-@pytest.mark.parametrize("silent, bad, alarm", [(10, 50, ""), (10.6, 0, "no whole group for 11 s"), (None, 51, "51 % bad blocks in the last minute")])
+@pytest.mark.parametrize(
+    "silent, bad, alarm",
+    [(10, 50, ""), (10.6, 0, "no whole group for 11 s"), (None, 51, "51 % bad blocks in the last minute")],
+)
 def test_when_a_tile_has_an_alarm(silent: Any, bad: int, alarm: str) -> None:
     spans = [Span(0, 1, numpy.array([100] * 100), numpy.array([0] * 40 + [100 - bad] * 60))]
     assert tile_of(spans, 100.0, silent)["alarm"] == alarm
@@ -118,7 +132,9 @@ def test_lines_of_a_tile() -> None:
     """The last quarter of an hour is the last point; 0 per cent is at the bottom, and nothing received is no line."""
     assert polyline([None, 0.0, 100.0, None, 50.0]) == ["1,20.0 2,20.0 2,0.0 3,0.0", "4,10.0 5,10.0"]
     line = line_of([Span(0, 900, numpy.array([10] * 2), numpy.array([10, 5]))], 1800.0)
-    assert line == [None] * 94 + [0.0, 50.0] and line_of([], 5.0) == [None] * 96 and last_minute([]) == bad_percent(0, 0) == 100.0
+    assert line == [None] * 94 + [0.0, 50.0]
+    assert line_of([], 5.0) == [None] * 96
+    assert last_minute([]) is bad_percent(0, 0) is None
 
 
 @needs_d3
@@ -128,16 +144,18 @@ def test_scripts_and_style_are_those_of_the_policy() -> None:
     assert policy and "default-src &#39;none&#39;" in policy[1]
     allowed = re.findall(r"sha256-[A-Za-z0-9+/=]+", policy[1].replace("&#43;", "+"))
     parts = re.findall(r"<style>(.*?)</style>|<script>(.*?)</script>", text, re.S)
-    hashes = ["sha256-" + base64.b64encode(hashlib.sha256((it[0] or it[1]).encode()).digest()).decode() for it in parts]
+    digests = [hashlib.sha256((part[0] or part[1]).encode()).digest() for part in parts]
+    hashes = [f"sha256-{base64.b64encode(digest).decode()}" for digest in digests]
     assert len(hashes) == 3 and sorted(hashes) == sorted(allowed)
-    assert not re.search(r"""\son[a-z]+\s*=\s*["']|(?:src|href)="(?!#)""", re.sub(r"<script>.*?</script>", "", text, flags=re.S))
+    rest = re.sub(r"<script>.*?</script>", "", text, flags=re.S)
+    assert not re.search(r"""\son[a-z]+\s*=\s*["']|(?:src|href)="(?!#)""", rest)
 
 
 @needs_d3
 def test_texts_of_a_station_are_shown_as_text() -> None:
     text = page(data=station(text=EVIL))
     told = data_of(text)[0]["sessions"][0]
-    assert any(it[2].startswith("<script>alert") for it in told["events"])
+    assert any(entry[2].startswith("<script>alert") for entry in told["events"])
     rest = re.sub(r"<script>.*?</script>", "", text, flags=re.S)
     assert "<script>alert" not in text and "&lt;script&gt;alert(&#34;1&#34;)" in rest
 
@@ -150,7 +168,7 @@ def test_several_stations_the_worst_first(tmp_path: Path) -> None:
     damaged[400:700] = bytes(300)
     bad.write_bytes(bytes(damaged))
     text = page(good, bad)
-    assert [it["name"] for it in data_of(text)] == ["bad.bin", "good's <b>.bin"]
+    assert [datum["name"] for datum in data_of(text)] == ["bad.bin", "good's <b>.bin"]
     assert "<h2>Overview</h2>" in text and "good&#39;s &lt;b&gt;.bin" in text
 
 
@@ -158,7 +176,7 @@ def test_several_stations_the_worst_first(tmp_path: Path) -> None:
 def test_a_day_is_below_a_megabyte(tmp_path: Path) -> None:
     path = tmp_path / "day.bin"
     # 20,000 rounds each; after 16 the groups are the same again
-    path.write_bytes(b"".join(1250 * station(text=f"hour {it}", rounds=16) for it in range(24)))
+    path.write_bytes(b"".join(1250 * station(text=f"hour {number}", rounds=16) for number in range(24)))
     text = page("--start", "2026-03-29T00:30:00Z", path)
     told = data_of(text)[0]["sessions"][0]
     assert 80000 < told["end"] < 86400 and len(told["mix"]) > 1300
@@ -169,7 +187,8 @@ def test_a_day_is_below_a_megabyte(tmp_path: Path) -> None:
 def test_a_tile_tells_the_last_minute_and_the_last_whole_group(tmp_path: Path) -> None:
     (tmp_path / "it.bin").write_bytes(station(rounds=2000) + bytes(3000))
     told = data_of(page(tmp_path / "it.bin"))[0]
-    assert abs(told["tile"]["silent"] - 3000 * 8 / 1187.5) < 0.2 and told["tile"]["alarm"] == "no whole group for 20 s"
+    assert abs(told["tile"]["silent"] - 3000 * 8 / 1187.5) < 0.2
+    assert told["tile"]["alarm"] == "no whole group for 20 s"
     assert abs(told["tile"]["minute"] - 100 * 20.2 / 60) < 2
     line = told["tile"]["line"]
     assert len(line) == 96 and line[:95] == [None] * 95 and abs(line[95] - told["bad_percent"]) < 0.01
@@ -190,20 +209,35 @@ def test_stations_of_a_database(tmp_path: Path, station: bytes) -> None:
     database, good, bad = tmp_path / "year.db", tmp_path / "good.bin", tmp_path / "bad.bin"
     good.write_bytes(station)
     bad.write_bytes(station[:10000] + bytes(2000) + station[12000:])
-    for name, path, start in (("Alpha", good, "00:30:00"), ("Alpha", bad, "01:30:00"), ("Beta <b>", bad, "02:30:00")):
-        words = ("--station", name, "--name", f"{name} {start}", "--start", f"2026-03-29T{start}Z", database, path)
+    for name, path, start in (
+        ("Alpha", good, "00:30:00"),
+        ("Alpha", bad, "01:30:00"),
+        ("Beta <b>", bad, "02:30:00"),
+    ):
+        words = (
+            "--station",
+            name,
+            "--name",
+            f"{name} {start}",
+            "--start",
+            f"2026-03-29T{start}Z",
+            database,
+            path,
+        )
         assert monitor("db", *words).returncode == 0
-    told = {it["name"]: it for it in data_of(page(database))}
+    told = {datum["name"]: datum for datum in data_of(page(database))}
     assert sorted(told) == ["Alpha", "Beta <b>"]
     alpha, alone = told["Alpha"], data_of(page(good))[0]
-    assert [it["at"] for it in alpha["sessions"]] == [0, 3600] and alpha["sessions"][0]["totals"] == alone["totals"]
-    assert alpha["sessions"][0]["events"] == alone["sessions"][0]["events"] and alpha["held"]["PS"] == "PAXOLIDU"
+    assert [row["at"] for row in alpha["sessions"]] == [0, 3600]
+    assert alpha["sessions"][0]["totals"] == alone["totals"]
+    assert alpha["sessions"][0]["events"] == alone["sessions"][0]["events"]
+    assert alpha["held"]["PS"] == "PAXOLIDU"
     assert alpha["sessions"][1]["outages"] == data_of(page(bad))[0]["sessions"][0]["outages"] != []
 
 
 def test_a_database_of_something_else(tmp_path: Path) -> None:
-    with sqlite3.connect(tmp_path / "other.db") as it:
-        it.execute("CREATE TABLE it(x)")
+    with sqlite3.connect(tmp_path / "other.db") as database:
+        database.execute("CREATE TABLE it(x)")
     done = monitor("report", tmp_path / "other.db")
     assert done.returncode == 1 and b"is no database of rds-monitor db" in done.stderr
 

@@ -13,17 +13,18 @@ from typing import Any, List
 import numpy
 import pytest
 
-from conftest import encode, monitor, rds
-from made import group_row, listing, lock, run, said
-from rds_monitor import schema, store
-from rds_monitor.items import Fault
+from conftest import COMMAND, encode, monitor, ran, rds
+from made import group_row, listing, lock, run, said, split
+from rds_monitor.db import schema, store
+from rds_monitor.rows.items import Fault
 
 WORDS = (0xD393, 0x0548, 0xE0CD, 0x5041)
 RT = "Verified RDS decoding, group by group, in as many threads as you"
 
 
 def add(*words: Any, data: bytes = b"") -> None:
-    assert said("db", *words, data=data) == []
+    """A word may be several, parted by blanks."""
+    assert said("db", *split(words), data=data) == []
 
 
 def asked(path: Path, query: str) -> List[Any]:
@@ -40,35 +41,30 @@ def database(tmp_path) -> Path:
 
 
 def group_lines(path: Path, name: str) -> List[str]:
-    return [
-        ",".join(map(str, ("group", *row)))
-        for row in asked(
-            path,
-            "SELECT place, COALESCE(type, '-'), version, block1, block2, block3, block4 FROM groups"
-            f" WHERE recording = '{name}' ORDER BY place",
-        )
-    ]
+    columns = "'group', place, COALESCE(type, '-'), version, block1, block2, block3, block4"
+    rows = asked(path, f"SELECT {columns} FROM groups WHERE recording = '{name}' ORDER BY place")
+    return [",".join(map(str, row)) for row in rows]
 
 
 def test_minutes_are_those_of_errors_and_types(database, station: bytes) -> None:
-    add("--station", "Alpha", "--start", "2026-03-29T23:59:00Z", "--name", "it's", database, "-", data=station)
-    errors = [tuple(int(it) for it in line.split(",")[2:7]) for line in said("errors", data=station)[1:]]
-    assert asked(database, "SELECT sent, valid, corrected, lost, missing FROM minutes ORDER BY minute") == errors
-    mixes = [json.loads(it) for it in asked(database, "SELECT mix FROM minutes")]
-    types = {"".join(line.split(",")[:2]): int(line.split(",")[2]) for line in said("types", data=station)[1:]}
+    add("--station Alpha --start 2026-03-29T23:59:00Z --name", "it's", database, "-", data=station)
+    errors = [tuple(int(text) for text in line.split(",")[2:7]) for line in said("errors", data=station)[1:]]
+    query = "SELECT sent, valid, corrected, lost, missing FROM minutes ORDER BY minute"
+    assert asked(database, query) == errors
+    mixes = [json.loads(row) for row in asked(database, "SELECT mix FROM minutes")]
+    lines = [line.split(",") for line in said("types", data=station)[1:]]
+    types = {"".join(line[:2]): int(line[2]) for line in lines}
     assert {kind: sum(mix.get(kind, 0) for mix in mixes) for kind in types} == types
     held = asked(database, "SELECT pi, ps, rt, pty, tp, ta, ms FROM minutes")[1]
     assert held == ("D393", "PAXOLIDU", RT, "10 Pop music", "yes", "no", "music")
-    assert asked(database, "SELECT recording, station, begin_utc FROM minutes LIMIT 1") == [
-        ("it's", "Alpha", "2026-03-29T23:59:00.000Z")
-    ]
+    named = asked(database, "SELECT recording, station, begin_utc FROM minutes LIMIT 1")
+    assert named == [("it's", "Alpha", "2026-03-29T23:59:00.000Z")]
     assert asked(database, "SELECT day, sent, valid_percent FROM days") == [
         ("2026-03-29", 2741, 99.96),
         ("2026-03-30", 4951, 100.0),
     ]
-    assert ("rt", RT) in asked(database, "SELECT item, value FROM events") and "ct" not in asked(
-        database, "SELECT item FROM events"
-    )
+    assert ("rt", RT) in asked(database, "SELECT item, value FROM events")
+    assert "ct" not in asked(database, "SELECT item FROM events")
     totals = dict(line.split(",")[1:3] for line in rds("totals", data=station).decode().splitlines())
     assert {name: str(value) for name, value in asked(database, "SELECT name, value FROM totals")} == totals
     assert asked(database, "SELECT COUNT(*) FROM groups") == [0]
@@ -76,11 +72,13 @@ def test_minutes_are_those_of_errors_and_types(database, station: bytes) -> None
 
 def test_nothing_of_the_groups_is_lost(database, station: bytes) -> None:
     random = numpy.random.default_rng(4)
-    noisy = (numpy.frombuffer(station, "u1") ^ numpy.packbits(random.random(8 * len(station)) < 0.04)).tobytes()
+    wrong = numpy.packbits(random.random(8 * len(station)) < 0.04)
+    noisy = (numpy.frombuffer(station, "u1") ^ wrong).tobytes()
     for name, data in (("good", station), ("noisy", noisy + random.integers(0, 256, 30000, "u1").tobytes())):
         words = ("--groups", "--burst", 5, "--reach", 8)
         add(*words, "--name", name, database, data=data)
-        rows = [it for it in rds("list", *words[1:], data=data).decode().splitlines() if it.startswith("group,")]
+        text = rds("list", *words[1:], data=data).decode()
+        rows = [line for line in text.splitlines() if line.startswith("group,")]
         assert group_lines(database, name) == rows
     assert asked(database, "SELECT COUNT(*) FROM groups WHERE recording = 'good' AND valid < 4") == [1]
     # By the same name it is replaced whole, and nothing is left of it.
@@ -90,22 +88,24 @@ def test_nothing_of_the_groups_is_lost(database, station: bytes) -> None:
     assert asked(database, "SELECT COUNT(*) FROM minute_rows") == [6]
 
 
-def test_a_recording_and_its_listing_are_stored_alike(tmp_path, station: bytes, station_listing: bytes) -> None:
+def test_a_recording_and_its_listing_are_stored_alike(
+    tmp_path, station: bytes, station_listing: bytes
+) -> None:
     (tmp_path / "a").write_bytes(station)
     (tmp_path / "b").write_bytes(station_listing)
     add("--groups", tmp_path / "it.db", tmp_path / "a")
     add("--groups", "--length", tmp_path / "a", tmp_path / "it.db", tmp_path / "b")
     for view in ("minutes", "events", "outages", "groups"):
-        both = [asked(tmp_path / "it.db", f"SELECT * FROM {view} WHERE recording = '{name}'") for name in "ab"]
+        both = [
+            asked(tmp_path / "it.db", f"SELECT * FROM {view} WHERE recording = '{name}'") for name in "ab"
+        ]
         assert [row[3:] for row in both[0]] == [row[3:] for row in both[1]], view
 
 
 def test_a_clock_that_becomes_known_later(database, station: bytes) -> None:
     add("--name", "it", database, data=station)
-    assert (
-        asked(database, "SELECT DISTINCT begin_utc FROM minutes") == [None]
-        and asked(database, "SELECT * FROM days") == []
-    )
+    assert asked(database, "SELECT DISTINCT begin_utc FROM minutes") == [None]
+    assert asked(database, "SELECT * FROM days") == []
     connection = sqlite3.connect(database)
     connection.execute("UPDATE sessions SET start = 0")
     connection.commit()
@@ -118,16 +118,16 @@ def test_the_offset_of_the_stations_clock(database) -> None:
     day = 61128
     tick = (0xD393, 0x4540 | day >> 15, (day & 0x7FFF) << 1, 31 << 6)
     rows = [group_row(104 * n, tick if 104 * n == 50648 else WORDS) for n in range(600)]
-    add("--unfinished", "--start", "2026-03-29T00:30:17Z", "--name", "it", database, data=listing(rows, False))
+    add("--unfinished --start 2026-03-29T00:30:17Z --name it", database, data=listing(rows, False))
     assert asked(database, "SELECT clock_s FROM minutes")[0] == round(43 - (50648 + 104) / 1187.5, 3)
 
 
 def test_a_stream_that_was_restarted_is_two_sessions(database) -> None:
-    one, two = (
+    text, two = (
         rds("follow", data=encode([(pi, 0x0548 + n % 4, 0xE0CD, 0x5041) for n in range(count)]))
         for pi, count in ((0xD393, 1400), (0xD312, 200))
     )
-    text = one[: one.index(b"total,")] + two
+    text = text[: text.index(b"total,")] + two
     add("--start", "2026-03-29T00:30:00Z", "--name", "it", database, data=text)
     assert asked(database, "SELECT number, start NOTNULL, finished, end_place FROM sessions") == [
         (0, 1, 0, 145600),
@@ -137,7 +137,10 @@ def test_a_stream_that_was_restarted_is_two_sessions(database) -> None:
         (1, 5600, 5599),
         (2, 800, 799),
     ]
-    assert asked(database, "SELECT session, value FROM events WHERE item = 'pi'") == [(1, "D393"), (2, "D312")]
+    assert asked(database, "SELECT session, value FROM events WHERE item = 'pi'") == [
+        (1, "D393"),
+        (2, "D312"),
+    ]
 
 
 def test_outages_over_a_cut_are_one(database) -> None:
@@ -146,29 +149,12 @@ def test_outages_over_a_cut_are_one(database) -> None:
 
     first = listing(whole(0, 71250), False)
     add(
-        "--unfinished",
-        "--length",
-        142500,
-        "--trust-length",
-        "--start",
-        "2026-03-29T23:59:00Z",
-        "--station",
-        "X",
-        "--name",
-        "1",
+        "--unfinished --length 142500 --trust-length --start 2026-03-29T23:59:00Z --station X --name 1",
         database,
         data=first,
     )
     add(
-        "--unfinished",
-        "--length",
-        71250,
-        "--start",
-        "2026-03-30T00:01:00Z",
-        "--station",
-        "X",
-        "--name",
-        "2",
+        "--unfinished --length 71250 --start 2026-03-30T00:01:00Z --station X --name 2",
         database,
         data=listing([*lock(26, [WORDS] * 3), *lock(35672, [WORDS] * 342)], False),
     )
@@ -188,14 +174,17 @@ def test_a_name_that_scrolls_is_cut(database) -> None:
         text = f"NAME{n // 8:4d}"
         groups.append((0xD393, 0x0548 + n % 4, 0xE0CD, int.from_bytes(text[n % 4 * 2 :][:2].encode(), "big")))
     add("--name", "it", database, data=encode(groups))
-    told = asked(database, "SELECT CAST(time_s / 60 AS INTEGER), COUNT(*) FROM events WHERE item = 'ps' GROUP BY 1")
+    told = asked(
+        database, "SELECT CAST(time_s / 60 AS INTEGER), COUNT(*) FROM events WHERE item = 'ps' GROUP BY 1"
+    )
     assert told == [(0, 6), (1, 6), (2, 6)]
     assert all(more > 50 for more in asked(database, "SELECT more FROM minutes")[:2])
 
 
 def test_an_item_that_is_no_longer_sent_is_one_fact(database) -> None:
     """Of slow labelling the country code is taken back by an empty one."""
-    groups = [(0xD393, 0x1540, word, 0) for word in (0xE0, 0xE0, 0x00, 0x00, 0xE0, 0xE0, 0x00, 0x00) for _ in range(3)]
+    countries = (0xE0, 0xE0, 0x00, 0x00, 0xE0, 0xE0, 0x00, 0x00)
+    groups = [(0xD393, 0x1540, word, 0) for word in countries for _ in range(3)]
     for name in ("1", "2"):
         add("--name", name, database, data=encode(groups))
     assert asked(database, "SELECT value FROM events WHERE item = 'ecc' AND recording = '2'") == [
@@ -228,7 +217,9 @@ def test_what_is_refused_changes_nothing(database, station: bytes, station_listi
     assert run("db", "--name", "it", database, data=station_listing[:-40]).status == 1
     assert asked(database, "SELECT * FROM minutes") == before
     connection = sqlite3.connect(database)
-    connection.execute("CREATE TRIGGER stop BEFORE INSERT ON outage_rows BEGIN SELECT RAISE(ABORT, 'stopped'); END")
+    connection.execute(
+        "CREATE TRIGGER stop BEFORE INSERT ON outage_rows BEGIN SELECT RAISE(ABORT, 'stopped'); END"
+    )
     connection.commit()
     connection.close()
     done = run("db", "--name", "it", database, data=station + bytes(10000) + station)
@@ -270,13 +261,15 @@ def test_migrations(database, station: bytes, monkeypatch) -> None:
     assert asked(database, "PRAGMA user_version") == [len(schema.MIGRATIONS) + 1]
     monkeypatch.setattr(store, "MIGRATIONS", (*store.MIGRATIONS, "CREATE TABLE recordings(id);\n"))
     done = run("db", "--name", "third", database, data=station)
-    assert done.status == 1 and "already exists" in done.err and asked(database, "PRAGMA user_version") == [len(schema.MIGRATIONS) + 1]
+    assert done.status == 1
+    assert "already exists" in done.err
+    assert asked(database, "PRAGMA user_version") == [len(schema.MIGRATIONS) + 1]
 
 
 # Six processes that wait for a writer of the pipe named first, and then make a database, or end in another status than 0.
 MAKERS = """
 import os, sys
-from rds_monitor.store import Store
+from rds_monitor.db.store import Store
 for _ in range(6):
     if not os.fork():
         open(sys.argv[1]).close()
@@ -292,19 +285,19 @@ def test_a_database_that_several_processes_make_at_once(tmp_path) -> None:
     for turn in range(5):
         barrier, path = tmp_path / f"barrier{turn}", tmp_path / f"{turn}.db"
         os.mkfifo(barrier)
-        done = subprocess.run([sys.executable, "-c", MAKERS, str(barrier), str(path)], capture_output=True, timeout=60)
+        done = subprocess.run(
+            [sys.executable, "-c", MAKERS, str(barrier), str(path)], capture_output=True, timeout=60
+        )
         assert (done.returncode, done.stderr) == (0, b"") and path.exists()
 
 
 def test_four_writers_at_once_and_a_reader(database, station: bytes, tmp_path) -> None:
     (tmp_path / "it.bin").write_bytes(station)
     writers = [
-        subprocess.Popen(
-            [sys.executable, "-m", "rds_monitor", "db", "--name", str(n), str(database), str(tmp_path / "it.bin")]
-        )
+        subprocess.Popen([*COMMAND, "db", "--name", str(n), str(database), str(tmp_path / "it.bin")])
         for n in range(4)
     ]
-    assert [it.wait() for it in writers] == [0] * 4
+    assert [writer.wait() for writer in writers] == [0] * 4
     assert asked(database, "SELECT COUNT(*), SUM(valid) FROM minutes") == [(12, 4 * 7691)]
     assert asked(database, "PRAGMA journal_mode") == ["wal"]
 
@@ -322,10 +315,8 @@ def test_a_full_disk_leaves_what_was(tmp_path, station: bytes) -> None:
         "main\n"
         "resource.setrlimit(resource.RLIMIT_FSIZE, (100000, 100000)); sys.exit(main(sys.argv[1:]))"
     )
-    done = subprocess.run(
-        [sys.executable, "-c", code, "db", "--groups", path, data, data.parent / "x", data.parent / "y"],
-        capture_output=True,
-        text=True,
+    done = ran(
+        [sys.executable, "-c", code, "db", "--groups", path, data, data.parent / "x", data.parent / "y"]
     )
     assert done.returncode == 1 and "rds-monitor db: the database: " in done.stderr
     assert asked(path, "SELECT * FROM minutes") == before
@@ -348,30 +339,23 @@ def test_names_are_data(tmp_path, station: bytes) -> None:
 
 def test_a_year_of_30_stations(database) -> None:
     """5 GB are 456 kB per day of a station. Here a day's texts change every 15 s, the name four times a minute."""
-    groups, texts = [], [f"Now: title {n} by the artist {n}, and something more" for n in range(240)]
+    groups, texts = [], [
+        f"Now: title {n} by the artist {n}, and something more".ljust(64) for n in range(240)
+    ]
+    names = [name.ljust(8) for name in ("ALPHA FM", "NEWS 24", "WEATHER", "TRAFFIC")]
     for n in range(3 * 41106 // 12):
-        second = n * 104 / 1187.5
-        text, name = texts[int(second / 15) % 240].ljust(64), ("ALPHA FM", "NEWS 24", "WEATHER", "TRAFFIC")[
-            int(second / 15) % 4
-        ].ljust(8)
+        turn = int(n * 104 / 1187.5 / 15)
+        at, text, name = n // 2 % 16, texts[turn % 240], names[turn % 4]
         if n % 2:
-            at = n // 2 % 16
-            word = text[4 * at :][:4].encode()
-            groups.append(
-                (
-                    0xD393,
-                    0x2540 | int(second / 15) % 2 << 4 | at,
-                    int.from_bytes(word[:2], "big"),
-                    int.from_bytes(word[2:], "big"),
-                )
-            )
+            words = [int.from_bytes(text[k : k + 2].encode(), "big") for k in (4 * at, 4 * at + 2)]
+            groups.append((0xD393, 0x2540 | turn % 2 << 4 | at, *words))
         else:
-            at = n // 2 % 4
+            at %= 4
             groups.append((0xD393, 0x0548 | at, 0xE0CD, int.from_bytes(name[2 * at :][:2].encode(), "big")))
     data = encode(groups)
     sizes = []
     for name in range(9):
-        add("--name", str(name), "--station", "X", "--start", f"2026-03-29T{name:02}:00:00Z", database, data=data)
+        add("--name", str(name), "--station X --start", f"2026-03-29T{name:02}:00:00Z", database, data=data)
         run("db", "--name", "empty", database, data=bytes(100))
         connection = sqlite3.connect(database)
         connection.execute("PRAGMA wal_checkpoint(TRUNCATE)")
@@ -383,6 +367,6 @@ def test_a_year_of_30_stations(database) -> None:
 
 def test_a_store_that_is_closed_is_one_file(database, station: bytes) -> None:
     add("--name", "it", database, data=station)
-    assert sorted(it.name for it in database.parent.iterdir()) == ["it.db"]
+    assert sorted(path.name for path in database.parent.iterdir()) == ["it.db"]
     with pytest.raises(Fault):
         store.Store(str(database.parent))

@@ -10,7 +10,8 @@ import pytest
 from conftest import encode
 from modulator import iq, mpx, stored, words
 from network import stations
-from rds_monitor.items import Fault, library
+from rds_monitor.rows.items import Fault
+from rds_monitor.rows.recording import library
 from rds_monitor.watch.bits import bit_source
 from rds_monitor.watch.table import StationTable, table_of
 
@@ -33,7 +34,10 @@ def cut(data: bytes, seed: int) -> List[bytes]:
 
 def test_packed_bits_are_left_alone() -> None:
     source = bit_source(station())
-    assert source.take(b"\x01\x02") == b"\x01\x02" and source.finish() == b"" and source.delay == 0 and source.report() == {}
+    assert source.take(b"\x01\x02") == b"\x01\x02"
+    assert source.finish() == b""
+    assert source.delay == 0
+    assert source.report() == {}
 
 
 FORMS: Dict[str, Tuple[str, ...]] = {
@@ -46,14 +50,14 @@ FORMS: Dict[str, Tuple[str, ...]] = {
 
 @pytest.mark.parametrize("name", FORMS)
 def test_a_signal(name: str) -> None:
-    it = station(*FORMS[name])
-    assert it.rate is not None and it.raw is not None
-    signal = mpx(encode(GROUPS), it.rate, snr=40)
-    if it.form == "iq":
-        data = stored(iq(signal, it.rate, cnr=40, offset=it.offset), it.raw, peak=1.5)
+    one = station(*FORMS[name])
+    assert one.rate is not None and one.raw is not None
+    signal = mpx(encode(GROUPS), one.rate, snr=40)
+    if one.form == "iq":
+        data = stored(iq(signal, one.rate, cnr=40, offset=one.offset), one.raw, peak=1.5)
     else:
-        data = stored(signal, it.raw)
-    source = bit_source(it)
+        data = stored(signal, one.raw)
+    source = bit_source(one)
     bits = b"".join([source.take(piece) for piece in cut(data, 3)]) + source.finish()
     rows = library().items_array(bits)
     found = [tuple(int(row[f"info{block}"]) for block in (1, 2, 3, 4)) for row in rows[rows["what"] == 2]]
@@ -63,8 +67,8 @@ def test_a_signal(name: str) -> None:
 
 def test_what_is_no_signal() -> None:
     """A number that no signal has is a fault; a part of a sample at the end is none."""
-    it = station('form = "mpx"', 'raw = "f32"', "rate = 192000")
+    one = station('form = "mpx"', 'raw = "f32"', "rate = 192000")
     with pytest.raises(Fault, match="no signal has it"):
-        bit_source(it).take(b"\x00\x00\x80\x7f" * 1000)
-    short = bit_source(it)
+        bit_source(one).take(b"\x00\x00\x80\x7f" * 1000)
+    short = bit_source(one)
     assert short.take(b"\x00\x00\x00") == b"" and short.finish() == b""

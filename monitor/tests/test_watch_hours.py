@@ -10,12 +10,21 @@ from hypothesis import given
 from hypothesis import strategies as st
 
 from made import run
-from rds_monitor.hours import Hour, hour_of
-from rds_monitor.measure import Interval
-from rds_monitor.watch.records import AlarmChanged, PartGrew, PartKey, PartOpened, PartTold, Records, RunBegan, RunEnded
+from rds_monitor.db.parts import EventRow, MinuteRow, Told
+from rds_monitor.measures.errors import Interval
+from rds_monitor.rows.hours import Hour, hour_of
+from rds_monitor.watch.records import (
+    AlarmChanged,
+    PartGrew,
+    PartKey,
+    PartOpened,
+    PartTold,
+    Records,
+    RunBegan,
+    RunEnded,
+)
 from rds_monitor.watch.repair import make_whole
 from rds_monitor.watch.retention import tidy
-from rds_monitor.watch.session import EventRow, MinuteRow, Told
 from rds_monitor.watch.table import Keep
 from rds_monitor.watch.times import Timing
 
@@ -24,17 +33,21 @@ HOUR = 1795748400.0
 
 @given(st.integers(0, 4 * 10**5), st.integers(0, 4 * 10**12), st.integers(11_000_000, 12_900_000))
 def test_names(hour: int, start: int, rate: int) -> None:
-    it = Hour(hour * 3600.0, start / 1000, rate / 1e4)
-    assert hour_of("/some/folder/" + it.name) == it
+    one = Hour(hour * 3600.0, start / 1000, rate / 1e4)
+    assert hour_of("/some/folder/" + one.name) == one
 
 
 def test_names_are_in_order() -> None:
     early = Hour(HOUR, HOUR - 86400.5).name
     assert early == "2026-11-27T03Z_20261126T025959.500Z.csv"
-    assert early < Hour(HOUR, HOUR - 3).name < Hour(HOUR, HOUR + 7).name < Hour(HOUR + 3600, HOUR - 86400, 1187.6).name
+    later = [Hour(HOUR, HOUR - 3), Hour(HOUR, HOUR + 7), Hour(HOUR + 3600, HOUR - 86400, 1187.6)]
+    names = [early, *(hour.name for hour in later)]
+    assert names == sorted(set(names))
 
 
-@pytest.mark.parametrize("name", ["monday.csv", "2026-11-27T03Z.csv", "2026-13-27T03Z_20261126T025959.500Z.csv", "x.bin"])
+@pytest.mark.parametrize(
+    "name", ["monday.csv", "2026-11-27T03Z.csv", "2026-13-27T03Z_20261126T025959.500Z.csv", "x.bin"]
+)
 def test_other_names(name: str) -> None:
     assert hour_of(name) is None
 
@@ -84,7 +97,8 @@ def kept(folder: Path, keep: Keep, *sizes: int, busy: int = -1) -> "list[int]":
         records.write([PartOpened(PartKey("Alpha 1", 0), "Alpha", Timing(HOUR), 0, name)])
     removed = tidy(str(folder), keep, HOUR + 60, records)
     records.close()
-    assert (top / "notes.txt").exists() and removed == [os.path.join("listings", "Alpha", it.name) for it in paths if not it.exists()]
+    assert (top / "notes.txt").exists()
+    assert removed == [os.path.join("listings", "Alpha", one.name) for one in paths if not one.exists()]
     return [n for n, path in enumerate(paths) if path.exists()]
 
 
@@ -114,17 +128,22 @@ def test_old_rows_of_the_database(tmp_path: Path) -> None:
         key = PartKey(f"Alpha {name}", 0)
         minute = MinuteRow(0, Interval(0, 71250, 2740, 2740, 0, 0, 0), {"0A": 1}, {"ps": ps}, None, 0)
         told = Told([minute], [EventRow(104, 0, "rt", f"text of {name}")], [(0, 2000)], [], [])
-        records.write([PartOpened(key, "Alpha", Timing(begin), 0, f"{name}.csv"), PartTold(key, told), PartGrew(key, 71250, 0, True),
-                       AlarmChanged("Alpha", name, True, begin, ""), AlarmChanged("Alpha", name, False, begin + 1, ""),
-                       RunBegan("Alpha", begin), RunEnded("Alpha", begin + 9, name)])
+        alarm = AlarmChanged("Alpha", name, True, begin, "")
+        part = PartOpened(key, "Alpha", Timing(begin), 0, f"{name}.csv"), PartTold(key, told)
+        run_ = RunBegan("Alpha", begin), RunEnded("Alpha", begin + 9, name)
+        ended = alarm._replace(begins=False, utc=begin + 1)
+        records.write([*part, PartGrew(key, 71250, 0, True), alarm, ended, *run_])
     tidy(str(tmp_path), Keep(database_days=0), HOUR, records)
     assert counts(records) == [2, 2, 2, 2, 2, 2, 2, 2, 4]
     tidy(str(tmp_path), Keep(database_days=2), HOUR, records)
     assert counts(records) == [1] * 8 + [2]
-    assert records.database.execute("SELECT value FROM facts ORDER BY 1").fetchall() == [("NEW",), ("text of new",)]
+    facts = records.database.execute("SELECT value FROM facts ORDER BY 1").fetchall()
+    assert facts == [("NEW",), ("text of new",)]
     records.close()
 
 
 def counts(records: Records) -> "list[int]":
-    tables = ("recordings", "sessions", "hour_files", "minute_rows", "event_rows", "outage_rows", "alarm_rows", "run_rows", "facts")
-    return [records.database.execute(f"SELECT COUNT(*) FROM {it}").fetchone()[0] for it in tables]
+    tables = (
+        "recordings sessions hour_files minute_rows event_rows outage_rows alarm_rows run_rows facts".split()
+    )
+    return [records.database.execute(f"SELECT COUNT(*) FROM {table}").fetchone()[0] for table in tables]

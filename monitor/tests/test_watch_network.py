@@ -2,23 +2,48 @@
 
 from __future__ import annotations
 
+import fcntl
 import json
 import os
 import random
 import re
+import sqlite3
+from argparse import Namespace
 from pathlib import Path
 from typing import Any, Dict, List, Tuple
 
+import numpy
 import pytest
 
 from conftest import rds
 from made import run, said
-from network import GROUPS_PER_SECOND, START, Air, InTurn, Network, Plan, Programme, numbers_in, stations
+from network import (
+    GROUPS_PER_SECOND,
+    HOURS,
+    START,
+    Air,
+    InTurn,
+    Network,
+    Plan,
+    Programme,
+    numbers_in,
+    stations,
+    told_once,
+)
 from station import Periodic
-from rds_monitor.clock import start_of
+from rds_monitor.db.standing import availability
+from rds_monitor.page.report import stations_of
+from rds_monitor.rows.clock import RATE, Clock, start_of
+from rds_monitor.watch import records, writer
+from rds_monitor.watch.asked import seen_of
+from rds_monitor.watch.verdict import Limits, Verdict
 
 ALPHA = Programme(0xD318, "ALPHA", "Now: nothing much")
 TABLE = stations('name = "Alpha"', 'command = ["a"]', 'pi = "D318"', 'ps = "ALPHA*"', 'rt = "Now: *"')
+
+
+# Items that `json` tells, and of which no event is stored: the bytes of an operator's own groups come by the thousand.
+NOT_STORED = ("ct", "ih_data")
 
 
 def network(folder: Path, air: Air, *plans: Plan, table: str = TABLE) -> Network:
@@ -31,40 +56,37 @@ def apart(numbers: List[Tuple[int, float]]) -> List[float]:
     return [utc - (first + number) / GROUPS_PER_SECOND for number, utc in numbers]
 
 
-def utc_of(text: str) -> float:
-    return start_of(text)
-
-
-def alarms(it: Network, station: str = "Alpha") -> List[Tuple[Any, ...]]:
+def alarms(net: Network, station: str = "Alpha") -> List[Tuple[Any, ...]]:
     """Name, begin and end in seconds of the simulation."""
-    rows = it.asked("SELECT alarm, begin_at, end_at FROM alarm_rows WHERE station = ? ORDER BY begin_at", station)
-    return [(name, round(begin - START, 1), None if end is None else round(end - START, 1)) for name, begin, end in rows]
+    query = "SELECT alarm, begin_at - ?, end_at - ? FROM alarm_rows WHERE station = ? ORDER BY begin_at"
+    rows = net.asked(query, START, START, station)
+    return [(name, round(begin, 1), end if end is None else round(end, 1)) for name, begin, end in rows]
 
 
 # ---- what was sent, and what is there
 
 
-def same_as_sent(it: Network, folder: Path) -> None:
+def same_as_sent(net: Network, folder: Path) -> None:
     """Each session is what `rds list` makes of its bytes, and the database has what the commands find in them."""
-    texts = it.texts("Alpha")
-    runs = [one for _, one in it.given if one.given]
+    texts = net.texts("Alpha")
+    runs = [launched for _, launched in net.given if launched.given]
     assert len(texts) == len(runs)
-    for at, (text, one) in enumerate(zip(texts, runs)):
-        assert text == rds("list", data=one.given)
+    for at, (text, launched) in enumerate(zip(texts, runs)):
+        assert text == rds("list", data=launched.given)
         recording = folder / f"run{at}.bin"
-        recording.write_bytes(one.given)
-        session = it.asked("SELECT DISTINCT recording FROM sessions ORDER BY recording")[at][0]
-        same_minutes(it, session, str(recording))
-        same_events(it, session, str(recording))
-        same_outages(it, session, str(recording))
+        recording.write_bytes(launched.given)
+        session = net.asked("SELECT DISTINCT recording FROM sessions ORDER BY recording")[at][0]
+        same_minutes(net, session, str(recording))
+        same_events(net, session, str(recording))
+        same_outages(net, session, str(recording))
 
 
-def same_minutes(it: Network, session: int, path: str) -> None:
+def same_minutes(net: Network, session: int, path: str) -> None:
     query = (
         "SELECT minute, SUM(sent), SUM(valid), SUM(corrected), SUM(lost), SUM(missing) FROM minute_rows"
         " JOIN sessions ON sessions.id = session WHERE recording = ? GROUP BY minute ORDER BY minute"
     )
-    found = [tuple(row) for row in it.asked(query, session)]
+    found = [tuple(row) for row in net.asked(query, session)]
     wanted = [line.split(",") for line in said("errors", "--every", "60", path)[1:]]
     assert [row[0] for row in found] == list(range(len(wanted)))
     for row, line in zip(found, wanted):
@@ -73,33 +95,36 @@ def same_minutes(it: Network, session: int, path: str) -> None:
         assert abs(row[1] - int(line[2])) <= 1 and abs(row[5] - int(line[6])) <= 1
 
 
-def same_events(it: Network, session: int, path: str) -> None:
+def same_events(net: Network, session: int, path: str) -> None:
     query = (
         "SELECT place, item, value FROM event_rows JOIN sessions ON sessions.id = session JOIN facts ON facts.id = fact"
         " WHERE recording = ? ORDER BY place, event_rows.number"
     )
     lines = [json.loads(line) for line in said("json", path)]
-    told = [(line["place"], line["item"], line["text"] if line["value"] is not None else None) for line in lines if line["kind"] == "content"]
-    assert it.asked(query, session) == [event for event in told if event[1] != "ct"]
+    told = [line for line in lines if line["kind"] == "content" and line["item"] not in NOT_STORED]
+    wanted = [
+        (line["place"], line["item"], line["text"] if line["value"] is not None else None) for line in told
+    ]
+    assert net.asked(query, session) == wanted
 
 
-def same_outages(it: Network, session: int, path: str) -> None:
+def same_outages(net: Network, session: int, path: str) -> None:
     query = (
         "SELECT outage_rows.begin_place, outage_rows.end_place FROM outage_rows JOIN sessions ON sessions.id = session"
         " WHERE recording = ? ORDER BY 1"
     )
     wanted = [tuple(map(int, line.split(",")[3:5])) for line in said("outages", path)[1:]]
-    assert it.asked(query, session) == wanted
+    assert net.asked(query, session) == wanted
 
 
 def test_a_session_over_an_hour(tmp_path: Path) -> None:
     """The hour begins 30 s after the start. No group is lost there, and a command gives times for each file."""
-    it = network(tmp_path, Air(ALPHA, START, 150))
-    it.run(140)
-    it.end()
-    assert len(it.runs) == 1
-    same_as_sent(it, tmp_path)
-    hours = it.hours("Alpha")
+    net = network(tmp_path, Air(ALPHA, START, 150))
+    net.run(140)
+    net.end()
+    assert len(net.runs) == 1
+    same_as_sent(net, tmp_path)
+    hours = net.hours("Alpha")
     assert [hour.begin - START for hour, _ in hours] == [-3570, 30]
     numbers = numbers_in(hours)
     assert [later[0] - early[0] for early, later in zip(numbers, numbers[1:])].count(6) >= len(numbers) - 4
@@ -107,24 +132,22 @@ def test_a_session_over_an_hour(tmp_path: Path) -> None:
     for hour, rows in hours:
         path = tmp_path / "listings" / "Alpha" / hour.name
         lines = [line.split(",") for line in said("errors", "--every", "10", str(path))[1:]]
-        begins = [utc_of(line[8]) for line in lines]
+        begins = [start_of(line[8]) for line in lines]
         assert begins == sorted(begins) and hour.begin - 1 < begins[0] and begins[-1] < hour.begin + 3600
-        assert sum(int(line[3]) for line in lines) == int((rows["kind1"] == 2).sum() + (rows["kind2"] == 2).sum()
-                                                          + (rows["kind3"] == 2).sum() + (rows["kind4"] == 2).sum())
+        valid = sum(int((rows[f"kind{block}"] == 2).sum()) for block in (1, 2, 3, 4))
+        assert sum(int(line[3]) for line in lines) == valid
 
 
 def test_every_command_takes_an_hour(tmp_path: Path) -> None:
-    it = network(tmp_path, Air(ALPHA, START, 80))
-    it.run(70)
-    it.end()
-    path = str(tmp_path / "listings" / "Alpha" / it.hours("Alpha")[1][0].name)
-    for words in (["errors"], ["outages"], ["programmes"], ["types"], ["corrected"], ["info"], ["json"], ["groups"], ["table"],
-                  ["check", "-W", "100"], ["db", tmp_path / "other.db"]):
+    net = network(tmp_path, Air(ALPHA, START, 80))
+    net.run(70)
+    net.end()
+    path = str(tmp_path / "listings" / "Alpha" / net.hours("Alpha")[1][0].name)
+    commands = "errors outages programmes types corrected info json groups table".split()
+    for words in (*([name] for name in commands), ["check", "-W", "100"], ["db", tmp_path / "other.db"]):
         done = run(*words, path)
         assert done.status == 0, done.err + done.out
     assert "2026-11-27T03:00" in run("json", path).out and "2026-11-27T03:00" in run("table", path).out
-    import sqlite3
-
     data = sqlite3.connect(tmp_path / "other.db")
     assert data.execute("SELECT DISTINCT station, begin_utc FROM minutes").fetchone()[0] == "Alpha"
 
@@ -134,22 +157,24 @@ def test_outages_a_wrong_pi_and_restarts(tmp_path: Path) -> None:
     air = Air(ALPHA, START, 400)
     air.noise(40, 42)
     air.noise(80, 110)
-    it = network(tmp_path, air, Plan(dies=70.25), Plan(hangs=100), Plan(dies=10), Plan(late=0.4))
-    it.run(380)
-    it.end()
-    assert len(it.runs) == 4
-    same_as_sent(it, tmp_path)
-    numbers = numbers_in(it.hours("Alpha"))
+    net = network(tmp_path, air, Plan(dies=70.25), Plan(hangs=100), Plan(dies=10), Plan(late=0.4))
+    net.run(380)
+    net.end()
+    assert len(net.runs) == 4
+    same_as_sent(net, tmp_path)
+    numbers = numbers_in(net.hours("Alpha"))
     assert len({number for number, _ in numbers}) == len(numbers)
     assert [number for number, _ in numbers] == sorted(number for number, _ in numbers)
     assert max(map(abs, apart(numbers))) < 1
-    reasons = [row[0] for row in it.asked("SELECT reason FROM runs ORDER BY begin_utc")]
-    assert reasons == ["ended with status 1: unplugged", "gave no byte for 10 s", "ended with status 1: unplugged", "the watch ended"]
-    outages = it.asked("SELECT begin_utc, length_s FROM outages WHERE length_s > 1.5 ORDER BY begin_utc")
-    begins = [(utc_of(begin) - START, length) for begin, length in outages]
+    unplugged, reasons = "ended with status 1: unplugged", net.asked(
+        "SELECT reason FROM runs ORDER BY begin_utc"
+    )
+    assert [text for (text,) in reasons] == [unplugged, "gave no byte for 10 s", unplugged, "the watch ended"]
+    outages = net.asked("SELECT begin_utc, length_s FROM outages WHERE length_s > 1.5 ORDER BY begin_utc")
+    begins = [(start_of(begin) - START, length) for begin, length in outages]
     assert abs(begins[0][0] - 40) < 0.6 and abs(begins[0][1] - 2) < 0.3
     assert abs(begins[1][0] - 80) < 0.6 and abs(begins[1][1] - 30) < 0.3
-    told = alarms(it)
+    told = alarms(net)
     no_rds = [alarm for alarm in told if alarm[0] == "no_rds"]
     assert len(no_rds) >= 1 and 88 < no_rds[0][1] < 92 and 113 < no_rds[0][2] < 118
     silent = [alarm for alarm in told if alarm[0] == "silent"]
@@ -158,11 +183,11 @@ def test_outages_a_wrong_pi_and_restarts(tmp_path: Path) -> None:
 
 def test_another_pi(tmp_path: Path) -> None:
     """For a minute: the alarm begins ten seconds after the PI, and ends ten seconds after the expected one is there."""
-    it = network(tmp_path, Air(ALPHA._replace(wrong_pi=Periodic(500, 60)), START, 160))
+    net = network(tmp_path, Air(ALPHA._replace(wrong_pi=Periodic(500, 60)), START, 160))
     begin = 440 - START % 500
-    it.run(begin + 80, tick=1)
-    it.end()
-    ((name, since, until),) = alarms(it)
+    net.run(begin + 80, tick=1)
+    net.end()
+    ((name, since, until),) = alarms(net)
     assert name == "pi" and begin + 9 < since < begin + 13 and begin + 69 < until < begin + 74
 
 
@@ -173,52 +198,43 @@ def test_another_pi(tmp_path: Path) -> None:
 def test_killed_at_random_moments(tmp_path: Path, seed: int) -> None:
     """Ten times each: nothing is lost but the last second, nothing is there twice, and no time is off by a second."""
     chance = random.Random(seed)
-    it = network(tmp_path, Air(ALPHA, START, 300))
+    net = network(tmp_path, Air(ALPHA, START, 300))
     gone: List[Tuple[float, float]] = []
     for _ in range(10):
-        it.run(chance.uniform(3, 14))
-        it.kill()
-        tear(it, chance)
-        begin = it.times.steady
-        it.times.pass_by(chance.uniform(0.1, 2))
-        gone.append((begin, it.times.steady))
-        it.begin()
-    it.run(5)
-    it.end()
-    numbers = numbers_in(it.hours("Alpha"))
+        net.run(chance.uniform(3, 14))
+        net.kill()
+        tear(net, chance)
+        begin = net.times.steady
+        net.times.pass_by(chance.uniform(0.1, 2))
+        gone.append((begin, net.times.steady))
+        net.begin()
+    net.run(5)
+    net.end()
+    numbers = numbers_in(net.hours("Alpha"))
     assert max(map(abs, apart(numbers))) < 1
     found = [number for number, _ in numbers]
     assert found == sorted(set(found))
-    nothing_lost(it, found)
-    told_once(it)
+    nothing_lost(net, found)
+    told_once(tmp_path)
 
 
-def tear(it: Network, chance: random.Random) -> None:
+def tear(net: Network, chance: random.Random) -> None:
     """A power failure may leave a part of a row, or zeros, at the end of a file that was not synchronised."""
-    newest = max((it.folder / "listings" / "Alpha").iterdir(), key=lambda path: path.stat().st_mtime_ns)
+    newest = max((net.folder / "listings" / "Alpha").iterdir(), key=lambda path: path.stat().st_mtime_ns)
     with open(newest, "ab") as file:
         file.write(chance.choice([b"", b"group,9", b"\0" * 70, b"group,99999,0,A,A:D318\n"]))
 
 
-def nothing_lost(it: Network, found: List[int]) -> None:
+def nothing_lost(net: Network, found: List[int]) -> None:
     """Of each run's bits, the file has all groups up to a second before the end."""
     everything = set(found)
-    for _, one in it.given:
-        sent = rds("list", data=one.given[: max(0, len(one.given) - 149)]).splitlines()
+    for _, launched in net.given:
+        sent = rds("list", data=launched.given[: max(0, len(launched.given) - 149)]).splitlines()
         for line in sent:
             fields = line.decode().split(",")
-            if fields[0] == "group" and fields[2:4] == ["6", "A"] and all(":" in block and "~" not in block for block in fields[4:]):
+            valid = all(":" in block and "~" not in block for block in fields[4:])
+            if fields[0] == "group" and fields[2:4] == ["6", "A"] and valid:
                 assert int(fields[6][2:], 16) << 16 | int(fields[7][2:], 16) in everything
-
-
-def told_once(it: Network) -> None:
-    """The blocks of the minutes are those of the files."""
-    rows = [rows for _, rows in it.hours("Alpha")]
-    valid = sum(int(sum((part[f"kind{block}"] == 2).sum() for block in (1, 2, 3, 4))) for part in rows)
-    assert it.asked("SELECT SUM(valid) FROM minute_rows") == [(valid,)]
-    assert it.asked("SELECT COUNT(*) FROM hour_files WHERE is_open") == [(0,)]
-    ps = it.asked("SELECT COUNT(*) FROM events WHERE item = 'ps'")[0][0]
-    assert ps <= len(it.given)
 
 
 class PowerFailure(BaseException):
@@ -229,11 +245,14 @@ class Disk:
     """Operations on the disk, before one of which the power fails. It keeps all synchronised bytes, and perhaps more."""
 
     def __init__(self, monkeypatch: pytest.MonkeyPatch, folder: Path):
-        from rds_monitor.watch import records, writer
-
         self.folder, self.left = folder, 0
         self.kept: Dict[str, int] = {}
-        for of, name in ((writer.HourWriter, "append"), (records.Records, "write"), (os, "fsync"), (os, "fdatasync")):
+        for of, name in (
+            (writer.HourWriter, "append"),
+            (records.Records, "write"),
+            (os, "fsync"),
+            (os, "fdatasync"),
+        ):
             monkeypatch.setattr(of, name, self._counted(getattr(of, name), "sync" in name))
 
     def _counted(self, real: Any, syncs: bool) -> Any:
@@ -260,51 +279,55 @@ class Disk:
 def test_power_failures(tmp_path: Path, seed: int, monkeypatch: pytest.MonkeyPatch) -> None:
     """Twelve times, a third of them just after a SIGKILL. The database tells only of rows that are on the disk, so nothing is there twice."""
     chance, disk = random.Random(seed), Disk(monkeypatch, tmp_path)
-    it = network(tmp_path, Air(ALPHA, START, 300))
+    net = network(tmp_path, Air(ALPHA, START, 300))
     for turn in range(12):
         disk.left = chance.randint(4, 90)
         with pytest.raises(PowerFailure):
-            it.run(60)
-        it.kill()
+            net.run(60)
+        net.kill()
         if turn % 3:
             disk.lose(chance)
-        it.times.pass_by(chance.uniform(0.1, 2))
+        net.times.pass_by(chance.uniform(0.1, 2))
         disk.left = 0
-        it.begin()
+        net.begin()
         if not turn % 3:
-            it.kill()
+            net.kill()
             disk.lose(chance)
-            it.begin()
-    it.run(5)
-    it.end()
-    found = [number for number, _ in numbers_in(it.hours("Alpha"))]
+            net.begin()
+    net.run(5)
+    net.end()
+    found = [number for number, _ in numbers_in(net.hours("Alpha"))]
     assert found == sorted(set(found)) and len(found) > 30
-    nothing_lost(it, found)
-    told_once(it)
+    nothing_lost(net, found)
+    told_once(tmp_path)
 
 
 def test_killed_in_the_middle_of_an_hour(tmp_path: Path) -> None:
     """The database learns of what it did not know, and of nothing twice: its events are those of the whole files."""
-    it = network(tmp_path, Air(ALPHA, START, 200))
-    it.run(45.5)
-    it.kill()
-    it.records = None  # type: ignore[assignment]
-    text = b"".join(it.texts("Alpha"))
-    it.times.pass_by(1)
-    it.begin()
-    assert len(it.recovered) == 1
-    assert b"".join(it.texts("Alpha")) == text
-    same_events_as_text(it, text, tmp_path)
-    it.end()
+    net = network(tmp_path, Air(ALPHA, START, 200))
+    net.run(45.5)
+    net.kill()
+    net.records = None  # type: ignore[assignment]
+    text = b"".join(net.texts("Alpha"))
+    net.times.pass_by(1)
+    net.begin()
+    assert len(net.recovered) == 1
+    assert b"".join(net.texts("Alpha")) == text
+    same_events_as_text(net, text, tmp_path)
+    net.end()
 
 
-def same_events_as_text(it: Network, text: bytes, folder: Path) -> None:
+def same_events_as_text(net: Network, text: bytes, folder: Path) -> None:
     whole = folder / "whole.csv"
     whole.write_bytes(text)
     told = [json.loads(line) for line in said("json", "--unfinished", str(whole))]
-    wanted = [(line["place"], line["item"]) for line in told if line["kind"] == "content" and line["item"] != "ct"]
+    wanted = [
+        (line["place"], line["item"])
+        for line in told
+        if line["kind"] == "content" and line["item"] not in NOT_STORED
+    ]
     query = "SELECT place, item FROM event_rows JOIN facts ON facts.id = fact JOIN sessions ON sessions.id = session ORDER BY place, event_rows.number"
-    assert it.asked(query) == wanted
+    assert net.asked(query) == wanted
 
 
 # ---- a full disk
@@ -312,9 +335,7 @@ def same_events_as_text(it: Network, text: bytes, folder: Path) -> None:
 
 def test_a_full_disk(tmp_path: Path, monkeypatch: pytest.MonkeyPatch) -> None:
     """For a minute no byte can be written, or a few: all waits, an alarm tells of it, and nothing is lost or twice."""
-    from rds_monitor.watch import writer
-
-    it = network(tmp_path, Air(ALPHA, START, 200))
+    net = network(tmp_path, Air(ALPHA, START, 200))
     room: Dict[str, int] = {}
     real = writer.HourWriter.append
 
@@ -328,33 +349,30 @@ def test_a_full_disk(tmp_path: Path, monkeypatch: pytest.MonkeyPatch) -> None:
         return real(self, path, data[:some])
 
     monkeypatch.setattr(writer.HourWriter, "append", append)
-    it.run(20, tick=0.5)
+    net.run(20, tick=0.5)
     room["bytes"] = 333
-    it.run(60, tick=0.5)
+    net.run(60, tick=0.5)
     room.clear()
-    it.run(20, tick=0.5)
-    it.end()
-    same_as_sent(it, tmp_path)
-    assert [alarm[0] for alarm in alarms(it)] == ["disk"] and 24 < alarms(it)[0][1] < 28 and 79 < alarms(it)[0][2] < 83
-    assert any("No space left" in line for line in it.said)
+    net.run(20, tick=0.5)
+    net.end()
+    same_as_sent(net, tmp_path)
+    ((name, begin, end),) = alarms(net, "")
+    assert name == "disk" and 24 < begin < 28 and 79 < end < 83
+    assert any("No space left" in line for line in net.said)
 
 
 def test_a_database_that_is_locked_delays_no_row(tmp_path: Path, monkeypatch: pytest.MonkeyPatch) -> None:
-    import sqlite3
-
-    from rds_monitor.watch import records
-
     monkeypatch.setattr(records, "WAIT", 0.0)
-    it = network(tmp_path, Air(ALPHA, START, 100))
-    it.run(10)
+    net = network(tmp_path, Air(ALPHA, START, 100))
+    net.run(10)
     other = sqlite3.connect(tmp_path / "watch.db", isolation_level=None)
     other.execute("BEGIN IMMEDIATE")
-    it.run(20)
-    assert len(numbers_in(it.hours("Alpha"))) > 50
+    net.run(20)
+    assert len(numbers_in(net.hours("Alpha"))) > 50
     other.execute("ROLLBACK")
-    it.run(10)
-    it.end()
-    same_as_sent(it, tmp_path)
+    net.run(10)
+    net.end()
+    same_as_sent(net, tmp_path)
 
 
 # ---- the machine's clock
@@ -362,62 +380,64 @@ def test_a_database_that_is_locked_delays_no_row(tmp_path: Path, monkeypatch: py
 
 def test_a_clock_that_is_set(tmp_path: Path) -> None:
     """Forward by an hour and a half, then back by a day. Within a session no time goes back, and each is right soon."""
-    it = network(tmp_path, Air(ALPHA, START, 200))
-    it.run(20)
-    it.times.utc += 5400
-    it.run(20)
-    it.times.utc -= 86400
-    it.run(20)
-    ((looked,),) = it.asked("SELECT looked_at FROM station_rows")
-    assert abs(looked - it.times.utc) < 11
-    it.run(50)
+    net = network(tmp_path, Air(ALPHA, START, 200))
+    net.run(20)
+    net.times.utc += 5400
+    net.run(20)
+    net.times.utc -= 86400
+    net.run(20)
+    ((looked,),) = net.asked("SELECT looked_at FROM station_rows")
+    assert abs(looked - net.times.utc) < 11
+    net.run(50)
     stamp = re.search("rds_watch_timestamp_seconds ([0-9.]+)", (tmp_path / "metrics.prom").read_text())
-    assert stamp and abs(float(stamp[1]) - it.times.utc) < 61
-    it.end()
+    assert stamp and abs(float(stamp[1]) - net.times.utc) < 61
+    net.end()
     by_session: Dict[str, List[float]] = {}
-    query = (
-        "SELECT name, path FROM hour_files JOIN sessions ON sessions.id = session JOIN recordings ON recordings.id = recording"
-        " ORDER BY recordings.id, number"
-    )
-    rows = {hour.name: (hour, part) for hour, part in it.hours("Alpha")}
-    for name, path in it.asked(query):
+    rows = {hour.name: (hour, part) for hour, part in net.hours("Alpha")}
+    for name, path in net.asked(f"SELECT name, path {HOURS} ORDER BY recordings.id, number"):
         if path.rpartition("/")[2] in rows:
             hour, part = rows[path.rpartition("/")[2]]
             groups = part[part["what"] == 2]
-            by_session.setdefault(name, []).extend((hour.start + groups["place"].astype("f8") / hour.rate).tolist())
+            by_session.setdefault(name, []).extend(
+                (hour.start + groups["place"].astype("f8") / hour.rate).tolist()
+            )
     assert len(by_session) == 2
     for times in by_session.values():
         assert times == sorted(times)
     steps = sorted(times[-1] for times in by_session.values())
     assert abs(steps[1] - (START + 40 + 5400)) < 2 and abs(steps[0] - (START + 110 + 5400 - 86400)) < 2
     # All is received but for the group in which the session ended, and each group by the clock of its time.
-    found = sorted(numbers_in(it.hours("Alpha")))
-    assert len(found) >= int(110 * GROUPS_PER_SECOND / 6) - 5 and len({number for number, _ in found}) == len(found)
+    found = sorted(numbers_in(net.hours("Alpha")))
+    assert len(found) >= int(110 * GROUPS_PER_SECOND / 6) - 5
+    assert len({number for number, _ in found}) == len(found)
     steps_told = [round(off) for off in apart(found)]
     assert steps_told == sorted(steps_told[:40], key=lambda step: (step != 0, -step)) + steps_told[40:]
-    assert set(steps_told) == {0, 5400, 5400 - 86400} and 34 <= steps_told.count(0) <= 40 and 34 <= steps_told.count(5400) <= 40
+    assert set(steps_told) == {0, 5400, 5400 - 86400}
+    assert 34 <= steps_told.count(0) <= 40
+    assert 34 <= steps_told.count(5400) <= 40
 
 
 def test_a_disk_that_hangs(tmp_path: Path, monkeypatch: pytest.MonkeyPatch) -> None:
     """No write fails, and none ends: that is an alarm, too."""
-    it = network(tmp_path, Air(ALPHA, START, 100))
-    it.run(10)
+    net = network(tmp_path, Air(ALPHA, START, 100))
+    net.run(10)
     with monkeypatch.context() as patch:
         patch.setattr(InTurn, "is_idle", property(lambda self: False))
-        it.run(20, tick=0.5)
-    it.run(10, tick=0.5)
-    it.end()
-    same_as_sent(it, tmp_path)
-    ((name, begin, end),) = alarms(it)
+        net.run(20, tick=0.5)
+    net.run(10, tick=0.5)
+    net.end()
+    same_as_sent(net, tmp_path)
+    ((name, begin, end),) = alarms(net, "")
     assert name == "disk" and 15 < begin < 17 and 30 < end < 32
 
 
 def test_pauses_grow(tmp_path: Path) -> None:
     """A receiver that dies at once; then one that runs for a minute, after which the pause is a second again."""
-    it = network(tmp_path, Air(ALPHA, START, 600), *[Plan(dies=0.1) for _ in range(8)], Plan(dies=70), Plan(dies=0.1))
-    it.run(400, tick=1)
-    it.end()
-    begins = [at for _, at in it.runs]
+    plans = [*[Plan(dies=0.1)] * 8, Plan(dies=70), Plan(dies=0.1)]
+    net = network(tmp_path, Air(ALPHA, START, 600), *plans)
+    net.run(400, tick=1)
+    net.end()
+    begins = [at for _, at in net.runs]
     gaps = [late - early for early, late in zip(begins, begins[1:])]
     assert all(pause <= gap <= pause + 3 for gap, pause in zip(gaps, [1, 2, 4, 8, 16, 32, 60, 60]))
     assert 70 <= gaps[8] <= 74 and gaps[9] <= 4
@@ -429,17 +449,255 @@ def test_pauses_grow(tmp_path: Path) -> None:
 def test_a_table_that_is_read_again(tmp_path: Path) -> None:
     """A station whose limits change goes on; one whose receiver changes is restarted; one that is gone ends."""
     airs = {"a": Air(ALPHA, START, 100), "b": Air(ALPHA._replace(pi=0xD319), START, 100)}
-    table = stations('name = "Alpha"', 'command = ["a"]', "--", 'name = "Beta"', 'command = ["b"]')
-    it = Network(tmp_path, table, airs)
-    it.run(20)
-    it.reload(stations('name = "Alpha"', 'command = ["a"]', 'pi = "D318"', "--", 'name = "Beta"', 'command = ["b", "again"]'))
-    it.run(20)
-    it.reload(stations('name = "Alpha"', 'command = ["a"]'))
-    it.run(20)
-    it.end()
-    assert [name for name, _ in it.runs] == ["a", "b", "b"]
-    assert len(it.texts("Alpha")) == 1 and len(it.texts("Beta")) == 2
-    reasons = it.asked("SELECT station, reason FROM runs ORDER BY begin_utc, station, end_utc")
-    assert sorted(reasons) == [("Alpha", "the watch ended"), ("Beta", "it is no longer in the table"), ("Beta", "the table has changed")]
-    for text in it.texts("Alpha") + it.texts("Beta"):
+    alpha, beta = ('name = "Alpha"', 'command = ["a"]'), ("--", 'name = "Beta"')
+    net = Network(tmp_path, stations(*alpha, *beta, 'command = ["b"]'), airs)
+    net.run(20)
+    net.reload(stations(*alpha, 'pi = "D318"', *beta, 'command = ["b", "again"]'))
+    net.run(20)
+    net.reload(stations(*alpha))
+    net.run(20)
+    net.end()
+    assert [name for name, _ in net.runs] == ["a", "b", "b"]
+    assert len(net.texts("Alpha")) == 1 and len(net.texts("Beta")) == 2
+    reasons = net.asked("SELECT station, reason FROM runs ORDER BY begin_utc, station, end_utc")
+    assert sorted(reasons) == [
+        ("Alpha", "the watch ended"),
+        ("Beta", "it is no longer in the table"),
+        ("Beta", "the table has changed"),
+    ]
+    for text in net.texts("Alpha") + net.texts("Beta"):
         assert b"total,losses" in text
+
+
+# ---- the truth after restarts, and of downtime
+
+
+def restarted(net: Network, seconds: float, kill: bool = False) -> None:
+    """The watch is away for a while."""
+    (net.kill if kill else net.end)()
+    net.times.pass_by(seconds)
+    net.begin()
+
+
+@pytest.mark.parametrize("kill", [False, True])
+def test_alarms_over_restarts_of_the_watch(tmp_path: Path, kill: bool) -> None:
+    """The PS and the RT are others than expected, and the RT the same: each alarm begins once, and lasts."""
+    table = (
+        TABLE.replace("ALPHA*", "BETA").replace("Now: *", "Then: *") + "[station.alarms]\nrt_stuck = 150\n"
+    )
+    net = network(tmp_path, Air(ALPHA, START, 400), table=table)
+    for _ in range(4):
+        net.run(70)
+        restarted(net, 5, kill)
+    net.run(20)
+    told = {name: (begin, end) for name, begin, end in alarms(net)}
+    assert len(alarms(net)) == 3 and all(end is None for _, end in told.values())
+    assert 60 < told["ps"][0] < 66 and 60 < told["rt"][0] < 66
+    # Without the 5 s of each pause, in which nobody knew, and the seconds after it until the RT is there. A kill costs up to ten more.
+    assert 150 + 2 * 5 < told["rt_stuck"][0] < 150 + 2 * 5 + (40 if kill else 20)
+    net.end()
+
+
+def test_an_rt_that_is_stuck_on_a_receiver_that_dies_often(tmp_path: Path) -> None:
+    table = TABLE + "[station.alarms]\nrt_stuck = 100\n"
+    net = network(tmp_path, Air(ALPHA, START, 400), *[Plan(dies=70)] * 5, table=table)
+    net.run(300)
+    ((name, begin, end),) = [alarm for alarm in alarms(net) if alarm[0] == "rt_stuck"]
+    assert 100 < begin < 125 and end is None
+    net.end()
+
+
+def test_the_end_of_an_alarm_says_how_long_it_lasted(tmp_path: Path) -> None:
+    net = network(tmp_path, Air(ALPHA._replace(wrong_pi=Periodic(500, 60)), START, 160))
+    net.run(440 - START % 500 + 80)
+    net.end()
+    ((_, begin, end),) = alarms(net)
+    (line,) = [line for line in net.said if "alarm pi ends" in line]
+    assert line.endswith(f"; it lasted {end - begin:.0f} s")
+
+
+def test_each_second_has_its_state(tmp_path: Path) -> None:
+    """Received for 40 s, then noise for 20, an unplugged receiver for 30, and no watch for 50: in all views."""
+    air = Air(ALPHA, START, 400)
+    air.noise(40, 60)
+    net = network(tmp_path, air, Plan(dies=60), *[Plan(dies=0)] * 4)
+    net.run(55)
+    ((first, last, length),) = net.asked(
+        "SELECT begin_utc, end_utc, length_s FROM station_outages WHERE length_s > 2"
+    )
+    assert abs(start_of(first) - START - 40) < 1 and last is None and length > 4
+    net.run(35)
+    assert net.watch.stations["Alpha"].state(0.0)["session_utc"] is None
+    restarted(net, 50)
+    net.run(60)
+    net.end()
+    outages = net.asked("SELECT begin_utc, end_utc, length_s, kind FROM station_outages")
+    found = [
+        (round(start_of(begin) - START), round(length), kind)
+        for begin, _, length, kind in outages
+        if length > 2
+    ]
+    assert [kind for _, _, kind in found] == ["noise", "down"]
+    for (begin, length, _), (wanted, lasted) in zip(found, ((40, 20), (60, 30))):
+        assert abs(begin - wanted) <= 2 and abs(length - lasted) <= 3, found
+    days = net.asked("SELECT received_s, noise_s, down_s, unknown_s FROM days")
+    assert len(days) == 1 and round(sum(days[0]), 1) == 86400
+    received, noise, down, unknown = available(net, 0, 200)
+    assert abs(received - 97) < 5 and abs(noise - 20) < 2 and abs(down - 33) < 5 and abs(unknown - 50) < 3
+    assert round(received + noise + down + unknown, 3) == 200
+    assert tuple(round(seconds, 3) for seconds in available(net, -100, 0)) == (0, 0, 0, 100)
+
+
+def available(net: Network, begin: float, end: float) -> Tuple[float, ...]:
+    data = sqlite3.connect(net.folder / "watch.db")
+    found = availability(data, "Alpha", START + begin, START + end)
+    data.close()
+    return found
+
+
+def test_a_page_of_the_database_of_a_watch(tmp_path: Path) -> None:
+    """Three seconds into an hour, Alpha has an alarm, Beta is good, and Gamma never started."""
+    table = TABLE.replace("ALPHA*", "NEWS") + stations(
+        'name = "Beta"', 'command = ["b"]', "--", 'name = "Gamma"', 'command = ["c"]'
+    )
+    quick = "\n[station.alarms]\nps = 10\n"
+    table = table.replace('[[station]]\nname = "Beta"', f'{quick}[[station]]\nname = "Beta"')
+    airs = {
+        "a": Air(ALPHA, START, 100),
+        "b": Air(ALPHA._replace(pi=0xD319), START, 100),
+        "c": Air(ALPHA, START, 1),
+    }
+    net = Network(tmp_path, table, airs, {"c": [Plan(dies=0)] * 20})
+    net.run(93)
+    net.kill()
+    told = {
+        station["name"]: station for station in stations_of(str(tmp_path / "watch.db"), Namespace(), Clock())
+    }
+    assert sorted(told) == ["Alpha", "Beta", "Gamma"]
+    assert told["Alpha"]["tile"]["alarm"].startswith("ps: PS ALPHA in place of NEWS")
+    assert (told["Beta"]["tile"]["alarm"], told["Beta"]["tile"]["state"]) == ("", "good")
+    assert told["Beta"]["tile"]["minute"] == 0
+    assert (
+        told["Gamma"]["tile"]["state"] == "no session" and "silent: no byte" in told["Gamma"]["tile"]["alarm"]
+    )
+    assert told["Gamma"]["bad_percent"] is None
+    first, second = told["Beta"]["sessions"]
+    assert ["PS", "ALPHA"] in [event[1:] for event in first["events"]]
+    assert ("PS", "ALPHA") in second["carried"] and not second["events"]
+    seconds = told["Beta"]["available"]
+    assert abs(sum(seconds.values()) - 93) < 11 and seconds["received"] > 80
+
+
+# ---- bits that are dropped, or too many
+
+
+@pytest.mark.parametrize("burst", [0.0, 1.5, 4.0])
+def test_bits_that_a_receiver_drops(tmp_path: Path, burst: float) -> None:
+    """Three seconds of them: ten seconds later times are right again, however the output comes."""
+    net = network(tmp_path, Air(ALPHA, START, 150), Plan(burst=burst, drops=(40, 3)))
+    net.run(120, tick=0.5)
+    net.end()
+    off = apart(numbers_in(net.hours("Alpha")))
+    times = [utc - START for _, utc in numbers_in(net.hours("Alpha"))]
+    assert all(abs(one) < 0.6 for one, at in zip(off, times) if at < 38 or at > 57)
+    assert [one for one, at in zip(off, times) if 41 < at < 50 and abs(one + 3) < 0.6]
+
+
+@pytest.mark.parametrize("pace, name", [(0.97, "slow"), (1.03, "fast")])
+def test_bits_at_another_pace(tmp_path: Path, pace: float, name: str) -> None:
+    net = network(tmp_path, Air(ALPHA, START, 300), *[Plan(pace=pace)] * 3)
+    net.run(140)
+    told = [alarm for alarm in alarms(net) if alarm[0] in ("fast", "slow")]
+    assert [alarm[0] for alarm in told] == [name] and 68 < told[0][1] < 90
+    net.end()
+
+
+@pytest.mark.parametrize("pace", [50, 5000])
+def test_bits_faster_than_real_time(tmp_path: Path, pace: float) -> None:
+    """No time is ahead, the alarm begins at once, and `check` says no age of nothing."""
+    air = Air(ALPHA, START, 20000)
+    net = network(tmp_path, air, *[Plan(pace=pace)] * 9)
+    net.run(20, tick=0.5)
+    assert [alarm[0] for alarm in alarms(net)][:1] == ["fast"] and alarms(net)[0][1] < 3
+    assert any("gave bits faster than real time" in line for line in net.said)
+    net.end()
+    for hour, rows in net.hours("Alpha"):
+        if len(rows):
+            assert hour.start + rows["place"].max() / hour.rate < net.times.utc + 6
+    state = json.loads(net.asked("SELECT state FROM station_rows")[0][0])
+    assert state["last_group_utc"] is None or state["last_group_utc"] <= net.times.utc
+
+
+# ---- the disk
+
+
+def test_a_full_disk_is_one_alarm(tmp_path: Path, monkeypatch: pytest.MonkeyPatch) -> None:
+    """Of two stations. The plugin says this of each, first and only."""
+    airs = {name: Air(ALPHA, START, 100) for name in "ab"}
+    net = Network(
+        tmp_path,
+        stations('name = "Alpha"', 'command = ["a"]', "--", 'name = "Beta"', 'command = ["b"]'),
+        airs,
+    )
+    net.run(10)
+    with monkeypatch.context() as patch:
+        patch.setattr(writer.HourWriter, "append", no_space)
+        net.run(20, tick=0.5)
+        assert net.asked("SELECT station, alarm, end_at FROM alarm_rows") == [("", "disk", None)]
+        for station in ("Alpha", "Beta"):
+            done = run("check", "--station", station, tmp_path / "watch.db")
+            assert (done.status, done.out) == (1, "RDS WARNING - disk: rows wait to be written for 5 s\n")
+    net.run(10, tick=0.5)
+    net.end()
+    ((begin, end),) = net.asked("SELECT begin_at, end_at FROM alarm_rows")
+    assert 15 < begin - START < 17 and 29 < end - START < 32
+
+
+def no_space(self: Any, path: str, data: memoryview) -> int:
+    raise OSError(28, "No space left on device")
+
+
+def test_a_database_that_nothing_is_written_to(tmp_path: Path) -> None:
+    """The watch holds its lock and writes no more: it is not said that it doesn't run."""
+    net = network(tmp_path, Air(ALPHA, START, 100))
+    net.run(10)
+    net.end()
+    asked, path = ("check", "--station", "Alpha", tmp_path / "watch.db"), tmp_path / "watch.lock"
+    with open(path, "wb") as lock:
+        fcntl.flock(lock, fcntl.LOCK_EX)
+        done = run(*asked)
+        assert done.status == 3 and "rds-monitor watch has just begun" in done.out
+        os.utime(path, (1, 1))
+        done = run(*asked)
+    assert done.status == 2 and done.out.startswith("RDS CRITICAL - disk: nothing was written for ")
+    assert "," not in done.out and "|" not in done.out
+    assert run(*asked).status == 3
+
+
+def test_a_listing_that_is_deleted(tmp_path: Path) -> None:
+    """The rows that come after are in a new file."""
+    net = network(tmp_path, Air(ALPHA, START, 100))
+    net.run(10)
+    ((hour, _),) = net.hours("Alpha")
+    (tmp_path / "listings" / "Alpha" / hour.name).unlink()
+    net.run(10)
+    ((again, rows),) = net.hours("Alpha")
+    assert again == hour and 8 < (rows["place"].max() - rows["place"].min()) / RATE <= 10
+    net.end()
+
+
+def test_check_of_a_dynamic_ps(tmp_path: Path) -> None:
+    """A PS of the last minute fits, though the last one is another; a minute later it does not."""
+    net = network(tmp_path, Air(ALPHA, START, 30), Plan(dies=300))
+    news = Air(ALPHA._replace(ps="NEWS"), START, 200)
+    air = net.airs["a"]
+    air._data = numpy.concatenate([air._data[: air.at(15)], news._data[air.at(15) :]])
+    net.run(40)
+    for seconds, fits in ((0, True), (70, False)):
+        net.run(seconds)
+        verdict = Verdict()
+        verdict.judge(
+            seen_of(net.watch.stations["Alpha"].state(net.times.utc)), Limits(0, 0, 99, 99), None, ["ALPHA"]
+        )
+        assert (verdict.status == 0) == fits, verdict.said
+    net.end()

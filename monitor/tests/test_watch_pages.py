@@ -11,24 +11,36 @@ from html.parser import HTMLParser
 from pathlib import Path
 from typing import Any, Dict, List, Tuple
 
+from rds_monitor.db.parts import EventRow, MinuteRow, Told
+from rds_monitor.measures.errors import Interval
 from rds_monitor.watch.alarms import NAMES
 from rds_monitor.watch.metrics import METRICS, metrics_text
-from rds_monitor.watch.pages import Bar, bars_of, overview, picture, severity, station_page, worst_first, write_pages
+from rds_monitor.db.standing import Availability, standing_of
+from rds_monitor.watch.pages import Bar, bars_of, overview, picture, station_page, worst_first, write_pages
 from rds_monitor.watch.records import AlarmChanged, PartKey, PartOpened, PartTold, Records
-from rds_monitor.watch.session import EventRow, MinuteRow, Told
-from rds_monitor.measure import Interval
 from rds_monitor.watch.times import Timing
 
 UTC = 1795748400.0
+DAY = Availability(80000.0, 400.0, 3000.0, 3000.0)
 HOSTILE = "<script>alert(1)</script>\"'& \u202e\x1b[2J" + "a" + "\u0301" * 64
 
 
 def state(**changes: Any) -> Dict[str, Any]:
     known: Dict[str, Any] = {
-        "utc": UTC, "frequency": 98.1, "expected_pi": "D318", "running": True, "starts": 3, "reason": "", "session_utc": UTC - 1000,
-        "held": {"pi": "D318", "ps": "ALPHA", "rt": "Now: nothing", "pty": "10 Pop music"}, "last_group_utc": UTC - 0.5,
-        "minute": {"sent": 2740, "valid": 2466, "corrected": 100}, "clock_s": -0.25, "signal": {"snr_db": 21.5},
-        "blocks": {"valid": 10, "corrected": 2, "lost": 3, "missing": 4}, "alarms": {},
+        "utc": UTC,
+        "frequency": 98.1,
+        "expected_pi": "D318",
+        "running": True,
+        "starts": 3,
+        "reason": "",
+        "session_utc": UTC - 1000,
+        "held": {"pi": "D318", "ps": "ALPHA", "rt": "Now: nothing", "pty": "10 Pop music"},
+        "last_group_utc": UTC - 0.5,
+        "minute": {"sent": 2740, "valid": 2466, "corrected": 100},
+        "clock_s": -0.25,
+        "signal": {"snr_db": 21.5},
+        "blocks": {"valid": 10, "corrected": 2, "lost": 3, "missing": 4},
+        "alarms": {},
     }
     return {**known, **changes}
 
@@ -51,17 +63,18 @@ class Tags(HTMLParser):
 
 def test_a_hostile_station() -> None:
     """Its texts are shown as texts, escaped where they would act."""
-    it = state(held={"pi": "D318", "ps": HOSTILE, "rt": HOSTILE, "pty": HOSTILE}, alarms={"ps": HOSTILE}, reason=HOSTILE, session_utc=None)
-    bars = [Bar(10, 9, 1)]
+    held = {"pi": "D318", "ps": HOSTILE, "rt": HOSTILE, "pty": HOSTILE}
+    one = state(held=held, alarms={"ps": HOSTILE}, reason=HOSTILE, session_utc=None)
+    bars, events = [Bar(10, 9, 1)], [(UTC, "ps", HOSTILE), (UTC, "rt", None)]
     for page in (
-        overview({"Al<b>pha": it}, {"Al<b>pha": bars}, UTC, 60),
-        station_page("Al<b>pha", it, bars, [("ps", UTC, None, HOSTILE)], [(UTC, "ps", HOSTILE), (UTC, "rt", None)], UTC, 60),
+        overview({"Al<b>pha": one}, {"Al<b>pha": bars}, UTC, 60),
+        station_page("Al<b>pha", one, bars, [("ps", UTC, None, HOSTILE)], events, UTC, 60),
     ):
         found = Tags(page)
         names = {tag for tag, _ in found.tags}
         assert "script" not in names and "b" not in names
         assert not [name for _, attributes in found.tags for name in attributes if name.startswith("on")]
-        assert "<script>alert(1)</script>" in found.text and "\\x1b[2J" in found.text and "\\u202e" in found.text
+        assert all(text in found.text for text in ("<script>alert(1)</script>", "\\x1b[2J", "\\u202e"))
         assert "\x1b" not in page and "\u202e" not in page and "\u0301\u0301\u0301" not in page
 
 
@@ -77,69 +90,90 @@ def test_the_policy_of_a_page() -> None:
 
 def test_a_tile() -> None:
     text = Tags(overview({"Alpha": state(alarms={"ta": "TA is on"})}, {"Alpha": []}, UTC, 60)).text
-    for shown in ("1 stations, 1 with an alarm", "98.1 MHz", "ALPHA", "Now: nothing", "PI D318", "ta: TA is on", "10.0 % of the last minute bad", "group 0 s ago"):
-        assert shown in text
-    assert "no minute yet; no whole group yet" in Tags(overview({"A": state(minute=None, last_group_utc=None)}, {"A": []}, UTC, 60)).text
+    shown = "1 stations, 1 with an alarm/98.1 MHz/ALPHA/Now: nothing/PI D318/ta: TA is on/10.0 % of the last minute bad"
+    assert all(one in text for one in [*shown.split("/"), "group 0 s ago"])
+    text = Tags(overview({"A": state(minute=None, last_group_utc=None)}, {"A": []}, UTC, 60)).text
+    assert "no minute yet; no whole group yet" in text
 
 
 def test_a_picture_is_in_proportion() -> None:
     """Of 40 pixels those of bad blocks are at the top, then those of corrected ones."""
-    drawn = re.findall(r'class="(\w+)" x="0" y="([\d.]+)" width="1" height="([\d.]+)"', picture([Bar(100, 70, 20)], 40, "Alpha"))
+    pattern = r'class="(\w+)" x="0" y="([\d.]+)" width="1" height="([\d.]+)"'
+    drawn = re.findall(pattern, picture([Bar(100, 70, 20)], 40, "Alpha"))
     assert drawn == [("fine", "12.0", "28.0"), ("fixed", "4.0", "8.0"), ("bad", "0.0", "4.0")]
 
 
 def test_stations_with_an_alarm_are_counted_once() -> None:
     states = {"a": state(alarms={"ta": "", "pi": ""}), "b": state()}
     assert "2 stations, 1 with an alarm" in Tags(overview(states, {"a": [], "b": []}, UTC, 60)).text
-    for alarm in NAMES:
-        assert severity(state(alarms={alarm: ""})) == ("critical" if alarm in ("silent", "no_rds", "pi") else "warning")
+    critical = [alarm for alarm in NAMES if standing_of(state(alarms={alarm: ""})).severity == "critical"]
+    assert critical == ["silent", "no_rds", "pi"]
 
 
 def test_the_worst_first() -> None:
-    states = {
-        "a": state(), "b": state(minute={"sent": 10, "valid": 1, "corrected": 0}), "c": state(alarms={"ta": ""}), "d": state(alarms={"no_rds": ""}),
-    }
+    bad, ta, gone = (
+        {"minute": {"sent": 10, "valid": 1, "corrected": 0}},
+        {"alarms": {"ta": ""}},
+        {"alarms": {"no_rds": ""}},
+    )
+    states = {"a": state(), "b": state(**bad), "c": state(**ta), "d": state(**gone)}
     assert worst_first(states) == ["d", "c", "b", "a"]
 
 
 def test_an_outage_is_seen_in_a_day() -> None:
     """Two blocks of a day's picture are a line of one pixel at least; a gap is none."""
     drawn = picture([Bar(0, 0, 0), Bar(11000, 10998, 0)], 40, "Alpha")
-    assert 'class="bad" x="1" y="0.0" width="1" height="1.0"' in drawn and 'x="0"' not in drawn.replace('x1="0"', "")
+    assert 'class="bad" x="1" y="0.0" width="1" height="1.0"' in drawn
+    assert 'x="0"' not in drawn.replace('x1="0"', "")
 
 
 def filled(folder: Path) -> Records:
     records = Records(str(folder / "watch.db"))
     key, timing = PartKey("Alpha 1", 0), Timing(UTC - 3600)
-    minutes = [
-        MinuteRow(n, Interval(n * 71250, (n + 1) * 71250, 2740, 2740 - 100 * (n == 30), 7, 0, 100 * (n == 30)), {"0A": 5}, {"ps": "ALPHA"}, None, 0)
-        for n in range(60)
-    ]
+    minutes = []
+    for n in range(60):
+        bad = 100 * (n == 30)
+        blocks = Interval(n * 71250, (n + 1) * 71250, 2740, 2740 - bad, 7, 0, bad)
+        minutes.append(MinuteRow(n, blocks, {"0A": 5}, {"ps": "ALPHA"}, None, 0))
     told = Told(minutes, [EventRow(104, 0, "ps", "ALPHA"), EventRow(71250, 0, "ps", None)], [], [], [])
-    records.write([PartOpened(key, "Alpha", timing, 0, "listings/Alpha/x.csv"), PartTold(key, told),
-                   AlarmChanged("Alpha", "ta", True, UTC - 60, "TA is on")])
+    opened = PartOpened(key, "Alpha", timing, 0, "listings/Alpha/x.csv")
+    records.write([opened, PartTold(key, told), AlarmChanged("Alpha", "ta", True, UTC - 60, "TA is on")])
     return records
 
 
 def test_pages_of_a_database(tmp_path: Path) -> None:
     records = filled(tmp_path)
-    records.write([AlarmChanged("Alpha", "pi", True, UTC - 90, "PI D319"), AlarmChanged("Alpha", "pi", False, UTC - 75, "")])
+    pi = AlarmChanged("Alpha", "pi", True, UTC - 90, "PI D319")
+    records.write([pi, pi._replace(begins=False, utc=UTC - 75, text="")])
     bars = bars_of(records.database, "Alpha", UTC)
-    assert len(bars) == 360 and sum(bar.sent for bar in bars) == 60 * 2740 and sum(bar.sent - bar.valid for bar in bars) == 100
+    assert len(bars) == 360
+    assert sum(bar.sent for bar in bars) == 60 * 2740
+    assert sum(bar.sent - bar.valid for bar in bars) == 100
     # The last one has just begun. The minute of the fault is 30 minutes old, in the eighth before.
-    assert [at for at, bar in enumerate(bars) if bar.valid < bar.sent] == [351] and not bars[359].sent and bars[358].sent == 4 * 2740
+    assert [at for at, bar in enumerate(bars) if bar.valid < bar.sent] == [351]
+    assert not bars[359].sent
+    assert bars[358].sent == 4 * 2740
     assert sum(bar.corrected for bar in bars) == 60 * 7
-    write_pages(str(tmp_path / "pages"), {"Alpha": state(), "Be ta": state()}, UTC, records.database, 60)
-    assert sorted(it.name for it in (tmp_path / "pages").iterdir()) == ["Alpha.html", "Be ta.html", "index.html"]
+    write_pages(
+        str(tmp_path / "pages"), {"Alpha": state(), "Be ta": state()}, {}, {}, UTC, records.database, 60
+    )
+    names = sorted(path.name for path in (tmp_path / "pages").iterdir())
+    assert names == ["Alpha.html", "Be ta.html", "index.html"]
     page = (tmp_path / "pages" / "Alpha.html").read_text()
     # Newest first: an alarm that lasts has no end, and an item that is no longer sent no value.
-    alarms, changes = (re.findall(r"<td class=\"text\"><bdi>(.*?)</bdi>", it) for it in page.split("<h2>Alarms</h2>")[1].split("<h2>"))
-    assert alarms == ["ta", "2026-11-27 02:59:00", "", "TA is on", "pi", "2026-11-27 02:58:30", "2026-11-27 02:58:45", "PI D319"]
+    alarms, changes = (
+        re.findall(r"<td class=\"text\"><bdi>(.*?)</bdi>", one)
+        for one in page.split("<h2>Alarms</h2>")[1].split("<h2>")
+    )
+    lasting = ["ta", "2026-11-27 02:59:00", "", "TA is on"]
+    assert alarms == [*lasting, "pi", "2026-11-27 02:58:30", "2026-11-27 02:58:45", "PI D319"]
     assert changes == ["2026-11-27 02:01:00", "PS", "none", "2026-11-27 02:00:00", "PS", "ALPHA"]
     assert "3 starts of the receiver" in page and "24 h ago</span><span>12 h ago</span><span>now" in page
     assert 'href="Be%20ta.html"' in (tmp_path / "pages" / "index.html").read_text()
     begin = time.process_time()
-    write_pages(str(tmp_path / "pages"), {f"S{n}": state() for n in range(30)}, UTC, records.database, 60)
+    write_pages(
+        str(tmp_path / "pages"), {f"S{n}": state() for n in range(30)}, {}, {}, UTC, records.database, 60
+    )
     assert time.process_time() - begin < 10
     records.close()
 
@@ -154,23 +188,43 @@ def test_each_record_counts_once(tmp_path: Path) -> None:
 
 def dump(folder: Path) -> List[str]:
     data = sqlite3.connect(folder / "watch.db")
-    try:
-        return list(data.iterdump())
-    finally:
-        data.close()
+    found = list(data.iterdump())
+    data.close()
+    return found
 
 
 def test_metrics() -> None:
-    text = metrics_text({'Al"pha\\\n': state(alarms={"ta": "x"}), "Beta": state(clock_s=None, minute=None, signal={})}, UTC)
+    beta = state(clock_s=None, minute=None, signal={})
+    text = metrics_text(
+        {'Al"pha\\\n': state(alarms={"ta": "x"}), "Beta": beta},
+        dict.fromkeys(['Al"pha\\\n', "Beta"], DAY),
+        {},
+        UTC,
+    )
     lines = text.splitlines()
-    for line in lines:
-        assert re.fullmatch(r'# (HELP|TYPE) rds_\w+ .+|rds_\w+(\{(\w+="([^"\\]|\\["\\n])*",?)+\})? -?[0-9.e+]+', line), line
-    assert 'rds_alarm{station="Al\\"pha\\\\\\n",alarm="ta"} 1' in lines and 'rds_alarm{station="Beta",alarm="ta"} 0' in lines
-    assert 'rds_bad_blocks_ratio{station="Al\\"pha\\\\\\n"} 0.1' in lines and f"rds_watch_timestamp_seconds {UTC:.15g}" in lines
+    sample = r'rds_\w+(\{(\w+="([^"\\]|\\["\\n])*",?)+\})? -?[0-9.e+]+'
+    assert all(re.fullmatch(rf"# (HELP|TYPE) rds_\w+ .+|{sample}", line) for line in lines)
+    assert 'rds_alarm{station="Al\\"pha\\\\\\n",alarm="ta"} 1' in lines
+    assert 'rds_alarm{station="Beta",alarm="ta"} 0' in lines
+    assert 'rds_bad_blocks_ratio{station="Al\\"pha\\\\\\n"} 0.1' in lines
+    assert f"rds_watch_timestamp_seconds {UTC:.15g}" in lines
     assert len([line for line in lines if line.startswith("rds_clock_offset")]) == 1
     # The rest of one station, and a minute in which nothing was sent.
-    (other,) = [metrics_text({"B": state(running=False, held={"pi": "D319"}, minute={"sent": 0, "valid": 0})}, UTC)]
+    known = state(running=False, held={"pi": "D319"}, minute={"sent": 0, "valid": 0})
+    other = metrics_text({"B": known}, {"B": DAY}, {"disk": "rows wait"}, UTC)
     values = dict(re.findall(r'^rds_(\w+)\{station="B"(?:,outcome="valid")?\} (.*)$', other, re.M))
-    assert values == {"receiver_up": "0", "receiver_starts_total": "3", "blocks_total": "10", "last_group_timestamp_seconds": f"{UTC - 0.5:.15g}",
-                      "clock_offset_seconds": "-0.25", "pi_as_expected": "0", "snr_db": "21.5"}
-    assert [line.split()[2] for line in lines if line.startswith("# TYPE")] == [it.name for it in METRICS]
+    assert values == {
+        "receiver_up": "0",
+        "receiver_starts_total": "3",
+        "blocks_total": "10",
+        "last_group_timestamp_seconds": f"{UTC - 0.5:.15g}",
+        "clock_offset_seconds": "-0.25",
+        "pi_as_expected": "0",
+        "snr_db": "21.5",
+    }
+    for line in ('day_seconds{station="B",state="down"} 3000', 'station_state{station="B",state="good"} 1'):
+        assert f"rds_{line}" in other.splitlines()
+    assert 'rds_alarm{alarm="disk"} 1' in other.splitlines() and 'rds_alarm{alarm="disk"} 0' in lines
+    assert [line.split()[2] for line in lines if line.startswith("# TYPE")] == [
+        metric.name for metric in METRICS
+    ]

@@ -9,19 +9,19 @@ from typing import List, Optional
 import pytest
 
 from network import START, Air
-from rds_monitor.content import Event
+from rds_monitor.content.decoder import Event
+from rds_monitor.db.parts import Contents, Part
+from rds_monitor.rows.clock import Clock
 from rds_monitor.watch import loop
 from rds_monitor.watch.live import Append
 from rds_monitor.watch.loop import Hooks
-from rds_monitor.watch.receiver import Keeper
+from rds_monitor.watch.receiver import Keeper, Process
 from rds_monitor.watch.records import Records, RunBegan
-from rds_monitor.watch.session import Contents, Part
-from rds_monitor.watch.times import Timing
 from rds_monitor.watch.writer import Batch, Writer, WriterThread
 from test_watch_network import ALPHA, network
 
 
-class Leaving:
+class Leaving(Process):
     """A command that writes its last bytes between a read and its end."""
 
     def __init__(self) -> None:
@@ -33,11 +33,10 @@ class Leaving:
     def ended(self) -> Optional[str]:
         return "ended with status 0" if len(self._left) < 4 else None
 
-    def terminate(self) -> None: ...
+    def kill(self) -> None:
+        ...
 
-    def kill(self) -> None: ...
-
-    def close(self) -> None: ...
+    close = kill
 
 
 def test_the_last_bytes_of_a_receiver() -> None:
@@ -73,41 +72,44 @@ def test_commands_in_their_order(tmp_path: Path, monkeypatch: pytest.MonkeyPatch
 def test_bytes_that_came_just_before_a_stop(tmp_path: Path) -> None:
     """They are read once more. Steps of the machine's clock are told with their direction."""
     air = Air(ALPHA, START, 40)
-    it = network(tmp_path, air)
+    one = network(tmp_path, air)
     for seconds in (0.0, 100.0, -50.0):
-        it.times.utc += seconds
-        it.run(10)
-    it.times.pass_by(0.9)
-    it.end()
-    ((_, run),) = it.given
+        one.times.utc += seconds
+        one.run(10)
+    one.times.pass_by(0.9)
+    one.end()
+    ((_, run),) = one.given
     assert len(run.given) == air.at(30.9) - air.at(1.0)
-    for path, size in it.asked("SELECT path, bytes FROM hour_files"):
+    for path, size in one.asked("SELECT path, bytes FROM hour_files"):
         assert (tmp_path / path).stat().st_size == size
-    assert [text for text in it.said if "clock was set" in text] == [
-        f"the machine's clock was set {way} by {seconds} s" for way, seconds in (("forward", 100.0), ("back", 50.0))]
+    steps = ("forward by 100.0 s", "back by 50.0 s")
+    told = [text for text in one.said if "clock was set" in text]
+    assert told == [f"the machine's clock was set {step}" for step in steps]
 
 
 def test_the_last_minute_of_a_station(tmp_path: Path) -> None:
     """Pages and plugins are told what the database has of it."""
     air = Air(ALPHA, START, 100)
     air._data[4000:12000:41] ^= 0x10
-    it = network(tmp_path, air)
-    it.run(90)
-    state = it.watch.stations["Alpha"].state(0.0)["minute"]
-    ((sent, valid, corrected, lost),) = it.asked(
-        "SELECT sent, valid, corrected, lost FROM minute_rows ORDER BY session DESC, minute DESC LIMIT 1")
-    assert (state["sent"], state["valid"], state["corrected"]) == (sent, valid, corrected) and 0 < corrected != lost
-    it.end()
+    one = network(tmp_path, air)
+    one.run(90)
+    state = one.watch.stations["Alpha"].state(0.0)["minute"]
+    query = "SELECT sent, valid, corrected, lost FROM minute_rows ORDER BY session DESC, minute DESC LIMIT 1"
+    ((sent, valid, corrected, lost),) = one.asked(query)
+    assert (state["sent"], state["valid"], state["corrected"]) == (sent, valid, corrected)
+    assert 0 < corrected != lost
+    one.end()
 
 
 def test_changes_that_are_too_many() -> None:
     """Of an item six are stored per minute, and the others counted."""
-    part = Part(Timing(0.0), 0, Contents(1187.5))
+    part = Part(Clock(0.0), 0, Contents(1187.5))
     for number in range(9):
         part._keep(Event(104 * number, 0xD318, "ps", str(number), None, str(number)))
     part.pass_to(3 * 71250)
     told = part.taken()
-    assert [it.text for it in told.events] == list("012345") and [it.more for it in told.minutes] == [3, 0]
+    assert [event.text for event in told.events] == list("012345")
+    assert [minute.more for minute in told.minutes] == [3, 0]
 
 
 def test_runs_of_a_watch_that_was_killed(tmp_path: Path) -> None:

@@ -4,20 +4,23 @@ from __future__ import annotations
 
 import json
 import os
+import random
 import resource
 import signal
 import socket
-import sqlite3
 import subprocess
 import sys
 import time
 from pathlib import Path
-from typing import Any, Callable, Dict, Iterator, List, Tuple
+from typing import Any, Callable, Dict, Iterable, Iterator, List, Tuple
 
 import pytest
 
-from conftest import TOP, encode, monitor
-from network import GROUPS_PER_SECOND, decoders_of, hours_in, numbers_in
+from conftest import COMMAND, TOP, encode, monitor
+from made import run
+from modulator import mpx, stored
+from network import GROUPS_PER_SECOND, Programme, asked, decoders_of, hours_in, numbers_in, told_once
+from rds_monitor.watch.records import Records, StateSeen
 
 STATION = TOP / "monitor" / "demo" / "station.py"
 # For a machine that is loaded; nothing waits for so long else.
@@ -40,14 +43,16 @@ def nothing_is_left() -> Iterator[None]:
     STARTED.clear()
 
 
-def receiver(folder: Path, *words: str, name: str = "sent") -> List[str]:
-    return [sys.executable, str(STATION), "--pi", "D318", "--ps", "ALPHA", "--rt", "Now: nothing", "--sent", str(folder / name), *words]
+def receiver(folder: Path, *words: str) -> List[str]:
+    words = ("--pi", "D318", "--ps", "ALPHA", "--rt", "Now: nothing", "--sent", str(folder / "sent"), *words)
+    return [sys.executable, str(STATION), *words]
 
 
 def table(folder: Path, *lines: str, command: "List[str] | None" = None) -> Path:
     path = folder / "stations.toml"
     words = json.dumps(command or receiver(folder))
-    path.write_text("\n".join([f'folder = "{folder}"', "[[station]]", 'name = "Alpha"', f"command = {words}", *lines]) + "\n")
+    alpha = (f'folder = "{folder}"', "[[station]]", 'name = "Alpha"', f"command = {words}")
+    path.write_text("\n".join([*alpha, *lines, ""]))
     return path
 
 
@@ -56,11 +61,9 @@ class Process:
 
     def __init__(self, folder: Path, path: Path, program: str = "", **environment: str):
         self.folder, self.log = folder, folder / "log"
+        words = [*COMMAND, "watch", *(["--program", program] if program else []), str(path)]
         with open(self.log, "ab") as log:
-            self.it = subprocess.Popen(
-                [sys.executable, "-m", "rds_monitor", "watch", *(["--program", program] if program else []), str(path)],
-                stderr=log, env={**os.environ, **environment},
-            )
+            self.it = subprocess.Popen(words, stderr=log, env={**os.environ, **environment})
         STARTED.append(self.it.pid)
 
     def until(self, holds: Callable[[], bool]) -> None:
@@ -80,7 +83,7 @@ class Process:
     def receiver(self) -> int:
         """The process of its only receiver."""
         children = Path(f"/proc/{self.it.pid}/task/{self.it.pid}/children").read_text().split()
-        (found,) = {int(it) for it in children} - set(decoders_of(self.it.pid))
+        (found,) = {int(pid) for pid in children} - set(decoders_of(self.it.pid))
         return found
 
     def end(self, number: int = signal.SIGTERM) -> int:
@@ -91,15 +94,7 @@ class Process:
 
 
 def written(folder: Path) -> int:
-    return sum(it.stat().st_size for it in (folder / "listings").glob("*/*.csv"))
-
-
-def asked(folder: Path, query: str) -> List[Tuple[Any, ...]]:
-    data = sqlite3.connect(folder / "watch.db", timeout=PATIENCE)
-    try:
-        return data.execute(query).fetchall()
-    finally:
-        data.close()
+    return sum(path.stat().st_size for path in (folder / "listings").glob("*/*.csv"))
 
 
 def sent_in(path: Path) -> List[Tuple[int, int, float]]:
@@ -114,20 +109,30 @@ def sent_in(path: Path) -> List[Tuple[int, int, float]]:
 @pytest.mark.parametrize("number", [signal.SIGTERM, signal.SIGINT])
 def test_a_watch_that_is_ended(tmp_path: Path, number: int) -> None:
     """Its sessions have their totals, its receivers are gone, and all that they sent is there."""
-    it = Process(tmp_path, table(tmp_path))
-    it.receives(1000)
-    process = it.receiver()
-    assert it.end(number) == 0 and not Path(f"/proc/{process}").exists()
+    one = Process(tmp_path, table(tmp_path))
+    one.receives(1000)
+    process = one.receiver()
+    assert one.end(number) == 0 and not Path(f"/proc/{process}").exists()
     # two, if an hour ends meanwhile
     *earlier, hour = sorted((tmp_path / "listings" / "Alpha").iterdir())
     assert len(earlier) < 2
     assert hour.read_bytes().endswith(b"-,-,-,-,-\n") and b"total,losses," in hour.read_bytes()
     assert monitor("info", hour).returncode == 0
     assert asked(tmp_path, "SELECT reason FROM runs") == [("the watch ended",)]
-    everything = {number for number, _ in numbers_in(hours_in(tmp_path, "Alpha"))}
-    sent = sent_in(tmp_path / "sent")
-    wanted = {n & 0xFFFFFFFF for n in range(sent[0][0] + 6, sent[-2][1]) if n % 6 == 5 and not crosses_minute(n)}
-    assert wanted <= everything
+    all_received(tmp_path)
+
+
+def all_received(folder: Path) -> None:
+    """Each group that the receiver sent whole, but for the first and the last ones, is there once."""
+    sent = sent_in(folder / "sent")
+    wanted = numbered(range(sent[0][0] + 6, sent[-2][1]))
+    numbers = [number for number, _ in numbers_in(hours_in(folder, "Alpha"))]
+    assert numbers == sorted(set(numbers)) and set(wanted) <= set(numbers)
+
+
+def numbered(numbers: Iterable[int]) -> List[int]:
+    """The numbers of the groups that have them."""
+    return [n & 0xFFFFFFFF for n in numbers if n % 6 == 5 and not crosses_minute(n)]
 
 
 def crosses_minute(number: int) -> bool:
@@ -136,15 +141,16 @@ def crosses_minute(number: int) -> bool:
 
 
 def test_pages_and_metrics(tmp_path: Path) -> None:
-    it = Process(tmp_path, table(tmp_path, 'pi = "D319"', "frequency = 98.1"))
-    it.says("alarm pi begins: PI D318 in place of D319")
-    it.until(lambda: 'rds_alarm{station="Alpha",alarm="pi"} 1' in (tmp_path / "metrics.prom").read_text())
+    process = Process(tmp_path, table(tmp_path, 'pi = "D319"', "frequency = 98.1"))
+    process.says("alarm pi begins: PI D318 in place of D319")
+    line = 'rds_alarm{station="Alpha",alarm="pi"} 1'
+    process.until(lambda: line in (tmp_path / "metrics.prom").read_text())
     page = (tmp_path / "pages" / "index.html").read_text()
     assert "PI D318 in place of D319" in page and 'class="tile critical"' in page and "<script" not in page
     assert "Alpha" in (tmp_path / "pages" / "Alpha.html").read_text()
     done = monitor("check", "--station", "Alpha", tmp_path / "watch.db")
     assert done.returncode == 2 and b"RDS CRITICAL - pi: PI D318 in place of D319" in done.stdout
-    assert it.end() == 0
+    assert process.end() == 0
     # The alarm lasts: nobody saw it end.
     assert asked(tmp_path, "SELECT alarm, end_utc FROM alarms") == [("pi", None)]
 
@@ -152,27 +158,27 @@ def test_pages_and_metrics(tmp_path: Path) -> None:
 def test_a_table_that_is_read_again(tmp_path: Path) -> None:
     """After an error the old one holds. The receiver is not restarted for other limits."""
     path = table(tmp_path)
-    it = Process(tmp_path, path)
-    it.receives(500)
+    process = Process(tmp_path, path)
+    process.receives(500)
     good = path.read_text()
     path.write_text("[[station")
-    it.it.send_signal(signal.SIGHUP)
-    it.says("the old table holds")
+    process.it.send_signal(signal.SIGHUP)
+    process.says("the old table holds")
     path.write_text(good + 'pi = "D319"\n')
-    it.it.send_signal(signal.SIGHUP)
-    it.says("the table is read again: 1 stations")
-    it.says("alarm pi begins")
-    assert it.end() == 0
+    process.it.send_signal(signal.SIGHUP)
+    process.says("the table is read again: 1 stations")
+    process.says("alarm pi begins")
+    assert process.end() == 0
     assert asked(tmp_path, "SELECT COUNT(*) FROM runs") == [(1,)]
 
 
 def test_one_watch_per_folder(tmp_path: Path) -> None:
     path = table(tmp_path)
-    it = Process(tmp_path, path)
-    it.receives()
+    process = Process(tmp_path, path)
+    process.receives()
     other = monitor("watch", path)
     assert other.returncode == 1 and b"another watch writes to" in other.stderr
-    assert it.end() == 0
+    assert process.end() == 0
 
 
 # ---- killed
@@ -195,10 +201,9 @@ for line in sys.stdin:
 
 class Forker:
     def __init__(self, folder: Path):
+        words, pipe = [sys.executable, "-c", FORKER], subprocess.PIPE
         with open(folder / "log", "ab") as log:
-            self._it = subprocess.Popen(
-                [sys.executable, "-c", FORKER], stdin=subprocess.PIPE, stdout=subprocess.PIPE, stderr=log, text=True
-            )
+            self._it = subprocess.Popen(words, stdin=pipe, stdout=pipe, stderr=log, text=True)
         STARTED.append(self._it.pid)
 
     def start(self, path: Path) -> int:
@@ -224,8 +229,6 @@ class Forker:
 
 def test_killed_fifty_times(tmp_path: Path) -> None:
     """At random moments: nothing is lost but the last second, nothing is there twice, and the database agrees."""
-    import random
-
     chance = random.Random(7)
     path, forker = table(tmp_path), Forker(tmp_path)
     kills: List[float] = []
@@ -247,15 +250,16 @@ def test_killed_fifty_times(tmp_path: Path) -> None:
     told_once(tmp_path)
     # A machine that is loaded gives bits late.
     high = int(time.time() * GROUPS_PER_SECOND) >> 32 << 32
-    off = sorted(abs(utc - (high + number) / GROUPS_PER_SECOND) for number, utc in numbers_in(hours_in(tmp_path, "Alpha")))
+    hours = hours_in(tmp_path, "Alpha")
+    off = sorted(abs(utc - (high + number) / GROUPS_PER_SECOND) for number, utc in numbers_in(hours))
     assert off[len(off) // 2] < 1
 
 
 def nothing_lost(found: "set[int]", sent: List[Tuple[int, int, float]], kills: List[float]) -> None:
     """Between the first group of a session that is there and the last second before a kill, each is there."""
     for begin, end in zip([0.0, *kills], [*kills, 1e12]):
-        mine = [it for it in sent if begin < it[2] <= end - 2]
-        numbers = [n & 0xFFFFFFFF for first, after, _ in mine for n in range(first, after) if n % 6 == 5 and not crosses_minute(n)]
+        mine = [one for one in sent if begin < one[2] <= end - 2]
+        numbers = numbered(n for first, after, _ in mine for n in range(first, after))
         there = [n for n in numbers if n in found]
         if there:
             # The first groups may have come before the decoder had sync.
@@ -263,51 +267,41 @@ def nothing_lost(found: "set[int]", sent: List[Tuple[int, int, float]], kills: L
             assert [n for n in wanted if n not in found] == []
 
 
-def told_once(folder: Path) -> None:
-    rows = [rows for _, rows in hours_in(folder, "Alpha")]
-    valid = sum(int(sum((part[f"kind{block}"] == 2).sum() for block in (1, 2, 3, 4))) for part in rows)
-    assert asked(folder, "SELECT SUM(valid) FROM minute_rows") == [(valid,)]
-    assert asked(folder, "SELECT COUNT(*) FROM hour_files WHERE is_open") == [(0,)]
-    assert asked(folder, "SELECT COUNT(*) FROM event_rows JOIN facts ON facts.id = fact WHERE item = 'ps'")[0][0] <= len(rows)
-
-
 # ---- receivers
 
 
 def test_a_receiver_that_is_killed(tmp_path: Path) -> None:
-    it = Process(tmp_path, table(tmp_path))
-    it.receives(500)
-    os.kill(it.receiver(), signal.SIGKILL)
-    it.says("Alpha: the receiver was ended by SIGKILL")
-    it.receives(500)
-    assert it.end() == 0
+    process = Process(tmp_path, table(tmp_path))
+    process.receives(500)
+    os.kill(process.receiver(), signal.SIGKILL)
+    process.says("Alpha: the receiver was ended by SIGKILL")
+    process.receives(500)
+    assert process.end() == 0
     assert len({number for number, _ in numbers_in(hours_in(tmp_path, "Alpha"))}) > 3
     assert len(list((tmp_path / "listings" / "Alpha").iterdir())) == 2
 
 
 def test_receivers_that_are_none(tmp_path: Path) -> None:
-    it = Process(tmp_path, table(tmp_path, "[[station]]", 'name = "None"', 'command = ["/none/receiver", "-x"]',
-                                 "[[station]]", 'name = "Fails"', 'command = ["sh", "-c", "echo no such device >&2; exit 3"]'))
-    it.says("None: the receiver cannot be started: No such file or directory")
-    it.says("Fails: the receiver ended with status 3: no such device")
-    assert it.end() == 0
+    none = ("[[station]]", 'name = "None"', 'command = ["/none/receiver", "-x"]')
+    fails = ("[[station]]", 'name = "Fails"', 'command = ["sh", "-c", "echo no such device >&2; exit 3"]')
+    process = Process(tmp_path, table(tmp_path, *none, *fails))
+    process.says("None: the receiver cannot be started: No such file or directory")
+    process.says("Fails: the receiver ended with status 3: no such device")
+    assert process.end() == 0
 
 
 def test_mpx_is_demodulated(tmp_path: Path) -> None:
     """The tests' modulator makes six seconds, which a receiver repeats."""
-    from modulator import mpx, stored
-
-    sys.path.insert(0, str(STATION.parent))
-    from station import Programme
-
     programme = Programme(0xD318, "ALPHA", "Now: nothing")
     data = encode([programme.group(n) for n in range(6, 6 + 72)])
     (tmp_path / "mpx").write_bytes(stored(mpx(data, 192000), "s16"))
-    words = ["sh", "-c", f"while cat {tmp_path}/mpx; do sleep 1; done"]
-    it = Process(tmp_path, table(tmp_path, 'form = "mpx"', 'raw = "s16"', "rate = 192000", command=words))
-    it.receives(1000)
-    assert it.end() == 0
-    assert asked(tmp_path, "SELECT DISTINCT value FROM events WHERE item IN ('pi', 'ps') ORDER BY 1") == [("ALPHA",), ("D318",)]
+    words = ["sh", "-c", f"while cat {tmp_path}/mpx; do sleep 6; done"]
+    path = table(tmp_path, 'form = "mpx"', 'raw = "s16"', "rate = 192000", command=words)
+    process = Process(tmp_path, path)
+    process.receives(1000)
+    assert process.end() == 0
+    texts = asked(tmp_path, "SELECT DISTINCT value FROM events WHERE item IN ('pi', 'ps') ORDER BY 1")
+    assert texts == [("ALPHA",), ("D318",)]
 
 
 def test_a_command_for_alarms(tmp_path: Path) -> None:
@@ -315,11 +309,14 @@ def test_a_command_for_alarms(tmp_path: Path) -> None:
     words = receiver(tmp_path)
     words[words.index("ALPHA")] = "; id > x"
     page = f'alarm_command = ["sh", "-c", "printf \'%s|\' \\"$@\\" >> {tmp_path}/pages.log", "-", "{{station}}", "{{alarm}}", "{{state}}", "{{text}}"]'
-    it = Process(tmp_path, table(tmp_path, page, 'ps = "BETA"', "[station.alarms]", "ps = 2", command=words))
-    it.until(lambda: (tmp_path / "pages.log").exists() and (tmp_path / "pages.log").read_text().count("|") == 4)
-    text = (tmp_path / "pages.log").read_text()
-    assert text == "Alpha|ps|begin|PS ; id > x in place of BETA|"
-    assert it.end() == 0 and not (tmp_path / "x").exists() and not Path("x").exists()
+    path, log = (
+        table(tmp_path, page, 'ps = "BETA"', "[station.alarms]", "ps = 2", command=words),
+        tmp_path / "pages.log",
+    )
+    process = Process(tmp_path, path)
+    process.until(lambda: log.exists() and log.read_text().count("|") == 4)
+    assert log.read_text() == "Alpha|ps|begin|PS ; id > x in place of BETA|"
+    assert process.end() == 0 and not (tmp_path / "x").exists() and not Path("x").exists()
 
 
 # ---- the disk, and systemd
@@ -327,22 +324,20 @@ def test_a_command_for_alarms(tmp_path: Path) -> None:
 
 def test_no_room_for_a_while(tmp_path: Path) -> None:
     """Files may not grow: rows wait, an alarm tells of it, and then all of them are there."""
-    it = Process(tmp_path, table(tmp_path, "[station.alarms]", "disk = 1"))
-    it.receives(500)
+    process = Process(tmp_path, table(tmp_path, "[station.alarms]", "disk = 1"))
+    process.receives(500)
     size = max(path.stat().st_size for path in tmp_path.rglob("*") if path.is_file())
-    resource.prlimit(it.it.pid, resource.RLIMIT_FSIZE, (min(size, 4096), resource.RLIM_INFINITY))
-    it.says("rows cannot be written")
+    endless, kind = resource.RLIM_INFINITY, resource.RLIMIT_FSIZE
+    resource.prlimit(process.it.pid, kind, (min(size, 4096), endless))
+    process.says("rows cannot be written")
     time.sleep(3)
-    resource.prlimit(it.it.pid, resource.RLIMIT_FSIZE, (resource.RLIM_INFINITY, resource.RLIM_INFINITY))
-    it.says("rows are written again")
-    it.receives(500)
-    assert it.end() == 0
+    resource.prlimit(process.it.pid, kind, (endless, endless))
+    process.says("rows are written again")
+    process.receives(500)
+    assert process.end() == 0
     *earlier, last_hour = sorted((tmp_path / "listings" / "Alpha").iterdir())
     assert len(earlier) < 2
-    numbers = [number for number, _ in numbers_in(hours_in(tmp_path, "Alpha"))]
-    sent = sent_in(tmp_path / "sent")
-    wanted = {n & 0xFFFFFFFF for n in range(sent[0][0] + 6, sent[-2][1]) if n % 6 == 5 and not crosses_minute(n)}
-    assert numbers == sorted(set(numbers)) and wanted <= set(numbers)
+    all_received(tmp_path)
     assert b"total,losses," in last_hour.read_bytes()
     assert asked(tmp_path, "SELECT alarm FROM alarms") == [("disk",)]
 
@@ -352,28 +347,35 @@ def test_what_systemd_hears(tmp_path: Path) -> None:
     with socket.socket(socket.AF_UNIX, socket.SOCK_DGRAM) as heard:
         heard.bind(address)
         heard.settimeout(PATIENCE)
-        it = Process(tmp_path, table(tmp_path), NOTIFY_SOCKET=address)
+        process = Process(tmp_path, table(tmp_path), NOTIFY_SOCKET=address)
         said = [heard.recv(100).decode() for _ in range(3)]
         assert said == ["READY=1", "WATCHDOG=1", "WATCHDOG=1"]
-        it.it.send_signal(signal.SIGTERM)
+        process.it.send_signal(signal.SIGTERM)
         while said[-1] != "STOPPING=1":
             said.append(heard.recv(100).decode())
-        assert it.it.wait(PATIENCE) == 0
-        STARTED.remove(it.it.pid)
+        assert process.it.wait(PATIENCE) == 0
+        STARTED.remove(process.it.pid)
 
 
 def test_it_opens_no_socket(tmp_path: Path) -> None:
     """Without systemd it has none at all."""
-    it = Process(tmp_path, table(tmp_path))
-    it.receives()
-    links = [os.readlink(path) for path in Path(f"/proc/{it.it.pid}/fd").iterdir() if path.is_symlink()]
+    process = Process(tmp_path, table(tmp_path))
+    process.receives()
+    links = [os.readlink(path) for path in Path(f"/proc/{process.it.pid}/fd").iterdir() if path.is_symlink()]
     assert not [link for link in links if link.startswith("socket:")] and len(links) < 30
-    assert it.end() == 0
+    assert process.end() == 0
 
 
 def test_the_demonstration(tmp_path: Path) -> None:
     """Three simulated stations are on a page, whose address is printed."""
-    words = [sys.executable, str(STATION.parent / "run.py"), "--folder", str(tmp_path / "demo"), "--seconds", "2"]
+    words = [
+        sys.executable,
+        str(STATION.parent / "run.py"),
+        "--folder",
+        str(tmp_path / "demo"),
+        "--seconds",
+        "2",
+    ]
     done = subprocess.run(words, stdout=subprocess.PIPE, stderr=subprocess.DEVNULL, timeout=3 * PATIENCE)
     page = tmp_path / "demo" / "pages" / "index.html"
     assert done.returncode == 0 and done.stdout.decode() == f"{page.as_uri()}\n"
@@ -385,16 +387,18 @@ def test_the_demonstration(tmp_path: Path) -> None:
 
 def state(**changes: Any) -> Dict[str, Any]:
     known: Dict[str, Any] = {
-        "utc": time.time(), "minute": {"sent": 2740, "valid": 2700, "corrected": 20}, "last_group_utc": time.time() - 0.5, "alarms": {},
+        "utc": time.time(),
+        "minute": {"sent": 2740, "valid": 2700, "corrected": 20},
+        "last_group_utc": time.time() - 0.5,
+        "alarms": {},
+        "session_utc": time.time() - 900,
+        "reason": "",
         "held": {"pi": "D318", "ps": "ALPHA"},
     }
     return {**known, **changes}
 
 
 def asked_of(folder: Path, known: Dict[str, Any], *words: str, ago: float = 3) -> Tuple[int, str]:
-    from made import run
-    from rds_monitor.watch.records import Records, StateSeen
-
     records = Records(str(folder / "watch.db"))
     records.write([StateSeen("Alpha", time.time() - ago, known)])
     records.close()
@@ -404,24 +408,31 @@ def asked_of(folder: Path, known: Dict[str, Any], *words: str, ago: float = 3) -
 
 def test_check_asks_the_database(tmp_path: Path) -> None:
     status, line = asked_of(tmp_path, state())
-    assert status == 0 and line.startswith("RDS OK - 98.54 % of the blocks of the last minute valid, last valid group 0.5")
+    assert status == 0
+    assert line.startswith("RDS OK - 98.54 % of the blocks of the last minute valid, last valid group 0.5")
     assert "programme D318, name ALPHA | valid=98.54%;90:;50:;0;100 corrected=0.73%;;;0;100 age=0.5" in line
-    assert asked_of(tmp_path, state(alarms={"ta": "TA is on"}))[0] == 1
-    assert asked_of(tmp_path, state(alarms={"no_rds": "no valid block for 20 s", "ta": "TA is on"}))[0] == 2
-    assert asked_of(tmp_path, state(minute={"sent": 2740, "valid": 2000, "corrected": 20}))[0] == 1
-    assert asked_of(tmp_path, state(minute={"sent": 2740, "valid": 900, "corrected": 20}))[0] == 2
-    assert asked_of(tmp_path, state(), "-w", "99")[0] == 1
-    assert asked_of(tmp_path, state(), "--pi", "D319")[0] == 2 and asked_of(tmp_path, state(), "--pi", "D318")[0] == 0
-    assert asked_of(tmp_path, state(), "--name", "BETA")[0] == 2 and asked_of(tmp_path, state(held={}), "--name", "BETA")[0] == 1
-    assert asked_of(tmp_path, state(last_group_utc=time.time() - 30))[0] == 1
-    assert asked_of(tmp_path, state(last_group_utc=None, minute=None))[0] == 2
+    assert line.endswith(" received=0s noise=0s down=0s unknown=86400s\n")
+    minute = {"sent": 2740, "corrected": 20}
+    for status, known, words in (
+        (1, {"alarms": {"ta": "TA is on"}}, ()),
+        (2, {"alarms": {"no_rds": "no valid block for 20 s", "ta": "TA is on"}}, ()),
+        (1, {"minute": {**minute, "valid": 2000}}, ()),
+        (2, {"minute": {**minute, "valid": 900}}, ()),
+        (1, {}, ("-w", "99")),
+        (2, {}, ("--pi", "D319")),
+        (0, {}, ("--pi", "D318")),
+        (2, {}, ("--name", "BETA")),
+        (1, {"held": {}}, ("--name", "BETA")),
+        (1, {"last_group_utc": time.time() - 30}, ()),
+        (2, {"last_group_utc": None, "minute": None}, ()),
+    ):
+        assert asked_of(tmp_path, state(**known), *words)[0] == status, (known, words)
 
 
 def test_check_without_an_answer(tmp_path: Path) -> None:
-    from made import run
-
     status, line = asked_of(tmp_path, state(), ago=100)
     assert status == 3 and "Alpha was last looked at 100 s ago: rds-monitor watch does not run" in line
-    assert "has no station Beta: there are Alpha" in run("check", "--station", "Beta", tmp_path / "watch.db").out
-    assert run("check", "--station", "Beta", tmp_path / "none.db").status == 3 and not (tmp_path / "none.db").exists()
-    assert run("check", "--station", "Beta", "a", "b").status == 3
+    beta = "check", "--station", "Beta"
+    assert "has no station Beta: there are Alpha" in run(*beta, tmp_path / "watch.db").out
+    assert run(*beta, tmp_path / "none.db").status == run(*beta, "a", "b").status == 3
+    assert not (tmp_path / "none.db").exists()

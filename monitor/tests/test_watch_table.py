@@ -13,31 +13,39 @@ import pytest
 from conftest import TOP
 from made import run
 from network import stations
-from rds_monitor.items import Fault
-from rds_monitor import watch
-from rds_monitor.watch import alarms, asked, journal, loop, receiver, table, times
-from rds_monitor.watch.table import Keep, Limits, StationTable, table_of
+from rds_monitor.rows.items import Fault
+from rds_monitor.watch import alarms, asked, journal, loop, receiver, service as watch, table, times
+from rds_monitor.watch.table import AlarmLimits, Keep, StationTable, table_of
 
 ALPHA = ('name = "Alpha"', 'command = ["receiver", "-f", "98.1M"]')
 
 
 def test_defaults() -> None:
     found = table_of(stations(*ALPHA))
-    (it,) = found.stations
-    assert found.folder is None and found.keep == Keep() and it.command == ("receiver", "-f", "98.1M")
-    assert it.form == "bits" and it.patience == 10 and it.alarms == Limits() and it.pi is None and it.ps == ()
+    (one,) = found.stations
+    assert found.folder is None and found.keep == Keep() and one.command == ("receiver", "-f", "98.1M")
+    assert one == StationTable(
+        "Alpha", one.command, "bits", patience=10, alarms=AlarmLimits(), pi=None, ps=()
+    )
 
 
 def test_all_of_it() -> None:
+    alpha = (
+        'pi = "d318"',
+        'ps = ["ALPHA*", "NEWS"]',
+        'rt = "*"',
+        "frequency = 98.1",
+        'alarm_command = ["page", "{text}"]',
+    )
+    limits = ("[station.alarms]", "silent = 30", "errors_percent = 5")
+    beta = ("--", 'name = "Beta"', 'command = ["b"]', 'form = "iq"', "offset = -1e5")
     found = table_of(
         'folder = "/tmp/a"\n[keep]\nlistings_days = 60\nlistings_gb = 0.5\n[defaults]\nform = "mpx"\nraw = "s16"\nrate = 171000\n'
-        '[defaults.alarms]\nsilent = 20\nta = false\n'
-        + stations(*ALPHA, 'pi = "d318"', 'ps = ["ALPHA*", "NEWS"]', 'rt = "*"', "frequency = 98.1",
-                   'alarm_command = ["page", "{text}"]', "[station.alarms]", "silent = 30", "errors_percent = 5",
-                   "--", 'name = "Beta"', 'command = ["b"]', 'form = "iq"', "offset = -1e5"))
+        "[defaults.alarms]\nsilent = 20\nta = false\n" + stations(*ALPHA, *alpha, *limits, *beta)
+    )
     one, other = found.stations
     assert found.keep == Keep(60, 0.5, 0) and one.pi == "D318" and one.ps == ("ALPHA*", "NEWS")
-    assert one.alarms.silent == 30 and one.alarms.ta is None and one.alarms.errors_percent == 5 and other.alarms.silent == 20
+    assert one.alarms == AlarmLimits(silent=30, ta=None, errors_percent=5) and other.alarms.silent == 20
     assert other.form == "iq" and other.rate == 171000 and other.offset == -1e5 and one.rt == ("*",)
     assert one.same_receiver(one) and not one.same_receiver(other)
 
@@ -67,8 +75,8 @@ def test_all_of_it() -> None:
         (stations(*ALPHA, "[station.alarms]", 'silent = "15"'), "alarm silent of station 'Alpha'"),
         (stations(*ALPHA, "[station.alarms]", "errors_percent = false"), "a number that is not below 0"),
         (stations(*ALPHA, 'ps = ""'), "a pattern or a list of patterns"),
-        ("[keep]\nlistings_days = \"60\"\n" + stations(*ALPHA), "keep.listings_days"),
-        ("[defaults]\nname = \"a\"\n" + stations(*ALPHA), "[defaults]"),
+        ('[keep]\nlistings_days = "60"\n' + stations(*ALPHA), "keep.listings_days"),
+        ('[defaults]\nname = "a"\n' + stations(*ALPHA), "[defaults]"),
     ],
 )
 def test_errors(text: str, fault: str) -> None:
@@ -79,21 +87,17 @@ def test_errors(text: str, fault: str) -> None:
 
 def test_no_reader_of_toml(monkeypatch: pytest.MonkeyPatch) -> None:
     """Of Python 3.9 and 3.10 without tomli; with it, that one reads the table."""
-    real = importlib.import_module
+    real, there = importlib.import_module, set()
 
-    def missing(name: str, *rest: Any) -> Any:
-        if name == "tomllib":
+    def found(name: str) -> Any:
+        if name not in there:
             raise ImportError(name)
-        return real("tomllib") if name == "tomli" and has_tomli else missing_too(name)
+        return real("tomllib")
 
-    def missing_too(name: str) -> Any:
-        raise ImportError(name)
-
-    has_tomli = False
-    monkeypatch.setattr(table.importlib, "import_module", missing)
+    monkeypatch.setattr(table.importlib, "import_module", found)
     with pytest.raises(Fault, match="python3-tomli"):
         table_of(stations(*ALPHA))
-    has_tomli = True
+    there.add("tomli")
     assert len(table_of(stations(*ALPHA)).stations) == 1
 
 
@@ -126,9 +130,9 @@ def test_limits_of_the_page() -> None:
     rows = re.findall(r"\| `(\w+)` \| [^|]* \| ([^|]*) \| ([^|]*) \|", PAGE.split("## Alarms")[1])
     assert [name for name, _, _ in rows] == list(alarms.NAMES)
     for name, default, ends in rows:
-        numbers = [float(it) for it in re.findall(r"\d+", default)] or [None]
+        numbers = [float(text) for text in re.findall(r"\d+", default)] or [None]
         more = {"errors": ["errors_percent"], "ct": ["ct_offset"]}.get(name, [])
-        assert [getattr(Limits(), it) for it in (name, *more)] == numbers, name
+        assert [getattr(AlarmLimits(), one) for one in (name, *more)] == numbers, name
         clear = re.match(r"(\d+) s(?: |$)", ends)
         assert alarms.CLEAR.get(name) == (float(clear[1]) if clear else None), name
     assert alarms.RECOVERED == 4 / 5 and "as many minutes below 4/5 of that" in PAGE
@@ -138,10 +142,15 @@ def test_numbers_of_the_page() -> None:
     """What the page says of pauses and limits, and the constants that it means."""
     patience = StationTable("", ()).patience
     for told, numbers in (
-        (f"gives no byte for `patience` seconds ({patience:g}). The pause is a second, and doubles up to a minute; a run of a minute", [
-            (1, receiver.FIRST_PAUSE), (60, receiver.LONGEST_PAUSE), (60, receiver.GOOD_RUN)]),
+        (
+            f"gives no byte for `patience` seconds ({patience:g}). The pause is a second, and doubles up to a minute; a run of a minute",
+            [(1, receiver.FIRST_PAUSE), (60, receiver.LONGEST_PAUSE), (60, receiver.GOOD_RUN)],
+        ),
         ("is set forward by more than a second", [(1, times.STEP)]),
-        ("come more than half a second later for ten seconds", [(0.5, times.Arrivals.LATE), (10, times.Arrivals.WINDOW)]),
+        (
+            "come more than half a second later for ten seconds",
+            [(0.5, times.Arrivals.LATE), (10, times.Arrivals.WINDOW)],
+        ),
         ("correct it, for the first second", [(1, times.Arrivals.SETTLING)]),
         ("up to 8 MB per station", [(8 << 20, loop.MOST_WAITING)]),
         ("Twice a second the new rows are appended", [(0.5, watch.TICK)]),
@@ -154,5 +163,6 @@ def test_numbers_of_the_page() -> None:
 
 def test_priorities_of_the_journal() -> None:
     """Those of syslog, by which systemd takes them."""
-    wanted = {"error": syslog.LOG_ERR, "warning": syslog.LOG_WARNING, "notice": syslog.LOG_NOTICE, "info": syslog.LOG_INFO}
+    kinds = syslog.LOG_ERR, syslog.LOG_WARNING, syslog.LOG_NOTICE, syslog.LOG_INFO
+    wanted = dict(zip(("error", "warning", "notice", "info"), kinds))
     assert journal.PRIORITIES == wanted

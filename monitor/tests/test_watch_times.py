@@ -9,12 +9,14 @@ import pytest
 from hypothesis import given
 from hypothesis import strategies as st
 
-from rds_monitor.watch.times import RATE, Arrivals, Now, RealTimes, SteadyUtc, Timing
+from rds_monitor.watch.times import RATE, Arrivals, Now, SteadyUtc, Times, Timing
 
 BEGIN = 1795748400.0
 
 
-def reads(seconds: float, ppm: float, delays: "Iterator[float]", every: float = 1.0) -> Iterator[Tuple[int, float, float]]:
+def reads(
+    seconds: float, ppm: float, delays: "Iterator[float]", every: float = 1.0
+) -> Iterator[Tuple[int, float, float]]:
     """Position, the UTC at which it was on the air, and when it came."""
     for n in range(1, int(seconds / every) + 1):
         place = int(n * every * RATE)
@@ -64,7 +66,8 @@ def test_dropped_samples_make_the_time_jump_forward() -> None:
         seen.append(arrivals.is_late())
         if seen[-1]:
             arrivals.jump(arrivals.delay())
-    assert seen.index(True) in range(99, 102) and seen.count(True) == 1
+    # The last read in time came after 91 s.
+    assert seen.index(True) in range(98, 102) and seen.count(True) == 1
     assert arrivals.timing is not None and abs(arrivals.timing.start - BEGIN - 2.05) < 0.02
 
 
@@ -104,7 +107,7 @@ def test_steps_of_the_machines_clock() -> None:
 
 
 def test_a_fast_clock() -> None:
-    times = RealTimes(100)
+    times = Times(100)
     first = times.now()
     while times.now().steady - first.steady < 2:
         pass

@@ -9,7 +9,7 @@ from pathlib import Path
 
 import pytest
 
-from conftest import TOP
+from conftest import TOP, ran
 from network import stations
 from rds_monitor.watch.alarms import NAMES
 from rds_monitor.watch.metrics import METRICS
@@ -30,7 +30,7 @@ def unit(tmp_path: Path) -> Path:
 
 
 def analyzed(*words: str) -> "subprocess.CompletedProcess[str]":
-    return subprocess.run(["systemd-analyze", *words], capture_output=True, text=True)
+    return ran(["systemd-analyze", *words])
 
 
 def test_systemd_verifies_it(unit: Path) -> None:
@@ -43,22 +43,23 @@ def test_systemd_verifies_it(unit: Path) -> None:
 def test_systemd_calls_it_safe(unit: Path) -> None:
     """An exposure of at most 1.5 of 10; without its restrictions it is above 9."""
     assert analyzed("security", "--offline=yes", "--threshold=15", str(unit)).returncode == 0
-    bare = "\n".join(line for line in unit.read_text().splitlines() if not re.match("Protect|Restrict|Private|System|Capab|NoNew|Device|User|Ambient", line))
-    unit.write_text(bare)
+    limits = "Protect|Restrict|Private|System|Capab|NoNew|Device|User|Ambient"
+    unit.write_text(re.sub(f"^(?:{limits}).*\n", "", unit.read_text(), flags=re.MULTILINE))
     assert analyzed("security", "--offline=yes", "--threshold=15", str(unit)).returncode != 0
 
 
 def test_what_the_service_is() -> None:
     text = (PACKAGING / UNIT).read_text()
-    for line in ("Type=notify", "Restart=always", "WatchdogSec=60", "User=rds-monitor", "StateDirectory=rds-monitor", "PrivateNetwork=yes"):
-        assert f"\n{line}\n" in text
+    wanted = "Type=notify Restart=always WatchdogSec=60 User=rds-monitor StateDirectory=rds-monitor PrivateNetwork=yes"
+    assert set(wanted.split()) <= set(text.splitlines())
     assert "u rds-monitor " in (PACKAGING / "rds-monitor.sysusers").read_text()
 
 
 def test_the_alert_rules_name_what_there_is() -> None:
     text = (PACKAGING / "alerts.yml").read_text()
-    assert set(re.findall(r"\brds_[a-z_]+", text)) <= {it.name for it in METRICS}
-    assert set(re.findall(r'"([a-z_0-9|]+)"\} ', text)) and set("|".join(re.findall(r'alarm[=!]~"([^"]+)"', text)).split("|")) <= set(NAMES)
+    assert set(re.findall(r"\brds_[a-z_]+", text)) <= {metric.name for metric in METRICS}
+    assert set(re.findall(r'"([a-z_0-9|]+)"\} ', text))
+    assert set("|".join(re.findall(r'alarm[=!]~"([^"]+)"', text)).split("|")) <= set(NAMES)
 
 
 def test_the_page_names_all_alarms_and_their_defaults() -> None:

@@ -3,10 +3,14 @@
 from __future__ import annotations
 
 import os
-from typing import Tuple
+from typing import List, Tuple
 
+import numpy
 import pytest
-from conftest import PROGRAM, monitor
+from conftest import PROGRAM, STATION, encode, monitor, rds
+
+
+PAST = "goes past the end of the recording, "
 
 
 def why(data: bytes, *words: str) -> Tuple[int, str]:
@@ -14,21 +18,32 @@ def why(data: bytes, *words: str) -> Tuple[int, str]:
     return done.returncode, done.stdout.decode()
 
 
-@pytest.mark.parametrize("data, words, told", [
-    (b"1234 2540 5244 5320\r\n \r\n1234 2540 5244 532\r\n1234\t254052445320\nnone", "encode",
-     "refused 12 GroupText\nline 3: 1234 2540 5244 532\nline 5: none\n"),
-    (b"\x1b[2J", "encode", "refused 12 GroupText\nline 1: \\x1b[2J\n"),
-    (b"12\n3g", "scan --hex", "refused 11 HexText\nbyte 5 (line 2, column 2) is 0x67, neither a digit nor blank\n"),
-    (b"1 2\n3", "list --hex", "refused 11 HexText\nthere are 3 digits, an odd number\n"),
-    (b"0000", "totals --gaps 1-2,9-9", "refused 16 BadGaps\ngap 2, 9-9, is empty\n"),
-    (b"0000", "list --gaps=1-5,4-9", "refused 16 BadGaps\ngap 2, 4-9, begins before 5, the end of the one before it\n"),
-    (b"0000", "list --hex --gaps 1-17", "refused 16 BadGaps\ngap 1, 1-17, goes past the end of the recording, 16 bits\n"),
-    (b"0000", "list --bits 7 --gaps 1-8", "refused 16 BadGaps\ngap 1, 1-8, goes past the end of the recording, 7 bits\n"),
-    (b"0000", "list --bits 33", "refused 4 BitsPastBytes\nthe input holds 32 bits\n"),
-    (b"0000", "list --burst 6", "refused 1 BurstRange\n"),
-])
-def test_tells_where(data: bytes, words: str, told: str) -> None:
-    assert why(data, *words.split()) == (1, told)
+# The input, the words, and the number and name of the error with the lines that tell where it is.
+CASES = [
+    (b"\x1b[2J", "encode", "12 GroupText", ["line 1: \\x1b[2J"]),
+    (b"12\n3g", "scan --hex", "11 HexText", ["byte 5 (line 2, column 2) is 0x67, neither a digit nor blank"]),
+    (b"1 2\n3", "list --hex", "11 HexText", ["there are 3 digits, an odd number"]),
+    (b"0000", "totals --gaps 1-2,9-9", "16 BadGaps", ["gap 2, 9-9, is empty"]),
+    (
+        b"0000",
+        "list --gaps=1-5,4-9",
+        "16 BadGaps",
+        ["gap 2, 4-9, begins before 5, the end of the one before it"],
+    ),
+    (b"0000", "list --hex --gaps 1-17", "16 BadGaps", ["gap 1, 1-17, " + PAST + "16 bits"]),
+    (b"0000", "list --bits 7 --gaps 1-8", "16 BadGaps", ["gap 1, 1-8, " + PAST + "7 bits"]),
+    (b"0000", "list --bits 33", "4 BitsPastBytes", ["the input holds 32 bits"]),
+    (b"0000", "list --burst 6", "1 BurstRange", []),
+    (
+        b"1234 2540 5244 5320\r\n \r\n1234 2540 5244 532\r\n1234\t254052445320\nnone",
+        *("encode", "12 GroupText", ["line 3: 1234 2540 5244 532", "line 5: none"]),
+    ),
+]
+
+
+@pytest.mark.parametrize("data, words, error, told", CASES)
+def test_tells_where(data: bytes, words: str, error: str, told: List[str]) -> None:
+    assert why(data, *words.split()) == (1, "\n".join([f"refused {error}", *told, ""]))
 
 
 def test_rds_that_refuses_before_it_has_read_all() -> None:
@@ -39,6 +54,47 @@ def test_nothing_is_refused() -> None:
     assert why(b"0000", "list") == (0, "")
 
 
+def with_blocks_e(count: int) -> bytes:
+    """Forty groups, and after each this number of blocks E: those of offset A, without its offset word 0xFC."""
+    random, bits = numpy.random.default_rng(1), ""
+    for number in range(40):
+        bits += "".join(f"{byte:08b}" for byte in encode([(0xD393, 0x0548 | number % 4, 0xE0CD, 0x4142)]))
+        for info in random.integers(1, 1 << 16, count).tolist():
+            packed = int.from_bytes(encode([(info, 0, 0, 0)]), "big")
+            bits += f"{packed >> 78 ^ 0xFC:026b}"
+    return int(bits.ljust(-(-len(bits) // 8) * 8, "0"), 2).to_bytes(-(-len(bits) // 8), "big")
+
+
+@pytest.mark.parametrize("count, groups", [(4, 39), (8, 39), (12, 0)])
+def test_blocks_with_offset_word_e(count: int, groups: int) -> None:
+    """Ten in a row lose sync, so no group is whole; by the option that is told, all but the first are."""
+    data = with_blocks_e(count)
+    status, told = why(data, "list")
+    assert status == 0 and told.startswith(
+        f"{40 * count} of the blocks in the first {8 * len(data)} bits have offset word E"
+    )
+    assert why(data.hex().encode(), "list", "--hex") == (status, told)
+    for words, whole in (([], groups), (["--loss", "64"], 39)):
+        assert f"total,complete,{whole}," in rds("list", *words, data=data).decode()
+    assert "--loss 64" in told
+
+
+@pytest.mark.parametrize(
+    "data",
+    [bytes(9000), b"\xff" * 9000, numpy.random.default_rng(2).bytes(1 << 18), STATION.read_bytes()],
+    ids=["zeros", "ones", "noise", "station"],
+)
+def test_no_blocks_with_offset_word_e(data: bytes) -> None:
+    """Zeros are none, though their remainder is that of E."""
+    assert why(data, "list") == (0, "")
+
+
+def test_long_hexadecimal_text_is_cut_between_two_digits() -> None:
+    text = b"1\n" + b"0" * ((1 << 20) + 1)
+    assert why(text, "list", "--hex") == (0, "")
+
+
 def test_no_program() -> None:
     done = monitor("why", "list", env={**os.environ, "RDS": "/nowhere/rds"})
-    assert done.returncode == 1 and done.stderr == b"rds-monitor why: /nowhere/rds: No such file or directory\n"
+    assert done.returncode == 1
+    assert done.stderr == b"rds-monitor why: /nowhere/rds: No such file or directory\n"

@@ -15,7 +15,7 @@ enum { MOST = 12, APART = 1024, COUNT = 3, REACHED = 200 };
 struct argument {
     const char *name;
     size_t size, alignment; /* of one value */
-    bool is_row, is_written;
+    bool is_row, is_written, is_handed_on;
 };
 
 /* The pointers of a call, and how many values each row has. */
@@ -88,6 +88,8 @@ static void refused(const struct function *f, const struct call *call, const cha
 static bool is_handed_on(const struct function *f, const struct call *call, size_t k)
 {
     const struct argument *it = &f->argument[k];
+    if (!it->is_handed_on)
+        return true;
     if (call->count[k] != seen.with.count[k])
         return false;
     if (call->count[k])
@@ -188,24 +190,27 @@ static void over(const struct function *f, size_t k, size_t j)
     taken(f, &call, "just after", k, j);
 }
 
-/* The name of 70, which the proved code does not know. */
-static void name_of_bad_pointer(void)
+/* A name that the proved code does not know. */
+static void name_of_c(uint8_t number, const char *name)
 {
-    static const struct function f = {"rds_refusal_name", NULL, 1, {{"room", 1, 1, true, true}}};
+    static const struct function f = {"rds_refusal_name", NULL, 1, {{"room", 1, 1, true, true, true}}};
+    const size_t len = strlen(name) + 1;
     uint8_t room[RDS_NAME_ROOM];
     memset(room, 'x', sizeof room);
-    bool is_small = rds_refusal_name(RDS_BAD_POINTER, room, 10) == RDS_SMALL_ROOM && room[0] == 'x';
-    see(is_small, &f, "a byte too little for a name", 0, 0);
-    bool is_spelled = rds_refusal_name(RDS_BAD_POINTER, room, 11) == 0 && !strcmp((const char *)room, "BadPointer") && room[11] == 'x';
+    see(rds_refusal_name(number, room, len - 1) == RDS_SMALL_ROOM && room[0] == 'x', &f, "a byte too little for a name", 0, 0);
+    bool is_spelled = rds_refusal_name(number, room, len) == 0 && !memcmp(room, name, len) && room[len] == 'x';
     see(is_spelled, &f, "just enough for a name", 0, 0);
-    see(rds_refusal_name(RDS_BAD_POINTER, NULL, sizeof room) == RDS_BAD_POINTER, &f, "NULL for the name of 70", 0, 0);
+    see(rds_refusal_name(number, NULL, sizeof room) == RDS_BAD_POINTER, &f, "NULL for a name", 0, 0);
 }
 
 int main(void)
 {
     memset(memory, 0x5A, sizeof memory);
     memset(as_it_was, 0x5A, sizeof memory);
-    name_of_bad_pointer();
+    name_of_c(RDS_BAD_POINTER, "BadPointer");
+    name_of_c(RDS_NOT_A_STREAM, "NotAStream");
+    name_of_c(RDS_OTHER_VERSION, "OtherVersion");
+    name_of_c(RDS_OTHER_RULES, "OtherRules");
     for (size_t at = 0; at < sizeof functions / sizeof *functions; at++) {
         const struct function *f = &functions[at];
         struct call call = apart(f, MOST);

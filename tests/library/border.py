@@ -2,7 +2,7 @@
 """Tries each pointer of each function of lib/rds.h: tests/library/border.py LIBRARY-FOLDER FOLDER
 
 The declarations give a table of pointers: which are rows, which are written, how they are aligned. border.c goes over it twice. First
-over lib/border.c alone, where each proved function is one that notes how it was called, with the sanitizers for addresses and
+over lib/border.c without the proved code, where each proved function is one that notes how it was called, with the sanitizers for addresses and
 undefined behaviour. Then over librds.a, under valgrind where it is installed. Last, each check is taken out of a copy of lib/border.c
 in turn, which has to be noticed. FOLDER takes what is made.
 """
@@ -32,6 +32,7 @@ def write(path, text):
 
 # ---- the table
 
+
 def functions_of(header):
     """Each function with its arguments: (declaration, type, whether it is a pointer, name)."""
     text = re.sub(r"/\*.*?\*/", "", header, flags=re.S)
@@ -57,8 +58,9 @@ def table_of(header):
                 given.append(f"call->at[{pointers.index(argument)}]")
                 noted.append(f"seen.with.at[{pointers.index(argument)}] = (void *){argument};")
                 noted += [] if is_row else [f"seen.with.count[{pointers.index(argument)}] = 1;"]
-                truth = [str(it).lower() for it in (is_row, is_written)]
-                entries.append(f'{{"{argument}", sizeof({plain}), _Alignof({plain}), {truth[0]}, {truth[1]}}}')
+                # the scratch of a call is for lib/heap.c
+                truth = ", ".join(str(it).lower() for it in (is_row, is_written, argument != "scratch"))
+                entries.append(f'{{"{argument}", sizeof({plain}), _Alignof({plain}), {truth}}}')
             elif argument.removesuffix("_len") in pointers:
                 row = pointers.index(argument.removesuffix("_len"))
                 given.append(f"call->count[{row}]")
@@ -74,7 +76,9 @@ def table_of(header):
         )
         rows.append(f'    {{"{name}", call_{name}, {len(pointers)}, {{{", ".join(entries)}}}}},')
     stub = "#ifdef STUBS\nuint32_t proved_rds_version(void);\nuint32_t proved_rds_version(void) { return 0; }\n#endif\n"
-    return "".join(calls) + stub + "static const struct function functions[] = {\n" + "\n".join(rows) + "\n};\n"
+    return (
+        "".join(calls) + stub + "static const struct function functions[] = {\n" + "\n".join(rows) + "\n};\n"
+    )
 
 
 # ---- checks taken out
@@ -82,17 +86,22 @@ def table_of(header):
 
 def without_a_check(border):
     """Copies of lib/border.c, each with one mistake."""
-    for call in re.finditer(r"LOOK_AT\((.*)\);\n    return", border):
+    for call in re.finditer(r"LOOK_AT\(([^;]*)\);\n", border):
         looks = re.findall(r"\w+\(\w+\)", call[1])
         function = re.findall(r"^uint8_t (rds_\w+)\(", border[: call.start()], re.M)[-1]
         for place, look in enumerate(looks):
             others = [*looks[:place], *looks[place + 1 :]]
-            mistakes = {"left out": others, "as read": [*looks[:place], look.replace("_WRITTEN", ""), *looks[place + 1 :]]}
+            mistakes = {
+                "left out": others,
+                "as read": [*looks[:place], look.replace("_WRITTEN", ""), *looks[place + 1 :]],
+            }
             mistakes["as one"] = [*looks[:place], look.replace("MANY", "ONE"), *looks[place + 1 :]]
             for what, said in mistakes.items():
                 # A function with one pointer has no second value for it to overlap.
                 if said != looks and said and (what != "as read" or len(looks) > 1):
-                    yield f"{function}: {look} {what}", border[: call.start(1)] + ", ".join(said) + border[call.end(1) :]
+                    yield f"{function}: {look} {what}", border[: call.start(1)] + ", ".join(said) + border[
+                        call.end(1) :
+                    ]
     for row in re.finditer(r"(?<= )?ROW\((\w+)\)", border):
         if row[1] != "p":
             yield f"a row of {row[1]} handed on as it is", f"{border[:row.start()]}{row[1]}, {row[1]}_len{border[row.end():]}"
@@ -118,12 +127,17 @@ MISTAKES = [
     ("lent[k].is_written && do_overlap", "do_overlap"),
     ("for (size_t k = 1; k < count; k++)", "for (size_t k = 2; k < count; k++)"),
     ("for (size_t j = 0; j < k; j++)", "for (size_t j = 1; j < k; j++)"),
-    ("room_len < sizeof name", "room_len <= sizeof name"),
-    ("room_len < sizeof name", "room_len + 1 < sizeof name"),
-    ("k < sizeof name; k++", "k + 1 < sizeof name; k++"),
-    ('name[] = "BadPointer"', 'name[] = "BadPointers"'),
-    ("number != RDS_BAD_POINTER", "number != RDS_NO_REFUSAL"),
-    ("for (size_t k = 0; k < count; k++)\n        if (is_nowhere", "for (size_t k = 1; k < count; k++)\n        if (is_nowhere"),
+    ("room_len < len", "room_len <= len"),
+    ("room_len < len", "room_len + 1 < len"),
+    ("memcpy(room, name, len)", "memcpy(room, name, len - 1)"),
+    ('"BadPointer"', '"BadPointers"'),
+    ("number == RDS_BAD_POINTER", "number == RDS_NO_REFUSAL"),
+    ("number >= RDS_NOT_A_STREAM", "number > RDS_NOT_A_STREAM"),
+    ("number <= RDS_OTHER_RULES", "number < RDS_OTHER_RULES"),
+    (
+        "for (size_t k = 0; k < count; k++)\n        if (is_nowhere",
+        "for (size_t k = 1; k < count; k++)\n        if (is_nowhere",
+    ),
 ]
 
 
@@ -131,12 +145,31 @@ MISTAKES = [
 
 
 def ran(words):
-    done = subprocess.run(words, stdout=subprocess.PIPE, stderr=subprocess.STDOUT, encoding="utf-8", timeout=TIMEOUT, check=False)
+    done = subprocess.run(
+        words,
+        stdout=subprocess.PIPE,
+        stderr=subprocess.STDOUT,
+        encoding="utf-8",
+        timeout=TIMEOUT,
+        check=False,
+    )
     return done.returncode, done.stdout
 
 
 def made(program, sources, folder, *options):
-    words = [CC, "-std=c11", "-Wall", "-Wextra", "-Werror", f"-I{LIB}", f"-I{folder}", *options, "-o", program, *sources]
+    words = [
+        CC,
+        "-std=c11",
+        "-Wall",
+        "-Wextra",
+        "-Werror",
+        f"-I{LIB}",
+        f"-I{folder}",
+        *options,
+        "-o",
+        program,
+        *sources,
+    ]
     status, said = ran(words)
     if status:
         sys.exit(f"border.py: {' '.join(words)}\n{said}")
@@ -147,7 +180,7 @@ def is_noticed(folder, number, border):
     """Whether border.c finds fault with this copy of lib/border.c: it says so, or is ended by a signal."""
     copy, program = f"{folder}/mistake{number}.c", f"{folder}/mistake{number}"
     write(copy, border)
-    made(program, [f"{folder}/stubs.o", copy], folder, "-O0")
+    made(program, [f"{folder}/stubs.o", copy, f"{LIB}/heap.c"], folder, "-O0")
     status, _ = ran([program])
     return status == 1 or status < 0
 
@@ -155,7 +188,7 @@ def is_noticed(folder, number, border):
 def main():
     library, folder = (os.path.realpath(it) for it in sys.argv[1:])
     write(f"{folder}/border_table.h", table_of(read(f"{LIB}/rds.h")))
-    test, border = f"{HERE}/border.c", f"{LIB}/border.c"
+    test, border, heap = f"{HERE}/border.c", f"{LIB}/border.c", f"{LIB}/heap.c"
     faults = []
 
     def tried(name, words):
@@ -165,11 +198,13 @@ def main():
             faults.append(name)
 
     sanitized = ["-g", "-fsanitize=address,undefined", "-fno-sanitize-recover=all", "-DSTUBS"]
-    tried("lib/border.c", [made(f"{folder}/alone", [test, border], folder, *sanitized)])
+    tried("lib/border.c", [made(f"{folder}/alone", [test, border, heap], folder, *sanitized)])
     whole = made(f"{folder}/whole", [test, f"{library}/librds.a"], folder, "-O1")
     checker = ["valgrind", "-q", "--error-exitcode=99"] if shutil.which("valgrind") else []
     tried("librds.a", [*checker, whole])
-    status, said = ran([CC, "-std=c11", f"-I{LIB}", f"-I{folder}", "-DSTUBS", "-O0", "-c", "-o", f"{folder}/stubs.o", test])
+    status, said = ran(
+        [CC, "-std=c11", f"-I{LIB}", f"-I{folder}", "-DSTUBS", "-O0", "-c", "-o", f"{folder}/stubs.o", test]
+    )
     if status:
         sys.exit(said)
     mistakes = list(without_a_check(read(border)))

@@ -15,8 +15,13 @@ import sys
 from glob import glob
 
 TOP = os.path.dirname(os.path.dirname(os.path.dirname(os.path.abspath(__file__))))
-# Only lib/border.c refuses a pointer.
-BAD_POINTER = "a pointer that is not as required"
+# The errors of which only lib/border.c knows.
+OF_BORDER = {
+    70: ("BadPointer", "a pointer that is not as required"),
+    72: ("NotAStream", "a stream that was not zeroed, or is in another byte order"),
+    73: ("OtherVersion", "a stream of another version"),
+    74: ("OtherRules", "a stream that is decoded by other rules"),
+}
 SIZES = {"u8": 1, "u16": 2, "u32": 4, "u64": 8, "usize": 8}
 
 
@@ -39,6 +44,7 @@ def listed(text):
 
 
 # ---- the header
+
 
 def of_c(name):
     """A type of C by its name here: that of a struct is RdsItem for rds_item_t."""
@@ -80,21 +86,29 @@ def of_header_text(text):
 def names_of_header(text):
     """The names of each function's parameters."""
     found = re.findall(r"^\w+ (rds_\w+)\(([^;]*?)\);", without_comments(text), re.S | re.M)
-    return {name: [re.search(r"\w+$", it)[0] for it in listed(given) if it != "void"] for name, given in found}
+    return {
+        name: [re.search(r"\w+$", it)[0] for it in listed(given) if it != "void"] for name, given in found
+    }
 
 
 # ---- Rattle and Rust
 
+
 def structs_of_rust(text):
     found = re.findall(r"#\[repr\(C\)\]\s*(?:#\[[^\]]*\]\s*)*pub struct (\w+) \{(.*?)\}", text, re.S)
     return {
-        name: [re.fullmatch(r"pub (\w+): (.+)", it).groups() for it in listed(re.sub(r"\[(\w+); (\d+)\]", r"[\1;\2]", body))]
+        name: [
+            re.fullmatch(r"pub (\w+): (.+)", it).groups()
+            for it in listed(re.sub(r"\[(\w+); (\d+)\]", r"[\1;\2]", body))
+        ]
         for name, body in found
     }
 
 
 def spaced(structs):
-    return {name: [(field, kind.replace(";", "; ")) for field, kind in fields] for name, fields in structs.items()}
+    return {
+        name: [(field, kind.replace(";", "; ")) for field, kind in fields] for name, fields in structs.items()
+    }
 
 
 def arguments_of_rattle(text):
@@ -141,7 +155,9 @@ def allocating():
 
 @functools.cache
 def of_crates():
-    functions = {name: (result or "()", arguments_of_rattle(given)) for name, given, result in exported_functions()}
+    functions = {
+        name: (result or "()", arguments_of_rattle(given)) for name, given, result in exported_functions()
+    }
     return spaced(structs_of_rust(source_of("rds_abi"))), functions
 
 
@@ -157,7 +173,10 @@ def of_rust():
 
 # ---- Python
 
+
 def of_ctypes(kind):
+    if kind is ctypes.c_char_p:
+        return "*u8"
     if hasattr(kind, "_length_"):
         return f"[{of_ctypes(kind._type_)}; {kind._length_}]"
     if issubclass(kind, ctypes._Pointer):
@@ -173,7 +192,10 @@ def of_python():
     import _ffi
 
     structs = {it.__name__: [(name, of_ctypes(kind)) for name, kind in it._fields_] for it in _ffi.STRUCTS}
-    functions = {name: (of_ctypes(result), [of_ctypes(it) for it in given]) for name, (result, given) in _ffi.FUNCTIONS.items()}
+    functions = {
+        name: (of_ctypes(result), [of_ctypes(it) for it in given])
+        for name, (result, given) in _ffi.FUNCTIONS.items()
+    }
     return structs, functions
 
 
@@ -184,6 +206,7 @@ def as_python_has_them(functions):
 
 # ---- refusals
 
+
 @functools.cache
 def refusals_of_crate():
     """The number of each, its name and what is said of it."""
@@ -192,24 +215,35 @@ def refusals_of_crate():
     return {int(number): (name, said[name]) for name, number in re.findall(r"Refusal::(\w+) => (\d+),", text)}
 
 
+def upper(name):
+    return re.sub(r"(?<!^)(?=[A-Z])", "_", name).upper()
+
+
+def all_refusals():
+    return dict(sorted({**refusals_of_crate(), **OF_BORDER}.items()))
+
+
 def wrong_refusals(header):
-    mine = refusals_of_crate()
-    upper = lambda name: re.sub(r"(?<!^)(?=[A-Z])", "_", name).upper()
-    named = {f"RDS_{upper(name)}": number for number, (name, _) in mine.items()} | {"RDS_BAD_POINTER": 70}
+    mine = all_refusals()
+    named = {f"RDS_{upper(name)}": number for number, (name, _) in mine.items()}
     enum = re.search(r"enum \{([^{}]*RDS_BAD_POINTER.*?)\};", without_comments(text_of(header)), re.S)[1]
     if {name: int(number) for name, number in re.findall(r"(\w+) = (\d+)", enum)} != named:
         yield f"{header}: the numbers of refusals"
-    said_of = {number: said for number, (_, said) in mine.items()} | {70: BAD_POINTER}
-    for path, row in (("rust/src/lib.rs", r'^    \((\d+), "(.*?)"\),$'), ("python/librds/__init__.py", r'^    (\d+): "(.*?)",$')):
-        if {int(number): said for number, said in re.findall(row, text_of(f"{TOP}/bindings/{path}"), re.M)} != said_of:
-            yield f"bindings/{path}: what is said of refusals"
+    rust = text_of(f"{TOP}/bindings/rust/src/lib.rs")
+    rows = re.findall(r'^    \((\d+), "(.*?)"\),$', rust, re.M)
+    if {int(number): said for number, said in rows} != {number: said for number, (_, said) in mine.items()}:
+        yield "bindings/rust/src/lib.rs: what is said of refusals"
+    if {
+        f"RDS_{name}": int(number) for name, number in re.findall(r"pub const (\w+): u8 = (\d+);", rust)
+    } != named:
+        yield "bindings/rust/src/lib.rs: the numbers of refusals"
     in_c = re.findall(r'^    \{RDS_(\w+), "(\w+)", "(.*?)"\},$', text_of(f"{TOP}/lib/border.c"), re.M)
-    rows = sorted({**mine, 70: ("BadPointer", BAD_POINTER)}.items())
-    if [(upper(name), name, said) for _, (name, said) in rows] != in_c:
+    if [(upper(name), name, said) for name, said in mine.values()] != in_c:
         yield "lib/border.c: names and reasons of refusals"
 
 
 # ---- offsets
+
 
 def layout_of(kind, structs):
     """Size and alignment."""
@@ -240,22 +274,52 @@ def assertions(structs):
         yield f"sizeof({c_name}) == {at}", name
 
 
+# The functions of lib/border.c that the proved code and Python have not.
+ONLY_OF_C = {"rds_push_with"}
+
+
 def main():
     header, folder = sys.argv[1:]
     structs, functions = of_header(header)
     wrong = []
-    for name, (their_structs, their_functions) in {"rds_abi and rds_c": of_crates(), "bindings/rust": of_rust()}.items():
-        wrong += [f"{name}: struct {it}" for it in {*structs, *their_structs} if structs.get(it) != their_structs.get(it)]
-        wrong += [f"{name}: {it}" for it in {*functions, *their_functions} if functions.get(it) != their_functions.get(it)]
+    for name, (their_structs, their_functions) in {
+        "rds_abi and rds_c": of_crates(),
+        "bindings/rust": of_rust(),
+    }.items():
+        wrong += [
+            f"{name}: struct {it}"
+            for it in {*structs, *their_structs}
+            if structs.get(it) != their_structs.get(it)
+        ]
+        wrong += [
+            f"{name}: {it}"
+            for it in {*functions, *their_functions} - (ONLY_OF_C if name != "bindings/rust" else set())
+            if functions.get(it) != their_functions.get(it)
+        ]
     their_structs, their_functions = of_python()
     mine = as_python_has_them(functions)
-    wrong += [f"bindings/python: struct {it}" for it in {*structs, *their_structs} if structs.get(it) != their_structs.get(it)]
-    wrong += [f"bindings/python: {it}" for it in {*mine, *their_functions} if mine.get(it) != their_functions.get(it)]
+    wrong += [
+        f"bindings/python: struct {it}"
+        for it in {*structs, *their_structs}
+        if structs.get(it) != their_structs.get(it)
+    ]
+    wrong += [
+        f"bindings/python: {it}"
+        for it in {*mine, *their_functions} - ONLY_OF_C
+        if mine.get(it) != their_functions.get(it)
+    ]
     wrong += wrong_refusals(header)
     names, their_names = names_of_header(text_of(header)), names_of_crates()
-    wrong += [f"rds_c: the names of {it}'s parameters" for it in {*names, *their_names} if names.get(it) != their_names.get(it)]
+    wrong += [
+        f"rds_c: the names of {it}'s parameters"
+        for it in {*names, *their_names} - ONLY_OF_C
+        if names.get(it) != their_names.get(it)
+    ]
     with open(f"{folder}/layout.c", "w", encoding="utf-8") as it:
-        print('#include "rds.h"\n#include "rds.h"\n#ifdef __cplusplus\n#define HOLDS static_assert\n#else\n#define HOLDS _Static_assert\n#endif', file=it)
+        print(
+            '#include "rds.h"\n#include "rds.h"\n#ifdef __cplusplus\n#define HOLDS static_assert\n#else\n#define HOLDS _Static_assert\n#endif',
+            file=it,
+        )
         for test, what in assertions(structs):
             print(f'HOLDS({test}, "{what}");', file=it)
         print("int main(void) { return rds_version() != RDS_VERSION; }", file=it)

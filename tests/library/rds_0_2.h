@@ -1,4 +1,4 @@
-/* The declarations of rds.h at version 0.2. tests/library.sh compiles programs against them and runs these with the library as it is now.
+/* The declarations of rds.h at version 0.2. tests/test_library.py compiles calls.c against them and runs it with the library.
  * It is not changed once 0.2 is released. */
 #ifndef RDS_H
 #define RDS_H
@@ -17,21 +17,9 @@ extern "C" {
 #endif
 
 enum {
-    RDS_BURST_RANGE = 1,
-    RDS_REACH_RANGE = 2,
-    RDS_LOSS_RANGE = 3,
-    RDS_BITS_PAST_BYTES = 4,
-    RDS_TOO_LONG = 5,
-    RDS_OUT_OF_MEMORY = 8,
-    RDS_SHARE_RANGE = 15,
-    RDS_BAD_GAPS = 16,
-    RDS_SMALL_ROOM = 64,
-    RDS_UNLAWFUL_STATE = 65,
-    RDS_PLACE_RANGE = 66,
-    RDS_BLOCK_RANGE = 67,
-    RDS_OFFSET_RANGE = 68,
-    RDS_NO_REFUSAL = 69,
-    RDS_BAD_POINTER = 70,
+    RDS_BURST_RANGE = 1, RDS_REACH_RANGE = 2, RDS_LOSS_RANGE = 3, RDS_BITS_PAST_BYTES = 4, RDS_TOO_LONG = 5,
+    RDS_OUT_OF_MEMORY = 8, RDS_SHARE_RANGE = 15, RDS_BAD_GAPS = 16, RDS_SMALL_ROOM = 64, RDS_UNLAWFUL_STATE = 65,
+    RDS_PLACE_RANGE = 66, RDS_BLOCK_RANGE = 67, RDS_OFFSET_RANGE = 68, RDS_NO_REFUSAL = 69, RDS_BAD_POINTER = 70,
     RDS_RESERVED_FIELD = 71
 };
 
@@ -117,31 +105,27 @@ typedef struct rds_packed_t {
 } rds_packed_t;
 
 #define RDS_NAME_ROOM 16
-
 RDS_MUST_USE
-uint8_t rds_totals(const uint8_t *bytes, size_t bytes_len, uint64_t bits, const rds_gap_t *gaps, size_t gaps_len,
-    const rds_rules_t *rules, rds_totals_t *found);
+uint8_t rds_totals(const uint8_t *bytes, size_t bytes_len, uint64_t bits, const rds_gap_t *gaps, size_t gaps_len, const rds_rules_t
+    *rules, rds_totals_t *found);
 RDS_MUST_USE
-uint8_t rds_items(const uint8_t *bytes, size_t bytes_len, uint64_t bits, const rds_gap_t *gaps, size_t gaps_len,
-    const rds_rules_t *rules, rds_item_t *room, size_t room_len, uint64_t *count);
+uint8_t rds_items(const uint8_t *bytes, size_t bytes_len, uint64_t bits, const rds_gap_t *gaps, size_t gaps_len, const rds_rules_t *rules,
+    rds_item_t *room, size_t room_len, uint64_t *count);
 RDS_MUST_USE
-uint8_t rds_run(const uint8_t *bytes, size_t bytes_len, uint64_t bits, const rds_gap_t *gaps, size_t gaps_len,
-    const rds_rules_t *rules, uint64_t from, uint64_t to, rds_state_t *state, rds_item_t *room,
-    size_t room_len, uint64_t *count);
+uint8_t rds_run(const uint8_t *bytes, size_t bytes_len, uint64_t bits, const rds_gap_t *gaps, size_t gaps_len, const rds_rules_t *rules,
+    uint64_t from, uint64_t to, rds_state_t *state, rds_item_t *room, size_t room_len, uint64_t *count);
 RDS_MUST_USE
-uint8_t rds_finish_run(const uint8_t *bytes, size_t bytes_len, uint64_t bits, const rds_gap_t *gaps, size_t gaps_len,
-    const rds_rules_t *rules, const rds_state_t *state, rds_item_t *room, size_t room_len,
-    uint64_t *count);
+uint8_t rds_finish_run(const uint8_t *bytes, size_t bytes_len, uint64_t bits, const rds_gap_t *gaps, size_t gaps_len, const rds_rules_t
+    *rules, const rds_state_t *state, rds_item_t *room, size_t room_len, uint64_t *count);
 RDS_MUST_USE
-uint8_t rds_push(const uint8_t *bytes, size_t bytes_len, const rds_gap_t *gaps, size_t gaps_len, const rds_rules_t *rules,
-    rds_stream_t *stream, rds_item_t *room, size_t room_len, uint64_t *taken, uint64_t *count);
+uint8_t rds_push(const uint8_t *bytes, size_t bytes_len, const rds_gap_t *gaps, size_t gaps_len, const rds_rules_t *rules, rds_stream_t
+    *stream, rds_item_t *room, size_t room_len, uint64_t *taken, uint64_t *count);
 RDS_MUST_USE
-uint8_t rds_finish(const rds_gap_t *gaps, size_t gaps_len, const rds_rules_t *rules, const rds_stream_t *stream,
-    rds_item_t *room, size_t room_len, uint64_t *count, rds_totals_t *totals);
+uint8_t rds_finish(const rds_gap_t *gaps, size_t gaps_len, const rds_rules_t *rules, const rds_stream_t *stream, rds_item_t *room, size_t
+    room_len, uint64_t *count, rds_totals_t *totals);
 RDS_MUST_USE
-uint8_t rds_finish_with(const uint8_t *bytes, size_t bytes_len, uint64_t bits, const rds_gap_t *gaps, size_t gaps_len,
-    const rds_rules_t *rules, const rds_stream_t *stream, rds_item_t *room, size_t room_len,
-    uint64_t *count, rds_totals_t *totals);
+uint8_t rds_finish_with(const uint8_t *bytes, size_t bytes_len, uint64_t bits, const rds_gap_t *gaps, size_t gaps_len, const rds_rules_t
+    *rules, const rds_stream_t *stream, rds_item_t *room, size_t room_len, uint64_t *count, rds_totals_t *totals);
 RDS_MUST_USE
 uint8_t rds_remainder(uint32_t word, uint16_t *found);
 RDS_MUST_USE

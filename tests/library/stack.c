@@ -41,9 +41,11 @@ static uint8_t run(void)
 static uint8_t push(void)
 {
     uint64_t taken, count;
-    rds_stream_t stream = {0};
+    static uint8_t scratch[RDS_PUSH_SCRATCH(sizeof bytes, ROOM) + 64];
+    rds_stream_t stream = {0}, other = {0};
     rds_totals_t found;
-    return rds_push(bytes, len, &gap, 1, &rules, &stream, room, ROOM, &taken, &count) ||
+    return rds_push_with(bytes, len, &gap, 1, &rules, &other, room, ROOM, &taken, &count, scratch, sizeof scratch) ||
+           rds_push(bytes, len, &gap, 1, &rules, &stream, room, ROOM, &taken, &count) ||
            rds_finish(&gap, 1, &rules, &stream, room, ROOM, &count, &found) ||
            rds_finish_with(bytes, len, 8 * len - 3, &gap, 1, &rules, &stream, room, ROOM, &count, &found);
 }

@@ -4,8 +4,8 @@
         print(item)
 
 Bits are packed into bytes, most significant bit first; a place is the position of a bit, from 0. A `Follower` decodes
-a stream. `items_array` and `Follower.push_array` give rows of a numpy array instead of objects. Calls of several
-threads run at the same time.
+a stream chunk by chunk, and `read` decodes a file or a socket. `items_array` and `Follower.push_array` give rows of a
+numpy array instead of objects. Calls of several threads run at the same time.
 
 Arguments that several calls share:
 
@@ -14,22 +14,47 @@ Arguments that several calls share:
     gaps   places whose bits are ignored: pairs (begin, end), in order, `end` after the last place of the gap
     rules  the decoder's `Rules`
 
-An error of the library raises `Refused`, with the number and name that the program prints too. A wrong Python object
-raises `TypeError` or `ValueError`, and a place or `bits` that is negative or above 2^64 - 1 raises `OverflowError`.
+An error of the library raises `Refused`, with the number and name that the program prints too. `Error` names the
+numbers. A wrong Python object raises `TypeError` or `ValueError`, and a place or `bits` that is negative or above
+2^64 - 1 raises `OverflowError`.
 """
 
 from __future__ import annotations
 
+import array
 import ctypes
+import itertools
 import operator
+import struct
 import sys
 import threading
+from contextlib import contextmanager
 from dataclasses import dataclass
 from enum import IntEnum
-from typing import TYPE_CHECKING, Any, Callable, Iterable, Iterator, Optional, Sequence, Tuple, Union, cast
+from typing import (
+    TYPE_CHECKING,
+    Any,
+    AsyncIterator,
+    Callable,
+    Dict,
+    Iterable,
+    Iterator,
+    List,
+    Optional,
+)
+from typing import Sequence, Tuple, Union, cast
 
 from . import _ffi
-from ._ffi import RdsBlock, RdsGap, RdsItem, RdsPacked, RdsRules, RdsStream, RdsTotals, RdsWords
+from ._ffi import (
+    RdsBlock,
+    RdsGap,
+    RdsItem,
+    RdsPacked,
+    RdsRules,
+    RdsStream,
+    RdsTotals,
+    RdsWords,
+)
 
 if TYPE_CHECKING:
     import numpy
@@ -38,7 +63,9 @@ if TYPE_CHECKING:
     ITEM: numpy.dtype[Any]
 
 __all__ = [
+    "Error",
     "Refused",
+    "OutOfMemory",
     "Rules",
     "Totals",
     "Kind",
@@ -47,6 +74,8 @@ __all__ = [
     "Group",
     "Loss",
     "Follower",
+    "read",
+    "read_async",
     "totals",
     "items",
     "ITEM",
@@ -61,45 +90,75 @@ Buffer = Union[bytes, bytearray, memoryview, "NDArray[Any]"]
 Gaps = Iterable[Sequence[int]]
 
 _library = _ffi.load()
-_OFFSETS = (None, "A", "B", "C", "C'", "D")
-_NUMBERS = {"A": 1, "B": 2, "C": 3, "C'": 4, "D": 5, "C or C'": 6}
-_SMALL_ROOM = 64
-
-
-# tests/library/layout.py compares these with the proved code, and the last with lib/border.c.
-_REASONS = {
-    1: "the burst limit is above 5",
-    2: "the reach is not 1 to 8",
-    3: "the loss is not 1 to 64",
-    4: "more bits than the bytes hold",
-    5: "more than 2^36 bits",
-    8: "out of memory",
-    15: "the share is not 1 to 64 bad blocks of as many or more, up to 64",
-    16: "gaps that are empty, out of order or past the bits",
-    64: "too little room for the items",
-    65: "a state that no call left",
-    66: "places that are no range of the recording",
-    67: "a word of more than 26 bits",
-    68: "a number that is none of an offset",
-    69: "a number that is none of a refusal",
-    70: "a pointer that is not as required",
-    71: "a reserved field that is not 0",
+_OFFSETS = (None, "A", "B", "C", "Cx", "D")
+# The names of C' and of either offset of a block 3 have a second spelling.
+_NUMBERS = {
+    "A": 1,
+    "B": 2,
+    "C": 3,
+    "Cx": 4,
+    "D": 5,
+    "C or Cx": 6,
+    "C'": 4,
+    "C or C'": 6,
 }
+
+
+class Error(IntEnum):
+    """The numbers of errors."""
+
+    BURST_RANGE = 1
+    REACH_RANGE = 2
+    LOSS_RANGE = 3
+    BITS_PAST_BYTES = 4
+    TOO_LONG = 5
+    OUT_OF_MEMORY = 8
+    SHARE_RANGE = 15
+    BAD_GAPS = 16
+    SMALL_ROOM = 64
+    UNLAWFUL_STATE = 65
+    PLACE_RANGE = 66
+    BLOCK_RANGE = 67
+    OFFSET_RANGE = 68
+    NO_REFUSAL = 69
+    BAD_POINTER = 70
+    RESERVED_FIELD = 71
+    NOT_A_STREAM = 72
+    OTHER_VERSION = 73
+    OTHER_RULES = 74
+
+
+_CAUSES = (Error.NOT_A_STREAM, Error.OTHER_VERSION, Error.OTHER_RULES)
 
 
 class Refused(ValueError):
     """An error of the library: its `number`, which never changes its meaning, its `name`, such as "TooLong", and the
-    `reason` in words."""
+    `reason` in words. If `Error.UNLAWFUL_STATE` has a cause with a name, such as `Error.OTHER_RULES`, `cause` is its
+    number, and the reason is the cause's; else `cause` is the number."""
 
-    def __init__(self, number: int):
-        room = (ctypes.c_uint8 * 16)()
-        _library.rds_refusal_name(_within(number, 255), room, len(room))
-        self.number, self.name = number, bytes(room).split(b"\0")[0].decode()
-        self.reason = _REASONS.get(number, "")
+    def __new__(cls, number: int, cause: int = 0) -> Refused:
+        kind: Any = OutOfMemory if number == Error.OUT_OF_MEMORY else cls
+        error: Refused = super().__new__(kind)
+        return error
+
+    def __init__(self, number: int, cause: int = 0):
+        self.number, self.cause = number, cause or number
+        self.name = _text(_library.rds_refusal_text, number)
+        self.reason = _text(_library.rds_refusal_reason, self.cause)
         super().__init__(f"refused {number} {self.name}: {self.reason}")
 
-    def __reduce__(self) -> tuple[type[Refused], tuple[int]]:
-        return Refused, (self.number,)
+    def __reduce__(self) -> tuple[type[Refused], tuple[int, int]]:
+        return Refused, (self.number, self.cause)
+
+
+class OutOfMemory(Refused, MemoryError):
+    """The error `Error.OUT_OF_MEMORY`, which is a `MemoryError` too."""
+
+
+def _text(texts: Callable[[int], bytes], number: int) -> str:
+    """A text of the library, or nothing if it does not know the number."""
+    text = texts(_within(number, 255)).decode()
+    return "" if text == "unknown" else text
 
 
 @dataclass(frozen=True)
@@ -146,8 +205,8 @@ class Kind(IntEnum):
 
 @dataclass(frozen=True)
 class Block:
-    """A block: its offset ("A", "B", "C", "C'" or "D") and its information word, if valid or corrected, and the error
-    mask."""
+    """A block: its offset ("A", "B", "C", "Cx" for C', or "D") and its information word, if valid or corrected, and the
+    error mask."""
 
     kind: Kind
     offset: Optional[str] = None
@@ -177,7 +236,7 @@ class Group:
     @property
     def words(self) -> Tuple[Optional[int], ...]:
         """The information words of the four blocks, if they are known."""
-        return tuple(it.info for it in self.blocks)
+        return tuple(block.info for block in self.blocks)
 
 
 @dataclass(frozen=True)
@@ -207,36 +266,38 @@ def _place(number: int) -> int:
     return number
 
 
-def _bytes(data: Buffer) -> bytes:
+def _view(data: Buffer) -> memoryview:
     """The bytes of a buffer. An integer, a text, and an array of anything but bytes are none."""
-    if type(data) is bytes:
-        return data
     view = memoryview(cast(bytes, data))
     if view.format not in ("B", "b", "c"):
         raise TypeError(f"a buffer of bytes is needed, not one of format {view.format!r}")
-    return view.tobytes()
+    return view.cast("B") if view.contiguous else memoryview(view.tobytes())
 
 
-class _Asked:
-    """The arguments that most calls share, as ctypes takes them. They keep the memory that they lend."""
+def _bytes(data: Buffer) -> bytes:
+    return data if type(data) is bytes else _view(data).tobytes()
 
-    def __init__(self, data: Buffer, bits: Optional[int], gaps: Gaps, rules: Rules):
-        self._kept = _bytes(data)
-        self.length = len(self._kept)
-        self.bits = self.length * 8 if bits is None else _place(bits)
-        places = [RdsGap(*map(_place, gap)) for gap in _pairs(gaps)]
-        numbers = (_within(it, 2**32 - 1) for it in (rules.burst, rules.reach, rules.loss, rules.of))
-        lent = ctypes.cast(ctypes.c_char_p(self._kept), ctypes.POINTER(ctypes.c_uint8))
-        self.bytes: tuple[Any, ...] = (lent, self.length)
-        self.terms: tuple[Any, ...] = ((RdsGap * max(1, len(places)))(*places), len(places), RdsRules(*numbers))
 
-    def recording(self) -> tuple[Any, ...]:
-        return (*self.bytes, self.bits, *self.terms)
+def _terms(gaps: Gaps, rules: Rules) -> tuple[Any, ...]:
+    """Gaps and rules, as ctypes takes them."""
+    if not isinstance(rules, Rules):
+        raise TypeError(f"rules are a librds.Rules, not {type(rules).__name__}")
+    numbers = (rules.burst, rules.reach, rules.loss, rules.of)
+    places = array.array("Q", map(_place, itertools.chain.from_iterable(_pairs(gaps))))
+    count = len(places) // 2
+    lent = (RdsGap * count).from_buffer(places) if count else None
+    return lent, count, RdsRules(*(_within(number, 2**32 - 1) for number in numbers))
 
-    def rest_after(self, count: int) -> Any:
-        """The bytes after the first `count`."""
-        start = ctypes.cast(self.bytes[0], ctypes.c_void_p).value or 0
-        return ctypes.cast(start + count, ctypes.POINTER(ctypes.c_uint8))
+
+def _recording(data: Buffer, bits: Optional[int]) -> tuple[bytes, int, int]:
+    """Bytes, and how many there are of them and of bits."""
+    given = _bytes(data)
+    return given, len(given), 8 * len(given) if bits is None else _place(bits)
+
+
+def _asked(data: Buffer, bits: Optional[int], gaps: Gaps, rules: Rules) -> tuple[Any, ...]:
+    """The arguments that most calls share."""
+    return *_recording(data, bits), *_terms(gaps, rules)
 
 
 def _pairs(gaps: Gaps) -> Iterator[Sequence[int]]:
@@ -257,15 +318,10 @@ def _check(number: int) -> None:
 def _item_dtype() -> numpy.dtype[Any]:
     import numpy
 
-    names, formats, offsets = ["place"], ["<u8"], [0]
-    for block in range(4):
-        names += [f"{field}{block + 1}" for field in ("burst", "info", "kind", "offset")]
-        formats += ["<u4", "<u2", "u1", "u1"]
-        offsets += [8 + 8 * block, 12 + 8 * block, 14 + 8 * block, 15 + 8 * block]
-    names += ["what", "number", "version", "conflict"]
-    formats += ["u1"] * 4
-    offsets += [40, 41, 42, 43]
-    return numpy.dtype({"names": names, "formats": formats, "offsets": offsets, "itemsize": 48})
+    block = (("burst", "<u4"), ("info", "<u2"), ("kind", "u1"), ("offset", "u1"))
+    blocks = [(f"{name}{number}", form) for number in (1, 2, 3, 4) for name, form in block]
+    rest = [(name, "u1") for name in ("what", "number", "version", "conflict")]
+    return numpy.dtype([("place", "<u8"), *blocks, *rest], align=True)
 
 
 def __getattr__(name: str) -> Any:
@@ -276,44 +332,99 @@ def __getattr__(name: str) -> Any:
     return globals()["ITEM"]
 
 
-def _array_room(count: int) -> tuple[NDArray[Any], Any]:
+# Room for items: a call of rds_push takes 960 bytes at once, of which each completes at most 16.
+_ROOM = 16 * 960
+_Room = RdsItem * _ROOM
+# How many bytes a call of rds_push is offered.
+_OFFERED = 1 << 17
+_spare: List[Any] = []
+
+
+@contextmanager
+def _lent_room(count: int) -> Iterator[Any]:
+    """Room for at least this number of items. A small one is used again, by any thread."""
+    if count > _ROOM:
+        yield (RdsItem * count)()
+        return
+    try:
+        room = _spare.pop()
+    except IndexError:
+        room = _Room()
+    yield room
+    _spare.append(room)
+
+
+def _filled(count: int, call: Callable[[Any, int, Any], int], take: Callable[[Any, int], Any]) -> Any:
+    """What `take` makes of the items that a call writes. A second call has the room that the first one asked for."""
+    found, number = ctypes.c_uint64(count), int(Error.SMALL_ROOM)
+    while number == Error.SMALL_ROOM:
+        with _lent_room(found.value) as room:
+            number = call(room, len(room), found)
+            if number == 0:
+                return take(room, found.value)
+    raise Refused(number)
+
+
+def _rows(room: Any, count: int) -> NDArray[Any]:
+    """The items as rows, in memory of their own."""
     import numpy
 
-    room = numpy.empty(max(1, count), sys.modules[__name__].ITEM)
-    return room, room.ctypes.data_as(ctypes.POINTER(RdsItem))
+    kept = bytearray(_stored(room, count)) if type(room) is _Room else room
+    rows: NDArray[Any] = numpy.frombuffer(kept, sys.modules[__name__].ITEM, count)
+    return rows
 
 
-def _object_room(count: int) -> tuple[Any, Any]:
-    room = (RdsItem * max(1, count))()
-    return room, room
+def _values(room: Any, count: int) -> Iterator[Item]:
+    return itertools.starmap(_item, _ROW.iter_unpack(_stored(room, count)))
 
 
-def _fill(rooms: Callable[[int], tuple[Any, Any]], first: int, call: Callable[[Any, int, Any], int]) -> Any:
-    """The items that a call writes: a second call has the room that the first one asked for."""
-    count = ctypes.c_uint64(first)
-    while True:
-        size = count.value
-        room, lent = rooms(size)
-        number = call(lent, size, count)
-        if number != _SMALL_ROOM:
-            _check(number)
-            return room[: count.value]
+def _stored(room: Any, count: int) -> bytes:
+    """A copy of the items as bytes: numpy copies and joins rows of many fields slowly."""
+    return ctypes.string_at(room, count * _ROW.size)
 
 
-def _item(it: RdsItem) -> Item:
-    if it.what == 1:
-        return Acquired(it.place, it.number)
-    if it.what == 3:
-        return Loss(it.place)
-    blocks = tuple(_block(block) for block in it.blocks)
-    return Group(
-        it.place, blocks, None if it.number == 255 else it.number, (None, "A", "B", None)[it.version], bool(it.conflict)
-    )
+# The fields of RdsItem, with each block as its bytes, and those of RdsBlock.
+_ROW = struct.Struct("=Q8s8s8s8sBBBBI")
+_BLOCK = struct.Struct("=IHBB")
+_VERSIONS = (None, "A", "B", None)
 
 
-def _block(it: RdsBlock) -> Block:
-    known = it.kind >= Kind.VALID
-    return Block(Kind(it.kind), _OFFSETS[it.offset], it.info if known else None, it.burst)
+class _Blocks(Dict[bytes, Block]):
+    """Blocks by their bytes. Equal blocks are one object, since a station repeats most of them."""
+
+    MOST = 1 << 14
+
+    def __missing__(self, key: bytes) -> Block:
+        if len(self) >= self.MOST:
+            self.clear()
+        self[key] = block = _block(*_BLOCK.unpack(key))
+        return block
+
+
+_blocks = _Blocks()
+
+
+def _block(burst: int, info: int, kind: int, offset: int) -> Block:
+    return Block(Kind(kind), _OFFSETS[offset], info if kind >= Kind.VALID else None, burst)
+
+
+def _item(
+    place: int,
+    first: bytes,
+    second: bytes,
+    third: bytes,
+    fourth: bytes,
+    what: int,
+    number: int,
+    version: int,
+    conflict: int,
+    _unused: int,
+) -> Item:
+    if what == 2:
+        blocks = (_blocks[first], _blocks[second], _blocks[third], _blocks[fourth])
+        group_type = None if number == 255 else number
+        return Group(place, blocks, group_type, _VERSIONS[version], conflict == 1)
+    return Acquired(place, number) if what == 1 else Loss(place)
 
 
 def _totals(found: RdsTotals) -> Totals:
@@ -335,33 +446,40 @@ def _totals(found: RdsTotals) -> Totals:
 def totals(data: Buffer, bits: Optional[int] = None, gaps: Gaps = (), rules: Rules = Rules()) -> Totals:
     """The totals of a recording.
 
+    Example:
+
         found = librds.totals(open("station.bin", "rb").read())
         print(found.valid, found.groups)
     """
     found = RdsTotals()
-    _check(_library.rds_totals(*_Asked(data, bits, gaps, rules).recording(), found))
+    _check(_library.rds_totals(*_asked(data, bits, gaps, rules), found))
     return _totals(found)
 
 
-def _items(rooms: Callable[[int], tuple[Any, Any]], asked: _Asked) -> Any:
+def _items(take: Callable[[Any, int], Any], asked: tuple[Any, ...]) -> Any:
     """The room is by the bytes: a claim of more bits than they hold is refused, and must not take memory first."""
-    given = asked.recording()
-    return _fill(
-        rooms, max(64, asked.length // 10), lambda room, size, count: int(_library.rds_items(*given, room, size, count))
-    )
+    call = lambda room, size, count: int(_library.rds_items(*asked, room, size, count))
+    return _filled(max(64, asked[1] // 10), call, take)
 
 
-def items(data: Buffer, bits: Optional[int] = None, gaps: Gaps = (), rules: Rules = Rules()) -> Iterator[Item]:
+def items(
+    data: Buffer, bits: Optional[int] = None, gaps: Gaps = (), rules: Rules = Rules()
+) -> Iterator[Item]:
     """The items of a recording, in order of completion: `Acquired`, `Group` and `Loss`.
+
+    Example:
 
         for item in librds.items(data, gaps=[(104, 130)], rules=librds.Rules(burst=0)):
             if isinstance(item, librds.Group):
                 print(item.place, item.group_type, item.version)
     """
-    return map(_item, _items(_object_room, _Asked(data, bits, gaps, rules)))
+    items: Iterator[Item] = _items(_values, _asked(data, bits, gaps, rules))
+    return items
 
 
-def items_array(data: Buffer, bits: Optional[int] = None, gaps: Gaps = (), rules: Rules = Rules()) -> NDArray[Any]:
+def items_array(
+    data: Buffer, bits: Optional[int] = None, gaps: Gaps = (), rules: Rules = Rules()
+) -> NDArray[Any]:
     """The same as a numpy array of the dtype `ITEM`, a row per item, which pandas.DataFrame takes. It needs numpy.
 
         rows = librds.items_array(data)
@@ -369,10 +487,10 @@ def items_array(data: Buffer, bits: Optional[int] = None, gaps: Gaps = (), rules
 
     `what` is 1 for an acquisition, 2 for a group and 3 for a loss. `number` is the number of the block that acquired,
     or the group type, 255 if it is not known. `version` is 1 for A, 2 for B and 3 if it is not known. For block N of a
-    group, `kindN` is its `Kind`, `offsetN` is 1 to 5 for A, B, C, C' and D, `infoN` its information word and `burstN`
+    group, `kindN` is its `Kind`, `offsetN` is 1 to 5 for A, B, C, Cx and D, `infoN` its information word and `burstN`
     the error mask.
     """
-    rows: NDArray[Any] = _items(_array_room, _Asked(data, bits, gaps, rules))
+    rows: NDArray[Any] = _items(_rows, _asked(data, bits, gaps, rules))
     return rows
 
 
@@ -391,81 +509,92 @@ class Follower:
 
     Gaps are places in the stream, and may be later than all bytes so far. `stream` continues the stream of another
     Follower with the same rules and gaps: it is that one's property `stream`. If its bytes are of no stream, or other
-    rules wrote them, the error is `Refused` 65. Threads may share a Follower: their calls run one after the other.
+    rules wrote them, the error is `Refused` 65, with the cause. Threads may share a Follower: their calls run one after
+    the other.
     """
 
     def __init__(self, rules: Rules = Rules(), gaps: Gaps = (), stream: bytes = bytes(256)):
         if len(_bytes(stream)) != ctypes.sizeof(RdsStream):
             raise ValueError("a stream is 256 bytes")
-        self._rules, self._gaps, self._stream = rules, list(gaps), RdsStream.from_buffer_copy(stream)
+        self._rules, self._gaps, self._stream = (
+            rules,
+            list(gaps),
+            RdsStream.from_buffer_copy(stream),
+        )
+        self._terms = _terms(self._gaps, rules)
         self._lock = threading.Lock()
-        self.finish()
+        number = int(_library.rds_check(*self._terms, self._stream))
+        if number:
+            raise Refused(Error.UNLAWFUL_STATE if number in _CAUSES else number, number)
 
     def __reduce__(self) -> tuple[type[Follower], tuple[Rules, Gaps, bytes]]:
         return Follower, (self._rules, self._gaps, self.stream)
 
     def push(self, data: Buffer) -> list[Item]:
-        """The items that the next bytes complete. Past 2^36 bits it raises `Refused` 5. On error the stream is unchanged.
-        """
-        return [_item(it) for part in self._push(_object_room, data) for it in part]
+        """The items that the next bytes complete. Past 2^36 bits it raises `Refused` 5. On error the stream is unchanged."""
+        return [item for part in self._push(_values, data) for item in part]
 
     def push_array(self, data: Buffer) -> NDArray[Any]:
         """The same as rows of the dtype `ITEM`, as `items_array` gives them."""
-        parts = self._push(_array_room, data)
-        if len(parts) == 1:
-            rows: NDArray[Any] = parts[0]
-            return rows
         import numpy
 
-        return numpy.concatenate(parts)
+        items = bytearray().join(self._push(_stored, data))
+        rows: NDArray[Any] = numpy.frombuffer(items, sys.modules[__name__].ITEM)
+        return rows
 
     def finish(self) -> tuple[Optional[Group], Totals]:
         """The group in progress, as far as it was read, and the totals of everything heard, if the stream ended here.
         The stream can continue."""
-        items, found = self._finish(_object_room, b"", None)
-        group = _item(items[0]) if items else None
-        assert group is None or isinstance(group, Group)
-        return group, found
+        items, found = self._finish(_values, b"", None)
+        return next(items, None), found
 
     def finish_with(self, data: Buffer, bits: Optional[int] = None) -> tuple[list[Item], Totals]:
         """The items that the first `bits` bits of these bytes complete, by default all, then the group in progress, and
         the totals of everything heard and of these bits, if the stream ended with them: inside a byte, for example. The
         stream can continue.
         """
-        items, found = self._finish(_object_room, data, bits)
-        return [_item(it) for it in items], found
+        items, found = self._finish(_values, data, bits)
+        return list(items), found
 
     def finish_array(self, data: Buffer = b"", bits: Optional[int] = None) -> tuple[NDArray[Any], Totals]:
         """The same with the items as rows of the dtype `ITEM`."""
-        rows, found = self._finish(_array_room, data, bits)
+        rows, found = self._finish(_rows, data, bits)
         return rows, found
 
-    def _push(self, rooms: Callable[[int], tuple[Any, Any]], data: Buffer) -> list[Any]:
-        """The items in parts: a call takes as many bytes as have room, and room for 16 items is never too little."""
-        asked = _Asked(data, None, self._gaps, self._rules)
+    def _push(self, take: Callable[[Any, int], Any], data: Buffer) -> list[Any]:
+        """What `take` makes of the items, in parts: a call takes as many bytes as have room, and room for 16 items is never
+        too little."""
+        view, done = _view(data), 0
         parts: list[Any] = []
-        done, taken, count = 0, ctypes.c_uint64(), ctypes.c_uint64()
-        with self._lock:
+        taken, count = ctypes.c_uint64(), ctypes.c_uint64()
+        with self._lock, _lent_room(0) as room:
             stream = RdsStream.from_buffer_copy(self._stream)
-            while not parts or done < asked.length:
-                rest = asked.length - done
-                room, lent = rooms(16 + rest // 4)
-                given = (asked.rest_after(done), rest, *asked.terms, stream, lent, len(room))
-                _check(int(_library.rds_push(*given, taken, count)))
-                parts.append(room[: count.value])
+            while not parts or done < len(view):
+                chunk = bytes(view[done : done + _OFFERED])
+                given = (
+                    chunk,
+                    len(chunk),
+                    *self._terms,
+                    stream,
+                    room,
+                    len(room),
+                    taken,
+                    count,
+                )
+                _check(_library.rds_push(*given))
+                parts.append(take(room, count.value))
                 done += taken.value
             self._stream = stream
         return parts
 
-    def _finish(self, rooms: Callable[[int], tuple[Any, Any]], data: Buffer, bits: Optional[int]) -> tuple[Any, Totals]:
-        asked, found = _Asked(data, bits, self._gaps, self._rules), RdsTotals()
-        given = (*asked.recording(), self._stream)
+    def _finish(
+        self, take: Callable[[Any, int], Any], data: Buffer, bits: Optional[int]
+    ) -> tuple[Any, Totals]:
+        asked, found = _recording(data, bits), RdsTotals()
         with self._lock:
-            items = _fill(
-                rooms,
-                8 + asked.length // 4,
-                lambda room, size, count: int(_library.rds_finish_with(*given, room, size, count, found)),
-            )
+            given = (*asked, *self._terms, self._stream)
+            call = lambda room, size, count: int(_library.rds_finish_with(*given, room, size, count, found))
+            items = _filled(8 + asked[1] // 4, call, take)
         return items, _totals(found)
 
     @property
@@ -479,6 +608,50 @@ class Follower:
         """The state of the stream, 256 bytes. They can be stored, and are equal if the same bytes were heard."""
         with self._lock:
             return bytes(self._stream)
+
+
+# ---- files and sockets
+
+# How many bytes are read at once, at most.
+_CHUNK = 4096
+
+
+def read(stream: Any, follower: Optional[Follower] = None) -> Iterator[Item]:
+    """The items of the bits of a binary file or a socket, each as soon as it is complete. At the end of the file the group
+    in progress comes last.
+
+        follower = librds.Follower()
+        for item in librds.read(sys.stdin.buffer, follower):
+            print(item)
+        totals = follower.finish()[1]
+
+    The follower has its rules and gaps, and hears all bytes that were read. If the stream raises an error, such as a
+    timeout or `BlockingIOError`, a new call with the same follower continues.
+    """
+    follower = follower or Follower()
+    take = getattr(stream, "recv", None) or getattr(stream, "read1", None) or stream.read
+    while True:
+        data = take(_CHUNK)
+        if data is None:
+            raise BlockingIOError("the stream has no bytes yet")
+        if not data:
+            break
+        yield from follower.push(data)
+    yield from follower.finish_with(b"")[0]
+
+
+async def read_async(stream: Any, follower: Optional[Follower] = None) -> AsyncIterator[Item]:
+    """The same of a stream with an asynchronous `read`, such as an `asyncio.StreamReader`.
+
+    async for item in librds.read_async(reader):
+        print(item)
+    """
+    follower = follower or Follower()
+    while data := await stream.read(_CHUNK):
+        for item in follower.push(data):
+            yield item
+    for item in follower.finish_with(b"")[0]:
+        yield item
 
 
 # ---- single blocks and groups
@@ -495,19 +668,26 @@ def remainder(word: int) -> int:
 
 
 def correct(word: int, offset: str, limit: int = 2) -> Block:
-    """A 26-bit word read as the block with this offset, "A" to "D" or "C or C'". A burst of up to `limit` bits, 0 to 5,
-    is corrected if exactly one fits.
+    """A 26-bit word read as the block with this offset, "A" to "D", or "C or Cx" if it may be either. A burst of up to
+    `limit` bits, 0 to 5, is corrected if exactly one fits.
 
     librds.correct(0x9580C8, "A", 1) == librds.Block(librds.Kind.CORRECTED, "A", 0x2540, 0x8000)
     """
     found = RdsBlock()
-    _check(_library.rds_correct(_within(word, 2**32 - 1), _NUMBERS.get(offset, 0), _within(limit, 255), found))
-    return _block(found)
+    _check(
+        _library.rds_correct(
+            _within(word, 2**32 - 1),
+            _NUMBERS.get(offset, 0),
+            _within(limit, 255),
+            found,
+        )
+    )
+    return _blocks[bytes(found)]
 
 
 def _words(group: Sequence[int]) -> RdsWords:
-    words = [operator.index(it) for it in group]
-    if len(words) != 4 or not all(0 <= it < 2**16 for it in words):
+    words = [operator.index(word) for word in group]
+    if len(words) != 4 or not all(0 <= word < 2**16 for word in words):
         raise ValueError(f"a group is four 16-bit words, not {group!r}")
     return RdsWords((ctypes.c_uint16 * 4)(*words))
 

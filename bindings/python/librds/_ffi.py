@@ -4,7 +4,7 @@ from __future__ import annotations
 
 import ctypes
 import os
-from ctypes import POINTER, c_size_t, c_uint8, c_uint16, c_uint32, c_uint64
+from ctypes import POINTER, c_char_p, c_size_t, c_uint8, c_uint16, c_uint32, c_uint64
 from typing import Any
 
 
@@ -23,7 +23,12 @@ class RdsTotals(ctypes.Structure):
 
 
 class RdsBlock(ctypes.Structure):
-    _fields_ = [("burst", c_uint32), ("info", c_uint16), ("kind", c_uint8), ("offset", c_uint8)]
+    _fields_ = [
+        ("burst", c_uint32),
+        ("info", c_uint16),
+        ("kind", c_uint8),
+        ("offset", c_uint8),
+    ]
 
 
 class RdsItem(ctypes.Structure):
@@ -85,110 +90,44 @@ class RdsPacked(ctypes.Structure):
     _fields_ = [("bytes", c_uint8 * 13)]
 
 
-STRUCTS = [RdsTotals, RdsBlock, RdsItem, RdsGap, RdsRules, RdsState, RdsStream, RdsWords, RdsPacked]
+STRUCTS = [
+    RdsTotals,
+    RdsBlock,
+    RdsItem,
+    RdsGap,
+    RdsRules,
+    RdsState,
+    RdsStream,
+    RdsWords,
+    RdsPacked,
+]
+
+# Arguments that several functions share. Bytes that are only read are c_char_p, which takes a `bytes` as it is.
+BYTES = [c_char_p, c_size_t]
+TERMS = [POINTER(RdsGap), c_size_t, POINTER(RdsRules)]
+ROOM = [POINTER(RdsItem), c_size_t]
+COUNT, TOTALS = POINTER(c_uint64), POINTER(RdsTotals)
+STATE, STREAM = POINTER(RdsState), POINTER(RdsStream)
 
 # name: (result, arguments)
 FUNCTIONS: dict[str, tuple[Any, list[Any]]] = {
-    "rds_totals": (
-        c_uint8,
-        [POINTER(c_uint8), c_size_t, c_uint64, POINTER(RdsGap), c_size_t, POINTER(RdsRules), POINTER(RdsTotals)],
-    ),
-    "rds_items": (
-        c_uint8,
-        [
-            POINTER(c_uint8),
-            c_size_t,
-            c_uint64,
-            POINTER(RdsGap),
-            c_size_t,
-            POINTER(RdsRules),
-            POINTER(RdsItem),
-            c_size_t,
-            POINTER(c_uint64),
-        ],
-    ),
-    "rds_run": (
-        c_uint8,
-        [
-            POINTER(c_uint8),
-            c_size_t,
-            c_uint64,
-            POINTER(RdsGap),
-            c_size_t,
-            POINTER(RdsRules),
-            c_uint64,
-            c_uint64,
-            POINTER(RdsState),
-            POINTER(RdsItem),
-            c_size_t,
-            POINTER(c_uint64),
-        ],
-    ),
-    "rds_finish_run": (
-        c_uint8,
-        [
-            POINTER(c_uint8),
-            c_size_t,
-            c_uint64,
-            POINTER(RdsGap),
-            c_size_t,
-            POINTER(RdsRules),
-            POINTER(RdsState),
-            POINTER(RdsItem),
-            c_size_t,
-            POINTER(c_uint64),
-        ],
-    ),
-    "rds_push": (
-        c_uint8,
-        [
-            POINTER(c_uint8),
-            c_size_t,
-            POINTER(RdsGap),
-            c_size_t,
-            POINTER(RdsRules),
-            POINTER(RdsStream),
-            POINTER(RdsItem),
-            c_size_t,
-            POINTER(c_uint64),
-            POINTER(c_uint64),
-        ],
-    ),
-    "rds_finish": (
-        c_uint8,
-        [
-            POINTER(RdsGap),
-            c_size_t,
-            POINTER(RdsRules),
-            POINTER(RdsStream),
-            POINTER(RdsItem),
-            c_size_t,
-            POINTER(c_uint64),
-            POINTER(RdsTotals),
-        ],
-    ),
-    "rds_finish_with": (
-        c_uint8,
-        [
-            POINTER(c_uint8),
-            c_size_t,
-            c_uint64,
-            POINTER(RdsGap),
-            c_size_t,
-            POINTER(RdsRules),
-            POINTER(RdsStream),
-            POINTER(RdsItem),
-            c_size_t,
-            POINTER(c_uint64),
-            POINTER(RdsTotals),
-        ],
-    ),
+    "rds_totals": (c_uint8, [*BYTES, c_uint64, *TERMS, TOTALS]),
+    "rds_items": (c_uint8, [*BYTES, c_uint64, *TERMS, *ROOM, COUNT]),
+    "rds_run": (c_uint8, [*BYTES, c_uint64, *TERMS, c_uint64, c_uint64, STATE, *ROOM, COUNT]),
+    "rds_finish_run": (c_uint8, [*BYTES, c_uint64, *TERMS, STATE, *ROOM, COUNT]),
+    "rds_push": (c_uint8, [*BYTES, *TERMS, STREAM, *ROOM, COUNT, COUNT]),
+    "rds_finish": (c_uint8, [*TERMS, STREAM, *ROOM, COUNT, TOTALS]),
+    "rds_finish_with": (c_uint8, [*BYTES, c_uint64, *TERMS, STREAM, *ROOM, COUNT, TOTALS]),
+    "rds_check": (c_uint8, [*TERMS, STREAM]),
     "rds_remainder": (c_uint8, [c_uint32, POINTER(c_uint16)]),
     "rds_correct": (c_uint8, [c_uint32, c_uint8, c_uint8, POINTER(RdsBlock)]),
     "rds_encode": (c_uint8, [POINTER(RdsWords), c_size_t, POINTER(RdsPacked), c_size_t]),
     "rds_refusal_name": (c_uint8, [c_uint8, POINTER(c_uint8), c_size_t]),
     "rds_version": (c_uint32, []),
 }
+
+# What gives text, which is static.
+TEXTS: dict[str, Any] = {name: (c_char_p, [c_uint8]) for name in ("rds_refusal_text", "rds_refusal_reason")}
 
 # The oldest version of the library that has all of this: a later one with the same first number does as well.
 VERSION = (0, 2, 0)
@@ -213,13 +152,15 @@ def open_library() -> ctypes.CDLL:
         other = None if named else find_library("rds")
         if other:
             return ctypes.CDLL(other)
-        raise OSError(f"{error}: install librds (make install-lib), or name its librds.so.0 in RDS_LIBRARY") from None
+        raise OSError(
+            f"{error}: install librds (make install-lib), or name its librds.so.0 in RDS_LIBRARY"
+        ) from None
 
 
 def load() -> ctypes.CDLL:
     """The library, its functions declared and its version checked."""
     library = open_library()
-    for name, (result, arguments) in FUNCTIONS.items():
+    for name, (result, arguments) in {**FUNCTIONS, **TEXTS}.items():
         try:
             function = getattr(library, name)
         except AttributeError:
@@ -227,6 +168,6 @@ def load() -> ctypes.CDLL:
         function.restype, function.argtypes = result, arguments
     found = version_of(library)
     if found[0] != VERSION[0] or found < VERSION:
-        wanted, here = (".".join(map(str, it)) for it in (VERSION, found))
+        wanted, here = (".".join(map(str, value)) for value in (VERSION, found))
         raise OSError(f"{library._name} is librds {here}, but this module needs {wanted} or later")
     return library

@@ -1,13 +1,13 @@
 //! Answers calls, a line each on standard input, as the table of the library's tests has them.
 
-use rds::{Block, Item, LossRule, Offset, Recording, Refused, Rules, Version};
+use rds::{Block, Follower, Item, LossRule, Offset, Recording, Refused, Rules, Version};
 
 fn offset_name(offset: Offset) -> &'static str {
     match offset {
         Offset::A => "A",
         Offset::B => "B",
         Offset::C => "C",
-        Offset::Cx => "C'",
+        Offset::Cx => "Cx",
         Offset::D => "D",
     }
 }
@@ -55,6 +55,27 @@ fn rules_of(words: &[&str]) -> Rules {
     Rules { burst, reach, loss }
 }
 
+/// The items of a stream of the recording's bits, in ever other chunks of up to 1000 bytes, each from what is known of the stream.
+fn followed(recording: &Recording, rules: &Rules) -> Result<Vec<Item>, Refused> {
+    let (bits, gaps) = (recording.bits as usize, &recording.gaps);
+    let (whole, last) = recording.bytes[..bits.div_ceil(8)].split_at(bits / 8);
+    let (mut follower, mut items, mut rest, mut random) = (Follower::new(rules, gaps)?, Vec::new(), whole, whole.len() as u32);
+    while !rest.is_empty() {
+        random = random.wrapping_mul(1664525).wrapping_add(1013904223);
+        let (chunk, later) = rest.split_at(rest.len().min((random >> 8) as usize % 1001));
+        follower = Follower::resume(rules, gaps, *follower.stream())?;
+        items.extend(follower.push(chunk)?);
+        rest = later;
+    }
+    items.extend(follower.finish_with(last, recording.bits % 8)?.0);
+    if bits % 8 == 0 {
+        let (group, totals) = follower.finish()?;
+        assert!(group.is_none() || items.last() == group.map(Item::Group).as_ref());
+        assert!(totals == follower.finish_with(&[], 0)?.1);
+    }
+    Ok(items)
+}
+
 fn answer(call: &str, words: &[&str]) -> Result<String, Refused> {
     if call == "totals" || call == "items" {
         let bytes = bytes_of(words[0]);
@@ -63,7 +84,9 @@ fn answer(call: &str, words: &[&str]) -> Result<String, Refused> {
         let recording = Recording { bytes: &bytes, bits: words[1].parse().expect("a number"), gaps };
         let rules = rules_of(&words[2..6]);
         if call == "items" {
-            let items: Vec<_> = rds::items(&recording, &rules)?.map(item_text).collect();
+            let items: Vec<_> = rds::items(&recording, &rules)?.collect();
+            assert!(followed(&recording, &rules)? == items, "a stream of the same bits has other items");
+            let items: Vec<_> = items.into_iter().map(item_text).collect();
             return Ok([vec![items.len().to_string()], items].concat().join("; "));
         }
         let t = rds::totals(&recording, &rules)?;

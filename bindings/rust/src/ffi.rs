@@ -1,27 +1,17 @@
 //! The declarations of `rds.h`, which says what each name means. `tests/library/layout.py` compares each line with it.
 #![allow(missing_docs)]
 
-/// The twelve totals of a report.
 #[repr(C)]
 #[derive(Clone, Copy, Debug, Default, PartialEq, Eq, Hash)]
 pub struct RdsTotals {
-    /// Valid blocks.
     pub valid: u64,
-    /// Corrected blocks, by burst length: 1 to 5 bits.
     pub bursts: [u64; 5],
-    /// Uncorrectable blocks.
     pub lost: u64,
-    /// Bits corrected.
     pub bits: u64,
-    /// Groups.
     pub groups: u64,
-    /// Groups of which all four blocks are valid or corrected.
     pub complete: u64,
-    /// Acquisitions of block sync.
     pub acquired: u64,
-    /// Losses of it.
     pub losses: u64,
-    /// Always 0.
     pub reserved: [u64; 4],
 }
 
@@ -108,8 +98,10 @@ extern "C" {
     pub fn rds_run(bytes: *const u8, bytes_len: usize, bits: u64, gaps: *const RdsGap, gaps_len: usize, rules: *const RdsRules, from: u64, to: u64, state: *mut RdsState, room: *mut RdsItem, room_len: usize, count: *mut u64) -> u8;
     pub fn rds_finish_run(bytes: *const u8, bytes_len: usize, bits: u64, gaps: *const RdsGap, gaps_len: usize, rules: *const RdsRules, state: *const RdsState, room: *mut RdsItem, room_len: usize, count: *mut u64) -> u8;
     pub fn rds_push(bytes: *const u8, bytes_len: usize, gaps: *const RdsGap, gaps_len: usize, rules: *const RdsRules, stream: *mut RdsStream, room: *mut RdsItem, room_len: usize, taken: *mut u64, count: *mut u64) -> u8;
+    pub fn rds_push_with(bytes: *const u8, bytes_len: usize, gaps: *const RdsGap, gaps_len: usize, rules: *const RdsRules, stream: *mut RdsStream, room: *mut RdsItem, room_len: usize, taken: *mut u64, count: *mut u64, scratch: *mut u8, scratch_len: usize) -> u8;
     pub fn rds_finish(gaps: *const RdsGap, gaps_len: usize, rules: *const RdsRules, stream: *const RdsStream, room: *mut RdsItem, room_len: usize, count: *mut u64, totals: *mut RdsTotals) -> u8;
     pub fn rds_finish_with(bytes: *const u8, bytes_len: usize, bits: u64, gaps: *const RdsGap, gaps_len: usize, rules: *const RdsRules, stream: *const RdsStream, room: *mut RdsItem, room_len: usize, count: *mut u64, totals: *mut RdsTotals) -> u8;
+    pub fn rds_check(gaps: *const RdsGap, gaps_len: usize, rules: *const RdsRules, stream: *const RdsStream) -> u8;
     pub fn rds_remainder(word: u32, found: *mut u16) -> u8;
     pub fn rds_correct(word: u32, offset: u8, limit: u8, found: *mut RdsBlock) -> u8;
     pub fn rds_encode(groups: *const RdsWords, groups_len: usize, room: *mut RdsPacked, room_len: usize) -> u8;

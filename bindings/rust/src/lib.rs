@@ -16,7 +16,7 @@
 //! ```
 //!
 //! A [`Follower`] decodes a stream chunk by chunk, and [`read`] decodes one from a reader. An error is a [`Refused`]: it has the number and
-//! the name that the program prints. Calls of several threads run at the same time.
+//! the name that the program prints, and its constants name the numbers. Calls of several threads run at the same time.
 
 #![deny(missing_docs)]
 
@@ -25,14 +25,14 @@ mod stream;
 
 pub use stream::{read, ReadError, ReadItems};
 
-use ffi::{RdsBlock, RdsGap, RdsItem, RdsPacked, RdsRules, RdsStream, RdsTotals, RdsWords};
+use ffi::{RdsBlock, RdsGap, RdsItem, RdsPacked, RdsRules, RdsTotals, RdsWords};
+use std::cell::RefCell;
 use std::fmt;
+use std::io::Read;
 use std::ops::Range;
 
-/// The twelve totals of a report.
-pub use ffi::RdsTotals as Totals;
-
-const SMALL_ROOM: u8 = 64;
+/// The state of a stream.
+pub use ffi::RdsStream as Stream;
 
 /// An error of the library.
 #[derive(Clone, Debug, PartialEq, Eq, Hash)]
@@ -41,17 +41,43 @@ pub struct Refused {
     pub number: u8,
     /// Its name, such as `TooLong`.
     pub name: String,
+    /// The number of the cause, if an `UNLAWFUL_STATE` has one with a name; else the number.
+    pub cause: u8,
+}
+
+/// The numbers of errors.
+#[allow(missing_docs)]
+impl Refused {
+    pub const BURST_RANGE: u8 = 1;
+    pub const REACH_RANGE: u8 = 2;
+    pub const LOSS_RANGE: u8 = 3;
+    pub const BITS_PAST_BYTES: u8 = 4;
+    pub const TOO_LONG: u8 = 5;
+    pub const OUT_OF_MEMORY: u8 = 8;
+    pub const SHARE_RANGE: u8 = 15;
+    pub const BAD_GAPS: u8 = 16;
+    pub const SMALL_ROOM: u8 = 64;
+    pub const UNLAWFUL_STATE: u8 = 65;
+    pub const PLACE_RANGE: u8 = 66;
+    pub const BLOCK_RANGE: u8 = 67;
+    pub const OFFSET_RANGE: u8 = 68;
+    pub const NO_REFUSAL: u8 = 69;
+    pub const BAD_POINTER: u8 = 70;
+    pub const RESERVED_FIELD: u8 = 71;
+    pub const NOT_A_STREAM: u8 = 72;
+    pub const OTHER_VERSION: u8 = 73;
+    pub const OTHER_RULES: u8 = 74;
 }
 
 impl Refused {
-    /// The reason in words.
+    /// The reason in words, of the cause if there is one.
     pub fn reason(&self) -> &'static str {
-        REASONS.iter().find(|it| it.0 == self.number).map_or("", |it| it.1)
+        REASONS.iter().find(|it| it.0 == self.cause).map_or("", |it| it.1)
     }
 }
 
-/// `tests/library/layout.py` compares these with the proved code, and the last with `lib/border.c`.
-const REASONS: [(u8, &str); 16] = [
+/// `tests/library/layout.py` compares these with the proved code, and those that it does not have with `lib/border.c`.
+const REASONS: [(u8, &str); 19] = [
     (1, "the burst limit is above 5"),
     (2, "the reach is not 1 to 8"),
     (3, "the loss is not 1 to 64"),
@@ -68,6 +94,9 @@ const REASONS: [(u8, &str); 16] = [
     (69, "a number that is none of a refusal"),
     (70, "a pointer that is not as required"),
     (71, "a reserved field that is not 0"),
+    (72, "a stream that was not zeroed, or is in another byte order"),
+    (73, "a stream of another version"),
+    (74, "a stream that is decoded by other rules"),
 ];
 
 impl fmt::Display for Refused {
@@ -84,7 +113,7 @@ fn refused(number: u8) -> Refused {
     // SAFETY: the room is ours, and as long as is said.
     unsafe { ffi::rds_refusal_name(number, room.as_mut_ptr(), room.len()) };
     let len = room.iter().position(|&byte| byte == 0).unwrap_or(0);
-    Refused { number, name: String::from_utf8_lossy(&room[..len]).into_owned() }
+    Refused { number, name: String::from_utf8_lossy(&room[..len]).into_owned(), cause: number }
 }
 
 fn check(number: u8) -> Result<(), Refused> {
@@ -165,6 +194,34 @@ impl Rules {
             LossRule::Share { bad, of } => (bad, of),
         };
         RdsRules { burst: self.burst, reach: self.reach, loss, of, reserved: [0; 4] }
+    }
+}
+
+/// The twelve totals of a report.
+#[derive(Clone, Copy, Debug, Default, PartialEq, Eq, Hash)]
+pub struct Totals {
+    /// Valid blocks.
+    pub valid: u64,
+    /// Corrected blocks, by burst length: 1 to 5 bits.
+    pub bursts: [u64; 5],
+    /// Uncorrectable blocks.
+    pub lost: u64,
+    /// Bits corrected.
+    pub bits: u64,
+    /// Groups.
+    pub groups: u64,
+    /// Groups of which all four blocks are valid or corrected.
+    pub complete: u64,
+    /// Acquisitions of block sync.
+    pub acquired: u64,
+    /// Losses of it.
+    pub losses: u64,
+}
+
+impl From<RdsTotals> for Totals {
+    fn from(found: RdsTotals) -> Totals {
+        let RdsTotals { valid, bursts, lost, bits, groups, complete, acquired, losses, reserved: _ } = found;
+        Totals { valid, bursts, lost, bits, groups, complete, acquired, losses }
     }
 }
 
@@ -313,6 +370,24 @@ fn item_of(item: &RdsItem) -> Item {
     }
 }
 
+/// The items of a call, in order of completion.
+#[derive(Clone, Debug)]
+pub struct Items(std::vec::IntoIter<RdsItem>);
+
+impl Iterator for Items {
+    type Item = Item;
+
+    fn next(&mut self) -> Option<Item> {
+        self.0.next().map(|item| item_of(&item))
+    }
+
+    fn size_hint(&self) -> (usize, Option<usize>) {
+        self.0.size_hint()
+    }
+}
+
+impl ExactSizeIterator for Items {}
+
 /// The totals of a recording.
 ///
 /// Errors: 1, 2, 3 and 15 if rules are out of range, 5 and 4 if there are too many bits, 16 if gaps are not as required, and 8 if the
@@ -331,7 +406,7 @@ pub fn totals(recording: &Recording<'_>, rules: &Rules) -> Result<Totals, Refuse
     check(unsafe {
         ffi::rds_totals(bytes.as_ptr(), bytes.len(), recording.bits, gaps.as_ptr(), gaps.len(), &rules, &mut found)
     })?;
-    Ok(found)
+    Ok(found.into())
 }
 
 /// The items of a recording, in order of completion. The errors are those of [`totals`].
@@ -342,7 +417,7 @@ pub fn totals(recording: &Recording<'_>, rules: &Rules) -> Result<Totals, Refuse
 /// assert_eq!(items.next(), Some(rds::Item::Acquired { place: 51, number: 2 }));
 /// # Ok::<(), rds::Refused>(())
 /// ```
-pub fn items(recording: &Recording<'_>, rules: &Rules) -> Result<impl ExactSizeIterator<Item = Item>, Refused> {
+pub fn items(recording: &Recording<'_>, rules: &Rules) -> Result<Items, Refused> {
     let (bytes, gaps, rules) = (recording.bytes, recording.gaps(), rules.numbers());
     let mut count = 64.max(8 * bytes.len() as u64 / 80);
     loop {
@@ -361,10 +436,10 @@ pub fn items(recording: &Recording<'_>, rules: &Rules) -> Result<impl ExactSizeI
                 &mut count,
             )
         };
-        if number != SMALL_ROOM {
+        if number != Refused::SMALL_ROOM {
             check(number)?;
             room.truncate(count as usize);
-            return Ok(room.into_iter().map(|item| item_of(&item)));
+            return Ok(Items(room.into_iter()));
         }
     }
 }
@@ -388,54 +463,73 @@ pub fn items(recording: &Recording<'_>, rules: &Rules) -> Result<impl ExactSizeI
 pub struct Follower {
     rules: RdsRules,
     gaps: Vec<RdsGap>,
-    stream: RdsStream,
+    stream: Stream,
+}
+
+// Room for items: a call of the library takes 960 bytes at once, of which each completes at most 16.
+const ROOM: usize = 16 * 960;
+
+// How many bytes a call of the library is offered.
+const OFFERED: usize = 1 << 14;
+
+thread_local! {
+    // The items of a call, until they are copied.
+    static SPARE: RefCell<Vec<RdsItem>> = const { RefCell::new(Vec::new()) };
 }
 
 impl Follower {
     /// A new stream. The gaps are places in the stream, and may be later than all bytes so far.
     pub fn new(rules: &Rules, gaps: &[Range<u64>]) -> Result<Follower, Refused> {
-        Follower::resume(rules, gaps, RdsStream::default())
+        Follower::resume(rules, gaps, Stream::default())
     }
 
     /// Continues a stream from its [`stream`](Follower::stream), by the same rules and gaps. Numbers of no stream, or by other rules, are
-    /// error 65.
-    pub fn resume(rules: &Rules, gaps: &[Range<u64>], stream: RdsStream) -> Result<Follower, Refused> {
-        let follower = Follower { rules: rules.numbers(), gaps: gaps_of(gaps), stream };
-        follower.finish()?;
-        Ok(follower)
+    /// error 65, with the cause.
+    pub fn resume(rules: &Rules, gaps: &[Range<u64>], stream: Stream) -> Result<Follower, Refused> {
+        let (rules, gaps) = (rules.numbers(), gaps_of(gaps));
+        // SAFETY: as in `totals`.
+        match unsafe { ffi::rds_check(gaps.as_ptr(), gaps.len(), &rules, &stream) } {
+            0 => Ok(Follower { rules, gaps, stream }),
+            cause @ Refused::NOT_A_STREAM..=Refused::OTHER_RULES => Err(Refused { cause, ..refused(Refused::UNLAWFUL_STATE) }),
+            number => Err(refused(number)),
+        }
     }
 
     /// Takes the next bytes, any number of them, and gives the items that they complete. Past 2^36 bits it is error 5. On error the stream
     /// is unchanged.
-    pub fn push(&mut self, bytes: &[u8]) -> Result<impl ExactSizeIterator<Item = Item>, Refused> {
+    pub fn push(&mut self, bytes: &[u8]) -> Result<Items, Refused> {
         let (mut stream, mut rest, mut found) = (self.stream, bytes, Vec::new());
-        loop {
-            let (first, mut taken, mut count) = (found.len(), 0, 0);
-            // Room for 16 items is never too little, and a recording has seldom more than these.
-            found.resize(first + 16 + rest.len() / 4, RdsItem::default());
-            let room = &mut found[first..];
-            // SAFETY: as in `totals`.
-            check(unsafe {
-                ffi::rds_push(
-                    rest.as_ptr(),
-                    rest.len(),
-                    self.gaps.as_ptr(),
-                    self.gaps.len(),
-                    &self.rules,
-                    &mut stream,
-                    room.as_mut_ptr(),
-                    room.len(),
-                    &mut taken,
-                    &mut count,
-                )
-            })?;
-            found.truncate(first + count as usize);
-            rest = &rest[taken as usize..];
+        SPARE.with_borrow_mut(|room| loop {
+            room.resize(ROOM, RdsItem::default());
+            let (taken, count) = self.push_some(&mut stream, &rest[..rest.len().min(OFFERED)], room)?;
+            found.extend_from_slice(&room[..count]);
+            rest = &rest[taken..];
             if rest.is_empty() {
                 self.stream = stream;
-                return Ok(found.into_iter().map(|item| item_of(&item)));
+                return Ok(Items(found.into_iter()));
             }
-        }
+        })
+    }
+
+    /// Takes as many of these bytes as their items have room for: how many, and the number of items.
+    fn push_some(&self, stream: &mut Stream, bytes: &[u8], room: &mut [RdsItem]) -> Result<(usize, usize), Refused> {
+        let (mut taken, mut count) = (0, 0);
+        // SAFETY: as in `totals`.
+        check(unsafe {
+            ffi::rds_push(
+                bytes.as_ptr(),
+                bytes.len(),
+                self.gaps.as_ptr(),
+                self.gaps.len(),
+                &self.rules,
+                stream,
+                room.as_mut_ptr(),
+                room.len(),
+                &mut taken,
+                &mut count,
+            )
+        })?;
+        Ok((taken as usize, count as usize))
     }
 
     /// The group in progress, as far as it was read, and the totals of everything heard, if the stream ended here. It can
@@ -459,12 +553,12 @@ impl Follower {
             Item::Group(group) if count == 1 => Some(group),
             _ => None,
         };
-        Ok((group, totals))
+        Ok((group, totals.into()))
     }
 
     /// The items that the first `bits` bits of these bytes complete, followed by the group in progress, and the totals of everything
     /// heard and of these bits, if the stream ended with them: inside a byte, for example. It can continue.
-    pub fn finish_with(&self, bytes: &[u8], bits: u64) -> Result<(impl ExactSizeIterator<Item = Item>, Totals), Refused> {
+    pub fn finish_with(&self, bytes: &[u8], bits: u64) -> Result<(Items, Totals), Refused> {
         let (mut count, mut totals) = (8 + bytes.len() as u64 / 4, RdsTotals::default());
         loop {
             let mut room = vec![RdsItem::default(); count as usize];
@@ -484,10 +578,10 @@ impl Follower {
                     &mut totals,
                 )
             };
-            if number != SMALL_ROOM {
+            if number != Refused::SMALL_ROOM {
                 check(number)?;
                 room.truncate(count as usize);
-                return Ok((room.into_iter().map(|item| item_of(&item)), totals));
+                return Ok((Items(room.into_iter()), totals.into()));
             }
         }
     }
@@ -498,8 +592,13 @@ impl Follower {
     }
 
     /// The state of the stream: numbers, which can be stored, compared and hashed.
-    pub fn stream(&self) -> &RdsStream {
+    pub fn stream(&self) -> &Stream {
         &self.stream
+    }
+
+    /// The items of the next bits of the stream, which a reader gives, as [`read`] gives them.
+    pub fn read<R: Read>(self, reader: R) -> ReadItems<R> {
+        ReadItems::new(self, reader)
     }
 }
 

@@ -1,5 +1,6 @@
-//! Items of a stream that a reader gives.
+//! Items of a stream that a reader gives, and the bytes of a stream.
 
+use crate::ffi::RdsStream;
 use crate::{Follower, Item, Refused, Rules, Totals};
 use std::collections::VecDeque;
 use std::fmt;
@@ -48,8 +49,34 @@ impl From<Refused> for ReadError {
     }
 }
 
+/// The number of bytes of a stream's state.
+const BYTES: usize = std::mem::size_of::<RdsStream>();
+
+impl RdsStream {
+    /// The state as bytes, in the processor's byte order. They can be stored, and are equal if the same bytes were heard.
+    ///
+    /// ```
+    /// let (rules, mut follower) = (rds::Rules::default(), rds::Follower::new(&rds::Rules::default(), &[])?);
+    /// follower.push(&[0x55; 100])?;
+    /// let stored = follower.stream().to_bytes();
+    /// let again = rds::Follower::resume(&rules, &[], rds::Stream::from_bytes(stored))?;
+    /// assert_eq!(again.place(), follower.place());
+    /// # Ok::<(), rds::Refused>(())
+    /// ```
+    pub fn to_bytes(&self) -> [u8; BYTES] {
+        // SAFETY: the fields are integers, and no byte lies between two of them: `tests/library/layout.py` looks.
+        unsafe { std::mem::transmute(*self) }
+    }
+
+    /// The state that these bytes are. [`Follower::resume`] refuses bytes of no stream.
+    pub fn from_bytes(bytes: [u8; BYTES]) -> RdsStream {
+        // SAFETY: any bytes are integers.
+        unsafe { std::mem::transmute(bytes) }
+    }
+}
+
 /// The items of the bits that a reader gives, each as soon as it is complete. At the reader's end the group in progress comes last.
-/// After an error nothing more comes.
+/// After `WouldBlock` and `TimedOut` the next call reads on. After any other error nothing more comes.
 ///
 /// ```
 /// let groups = rds::encode(&[[0xD393, 0x0548, 0xE100, 0x5041]; 3])?;
@@ -59,7 +86,7 @@ impl From<Refused> for ReadError {
 /// # Ok::<(), rds::Refused>(())
 /// ```
 pub fn read<R: Read>(reader: R, rules: &Rules, gaps: &[Range<u64>]) -> Result<ReadItems<R>, Refused> {
-    Ok(ReadItems { follower: Follower::new(rules, gaps)?, reader, ready: VecDeque::new(), has_ended: false })
+    Ok(ReadItems::new(Follower::new(rules, gaps)?, reader))
 }
 
 /// The items of [`read`].
@@ -69,6 +96,22 @@ pub struct ReadItems<R> {
     follower: Follower,
     ready: VecDeque<Item>,
     has_ended: bool,
+}
+
+/// Whether a later read of the same reader may succeed.
+fn is_passing(error: &ReadError) -> bool {
+    matches!(error, ReadError::Io(error) if matches!(error.kind(), io::ErrorKind::WouldBlock | io::ErrorKind::TimedOut))
+}
+
+impl<R> ReadItems<R> {
+    pub(crate) fn new(follower: Follower, reader: R) -> ReadItems<R> {
+        ReadItems { reader, follower, ready: VecDeque::new(), has_ended: false }
+    }
+
+    /// The reader, and the follower, which has heard all that was read. Items that were not taken are dropped.
+    pub fn into_parts(self) -> (R, Follower) {
+        (self.reader, self.follower)
+    }
 }
 
 impl<R: Read> ReadItems<R> {
@@ -102,7 +145,7 @@ impl<R: Read> Iterator for ReadItems<R> {
     fn next(&mut self) -> Option<Self::Item> {
         while self.ready.is_empty() && !self.has_ended {
             if let Err(error) = self.read_more() {
-                self.has_ended = true;
+                self.has_ended = !is_passing(&error);
                 return Some(Err(error));
             }
         }

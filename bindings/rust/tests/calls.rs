@@ -1,6 +1,9 @@
 //! Calls that the table of tests/library does not have: texts of errors, methods of items, `resume`, `read`.
 
-use rds::{Block, Follower, Group, Item, LossRule, Offset, ReadError, ReadItems, Recording, Refused, Rules, Totals, Version};
+// The items of a push may be dropped.
+#![deny(unused_must_use)]
+
+use rds::{Block, Follower, Group, Item, LossRule, Offset, ReadError, ReadItems, Recording, Refused, Rules, Stream, Totals, Version};
 use std::error::Error;
 use std::fmt::{Debug, Write};
 use std::hash::Hash;
@@ -39,8 +42,39 @@ fn errors_are_told() {
 fn a_stream_by_other_rules_is_refused_at_once() {
     let mut follower = Follower::new(&Rules { burst: 1, ..Rules::default() }, &[]).unwrap();
     follower.push(&damaged()).unwrap();
-    assert_eq!(Follower::resume(&Rules::default(), &[], *follower.stream()).unwrap_err().number, 65);
+    let error = Follower::resume(&Rules::default(), &[], *follower.stream()).unwrap_err();
+    assert_eq!((error.number, error.cause), (Refused::UNLAWFUL_STATE, Refused::OTHER_RULES));
+    assert_eq!(error.to_string(), "refused 65 UnlawfulState: a stream that is decoded by other rules");
     assert_eq!(Follower::new(&Rules { burst: 6, ..Rules::default() }, &[]).unwrap_err().number, 1);
+}
+
+/// Each cause by its name: the stream's first number, its version, and any other damage.
+#[test]
+fn bytes_of_a_stream() {
+    let bytes = damaged();
+    let mut follower = Follower::new(&Rules::default(), &[]).unwrap();
+    follower.push(&bytes[..100]).unwrap();
+    let stored = follower.stream().to_bytes();
+    assert_eq!(Stream::from_bytes(stored), *follower.stream());
+    let mut again = Follower::resume(&Rules::default(), &[], Stream::from_bytes(stored)).unwrap();
+    follower.push(&bytes[100..]).unwrap();
+    again.push(&bytes[100..]).unwrap();
+    assert_eq!(again.stream().to_bytes(), follower.stream().to_bytes());
+    for (at, cause) in [(0, Refused::NOT_A_STREAM), (4, Refused::OTHER_VERSION), (255, Refused::UNLAWFUL_STATE)] {
+        let mut wrong = stored;
+        wrong[at] ^= 1;
+        let error = Follower::resume(&Rules::default(), &[], Stream::from_bytes(wrong)).unwrap_err();
+        assert_eq!((error.number, error.cause), (Refused::UNLAWFUL_STATE, cause));
+    }
+}
+
+#[test]
+fn totals_have_no_other_field() {
+    let Totals { valid, bursts, lost, bits, groups, complete, acquired, losses } =
+        rds::totals(&Recording::of(&damaged()), &Rules::default()).unwrap();
+    let corrected: u64 = bursts.iter().sum();
+    assert_eq!((valid + corrected + lost, groups, acquired, losses), (199, 50, 1, 0));
+    assert!(complete == 49 && bits == 2 * corrected && corrected > 5);
 }
 
 #[test]
@@ -119,15 +153,15 @@ fn items_that_do_not_fit_at_first() {
     assert_eq!(pushed.len() + usize::from(follower.finish().unwrap().0.is_some()), count);
 }
 
-/// Gives these bytes at the first read, and then an error.
-struct Cut(Vec<u8>);
+/// Gives these bytes, one answer per read, and then an error.
+struct Cut(Vec<io::Result<Vec<u8>>>);
 
 impl Read for Cut {
     fn read(&mut self, into: &mut [u8]) -> io::Result<usize> {
         if self.0.is_empty() {
             return Err(io::ErrorKind::BrokenPipe.into());
         }
-        let first = self.0.split_off(0);
+        let first = self.0.remove(0)?;
         into[..first.len()].copy_from_slice(&first);
         Ok(first.len())
     }
@@ -138,9 +172,26 @@ fn items_before_an_error_come_first() {
     let bytes = damaged();
     let mut wanted = Follower::new(&Rules::default(), &[]).unwrap();
     let wanted: Vec<Item> = wanted.push(&bytes).unwrap().collect();
-    let mut items = rds::read(Cut(bytes), &Rules::default(), &[]).unwrap();
+    let mut items = rds::read(Cut(vec![Ok(bytes)]), &Rules::default(), &[]).unwrap();
     assert_eq!(items.by_ref().map_while(Result::ok).collect::<Vec<_>>(), wanted);
     assert!(items.next().is_none() && items.totals().unwrap().groups > 40);
+}
+
+#[test]
+fn a_read_without_bytes_is_not_the_end() {
+    let bytes = damaged();
+    let kinds = [io::ErrorKind::WouldBlock, io::ErrorKind::TimedOut];
+    let mut reads: Vec<io::Result<Vec<u8>>> = bytes.chunks(100).map(|chunk| Ok(chunk.to_vec())).collect();
+    kinds.iter().for_each(|&kind| reads.insert(1, Err(kind.into())));
+    reads.push(Ok(Vec::new()));
+    let rules = Rules { burst: 0, ..Rules::default() };
+    let mut items = Follower::new(&rules, &[]).unwrap().read(Cut(reads));
+    let (found, errors): (Vec<_>, Vec<_>) = items.by_ref().partition(Result::is_ok);
+    assert_eq!(errors.len(), kinds.len());
+    let whole: Vec<Item> = rds::items(&Recording::of(&bytes), &rules).unwrap().collect();
+    assert_eq!(found.into_iter().map(Result::unwrap).collect::<Vec<_>>(), whole);
+    let (rest, follower) = items.into_parts();
+    assert!(rest.0.is_empty() && follower.place() == 8 * bytes.len() as u64);
 }
 
 #[test]

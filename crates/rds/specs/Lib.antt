@@ -1,1 +1,5 @@
+pub mod CommandLine
+pub mod Ended
+pub mod Fresh
+pub mod Messages
 pub mod Session

@@ -1,19 +1,15 @@
--- The promise of the program, by the histories of standard input and standard output: this project's rule. `do_as_asked` and the
+-- The promise of a session, by the histories of standard input and standard output: this project's rule. `do_request` and the
 -- functions that it calls cite it.
-use Rattle.std.specs.Prelude.{◌++◌, ◌<◌, ◌≡◌, ◌≢◌, ◌≤◌, ◌⊎◌, ◌↔◌, [], ℕ, Bool, Err, IfErr, IsErrOf, List, None, Ok, OnOk, Option, Result, Some, length, true}
+use Rattle.std.specs.Prelude.{◌++◌, ◌<◌, ◌≡◌, ◌≢◌, ◌≤◌, ◌⊎◌, ◌↔◌, [], ℕ, Bool, Err, IfErr, IsErrOf, List, Ok, OnOk, Option, Result, Some, false, length, true}
 use Rattle.rds_live.specs.StreamDecoder.{Terms}
 use Rattle.rds_sync.specs.Ranges.{IsRunOutside, IsShareOutside, farthest_reach, longest_burst}
 use Rattle.rds_sync.specs.Rules.{RuleNumbers}
 use Rattle.rds_tool.specs.Ends.{given_by, has_ended, is_flushed, read_failures, taken_by, write_failures}
 use Rattle.rds_tool.specs.Following.{BreaksOff, IsHeardOut, MayBreakOff, listed}
 use Rattle.rds_tool.specs.Outcome.{IsOutside, result_of_job}
-use Rattle.rds_tool.specs.Tasks.{AsksForThreads, task_of}
+use Rattle.rds_tool.specs.Tasks.{task_of}
 use Rattle.rds_tool.specs.declared.error.ToolError.{ToolError}
 use Rattle.rds_tool.specs.declared.error.ToolError.TheVariants.{BurstRange, LossRange, NoWorker, ReachRange, Read, ShareRange, TooManyTurns, Write}
-use Rattle.rds_tool.specs.declared.fault.CliFault.{CliFault}
-use Rattle.rds_tool.specs.declared.fault.FaultKind.{FaultKind}
-use Rattle.rds_tool.specs.declared.fault.FaultKind.TheVariants.{Help, Memory, Version, Words}
-use Rattle.rds_tool.specs.declared.job.Asked.{Asked}
 use Rattle.rds_tool.specs.declared.job.Job.{Job}
 use Rattle.rds_tool.specs.declared.job.Request.{Request}
 use Rattle.rds_tool.specs.declared.job.Request.TheVariants.{Follow, Job as Work}
@@ -43,7 +39,7 @@ module _ (given : List ℕ) (ended : Bool) (failed_reads : ℕ) (taken : List �
     pub flush : OnOk answer (flushed ≡ true)
     pub devices : BlamesDevices failed_reads failed_writes answer
     pub turns : IsErrOf answer TooManyTurns → 16777216 ≤ length given
-    pub no_worker : IsErrOf answer NoWorker → AsksForThreads job
+    pub no_worker : IsErrOf answer NoWorker → ⊥
     pub refused : IfErr answer (λ error. IsOutside error ⊎ ((result_of_job job given ≡ Err error) × ((task_of job ≡ Err error) ⊎ (ended ≡ true))))
     pub untouched : IfErr answer (λ error. error ≢ Write → taken ≡ [])
     pub prefix : IsErrOf answer Write → (rest : List ℕ) × (result_of_job job given ≡ Ok (taken ++ rest))
@@ -60,34 +56,21 @@ module _ (given : List ℕ) (ended : Bool) (failed_reads : ℕ) (taken : List �
 -- the job was done by this session
 abbrev pub HasDone : Job → Session → Type 0
 HasDone job s =
-    IsDone (given_by s.reader) (has_ended s.reader) (read_failures s.reader) (taken_by s.writer) (is_flushed s.writer) (write_failures s.writer) s.answer job
+    IsDone (given_by s.reader.device) (has_ended s.reader.device) (read_failures s.reader.device) (taken_by s.writer.device) (is_flushed s.writer.device)
+    (write_failures s.writer.device) s.answer job
 
 -- the stream was followed by it
 abbrev pub HasFollowed : Terms → Option ℕ → Session → Type 0
 HasFollowed terms bits s =
-    IsFollowed (given_by s.reader) (has_ended s.reader) (read_failures s.reader) (taken_by s.writer) (is_flushed s.writer) (write_failures s.writer) s.answer
-    terms bits
+    IsFollowed (given_by s.reader.device) (has_ended s.reader.device) (read_failures s.reader.device) (taken_by s.writer.device) (is_flushed s.writer.device)
+    (write_failures s.writer.device) s.answer terms bits
 
--- the command line's request was done
+-- the request was done by this session
 abbrev pub DoesAsked : Request → Session → Type 0
 DoesAsked (Work job progress) s = HasDone job s
 DoesAsked (Follow input rules) s = HasFollowed (record { rules = rules; gaps = input.gaps }) input.bits s
 
--- the exit status of an answer
-abbrev pub status_of : Result (Unit {0}) ToolError → ℕ
-status_of (Ok done) = 0
-status_of (Err e) = 1
-
--- the exit status if the words ask for no job and no stream: help and the version may fail to be written
-abbrev pub EndsWith : FaultKind → ℕ → Type 0
-EndsWith Help status = (status ≡ 0) ⊎ (status ≡ 1)
-EndsWith Version status = (status ≡ 0) ⊎ (status ≡ 1)
-EndsWith Words status = status ≡ 2
-EndsWith Memory status = status ≡ 1
-
--- the request was done, and the exit status is that of its answer; or there is no request, and the status says why
-abbrev pub Answers : Result Asked CliFault → Option Session → ℕ → Type 0
-Answers (Ok asked) None status = ⊥
-Answers (Ok asked) (Some s) status = DoesAsked asked.request s × (status ≡ status_of s.answer)
-Answers (Err fault) None status = EndsWith fault.kind status
-Answers (Err fault) (Some s) status = ⊥
+-- the request asks for the progress of its job
+abbrev pub asks_for_progress : Request → Bool
+asks_for_progress (Work job progress) = progress
+asks_for_progress (Follow input rules) = false

@@ -1,9 +1,11 @@
 //! How far a job is, on one line of standard error.
-ghost use Rattle.std.specs.Prelude.{◌≡◌};
+ghost use Rattle.std.specs.Prelude.{◌≡◌, None, false};
+ghost use Rattle.rds.specs.Session.{asks_for_progress};
 
 use rds_crew::Gate;
 use rds_pieces::PieceRun;
-use rds_tool::{Cuts, Failed, Job, Sink, Source};
+use rds_tool::{Cuts, Failed, Job, Request, Sink, Source};
+use std::rt::Clock;
 use std::sync::atomic::{AtomicU64, Ordering};
 use std::time::Instant;
 
@@ -15,11 +17,28 @@ const MEGABYTE: u64 = 1_000_000;
 /// Erases a line.
 const CLEAR: &str = "\r                                                            \r";
 
+/// The clock and standard error that progress is shown by. Only this module can use them.
+#[derive(Drop)]
+pub struct Teller<T> {
+    system: T,
+}
+
+impl<T> Teller<T> {
+    pub fn new(system: T) -> Teller<T> {
+        Teller { system }
+    }
+}
+
+/// A clock and standard error, which several threads may use at once.
+pub trait Console: Clock + Eprint + Sync {}
+
+impl<T: Clock + Eprint + Sync> Console for T {}
+
 /// The line shows how many pieces are decoded, and then how many of the bits have their rows written. The
 /// workers, the reader and the writer count at once.
 #[derive(Drop)]
-pub struct Progress<'a> {
-    rt: &'a HostRuntime,
+pub struct Progress<'a, T> {
+    system: &'a T,
     started: Instant,
     recording: Length,
     pieces: u64,
@@ -37,12 +56,21 @@ pub struct Progress<'a> {
     told: AtomicU64,
 }
 
-impl<'a> Progress<'a> {
-    /// That of a job which begins now, or none if there is no clock.
-    pub fn start(rt: &'a HostRuntime, job: &Job) -> Option<Progress<'a>> {
+impl<'a, T: Clock + Eprint> Progress<'a, T> {
+    /// Begins now, if the request asks for progress and there is a clock.
+    pub fn start(teller: &'a Teller<T>, request: &Request) -> Option<Progress<'a, T>>
+        ensures { asks_for_progress request.now ≡ false → result ≡ None }
+    {
+        let Request::Job {
+            job,
+            progress: true,
+        } = request
+        else {
+            return None;
+        };
         Some(Progress {
-            rt,
-            started: Instant::now(rt).ok()?,
+            system: &teller.system,
+            started: Instant::now(&teller.system).ok()?,
             recording: length_of(job),
             pieces: most_pieces(job),
             begun: AtomicU64::new(0),
@@ -58,7 +86,7 @@ impl<'a> Progress<'a> {
     /// Takes the line away.
     pub fn end(&self) {
         if self.told.load(Ordering::SeqCst) > 0 {
-            let _ = eprint!(self.rt; "{CLEAR}");
+            let _ = eprint!(self.system; "{CLEAR}");
         }
     }
 
@@ -77,7 +105,7 @@ impl<'a> Progress<'a> {
     }
 
     fn milliseconds(&self) -> Option<u64> {
-        let spent = self.started.elapsed(self.rt).ok()?;
+        let spent = self.started.elapsed(self.system).ok()?;
         u64::try_from(spent.as_millis()).ok()
     }
 
@@ -96,7 +124,9 @@ impl<'a> Progress<'a> {
         let decoded = self.decoded.load(Ordering::SeqCst).min(pieces);
         let spent = now.saturating_sub(self.begun.load(Ordering::SeqCst));
         let seconds = seconds_left(spent, decoded, pieces);
-        let _ = eprint!(self.rt; "{CLEAR}decoded {decoded} of {pieces} pieces, {seconds} s left");
+        let _ = eprint!(self.system;
+            "{CLEAR}decoded {decoded} of {pieces} pieces, {seconds} s left"
+        );
     }
 
     /// Tells the rows, which come by rising places: those up to a place are their share of all. A text that has none is told
@@ -106,12 +136,12 @@ impl<'a> Progress<'a> {
         let bits = self.recording.bits(self.read.load(Ordering::SeqCst));
         let place = self.place.load(Ordering::SeqCst).min(bits);
         let _ = if place == 0 {
-            eprint!(self.rt; "{CLEAR}written {megabytes} MB")
+            eprint!(self.system; "{CLEAR}written {megabytes} MB")
         } else {
             let share = place.saturating_mul(100) / bits.max(1);
             let spent = now.saturating_sub(self.rows_begun.load(Ordering::SeqCst));
             let seconds = seconds_left(spent, place, bits);
-            eprint!(self.rt;
+            eprint!(self.system;
                 "{CLEAR}written {megabytes} MB, rows of {share} % of the bits, {seconds} s left"
             )
         };
@@ -141,7 +171,7 @@ impl Length {
     }
 }
 
-impl Gate for Progress<'_> {
+impl<T: Clock + Eprint> Gate for Progress<'_, T> {
     /// The time is taken from the first piece, as all of the input is read before.
     fn begin(&self, _j: u64) {
         self.note_time(&self.begun);
@@ -157,13 +187,13 @@ impl Gate for Progress<'_> {
 
 /// A reader or a writer whose bytes are counted.
 #[derive(Drop)]
-pub struct Reporting<'a, D> {
+pub struct Reporting<'a, D, T> {
     device: D,
-    progress: &'a Progress<'a>,
+    progress: &'a Progress<'a, T>,
 }
 
-impl<'a, D> Reporting<'a, D> {
-    pub fn new(device: D, progress: &'a Progress<'a>) -> Reporting<'a, D>
+impl<'a, D, T> Reporting<'a, D, T> {
+    pub fn new(device: D, progress: &'a Progress<'a, T>) -> Reporting<'a, D, T>
         ensures { result.device ≡ device }
     {
         Reporting { device, progress }
@@ -181,7 +211,7 @@ impl<'a, D> Reporting<'a, D> {
     }
 }
 
-impl<S: Source> Source for Reporting<'_, S> {
+impl<S: Source, T> Source for Reporting<'_, S, T> {
     ghost remaining = { λ told. S.remaining told.device };
 
     ghost given = { λ told. S.given told.device };
@@ -201,7 +231,7 @@ impl<S: Source> Source for Reporting<'_, S> {
     }
 }
 
-impl<K: Sink> Sink for Reporting<'_, K> {
+impl<K: Sink, T: Clock + Eprint> Sink for Reporting<'_, K, T> {
     ghost contents = { λ told. K.contents told.device };
 
     ghost is_flushed = { λ told. K.is_flushed told.device };

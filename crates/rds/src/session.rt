@@ -1,69 +1,73 @@
 //! Jobs and streams from standard input to standard output.
 //!
-//! No contract can name the bytes that the system will give or keep. So both devices come back with their histories: the bytes
-//! that reads gave and the bytes that writes took.
-ghost use Rattle.std.specs.Prelude.{◌≡◌, [], Err, false};
+//! No contract can name the bytes that the system will give or keep. So a session returns both devices with their
+//! histories: the bytes that reads gave, and the bytes that writes took.
+ghost use Rattle.std.specs.Prelude.{◌≡◌, Err};
+ghost use Rattle.rds.specs.Fresh.{IsUnread, IsUnwritten};
 ghost use Rattle.rds.specs.Session.{DoesAsked, HasDone, HasFollowed};
-ghost use Rattle.rds_tool.specs.Ends.{given_by, has_ended, is_flushed, read_failures, taken_by, write_failures};
 ghost use Rattle.rds_tool.specs.Refusals.{of_sync};
 
-use crate::progress::{Progress, Reporting};
+use crate::progress::{Console, Progress, Reporting, Teller};
+use crate::sealed::Sealed;
 use rds_sync::{Rules, SyncError};
 use rds_tool::{
     FromRead, Input, Job, Request, RuleNumbers, ToWrite, ToolError, follow, transcribe,
     transcribe_gated,
 };
+use std::alloc::Global;
 use std::rt::{Stdin, Stdout};
-use std::sync::Wait;
 use std::thread::Threads;
 
-/// Both devices as the work left them, and its answer.
+/// Both devices as the work left them, and the answer of the work.
 #[derive(Drop)]
 pub struct Session {
-    pub reader: FromRead<Stdin>,
-    pub writer: ToWrite<Stdout>,
+    pub reader: Sealed<FromRead<Stdin>>,
+    pub writer: Sealed<ToWrite<Stdout>>,
     pub answer: Result<(), ToolError>,
 }
 
-/// Does a job, or follows a stream.
-pub fn do_asked<R: Threads + Wait + Sync>(rt: &HostRuntime, crew: &R, request: &Request) -> Session
+/// Does a job with the threads of the crew, or follows a stream. The progress of a job is shown if the request asks
+/// for that and there is a clock.
+pub fn do_request<C: Threads + Sync, T: Console>(
+    alloc: Global,
+    crew: &C,
+    teller: &Teller<T>,
+    reader: Sealed<FromRead<Stdin>>,
+    writer: Sealed<ToWrite<Stdout>>,
+    request: &Request,
+) -> Session
+    requires reader { IsUnread reader }
+    requires writer { IsUnwritten writer }
     ensures { DoesAsked request.now result }
 {
     match request {
-        Request::Job { job, progress } => run(rt, crew, job, *progress),
-        Request::Follow(input, rules) => run_stream(rt, input, *rules),
+        Request::Job { job, .. } => match Progress::start(teller, request) {
+            Some(progress) => {
+                let session = run_told(alloc, crew, reader, writer, job, &progress);
+                progress.end();
+                session
+            }
+            None => run_untold(alloc, crew, reader, writer, job),
+        },
+        Request::Follow(input, rules) => run_stream(alloc, reader, writer, input, *rules),
     }
 }
 
-/// Does the job, with the threads of its crew. Its progress is told if that was asked for and there is a
-/// clock.
-fn run<R: Threads + Wait + Sync>(rt: &HostRuntime, crew: &R, job: &Job, progress: bool) -> Session
-    ensures { HasDone job.now result }
-{
-    if !progress {
-        return run_untold(rt, crew, job);
-    }
-    match Progress::start(rt, job) {
-        Some(progress) => {
-            let session = run_told(rt, crew, job, &progress);
-            progress.end();
-            session
-        }
-        None => run_untold(rt, crew, job),
-    }
-}
-
-fn run_told<R: Threads + Wait + Sync>(
-    rt: &HostRuntime,
-    crew: &R,
+fn run_told<C: Threads + Sync, T: Console>(
+    alloc: Global,
+    crew: &C,
+    reader: Sealed<FromRead<Stdin>>,
+    writer: Sealed<ToWrite<Stdout>>,
     job: &Job,
-    progress: &Progress<'_>,
+    progress: &Progress<'_, T>,
 ) -> Session
+    requires reader { IsUnread reader }
+    requires writer { IsUnwritten writer }
     ensures { HasDone job.now result }
 {
-    let mut reader = Reporting::new(FromRead::new(rt.stdin()), progress);
-    let mut writer = Reporting::new(ToWrite::new(rt.stdout()), progress);
-    let answer = transcribe_gated(crew, rt.alloc(), &mut reader, &mut writer, job, progress);
+    let mut reader = Reporting::new(reader, progress);
+    let mut writer = Reporting::new(writer, progress);
+    let answer = transcribe_gated(crew, alloc, &mut reader, &mut writer, job, progress);
     Session {
         reader: reader.into_inner(),
         writer: writer.into_inner(),
@@ -71,12 +75,18 @@ fn run_told<R: Threads + Wait + Sync>(
     }
 }
 
-fn run_untold<R: Threads + Wait + Sync>(rt: &HostRuntime, crew: &R, job: &Job) -> Session
+fn run_untold<C: Threads + Sync>(
+    alloc: Global,
+    crew: &C,
+    mut reader: Sealed<FromRead<Stdin>>,
+    mut writer: Sealed<ToWrite<Stdout>>,
+    job: &Job,
+) -> Session
+    requires reader { IsUnread reader }
+    requires writer { IsUnwritten writer }
     ensures { HasDone job.now result }
 {
-    let mut reader = FromRead::new(rt.stdin());
-    let mut writer = ToWrite::new(rt.stdout());
-    let answer = transcribe(crew, rt.alloc(), &mut reader, &mut writer, job);
+    let answer = transcribe(crew, alloc, &mut reader, &mut writer, job);
     Session {
         reader,
         writer,
@@ -84,24 +94,38 @@ fn run_untold<R: Threads + Wait + Sync>(rt: &HostRuntime, crew: &R, job: &Job) -
     }
 }
 
-/// Lists the stream as it comes.
-fn run_stream(rt: &HostRuntime, input: &Input, numbers: RuleNumbers) -> Session
+/// Lists a stream as it comes, if its rules are within their ranges.
+fn run_stream(
+    alloc: Global,
+    reader: Sealed<FromRead<Stdin>>,
+    writer: Sealed<ToWrite<Stdout>>,
+    input: &Input,
+    numbers: RuleNumbers,
+) -> Session
+    requires reader { IsUnread reader }
+    requires writer { IsUnwritten writer }
     ensures { HasFollowed (record { rules = numbers; gaps = input.now.gaps }) input.now.bits result }
 {
-    match Rules::of(rt.alloc(), numbers) {
-        Ok(rules) => follow_by(rt, input, &rules),
-        Err(error) => refused_session(rt, error),
+    match Rules::of(alloc, numbers) {
+        Ok(rules) => follow_by(alloc, reader, writer, input, &rules),
+        Err(error) => refused_session(reader, writer, error),
     }
 }
 
-fn follow_by(rt: &HostRuntime, input: &Input, rules: &Rules) -> Session
+fn follow_by(
+    alloc: Global,
+    mut reader: Sealed<FromRead<Stdin>>,
+    mut writer: Sealed<ToWrite<Stdout>>,
+    input: &Input,
+    rules: &Rules,
+) -> Session
+    requires reader { IsUnread reader }
+    requires writer { IsUnwritten writer }
     ensures { HasFollowed (record { rules = rules.now; gaps = input.now.gaps }) input.now.bits result }
 {
-    let mut reader = FromRead::new(rt.stdin());
-    let mut writer = ToWrite::new(rt.stdout());
     let bits = input.bits;
     let gaps = input.gaps.as_slice();
-    let answer = follow(rt.alloc(), &mut reader, &mut writer, rules, bits, gaps);
+    let answer = follow(alloc, &mut reader, &mut writer, rules, bits, gaps);
     Session {
         reader,
         writer,
@@ -109,19 +133,19 @@ fn follow_by(rt: &HostRuntime, input: &Input, rules: &Rules) -> Session
     }
 }
 
-/// A session that was refused before anything was read.
-fn refused_session(rt: &HostRuntime, error: SyncError) -> Session
+/// A session that is refused before anything is read.
+fn refused_session(
+    reader: Sealed<FromRead<Stdin>>,
+    writer: Sealed<ToWrite<Stdout>>,
+    error: SyncError,
+) -> Session
     ensures answer { result.answer ≡ Err (of_sync error) }
-    ensures given { given_by result.reader ≡ [] }
-    ensures ended { has_ended result.reader ≡ false }
-    ensures reads { read_failures result.reader ≡ 0 }
-    ensures taken { taken_by result.writer ≡ [] }
-    ensures flushed { is_flushed result.writer ≡ false }
-    ensures writes { write_failures result.writer ≡ 0 }
+    ensures reader { result.reader ≡ reader }
+    ensures writer { result.writer ≡ writer }
 {
     Session {
-        reader: FromRead::new(rt.stdin()),
-        writer: ToWrite::new(rt.stdout()),
+        reader,
+        writer,
         answer: Err(error.into()),
     }
 }

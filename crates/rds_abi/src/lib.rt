@@ -44,5 +44,5 @@ pub use layout::{
 pub use names::{VERSION, refusal_name};
 pub use ranges::{finish_run, run};
 pub use refusal::Refusal;
-pub use stream::{finish, finish_with, push};
+pub use stream::{check, finish, finish_with, push};
 pub use whole::{items, totals};

@@ -287,8 +287,8 @@ fn fill_room(room: &mut [RdsItem], items: &[Item])
 /// Refuses rules out of their range, then gaps that no stream may have, then `UnlawfulState`, then `TooLong`,
 /// past 2^36 bits with all that are offered. It then refuses `SmallRoom`, if the items of the first byte do
 /// not fit: `count` tells how many they are, and nothing else was written. Memory may be refused at any time.
-/// It is taken for the tables of the rules, for the gaps near the bytes, and for the items that 960 bytes may
-/// complete.
+/// It is taken for the tables of the rules, for the gaps near the bytes, and for as many items as there is room for, or as 960
+/// bytes may complete.
 pub fn push(
     alloc: Global,
     bytes: &[u8],
@@ -385,7 +385,8 @@ fn go_on(
 {
     let mut live = live_of(alloc, told, stream)?;
     refuse_long(stream.place, bytes)?;
-    let mut some = Vec::with_capacity(alloc, ITEMS_A_BYTE * bytes.len().clamp(1, AT_ONCE))?;
+    let at_once = bytes.len().min(room.len() / ITEMS_A_BYTE).clamp(1, AT_ONCE);
+    let mut some = Vec::with_capacity(alloc, ITEMS_A_BYTE * at_once)?;
     match take_fitting(&mut live, &told.rules, bytes, stream, room, &mut some) {
         Ok(fit) => {
             fit.tell(taken, count);
@@ -625,6 +626,21 @@ fn close(
     let end = live.finish();
     write_end(room, end.group, count)?;
     *totals = totals_in_c(end.totals);
+    Ok(())
+}
+
+/// Whether a stream can be continued by these rules and gaps. Refuses as [`finish`] does, except `SmallRoom`.
+pub fn check(
+    alloc: Global,
+    gaps: &[RdsGap],
+    rules: RdsRules,
+    stream: &RdsStream,
+) -> Result<(), Refusal>
+    ensures lawful { OnOk result (IsFollowed rules gaps.now stream.now) }
+    ensures refused { IfErr result (RefusesFollowed rules gaps.now stream.now) }
+{
+    let told = told_of(alloc, rules, gaps)?;
+    live_of(alloc, &told, stream)?;
     Ok(())
 }
 

@@ -1,6 +1,6 @@
 //! Calls that a crew is made of, each by itself: a join, a report stitched of two guesses, a dealer.
 //!
-//! tests/refusals.sh refuses memory to them, allocation by allocation. A call that was refused is made once more of the
+//! tests/test_refusals.py refuses memory to them, allocation by allocation. A call that was refused is made once more of the
 //! same recording, rules and runs, which have to be as they were: a refused allocation changes no answer of these calls.
 ghost use Rattle.std.specs.Prelude.{◌≡◌, IfOk};
 ghost use Rattle.rds_stream.specs.Recording.{length_of};

@@ -1,6 +1,6 @@
 //! `rds_bench`: the time of one form of a task over a recording.
 //!
-//! `tests/growth.sh` makes the recordings and compares the times.
+//! `tests/test_growth.py` makes the recordings and compares the times.
 #![tactic(auto)]
 
 mod calls;

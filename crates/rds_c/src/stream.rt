@@ -10,7 +10,7 @@ ghost use Rattle.rds_abi.specs.Refusals.{number_of};
 ghost use Rattle.rds_abi.specs.declared.refusal.Refusal.TheVariants.{SmallRoom};
 ghost use Rattle.rds_abi.specs.Layout.{item_in_c, totals_in_c};
 
-use rds_abi::{RdsGap, RdsItem, RdsRules, RdsStream, RdsTotals, finish, finish_with, push};
+use rds_abi::{RdsGap, RdsItem, RdsRules, RdsStream, RdsTotals, check, finish, finish_with, push};
 use std::alloc::Global;
 
 /// Takes as many of the next bytes of a stream as there is room for the items that they complete. It writes
@@ -141,6 +141,23 @@ pub extern "C" fn rds_finish_with(
     match finish_with(
         alloc, bytes, bits, gaps, *rules, stream, room, count, totals,
     ) {
+        Ok(()) => 0,
+        Err(refusal) => refusal.number(),
+    }
+}
+
+/// Returns 0 if a stream can be continued by these rules and gaps, or else the number of a refusal.
+#[unsafe(no_mangle)]
+pub extern "C" fn rds_check(
+    alloc: Global,
+    gaps: &[RdsGap],
+    rules: &RdsRules,
+    stream: &RdsStream,
+) -> u8
+    ensures lawful { result ≡ 0 → IsFollowed rules.now gaps.now stream.now }
+    ensures refused { result ≢ 0 → RefusedBy (RefusesFollowed rules.now gaps.now stream.now) result }
+{
+    match check(alloc, gaps, *rules, stream) {
         Ok(()) => 0,
         Err(refusal) => refusal.number(),
     }

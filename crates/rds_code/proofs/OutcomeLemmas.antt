@@ -1,12 +1,14 @@
 -- How a block came out, by the outcomes of its window with the offsets that it may have.
-use Rattle.std.proofs.Common.{◌≡◌, ℕ, zero, suc, ◌<◌, ◌≤◌, List, [], ◌∷◌, ◌++◌, length, slice_index, map, refl, sym, ap, ◌∙◌, arith, inl, inr, ◌⊎◌, bit_xor, subst, Some}
+use Rattle.std.proofs.Common.{◌≡◌, ℕ, zero, suc, ◌<◌, ◌≤◌, List, [], ◌∷◌, ◌++◌, length, get_or, slice_index, map, refl, sym, ap, ◌∙◌, arith, inl, inr, ◌⊎◌, bit_xor, subst, Some, ◌+◌, ◌%◌, ◌==◌, if◌then◌else◌}
+use Rattle.std.specs.Int.{bit_at}
+use Rattle.std.proofs.lemmas.Nat.Bits.{bit_at-lt, bit_at_xor}
 use Rattle.std.specs.Int.Bits.{xor_self, xor_zero_r}
 use Rattle.std.specs.Int.Count.{ones}
-use Rattle.std.proofs.lemmas.List.{get_or_append_left, length-append}
+use Rattle.std.proofs.lemmas.List.{get_or_append_left, get_or_default, length-append}
 use Rattle.std.proofs.Math.Seq.{get_or-append_seam}
 use borrow.Author.Count.{below_more}
 use Rattle.rds_code.specs.declared.offset.Offset.{Offset}
-use Rattle.rds_code.specs.declared.offset.Offset.TheVariants.{C, Cx}
+use Rattle.rds_code.specs.declared.offset.Offset.TheVariants.{B, C, Cx}
 use Rattle.rds_code.specs.declared.reading.Wanted.{Wanted}
 use Rattle.rds_code.specs.declared.reading.Wanted.TheVariants.{OnlyC, OnlyCx, Either}
 use Rattle.rds_code.specs.declared.reading.Reading.{Reading}
@@ -14,24 +16,48 @@ use Rattle.rds_code.specs.declared.reading.Reading.TheVariants.{Corrected, Lost}
 use Rattle.rds_code.specs.Remainder.{rem}
 use Rattle.rds_code.specs.Offsets.{word, number, offset_of}
 use Rattle.rds_code.specs.Bursts.{IsBurst, burst_length}
-use Rattle.rds_code.specs.Outcomes.{outcome_number, burst_outcome}
-use Rattle.rds_code.specs.Inside.Outcomes.{HasBurst, HasNoBurst, IsOutcome, StandIn}
+use Rattle.rds_code.specs.Outcomes.{outcome_number, burst_outcome, wanted_after, wanted_of_info}
+use Rattle.rds_code.specs.Inside.Outcomes.{HasBurst, HasNoBurst, IsOutcome, IsTurn, StandIn, wanted_at}
 use Rattle.rds_code.specs.Reading.{information, IsValid, wanted_offsets, corrections, by_only, reading}
 use Rattle.rds_code.proofs.RemainderLemmas.{twice}
 use Rattle.rds_code.proofs.BurstLemmas.{rem-burst, longer}
 use Rattle.rds_code.proofs.SpanLemmas.{ones_pos, ones-le_span}
 use Rattle.rds_code.proofs.CorrectionLemmas.{valid_word, word_offset}
-use Rattle.rds_code.proofs.ReadingLemmas.{NoneFits, OneFits, none_by_table, one_by_table, corrections_none, corrections_one, corrections_two, fitting, reads_valid, reads_corrected, third}
+use Rattle.rds_code.proofs.ReadingLemmas.{NoneFits, OneFits, none_by_table, one_by_table, corrections_none, corrections_one, corrections_two, fitting, reads_valid, reads_corrected, third, only_B}
 
--- one outcome more in the table
-pub one_more : (limit : ℕ) (outcomes : List ℕ) (k : ℕ) → StandIn limit outcomes → IsOutcome limit (length outcomes) k → StandIn limit (outcomes ++ k ∷ [])
-one_more limit outcomes k stand here d less =
-    below_more (λ (n : ℕ). IsOutcome limit n (slice_index (outcomes ++ k ∷ []) n)) (length outcomes)
-    (λ n before. subst (IsOutcome limit n) (sym (get_or_append_left outcomes (k ∷ []) 0 n before)) (stand n before))
-    (subst (IsOutcome limit (length outcomes)) (sym (get_or-append_seam outcomes k [] 0)) here)
-    d (omega (arith, less, length-append outcomes (k ∷ [])))
+-- one entry more in a table
+pub one_more : (IsEntry : ℕ → ℕ → Type 0) (table : List ℕ) (i k : ℕ) → i ≡ length table → StandIn IsEntry table → IsEntry i k → StandIn IsEntry (table ++ k ∷ [])
+one_more IsEntry table i k last stand here d less =
+    below_more (λ (n : ℕ). IsEntry n (slice_index (table ++ k ∷ []) n)) (length table)
+    (λ n before. subst (IsEntry n) (sym (get_or_append_left table (k ∷ []) 0 n before)) (stand n before))
+    (subst (IsEntry (length table)) (sym (get_or-append_seam table k [] 0)) (subst (λ (n : ℕ). IsEntry n k) last here))
+    d (omega (arith, less, length-append table (k ∷ [])))
 
--- ---- the meaning of a outcome
+-- the entry that was looked up
+pub entry_of : (IsEntry : ℕ → ℕ → Type 0) (table : List ℕ) (i k : ℕ) → i < length table → k ≡ get_or table i k → StandIn IsEntry table → IsEntry i k
+entry_of IsEntry table i k within is stand = subst (IsEntry i) (sym (is ∙ get_or_default table i k 0 within)) (stand i within)
+
+-- ---- the version bit
+
+bit_in_info : (w : ℕ) → bit_at (information w) 11 ≡ bit_at w 21
+bit_in_info w = omega arith
+
+-- the version of an information word whose bit was turned
+turned : (t info bit : ℕ) → bit < 2 → t < 2 → bit_at info 11 ≡ (t + bit) % 2 → wanted_at (bit_xor t bit) ≡ wanted_of_info info
+turned zero info zero _ _ is = ap (λ (n : ℕ). if n == 0 then OnlyC else OnlyCx) (sym is)
+turned zero info (suc zero) _ _ is = ap (λ (n : ℕ). if n == 0 then OnlyC else OnlyCx) (sym is)
+turned (suc zero) info zero _ _ is = ap (λ (n : ℕ). if n == 0 then OnlyC else OnlyCx) (sym is)
+turned (suc zero) info (suc zero) _ _ is = ap (λ (n : ℕ). if n == 0 then OnlyC else OnlyCx) (sym is)
+turned (suc (suc t)) info bit _ few is = absurd (omega (arith, few))
+turned zero info (suc (suc bit)) few _ is = absurd (omega (arith, few))
+turned (suc zero) info (suc (suc bit)) few _ is = absurd (omega (arith, few))
+
+unknown : (bit : ℕ) → bit < 2 → wanted_at (bit_xor 2 bit) ≡ Either
+unknown zero _ = refl
+unknown (suc zero) _ = refl
+unknown (suc (suc bit)) few = absurd (omega (arith, few))
+
+-- ---- the meaning of an outcome
 
 -- the remainder added to the word of an offset is 0 only if it is this word
 alike : (r s : ℕ) → bit_xor r s ≡ 0 → s ≡ r
@@ -109,24 +135,42 @@ module _ (w limit : ℕ) (few : limit ≤ 5) where
       let none : sum_with o ≡ 0 = ap (bit_xor (rem w)) (ap word (sym same) ∙ valid_word (rem w) p is) ∙ xor_self (rem w) in
       omega (arith, more_than_zero o k h, none)
 
-  -- a damaged block for which one offset is wanted
+  -- the reading of a damaged block for which one offset is wanted
+  lost_with : (x : ℕ) (wanted : Wanted) (o : Offset) → wanted_offsets x wanted ≡ o ∷ [] → ((p : Offset) → IsValid w x p → ⊥) → HasNoBurst limit (sum_with o) → reading w x wanted limit ≡ Lost
+  lost_with x wanted o list not_valid none =
+      reads_corrected w x wanted limit not_valid ∙ ap (λ (os : List Offset). by_only w (corrections os limit w)) list ∙ ap (by_only w) (corrections_none limit w o (none_with o none))
+
+  corrected_with : (x : ℕ) (wanted : Wanted) (o : Offset) (e : ℕ) → wanted_offsets x wanted ≡ o ∷ [] → ((p : Offset) → IsValid w x p → ⊥) → HasBurst limit (sum_with o) e
+      → reading w x wanted limit ≡ Corrected o (information (bit_xor w e)) e
+  corrected_with x wanted o e list not_valid has =
+      reads_corrected w x wanted limit not_valid ∙ ap (λ (os : List Offset). by_only w (corrections os limit w)) list ∙ ap (by_only w) (corrections_one limit w o e (one_with o e has))
+
+  -- its outcome
   pub by_one : (x : ℕ) (wanted : Wanted) (o : Offset) (k : ℕ) → wanted_offsets x wanted ≡ o ∷ [] → ((p : Offset) → IsValid w x p → ⊥) → Damage limit (sum_with o) k
       → k ≡ outcome_number (reading w x wanted limit)
-  by_one x wanted o k list not_valid (inl h) =
-      let is : reading w x wanted limit ≡ Lost =
-      reads_corrected w x wanted limit not_valid ∙ ap (λ (os : List Offset). by_only w (corrections os limit w)) list ∙ ap (by_only w) (corrections_none limit w o (none_with o h.1)) in
-      h.2 ∙ sym (ap outcome_number is)
-  by_one x wanted o k list not_valid (inr h) =
-      let e : ℕ = h.0 in
-      let is : reading w x wanted limit ≡ Corrected o (information (bit_xor w e)) e =
-      reads_corrected w x wanted limit not_valid ∙ ap (λ (os : List Offset). by_only w (corrections os limit w)) list ∙ ap (by_only w) (corrections_one limit w o e (one_with o e h.1)) in
-      h.2 ∙ sym (ap outcome_number is)
+  by_one x wanted o k list not_valid (inl h) = h.2 ∙ sym (ap outcome_number (lost_with x wanted o list not_valid h.1))
+  by_one x wanted o k list not_valid (inr h) = h.2 ∙ sym (ap outcome_number (corrected_with x wanted o h.0 list not_valid h.1))
 
   -- a block of a number that one offset has
   pub by_single : (x : ℕ) (wanted : Wanted) (o : Offset) (k : ℕ) → wanted_offsets x wanted ≡ o ∷ [] → number o ≡ x → ((p : Offset) → number p ≡ x → p ≡ o) → IsOutcome limit (sum_with o) k
       → k ≡ outcome_number (reading w x wanted limit)
   by_single x wanted o k list own alone (inl h) = h.1 ∙ sym (ap outcome_number (reads_valid w x wanted limit o (valid_with o x own h.0)))
   by_single x wanted o k list own alone (inr h) = by_one x wanted o k list (λ p valid. other_offset o p k h valid.offset (alone p valid.own)) h
+
+  -- the offsets wanted beside block 2, by the turn of its version bit
+  pub wanted_by_turn : (t : ℕ) → IsTurn limit (sum_with B) t → wanted_at (bit_xor t (bit_at w 21)) ≡ wanted_after (reading w 2 Either limit)
+  wanted_by_turn t (inl h) =
+      ap (λ (n : ℕ). wanted_at (bit_xor n (bit_at w 21))) h.1 ∙ turned 0 (information w) (bit_at w 21) (bit_at-lt w 21) (omega arith)
+      (omega (arith, bit_in_info w))
+      ∙ sym (ap wanted_after (reads_valid w 2 Either limit B (valid_with B 2 refl h.0)))
+  wanted_by_turn t (inr (inl h)) =
+      ap (λ (n : ℕ). wanted_at (bit_xor n (bit_at w 21))) h.2 ∙ unknown (bit_at w 21) (bit_at-lt w 21)
+      ∙ sym (ap wanted_after (lost_with 2 Either B refl (λ p valid. other_offset B p 2 (inl (h.0, h.1, refl)) valid.offset (only_B p valid.own)) h.1))
+  wanted_by_turn t (inr (inr h)) =
+      let e : ℕ = h.0 in
+      ap (λ (n : ℕ). wanted_at (bit_xor n (bit_at w 21))) h.2 ∙ turned (bit_at e 21) (information (bit_xor w e)) (bit_at w 21) (bit_at-lt w 21) (bit_at-lt e 21)
+      (omega (arith, bit_in_info (bit_xor w e), bit_at_xor w e 21))
+      ∙ sym (ap wanted_after (corrected_with 2 Either B e refl (λ p valid. other_offset B p (burst_outcome (burst_length e) (ones e)) (inr (e, h.1, refl)) valid.offset (only_B p valid.own)) h.1))
 
   pub valid_third : (wanted : Wanted) (o : Offset) (k : ℕ) → number o ≡ 3 → IsOutcome limit (sum_with o) k → k ≡ 1 → 1 ≡ outcome_number (reading w 3 wanted limit)
   valid_third wanted o k own is one = sym (ap outcome_number (reads_valid w 3 wanted limit o (valid_with o 3 own (valid_by_outcome limit (sum_with o) k few is one))))

@@ -1,7 +1,10 @@
--- The outcome of a block as a number of four bits: this project's rule. `Outcomes::of_block` and `Burst::outcome`
--- return it. `rds_sync` has 0 for a block that was not read.
-use Rattle.std.specs.Prelude.{ℕ, ◌+◌, ◌-◌, ◌*◌, ◌/◌}
+-- The outcome of a block as a number of four bits, and the offsets that a block 2 allows for block 3: this project's
+-- rules. `Outcomes::of_block`, `Burst::outcome` and `Outcomes::wanted_after` return them. `rds_sync` has 0 for a block that was not read.
+use Rattle.std.specs.Prelude.{ℕ, ◌+◌, ◌-◌, ◌*◌, ◌/◌, ◌==◌, if◌then◌else◌}
+use Rattle.std.specs.Int.{bit_at}
 use Rattle.std.specs.Int.Count.{ones}
+use Rattle.rds_code.specs.declared.reading.Wanted.{Wanted}
+use Rattle.rds_code.specs.declared.reading.Wanted.TheVariants.{OnlyC, OnlyCx, Either}
 use Rattle.rds_code.specs.declared.reading.Reading.{Reading}
 use Rattle.rds_code.specs.declared.reading.Reading.TheVariants.{Valid, Corrected, Lost}
 use Rattle.rds_code.specs.Bursts.{burst_length}
@@ -14,3 +17,13 @@ abbrev pub outcome_number : Reading → ℕ
 outcome_number (Valid o info) = 1
 outcome_number Lost = 2
 outcome_number (Corrected o info e) = burst_outcome (burst_length e) (ones e)
+
+-- the offsets that are tried for block 3 if block 2 has this information word: its bit 11 says version A or B
+abbrev pub wanted_of_info : ℕ → Wanted
+wanted_of_info info = if bit_at info 11 == 0 then OnlyC else OnlyCx
+
+-- the same if block 2 is read so
+abbrev pub wanted_after : Reading → Wanted
+wanted_after (Valid o info) = wanted_of_info info
+wanted_after (Corrected o info e) = wanted_of_info info
+wanted_after Lost = Either

@@ -1,6 +1,7 @@
 //! Laws of the block code. Each call does nothing: its contract is a law of the definitions, whoever reads or writes.
 ghost use Rattle.rds_code.specs.Laws.{HasRemainder, HasOneRemainder, IsLinear, ListsBursts, TellsBursts, BurstsHaveNonzeroRemainders, ReadsByRule, HasOneBlock};
 ghost use Rattle.rds_code.specs.Correction.{ReadsAsSent, CorrectsBurst, CorrectsThird, TakesOtherVersion};
+ghost use Rattle.rds_code.specs.Generator.{AreGeneratorAndMirror, DividesAlike, SyndromesAreRemainders};
 ghost use Rattle.rds_code.specs.Detection.{
   DetectsBitErrors,
   DetectsErrorBursts,
@@ -19,6 +20,18 @@ pub fn blocks_have_one_remainder()
 /// The remainder of a sum of words is the sum of their remainders.
 pub fn remainders_are_linear()
     ensures { IsLinear }
+{}
+
+/// Of the 512 polynomials of degree 10 that end in 1, two have period 341 and tell all bursts of up to five bits apart: the
+/// generator and its mirror (EN 50067:1998, 2.3 and Annex B).
+pub fn generator_is_one_of_two()
+    ensures two { AreGeneratorAndMirror 341 }
+    ensures same { DividesAlike }
+{}
+
+/// The standard's syndrome of a block, from the parity-check matrix of Annex B, times x^16 is its remainder.
+pub fn syndromes_are_remainders()
+    ensures { SyndromesAreRemainders }
 {}
 
 /// The definition of a burst by its highest and lowest one, and the list of bursts, agree.

@@ -1,10 +1,10 @@
 //! A crew of workers that makes the report of a work.
-ghost use Rattle.std.specs.Prelude.{◌≡◌, ◌⊎◌, ◌↔◌, ◌<◌, ◌≤◌, length, IfOk, IsErrOf, IsOkUnless, IsTrue};
+ghost use Rattle.std.specs.Prelude.{◌≡◌, ◌⊎◌, ◌↔◌, ◌<◌, ◌≤◌, length, IfErr, IfOk, IsErrOf, IsOkUnless, IsTrue};
 ghost use Rattle.rds_stream.specs.Recording.{length_of};
 ghost use Rattle.rds_sync.specs.Decoding.{listed};
 ghost use Rattle.rds_sync.specs.Report.{report_items};
 ghost use Rattle.rds_sync.specs.Totals.{totals_of};
-ghost use Rattle.rds_pieces.specs.Cutting.{IsCutting, pieces_of};
+ghost use Rattle.rds_pieces.specs.Cutting.{IsCutting};
 ghost use Rattle.rds_pieces.specs.RunOf.{FollowEachOther};
 
 use crate::error::CrewError;
@@ -15,33 +15,34 @@ use crate::tree::join_all;
 use rds_pieces::{PieceRun, Work, laws};
 use rds_sync::Report;
 use std::alloc::Global;
-use std::sync::Wait;
 use std::thread::Threads;
 
 /// The most workers that a crew may have.
 pub const MOST_WORKERS: u32 = 256;
 
-/// The report of the recording and the rules that the work names, made by up to `workers` threads.
+/// The report of the recording and the rules that the work names, made by up to `workers` workers.
 ///
 /// Each piece is guessed by itself. Then neighbours are joined, level by level, from level 1: runs 2m and 2m
 /// + 1 of a level, of which level 0 is the guesses, make run m of the next. A last run without a neighbour
 /// goes up as it is. The one run that is left, or none if there is no piece, is made into the report.
 ///
-/// The pieces, and then the joins of each level, are drawn from a dealer of their own. With two of them or
-/// more and two workers or more, as many threads are started as the lesser of the two numbers. Each draws
-/// until none is left, makes the parts that it drew in that order, and calls the gate round each. Else the
-/// calling thread does all of this and starts none. The threads are waited for before the next level is
-/// begun.
+/// The pieces, and then the joins of each level, are drawn from a dealer of their own, by as many workers as
+/// there are of them, but at most `workers`. The calling thread is one worker; each other gets a thread, and
+/// if the system starts none, the calling thread does its work too. A worker draws until none is left, makes
+/// the parts that it drew in that order, and calls the gate round each. All threads have ended before the
+/// next level is begun.
 ///
-/// Refuses `CrewRange` if `workers` is not 1 to 256. For the pieces, and then for each level, it refuses in
-/// this order: `OutOfMemory` if memory was refused before the first thread was started; `NoWorker` if a
-/// thread was not started; `OutOfMemory` if memory was refused later. All parts made until then are dropped.
+/// It returns if the calls of the work and of the gate do: the bounds of `R` allow no wait. A gate whose
+/// calls wait for one another may hang if no thread is started.
+///
+/// Refuses `CrewRange` if `workers` is not 1 to 256, and else nothing but `OutOfMemory`, if memory was
+/// refused. All parts made until then are dropped.
 ///
 /// Its cost: each bit is guessed once, and a join carries the left run on over the right one until the two
 /// meet (see [`join_runs`](rds_pieces::join_runs)): at best at once, at worst to the end of the right one. So
 /// each bit is gone over once, and at most once more for each level. The runs of one level are held at a
 /// time, and what joins them; runs are moved up a level, and none is copied.
-pub fn decode_crew<R: Threads + Wait, W: Work + Sync, G: Gate + Sync>(
+pub fn decode_crew<R: Threads + Sync, W: Work + Sync, G: Gate + Sync>(
     rt: &R,
     alloc: Global,
     work: &W,
@@ -54,8 +55,7 @@ pub fn decode_crew<R: Threads + Wait, W: Work + Sync, G: Gate + Sync>(
     ensures totals { IfOk result (λ report. report.totals
         ≡ totals_of (report_items (W.recording work.now) (W.rule_set work.now))) }
     ensures range { IsErrOf result CrewError.CrewRange ↔ ((workers ≡ 0) ⊎ (256 < workers)) }
-    ensures no_worker { IsErrOf result CrewError.NoWorker
-        → (1 < workers) × (1 < pieces_of (W.places work.now)) }
+    ensures err { IfErr result (λ e. (e ≡ CrewError.CrewRange) ⊎ (e ≡ CrewError.OutOfMemory)) }
 {
     if !may_be_so_many(workers) {
         return Err(CrewError::CrewRange);

@@ -1,4 +1,4 @@
-//! The report of one decoder, made by a crew of threads.
+//! The report of one decoder, made by a crew of workers.
 //!
 //! A recording is cut into pieces, and each piece is guessed by a worker that knows nothing of the bits
 //! before it. The guesses are then put in the order of their pieces, and neighbours are joined, level by
@@ -31,28 +31,28 @@
 //!
 //! # What there is
 //!
-//! - [`decode_crew`]: the report of a work, by up to [`MOST_WORKERS`] threads.
+//! - [`decode_crew`]: the report of a work, by up to [`MOST_WORKERS`] workers.
 //! - [`Gate`]: the calls of the workers round each piece and each join, by which a caller watches them or
 //!   holds them up. [`OpenGate`] does nothing.
 //! - [`Dealer`]: deals each number below some count once, to as many [`Seat`]s as it was made with, at most
 //!   256, and takes no lock. [`Closed`] has its final counts.
-//! - [`CrewError`]: the refusals `CrewRange` (7), `OutOfMemory` (8) and `NoWorker` (14).
+//! - [`CrewError`]: the refusals `CrewRange` (7), `OutOfMemory` (8) and `NoWorker` (14), which is never answered.
 //!
 //! # What callers may rely on
 //!
 //! - If [`decode_crew`] answers a report, it is that of the work's recording and rules. That holds for any
 //!   cutting and any number of workers, in whatever order they drew and ended. It is lent no recording: bits
 //!   reach it only by the work.
-//! - It refuses a number of workers outside 1 to 256 exactly as [`CrewError::CrewRange`]. It answers
-//!   [`CrewError::NoWorker`] only if there are two pieces or more and two workers or more.
-//! - No thread that it started outlives the call.
+//! - It refuses a number of workers outside 1 to 256 exactly as [`CrewError::CrewRange`], and else only
+//!   [`CrewError::OutOfMemory`]. If the system starts no thread, the calling thread does its work.
+//! - It returns if the calls of the work and of the gate do. No thread that it started outlives the call.
 //! - A dealer deals no number twice and leaves none out, in whatever order the steps of any threads
 //!   fall. No call of it waits, tries again, or takes memory once it is made.
 //!
 //! # What it leaves to others
 //!
-//! That memory and threads are there, that the calls of the work and of the gate return, and which thread
-//! draws what and ends first. No contract can say that the workers run at the same time, at pieces and at
+//! That memory is there, that the calls of the work and of the gate return, and which worker draws what and
+//! ends first. No contract can say that the workers run at the same time, at pieces and at
 //! joins, or that neighbours are joined level by level. Nor can one say that the report is made of their runs
 //! and of no others. The tests in `rds_tests` show it: by a [`Gate`] that holds one worker up until the other
 //! has begun, and one that notes which runs each join is made of.
@@ -66,9 +66,8 @@ mod parts; // Work in numbered parts, of which there are two kinds.
 mod guesses; // The pieces of a work, as parts.
 mod joins; // The joins of one level, as parts.
 mod tree; // The levels of joins, up to one run.
-mod team; // All parts of a work, made by threads.
+mod team; // All parts of a work, made by workers.
 mod drawing; // The parts that one worker draws and makes.
-mod promise; // The promise of its thread about them.
 mod slots; // The parts that were made, in the order of their numbers.
 mod dealer; // Who deals the numbers.
 mod seat; // The right of a worker to draw.

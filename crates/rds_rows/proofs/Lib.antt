@@ -1,5 +1,4 @@
 pub mod Steps
 pub mod Parts
 mod Promises
-mod PoolRule
-mod PoolRuns
+mod PartsFrom

@@ -1,17 +1,17 @@
 //! Where the makers of parts and their writer meet.
-ghost use Rattle.std.specs.Prelude.{◌≡◌, IfSome};
+ghost use Rattle.std.specs.Prelude.{◌≡◌, false, true};
 ghost use Rattle.rds_rows.specs.Sheets.{size_of, text_of};
 
 use crate::sheet::Sheet;
-use crate::slot::{Found, PartSpec, Slot};
-use std::sync::{Condvar, Mutex, Wait};
+use crate::slot::{PartSpec, Slot};
+use std::sync::Mutex;
+use std::thread::yield_now;
 
-/// Where parts change hands. Of n seats, seat i hands over the parts k with k mod n = i.
+/// Where parts change hands. Of n seats, seat i hands over the parts k with k mod n = i. Nobody waits here:
+/// a call looks some times, lets other threads run in between, and then goes on without.
 #[derive(Drop)]
 pub(crate) struct Handoff<J: PartSpec> {
     slot: Mutex<Slot<J>>,
-    filled: Condvar,
-    emptied: Condvar,
 }
 
 impl<J: PartSpec> Handoff<J> {
@@ -21,61 +21,68 @@ impl<J: PartSpec> Handoff<J> {
     {
         Handoff {
             slot: Mutex::new(Slot::new(number, sheet)),
-            filled: Condvar::new(),
-            emptied: Condvar::new(),
         }
     }
 
-    /// Waits for a sheet to make part `k` on, or until the seat is closed.
-    pub(crate) fn wait_for_blank<R: Wait>(&self, rt: &R, k: usize) -> Option<Sheet>
-        ensures { IfSome result (λ s. size_of s ≡ J.size) }
+    /// Hands over the sheet with part `k` in exchange for a blank one. Answers whether there was one in
+    /// time.
+    pub(crate) fn put(&self, k: usize, sheet: &mut Sheet, looks: usize) -> bool
+        requires size { size_of sheet.old ≡ J.size }
+        requires part { text_of sheet.old ≡ J.part k }
+        ensures { size_of sheet.new ≡ J.size }
     {
-        let mut slot = self.slot.lock(rt);
-        for _ in rt.forever() {
-            match slot.take_blank(k) {
-                Found::Blank(sheet) => return Some(sheet),
-                Found::Closed => return None,
-                Found::Nothing => slot = self.emptied.wait(rt, slot),
+        for _ in 0..looks {
+            if self.put_once(k, sheet) {
+                return true;
             }
+            yield_now();
         }
-        unreachable!()
+        false
     }
 
-    /// Waits for the sheet with part `k`.
-    pub(crate) fn wait_for_part<R: Wait>(&self, rt: &R, k: usize) -> Sheet
-        ensures size { size_of result ≡ J.size }
-        ensures part { text_of result ≡ J.part k }
+    fn put_once(&self, k: usize, sheet: &mut Sheet) -> bool
+        requires size { size_of sheet.old ≡ J.size }
+        requires part { text_of sheet.old ≡ J.part k }
+        ensures size { size_of sheet.new ≡ J.size }
+        ensures part { result ≡ false → text_of sheet.new ≡ J.part k }
     {
-        let mut slot = self.slot.lock(rt);
-        for _ in rt.forever() {
-            if let Some(sheet) = slot.take_part(k) {
-                return sheet;
+        match self.slot.try_lock() {
+            Some(mut slot) => slot.put(k, sheet),
+            None => false,
+        }
+    }
+
+    /// Takes over the sheet with part `k` in exchange for a blank one. Answers whether it was there in
+    /// time.
+    pub(crate) fn take(&self, k: usize, next: usize, sheet: &mut Sheet, looks: usize) -> bool
+        requires { size_of sheet.old ≡ J.size }
+        ensures size { size_of sheet.new ≡ J.size }
+        ensures part { result ≡ true → text_of sheet.new ≡ J.part k }
+    {
+        for _ in 0..looks {
+            if self.take_once(k, next, sheet) {
+                return true;
             }
-            slot = self.filled.wait(rt, slot);
+            yield_now();
         }
-        unreachable!()
+        false
     }
 
-    /// Hands over the sheet with part `k`.
-    pub(crate) fn hand_over<R: Wait>(&self, rt: &R, k: usize, sheet: Sheet)
-        requires size { size_of sheet ≡ J.size }
-        requires part { text_of sheet ≡ J.part k }
+    fn take_once(&self, k: usize, next: usize, sheet: &mut Sheet) -> bool
+        requires { size_of sheet.old ≡ J.size }
+        ensures size { size_of sheet.new ≡ J.size }
+        ensures part { result ≡ true → text_of sheet.new ≡ J.part k }
     {
-        let made = self.slot.lock(rt).put_part(k, sheet);
-        made.wake(&self.filled);
+        match self.slot.try_lock() {
+            Some(mut slot) => slot.take(k, next, sheet),
+            None => false,
+        }
     }
 
-    /// Gives the sheet back, for part `k` to be made on it.
-    pub(crate) fn give_back<R: Wait>(&self, rt: &R, k: usize, sheet: Sheet)
-        requires { size_of sheet ≡ J.size }
-    {
-        let returned = self.slot.lock(rt).put_blank(k, sheet);
-        returned.wake(&self.emptied);
-    }
-
-    /// No part is to be made here any more: who waits for a sheet goes away without.
-    pub(crate) fn close<R: Wait>(&self, rt: &R) {
-        let closed = self.slot.lock(rt).close();
-        closed.wake(&self.emptied);
+    /// The next part here has this number.
+    pub(crate) fn go_on_with(&self, number: usize) {
+        if let Some(mut slot) = self.slot.try_lock() {
+            slot.go_on_with(number);
+        }
     }
 }

@@ -1,10 +1,12 @@
 //! Rows of text, made by threads and written in order from a bounded room.
 //!
-//! Rows that are to be written are cut into parts. Threads make the parts, each in a sheet of its own. The
-//! caller writes the parts one after the other and gives the sheets back. All sheets are taken and all
-//! threads started before the first byte is written, and both live through all parts: the room is bounded
-//! however many rows there are, and no part waits for more than its own sheet. Small parts are gathered: a
-//! write has 64 KiB or more, except the last, or as many bytes as a part of the longest rows if fewer.
+//! Rows that are to be written are cut into parts. Workers make the parts, each on a sheet of its own, and
+//! leave them at seats. The caller writes them in order, and makes parts too while the next one is not there.
+//! All sheets are taken before the first byte is written: the room is bounded however many rows there are.
+//! Nobody waits for another. A worker whose seat stays full ends, since the writer is slow; a part that stays
+//! away is made by the caller; and if several do, the caller starts the workers anew. Small parts are
+//! gathered: a write has 64 KiB or more, except the last, or as many bytes as a part of the longest rows if
+//! fewer.
 //!
 //! # Example
 //!
@@ -31,16 +33,15 @@
 //!     }
 //! }
 //!
-//! write_rows(&rt, alloc, &Lines, 4, &mut writer)?;
+//! write_rows(&rt, alloc, &Lines, 4, 256, &mut writer)?;
 //! ```
 //!
 //! # What there is
 //!
-//! - [`write_rows`]: writes all rows of a list, by up to [`MOST_WORKERS`] threads. [`write_rows_in_parts`] is
-//!   the same in parts of a given number of rows. [`write_rows_alone`] starts no thread and waits for none.
+//! - [`write_rows`]: writes all rows of a list, by up to 256 workers, in parts of a given number of rows.
 //! - [`Rows`]: a list of rows, which can spell those from one number up to another.
 //! - [`Sheet`]: room for a fixed number of rows, into which they are spelled. It takes no memory after it is
-//!   made, and keeps rows in the memory that they come in if they are given with it ([`Sheet::give_all`]).
+//!   made.
 //! - [`Sink`]: where the bytes go. [`write_all`] writes whole bytes to it.
 //! - [`RowsError`]: `OutOfMemory`, before the first byte, or `Write`.
 //!
@@ -51,34 +52,30 @@
 //! - After the first byte nothing but the writer can be refused. If memory is refused, the writer is as it
 //!   was. If the writer fails, it has a beginning of the rows' text: the rows of some parts and a part of the
 //!   next.
-//! - No thread outlives the call. A thread that the system refuses is done without; with none, as
-//!   with one worker, the caller makes each part before it writes it.
+//! - The call returns if those of the rows and of the writer do. No thread outlives it. A thread that the
+//!   system refuses is done without.
 //!
 //! # What it leaves to others
 //!
-//! No contract can say that the threads run at the same time, or that a call which waits returns. The
-//! tests in `rds_tests` show both, by many runs with writers that fail. [`laws`] prove of a machine of
-//! the pool, whose steps are the calls of its slots, that it never deadlocks and that it ends.
+//! No contract can say that the threads run at the same time. The tests in `rds_tests` show it, by many runs
+//! with writers that fail.
 #![tactic(auto)]
 
-// In the order of reading: the rows and their sink, how they are written, and the slots at which the threads
+// In the order of reading: the rows and their sink, how they are written, and the seats at which the workers
 // meet.
 mod rows; // A list of rows that can be spelled.
 mod sheet; // Room for some of them.
 mod sink; // Where the bytes go.
 mod write; // All rows of a list, written.
-mod alone; // The same by the caller, without waiting for a thread.
-mod pool; // The threads that make the parts, and the writer of these parts.
+mod rounds; // Part by part, in rounds.
 mod handoff; // Where they meet.
-mod slot; // The state under the lock of a seat.
+mod slot; // A sheet for one part, under a lock.
 mod gathered; // Parts that are gathered to larger writes.
 mod owned_sink; // A writer that is handed in and back.
 mod error; // Why rows are not written.
-pub mod laws; // The laws of the pool itself.
 
-pub use alone::write_rows_alone;
 pub use error::RowsError;
 pub use rows::Rows;
 pub use sheet::Sheet;
 pub use sink::{Failed, Sink, write_all};
-pub use write::{MOST_WORKERS, write_rows, write_rows_in_parts};
+pub use write::write_rows;

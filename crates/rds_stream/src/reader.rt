@@ -6,8 +6,10 @@ ghost use Rattle.rds_stream.specs.Inside.Sections.{IsSection};
 
 use crate::gaps::Section;
 use crate::recording::Recording;
+use crate::tape::Tape;
 use rds_code::BLOCK_BITS;
 use std::marker::Model;
+use std::snapshot::Snapshot;
 
 /// How many places a block takes.
 const PLACES: u64 = BLOCK_BITS as u64;
@@ -121,5 +123,28 @@ impl<'a> Reader<'a> {
         } else {
             Some(self.recording.window(place))
         }
+    }
+}
+
+/// A reader is a tape that counts no window.
+impl Tape for Reader<'_> {
+    ghost signal = { λ r. r };
+
+    ghost reads_made = { λ r. 0 };
+
+    fn len(&self) -> u64 {
+        self.recording().len()
+    }
+
+    fn reads(&self) -> u64 {
+        0
+    }
+
+    fn source(&self) -> Snapshot<Recording> {
+        Snapshot::of(self.recording())
+    }
+
+    fn window(&mut self, place: u64) -> Option<u32> {
+        Reader::window(self, place)
     }
 }

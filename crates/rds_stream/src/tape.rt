@@ -8,14 +8,14 @@ use crate::recording::Recording;
 use std::marker::Model;
 use std::snapshot::Snapshot;
 
-/// A recording that is read window by window, each reading counted.
+/// A recording that is read window by window. [`Counted`] counts each window, [`Reader`] counts none.
 ///
 /// A call that is lent a tape has no other way to the bits.
 pub trait Tape {
     /// The recording that the tape is of.
     ghost signal: { Self → Signal };
 
-    /// How many windows were read.
+    /// How many of the windows read were counted.
     ghost reads_made: { Self → ℕ };
 
     /// The number of bits, at most 2^36.
@@ -23,7 +23,7 @@ pub trait Tape {
         ensures value { result ≡ length_of (signal self.now) }
         ensures limit { result ≤ 2 ^ 36 };
 
-    /// How many windows were read.
+    /// How many of the windows read were counted.
     fn reads(&self) -> u64
         ensures { result ≡ reads_made self.now };
 
@@ -32,19 +32,19 @@ pub trait Tape {
         ensures { result.value ≡ signal self.now };
 
     /// The 26 bits that end at `place`, the first one highest (EN 50067:1998, 2.1), or none if they touch a
-    /// gap; `place` is at least 25, and below the length. It adds one to `reads` either way, which is below
-    /// 2^63 before the call.
+    /// gap; `place` is at least 25, and below the length. It adds at most one to `reads`, which is below 2^63
+    /// before the call.
     fn window(&mut self, place: u64) -> Option<u32>
         requires first { 25 ≤ place }
         requires last { place < length_of (signal self.old) }
         requires room { reads_made self.old < 2 ^ 63 }
         ensures value { result ≡ heard (signal self.old) place }
         ensures block { IfSome result (λ window. window < 2 ^ 26) }
-        ensures counts { reads_made self.new ≡ reads_made self.old + 1 }
+        ensures counts { reads_made self.new ≤ reads_made self.old + 1 }
         ensures same { signal self.new ≡ signal self.old };
 }
 
-/// A tape over a recording that is lent to it.
+/// A tape over a recording that is lent to it. It counts each window.
 #[derive(Drop)]
 pub struct Counted<'a> {
     reader: Reader<'a>,
@@ -67,6 +67,21 @@ impl Counted<'_> {
             reads: 0,
         }
     }
+
+    /// The 26 bits that end at `place`, as [`Tape::window`] gives them. It adds one to the count, also if they touch
+    /// a gap.
+    pub fn window(&mut self, place: u64) -> Option<u32>
+        requires first { 25 ≤ place }
+        requires last { place < length_of self.old.signal }
+        requires room { self.old.reads < 2 ^ 63 }
+        ensures value { result ≡ heard self.old.signal place }
+        ensures block { IfSome result (λ window. window < 2 ^ 26) }
+        ensures counts { self.new.reads ≡ self.old.reads + 1 }
+        ensures same { self.new.signal ≡ self.old.signal }
+    {
+        self.reads += 1;
+        self.reader.window(place)
+    }
 }
 
 impl Tape for Counted<'_> {
@@ -87,7 +102,6 @@ impl Tape for Counted<'_> {
     }
 
     fn window(&mut self, place: u64) -> Option<u32> {
-        self.reads += 1;
-        self.reader.window(place)
+        Counted::window(self, place)
     }
 }

@@ -1,5 +1,6 @@
 -- Items counted one after the other.
-use Rattle.std.proofs.Common.{◌≡◌, ℕ, List, [], ◌∷◌, ◌++◌, map, refl, sym, ap, ap₂, ◌∙◌, arith, append_assoc, append-nil, length-append}
+use Rattle.std.proofs.Common.{◌≡◌, ℕ, ◌+◌, ◌<◌, List, [], ◌∷◌, ◌++◌, length, take, get_or, map, refl, sym, ap, ap₂, ◌∙◌, arith, append_assoc, append-nil, length-append}
+use Rattle.std.proofs.lemmas.List.{take_more}
 use Rattle.rds_sync.specs.declared.item.Group.{Group as GroupRecord}
 use Rattle.rds_sync.specs.declared.item.Item.{Item}
 use Rattle.rds_sync.specs.declared.item.Item.TheVariants.{Group, LostLock}
@@ -36,6 +37,15 @@ lost-added before mid after g os place is first second =
 
 count-append : (xs ys : List Item) → joined (count_of xs) (count_of ys) ≡ count_of (xs ++ ys)
 count-append xs ys = ap₂ (λ (t : Totals) (n : ℕ). record { totals = t; items = n }) (sym (totals_of-append xs ys)) (sym (length-append xs ys))
+
+-- one item more of a list
+pub count-next : (items : List Item) (n : ℕ) (d item : Item) → n < length items → get_or items n d ≡ item → (now after : CountOf) → now ≡ count_of (take n items)
+    → after ≡ joined now (count_of (item ∷ [])) → after ≡ count_of (take (n + 1) items)
+count-next items n d item within is now after before more =
+    more
+    ∙ ap (λ (k : CountOf). joined k (count_of (item ∷ []))) before
+    ∙ count-append (take n items) (item ∷ [])
+    ∙ ap (λ (some : List Item). count_of some) (ap (λ (i : Item). take n items ++ i ∷ []) (sym is) ∙ sym (take_more items n d within))
 
 plus-assoc : (t u w : Totals) → plus t (plus u w) ≡ plus (plus t u) w
 plus-assoc t u w =

@@ -1,16 +1,26 @@
 -- The words of the groups that are read.
-use Rattle.std.proofs.Common.{◌≡◌, ℕ, ◌≤◌, List, sym, ap, subst, map, ◌∙◌}
+use Rattle.std.proofs.Common.{◌≡◌, ℕ, ◌+◌, ◌*◌, ◌≤◌, List, [], ◌∷◌, refl, sym, ap, subst, map, ◌∙◌, arith}
 use Rattle.rds_stream.specs.Recording.{Signal}
 use Rattle.rds_sync.specs.declared.item.Block.{Block}
 use Rattle.rds_sync.specs.declared.item.Group.{Group as GroupRecord}
 use Rattle.rds_sync.specs.Groups.{blocks_at, group}
-use Rattle.rds_sync.specs.Inside.Outcomes.{outcome_of}
-use Rattle.rds_sync.specs.Inside.Words.{AreShort, blocks_in, word_of_blocks}
+use Rattle.rds_sync.specs.Inside.Outcomes.{Outcome, outcome_of}
+use Rattle.rds_sync.specs.Inside.Words.{AreShort, IsShort, blocks_in, nibble, word_of_blocks}
 use Rattle.rds_sync.specs.Rules.{RuleNumbers}
 use Rattle.rds_sync.proofs.GroupBlocks.{group-blocks}
 use Rattle.rds_sync.proofs.GroupOutcomes.{outcomes}
-use Rattle.rds_sync.proofs.ShortOutcomes.{BurstLaws, group-short}
+use Rattle.rds_sync.proofs.ShortOutcomes.{BurstLaws, all_four, group-short}
 use Rattle.rds_sync.proofs.WordLemmas.{word-tells as tells}
+
+-- the word of four blocks tells how they came out
+pub word-of-four : (bs : List Block) (one two three four : Block) → bs ≡ one ∷ two ∷ three ∷ four ∷ [] → (k l m n : ℕ)
+    → k ≡ nibble (outcome_of one) → l ≡ nibble (outcome_of two) → m ≡ nibble (outcome_of three) → n ≡ nibble (outcome_of four)
+    → IsShort (outcome_of one) → IsShort (outcome_of two) → IsShort (outcome_of three) → IsShort (outcome_of four)
+    → blocks_in (k + 16 * (l + 16 * (m + 16 * n))) ≡ map outcome_of bs
+word-of-four bs one two three four are k l m n is_k is_l is_m is_n short_k short_l short_m short_n =
+    let os : List Outcome = map outcome_of (one ∷ two ∷ three ∷ four ∷ []) in
+    let word : k + 16 * (l + 16 * (m + 16 * n)) ≡ word_of_blocks os = omega (arith, is_k, is_l, is_m, is_n) in
+    ap blocks_in word ∙ tells os (refl, all_four IsShort _ _ _ _ short_k short_l short_m short_n) ∙ ap (λ (blocks : List Block). map outcome_of blocks) (sym are)
 
 module _ (b : Signal) (rules : RuleNumbers) (f x p : ℕ) (bs : List Block) (are : bs ≡ blocks_at b rules f x p) where
   -- the outcomes of the blocks are those of their group

@@ -76,26 +76,26 @@ short_from s n h =
     let three = both _ _ two.1 in
     (le_from 1 s one.0, le_from s 5 two.0, le_from (min 2 s) n three.0, le_from n s three.1)
 
-all_four : (P : Outcome → Type 0) (o p q r : Outcome) → P o → P p → P q → P r → All P (o ∷ p ∷ q ∷ r ∷ [])
+pub all_four : (P : Outcome → Type 0) (o p q r : Outcome) → P o → P p → P q → P r → All P (o ∷ p ∷ q ∷ r ∷ [])
 all_four P o p q r one two three four =
     All-cons P o (p ∷ q ∷ r ∷ []) one (All-cons P p (q ∷ r ∷ []) two (All-cons P q (r ∷ []) three (All-cons P r [] four (λ k d h. absurd (omega arith)))))
+
+pub burst-short : ListsBursts → (limit e : ℕ) → limit ≤ 5 → IsBurst limit e → IsShort (corrected (burst_length e) (count_ones e))
+burst-short lists limit e few is =
+    let short = is.short in
+    let five : IsBurst 5 e = record { is_block = is.is_block; not_zero = is.not_zero; short = omega (arith, short) } in
+    let listed = (lists 5 e (omega arith)).0 five in
+    let pass : is_short (burst_length (get_or (bursts 5) listed.0 e)) (ones_in 26 (get_or (bursts 5) listed.0 e)) ≡ true =
+    pass_at (λ d. is_short (burst_length d) (ones_in 26 d)) (bursts 5) all_short listed.0 e listed.1 in
+    let bits : ones_in 26 e ≡ count_ones e = sym (ones_are 26 e is.is_block) in
+    short_from (burst_length e) (count_ones e)
+    (subst (λ (n : ℕ). is_short (burst_length e) n ≡ true) bits (subst (λ (d : ℕ). is_short (burst_length d) (ones_in 26 d) ≡ true) listed.2 pass))
 
 pub record BurstLaws : Type 0 where
   pub lists : ListsBursts
   pub reads : ReadsByRule
 
 module _ (laws : BurstLaws) where
-  burst-short : (limit e : ℕ) → limit ≤ 5 → IsBurst limit e → IsShort (corrected (burst_length e) (count_ones e))
-  burst-short limit e few is =
-      let short = is.short in
-      let five : IsBurst 5 e = record { is_block = is.is_block; not_zero = is.not_zero; short = omega (arith, short) } in
-      let listed = (laws.lists 5 e (omega arith)).0 five in
-      let pass : is_short (burst_length (get_or (bursts 5) listed.0 e)) (ones_in 26 (get_or (bursts 5) listed.0 e)) ≡ true =
-      pass_at (λ d. is_short (burst_length d) (ones_in 26 d)) (bursts 5) all_short listed.0 e listed.1 in
-      let bits : ones_in 26 e ≡ count_ones e = sym (ones_are 26 e is.is_block) in
-      short_from (burst_length e) (count_ones e)
-      (subst (λ (n : ℕ). is_short (burst_length e) n ≡ true) bits (subst (λ (d : ℕ). is_short (burst_length d) (ones_in 26 d) ≡ true) listed.2 pass))
-
   reading-short : (h : Option ℕ) (y : ℕ) (wanted : Wanted) (limit : ℕ) → 1 ≤ y → y ≤ 4 → limit ≤ 5 → IsShort (outcome_of (Read (reading_heard h y wanted limit)))
   reading-short None y wanted limit low high few = tt
   reading-short (Some w) y wanted limit low high few = at_case (reading w y wanted limit) refl where
@@ -104,7 +104,7 @@ module _ (laws : BurstLaws) where
     at_case Lost e = subst (λ (r : Reading). IsShort (outcome_of (Read r))) (sym e) tt
     at_case (Corrected o info burst) e =
         let is = (laws.reads w y wanted limit (Corrected o info burst) low high few).1 (sym e) in
-        subst (λ (r : Reading). IsShort (outcome_of (Read r))) (sym e) (burst-short limit burst few is.1.fits.burst)
+        subst (λ (r : Reading). IsShort (outcome_of (Read r))) (sym e) (burst-short laws.lists limit burst few is.1.fits.burst)
 
   block-short : (b : Signal) (rules : RuleNumbers) (f x p : ℕ) (wanted : Wanted) (y : ℕ) → 1 ≤ y → y ≤ 4 → rules.burst ≤ 5 → IsShort (outcome_of (block_at b rules f x p wanted y))
   block-short b rules f x p wanted y low high few = at_case (nat_le f y && nat_le y x) where

@@ -1,15 +1,12 @@
 -- Totals of a list that grows.
-use Rattle.std.proofs.Common.{◌≡◌, ℕ, ◌+◌, ◌-◌, ◌≤◌, Bool, List, [], ◌∷◌, ◌++◌, length, get_or, refl, sym, ap, ◌∙◌, arith}
-use Rattle.std.specs.Prelude.{count_by, slice_index, if◌then◌else◌}
+use Rattle.std.proofs.Common.{◌≡◌, ℕ, ◌+◌, ◌-◌, ◌≤◌, List, [], ◌∷◌, ◌++◌, length, get_or, refl, sym, ap, ◌∙◌, arith}
+use Rattle.std.specs.Prelude.{slice_index}
 use Rattle.std.proofs.lemmas.List.Sums.{sum_by-append}
 use Rattle.rds_sync.specs.declared.item.Block.{Block}
-use Rattle.rds_sync.specs.declared.item.Group.{Group}
 use Rattle.rds_sync.specs.declared.item.Item.{Item}
-use Rattle.rds_sync.specs.declared.item.Item.TheVariants.{Group as GroupItem}
 use Rattle.rds_sync.specs.declared.totals.Totals.{Totals}
-use Rattle.rds_sync.specs.Totals.{totals_of, sum_blocks, count_blocks, is_valid, is_lost, is_corrected_by, bits_corrected, is_complete}
+use Rattle.rds_sync.specs.Totals.{totals_of}
 use Rattle.rds_sync.specs.Counting.{plus, IsAtMost, IsRest}
-use Rattle.rds_sync.specs.Inside.Tallies.{block_totals}
 
 -- the totals of two lists, one after the other
 pub totals_of-append : (xs ys : List Item) → totals_of (xs ++ ys) ≡ plus (totals_of xs) (totals_of ys)
@@ -18,11 +15,6 @@ totals_of-append xs ys = simp sum_by-append
 -- a greater bound holds too
 pub IsAtMost-more : (m n : ℕ) (t : Totals) → m ≤ n → IsAtMost m t → IsAtMost n t
 IsAtMost-more m n t h a = omega (arith, a)
-
--- small totals are small with a group's own counts too
-pub IsAtMost-group : (t : Totals) (complete : ℕ) → complete ≤ 1 → IsAtMost 1020 t
-    → IsAtMost 1024 (record t { groups = 1; complete = complete })
-IsAtMost-group t complete h a = omega (arith, a)
 
 -- four blocks, one by one
 pub four_blocks : (bs : List Block) (a b c d : Block) → length bs ≡ 4
@@ -40,25 +32,6 @@ pub same_counts : {v v2 p p2 q q2 r r2 s s2 u u2 l l2 i i2 g g2 k k2 a a2 o o2 :
     → ◌≡◌ {A = Totals} (record { valid = v; bursts = p ∷ q ∷ r ∷ s ∷ u ∷ []; lost = l; bits = i; groups = g; complete = k; acquired = a; losses = o })
     (record { valid = v2; bursts = p2 ∷ q2 ∷ r2 ∷ s2 ∷ u2 ∷ []; lost = l2; bits = i2; groups = g2; complete = k2; acquired = a2; losses = o2 })
 same_counts h1 h2 h3 h4 h5 h6 h7 h8 h9 h10 h11 h12 = cc
-
--- the totals of a group from those of its blocks, one after the other
-pub group_totals : (g : Group) (a b c d : Block) (n : ℕ) → g.blocks ≡ a ∷ b ∷ c ∷ d ∷ [] → n ≡ count_by is_complete (GroupItem g ∷ [])
-    → (t : Totals) → t ≡ plus (plus (plus (block_totals a) (block_totals b)) (block_totals c)) (block_totals d)
-    → record t { groups = 1; complete = n } ≡ totals_of (GroupItem g ∷ [])
-group_totals g a b c d n blocks complete t is =
-    rw is (same_counts (count is_valid) (count (is_corrected_by 1)) (count (is_corrected_by 2)) (count (is_corrected_by 3)) (count (is_corrected_by 4))
-    (count (is_corrected_by 5)) (count is_lost) (four bits_corrected) refl complete refl refl) where
-      four : (f : Block → ℕ) → f a + f b + f c + f d ≡ sum_blocks f (GroupItem g ∷ [])
-      four f = rw blocks (omega arith)
-
-      count : (p : Block → Bool) → (if p a then 1 else 0) + (if p b then 1 else 0) + (if p c then 1 else 0) + (if p d then 1 else 0) ≡ count_blocks p (GroupItem g ∷ [])
-      count p = four (λ (block : Block). if p block then 1 else 0)
-
--- two that are added come in any order
-pub plus_swap : (t u w : Totals) → plus (plus t u) w ≡ plus (plus t w) u
-plus_swap t u w =
-    same_counts (omega arith) (omega arith) (omega arith) (omega arith) (omega arith) (omega arith)
-    (omega arith) (omega arith) (omega arith) (omega arith) (omega arith) (omega arith)
 
 five_numbers : (xs : List ℕ) → length xs ≡ 5 → xs ≡ slice_index xs 0 ∷ slice_index xs 1 ∷ slice_index xs 2 ∷ slice_index xs 3 ∷ slice_index xs 4 ∷ []
 five_numbers [] h = absurd (omega (arith, h))

@@ -2,12 +2,10 @@
 pub mod CountRuns
 pub mod Counts
 pub mod Due
-pub mod GroupParts
 pub mod Locks
 pub mod Outcomes
 pub mod ShortLocks
 pub mod Spans
-pub mod Tallies
 pub mod Tally
 pub mod WholeGroups
 pub mod Words

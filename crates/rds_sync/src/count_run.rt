@@ -5,27 +5,21 @@ ghost use Rattle.rds_stream.specs.Recording.{Signal, length_of};
 ghost use Rattle.rds_sync.specs.Acquiring.{acquired};
 ghost use Rattle.rds_sync.specs.Inside.CountRuns.{IsCountStretch};
 ghost use Rattle.rds_sync.specs.Inside.Counts.{added};
-ghost use Rattle.rds_sync.specs.Inside.Due.{state_of};
-ghost use Rattle.rds_sync.specs.Inside.Locks.{IsReadable, IsInProgress, IsFollowed};
 ghost use Rattle.rds_sync.specs.Lawful.{IsLawful, IsLawfulLock};
 ghost use Rattle.rds_sync.specs.Rules.{RuleNumbers};
-ghost use Rattle.rds_sync.specs.Step.{step, items_at};
+ghost use Rattle.rds_sync.specs.Step.{items_at};
 ghost use Rattle.rds_sync.specs.declared.state.State.TheVariants.{Locked, Searching};
 
 use crate::acquiring::has_partner_in;
 use crate::counts::Counts;
-use crate::due::Due;
-use crate::follow::{blocks_before, read_due};
-use crate::item::Block;
 use crate::lock::{BLOCK_PLACES, Lock};
 use crate::loss::NONE_BAD;
 use crate::rules::Rules;
 use crate::short_lock::word_if_lost;
 use crate::state::State;
+use crate::tape_run::keep;
 use crate::whole_groups::count_whole_groups;
-use crate::words::word_of_blocks;
 use rds_code::BlockNumber;
-use rds_code::laws::{bursts_are_listed, readings_follow_the_rule};
 use rds_stream::{FIRST_WINDOW, Reader, ValidWindows};
 
 /// A part of a run: how far it came, and the state there. It ends soon after `most` items were counted.
@@ -142,72 +136,5 @@ fn keep_on(
             return (next.due - FIRST_WINDOW, State::Locked(next));
         }
     }
-    keep_group(reader, rules, lock, place, to, counts)
-}
-
-/// Follows a lock from block to block, up to and including the block that closes its group, or up to `to` if
-/// none is due before it.
-fn keep_group(
-    reader: &mut Reader<'_>,
-    rules: &Rules,
-    lock: Lock,
-    place: u64,
-    to: u64,
-    counts: &mut Counts,
-) -> (u64, State)
-    requires lawful { IsLawfulLock rules.now place lock }
-    requires order { place < to }
-    requires within { to ≤ length_of reader.old }
-    requires few { counts.old.items ≤ 3000 }
-    ensures reached { IsCountStretch reader.old rules.now (Locked lock) place to
-        counts.old result counts.new }
-    ensures same { reader.new ≡ reader.old }
-{
-    prove!(1 <= rules.reach());
-    let mut blocks = blocks_before(reader, rules, lock);
-    let mut now = lock;
-    while now.due < to {
-        let past = now.due + 1;
-        match follow_on(reader, rules, now, &mut blocks, counts) {
-            Due::Inside(next) => now = next,
-            Due::Closed(next) => return (past, State::Locked(next)),
-            Due::Lost => return (past, State::Searching),
-        }
-    }
-    (to, State::Locked(now))
-}
-
-/// Follows a lock by the block that is due.
-fn follow_on(
-    reader: &mut Reader<'_>,
-    rules: &Rules,
-    lock: Lock,
-    blocks: &mut [Block; 4],
-    counts: &mut Counts,
-) -> Due
-    requires readable { IsReadable reader.old rules.now lock }
-    requires within { lock.due < length_of reader.old }
-    requires in_progress { IsInProgress reader.old rules.now lock blocks.old }
-    requires few { counts.old.items ≤ 3000 }
-    ensures state { state_of result ≡ step reader.old rules.now lock.due (Locked lock) }
-    ensures counts { counts.new ≡ added counts.old (items_at reader.old rules.now lock.due (Locked lock)) }
-    ensures followed { IsFollowed reader.old rules.now lock blocks.new result }
-    ensures same { reader.new ≡ reader.old }
-{
-    // The outcome of each reading has a word.
-    bursts_are_listed();
-    readings_follow_the_rule();
-    prove!(lock.due < reader.recording().len());
-    let loss = rules.loss();
-    let good = read_due(reader, rules, lock, blocks);
-    let due = lock.after(loss, good);
-    match due {
-        Due::Inside(_) => {}
-        Due::Closed(_) => counts.add_group(word_of_blocks(blocks)),
-        Due::Lost => {
-            counts.add_group(word_of_blocks(blocks));
-            counts.add_loss();
-        }
-    }
-    due
+    keep(reader, rules, lock, place, to, counts)
 }

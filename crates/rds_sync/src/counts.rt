@@ -1,14 +1,15 @@
 //! Counts of items that go into totals: those of blocks are added eight at a time.
 
-ghost use Rattle.std.specs.Prelude.{◌≡◌, ◌≤◌, ◌<◌, ◌+◌, ◌*◌, ◌%◌, ◌^◌, All, sum_by};
+ghost use Rattle.std.specs.Prelude.{◌≡◌, ◌≤◌, ◌<◌, ◌+◌, ◌*◌, ◌%◌, ◌^◌, ◌∷◌, [], All, length, sum_by};
 ghost use Rattle.std.specs.List.{list_all};
 ghost use Rattle.rds_sync.specs.Counting.{IsAtMost};
-ghost use Rattle.rds_sync.specs.Inside.Counts.{acquired_count, group_count, in_lanes, joined, loss_count, no_count};
+ghost use Rattle.rds_sync.specs.Inside.Counts.{acquired_count, count_of, group_count, in_lanes, joined, loss_count, no_count};
 ghost use Rattle.rds_sync.specs.Inside.Outcomes.{bits_inverted, has_info};
 ghost use Rattle.rds_sync.specs.Inside.Words.{blocks_in, outcome_at};
 
+use crate::item::Item;
 use crate::totals::Totals;
-use crate::words::{CLEAN, has_info};
+use crate::words::{CLEAN, has_info, word_of_blocks};
 use std::marker::Model;
 
 /// How many items are counted at most before they are added to totals: a group adds 20 to a lane at most.
@@ -53,6 +54,18 @@ impl Counts {
         }
     }
 
+    /// The counts of these items.
+    pub fn of(items: &[Item]) -> Counts
+        requires { length items.now ≤ 3004 }
+        ensures { result ≡ count_of items.now }
+    {
+        let mut counts = Counts::none();
+        for item in items {
+            counts.add_item(item);
+        }
+        counts
+    }
+
     /// How many items were counted.
     #[inline(always)]
     pub fn items(&self) -> u64
@@ -60,6 +73,19 @@ impl Counts {
         ensures few { result ≤ 3004 }
     {
         self.clean + self.groups + self.acquired + self.losses
+    }
+
+    /// Counts an item.
+    #[inline(always)]
+    fn add_item(&mut self, item: &Item)
+        requires { self.old.items < 3004 }
+        ensures { self.new ≡ joined self.old (count_of (item.now ∷ [])) }
+    {
+        match item {
+            Item::Acquired { .. } => self.add_acquired(),
+            Item::Group(group) => self.add_group(word_of_blocks(&group.blocks)),
+            Item::LostLock { .. } => self.add_loss(),
+        }
     }
 
     /// Counts the group of a word.

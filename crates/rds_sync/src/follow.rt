@@ -1,12 +1,13 @@
-//! How a lock is followed over a recording, from block to block.
+//! How a lock is followed over a tape, from block to block.
 //!
 //! A good block costs one window, one remainder and one comparison: it is read once, when it is
 //! due, and kept until its group closes. Nothing is read in between.
 
-ghost use Rattle.std.specs.Prelude.{◌≡◌, ◌≤◌, ◌<◌, ◌+◌, ◌-◌, ◌*◌, List};
+ghost use Rattle.std.specs.Prelude.{◌≡◌, ◌≤◌, ◌<◌, ◌+◌, ◌-◌, ◌*◌, ◌^◌, List};
 ghost use Rattle.rds_stream.specs.Recording.{length_of};
 ghost use Rattle.rds_sync.specs.Acquiring.{has_number};
-ghost use Rattle.rds_sync.specs.Groups.{blocks_at, group_of};
+ghost use Rattle.rds_sync.specs.Advance.{items_in};
+ghost use Rattle.rds_sync.specs.Groups.{blocks_at, group, group_of};
 ghost use Rattle.rds_sync.specs.Lawful.{HaveRoom};
 ghost use Rattle.rds_sync.specs.Inside.Due.{state_of};
 ghost use Rattle.rds_sync.specs.Inside.Locks.{IsFollowed, IsInProgress, IsReadable, items_of_due};
@@ -17,26 +18,32 @@ ghost use Rattle.rds_sync.specs.declared.item.Block.TheVariants.{Read};
 ghost use Rattle.rds_sync.specs.declared.state.State.TheVariants.{Locked};
 
 use crate::due::Due;
-use crate::item::{Block, Group};
+use crate::item::{Block, Group, Item};
 use crate::lock::{BLOCK_PLACES, Lock};
 use crate::rules::Rules;
+use crate::state::State;
+use crate::step::Step;
 use rds_code::{BlockNumber, Reading, Wanted};
-use rds_stream::{FIRST_WINDOW, Reader};
+use rds_stream::{FIRST_WINDOW, Tape};
 
 /// The blocks of a group of which none was read.
 pub(crate) const NO_BLOCKS: [Block; 4] = [Block::Missing; 4];
 
 /// The blocks of the group in progress that were read before.
-pub(crate) fn blocks_before(reader: &mut Reader<'_>, rules: &Rules, lock: Lock) -> [Block; 4]
-    requires { IsReadable reader.old rules.now lock }
-    ensures blocks { IsInProgress reader.old rules.now lock result }
-    ensures same { reader.new ≡ reader.old }
+pub(crate) fn blocks_before<T: Tape>(tape: &mut T, rules: &Rules, lock: Lock) -> [Block; 4]
+    requires numbers { (1 ≤ lock.first) × (lock.first ≤ lock.number) × (lock.number ≤ 4) }
+    requires start { HaveRoom lock.first lock.number lock.due }
+    requires within { lock.due < length_of (T.signal tape.old) + 26 }
+    requires counted { T.reads_made tape.old + 8 ≤ 2 ^ 63 }
+    ensures blocks { IsInProgress (T.signal tape.old) rules.now lock result }
+    ensures reads { T.reads_made tape.new ≤ T.reads_made tape.old + (lock.number - lock.first) }
+    ensures same { T.signal tape.new ≡ T.signal tape.old }
 {
     let mut blocks = NO_BLOCKS;
     for number in lock.first..lock.number {
         let due = lock.due - BLOCK_PLACES * u64::from(lock.number - number);
         let _ = read_due(
-            reader,
+            tape,
             rules,
             Lock {
                 due,
@@ -50,20 +57,21 @@ pub(crate) fn blocks_before(reader: &mut Reader<'_>, rules: &Rules, lock: Lock) 
 }
 
 /// Reads the block that is due into its group, and tells whether it is valid.
-pub(crate) fn read_due(
-    reader: &mut Reader<'_>,
+pub(crate) fn read_due<T: Tape>(
+    tape: &mut T,
     rules: &Rules,
     lock: Lock,
     blocks: &mut [Block; 4],
 ) -> bool
     requires order { (1 ≤ lock.first) × (lock.first ≤ lock.number) × (lock.number ≤ 4) }
     requires start { HaveRoom lock.first lock.number lock.due }
-    requires within { lock.due < length_of reader.old }
-    requires in_progress { IsInProgress reader.old rules.now lock blocks.old }
-    ensures valid { result ≡ has_number reader.old lock.due lock.number }
-    ensures blocks { blocks.new
-        ≡ blocks_at reader.old rules.now lock.first lock.number lock.due }
-    ensures same { reader.new ≡ reader.old }
+    requires within { lock.due < length_of (T.signal tape.old) }
+    requires in_progress { IsInProgress (T.signal tape.old) rules.now lock blocks.old }
+    requires counted { T.reads_made tape.old < 2 ^ 63 }
+    ensures valid { result ≡ has_number (T.signal tape.old) lock.due lock.number }
+    ensures blocks { blocks.new ≡ blocks_at (T.signal tape.old) rules.now lock.first lock.number lock.due }
+    ensures reads { T.reads_made tape.new ≤ T.reads_made tape.old + 1 }
+    ensures same { T.signal tape.new ≡ T.signal tape.old }
 {
     let wanted = if lock.number == 3 {
         blocks[1].wanted_beside()
@@ -73,7 +81,7 @@ pub(crate) fn read_due(
     let Some(number) = BlockNumber::new(lock.number) else {
         unreachable!()
     };
-    let reading = rules.read(reader.window(lock.due), number, wanted);
+    let reading = rules.read(tape.window(lock.due), number, wanted);
     let valid = is_valid(&reading);
     blocks[(lock.number - 1) as usize] = Block::Read(reading);
     valid
@@ -96,23 +104,77 @@ pub(crate) fn closed_group(lock: Lock, blocks: [Block; 4]) -> Group
     Group::of_blocks(place, blocks)
 }
 
+/// The group in progress, as far as it was read.
+pub(crate) fn group_so_far<T: Tape>(tape: &mut T, rules: &Rules, lock: Lock) -> Group
+    requires numbers { (1 ≤ lock.first) × (lock.first < lock.number) × (lock.number ≤ 4) }
+    requires start { HaveRoom lock.first lock.number lock.due }
+    requires within { lock.due < length_of (T.signal tape.old) + 26 }
+    requires counted { T.reads_made tape.old + 8 ≤ 2 ^ 63 }
+    ensures group { result ≡ group (T.signal tape.old) rules.now lock.first (lock.number - 1)
+        (lock.due - 26) }
+    ensures reads { T.reads_made tape.new ≤ T.reads_made tape.old + (lock.number - lock.first) }
+    ensures same { T.signal tape.new ≡ T.signal tape.old }
+{
+    let blocks = blocks_before(tape, rules, lock);
+    let last = Lock {
+        due: lock.due - BLOCK_PLACES,
+        number: lock.number - 1,
+        ..lock
+    };
+    closed_group(last, blocks)
+}
+
 /// Follows a lock by the block that is due.
-pub(crate) fn follow(
-    reader: &mut Reader<'_>,
+pub(crate) fn follow<T: Tape>(
+    tape: &mut T,
     rules: &Rules,
     lock: Lock,
     blocks: &mut [Block; 4],
 ) -> Due
-    requires readable { IsReadable reader.old rules.now lock }
-    requires within { lock.due < length_of reader.old }
-    requires in_progress { IsInProgress reader.old rules.now lock blocks.old }
-    ensures state { state_of result ≡ step reader.old rules.now lock.due (Locked lock) }
+    requires readable { IsReadable (T.signal tape.old) rules.now lock }
+    requires within { lock.due < length_of (T.signal tape.old) }
+    requires in_progress { IsInProgress (T.signal tape.old) rules.now lock blocks.old }
+    requires counted { T.reads_made tape.old < 2 ^ 63 }
+    ensures state { state_of result ≡ step (T.signal tape.old) rules.now lock.due (Locked lock) }
     ensures items { items_of_due lock blocks.new result
-        ≡ items_at reader.old rules.now lock.due (Locked lock) }
-    ensures followed { IsFollowed reader.old rules.now lock blocks.new result }
-    ensures same { reader.new ≡ reader.old }
+        ≡ items_at (T.signal tape.old) rules.now lock.due (Locked lock) }
+    ensures followed { IsFollowed (T.signal tape.old) rules.now lock blocks.new result }
+    ensures reads { T.reads_made tape.new ≤ T.reads_made tape.old + 1 }
+    ensures same { T.signal tape.new ≡ T.signal tape.old }
 {
-    prove!(lock.due < reader.recording().len());
-    let good = read_due(reader, rules, lock, blocks);
+    prove!(lock.due < tape.len());
+    let good = read_due(tape, rules, lock, blocks);
     lock.after(rules.loss(), good)
+}
+
+/// The step of a lock whose group had these blocks, by what the last of them did to it.
+pub(crate) fn step_of(lock: Lock, blocks: [Block; 4], due: Due) -> Step
+    requires order { lock.first ≤ lock.number }
+    requires start { HaveRoom lock.first lock.number lock.due }
+    requires near { lock.due < 2 ^ 60 }
+    ensures place { result.place ≡ lock.due + 1 }
+    ensures state { result.state ≡ state_of due }
+    ensures items { items_in result.items ≡ items_of_due lock blocks due }
+{
+    let place = lock.due + 1;
+    match due {
+        Due::Inside(next) => Step {
+            place,
+            state: State::Locked(next),
+            items: [None, None],
+        },
+        Due::Closed(next) => Step {
+            place,
+            state: State::Locked(next),
+            items: [Some(Item::Group(closed_group(lock, blocks))), None],
+        },
+        Due::Lost => Step {
+            place,
+            state: State::Searching,
+            items: [
+                Some(Item::Group(closed_group(lock, blocks))),
+                Some(Item::LostLock { place: lock.due }),
+            ],
+        },
+    }
 }

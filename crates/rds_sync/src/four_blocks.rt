@@ -51,7 +51,7 @@ pub(crate) fn push_whole(
     // A clean group is made in its place: what a call returns would be copied.
     match valid_blocks(heard) {
         Some(blocks) => {
-            let after = bad_after_clean(loss, bad)?;
+            let after = bad_after_four(loss, CLEAN, bad)?;
             push_one(part, &Item::Group(Group::of_blocks(place, blocks)));
             Some(after)
         }
@@ -65,6 +65,7 @@ pub(crate) fn push_whole(
 
 /// The group of four blocks that were heard, the first of which begins at `place`, and the loss history after
 /// it: none if a block of it loses the lock.
+#[inline(always)]
 pub(crate) fn any_heard(
     rules: &Rules,
     loss: Loss,
@@ -110,26 +111,9 @@ fn word_heard(rules: &Rules, heard: &[Option<u32>; 4]) -> u16
     let [one, two, three, four] = *heard;
     let first = rules.outcome(one, BlockNumber::ONE, Wanted::Either);
     let second = rules.outcome(two, BlockNumber::TWO, Wanted::Either);
-    let third = third_outcome(rules, two, three);
+    let third = rules.outcome(three, BlockNumber::THREE, rules.wanted_beside(two));
     let fourth = rules.outcome(four, BlockNumber::FOUR, Wanted::Either);
     first + 16 * (second + 16 * (third + 16 * fourth))
-}
-
-/// How block 3 comes out beside block 2, which tells its version: that is asked only if block 3 is not valid.
-#[inline(always)]
-fn third_outcome(rules: &Rules, two: Option<u32>, three: Option<u32>) -> u16
-    requires two { IfSome two (λ window. window < 2 ^ 26) }
-    requires three { IfSome three (λ window. window < 2 ^ 26) }
-    ensures value { result ≡ outcome_number (reading_heard three 3
-        (wanted_beside (Read (reading_heard two 2 Either rules.now.burst))) rules.now.burst) }
-    ensures most { result ≤ 13 }
-{
-    let either = rules.outcome(three, BlockNumber::THREE, Wanted::Either);
-    if either == u16::from(Outcomes::VALID) {
-        return either;
-    }
-    let second = Block::Read(rules.read(two, BlockNumber::TWO, Wanted::Either));
-    rules.outcome(three, BlockNumber::THREE, second.wanted_beside())
 }
 
 /// The four blocks of that group.
@@ -197,22 +181,6 @@ fn valid_reading(heard: Option<u32>, offset: Offset) -> Option<Reading>
             info: (window >> 10) as u16,
         }),
         _ => None,
-    }
-}
-
-/// The loss history after four good ones, none of which loses a lock.
-#[inline(always)]
-fn bad_after_clean(loss: Loss, bad: u64) -> Option<u64>
-    requires range { IsLossInRange loss }
-    requires lawful { IsLawfulBad loss bad }
-    ensures bad { IfSome result (λ after. after ≡ bad_over loss (blocks_in 0x1111) bad 1 4) }
-    ensures lawful { IfSome result (IsLawfulBad loss) }
-    ensures kept { IfSome result (λ _. (k : ℕ) → k < 4
-        → are_too_many loss (bad_over loss (blocks_in 0x1111) bad 1 (k + 1)) ≡ false) }
-{
-    match loss {
-        Loss::Run(_) => Some(NONE_BAD),
-        Loss::Share { .. } => bad_after_four(loss, CLEAN, bad),
     }
 }
 

@@ -2,8 +2,11 @@
 
 ghost use Rattle.std.specs.Prelude.{◌≡◌, ◌≢◌, ◌<◌, ◌≤◌, ◌⊎◌, ◌↔◌, ◌^◌, IfErr, IfOk, IfSome, IsErrOf};
 ghost use Rattle.rds_code.specs.Outcomes.{outcome_number};
+ghost use Rattle.rds_code.specs.declared.reading.Wanted.TheVariants.{Either};
 ghost use Rattle.rds_stream.specs.Recording.{reading_heard};
+ghost use Rattle.rds_sync.specs.Groups.{wanted_beside};
 ghost use Rattle.rds_sync.specs.Ranges.{IsInRange, IsRunOutside, IsShareOutside, farthest_reach, longest_burst, most_blocks};
+ghost use Rattle.rds_sync.specs.declared.item.Block.TheVariants.{Read};
 ghost use Rattle.rds_sync.specs.declared.loss.Loss.TheVariants.{Run, Share};
 
 use crate::error::SyncError;
@@ -175,6 +178,18 @@ impl Rules {
         ensures { result ≡ reading_heard heard number wanted self.now.burst }
     {
         read_heard(&self.table, heard, number, wanted, self.outcomes.limit())
+    }
+
+    /// The offsets that are tried for block 3 beside the block 2 that was heard.
+    #[inline(always)]
+    pub(crate) fn wanted_beside(&self, second: Option<u32>) -> Wanted
+        requires { IfSome second (λ window. window < 2 ^ 26) }
+        ensures { result ≡ wanted_beside (Read (reading_heard second 2 Either self.now.burst)) }
+    {
+        match second {
+            Some(window) => self.outcomes.wanted_after(window),
+            None => Wanted::Either,
+        }
     }
 
     /// The outcome of that reading, which takes less time.

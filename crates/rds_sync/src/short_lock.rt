@@ -7,7 +7,6 @@ ghost use Rattle.rds_stream.specs.Recording.{length_of, reading_at};
 ghost use Rattle.rds_sync.specs.Acquiring.{has_number};
 ghost use Rattle.rds_sync.specs.Inside.ShortLocks.{IsLostAtOnce, wanted_behind, word_of_two};
 
-use crate::item::Block;
 use crate::lock::BLOCK_PLACES;
 use crate::rules::Rules;
 use rds_code::laws::{bursts_are_listed, readings_follow_the_rule};
@@ -88,12 +87,8 @@ fn wanted_behind(reader: &mut Reader<'_>, rules: &Rules, place: u64, number: Blo
     ensures same { reader.new ≡ reader.old }
 {
     if number == BlockNumber::TWO {
-        let second = Block::Read(rules.read(
-            reader.window(place),
-            BlockNumber::TWO,
-            Wanted::Either,
-        ));
-        return second.wanted_beside();
+        rules.wanted_beside(reader.window(place))
+    } else {
+        Wanted::Either
     }
-    Wanted::Either
 }

@@ -12,11 +12,9 @@ ghost use Rattle.rds_sync.specs.Lawful.{IsLawful, IsLawfulLock};
 ghost use Rattle.rds_sync.specs.Step.{step, items_at, run, items_of_end};
 
 use crate::acquiring::acquire;
-use crate::due::Due;
-use crate::group::{is_numbered, read_group};
-use crate::group_part::GroupPart;
-use crate::item::{Group, Item};
-use crate::lock::{BLOCK_PLACES, Lock};
+use crate::follow::{blocks_before, follow, group_so_far, step_of};
+use crate::item::Group;
+use crate::lock::Lock;
 use crate::rules::Rules;
 use crate::state::State;
 use crate::step::Step;
@@ -71,17 +69,7 @@ pub fn finish<T: Tape>(tape: &mut T, rules: &Rules, state: State) -> Option<Grou
     ensures reads { T.reads_made tape.new ≤ T.reads_made tape.old + 3 }
 {
     match state {
-        State::Locked(lock) if lock.number != 1 => {
-            let place = lock.due - BLOCK_PLACES;
-            let heard = tape.window(place);
-            let part = GroupPart {
-                first: lock.first,
-                last: lock.number - 1,
-                place,
-                heard,
-            };
-            Some(read_group(tape, rules, part))
-        }
+        State::Locked(lock) if lock.number != 1 => { Some(group_so_far(tape, rules, lock)) }
         _ => None,
     }
 }
@@ -125,35 +113,7 @@ fn read_due<T: Tape>(tape: &mut T, rules: &Rules, lock: Lock) -> Step
     ensures same { T.signal tape.new ≡ T.signal tape.old }
     ensures reads { T.reads_made tape.new ≤ T.reads_made tape.old + 4 }
 {
-    let heard = tape.window(lock.due);
-    let part = GroupPart {
-        first: lock.first,
-        last: lock.number,
-        place: lock.due,
-        heard,
-    };
-    let place = lock.due + 1;
-    match lock.after(rules.loss(), is_numbered(heard, lock.number)) {
-        Due::Inside(next) => Step {
-            place,
-            state: State::Locked(next),
-            items: [None, None],
-        },
-        Due::Closed(next) => Step {
-            place,
-            state: State::Locked(next),
-            items: [Some(Item::Group(read_group(tape, rules, part))), None],
-        },
-        Due::Lost => {
-            let group = read_group(tape, rules, part);
-            Step {
-                place,
-                state: State::Searching,
-                items: [
-                    Some(Item::Group(group)),
-                    Some(Item::LostLock { place: lock.due }),
-                ],
-            }
-        }
-    }
+    let mut blocks = blocks_before(tape, rules, lock);
+    let due = follow(tape, rules, lock, &mut blocks);
+    step_of(lock, blocks, due)
 }

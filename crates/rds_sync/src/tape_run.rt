@@ -2,12 +2,10 @@
 
 ghost use Rattle.std.specs.Prelude.{◌≡◌, ◌≤◌, ◌<◌, ◌+◌, ◌-◌, ◌*◌, ◌^◌, ◌⊎◌, [], ℕ, None};
 ghost use Rattle.rds_stream.specs.Recording.{length_of};
-ghost use Rattle.rds_sync.specs.Acquiring.{acquired, has_number};
-ghost use Rattle.rds_sync.specs.Groups.{blocks_at};
+ghost use Rattle.rds_sync.specs.Acquiring.{acquired};
 ghost use Rattle.rds_sync.specs.Hop.{IsHop, mark};
 ghost use Rattle.rds_sync.specs.Inside.CountRuns.{IsCountStretch};
-ghost use Rattle.rds_sync.specs.Inside.Locks.{IsInProgress};
-ghost use Rattle.rds_sync.specs.Lawful.{HaveRoom, IsLawful, IsLawfulLock};
+ghost use Rattle.rds_sync.specs.Lawful.{IsLawful, IsLawfulLock};
 ghost use Rattle.rds_sync.specs.Step.{run};
 ghost use Rattle.rds_sync.specs.declared.state.State.TheVariants.{Locked, Searching};
 
@@ -15,15 +13,12 @@ use crate::acquiring::acquire;
 use crate::count_run::add_found;
 use crate::counts::Counts;
 use crate::due::Due;
-use crate::follow::{NO_BLOCKS, is_valid};
-use crate::item::Block;
+use crate::follow::{blocks_before, read_due};
 use crate::laws::items_mark_changes;
-use crate::lock::{BLOCK_PLACES, Lock};
+use crate::lock::Lock;
 use crate::rules::Rules;
 use crate::state::State;
 use crate::words::word_of_blocks;
-use rds_code::laws::{bursts_are_listed, readings_follow_the_rule};
-use rds_code::{BlockNumber, Wanted};
 use rds_stream::Tape;
 
 /// A part of a run: a search up to and including the first place that acquires, or up to `near`; a lock up to and including
@@ -109,9 +104,6 @@ pub(crate) fn keep<T: Tape>(
         ⊎ ((T.reads_made tape.new ≤ T.reads_made tape.old + 4) × (lock.due + 26 ≤ mark result.0 result.1)) }
     ensures same { T.signal tape.new ≡ T.signal tape.old }
 {
-    // The outcome of each reading has a word.
-    bursts_are_listed();
-    readings_follow_the_rule();
     prove!(1 <= rules.reach());
     prove!(to <= tape.len());
     if to <= lock.due {
@@ -137,57 +129,4 @@ pub(crate) fn keep<T: Tape>(
         }
     }
     (to, State::Locked(now))
-}
-
-/// The blocks of the group in progress that were read before.
-fn blocks_before<T: Tape>(tape: &mut T, rules: &Rules, lock: Lock) -> [Block; 4]
-    requires numbers { (1 ≤ lock.first) × (lock.first ≤ lock.number) × (lock.number ≤ 4) }
-    requires start { HaveRoom lock.first lock.number lock.due }
-    requires within { lock.due < length_of (T.signal tape.old) }
-    requires counted { T.reads_made tape.old + 8 ≤ 2 ^ 63 }
-    ensures blocks { IsInProgress (T.signal tape.old) rules.now lock result }
-    ensures reads { T.reads_made tape.new ≤ T.reads_made tape.old + (lock.number - lock.first) }
-    ensures same { T.signal tape.new ≡ T.signal tape.old }
-{
-    let mut blocks = NO_BLOCKS;
-    for number in lock.first..lock.number {
-        let due = lock.due - BLOCK_PLACES * u64::from(lock.number - number);
-        let _ = read_due(
-            tape,
-            rules,
-            Lock {
-                due,
-                number,
-                ..lock
-            },
-            &mut blocks,
-        );
-    }
-    blocks
-}
-
-/// Reads the block that is due into its group, and tells whether it is valid.
-fn read_due<T: Tape>(tape: &mut T, rules: &Rules, lock: Lock, blocks: &mut [Block; 4]) -> bool
-    requires order { (1 ≤ lock.first) × (lock.first ≤ lock.number) × (lock.number ≤ 4) }
-    requires start { HaveRoom lock.first lock.number lock.due }
-    requires within { lock.due < length_of (T.signal tape.old) }
-    requires in_progress { IsInProgress (T.signal tape.old) rules.now lock blocks.old }
-    requires counted { T.reads_made tape.old < 2 ^ 63 }
-    ensures valid { result ≡ has_number (T.signal tape.old) lock.due lock.number }
-    ensures blocks { blocks.new ≡ blocks_at (T.signal tape.old) rules.now lock.first lock.number lock.due }
-    ensures reads { T.reads_made tape.new ≤ T.reads_made tape.old + 1 }
-    ensures same { T.signal tape.new ≡ T.signal tape.old }
-{
-    let wanted = if lock.number == 3 {
-        blocks[1].wanted_beside()
-    } else {
-        Wanted::Either
-    };
-    let Some(number) = BlockNumber::new(lock.number) else {
-        unreachable!()
-    };
-    let reading = rules.read(tape.window(lock.due), number, wanted);
-    let valid = is_valid(&reading);
-    blocks[(lock.number - 1) as usize] = Block::Read(reading);
-    valid
 }

@@ -41,8 +41,8 @@ pub(crate) fn count_whole_groups(
     prove!(to <= reader.recording().len());
     let loss = rules.loss();
     let mut now = lock;
-    while now.due + 3 * BLOCK_PLACES < to {
-        if counts.items() >= most {
+    for _items in counts.items()..most {
+        if to <= now.due + 3 * BLOCK_PLACES {
             break;
         }
         let word = whole_word(reader, rules, now.due);

@@ -2,10 +2,11 @@
 
 ghost use Rattle.std.specs.Prelude.{◌≡◌, ◌≤◌, ◌<◌, map};
 ghost use Rattle.rds_sync.specs.Inside.Outcomes.{outcome_of, was_valid, has_info};
-ghost use Rattle.rds_sync.specs.Inside.Words.{nibble, word_of_blocks, outcome_at};
+ghost use Rattle.rds_sync.specs.Inside.Words.{IsShort, blocks_in, nibble, word_of_blocks, outcome_at};
 
 use crate::item::Block;
 use rds_code::Reading;
+use rds_code::laws::bursts_are_listed;
 
 /// The word of a group of four valid blocks.
 pub(crate) const CLEAN: u16 = 0x1111;
@@ -15,19 +16,26 @@ pub(crate) const CLEAN: u16 = 0x1111;
 pub(crate) fn nibble(block: &Block) -> u16
     ensures value { result ≡ nibble (outcome_of block.now) }
     ensures few { result ≤ 13 }
+    ensures short { IsShort (outcome_of block.now) }
 {
+    // Each burst is in the list of those that have four bits.
+    bursts_are_listed();
     match block {
         Block::Missing => 0,
         Block::Read(Reading::Valid { .. }) => 1,
         Block::Read(Reading::Lost) => 2,
-        Block::Read(Reading::Corrected { burst, .. }) => u16::from(burst.outcome()),
+        Block::Read(Reading::Corrected { burst, .. }) => {
+            prove!(burst.pattern() > 0);
+            u16::from(burst.outcome())
+        }
     }
 }
 
 /// The word of the group of these blocks.
 #[inline(always)]
 pub(crate) fn word_of_blocks(blocks: &[Block; 4]) -> u16
-    ensures { result ≡ word_of_blocks (map outcome_of blocks.now) }
+    ensures word { result ≡ word_of_blocks (map outcome_of blocks.now) }
+    ensures blocks { blocks_in result ≡ map outcome_of blocks.now }
 {
     let [one, two, three, four] = blocks;
     nibble(one) + 16 * (nibble(two) + 16 * (nibble(three) + 16 * nibble(four)))

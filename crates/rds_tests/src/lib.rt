@@ -3,7 +3,7 @@
 //! - `decoder`: the crates that find and read the groups of a recording, up to the crew.
 //! - `rows`: the crate that writes rows made by threads.
 //! - `tool`: the library of the program. Faulty command lines are tried on the built program, by
-//!   `tests/program.sh`.
+//!   `tests/test_program.py`.
 //! - `writer`: a writer over memory, of both.
 #![tactic(auto)]
 

@@ -40,11 +40,11 @@ use Rattle.rds_tool.specs.declared.task.Task.TheVariants as task
 abbrev taken : {A : Type 0} → A → Result A ToolError
 taken a = Ok a
 
-same-ok : {A : Type 0} (a b : A) → taken a ≡ taken b → a ≡ b
+pub same-ok : {A : Type 0} (a b : A) → taken a ≡ taken b → a ≡ b
 same-ok {A = A} a b is = ap (λ (r : Result A ToolError). result_unwrap_or r a) is
 
 -- both steps were taken
-both : {A B : Type 0} (first : Result A ToolError) (step : A → Result B ToolError) (made : B) → and_then first step ≡ Ok made
+pub both : {A B : Type 0} (first : Result A ToolError) (step : A → Result B ToolError) (made : B) → and_then first step ≡ Ok made
     → (a : A) × (first ≡ Ok a) × (step a ≡ Ok made)
 both (Ok a) step made is = (a, refl, is)
 both (Err e) step made is = cc is
@@ -161,10 +161,11 @@ untested : {A : Type 0} (test : Bool) (error : ToolError) (rest : Result A ToolE
 untested true error rest made is = cc is
 untested false error rest made is = (refl, is)
 
-record AreLawful (rules : RuleNumbers) : Type 0 where
-  loss : IsLossRule rules.loss
-  reach : 1 ≤ rules.reach
-  burst : rules.burst ≤ 5
+pub record AreLawful (rules : RuleNumbers) : Type 0 where
+  pub loss : IsLossRule rules.loss
+  pub reach : 1 ≤ rules.reach
+  pub near : rules.reach ≤ 8
+  pub burst : rules.burst ≤ 5
 
 loss_lawful : (asked loss : Loss) → loss_of asked ≡ Ok loss → IsLossRule loss
 loss_lawful (Run n) loss is =
@@ -182,10 +183,11 @@ rules_lawful settings rules is =
     rw (← same-ok _ rules loss.2) (record {
       loss = loss_lawful settings.loss loss.0 loss.1;
       reach = grind (arith, nat_tests, reach.0);
+      near = grind (arith, nat_tests, reach.0);
       burst = grind (arith, nat_tests, burst.0);
     })
 
-plan_lawful : (settings : Settings) (plan : PlanOf) → plan_of settings ≡ Ok plan → AreLawful plan.rules
+pub plan_lawful : (settings : Settings) (plan : PlanOf) → plan_of settings ≡ Ok plan → AreLawful plan.rules
 plan_lawful settings plan is =
     let ruled = both (rules_of settings) _ plan is in
     let made = both (crew_of settings) _ plan ruled.2 in
@@ -193,7 +195,7 @@ plan_lawful settings plan is =
 
 -- ---- lists that were not refused
 
-first_are : (bits : ℕ) (gaps : List (ℕ × ℕ)) (bytes : List ℕ) (recording : Signal) → first_bits bits gaps bytes ≡ Ok recording
+pub first_are : (bits : ℕ) (gaps : List (ℕ × ℕ)) (bytes : List ℕ) (recording : Signal) → first_bits bits gaps bytes ≡ Ok recording
     → record { bits = bits_of bytes bits; gaps = gaps } ≡ recording
 first_are bits gaps bytes recording is =
     let short = untested _ TooLong _ recording is in
@@ -212,14 +214,14 @@ cut_same : (cuts : Cuts) (recording cut : Signal) (fits : Bool) → cond fits (O
 cut_same cuts recording cut true is = same-ok recording cut is
 cut_same cuts recording cut false is = cc is
 
-record IsListOf (input : Input) (settings : Settings) (held listing : List ℕ) : Type 0 where
-  plan : PlanOf
-  recording : Signal
-  planned : plan_of settings ≡ Ok plan
-  recorded : recording_of input held ≡ Ok recording
-  is_listing : listing ≡ list_text plan.rules recording
+pub record IsListOf (input : Input) (settings : Settings) (held listing : List ℕ) : Type 0 where
+  pub plan : PlanOf
+  pub recording : Signal
+  pub planned : plan_of settings ≡ Ok plan
+  pub recorded : recording_of input held ≡ Ok recording
+  pub is_listing : listing ≡ list_text plan.rules recording
 
-list_of : (input : Input) (settings : Settings) (held listing : List ℕ) → result_of_job (job.List input settings) held ≡ Ok listing
+pub list_of : (input : Input) (settings : Settings) (held listing : List ℕ) → result_of_job (job.List input settings) held ≡ Ok listing
     → IsListOf input settings held listing
 list_of input settings held listing is =
     let asked = both (task_of (job.List input settings)) (λ task. text_of_task task held) listing is in

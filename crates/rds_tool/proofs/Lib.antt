@@ -2,6 +2,8 @@ pub mod Options
 pub mod Getters
 pub mod Requests
 pub mod Refusing
+pub mod Decimals
+pub mod GroupRow
 pub mod RowText
 pub mod Encoding
 pub mod Texts
@@ -19,3 +21,7 @@ pub mod Transcribing
 pub mod Passes
 pub mod Tied
 pub mod JobLaws
+pub mod Ordered
+pub mod Alike
+pub mod WellFormed
+pub mod HexDigits

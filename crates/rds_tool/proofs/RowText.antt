@@ -1,6 +1,6 @@
 -- The text that `csv` writes for fields that need no quotes.
-use Rattle.std.proofs.Common.{◌/◌, ◌%◌, ◌||◌, Bool, Option, Some, None, get_or, slice_index, suc, true, zero, ◌++◌, ◌+◌, ◌*◌, ◌<◌, ◌^◌, ◌∙◌, ◌∷◌, ◌≡◌, ◌≤◌, List, [], ap, append-nil, arith, false, leb, length, map, refl, ℕ, Bor}
-use Rattle.std.specs.Prelude.{IfSome, decimal}
+use Rattle.std.proofs.Common.{◌/◌, ◌%◌, ◌||◌, Bool, get_or, slice_index, suc, true, zero, ◌++◌, ◌+◌, ◌*◌, ◌<◌, ◌^◌, ◌∙◌, ◌∷◌, ◌≡◌, ◌≤◌, List, [], ap, append-nil, arith, false, leb, length, map, refl, ℕ, Bor}
+use Rattle.std.specs.Prelude.{decimal}
 use Rattle.std.specs.Char.{digit_value}
 use Rattle.std.specs.List.{AllByRecursion, join_with_byte}
 use Rattle.std.specs.Str.Parse.{AllDigits}
@@ -21,7 +21,9 @@ use Rattle.rds_sync.specs.declared.item.Block.{Block}
 use Rattle.rds_sync.specs.declared.item.Block.TheVariants.{Missing, Read}
 use Rattle.rds_sync.specs.declared.item.Version.{Version}
 use Rattle.rds_sync.specs.declared.item.Version.TheVariants.{A as VA, B as VB, Unknown}
-use Rattle.rds_tool.specs.Listing.{block_text, hex_digits, kind_text, row, version_text, word_text}
+use Rattle.rds_sync.specs.declared.item.Group.{Group as AGroup}
+use Rattle.rds_sync.specs.declared.item.Item.TheVariants.{Group}
+use Rattle.rds_tool.specs.Listing.{block_text, hex_digits, item_fields, item_row, kind_text, row, version_text, word_text}
 use Rattle.rds_tool.specs.Inside.RowWriter.{IsPlain, IsShort}
 
 -- ---- fields without quotes
@@ -113,10 +115,6 @@ block_plain (Read Lost) = refl
 block_plain (Read (Valid o info)) = word_plain o info
 block_plain (Read (Corrected o info burst)) = plain_append (word_text o info) _ (word_plain o info) (hex_plain 7 burst)
 
-pub kind_plain : (kind : Option ℕ) → IfSome kind (λ k. k < 2 ^ 64) → IsPlain (kind_text kind)
-kind_plain None h = refl
-kind_plain (Some k) h = decimal_plain k h
-
 pub version_plain : (v : Version) (conflict : Bool) → IsPlain (version_text v conflict)
 version_plain VA false = refl
 version_plain VA true = refl
@@ -140,6 +138,16 @@ four_blocks (x ∷ []) a b c d n = absurd (omega arith)
 four_blocks (x ∷ y ∷ []) a b c d n = absurd (omega arith)
 four_blocks (x ∷ y ∷ z ∷ []) a b c d n = absurd (omega arith)
 four_blocks (x ∷ y ∷ z ∷ w ∷ v ∷ rest) a b c d n = absurd (omega arith)
+
+blocks_plain : (bs : List Block) → AllByRecursion IsPlain (map block_text bs)
+blocks_plain [] = tt
+blocks_plain (b ∷ bs) = (block_plain b, blocks_plain bs)
+
+-- the row of a group is the record that `csv` writes of its fields
+pub group_record : (g : AGroup) → g.place < 2 ^ 64 → IsPlain (kind_text g.kind) → row_text default_writer (item_fields (Group g)) ≡ item_row (Group g)
+group_record g place kind =
+    plain_row (item_fields (Group g)) (omega arith)
+    (refl, (decimal_plain g.place place, (kind, (version_plain g.version g.conflict, blocks_plain g.blocks))))
 
 -- ---- how long a row is
 

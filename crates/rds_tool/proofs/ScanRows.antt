@@ -1,19 +1,13 @@
 -- The rows of places are those of the valid windows among them.
-use Rattle.std.proofs.Common.{◌+◌, ◌++◌, ◌-◌, ◌∙◌, ◌∷◌, ◌≡◌, ◌<◌, ◌≤◌, List, None, Option, Some, [], ap, ap₂, arith, drop, false, length, map, refl, suc, sym, take, true, zero, ℕ}
+use Rattle.std.proofs.Common.{◌+◌, ◌++◌, ◌-◌, ◌∙◌, ◌∷◌, ◌≡◌, ◌<◌, ◌≤◌, List, None, Option, Some, [], ap, ap₂, arith, drop, length, map, option_map, refl, suc, sym, take, zero, ℕ}
 use Rattle.std.specs.List.{concat, cons_option, filter_map, flat_map, range_with_len}
-use Rattle.std.proofs.lemmas.Bool.{lt-ltb}
 use Rattle.std.proofs.lemmas.List.{append-nil}
 use Rattle.std.proofs.lemmas.List.Folds.{concat-append}
 use Rattle.std.proofs.lemmas.List.FromFn.{length-range_with_len, map-range_with_len_more, take-map-range_with_len}
 use Rattle.rds_code.specs.declared.offset.Offset.{Offset}
-use Rattle.rds_stream.specs.Recording.{Signal, heard, length_of, offset_at, offset_heard, valid_at, valid_windows}
+use Rattle.rds_stream.specs.Recording.{Signal, length_of, offset_at, valid_at, valid_windows}
 use Rattle.rds_tool.specs.Listing.{scan_text, window_row}
 use Rattle.rds_tool.specs.Inside.Rows.{row_where, rows_of_places}
-
--- no window ends before place 25
-pub none_early : (b : Signal) (p : ℕ) → p < 25 → offset_at b p ≡ None
-unfolding offset_at
-none_early b p early = ap (λ t. elim t [ true ↦ None | false ↦ offset_heard (heard b p) ]) (lt-ltb p 25 early)
 
 module _ {X : Type 0} (f : ℕ → X) where
   drop-map-range : (a n k : ℕ) → k ≤ n → drop k (map f (range_with_len a n)) ≡ map f (range_with_len (a + k) (n - k))
@@ -67,6 +61,10 @@ module _ (b : Signal) where
       let all : length_of b ≡ length_of b - 0 = omega arith in
       places_spelled (range_with_len 0 (length_of b)) ∙ ap (λ n. flat_map window_row (filter_map (valid_at b) (range_with_len 0 n))) all
 
+  -- the rows of the places from one to before another
+  abbrev pub so_far : ℕ → ℕ → List ℕ
+  so_far from p = concat (take (p - from) (drop from (rows_of_places b)))
+
   -- one place more
   pub place_more : (from p : ℕ) → from ≤ p → p < length_of b
       → concat (take (p + 1 - from) (drop from (rows_of_places b))) ≡ concat (take (p - from) (drop from (rows_of_places b))) ++ row_where (valid_at b p)
@@ -78,3 +76,18 @@ module _ (b : Signal) where
       ∙ ap (λ n. map f (range_with_len from n)) count ∙ map-range_with_len_more f from (p - from) p last)
       ∙ concat-append (map f (range_with_len from (p - from))) (f p ∷ [])
       ∙ ap₂ (λ s t. s ++ t) (ap concat (sym (part f (length_of b) from p order (omega (arith, inside))))) (append-nil (f p))
+
+  -- a valid window after them
+  pub found_more : (from p : ℕ) (o : Offset) → from ≤ p → p < length_of b → offset_at b p ≡ Some o → so_far from (p + 1) ≡ so_far from p ++ window_row (p, o)
+  found_more from p o order inside is =
+      place_more from p order inside ∙ ap (λ w. so_far from p ++ row_where (option_map (λ x. (p, x)) w)) is
+
+  -- places after them at which no window is valid
+  pub none_more : (from p n : ℕ) → from ≤ p → p + n ≤ length_of b → ((i : ℕ) → p ≤ i → i < p + n → offset_at b i ≡ None) → so_far from (p + n) ≡ so_far from p
+  none_more from p zero order inside none = let same : p + 0 ≡ p = omega arith in ap (so_far from) same
+  none_more from p (suc n) order inside none =
+      let last : p + suc n ≡ p + n + 1 = omega arith in
+      ap (so_far from) last ∙ place_more from (p + n) (omega arith) (omega (arith, inside))
+      ∙ ap (λ w. so_far from (p + n) ++ row_where (option_map (λ x. (p + n, x)) w)) (none (p + n) (omega arith) (omega arith))
+      ∙ append-nil (so_far from (p + n))
+      ∙ none_more from p n order (omega (arith, inside)) (λ i low high. none i low (omega (arith, high)))

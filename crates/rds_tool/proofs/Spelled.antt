@@ -2,7 +2,7 @@
 use Rattle.std.proofs.Common.{◌+◌, ◌++◌, ◌-◌, ◌*◌, ◌∙◌, ◌∷◌, ◌≡◌, ◌<◌, ◌≤◌, Bor, List, [], ap, ap₂, append_assoc, arith, drop, get_or, length, map, min, refl, subst, suc, sym, take, zero, ℕ}
 use Rattle.std.specs.List.{All, AllByRecursion, concat, flat_map, join_with_byte}
 use Rattle.std.proofs.lemmas.Grind.{common_steps, flat_map-append}
-use Rattle.std.proofs.lemmas.List.{append-nil, drop-map, length-take, take_more}
+use Rattle.std.proofs.lemmas.List.{append-nil, drop-map, length-take, take-append-drop, take_more, take_rest}
 use Rattle.std.proofs.lemmas.List.Elements.{All-drop, All-take}
 use Rattle.std.proofs.lemmas.List.Folds.{concat-append}
 use Rattle.rds_tool.specs.Inside.RowWriter.{IsShort}
@@ -91,7 +91,7 @@ short_at (f ∷ fs) zero d h lt = h.0
 short_at (f ∷ fs) (suc i) d h lt = short_at fs i d h.1 (omega arith)
 
 -- one field more, and a comma after it
-pub fields_more : (fs : List (Bor (List ℕ))) (i : ℕ) (d : Bor (List ℕ)) (text : List ℕ) → i < length fs → text ≡ flat_map (λ f. f.now ++ 44 ∷ []) (take i fs)
+fields_more : (fs : List (Bor (List ℕ))) (i : ℕ) (d : Bor (List ℕ)) (text : List ℕ) → i < length fs → text ≡ flat_map (λ f. f.now ++ 44 ∷ []) (take i fs)
     → (text ++ (get_or fs i d).now) ++ 44 ∷ [] ≡ flat_map (λ f. f.now ++ 44 ∷ []) (take (i + 1) fs)
 fields_more fs i d text lt e =
     let with_comma : Bor (List ℕ) → List ℕ = λ f. f.now ++ 44 ∷ [] in
@@ -100,3 +100,27 @@ fields_more fs i d text lt e =
     ∙ ap (λ t. t ++ with_comma field) e
     ∙ sym (ap (flat_map with_comma) (take_more fs i d lt) ∙ flat_map-append with_comma (take i fs) (field ∷ [])
     ∙ ap (λ t. flat_map with_comma (take i fs) ++ t) (append-nil (with_comma field)))
+
+-- the same after other text
+pub fields_after : (fs : List (Bor (List ℕ))) (i : ℕ) (d : Bor (List ℕ)) (old text : List ℕ) → i < length fs → text ≡ old ++ flat_map (λ f. f.now ++ 44 ∷ []) (take i fs)
+    → (text ++ (get_or fs i d).now) ++ 44 ∷ [] ≡ old ++ flat_map (λ f. f.now ++ 44 ∷ []) (take (i + 1) fs)
+fields_after fs i d old text lt e =
+    let before = flat_map (λ (f : Bor (List ℕ)). f.now ++ 44 ∷ []) (take i fs) in
+    let field = get_or fs i d in
+    ap (λ t. (t ++ field.now) ++ 44 ∷ []) e
+    ∙ ap (λ t. t ++ 44 ∷ []) (append_assoc old before field.now)
+    ∙ append_assoc old (before ++ field.now) (44 ∷ [])
+    ∙ ap (λ t. old ++ t) (fields_more fs i d before lt refl)
+
+-- the bytes after the first ones
+pub bytes_after : (before all new : List ℕ) → all ≡ before ++ new → take (length all - length before) (drop (length before) all) ≡ new
+bytes_after before all new e = grind (arith, common_steps, e)
+
+-- the rows of the first of some items, and then those of the rest
+pub rows_more : {X : Type 0} (f : X → List ℕ) (old new page : List ℕ) (left : List X) (count : ℕ) → new ≡ old ++ page → page ≡ flat_map f (take count left)
+    → new ++ flat_map f (take (length left - count) (drop count left)) ≡ old ++ flat_map f left
+rows_more f old new page left count added first =
+    ap (λ r. new ++ flat_map f r) (take_rest left count)
+    ∙ ap (λ t. t ++ flat_map f (drop count left)) (added ∙ ap (λ p. old ++ p) first)
+    ∙ append_assoc old (flat_map f (take count left)) (flat_map f (drop count left))
+    ∙ ap (λ t. old ++ t) (sym (flat_map-append f (take count left) (drop count left)) ∙ ap (flat_map f) (take-append-drop count left))

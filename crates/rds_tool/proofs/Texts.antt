@@ -20,9 +20,9 @@ use Rattle.rds_tool.specs.Outcome.{Writes, WritesPrefix, cut_recording, list_tex
 use Rattle.rds_tool.specs.Plans.{PlanOf, crew_of, cut_by, plan_of, workers_of}
 use Rattle.rds_sync.specs.declared.loss.Loss.{Loss}
 use Rattle.rds_sync.specs.declared.loss.Loss.TheVariants.{Run, Share}
-use Rattle.rds_tool.specs.Refusals.{IsMemoryOrErrOf, IsShortageOrErrOf}
+use Rattle.rds_tool.specs.Refusals.{IsMemoryOrErrOf}
 use Rattle.rds_tool.specs.Rules.{loss_of, rules_of}
-use Rattle.rds_tool.specs.Tasks.{AsksForThreads, MayStartThreads, task_of}
+use Rattle.rds_tool.specs.Tasks.{task_of}
 use Rattle.rds_tool.specs.declared.error.ToolError.{ToolError}
 use Rattle.rds_tool.specs.declared.error.ToolError.TheVariants.{BadCutting, BadGaps, BitsPastBytes, BurstRange, CrewRange, LossRange, NoWorker, OutOfMemory, ReachRange, Read, ShareRange, TooLong, TooManyTurns, Write}
 use Rattle.rds_tool.specs.declared.job.Cuts.{Cuts}
@@ -42,6 +42,9 @@ any_fits : (cuts : Cuts) → cuts_any cuts ≡ true → (n : ℕ) → cuts_bits 
 any_fits (Even pieces) any n = refl
 any_fits (At cuts) any n = cc any
 
+pub any_cut : (cuts : Cuts) → cuts_any cuts ≡ true → (bits : Signal) → cut_by cuts bits ≡ Ok bits
+any_cut cuts any bits = ap (λ (t : Bool). if t then Ok bits else Err BadCutting) (any_fits cuts any (length_of bits))
+
 module _ (input : Input) (plan : PlanOf) (held : List ℕ) (bits : Signal) where
   cut : recording_of input held ≡ Ok bits → cut_by plan.cuts bits ≡ Ok bits → cut_recording input plan.cuts held ≡ Ok bits
   cut recorded fits = ap (λ r. and_then r (cut_by plan.cuts)) recorded ∙ fits
@@ -58,9 +61,7 @@ module _ (input : Input) (plan : PlanOf) (held : List ℕ) (bits : Signal) where
   listed_whole recorded fits = ap (λ r. and_then r (λ b. Ok (list_text plan.rules b))) (cut recorded fits)
 
   pub once_made : recording_of input held ≡ Ok bits → cuts_any plan.cuts ≡ true → text_of_task (task.List input plan) held ≡ Ok (list_text plan.rules bits)
-  once_made recorded any =
-      let fits : cut_by plan.cuts bits ≡ Ok bits = ap (λ (t : Bool). if t then Ok bits else Err BadCutting) (any_fits plan.cuts any (length_of bits)) in
-      listed_whole recorded fits
+  once_made recorded any = listed_whole recorded (any_cut plan.cuts any bits)
 
   -- the text of only its totals
   pub totals_made : (totals : TotalsOf) → recording_of input held ≡ Ok bits → cut_by plan.cuts bits ≡ Ok bits → totals ≡ totals_of (report_items bits plan.rules)
@@ -86,25 +87,19 @@ IsOfOutcome Write = ⊥
 IsOfOutcome TooManyTurns = ⊥
 IsOfOutcome e = Unit {0}
 
--- neither refusal is a device's
+-- a refusal that is neither a device's nor for a thread's sake
 abbrev pub IsInside : ToolError → Type 0
-IsInside e = (e ≢ Read) × (e ≢ Write) × (e ≢ TooManyTurns)
+IsInside e = (e ≢ Read) × (e ≢ Write) × (e ≢ TooManyTurns) × (e ≢ NoWorker)
 
 inside : (e : ToolError) → IsOfOutcome e → IsInside e
-inside e h = (λ p. subst IsOfOutcome p h, λ p. subst IsOfOutcome p h, λ p. subst IsOfOutcome p h)
+inside e h = (λ p. subst IsOfOutcome p h, λ p. subst IsOfOutcome p h, λ p. subst IsOfOutcome p h, λ p. subst IsOfOutcome p h)
 
 memory_inside : (e : ToolError) → e ≡ OutOfMemory → IsInside e
 memory_inside e m = (
   λ p. let bad : OutOfMemory ≡ Read = sym m ∙ p in cc bad,
   λ p. let bad : OutOfMemory ≡ Write = sym m ∙ p in cc bad,
   λ p. let bad : OutOfMemory ≡ TooManyTurns = sym m ∙ p in cc bad,
-)
-
-threads_inside : (e : ToolError) → e ≡ NoWorker → IsInside e
-threads_inside e m = (
-  λ p. let bad : NoWorker ≡ Read = sym m ∙ p in cc bad,
-  λ p. let bad : NoWorker ≡ Write = sym m ∙ p in cc bad,
-  λ p. let bad : NoWorker ≡ TooManyTurns = sym m ∙ p in cc bad,
+  λ p. let bad : OutOfMemory ≡ NoWorker = sym m ∙ p in cc bad,
 )
 
 module _ {A B : Type 0} where
@@ -164,18 +159,10 @@ task_errs (task.Encode hex) held = lines_errs hex (lines_of held)
 of_bytes : (t : Task) (held : List ℕ) (e : ToolError) → text_of_task t held ≡ Err e → IsOfOutcome e
 of_bytes t held e q = let P : Result (List ℕ) ToolError → Type 0 = λ r. IfErr r IsOfOutcome in subst P q (task_errs t held)
 
--- only in this case a thread is not started
-pub started : (X : Type 0) (t : Task) (held : List ℕ) (e : ToolError) → IsShortageOrErrOf X (text_of_task t held) e → e ≡ NoWorker → X
-started X t held e (inl m) p = let bad : OutOfMemory ≡ NoWorker = sym m ∙ p in cc bad
-started X t held e (inr (inl h)) p = h.1
-started X t held e (inr (inr q)) p = absurd (subst IsOfOutcome p (of_bytes t held e q))
-
--- a text is refused because memory or threads were refused, or for its bytes
-pub refused_inside : (X : Type 0) (t : Task) (held : List ℕ) (e : ToolError)
-    → IsShortageOrErrOf X (text_of_task t held) e → IsInside e
-refused_inside X t held e (inl m) = memory_inside e m
-refused_inside X t held e (inr (inl h)) = threads_inside e h.0
-refused_inside X t held e (inr (inr p)) = inside e (of_bytes t held e p)
+-- a text is refused because memory was refused, or for its bytes
+pub refused_inside : (t : Task) (held : List ℕ) (e : ToolError) → IsMemoryOrErrOf (text_of_task t held) e → IsInside e
+refused_inside t held e (inl m) = memory_inside e m
+refused_inside t held e (inr p) = inside e (of_bytes t held e p)
 
 loss_errs : (loss : Loss) → IfErr (loss_of loss) IsOfOutcome
 loss_errs (Run n) = by_test (nat_lt n 1 || nat_lt 64 n) where
@@ -220,16 +207,15 @@ settings_errs (Totals input settings) = then_errs IsOfOutcome (plan_of settings)
 settings_errs (Encode hex) = tt
 
 -- settings are refused because memory was refused, or as such
-pub settings_inside : (job : Job) (e : ToolError) → IsMemoryOrErrOf (task_of job) e → IsInside e × (e ≢ NoWorker)
-settings_inside job e (inl m) = (memory_inside e m, λ p. let bad : OutOfMemory ≡ NoWorker = sym m ∙ p in cc bad)
-settings_inside job e (inr q) =
-    let P : Result Task ToolError → Type 0 = λ r. IfErr r IsOfOutcome in
-    let h : IsOfOutcome e = subst P q (settings_errs job) in (inside e h, λ p. subst IsOfOutcome p h)
+pub settings_inside : (job : Job) (e : ToolError) → IsMemoryOrErrOf (task_of job) e → IsInside e
+settings_inside job e (inl m) = memory_inside e m
+settings_inside job e (inr q) = let P : Result Task ToolError → Type 0 = λ r. IfErr r IsOfOutcome in inside e (subst P q (settings_errs job))
 
 -- what a refusal that is no device's is not
 pub passed_inside : {T : Type 0} (r : Result T ToolError) (e : ToolError) → r ≡ Err e → IsInside e
-    → (r ≢ Err Read) × (r ≢ Err Write) × (r ≢ Err TooManyTurns)
-passed_inside r e p h = (λ q. h.0 (passed_kind r e Read p q), λ q. h.1 (passed_kind r e Write p q), λ q. h.2 (passed_kind r e TooManyTurns p q))
+    → (r ≢ Err Read) × (r ≢ Err Write) × (r ≢ Err TooManyTurns) × (r ≢ Err NoWorker)
+passed_inside r e p h =
+    (λ q. h.0 (passed_kind r e Read p q), λ q. h.1 (passed_kind r e Write p q), λ q. h.2 (passed_kind r e TooManyTurns p q), λ q. h.3 (passed_kind r e NoWorker p q))
 
 -- a call that succeeded counted no failure
 pub no_failure : {T X : Type 0} (x : T) (a b : ℕ) → let r : Result T ToolError = Ok x in (r ≡ Err Read ↔ a < b) → a < b → X
@@ -238,33 +224,6 @@ no_failure x a b h q = cc (h.1 q)
 -- what was not called counted none
 pub not_called : {X : Type 0} (n : ℕ) → n < n → X
 not_called n h = absurd (omega arith)
-
--- ---- the threads
-
-module _ {A B : Type 0} (Q : A → Type 0) (P : B → Type 0) (step : A → Result B ToolError) where
-  then_oks : (r : Result A ToolError) → IfOk r Q → ((x : A) → Q x → IfOk (step x) P) → IfOk (and_then r step) P
-  then_oks (Ok x) h k = k x h
-  then_oks (Err e) h k = tt
-
-any_ok : {A : Type 0} (r : Result A ToolError) → IfOk r (λ _. Unit {0})
-any_ok (Ok x) = tt
-any_ok (Err e) = tt
-
--- a plan has the workers of its settings
-planned : (settings : Settings) → IfOk (plan_of settings) (λ plan. plan.workers ≡ settings.workers)
-planned settings =
-    then_oks _ _ _ (rules_of settings) (any_ok (rules_of settings))
-    (λ rules _. then_oks _ _ _ (crew_of settings) (any_ok (crew_of settings)) (λ _ _. refl))
-
-asks : (job : Job) → IfOk (task_of job) (λ t. MayStartThreads t → AsksForThreads job)
-asks (Scan input workers) = then_oks _ _ _ (workers_of workers) (any_ok (workers_of workers)) (λ workers _ h. h)
-asks (ListJob input settings) = then_oks _ _ _ (plan_of settings) (planned settings) (λ plan same h. subst (λ n. 1 < n) same h)
-asks (Totals input settings) = then_oks _ _ _ (plan_of settings) (planned settings) (λ plan same h. subst (λ n. 1 < n) same h)
-asks (Encode hex) = λ h. h
-
--- a task that may start threads is of a job that asks for them
-pub asked : (job : Job) (t : Task) → task_of job ≡ Ok t → MayStartThreads t → AsksForThreads job
-asked job t p = let P : Result Task ToolError → Type 0 = λ r. IfOk r (λ t. MayStartThreads t → AsksForThreads job) in subst P p (asks job)
 
 -- ---- the outcome
 

@@ -7,8 +7,8 @@ use Rattle.rds_rows.specs.declared.sink.Sink.{Ghosts as Sink}
 use Rattle.rds_tool.specs.History.{Gave}
 use Rattle.rds_tool.specs.Input.{and_then}
 use Rattle.rds_tool.specs.Outcome.{IsOutside, Writes, WritesPrefix, result_of_job, text_of_task}
-use Rattle.rds_tool.specs.Refusals.{IsMemoryOrErrOf, IsShortageOrErrOf}
-use Rattle.rds_tool.specs.Tasks.{MayStartThreads, task_of}
+use Rattle.rds_tool.specs.Refusals.{IsMemoryOrErrOf}
+use Rattle.rds_tool.specs.Tasks.{task_of}
 use Rattle.rds_tool.specs.Transcribed.{IsTranscribed}
 use Rattle.rds_tool.specs.declared.devices.Source.{Ghosts as Source}
 use Rattle.rds_tool.specs.declared.error.ToolError.{ToolError}
@@ -17,8 +17,8 @@ use Rattle.rds_tool.specs.declared.job.Job.{Job}
 use Rattle.rds_tool.specs.declared.task.Task.{Task}
 use Rattle.rds_tool.proofs.Followed.{no_such, not_told, of_call, on_any_ok, told_on}
 use Rattle.rds_tool.proofs.Histories.{of_none}
-use Rattle.rds_tool.proofs.Passing.{no_err, no_ok, passed_kind}
-use Rattle.rds_tool.proofs.Texts.{asked, not_called, passed_inside, prefix_is, refused_inside, settings_inside, started, written_is}
+use Rattle.rds_tool.proofs.Passing.{no_err, no_ok}
+use Rattle.rds_tool.proofs.Texts.{not_called, passed_inside, prefix_is, refused_inside, settings_inside, written_is}
 
 -- a refusal of settings is one of the job
 task_refused : (job : Job) (remaining : Option (List ℕ)) (e : ToolError) → IsMemoryOrErrOf (task_of job) e
@@ -27,13 +27,12 @@ task_refused job remaining e (inl memory) = inl (inl memory)
 task_refused job None e (inr refused) = inr tt
 task_refused job (Some held) e (inr refused) = inr (ap (λ r. and_then r (λ task. text_of_task task held)) refused)
 
--- so is one of the bytes, but for refused memory or a refused thread
-text_refused : (X : Type 0) (job : Job) (task : Task) (remaining : Option (List ℕ)) (held : List ℕ) (e : ToolError) → task_of job ≡ Ok task
-    → IfSome remaining (λ bytes. held ≡ bytes) → IsShortageOrErrOf X (text_of_task task held) e → IsOutside e ⊎ IfSome remaining (λ bytes. result_of_job job bytes ≡ Err e)
-text_refused X job task remaining held e is same (inl memory) = inl (inl memory)
-text_refused X job task remaining held e is same (inr (inl threads)) = inl (inr (inl threads.0))
-text_refused X job task None held e is same (inr (inr refused)) = inr tt
-text_refused X job task (Some bytes) held e is same (inr (inr refused)) =
+-- so is one of the bytes, but for refused memory
+text_refused : (job : Job) (task : Task) (remaining : Option (List ℕ)) (held : List ℕ) (e : ToolError) → task_of job ≡ Ok task
+    → IfSome remaining (λ bytes. held ≡ bytes) → IsMemoryOrErrOf (text_of_task task held) e → IsOutside e ⊎ IfSome remaining (λ bytes. result_of_job job bytes ≡ Err e)
+text_refused job task remaining held e is same (inl memory) = inl (inl memory)
+text_refused job task None held e is same (inr refused) = inr tt
+text_refused job task (Some bytes) held e is same (inr refused) =
     inr (ap (λ r. and_then r (λ (t : Task). text_of_task t bytes)) is ∙ (ap (λ b. text_of_task task b) (sym same) ∙ refused))
 
 -- the same of the bytes that were given, of which there are none before the settings are looked at
@@ -44,27 +43,26 @@ task_refused_by : (job : Job) (given : List ℕ) (ended : Bool) (e : ToolError) 
 task_refused_by job given ended e (inl memory) = inl (inl memory)
 task_refused_by job given ended e (inr refused) = inr ([], sym (append-nil given), (ap (λ r. and_then r (λ task. text_of_task task [])) refused, inl refused))
 
-text_refused_by : (X : Type 0) (job : Job) (task : Task) (given given' held : List ℕ) (ended : Bool) (e : ToolError) → task_of job ≡ Ok task → given' ≡ given ++ held
-    → ended ≡ true → IsShortageOrErrOf X (text_of_task task held) e → Refused job given given' ended e
-text_refused_by X job task given given' held ended e is gave done (inl memory) = inl (inl memory)
-text_refused_by X job task given given' held ended e is gave done (inr (inl threads)) = inl (inr (inl threads.0))
-text_refused_by X job task given given' held ended e is gave done (inr (inr refused)) =
+text_refused_by : (job : Job) (task : Task) (given given' held : List ℕ) (ended : Bool) (e : ToolError) → task_of job ≡ Ok task → given' ≡ given ++ held
+    → ended ≡ true → IsMemoryOrErrOf (text_of_task task held) e → Refused job given given' ended e
+text_refused_by job task given given' held ended e is gave done (inl memory) = inl (inl memory)
+text_refused_by job task given given' held ended e is gave done (inr refused) =
     inr (held, gave, (ap (λ r. and_then r (λ (t : Task). text_of_task t held)) is ∙ refused, inr done))
 
 -- one of the reader is a device's, or for want of memory
 outside_of_read : (e : ToolError) → (e ≡ OutOfMemory) ⊎ ((e ≡ Read) ⊎ (e ≡ TooManyTurns)) → IsOutside e
 outside_of_read e (inl memory) = inl memory
-outside_of_read e (inr (inl read)) = inr (inr (inl read))
-outside_of_read e (inr (inr turns)) = inr (inr (inr (inr turns)))
+outside_of_read e (inr (inl read)) = inr (inl read)
+outside_of_read e (inr (inr turns)) = inr (inr (inr turns))
 
 -- and one of the writer is a device's
 write_refused : {T : Type 0} (P : ToolError → Type 0) (r : Result T ToolError) → IfErr r (λ e. (e ≡ OutOfMemory) ⊎ (e ≡ Write)) → IfErr r (λ e. IsOutside e ⊎ P e)
 write_refused P (Ok x) kinds = tt
 write_refused P (Err e) (inl memory) = inl (inl memory)
-write_refused P (Err e) (inr write) = inl (inr (inr (inr (inl write))))
+write_refused P (Err e) (inr write) = inl (inr (inr (inl write)))
 
 -- the error of such a write is `OutOfMemory` or `Write`, and no other
-pub writer_alone : {T X : Type 0} (r : Result T ToolError) (k : ToolError) → ((k ≡ OutOfMemory) ⊎ (k ≡ Write) → X) → IfErr r (λ e. (e ≡ OutOfMemory) ⊎ (e ≡ Write)) → r ≡ Err k → X
+writer_alone : {T X : Type 0} (r : Result T ToolError) (k : ToolError) → ((k ≡ OutOfMemory) ⊎ (k ≡ Write) → X) → IfErr r (λ e. (e ≡ OutOfMemory) ⊎ (e ≡ Write)) → r ≡ Err k → X
 writer_alone {T} r k other kinds p = other (subst (λ (x : Result T ToolError). IfErr x (λ e. (e ≡ OutOfMemory) ⊎ (e ≡ Write))) p kinds)
 
 no_read : {X : Type 0} → (Read ≡ OutOfMemory) ⊎ (Read ≡ Write) → X
@@ -75,7 +73,7 @@ no_turns : {X : Type 0} → (TooManyTurns ≡ OutOfMemory) ⊎ (TooManyTurns ≡
 no_turns (inl p) = cc p
 no_turns (inr p) = cc p
 
-pub no_thread : {X : Type 0} → (NoWorker ≡ OutOfMemory) ⊎ (NoWorker ≡ Write) → X
+no_thread : {X : Type 0} → (NoWorker ≡ OutOfMemory) ⊎ (NoWorker ≡ Write) → X
 no_thread (inl p) = cc p
 no_thread (inr p) = cc p
 
@@ -103,8 +101,7 @@ module _ {R W : Type 0} (source : Source R) (sink : Sink W) (job : Job) (reader 
   pub at_settings : (e : ToolError) → r ≡ Err e → IsMemoryOrErrOf (task_of job) e → IfErr (task_of job) (λ x. let made : Result Task ToolError = Err e in made ≡ Err x)
       → IsTranscribed source sink job reader reader writer writer r
   at_settings e same refused settings =
-      let both = settings_inside job e refused in
-      let inside = passed_inside r e same both.0 in
+      let inside = passed_inside r e same (settings_inside job e refused) in
       record {
         end = no_ok _ _ _ same;
         ok = no_ok _ _ _ same;
@@ -114,7 +111,7 @@ module _ {R W : Type 0} (source : Source R) (sink : Sink W) (job : Job) (reader 
         read = (λ p. absurd (inside.0 p), not_called _);
         write = (λ p. absurd (inside.1 p), not_called _);
         turns = λ p. absurd (inside.2 p);
-        no_worker = λ p. absurd (both.1 (passed_kind r e NoWorker same p));
+        no_worker = inside.3;
         refused = on_err _ r e same (task_refused job (source.remaining reader) e refused);
         turned = λ p. absurd (inside.2 p);
         refused_by = on_err _ r e same (task_refused_by job (source.given reader) (source.has_ended reader) e refused);
@@ -160,9 +157,9 @@ module _ {R W : Type 0} (source : Source R) (sink : Sink W) (job : Job) (reader 
       (gave : source.given reader' ≡ source.given reader ++ held) (done : source.has_ended reader' ≡ true)
       (fine : source.failed reader < source.failed reader' → ⊥) where
     -- its bytes are refused
-    pub at_bytes : (e : ToolError) → r ≡ Err e → IsShortageOrErrOf (MayStartThreads task) (text_of_task task held) e → IsTranscribed source sink job reader reader' writer writer r
+    pub at_bytes : (e : ToolError) → r ≡ Err e → IsMemoryOrErrOf (text_of_task task held) e → IsTranscribed source sink job reader reader' writer writer r
     at_bytes e same refused =
-        let inside = passed_inside r e same (refused_inside (MayStartThreads task) task held e refused) in
+        let inside = passed_inside r e same (refused_inside task held e refused) in
         record {
           end = no_ok _ _ _ same;
           ok = no_ok _ _ _ same;
@@ -172,10 +169,10 @@ module _ {R W : Type 0} (source : Source R) (sink : Sink W) (job : Job) (reader 
           read = (λ p. absurd (inside.0 p), λ q. absurd (fine q));
           write = (λ p. absurd (inside.1 p), not_called _);
           turns = λ p. absurd (inside.2 p);
-          no_worker = λ p. asked job task is (started (MayStartThreads task) task held e refused (passed_kind r e NoWorker same p));
-          refused = on_err _ r e same (text_refused (MayStartThreads task) job task (source.remaining reader) held e is all refused);
+          no_worker = inside.3;
+          refused = on_err _ r e same (text_refused job task (source.remaining reader) held e is all refused);
           turned = λ p. absurd (inside.2 p);
-          refused_by = on_err _ r e same (text_refused_by (MayStartThreads task) job task _ _ held _ e is gave done refused);
+          refused_by = on_err _ r e same (text_refused_by job task _ _ held _ e is gave done refused);
           settings = no_err _ _ _ is;
           untouched = on_err _ r e same (λ other. refl);
           prefix = λ p. absurd (inside.1 p);

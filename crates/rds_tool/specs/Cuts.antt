@@ -1,6 +1,7 @@
 -- Cuttings of a recording, as settings name them: this project's rule. `Plans` and `Outcome` refuse by it any
 -- other places, and so does `transcribe`.
 use Rattle.std.specs.Prelude.{◌&&◌, ◌++◌, ◌∷◌, ℕ, Bool, List, [], false, nat_le, nat_lt, suc, true, zero}
+use Rattle.rds_pieces.specs.Cutting.{even_places}
 use Rattle.rds_tool.specs.declared.job.Cuts.{Cuts}
 use Rattle.rds_tool.specs.declared.job.Cuts.TheVariants.{At, Even}
 
@@ -19,6 +20,11 @@ are_inner (suc n) cuts = rise_between 0 cuts (suc n)
 abbrev pub places_at : ℕ → List ℕ → List ℕ
 places_at zero cuts = 0 ∷ cuts
 places_at (suc n) cuts = 0 ∷ cuts ++ suc n ∷ []
+
+-- the places of the cutting of n bits: equal pieces, except the last, or those between the given cuts
+abbrev pub places_by : Cuts → ℕ → List ℕ
+places_by (Even pieces) n = even_places n pieces
+places_by (At cuts) n = places_at n cuts.items
 
 -- it asks for one piece or more, if it says how many
 abbrev pub has_pieces : Cuts → Bool

@@ -1,4 +1,5 @@
 -- Specs that only the bodies of this crate cite, and no contract of a public function.
+pub mod Digits
 pub mod RowWriter
 pub mod Rows
 pub mod Streams

@@ -16,5 +16,6 @@ pub mod Transcribed
 pub mod Ends
 pub mod Following
 pub mod Laws
+pub mod WellFormed
 pub mod Inside
 pub mod Examples

@@ -14,7 +14,7 @@ use Rattle.rds_tool.specs.Listing.{report_text, scan_text, totals_text}
 use Rattle.rds_tool.specs.Plans.{cut_by}
 use Rattle.rds_tool.specs.Tasks.{task_of}
 use Rattle.rds_tool.specs.declared.error.ToolError.{ToolError}
-use Rattle.rds_tool.specs.declared.error.ToolError.TheVariants.{NoWorker, OutOfMemory, Read, TooManyTurns, Write}
+use Rattle.rds_tool.specs.declared.error.ToolError.TheVariants.{OutOfMemory, Read, TooManyTurns, Write}
 use Rattle.rds_tool.specs.declared.job.Cuts.{Cuts}
 use Rattle.rds_tool.specs.declared.job.Input.{Input}
 use Rattle.rds_tool.specs.declared.job.Job.{Job}
@@ -46,7 +46,7 @@ result_of_job job held = and_then (task_of job) (λ task. text_of_task task held
 
 -- the refusals that the job and the bytes don't decide
 abbrev pub IsOutside : ToolError → Type 0
-IsOutside e = (e ≡ OutOfMemory) ⊎ ((e ≡ NoWorker) ⊎ ((e ≡ Read) ⊎ ((e ≡ Write) ⊎ (e ≡ TooManyTurns))))
+IsOutside e = (e ≡ OutOfMemory) ⊎ ((e ≡ Read) ⊎ ((e ≡ Write) ⊎ (e ≡ TooManyTurns)))
 
 -- the whole text was added to the writer's bytes; if the outcome is a refusal, this can't be
 abbrev pub Writes : Option (List ℕ) → Option (List ℕ) → Result (List ℕ) ToolError → Type 0

@@ -1,5 +1,5 @@
--- The numbers and names of the refusals; which of them a refusal of a layer below is; when refused memory or
--- a refused thread is one: this project's rule. `ToolError::number` and `name` answer the first two.
+-- The numbers and names of the refusals; which of them a refusal of a layer below is; when refused memory is
+-- one: this project's rule. `ToolError::number` and `name` answer the first two.
 use Rattle.std.specs.Prelude.{◌≡◌, ◌⊎◌, ℕ, Err, List, Result, codes}
 use Rattle.rds_crew.specs.declared.error.CrewError.{CrewError}
 use Rattle.rds_crew.specs.declared.error.CrewError.TheVariants as crew
@@ -82,11 +82,3 @@ of_rows rows.Write = Write
 -- memory was refused, or the error is that of the wanted result
 abbrev pub IsMemoryOrErrOf : {T : Type 0} → Result T ToolError → ToolError → Type 0
 IsMemoryOrErrOf wanted error = (error ≡ OutOfMemory) ⊎ (wanted ≡ Err error)
-
--- the same, or a thread was not started, if there may be some
-abbrev pub IsShortageOrErrOf : {T : Type 0} → Type 0 → Result T ToolError → ToolError → Type 0
-IsShortageOrErrOf threads wanted error = (error ≡ OutOfMemory) ⊎ (((error ≡ NoWorker) × threads) ⊎ (wanted ≡ Err error))
-
--- memory was refused, which it may be only in this case
-abbrev pub IsMemoryWhere : Type 0 → ToolError → Type 0
-IsMemoryWhere may_be error = (error ≡ OutOfMemory) × may_be

@@ -1,6 +1,5 @@
--- A job whose settings are in their ranges, and which jobs ask for threads: this project's rule. `transcribe` cites both, by
--- `IsTranscribed`.
-use Rattle.std.specs.Prelude.{◌<◌, Ok, Result}
+-- A job whose settings are in their ranges: this project's rule. `transcribe` cites it, by `IsTranscribed`.
+use Rattle.std.specs.Prelude.{Ok, Result}
 use Rattle.rds_tool.specs.Input.{and_then}
 use Rattle.rds_tool.specs.Plans.{plan_of, workers_of}
 use Rattle.rds_tool.specs.declared.error.ToolError.{ToolError}
@@ -15,15 +14,3 @@ task_of (job.Scan input workers) = and_then (workers_of workers) (λ workers. Ok
 task_of (job.List input settings) = and_then (plan_of settings) (λ plan. Ok (task.List input plan))
 task_of (job.Totals input settings) = and_then (plan_of settings) (λ plan. Ok (task.Totals input plan))
 task_of (job.Encode hex) = Ok (task.Encode hex)
-
--- more workers are asked for than one, and a thread that isn't started is a refusal: a scan goes on without it
-abbrev pub AsksForThreads : Job → Type 0
-AsksForThreads (job.List input settings) = 1 < settings.workers
-AsksForThreads (job.Totals input settings) = 1 < settings.workers
-AsksForThreads other = ⊥
-
--- more than one worker may be started, each of which is needed
-abbrev pub MayStartThreads : Task → Type 0
-MayStartThreads (task.List input plan) = 1 < plan.workers
-MayStartThreads (task.Totals input plan) = 1 < plan.workers
-MayStartThreads other = ⊥

@@ -5,7 +5,7 @@ use Rattle.std.specs.Io.KnownBytes.{Consumes, IsAtEnd}
 use Rattle.rds_rows.specs.declared.sink.Sink.{Ghosts as Sink}
 use Rattle.rds_tool.specs.History.{Gave}
 use Rattle.rds_tool.specs.Outcome.{IsOutside, Writes, WritesPrefix, result_of_job}
-use Rattle.rds_tool.specs.Tasks.{AsksForThreads, task_of}
+use Rattle.rds_tool.specs.Tasks.{task_of}
 use Rattle.rds_tool.specs.declared.devices.Source.{Ghosts as Source}
 use Rattle.rds_tool.specs.declared.error.ToolError.{ToolError}
 use Rattle.rds_tool.specs.declared.error.ToolError.TheVariants.{NoWorker, Read, TooManyTurns, Write}
@@ -26,12 +26,12 @@ pub record IsTranscribed {R W : Type 0} (source : Source R) (sink : Sink W) (job
   pub ended : OnOk result (source.has_ended reader' ≡ true)
   pub flushed : OnOk result (sink.is_flushed writer' ≡ true)
   -- a refusal for a device's sake comes exactly if one failed; one for the number of reads only if as many
-  -- bytes were read; one for a thread's only if there may be some; another is that of the job
+  -- bytes were read; one for a thread's never; another is that of the job
   pub read : IsErrOf result Read ↔ (source.failed reader < source.failed reader')
   pub write : IsErrOf result Write ↔ (sink.failed writer < sink.failed writer')
   pub turns : IsErrOf result TooManyTurns
       → (more : List ℕ) × Consumes (source.remaining reader) (source.remaining reader') more × (16777216 ≤ length more)
-  pub no_worker : IsErrOf result NoWorker → AsksForThreads job
+  pub no_worker : IsErrOf result NoWorker → ⊥
   pub refused : IfErr result (λ error. IsOutside error
       ⊎ IfSome (source.remaining reader) (λ held. result_of_job job held ≡ Err error))
   -- at every device: as many bytes were given, or the refusal is that of the job and the bytes given, to the reader's end

@@ -5,12 +5,10 @@ ghost use Rattle.rds_tool.specs.History.{Gave};
 ghost use Rattle.rds_tool.specs.Tasks.{task_of};
 ghost use Rattle.rds_tool.specs.Transcribed.{IsTranscribed};
 
-use crate::alone::transcribe_alone;
 use crate::task::Task;
-use crate::{Cuts, Failed, Job, Sink, Source, ToolError};
+use crate::{Failed, Job, Sink, Source, ToolError};
 use rds_crew::{Gate, OpenGate};
 use std::alloc::{AllocError, Global};
-use std::sync::Wait;
 use std::thread::Threads;
 
 /// How many reads may give bytes before the end comes.
@@ -30,15 +28,14 @@ const CHUNK: usize = 65_536;
 /// Refusals come in this order: those of the settings (`BurstRange`, `ReachRange`, `LossRange` or by the
 /// share `ShareRange`, `CrewRange`, and `BadCutting` for no piece), before anything is read; those of the
 /// reader (`Read`, `TooManyTurns`); those of the job and the bytes (`HexText`, `TooLong`, `BitsPastBytes`,
-/// `BadGaps`, `BadCutting`, or `GroupText`); `NoWorker`, if more than one worker is asked for and the system
-/// refused to start a thread; and those of the writer (`Write`). `OutOfMemory` may come wherever memory is
-/// taken. The rows of a list are made by as many threads as well, part by part while they are written. A
-/// thread that the system refuses is done without. The items are decoded again when their rows are made, or
-/// by one worker only then, so that the recording is held until then. All room that can be refused and all
-/// threads are taken before the first byte is written, and no thread outlives the call. Reader and writer
-/// have counted fewer than 2^63 failures before. Each promise is a field of `IsTranscribed`
-/// (`specs/Transcribed.antt`).
-pub fn transcribe<R: Threads + Wait + Sync, S: Source, K: Sink>(
+/// `BadGaps`, `BadCutting`, or `GroupText`); and those of the writer (`Write`). `OutOfMemory` may come
+/// wherever memory is taken. The rows of a list are made by as many threads as well, part by part while they
+/// are written. A thread that the system refuses is done without. The items are decoded again when their
+/// rows are made, or by one worker only then, so that the recording is held until then. All room that can be
+/// refused is taken before the first byte is written. No thread outlives the call, which returns if those of
+/// reader and writer do. They have counted fewer than 2^63 failures before. Each promise is a field of
+/// `IsTranscribed` (`specs/Transcribed.antt`).
+pub fn transcribe<R: Threads + Sync, S: Source, K: Sink>(
     rt: &R,
     alloc: Global,
     reader: &mut S,
@@ -49,28 +46,14 @@ pub fn transcribe<R: Threads + Wait + Sync, S: Source, K: Sink>(
     requires writes { K.failed writer.old < 2 ^ 63 }
     ensures { IsTranscribed S.Source K.Sink job.now reader.old reader.new writer.old writer.new result }
 {
-    if is_for_one(job) {
-        return transcribe_alone(alloc, reader, writer, job);
-    }
     transcribe_gated(rt, alloc, reader, writer, job, &OpenGate)
 }
 
-/// Whether one worker does the whole job by itself: no more are asked for, and no cut is asked for by its place.
-fn is_for_one(job: &Job) -> bool {
-    match job {
-        Job::Scan(_, workers) => *workers == 1,
-        Job::List(_, settings) | Job::Totals(_, settings) => match settings.cuts {
-            Cuts::Even(_) => settings.workers == 1,
-            Cuts::At(_) => false,
-        },
-        Job::Encode { .. } => true,
-    }
-}
-
 /// [`transcribe`] with a gate, which the crew of a list or of totals calls round each piece and each join, also
-/// if there is one worker. If the gate wants no calls and no cut is asked for by its place, a list by one worker
-/// has no crew: its rows are written while it is decoded, in one piece.
-pub fn transcribe_gated<R: Threads + Wait + Sync, S: Source, K: Sink, G: Gate + Sync>(
+/// if there is one worker. If the gate wants no calls, a small recording has work for fewer workers than are
+/// asked for. If that is one and no cut is asked for by its place, there is no crew: the recording is decoded
+/// in one piece, and the rows of a list are written meanwhile.
+pub fn transcribe_gated<R: Threads + Sync, S: Source, K: Sink, G: Gate + Sync>(
     rt: &R,
     alloc: Global,
     reader: &mut S,
@@ -87,7 +70,7 @@ pub fn transcribe_gated<R: Threads + Wait + Sync, S: Source, K: Sink, G: Gate + 
 }
 
 /// The same of a job whose settings were looked at.
-fn transcribe_task<R: Threads + Wait + Sync, S: Source, K: Sink, G: Gate + Sync>(
+fn transcribe_task<R: Threads + Sync, S: Source, K: Sink, G: Gate + Sync>(
     rt: &R,
     alloc: Global,
     reader: &mut S,

@@ -53,7 +53,7 @@ pub enum ToolError {
     /// The reader gave bytes 16,777,216 times, and no end had come.
     #[error("the input has no end")]
     TooManyTurns,
-    /// The system refused to start a thread.
+    /// Never answered: a job goes on without a thread that the system refuses.
     #[error("a thread was not started")]
     NoWorker,
     /// The share is not 1 ≤ bad ≤ of ≤ 64.

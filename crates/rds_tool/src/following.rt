@@ -9,14 +9,12 @@ ghost use Rattle.rds_sync.specs.Totals.{totals_of};
 ghost use Rattle.rds_tool.specs.Following.{AllCount, EndsShort, IsLong, IsReadAsFar, IsTooLong, MayBreakEarly, MayBreakOff, StopsBetweenRows, StopsInRows, BreaksOff, IsFlushedAfter, IsHeardOut, listed, rows_so_far};
 ghost use Rattle.rds_tool.specs.History.{Gave};
 ghost use Rattle.rds_tool.specs.Input.{claimed};
-ghost use Rattle.rds_tool.specs.Inside.RowWriter.{IsBetween, text_of};
 ghost use Rattle.rds_tool.specs.Inside.Streams.{IsFollowed, IsNearAnswer, IsNearEnd, IsPlaceOf, IsShortEnough, bits_left as the_bits_left};
 ghost use Rattle.rds_tool.specs.Listing.{item_row, report_text, totals_text};
 ghost use Rattle.rds_tool.specs.Outcome.{Writes, WritesPrefix};
 
-use crate::fields::{push_item, totals_with_names};
-use crate::listing::{push_items, push_named};
-use crate::rows::{CsvRows, rows_in_room, text_of_rows};
+use crate::listing::{push_items, push_totals};
+use crate::rows::RowWriter;
 use crate::text::write_flushed;
 use crate::{Failed, Sink, Source, ToolError};
 use rds_live::{MOST_ITEMS, StreamDecoder, StreamEnd};
@@ -140,13 +138,21 @@ fn follow_bytes<'r, S: Source, K: Sink>(
     prove!(1 <= rules.reach());
     laws::runs_are_reports();
     let (mut live, mut buf, mut items) = begin(alloc, rules, gaps, bits)?;
+    let mut pen = RowWriter::new();
     'reads: loop {
         let room = room_before_end(bits, live.place());
         let count = read_once(reader, buf.as_mut_slice(), room)?;
         if count == 0 {
             break;
         }
-        follow_chunk(alloc, writer, &mut live, &buf[..count], &mut items)?;
+        follow_chunk(
+            alloc,
+            writer,
+            &mut live,
+            &buf[..count],
+            &mut items,
+            &mut pen,
+        )?;
     }
     Ok(live)
 }
@@ -282,6 +288,7 @@ fn follow_chunk<K: Sink>(
     live: &mut StreamDecoder<'_>,
     bytes: &[u8],
     items: &mut Vec<Item>,
+    pen: &mut RowWriter,
 ) -> Result<(), ToolError>
     requires count { K.failed writer.old < 2 ^ 63 }
     requires room { 16 ≤ vec_capacity items.old }
@@ -305,7 +312,7 @@ fn follow_chunk<K: Sink>(
         × (rows_so_far live.old.terms (before ++ bytes.now) ≡ rows_so_far live.old.terms before ++ rows)
         × WritesPrefix (K.contents writer.old) (K.contents writer.new) (Ok rows) }
 {
-    let rows = rows_of_chunk(alloc, live, bytes, items)?;
+    let rows = rows_of_chunk(alloc, live, bytes, items, pen)?;
     write_flushed(writer, rows.as_slice())
 }
 
@@ -315,6 +322,7 @@ fn rows_of_chunk(
     live: &mut StreamDecoder<'_>,
     bytes: &[u8],
     items: &mut Vec<Item>,
+    pen: &mut RowWriter,
 ) -> Result<Vec<u8>, ToolError>
     requires { 16 ≤ vec_capacity items.old }
     ensures heard { OnOk result ((before : List ℕ) → HasHeard live.old before
@@ -328,43 +336,41 @@ fn rows_of_chunk(
     ensures too_long { IsErrOf result ToolError.TooLong → 2 ^ 36 < live.old.place + 8 * length bytes.now }
     ensures kinds { IfErr result (λ error. (error ≡ ToolError.OutOfMemory) ⊎ (error ≡ ToolError.TooLong)) }
 {
-    let mut rows = rows_in_room(alloc, bytes.len().saturating_mul(ROWS_A_BYTE))?;
+    let mut text = Vec::with_capacity(alloc, bytes.len().saturating_mul(ROWS_A_BYTE))?;
     let mut rest = bytes;
     while !rest.is_empty() {
-        let count = push_rows(&mut rows, live, rest, items)?;
+        let count = push_rows(&mut text, live, rest, items, pen)?;
         rest = &rest[count..];
     }
     prove!(live.place() <= MOST_BITS);
-    let text = text_of_rows(rows)?;
     Ok(text)
 }
 
 /// Decodes as many of the next bytes of a stream as it takes at once, and appends the rows that they complete. Answers how many
 /// bytes these were.
 fn push_rows(
-    rows: &mut CsvRows,
+    text: &mut Vec<u8>,
     live: &mut StreamDecoder<'_>,
     bytes: &[u8],
     items: &mut Vec<Item>,
+    pen: &mut RowWriter,
 ) -> Result<usize, ToolError>
     requires some { 0 < length bytes.now }
     requires room { 16 ≤ vec_capacity items.old }
-    requires between { IsBetween rows.old }
     ensures some { IfOk result (λ count. (0 < count) × (count ≤ length bytes.now)) }
     ensures heard { IfOk result (λ count. (before : List ℕ) → HasHeard live.old before
         → HasHeard live.new (before ++ take count bytes.now)) }
     ensures terms { OnOk result (live.new.terms ≡ live.old.terms) }
     ensures place { IfOk result (λ count. live.new.place ≡ live.old.place + 8 * count) }
     ensures rows { IfOk result (λ count. (before written : List ℕ) → HasHeard live.old before
-        → rows_so_far live.old.terms before ≡ written ++ text_of rows.old
-        → rows_so_far live.old.terms (before ++ take count bytes.now) ≡ written ++ text_of rows.new) }
-    ensures between { OnOk result (IsBetween rows.new) }
+        → rows_so_far live.old.terms before ≡ written ++ text.old.items
+        → rows_so_far live.old.terms (before ++ take count bytes.now) ≡ written ++ text.new.items) }
     ensures room { vec_capacity items.new ≡ vec_capacity items.old }
     ensures too_long { IsErrOf result ToolError.TooLong → 2 ^ 36 < live.old.place + 8 * length bytes.now }
     ensures kinds { IfErr result (λ error. (error ≡ ToolError.OutOfMemory) ⊎ (error ≡ ToolError.TooLong)) }
 {
     let count = live.take(bytes, items)?;
-    push_items(rows, items.as_slice())?;
+    push_items(pen, text, items.as_slice())?;
     Ok(count)
 }
 
@@ -396,43 +402,34 @@ fn rows_of_rest(
     Ok(text)
 }
 
-/// The rows of the last items of a listing, and those of its end.
+/// The rows of the last items of a listing, and those of its end: of the group in progress, if there is one, and of
+/// the totals.
 fn rows_to_end(alloc: Global, items: &[Item], end: &StreamEnd) -> Result<Vec<u8>, ToolError>
     ensures rows { IfOk result (λ text. text.items
         ≡ flat_map item_row items.now ++ (flat_map item_row (group_item end.now.group)
         ++ totals_text end.now.totals)) }
     ensures refused { IsOkUnless result ToolError.OutOfMemory }
 {
-    let mut rows = rows_in_room(alloc, 0)?;
-    push_to_end(&mut rows, items, end)?;
-    text_of_rows(rows)
-}
-
-/// The same, after the rows already there: at the end are the row of the group in progress, if there is one,
-/// and those of the totals.
-fn push_to_end(rows: &mut CsvRows, items: &[Item], end: &StreamEnd) -> Result<(), ToolError>
-    requires { IsBetween rows.old }
-    ensures between { OnOk result (IsBetween rows.new) }
-    ensures text { OnOk result (text_of rows.new ≡ text_of rows.old
-        ++ (flat_map item_row items.now
-        ++ (flat_map item_row (group_item end.now.group) ++ totals_text end.now.totals))) }
-    ensures refused { IsOkUnless result ToolError.OutOfMemory }
-{
-    push_items(rows, items)?;
-    push_last_group(rows, end)?;
-    push_named(rows, &totals_with_names(&end.totals))
+    let mut text = Vec::new(alloc);
+    let mut pen = RowWriter::new();
+    push_items(&mut pen, &mut text, items)?;
+    push_last_group(&mut pen, &mut text, end)?;
+    push_totals(&mut pen, &mut text, &end.totals)?;
+    Ok(text)
 }
 
 /// The row of the group in progress, if there is one.
-fn push_last_group(rows: &mut CsvRows, end: &StreamEnd) -> Result<(), ToolError>
-    requires { IsBetween rows.old }
-    ensures between { OnOk result (IsBetween rows.new) }
-    ensures text { OnOk result (text_of rows.new ≡ text_of rows.old
+fn push_last_group(
+    pen: &mut RowWriter,
+    text: &mut Vec<u8>,
+    end: &StreamEnd,
+) -> Result<(), ToolError>
+    ensures text { OnOk result (text.new.items ≡ text.old.items
         ++ flat_map item_row (group_item end.now.group)) }
     ensures refused { IsOkUnless result ToolError.OutOfMemory }
 {
     if let Some(group) = end.group {
-        push_item(rows, &Item::Group(group))?;
+        push_items(pen, text, [Item::Group(group)].as_slice())?;
     }
     Ok(())
 }

@@ -37,7 +37,7 @@ was written; 'follow' leaves the rows before an error. One line
                     is neither a digit nor blank
   12 GroupText      a line for 'encode' that is neither empty nor 16 hex digits
   13 TooManyTurns   the input had not ended after 16777216 reads
-  14 NoWorker       the system started no thread
+  14 NoWorker       never: without threads a job only takes longer
   15 ShareRange     --share is 0 or above --of, or --of is above 64
   16 BadGaps        a gap is empty, out of order, or past the end";
 

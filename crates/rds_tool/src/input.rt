@@ -1,10 +1,9 @@
 //! From the bytes that a reader held to the recording that they denote.
-ghost use Rattle.std.specs.Prelude.{◌≡◌, IfErr, IfOk, Ok};
+ghost use Rattle.std.specs.Prelude.{◌<◌, ◌≡◌, Err, IfErr, IfOk, IfSome, Ok, take};
+ghost use Rattle.hex.specs.Hex.{hex_digit_value};
 ghost use Rattle.rds_tool.specs.Input.{decoded, first_bits as the_first_bits, is_blank as blank, recording_of as the_recording_of};
-ghost use Rattle.rds_tool.specs.Refusals.{IsMemoryOrErrOf};
 
 use crate::{Input, ToolError};
-use hex::FromHexError;
 use rds_stream::Recording;
 use std::alloc::{AllocError, Global};
 
@@ -22,16 +21,12 @@ impl Input {
 }
 
 /// The recording of an input.
-pub fn recording_of(alloc: Global, input: Input, held: Vec<u8>) -> Result<Recording, ToolError>
+pub fn recording_of(input: Input, held: Vec<u8>) -> Result<Recording, ToolError>
     ensures ok { IfOk result (λ recording. the_recording_of input held.items ≡ Ok recording) }
-    ensures refused { IfErr result (IsMemoryOrErrOf (the_recording_of input held.items)) }
+    ensures refused { IfErr result (λ error. the_recording_of input held.items ≡ Err error) }
 {
     let Input { hex, bits, gaps } = input;
-    let bytes = if hex {
-        hex_bytes(alloc, held.as_slice())?
-    } else {
-        held
-    };
+    let bytes = if hex { hex_bytes(held)? } else { held };
     let all = (bytes.len() as u64).saturating_mul(8);
     first_bits(bytes, bits.unwrap_or(all), gaps)
 }
@@ -53,19 +48,56 @@ fn is_blank(byte: u8) -> bool
     matches!(byte, b' ' | b'\t' | b'\r' | b'\n')
 }
 
-/// The bytes of hexadecimal text, in which blanks don't count.
-fn hex_bytes(alloc: Global, text: &[u8]) -> Result<Vec<u8>, ToolError>
-    ensures ok { IfOk result (λ bytes. decoded text.now ≡ Ok bytes.items) }
-    ensures refused { IfErr result (IsMemoryOrErrOf (decoded text.now)) }
+/// The value of a hexadecimal digit.
+fn digit_value(byte: u8) -> Option<u8>
+    ensures value { result ≡ hex_digit_value byte }
+    ensures small { IfSome result (λ value. value < 16) }
 {
-    let digits: Vec<u8> = text
-        .iter()
-        .copied()
-        .filter(|b| !is_blank(*b))
-        .collect(alloc)?;
-    match hex::decode(alloc, digits.as_slice()) {
-        Ok(bytes) => Ok(bytes),
-        Err(FromHexError::OutOfMemory) => Err(ToolError::OutOfMemory),
-        Err(_) => Err(ToolError::HexText),
+    match byte {
+        b'A'..=b'F' => Some(byte - 55),
+        b'a'..=b'f' => Some(byte - 87),
+        b'0'..=b'9' => Some(byte - 48),
+        _ => None,
+    }
+}
+
+/// The bytes of hexadecimal text, in which blanks don't count, in the memory of the text.
+fn hex_bytes(text: Vec<u8>) -> Result<Vec<u8>, ToolError>
+    ensures ok { IfOk result (λ bytes. decoded text.items ≡ Ok bytes.items) }
+    ensures refused { IfErr result (λ error. decoded text.items ≡ Err error) }
+{
+    let mut bytes = text;
+    let count = decode_in_place(bytes.as_mut_slice())?;
+    bytes.truncate(count);
+    Ok(bytes)
+}
+
+/// Writes the bytes of hexadecimal text over its front. Answers how many bytes these are.
+fn decode_in_place(text: &mut [u8]) -> Result<usize, ToolError>
+    ensures ok { IfOk result (λ count. decoded text.old ≡ Ok (take count text.new)) }
+    ensures refused { IfErr result (λ error. decoded text.old ≡ Err error) }
+{
+    let mut high = None;
+    let mut count = 0;
+    for at in 0..text.len() {
+        let byte = text[at];
+        if is_blank(byte) {
+            continue;
+        }
+        let Some(digit) = digit_value(byte) else {
+            return Err(ToolError::HexText);
+        };
+        match high {
+            None => high = Some(digit),
+            Some(first) => {
+                text[count] = 16 * first + digit;
+                count += 1;
+                high = None;
+            }
+        }
+    }
+    match high {
+        None => Ok(count),
+        Some(_) => Err(ToolError::HexText),
     }
 }

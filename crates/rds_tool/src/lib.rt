@@ -22,7 +22,7 @@
 //! - [`Job`], made of [`Input`], [`Settings`], [`Cuts`] and [`Loss`]: the job that is asked for.
 //! - [`transcribe`]: reads all bytes of a [`Source`], works, by threads if there are pieces and workers for
 //!   them, and writes the whole text to a [`Sink`]. [`transcribe_gated`] is the same with a gate, by which a
-//!   caller hears of the workers. [`transcribe_alone`] starts no thread and waits for none.
+//!   caller hears of the workers.
 //! - [`follow`]: the same listing of a stream, row by row as its bytes come.
 //! - [`FromRead`] and [`ToWrite`]: a source and a sink of a reader and a writer of std. [`Trace`]: the bytes that
 //!   one gave or took, for contracts alone.
@@ -36,10 +36,10 @@
 //!   over memory does, they are those. Of a `List` the text is the listing of the report of the recording,
 //!   lock by lock, for every cutting and any number of workers; `specs/Outcome.antt` says it for each job.
 //! - Each refusal is a [`ToolError`] and comes when it should: `Read` and `Write` exactly if a call of the
-//!   device failed, settings out of their range before anything is read, `NoWorker` only if more than one
-//!   worker is asked for. `TooManyTurns` comes only after 16,777,216 bytes were given, and any other but
-//!   `OutOfMemory` exactly if the job and the bytes given call for it: `BadGaps`, for gaps that are empty,
-//!   out of order or past the bits, after `TooLong` and `BitsPastBytes`, and before `BadCutting`.
+//!   device failed, settings out of their range before anything is read, `NoWorker` never. `TooManyTurns`
+//!   comes only after 16,777,216 bytes were given, and any other but `OutOfMemory` exactly if the job and the
+//!   bytes given call for it: `BadGaps`, for gaps that are empty, out of order or past the bits, after
+//!   `TooLong` and `BitsPastBytes`, and before `BadCutting`.
 //! - After any refusal but `Write` the writer is as it was; after `Write` it took a prefix of the text.
 //! - If `follow` answers `Ok`, the bytes that the writer took are the listing of those that the reader gave.
 //!   The last call was a flush that succeeded. Whenever it is refused, the rows of all that was given but the
@@ -67,7 +67,6 @@ mod fault; // Why it asks for nothing.
 mod gap_text; // Gaps as a command line names them.
 mod job; // The jobs that can be asked for.
 mod engine; // From a reader to a writer.
-mod alone; // The same in the calling thread only.
 mod devices; // The two ends of that.
 mod trace; // The bytes that went through them, for contracts alone.
 mod task; // A job whose settings were looked at, and the text that it writes.
@@ -78,18 +77,17 @@ mod one_pass; // A list by one worker, written while it is decoded.
 mod text; // The text that a task writes.
 mod listing_rows; // The rows of a report, from any on.
 mod window_rows; // Those of a scan.
-mod listing; // The rows of a list of items.
-mod fields; // The fields of each row.
-mod field; // Those that are put together on the stack.
-mod pen; // Writers of rows of plain fields.
-mod rows; // Rows that `csv` writes.
-mod line; // A row on the stack.
+mod listing; // The text of a list of items.
+mod rows; // Pages of rows.
+mod totals; // The totals by name.
+mod pen; // The row of a group, stored eight bytes at a time.
+mod page; // Room for rows, on the stack.
+mod digits; // Digits of numbers.
 mod encode; // Groups from lines of digits.
 mod following; // From a reader to a writer, as the bytes come.
 mod error; // Why a transcription is refused.
 pub mod laws; // The laws of jobs and their texts.
 
-pub use alone::transcribe_alone;
 pub use cli::{asked_of, job_of};
 pub use devices::{FromRead, Source, ToWrite};
 pub use engine::{transcribe, transcribe_gated};

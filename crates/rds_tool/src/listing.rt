@@ -1,35 +1,17 @@
-//! The text of a listing, row by row.
-ghost use Rattle.std.specs.Prelude.{◌+◌, ◌++◌, ◌*◌, ◌-◌, ◌<◌, ◌≡◌, ◌≤◌, [], All, IfOk, IsOkUnless, OnOk, drop, length, map, take, vec_capacity};
+//! The text of a listing.
+ghost use Rattle.std.specs.Prelude.{◌+◌, ◌++◌, ◌-◌, ◌≡◌, ◌≤◌, All, IfOk, IsOkUnless, OnOk, drop, length, map, take};
 ghost use Rattle.std.specs.List.{flat_map};
-ghost use Rattle.rds_tool.specs.Listing.{item_row, total_row, totals_text, window_row};
-ghost use Rattle.rds_tool.specs.Inside.RowWriter.{IsBetween, IsPlain, IsShort, text_of};
+ghost use Rattle.rds_rows.specs.Sheets.{left_of, size_of, text_of};
+ghost use Rattle.rds_tool.specs.Listing.{item_row, total_row, totals_text};
+ghost use Rattle.rds_tool.specs.Inside.RowWriter.{IsPlain, IsShort};
 
 use crate::ToolError;
-use crate::fields::{push_item, push_total, push_window, totals_with_names};
-use crate::rows::{CsvRows, rows_in_room, rows_over, text_of_rows};
-use rds_code::Offset;
+use crate::rows::RowWriter;
+use crate::totals::totals_with_names;
+use rds_rows::Sheet;
 use rds_stream::Recording;
 use rds_sync::{IndexedItems, Item, ItemIter, Rules, Totals};
 use std::alloc::Global;
-
-/// How many bytes the row of a whole group has, of a recording of a day or so.
-const USUAL_ROW: usize = 49;
-
-/// How many items are decoded at once when their rows are made again.
-const PART: usize = 256;
-
-/// The rows of valid windows.
-pub fn window_rows(alloc: Global, windows: &[(u64, Offset)]) -> Result<Vec<u8>, ToolError>
-    ensures rows { IfOk result (λ text. text.items ≡ flat_map window_row windows.now) }
-    ensures short { IfOk result (λ text. length text.items ≤ length windows.now * 168) }
-    ensures refused { IsOkUnless result ToolError.OutOfMemory }
-{
-    let mut rows = rows_in_room(alloc, 0)?;
-    for (place, offset) in windows {
-        push_window(&mut rows, *place, *offset)?;
-    }
-    text_of_rows(rows)
-}
 
 /// The source of items: the recording that they name, and the rules.
 #[derive(Clone, Copy)]
@@ -40,7 +22,7 @@ pub struct Heard<'a> {
 
 impl<'a> Heard<'a> {
     /// The items from one number up to another.
-    fn range(self, items: &IndexedItems<'a>, from: usize, to: usize) -> ItemIter<'a>
+    pub fn range(self, items: &IndexedItems<'a>, from: usize, to: usize) -> ItemIter<'a>
         requires order { from ≤ to }
         requires inside { to ≤ length items.now.list }
         requires source { items.now.source ≡ self.recording.now }
@@ -51,80 +33,62 @@ impl<'a> Heard<'a> {
     }
 }
 
-/// The rows of the items from one number up to another, in the memory of `spare`, or in more if that is too
-/// little.
-pub fn item_rows<'a>(
-    alloc: Global,
-    spare: Vec<u8>,
-    heard: Heard<'a>,
-    items: &IndexedItems<'a>,
-    from: usize,
-    to: usize,
-) -> Result<Vec<u8>, ToolError>
-    requires empty { spare.items ≡ [] }
-    requires order { from ≤ to }
-    requires inside { to ≤ length items.now.list }
-    requires source { items.now.source ≡ heard.recording.now }
-    requires rules { items.now.rules ≡ heard.rules.now }
-    ensures rows { IfOk result (λ text. text.items ≡ flat_map item_row
-        (take (to - from) (drop from items.now.list))) }
-    ensures short { IfOk result (λ text. length text.items ≤ (to - from) * 168) }
-    ensures refused { IsOkUnless result ToolError.OutOfMemory }
+/// Adds the rows of these items to a sheet, page by page.
+pub fn fill_items(rows: &mut RowWriter, items: &[Item], sheet: &mut Sheet)
+    requires room { length items.now ≤ left_of sheet.old }
+    requires longest { (size_of sheet.old).1 ≡ 168 }
+    ensures rows { text_of sheet.new ≡ text_of sheet.old ++ flat_map item_row items.now }
+    ensures left { left_of sheet.new + length items.now ≡ left_of sheet.old }
+    ensures size { size_of sheet.new ≡ size_of sheet.old }
 {
-    let mut part = Vec::with_capacity(alloc, PART)?;
-    let mut rows = rows_over(spare, (to - from).saturating_mul(USUAL_ROW))?;
-    let mut left = heard.range(items, from, to);
-    push_left(&mut rows, &mut left, &mut part)?;
-    text_of_rows(rows)
-}
-
-/// The rows of the items that are left, a part of them at a time.
-fn push_left(
-    rows: &mut CsvRows,
-    left: &mut ItemIter<'_>,
-    part: &mut Vec<Item>,
-) -> Result<(), ToolError>
-    requires between { IsBetween rows.old }
-    requires some { 0 < vec_capacity part.old }
-    ensures between { OnOk result (IsBetween rows.new) }
-    ensures text { OnOk result (text_of rows.new ≡ text_of rows.old ++ flat_map item_row left.old) }
-    ensures short { OnOk result (length (text_of rows.new)
-        ≤ length (text_of rows.old) + length left.old * 168) }
-    ensures refused { IsOkUnless result ToolError.OutOfMemory }
-{
-    'parts: loop {
-        left.fill(part);
-        if part.is_empty() {
-            return Ok(());
-        }
-        push_items(rows, part.as_slice())?;
+    let mut left = items;
+    while !left.is_empty() {
+        let count = rows.write_items(left);
+        sheet.push_all(count, rows.as_bytes());
+        left = &left[count..];
     }
 }
 
-/// The rows of these items.
-pub fn rows_of_items(alloc: Global, items: &[Item]) -> Result<Vec<u8>, ToolError>
-    ensures rows { IfOk result (λ text. text.items ≡ flat_map item_row items.now) }
-    ensures short { IfOk result (λ text. length text.items ≤ length items.now * 168) }
-    ensures refused { IsOkUnless result ToolError.OutOfMemory }
+/// Adds the rows of these totals to a sheet.
+pub fn fill_totals(rows: &mut RowWriter, totals: &[(&'static str, u64)], sheet: &mut Sheet)
+    requires few { length totals.now ≤ 12 }
+    requires plain { All (λ total. IsPlain total.0.now) totals.now }
+    requires short { All (λ total. IsShort total.0.now) totals.now }
+    requires room { length totals.now ≤ left_of sheet.old }
+    requires longest { (size_of sheet.old).1 ≡ 168 }
+    ensures rows { text_of sheet.new ≡ text_of sheet.old
+        ++ flat_map total_row (map (λ total. (total.0.now, total.1)) totals.now) }
+    ensures size { size_of sheet.new ≡ size_of sheet.old }
 {
-    let mut rows = rows_in_room(alloc, items.len().saturating_mul(USUAL_ROW))?;
-    push_items(&mut rows, items)?;
-    text_of_rows(rows)
+    rows.write_totals(totals);
+    sheet.push_all(totals.len(), rows.as_bytes());
 }
 
-/// Appends the rows of these items.
-pub fn push_items(rows: &mut CsvRows, items: &[Item]) -> Result<(), ToolError>
-    requires between { IsBetween rows.old }
-    ensures between { OnOk result (IsBetween rows.new) }
-    ensures text { OnOk result (text_of rows.new ≡ text_of rows.old ++ flat_map item_row items.now) }
-    ensures short { OnOk result (length (text_of rows.new)
-        ≤ length (text_of rows.old) + length items.now * 168) }
+/// Appends the rows of these items, page by page.
+pub fn push_items(rows: &mut RowWriter, text: &mut Vec<u8>, items: &[Item]) -> Result<(), ToolError>
+    ensures rows { OnOk result (text.new.items ≡ text.old.items ++ flat_map item_row items.now) }
     ensures refused { IsOkUnless result ToolError.OutOfMemory }
 {
-    for item in items {
-        push_item(rows, item)?;
+    let mut left = items;
+    while !left.is_empty() {
+        let count = rows.write_items(left);
+        text.extend_from_slice(rows.as_bytes())?;
+        left = &left[count..];
     }
     Ok(())
+}
+
+/// Appends the rows of all totals.
+pub fn push_totals(
+    rows: &mut RowWriter,
+    text: &mut Vec<u8>,
+    totals: &Totals,
+) -> Result<(), ToolError>
+    ensures rows { OnOk result (text.new.items ≡ text.old.items ++ totals_text totals.now) }
+    ensures refused { IsOkUnless result ToolError.OutOfMemory }
+{
+    rows.write_totals(totals_with_names(totals).as_slice());
+    Ok(text.extend_from_slice(rows.as_bytes())?)
 }
 
 /// The rows of all totals.
@@ -132,37 +96,7 @@ pub fn totals_rows(alloc: Global, totals: &Totals) -> Result<Vec<u8>, ToolError>
     ensures rows { IfOk result (λ text. text.items ≡ totals_text totals.now) }
     ensures refused { IsOkUnless result ToolError.OutOfMemory }
 {
-    named_rows(alloc, &totals_with_names(totals))
-}
-
-/// A row for each of these totals.
-pub fn named_rows(alloc: Global, totals: &[(&'static str, u64)]) -> Result<Vec<u8>, ToolError>
-    requires plain { All (λ total. IsPlain total.0.now) totals.now }
-    requires short { All (λ total. IsShort total.0.now) totals.now }
-    ensures rows { IfOk result (λ text. text.items ≡ flat_map total_row
-        (map (λ total. (total.0.now, total.1)) totals.now)) }
-    ensures short { IfOk result (λ text. length text.items ≤ length totals.now * 168) }
-    ensures refused { IsOkUnless result ToolError.OutOfMemory }
-{
-    let mut rows = rows_in_room(alloc, 0)?;
-    push_named(&mut rows, totals)?;
-    text_of_rows(rows)
-}
-
-/// Appends a row for each of these totals.
-pub fn push_named(rows: &mut CsvRows, totals: &[(&'static str, u64)]) -> Result<(), ToolError>
-    requires between { IsBetween rows.old }
-    requires plain { All (λ total. IsPlain total.0.now) totals.now }
-    requires short { All (λ total. IsShort total.0.now) totals.now }
-    ensures between { OnOk result (IsBetween rows.new) }
-    ensures text { OnOk result (text_of rows.new
-        ≡ text_of rows.old ++ flat_map total_row (map (λ total. (total.0.now, total.1)) totals.now)) }
-    ensures short { OnOk result (length (text_of rows.new)
-        ≤ length (text_of rows.old) + length totals.now * 168) }
-    ensures refused { IsOkUnless result ToolError.OutOfMemory }
-{
-    for (name, value) in totals {
-        push_total(rows, name, *value)?;
-    }
-    Ok(())
+    let mut text = Vec::new(alloc);
+    push_totals(&mut RowWriter::new(), &mut text, totals)?;
+    Ok(text)
 }

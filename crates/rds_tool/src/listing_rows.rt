@@ -1,19 +1,22 @@
 //! The rows of a report, which can be spelled from any on.
-ghost use Rattle.std.specs.Prelude.{◌+◌, ◌++◌, ◌-◌, ◌≡◌, ◌≤◌, All, IfOk, IsOkUnless, drop, length, map, take};
+ghost use Rattle.std.specs.Prelude.{◌+◌, ◌++◌, ◌-◌, ◌<◌, ◌≡◌, ◌≤◌, IfOk, IsOkUnless, drop, length, take, vec_capacity};
 ghost use Rattle.std.specs.List.{flat_map};
 ghost use Rattle.rds_rows.specs.Sheets.{left_of, size_of, text_of};
 ghost use Rattle.rds_tool.specs.Listing.{item_row, named_totals, total_row};
-ghost use Rattle.rds_tool.specs.Inside.RowWriter.{IsPlain, IsShort};
 
-use crate::fields::{push_item, push_total, totals_with_names};
-use crate::line::{LONGEST_ROW, Line};
-use crate::listing::{Heard, item_rows, named_rows};
+use crate::listing::{Heard, fill_items, fill_totals};
+use crate::page::LONGEST_ROW;
+use crate::rows::RowWriter;
+use crate::totals::totals_with_names;
 use rds_rows::{Rows, RowsError, Sheet};
-use rds_sync::{IndexedItems, Report, Totals};
+use rds_sync::{IndexedItems, Item, ItemIter, Report, Totals};
 use std::alloc::Global;
 
 /// How many totals there are.
 const TOTALS: usize = 12;
+
+/// How many items are decoded at once when their rows are made again.
+const PART: usize = 256;
 
 /// The rows of the items of a report, and then those of its totals.
 #[derive(Drop)]
@@ -68,32 +71,11 @@ impl<'a> ListingRows<'a> {
         ensures left { left_of sheet.new + (to - from) ≡ left_of sheet.old }
         ensures size { size_of sheet.new ≡ size_of sheet.old }
     {
-        let spare = sheet.spare(self.alloc);
-        match item_rows(self.alloc, spare, self.heard, &self.items, from, to) {
-            Ok(text) => sheet.give_all(to - from, text),
-            Err(_) => self.fill_joined(from, to, sheet),
-        }
-    }
-
-    /// The same rows, joined without `csv`: it answers an error only if memory is refused for them, and a row
-    /// that is asked for here can't be refused.
-    fn fill_joined(&self, from: usize, to: usize, sheet: &mut Sheet)
-        requires order { from ≤ to }
-        requires inside { to ≤ length self.now.items.list }
-        requires room { to - from ≤ left_of sheet.old }
-        requires longest { (size_of sheet.old).1 ≡ 168 }
-        ensures rows { text_of sheet.new ≡ text_of sheet.old
-            ++ flat_map item_row (take (to - from) (drop from self.now.items.list)) }
-        ensures left { left_of sheet.new + (to - from) ≡ left_of sheet.old }
-        ensures size { size_of sheet.new ≡ size_of sheet.old }
-    {
-        let Heard { recording, rules } = self.heard;
-        for item in self.items.range(recording, rules, from, to) {
-            let mut line = Line::blank();
-            let Ok(()) = push_item(&mut line, &item) else {
-                unreachable!()
-            };
-            sheet.push(line.as_bytes());
+        let mut rows = RowWriter::new();
+        let mut left = self.heard.range(&self.items, from, to);
+        match Vec::with_capacity(self.alloc, PART) {
+            Ok(mut part) => fill_left(&mut rows, &mut left, &mut part, sheet),
+            Err(_) => fill_each(&mut rows, left, sheet),
         }
     }
 
@@ -111,30 +93,38 @@ impl<'a> ListingRows<'a> {
             return;
         }
         let all = totals_with_names(self.totals);
-        let some = &all[from..to];
-        match named_rows(self.alloc, some) {
-            Ok(text) => sheet.push_all(to - from, text.as_slice()),
-            Err(_) => fill_named(some, sheet),
-        }
+        fill_totals(&mut RowWriter::new(), &all[from..to], sheet);
     }
 }
 
-/// The rows of these totals, joined without `csv`.
-pub fn fill_named(totals: &[(&'static str, u64)], sheet: &mut Sheet)
-    requires plain { All (λ total. IsPlain total.0.now) totals.now }
-    requires short { All (λ total. IsShort total.0.now) totals.now }
-    requires room { length totals.now ≤ left_of sheet.old }
+/// The rows of the items that are left, some of them at a time.
+fn fill_left(rows: &mut RowWriter, left: &mut ItemIter<'_>, part: &mut Vec<Item>, sheet: &mut Sheet)
+    requires some { 0 < vec_capacity part.old }
+    requires room { length left.old ≤ left_of sheet.old }
     requires longest { (size_of sheet.old).1 ≡ 168 }
-    ensures rows { text_of sheet.new ≡ text_of sheet.old
-        ++ flat_map total_row (map (λ total. (total.0.now, total.1)) totals.now) }
+    ensures rows { text_of sheet.new ≡ text_of sheet.old ++ flat_map item_row left.old }
+    ensures left { left_of sheet.new + length left.old ≡ left_of sheet.old }
     ensures size { size_of sheet.new ≡ size_of sheet.old }
 {
-    for (name, value) in totals {
-        let mut line = Line::blank();
-        let Ok(()) = push_total(&mut line, name, *value) else {
-            unreachable!()
-        };
-        sheet.push(line.as_bytes());
+    'parts: loop {
+        left.fill(part);
+        if part.is_empty() {
+            return;
+        }
+        fill_items(rows, part.as_slice(), sheet);
+    }
+}
+
+/// The same, one by one, if there is no memory for more.
+fn fill_each(rows: &mut RowWriter, left: ItemIter<'_>, sheet: &mut Sheet)
+    requires room { length left ≤ left_of sheet.old }
+    requires longest { (size_of sheet.old).1 ≡ 168 }
+    ensures rows { text_of sheet.new ≡ text_of sheet.old ++ flat_map item_row left.entry }
+    ensures left { left_of sheet.new + length left.entry ≡ left_of sheet.old }
+    ensures size { size_of sheet.new ≡ size_of sheet.old }
+{
+    for item in left {
+        fill_items(rows, [item].as_slice(), sheet);
     }
 }
 

@@ -1,10 +1,11 @@
 //! From a job to its task, and on to the text that it makes of the bytes that a reader held.
-ghost use Rattle.std.specs.Prelude.{◌<◌, ◌≡◌, Err, IfErr, IfOk, Ok, true};
-ghost use Rattle.rds_tool.specs.Cuts.{cuts_any};
-ghost use Rattle.rds_tool.specs.Listing.{report_text, totals_text};
+ghost use Rattle.std.specs.Prelude.{◌≡◌, Err, IfErr, IfOk, IsOkUnless, Ok};
+ghost use Rattle.rds_sync.specs.Report.{report_items};
+ghost use Rattle.rds_sync.specs.Totals.{totals_of as totals_of_items};
+ghost use Rattle.rds_tool.specs.Listing.{totals_text};
 ghost use Rattle.rds_tool.specs.Outcome.{cut_recording, text_of_task};
 ghost use Rattle.rds_tool.specs.Plans.{plan_of};
-ghost use Rattle.rds_tool.specs.Refusals.{IsMemoryOrErrOf, IsShortageOrErrOf};
+ghost use Rattle.rds_tool.specs.Refusals.{IsMemoryOrErrOf};
 ghost use Rattle.rds_tool.specs.Inside.Texts.{bytes_of};
 ghost use Rattle.rds_tool.specs.declared.task.Task.TheVariants as task;
 
@@ -15,13 +16,13 @@ use crate::plan::report_by;
 use crate::task::{Listing, Plan, Task, Text, Workers};
 use crate::{Input, Job, Settings, ToolError};
 use rds_crew::Gate;
-use rds_sync::{Spans, Totals};
+use rds_stream::{Counted, Recording};
+use rds_sync::{Rules, Spans, State, Totals, finish, laws, run_report};
 use std::alloc::Global;
-use std::sync::Wait;
 use std::thread::Threads;
 
 impl<'a> Task<'a> {
-    ghost use Rattle.rds_tool.specs.Tasks.{MayStartThreads, task_of};
+    ghost use Rattle.rds_tool.specs.Tasks.{task_of};
 
     /// The task of a job. A setting out of its range is refused as such, whether or not there is memory.
     pub fn of(alloc: Global, job: &'a Job) -> Result<Task<'a>, ToolError>
@@ -47,7 +48,7 @@ impl<'a> Task<'a> {
     }
 
     /// The text that the task writes for the bytes that a reader held. A crew calls the gate.
-    pub fn text<R: Threads + Wait + Sync, G: Gate + Sync>(
+    pub fn text<R: Threads + Sync, G: Gate + Sync>(
         self,
         rt: &R,
         alloc: Global,
@@ -55,8 +56,7 @@ impl<'a> Task<'a> {
         gate: &G,
     ) -> Result<Text<'a>, ToolError>
         ensures ok { IfOk result (λ text. text_of_task self.entry held.items ≡ Ok (bytes_of text)) }
-        ensures refused { IfErr result (IsShortageOrErrOf (MayStartThreads self.entry)
-            (text_of_task self.entry held.items)) }
+        ensures refused { IfErr result (IsMemoryOrErrOf (text_of_task self.entry held.items)) }
     {
         match self {
             Task::Scan(input, workers) => windows_of(alloc, input, workers, held),
@@ -94,12 +94,12 @@ fn windows_of<'a>(
         ≡ Ok (bytes_of text)) }
     ensures refused { IfErr result (IsMemoryOrErrOf (text_of_task (task.Scan input workers) held.items)) }
 {
-    let recording = recording_of(alloc, input, held)?;
+    let recording = recording_of(input, held)?;
     Ok(Text::Windows(recording, workers))
 }
 
 /// The listing of the recording that the bytes give. One worker decodes it while it is written, unless the gate wants calls.
-fn list_of<'a, R: Threads + Wait, G: Gate + Sync>(
+fn list_of<'a, R: Threads + Sync, G: Gate + Sync>(
     rt: &R,
     alloc: Global,
     input: Input,
@@ -107,60 +107,24 @@ fn list_of<'a, R: Threads + Wait, G: Gate + Sync>(
     held: Vec<u8>,
     gate: &G,
 ) -> Result<Text<'a>, ToolError>
-    ensures ok { IfOk result (λ text. text_of_task (task.List input plan.entry) held.items
-        ≡ Ok (bytes_of text)) }
-    ensures refused { IfErr result (IsShortageOrErrOf (1 < plan.entry.workers)
-        (text_of_task (task.List input plan.entry) held.items)) }
-{
-    if plan.is_for_one() && !gate.wants_calls() {
-        return one_pass_of(alloc, input, plan, held);
-    }
-    let listing = listing_of(rt, alloc, input, plan, held, gate)?;
-    Ok(Text::Listing(listing))
-}
-
-/// The recording that the bytes give, whose report is written while it is decoded.
-fn one_pass_of<'a>(
-    alloc: Global,
-    input: Input,
-    plan: Plan<'a>,
-    held: Vec<u8>,
-) -> Result<Text<'a>, ToolError>
-    requires { cuts_any plan.cuts ≡ true }
     ensures ok { IfOk result (λ text. text_of_task (task.List input plan.entry) held.items
         ≡ Ok (bytes_of text)) }
     ensures refused { IfErr result (IsMemoryOrErrOf (text_of_task (task.List input plan.entry) held.items)) }
 {
-    let recording = recording_of(alloc, input, held)?;
-    Ok(Text::OnePass(recording, plan))
-}
-
-/// The report of the recording that the bytes give. Its items are decoded again when their rows are made, so
-/// the recording goes with it.
-fn listing_of<'a, R: Threads + Wait, G: Gate + Sync>(
-    rt: &R,
-    alloc: Global,
-    input: Input,
-    plan: Plan<'a>,
-    held: Vec<u8>,
-    gate: &G,
-) -> Result<Listing<'a>, ToolError>
-    ensures list { IfOk result (λ listing. text_of_task (task.List input plan.entry) held.items
-        ≡ Ok (report_text listing.report.items.list listing.report.totals)) }
-    ensures refused { IfErr result (IsShortageOrErrOf (1 < plan.entry.workers)
-        (cut_recording input plan.entry.cuts held.items)) }
-{
-    let recording = recording_of(alloc, input, held)?;
+    let recording = recording_of(input, held)?;
+    if plan.is_for_one(recording.len()) && !gate.wants_calls() {
+        return Ok(Text::OnePass(recording, plan));
+    }
     let report = report_by(rt, alloc, &plan, &recording, Spans::Short, gate)?;
-    Ok(Listing {
+    Ok(Text::Listing(Listing {
         recording,
         plan,
         report,
-    })
+    }))
 }
 
 /// The rows of the totals of the recording that the bytes give.
-fn rows_of_totals<'a, R: Threads + Wait, G: Gate + Sync>(
+fn rows_of_totals<'a, R: Threads + Sync, G: Gate + Sync>(
     rt: &R,
     alloc: Global,
     input: Input,
@@ -170,8 +134,7 @@ fn rows_of_totals<'a, R: Threads + Wait, G: Gate + Sync>(
 ) -> Result<Text<'a>, ToolError>
     ensures ok { IfOk result (λ text. text_of_task (task.Totals input plan.now) held.items
         ≡ Ok (bytes_of text)) }
-    ensures refused { IfErr result (IsShortageOrErrOf (1 < plan.now.workers)
-        (text_of_task (task.Totals input plan.now) held.items)) }
+    ensures refused { IfErr result (IsMemoryOrErrOf (text_of_task (task.Totals input plan.now) held.items)) }
 {
     let totals = totals_of(rt, alloc, input, plan, held, gate)?;
     let rows = totals_rows(alloc, &totals)?;
@@ -179,7 +142,7 @@ fn rows_of_totals<'a, R: Threads + Wait, G: Gate + Sync>(
 }
 
 /// The totals of the recording that the bytes give, which is dropped before their text is made.
-fn totals_of<R: Threads + Wait, G: Gate + Sync>(
+fn totals_of<R: Threads + Sync, G: Gate + Sync>(
     rt: &R,
     alloc: Global,
     input: Input,
@@ -189,12 +152,36 @@ fn totals_of<R: Threads + Wait, G: Gate + Sync>(
 ) -> Result<Totals, ToolError>
     ensures totals { IfOk result (λ totals. text_of_task (task.Totals input plan.now) held.items
         ≡ Ok (totals_text totals)) }
-    ensures refused { IfErr result (IsShortageOrErrOf (1 < plan.now.workers)
-        (cut_recording input plan.now.cuts held.items)) }
+    ensures refused { IfErr result (IsMemoryOrErrOf (cut_recording input plan.now.cuts held.items)) }
 {
-    let recording = recording_of(alloc, input, held)?;
+    let recording = recording_of(input, held)?;
+    if plan.is_for_one(recording.len()) && !gate.wants_calls() {
+        return count(alloc, &recording, plan.rules());
+    }
     let report = report_by(rt, alloc, plan, &recording, Spans::Whole, gate)?;
     Ok(report.totals)
+}
+
+/// The totals of the report of a recording, of which no list is kept.
+fn count(alloc: Global, recording: &Recording, rules: &Rules) -> Result<Totals, ToolError>
+    ensures totals { IfOk result (λ totals. totals ≡ totals_of_items (report_items recording.now rules.now)) }
+    ensures refused { IsOkUnless result ToolError.OutOfMemory }
+{
+    prove!(1 <= rules.reach());
+    laws::runs_are_reports();
+    laws::totals_join();
+    let len = recording.len();
+    let (end, report) = run_report(
+        alloc,
+        recording,
+        rules,
+        State::Searching,
+        0,
+        len,
+        Spans::Whole,
+    )?;
+    let group = finish(&mut Counted::new(recording), rules, end);
+    Ok(report.totals.plus(Totals::of_end(group)))
 }
 
 /// The blocks of the groups that the lines spell.

@@ -14,10 +14,10 @@ ghost use Rattle.rds_tool.specs.Inside.Texts.{end_text};
 ghost use Rattle.rds_tool.specs.Listing.{item_row, totals_text};
 ghost use Rattle.rds_tool.specs.Outcome.{list_text};
 
-use crate::fields::{push_item, totals_with_names};
-use crate::line::{LONGEST_ROW, Line};
-use crate::listing::{named_rows, rows_of_items};
-use crate::listing_rows::fill_named;
+use crate::listing::fill_items;
+use crate::page::LONGEST_ROW;
+use crate::rows::RowWriter;
+use crate::totals::totals_with_names;
 use rds_rows::{Failed, RowsError, Sheet, Sink, write_all};
 use rds_stream::{Counted, Recording};
 use rds_sync::{Decoder, Group, Item, Rules, State, Totals, finish, laws};
@@ -25,9 +25,6 @@ use std::alloc::Global;
 
 /// How many items a part has at most, whose rows are made and written together: so that most writes have 64 KiB or more.
 const PART: usize = 2048;
-
-/// How many totals there are.
-const TOTALS: usize = 12;
 
 /// Decodes a recording and writes the rows of its report, part by part. Memory that can be refused is taken before the
 /// first byte: room for a part of the items and for the longest rows that these may have.
@@ -47,11 +44,11 @@ pub fn write_in_one_pass<K: Sink>(
         → AppendsPrefix (K.contents writer.old) (K.contents writer.new)
         (list_text rules.now recording.now) }
 {
-    // A bit has few items, and the rows of the totals need room too.
-    let room = (recording.len() as usize).min(PART).max(TOTALS);
+    // A bit has few items, and the row of the group in progress needs room too.
+    let room = (recording.len() as usize).min(PART).max(1);
     let mut items = Vec::with_capacity(alloc, room)?;
     let mut sheet = Sheet::new(alloc, room, LONGEST_ROW)?;
-    match write_report(alloc, recording, rules, &mut items, &mut sheet, writer) {
+    match write_report(recording, rules, &mut items, &mut sheet, writer) {
         Ok(()) => Ok(()),
         Err(Failed) => Err(RowsError::Write),
     }
@@ -59,7 +56,6 @@ pub fn write_in_one_pass<K: Sink>(
 
 /// The same, with room for a part of the items and for their rows.
 fn write_report<'a, K: Sink>(
-    alloc: Global,
     recording: &'a Recording,
     rules: &'a Rules,
     items: &mut Vec<Item>,
@@ -68,7 +64,6 @@ fn write_report<'a, K: Sink>(
 ) -> Result<(), Failed>
     requires some { 0 < vec_capacity items.old }
     requires room { vec_capacity items.old ≤ (size_of sheet.old).0 }
-    requires totals { 12 ≤ (size_of sheet.old).0 }
     requires longest { (size_of sheet.old).1 ≡ 168 }
     requires count { K.failed writer.old < 2 ^ 63 }
     ensures ok { OnOk result (Appends (K.contents writer.old) (K.contents writer.new)
@@ -85,14 +80,13 @@ fn write_report<'a, K: Sink>(
     laws::totals_join();
     let len = recording.len();
     let mut decoder = Decoder::new(recording, rules, State::Searching, 0, len);
-    let totals = write_items(alloc, &mut decoder, items, sheet, writer)?;
+    let totals = write_items(&mut decoder, items, sheet, writer)?;
     let end = decoder.end_state();
-    write_end(alloc, recording, rules, end, totals, items, sheet, writer)
+    write_end(recording, rules, end, totals, items, sheet, writer)
 }
 
 /// Writes the rows of the items that are left. Answers their totals.
 fn write_items<K: Sink>(
-    alloc: Global,
     decoder: &mut Decoder<'_>,
     items: &mut Vec<Item>,
     sheet: &mut Sheet,
@@ -124,17 +118,12 @@ fn write_items<K: Sink>(
         }
         let part = items.as_slice();
         totals = totals.plus(Totals::of(part));
-        write_part(alloc, part, sheet, writer)?;
+        write_part(part, sheet, writer)?;
     }
 }
 
 /// Writes the rows of these items.
-fn write_part<K: Sink>(
-    alloc: Global,
-    items: &[Item],
-    sheet: &mut Sheet,
-    writer: &mut K,
-) -> Result<(), Failed>
+fn write_part<K: Sink>(items: &[Item], sheet: &mut Sheet, writer: &mut K) -> Result<(), Failed>
     requires room { length items.now ≤ (size_of sheet.old).0 }
     requires longest { (size_of sheet.old).1 ≡ 168 }
     requires count { K.failed writer.old < 2 ^ 63 }
@@ -146,20 +135,14 @@ fn write_part<K: Sink>(
     ensures prefix { OnErr result (AppendsPrefix (K.contents writer.old) (K.contents writer.new)
         (flat_map item_row items.now)) }
 {
-    match rows_of_items(alloc, items) {
-        Ok(text) => write_all(writer, text.as_slice()),
-        Err(_) => {
-            sheet.clear();
-            fill_joined(items, sheet);
-            write_all(writer, sheet.as_slice())
-        }
-    }
+    sheet.clear();
+    fill_items(&mut RowWriter::new(), items, sheet);
+    write_all(writer, sheet.as_slice())
 }
 
 /// Writes the last rows: of the group in progress, if the run ended so and there is one, and of all totals,
 /// these being those of the items before.
 fn write_end<K: Sink>(
-    alloc: Global,
     recording: &Recording,
     rules: &Rules,
     end: State,
@@ -171,7 +154,7 @@ fn write_end<K: Sink>(
     requires lawful { IsLawful rules.now (length_of recording.now) end }
     requires small { IsAtMost (2 ^ 47) totals }
     requires some { 0 < vec_capacity items.old }
-    requires room { 12 ≤ (size_of sheet.old).0 }
+    requires room { vec_capacity items.old ≤ (size_of sheet.old).0 }
     requires longest { (size_of sheet.old).1 ≡ 168 }
     requires count { K.failed writer.old < 2 ^ 63 }
     ensures ok { OnOk result (Appends (K.contents writer.old) (K.contents writer.new)
@@ -184,8 +167,8 @@ fn write_end<K: Sink>(
     take_end(items, group_at_end(recording, rules, end));
     let part = items.as_slice();
     let all = totals.plus(Totals::of(part));
-    write_part(alloc, part, sheet, writer)?;
-    write_totals(alloc, &all, sheet, writer)
+    write_part(part, sheet, writer)?;
+    write_totals(&all, writer)
 }
 
 /// The group in progress, if the run ended so and there is one.
@@ -209,14 +192,7 @@ fn take_end(items: &mut Vec<Item>, group: Option<Group>)
 }
 
 /// Writes the rows of these totals.
-fn write_totals<K: Sink>(
-    alloc: Global,
-    totals: &Totals,
-    sheet: &mut Sheet,
-    writer: &mut K,
-) -> Result<(), Failed>
-    requires room { 12 ≤ (size_of sheet.old).0 }
-    requires longest { (size_of sheet.old).1 ≡ 168 }
+fn write_totals<K: Sink>(totals: &Totals, writer: &mut K) -> Result<(), Failed>
     requires count { K.failed writer.old < 2 ^ 63 }
     ensures ok { OnOk result (Appends (K.contents writer.old) (K.contents writer.new)
         (totals_text totals.now)) }
@@ -225,30 +201,7 @@ fn write_totals<K: Sink>(
     ensures prefix { OnErr result (AppendsPrefix (K.contents writer.old) (K.contents writer.new)
         (totals_text totals.now)) }
 {
-    let all = totals_with_names(totals);
-    match named_rows(alloc, &all) {
-        Ok(text) => write_all(writer, text.as_slice()),
-        Err(_) => {
-            sheet.clear();
-            fill_named(&all, sheet);
-            write_all(writer, sheet.as_slice())
-        }
-    }
-}
-
-/// The rows of these items, joined without `csv`, which answers an error if memory is refused for them.
-fn fill_joined(items: &[Item], sheet: &mut Sheet)
-    requires room { length items.now ≤ left_of sheet.old }
-    requires longest { (size_of sheet.old).1 ≡ 168 }
-    ensures rows { text_of sheet.new ≡ text_of sheet.old ++ flat_map item_row items.now }
-    ensures left { left_of sheet.new + length items.now ≡ left_of sheet.old }
-    ensures size { size_of sheet.new ≡ size_of sheet.old }
-{
-    for item in items {
-        let mut line = Line::blank();
-        let Ok(()) = push_item(&mut line, item) else {
-            unreachable!()
-        };
-        sheet.push(line.as_bytes());
-    }
+    let mut rows = RowWriter::new();
+    rows.write_totals(totals_with_names(totals).as_slice());
+    write_all(writer, rows.as_bytes())
 }

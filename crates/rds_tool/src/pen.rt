@@ -1,36 +1,144 @@
-//! Writers of rows of plain fields.
-ghost use Rattle.std.specs.Prelude.{◌+◌, ◌++◌, ◌≡◌, ◌≤◌, IfErr, List, OnOk, length, map, ℕ};
-ghost use Rattle.std.specs.List.{AllByRecursion};
-ghost use Rattle.rds_tool.specs.Listing.{row};
-ghost use Rattle.rds_tool.specs.Inside.RowWriter.{IsPlain, IsShort};
-ghost use Rattle.rds_tool.specs.Refusals.{IsMemoryWhere};
+//! The rows of groups and windows, stored eight bytes at a time.
+ghost use Rattle.std.specs.Prelude.{◌+◌, ◌++◌, ◌≡◌, ◌≤◌, ◌∷◌, length};
+ghost use Rattle.csv.specs.Writing.{default_writer, row_text};
+ghost use Rattle.rds_code.specs.Offsets.{name};
+ghost use Rattle.rds_sync.specs.declared.item.Item.TheVariants as AnItem;
+ghost use Rattle.rds_tool.specs.Listing.{block_text, item_fields, item_row, kind_text, version_text, window_row, word_text};
+ghost use Rattle.rds_tool.specs.Inside.RowWriter.{IsPlain};
 
-use crate::ToolError;
+use crate::digits::{mask_digits, word_digits};
+use crate::page::Page;
+use rds_code::{Offset, Reading};
+use rds_sync::{Block, Group, Version};
 
-/// A writer of rows: `csv`, or one that is never refused.
-pub trait Pen {
-    /// The text that was written.
-    ghost text: { Self → List ℕ };
+impl Page {
+    /// Appends the row of a group, which is the record that `csv` writes of its fields.
+    #[inline(always)]
+    pub fn push_group(&mut self, group: &Group)
+        requires { length self.old + 168 ≤ 4096 }
+        ensures text { self.new ≡ self.old ++ item_row (AnItem.Group group.now) }
+        ensures record { self.new ≡ self.old
+            ++ row_text default_writer (item_fields (AnItem.Group group.now)) }
+        ensures short { length self.new ≤ length self.old + 168 }
+    {
+        self.put(*b"group,\0\0", 6);
+        self.put_number(group.place);
+        self.put_kind(group.kind);
+        self.put_version(group.version, group.conflict);
+        let [one, two, three, four] = &group.blocks;
+        self.put_block(one);
+        self.put_block(two);
+        self.put_block(three);
+        self.put_block(four);
+        self.put_byte(b'\n');
+    }
 
-    /// It can write a row.
-    ghost is_ready: { Self → Type 0 };
+    /// Appends the row of a valid window.
+    #[inline(always)]
+    pub fn push_window(&mut self, place: u64, offset: Offset)
+        requires { length self.old + 168 ≤ 4096 }
+        ensures text { self.new ≡ self.old ++ window_row (place, offset) }
+        ensures short { length self.new ≤ length self.old + 32 }
+    {
+        self.put_number(place);
+        self.put_name(offset);
+        self.put_byte(b'\n');
+    }
 
-    /// It has written one.
-    ghost has_written: { Self → Type 0 };
+    /// Appends a comma and the name of an offset.
+    #[inline(always)]
+    fn put_name(&mut self, offset: Offset)
+        requires { length self.old + 8 ≤ 4096 }
+        ensures text { self.new ≡ self.old ++ 44 ∷ name offset }
+        ensures short { length self.new ≤ length self.old + 3 }
+    {
+        match offset {
+            Offset::A => self.put(*b",A\0\0\0\0\0\0", 2),
+            Offset::B => self.put(*b",B\0\0\0\0\0\0", 2),
+            Offset::C => self.put(*b",C\0\0\0\0\0\0", 2),
+            Offset::Cx => self.put(*b",Cx\0\0\0\0\0", 3),
+            Offset::D => self.put(*b",D\0\0\0\0\0\0", 2),
+        }
+    }
 
-    /// It may refuse a row.
-    ghost may_refuse: { Self → Type 0 };
+    /// Appends a comma and a group's type, if it is known.
+    #[inline(always)]
+    fn put_kind(&mut self, kind: Option<u8>)
+        requires { length self.old + 8 ≤ 4096 }
+        ensures text { self.new ≡ self.old ++ 44 ∷ kind_text kind }
+        ensures plain { IsPlain (kind_text kind) }
+        ensures short { length self.new ≤ length self.old + 4 }
+    {
+        match kind {
+            None => self.put(*b",-\0\0\0\0\0\0", 2),
+            Some(kind) => {
+                let ones = b'0' + kind % 10;
+                let tens = b'0' + kind / 10 % 10;
+                if kind < 10 {
+                    self.put([b',', ones, 0, 0, 0, 0, 0, 0], 2)
+                } else if kind < 100 {
+                    self.put([b',', tens, ones, 0, 0, 0, 0, 0], 3)
+                } else {
+                    let hundreds = b'0' + kind / 10 / 10 % 10;
+                    self.put([b',', hundreds, tens, ones, 0, 0, 0, 0], 4)
+                }
+            }
+        }
+    }
 
-    /// One row more, of two to eight short fields that need no quotes.
-    fn push_row(&mut self, fields: &[&[u8]]) -> Result<(), ToolError>
-        requires ready { is_ready self.old }
-        requires several { 2 ≤ length fields.now }
-        requires few { length fields.now ≤ 8 }
-        requires plain { AllByRecursion IsPlain (map (λ field. field.now) fields.now) }
-        requires short { AllByRecursion IsShort (map (λ field. field.now) fields.now) }
-        ensures written { OnOk result (has_written self.new) }
-        ensures text { OnOk result (text self.new ≡ text self.old
-            ++ row (map (λ field. field.now) fields.now)) }
-        ensures short { OnOk result (length (text self.new) ≤ length (text self.old) + 168) }
-        ensures refused { IfErr result (IsMemoryWhere (may_refuse self.old)) };
+    /// Appends a comma and a group's version.
+    #[inline(always)]
+    fn put_version(&mut self, version: Version, conflict: bool)
+        requires { length self.old + 8 ≤ 4096 }
+        ensures text { self.new ≡ self.old ++ 44 ∷ version_text version conflict }
+        ensures short { length self.new ≤ length self.old + 3 }
+    {
+        match (version, conflict) {
+            (Version::A, false) => self.put(*b",A\0\0\0\0\0\0", 2),
+            (Version::A, true) => self.put(*b",A!\0\0\0\0\0", 3),
+            (Version::B, false) => self.put(*b",B\0\0\0\0\0\0", 2),
+            (Version::B, true) => self.put(*b",B!\0\0\0\0\0", 3),
+            (Version::Unknown, _) => self.put(*b",?\0\0\0\0\0\0", 2),
+        }
+    }
+
+    /// Appends a comma and the field of a block.
+    #[inline(always)]
+    fn put_block(&mut self, block: &Block)
+        requires { length self.old + 16 ≤ 4096 }
+        ensures text { self.new ≡ self.old ++ 44 ∷ block_text block.now }
+        ensures short { length self.new ≤ length self.old + 16 }
+    {
+        match *block {
+            Block::Missing => self.put(*b",none\0\0\0", 5),
+            Block::Read(Reading::Lost) => self.put(*b",lost\0\0\0", 5),
+            Block::Read(Reading::Valid { offset, info }) => self.put_word(offset, info),
+            Block::Read(
+                Reading::Corrected {
+                    offset,
+                    info,
+                    burst,
+                },
+            ) => {
+                self.put_word(offset, info);
+                let [a, b, c, d, e, f, g] = mask_digits(burst.pattern());
+                self.put([b'~', a, b, c, d, e, f, g], 8)
+            }
+        }
+    }
+
+    /// Appends a comma, an offset and an information word.
+    #[inline(always)]
+    fn put_word(&mut self, offset: Offset, info: u16)
+        requires { length self.old + 8 ≤ 4096 }
+        ensures text { self.new ≡ self.old ++ 44 ∷ word_text offset info }
+        ensures short { length self.new ≤ length self.old + 8 }
+    {
+        let [one, two, three, four] = word_digits(info);
+        match offset.name().as_bytes() {
+            [letter] => self.put([b',', *letter, b':', one, two, three, four, 0], 7),
+            [letter, mark] => self.put([b',', *letter, *mark, b':', one, two, three, four], 8),
+            _ => unreachable!(),
+        }
+    }
 }

@@ -4,7 +4,7 @@ ghost use Rattle.rds_pieces.specs.Cutting.{IsCutting};
 ghost use Rattle.rds_sync.specs.Decoding.{listed};
 ghost use Rattle.rds_sync.specs.Report.{report_items};
 ghost use Rattle.rds_sync.specs.Totals.{totals_of};
-ghost use Rattle.rds_tool.specs.Cuts.{are_inner, cuts_any, cuts_bits, has_pieces, places_at};
+ghost use Rattle.rds_tool.specs.Cuts.{are_inner, cuts_any, cuts_bits, has_pieces, places_at, places_by};
 ghost use Rattle.rds_tool.specs.Plans.{crew_of, cut_by};
 ghost use Rattle.rds_tool.specs.Refusals.{IsMemoryOrErrOf};
 ghost use Rattle.rds_tool.specs.Rules.{rules_of as the_rules_of};
@@ -16,8 +16,10 @@ use rds_pieces::{Cutting, RecordingWork};
 use rds_stream::Recording;
 use rds_sync::{Report, RuleNumbers, Rules, Spans};
 use std::alloc::{AllocError, Global};
-use std::sync::Wait;
 use std::thread::Threads;
+
+/// How many bits of a recording keep a worker busy: a thread for fewer costs more than it saves.
+const WORK: u64 = 1 << 20;
 
 impl Workers {
     ghost use Rattle.rds_tool.specs.Plans.{workers_of};
@@ -84,20 +86,41 @@ impl<'a> Plan<'a> {
         self.workers
     }
 
-    /// Whether one worker goes over the whole recording by itself: it may be cut anyhow, and no cut is asked for by its place.
-    pub fn is_for_one(&self) -> bool
-        ensures value { result ≡ (self.now.workers == 1 && cuts_any self.now.cuts) }
-        ensures any { result ≡ true → cuts_any self.now.cuts ≡ true }
+    /// How many of them decode `len` bits: all if the gate wants calls.
+    fn crew<G: Gate>(&self, len: u64, gate: &G) -> u32
+        ensures some { 0 < result }
+        ensures few { result ≤ 256 }
+    {
+        if gate.wants_calls() {
+            self.workers()
+        } else {
+            busy_workers(self.workers(), len)
+        }
+    }
+
+    /// Whether one worker goes over a whole recording of `len` bits by itself: there is no work for more, and no cut is
+    /// asked for by its place.
+    pub fn is_for_one(&self, len: u64) -> bool
+        ensures { result ≡ true → cuts_any self.now.cuts ≡ true }
     {
         match self.cuts {
-            Cuts::Even(_) => self.workers == 1,
+            Cuts::Even(_) => busy_workers(self.workers(), len) == 1,
             Cuts::At(_) => false,
         }
     }
 }
 
+/// For how many of the workers there is work in `len` bits.
+pub fn busy_workers(workers: u32, len: u64) -> u32
+    requires { 0 < workers }
+    ensures some { 0 < result }
+    ensures few { result ≤ workers }
+{
+    (len / WORK).min(u64::from(workers)).max(1) as u32
+}
+
 /// The report of the recording, made by the crew piece by piece.
-pub fn report_by<R: Threads + Wait, G: Gate + Sync>(
+pub fn report_by<R: Threads + Sync, G: Gate + Sync>(
     rt: &R,
     alloc: Global,
     plan: &Plan<'_>,
@@ -110,13 +133,12 @@ pub fn report_by<R: Threads + Wait, G: Gate + Sync>(
     ensures totals { IfOk result (λ report. report.totals
         ≡ totals_of (report_items recording.now plan.now.rules)) }
     ensures fits { OnOk result (cut_by plan.now.cuts recording.now ≡ Ok recording.now) }
-    ensures refused { IfErr result (λ error. (error ≡ ToolError.OutOfMemory) ⊎ ((error ≡ ToolError.NoWorker)
-        ⊎ (cut_by plan.now.cuts recording.now ≡ Err error))) }
-    ensures no_worker { IsErrOf result ToolError.NoWorker → 1 < plan.now.workers }
+    ensures refused { IfErr result (IsMemoryOrErrOf (cut_by plan.now.cuts recording.now)) }
 {
     let cutting = cutting_of(alloc, plan.cuts, recording.len())?;
     let work = RecordingWork::new(recording, &plan.rules, &cutting).cut_into(spans);
-    Ok(decode_crew(rt, alloc, &work, plan.workers, gate)?)
+    let workers = plan.crew(recording.len(), gate);
+    Ok(decode_crew(rt, alloc, &work, workers, gate)?)
 }
 
 /// The rules of these settings.
@@ -144,33 +166,10 @@ fn check_crew(settings: &Settings) -> Result<(), ToolError>
     }
 }
 
-/// Refuses cuts that the recording can't have.
-pub fn check_cuts(alloc: Global, plan: &Plan<'_>, recording: &Recording) -> Result<(), ToolError>
-    ensures fits { OnOk result (cut_by plan.now.cuts recording.now ≡ Ok recording.now) }
-    ensures refused { IfErr result (λ error. (error ≡ ToolError.OutOfMemory)
-        ⊎ (cut_by plan.now.cuts recording.now ≡ Err error)) }
-{
-    check_places(alloc, plan.cuts, recording.len())
-}
-
-/// Refuses cuts at places that `len` bits don't have. Cuts into pieces of one length fit any number of bits.
-fn check_places(alloc: Global, cuts: &Cuts, len: u64) -> Result<(), ToolError>
-    ensures fits { OnOk result (cuts_bits cuts.now len ≡ true) }
-    ensures refused { IfErr result (λ error. (error ≡ ToolError.OutOfMemory)
-        ⊎ ((error ≡ ToolError.BadCutting) × (cuts_bits cuts.now len ≡ false))) }
-{
-    match cuts {
-        Cuts::Even(_) => Ok(()),
-        Cuts::At(cuts) => match cutting_at(alloc, cuts.as_slice(), len) {
-            Ok(_) => Ok(()),
-            Err(error) => Err(error),
-        },
-    }
-}
-
 /// The cutting of `len` bits.
 fn cutting_of(alloc: Global, cuts: &Cuts, len: u64) -> Result<Cutting, ToolError>
     requires { has_pieces cuts.now ≡ true }
+    ensures places { IfOk result (λ cutting. cutting ≡ places_by cuts.now len) }
     ensures cutting { IfOk result (λ cutting. IsCutting len cutting) }
     ensures fits { OnOk result (cuts_bits cuts.now len ≡ true) }
     ensures refused { IfErr result (λ error. (error ≡ ToolError.OutOfMemory)
@@ -184,6 +183,7 @@ fn cutting_of(alloc: Global, cuts: &Cuts, len: u64) -> Result<Cutting, ToolError
 
 /// The cutting of `len` bits at these inner cuts.
 fn cutting_at(alloc: Global, cuts: &[u64], len: u64) -> Result<Cutting, ToolError>
+    ensures places { IfOk result (λ cutting. cutting ≡ places_at len cuts.now) }
     ensures cutting { IfOk result (λ cutting. IsCutting len cutting) }
     ensures fits { OnOk result (are_inner len cuts.now ≡ true) }
     ensures refused { IfErr result (λ error. (error ≡ ToolError.OutOfMemory)

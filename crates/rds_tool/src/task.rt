@@ -59,16 +59,6 @@ pub enum Text<'a> {
     Windows(Recording, Workers),
 }
 
-/// A text that the caller writes without a thread.
-#[derive(Drop)]
-pub enum Single<'a> {
-    Whole(Vec<u8>),
-    /// A recording whose report is written while it is decoded.
-    OnePass(Recording, Plan<'a>),
-    /// A recording that is scanned.
-    Windows(Recording),
-}
-
 /// A report and the source of its items.
 #[derive(Drop)]
 pub struct Listing<'a> {

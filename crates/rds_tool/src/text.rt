@@ -10,25 +10,26 @@ use crate::ToolError;
 use crate::listing::Heard;
 use crate::listing_rows::ListingRows;
 use crate::one_pass::write_in_one_pass;
+use crate::plan::busy_workers;
 use crate::task::{Listing, Plan, Text};
 use crate::window_rows::WindowRows;
-use rds_rows::{Failed, RowsError, Sink, write_all, write_rows_in_parts};
+use rds_rows::{Failed, RowsError, Sink, write_all, write_rows};
 use rds_stream::Recording;
 use std::alloc::Global;
-use std::sync::Wait;
 use std::thread::Threads;
 
 /// How many rows of a listing are made at once.
-const PART: usize = 2048;
+const PART: usize = 1024;
 
-/// How many places are scanned at once, and how many at most by all workers together: each has room for a row.
-pub const PLACES: usize = 32_768;
+/// How many places are scanned at once: each has room for a row.
+const PLACES: usize = 16_384;
 
-const ALL_PLACES: usize = 524_288;
+/// How many workers make rows at most: the caller writes all of them, and more would wait for it.
+const MAKERS: u32 = 8;
 
 impl Text<'_> {
     /// Writes the whole text and flushes. If memory is refused, nothing was written.
-    pub fn write_to<R: Threads + Wait + Sync, K: Sink>(
+    pub fn write_to<R: Threads + Sync, K: Sink>(
         &self,
         rt: &R,
         alloc: Global,
@@ -52,7 +53,7 @@ impl Text<'_> {
 }
 
 /// Writes the whole text, and does not flush.
-fn write_bytes<R: Threads + Wait + Sync, K: Sink>(
+fn write_bytes<R: Threads + Sync, K: Sink>(
     rt: &R,
     alloc: Global,
     text: &Text<'_>,
@@ -77,7 +78,7 @@ fn write_bytes<R: Threads + Wait + Sync, K: Sink>(
 }
 
 /// Writes a text that is made.
-pub fn write_whole<K: Sink>(writer: &mut K, bytes: &[u8]) -> Result<(), RowsError>
+fn write_whole<K: Sink>(writer: &mut K, bytes: &[u8]) -> Result<(), RowsError>
     requires { K.failed writer.old < 2 ^ 63 }
     ensures ok { OnOk result (Appends (K.contents writer.old) (K.contents writer.new) bytes.now) }
     ensures count { OnOk result (K.failed writer.new ≡ K.failed writer.old) }
@@ -93,7 +94,7 @@ pub fn write_whole<K: Sink>(writer: &mut K, bytes: &[u8]) -> Result<(), RowsErro
 }
 
 /// Writes the rows, spelled by as many threads as there are workers.
-fn write_listing<R: Threads + Wait + Sync, K: Sink>(
+fn write_listing<R: Threads + Sync, K: Sink>(
     rt: &R,
     alloc: Global,
     listing: &Listing<'_>,
@@ -114,11 +115,12 @@ fn write_listing<R: Threads + Wait + Sync, K: Sink>(
         rules: listing.plan.rules(),
     };
     let rows = ListingRows::new(alloc, heard, &listing.report)?;
-    write_rows_in_parts(rt, alloc, &rows, listing.plan.workers(), PART, writer)
+    let workers = makers(listing.plan.workers(), &listing.recording);
+    write_rows(rt, alloc, &rows, workers, PART, writer)
 }
 
 /// Writes the listing of a recording while it is decoded.
-pub fn write_decoded<K: Sink>(
+fn write_decoded<K: Sink>(
     alloc: Global,
     recording: &Recording,
     plan: &Plan<'_>,
@@ -138,7 +140,7 @@ pub fn write_decoded<K: Sink>(
 }
 
 /// Writes the rows of the valid windows, spelled by as many threads as there are workers.
-fn write_windows<R: Threads + Wait + Sync, K: Sink>(
+fn write_windows<R: Threads + Sync, K: Sink>(
     rt: &R,
     alloc: Global,
     recording: &Recording,
@@ -156,9 +158,17 @@ fn write_windows<R: Threads + Wait + Sync, K: Sink>(
     ensures prefix { IsErrOf result RowsError.Write
         → AppendsPrefix (K.contents writer.old) (K.contents writer.new) (scan_text recording.now) }
 {
-    let rows = WindowRows { alloc, recording };
-    let most = (ALL_PLACES / workers as usize).min(PLACES);
-    write_rows_in_parts(rt, alloc, &rows, workers, most, writer)
+    let rows = WindowRows { recording };
+    write_rows(rt, alloc, &rows, makers(workers, recording), PLACES, writer)
+}
+
+/// How many of the workers make rows of a recording.
+fn makers(workers: u32, recording: &Recording) -> u32
+    requires { 0 < workers }
+    ensures some { 0 < result }
+    ensures few { result ≤ 256 }
+{
+    busy_workers(workers, recording.len()).min(MAKERS)
 }
 
 /// Writes this text and flushes.
@@ -179,7 +189,7 @@ pub fn write_flushed<K: Sink>(writer: &mut K, text: &[u8]) -> Result<(), ToolErr
 }
 
 /// Flushes.
-pub fn flush<K: Sink>(writer: &mut K) -> Result<(), ToolError>
+fn flush<K: Sink>(writer: &mut K) -> Result<(), ToolError>
     requires { K.failed writer.old < 2 ^ 63 }
     ensures bytes { Keeps (K.contents writer.old) (K.contents writer.new) }
     ensures flushed { OnOk result (K.is_flushed writer.new ≡ true) }

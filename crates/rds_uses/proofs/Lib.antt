@@ -8,3 +8,4 @@ pub mod GapFacts
 pub mod Wholes
 pub mod NumberedStreams
 pub mod SentAndHeard
+pub mod WrittenLists

@@ -1,12 +1,15 @@
 //! Facts that a user of `rds_code` relies on: remainders, offsets, bursts, and blocks as they are sent and
 //! read.
 ghost use Rattle.std.specs.Prelude.{◌≡◌, ◌≢◌, ℕ, ◌+◌, ◌<◌, ◌≤◌, ◌^◌, ◌↔◌, ◌∷◌, [], IsTrue, IfOk, IfSome, None, Some, Contains, bit_xor, codes, slice_index, true};
+ghost use Rattle.std.specs.Int.{bit_at};
 ghost use Rattle.std.specs.Int.Count.{ones};
 ghost use Rattle.rds_code.specs.declared.offset.Offset.{Offset as AnOffset};
 ghost use Rattle.rds_code.specs.declared.offset.Offset.TheVariants.{A, B, C, Cx, D};
+ghost use Rattle.rds_code.specs.declared.reading.Wanted.TheVariants.{OnlyCx};
 ghost use Rattle.rds_code.specs.declared.reading.Reading.{Reading as AReading};
 ghost use Rattle.rds_code.specs.declared.reading.Reading.TheVariants.{Valid, Corrected};
-ghost use Rattle.rds_code.specs.Remainder.{IsRemainder, rem};
+ghost use Rattle.rds_code.specs.Remainder.{IsRemainder, generator, rem};
+ghost use Rattle.rds_code.specs.Generator.{HasPeriod, IsCandidate, TellsApart, parity_rows, remainder_by, syndrome, times_power};
 ghost use Rattle.rds_code.specs.Offsets.{number};
 ghost use Rattle.rds_code.specs.Bursts.{IsBurst, bursts, burst_length};
 ghost use Rattle.rds_code.specs.Reading.{FitsAlone, IsReading, reading};
@@ -53,6 +56,44 @@ pub fn remainders_agree(w: u32) -> bool
     ensures { result ≡ true }
 {
     rem26(w) == plain::rem26(w)
+}
+
+/// A polynomial with the generator's period, by which all bursts of up to five bits are told apart, is one of two.
+pub fn is_one_of_two(polynomial: u16) -> bool
+    requires candidate { IsCandidate polynomial }
+    requires period { HasPeriod polynomial 341 }
+    requires told { TellsApart polynomial }
+    ensures { result ≡ true }
+{
+    laws::generator_is_one_of_two();
+    polynomial == 0x5B9 || polynomial == 0x4ED
+}
+
+/// The power of x that is 1 again, and the remainders that tell bursts apart.
+pub fn period_of_generator() -> u16
+    ensures period { HasPeriod generator result }
+    ensures told { TellsApart generator }
+{
+    laws::generator_is_one_of_two();
+    341
+}
+
+/// A receiver that divides as a shift register does, bit by bit, has the same remainder.
+pub fn shifted_in(w: u32) -> u16
+    requires { w < 2 ^ 26 }
+    ensures { remainder_by generator 26 w ≡ result }
+{
+    laws::generator_is_one_of_two();
+    rem26(w)
+}
+
+/// A receiver that has the standard's syndrome of a block multiplies it by x^16.
+pub fn from_syndrome(w: u32) -> u16
+    requires { w < 2 ^ 26 }
+    ensures { times_power generator 16 (syndrome parity_rows w) ≡ result }
+{
+    laws::syndromes_are_remainders();
+    rem26(w)
 }
 
 /// A block has a remainder, whoever computes it.
@@ -195,6 +236,15 @@ pub fn sent_and_told(outcomes: &Outcomes, info: u16, offset: Offset, wanted: Wan
     laws::blocks_are_read_as_sent();
     let sent = encode_block(info, offset);
     outcomes.of_block(sent, offset.number(), wanted)
+}
+
+/// A block 2 that is sent with its version bit set allows only C' for a damaged block 3.
+pub fn wanted_after_version_b(outcomes: &Outcomes, info: u16) -> Wanted
+    requires { bit_at info 11 ≡ 1 }
+    ensures { result ≡ OnlyCx }
+{
+    laws::blocks_are_read_as_sent();
+    outcomes.wanted_after(encode_block(info, Offset::B))
 }
 
 /// Outcomes are by the limit that they were made for.

@@ -1,9 +1,9 @@
 //! Facts that a user of `rds_crew` relies on: the report of a crew is that of one decoder, and each refusal
 //! has its cause.
-ghost use Rattle.std.specs.Prelude.{◌≡◌, ◌≤◌, ◌⊎◌, IfErr, IsOkUnless, IfOk, IsErrOf, length};
+ghost use Rattle.std.specs.Prelude.{◌≡◌, IsOkUnless, IfOk, IsErrOf};
 ghost use Rattle.rds_stream.specs.Recording.{length_of};
-ghost use Rattle.rds_crew.specs.declared.error.CrewError.TheVariants.{CrewRange, NoWorker, OutOfMemory};
-ghost use Rattle.rds_pieces.specs.Cutting.{IsCutting, pieces_of};
+ghost use Rattle.rds_crew.specs.declared.error.CrewError.TheVariants.{CrewRange, OutOfMemory};
+ghost use Rattle.rds_pieces.specs.Cutting.{IsCutting};
 ghost use Rattle.rds_sync.specs.Decoding.{listed};
 ghost use Rattle.rds_sync.specs.Report.{report_items};
 ghost use Rattle.rds_sync.specs.Totals.{totals_of};
@@ -13,12 +13,11 @@ use rds_pieces::{Cutting, RecordingWork};
 use rds_stream::Recording;
 use rds_sync::{Report, Rules};
 use std::alloc::Global;
-use std::sync::Wait;
 use std::thread::Threads;
 
-/// The report of a recording by four workers, however it is cut: that of one decoder. No thread is asked for
-/// if there is one piece: only memory can be refused.
-pub fn decoded_by_four<R: Threads + Wait + Sync>(
+/// The report of a recording by four workers, however it is cut: that of one decoder. Only memory can be
+/// refused.
+pub fn decoded_by_four<R: Threads + Sync>(
     rt: &R,
     alloc: Global,
     recording: &Recording,
@@ -30,15 +29,14 @@ pub fn decoded_by_four<R: Threads + Wait + Sync>(
         ≡ listed recording.now rules.now (report_items recording.now rules.now)) }
     ensures totals { IfOk result
         (λ report. report.totals ≡ totals_of (report_items recording.now rules.now)) }
-    ensures refused { IfErr result (λ error. (error ≡ OutOfMemory) ⊎ (error ≡ NoWorker)) }
-    ensures alone { pieces_of cutting.now ≤ 1 → IsOkUnless result OutOfMemory }
+    ensures refused { IsOkUnless result OutOfMemory }
 {
     let work = RecordingWork::new(recording, rules, cutting);
     decode_crew(rt, alloc, &work, 4, &OpenGate)
 }
 
 /// More than 256 workers are refused.
-pub fn too_many_workers<R: Threads + Wait + Sync>(
+pub fn too_many_workers<R: Threads + Sync>(
     rt: &R,
     alloc: Global,
     recording: &Recording,

@@ -7,15 +7,12 @@ ghost use Rattle.rds_tool.specs.Following.{IsFlushedAfter, IsHeardOut, listed, r
 ghost use Rattle.rds_tool.specs.History.{Gave};
 ghost use Rattle.rds_tool.specs.Outcome.{IsOutside, Writes, result_of_job};
 ghost use Rattle.rds_tool.specs.Tasks.{task_of};
-ghost use Rattle.rds_tool.specs.declared.error.ToolError.TheVariants.{NoWorker, Read, Write};
+ghost use Rattle.rds_tool.specs.declared.error.ToolError.TheVariants.{Read, Write};
 
 use rds_sync::Rules;
-use rds_tool::{
-    FromRead, Job, Sink, Source, ToWrite, ToolError, follow, transcribe, transcribe_alone,
-};
+use rds_tool::{FromRead, Job, Sink, Source, ToWrite, ToolError, follow, transcribe};
 use std::alloc::Global;
 use std::rt::{Stdin, Stdout};
-use std::sync::Wait;
 use std::thread::Threads;
 
 /// Both ends of a job over standard input and output, as it left them, and its answer.
@@ -28,7 +25,7 @@ pub struct Piped {
 
 /// From standard input to standard output: all that was given makes all that was taken, after the end was answered, and the
 /// last call was a flush that succeeded.
-pub fn input_to_output<R: Threads + Wait + Sync>(rt: &HostRuntime, crew: &R, job: &Job) -> Piped
+pub fn input_to_output<R: Threads + Sync>(rt: &HostRuntime, crew: &R, job: &Job) -> Piped
     ensures text { OnOk result.answer
         (result_of_job job.now (given_by result.reader) ≡ Ok (taken_by result.writer)) }
     ensures end { OnOk result.answer (has_ended result.reader ≡ true) }
@@ -46,7 +43,7 @@ pub fn input_to_output<R: Threads + Wait + Sync>(rt: &HostRuntime, crew: &R, job
 
 /// Between any devices: the text that is written is the outcome of the bytes that were read, and a refusal is
 /// the job's or that of these bytes.
-pub fn job_between_devices<R: Threads + Wait + Sync, S: Source, K: Sink>(
+pub fn job_between_devices<R: Threads + Sync, S: Source, K: Sink>(
     rt: &R,
     alloc: Global,
     reader: &mut S,
@@ -64,24 +61,6 @@ pub fn job_between_devices<R: Threads + Wait + Sync, S: Source, K: Sink>(
         × ((task_of job.now ≡ Err error) ⊎ (S.has_ended reader.new ≡ true)))) }
 {
     transcribe(rt, alloc, reader, writer, job)
-}
-
-/// The same without a thread: the bounds name no wait, so the call ends if those of the devices do.
-pub fn heard_alone<S: Source, K: Sink>(
-    alloc: Global,
-    reader: &mut S,
-    writer: &mut K,
-    job: &Job,
-) -> Result<(), ToolError>
-    requires reads { S.failed reader.old < 2 ^ 63 }
-    requires writes { K.failed writer.old < 2 ^ 63 }
-    ensures text { OnOk result (Gave (S.given reader.old) (S.given reader.new)
-        (λ bytes. Writes (K.contents writer.old) (K.contents writer.new) (result_of_job job.now bytes))) }
-    ensures end { OnOk result (S.has_ended reader.new ≡ true) }
-    ensures flushed { OnOk result (K.is_flushed writer.new ≡ true) }
-    ensures no_thread { IsErrOf result NoWorker → ⊥ }
-{
-    transcribe_alone(alloc, reader, writer, job)
 }
 
 /// A stream at any devices: the text that is written is the listing of the bytes that were read, up to the

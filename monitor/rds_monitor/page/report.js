@@ -35,7 +35,9 @@
     const lanes = new Map();
     for (const session of sessions) {
       const open = new Map(), end = session.at + session.end;
-      for (const [time, item, text] of session.events) {
+      // Until an item changes, what it said in the part before holds.
+      const carried = (session.carried || []).map(([item, text]) => [session.begin, item, text]);
+      for (const [time, item, text] of [...carried, ...session.events]) {
         const name = laneOf(item), at = session.at + time;
         if (!name) continue;
         if (!lanes.has(name)) lanes.set(name, []);

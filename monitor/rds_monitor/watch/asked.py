@@ -2,16 +2,20 @@
 
 from __future__ import annotations
 
+import fcntl
 import json
 import os
 import sqlite3
 import time
-from typing import Any, Dict, List, Optional, Sequence, Tuple
+from typing import Any, Dict, Optional, Sequence, Tuple
 from urllib.parse import quote
 
-from ..check import CRITICAL, WARNING, Limits, Verdict, pattern_of
-from ..items import Fault
-from .pages import CRITICAL as CRITICAL_ALARMS
+from ..db.standing import CRITICAL as CRITICAL_ALARMS
+from ..db.standing import STATES, Availability, availability, standing_of
+from ..rows.clock import DAY
+from ..rows.items import Fault
+from .records import WATCH, lasting_in
+from .verdict import CRITICAL, OK, WARNING, Limits, Seen, Verdict
 
 # The watch writes each ten seconds. Without news for so long it is not running.
 NEWS = 60.0
@@ -19,74 +23,68 @@ NEWS = 60.0
 
 def judge_station(
     paths: Sequence[str], name: str, limits: Limits, pi: Optional[str], names: Sequence[str]
-) -> Tuple[Verdict, str]:
-    """The verdict and the performance data, by the alarms that last, the last minute, and the options."""
+) -> Verdict:
+    """By the station's state, the alarms that last, the last minute, and the options."""
     if len(paths) != 1:
         raise Fault("--station is for one database")
-    looked, state = state_of(paths[0], name)
-    quiet = time.time() - looked
-    if quiet > NEWS:
-        raise Fault(f"{name} was last looked at {quiet:.0f} s ago: rds-monitor watch does not run")
     verdict = Verdict()
-    for alarm, text in sorted(state["alarms"].items()):
-        verdict.at_least(CRITICAL if alarm in CRITICAL_ALARMS else WARNING)
-        verdict.said.append(f"{alarm}: {text}")
-    data = [*_minute(verdict, state, limits), *_group(verdict, state, limits)]
-    _contents(verdict, state["held"], pi, names)
-    return verdict, " ".join(data)
+    looked, state, disk, day = known_of(paths[0], name)
+    quiet = time.time() - looked
+    if disk:
+        verdict.say(WARNING, f"disk: {disk}")
+        return verdict
+    if quiet > NEWS:
+        runs = runs_for(os.path.dirname(os.path.abspath(paths[0])))
+        if runs is not None and runs > NEWS:
+            verdict.say(CRITICAL, f"disk: nothing was written for {quiet:.0f} s while rds-monitor watch runs")
+            return verdict
+        why = "does not run" if runs is None else "has just begun"
+        raise Fault(f"{name} was last looked at {quiet:.0f} s ago: rds-monitor watch {why}")
+    stands = standing_of(state)
+    for alarm, text in sorted(stands.alarms.items()):
+        verdict.say(CRITICAL if alarm in CRITICAL_ALARMS else WARNING, f"{alarm}: {text}")
+    if stands.state != STATES[-1] and not stands.alarms:
+        verdict.say(OK, stands.reason)
+    verdict.judge(seen_of(state), limits, pi, names)
+    verdict.data += [f"{word}={seconds:.0f}s" for word, seconds in day._asdict().items()]
+    return verdict
 
 
-def state_of(path: str, name: str) -> Tuple[float, Dict[str, Any]]:
-    """When a station was last looked at, and its state."""
+def runs_for(folder: str) -> Optional[float]:
+    """For how many seconds a watch has held its lock, if one does."""
+    try:
+        with open(os.path.join(folder, "watch.lock"), "rb") as lock:
+            fcntl.flock(lock, fcntl.LOCK_SH | fcntl.LOCK_NB)
+    except BlockingIOError:
+        return time.time() - os.stat(lock.name).st_mtime
+    except OSError:
+        pass
+    return None
+
+
+def seen_of(state: Dict[str, Any]) -> Seen:
+    minute, last, held = state["minute"], state["last_group_utc"], state["held"]
+    sent = minute["sent"] if minute else 0
+    valid, corrected = (100 * minute[name] / sent if sent else None for name in ("valid", "corrected"))
+    # News are up to ten seconds old.
+    age = None if last is None else max(0.0, state["utc"] - last)
+    names = state.get("names") or [name for name in [held.get("ps", "").strip()] if name]
+    return Seen(valid, corrected, age, held.get("pi"), names, "blocks of the last minute", True)
+
+
+def known_of(path: str, name: str) -> Tuple[float, Dict[str, Any], str, Availability]:
+    """When a station was last looked at, its state, what is wrong with the disk, and the last day."""
     try:
         # Without making a file if there is none.
         data = sqlite3.connect(f"file:{quote(os.path.abspath(path))}?mode=ro", uri=True, timeout=5)
-        row = data.execute("SELECT looked_at, state FROM station_rows WHERE station = ?", (name,)).fetchone()
-        known: List[str] = [it[0] for it in data.execute("SELECT station FROM station_rows ORDER BY station")]
+        found = data.execute("SELECT station, looked_at, state FROM station_rows ORDER BY station").fetchall()
+        known = {station: (float(looked), json.loads(state)) for station, looked, state in found}
+        disk, _ = lasting_in(data, WATCH).get("disk", ("", 0.0))
+        looked, state = known.get(name, (0.0, {}))
+        day = availability(data, name, looked - DAY, looked)
         data.close()
     except sqlite3.Error as error:
         raise Fault(f"{path}: {error}") from None
-    if row is None:
+    if name not in known:
         raise Fault(f"{path} has no station {name}: there are {', '.join(known) or 'none'}")
-    return float(row[0]), json.loads(row[1])
-
-
-def _minute(verdict: Verdict, state: Dict[str, Any], limits: Limits) -> List[str]:
-    minute = state["minute"]
-    if not minute or not minute["sent"]:
-        verdict.said.append("no whole minute yet")
-        return ["valid=U", "corrected=U"]
-    valid, corrected = (100 * minute[it] / minute["sent"] for it in ("valid", "corrected"))
-    if valid < limits.low:
-        verdict.at_least(CRITICAL if valid < limits.lowest else WARNING)
-    verdict.said.append(f"{valid:.2f} % of the blocks of the last minute valid")
-    return [f"valid={valid:.2f}%;{limits.low:g}:;{limits.lowest:g}:;0;100", f"corrected={corrected:.2f}%;;;0;100"]
-
-
-def _group(verdict: Verdict, state: Dict[str, Any], limits: Limits) -> List[str]:
-    last = state["last_group_utc"]
-    if last is None:
-        verdict.at_least(CRITICAL)
-        verdict.said.append("no valid group")
-        return ["age=U"]
-    # News are up to ten seconds old.
-    age = max(0.0, state["utc"] - last)
-    if age > limits.old:
-        verdict.at_least(CRITICAL if age > limits.oldest else WARNING)
-    verdict.said.append(f"last valid group {age:.3f} s ago")
-    return [f"age={age:.3f}s;{limits.old:g};{limits.oldest:g};0"]
-
-
-def _contents(verdict: Verdict, held: Dict[str, str], pi: Optional[str], names: Sequence[str]) -> None:
-    found = held.get("pi")
-    if pi is not None and found != pi:
-        verdict.at_least(CRITICAL)
-        verdict.said.append(f"programme {found} instead of {pi}" if found else "no programme")
-    elif found is not None:
-        verdict.said.append(f"programme {found}")
-    name = held.get("ps", "").strip()
-    if names and not any(pattern_of(it).fullmatch(name) for it in names):
-        verdict.at_least(CRITICAL if name else WARNING)
-        verdict.said.append(f"name {name} instead of {' or '.join(names)}" if name else "no name")
-    elif name:
-        verdict.said.append(f"name {name}")
+    return looked, state, disk, day

@@ -2,32 +2,20 @@
 
 from __future__ import annotations
 
-from typing import Any, Dict, Protocol
+from typing import Any, Dict
 
 import numpy
 
-from ..clock import RATE
-from ..receiver import Receiver
-from ..samples import FORMS, channels_of, checked, numbers
-from ..symbols import Bits
+from ..rows.clock import RATE
+from ..signal.receiver import Receiver
+from ..signal.samples import FORMS, channels_of, checked, numbers
+from ..signal.symbols import Bits
 from .table import StationTable
 
 
-class BitSource(Protocol):
-    """Takes bytes as they come and gives packed bits. `delay` is by how many seconds the last bit is older than the
-    last byte; `report` says how well a signal was received."""
-
-    delay: float
-
-    def take(self, data: bytes) -> bytes: ...
-
-    def finish(self) -> bytes: ...
-
-    def report(self) -> Dict[str, Any]: ...
-
-
 class Packed:
-    """Bits that are packed already."""
+    """Takes bytes as they come and gives packed bits: here bits that are packed already. `delay` is by how many seconds the last
+    bit is older than the last byte; `report` says how well a signal was received."""
 
     delay = 0.0
 
@@ -41,17 +29,16 @@ class Packed:
         return {}
 
 
-class Demodulated:
+class Demodulated(Packed):
     """Raw samples of MPX or IQ. At the end up to seven bits are left out: they fill no byte."""
 
-    def __init__(self, it: StationTable):
-        assert it.raw is not None and it.rate is not None
-        self.delay = 0.0
-        self._form, self._channels = it.raw, (0, 1) if it.form == "iq" else (0,)
-        self._frame = len(self._channels) * FORMS[it.raw][0]
-        self._rate = it.rate
-        is_iq = it.form == "iq"
-        self._receiver = Receiver(it.rate, is_iq, FORMS[it.raw][1], it.offset, is_iq)
+    def __init__(self, table: StationTable):
+        assert table.raw is not None and table.rate is not None
+        self._form, self._channels = table.raw, (0, 1) if table.form == "iq" else (0,)
+        self._frame = len(self._channels) * FORMS[table.raw][0]
+        self._rate = table.rate
+        is_iq = table.form == "iq"
+        self._receiver = Receiver(table.rate, is_iq, FORMS[table.raw][1], table.offset, is_iq)
         self._odd = b""
         self._bits: Bits = numpy.zeros(0, "u1")
         self._samples = 0
@@ -63,7 +50,7 @@ class Demodulated:
         if not frames:
             return b""
         samples = channels_of(frames, numbers(data[: frames * self._frame], self._form), self._channels)
-        bits = [self._receiver.push(it) for it in checked(samples, self._samples)]
+        bits = [self._receiver.push(block) for block in checked(samples, self._samples)]
         self._samples += frames
         packed = self._packed(numpy.concatenate(bits))
         if packed and not self.delay:
@@ -84,7 +71,5 @@ class Demodulated:
         return self._receiver.quality.report()
 
 
-def bit_source(it: StationTable) -> BitSource:
-    if it.form == "bits":
-        return Packed()
-    return Demodulated(it)
+def bit_source(table: StationTable) -> Packed:
+    return Packed() if table.form == "bits" else Demodulated(table)

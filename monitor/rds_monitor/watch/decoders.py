@@ -1,6 +1,7 @@
 """The decoder of a session: librds, or a process of the program rds.
 
-Both give the same rows at the same time, so a session needs not know which one it has.
+Both give the same rows at the same time. `place` is how many bits were pushed. `push` gives all rows that the bits so far complete,
+or raises a `Fault`. `finish` gives the last row and the totals, or None for these if the decoder died.
 """
 
 from __future__ import annotations
@@ -12,11 +13,12 @@ import shutil
 import subprocess
 import termios
 import time
-from typing import Any, Callable, List, Optional, Protocol, Tuple
+from typing import Any, Callable, Optional, Tuple, Union
 
-from ..items import Fault, Rows, Totals, library, totals_of
-from ..listing import TOTAL_NAMES, TOTAL_ROW
-from ..parse import parse
+from ..rows.items import Fault, Rows, Totals, totals_of
+from ..rows.listing import TOTAL_NAMES, TOTAL_ROW
+from ..rows.parse import parse
+from ..rows.recording import library
 from .receiver import how_ended
 
 # systemd and a terminal signal all processes of a watch at once. The decoder ends when its input does, and not before.
@@ -24,22 +26,6 @@ SHIELD = 'trap "" TERM INT HUP QUIT; exec "$0" follow'
 # Seconds without any progress after which a program hangs. systemd's watchdog has twice as many.
 PATIENCE = 30.0
 FIRST_PAUSE, LONGEST_PAUSE = 0.0002, 0.01
-
-
-class StreamDecoder(Protocol):
-    """`push` gives all rows that the bits so far complete. `finish` gives the last row and the totals, or None for these if
-    the decoder died. Only `push` raises a `Fault`."""
-
-    @property
-    def place(self) -> int:
-        """How many bits were pushed."""
-
-    def push(self, data: bytes) -> Rows: ...
-
-    def finish(self) -> Tuple[Rows, Optional[Totals]]: ...
-
-
-NewDecoder = Callable[[], StreamDecoder]
 
 
 class ByLibrary:
@@ -58,7 +44,9 @@ class ByLibrary:
 
     def finish(self) -> Tuple[Rows, Optional[Totals]]:
         rows, found = self._follower.finish_array()
-        return rows, Totals(found.valid, tuple(found.bursts), *(getattr(found, it) for it in Totals._fields[2:]))
+        return rows, Totals(
+            found.valid, tuple(found.bursts), *(getattr(found, field) for field in Totals._fields[2:])
+        )
 
 
 class ByProgram:
@@ -73,9 +61,9 @@ class ByProgram:
     def push(self, data: bytes) -> Rows:
         if not data:
             return parse(b"")[0]
-        it = self._it or self._start()
+        process = self._it or self._start()
         self.place += 8 * len(data)
-        self._work(it, memoryview(data))
+        self._work(process, memoryview(data))
         return self._taken()
 
     def finish(self) -> Tuple[Rows, Optional[Totals]]:
@@ -95,74 +83,76 @@ class ByProgram:
     def _start(self) -> "subprocess.Popen[bytes]":
         pipe, words = subprocess.PIPE, ["/bin/sh", "-c", SHIELD, self._program]
         try:
-            it = subprocess.Popen(words, stdin=pipe, stdout=pipe, stderr=pipe, start_new_session=True, bufsize=0)
+            process = subprocess.Popen(
+                words, stdin=pipe, stdout=pipe, stderr=pipe, start_new_session=True, bufsize=0
+            )
         except OSError as error:
             raise Fault(f"{self._program} cannot be started: {error.strerror or error}") from None
-        for stream in (it.stdin, it.stdout, it.stderr):
+        for stream in (process.stdin, process.stdout, process.stderr):
             assert stream
             os.set_blocking(stream.fileno(), False)
-        self._it = it
-        return it
+        self._it = process
+        return process
 
-    def _work(self, it: "subprocess.Popen[bytes]", rest: memoryview) -> None:
+    def _work(self, process: "subprocess.Popen[bytes]", rest: memoryview) -> None:
         """Gives the program these bytes, and takes what it writes, until it waits for more bytes."""
         pause, end = FIRST_PAUSE, time.monotonic() + PATIENCE
         before: Tuple[int, int] = (0, 0)
         while True:
-            rest = rest[self._write(it, rest) :]
-            unread = _unread(it)
-            waits = not rest and not unread and _sleeps(it.pid)
-            if self._read(it) or (len(rest), unread) != before:
+            rest = rest[self._write(process, rest) :]
+            unread = _unread(process)
+            waits = not rest and not unread and _sleeps(process.pid)
+            if self._read(process) or (len(rest), unread) != before:
                 before = len(rest), unread
                 pause, end = FIRST_PAUSE, time.monotonic() + PATIENCE
             elif waits:
                 # It slept before the read found nothing, so it has not more to write.
                 return
             elif time.monotonic() > end:
-                it.kill()
+                process.kill()
                 raise Fault(f"{self._program} did nothing for {PATIENCE:g} s")
             else:
                 time.sleep(pause)
                 pause = min(2 * pause, LONGEST_PAUSE)
 
-    def _write(self, it: "subprocess.Popen[bytes]", data: memoryview) -> int:
-        assert it.stdin
+    def _write(self, process: "subprocess.Popen[bytes]", data: memoryview) -> int:
+        assert process.stdin
         try:
-            return it.stdin.write(data) or 0 if data else 0
+            return process.stdin.write(data) or 0 if data else 0
         except BrokenPipeError:
-            self._read(it)
-            raise Fault(self._why(it)) from None
+            self._read(process)
+            raise Fault(self._why(process)) from None
 
-    def _read(self, it: "subprocess.Popen[bytes]") -> bool:
+    def _read(self, process: "subprocess.Popen[bytes]") -> bool:
         """Whether it had written something."""
-        assert it.stdout
-        data = it.stdout.read(1 << 18)
+        assert process.stdout
+        data = process.stdout.read(1 << 18)
         if data == b"":
-            raise Fault(self._why(it))
+            raise Fault(self._why(process))
         self._text += data or b""
         return bool(data)
 
-    def _why(self, it: "subprocess.Popen[bytes]") -> str:
+    def _why(self, process: "subprocess.Popen[bytes]") -> str:
         """How it ended before its input."""
-        assert it.stderr
-        status, said = _status(it), it.stderr.read() or b""
+        assert process.stderr
+        status, said = _status(process), process.stderr.read() or b""
         return f"{self._program} {how_ended(status, said)}"
 
-    def _end(self, it: "subprocess.Popen[bytes]") -> None:
+    def _end(self, process: "subprocess.Popen[bytes]") -> None:
         """Ends its input, and takes the rest of what it writes."""
-        assert it.stdin and it.stdout and it.stderr
-        it.stdin.close()
+        assert process.stdin and process.stdout and process.stderr
+        process.stdin.close()
         end = time.monotonic() + PATIENCE
         while time.monotonic() < end:
-            data = it.stdout.read(1 << 18)
+            data = process.stdout.read(1 << 18)
             if data == b"":
                 break
             self._text += data or b""
             if data is None:
                 time.sleep(FIRST_PAUSE)
-        _status(it)
-        it.stdout.close()
-        it.stderr.close()
+        _status(process)
+        process.stdout.close()
+        process.stderr.close()
 
     # ---- its text
 
@@ -178,17 +168,17 @@ class ByProgram:
 
     def _totals(self) -> Optional[Totals]:
         found = [TOTAL_ROW.fullmatch(line) for line in self._text.splitlines()]
-        values = [int(it[2]) for it in found if it]
-        if [it[1].decode() if it else "" for it in found] != list(TOTAL_NAMES):
+        values = [int(entry[2]) for entry in found if entry]
+        if [entry[1].decode() if entry else "" for entry in found] != list(TOTAL_NAMES):
             return None
         return Totals(values[0], tuple(values[1:6]), *values[6:])
 
 
-def _unread(it: "subprocess.Popen[bytes]") -> int:
+def _unread(process: "subprocess.Popen[bytes]") -> int:
     """How many bytes wait in its input."""
-    assert it.stdin
+    assert process.stdin
     count = array.array("i", [0])
-    fcntl.ioctl(it.stdin.fileno(), termios.FIONREAD, count)
+    fcntl.ioctl(process.stdin.fileno(), termios.FIONREAD, count)
     return count[0]
 
 
@@ -198,15 +188,18 @@ def _sleeps(pid: int) -> bool:
         return file.read().rpartition(b") ")[2][:1] == b"S"
 
 
-def _status(it: "subprocess.Popen[bytes]") -> int:
+def _status(process: "subprocess.Popen[bytes]") -> int:
     try:
-        return it.wait(1)
+        return process.wait(1)
     except subprocess.TimeoutExpired:
-        it.kill()
-        return it.wait()
+        process.kill()
+        return process.wait()
 
 
 # ---- which one
+
+StreamDecoder = Union[ByLibrary, ByProgram]
+NewDecoder = Callable[[], StreamDecoder]
 
 
 def decoder_of(program: Optional[str]) -> Tuple[NewDecoder, str]:
@@ -227,9 +220,9 @@ def by_program(program: str) -> NewDecoder:
     path = shutil.which(program)
     if path is None:
         raise Fault(f"there is no program {program!r}")
-    asked: List[str] = [path, "--version"]
+    null = subprocess.DEVNULL
     try:
-        said = subprocess.run(asked, stdin=subprocess.DEVNULL, capture_output=True, timeout=PATIENCE).stdout
+        said = subprocess.run([path, "--version"], stdin=null, capture_output=True, timeout=PATIENCE).stdout
     except (OSError, subprocess.TimeoutExpired) as error:
         raise Fault(f"{path} cannot be run: {error}") from None
     if not said.startswith(b"rds "):

@@ -6,7 +6,7 @@ import os
 import socket
 import sys
 
-from ..charset import printable
+from ..content.charset import printable
 
 PRIORITIES = {"error": 3, "warning": 4, "notice": 5, "info": 6}
 
@@ -27,8 +27,8 @@ def notify(text: str) -> None:
     if address[:1] not in ("/", "@"):
         return
     try:
-        with socket.socket(socket.AF_UNIX, socket.SOCK_DGRAM | socket.SOCK_CLOEXEC) as it:
-            it.sendto(text.encode("ascii"), "\0" + address[1:] if address[0] == "@" else address)
+        with socket.socket(socket.AF_UNIX, socket.SOCK_DGRAM | socket.SOCK_CLOEXEC) as sock:
+            sock.sendto(text.encode("ascii"), "\0" + address[1:] if address[0] == "@" else address)
     except OSError:
         # It will say itself that it heard nothing.
         pass

@@ -7,14 +7,13 @@ from typing import List, NamedTuple, Optional, Tuple
 
 import numpy
 
-from ..clock import utc_text
-from ..items import ACQUIRED, BLOCK_BITS, GROUP, GROUP_BITS, ITEM, LOSS, VALID, Rows, Totals
-from ..listing import ends_of, text_of, totals_text
-from ..measure import groups_in, kinds_of
-from ..hours import HOUR, Hour
+from ..db.parts import OUTAGE_SECONDS, Contents, Part, Told
+from ..rows.clock import RATE, Clock, utc_text
+from ..rows.hours import HOUR, Hour
+from ..rows.items import ACQUIRED, BLOCK_BITS, GROUP, GROUP_BITS, ITEM, LOSS, VALID, Rows, Totals
+from ..rows.listing import ends_of, groups_in, kinds_of, text_of, totals_text
 from .decoders import StreamDecoder
 from .records import PartGrew, PartKey, PartOpened, PartTold, Record
-from .session import Contents, Part, Told
 from .times import Arrivals, Timing
 
 # Seconds after which the database learns how far a session is, if there is nothing else to say.
@@ -32,11 +31,12 @@ class Append(NamedTuple):
 class LiveSession:
     """A session of one station. Its results wait in `appends`, `records` and `told`."""
 
-    def __init__(self, station: str, speed: float, decoder: StreamDecoder):
+    def __init__(self, station: str, speed: float, decoder: StreamDecoder, began: float):
         self._station, self._speed, self._decoder = station, speed, decoder
-        self.arrivals = Arrivals(speed)
-        self.contents = Contents(1187.5)
+        self.arrivals = Arrivals(speed, began)
+        self.contents = Contents(RATE)
         self.part: Optional[Part] = None
+        self._timing: Optional[Timing] = None
         self._key = PartKey("", 0)
         self._path, self._size = "", 0
         self._cut = 0
@@ -57,7 +57,7 @@ class LiveSession:
 
     @property
     def timing(self) -> Optional[Timing]:
-        return self.part.timing if self.part else self.arrivals.timing
+        return self._timing or self.arrivals.timing
 
     def take(self, data: bytes) -> None:
         """The next bits, of whose arrival `arrivals` was told."""
@@ -87,6 +87,7 @@ class LiveSession:
         """The machine's clock was set forward to this time. What came before has its times by the old one."""
         if self.part:
             self._advance(self._taken(), self.place, utc - seconds)
+        self.arrivals.reads.clear()
         self._jump(seconds)
 
     def _jump(self, seconds: float) -> None:
@@ -105,7 +106,7 @@ class LiveSession:
         assert timing is not None
         hour = timing.utc(at) // HOUR * HOUR
         self._cut = timing.place(hour + HOUR)
-        self.part = Part(timing, begin, self.contents)
+        self.part, self._timing = Part(Clock(*timing), begin, self.contents), timing
         name = Hour(hour, timing.start, timing.rate).name
         self._path, self._size = os.path.join("listings", self._station, name), 0
         self.records.append(PartOpened(self._key, self._station, timing, begin, self._path))
@@ -160,10 +161,10 @@ class LiveSession:
 
     def _collect(self) -> bool:
         """Hands over what the part completed, and says whether the database gets any of it."""
-        assert self.part is not None
+        assert self.part and self._timing
         told = self.part.taken()
         if told.changes or told.minutes or told.ticks:
-            self.told.append((told, self.part.timing))
+            self.told.append((told, self._timing))
         if told.minutes or told.events or told.outages:
             self.records.append(PartTold(self._key, told))
             return True
@@ -173,7 +174,9 @@ class LiveSession:
         assert self.part is not None
         if self._collect() or utc >= self._news:
             self._news = utc + NEWS * self._speed
-            self.records.append(PartGrew(self._key, self.part.end, self._size))
+            heard = self.contents.outages.end
+            quiet = heard if heard is not None and self.place - heard >= RATE * OUTAGE_SECONDS else None
+            self.records.append(PartGrew(self._key, self.part.end, self._size, quiet=quiet))
 
     def close(self, utc: float) -> bool:
         """The session has ended: the group in progress and the totals. Whether there are totals: a decoder may die."""

@@ -2,24 +2,27 @@
 
 from __future__ import annotations
 
+import math
 import os
 import sqlite3
 import subprocess
 from functools import partial
-from typing import Callable, Dict, List, Optional, Protocol, Tuple
+from typing import Callable, Dict, Iterable, List, Optional, Tuple
 
-from .alarms import words_for
+from ..db.standing import availability
+from ..rows.clock import DAY
+from .alarms import Alarm, Change, Trouble, words_for
 from .decoders import NewDecoder
 from .live import Append
 from .metrics import metrics_text
 from .pages import replace, write_pages
 from .receiver import Launch
-from .records import Record, Records
+from .records import WATCH, AlarmChanged, Record, Records, StateSeen, WatchBegan
 from .retention import tidy
 from .station import Station
 from .table import StationTable, Table
 from .times import Now, SteadyUtc, Times
-from .writer import Batch
+from .writer import Batch, Say, WriterThread
 
 PAGES_EVERY, TIDY_EVERY = 60.0, 3600.0
 # Rows of a station that wait for the disk, in bytes; the oldest are given up first.
@@ -28,20 +31,6 @@ MOST_WAITING = 8 << 20
 HANGS = 5.0
 # Commands of the user's for alarms: how many at a time, and for how long.
 MOST_HOOKS, HOOK_SECONDS = 4, 60.0
-
-Say = Callable[[str, str], None]
-
-
-class TakesBatches(Protocol):
-    """What the watch needs of a writer."""
-
-    @property
-    def is_idle(self) -> bool: ...
-
-    @property
-    def fault(self) -> Optional[str]: ...
-
-    def give(self, batch: Batch) -> None: ...
 
 
 class Hooks:
@@ -59,12 +48,12 @@ class Hooks:
         for process, began in self._running:
             if process.poll() is None and now - began > HOOK_SECONDS:
                 process.kill()
-        self._running = [it for it in self._running if it[0].poll() is None]
+        self._running = [hook for hook in self._running if hook[0].poll() is None]
         while self._queue and len(self._running) < MOST_HOOKS:
-            words = self._queue.pop(0)
+            words, null = self._queue.pop(0), subprocess.DEVNULL
             try:
-                null = subprocess.DEVNULL
-                self._running.append((subprocess.Popen(words, stdin=null, stdout=null, start_new_session=True), now))
+                process = subprocess.Popen(words, stdin=null, stdout=null, start_new_session=True)
+                self._running.append((process, now))
             except OSError as error:
                 self._say("error", f"the command of an alarm, {words[0]}: {error.strerror or error}")
 
@@ -73,7 +62,15 @@ class Watch:
     """`poll` reads the receivers, and `tick` decodes and hands over to the writer. Neither waits."""
 
     def __init__(
-        self, table: Table, folder: str, times: Times, launch: Launch, decoder: NewDecoder, writer: TakesBatches, records: Records, say: Say
+        self,
+        table: Table,
+        folder: str,
+        times: Times,
+        launch: Launch,
+        decoder: NewDecoder,
+        writer: WriterThread,
+        records: Records,
+        say: Say,
     ):
         self._folder, self._times, self._writer, self._say = folder, times, writer, say
         self._launch, self._decoder = launch, decoder
@@ -87,15 +84,27 @@ class Watch:
         self._hooks = Hooks(say)
         self._busy_since: Optional[float] = None
         self._unwritten_since: Optional[float] = None
+        self._disk_since = self._now.steady
         # On the monotonic clock.
         self._pages_at = self._tidy_at = 0.0
-        for it in table.stations:
-            self._add(it, records.lasting(it.name))
+        self._disk = Alarm(0.0, 0.0)
+        for station in table.stations:
+            alarms = self._add(station).alarms
+            alarms.resume(
+                self._lasting(records, station.name), records.state(station.name).get("counted", {})
+            )
+        for text, seconds in self._lasting(records, WATCH).values():
+            self._disk.text, self._disk_since = text, self._now.steady - seconds
 
-    def _add(self, it: StationTable, lasting: Dict[str, str]) -> None:
-        station = Station(it, self._launch, self._decoder, self._times.speed, self._now.steady, self._say)
-        station.alarms.resume(lasting)
-        self.stations[it.name] = station
+    def _lasting(self, records: Records, station: str) -> Dict[str, Tuple[str, float]]:
+        lasting = records.lasting(station).items()
+        return {name: (text, max(0.0, self.utc - begin)) for name, (text, begin) in lasting}
+
+    def _add(self, table: StationTable) -> Station:
+        station = Station(table, self._launch, self._decoder, self._times.speed, self._now.steady, self._say)
+        station.records.append(WatchBegan(table.name, self.utc))
+        self.stations[table.name] = station
+        return station
 
     @property
     def utc(self) -> float:
@@ -106,37 +115,60 @@ class Watch:
         self._now = self._times.now()
         step = self._clock.step(self._now)
         if step:
-            self._say("warning", f"the machine's clock was set {'forward' if step > 0 else 'back'} by {abs(step):.1f} s")
-            for it in self.stations.values():
-                it.step(step, self.utc)
+            way = "forward" if step > 0 else "back"
+            self._say("warning", f"the machine's clock was set {way} by {abs(step):.1f} s")
+            for station in self.stations.values():
+                station.step(step, self.utc)
         return self._now
 
     def poll(self) -> None:
         now = self._look()
-        for it in self.stations.values():
-            it.poll(now.steady, self.utc)
+        for station in self.stations.values():
+            station.poll(now.steady, self.utc)
 
     def tick(self) -> None:
         now = self._look()
-        for it in self.stations.values():
-            it.tick(now.steady, self.utc, self._unwritten_since)
-            self._gather(it)
+        for station in self.stations.values():
+            station.tick(now.steady, self.utc)
+            self._gather(station)
         self._leave(now.steady)
         self._hooks.work(now.steady)
         self._see_writer(now.steady)
-        if self._writer.is_idle:
-            self._give()
+        self._give()
 
-    def _gather(self, it: Station) -> None:
-        self._appends += it.appends
-        self._records += it.records
-        for change in it.changes:
-            self._say("warning" if change.begins else "notice",
-                      f"{it.name}: alarm {change.alarm} {'begins: ' if change.begins else 'ends: '}{change.text}")
-            if it.table.alarm_command:
-                self._hooks.add(words_for(it.table.alarm_command, it.name, change))
-            self._pages_at = 0.0
-        it.appends, it.records, it.changes = [], [], []
+    def _gather(self, station: Station) -> None:
+        self._appends += station.appends
+        self._records += station.records
+        for change in station.changes:
+            self._tell(station.name, change, {station.table.alarm_command})
+        station.appends, station.records, station.changes = [], [], []
+
+    def _tell(self, name: str, change: Change, commands: Iterable[Tuple[str, ...]]) -> None:
+        """To the journal, the pages, and the user's commands."""
+        priority, way = ("warning", "begins") if change.begins else ("notice", "ends")
+        self._say(priority, f"{name and name + ': '}alarm {change.alarm} {way}: {change.text}")
+        for words in commands:
+            if words:
+                self._hooks.add(words_for(words, name, change))
+        self._pages_at = 0.0
+
+    def _judge_disk(self, steady: float) -> None:
+        """One alarm for all stations, by the lowest of their limits."""
+        tables = [station.table for station in self.stations.values()]
+        limits = [table.alarms.disk for table in tables if table.alarms.disk is not None]
+        since, self._disk.after = self._unwritten_since, min(limits, default=math.inf)
+        text = (
+            self._disk.text or "" if since is None else f"rows wait to be written for {steady - since:.0f} s"
+        )
+        begins = self._disk.judge(None if since is None else Trouble(since, text), steady)
+        if begins is None:
+            return
+        if begins:
+            self._disk_since = steady
+        else:
+            text += f"; it lasted {steady - self._disk_since:.0f} s"
+        self._records.append(AlarmChanged(WATCH, "disk", begins, self.utc, text))
+        self._tell(WATCH, Change("disk", begins, text), {table.alarm_command for table in tables})
 
     def _see_writer(self, steady: float) -> None:
         """Rows are not written if that fails, or if it takes long: a disk may hang, too."""
@@ -144,24 +176,36 @@ class Watch:
         self._busy_since = None if not busy else steady if self._busy_since is None else self._busy_since
         hangs = self._busy_since is not None and steady - self._busy_since > HANGS * self._times.speed
         self._unwritten_since = self._busy_since if hangs or self._writer.fault is not None else None
+        self._judge_disk(steady)
         self._give_up_most()
 
     def _give_up_most(self) -> None:
         """Memory has an end: the oldest rows of a station that has too many are given up."""
         sizes: Dict[str, int] = {}
-        for it in self._appends:
-            sizes[os.path.dirname(it.path)] = sizes.get(os.path.dirname(it.path), 0) + len(it.data)
-        for folder in [it for it, size in sizes.items() if size > MOST_WAITING]:
-            first = next(n for n, it in enumerate(self._appends) if os.path.dirname(it.path) == folder and it.data)
-            self._say("error", f"{folder}: {len(self._appends[first].data)} bytes of rows are given up: they could not be written")
-            del self._appends[first]
+        for append in self._appends:
+            folder = os.path.dirname(append.path)
+            sizes[folder] = sizes.get(folder, 0) + len(append.data)
+        for folder in [folder for folder, size in sizes.items() if size > MOST_WAITING]:
+            mine = (one for one in self._appends if os.path.dirname(one.path) == folder and one.data)
+            first = next(mine)
+            text = f"{len(first.data)} bytes of rows are given up: they could not be written"
+            self._say("error", f"{folder}: {text}")
+            self._appends.remove(first)
 
     def _give(self) -> None:
+        if not self._writer.is_idle:
+            if self._writer.fault is not None:
+                self._writer.hear(one for one in self._records if isinstance(one, (AlarmChanged, StateSeen)))
+                self._records = [
+                    one for one in self._records if not isinstance(one, (AlarmChanged, StateSeen))
+                ]
+            return
         after: List[Callable[[Records], None]] = []
         utc, steady = self.utc, self._now.steady
         if steady >= self._pages_at:
             self._pages_at = steady + PAGES_EVERY
-            after.append(partial(self._write_pages, {name: it.state(utc) for name, it in self.stations.items()}, utc))
+            states = {name: station.state(utc) for name, station in self.stations.items()}
+            after.append(partial(self._write_pages, states, utc))
         if steady >= self._tidy_at:
             self._tidy_at = steady + TIDY_EVERY
             after.append(partial(self._tidy, utc))
@@ -173,8 +217,10 @@ class Watch:
 
     def _write_pages(self, states: Dict[str, Dict[str, object]], utc: float, records: Records) -> None:
         refresh = max(2, int(PAGES_EVERY / self._times.speed))
-        write_pages(os.path.join(self._folder, "pages"), states, utc, records.database, refresh)
-        replace(os.path.join(self._folder, "metrics.prom"), metrics_text(states, utc))
+        data, lasting = records.database, {name: text for name, (text, _) in records.lasting(WATCH).items()}
+        days = {name: availability(data, name, utc - DAY, utc) for name in states}
+        write_pages(os.path.join(self._folder, "pages"), states, days, lasting, utc, data, refresh)
+        replace(os.path.join(self._folder, "metrics.prom"), metrics_text(states, days, lasting, utc))
 
     def _tidy(self, utc: float, records: Records) -> None:
         try:
@@ -191,52 +237,50 @@ class Watch:
         """Stations whose receiver is the same go on."""
         before, self._keep = self.stations, table.keep
         self.stations = {}
-        for it in table.stations:
-            old = before.pop(it.name, None)
-            if old and old.table.same_receiver(it):
-                old.set_table(it)
-                self.stations[it.name] = old
+        for station in table.stations:
+            old = before.pop(station.name, None)
+            if old and old.table.same_receiver(station):
+                old.set_table(station)
+                self.stations[station.name] = old
                 continue
-            lasting = dict(old.alarms.lasting) if old else {}
             if old:
                 self._stop(old, "the table has changed")
-            self._add(it, lasting)
+            new = self._add(station)
+            if old:
+                new.alarms = old.alarms
+                new.alarms.set_table(station)
         for old in before.values():
             self._stop(old, "it is no longer in the table")
         self._pages_at = 0.0
 
-    def _stop(self, it: Station, reason: str) -> None:
-        it.stop(self._now.steady, self.utc, reason)
-        self._gather(it)
-        self._leaving.append(it)
+    def _stop(self, station: Station, reason: str) -> None:
+        station.stop(self._now.steady, self.utc, reason)
+        self._gather(station)
+        self._leaving.append(station)
 
     def _leave(self, steady: float) -> None:
         """Receivers that were asked to end."""
-        for it in self._leaving:
-            it.keeper.read(steady)
-        self._leaving = [it for it in self._leaving if it.keeper.is_running]
+        for station in self._leaving:
+            station.keeper.read(steady)
+        self._leaving = [station for station in self._leaving if station.keeper.is_running]
 
     def stop(self) -> None:
         """All sessions end. Their receivers are asked to."""
         self.poll()
-        for it in self.stations.values():
-            self._stop(it, "the watch ended")
+        for station in self.stations.values():
+            self._stop(station, "the watch ended")
         self._pages_at = 0.0
-        self._give_all()
-
-    def _give_all(self) -> None:
-        if self._writer.is_idle:
-            self._give()
+        self._give()
 
     @property
     def has_left(self) -> bool:
         """Whether all receivers have ended, and all is given to the writer."""
         self._now = self._times.now()
         self._leave(self._now.steady)
-        self._give_all()
+        self._give()
         return not self._leaving and not self._appends and not self._records
 
     def kill(self) -> None:
         """No receiver is left, whatever happened."""
-        for it in [*self._leaving, *self.stations.values()]:
-            it.keeper.kill()
+        for station in [*self._leaving, *self.stations.values()]:
+            station.keeper.kill()

@@ -2,8 +2,9 @@
 
 from __future__ import annotations
 
-from typing import Any, Dict, Iterable, Iterator, List, NamedTuple, Optional, Tuple
+from typing import Any, Dict, Iterable, Iterator, List, Mapping, NamedTuple, Tuple
 
+from ..db.standing import STATES, Availability, bad_in, standing_of
 from .alarms import NAMES
 
 
@@ -16,8 +17,18 @@ class Metric(NamedTuple):
 METRICS = (
     Metric("rds_receiver_up", "gauge", "Whether the receiver's command runs."),
     Metric("rds_receiver_starts_total", "counter", "Starts of the receiver's command since the watch began."),
-    Metric("rds_blocks_total", "counter", "Blocks by outcome since the watch began: valid, corrected, uncorrectable (lost), not read (missing)."),
+    Metric(
+        "rds_blocks_total",
+        "counter",
+        "Blocks by outcome since the watch began: valid, corrected, uncorrectable (lost), not read (missing).",
+    ),
     Metric("rds_bad_blocks_ratio", "gauge", "Of the blocks of the last minute, the part that was not valid."),
+    Metric("rds_station_state", "gauge", "Whether the station is in this state."),
+    Metric(
+        "rds_day_seconds",
+        "gauge",
+        "Seconds of the last 24 hours: received, noise, down (no session), unknown (no watch).",
+    ),
     Metric("rds_last_group_timestamp_seconds", "gauge", "When the last whole group ended."),
     Metric("rds_clock_offset_seconds", "gauge", "The station's clock time (CT) less that of this machine."),
     Metric("rds_pi_as_expected", "gauge", "Whether the PI is the expected one."),
@@ -29,15 +40,25 @@ METRICS = (
 Sample = Tuple[str, Dict[str, str], float]
 
 
-def metrics_text(states: Dict[str, Dict[str, Any]], utc: float) -> str:
-    samples = [it for name in sorted(states) for it in _samples(name, states[name])]
+def metrics_text(
+    states: Dict[str, Dict[str, Any]], days: Dict[str, Availability], lasting: Mapping[str, str], utc: float
+) -> str:
+    samples = [sample for name in sorted(states) for sample in _samples(name, states[name], days[name])]
+    # The last alarm is of the watch.
+    samples.append(("rds_alarm", {"alarm": NAMES[-1]}, float(NAMES[-1] in lasting)))
     samples.append(("rds_watch_timestamp_seconds", {}, utc))
-    return "".join(_text(it, [sample for sample in samples if sample[0] == it.name]) for it in METRICS)
+    return "".join(
+        _text(metric, [sample for sample in samples if sample[0] == metric.name]) for metric in METRICS
+    )
 
 
 def _text(metric: Metric, samples: Iterable[Sample]) -> str:
     lines: List[str] = [f"{name}{_labels(labels)} {value:.15g}\n" for name, labels, value in samples]
-    return f"# HELP {metric.name} {metric.help}\n# TYPE {metric.name} {metric.kind}\n" + "".join(lines) if lines else ""
+    return (
+        f"# HELP {metric.name} {metric.help}\n# TYPE {metric.name} {metric.kind}\n" + "".join(lines)
+        if lines
+        else ""
+    )
 
 
 def _labels(labels: Dict[str, str]) -> str:
@@ -50,32 +71,27 @@ def _escaped(text: str) -> str:
     return text.replace("\\", "\\\\").replace('"', '\\"').replace("\n", "\\n")
 
 
-def _samples(name: str, it: Dict[str, Any]) -> Iterator[Sample]:
+def _samples(name: str, state: Dict[str, Any], day: Availability) -> Iterator[Sample]:
     of = {"station": name}
-    yield "rds_receiver_up", of, float(it["running"])
-    yield "rds_receiver_starts_total", of, it["starts"]
-    for outcome, count in it["blocks"].items():
+    yield "rds_receiver_up", of, float(state["running"])
+    yield "rds_receiver_starts_total", of, state["starts"]
+    for outcome, count in state["blocks"].items():
         yield "rds_blocks_total", {**of, "outcome": outcome}, count
-    ratio = bad_ratio(it)
-    if ratio is not None:
-        yield "rds_bad_blocks_ratio", of, ratio
-    pi, expected = it["held"].get("pi"), it["expected_pi"]
+    stands, bad = standing_of(state), bad_in(state["minute"])
+    for word in STATES:
+        yield "rds_station_state", {**of, "state": word}, float(word == stands.state)
+    for word, seconds in day._asdict().items():
+        yield "rds_day_seconds", {**of, "state": word}, round(seconds, 3)
+    pi, expected = state["held"].get("pi"), state["expected_pi"]
     known = (
-        ("rds_last_group_timestamp_seconds", it["last_group_utc"]),
-        ("rds_clock_offset_seconds", it["clock_s"]),
+        ("rds_bad_blocks_ratio", None if bad is None else bad / 100),
+        ("rds_last_group_timestamp_seconds", state["last_group_utc"]),
+        ("rds_clock_offset_seconds", state["clock_s"]),
         ("rds_pi_as_expected", float(pi == expected) if pi and expected else None),
-        ("rds_snr_db", it["signal"].get("snr_db")),
+        ("rds_snr_db", state["signal"].get("snr_db")),
     )
     for metric, value in known:
         if value is not None:
             yield metric, of, value
-    for alarm in NAMES:
-        yield "rds_alarm", {**of, "alarm": alarm}, float(alarm in it["alarms"])
-
-
-def bad_ratio(state: Dict[str, Any]) -> Optional[float]:
-    """The part of the last minute's blocks that was not valid."""
-    minute = state["minute"]
-    if not minute or not minute["sent"]:
-        return None
-    return float(1 - minute["valid"] / minute["sent"])
+    for alarm in NAMES[:-1]:
+        yield "rds_alarm", {**of, "alarm": alarm}, float(alarm in state["alarms"])

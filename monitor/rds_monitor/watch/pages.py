@@ -8,13 +8,13 @@ import hashlib
 import os
 import sqlite3
 from html import escape
-from typing import Any, Dict, List, NamedTuple, Optional, Sequence, Tuple
+from typing import Any, Dict, List, Mapping, NamedTuple, Optional, Sequence, Tuple
 from urllib.parse import quote
 
-from ..charset import printable
-from ..clock import utc_text
-from ..info import label
-from .metrics import bad_ratio
+from ..content.charset import printable
+from ..content.info import label
+from ..db.standing import Availability, bad_in, standing_of
+from ..rows.clock import utc_text
 
 DAY, MINUTE = 86400.0, 60.0
 # Minutes of the last day per point of a picture.
@@ -37,8 +37,6 @@ td.text{white-space:pre-wrap;overflow-wrap:anywhere}"""
 HASH = base64.b64encode(hashlib.sha256(STYLE.encode()).digest()).decode()
 POLICY = f"default-src 'none'; style-src 'sha256-{HASH}'; base-uri 'none'; form-action 'none'"
 
-CRITICAL = ("silent", "no_rds", "pi")
-
 
 class Bar(NamedTuple):
     """Some minutes of a station: blocks sent, valid, corrected. Without a session none was sent."""
@@ -48,32 +46,41 @@ class Bar(NamedTuple):
     corrected: int
 
 
-def severity(state: Dict[str, Any]) -> str:
-    lasting = state["alarms"]
-    return "critical" if any(it in lasting for it in CRITICAL) else "warning" if lasting else "fine"
-
-
 def worst_first(states: Dict[str, Dict[str, Any]]) -> List[str]:
     """The names of stations: by alarms, then by bad blocks."""
     order = ("critical", "warning", "fine")
-    return sorted(states, key=lambda name: (order.index(severity(states[name])), -(bad_ratio(states[name]) or 0), name))
+
+    def rank(name: str) -> Tuple[int, float, str]:
+        stands = standing_of(states[name])
+        return order.index(stands.severity), -(bad_in(states[name]["minute"]) or 0), name
+
+    return sorted(states, key=rank)
 
 
-def write_pages(folder: str, states: Dict[str, Dict[str, Any]], utc: float, data: sqlite3.Connection, refresh: int) -> None:
-    """Writes all pages, each by renaming a new file."""
+def write_pages(
+    folder: str,
+    states: Dict[str, Dict[str, Any]],
+    days: Dict[str, Availability],
+    lasting: Dict[str, str],
+    utc: float,
+    data: sqlite3.Connection,
+    refresh: int,
+) -> None:
+    """Writes all pages, each by renaming a new file. `lasting` are the alarms of the watch."""
     os.makedirs(folder, exist_ok=True)
     bars = {name: bars_of(data, name, utc) for name in states}
-    replace(os.path.join(folder, "index.html"), overview(states, bars, utc, refresh))
+    replace(os.path.join(folder, "index.html"), overview(states, bars, utc, refresh, lasting))
     for name, state in states.items():
-        page = station_page(name, state, bars[name], _alarms_of(data, name), _events_of(data, name), utc, refresh)
+        told = _alarms_of(data, name), _events_of(data, name)
+        page = station_page(name, state, bars[name], *told, utc, refresh, days.get(name))
         replace(os.path.join(folder, f"{name}.html"), page)
 
 
 def replace(path: str, text: str) -> None:
     """Writes a file anew: a reader sees the old one or the new one."""
     new = f"{path}.new"
-    with open(new, "w", encoding="utf-8", errors="backslashreplace") as it:
-        it.write(text)
+    with open(new, "w", encoding="utf-8", errors="backslashreplace") as file:
+        file.write(text)
     os.replace(new, path)
 
 
@@ -140,65 +147,89 @@ def _text(text: Any) -> str:
 def picture(bars: Sequence[Bar], height: int, name: str) -> str:
     """Bars of bad blocks from the top, corrected ones in another colour; a gap has no session."""
     width, parts = len(bars), []
-    for at, it in enumerate(bars):
-        if not it.sent:
+    for at, bar in enumerate(bars):
+        if not bar.sent:
             continue
-        bad = height * (it.sent - it.valid - it.corrected) / it.sent
-        fixed = height * it.corrected / it.sent
-        for kind, top, high in (("fine", bad + fixed, height - bad - fixed), ("fixed", bad, fixed), ("bad", 0.0, bad)):
+        bad = height * (bar.sent - bar.valid - bar.corrected) / bar.sent
+        fixed = height * bar.corrected / bar.sent
+        of_kind = (("fine", bad + fixed, height - bad - fixed), ("fixed", bad, fixed), ("bad", 0.0, bad))
+        for kind, top, high in of_kind:
             if high > 0:
                 # An outage of a second is seen, too.
-                parts.append(f'<rect class="{kind}" x="{at}" y="{top:.1f}" width="1" height="{max(high, 1.0):.1f}"/>')
+                shape = f'y="{top:.1f}" width="1" height="{max(high, 1.0):.1f}"'
+                parts.append(f'<rect class="{kind}" x="{at}" {shape}/>')
     text = f"Blocks of the last 24 hours of {escape(name)}: valid, corrected, bad"
+    shape = f'viewBox="0 0 {width} {height}" preserveAspectRatio="none" shape-rendering="crispEdges"'
     axis = f'<line class="axis" x1="0" x2="{width}" y1="{height}" y2="{height}"/>'
-    drawn = f'<svg viewBox="0 0 {width} {height}" preserveAspectRatio="none" shape-rendering="crispEdges" role="img" aria-label="{text}">'
-    return f'{drawn}{"".join(parts)}{axis}</svg><p class="hours"><span>24 h ago</span><span>12 h ago</span><span>now</span></p>'
+    hours = '<p class="hours"><span>24 h ago</span><span>12 h ago</span><span>now</span></p>'
+    return f'<svg {shape} role="img" aria-label="{text}">{"".join(parts)}{axis}</svg>{hours}'
 
 
 def _percent(state: Dict[str, Any]) -> str:
-    ratio = bad_ratio(state)
-    return "no minute yet" if ratio is None else f"{100 * ratio:.1f} % of the last minute bad"
+    bad = bad_in(state["minute"])
+    return "no minute yet" if bad is None else f"{bad:.1f} % of the last minute bad"
 
 
-def overview(states: Dict[str, Dict[str, Any]], bars: Dict[str, List[Bar]], utc: float, refresh: int) -> str:
+def overview(
+    states: Dict[str, Dict[str, Any]],
+    bars: Dict[str, List[Bar]],
+    utc: float,
+    refresh: int,
+    lasting: Mapping[str, str] = {},
+) -> str:
     tiles = "\n".join(_tile(name, states[name], bars[name], utc) for name in worst_first(states))
-    lasting = sum(bool(it["alarms"]) for it in states.values())
-    head = f"<h1>RDS network</h1>\n<p>{len(states)} stations, {lasting} with an alarm. {_time(utc)}</p>"
+    count = sum(bool(state["alarms"]) for state in states.values())
+    head = f"<h1>RDS network</h1>\n<p>{len(states)} stations, {count} with an alarm. {_time(utc)}</p>{_alarms(lasting)}"
     return _page("RDS network", f'{head}\n<ul class="tiles">\n{tiles}\n</ul>', refresh)
 
 
-def _tile(name: str, it: Dict[str, Any], bars: Sequence[Bar], utc: float) -> str:
-    held, frequency = it["held"], it["frequency"]
-    alarms = "".join(f'<p class="alarm">{escape(alarm)}: {_text(text)}</p>' for alarm, text in it["alarms"].items())
-    last = it["last_group_utc"]
+def _tile(name: str, state: Dict[str, Any], bars: Sequence[Bar], utc: float) -> str:
+    held, frequency = state["held"], state["frequency"]
+    last = state["last_group_utc"]
     age = "no whole group yet" if last is None else f"last whole group {max(0.0, utc - last):.0f} s ago"
     return (
-        f'<li class="tile {severity(it)}"><h2><a href="{quote(name)}.html">{escape(name)}</a>'
+        f'<li class="tile {standing_of(state).severity}"><h2><a href="{quote(name)}.html">{escape(name)}</a>'
         + (f' <span class="soft">{frequency:g} MHz</span>' if frequency else "")
         + f'</h2><p class="ps">{_text(held.get("ps", ""))}&#8203;</p><p>{_text(held.get("rt", "no RT"))}</p>'
         f'<p class="soft">PI {_text(held.get("pi", "none"))}, PTY {_text(held.get("pty", "none"))}</p>'
-        f"{alarms}<p>{_percent(it)}; {age}</p>{picture(bars, 40, name)}</li>"
+        f"{_alarms(state['alarms'])}<p>{standing_of(state).state}; {_percent(state)}; {age}</p>{picture(bars, 40, name)}</li>"
     )
+
+
+def _alarms(alarms: Mapping[str, str]) -> str:
+    return "".join(f'<p class="alarm">{escape(name)}: {_text(text)}</p>' for name, text in alarms.items())
+
+
+def _day(day: Availability) -> str:
+    """The last day in hours."""
+    told = ", ".join(f"{name} {seconds / 3600:.2f} h" for name, seconds in day._asdict().items())
+    return f"<p>{told}</p>"
 
 
 def station_page(
     name: str,
-    it: Dict[str, Any],
+    state: Dict[str, Any],
     bars: Sequence[Bar],
     alarms: Sequence[Tuple[Any, ...]],
     events: Sequence[Tuple[Any, ...]],
     utc: float,
     refresh: int,
+    day: Optional[Availability] = None,
 ) -> str:
-    session = f"session since {_time(it['session_utc'])}" if it["session_utc"] else f"no session: {_text(it['reason'] or 'the receiver starts')}"
+    session = f"no session: {_text(state['reason'] or 'the receiver starts')}"
+    if state["session_utc"]:
+        session = f"session since {_time(state['session_utc'])}"
+    contents = [(label(item), text) for item, text in state["held"].items()]
+    told = [(alarm, _at(begin), _at(end), text) for alarm, begin, end, text in alarms]
+    changes = [(_at(at), label(item), "none" if value is None else value) for at, item, value in events]
     parts = [
         f'<p><a href="index.html">RDS network</a></p><h1>{escape(name)}</h1>',
-        f"<p>{_percent(it)}; {session}; {it['starts']} starts of the receiver. {_time(utc)}</p>",
-        "".join(f'<p class="alarm">{escape(alarm)}: {_text(text)}</p>' for alarm, text in it["alarms"].items()),
-        f"<h2>The last 24 hours</h2>{picture(bars, 60, name)}",
-        "<h2>Contents</h2>" + _table(("Item", "Value"), [(label(item), text) for item, text in it["held"].items()]),
-        "<h2>Alarms</h2>" + _table(("Alarm", "Begin", "End", ""), [(a, _at(b), _at(e), text) for a, b, e, text in alarms]),
-        "<h2>Changes</h2>" + _table(("Time", "Item", "Value"), [(_at(at), label(item), "none" if v is None else v) for at, item, v in events]),
+        f"<p>{standing_of(state).state}; {_percent(state)}; {session}; {state['starts']} starts of the receiver. {_time(utc)}</p>",
+        f"{_alarms(state['alarms'])}\n<h2>The last 24 hours</h2>{picture(bars, 60, name)}",
+        _day(day) if day else "",
+        f"<h2>Contents</h2>{_table(('Item', 'Value'), contents)}",
+        f"<h2>Alarms</h2>{_table(('Alarm', 'Begin', 'End', ''), told)}",
+        f"<h2>Changes</h2>{_table(('Time', 'Item', 'Value'), changes)}",
     ]
     return _page(name, "\n".join(parts), refresh)
 
@@ -210,6 +241,7 @@ def _at(utc: Optional[float]) -> str:
 def _table(head: Sequence[str], rows: Sequence[Sequence[Any]]) -> str:
     if not rows:
         return '<p class="soft">none</p>'
-    top = "".join(f'<th scope="col">{escape(it)}</th>' for it in head)
-    body = "".join("<tr>" + "".join(f'<td class="text">{_text(it)}</td>' for it in row) + "</tr>" for row in rows)
+    top = "".join(f'<th scope="col">{escape(title)}</th>' for title in head)
+    cells = ("".join(f'<td class="text">{_text(text)}</td>' for text in row) for row in rows)
+    body = "".join(f"<tr>{row}</tr>" for row in cells)
     return f"<table><thead><tr>{top}</tr></thead><tbody>{body}</tbody></table>"

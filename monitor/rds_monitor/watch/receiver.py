@@ -6,7 +6,7 @@ import fcntl
 import os
 import signal
 import subprocess
-from typing import Callable, List, Optional, Protocol, Sequence
+from typing import Callable, List, Optional, Sequence
 
 # Linux: a pipe of a megabyte holds a second of any signal while the disk is busy.
 F_SETPIPE_SZ, PIPE_BYTES = 1031, 1 << 20
@@ -17,27 +17,15 @@ FIRST_PAUSE, LONGEST_PAUSE, GOOD_RUN = 1.0, 60.0, 60.0
 GRACE = 2.0
 
 
-class Running(Protocol):
-    """A command that runs. `read` gives what is there, and None after the end of the output; `ended` says how the process
-    ended, or None while it runs."""
-
-    def read(self) -> Optional[bytes]: ...
-
-    def ended(self) -> Optional[str]: ...
-
-    def terminate(self) -> None: ...
-
-    def kill(self) -> None: ...
-
-    def close(self) -> None: ...
-
-
 class Process:
-    """A command in a process group of its own."""
+    """A command in a process group of its own. `read` gives what is there, and None after the end of the output; `ended` says how
+    the process ended, or None while it runs."""
 
     def __init__(self, words: Sequence[str]):
         pipe = subprocess.PIPE
-        self._it = subprocess.Popen(list(words), stdin=subprocess.DEVNULL, stdout=pipe, stderr=pipe, start_new_session=True, bufsize=0)
+        self._it = subprocess.Popen(
+            list(words), stdin=subprocess.DEVNULL, stdout=pipe, stderr=pipe, start_new_session=True, bufsize=0
+        )
         assert self._it.stdout and self._it.stderr
         self._out, self._error = self._it.stdout, self._it.stderr
         self._said = b""
@@ -109,7 +97,7 @@ def _signal_name(number: int) -> str:
         return f"signal {number}"
 
 
-Launch = Callable[[Sequence[str]], Running]
+Launch = Callable[[Sequence[str]], Process]
 
 
 class Keeper:
@@ -117,7 +105,7 @@ class Keeper:
 
     def __init__(self, words: Sequence[str], patience: float, launch: Launch, now: float):
         self._words, self.patience, self._launch = words, patience, launch
-        self._it: Optional[Running] = None
+        self._it: Optional[Process] = None
         self._pause, self._again = FIRST_PAUSE, now
         self._began = self.last_byte = now
         self._killing: Optional[float] = None
@@ -129,6 +117,10 @@ class Keeper:
     @property
     def is_running(self) -> bool:
         return self._it is not None
+
+    @property
+    def is_stopping(self) -> bool:
+        return self._killing is not None
 
     def read(self, now: float) -> Optional[bytes]:
         """The bytes since the last call; None once, when a run has ended. It starts the command if it is time."""

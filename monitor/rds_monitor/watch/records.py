@@ -4,18 +4,17 @@ from __future__ import annotations
 
 import json
 import sqlite3
-from typing import Any, Dict, Iterator, List, NamedTuple, Optional, Sequence, Tuple, Union
+from typing import Any, Dict, List, NamedTuple, Optional, Sequence, Tuple, Union
 
-from ..items import Totals
-from ..listing import TOTAL_NAMES, flat
-from ..schema import HELD
-from ..store import Store
-from .session import MINUTE_BITS, EventRow, MinuteRow, Told, mix_text
+from ..db.parts import MINUTE_BITS, Told
+from ..db.store import SessionRows, Store
+from ..rows.items import Totals
 from .times import Timing
 
 # For another writer, such as `rds-monitor db`. Rows of the hours do not wait for the database.
 WAIT = 1.0
-MOST_FACTS = 20000
+# In place of a station's name: no station has it.
+WATCH = ""
 
 
 class PartKey(NamedTuple):
@@ -42,6 +41,8 @@ class PartGrew(NamedTuple):
     size: int
     closed: bool = False
     totals: Optional[Totals] = None
+    # Where an outage began that lasts.
+    quiet: Optional[int] = None
 
 
 class PartTold(NamedTuple):
@@ -56,10 +57,28 @@ class AlarmChanged(NamedTuple):
     utc: float
     text: str
 
+    def write(self, data: sqlite3.Connection) -> None:
+        """An alarm that lasts already does not begin again, and none ends before it began."""
+        query = "UPDATE alarm_rows SET end_at = MAX(begin_at, ?) WHERE station = ? AND alarm = ? AND end_at IS NULL"
+        if not self.begins:
+            data.execute(query, (self.utc, self.station, self.alarm))
+        elif self.alarm not in lasting_in(data, self.station):
+            query = "INSERT INTO alarm_rows(station, alarm, begin_at, text) VALUES(?, ?, ?, ?)"
+            data.execute(query, (self.station, self.alarm, self.utc, self.text))
+
+
+def lasting_in(data: sqlite3.Connection, station: str) -> Dict[str, Tuple[str, float]]:
+    """The alarms of a station, or of the watch, that have not ended: their texts and begins."""
+    query = "SELECT alarm, text, begin_at FROM alarm_rows WHERE station = ? AND end_at IS NULL"
+    return {alarm: (text, begin) for alarm, text, begin in data.execute(query, (station,))}
+
 
 class RunBegan(NamedTuple):
     station: str
     utc: float
+
+    def write(self, data: sqlite3.Connection) -> None:
+        data.execute("INSERT INTO run_rows(station, begin_at, reason) VALUES(?, ?, '')", self)
 
 
 class RunEnded(NamedTuple):
@@ -67,14 +86,37 @@ class RunEnded(NamedTuple):
     utc: float
     reason: str
 
+    def write(self, data: sqlite3.Connection) -> None:
+        query = "UPDATE run_rows SET end_at = ?, reason = ? WHERE station = ? AND end_at IS NULL"
+        data.execute(query, (self.utc, self.reason, self.station))
+
+
+class WatchBegan(NamedTuple):
+    """From now on a station is watched, until its last `StateSeen`."""
+
+    station: str
+    utc: float
+
+    def write(self, data: sqlite3.Connection) -> None:
+        query = "INSERT INTO watched_rows(station, begin_at, end_at) VALUES(?, ?, ?)"
+        data.execute(query, (self.station, self.utc, self.utc))
+
 
 class StateSeen(NamedTuple):
     station: str
     utc: float
     state: Dict[str, Any]
 
+    def write(self, data: sqlite3.Connection) -> None:
+        text = json.dumps(self.state, separators=(",", ":"))
+        data.execute("INSERT OR REPLACE INTO station_rows VALUES(?, ?, ?)", (self.station, self.utc, text))
+        last = "(SELECT MAX(id) FROM watched_rows WHERE station = ?)"
+        query = f"UPDATE watched_rows SET end_at = MAX(begin_at, ?) WHERE id = {last}"
+        data.execute(query, (self.utc, self.station))
 
-Record = Union[PartOpened, PartGrew, PartTold, AlarmChanged, RunBegan, RunEnded, StateSeen]
+
+Record = Union[PartOpened, PartGrew, PartTold, AlarmChanged, RunBegan, RunEnded, WatchBegan, StateSeen]
+PARTS = "FROM hour_files JOIN sessions ON sessions.id = session JOIN recordings ON recordings.id = recording"
 
 
 class Records:
@@ -86,7 +128,7 @@ class Records:
         self.database = sqlite3.connect(path, timeout=WAIT, isolation_level=None, check_same_thread=False)
         self.database.execute("PRAGMA foreign_keys = ON")
         self.database.execute("PRAGMA synchronous = FULL")
-        self._facts: Dict[Tuple[str, Optional[str]], int] = {}
+        self._rows = SessionRows(self.database, idle_too=True)
         self._parts: Dict[PartKey, int] = {}
 
     def close(self) -> None:
@@ -96,8 +138,8 @@ class Records:
         """All of them, or none with an error of sqlite3."""
         self.database.execute("BEGIN IMMEDIATE")
         try:
-            for it in records:
-                self._write(it)
+            for record in records:
+                self._write(record)
             self.database.execute("COMMIT")
         except BaseException:
             # Its notes are not there.
@@ -107,127 +149,83 @@ class Records:
             raise
 
     def forget(self) -> None:
-        self._facts, self._parts = {}, {}
+        self._rows.forget()
+        self._parts = {}
 
-    def _write(self, it: Record) -> None:
-        if isinstance(it, PartTold):
-            self._tell(it)
-        elif isinstance(it, PartGrew):
-            self._grow(it)
-        elif isinstance(it, StateSeen):
-            text = json.dumps(it.state, separators=(",", ":"))
-            self.database.execute("INSERT OR REPLACE INTO station_rows VALUES(?, ?, ?)", (it.station, it.utc, text))
-        elif isinstance(it, PartOpened):
-            self._open(it)
-        elif isinstance(it, AlarmChanged):
-            self._change(it)
-        elif isinstance(it, RunBegan):
-            self.database.execute("INSERT INTO run_rows(station, begin_at, reason) VALUES(?, ?, '')", it)
+    def _write(self, record: Record) -> None:
+        if isinstance(record, PartTold):
+            self._rows.tell(self._part(record.key), record.told)
+        elif isinstance(record, PartGrew):
+            self._grow(record)
+        elif isinstance(record, PartOpened):
+            self._open(record)
         else:
-            self.database.execute(
-                "UPDATE run_rows SET end_at = ?, reason = ? WHERE station = ? AND end_at IS NULL", (it.utc, it.reason, it.station)
-            )
+            record.write(self.database)
 
     # ---- parts of sessions
 
-    def _open(self, it: PartOpened) -> None:
-        data = self.database
-        data.execute("INSERT OR IGNORE INTO recordings(name, station) VALUES(?, ?)", (it.key.recording, it.station))
-        data.execute(
+    def _open(self, opened: PartOpened) -> None:
+        (name, number), data = opened.key, self.database
+        insert = "INSERT OR IGNORE INTO recordings(name, station) VALUES(?, ?)"
+        data.execute(insert, (name, opened.station))
+        insert = (
             "INSERT OR IGNORE INTO sessions(recording, number, start, rate, minute_bits, begin_place, end_place, finished)"
-            " SELECT id, ?, ?, ?, ?, ?, ?, 0 FROM recordings WHERE name = ?",
-            (it.key.number, *it.timing, MINUTE_BITS, it.begin, it.begin, it.key.recording),
+            " SELECT id, ?, ?, ?, ?, ?, ?, 0 FROM recordings WHERE name = ?"
         )
-        data.execute("INSERT OR IGNORE INTO hour_files VALUES(?, ?, 0, 1)", (self._part(it.key), it.path))
+        data.execute(insert, (number, *opened.timing, MINUTE_BITS, opened.begin, opened.begin, name))
+        insert = "INSERT OR IGNORE INTO hour_files VALUES(?, ?, 0, 1)"
+        data.execute(insert, (self._part(opened.key), opened.path))
 
     def _part(self, key: PartKey) -> int:
         if key not in self._parts:
-            row = self.database.execute(
-                "SELECT sessions.id FROM sessions JOIN recordings ON recordings.id = recording WHERE name = ? AND number = ?", key
-            ).fetchone()
+            query = "SELECT sessions.id FROM sessions JOIN recordings ON recordings.id = recording WHERE name = ? AND number = ?"
+            row = self.database.execute(query, key).fetchone()
             if len(self._parts) > 1000:
                 self._parts = {}
             self._parts[key] = int(row[0])
         return self._parts[key]
 
-    def _grow(self, it: PartGrew) -> None:
-        part = self._part(it.key)
-        self.database.execute(
-            "UPDATE sessions SET end_place = ?, finished = ? WHERE id = ?", (it.end, it.totals is not None, part)
-        )
-        self.database.execute("UPDATE hour_files SET bytes = ?, is_open = ? WHERE session = ?", (it.size, not it.closed, part))
-        if it.totals is not None:
-            pairs = zip(TOTAL_NAMES, flat(it.totals))
-            self.database.executemany("INSERT OR REPLACE INTO totals VALUES(?, ?, ?)", ((part, *pair) for pair in pairs))
+    def _grow(self, grew: PartGrew) -> None:
+        part, data = self._part(grew.key), self.database
+        values = grew.end, grew.totals is not None, grew.quiet, part
+        data.execute("UPDATE sessions SET end_place = ?, finished = ?, quiet_place = ? WHERE id = ?", values)
+        query = "UPDATE hour_files SET bytes = ?, is_open = ? WHERE session = ?"
+        data.execute(query, (grew.size, not grew.closed, part))
+        if grew.totals is not None:
+            self._rows.sum_up(part, grew.totals)
 
-    def _tell(self, it: PartTold) -> None:
-        part, data, told = self._part(it.key), self.database, it.told
-        names = 10 + len(HELD)
-        data.executemany(f"INSERT OR IGNORE INTO minute_rows VALUES({','.join('?' * names)})", self._minutes(part, told.minutes))
-        data.executemany("INSERT OR IGNORE INTO event_rows VALUES(?, ?, ?, ?)", self._events(part, told.events))
-        data.executemany("INSERT OR IGNORE INTO outage_rows VALUES(?, ?, ?)", ((part, *pair) for pair in told.outages))
+    def lasting(self, station: str) -> Dict[str, Tuple[str, float]]:
+        return lasting_in(self.database, station)
 
-    def _minutes(self, part: int, minutes: Sequence[MinuteRow]) -> Iterator[Sequence[Any]]:
-        for it in minutes:
-            held = [self._fact(item, it.held[item]) if item in it.held else None for item in HELD]
-            yield (part, it.number, *it.blocks[2:], mix_text(it.mix), *held, it.clock_s, it.more)
-
-    def _events(self, part: int, events: Sequence[EventRow]) -> Iterator[Sequence[Any]]:
-        return ((part, it.place, it.number, self._fact(it.item, it.text)) for it in events)
-
-    def _fact(self, item: str, value: Optional[str]) -> int:
-        if (item, value) not in self._facts:
-            # NULLs are never the same to UNIQUE.
-            found = self.database.execute("SELECT id FROM facts WHERE item = ? AND value IS ?", (item, value)).fetchone()
-            number = found[0] if found else self.database.execute("INSERT INTO facts(item, value) VALUES(?, ?)", (item, value)).lastrowid
-            if len(self._facts) > MOST_FACTS:
-                self._facts = {}
-            self._facts[item, value] = int(number)
-        return self._facts[item, value]
-
-    # ---- alarms
-
-    def _change(self, it: AlarmChanged) -> None:
-        lasting = self.lasting(it.station)
-        if it.begins and it.alarm not in lasting:
-            self.database.execute(
-                "INSERT INTO alarm_rows(station, alarm, begin_at, text) VALUES(?, ?, ?, ?)", (it.station, it.alarm, it.utc, it.text)
-            )
-        elif not it.begins:
-            self.database.execute(
-                "UPDATE alarm_rows SET end_at = MAX(begin_at, ?) WHERE station = ? AND alarm = ? AND end_at IS NULL",
-                (it.utc, it.station, it.alarm),
-            )
-
-    def lasting(self, station: str) -> Dict[str, str]:
-        """The alarms of a station that have not ended, with their texts."""
-        query = "SELECT alarm, text FROM alarm_rows WHERE station = ? AND end_at IS NULL"
-        return {str(name): str(text) for name, text in self.database.execute(query, (station,))}
+    def state(self, station: str) -> Dict[str, Any]:
+        """As it was seen last."""
+        query = "SELECT state FROM station_rows WHERE station = ?"
+        row = self.database.execute(query, (station,)).fetchone()
+        return dict(json.loads(row[0])) if row else {}
 
     def end_runs(self, utc: float) -> None:
-        """Runs of a watch that was killed."""
-        self.database.execute("UPDATE run_rows SET end_at = MAX(begin_at, ?), reason = 'the watch was killed' WHERE end_at IS NULL", (utc,))
+        """Runs of a watch that was killed: it was there up to the last look at the station."""
+        seen = "(SELECT MAX(end_at) FROM watched_rows WHERE watched_rows.station = run_rows.station)"
+        end = f"MAX(begin_at, MIN(?, COALESCE({seen}, ?)))"
+        query = f"UPDATE run_rows SET end_at = {end}, reason = 'the watch was killed' WHERE end_at IS NULL"
+        self.database.execute(query, (utc, utc))
 
     # ---- hours that were being written
 
     def open_parts(self) -> "List[OpenPart]":
         """The parts that no PartGrew closed, the oldest first."""
-        rows = self.database.execute(
-            "SELECT name, number, station, start, rate, begin_place, end_place, path, bytes FROM hour_files"
-            " JOIN sessions ON sessions.id = session JOIN recordings ON recordings.id = recording WHERE is_open ORDER BY start, number"
-        ).fetchall()
-        return [OpenPart(PartKey(it[0], it[1]), it[2], Timing(it[3], it[4]), *it[5:]) for it in rows]
+        columns = "name, number, station, start, rate, begin_place, end_place, path, bytes"
+        query = f"SELECT {columns} {PARTS} WHERE is_open ORDER BY start, number"
+        rows = self.database.execute(query).fetchall()
+        return [OpenPart(PartKey(row[0], row[1]), row[2], Timing(row[3], row[4]), *row[5:]) for row in rows]
 
     def path_of(self, key: PartKey) -> Optional[str]:
-        query = (
-            "SELECT path FROM hour_files JOIN sessions ON sessions.id = session JOIN recordings ON recordings.id = recording"
-            " WHERE name = ? AND number = ?"
-        )
-        row = self.database.execute(query, key).fetchone()
+        row = self.database.execute(f"SELECT path {PARTS} WHERE name = ? AND number = ?", key).fetchone()
         return None if row is None else str(row[0])
 
     def knows(self, path: str) -> bool:
-        return self.database.execute("SELECT 1 FROM hour_files WHERE path = ?", (path,)).fetchone() is not None
+        query = "SELECT 1 FROM hour_files WHERE path = ?"
+        return self.database.execute(query, (path,)).fetchone() is not None
 
 
 class OpenPart(NamedTuple):

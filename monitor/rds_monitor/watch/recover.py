@@ -8,12 +8,13 @@ from typing import Iterator, List, Optional, Tuple
 
 import numpy
 
-from ..items import BLOCK_BITS, ITEM, Fault, Rows
-from ..listing import Listing, ends_of
-from ..hours import hour_of
-from .repair import make_whole
+from ..db.parts import Contents, Part
+from ..rows.clock import Clock
+from ..rows.hours import hour_of
+from ..rows.items import BLOCK_BITS, ITEM, Fault, Reading, Rows
+from ..rows.listing import Listing, ends_of
 from .records import OpenPart, PartGrew, PartKey, PartOpened, PartTold, Records
-from .session import Contents, Part
+from .repair import make_whole
 from .times import Timing
 
 
@@ -21,9 +22,9 @@ def recover(folder: str, stations: List[str], records: Records) -> List[str]:
     """Gives the paths of the hours that were looked at."""
     adopt(folder, stations, records)
     found = records.open_parts()
-    for it in found:
-        replay(folder, it, records)
-    return [it.path for it in found]
+    for entry in found:
+        replay(folder, entry, records)
+    return [part.path for part in found]
 
 
 def adopt(folder: str, stations: List[str], records: Records) -> None:
@@ -31,7 +32,7 @@ def adopt(folder: str, stations: List[str], records: Records) -> None:
     for station in stations:
         path = os.path.join("listings", station)
         whole = os.path.join(folder, path)
-        names = sorted(it for it in os.listdir(whole) if hour_of(it)) if os.path.isdir(whole) else []
+        names = sorted(entry for entry in os.listdir(whole) if hour_of(entry)) if os.path.isdir(whole) else []
         newest = sorted(names, key=lambda name: os.stat(os.path.join(whole, name)).st_mtime)[-2:]
         for name in newest:
             known = os.path.join(path, name)
@@ -47,43 +48,52 @@ def _open(folder: str, station: str, path: str, records: Records) -> None:
     if len(rows):
         timing = Timing(hour.start, hour.rate)
         begin = max(0, int(rows["place"][0]) - BLOCK_BITS)
-        records.write([PartOpened(PartKey(f"{station} {os.path.basename(path)}", 0), station, timing, begin, path)])
+        records.write(
+            [PartOpened(PartKey(f"{station} {os.path.basename(path)}", 0), station, timing, begin, path)]
+        )
 
 
 def rows_of(path: str) -> Tuple[Rows, List[int]]:
     """The rows of an hour's file, and the number of bytes up to the end of each."""
-    with open(path, "rb") as it:
-        data = it.read()
-    source = Listing(io.BytesIO(data), b"", unfinished_ok=True)
+    with open(path, "rb") as file:
+        data = file.read()
+    source = Listing(io.BytesIO(data), b"", Reading(unfinished_ok=True))
     rows: Rows = numpy.concatenate([numpy.zeros(0, ITEM), *source.chunks()])
     return rows, (numpy.flatnonzero(numpy.frombuffer(data, "u1") == 10)[: len(rows)] + 1).tolist()
 
 
-def replay(folder: str, it: OpenPart, records: Records) -> None:
+def replay(folder: str, opened: OpenPart, records: Records) -> None:
     """Takes the rows of a part once more, and writes what the database lacks: it has what the first bytes of the file tell."""
-    path = os.path.join(folder, it.path)
+    path = os.path.join(folder, opened.path)
     size = make_whole(path) if os.path.exists(path) else 0
-    contents = Contents(it.timing.rate)
-    for before in _before(folder, it, records):
-        contents.decoder.feed(before)
+    contents = Contents(opened.timing.rate)
+    for before in _before(folder, opened, records):
+        for event in contents.decoder.feed(before):
+            contents.take(event)
         contents.outages.add(before)
-    part = Part(it.timing, it.begin, contents)
+    part = Part(Clock(*opened.timing), opened.begin, contents)
     rows, ends = rows_of(path) if size else (numpy.zeros(0, ITEM), [])
-    told = int(numpy.searchsorted(numpy.array(ends, "i8"), it.size, "right"))
+    told = int(numpy.searchsorted(numpy.array(ends, "i8"), opened.size, "right"))
     part.add(rows[:told])
     known = part.taken()
     # Minutes that are there stay as they are; those that were lost with the watch's last second are told now.
     known.events.clear()
     known.outages.clear()
     part.add(rows[told:])
-    end = max(it.end, int(ends_of(rows[-1:])[0]) if len(rows) else 0)
+    end = max(opened.end, int(ends_of(rows[-1:])[0]) if len(rows) else 0)
     part.close(end, last=True)
-    records.write([PartTold(it.key, known), PartTold(it.key, part.taken()), PartGrew(it.key, end, size, closed=True)])
+    records.write(
+        [
+            PartTold(opened.key, known),
+            PartTold(opened.key, part.taken()),
+            PartGrew(opened.key, end, size, closed=True),
+        ]
+    )
 
 
-def _before(folder: str, it: OpenPart, records: Records) -> Iterator[Rows]:
+def _before(folder: str, part: OpenPart, records: Records) -> Iterator[Rows]:
     """The rows of the hour before, by which the contents are known that hold in this one."""
-    path: Optional[str] = records.path_of(PartKey(it.key.recording, it.key.number - 1))
+    path: Optional[str] = records.path_of(PartKey(part.key.recording, part.key.number - 1))
     if path and os.path.exists(os.path.join(folder, path)):
         try:
             yield rows_of(os.path.join(folder, path))[0]

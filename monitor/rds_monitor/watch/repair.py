@@ -4,7 +4,7 @@ from __future__ import annotations
 
 import os
 
-from ..parse import parse
+from ..rows.parse import parse
 
 # No second of a listing has more bytes.
 TAIL = 1 << 16
@@ -13,19 +13,19 @@ TAIL = 1 << 16
 def make_whole(path: str) -> int:
     """Cuts off a torn row, or zeros, at the end of a file, such as after a power failure, and gives its size. All of that is on the
     disk then: a watch that was killed leaves rows that are not."""
-    with open(path, "r+b") as it:
-        size = it.seek(0, os.SEEK_END)
+    with open(path, "r+b") as file:
+        size = file.seek(0, os.SEEK_END)
         begin = max(0, size - TAIL)
-        it.seek(begin)
-        tail = it.read()
+        file.seek(begin)
+        tail = file.read()
         if begin:
             # The first line may be a part of one.
             skipped = tail.find(b"\n") + 1
             begin, tail = begin + skipped, tail[skipped:]
         whole = begin + _whole(tail)
         if whole < size:
-            it.truncate(whole)
-        os.fsync(it.fileno())
+            file.truncate(whole)
+        os.fsync(file.fileno())
         return whole
 
 

@@ -5,8 +5,8 @@ from __future__ import annotations
 import os
 from typing import Iterator, List, NamedTuple, Set
 
-from ..schema import HELD
-from ..hours import HOUR, hour_of
+from ..db.schema import HELD
+from ..rows.hours import HOUR, hour_of
 from .records import Records
 from .table import Keep
 
@@ -23,8 +23,8 @@ class Listed(NamedTuple):
 def tidy(folder: str, keep: Keep, utc: float, records: Records) -> List[str]:
     """Removes old hours' files and old rows of the database, and gives the paths of the files. Hours that are being written,
     and all of the last hour, are kept."""
-    busy = {it.path for it in records.open_parts()}
-    removed = [it.path for it in _too_old(sorted(_hours(folder)), keep, utc, busy)]
+    busy = {part.path for part in records.open_parts()}
+    removed = [hour.path for hour in _too_old(sorted(_hours(folder)), keep, utc, busy)]
     for path in removed:
         os.unlink(os.path.join(folder, path))
     if keep.database_days:
@@ -43,14 +43,14 @@ def _hours(folder: str) -> Iterator[Listed]:
 
 
 def _too_old(hours: List[Listed], keep: Keep, utc: float, busy: Set[str]) -> Iterator[Listed]:
-    total = sum(it.size for it in hours)
+    total = sum(hour.size for hour in hours)
     oldest = utc - keep.listings_days * DAY if keep.listings_days else 0.0
-    for it in hours:
-        if it.path in busy or it.begin > utc - 2 * HOUR:
+    for hour in hours:
+        if hour.path in busy or hour.begin > utc - 2 * HOUR:
             continue
-        if it.begin + HOUR <= oldest or keep.listings_gb and total > keep.listings_gb * GB:
-            total -= it.size
-            yield it
+        if hour.begin + HOUR <= oldest or keep.listings_gb and total > keep.listings_gb * GB:
+            total -= hour.size
+            yield hour
 
 
 def _forget(records: Records, oldest: float) -> None:
@@ -61,9 +61,13 @@ def _forget(records: Records, oldest: float) -> None:
         gone = data.execute("DELETE FROM sessions WHERE start + end_place / rate < ?", (oldest,)).rowcount
         data.execute("DELETE FROM alarm_rows WHERE end_at < ?", (oldest,))
         data.execute("DELETE FROM run_rows WHERE end_at < ?", (oldest,))
+        data.execute("DELETE FROM watched_rows WHERE end_at < ?", (oldest,))
+        data.execute("UPDATE watched_rows SET begin_at = MAX(begin_at, ?)", (oldest,))
         if gone:
-            data.execute("DELETE FROM recordings WHERE NOT EXISTS (SELECT 1 FROM sessions WHERE recording = recordings.id)")
-            named = " UNION ".join(f"SELECT {it} FROM minute_rows WHERE {it} NOT NULL" for it in HELD)
+            data.execute(
+                "DELETE FROM recordings WHERE NOT EXISTS (SELECT 1 FROM sessions WHERE recording = recordings.id)"
+            )
+            named = " UNION ".join(f"SELECT {item} FROM minute_rows WHERE {item} NOT NULL" for item in HELD)
             data.execute(f"DELETE FROM facts WHERE id NOT IN (SELECT fact FROM event_rows UNION {named})")
         data.execute("COMMIT")
     except BaseException:

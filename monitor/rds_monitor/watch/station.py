@@ -2,43 +2,53 @@
 
 from __future__ import annotations
 
-from typing import Any, Callable, Dict, List, Optional
+import math
+from collections import deque
+from typing import Any, Deque, Dict, List, Optional, Tuple
 
-from ..charset import printable
-from ..items import Fault
-from ..schema import HELD
+from ..content.charset import printable
+from ..db.parts import Told
+from ..db.schema import HELD
+from ..rows.items import Fault
 from .alarms import Alarms, Change, Watched
-from .bits import BitSource, bit_source
+from .bits import Packed, bit_source
 from .decoders import NewDecoder
 from .live import Append, LiveSession
 from .receiver import Keeper, Launch
-from .records import AlarmChanged, Record, RunBegan, RunEnded, StateSeen
-from .session import Told, held_values
+from .records import AlarmChanged, Record, RunBegan, RunEnded, StateSeen, WatchBegan
 from .table import StationTable
 from .times import Timing
+from .writer import Say
 
 # Of the last minutes, for the line of a tile.
 MINUTES_KEPT = 1440
 NEWS = 10.0
-
-Say = Callable[[str, str], None]
+# Seconds by which bits may be ahead of time; then the receiver is restarted.
+AHEAD = 5.0
+# Seconds within which a dynamic PS shows all of its parts.
+NAMES_FOR = 60.0
 
 
 class Station:
     """All times are pairs of the monotonic clock and UTC."""
 
-    def __init__(self, it: StationTable, launch: Launch, decoder: NewDecoder, speed: float, now: float, say: Say):
-        self.table, self._decoder, self._speed, self._say = it, decoder, speed, say
-        self.keeper = Keeper(it.command, it.patience * speed, launch, now)
-        self.alarms = Alarms(it, now, speed)
+    def __init__(
+        self, table: StationTable, launch: Launch, decoder: NewDecoder, speed: float, now: float, say: Say
+    ):
+        self.table, self._decoder, self._speed, self._say = table, decoder, speed, say
+        self.keeper = Keeper(table.command, table.patience * speed, launch, now)
+        self.alarms = Alarms(table, now, speed)
         self._session: Optional[LiveSession] = None
-        self._bits: Optional[BitSource] = None
+        self._bits: Optional[Packed] = None
         self._waiting: List[bytes] = []
         self._counted = 0
         self._starts = 0
         self._last_read = 0.0
         self._last_valid = now
         self._whole_utc: Optional[float] = None
+        # Since when the receiver gives the bits of the next session, and whether those of the last one were ahead of time.
+        self._began, self._was_ahead = 0.0, False
+        self._names: Deque[Tuple[float, str]] = deque()
         self._news = 0.0
         self._blocks = {"valid": 0, "corrected": 0, "lost": 0, "missing": 0}
         self._last_minute: Optional[Dict[str, float]] = None
@@ -52,10 +62,10 @@ class Station:
     def name(self) -> str:
         return self.table.name
 
-    def set_table(self, it: StationTable) -> None:
+    def set_table(self, table: StationTable) -> None:
         """Of the same receiver, with other limits."""
-        self.table, self.keeper.patience = it, it.patience * self._speed
-        self.alarms.set_table(it)
+        self.table, self.keeper.patience = table, table.patience * self._speed
+        self.alarms.set_table(table)
 
     # ---- bytes
 
@@ -64,19 +74,32 @@ class Station:
         data = self.keeper.read(steady)
         if self.keeper.starts != self._starts:
             self._starts = self.keeper.starts
+            self._began = utc
             self.records.append(RunBegan(self.name, utc))
         if data is None:
             self._end_run(utc)
-        elif data:
+        elif data and (self._session or not self.keeper.is_stopping):
             if self._session is None:
-                self._session = LiveSession(self.name, self._speed, self._decoder())
+                self._session = LiveSession(self.name, self._speed, self._decoder(), self._began)
                 self._bits = self._bits or bit_source(self.table)
                 self._counted = 0
             self._waiting.append(data)
             self._last_read = utc
             self._counted += len(data)
-            if self.table.form == "bits":
-                self._session.arrivals.take(8 * self._counted, utc)
+            if self.table.form == "bits" and self._is_ahead(8 * self._counted, utc):
+                self._waiting.pop()
+                self._stop_ahead(steady, utc)
+
+    def _is_ahead(self, place: int, utc: float) -> bool:
+        """Bits up to this position had come at this time: whether none of a station come as fast."""
+        assert self._session
+        self._session.arrivals.take(place, utc)
+        return self._session.arrivals.ahead > AHEAD * self._speed
+
+    def _stop_ahead(self, steady: float, utc: float) -> None:
+        self._was_ahead = True
+        self.end_session(utc)
+        self.keeper.stop_run(steady, "gave bits faster than real time")
 
     def _end_run(self, utc: float) -> None:
         reason = printable(self.keeper.reason)
@@ -91,7 +114,10 @@ class Station:
         data, self._waiting = b"".join(self._waiting), []
         bits = self._bits.take(data)
         if bits and self.table.form != "bits":
-            self._session.arrivals.take(self._session.place + 8 * len(bits), self._last_read - self._bits.delay)
+            place, came = self._session.place + 8 * len(bits), self._last_read - self._bits.delay
+            if self._is_ahead(place, came):
+                self._was_ahead = True
+                raise Fault("gave bits faster than real time")
         if bits:
             self._session.take(bits)
 
@@ -108,29 +134,29 @@ class Station:
         except (Fault, ValueError) as error:
             self._say("warning", f"{self.name}: {error}")
         if not self._session.close(utc):
-            self._say("warning", f"{self.name}: the decoder ended before its input: the session has no totals")
+            text = "the decoder ended before its input: the session has no totals"
+            self._say("warning", f"{self.name}: {text}")
         self._collect()
-        self._session = None
+        self._session, self._began = None, utc
 
     def step(self, seconds: float, utc: float) -> None:
         """The machine's clock was set. Within a session no time goes back."""
-        if self._session is None:
-            return
-        if seconds < 0:
+        self.records.append(WatchBegan(self.name, utc))
+        if self._session and seconds > 0:
+            try:
+                self._decode()
+                self._session.jump(seconds, utc)
+                self._collect()
+            except (Fault, ValueError) as error:
+                self._say("warning", f"{self.name}: {error}")
+                self.end_session(utc - seconds, goes_on=True)
+        elif self._session:
             self.end_session(utc - seconds, goes_on=True)
-            return
-        try:
-            self._decode()
-        except (Fault, ValueError) as error:
-            self._say("warning", f"{self.name}: {error}")
-            self.end_session(utc - seconds, goes_on=True)
-            return
-        self._session.jump(seconds, utc)
-        self._collect()
+        self._began = utc
 
     # ---- ticks
 
-    def tick(self, steady: float, utc: float, unwritten_since: Optional[float]) -> None:
+    def tick(self, steady: float, utc: float) -> None:
         """Decodes the bytes that came, and judges the station."""
         if self._session:
             try:
@@ -144,15 +170,21 @@ class Station:
                 self.end_session(utc)
                 self.keeper.stop_run(steady, str(error))
         self._see_valid(steady)
-        held = held_values(self._session.contents.decoder) if self._session else {}
+        held = {} if self._session is None else self._session.contents.decoder.held()
+        values = {item: value.value for item, value in held.items()}
         age = steady - self._last_valid
-        seen = Watched(self.keeper.last_byte, age, held, unwritten_since)
+        seen = Watched(self.keeper.last_byte, age, values, self._pace())
         for change in self.alarms.judge(seen, steady):
             self.changes.append(change)
             self.records.append(AlarmChanged(self.name, change.alarm, change.begins, utc, change.text))
         if steady >= self._news or self.changes:
             self._news = steady + NEWS * self._speed
             self.records.append(StateSeen(self.name, utc, self.state(utc)))
+
+    def _pace(self) -> Optional[float]:
+        pace = self._session.arrivals.pace() if self._session else None
+        self._was_ahead &= pace is None
+        return math.inf if self._was_ahead else pace
 
     def _see_valid(self, steady: float) -> None:
         """When the last valid block came that counts, by its position."""
@@ -161,7 +193,7 @@ class Station:
             return
         end = session.contents.outages.end or 0
         if end > 0:
-            age = (session.place - end) / session.part.timing.rate
+            age = (session.place - end) / session.part.clock.rate
             self._last_valid = max(self._last_valid, min(steady, self.keeper.last_byte) - age)
 
     def _collect(self) -> None:
@@ -173,26 +205,37 @@ class Station:
             self._take(told, timing)
         session.appends, session.records, session.told = [], [], []
         if session.whole_end is not None and session.timing:
-            self._whole_utc = session.timing.utc(session.whole_end)
+            self._whole_utc = min(session.timing.utc(session.whole_end), self._last_read)
 
     def _take(self, told: Told, timing: Timing) -> None:
-        self.alarms.take(told.changes, [it.blocks.bad_percent for it in told.minutes if it.blocks.sent], told.ticks, timing)
-        for it in told.minutes:
+        percents = [minute.blocks.bad_percent for minute in told.minutes if minute.blocks.sent]
+        self.alarms.take(told.changes, percents, told.ticks, timing)
+        for event in told.changes:
+            if event.item == "ps" and event.value is not None:
+                self._names.append((timing.utc(event.place), printable(event.text.strip())))
+        for minute in told.minutes:
             for name in self._blocks:
-                self._blocks[name] += getattr(it.blocks, name)
-            self._last_minute = {"utc": timing.utc(it.blocks.begin), "sent": it.blocks.sent, "valid": it.blocks.valid,
-                                 "corrected": it.blocks.corrected}
-            self._clock_s = it.clock_s if it.clock_s is not None else self._clock_s
+                self._blocks[name] += getattr(minute.blocks, name)
+            self._last_minute = {
+                "utc": timing.utc(minute.blocks.begin),
+                "sent": minute.blocks.sent,
+                "valid": minute.blocks.valid,
+                "corrected": minute.blocks.corrected,
+            }
+            self._clock_s = minute.clock_s if minute.clock_s is not None else self._clock_s
 
     # ---- its state
 
     def state(self, utc: float) -> Dict[str, Any]:
         """The state now, for pages, metrics and `check`."""
-        held = self._session.contents.decoder.held() if self._session else {}
+        held = {} if self._session is None else self._session.contents.decoder.held()
         if "pi" in held:
             # After the session the last contents are shown on.
             self._shown = {item: printable(held[item].text) for item in HELD if item in held}
         timing = self._session.timing if self._session else None
+        # The last one before the minute held in it.
+        while len(self._names) > 1 and self._names[1][0] < utc - NAMES_FOR * self._speed:
+            self._names.popleft()
         return {
             "utc": utc,
             "frequency": self.table.frequency,
@@ -208,6 +251,8 @@ class Station:
             "blocks": dict(self._blocks),
             "signal": self._bits.report() if self._bits else {},
             "alarms": dict(self.alarms.lasting),
+            "names": [name for _, name in self._names if name] if self._session else [],
+            "counted": self.alarms.counted(),
         }
 
     def stop(self, steady: float, utc: float, reason: str) -> None:
@@ -215,4 +260,6 @@ class Station:
         self.end_session(utc)
         self.keeper.stop(steady, reason)
         if self.keeper.is_running:
+            self.keeper.reason = reason
             self.records.append(RunEnded(self.name, utc, reason))
+        self.records.append(StateSeen(self.name, utc, self.state(utc)))

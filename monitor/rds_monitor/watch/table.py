@@ -5,21 +5,21 @@ from __future__ import annotations
 import importlib
 import re
 from dataclasses import dataclass, field, fields, replace
-from typing import Any, Callable, Dict, List, Mapping, NamedTuple, Optional, Tuple
+from typing import Any, Callable, Dict, NamedTuple, Optional, Set, Tuple
 
-from ..items import Fault
+from ..rows.items import Fault
 
-FORMS = ("bits", "mpx", "iq")
-RAW_FORMS = ("s16", "f32", "u8")
 SAMPLE_RATES = range(128000, 3200001)
 
 
 @dataclass(frozen=True)
-class Limits:
+class AlarmLimits:
     """When alarms begin: seconds, but minutes for `errors` and a number of groups for `ct`. None turns one off."""
 
     silent: Optional[float] = 15
     no_rds: Optional[float] = 10
+    fast: Optional[float] = 60
+    slow: Optional[float] = 60
     errors: Optional[float] = 3
     errors_percent: float = 30
     pi: Optional[float] = 10
@@ -50,12 +50,12 @@ class StationTable:
     rt: Tuple[str, ...] = ()
     patience: float = 10
     alarm_command: Tuple[str, ...] = ()
-    alarms: Limits = field(default_factory=Limits)
+    alarms: AlarmLimits = field(default_factory=AlarmLimits)
 
     def same_receiver(self, other: "StationTable") -> bool:
         """Whether the command and the form of its output are the same, so that it need not be restarted."""
         names = ("name", "command", "form", "raw", "rate", "offset")
-        return all(getattr(self, it) == getattr(other, it) for it in names)
+        return all(getattr(self, name) == getattr(other, name) for name in names)
 
 
 class Keep(NamedTuple):
@@ -74,13 +74,97 @@ class Table(NamedTuple):
     program: Optional[str] = None
 
 
+# ---- values
+
+Judge = Callable[[Any, str], Any]
+
+
+def _rule(fits: Callable[[Any], bool], needed: str, made: Callable[[Any], Any]) -> Judge:
+    """The value as it is used, or a fault that says which one is needed."""
+
+    def judge(value: Any, of: str) -> Any:
+        if not fits(value):
+            raise Fault(f"{of}: {needed} needed, not {value!r}")
+        return made(value)
+
+    return judge
+
+
+def _is_text(value: Any) -> bool:
+    return isinstance(value, str) and value != "" and "\0" not in value
+
+
+def _is_number(value: Any, *kinds: type) -> bool:
+    return isinstance(value, kinds or (int, float)) and not isinstance(value, bool)
+
+
+def _texts(value: Any) -> Tuple[Any, ...]:
+    return tuple(value if isinstance(value, list) else [value])
+
+
+def _one_of(choices: Tuple[str, ...]) -> Judge:
+    return _rule(lambda value: value in choices, f"one of {', '.join(choices)} is", str)
+
+
+def _name(value: Any, of: str) -> str:
+    """The name of a station, which is that of its folder too."""
+    text: str = _text(value, of)
+    if "/" in text or text[0] in ".-" or len(text.encode("utf-8", "replace")) > 100 or not text.isprintable():
+        needed = "no '/', at most 100 bytes, and no '.' or '-' first"
+        raise Fault(f"{of}: {text!r} cannot be the name of a folder: {needed}")
+    return text
+
+
+def _words(value: Any, of: str) -> Tuple[str, ...]:
+    if (
+        isinstance(value, list)
+        and value
+        and all(isinstance(word, str) and "\0" not in word for word in value)
+    ):
+        return tuple(value)
+    raise Fault(f'{of}: a list of words is needed, such as ["receiver", "-f", "98.1M"]: no shell reads it')
+
+
+_text = _rule(_is_text, "a text is", str)
+_number = _rule(
+    lambda value: _is_number(value) and 0 <= value < 1e12, "a number that is not below 0 is", float
+)
+_patterns = _rule(
+    lambda value: value != [] and all(isinstance(text, str) and text.strip() for text in _texts(value)),
+    "a pattern or a list of patterns is",
+    _texts,
+)
+JUDGES: Dict[str, Judge] = {
+    "name": _name,
+    "command": _words,
+    "form": _one_of(("bits", "mpx", "iq")),
+    "raw": _one_of(("s16", "f32", "u8")),
+    "rate": _rule(
+        lambda value: _is_number(value, int) and value in SAMPLE_RATES,
+        f"{SAMPLE_RATES[0]} to {SAMPLE_RATES[-1]} samples per second are",
+        int,
+    ),
+    "offset": _rule(lambda value: _is_number(value) and -3e6 < value < 3e6, "a number of Hz is", float),
+    "frequency": _number,
+    "pi": _rule(
+        lambda value: isinstance(value, str) and re.fullmatch("[0-9A-Fa-f]{4}", value) is not None,
+        "four hexadecimal digits in quotes are",
+        str.upper,
+    ),
+    "ps": _patterns,
+    "rt": _patterns,
+    "patience": _number,
+    "alarm_command": _words,
+}
+
+
 # ---- reading
 
 
 def read_table(path: str) -> Table:
     try:
-        with open(path, "rb") as it:
-            return table_of(it.read().decode("utf-8"))
+        with open(path, "rb") as file:
+            return table_of(file.read().decode("utf-8"))
     except OSError as error:
         raise Fault(f"{path!r} cannot be read: {error.strerror}") from None
     except UnicodeDecodeError:
@@ -106,143 +190,61 @@ def table_of(text: str) -> Table:
     except toml.TOMLDecodeError as error:
         raise Fault(f"this is no TOML: {error}") from None
     _known(given, {"folder", "program", "keep", "defaults", "station"}, "the table")
-    folder, program = (None if it not in given else _text(given[it], it) for it in ("folder", "program"))
+    folder, program = (_text(given[name], name) if name in given else None for name in ("folder", "program"))
     listed, defaults = given.get("station", []), given.get("defaults", {})
     if not isinstance(listed, list) or not listed:
         raise Fault("there is no [[station]]")
     if not isinstance(defaults, dict) or "name" in defaults:
         raise Fault("[defaults] has the keys of a station but its name")
-    stations = tuple(_station(it, defaults, number) for number, it in enumerate(listed, 1))
-    names = [it.name.casefold() for it in stations]
-    for it in stations:
-        if names.count(it.name.casefold()) > 1:
-            raise Fault(f"there are two stations {it.name!r}")
-    return Table(folder, _keep(given.get("keep", {})), stations, program)
+    stations = tuple(_station(entry, defaults, number) for number, entry in enumerate(listed, 1))
+    names = [station.name.casefold() for station in stations]
+    for station in stations:
+        if names.count(station.name.casefold()) > 1:
+            raise Fault(f"there are two stations {station.name!r}")
+    keep = _known(given.get("keep", {}), set(Keep._fields), "[keep]")
+    kept = Keep(**{name: _number(value, f"keep.{name}") for name, value in keep.items()})
+    return Table(folder, kept, stations, program)
 
 
-def _keep(given: Any) -> Keep:
+def _known(given: Any, names: Set[str], of: str) -> Dict[str, Any]:
+    """A table with no other keys."""
     if not isinstance(given, dict):
-        raise Fault("[keep] is a table of numbers")
-    _known(given, set(Keep._fields), "[keep]")
-    return Keep(**{name: _number(value, f"keep.{name}") for name, value in given.items()})
+        raise Fault(f"{of} is a table")
+    for name in given:
+        if name not in names:
+            raise Fault(f"{of} has an unknown key {name!r}: there are {', '.join(sorted(names))}")
+    return given
 
 
-def _station(given: Any, defaults: Mapping[str, Any], number: int) -> StationTable:
+def _station(given: Any, defaults: Dict[str, Any], number: int) -> StationTable:
     if not isinstance(given, dict):
         raise Fault("a [[station]] is a table")
-    of = f"station {given['name']!r}" if isinstance(given.get("name"), str) else f"the station number {number}"
-    merged: Dict[str, Any] = {**defaults, **given}
-    _known(merged, set(JUDGES) | {"alarms"}, of)
-    for name in ("name", "command"):
-        if name not in merged:
-            raise Fault(f"{of} has no {name!r}")
-    found = {name: JUDGES[name](value, f"{name} of {of}") for name, value in merged.items() if name != "alarms"}
-    limits = {**_alarms(defaults.get("alarms", {}), "[defaults]"), **_alarms(given.get("alarms", {}), of)}
-    station = StationTable(**found, alarms=replace(Limits(), **limits))
+    name = given.get("name")
+    of = f"station {name!r}" if isinstance(name, str) else f"the station number {number}"
+    merged = _known({**defaults, **given}, {*JUDGES, "alarms"}, of)
+    for key in ("name", "command"):
+        if key not in merged:
+            raise Fault(f"{of} has no {key!r}")
+    limits = {**_alarms(defaults.get("alarms", {}), "[defaults]"), **_alarms(merged.pop("alarms", {}), of)}
+    found = {key: JUDGES[key](value, f"{key} of {of}") for key, value in merged.items()}
+    station = StationTable(**found, alarms=replace(AlarmLimits(), **limits))
     _judge_form(station, of)
     return station
 
 
-def _judge_form(it: StationTable, of: str) -> None:
-    if it.form == "bits" and (it.raw is not None or it.rate is not None or it.offset):
+def _judge_form(table: StationTable, of: str) -> None:
+    if table.form == "bits" and (table.raw is not None or table.rate is not None or table.offset):
         raise Fault(f"{of}: 'raw', 'rate' and 'offset' are for the forms mpx and iq")
-    if it.form != "bits" and (it.raw is None or it.rate is None):
-        raise Fault(f"{of}: the form {it.form} needs 'raw' and 'rate'")
-    if it.form == "mpx" and it.offset:
+    if table.form != "bits" and (table.raw is None or table.rate is None):
+        raise Fault(f"{of}: the form {table.form} needs 'raw' and 'rate'")
+    if table.form == "mpx" and table.offset:
         raise Fault(f"{of}: 'offset' is for the form iq")
 
 
 def _alarms(given: Any, of: str) -> Dict[str, Any]:
-    if not isinstance(given, dict):
-        raise Fault(f"{of}: 'alarms' is a table")
-    _known(given, {it.name for it in fields(Limits)}, f"the alarms of {of}")
+    _known(given, {field.name for field in fields(AlarmLimits)}, f"the alarms of {of}")
     found: Dict[str, Any] = {}
     for name, value in given.items():
         off = value is False and name not in ("errors_percent", "ct_offset")
         found[name] = None if off else _number(value, f"alarm {name} of {of}")
     return found
-
-
-# ---- values
-
-
-def _known(given: Mapping[str, Any], names: "set[str]", of: str) -> None:
-    for name in given:
-        if name not in names:
-            raise Fault(f"{of} has an unknown key {name!r}: there are {', '.join(sorted(names))}")
-
-
-def _text(value: Any, of: str) -> str:
-    if not isinstance(value, str) or not value or "\0" in value:
-        raise Fault(f"{of}: a text is needed, not {value!r}")
-    return value
-
-
-def _name(value: Any, of: str) -> str:
-    """The name of a station, which is that of its folder too."""
-    text = _text(value, of)
-    if "/" in text or text[0] in ".-" or len(text.encode("utf-8", "replace")) > 100 or not text.isprintable():
-        raise Fault(f"{of}: {text!r} cannot be the name of a folder: no '/', at most 100 bytes, and no '.' or '-' first")
-    return text
-
-
-def _number(value: Any, of: str) -> float:
-    if isinstance(value, bool) or not isinstance(value, (int, float)) or not 0 <= value < 1e12:
-        raise Fault(f"{of}: a number that is not below 0 is needed, not {value!r}")
-    return float(value)
-
-
-def _offset(value: Any, of: str) -> float:
-    if isinstance(value, bool) or not isinstance(value, (int, float)) or not -3e6 < value < 3e6:
-        raise Fault(f"{of}: a number of Hz is needed, not {value!r}")
-    return float(value)
-
-
-def _words(value: Any, of: str) -> Tuple[str, ...]:
-    if not isinstance(value, list) or not value or not all(isinstance(it, str) and "\0" not in it for it in value):
-        raise Fault(f"{of}: a list of words is needed, such as [\"receiver\", \"-f\", \"98.1M\"]: no shell reads it")
-    return tuple(value)
-
-
-def _patterns(value: Any, of: str) -> Tuple[str, ...]:
-    found: List[Any] = value if isinstance(value, list) else [value]
-    if not found or not all(isinstance(it, str) and it.strip() for it in found):
-        raise Fault(f"{of}: a pattern or a list of patterns is needed, not {value!r}")
-    return tuple(found)
-
-
-def _pi(value: Any, of: str) -> str:
-    if not isinstance(value, str) or not re.fullmatch("[0-9A-Fa-f]{4}", value):
-        raise Fault(f"{of}: four hexadecimal digits in quotes are needed, not {value!r}")
-    return value.upper()
-
-
-def _one_of(choices: Tuple[str, ...]) -> Callable[[Any, str], str]:
-    def judge(value: Any, of: str) -> str:
-        if value not in choices:
-            raise Fault(f"{of}: one of {', '.join(choices)} is needed, not {value!r}")
-        return str(value)
-
-    return judge
-
-
-def _sample_rate(value: Any, of: str) -> int:
-    if isinstance(value, bool) or not isinstance(value, int) or value not in SAMPLE_RATES:
-        raise Fault(f"{of}: {SAMPLE_RATES[0]} to {SAMPLE_RATES[-1]} samples per second are needed, not {value!r}")
-    return value
-
-
-JUDGES: Dict[str, Callable[[Any, str], Any]] = {
-    "name": _name,
-    "command": _words,
-    "form": _one_of(FORMS),
-    "raw": _one_of(RAW_FORMS),
-    "rate": _sample_rate,
-    "offset": _offset,
-    "frequency": _number,
-    "pi": _pi,
-    "ps": _patterns,
-    "rt": _patterns,
-    "patience": _number,
-    "alarm_command": _words,
-}

@@ -5,9 +5,9 @@ from __future__ import annotations
 import math
 import time
 from collections import deque
-from typing import Deque, NamedTuple, Optional, Protocol, Tuple
+from typing import Deque, NamedTuple, Optional, Tuple
 
-from ..clock import RATE
+from ..rows.clock import RATE
 
 # A step of the machine's clock, in seconds, that is not just its being kept right.
 STEP = 1.0
@@ -20,16 +20,8 @@ class Now(NamedTuple):
     utc: float
 
 
-class Times(Protocol):
-    """A clock. `speed` is how many times as fast as real time it goes."""
-
-    speed: float
-
-    def now(self) -> Now: ...
-
-
-class RealTimes:
-    """The machine's clocks, or faster ones that begin with them: `begin` is the UTC of that."""
+class Times:
+    """The machine's clocks, or ones that are `speed` times as fast and begin with them: `begin` is the UTC of that."""
 
     def __init__(self, speed: float = 1.0):
         self.speed = speed
@@ -37,7 +29,9 @@ class RealTimes:
 
     def now(self) -> Now:
         steady, utc = time.monotonic(), time.time()
-        return Now(self._steady + (steady - self._steady) * self.speed, self.begin + (utc - self.begin) * self.speed)
+        return Now(
+            self._steady + (steady - self._steady) * self.speed, self.begin + (utc - self.begin) * self.speed
+        )
 
 
 class SteadyUtc:
@@ -80,28 +74,38 @@ class Arrivals:
 
     SETTLING, WINDOW, LATE, NOISE, HORIZON = 1.0, 10.0, 0.5, 0.05, 3600.0
     MOST = 1e-3  # by which a rate is off
+    # Seconds of bits that a receiver may have had before it was started, and over which their pace is measured.
+    BACKLOG, PACE, PACE_LEAST = 60.0, 30.0, 10.0
 
-    def __init__(self, speed: float = 1.0):
+    def __init__(self, speed: float = 1.0, began: float = -math.inf):
         self.timing: Optional[Timing] = None
-        self._speed = speed
+        self._speed, self._began = speed, began
         self._first = self._since = 0.0
-        self._before = 0.0
+        self._before, self._settled = 0.0, False
+        # Of each second, and since when.
         self._delays: Deque[Tuple[int, float]] = deque()
+        self._noted = 0
+        self.reads: Deque[Tuple[float, int]] = deque()
 
     def take(self, place: int, utc: float) -> None:
         """The bits up to this position had come at this time."""
         if self.timing is None:
-            self.timing = Timing(utc - place / RATE)
+            self.timing = Timing(max(utc - place / RATE, self._began - self.BACKLOG * self._speed))
             self._first, self._since = self.timing.start, utc
         delay = utc - self.timing.utc(place)
-        settling = utc - self._since < self.SETTLING * self._speed and self.timing.rate == RATE
-        if delay < 0 and settling:
+        self._settled |= utc - self._since >= self.SETTLING * self._speed
+        if delay < 0 and not self._settled:
             start = max(self.timing.start + delay, self._first - self.SETTLING * self._speed)
             self.timing = Timing(start)
             delay = utc - self.timing.utc(place)
         self._note(int(utc / self._speed), delay)
+        if not self.reads or utc - self.reads[-1][0] >= self._speed:
+            self.reads.append((utc, place))
+        while self.reads[0][0] < utc - self.PACE * self._speed:
+            self.reads.popleft()
 
     def _note(self, second: int, delay: float) -> None:
+        self._noted = self._noted if self._delays else second
         if self._delays and self._delays[-1][0] == second:
             delay = min(delay, self._delays.pop()[1])
         self._delays.append((second, delay))
@@ -109,11 +113,23 @@ class Arrivals:
             self._delays.popleft()
 
     def delay(self) -> float:
-        """The least delay of the last seconds: 0 while there are too few of them, or if it is only noise."""
-        if len(self._delays) < self.WINDOW - 1:
+        """The least delay of the last seconds: 0 while they are too few, or if it is only noise."""
+        if not self._delays or self._delays[-1][0] - self._noted < self.WINDOW - 1:
             return 0.0
         least = min(delay for _, delay in self._delays)
         return least if abs(least) > self.NOISE * self._speed else 0.0
+
+    @property
+    def ahead(self) -> float:
+        """By how many seconds the last bits came before they can have been sent."""
+        return max(0.0, -self._delays[-1][1]) if self._delays else 0.0
+
+    def pace(self) -> Optional[float]:
+        """How many times as fast as 1187.5 per second the last bits came, if they tell."""
+        if len(self.reads) < 2 or self.reads[-1][0] - self.reads[0][0] < self.PACE_LEAST * self._speed:
+            return None
+        (first, begin), (last, end) = self.reads[0], self.reads[-1]
+        return (end - begin) / (last - first) / RATE
 
     def is_late(self) -> bool:
         return self.delay() > self.LATE * self._speed
@@ -123,12 +139,12 @@ class Arrivals:
         assert self.timing is not None and seconds >= 0
         self.timing = Timing(_up(self.timing.start + seconds), self.timing.rate)
         self._delays.clear()
-        self._before = 0.0
+        self._before, self._settled = 0.0, True
 
     def cut(self, place: int, utc: float) -> None:
         """From this position on the rate is the one by which the bits came."""
         assert self.timing is not None
-        delay, lasted = self.delay(), utc - self._since
+        delay, lasted, self._settled = self.delay(), utc - self._since, True
         drift = (delay - self._before) / lasted if lasted > 600 else 0.0
         slow = (1 + drift + delay / self.HORIZON) * RATE / self.timing.rate
         rate = round(RATE / min(max(slow, 1 - self.MOST), 1 + self.MOST), 4)

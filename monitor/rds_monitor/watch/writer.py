@@ -6,10 +6,11 @@ import os
 import sqlite3
 import threading
 import traceback
-from typing import Callable, Dict, List, NamedTuple, Optional, Sequence
+from collections import deque
+from typing import Callable, Deque, Dict, Iterable, List, NamedTuple, Optional, Sequence
 
 from .live import Append
-from .records import Record, Records, StateSeen
+from .records import AlarmChanged, Record, Records, StateSeen
 
 RETRY = 1.0
 # Of records that wait for the database; the oldest are given up first.
@@ -41,6 +42,9 @@ class HourWriter:
         os.fdatasync(self._file(path))
 
     def _file(self, path: str) -> int:
+        if path in self._open and not os.fstat(self._open[path]).st_nlink:
+            # Somebody deleted it: the rows to come are in a new one.
+            self.close(path)
         if path not in self._open:
             whole = os.path.join(self._folder, path)
             parent = os.path.dirname(whole)
@@ -63,11 +67,11 @@ class HourWriter:
 
 
 def _sync_folder(path: str) -> None:
-    it = os.open(path, os.O_RDONLY | os.O_DIRECTORY)
+    file = os.open(path, os.O_RDONLY | os.O_DIRECTORY)
     try:
-        os.fsync(it)
+        os.fsync(file)
     finally:
-        os.close(it)
+        os.close(file)
 
 
 class Writer:
@@ -80,6 +84,8 @@ class Writer:
         self._unsynced: List[str] = []
         self._waiting: List[Record] = []
         self._after: List[Callable[[Records], None]] = []
+        # What comes while rows wait.
+        self.news: Deque[Record] = deque()
         self.fault: Optional[str] = None
 
     @property
@@ -95,6 +101,8 @@ class Writer:
             del self._waiting[: len(self._waiting) - MOST_RECORDS]
 
     def work(self) -> bool:
+        while self.news:
+            self._waiting.append(self.news.popleft())
         try:
             self._write_rows()
             self._write_records()
@@ -103,6 +111,8 @@ class Writer:
             if self.fault is None:
                 self._say("error", f"rows cannot be written: {text}; they wait")
             self.fault = text
+            if not self.is_idle:
+                self._write_news()
             return False
         if self.fault is not None:
             self._say("notice", "rows are written again")
@@ -111,19 +121,30 @@ class Writer:
 
     def _write_rows(self) -> None:
         while self._rows:
-            it = self._rows[0]
-            data = memoryview(it.data)[self._written :]
+            row = self._rows[0]
+            data = memoryview(row.data)[self._written :]
             if data:
-                if it.path not in self._unsynced:
-                    self._unsynced.append(it.path)
-                self._written += self._hours.append(it.path, data)
+                if row.path not in self._unsynced:
+                    self._unsynced.append(row.path)
+                self._written += self._hours.append(row.path, data)
                 continue
-            if it.closes:
+            if row.closes:
                 self._sync()
-                self._hours.close(it.path)
+                self._hours.close(row.path)
             self._rows.pop(0)
             self._written = 0
         self._sync()
+
+    def _write_news(self) -> None:
+        """Alarms and states, which tell of no row, if at least the database can be written."""
+        known = [
+            (isinstance(record, (AlarmChanged, StateSeen)), record) for record in _last_states(self._waiting)
+        ]
+        try:
+            self._records.write([record for is_news, record in known if is_news])
+            self._waiting = [record for is_news, record in known if not is_news]
+        except sqlite3.Error:
+            pass
 
     def _sync(self) -> None:
         while self._unsynced:
@@ -144,8 +165,10 @@ class Writer:
 
 def _last_states(records: Sequence[Record]) -> List[Record]:
     """Without the states of stations that a later one replaces."""
-    last = {it.station: it for it in records if isinstance(it, StateSeen)}
-    return [it for it in records if not isinstance(it, StateSeen) or last[it.station] is it]
+    last = {record.station: record for record in records if isinstance(record, StateSeen)}
+    return [
+        record for record in records if not isinstance(record, StateSeen) or last[record.station] is record
+    ]
 
 
 class WriterThread(threading.Thread):
@@ -166,6 +189,10 @@ class WriterThread(threading.Thread):
     @property
     def fault(self) -> Optional[str]:
         return self._writer.fault
+
+    def hear(self, news: Iterable[Record]) -> None:
+        """Alarms and states, while rows cannot be written."""
+        self._writer.news.extend(news)
 
     def give(self, batch: Batch) -> None:
         with self._wake:

@@ -2,9 +2,8 @@
 ghost use Rattle.std.specs.Prelude.{◌<◌, ◌≡◌, ◌≤◌, Some, map};
 
 use crate::rows::stored::{Known, Stored};
-use rds_rows::{Failed, Rows, RowsError, Sheet, Sink, write_rows_in_parts};
+use rds_rows::{Failed, Rows, RowsError, Sheet, Sink, write_rows};
 use std::alloc::Global;
-use std::sync::Wait;
 use std::sync::atomic::{AtomicUsize, Ordering};
 use std::thread::Threads;
 
@@ -104,7 +103,7 @@ impl Sink for Patient<'_> {
 
 /// Whether a writer that waits until two parts per worker are made, and then fails after `after` bytes, has
 /// only these.
-fn leaves<R: Sync + Threads + Wait>(
+fn leaves<R: Sync + Threads>(
     rt: &R,
     alloc: Global,
     known: &Known,
@@ -126,17 +125,12 @@ fn leaves<R: Sync + Threads + Wait>(
         failures: 0,
         flushed: false,
     };
-    let result = write_rows_in_parts(rt, alloc, &rows, workers, PART, &mut writer);
+    let result = write_rows(rt, alloc, &rows, workers, PART, &mut writer);
     result == Err(RowsError::Write) && writer.has_failed_at(after, known.text.as_slice())
 }
 
 /// The first number of bytes below 13 of which that does not hold, or 13.
-fn first_wrong<R: Sync + Threads + Wait>(
-    rt: &R,
-    alloc: Global,
-    known: &Known,
-    workers: u32,
-) -> usize
+fn first_wrong<R: Sync + Threads>(rt: &R, alloc: Global, known: &Known, workers: u32) -> usize
     requires some { 0 < workers }
     requires few { workers ≤ 256 }
 {
@@ -149,7 +143,7 @@ fn first_wrong<R: Sync + Threads + Wait>(
 }
 
 /// That of four parts per worker, or 0 if there is no memory for them.
-fn first_wrong_of_four<R: Sync + Threads + Wait>(rt: &R, alloc: Global, workers: u32) -> usize
+fn first_wrong_of_four<R: Sync + Threads>(rt: &R, alloc: Global, workers: u32) -> usize
     requires some { 0 < workers }
     requires few { workers ≤ 256 }
 {

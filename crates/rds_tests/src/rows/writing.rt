@@ -3,9 +3,8 @@ ghost use Rattle.std.specs.Prelude.{◌<◌, ◌≤◌};
 
 use crate::rows::stored::{Known, LONGEST};
 use crate::writer::{Failure, SlowWriter};
-use rds_rows::{write_rows, write_rows_in_parts};
+use rds_rows::write_rows;
 use std::alloc::Global;
-use std::sync::Wait;
 use std::thread::Threads;
 
 /// Whether a writer has this text, and was handed `large` bytes or more at a time, except the last.
@@ -16,72 +15,59 @@ fn has_all(writer: &SlowWriter, text: &[u8], large: usize) -> bool
     writer.held.as_slice() == text && writer.writes <= most as u64 + 1
 }
 
+/// How many bytes a write has at least, except the last, if a part of the longest rows has as many.
+const LARGE: usize = 65_536;
+
 /// How many rows there are.
 const ROWS: usize = 200_000;
 
-/// Whether `workers` workers write the rows so.
-fn are_written<R: Sync + Threads + Wait>(
+/// Whether `workers` workers write the rows in parts of `most` rows, `large` bytes or more at a time except the
+/// last.
+fn are_written<R: Sync + Threads>(
     rt: &R,
     alloc: Global,
     known: &Known,
     workers: u32,
+    most: usize,
     large: usize,
 ) -> bool
     requires some { 0 < workers }
     requires few { workers ≤ 256 }
+    requires rows { 0 < most }
     requires large { 0 < large }
 {
     let mut writer = SlowWriter::new(alloc, usize::MAX, Failure::Never);
-    let result = write_rows(rt, alloc, &known.rows, workers, &mut writer);
+    let result = write_rows(rt, alloc, &known.rows, workers, most, &mut writer);
     result.is_ok() && has_all(&writer, known.text.as_slice(), large)
 }
 
-/// Whether one, 4, 16 and 256 workers write the rows so.
-fn are_written_by_all<R: Sync + Threads + Wait>(rt: &R, alloc: Global, known: &Known) -> bool {
-    are_written(rt, alloc, known, 1, 4_096 * LONGEST)
-        && are_written(rt, alloc, known, 4, 4_096 * LONGEST)
-        && are_written(rt, alloc, known, 16, 4_096 * LONGEST)
-        && are_written(rt, alloc, known, 256, 256 * LONGEST)
+/// Whether one, 4, 16 and 256 workers write the rows in large writes.
+fn are_written_by_all<R: Sync + Threads>(rt: &R, alloc: Global, known: &Known) -> bool {
+    are_written(rt, alloc, known, 1, 4_096, 4_096 * LONGEST)
+        && are_written(rt, alloc, known, 4, 4_096, 4_096 * LONGEST)
+        && are_written(rt, alloc, known, 16, 4_096, 4_096 * LONGEST)
+        && are_written(rt, alloc, known, 256, 256, 256 * LONGEST)
 }
 
 /// Whether there is memory for the rows, and they are.
-fn many_are_written<R: Sync + Threads + Wait>(rt: &R, alloc: Global) -> bool {
+fn many_are_written<R: Sync + Threads>(rt: &R, alloc: Global) -> bool {
     match Known::new(alloc, ROWS) {
         Ok(known) => are_written_by_all(rt, alloc, &known),
         Err(_) => false,
     }
 }
 
-// A write has 64 KiB, or the bytes of a part of the longest rows: of 4,096, or of 256 if there are 256
-// workers.
+// A write has 64 KiB, or the bytes of a part of the longest rows.
 #[test]
 fn many_rows_go_in_large_writes(rt: HostRuntime) {
     assert!(rt; many_are_written(&rt, rt.alloc()));
 }
 
-/// Whether `workers` workers write the rows in parts of `most` rows, 64 KiB or more at a time except the
-/// last.
-fn are_written_in_parts<R: Sync + Threads + Wait>(
-    rt: &R,
-    alloc: Global,
-    known: &Known,
-    workers: u32,
-    most: usize,
-) -> bool
-    requires some { 0 < workers }
-    requires few { workers ≤ 256 }
-    requires rows { 0 < most }
-{
-    let mut writer = SlowWriter::new(alloc, usize::MAX, Failure::Never);
-    let result = write_rows_in_parts(rt, alloc, &known.rows, workers, most, &mut writer);
-    result.is_ok() && has_all(&writer, known.text.as_slice(), 65_536)
-}
-
 /// The first of these sizes in parts of which one worker or three do not write the rows so, or 0 if all do.
-fn first_small<R: Sync + Threads + Wait>(rt: &R, alloc: Global, known: &Known) -> usize {
+fn first_small<R: Sync + Threads>(rt: &R, alloc: Global, known: &Known) -> usize {
     for most in [10_923, 16_384, 20_000, 21_846, 30_000, 50_000, ROWS] {
-        if !are_written_in_parts(rt, alloc, known, 1, most)
-            || !are_written_in_parts(rt, alloc, known, 3, most)
+        if !are_written(rt, alloc, known, 1, most, LARGE)
+            || !are_written(rt, alloc, known, 3, most, LARGE)
         {
             return most;
         }
@@ -90,7 +76,7 @@ fn first_small<R: Sync + Threads + Wait>(rt: &R, alloc: Global, known: &Known) -
 }
 
 /// That of many rows. If there is no memory for them it is the first.
-fn first_small_of_many<R: Sync + Threads + Wait>(rt: &R, alloc: Global) -> usize {
+fn first_small_of_many<R: Sync + Threads>(rt: &R, alloc: Global) -> usize {
     match Known::new(alloc, ROWS) {
         Ok(known) => first_small(rt, alloc, &known),
         Err(_) => 10_923,

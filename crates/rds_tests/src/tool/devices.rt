@@ -10,7 +10,6 @@ use rds_tool::{
 use std::alloc::{AllocError, Global};
 use std::io;
 use std::io::Write;
-use std::sync::Wait;
 use std::thread::Threads;
 
 /// Gives at most `step` bytes per read, and fails at read number `fails_at`, from 1; at 0 it never fails.
@@ -119,7 +118,7 @@ impl Write for Withholding {
 }
 
 /// Whether a job over this reader, at this gate, writes this text, or is refused so with nothing written.
-pub fn gives<R: Threads + Wait + Sync, S: Source, G: Gate + Sync>(
+pub fn gives<R: Threads + Sync, S: Source, G: Gate + Sync>(
     rt: &R,
     alloc: Global,
     job: &Job,
@@ -136,7 +135,7 @@ pub fn gives<R: Threads + Wait + Sync, S: Source, G: Gate + Sync>(
 }
 
 /// Whether a scan over this reader writes this text, or is refused so with nothing written.
-pub fn scan_gives<R: Threads + Wait + Sync, S: Source>(
+pub fn scan_gives<R: Threads + Sync, S: Source>(
     rt: &R,
     alloc: Global,
     scan: Scan,
@@ -149,7 +148,7 @@ pub fn scan_gives<R: Threads + Wait + Sync, S: Source>(
 }
 
 /// Whether a job over an input in memory, at this gate, writes this text.
-pub fn gives_for<R: Threads + Wait + Sync, G: Gate + Sync>(
+pub fn gives_for<R: Threads + Sync, G: Gate + Sync>(
     rt: &R,
     alloc: Global,
     job: &Job,
@@ -162,7 +161,7 @@ pub fn gives_for<R: Threads + Wait + Sync, G: Gate + Sync>(
 }
 
 /// The answer of a scan of an input in memory to this writer of std, how often that failed, and the writer.
-pub fn written_to<R: Threads + Wait + Sync, W: Write>(
+pub fn written_to<R: Threads + Sync, W: Write>(
     rt: &R,
     alloc: Global,
     scan: Scan,

@@ -4,7 +4,6 @@ use crate::tool::jobs::Scan;
 use crate::writer::{Failure, SlowWriter};
 use rds_tool::{FromRead, ToolError, transcribe};
 use std::alloc::{AllocError, Global};
-use std::sync::Wait;
 use std::thread::Threads;
 
 const ZERO_GROUP: &[u8] = b"00003f000019800005a00001b4";
@@ -20,7 +19,7 @@ fn a_flush_reaches_the_writer_of_std(rt: HostRuntime) {
 
 /// Whether a scan to a writer of std that waits for its flush is answered so, and this number of bytes is
 /// handed on.
-fn hands_on<R: Threads + Wait + Sync>(
+fn hands_on<R: Threads + Sync>(
     rt: &R,
     alloc: Global,
     flush_fails: bool,
@@ -36,7 +35,7 @@ fn hands_on<R: Threads + Wait + Sync>(
 }
 
 /// Whether a scan that writes nothing is refused if the flush fails.
-fn is_refused_unflushed<R: Threads + Wait + Sync>(rt: &R, alloc: Global) -> bool {
+fn is_refused_unflushed<R: Threads + Sync>(rt: &R, alloc: Global) -> bool {
     let withholding = Withholding::new(alloc, true);
     let (answer, failures, under) = written_to(rt, alloc, Scan::Nothing, b"", withholding);
     answer == Err(ToolError::Write) && failures == 1 && under.held.is_empty()
@@ -59,7 +58,7 @@ fn zeros(alloc: Global, count: usize) -> Result<Vec<u8>, AllocError> {
 }
 
 /// Whether there is memory for 17,000,000 bytes, and a reader of them is left in time.
-fn long_reader_is_left<R: Threads + Wait + Sync>(rt: &R, alloc: Global) -> bool {
+fn long_reader_is_left<R: Threads + Sync>(rt: &R, alloc: Global) -> bool {
     match zeros(alloc, 17_000_000) {
         Ok(zeros) => is_left_in_time(rt, alloc, zeros.as_slice()),
         Err(_) => false,
@@ -67,7 +66,7 @@ fn long_reader_is_left<R: Threads + Wait + Sync>(rt: &R, alloc: Global) -> bool 
 }
 
 /// Whether that holds of a reader of these bytes, and of one of 16,777,215 and of 16,777,216 of them.
-fn is_left_in_time<R: Threads + Wait + Sync>(rt: &R, alloc: Global, bytes: &[u8]) -> bool {
+fn is_left_in_time<R: Threads + Sync>(rt: &R, alloc: Global, bytes: &[u8]) -> bool {
     let (Some(few), Some(many)) = (bytes.get(..16_777_215), bytes.get(..16_777_216)) else {
         return false;
     };
@@ -77,7 +76,7 @@ fn is_left_in_time<R: Threads + Wait + Sync>(rt: &R, alloc: Global, bytes: &[u8]
 }
 
 /// Whether a reader that gives `step` of these bytes per read is answered so, after `reads` reads of 64 KiB.
-fn is_read<R: Threads + Wait + Sync>(
+fn is_read<R: Threads + Sync>(
     rt: &R,
     alloc: Global,
     bytes: &[u8],
@@ -91,7 +90,7 @@ fn is_read<R: Threads + Wait + Sync>(
 }
 
 /// Whether the scan of a zero group is refused whose reader gives a digit per read and fails at that read.
-fn is_unread<R: Threads + Wait + Sync>(rt: &R, alloc: Global, at: u64) -> bool {
+fn is_unread<R: Threads + Sync>(rt: &R, alloc: Global, at: u64) -> bool {
     let mut reader = SlowReader::new(ZERO_GROUP, 1, at);
     scan_gives(rt, alloc, Scan::Digits, &mut reader, Err(ToolError::Read))
 }
@@ -104,12 +103,7 @@ fn a_reader_may_fail_at_each_read(rt: HostRuntime) {
 }
 
 /// Whether that scan is refused whose writer takes a byte per write and fails so, and this number of bytes is left.
-fn is_cut_off<R: Threads + Wait + Sync>(
-    rt: &R,
-    alloc: Global,
-    failure: Failure,
-    left: usize,
-) -> bool {
+fn is_cut_off<R: Threads + Sync>(rt: &R, alloc: Global, failure: Failure, left: usize) -> bool {
     let mut reader = FromRead::new(ZERO_GROUP);
     let mut writer = SlowWriter::new(alloc, 1, failure);
     let answer = transcribe(

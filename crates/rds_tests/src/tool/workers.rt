@@ -13,10 +13,10 @@ use std::sync::atomic::{AtomicU64, Ordering};
 use std::thread::Threads;
 
 /// The group of four zero words, twice, in hexadecimal digits.
-const DIGITS: &[u8] = b"00003f000019800005a00001b4 00003f000019800005a00001b4";
+pub const DIGITS: &[u8] = b"00003f000019800005a00001b4 00003f000019800005a00001b4";
 
 /// The list of it.
-const LIST: &[u8] = b"acquired,51,2,-,-,-,-,-\n\
+pub const LIST: &[u8] = b"acquired,51,2,-,-,-,-,-\n\
     group,26,0,A,none,B:0000,C:0000,D:0000\n\
     group,104,0,A,A:0000,B:0000,C:0000,D:0000\n\
     total,valid,7,-,-,-,-,-\n\
@@ -33,7 +33,7 @@ const LIST: &[u8] = b"acquired,51,2,-,-,-,-,-\n\
     total,losses,0,-,-,-,-,-\n";
 
 /// Whether this crew lists the two groups, at this gate.
-fn are_listed<R: Threads + Wait + Sync, G: Gate + Sync>(
+fn are_listed<R: Threads + Sync, G: Gate + Sync>(
     rt: &R,
     alloc: Global,
     workers: u32,
@@ -88,7 +88,7 @@ impl Gate for Barrier {
 
 /// Whether `workers` workers list the two groups in these pieces, and begin `at_once` of them before the
 /// first is done.
-fn work_at_once<R: Sync + Threads + Wait>(
+fn work_at_once<R: Sync + Threads>(
     rt: &R,
     alloc: Global,
     workers: u32,

@@ -6,10 +6,9 @@ use Rattle.rds_tool.specs.Outcome.{IsOutside}
 use Rattle.rds_tool.specs.declared.error.ToolError.{ToolError}
 use Rattle.rds_tool.specs.declared.error.ToolError.TheVariants.{BadCutting, BadGaps, BitsPastBytes, BurstRange, CrewRange, GroupText, HexText, LossRange, NoWorker, OutOfMemory, ReachRange, Read, ShareRange, TooLong, TooManyTurns, Write}
 
--- memory, threads and the devices
+-- memory and the devices
 abbrev pub comes_from_outside : ToolError → Bool
 comes_from_outside OutOfMemory = true
-comes_from_outside NoWorker = true
 comes_from_outside Read = true
 comes_from_outside Write = true
 comes_from_outside TooManyTurns = true
@@ -19,8 +18,7 @@ pub outside : (e : ToolError) → IsOutside e → comes_from_outside e ≡ true
 outside e (inl is) = ap comes_from_outside is
 outside e (inr (inl is)) = ap comes_from_outside is
 outside e (inr (inr (inl is))) = ap comes_from_outside is
-outside e (inr (inr (inr (inl is)))) = ap comes_from_outside is
-outside e (inr (inr (inr (inr is)))) = ap comes_from_outside is
+outside e (inr (inr (inr is))) = ap comes_from_outside is
 
 -- none of these is decided outside
 abbrev pub IsDecided : ToolError → Type 0
@@ -29,6 +27,7 @@ IsDecided e = IsOutside e → ⊥
 pub decided : IsDecided BurstRange × IsDecided ReachRange × IsDecided LossRange × IsDecided BitsPastBytes
     × IsDecided TooLong × IsDecided BadCutting
     × IsDecided CrewRange × IsDecided HexText × IsDecided GroupText × IsDecided ShareRange × IsDecided BadGaps
+    × IsDecided NoWorker
 decided = (
   (λ is. false≢true (outside BurstRange is)),
   (λ is. false≢true (outside ReachRange is)),
@@ -41,8 +40,8 @@ decided = (
   (λ is. false≢true (outside GroupText is)),
   (λ is. false≢true (outside ShareRange is)),
   (λ is. false≢true (outside BadGaps is)),
+  (λ is. false≢true (outside NoWorker is)),
 )
 
-pub undecided : IsOutside OutOfMemory × IsOutside NoWorker × IsOutside Read × IsOutside Write
-    × IsOutside TooManyTurns
-undecided = (inl refl, inr (inl refl), inr (inr (inl refl)), inr (inr (inr (inl refl))), inr (inr (inr (inr refl))))
+pub undecided : IsOutside OutOfMemory × IsOutside Read × IsOutside Write × IsOutside TooManyTurns
+undecided = (inl refl, inr (inl refl), inr (inr (inl refl)), inr (inr (inr refl)))

@@ -1,5 +1,5 @@
 -- The rows of a listing one by one, and those of a scan. `ListingRows` and `WindowRows` are these, which
--- `write_rows_in_parts` writes; no public call cites it.
+-- `write_rows` writes; no public call cites it.
 use Rattle.std.specs.Prelude.{◌++◌, ℕ, [], List, None, Option, Some, map}
 use Rattle.std.specs.List.{range_with_len}
 use Rattle.rds_code.specs.declared.offset.Offset.{Offset}

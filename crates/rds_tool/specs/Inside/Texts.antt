@@ -1,5 +1,5 @@
--- The text that is written, whether it is made or still to be spelled. `Task::text` and `Task::single` make it;
--- no public call cites it.
+-- The text that is written, whether it is made or still to be spelled. `Task::text` makes it; no
+-- public call cites it.
 use Rattle.std.specs.Prelude.{◌++◌, ℕ, List}
 use Rattle.std.specs.List.{flat_map}
 use Rattle.rds_sync.specs.Counting.{plus}
@@ -8,8 +8,6 @@ use Rattle.rds_sync.specs.declared.item.Item.{Item}
 use Rattle.rds_sync.specs.declared.totals.Totals.{Totals}
 use Rattle.rds_tool.specs.Listing.{item_row, report_text, scan_text, totals_text}
 use Rattle.rds_tool.specs.Outcome.{list_text}
-use Rattle.rds_tool.specs.declared.task.Single.{Single}
-use Rattle.rds_tool.specs.declared.task.Single.TheVariants as single
 use Rattle.rds_tool.specs.declared.task.Text.{Text}
 use Rattle.rds_tool.specs.declared.task.Text.TheVariants.{Listing, OnePass, Whole, Windows}
 
@@ -18,11 +16,6 @@ bytes_of (Whole text) = text.items
 bytes_of (Listing listing) = report_text listing.report.items.list listing.report.totals
 bytes_of (OnePass recording plan) = list_text plan.rules recording
 bytes_of (Windows recording workers) = scan_text recording
-
-abbrev pub bytes_of_single : Single → List ℕ
-bytes_of_single (single.Whole text) = text.items
-bytes_of_single (single.OnePass recording plan) = list_text plan.rules recording
-bytes_of_single (single.Windows recording) = scan_text recording
 
 -- the end of a listing: the rows of its last items, and those of all totals, these being those of the items before
 abbrev pub end_text : Totals → List Item → List ℕ

@@ -9,12 +9,12 @@ pub returns : goal.returns
 returns c =
     let followed = c.follow-answer.ensures in
     let answer = c.follow-answer.result in
-    let given = given_by c.follow-answer.new.reader in
-    let ended = has_ended c.follow-answer.new.reader in
-    let reads = read_failures c.follow-answer.new.reader in
-    let taken = taken_by c.follow-answer.new.writer in
-    let flushed = is_flushed c.follow-answer.new.writer in
-    let writes = write_failures c.follow-answer.new.writer in
+    let given = given_by c.follow-answer.new.reader.device in
+    let ended = has_ended c.follow-answer.new.reader.device in
+    let reads = read_failures c.follow-answer.new.reader.device in
+    let taken = taken_by c.follow-answer.new.writer.device in
+    let flushed = is_flushed c.follow-answer.new.writer.device in
+    let writes = write_failures c.follow-answer.new.writer.device in
     let its_bits = ap (λ (i : InputOf). i.bits) c.input.view_is in
     let its_gaps = ap (λ (i : InputOf). i.gaps) c.input.view_is in
     let lent = c.as_slice-gaps.ensures.value in
@@ -23,5 +23,5 @@ returns c =
     subst (λ (b : Option ℕ). IsFollowed given ended reads taken flushed writes answer (record { rules = c.args.rules.now; gaps = c.args.input.now.gaps }) b) bits
     (subst (λ (gs : List (ℕ × ℕ)). IsFollowed given ended reads taken flushed writes answer (record { rules = c.args.rules.now; gaps = gs }) c.input.inside.bits) gaps
     (stream_followed (record { rules = c.args.rules.now; gaps = c.as_slice-gaps.result.now }) c.input.inside.bits given ended reads taken flushed writes _ _ _ _ answer
-    c.new-reader.ensures.given c.new-reader.ensures.failures (ap (λ xs. Some xs) c.new-writer.ensures.taken) c.new-writer.ensures.failures
+    c.requires.reader.given c.requires.reader.failures (ap (λ xs. Some xs) c.requires.writer.taken) c.requires.writer.failures
     followed.heard followed.flushed followed.read followed.write followed.refused followed.broke_off))

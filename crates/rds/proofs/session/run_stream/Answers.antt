@@ -1,4 +1,5 @@
-use Rattle.std.proofs.Common.{subst}
+use Rattle.std.proofs.Common.{◌∙◌, ap, subst}
+use Rattle.rds_tool.specs.Ends.{given_by, has_ended, is_flushed, read_failures, taken_by, write_failures}
 use Rattle.rds_sync.specs.Rules.{RuleNumbers}
 use Rattle.rds.specs.Session.{HasFollowed}
 use Rattle.rds.proofs.Sessions.{stream_refused_by}
@@ -11,6 +12,10 @@ returns-in-Ok c =
 pub returns-in-Err : goal.returns-in-Err
 returns-in-Err c =
     let of = c.in-Err.ensures in
-    let none = c.refused_session.ensures in
+    let kept = c.refused_session.ensures in
+    let r = c.requires.reader in
+    let w = c.requires.writer in
     stream_refused_by _ _ _ c.in-Err.error of.burst_range.0 (λ p. (of.reach_range.0 p).1) (λ p. (of.loss_range.0 p).3) (λ p. (of.share_range.0 p).3)
-    _ _ _ _ _ _ _ none.answer none.given none.ended none.reads none.taken none.flushed none.writes
+    _ _ _ _ _ _ _ kept.answer
+    (ap (λ sealed. given_by sealed.device) kept.reader ∙ r.given) (ap (λ sealed. has_ended sealed.device) kept.reader ∙ r.ended) (ap (λ sealed. read_failures sealed.device) kept.reader ∙ r.failures)
+    (ap (λ sealed. taken_by sealed.device) kept.writer ∙ w.taken) (ap (λ sealed. is_flushed sealed.device) kept.writer ∙ w.flushed) (ap (λ sealed. write_failures sealed.device) kept.writer ∙ w.failures)

@@ -5,11 +5,13 @@ use Rattle.rds.proofs.session.run_told.Goals as goal
 
 pub returns : goal.returns
 returns g c =
+    let r = c.requires.reader in
+    let w = c.requires.writer in
     let reader = c.into_inner.ensures in
     let writer = c.into_inner-2.ensures in
     job_done _ _ _ _ _ _ _ _ c.transcribe_gated-answer.ensures
-    (ap given_by c.new-reader.ensures ∙ c.new.ensures.given) (ap read_failures c.new-reader.ensures ∙ c.new.ensures.failures)
-    (ap (λ w. Some (taken_by w)) c.new-writer.ensures ∙ ap (λ xs. Some xs) c.new-2.ensures.taken) (ap write_failures c.new-writer.ensures ∙ c.new-2.ensures.failures)
+    (ap (λ sealed. given_by sealed.device) c.new-reader.ensures ∙ r.given) (ap (λ sealed. read_failures sealed.device) c.new-reader.ensures ∙ r.failures)
+    (ap (λ sealed. Some (taken_by sealed.device)) c.new-writer.ensures ∙ ap (λ xs. Some xs) w.taken) (ap (λ sealed. write_failures sealed.device) c.new-writer.ensures ∙ w.failures)
     _ _ _ _ _ _
-    (sym (ap given_by reader)) (sym (ap has_ended reader)) (sym (ap read_failures reader))
-    (sym (ap (λ w. Some (taken_by w)) writer)) (sym (ap is_flushed writer)) (sym (ap write_failures writer))
+    (sym (ap (λ sealed. given_by sealed.device) reader)) (sym (ap (λ sealed. has_ended sealed.device) reader)) (sym (ap (λ sealed. read_failures sealed.device) reader))
+    (sym (ap (λ sealed. Some (taken_by sealed.device)) writer)) (sym (ap (λ sealed. is_flushed sealed.device) writer)) (sym (ap (λ sealed. write_failures sealed.device) writer))

@@ -4,5 +4,7 @@ use Rattle.rds.proofs.session.run_untold.Goals as goal
 
 pub returns : goal.returns
 returns g c =
-    job_done _ _ _ _ _ _ _ _ c.transcribe-answer.ensures c.new-reader.ensures.given c.new-reader.ensures.failures
-    (ap (λ xs. Some xs) c.new-writer.ensures.taken) c.new-writer.ensures.failures _ _ _ _ _ _ refl refl refl refl refl refl
+    let r = c.requires.reader in
+    let w = c.requires.writer in
+    job_done _ _ _ _ _ _ _ _ c.transcribe-answer.ensures r.given r.failures
+    (ap (λ xs. Some xs) w.taken) w.failures _ _ _ _ _ _ refl refl refl refl refl refl

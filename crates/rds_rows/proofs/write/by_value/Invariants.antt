@@ -2,4 +2,4 @@ use Rattle.rds_rows.specs.Parts.{part_of}
 use Rattle.rds_rows.proofs.write.by_value.Given as goal
 
 abbrev pub ghosts-write_by_handoffs : goal.ghosts-write_by_handoffs
-ghosts-write_by_handoffs g a = record { part = part_of (g.T.Rows.rows a.rows.now) a.plan.most; size = (a.plan.most, g.T.Rows.longest a.rows.now) }
+ghosts-write_by_handoffs g a = record { part = part_of (g.T.Rows.rows a.rows.now) a.most; size = (a.most, g.T.Rows.longest a.rows.now) }

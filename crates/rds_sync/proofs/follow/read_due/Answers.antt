@@ -7,26 +7,26 @@ use Rattle.rds_sync.specs.Groups.{block_at, wanted_beside}
 use Rattle.rds_sync.proofs.GroupBlocks.{blocks_at-next}
 use Rattle.rds_sync.proofs.HeardLemmas.{good-reading}
 use Rattle.rds_sync.proofs.follow.read_due.Goals as goal
-use Rattle.rds_sync.proofs.follow.read_due.Goals.{then-lock-eq3, else-lock-eq3, After-index-blocks-lock}
-
--- the number that is read is the lock's
-reading_is : (c : After-index-blocks-lock) → c.read-reading.result ≡ reading_heard c.window.result c.args.lock.number c.if-lock-eq3.wanted c.args.rules.now.burst
-reading_is c = c.read-reading.ensures ∙ ap (λ (n : ℕ). reading_heard c.window.result n c.if-lock-eq3.wanted c.args.rules.now.burst) c.in-Some.ensures.number
+use Rattle.rds_sync.proofs.follow.read_due.Goals.{then-lock-eq3, else-lock-eq3}
 
 pub returns-clause-valid : goal.returns-clause-valid
-returns-clause-valid c =
+returns-clause-valid g c =
+    let reading_is : c.read-reading.result ≡ reading_heard c.window.result c.args.lock.number c.if-lock-eq3.wanted c.args.rules.now.burst =
+    c.read-reading.ensures ∙ ap (λ (n : ℕ). reading_heard c.window.result n c.if-lock-eq3.wanted c.args.rules.now.burst) c.in-Some.ensures.number in
     c.is_valid-valid.ensures
-    ∙ good-reading c.args.reader.now c.args.lock.due c.args.lock.number c.window.result c.if-lock-eq3.wanted c.args.rules.now.burst c.read-reading.result
-    (omega arith) c.window.ensures.value (reading_is c)
+    ∙ good-reading (g.T.Tape.signal c.args.tape.now) c.args.lock.due c.args.lock.number c.window.result c.if-lock-eq3.wanted c.args.rules.now.burst c.read-reading.result
+    (omega arith) c.window.ensures.value reading_is
 
 pub returns-clause-blocks : goal.returns-clause-blocks
-returns-clause-blocks c =
+returns-clause-blocks g c =
+    let reading_is : c.read-reading.result ≡ reading_heard c.window.result c.args.lock.number c.if-lock-eq3.wanted c.args.rules.now.burst =
+    c.read-reading.ensures ∙ ap (λ (n : ℕ). reading_heard c.window.result n c.if-lock-eq3.wanted c.args.rules.now.burst) c.in-Some.ensures.number in
     let l = c.args.lock in
-    let b = c.args.reader.now in
+    let b = g.T.Tape.signal c.args.tape.now in
     let rules = c.args.rules.now in
     ap (λ (blocks : List Block). set blocks (l.number - 1) (Read c.read-reading.result)) c.requires.in_progress
     ∙ blocks_at-next b rules l.first l.number l.due c.if-lock-eq3.wanted (Read c.read-reading.result) (omega arith) (omega arith) (omega arith)
-    (ap Read (reading_is c)
+    (ap Read reading_is
     ∙ ap (λ (h : Option ℕ). Read (reading_heard h l.number c.if-lock-eq3.wanted rules.burst)) c.window.ensures.value)
     (λ other. elim c.if-lock-eq3.branch [
       | then-lock-eq3 w ↦ absurd (other w.if-lock-eq3.true)

@@ -20,7 +20,7 @@ use Rattle.rds_sync.specs.Step.{step, items_at, run}
 use Rattle.rds_sync.specs.Inside.Words.{blocks_in}
 use Rattle.rds_sync.proofs.CountLemmas.{added-nothing, group-added, lost-added}
 use Rattle.rds_sync.proofs.DueLemmas.{step-due, items-inside, items-closed, items-lost, kept-next}
-use Rattle.rds_sync.proofs.GroupWords.{word-tells}
+use Rattle.rds_sync.proofs.GroupWords.{outcomes-are}
 use Rattle.rds_sync.proofs.LawfulLemmas.{lawful-due, lawful-waiting}
 use Rattle.rds_sync.proofs.RunLemmas.{run-further, run-due, run-early, run-quiet}
 use Rattle.rds_sync.proofs.tape_run.keep.Invariants.{HasKept}
@@ -156,10 +156,8 @@ returns-in-Closed-clause-came g c =
     let closes = after-as b read rules now good c.after.result c.loss-loss.result l.invariant.same c.loss-loss.ensures.value c.read_due-good.ensures.valid c.after.ensures (Closed next) c.in-Closed.is in
     let valid = valid-there b read rules now good c.after.result c.loss-loss.result l.invariant.same c.loss-loss.ensures.value c.read_due-good.ensures.valid c.after.ensures in
     let word = c.word_of_blocks.result in
-    let tells = word-tells b rules now.first now.number now.due c.read_due-good.new.blocks
-    (c.read_due-good.ensures.blocks ∙ ap (λ (signal : Signal). blocks_at signal rules now.first now.number now.due) l.invariant.same)
-    (record { lists = c.bursts_are_listed.ensures; reads = c.readings_follow_the_rule.ensures }) c.loss-loss.ensures.range.burst
-    word c.word_of_blocks.ensures in
+    let tells = c.word_of_blocks.ensures.blocks ∙ outcomes-are b rules now.first now.number now.due c.read_due-good.new.blocks
+    (c.read_due-good.ensures.blocks ∙ ap (λ (signal : Signal). blocks_at signal rules now.first now.number now.due) l.invariant.same) in
     came-by b rules c.args.lock c.args.place c.args.to now l.blocks reads loss kept (Locked next) c.args.counts.now c.add_group.new.self c.loop-now-test.true is
     (c.add_group.ensures
     ∙ ap (λ (k : CountOf). joined k (group_count (blocks_in word))) l.invariant.counts
@@ -181,10 +179,8 @@ returns-in-Lost-clause-came g c =
     let loses = after-as b read rules now good c.after.result c.loss-loss.result l.invariant.same c.loss-loss.ensures.value c.read_due-good.ensures.valid c.after.ensures Lost c.in-Lost.is in
     let valid = valid-there b read rules now good c.after.result c.loss-loss.result l.invariant.same c.loss-loss.ensures.value c.read_due-good.ensures.valid c.after.ensures in
     let word = c.word_of_blocks-in-Lost.result in
-    let tells = word-tells b rules now.first now.number now.due c.read_due-good.new.blocks
-    (c.read_due-good.ensures.blocks ∙ ap (λ (signal : Signal). blocks_at signal rules now.first now.number now.due) l.invariant.same)
-    (record { lists = c.bursts_are_listed.ensures; reads = c.readings_follow_the_rule.ensures }) c.loss-loss.ensures.range.burst
-    word c.word_of_blocks-in-Lost.ensures in
+    let tells = c.word_of_blocks-in-Lost.ensures.blocks ∙ outcomes-are b rules now.first now.number now.due c.read_due-good.new.blocks
+    (c.read_due-good.ensures.blocks ∙ ap (λ (signal : Signal). blocks_at signal rules now.first now.number now.due) l.invariant.same) in
     came-by b rules c.args.lock c.args.place c.args.to now l.blocks reads loss kept Searching c.args.counts.now c.add_loss.new.self c.loop-now-test.true is
     (lost-added c.args.counts.now c.add_group-in-Lost.new.self c.add_loss.new.self (group b rules now.first now.number now.due) (blocks_in word) now.due tells
     (c.add_group-in-Lost.ensures ∙ ap (λ (k : CountOf). joined k (group_count (blocks_in word))) l.invariant.counts) c.add_loss.ensures

@@ -66,25 +66,27 @@ module _ (b : Signal) (rules : RuleNumbers) (lock now : Lock) (to : ℕ) (before
         ∙ ap (λ (r : State × List Item). added before r.1) (sym total);
   }
 
-pub loop-now-preserved : goal.loop-now-preserved
-loop-now-preserved c =
+pub loop-items-preserved : goal.loop-items-preserved
+loop-items-preserved c =
     let b = c.args.reader.now in
     let rules = c.args.rules.now in
-    let l = c.loop-now in
+    let l = c.loop-items in
     let now = l.now in
     let same = l.invariant.same in
+    let room : now.due + 78 < c.args.to = omega (arith, c.if-to-now.false) in
     let w = c.whole_word-word.result in
     let word_is : blocks_in w ≡ outcomes (group b rules 1 4 (now.due + 78)) = c.whole_word-word.ensures.blocks ∙ ap (λ (s : Signal). outcomes (group s rules 1 4 (now.due + 78))) same in
     let loss_is = c.loss-loss.ensures.value in
     let bad = c.in-Some.bad in
     let bad_is : bad ≡ bad_over rules.loss (blocks_in w) now.bad 1 4 = c.in-Some.ensures.bad ∙ ap (λ (loss : Loss). bad_over loss (blocks_in w) now.bad 1 4) loss_is in
-    let more = further b rules c.args.lock now c.args.to c.args.counts.now l.counts c.add_group.new.self l.invariant.passed c.requires.start c.loop-now-test.true w bad word_is
+    let more = further b rules c.args.lock now c.args.to c.args.counts.now l.counts c.add_group.new.self l.invariant.passed c.requires.start room w bad word_is
     bad_is (subst (λ (loss : Loss). IsLawfulBad loss bad) loss_is c.in-Some.ensures.lawful)
     (subst (λ (loss : Loss). (k : ℕ) → k < 4 → are_too_many loss (bad_over loss (blocks_in w) now.bad 1 (k + 1)) ≡ false) loss_is c.in-Some.ensures.kept)
     c.add_group.ensures in
     record {
       same = c.whole_word-word.ensures.same ∙ same;
-      near = omega (arith, c.loop-now-test.true, c.if-prove.false, c.len.ensures.limit);
+      near = omega (arith, room, c.if-prove.false, c.len.ensures.limit);
       passed = more;
+      items = omega (arith, ap (λ (k : CountOf). k.items) c.add_group.ensures, l.invariant.items);
       stays = λ same. absurd (omega (arith, same, l.invariant.passed.from_on));
     }

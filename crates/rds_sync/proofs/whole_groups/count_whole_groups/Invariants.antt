@@ -1,4 +1,4 @@
-use Rattle.std.proofs.Common.{◌≡◌, ◌≤◌, ℕ, ◌-◌, ◌^◌, ◌<◌}
+use Rattle.std.proofs.Common.{◌≡◌, ◌≤◌, ℕ, ◌^◌, ◌<◌}
 use Rattle.rds_stream.specs.Recording.{Signal}
 use Rattle.rds_sync.specs.declared.lock.Lock.{Lock}
 use Rattle.rds_sync.specs.Inside.Counts.{CountOf}
@@ -7,14 +7,12 @@ use Rattle.rds_sync.specs.Rules.{RuleNumbers}
 use Rattle.rds_sync.proofs.whole_groups.count_whole_groups.Given as goal
 
 -- whole groups were passed, by a reader of the recording
-pub record HasComeOn (b read : Signal) (rules : RuleNumbers) (lock : Lock) (to : ℕ) (before : CountOf) (now : Lock) (counts : CountOf) : Type 0 where
+pub record HasComeOn (b read : Signal) (rules : RuleNumbers) (lock : Lock) (to : ℕ) (before : CountOf) (now : Lock) (counts : CountOf) (taken : ℕ) : Type 0 where
   pub same : read ≡ b
   pub near : now.due < 2 ^ 37
   pub passed : HasCountedOn b rules lock to before now counts
   pub stays : now.due ≤ lock.due → counts ≡ before
+  pub items : counts.items ≡ taken
 
-abbrev pub invariant-loop-now : goal.invariant-loop-now
-invariant-loop-now l = HasComeOn l.fn.reader l.reader l.rules l.fn.lock l.to l.initial.counts l.now l.counts
-
-abbrev pub decreases-loop-now : goal.decreases-loop-now
-decreases-loop-now l = l.to - l.now.due
+abbrev pub invariant-loop-items : goal.invariant-loop-items
+invariant-loop-items l = HasComeOn l.fn.reader l.reader l.rules l.fn.lock l.to l.initial.counts l.now l.counts l._items

@@ -1,5 +1,6 @@
 //! The calls that a crew makes of gates and works. No contract says it: neither that workers run at the same
 //! time, nor when a gate is called, nor whose runs make the report.
+ghost use Rattle.std.specs.Prelude.{◌≡◌, IfSome};
 ghost use Rattle.rds_stream.specs.Recording.{length_of};
 ghost use Rattle.rds_pieces.specs.Cutting.{IsCutting};
 
@@ -7,7 +8,7 @@ use crate::decoder::crew::journal::{Event, Journal, Noted};
 use crate::decoder::samples::Sample;
 use rds_crew::{Gate, decode_crew};
 use rds_pieces::{PieceRun, RecordingWork, Work};
-use rds_sync::{Loss, Totals};
+use rds_sync::{Loss, Report, Totals, decode_plain};
 use std::alloc::Global;
 use std::sync::Wait;
 use std::sync::atomic::{AtomicU64, Ordering};
@@ -115,18 +116,20 @@ static EVENTS: [Event; 10] = [
     Event::Reported,
 ];
 
-/// Has a crew of `workers` workers make a work's report: its totals, if it did.
-fn decode<R: Threads + Wait, W: Work + Sync, G: Gate + Sync>(
+/// Has a crew of `workers` workers make a work's report, if it did.
+fn decode<R: Threads + Sync, W: Work + Sync, G: Gate + Sync>(
     rt: &R,
     alloc: Global,
     work: &W,
     workers: u32,
     gate: &G,
-) -> Option<Totals>
+) -> Option<Report>
     requires { IsCutting (length_of (W.recording work.now)) (W.places work.now) }
+    ensures source { IfSome result (λ report. report.items.source ≡ W.recording work.now) }
+    ensures rules { IfSome result (λ report. report.items.rules ≡ W.rule_set work.now) }
 {
     match decode_crew(rt, alloc, work, workers, gate) {
-        Ok(report) => Some(report.totals),
+        Ok(report) => Some(report),
         Err(_) => None,
     }
 }
@@ -154,7 +157,10 @@ fn note_cut<'a, R: Sync + Threads + Wait, G: Gate + Sync>(
     workers: u32,
     journal: &'a Journal<'a, R>,
     gate: &G,
-) -> Option<Totals> {
+) -> Option<Report>
+    ensures source { IfSome result (λ report. report.items.source ≡ sample.now.recording) }
+    ensures rules { IfSome result (λ report. report.items.rules ≡ sample.now.rules) }
+{
     let Ok(cutting) = sample.cut(alloc, cuts) else {
         return None;
     };
@@ -165,7 +171,24 @@ fn note_cut<'a, R: Sync + Threads + Wait, G: Gate + Sync>(
     decode(journal.rt, alloc, &work, workers, gate)
 }
 
-/// Has a crew decode `groups` zero groups, cut so, by such a work: whether the report counts them.
+/// Whether this report of a sample has the items and totals of one decoder's.
+fn is_plain(alloc: Global, sample: &Sample, report: &Report) -> bool
+    requires source { report.now.items.source ≡ sample.now.recording }
+    requires rules { report.now.items.rules ≡ sample.now.rules }
+{
+    let Ok(plain) = decode_plain(alloc, &sample.recording, &sample.rules) else {
+        return false;
+    };
+    let Ok(wanted) = plain.items.to_vec(alloc, &sample.recording, &sample.rules) else {
+        return false;
+    };
+    match report.items.to_vec(alloc, &sample.recording, &sample.rules) {
+        Ok(items) => items == wanted && report.totals == plain.totals,
+        Err(_) => false,
+    }
+}
+
+/// Has a crew decode `groups` zero groups, cut so, by such a work: whether the report has one decoder's items, and counts the groups.
 pub fn note_groups<R: Sync + Threads + Wait, G: Gate + Sync>(
     alloc: Global,
     groups: u8,
@@ -175,10 +198,12 @@ pub fn note_groups<R: Sync + Threads + Wait, G: Gate + Sync>(
     gate: &G,
 ) -> bool {
     match Sample::of_groups(alloc, groups, 3, Loss::Run(10)) {
-        Ok(sample) => {
-            let totals = note_cut(alloc, &sample, cuts, workers, journal, gate);
-            totals == Some(totals_of_zeros(groups))
-        }
+        Ok(sample) => match note_cut(alloc, &sample, cuts, workers, journal, gate) {
+            Some(report) => {
+                report.totals == totals_of_zeros(groups) && is_plain(alloc, &sample, &report)
+            }
+            None => false,
+        },
         Err(_) => false,
     }
 }

@@ -18,4 +18,4 @@ pushed terms before bytes written old new items slice more same is so_far =
 
 pub returns-clause-rows : goal.returns-clause-rows
 returns-clause-rows c = λ before written h so_far.
-    pushed c.args.live.now.terms before _ written _ _ _ c.as_slice.result.now (c.in_ok-count.ensures.items before h) c.as_slice.ensures.value c.in_ok-push_items.ensures.text so_far
+    pushed c.args.live.now.terms before _ written _ _ _ c.as_slice.result.now (c.in_ok-count.ensures.items before h) c.as_slice.ensures.value c.in_ok-push_items.ensures.rows so_far

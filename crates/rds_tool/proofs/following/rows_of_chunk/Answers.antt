@@ -1,17 +1,15 @@
-use Rattle.std.proofs.Common.{◌≡◌, ◌++◌, ◌∙◌, ap, arith, inl, length, refl, sym, take}
+use Rattle.std.proofs.Common.{◌≡◌, ◌++◌, ◌∙◌, ap, arith, length, refl, sym, take}
 use Rattle.std.proofs.lemmas.Bool.{eqb-true}
 use Rattle.std.proofs.lemmas.List.{length-drop, take-append-drop, take_rest}
-use Rattle.rds_tool.specs.declared.error.ToolError.TheVariants.{OutOfMemory, TooLong}
-use Rattle.rds_tool.proofs.Followed.{all_heard, all_rows, differ, more_taken, no_such, none_taken, of_call, of_neither}
+use Rattle.rds_tool.proofs.Followed.{all_heard, all_rows, more_taken, none_taken, of_call}
 use Rattle.rds_tool.proofs.Passing.{passed, passes}
 use Rattle.rds_tool.proofs.following.rows_of_chunk.Goals as goal
 
 pub loop-rest-init : goal.loop-rest-init
 loop-rest-init c = record {
-  done = none_taken c.args.live.now c.args.bytes.now _ c.in_ok-rows.ensures.text;
+  done = none_taken c.args.live.now c.args.bytes.now _ c.in_ok-text.ensures.items;
   terms = refl;
   place = refl;
-  between = c.in_ok-rows.ensures.between;
   room = refl;
 }
 
@@ -27,7 +25,6 @@ loop-rest-preserved c =
           c.in_ok-count.ensures.heard c.in_ok-count.ensures.rows;
       terms = c.in_ok-count.ensures.terms ∙ inv.terms;
       place = omega (arith, ap length after, length-drop count rest, c.in_ok-count.ensures.some.1, c.in_ok-count.ensures.place, inv.place);
-      between = c.in_ok-count.ensures.between;
       room = c.in_ok-count.ensures.room ∙ inv.room;
     }
 
@@ -39,14 +36,7 @@ returns-clause-heard c =
 pub returns-clause-rows : goal.returns-clause-rows
 returns-clause-rows c =
     let none : length c.loop-rest.rest.now ≡ 0 = eqb-true _ _ (sym c.is_empty.ensures ∙ c.loop-rest-test.false) in
-    λ before h. all_rows _ _ _ _ _ c.loop-rest.invariant.done none _ before c.in_ok-text.ensures.text h
-
-pub returns-in_err-rows-clause-too_long : goal.returns-in_err-rows-clause-too_long
-returns-in_err-rows-clause-too_long c =
-    no_such _ _ (passed _ _ c.from_residual.ensures) TooLong (of_neither _ OutOfMemory OutOfMemory TooLong (inl c.in_err-rows.ensures.refused) (differ _ _ refl) (differ _ _ refl))
-
-pub returns-in_err-rows-clause-kinds : goal.returns-in_err-rows-clause-kinds
-returns-in_err-rows-clause-kinds c = passes _ _ _ c.from_residual.ensures (inl c.in_err-rows.ensures.refused)
+    λ before h. all_rows _ _ _ _ _ c.loop-rest.invariant.done none _ before refl h
 
 pub returns-in_err-count-clause-too_long : goal.returns-in_err-count-clause-too_long
 returns-in_err-count-clause-too_long c = λ p.
@@ -55,10 +45,3 @@ returns-in_err-count-clause-too_long c = λ p.
 
 pub returns-in_err-count-clause-kinds : goal.returns-in_err-count-clause-kinds
 returns-in_err-count-clause-kinds c = passes _ _ _ c.from_residual-in_err-count.ensures c.in_err-count.ensures.kinds
-
-pub returns-in_err-text-clause-too_long : goal.returns-in_err-text-clause-too_long
-returns-in_err-text-clause-too_long c =
-    no_such _ _ (passed _ _ c.from_residual-in_err-text.ensures) TooLong (of_neither _ OutOfMemory OutOfMemory TooLong (inl c.in_err-text.ensures.refused) (differ _ _ refl) (differ _ _ refl))
-
-pub returns-in_err-text-clause-kinds : goal.returns-in_err-text-clause-kinds
-returns-in_err-text-clause-kinds c = passes _ _ _ c.from_residual-in_err-text.ensures (inl c.in_err-text.ensures.refused)

@@ -1,12 +1,13 @@
-use Rattle.std.proofs.Common.{◌+◌, ◌++◌, ◌*◌, ◌≡◌, ◌≤◌, length, take}
+use Rattle.std.proofs.Common.{◌++◌, ◌≡◌, ◌≤◌, length}
 use Rattle.std.specs.List.{flat_map}
 use Rattle.rds_tool.specs.Listing.{item_row}
-use Rattle.rds_tool.specs.Inside.RowWriter.{IsBetween, text_of}
 use Rattle.rds_tool.proofs.listing.push_items.Given as goal
 
-abbrev pub invariant-loop-item : goal.invariant-loop-item
-invariant-loop-item l = record {
-  between : IsBetween l.rows;
-  text : text_of l.rows ≡ text_of l.initial.rows ++ flat_map item_row (take l.item-index l.items);
-  short : length (text_of l.rows) ≤ length (text_of l.initial.rows) + l.item-index * 168;
+abbrev pub invariant-loop-left : goal.invariant-loop-left
+invariant-loop-left l = record {
+  rows : l.text.items ++ flat_map item_row l.left ≡ l.fn.text.items ++ flat_map item_row l.items;
+  few : length l.left ≤ length l.items;
 }
+
+abbrev pub decreases-loop-left : goal.decreases-loop-left
+decreases-loop-left l = length l.left

@@ -6,24 +6,14 @@ use Rattle.rds_rows.specs.Writes.{AppendsPrefix}
 use Rattle.rds_tool.specs.Listing.{item_row}
 use Rattle.rds_tool.proofs.one_pass.write_part.Goals as goal
 
-pub returns-in-Ok-clause-ok : goal.returns-in-Ok-clause-ok
-returns-in-Ok-clause-ok g c =
-    let text : c.as_slice.result.now ≡ flat_map item_row c.args.items.now = c.as_slice.ensures.value ∙ c.in-Ok.ensures.rows in
+pub returns-clause-ok : goal.returns-clause-ok
+returns-clause-ok g c =
+    let text : c.as_slice.result.now ≡ flat_map item_row c.args.items.now =
+    c.as_slice.ensures ∙ c.fill_items.ensures.rows ∙ ap (λ (front : List ℕ). front ++ flat_map item_row c.args.items.now) c.clear.ensures.1 in
     subst (λ (t : List ℕ). OnOk c.write_all.result (Appends (g.K.Sink.contents c.args.writer.now) (g.K.Sink.contents c.write_all.new.writer) t)) text c.write_all.ensures.ok
 
-pub returns-in-Ok-clause-prefix : goal.returns-in-Ok-clause-prefix
-returns-in-Ok-clause-prefix g c =
-    let text : c.as_slice.result.now ≡ flat_map item_row c.args.items.now = c.as_slice.ensures.value ∙ c.in-Ok.ensures.rows in
+pub returns-clause-prefix : goal.returns-clause-prefix
+returns-clause-prefix g c =
+    let text : c.as_slice.result.now ≡ flat_map item_row c.args.items.now =
+    c.as_slice.ensures ∙ c.fill_items.ensures.rows ∙ ap (λ (front : List ℕ). front ++ flat_map item_row c.args.items.now) c.clear.ensures.1 in
     subst (λ (t : List ℕ). OnErr c.write_all.result (AppendsPrefix (g.K.Sink.contents c.args.writer.now) (g.K.Sink.contents c.write_all.new.writer) t)) text c.write_all.ensures.prefix
-
-pub returns-in-Err-clause-ok : goal.returns-in-Err-clause-ok
-returns-in-Err-clause-ok g c =
-    let text : c.as_slice-in-Err.result.now ≡ flat_map item_row c.args.items.now =
-    c.as_slice-in-Err.ensures ∙ c.fill_joined.ensures.rows ∙ ap (λ (front : List ℕ). front ++ flat_map item_row c.args.items.now) c.clear.ensures.1 in
-    subst (λ (t : List ℕ). OnOk c.write_all-in-Err.result (Appends (g.K.Sink.contents c.args.writer.now) (g.K.Sink.contents c.write_all-in-Err.new.writer) t)) text c.write_all-in-Err.ensures.ok
-
-pub returns-in-Err-clause-prefix : goal.returns-in-Err-clause-prefix
-returns-in-Err-clause-prefix g c =
-    let text : c.as_slice-in-Err.result.now ≡ flat_map item_row c.args.items.now =
-    c.as_slice-in-Err.ensures ∙ c.fill_joined.ensures.rows ∙ ap (λ (front : List ℕ). front ++ flat_map item_row c.args.items.now) c.clear.ensures.1 in
-    subst (λ (t : List ℕ). OnErr c.write_all-in-Err.result (AppendsPrefix (g.K.Sink.contents c.args.writer.now) (g.K.Sink.contents c.write_all-in-Err.new.writer) t)) text c.write_all-in-Err.ensures.prefix

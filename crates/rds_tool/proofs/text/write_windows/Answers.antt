@@ -7,10 +7,10 @@ use Rattle.rds_tool.proofs.text.write_windows.Goals as goal
 
 pub returns-clause-ok : goal.returns-clause-ok
 returns-clause-ok g c =
-    subst (λ t. OnOk c.write_rows_in_parts.result (Appends (g.K.Sink.contents c.args.writer.now) (g.K.Sink.contents c.write_rows_in_parts.new.writer) t))
-    (scan_spelled c.args.recording.now) c.write_rows_in_parts.ensures.ok
+    subst (λ t. OnOk c.write_rows.result (Appends (g.K.Sink.contents c.args.writer.now) (g.K.Sink.contents c.write_rows.new.writer) t))
+    (scan_spelled c.args.recording.now) c.write_rows.ensures.ok
 
 pub returns-clause-prefix : goal.returns-clause-prefix
 returns-clause-prefix g c =
-    λ e. subst (AppendsPrefix (g.K.Sink.contents c.args.writer.now) (g.K.Sink.contents c.write_rows_in_parts.new.writer)) (scan_spelled c.args.recording.now)
-    (c.write_rows_in_parts.ensures.prefix e)
+    λ e. subst (AppendsPrefix (g.K.Sink.contents c.args.writer.now) (g.K.Sink.contents c.write_rows.new.writer)) (scan_spelled c.args.recording.now)
+    (c.write_rows.ensures.prefix e)

@@ -35,7 +35,7 @@ pub returns-in-3-clause-value : goal.returns-in-3-clause-value
 returns-in-3-clause-value c =
     let r : ℕ = c.rem26-remainder.result in
     let limit : ℕ = c.args.self.now in
-    c.of_third.ensures.value c.args.w limit c.with-version_a.ensures.few
+    c.third.ensures.value c.args.w limit c.with-version_a.ensures.few
     (with_offset limit c.args.w r c.with-version_a.result C c.rem26-remainder.ensures.value c.with-version_a.ensures.outcome)
     (with_offset limit c.args.w r c.with-version_b.result Cx c.rem26-remainder.ensures.value c.with-version_b.ensures.outcome)
     ∙ ap (λ (n : ℕ). outcome_number (reading c.args.w n c.args.wanted limit)) (sym (sym c.get.ensures.value ∙ c.in-3.is))

@@ -1,49 +1,23 @@
-use Rattle.std.proofs.Common.{◌≡◌, ◌+◌, ◌*◌, ◌^◌, List, take, ap, arith, sym, take_all, ◌∙◌}
+use Rattle.std.proofs.Common.{◌≡◌, ◌+◌, ◌*◌, ◌^◌, List, ◌++◌, length, ap, ap₂, arith, sym, ◌∙◌, append_assoc, length-append}
 use Rattle.rds_sync.specs.declared.item.Item.{Item}
-use Rattle.rds_sync.specs.declared.totals.Totals.{Totals}
 use Rattle.rds_sync.specs.Counting.{plus}
+use Rattle.rds_sync.specs.Inside.Counts.{CountOf}
 use Rattle.rds_sync.specs.Totals.{totals_of}
-use Rattle.rds_sync.specs.Inside.Tallies.{told}
-use Rattle.rds_sync.proofs.TallyLemmas.{acquired_told, loss_told, whole_next, acquired_next, loss_next, other_next}
-use Rattle.rds_sync.proofs.TotalsLemmas.{IsAtMost-more}
+use Rattle.rds_sync.proofs.TotalsLemmas.{IsAtMost-more, totals_of-append}
 use Rattle.rds_sync.proofs.totals.Totals.of.Goals as goal
-use Rattle.rds_sync.proofs.totals.Totals.of.Goals.{in-Acquired, in-LostLock, in-Group, in-Group-2}
 
-pub loop-item-preserved : goal.loop-item-preserved
-loop-item-preserved c =
-    let l = c.loop-item in
-    let before = c.loop-item.invariant in
-    let items = c.args.items.now in
-    let here = sym c.item-item.is in
-    elim c.match-item.branch [
-      | in-Acquired w ↦ rw (w.whole-is, w.acquired-is, w.losses-is, w.totals-is) (record {
-        rest = before.rest;
-        parted = omega (arith, before.parted);
-        so_far = acquired_next items l.item-index _ c.loop-item-test.true l.totals l.whole l.acquired l.losses before.so_far _ (here ∙ w.in-Acquired.is) (acquired_told w.in-Acquired.place w.in-Acquired.number);
-        small = before.small;
-      })
-      | in-LostLock w ↦ rw (w.whole-is, w.acquired-is, w.losses-is, w.totals-is) (record {
-        rest = before.rest;
-        parted = omega (arith, before.parted);
-        so_far = loss_next items l.item-index _ c.loop-item-test.true l.totals l.whole l.acquired l.losses before.so_far _ (here ∙ w.in-LostLock.is) (loss_told w.in-LostLock.place);
-        small = before.small;
-      })
-      | in-Group w ↦ rw (w.whole-is, w.acquired-is, w.losses-is, w.totals-is) (record {
-        rest = before.rest;
-        parted = omega (arith, before.parted);
-        so_far = whole_next items l.item-index _ c.loop-item-test.true l.totals l.whole l.acquired l.losses before.so_far _ (here ∙ w.in-Group.is) (w.is_whole.ensures w.if-is_whole.true);
-        small = before.small;
-      })
-      | in-Group-2 w ↦ rw (w.whole-is, w.acquired-is, w.losses-is, w.totals-is) (record {
-        rest = before.rest + 1;
-        parted = omega (arith, before.parted);
-        so_far = ap (λ (t : Totals). plus t (told l.whole l.acquired l.losses)) w.plus-totals.ensures.value ∙ other_next items l.item-index _ c.loop-item-test.true l.totals l.whole l.acquired l.losses before.so_far _ here w.of_item.result w.of_item.ensures.value;
-        small = IsAtMost-more (2 ^ 10 * before.rest + 2 ^ 10) (2 ^ 10 * (before.rest + 1)) w.plus-totals.result (omega arith) (w.plus-totals.ensures.small (2 ^ 10 * before.rest) (2 ^ 10) before.small w.of_item.ensures.small);
-      })
-    ]
-
-pub returns-clause-value : goal.returns-clause-value
-returns-clause-value c =
-    let l = c.loop-item in
-    let all : take l.item-index c.args.items.now ≡ c.args.items.now = take_all l.item-index c.args.items.now (omega (arith, c.loop-item-test.false)) in
-    c.plus.ensures.value ∙ ap (λ (u : Totals). plus l.totals u) c.of_counts.ensures.value ∙ l.invariant.so_far ∙ ap (λ (items : List Item). totals_of items) all
+pub loop-rest-preserved : goal.loop-rest-preserved
+loop-rest-preserved c =
+    let before = c.loop-rest.invariant in
+    let part : List Item = c.split_at.result.0.now in
+    let others : List Item = c.split_at.result.1.now in
+    let counted : c.totals.result ≡ totals_of part = c.totals.ensures.value ∙ ap (λ (k : CountOf). k.totals) c.of.ensures in
+    let all = length-append before.first part in
+    let few = ap (λ (k : CountOf). k.items) c.of.ensures in
+    record {
+      first = before.first ++ part;
+      parted = before.parted ∙ ap (λ (rest : List Item). before.first ++ rest) c.split_at.ensures.by_index.0 ∙ sym (append_assoc before.first part others);
+      so_far = c.plus-totals.ensures.value ∙ ap₂ plus before.so_far counted ∙ sym (totals_of-append before.first part);
+      small = IsAtMost-more (2 ^ 10 * length before.first + 2 ^ 10 * c.of.result.items) (2 ^ 10 * length (before.first ++ part)) c.plus-totals.result (omega (arith, all, few))
+          (c.plus-totals.ensures.small (2 ^ 10 * length before.first) (2 ^ 10 * c.of.result.items) before.small c.totals.ensures.small);
+    }

@@ -1,0 +1,9 @@
+use Rattle.std.proofs.Common.{◌≡◌}
+use Rattle.rds_rows.specs.Sheets.{size_of, text_of}
+use Rattle.rds_rows.proofs.handoff.Handoff.put.Given as goal
+
+abbrev pub invariant-loop : goal.invariant-loop
+invariant-loop g l = record {
+  size : size_of l.sheet ≡ g.J.PartSpec.size;
+  part : text_of l.sheet ≡ g.J.PartSpec.part l.k;
+}

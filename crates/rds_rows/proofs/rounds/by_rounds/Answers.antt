@@ -1,0 +1,45 @@
+use Rattle.std.proofs.Common.{◌≡◌, arith, rules, subst}
+use Rattle.rds_rows.specs.Gathered.{kept_in}
+use Rattle.rds_rows.specs.Parts.{first_parts}
+use Rattle.rds_rows.specs.Writes.{AppendsBut}
+use Rattle.rds_rows.proofs.PartsFrom.{but_round, prefix_round}
+use Rattle.rds_rows.proofs.Steps.{but_prefix, but_rest, on_err, on_ok}
+use Rattle.rds_rows.proofs.rounds.by_rounds.Given.{Over}
+use Rattle.rds_rows.proofs.rounds.by_rounds.Goals.{After-write_kept}
+use Rattle.rds_rows.proofs.rounds.by_rounds.Goals as goal
+
+pub rounds-preserved : goal.rounds-preserved
+rounds-preserved g c =
+    let order = rw c.in-Ok.is at c.round-back.ensures.wrote.order in
+    let ok = rw c.in-Ok.is at c.round-back.ensures.wrote.ok in
+    record {
+      order = order.1;
+      size = c.round-back.ensures.size;
+      mine = search rules;
+      spare = search rules;
+      name = search rules;
+      written = but_round _ _ _ g.J.PartSpec.part c.rounds.first c.in-Ok.to (kept_in c.rounds.caller.gathered) _ (omega (arith, order.0)) c.rounds.invariant.written ok;
+      count = search rules;
+    }
+
+pub returns-in-Err-clause-prefix : goal.returns-in-Err-clause-prefix
+returns-in-Err-clause-prefix g c =
+    let prefix = rw c.in-Err.is at c.round-back.ensures.wrote.prefix in
+    prefix_round _ _ _ g.J.PartSpec.part c.rounds.first c.args.parts (kept_in c.rounds.caller.gathered) c.rounds.invariant.order c.rounds.invariant.written prefix
+
+-- after the last round all parts are written but for the kept text
+all_but_kept : (g : Over) (c : After-write_kept g)
+    → AppendsBut (g.W.OwnedSink.contents c.args.caller.out) (g.W.OwnedSink.contents c.rounds.caller.out) (first_parts g.J.PartSpec.part c.args.parts) (kept_in c.rounds.caller.gathered)
+all_but_kept g c =
+    let all : c.rounds.first ≡ c.args.parts = omega (arith, c.rounds.invariant.order, c.rounds-test.false) in
+    let old = g.W.OwnedSink.contents c.args.caller.out in
+    let mid = g.W.OwnedSink.contents c.rounds.caller.out in
+    subst (λ n. AppendsBut old mid (first_parts g.J.PartSpec.part n) (kept_in c.rounds.caller.gathered)) all c.rounds.invariant.written
+
+pub returns-clause-ok : goal.returns-clause-ok
+returns-clause-ok g c =
+    on_ok c.write_kept.result.1 (but_rest _ _ _ _ _ (all_but_kept g (goal.at.returns-clause-ok g c).After-write_kept)) c.write_kept.ensures.ok
+
+pub returns-clause-prefix : goal.returns-clause-prefix
+returns-clause-prefix g c =
+    on_err c.write_kept.result.1 (but_prefix _ _ _ _ _ (all_but_kept g (goal.at.returns-clause-prefix g c).After-write_kept)) c.write_kept.ensures.prefix

@@ -1,0 +1,20 @@
+use Rattle.std.proofs.Common.{◌-◌, ◌≡◌, ◌≤◌, All}
+use Rattle.rds_rows.specs.Gathered.{kept_in}
+use Rattle.rds_rows.specs.Parts.{first_parts}
+use Rattle.rds_rows.specs.Sheets.{size_of}
+use Rattle.rds_rows.specs.Writes.{AppendsBut}
+use Rattle.rds_rows.proofs.rounds.by_rounds.Given as goal
+
+abbrev pub invariant-rounds : goal.invariant-rounds
+invariant-rounds g l = record {
+  order : l.first ≤ l.parts;
+  size : All (λ s. size_of s ≡ g.J.PartSpec.size) l.sheets.items;
+  mine : size_of l.caller.mine ≡ g.J.PartSpec.size;
+  spare : size_of l.caller.spare ≡ g.J.PartSpec.size;
+  name : g.W.OwnedSink.name l.caller.out ≡ g.W.OwnedSink.name l.fn.caller.out;
+  written : AppendsBut (g.W.OwnedSink.contents l.fn.caller.out) (g.W.OwnedSink.contents l.caller.out) (first_parts g.J.PartSpec.part l.first) (kept_in l.caller.gathered);
+  count : g.W.OwnedSink.failed l.caller.out ≡ g.W.OwnedSink.failed l.fn.caller.out;
+}
+
+abbrev pub decreases-rounds : goal.decreases-rounds
+decreases-rounds g l = l.parts - l.first

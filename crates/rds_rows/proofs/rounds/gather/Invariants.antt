@@ -1,0 +1,15 @@
+use Rattle.std.proofs.Common.{◌≡◌, ◌++◌, ◌-◌}
+use Rattle.rds_rows.specs.Gathered.{kept_in}
+use Rattle.rds_rows.specs.Rounds.{parts_from}
+use Rattle.rds_rows.specs.Sheets.{size_of}
+use Rattle.rds_rows.specs.Writes.{AppendsBut}
+use Rattle.rds_rows.proofs.rounds.gather.Given as goal
+
+abbrev pub invariant-loop-k : goal.invariant-loop-k
+invariant-loop-k g l = record {
+  mine : size_of l.caller.mine ≡ g.J.PartSpec.size;
+  spare : size_of l.caller.spare ≡ g.J.PartSpec.size;
+  name : g.W.OwnedSink.name l.caller.out ≡ g.W.OwnedSink.name l.fn.caller.out;
+  written : AppendsBut (g.W.OwnedSink.contents l.fn.caller.out) (g.W.OwnedSink.contents l.caller.out) (kept_in l.fn.caller.gathered ++ parts_from g.J.PartSpec.part l.fn.first (l.k - l.fn.first)) (kept_in l.caller.gathered);
+  count : g.W.OwnedSink.failed l.caller.out ≡ g.W.OwnedSink.failed l.fn.caller.out;
+}

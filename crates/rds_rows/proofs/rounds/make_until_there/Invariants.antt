@@ -1,0 +1,9 @@
+use Rattle.std.proofs.Common.{◌≡◌}
+use Rattle.rds_rows.specs.Sheets.{size_of}
+use Rattle.rds_rows.proofs.rounds.make_until_there.Given as goal
+
+abbrev pub invariant-loop : goal.invariant-loop
+invariant-loop g l = record {
+  mine : size_of l.mine ≡ g.J.PartSpec.size;
+  spare : size_of l.spare ≡ g.J.PartSpec.size;
+}

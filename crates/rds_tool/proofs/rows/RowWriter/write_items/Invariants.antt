@@ -1,0 +1,14 @@
+use Rattle.std.proofs.Common.{◌*◌, ◌-◌, ◌≡◌, ◌≤◌, length, take}
+use Rattle.std.specs.List.{flat_map}
+use Rattle.rds_tool.specs.Listing.{item_row}
+use Rattle.rds_tool.proofs.rows.RowWriter.write_items.Given as goal
+
+abbrev pub invariant-loop-count : goal.invariant-loop-count
+invariant-loop-count l = record {
+  rows : l.self ≡ flat_map item_row (take l.count l.items);
+  short : length l.self ≤ l.count * 168;
+  few : l.count ≤ length l.items;
+}
+
+abbrev pub decreases-loop-count : goal.decreases-loop-count
+decreases-loop-count l = length l.items - l.count

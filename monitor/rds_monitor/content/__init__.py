@@ -1,0 +1,1 @@
+"""What stations say of themselves."""

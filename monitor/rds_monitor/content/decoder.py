@@ -1,0 +1,168 @@
+"""What stations say of themselves: events where a value changes, and the values that hold.
+
+    decoder = Decoder()
+    for rows in source.chunks():
+        for event in decoder.feed(rows):
+            print(event.place, event.item, event.text)
+
+`ITEMS` lists the items.
+
+A value counts in a group whose four blocks are all valid, or when it was received twice in a row alike, of which once
+in valid blocks. Corrected blocks alone never name a station. Another PI is another station, of which nothing is known
+yet. Names and texts are told by the rules of `turns`.
+"""
+from __future__ import annotations
+
+from typing import Any, Dict, List, Optional, Tuple
+
+import numpy
+
+from ..rows.items import ACQUIRED, GROUP, Rows
+from . import features, names, networks, texts
+from .columns import Columns, columns_of
+from .events import ITEMS, Event, Held, Taker, Teller
+from .evidence import KIND_SHIFT, POSITION_BITS, Array, Evidence, Observations, key_of, latest
+from .received import Received
+
+__all__ = ["ITEMS", "Decoder", "Event", "Held", "Programme"]
+
+OFFSET_C, OFFSET_CX = 3, 4
+SLICE = 32768
+
+
+class Programme:
+    """A station, by its PI: one object per group type, each of which takes its kinds of news."""
+
+    def __init__(self, pi: int, teller: Teller, rbds: bool, everything: bool, data: bool) -> None:
+        self.pi, self._teller = pi, teller
+        self._received = Received(everything)
+        takers: List[Taker] = [
+            features.Flags(teller, rbds),
+            features.SlowLabels(teller, pi),
+            features.ClockTime(teller),
+            features.OpenData(teller),
+            features.Features(teller, data),
+            features.TrafficMessages(teller),
+            features.DabLink(teller),
+            networks.Frequencies(teller),
+            networks.OtherNetworks(teller, rbds),
+            texts.Name(teller),
+            texts.RadioText(teller),
+            texts.LongName(teller),
+            texts.EnhancedText(teller),
+        ]
+        self._takers: Dict[int, List[Taker]] = {}
+        for one in takers:
+            for kind in one.kinds:
+                self._takers.setdefault(int(kind), []).append(one)
+
+    def feed(self, groups: Columns) -> None:
+        news, changes = self._received.news(groups)
+        kinds = news.key >> KIND_SHIFT
+        messages = news.key >> POSITION_BITS & (1 << KIND_SHIFT - POSITION_BITS) - 1
+        positions = news.key & (1 << POSITION_BITS) - 1
+        columns = (news.at, kinds, messages, positions, news.value)
+        found: List[Tuple[Any, ...]] = list(zip(*(column.tolist() for column in columns)))
+        if changes:
+            found = sorted([*found, *changes], key=lambda change: change[:2])
+        for at, kind, message, *rest in found:
+            self._teller.place = int(groups.place[at])
+            for taker in self._takers[kind]:
+                if len(rest) == 1:
+                    taker.hear(kind, message, rest[0])
+                else:
+                    taker.take(kind, message, *rest)
+
+
+class Decoder:
+    """Decodes the contents of rows, chunk by chunk. However rows are cut into chunks, the events are the same."""
+
+    def __init__(
+        self, *, rbds: bool = False, everything: bool = False, lapses: bool = False, data: bool = False
+    ) -> None:
+        """With `rbds` programme types have the names of RBDS, and PI call letters; with `lapses` texts in change are told as
+        None; with `data` the bytes of groups 5 and 6 are. `everything` is for tests: it looks at all values that count,
+        and not only at news."""
+        self.programme: Optional[Programme] = None
+        self.rbds, self._everything, self._data = rbds, everything, data
+        self._identifications = Evidence()
+        self._fresh = self._tuned = False
+        self._teller = Teller(lapses)
+
+    def held(self) -> Dict[str, Held]:
+        """What the station says now, by item."""
+        return dict(self._teller.held)
+
+    def feed(self, rows: Rows) -> List[Event]:
+        """The events of the next rows, in the order of their places."""
+        for begin in range(0, len(rows), SLICE):
+            self._feed(rows[begin : begin + SLICE])
+        return self._teller.taken()
+
+    def _feed(self, rows: Rows) -> None:
+        is_group = rows["what"] == GROUP
+        acquired = numpy.concatenate([[0], numpy.cumsum(rows["what"] == ACQUIRED)])
+        rows_of_groups, at = (
+            (rows, acquired[1:]) if is_group.all() else (rows[is_group], acquired[1:][is_group])
+        )
+        fresh = at != numpy.concatenate([[0], at])[:-1]
+        if fresh.size:
+            fresh[0] |= self._fresh
+            self._fresh = bool(acquired[-1] != at[-1])
+            self._feed_groups(rows_of_groups, fresh)
+        else:
+            self._fresh |= bool(acquired[-1])
+
+    def _feed_groups(self, rows: Rows, fresh: Array) -> None:
+        groups = columns_of(rows)
+        programme, begins, belongs = self._programmes(rows, groups, fresh)
+        readable = belongs & groups.known[1]
+        readable &= ~groups.known[2] | (rows["offset3"] == numpy.where(groups.code & 1, OFFSET_CX, OFFSET_C))
+        bounds: List[int] = sorted({0, *numpy.flatnonzero(begins).tolist(), len(rows)})
+        for begin, end in zip(bounds, bounds[1:]):
+            if begins[begin]:
+                self._begin(int(programme[begin]), int(groups.place[begin]))
+            chosen = begin + numpy.flatnonzero(readable[begin:end])
+            if self.programme and chosen.size:
+                self.programme.feed(groups.where(chosen))
+
+    def _begin(self, pi: int, place: int) -> None:
+        self._teller.begin(pi, place)
+        if self.rbds:
+            self._teller.tell("call_letters", names.call_letters(pi))
+        self.programme = Programme(pi, self._teller, self.rbds, self._everything, self._data)
+
+    def _programmes(self, rows: Rows, groups: Columns, fresh: Array) -> tuple[Array, Array, Array]:
+        """For each group the PI that counts, whether another one begins there, and whether the group is of that
+        programme.
+
+        A group without PI is taken to be of the programme of the group before it, but not after an acquisition.
+        """
+        first = groups.known[0]
+        third = groups.known[2] & (rows["offset3"] == OFFSET_CX)
+        contradicts = first & third & (groups.words[0] != groups.words[2])
+        has = (first | third) & ~contradicts
+        value = numpy.where(first, groups.words[0], groups.words[2])
+        sound = (~first | groups.valid[0]) & (~third | groups.valid[2])
+        index = numpy.flatnonzero(has)
+        counted = self._identifications.news(
+            Observations(
+                numpy.zeros(index.size, "i8") + key_of(0),
+                index,
+                value[index],
+                groups.whole[index],
+                sound[index],
+            ),
+            True,
+        )
+        now = self.programme.pi if self.programme else -1
+        counts = numpy.zeros(has.size, bool)
+        counts[counted.at] = True
+        recent = latest(counts)
+        programme = numpy.where(recent >= 0, value[recent], now)
+        begins = programme != numpy.concatenate([[now], programme])[:-1]
+        belongs = has & (value == programme)
+        told = latest(has | fresh)
+        tuned = numpy.where(told >= 0, belongs[told], self._tuned)
+        self._tuned = bool(tuned[-1])
+        return programme, begins, numpy.where(has, belongs, tuned & ~contradicts)

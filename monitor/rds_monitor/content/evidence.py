@@ -1,0 +1,206 @@
+"""Which received values count, and which of those are news: by numpy, since a station says the same thing all day.
+
+A part is whatever is sent under one address: a flag, two characters of a name, the PI. A part counts in a group whose
+four blocks are all valid, and when it is received twice in a row alike, of which once in valid blocks. So corrected
+blocks alone say nothing.
+
+Parts belong to messages, such as the four pairs of a PS. News of a message is a part that differs from what counted
+before, and the first of each other part after such a change: what a decoder of messages needs, and all that it needs.
+"""
+from __future__ import annotations
+
+from typing import Any, Dict, List, NamedTuple, Optional, Tuple
+
+import numpy
+from numpy.typing import NDArray
+
+Array = NDArray[Any]
+
+# A key is a kind, the message among those of its kind, and the part's position in the message.
+POSITION_BITS, KIND_SHIFT = 16, 40
+MOST_PARTS = 20000
+
+
+def key_of(kind: int, message: Any = 0, position: Any = 0) -> Any:
+    return kind << KIND_SHIFT | message << POSITION_BITS | position
+
+
+class Observations(NamedTuple):
+    """Received values, in the order of time within a key: `at` is the number of the group."""
+
+    key: Array
+    at: Array
+    value: Array
+    whole: Array
+    sound: Array
+
+    def where(self, chosen: Array) -> "Observations":
+        return Observations(*(column[chosen] for column in self))
+
+
+class News(NamedTuple):
+    """Values that count."""
+
+    key: Array
+    at: Array
+    value: Array
+
+
+NOTHING = News(*(numpy.empty(0, "i8") for _ in range(3)))
+NONE_SEEN = Observations(*(numpy.empty(0, kind) for kind in ("i8", "i8", "i8", "?", "?")))
+
+
+class PartState(NamedTuple):
+    """What is known of a part: the value received last and whether valid blocks brought it; what counted last, and in
+    which state of its message."""
+
+    last: int
+    trusted: bool
+    counted: Optional[int] = None
+    state: int = -1
+
+
+def latest(chosen: Array) -> Array:
+    """For each place the last chosen one up to it, or -1."""
+    return numpy.maximum.accumulate(numpy.where(chosen, numpy.arange(chosen.size), -1))
+
+
+def _firsts(key: Array) -> Array:
+    first = numpy.ones(key.size, bool)
+    numpy.not_equal(key[1:], key[:-1], out=first[1:])
+    return first
+
+
+class Evidence:
+    """What counted so far of a programme."""
+
+    def __init__(self) -> None:
+        self.parts: Dict[int, PartState] = {}
+        self.states: Dict[int, int] = {}
+
+    def news(self, seen: Observations, everything: bool = False) -> News:
+        """What counts of these observations and is news; with `everything`, all that counts."""
+        if not seen.key.size:
+            return NOTHING
+        if (seen.key[1:] < seen.key[:-1]).any():
+            seen = seen.where(numpy.argsort(seen.key, kind="stable"))
+        counts = self._counts(seen)
+        counted = News(*(column[counts] for column in seen[:3]))
+        news = counted if everything or not counted.key.size else self._news(counted)
+        self._prune()
+        return news
+
+    def _news(self, counted: News) -> News:
+        """Which of the values that count are news."""
+        changed = self._changed(counted)
+        active = self._active(counted, changed)
+        counted, changed = News(*(column[active] for column in counted)), changed[active]
+        if not counted.key.size:
+            return counted
+        chosen = self._fresh(counted, self._states_of(counted, changed))
+        return News(*(column[chosen] for column in counted))
+
+    def _counts(self, seen: Observations) -> Array:
+        """Which of the observations, in the order of their keys, count."""
+        first = _firsts(seen.key)
+        starts = numpy.flatnonzero(first)
+        again = ~first
+        again[1:] &= seen.value[1:] == seen.value[:-1]
+        trusted_before = numpy.zeros(first.size, bool)
+        names = seen.key[starts].tolist()
+        known = [self.parts.get(name) for name in names]
+        for start, part, value in zip(starts.tolist(), known, seen.value[starts].tolist()):
+            if part and part.last == value:
+                again[start] = True
+                trusted_before[start] = part.trusted
+        run = latest(first | ~again)
+        trusted = (latest(seen.sound) >= run) | trusted_before[run]
+        ends = numpy.append(starts[1:], first.size) - 1
+        for name, part, value, trust in zip(names, known, seen.value[ends].tolist(), trusted[ends].tolist()):
+            self.parts[name] = part._replace(last=value, trusted=trust) if part else PartState(value, trust)
+        counts: Array = seen.whole | again & trusted
+        return counts
+
+    def _changed(self, counted: News) -> Array:
+        """Which values differ from the one of the part that counted before."""
+        changed = numpy.ones(counted.key.size, bool)
+        numpy.not_equal(counted.value[1:], counted.value[:-1], out=changed[1:])
+        starts = numpy.flatnonzero(_firsts(counted.key))
+        changed[starts] = [
+            self.parts[name].counted not in (None, value)
+            for name, value in zip(counted.key[starts].tolist(), counted.value[starts].tolist())
+        ]
+        return changed
+
+    def _active(self, counted: News, changed: Array) -> Array:
+        """Which values are of messages that have news: a part changed, or one has not counted since another did."""
+        starts = numpy.flatnonzero(_firsts(counted.key))
+        message = counted.key[starts] >> POSITION_BITS
+        stale = [
+            self.parts[name].state != self.states.get(of, 0)
+            for name, of in zip(counted.key[starts].tolist(), message.tolist())
+        ]
+        active = numpy.logical_or.reduceat(changed, starts) | numpy.array(stale, bool)
+        bounds = numpy.flatnonzero(_firsts(message))
+        of_message = numpy.repeat(
+            numpy.logical_or.reduceat(active, bounds), numpy.diff([*bounds, message.size])
+        )
+        return numpy.repeat(of_message, numpy.diff([*starts, counted.key.size]))
+
+    def _states_of(self, counted: News, changed: Array) -> Array:
+        """The state of the message after each value that counts: how often parts of it changed."""
+        message = counted.key >> POSITION_BITS
+        bounds: List[int] = numpy.flatnonzero(_firsts(message)).tolist()
+        names = message[bounds].tolist()
+        state = numpy.repeat(
+            [self.states.get(name, 0) for name in names], numpy.diff([*bounds, message.size])
+        )
+        tick = counted.at << POSITION_BITS | counted.key & (1 << POSITION_BITS) - 1
+        for begin, end, name in zip(bounds, [*bounds[1:], message.size], names):
+            ticks = numpy.sort(tick[begin:end][changed[begin:end]])
+            if ticks.size:
+                state[begin:end] += numpy.searchsorted(ticks, tick[begin:end], side="right")
+                self.states[name] = self.states.get(name, 0) + ticks.size
+        return state
+
+    def _fresh(self, counted: News, state: Array) -> Array:
+        """Whether the message has changed since the part counted last, which is noted."""
+        first = _firsts(counted.key)
+        starts = numpy.flatnonzero(first)
+        fresh = numpy.ones(first.size, bool)
+        numpy.not_equal(state[1:], state[:-1], out=fresh[1:])
+        names = counted.key[starts].tolist()
+        fresh[starts] = [self.parts[name].state != now for name, now in zip(names, state[starts].tolist())]
+        ends = numpy.append(starts[1:], first.size) - 1
+        for name, value, now in zip(names, counted.value[ends].tolist(), state[ends].tolist()):
+            self.parts[name] = self.parts[name]._replace(counted=value, state=now)
+        return fresh
+
+    def _prune(self) -> None:
+        """Noise gives parts that never count: they are forgotten when there are too many."""
+        if len(self.parts) > MOST_PARTS:
+            self.parts = {name: part for name, part in self.parts.items() if part.counted is not None}
+
+
+class Epochs:
+    """The messages of a kind with an A/B flag: each turn of the flag begins another message."""
+
+    def __init__(self, flags: News, flag: int, epoch: int) -> None:
+        """From the flags that count, and the one and the number of the message before them."""
+        self._at = flags.at
+        self._flags = numpy.concatenate([[flag], flags.value])
+        self._numbers = epoch + numpy.concatenate([[0], numpy.cumsum(self._flags[1:] != self._flags[:-1])])
+
+    @property
+    def last(self) -> Tuple[int, int]:
+        """The flag and the number of the message after them."""
+        return int(self._flags[-1]), int(self._numbers[-1]) & 0xFFFFFF
+
+    def flag(self, at: Array) -> Array:
+        """The flag that holds in each of these groups; that of a group holds from itself on."""
+        flag: Array = self._flags[numpy.searchsorted(self._at, at, side="right")]
+        return flag
+
+    def number(self, at: Array) -> Array:
+        number: Array = self._numbers[numpy.searchsorted(self._at, at, side="right")] & 0xFFFFFF
+        return number

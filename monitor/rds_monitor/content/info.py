@@ -1,0 +1,146 @@
+"""The command `info`: what stations say of themselves, as a summary, or as CSV or JSON of changes."""
+from __future__ import annotations
+
+import argparse
+import csv
+import sys
+import textwrap
+from typing import Dict, Iterator, List, NamedTuple
+
+import numpy
+
+from ..rows.clock import Clock, clock_of, clock_options
+from ..rows.inputs import input_options, open_input
+from ..rows.items import ITEM, Rows, Source
+from .charset import printable
+from .decoder import ITEMS, Decoder, Event
+from .jsonl import content_line, set_utf8
+
+# The names of items for a reader, where they are not the item's own in capitals.
+_LABELS = """
+rt_ab: RT flag; ms: Music/speech; di_stereo: Stereo; di_artificial_head: Artificial head; di_compressed:
+Compressed; di_dynamic_pty: Dynamic PTY; linkage: Linkage; country: Country; language: Language; tmc_id: TMC
+identification; paging_id: Paging identification; broadcaster_bits: Broadcaster's bits; ews_channel: EWS
+channel; tmc_service: TMC service; tmc_provider: TMC provider; tmc_message: TMC message; rt_plus_running: RT+ item running;
+rt_plus_toggle: RT+ item toggle; rt_plus: RT+; dab_service: DAB service; ert: eRT; ert_plus: RT+ for eRT;
+ert_plus_running: RT+ for eRT item running; ert_plus_toggle: RT+ for eRT item toggle; call_letters: Call letters; lps: Long PS; ih:
+In-house data; rp: Radio paging; erp: Enhanced paging; tdc: Data channel"""
+LABELS: Dict[str, str] = dict(line.split(": ") for line in " ".join(_LABELS.split()).split("; "))
+
+
+def label(item: str) -> str:
+    """The name of an item for a reader: EON D312 PS for eon:D312.ps."""
+    name, _, of = item.partition(":")
+    if name == "eon":
+        network, _, rest = of.partition(".")
+        shown = rest.replace(":", " ")
+        return f"EON {network} {shown if rest.startswith('mapped') else shown.replace('.', ' ').upper()}"
+    return f"{LABELS.get(name, name.upper())} {of}".rstrip()
+
+
+def options_info(parser: argparse.ArgumentParser) -> None:
+    parser.description = (
+        "What a station says of itself: PI, PS, RT, PTY, AF, CT and the rest of IEC 62106. A value counts in a group "
+        "whose blocks are all valid, or if it was received twice in a row alike, once of that in valid blocks."
+    )
+    parser.epilog = (
+        "example:\n  rds-monitor info monday.bin\n"
+        "  rds-monitor info --csv --start 2026-03-29T00:30:00Z monday.bin > changes.csv\n\n"
+        "items in CSV and JSON, with examples of which of several:\n" + textwrap.indent(ITEMS, "  ")
+    )
+    input_options(parser)
+    parser.add_argument(
+        "--rbds", action="store_true", help="RBDS: its names of programme types, and call letters by the PI"
+    )
+    form = parser.add_mutually_exclusive_group()
+    form.add_argument("--csv", action="store_true", help="a row per change")
+    form.add_argument("--json", action="store_true", help="a line of JSON per change")
+    clock_options(parser)
+
+
+def run_info(arguments: argparse.Namespace) -> int:
+    set_utf8()
+    source, decoder = open_input(arguments), Decoder(rbds=arguments.rbds)
+    summary = Summary()
+    writer = csv.writer(sys.stdout, lineterminator="\n")
+    begun = False
+    for rows in chunks_with_end(source):
+        events, clock = decoder.feed(rows), clock_of(arguments, source)
+        if arguments.csv:
+            if not begun:
+                writer.writerow(["time_s", "pi", "item", "value", "place", *clock.names("time")])
+            begun = True
+            writer.writerows(row_of(event, clock) for event in events)
+        elif arguments.json:
+            sys.stdout.writelines(content_line(event, clock) for event in events)
+        else:
+            summary.take(events)
+        sys.stdout.flush()
+    if not (arguments.csv or arguments.json):
+        sys.stdout.write(summary.text(clock_of(arguments, source)))
+    return 0
+
+
+def chunks_with_end(source: Source) -> Iterator[Rows]:
+    """The chunks of a source, of which an empty one is the only one if there is none."""
+    chunks = source.chunks()
+    yield next(chunks, numpy.empty(0, ITEM))
+    yield from chunks
+
+
+def row_of(event: Event, clock: Clock) -> List[str]:
+    """The fields of a change, in which nothing can move a terminal's cursor."""
+    return [
+        f"{clock.seconds(event.place):.3f}",
+        f"{event.pi:04X}",
+        event.item,
+        printable(event.text),
+        str(event.place),
+        *clock.utc(event.place),
+    ]
+
+
+class Last(NamedTuple):
+    """The last value of an item, since when it holds, and how often it changed."""
+
+    text: str
+    place: int
+    changes: int
+
+
+class Summary:
+    """The last values of each programme."""
+
+    def __init__(self) -> None:
+        self._programmes: Dict[int, Dict[str, Last]] = {}
+
+    def take(self, events: List[Event]) -> None:
+        for event in events:
+            items = self._programmes.setdefault(event.pi, {})
+            before = items.get(event.item)
+            same = before is not None and before.text == event.text
+            items[event.item] = (
+                before
+                if before and same
+                else Last(event.text, event.place, before.changes + 1 if before else 0)
+            )
+
+    def text(self, clock: Clock) -> str:
+        if not self._programmes:
+            return "no station: no PI was received in valid blocks\n"
+        return "\n".join(self._section(pi, items, clock) for pi, items in self._programmes.items())
+
+    @staticmethod
+    def _section(pi: int, items: Dict[str, Last], clock: Clock) -> str:
+        width = max(len(label(item)) for item in items)
+        lines = [f"{pi:04X} {printable(items['ps'].text) if 'ps' in items else ''}".rstrip()]
+        for item, last in items.items():
+            if item != "pi":
+                since = (
+                    clock.utc(last.place)[0]
+                    if clock.start is not None
+                    else f"{clock.seconds(last.place):.3f} s"
+                )
+                changed = f", {last.changes} change{'s' * (last.changes != 1)}" if last.changes else ""
+                lines.append(f"  {label(item):{width}}  {printable(last.text)}  (since {since}{changed})")
+        return "\n".join(lines) + "\n"

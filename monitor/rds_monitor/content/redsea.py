@@ -1,0 +1,266 @@
+"""Groups as redsea's JSON: a line per group, by the keys of redsea for what both know.
+
+Values are those that count by the rules of `content`, so they are the station's and no wrong correction's; a PS or a
+text is written with the last group of its turn, as long as it holds.
+"""
+from __future__ import annotations
+
+from functools import lru_cache
+from itertools import repeat
+from typing import Any, Callable, Dict, Iterator, List, Tuple
+
+import numpy
+
+from ..rows.clock import Clock, utc_texts
+from ..rows.items import BLOCKS, GROUP, VALID, Rows
+from ..rows.listing import kinds_of
+from .charset import safe_json
+from .decoder import Decoder, Event
+from .features import clock_time, item_number
+from .looks import TMC, codes_of, name_of
+from .names import language, programme_type
+from .networks import kilohertz
+
+Object = Dict[str, Any]
+Words = Tuple[int, int, int, int]
+# How many groups are remembered: more than a station sends in turn.
+MOST_WRITTEN = 1 << 10
+# The group types that tell an item, but for the group in which it changes.
+TOLD_IN = {
+    **dict.fromkeys("di_dynamic_pty di_compressed di_artificial_head di_stereo ps af".split(), "0A 0B 15B"),
+    **dict.fromkeys("pin country tmc_id language".split(), "1A 1B"),
+    **{"rt": "2A 2B", "rt_ab": "2A 2B", "oda": "3A", "tmc_service": "3A", "ct": "4A", "tdc": "5A 5B"},
+    **{"tmc_provider": "8A", "tmc_message": "8A", "ptyn": "10A", "eon": "14A 14B", "lps": "15A"},
+}
+_DI = ("dynamic_pty", "compressed", "artificial_head", "stereo")
+
+
+class Redsea:
+    """Writes the groups of rows, chunk by chunk."""
+
+    def __init__(self, decoder: Decoder) -> None:
+        self._decoder = decoder
+        self._held: Dict[str, Any] = {}
+        self._pi = -1
+        self._fresh: List[str] = []
+        self._is_valid = False
+        self._head = lru_cache(MOST_WRITTEN)(self._head_of)
+        # Of groups by their type: what is written before their time and after it, while the items hold that they tell.
+        self._written: Dict[int, Dict[int, Tuple[str, str]]] = {code: {} for code in range(32)}
+        makers: Dict[str, Callable[[Object, Words], None]] = {
+            "0A 0B 15B": self._tuning,
+            "1A": self._labels,
+            "1B": self._number,
+            "2A 2B": self._text,
+            "3A": self._open_data,
+            "4A": self._clock,
+            "5A 5B": self._channel,
+            "6A 6B": self._in_house,
+            "8A": self._traffic,
+            "10A": lambda found, _: self._put(found, pty_name="ptyn"),
+            "14A 14B": self._network,
+            "15A": lambda found, _: self._put(found, long_ps="lps"),
+        }
+        self._makers = {name: maker for names, maker in makers.items() for name in names.split()}
+
+    def lines(self, rows: Rows, clock: Clock) -> Iterator[str]:
+        """A line per group whose second block is known, from the first group on whose PI counts."""
+        events = self._decoder.feed(rows)
+        groups = rows[(rows["what"] == GROUP) & (rows["kind2"] >= VALID)]
+        kinds = kinds_of(groups)
+        first, second, third, fourth = (groups[f"info{block}"].astype("i8") for block in BLOCKS)
+        complete = (kinds[:, 2:] >= VALID).all(axis=1)
+        key = complete << 48 | second << 32 | numpy.where(complete, third << 16 | fourth, 0)
+        key |= (kinds == VALID).all(axis=1).astype("i8") << 49
+        pi = numpy.where(kinds[:, 0] >= VALID, first, -1)
+        times: Any = repeat("")
+        if clock.start is not None:
+            times = utc_texts(clock.start + groups["place"] / clock.rate)
+            times = [f',"rx_time":"{time}"' for time in times]
+        told, next_event = 0, events[0].place if events else -1
+        for place, of, group, time in zip(groups["place"].tolist(), pi.tolist(), key.tolist(), times):
+            self._fresh = []
+            while told < len(events) and next_event <= place:
+                self._hold(events[told])
+                told += 1
+                next_event = events[told].place if told < len(events) else -1
+            if self._pi >= 0 and (of == self._pi or of < 0):
+                known = self._written[group >> 43 & 31]
+                written = known.get(group)
+                if written is None or self._fresh:
+                    written = self._texts(group)
+                    if not self._fresh and len(known) < MOST_WRITTEN:
+                        known[group] = written
+                yield f"{written[0]}{time}{written[1]}\n"
+
+    def _hold(self, event: Event) -> None:
+        name = event.item.partition(":")[0]
+        if name == "pi":
+            self._held, self._pi = {}, event.pi
+        for code in range(32) if name == "pi" else codes_of(TOLD_IN.get(name, "")):
+            self._written[code].clear()
+        self._held[event.item] = event.value
+        self._fresh.append(event.item)
+
+    def _texts(self, group: int) -> Tuple[str, str]:
+        """What is written of a group: its blocks 2 to 4, whether these are complete, and whether all are valid."""
+        second = group >> 32 & 0xFFFF
+        name = name_of(second >> 11)
+        rest: Object = {}
+        self._is_valid = bool(group >> 49)
+        if group >> 48 & 1 and name in self._makers:
+            self._makers[name](rest, (self._pi, second, group >> 16 & 0xFFFF, group & 0xFFFF))
+        self._applications(rest)
+        return self._head(self._pi, second & 0xFFE0), "," + safe_json(rest)[1:] if rest else "}"
+
+    def _head_of(self, pi: int, second: int) -> str:
+        head = {"pi": f"0x{pi:04X}", "group": name_of(second >> 11), "tp": bool(second & 0x400)}
+        return safe_json({**head, "prog_type": self._type(second >> 5 & 0x1F)})[:-1]
+
+    def _type(self, code: int) -> str:
+        return programme_type(code, self._decoder.rbds) if code else "No PTY"
+
+    def _put(self, found: Object, **items: str) -> None:
+        """Values that hold, by redsea's key and the item."""
+        for key, item in items.items():
+            if self._held.get(item) is not None:
+                found[key] = self._held[item]
+
+    def _tuning(self, found: Object, words: Words) -> None:
+        found["ta"], found["is_music"] = bool(words[1] & 0x10), bool(words[1] & 0x08)
+        segment, name = words[1] & 3, name_of(words[1] >> 11)
+        if f"di_{_DI[segment]}" in self._held:
+            found["di"] = {_DI[segment]: self._held[f"di_{_DI[segment]}"]}
+        if (segment == 3 or "ps" in self._fresh) and name != "15B":
+            self._put(found, ps="ps")
+        if segment == 3 and name == "0A":
+            self._put(found, alt_frequencies_a="af")
+            lists = [value for item, value in self._held.items() if item.startswith("af:") and value]
+            keys = {"tuned_frequency": "tuned", "same_programme": "same", "regional_variants": "regional"}
+            if lists:
+                found["alt_frequencies_b"] = {key: lists[-1][of] for key, of in keys.items()}
+
+    def _number(self, found: Object, words: Words) -> None:
+        self._put_number(found, "pin", words[3])
+
+    def _put_number(self, found: Object, item: str, number: int) -> None:
+        """A programme item number, and its start if it has one that counts."""
+        start = item_number(number)
+        counts = start is not None and start == self._held.get(item)
+        if number and (counts or start is None and self._is_valid):
+            found["prog_item_number"] = number
+        if start and counts:
+            found["prog_item_started"] = {"day": int(start[:2]), "time": start[3:]}
+
+    def _labels(self, found: Object, words: Words) -> None:
+        self._number(found, words)
+        found["has_linkage"] = bool(words[2] & 0x8000)
+        variant = words[2] >> 12 & 7
+        if variant == 0:
+            self._put(found, country="country")
+        elif variant == 1 and "tmc_id" in self._held:
+            found["tmc_id"] = int(self._held["tmc_id"], 16)
+        elif variant == 3 and "language" in self._held:
+            found["language"] = language(int(self._held["language"], 16)) or self._held["language"]
+
+    def _text(self, found: Object, words: Words) -> None:
+        self._put(found, rt_ab="rt_ab")
+        if words[1] & 0xF == 0 or "rt" in self._fresh:
+            self._put(found, radiotext="rt")
+
+    def _open_data(self, found: Object, words: Words) -> None:
+        held = self._held.get(f"oda:{words[3]:04X}")
+        if held:
+            name = held["name"] or f"(Unknown 0x{words[3]:04X})"
+            found["open_data_app"] = {"oda_group": held["group"], "app_name": name, "message": words[2]}
+        service = self._held.get("tmc_service")
+        if words[3] in TMC and service:
+            keys = {
+                "location_table": "location_table",
+                "is_on_alt_freqs": "alternative_frequencies",
+                "scope": "scope",
+            }
+            info = {key: service[of] for key, of in keys.items()}
+            found["tmc"] = {"system_info": {"is_encrypted": service["location_table"] == 0, **info}}
+
+    def _clock(self, found: Object, words: Words) -> None:
+        own = clock_time((words[1] & 3) << 32 | words[2] << 16 | words[3])
+        time = self._held.get("ct")
+        if time and own and time == own.isoformat(timespec="minutes"):
+            # To the second, with its offset: 2026-03-29T03:30:00+02:00, or Z for none.
+            found["clock_time"] = f"{time[:16]}:00{'Z' if time[16:] == '+00:00' else time[16:]}"
+
+    def _channel(self, found: Object, words: Words) -> None:
+        address = words[1] & 0x1F
+        if f"tdc:{address}" in self._held:
+            raw = b"".join(word.to_bytes(2, "big") for word in _own(words))
+            found["transparent_data"] = {"address": address, "raw": raw.hex(" ").upper()}
+
+    def _in_house(self, found: Object, words: Words) -> None:
+        found["in_house_data"] = [words[1] & 0x1F, *_own(words)]
+
+    def _traffic(self, found: Object, words: Words) -> None:
+        traffic: Object = {}
+        if self._held.get("tmc_provider"):
+            traffic["service_provider"] = self._held["tmc_provider"]
+        held = self._held.get("tmc_message")
+        if held and (held["event"], held["location"]) == (words[2] & 0x7FF, words[3]):
+            extent = f"{'-' if held['direction'] == 'negative' else '+'}{held['extent']}"
+            message = {"event_codes": [held["event"]], "location": held["location"], "extent": extent}
+            if "diversion" in held:
+                message["diversion_advised"] = held["diversion"]
+            traffic["message"] = message
+        if traffic:
+            found["tmc"] = traffic
+
+    def _network(self, found: Object, words: Words) -> None:
+        of = f"eon:{words[3]:04X}."
+        other = found["other_network"] = {"pi": f"0x{words[3]:04X}"}
+        self._put(other, tp=of + "tp")
+        variant = words[1] & 0xF
+        if words[1] & 0x800:
+            self._put(other, ta=of + "ta")
+        elif variant == 3:
+            self._put(other, ps=of + "ps")
+        elif variant == 4 and isinstance(self._held.get(of + "af"), list):
+            self._put(other, alt_frequencies=of + "af")
+        elif 5 <= variant <= 9:
+            mapped = kilohertz(words[2] & 0xFF, low=variant == 9)
+            if mapped:
+                other["kilohertz"] = mapped
+        elif variant == 12:
+            other["has_linkage"] = bool(words[2] & 0x8000)
+            if words[2] & 0x8000 and words[2] & 0xFFF:
+                other["linkage_set"] = words[2] & 0xFFF
+        elif variant == 14:
+            self._put_number(other, of + "pin", words[2])
+        elif variant == 13:
+            self._put(other, ta=of + "ta")
+            if of + "pty" in self._held:
+                other["prog_type"] = self._type(self._held[of + "pty"])
+
+    def _applications(self, found: Object) -> None:
+        """What was told by this group of applications whose groups have no fixed type."""
+        told = [item for item in self._fresh if self._held.get(item)]
+        if any(item.startswith("rt_plus") for item in self._fresh):
+            found["radiotext_plus"] = {
+                "item_running": self._held.get("rt_plus_running"),
+                "item_toggle": self._held.get("rt_plus_toggle"),
+                "tags": [
+                    {"content-type": item.split(":")[1].replace(".", "_"), "data": self._held[item]}
+                    for item in told
+                    if item.startswith("rt_plus:")
+                ],
+            }
+        if "ert" in self._fresh:
+            self._put(found, enhanced_radiotext="ert")
+        for item in told:
+            if item.startswith("dab:"):
+                held = self._held[item]
+                found["dab"] = {"kilohertz": round(float(item[4:]) * 1000), "mode": held["mode"]}
+                found["dab"].update(channel=held["channel"], ensemble_id=f"0x{held['ensemble']}")
+
+
+def _own(words: Words) -> Tuple[int, ...]:
+    """The words of a group's own: blocks 3 and 4, or in version B block 4."""
+    return words[3:] if words[1] & 0x800 else words[2:]

@@ -1,0 +1,130 @@
+"""Names and texts: PS, RadioText with RadioText Plus, programme type name, long PS, enhanced RadioText."""
+from __future__ import annotations
+
+from typing import Dict, List, NamedTuple, Optional
+
+from .charset import decode
+from .columns import fields_of
+from .events import Taker, Teller
+from .looks import Kind
+from .names import CONTENT_TYPES
+
+
+def name_of(codes: bytes) -> str:
+    """A name or text by the character set of RDS, without the blanks or zeros that fill it up."""
+    return decode(codes).rstrip(" \0")
+
+
+class Name(Taker):
+    """A name in groups of its own: PS in 0A and 0B, PTYN in 10A, the provider of a TMC service in 8A."""
+
+    items = {Kind.PS: "ps", Kind.PTYN: "ptyn", Kind.TMC_NAME: "tmc_provider"}
+    kinds = tuple(items)
+
+    def hear(self, kind: int, message: int, codes: Optional[bytes]) -> None:
+        self._teller.tell_text(self.items[Kind(kind)], name_of(codes) if codes is not None else None)
+
+
+class LongName(Taker):
+    """Group 15A: the long PS, in UTF-8."""
+
+    kinds = (Kind.LPS,)
+
+    def hear(self, kind: int, message: int, codes: Optional[bytes]) -> None:
+        text = None if codes is None else codes.decode("utf-8", "replace").rstrip(" \0")
+        self._teller.tell_text("lps", text)
+
+
+class Tag(NamedTuple):
+    """A tag of RadioText Plus: the item that it tells, and the characters of the text from start to before end."""
+
+    item: str
+    start: int
+    end: int
+
+
+class TaggedText(Taker):
+    """A text, and the tags of RadioText Plus that are parts of it."""
+
+    text, prefix = "", ""
+
+    def __init__(self, teller: Teller) -> None:
+        super().__init__(teller)
+        self._characters: Optional[List[str]] = None
+        self._pending: Dict[str, Tag] = {}
+
+    def hear(self, kind: int, message: int, codes: Optional[bytes]) -> None:
+        self._characters = self._split(message, codes) if codes is not None else None
+        if self._characters is None:
+            self._pending.clear()
+            self._teller.tell_text(self.text, None)
+            return
+        self._teller.tell_text(self.text, "".join(self._characters).rstrip(" \0"))
+        self._tell_tags()
+
+    def _split(self, message: int, codes: bytes) -> List[str]:
+        """The text of each character that a tag counts."""
+        raise NotImplementedError
+
+    def _take_tags(self, value: int) -> None:
+        """Tags are of the text that holds, or of the one that becomes whole next."""
+        toggle, running = fields_of("rtplus", value, "toggle running")
+        self._tell(f"{self.prefix}_toggle", toggle)
+        self._tell(f"{self.prefix}_running", bool(running))
+        for tag in self._tags(value):
+            self._pending[tag.item] = tag
+        if self._characters is not None:
+            self._tell_tags()
+
+    def _tags(self, value: int) -> List[Tag]:
+        """The tags of a group. The second of two of one content type has the item's name and :2."""
+        found: List[Tag] = []
+        for number in "12":
+            content, start, more = fields_of("rtplus", value, f"class{number} start{number} more{number}")
+            if content:
+                item = f"{self.prefix}:{CONTENT_TYPES[content]}"
+                is_second = any(tag.item == item for tag in found)
+                found.append(Tag(item + ":2" * is_second, start, start + more + 1))
+        if len({tag.item for tag in found}) == 1 and f"{found[0].item}:2" in self._teller.held:
+            self._teller.drop([f"{found[0].item}:2"])
+        return found
+
+    def _tell_tags(self) -> None:
+        """Tells the pending tags that are inside the text."""
+        characters = self._characters or []
+        for item, start, end in self._pending.values():
+            text = "".join(characters[start:end]).strip(" \0")
+            if end <= len(characters) and text:
+                self._tell(item, text)
+        self._pending.clear()
+
+
+class RadioText(TaggedText):
+    """Groups 2A and 2B, and those of RadioText Plus."""
+
+    kinds = (Kind.RT_FLAG, Kind.RT, Kind.TAGS)
+    text, prefix = "rt", "rt_plus"
+
+    def take(self, kind: int, message: int, position: int, value: int) -> None:
+        if kind == Kind.TAGS:
+            self._take_tags(value)
+        else:
+            self._tell("rt_ab", "AB"[value & 1])
+            self._characters = None
+            self._pending.clear()
+
+    def _split(self, message: int, codes: bytes) -> List[str]:
+        return [decode(bytes([code])) for code in codes]
+
+
+class EnhancedText(TaggedText):
+    """Enhanced RadioText, in UTF-8 or by its coding in UCS-2, and the groups of RadioText Plus for it."""
+
+    kinds = (Kind.ERT, Kind.ERT_TAGS)
+    text, prefix = "ert", "ert_plus"
+
+    def take(self, kind: int, message: int, position: int, value: int) -> None:
+        self._take_tags(value)
+
+    def _split(self, message: int, codes: bytes) -> List[str]:
+        return list(codes.decode("utf-8" if message else "utf-16-be", "replace"))

@@ -1,0 +1,136 @@
+"""Block errors by interval: the command `errors`. What was sent is counted by the clock, whether or not there are groups."""
+
+from __future__ import annotations
+
+import argparse
+from typing import Iterator, List, NamedTuple
+
+import numpy
+
+from ..rows.clock import clock_of_options, clock_options, number_of
+from ..rows.extent import Extent, write_table
+from ..rows.inputs import describe, input_options, open_input
+from ..rows.items import BLOCK_BITS, MISSING, Rows
+from ..rows.listing import groups_in, kinds_of, places_of
+
+
+class Interval(NamedTuple):
+    """Blocks of an interval: those sent by the clock, and of these those valid, corrected, uncorrectable and not
+    read."""
+
+    begin: float
+    end: float
+    sent: int
+    valid: int
+    corrected: int
+    lost: int
+    missing: int
+
+    @property
+    def bad_percent(self) -> float:
+        return 100 * (self.sent - self.valid) / self.sent if self.sent else 0.0
+
+
+class Errors:
+    """Blocks by intervals of `bits` bits, from the interval of number `first` on. A block belongs to the interval of its first
+    bit."""
+
+    def __init__(self, bits: float, first: int = 0):
+        self.bits, self._first = bits, first
+        # Of each interval: where its last block ends, and its blocks by their outcome.
+        self._table: Rows = numpy.zeros((0, 4), "i8")
+
+    def _grow(self, count: int) -> None:
+        """Makes room for this number of intervals."""
+        if count > len(self._table):
+            more = max(count, 2 * len(self._table)) - len(self._table)
+            self._table = numpy.concatenate([self._table, numpy.zeros((more, 4), "i8")])
+
+    def add(self, rows: Rows) -> None:
+        groups = groups_in(rows)
+        kinds = kinds_of(groups)
+        read = kinds != MISSING
+        places = places_of(groups)[read]
+        if not len(places):
+            return
+        slots = numpy.maximum((places / self.bits).astype("i8") - self._first, 0)
+        first, after = int(slots.min()), int(slots.max()) + 1
+        self._grow(after)
+        counts = numpy.bincount(4 * (slots - first) + kinds[read], minlength=4 * (after - first))
+        self._table[first:after] += counts.reshape(-1, 4)
+        # Places go up, so the last block of an interval is before the first one of the next.
+        last = numpy.append(numpy.flatnonzero(slots[1:] != slots[:-1]), len(slots) - 1)
+        self._table[slots[last], 0] = numpy.maximum(self._table[slots[last], 0], places[last] + BLOCK_BITS)
+
+    def row(self, number: int) -> List[int]:
+        """Of an interval: where its last block ends, and how many are uncorrectable, valid, and corrected."""
+        self._grow(number - self._first + 1)
+        row: List[int] = self._table[number - self._first].tolist()
+        return row
+
+    def intervals(self, begin: int, end: int) -> Iterator[Interval]:
+        """The intervals of an extent."""
+        counter = IntervalCounter(self, begin)
+        while counter.at * self.bits < end:
+            yield counter.upto(end)
+
+
+class IntervalCounter:
+    """The intervals from a position on, one after the other.
+
+    Bits up to an interval's end that are of no block that was read were sent as well: the whole blocks among them, less those
+    of the intervals before, are missing in this one. So the parts add up to what was sent, and all that was sent to the bits.
+    """
+
+    def __init__(self, errors: Errors, begin: int):
+        self._errors, self._begin, self.at = errors, begin, int(begin / errors.bits)
+        self._known = self._read = self._through = 0
+
+    def upto(self, end: float) -> Interval:
+        """The next interval, or its part before this position."""
+        begin, after = self.at * self._errors.bits, min((self.at + 1) * self._errors.bits, end)
+        ends, lost, valid, corrected = self._errors.row(self.at)
+        read = lost + valid + corrected
+        self._read += read
+        self._through = max(self._through, ends)
+        gone = after - self._begin - BLOCK_BITS * self._read + max(0, self._through - after)
+        missing = max(0, int(gone / BLOCK_BITS) - self._known)
+        self._known += missing
+        self.at += 1
+        return Interval(max(self._begin, begin), after, read + missing, valid, corrected, lost, missing)
+
+
+def interval_of(text: str) -> float:
+    seconds = number_of(text)
+    if seconds < 1:
+        raise argparse.ArgumentTypeError("an interval has a second or more")
+    return seconds
+
+
+def options_errors(parser: argparse.ArgumentParser) -> None:
+    describe(
+        parser,
+        "Block errors over time, as CSV: per interval the blocks sent by the clock, those valid, "
+        "corrected, uncorrectable (lost) and not read for want of sync (missing), and how many per cent"
+        " of those sent are not valid.",
+        "rds-monitor errors --every 60 --start 2026-03-29T00:30:00Z monday.bin > errors.csv",
+    )
+    input_options(parser)
+    parser.add_argument(
+        "--every", type=interval_of, default=60.0, metavar="SECONDS", help="the length of an interval (60)"
+    )
+    clock_options(parser)
+
+
+def run_errors(arguments: argparse.Namespace) -> int:
+    clock = clock_of_options(arguments)
+    errors, extent = Errors(arguments.every * clock.rate), Extent(open_input(arguments))
+    for rows in extent.chunks():
+        errors.add(rows)
+    names = "begin_s end_s sent valid corrected lost missing bad_percent".split()
+    found = ((one, one[:2]) for one in errors.intervals(extent.begin, extent.end))
+    lines = (
+        [*clock.texts(*ends, digits=0), *one[2:], f"{one.bad_percent:.2f}", *clock.utc(*ends)]
+        for one, ends in found
+    )
+    return write_table([*names, *clock.names("begin", "end")], lines)

@@ -1,0 +1,1 @@
+"""The page of `rds-monitor report`."""

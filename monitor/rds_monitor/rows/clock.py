@@ -1,0 +1,113 @@
+"""When a bit was received: bit positions as seconds and as UTC, by the start and the rate of a recording, or by the
+clock time (CT) that its station sends."""
+
+from __future__ import annotations
+
+import argparse
+import datetime
+import re
+from typing import Any, List, NamedTuple, Optional
+
+import numpy
+
+from .items import Rows, Source
+
+RATE = 1187.5
+EPOCH_MJD = 40587
+DAY = 86400
+# The longest recording takes two years, and Python has times up to the year 9999.
+LAST_YEAR = 9990
+
+
+class Clock(NamedTuple):
+    """The UTC of a recording's first bit, in seconds since 1970, if known, and the bits per second of the sampler's
+    clock."""
+
+    start: Optional[float] = None
+    rate: float = RATE
+
+    def seconds(self, place: float) -> float:
+        """From the start of the recording."""
+        return place / self.rate
+
+    def texts(self, *places: float, digits: int = 3) -> List[str]:
+        """The same as text."""
+        return [f"{place / self.rate:.{digits}f}" for place in places]
+
+    def names(self, *prefixes: str) -> List[str]:
+        """The names of UTC columns: none if the start is not known."""
+        return [f"{prefix}_utc" for prefix in prefixes] if self.start is not None else []
+
+    def utc(self, *places: float) -> List[str]:
+        """UTC columns."""
+        return (
+            [utc_text(self.start + place / self.rate) for place in places] if self.start is not None else []
+        )
+
+
+def utc_text(seconds: float) -> str:
+    """A time since 1970 to the millisecond, such as 2026-03-29T00:30:00.000Z."""
+    time = datetime.datetime(1970, 1, 1) + datetime.timedelta(milliseconds=int(seconds * 1000 + 0.5))
+    return time.isoformat(timespec="milliseconds") + "Z"
+
+
+def utc_texts(seconds: Rows) -> List[str]:
+    """The same of many times."""
+    stamps = (seconds * 1000 + 0.5).astype("i8").astype("M8[ms]")
+    return [f"{stamp}Z" for stamp in numpy.datetime_as_string(stamps).tolist()]
+
+
+def start_of(text: str) -> float:
+    """The value of --start."""
+    match = re.fullmatch(r"\d{4}-\d\d-\d\dT\d\d:\d\d:\d\d(\.\d{1,6})?Z", text)
+    try:
+        whole = datetime.datetime.strptime(text[:19], "%Y-%m-%dT%H:%M:%S") if match else None
+    except ValueError:
+        whole = None
+    if match is None or whole is None or not 1970 <= whole.year <= LAST_YEAR:
+        raise argparse.ArgumentTypeError(f"{text!r} is no time in UTC, such as 2026-03-29T00:30:00Z")
+    return (whole - datetime.datetime(1970, 1, 1)).total_seconds() + float(match[1] or 0)
+
+
+def rate_of(text: str) -> float:
+    """The value of --rate: a clock that is off by a tenth is none of a sampler."""
+    rate = float(text) if re.fullmatch(r"\d+(\.\d+)?", text) else 0.0
+    if not 1068 < rate < 1307:
+        raise argparse.ArgumentTypeError(f"{text!r} is not in bits per second, 1187.5 within a tenth")
+    return rate
+
+
+def number_of(text: str) -> float:
+    """The value of an option that is a number, not below 0."""
+    if not re.fullmatch(r"\d{1,12}(\.\d{1,9})?", text):
+        raise argparse.ArgumentTypeError(f"{text!r} is no number")
+    return float(text)
+
+
+def clock_options(parser: argparse.ArgumentParser) -> None:
+    group = parser.add_argument_group("for times")
+    group.add_argument(
+        "--start", type=start_of, metavar="TIME", help="UTC of the first bit, such as 2026-03-29T00:30:00Z"
+    )
+    group.add_argument(
+        "--rate",
+        type=rate_of,
+        default=RATE,
+        metavar="BITS",
+        help="bits per second of the sampler's clock (%(default)s); the command clock finds both",
+    )
+
+
+def clock_of_options(arguments: argparse.Namespace) -> Clock:
+    return Clock(arguments.start, arguments.rate)
+
+
+def clock_of(arguments: argparse.Namespace, source: Source) -> Clock:
+    """The clock of the options, or by default the start that the input itself says."""
+    clock = clock_of_options(arguments)
+    return clock if clock.start is not None else clock._replace(start=getattr(source, "start", None))
+
+
+def milliseconds(places: Any, rate: float) -> List[str]:
+    """Positions as seconds to the millisecond, as text."""
+    return [f"{seconds:.3f}" for seconds in (numpy.asarray(places, "f8") / rate).tolist()]

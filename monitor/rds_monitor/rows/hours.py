@@ -1,0 +1,63 @@
+"""Names of the files of a watch: an hour of a session, in the form of a listing. They give the times of the rows."""
+
+from __future__ import annotations
+
+import argparse
+import datetime
+import os
+import re
+from typing import List, NamedTuple, Optional
+
+from .clock import RATE, Clock
+
+NAME = re.compile(r"(\d{4}-\d\d-\d\dT\d\d)Z_(\d{8}T\d{6}\.\d{3})Z(?:_(\d{4}\.\d{4}))?\.csv")
+HOUR = 3600
+EPOCH = datetime.datetime(1970, 1, 1)
+
+
+class Hour(NamedTuple):
+    """An hour's file: the UTC at which its hour begins, and the start and the rate by which its positions are times."""
+
+    begin: float
+    start: float
+    rate: float = RATE
+
+    @property
+    def name(self) -> str:
+        hour = EPOCH + datetime.timedelta(seconds=self.begin)
+        start = EPOCH + datetime.timedelta(milliseconds=round(self.start * 1000))
+        of_rate = "" if self.rate == RATE else f"_{self.rate:.4f}"
+        return f"{hour:%Y-%m-%dT%HZ}_{start:%Y%m%dT%H%M%S}.{start.microsecond // 1000:03d}Z{of_rate}.csv"
+
+
+def hour_of(path: str) -> Optional[Hour]:
+    """The hour that the name of a file says, if it is that of one."""
+    match = NAME.fullmatch(os.path.basename(path))
+    if not match:
+        return None
+    try:
+        hour = datetime.datetime.strptime(match[1], "%Y-%m-%dT%H")
+        start = datetime.datetime.strptime(match[2] + "000", "%Y%m%dT%H%M%S.%f")
+    except ValueError:
+        return None
+    return Hour((hour - EPOCH).total_seconds(), (start - EPOCH).total_seconds(), float(match[3] or RATE))
+
+
+def take_hour(arguments: argparse.Namespace) -> None:
+    """The options that the name of an input implies: an hour's file is a part of a listing, with a start and a rate."""
+    given = getattr(arguments, "input", None)
+    paths: List[str] = given if isinstance(given, list) else [given] if isinstance(given, str) else []
+    hours = [hour_of(path) for path in paths]
+    if not hours or None in hours:
+        return
+    arguments.unfinished = True
+    if len(hours) == 1 and getattr(arguments, "start", 0) is None:
+        arguments.start, arguments.rate = clock_of_hour(arguments, paths[0])
+
+
+def clock_of_hour(arguments: argparse.Namespace, path: str) -> Clock:
+    """The clock of an input: by its name, if that is of an hour, unless the options say it."""
+    hour = hour_of(path)
+    if hour is None or arguments.start is not None:
+        return Clock(arguments.start, arguments.rate)
+    return Clock(hour.start, hour.rate if arguments.rate == RATE else arguments.rate)

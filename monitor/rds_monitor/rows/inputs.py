@@ -1,0 +1,104 @@
+"""The options of every command that reads an input, and the source that they name."""
+
+from __future__ import annotations
+
+import argparse
+import os
+import re
+from typing import Optional, Sequence, Tuple
+
+from .items import LONGEST, Fault, Misuse, Reading, Rules, Source
+from .opening import open_source
+
+
+def gaps_of(text: str) -> Sequence[Tuple[int, int]]:
+    """The gaps of --gaps: pairs FROM-TO, in order, with a comma between each two."""
+    found = []
+    for pair in text.split(",") if text else []:
+        match = re.fullmatch(r"(\d{1,12})-(\d{1,12})", pair)
+        if not match:
+            raise argparse.ArgumentTypeError(f"{pair!r} is no pair FROM-TO")
+        found.append((int(match[1]), int(match[2])))
+    return found
+
+
+def bits_of(text: str) -> int:
+    if not re.fullmatch(r"[0-9]+", text) or int(text) > LONGEST:
+        raise argparse.ArgumentTypeError(f"{text!r} is no number of bits up to 2^36")
+    return int(text)
+
+
+def describe(parser: argparse.ArgumentParser, description: str, *examples: str) -> None:
+    parser.description, parser.epilog = description, "\n  ".join(["example:", *examples])
+
+
+def input_options(parser: argparse.ArgumentParser, several: bool = False) -> None:
+    """INPUT, or with `several` any number of them, and the options of a recording and of a listing."""
+    parser.add_argument(
+        "input",
+        nargs="*" if several else "?",
+        default=["-"] if several else "-",
+        metavar="INPUT",
+        help="a recording or a listing (default: - for standard input)",
+    )
+    recording = recording_options(parser)
+    recording.add_argument("--hex", action="store_true", help="it is hexadecimal text")
+    recording.add_argument("--bits", type=bits_of, metavar="N", help="it has N bits (default: all)")
+    recording.add_argument(
+        "--gaps", type=gaps_of, default=(), metavar="FROM-TO,..", help="bits at these positions mean nothing"
+    )
+    listing = parser.add_argument_group("for a listing")
+    listing.add_argument("--length", metavar="FILE|BITS", help="its recording, or how many bits that has")
+    trust, part = "believe a --length far past the last row", "without totals, such as an hour of a stream"
+    listing.add_argument("--trust-length", action="store_true", help=trust)
+    listing.add_argument(
+        "--unfinished", action="store_true", help=f"accept a part: {part}, or with rows missing"
+    )
+
+
+# The options of a decoder's rules, with their defaults.
+RULES = {
+    "--burst": (2, "correct bursts of up to N bits, 0 to 5 (2)"),
+    "--reach": (3, "sync needs two valid blocks at most N blocks apart, 1 to 8 (3)"),
+    "--loss": (None, "drop sync after N consecutive bad blocks, 1 to 64 (10)"),
+    "--share": (None, "in place of --loss: after N bad blocks of the last --of"),
+    "--of": (None, "1 to 64 (64)"),
+}
+
+
+def recording_options(parser: argparse.ArgumentParser) -> argparse._ArgumentGroup:
+    recording = parser.add_argument_group("for a recording")
+    for name, (default, text) in RULES.items():
+        recording.add_argument(name, type=int, default=default, metavar="N", help=text)
+    return recording
+
+
+def rules_of(arguments: argparse.Namespace) -> Rules:
+    burst, reach, loss, share, of = (getattr(arguments, name[2:]) for name in RULES)
+    if loss is not None and share is not None:
+        raise Misuse("--loss and --share contradict each other")
+    if of is not None and share is None:
+        raise Misuse("--of needs --share")
+    if share is not None:
+        return Rules(burst, reach, share, 64 if of is None else of)
+    return Rules(burst, reach, 10 if loss is None else loss)
+
+
+def length_of(text: str) -> int:
+    """The bits of --length: digits are a number, and ./20260329 a file."""
+    if re.fullmatch(r"[0-9]+", text):
+        return int(text)
+    try:
+        return 8 * os.stat(text).st_size
+    except OSError as error:
+        raise Fault(f"--length {text!r}: {error.strerror}") from None
+
+
+def open_input(arguments: argparse.Namespace, path: Optional[str] = None, sessions: bool = False) -> Source:
+    """The source that the options name: of `path`, by default of INPUT."""
+    named = {name: getattr(arguments, name) for name in ("gaps", "bits", "hex", "trust_length")}
+    length = None if arguments.length is None else length_of(arguments.length)
+    how = Reading(
+        rules_of(arguments), unfinished_ok=arguments.unfinished, length=length, sessions=sessions, **named
+    )
+    return open_source(arguments.input if path is None else path, how)

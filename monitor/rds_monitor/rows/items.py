@@ -1,0 +1,141 @@
+"""Decoded rows, and what all sources of them share.
+
+Commands work on numpy arrays of the dtype `ITEM`, a row per acquisition, group or loss, in the order of a listing. A
+`Source` gives them in chunks, so memory does not grow with the length of the input.
+"""
+
+from __future__ import annotations
+
+from typing import Any, Iterator, NamedTuple, Optional, Protocol, Sequence, Tuple
+
+import numpy
+from numpy.typing import NDArray
+
+Rows = NDArray[Any]
+
+ACQUIRED, GROUP, LOSS = 1, 2, 3
+MISSING, LOST, VALID, CORRECTED = 0, 1, 2, 3
+VERSION_A, VERSION_B, VERSION_UNKNOWN = 1, 2, 3
+UNKNOWN_TYPE = 255
+BLOCK_BITS, GROUP_BITS = 26, 104
+LONGEST = 2**36
+
+
+BLOCKS = (1, 2, 3, 4)
+_BLOCK = (("burst", "<u4"), ("info", "<u2"), ("kind", "u1"), ("offset", "u1"))
+# The memory layout of rds_item_t, as librds.ITEM: a listing needs no library.
+ITEM = numpy.dtype(
+    [
+        ("place", "<u8"),
+        *((f"{name}{block}", form) for block in BLOCKS for name, form in _BLOCK),
+        *((name, "u1") for name in ("what", "number", "version", "conflict")),
+    ],
+    align=True,
+)
+
+
+class Fault(Exception):
+    """An error that ends a command with status 1: an input that cannot be read, or is not what it should be."""
+
+
+class Misuse(Fault):
+    """An error in the command line, which ends it with status 2."""
+
+
+class Rules(NamedTuple):
+    """A decoder's rules, as the options --burst, --reach, --loss and --share with --of give them to rds."""
+
+    burst: int = 2
+    reach: int = 3
+    loss: int = 10
+    of: int = 0
+
+
+class Reading(NamedTuple):
+    """How an input is read: the rules, gaps and bits of a recording, and whether it is hexadecimal text. A listing may be a part
+    of one, without its first rows, its last ones or its totals (`unfinished_ok`), or several, one after the other
+    (`sessions`). `length` is how many bits its recording has, and may be far past its last row (`trust_length`).
+    """
+
+    rules: Rules = Rules()
+    gaps: Sequence[Tuple[int, int]] = ()
+    bits: Optional[int] = None
+    hex: bool = False
+    unfinished_ok: bool = False
+    length: Optional[int] = None
+    trust_length: bool = False
+    sessions: bool = False
+
+
+class Totals(NamedTuple):
+    """The twelve totals that end a listing."""
+
+    valid: int
+    bursts: Tuple[int, ...]
+    lost: int
+    bits: int
+    groups: int
+    complete: int
+    acquired: int
+    losses: int
+
+
+def totals_of(rows: Rows) -> Totals:
+    """The totals of rows."""
+    kinds = numpy.stack([rows[f"kind{block}"] for block in BLOCKS])
+    masks = [rows[f"burst{block}"][kinds[block - 1] == CORRECTED] for block in BLOCKS]
+    outcomes = numpy.bincount(kinds.reshape(-1), minlength=4)
+    bursts = numpy.concatenate(masks)
+    lengths = numpy.bincount(burst_lengths(bursts), minlength=6)
+    what = numpy.bincount(rows["what"], minlength=4)
+    # Of the outcomes only valid and corrected have the bit of 2.
+    complete = (kinds[0] & kinds[1] & kinds[2] & kinds[3] & VALID) > 0
+    return Totals(
+        int(outcomes[VALID]),
+        tuple(lengths[1:6].tolist()),
+        int(outcomes[LOST]),
+        int(numpy.unpackbits(bursts.view("u1")).sum()),
+        int(what[GROUP]),
+        int(complete.sum()),
+        int(what[ACQUIRED]),
+        int(what[LOSS]),
+    )
+
+
+def burst_lengths(masks: Rows) -> Rows:
+    """From the first to the last bit of each error mask."""
+    wide = masks.astype("i8")
+    # The exponents of the highest and the lowest bit, as floating-point numbers have them.
+    high, low = (value.astype("f8").view("i8") >> 52 for value in (wide, wide & -wide))
+    lengths: Rows = high - low + (wide > 0)
+    return lengths
+
+
+def add_totals(one: Totals, other: Totals) -> Totals:
+    pairs = zip(one[2:], other[2:])
+    return Totals(
+        one.valid + other.valid,
+        tuple(map(sum, zip(one.bursts, other.bursts))),
+        *(int(a) + int(b) for a, b in pairs),
+    )
+
+
+class Source(Protocol):
+    """An input: its rows in chunks of at most some 65,536.
+
+    `length` is how many bits the recording has, if that is known; of a recording it is, after the last chunk. `totals`
+    are known after the last chunk, but for a listing that has none: it is unfinished, or a part of one.
+    """
+
+    length: Optional[int]
+    totals: Optional[Totals]
+
+    def chunks(self) -> Iterator[Rows]:
+        ...
+
+
+class Readable(Protocol):
+    """A file or a pipe."""
+
+    def read(self, size: int, /) -> bytes:
+        ...

@@ -1,0 +1,1 @@
+"""From signals and other forms of bits to recordings of packed bits."""

@@ -1,0 +1,229 @@
+"""Packed bits, most significant bit first, from bits and samples in other forms: the command `pack`."""
+
+from __future__ import annotations
+
+import argparse
+import sys
+from typing import BinaryIO, Callable, Dict, Iterator, NamedTuple, Tuple
+
+import numpy
+
+from ..rows.items import Fault, Misuse
+from .samples import FORMS, numbers, wav_layout
+from .symbols import Bits
+
+CHUNK = 1 << 20  # a multiple of every sample's bytes
+
+# What each form is, as help and the command form name it.
+NAMES = {
+    "packed": "packed bits",
+    "bytes": "unpacked bits, bytes 0 and 1",
+    "bytes255": "unpacked bits, bytes 0 and 255",
+    "text": "a text of 0 and 1",
+    "hex": "hexadecimal digits",
+    "s8": "signed bytes, one sample per bit",
+    "s16": "16-bit samples, one per bit",
+    "f32": "soft bits, 32-bit floating point",
+    "wav": "a WAV file of one sample per bit",
+}
+BLANKS = b" \t\r\n\v\f"
+
+
+class Conversion(NamedTuple):
+    """What else is to be done to the bits: the last one of each byte first, inverted, differentially decoded."""
+
+    lsb_first: bool = False
+    inverted: bool = False
+    differential: bool = False
+
+
+def _chunks(stream: BinaryIO) -> Iterator[bytes]:
+    """All of the input in chunks of full length but for the last one."""
+    while True:
+        data = stream.read(CHUNK)
+        if not data:
+            return
+        while len(data) < CHUNK:
+            more = stream.read(CHUNK - len(data))
+            if not more:
+                break
+            data += more
+        yield data
+
+
+# ---- bits of each form
+
+
+def _packed(stream: BinaryIO) -> Iterator[Bits]:
+    for data in _chunks(stream):
+        yield numpy.unpackbits(numpy.frombuffer(data, "u1"))
+
+
+def _hex(stream: BinaryIO) -> Iterator[Bits]:
+    rest, read = b"", 0
+    for data in _chunks(stream):
+        strange = data.translate(None, b"0123456789abcdefABCDEF" + BLANKS)
+        if strange:
+            place = data.index(strange[:1])
+            raise Fault(
+                f"byte {read + place + 1} is 0x{data[place]:02X}, neither a hexadecimal digit nor blank"
+            )
+        read += len(data)
+        rest += data.translate(None, BLANKS)
+        even = len(rest) // 2 * 2
+        yield numpy.unpackbits(numpy.frombuffer(bytes.fromhex(rest[:even].decode("ascii")), "u1"))
+        rest = rest[even:]
+    if rest:
+        raise Fault("there is an odd number of hexadecimal digits")
+
+
+def _bytes(stream: BinaryIO, one: int) -> Iterator[Bits]:
+    read = 0
+    for data in _chunks(stream):
+        values = numpy.frombuffer(data, "u1")
+        strange = numpy.flatnonzero((values != 0) & (values != one))
+        if strange.size:
+            place = int(strange[0])
+            raise Fault(f"byte {read + place + 1} is 0x{values[place]:02X}, neither 0x00 nor 0x{one:02X}")
+        read += len(data)
+        yield (values != 0).astype("u1")
+
+
+def _text(stream: BinaryIO) -> Iterator[Bits]:
+    read = 0
+    for data in _chunks(stream):
+        strange = data.translate(None, b"01" + BLANKS)
+        if strange:
+            raise Fault(f"character {read + data.index(strange[:1]) + 1} is neither 0 nor 1")
+        read += len(data)
+        yield numpy.frombuffer(data.translate(None, BLANKS), "u1") - numpy.uint8(48)
+
+
+def _samples(chunks: Iterator[bytes], form: str) -> Iterator[Bits]:
+    """A sample above zero is a 1."""
+    above = below = 0
+    for data in chunks:
+        if len(data) % FORMS[form][0]:
+            raise Fault("the last sample is cut off")
+        values = numbers(data, form)
+        if not numpy.isfinite(values).all():
+            raise Fault("a sample is no number")
+        bits = (values > 0).astype("u1")
+        above, below = above + int(bits.sum()), below + int((values < 0).sum())
+        yield bits
+    if (above or below) and not (above and below):
+        raise Fault(f"no sample is {'below' if above else 'above'} zero")
+
+
+def _wav(stream: BinaryIO) -> Iterator[Bits]:
+    layout = wav_layout(stream)
+    if layout.channels != 1:
+        raise Fault(f"the WAV file has {layout.channels} channels")
+    yield from _samples(_up_to(stream, layout.length), layout.form)
+
+
+def _up_to(stream: BinaryIO, length: "int | None") -> Iterator[bytes]:
+    """The samples of a WAV file; 24-bit samples need chunks that they divide."""
+    left = sys.maxsize if length is None else length
+    while left:
+        data = stream.read(min(left, 3 * CHUNK))
+        if not data:
+            return
+        left -= len(data)
+        yield data
+
+
+READERS: Dict[str, Callable[[BinaryIO], Iterator[Bits]]] = {
+    "packed": _packed,
+    "hex": _hex,
+    "text": _text,
+    "wav": _wav,
+    "bytes": lambda stream: _bytes(stream, 1),
+    "bytes255": lambda stream: _bytes(stream, 255),
+    "s8": lambda stream: _samples(_chunks(stream), "s8"),
+    "s16": lambda stream: _samples(_chunks(stream), "s16"),
+    "f32": lambda stream: _samples(_chunks(stream), "f32"),
+}
+
+
+def bits_of(stream: BinaryIO, form: str, change: Conversion = Conversion()) -> Iterator[Bits]:
+    """The bits of a form, a part at a time."""
+    last = numpy.zeros(1, "u1")
+    for bits in READERS[form](stream):
+        if change.lsb_first:
+            bits = bits.reshape(-1, 8)[:, ::-1].ravel()
+        if change.inverted:
+            bits = bits ^ numpy.uint8(1)
+        if change.differential and bits.size:
+            both = numpy.concatenate([last, bits])
+            last, bits = both[-1:], both[1:] ^ both[:-1]
+        yield bits
+
+
+def packed_of(parts: Iterator[Bits]) -> Iterator[Tuple[bytes, int]]:
+    """Packed bytes, and how many bits they hold; the last byte is filled with zeros."""
+    rest = numpy.zeros(0, "u1")
+    for bits in parts:
+        rest = numpy.concatenate([rest, bits])
+        whole = rest.size // 8 * 8
+        yield numpy.packbits(rest[:whole]).tobytes(), whole
+        rest = rest[whole:]
+    yield numpy.packbits(rest).tobytes(), rest.size
+
+
+# ---- the command
+
+DESCRIPTION = """\
+Converts bits and samples to packed bits, MSB first, as rds reads them.
+
+If the last byte is not full, zeros fill it, and standard error has the number of bits: give it to rds by --bits."""
+
+
+def options_pack(parser: argparse.ArgumentParser) -> None:
+    parser.description = DESCRIPTION
+    parser.epilog = (
+        "examples:\n  rds-monitor pack --from bytes bits.dat > recording.bin\n"
+        "  rds-monitor pack --from f32 --invert soft.f32 | rds list"
+    )
+    parser.add_argument(
+        "input", nargs="?", default="-", metavar="INPUT", help="the bits (default: - for standard input)"
+    )
+    parser.add_argument(
+        "--from",
+        dest="form",
+        required=True,
+        choices=sorted(NAMES),
+        metavar="FORM",
+        help="; ".join(f"{name}: {text}" for name, text in NAMES.items()),
+    )
+    parser.add_argument("--lsb-first", action="store_true", help="the bytes are LSB first (packed and hex)")
+    parser.add_argument("--invert", action="store_true", help="invert the bits")
+    parser.add_argument("--differential", action="store_true", help="decode the bits differentially")
+    parser.add_argument(
+        "--output", default="-", metavar="FILE", help="write to FILE (default: standard output)"
+    )
+
+
+def open_binary(path: str, mode: str) -> BinaryIO:
+    if path == "-":
+        return sys.stdin.buffer if mode == "rb" else sys.stdout.buffer
+    stream: BinaryIO = open(path, mode)  # type: ignore[assignment]
+    return stream
+
+
+def run_pack(arguments: argparse.Namespace) -> int:
+    if arguments.lsb_first and arguments.form not in ("packed", "hex"):
+        raise Misuse("--lsb-first is for packed bits and hexadecimal digits")
+    change = Conversion(arguments.lsb_first, arguments.invert, arguments.differential)
+    bits = 0
+    stream = open_binary(arguments.input, "rb")
+    output = open_binary(arguments.output, "wb")
+    for data, count in packed_of(bits_of(stream, arguments.form, change)):
+        output.write(data)
+        bits += count
+    output.flush()
+    if not bits:
+        raise Fault("there is no bit in the input")
+    if bits % 8:
+        print(f"rds-monitor pack: {bits} bits, the last byte is not full: rds --bits {bits}", file=sys.stderr)
+    return 0

@@ -1,0 +1,155 @@
+"""The command `watch`: receivers of a network, day and night."""
+
+from __future__ import annotations
+
+import argparse
+import fcntl
+import os
+import signal
+import time
+from typing import Any, Tuple
+
+from ..rows.clock import number_of
+from ..rows.items import Fault
+from .decoders import NewDecoder, decoder_of
+from .journal import notify, say
+from .loop import Watch
+from .receiver import Process
+from .records import Records
+from .recover import recover
+from .table import Table, read_table
+from .times import Times
+from .writer import Writer, WriterThread
+
+# How often receivers are read, and how often what they gave is decoded and written.
+POLL, TICK = 0.1, 0.5
+# At the end, for the receivers and for the disk.
+LEAVING = 5.0
+
+
+def options_watch(parser: argparse.ArgumentParser) -> None:
+    parser.description = (
+        "Watch stations day and night: run a receiver for each, decode what it gives, and write listings by the hour, a database, "
+        "pages, metrics and alarms. It opens no network socket. SIGHUP reads the table again, SIGTERM ends it."
+    )
+    parser.epilog = (
+        "example:\n  rds-monitor watch --folder /var/lib/rds-monitor stations.toml\n"
+        "monitor/WATCHING.md describes the table, what is written, and the alarms."
+    )
+    parser.add_argument("table", metavar="TABLE", help="the table of stations, TOML")
+    text = "where to write (default: the table's folder, or STATE_DIRECTORY of systemd)"
+    parser.add_argument("--folder", metavar="FOLDER", help=text)
+    text = "decode by processes of this program rds (default: by librds, or by rds if that is missing)"
+    parser.add_argument("--program", metavar="PROGRAM", help=text)
+    parser.add_argument("--check", action="store_true", help="check the table, list its stations, and end")
+    text = "let the clock go N times as fast, for tests and demonstrations"
+    parser.add_argument("--speed", type=number_of, default=1.0, metavar="N", help=text)
+
+
+def run_watch(arguments: argparse.Namespace) -> int:
+    table = read_table(arguments.table)
+    if arguments.check:
+        for station in table.stations:
+            print(f"{station.name}: {station.form}, {' '.join(station.command)}")
+        return 0
+    if arguments.speed < 0.01:
+        raise Fault("--speed is a number above 0")
+    folder = arguments.folder or table.folder or os.environ.get("STATE_DIRECTORY", "").split(":")[0]
+    if not folder:
+        raise Fault("there is no folder to write to: name it by --folder, or 'folder' in the table")
+    decoder = decoder_of(arguments.program or table.program)
+    return Service(arguments.table, table, os.path.abspath(folder), arguments.speed, decoder).run()
+
+
+class Service:
+    """The watch as a process: its signals, its pace, and its words to systemd."""
+
+    def __init__(self, path: str, table: Table, folder: str, speed: float, decoder: Tuple[NewDecoder, str]):
+        self._path, (new_decoder, self._decoded_by) = path, decoder
+        self._ending = self._rereading = False
+        os.makedirs(folder, exist_ok=True)
+        self._lock = self._only_one(folder)
+        self._records = Records(os.path.join(folder, "watch.db"))
+        times = Times(speed)
+        if speed != 1:
+            # By it a simulated receiver knows the time.
+            os.environ["RDS_MONITOR_FAST"] = f"{times.begin!r} {speed!r}"
+        names = [station.name for station in table.stations]
+        for path in recover(folder, names, self._records):
+            say("notice", f"{path}: the last watch was killed; the hour is whole again")
+        self._records.end_runs(times.now().utc)
+        self._writer = Writer(folder, self._records, say)
+        self._thread = WriterThread(self._writer)
+        self._watch = Watch(table, folder, times, Process, new_decoder, self._thread, self._records, say)
+
+    @staticmethod
+    def _only_one(folder: str) -> int:
+        lock = os.open(os.path.join(folder, "watch.lock"), os.O_RDWR | os.O_CREAT | os.O_CLOEXEC, 0o644)
+        try:
+            fcntl.flock(lock, fcntl.LOCK_EX | fcntl.LOCK_NB)
+        except OSError:
+            raise Fault(f"another watch writes to {folder!r}") from None
+        # By it `check` knows since when the watch runs.
+        os.utime(lock)
+        return lock
+
+    def run(self) -> int:
+        for number in (signal.SIGTERM, signal.SIGINT):
+            signal.signal(number, self._end)
+        signal.signal(signal.SIGHUP, self._reread)
+        # A reader of standard error that leaves must not end the watch.
+        signal.signal(signal.SIGPIPE, signal.SIG_IGN)
+        self._thread.start()
+        say("info", f"{len(self._watch.stations)} stations are watched, decoded by {self._decoded_by}")
+        notify("READY=1")
+        try:
+            self._go_on()
+            notify("STOPPING=1")
+            return self._leave()
+        finally:
+            self._watch.kill()
+
+    def _end(self, *_: Any) -> None:
+        self._ending = True
+
+    def _reread(self, *_: Any) -> None:
+        self._rereading = True
+
+    def _go_on(self) -> None:
+        next_tick = time.monotonic()
+        while not self._ending:
+            if self._thread.crash:
+                raise Fault(f"nothing can be written any more: {self._thread.crash}")
+            time.sleep(POLL)
+            self._watch.poll()
+            if self._rereading:
+                self._rereading = False
+                self._read_table()
+            if time.monotonic() >= next_tick:
+                self._watch.tick()
+                notify("WATCHDOG=1")
+                next_tick = max(next_tick + TICK, time.monotonic())
+
+    def _read_table(self) -> None:
+        notify(f"RELOADING=1\nMONOTONIC_USEC={time.monotonic_ns() // 1000}")
+        try:
+            self._watch.reload(read_table(self._path))
+            say("notice", f"the table is read again: {len(self._watch.stations)} stations")
+        except Fault as error:
+            say("error", f"the old table holds: {error}")
+        notify("READY=1")
+
+    def _leave(self) -> int:
+        """Ends the sessions and writes them, for some seconds at most."""
+        self._watch.stop()
+        end = time.monotonic() + LEAVING
+        while not self._watch.has_left and time.monotonic() < end:
+            time.sleep(0.05)
+        self._watch.kill()
+        self._thread.end(LEAVING)
+        self._writer.close()
+        self._records.close()
+        os.close(self._lock)
+        if self._thread.fault:
+            say("error", f"rows were not written: {self._thread.fault}")
+        return 1 if self._thread.fault else 0

@@ -1,0 +1,249 @@
+"""The runner of all that is no proof: what the tests are given, how many there have to be, and which run alone."""
+
+from __future__ import annotations
+
+import json
+import os
+import shutil
+import subprocess
+import sys
+import tempfile
+import time
+from pathlib import Path
+from typing import Any, Callable
+
+import pytest
+
+TOP = Path(__file__).resolve().parents[1]
+COUNTS = TOP / "tests" / "counts.tsv"
+# The tests that a session leaves out, since they run alone after it.
+LEFT_OUT = pytest.StashKey[int]()
+FILES = pytest.StashKey[str]()
+# names the file to which the session of these tests writes its counts
+TOLD = "RDS_COUNTS_OF_ALONE"
+BUILT = [TOP / "crates" / "rds" / "out" / "rds", TOP / "build" / "rds"]
+
+# monitor/tests take the program and the library from here
+os.environ.setdefault("RDS", str(next((path for path in BUILT if path.exists()), BUILT[-1])))
+os.environ.setdefault("RDS_LIBRARY", str(TOP / "build" / "lib" / "librds.so.0"))
+
+
+def pytest_addoption(parser: pytest.Parser) -> None:
+    library = Path(os.environ["RDS_LIBRARY"]).parent
+    bench = TOP / "crates" / "rds_bench" / "out" / "rds_bench"
+    parser.addoption(
+        "--rds", default=os.environ["RDS"], help="the program; for monitor/tests too, name it in RDS"
+    )
+    parser.addoption("--lib", default=str(library), help="the folder that lib/make_library.sh made")
+    parser.addoption("--arm64", default=str(TOP / "build" / "lib-arm64"), help="the same for arm64")
+    parser.addoption("--bench", default=str(bench), help="the program rds_bench")
+    parser.addoption(
+        "--write-counts", action="store_true", help="write tests/counts.tsv anew, as this run is"
+    )
+
+
+# ---- what tests are given
+
+
+def existing(path: str, cure: str) -> str:
+    """The path, if there is such a file; a test that needs it fails otherwise."""
+    if not os.path.exists(path):
+        pytest.fail(f"{path} is not there: {cure}", pytrace=False)
+    return os.path.realpath(path)
+
+
+@pytest.fixture(scope="session")
+def rds(request: pytest.FixtureRequest) -> str:
+    """The path of the program."""
+    return existing(request.config.getoption("--rds"), "`make` builds it, --rds names another")
+
+
+@pytest.fixture(scope="session")
+def librds(request: pytest.FixtureRequest) -> str:
+    """The folder of the library for C: librds.a, librds.so.0 and rds.h."""
+    return os.path.dirname(
+        existing(
+            request.config.getoption("--lib") + "/librds.so.0", "`make lib` builds it, --lib names another"
+        )
+    )
+
+
+@pytest.fixture(scope="session")
+def librds_arm64(request: pytest.FixtureRequest) -> str | None:
+    """The folder of the library for arm64, if it was built."""
+    folder = request.config.getoption("--arm64")
+    return os.path.realpath(folder) if os.path.exists(f"{folder}/librds.a") else None
+
+
+@pytest.fixture(scope="session")
+def rds_bench(request: pytest.FixtureRequest) -> str:
+    """The path of rds_bench."""
+    return existing(
+        request.config.getoption("--bench"), "`rt run` in crates/rds_bench builds it, --bench names another"
+    )
+
+
+@pytest.fixture(scope="session")
+def station() -> bytes:
+    """The sample: 1,923 groups of a station."""
+    return (TOP / "examples" / "station.bin").read_bytes()
+
+
+@pytest.fixture
+def cases(record_property: Callable[[str, int], None]) -> Callable[[int], None]:
+    """Notes how many cases a test compares, if there are several."""
+    return lambda count: record_property("cases", count)
+
+
+# ---- what runs alone, after all other tests
+
+
+@pytest.hookimpl(tryfirst=True)
+def pytest_cmdline_main(config: pytest.Config) -> None:
+    if getattr(config.option, "numprocesses", None):
+        config.option.dist = "loadgroup"
+
+
+def pytest_configure(config: pytest.Config) -> None:
+    """The tests' files are in memory if there is room: some tests wait for each of their writes."""
+    if hasattr(config, "workerinput") or config.option.basetemp:
+        return
+    shared = Path("/dev/shm")
+    has_room = shared.is_dir() and os.access(shared, os.W_OK) and shutil.disk_usage(shared).free > 2 * 10**9
+    config.stash[FILES] = tempfile.mkdtemp(prefix="rds-tests-", dir=shared if has_room else None)
+    config.option.basetemp = f"{config.stash[FILES]}/files"
+
+
+def pytest_unconfigure(config: pytest.Config) -> None:
+    if folder := config.stash.get(FILES, None):
+        shutil.rmtree(folder, ignore_errors=True)
+
+
+@pytest.hookimpl(trylast=True)
+def pytest_collection_modifyitems(config: pytest.Config, items: list[pytest.Item]) -> None:
+    alone = [item for item in items if item.get_closest_marker("alone")]
+    items[:] = [item for item in items if item not in alone]
+    if hasattr(config, "workerinput"):
+        config.stash[LEFT_OUT] = len(alone)
+    else:
+        items += alone
+
+
+@pytest.hookimpl(optionalhook=True)
+def pytest_testnodedown(node: Any) -> None:
+    node.config.stash[LEFT_OUT] = node.workeroutput.get("left_out", 0) if hasattr(node, "workeroutput") else 0
+
+
+def pytest_sessionfinish(session: pytest.Session) -> None:
+    if hasattr(session.config, "workeroutput"):
+        session.config.workeroutput["left_out"] = session.config.stash.get(LEFT_OUT, 0)
+
+
+def run_alone(config: pytest.Config) -> tuple[int, dict[str, list[int]]]:
+    """Runs the tests that the workers left out: the exit status, and their counts."""
+    chosen = [f"{name}={config.getoption(name)}" for name in ("--rds", "--lib", "--arm64", "--bench")]
+    words = [
+        sys.executable,
+        "-m",
+        "pytest",
+        "-q",
+        "-n",
+        "0",
+        "-m",
+        "alone",
+        "-k",
+        config.option.keyword,
+        *chosen,
+    ]
+    with tempfile.NamedTemporaryFile() as told:
+        ran = subprocess.run(
+            words + config.args, cwd=config.invocation_params.dir, env={**os.environ, TOLD: told.name}
+        )
+        return ran.returncode, json.load(told)
+
+
+# ---- how many tests there have to be
+
+
+def counts_of(stats: dict[str, list[Any]]) -> dict[str, list[int]]:
+    """How many cases of each file passed, and how many tests were skipped. A test may note more cases than one."""
+    counts: dict[str, list[int]] = {}
+    for place, outcome in enumerate(("passed", "skipped")):
+        for report in stats.get(outcome, []):
+            cases = dict(report.user_properties).get("cases", 1)
+            counts.setdefault(report.nodeid.partition("::")[0], [0, 0])[place] += cases
+    return counts
+
+
+def added(counts: dict[str, list[int]], others: dict[str, list[int]]) -> dict[str, list[int]]:
+    """The sums of both: a file may have tests that run alone and others."""
+    return {
+        path: [sum(pair) for pair in zip(counts.get(path, [0, 0]), others.get(path, [0, 0]))]
+        for path in {*counts, *others}
+    }
+
+
+def wanted_counts() -> dict[str, list[int]]:
+    """The rows of the table."""
+    rows = [line.split("\t") for line in COUNTS.read_text().splitlines()[1:]]
+    return {path: [int(passed), int(skipped)] for path, passed, skipped in rows}
+
+
+def missing_tests(config: pytest.Config, counts: dict[str, list[int]]) -> list[str]:
+    """A line for each file of which fewer tests passed than the table has."""
+    wanted, faults = wanted_counts(), []
+    is_whole = all(
+        any(TOP / folder == Path(arg).resolve() for arg in config.args)
+        for folder in ("tests", "monitor/tests")
+    )
+    has_all_tools = bool(os.environ.get("RDS_ALL_TOOLS"))
+    for path in sorted({*counts, *wanted} if is_whole else {*counts} & {*wanted}):
+        passed, skipped = counts.get(path, [0, 0])
+        if path not in wanted:
+            faults.append(f"{path} has no row: it has {passed} passed and {skipped} skipped")
+        elif passed < wanted[path][0] and (has_all_tools or passed + skipped < sum(wanted[path])):
+            faults.append(f"{path}: {passed} passed and {skipped} skipped, where there were {wanted[path]}")
+    return faults
+
+
+def write_counts(counts: dict[str, list[int]]) -> None:
+    """Writes the table, in which these counts replace those of their files."""
+    rows = sorted({**wanted_counts(), **counts}.items())
+    text = "".join(
+        f"{path}\t{passed}\t{skipped}\n" for path, (passed, skipped) in rows if (TOP / path).exists()
+    )
+    COUNTS.write_text("file\tpassed\tskipped\n" + text)
+
+
+def is_part(config: pytest.Config) -> bool:
+    """Whether files were run in part."""
+    chosen = (
+        config.option.keyword or config.option.markexpr or config.option.collectonly or config.option.maxfail
+    )
+    return bool(chosen) or any("::" in arg for arg in config.args)
+
+
+def pytest_terminal_summary(terminalreporter: Any, config: pytest.Config) -> None:
+    counts, status = counts_of(terminalreporter.stats), 0
+    if TOLD in os.environ:
+        Path(os.environ[TOLD]).write_text(json.dumps(counts))
+        return
+    if config.stash.get(LEFT_OUT, 0):
+        status, of_alone = run_alone(config)
+        counts = added(counts, of_alone)
+    if config.getoption("--write-counts"):
+        write_counts(counts)
+    faults = [] if is_part(config) else missing_tests(config, counts)
+    for fault in faults:
+        terminalreporter.write_line(f"tests/counts.tsv: {fault}", red=True)
+    if status or faults:
+        terminalreporter._session.exitstatus = pytest.ExitCode.TESTS_FAILED
+    elif (
+        config.stash.get(LEFT_OUT, 0)
+        and terminalreporter._session.exitstatus == pytest.ExitCode.NO_TESTS_COLLECTED
+    ):
+        terminalreporter._session.exitstatus = pytest.ExitCode.OK
+    spent = time.process_time() + sum(os.times()[2:4])
+    terminalreporter.write_line(
+        f"{sum(passed for passed, _ in counts.values())} cases, {spent:.0f} processor seconds"
+    )

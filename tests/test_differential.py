@@ -1,0 +1,190 @@
+"""Random recordings, lines of groups and streams by the program, beside what tests/plain.py writes of them.
+
+For each seed making.py makes a recording, and lines of groups. The program scans, lists and totals the recording by rules, gaps, cuttings and
+workers that are drawn from the seed. It follows it in chunks of random lengths, and its beginning byte by byte; and it encodes the lines. Each
+seed has a byte that is no digit and no blank, which is refused. Streams are parts of a station from any bit on, with wrong bits and stretches
+that say nothing; at every tenth seed the pipe is slow. A run that differs is shown by its seed and its words.
+"""
+
+from __future__ import annotations
+
+import os
+import random
+import subprocess
+import time
+from concurrent.futures import ThreadPoolExecutor
+from functools import cache, lru_cache
+from typing import Callable
+
+import making
+import plain
+import pytest
+from running import LIMIT, Ran, run
+
+Cases = Callable[[int], None]
+# How many seeds there are, and how many runs each seed of a recording has.
+SEEDS, STREAMS, RUNS = 120, 2000, 13
+
+
+@lru_cache(4)
+def recorded(held: bytes, bits: int | None, gaps: plain.Gaps) -> plain.Recording:
+    """A recording, which the runs of a seed share."""
+    return plain.Recording(held, bits, gaps)
+
+
+def wanted(words: list[str], held: bytes) -> bytes | None:
+    """What plain.py writes of these words."""
+    parsed = plain.arguments().parse_args(words)
+    if parsed.job == "encode":
+        return plain.text_of(parsed, held)
+    recording = recorded(held, parsed.bits, tuple(parsed.gaps))
+    return plain.listing(parsed.job, recording, plain.rules_of(parsed)).encode()
+
+
+def hand_on(pipe: int, held: bytes, most: int, pause: float, chance: random.Random) -> None:
+    """Writes the bytes to the pipe in chunks of up to `most` bytes."""
+    place = 0
+    try:
+        while place < len(held):
+            after = place + chance.randint(0 if most > 1 else 1, most)
+            os.write(pipe, held[place:after])
+            place = after
+            time.sleep(chance.uniform(0, pause))
+    except BrokenPipeError:
+        pass
+    finally:
+        os.close(pipe)
+
+
+def followed(rds: str, words: list[str], held: bytes, most: int, pause: float, chance: random.Random) -> Ran:
+    """How a stream of these bytes ends, and what it gives."""
+    read_end, write_end = os.pipe()
+    with subprocess.Popen(
+        [rds, "follow", *words], stdin=read_end, stdout=subprocess.PIPE, stderr=subprocess.PIPE
+    ) as child:
+        os.close(read_end)
+        with ThreadPoolExecutor(1) as hand:
+            hand.submit(hand_on, write_end, held, most, pause, chance)
+            try:
+                text, said = child.communicate(timeout=LIMIT)
+            except subprocess.TimeoutExpired:
+                child.kill()
+                return Ran(None, b"", b"it came to no end")
+    return Ran(child.returncode, text, said)
+
+
+class Trial:
+    """The runs of one seed, and those that differ."""
+
+    def __init__(self, rds: str, seed: int) -> None:
+        self.rds, self.seed, self.chance = rds, seed, random.Random(f"differential {seed}")
+        self.runs = 0
+        self.differing: list[str] = []
+
+    def compare(self, given: Ran, right: Ran, text: str) -> None:
+        self.runs += 1
+        self.differing += [] if given == right else [f"seed {self.seed}: rds {text}"]
+
+    def compare_run(self, words: list[str], held: bytes, right: Ran) -> None:
+        self.compare(run(self.rds, *words, data=held), right, " ".join(words))
+
+    def try_all(self) -> Trial:
+        self.try_recording(making.recording(self.seed))
+        for words in (["encode"], ["encode", "--hex"]):
+            text = wanted(words, making.lines(self.seed))
+            right = Ran(1, b"", b"refused 12 GroupText\n") if text is None else Ran(0, text, b"")
+            self.compare_run(words, making.lines(self.seed), right)
+        # a byte that is no digit and no blank, before a group and after digits
+        byte, digits = bytes([making.STRANGE[self.seed % len(making.STRANGE)]]), b"1234254052445320"
+        self.compare_run(["encode"], byte + digits, Ran(1, b"", b"refused 12 GroupText\n"))
+        self.compare_run(["scan", "--hex"], digits + byte, Ran(1, b"", b"refused 11 HexText\n"))
+        return self
+
+    def try_recording(self, held: bytes) -> None:
+        """A scan, two lists and the totals, each of the latter by two crews; some from digits."""
+        chance = self.chance
+        bits = max(0, 8 * len(held) - chance.choice([0, 0, chance.randint(0, 40)]))
+        source = (["--bits", str(bits)] if bits < 8 * len(held) else []) + making.gaps(chance, bits)
+        for job in ("scan", "list", "list", "totals"):
+            words = [job, *source, *(making.rules(chance) if job != "scan" else [])]
+            right = Ran(0, wanted(words, held) or b"", b"")
+            for _ in range(1 if job == "scan" else 2):
+                crew = making.crew(chance)[0 if job != "scan" else 2 :]
+                is_hex = chance.random() < 0.2
+                text = making.as_digits(chance, held) if is_hex else held
+                self.compare_run([*words, *crew, *(["--hex"] if is_hex else [])], text, right)
+        self.try_follow(held, source, chance.randint(2, 10_000))
+        self.try_follow(held[:2000], making.gaps(chance, 8 * len(held[:2000])), 1)
+
+    def try_follow(self, held: bytes, source: list[str], most: int) -> None:
+        """A stream in chunks of limited size."""
+        words = source + making.rules(self.chance)
+        given = followed(self.rds, words, held, most, 0, self.chance)
+        right = Ran(0, wanted(["list", *words], held) or b"", b"")
+        self.compare(given, right, f"follow {' '.join(words)}, chunks of up to {most} bytes")
+
+
+@pytest.mark.parametrize("first", range(1, SEEDS + 1, 10))
+def test_recordings_and_lines(rds: str, first: int, cases: Cases) -> None:
+    trials = [Trial(rds, seed).try_all() for seed in range(first, first + 10)]
+    assert [text for trial in trials for text in trial.differing] == []
+    assert {trial.runs for trial in trials} == {RUNS}
+    cases(RUNS * len(trials))
+
+
+def test_two_seeds_differ() -> None:
+    assert making.recording(1) != making.recording(2) and making.lines(1) != making.lines(2)
+
+
+# ---- streams
+
+
+@cache
+def station() -> bytes:
+    """The bytes of a station whose words are random, and whose groups have one programme."""
+    chance = random.Random(0)
+    return b"".join(plain.packed([0xD393, *(chance.getrandbits(16) for _ in range(3))]) for _ in range(4000))
+
+
+def part_of_station(chance: random.Random) -> bytes:
+    """A part of the station from any bit on, damaged."""
+    length = chance.randint(0, 30_000 if chance.random() < 0.05 else 600)
+    start = 8 * chance.randint(0, len(station()) - length - 1) + chance.randrange(8)
+    sent = int.from_bytes(station()[start // 8 : start // 8 + length + 1], "big")
+    held = bytearray((sent >> (8 - start % 8) & (1 << 8 * length) - 1).to_bytes(length, "big"))
+    for _ in range(chance.choice([0, 0, length // 200, length // 20, length // 4])):
+        place = chance.randrange(8 * length)
+        held[place // 8] ^= 0x80 >> place % 8
+    for _ in range(chance.choice([0, 0, 1, 2])):
+        at = chance.randint(0, length)
+        held[at : at + 40] = chance.randbytes(min(40, length - at))
+    return bytes(held)
+
+
+def some_gaps(chance: random.Random, bits: int) -> list[str]:
+    """The words of some gaps within `bits` bits, or none."""
+    places = (
+        sorted(chance.sample(range(bits + 1), 2 * chance.choice([0, 0, 0, 1, 3, 12]))) if bits > 30 else []
+    )
+    pairs = ",".join(f"{start}-{end}" for start, end in zip(places[::2], places[1::2]))
+    return ["--gaps", pairs] if places else []
+
+
+def difference(rds: str, seed: int) -> str:
+    """The words of a stream that differs, or nothing."""
+    chance = random.Random(seed)
+    held = part_of_station(chance)
+    bits = max(0, 8 * len(held) - chance.choice([0, 0, chance.randrange(8), chance.randrange(100)]))
+    words = making.rules(chance) + some_gaps(chance, bits)
+    words += ["--bits", str(bits)] if bits < 8 * len(held) else []
+    most = 1 if len(held) < 300 and chance.random() < 0.5 else chance.randint(2, 10_000)
+    given = followed(rds, words, held, most, 0.001 if seed % 10 == 0 else 0, chance)
+    is_right = given == (0, wanted(["list", *words], held), b"")
+    return "" if is_right else f"seed {seed}: rds follow {' '.join(words)}, chunks of up to {most} bytes"
+
+
+@pytest.mark.parametrize("first", range(1, STREAMS + 1, 100))
+def test_streams(rds: str, first: int, cases: Cases) -> None:
+    seeds = range(first, first + 100)
+    assert [text for text in (difference(rds, seed) for seed in seeds) if text] == []
+    cases(len(seeds))

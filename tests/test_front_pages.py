@@ -1,0 +1,192 @@
+"""The examples on the libraries' front pages, and surface.txt, compile over the libraries that `rt` built.
+
+An example is a block `text` in the head of crates/NAME/src/lib.rt. Here it becomes the body of a function, whose parameters have the names
+that the example uses. surface.txt has each public call, by its types. Nothing is proved of it. Then each is tried with a name in it that is
+not there: the compiler has to refuse that.
+"""
+
+from __future__ import annotations
+
+import os
+import re
+from pathlib import Path
+from typing import NamedTuple
+
+import pytest
+from holes import KIT, LIBRARIES, built
+from running import TOP, run
+
+# The seconds that one run of the compiler may take.
+LIMIT = 300
+RECORDING = "alloc: Global, recording: Recording, rules: Rules"
+
+
+class Example(NamedTuple):
+    """The crate of an example, the declarations that it needs, the parameters of its function, and a name in it."""
+
+    crate: str
+    uses: str
+    parameters: str
+    name: str
+
+    @property
+    def module(self) -> str:
+        return f"{self.crate}_{self.name.lower()}"
+
+
+PIECES = """use rds_pieces::{Cutting, join_runs, speculate, stitch};
+use rds_stream::{Counted, Recording};
+use rds_sync::Rules;"""
+EXAMPLES = [
+    Example(
+        "rds_code",
+        "use rds_code::{BlockNumber, BurstLimit, BurstTable, Offset, Wanted, encode_block, read_block};",
+        "alloc: Global",
+        "read_block",
+    ),
+    Example(
+        "rds_stream",
+        """use rds_code::{BlockNumber, BurstLimit, BurstTable, Wanted};
+use rds_stream::{Reader, Recording, read_heard, scan};""",
+        "alloc: Global, bytes: Vec<u8>, gaps: Vec<(u64, u64)>, table: BurstTable",
+        "read_heard",
+    ),
+    Example(
+        "rds_sync",
+        "use rds_stream::Recording;\nuse rds_sync::{Item, Rules, decode_plain};",
+        "alloc: Global, recording: Recording",
+        "decode_plain",
+    ),
+    Example(
+        "rds_live",
+        "use rds_live::{MOST_ITEMS, StreamDecoder};\nuse rds_sync::Rules;",
+        "alloc: Global, rules: Rules, chunks: Vec<&[u8]>",
+        "MOST_ITEMS",
+    ),
+    Example(
+        "rds_live",
+        """use rds_live::StreamDecoder;
+use rds_sync::{Rules, State, Totals};
+
+fn keep(_tail: &[u8], _place: u64, _state: State, _totals: Totals) {}""",
+        "alloc: Global, rules: Rules, gaps: Vec<(u64, u64)>, live: StreamDecoder<'_>, tail: &[u8], place: u64, state: State, totals: Totals",
+        "resume",
+    ),
+    Example("rds_pieces", PIECES, RECORDING, "stitch"),
+    Example("rds_pieces", PIECES, f"{RECORDING}, cutting: Cutting", "join_runs"),
+    Example(
+        "rds_crew",
+        """use rds_crew::{OpenGate, decode_crew};
+use rds_pieces::{Cutting, RecordingWork};
+use rds_stream::Recording;
+use rds_sync::Rules;""",
+        f"rt: R, {RECORDING}",
+        "decode_crew",
+    ),
+    Example("rds_crew", "use rds_crew::Dealer;", "alloc: Global", "Dealer"),
+    Example(
+        "rds_rows",
+        """ghost use Rattle.std.specs.Prelude.{◌∷◌, [], replicate};
+use rds_rows::{Rows, Sheet, Sink, write_rows};""",
+        "rt: R, alloc: Global, mut writer: K",
+        "write_rows",
+    ),
+    Example(
+        "rds_tool",
+        "use rds_tool::{FromRead, Input, Job, ToWrite, transcribe};",
+        "rt: R, alloc: Global",
+        "transcribe",
+    ),
+]
+SURFACE = Example("surface", "", "", "decode_plain")
+# What an example asks of types that it leaves open.
+BOUNDS = {"R": "Threads + Sync + Drop", "K": "Sink + Drop"}
+
+
+def texts_of(crate: str) -> list[str]:
+    """The examples in the head of a crate's root file."""
+    lines = (TOP / "crates" / crate / "src/lib.rt").read_text().splitlines(True)
+    head = "".join(line[4:] or "\n" for line in lines if line.startswith("//!"))
+    return re.findall(r"^```text\n(.*?)^```$", head, re.M | re.S)
+
+
+def text_of(example: Example) -> str:
+    """A module that has the example in a function, after the example's items."""
+    if example == SURFACE:
+        return (TOP / "tests/surface.txt").read_text()
+    text = texts_of(example.crate)[[it for it in EXAMPLES if it.crate == example.crate].index(example)]
+    item = re.compile(r"^(?:struct|impl)\b[^\n]*(?:;\n|\n(?:.*\n)*?\}\n)", re.M)
+    kinds = [
+        f"{name}: {bound}" for name, bound in BOUNDS.items() if re.search(rf": {name}\b", example.parameters)
+    ]
+    return f"""{example.uses}
+use anyhow::Result;
+use std::alloc::Global;
+{"use std::thread::Threads;" if kinds else ""}
+
+{"".join(item.findall(text))}
+pub fn example{f"<{', '.join(kinds)}>" if kinds else ""}({example.parameters}) -> Result<()> {{
+{item.sub("", text)}    Ok(())
+}}
+"""
+
+
+def misnamed(text: str, name: str) -> str:
+    """A module whose functions have another name in the place of this one."""
+    uses, first, body = text.partition("pub fn")
+    return uses + first + re.sub(rf"{name}(?=[^a-z_])", f"{name}_of_another_name", body)
+
+
+def compiled(folder: Path, modules: dict[str, str]) -> str:
+    """What the compiler says of a crate of these modules."""
+    words = [
+        f"{KIT}/bin/rattle",
+        "check",
+        "--crate-name",
+        "front_pages",
+        "src/lib.rt",
+        "--jobs",
+        "1",
+        "--only",
+        "",
+    ]
+    words += [
+        "--logic-built",
+        f"{KIT}/logic_built",
+        "--antt-project",
+        f"{KIT}/rattle/logic/antt-project.json",
+    ]
+    words += ["-L", f"dependency={KIT}/rlibs"]
+    for name in "std anyhow atomic_table clap core csv hex itoa thiserror".split():
+        words += ["--extern", f"{name}={KIT}/rlibs/{name}.rlib"]
+    for crate in LIBRARIES:
+        words += ["--extern", f"{crate}={built(crate)}", "-L", f"dependency={os.path.dirname(built(crate))}"]
+    (folder / "src").mkdir(exist_ok=True)
+    (folder / "src/lib.rt").write_text(
+        "#![tactic(auto)]\n\n" + "".join(f"pub mod {name};\n" for name in modules)
+    )
+    for name, text in modules.items():
+        (folder / f"src/{name}.rt").write_text(text)
+    ended = run(*words, cwd=folder, timeout=LIMIT)
+    return (ended.out + ended.err).decode()
+
+
+def refused(said: str) -> set[str]:
+    """The modules in which the compiler finds an error."""
+    places = r"^error.*\n\s*--> (?:\./)?src/(\w+)\.rt|^(?:\./)?src/(\w+)\.rt:\d+:\d+: error"
+    return {first or second for first, second in re.findall(places, said, re.M)}
+
+
+def test_each_example_is_compiled() -> None:
+    crates = [example.crate for example in EXAMPLES]
+    assert {crate: len(texts_of(crate)) for crate in LIBRARIES} == {it: crates.count(it) for it in LIBRARIES}
+
+
+@pytest.mark.parametrize("is_misnamed", [False, True])
+def test_examples(tmp_path: Path, is_misnamed: bool) -> None:
+    modules = {it.module: text_of(it) for it in [*EXAMPLES, SURFACE]}
+    if is_misnamed:
+        modules = {it.module: misnamed(modules[it.module], it.name) for it in [*EXAMPLES, SURFACE]}
+    said = compiled(tmp_path, modules)
+    assert refused(said) == ({*modules} if is_misnamed else set()), said[-3000:]
+    assert is_misnamed or re.search(r"^only=\d+ ", said, re.M), said[-3000:]

@@ -1,0 +1,452 @@
+"""Completion and the Debian packages.
+
+Completion is compared with the program's help. The packages are built, checked by lintian, installed in a root folder of their own, tried and
+removed. README.md's program in C is linked with both forms of the installed library, by pkg-config and by CMake, and run.
+"""
+
+from __future__ import annotations
+
+import glob
+import gzip
+import os
+import re
+import sys
+from pathlib import Path
+from typing import Callable
+
+import pytest
+from running import TOP, needs, readme_program, run, said, wrote
+
+# an upload to Debian closes a bug
+LEFT_TO_THE_ARCHIVE = ["initial-upload-closes-no-bugs"]
+SAMPLE = (TOP / "examples" / "station.bin").read_bytes()
+COUNTS = "7691 valid, 1923 groups"
+CC = os.environ.get("CC", "cc")
+COMMANDS = ["scan", "list", "follow", "totals", "encode"]
+Cases = Callable[[int], None]
+
+# ---- completion
+
+
+def options_of(rds: str, *words: str) -> list[str]:
+    """The long options that help names."""
+    text = said(rds, *words, "--help").split("\nOptions:\n")[1].split("\n\n")[0]
+    return re.findall(r"^ *(?:-\w, )?(--[a-z-]+)", text, re.M)
+
+
+def by_bash(*words: str) -> list[str]:
+    """The completions of bash for the last word of the line."""
+    script = '. completions/rds.bash; COMP_WORDS=("$@"); COMP_CWORD=$(($# - 1)); _rds; printf "%s\\n" "${COMPREPLY[@]}"'
+    return sorted({*said("bash", "-c", script, "bash", *words, cwd=TOP).split()})
+
+
+# What would show completion is replaced. An option is told as (THOSE THAT IT EXCLUDES)--NAME[WHAT IT IS]:VALUE.
+ZSH = """
+    _arguments() { print -l -- "$@" }
+    _describe() { print -l -- "${(P@)4}" | sed "s/:.*//" }
+    functions[_rds]=$(<completions/_rds)
+    words=("$@")
+    CURRENT=$#
+    _rds"""
+
+
+def by_zsh(*words: str) -> list[str]:
+    """The commands and long options that zsh is told to offer for the last word of the line."""
+    needs("zsh")
+    lines = wrote("zsh", "-fc", ZSH, "zsh", *words, cwd=TOP).decode().splitlines()
+    names = [re.sub(r"^\([^)]*\)|\[.*", "", line) for line in lines]
+    return sorted({name for name in names if re.fullmatch("(--)?[a-z][a-z-]*", name)})
+
+
+@pytest.mark.parametrize("shell", [by_bash, by_zsh])
+@pytest.mark.parametrize("words", ["", "help", *COMMANDS])
+def test_completion(rds: str, shell: Callable[..., list[str]], words: str) -> None:
+    wanted = COMMANDS if words == "help" else options_of(rds, *words.split())
+    wanted = wanted + COMMANDS + ["help"] if not words else wanted
+    assert shell("rds", *words.split(), "") == sorted({*wanted})
+
+
+def test_commands_of_the_help(rds: str) -> None:
+    assert re.findall(r"^  ([a-z]+)  ", said(rds, "--help").split("Commands:")[1].split("\n\n")[0], re.M) == [
+        *COMMANDS,
+        "help",
+    ]
+
+
+def test_completion_of_a_word(cases: Cases) -> None:
+    cases(2)
+    assert by_bash("rds", "list", "--s") == ["--share"]
+    assert by_bash("rds", "list", "--burst", "") == ["0", "1", "2", "3", "4", "5"]
+
+
+# ---- the packages
+
+TOOLS = ["dpkg", "dpkg-architecture", "dpkg-deb", "dpkg-shlibdeps", "readelf", "strip", "lintian"]
+# dpkg looks for its helpers there
+os.environ["PATH"] += ":/usr/local/sbin:/usr/sbin:/sbin"
+# installing gives files to root, or seems to
+AS_ROOT = [] if os.getuid() == 0 else ["fakeroot"]
+of_packages = pytest.mark.xdist_group("packages")
+
+
+def made(rds: str, librds: str, folder: Path, arm64: str | None) -> list[Path]:
+    """Builds the packages into the folder."""
+    words = [TOP / "packaging/make_deb.sh", rds, librds, folder, *([arm64] if arm64 else [])]
+    text = said(*words, cwd=TOP, timeout=300, env={**os.environ, "SOURCE_DATE_EPOCH": "1700000000"})
+    return [Path(line) for line in text.splitlines()]
+
+
+class Packages:
+    """The packages, and a root folder in which those of this processor are installed."""
+
+    def __init__(self, rds: str, librds: str, arm64: str | None, folder: Path) -> None:
+        self.rds, self.librds, self.arm64, self.folder = rds, librds, arm64, folder / "a folder"
+        self.folder.mkdir()
+        self.files = made(rds, librds, self.folder, arm64)
+        self.version = said(rds, "--version").removeprefix("rds ") + "-1"
+        self.root = folder / "root"
+        self.libdir = f"/usr/lib/{said('dpkg-architecture', '-qDEB_HOST_MULTIARCH')}"
+        self.installed = [path for path in self.files if not path.name.endswith("_arm64.deb")]
+        for name in ("info", "updates", "triggers"):
+            (self.root / "var/lib/dpkg" / name).mkdir(parents=True)
+        needed = ["libc6", "python3", "python3-numpy"]
+        status = [run("dpkg-query", "--status", name).out + b"\n" for name in needed]
+        (self.root / "var/lib/dpkg/status").write_bytes(b"".join(status))
+        self.dpkg("--install", *map(str, self.installed))
+
+    def dpkg(self, *words: str) -> None:
+        """dpkg on the root folder, by none of this machine's settings that leave out files."""
+        options = ["--force-not-root", "--force-script-chrootless", "--path-include=*", "--force-depends"]
+        wrote(
+            *AS_ROOT, "dpkg", f"--root={self.root}", f"--log={self.folder}/log", *options, *words, timeout=120
+        )
+
+    def there(self) -> list[str]:
+        """The files in the root folder but for dpkg's own."""
+        paths = (path for path in self.root.rglob("*") if path.is_symlink() or not path.is_dir())
+        names = ("/" + str(path.relative_to(self.root)) for path in paths)
+        return sorted(name for name in names if not name.startswith("/var/lib/dpkg/"))
+
+    def differing(self) -> list[str]:
+        """The installed files that are missing, or other than they were."""
+        lines = run("dpkg", f"--root={self.root}", "--verify").out.decode().splitlines()
+        return [line.split()[-1] for line in lines]
+
+    def run_program(self, *words: object) -> str:
+        return said(
+            *words,
+            data=SAMPLE,
+            env={**os.environ, **self.python(), "LD_LIBRARY_PATH": f"{self.root}{self.libdir}"},
+        )
+
+    def python(self) -> dict[str, str]:
+        variables = {
+            "PYTHONPATH": f"{self.root}/usr/lib/python3/dist-packages",
+            "PYTHONDONTWRITEBYTECODE": "1",
+        }
+        return {**variables, "RDS_LIBRARY": ""}
+
+
+@pytest.fixture(scope="session")
+def packages(
+    rds: str, librds: str, librds_arm64: str | None, tmp_path_factory: pytest.TempPathFactory
+) -> Packages:
+    needs(*TOOLS, *AS_ROOT)
+    return Packages(rds, librds, librds_arm64, tmp_path_factory.mktemp("packages"))
+
+
+@of_packages
+def test_names_of_packages(packages: Packages) -> None:
+    libraries = ["librds0-dbgsym", "librds0", "librds-dev"]
+    names = [f"{name}:{arch}" for arch in ["amd64", *["arm64"] * bool(packages.arm64)] for name in libraries]
+    names += ["python3-librds:all", "rds-monitor:all", "rds:amd64"]
+    wanted = [f"{name.split(':')[0]}_{packages.version}_{name.split(':')[1]}.deb" for name in names]
+    assert packages.files == [packages.folder / name for name in wanted]
+
+
+@of_packages
+def test_lintian(packages: Packages, cases: Cases) -> None:
+    cases(2)
+    words = ["lintian", "--allow-root", "--tag-display-limit", "0"]
+    options = ["--suppress-tags", ",".join(LEFT_TO_THE_ARCHIVE)]
+    text = run(*words, *options, *packages.files, timeout=300).out.decode()
+    assert re.findall("^[EW]:.*", text, re.M) == []
+    # and it does warn
+    warned = run(*words, packages.files[-1], timeout=300).out.decode()
+    assert {*re.findall(r"^[EW]: \S+: (\S+)", warned, re.M)} == {LEFT_TO_THE_ARCHIVE[0]}
+
+
+def newest_libc(path: str) -> str:
+    """The newest version of the C library that a file calls."""
+    found = re.findall(r"GLIBC_([0-9.]+)", said("readelf", "-V", path))
+    return max(found, key=lambda version: [int(number) for number in version.split(".")])
+
+
+@of_packages
+def test_fields_of_packages(packages: Packages, cases: Cases) -> None:
+    cases(2)
+    python = re.findall(
+        r'^requires-python = ">=(.*)"$', (TOP / "bindings/python/pyproject.toml").read_text(), re.M
+    )[0]
+    form = "${Package}, ${Section}, ${Multi-Arch}: ${Depends}; ${Recommends}\n"
+    fields = {
+        wrote("dpkg-deb", "--show", f"--showformat={form}", path).decode().strip().removesuffix(";")
+        for path in packages.files
+    }
+    version = packages.version
+    assert fields == {
+        f"librds-dev, libdevel, same: librds0 (= {version})",
+        f"librds0, libs, same: libc6 (>= {newest_libc(packages.librds + '/librds.so.0')})",
+        f"librds0-dbgsym, debug, no: librds0 (= {version})",
+        f"python3-librds, python, no: python3 (>= {python}), librds0 (>= {version}); python3-numpy",
+        f"rds, hamradio, no: libc6 (>= {newest_libc(packages.rds)}); rds-monitor",
+        f"rds-monitor, hamradio, no: python3 (>= {python}), python3-numpy, python3-librds (= {version}); rds, libjs-d3, python3-jinja2",
+    }
+    pages = (TOP / "README.md").read_text() + (TOP / "docs/START.md").read_text()
+    described = said("dpkg-deb", "--field", packages.files[-1], "Description")
+    assert {*re.findall("x86-64-v[0-9]", described)} == {*re.findall("x86-64-v[0-9]", pages)} != set()
+
+
+@of_packages
+def test_packages_are_the_same_again(packages: Packages, tmp_path: Path) -> None:
+    again = made(packages.rds, packages.librds, tmp_path, packages.arm64)
+    assert [path.read_bytes() for path in again] == [path.read_bytes() for path in packages.files]
+
+
+@of_packages
+def test_installed_files(packages: Packages, cases: Cases) -> None:
+    cases(4)
+    listed = [wrote("dpkg-deb", "--contents", path).decode().splitlines() for path in packages.installed]
+    names = [re.sub(r".* \./|( -> .*)$", "/", line) for lines in listed for line in lines if line[0] != "d"]
+    assert sorted(name.rstrip("/") for name in names) == packages.there()
+    assert "/usr/lib/systemd/system/rds-monitor-watch.service" in packages.there()
+    libdir, share = packages.libdir, "/usr/share"
+    folders = f"""/usr/bin /usr/include /usr/lib/debug/.build-id/ID /usr/lib/python3/dist-packages/librds
+        /usr/lib/systemd/system /usr/lib/sysusers.d {libdir} {libdir}/cmake/rds {libdir}/pkgconfig
+        {share}/bash-completion/completions {share}/doc {share}/doc/librds0 {share}/doc/librds-dev
+        {share}/doc/librds-dev/examples {share}/doc/python3-librds {share}/doc/rds {share}/doc/rds/docs
+        {share}/doc/rds-monitor {share}/doc/rds-monitor/examples {share}/man/man1 {share}/man/man3
+        {share}/rds/examples {share}/zsh/vendor-completions""".split()
+    found = {re.sub(r"(build-id/)..$", r"\1ID", os.path.dirname(path)) for path in packages.there()}
+    monitor = {folder for folder in found if folder.startswith(f"{share}/rds-monitor/")}
+    files = (
+        path.relative_to(TOP / "monitor")
+        for path in (TOP / "monitor/rds_monitor").rglob("*")
+        if path.is_file()
+    )
+    sources = {path.parent for path in files if "__pycache__" not in path.parts}
+    assert found - monitor == {*folders} and monitor == {f"{share}/rds-monitor/{path}" for path in sources}
+    library = """cmake/rds/rds-config-version.cmake cmake/rds/rds-config.cmake librds.a librds.so librds.so.0
+        pkgconfig/rds.pc""".split()
+    owned = [path for path in packages.there() if path.startswith((f"{libdir}/", "/usr/include/"))]
+    assert owned == ["/usr/include/rds.h", *(f"{libdir}/{name}" for name in library)]
+
+
+INSTALLED = """packaging/* bindings/c/* examples/* completions/* docs/*.md rds.1 README.md CHANGELOG.md lib/rds.h monitor/WATCHING.md build/pages/*
+    monitor/rds-monitor monitor/rds_monitor/*.py monitor/rds_monitor/*/*.* bindings/python/librds/*.py bindings/python/librds/py.typed"""
+
+
+@of_packages
+def test_files_that_no_package_has(packages: Packages) -> None:
+    held = set()
+    for path in packages.root.rglob("*"):
+        if path.is_file() and path.stat().st_size < 2**20:
+            held.add(gzip.decompress(path.read_bytes()) if path.suffix == ".gz" else path.read_bytes())
+    files = {path for pattern in INSTALLED.split() for path in glob.glob(f"{TOP}/{pattern}", recursive=True)}
+    missing = {
+        os.path.relpath(path, TOP)
+        for path in files
+        if Path(path).is_file() and Path(path).read_bytes() not in held
+    }
+    pages = {f"docs/{name}.md" for name in "ARCHITECTURE CHANGING DECISIONS MODEL PROOFS TESTING".split()}
+    assert missing == pages | {"packaging/make_deb.sh", "packaging/make_pages.py"}
+
+
+@of_packages
+def test_changed_file_is_found(packages: Packages, cases: Cases) -> None:
+    cases(2)
+    assert packages.differing() == []
+    path = packages.root / "usr/share/rds/examples/gaps.sh"
+    text = path.read_text()
+    path.write_text(text + "\n")
+    assert packages.differing() == ["/usr/share/rds/examples/gaps.sh"]
+    path.write_text(text)
+
+
+@of_packages
+def test_installed_program(packages: Packages, cases: Cases) -> None:
+    cases(3)
+    share = packages.root / "usr/share"
+    assert wrote(packages.root / "usr/bin/rds", "list", data=SAMPLE) == wrote(
+        packages.rds, "list", data=SAMPLE
+    )
+    assert gzip.decompress((share / "man/man1/rds.1.gz").read_bytes()) == (TOP / "rds.1").read_bytes()
+    assert said(share / "rds/examples/gaps.sh", data=b"104 1\n") == "--gaps=104-105"
+
+
+@of_packages
+def test_symbols_of_the_library(packages: Packages, cases: Cases) -> None:
+    cases(3)
+    path = f"{packages.root}{packages.libdir}/librds.so.0"
+    assert ".debug_" not in said("readelf", "-S", path)
+    build = re.findall(r"Build ID: (..)(\w+)", said("readelf", "-n", path))[0]
+    assert f"/usr/lib/debug/.build-id/{build[0]}/{build[1]}.debug" in packages.there()
+    # bound when it is loaded
+    assert re.findall("BIND_NOW|Flags: NOW", said("readelf", "-d", path)) == ["BIND_NOW", "Flags: NOW"]
+
+
+@of_packages
+def test_versions_of_symbols(packages: Packages, tmp_path: Path) -> None:
+    """Each symbol has the version of its node, and a program needs the newest of those that it calls."""
+    (file,) = (path for path in packages.installed if path.name.startswith("librds0_"))
+    wrote("dpkg-deb", "--raw-extract", file, tmp_path / "librds0")
+    symbols = (tmp_path / "librds0/DEBIAN/symbols").read_text().splitlines()
+    shown = re.findall(
+        r" [TA] ([\w.]+)(?:@@(\S+))?$", said("nm", "-D", f"{packages.librds}/librds.so.0"), re.M
+    )
+    versions = {f" {name}@{node or name} {(node or name)[4:]}" for name, node in shown}
+    assert symbols[0] == "librds.so.0 librds0 #MINVER#" and {*symbols[1:]} == versions
+    (tmp_path / "debian").mkdir()
+    (tmp_path / "debian/control").write_text("Source: readme\n\nPackage: readme\nArchitecture: any\n")
+    (tmp_path / "readme.c").write_text(readme_program("c"))
+    folder = f"-L{packages.root}{packages.libdir}"
+    wrote(
+        CC,
+        "-o",
+        tmp_path / "program",
+        tmp_path / "readme.c",
+        f"-I{packages.root}/usr/include",
+        folder,
+        "-lrds",
+    )
+    words = ["dpkg-shlibdeps", "-O", f"-S{tmp_path}/librds0", tmp_path / "program"]
+    assert "librds0 (>= 0.2)" in wrote(*words, cwd=tmp_path).decode()
+
+
+@of_packages
+def test_program_with_the_archive(packages: Packages, tmp_path: Path) -> None:
+    (tmp_path / "readme.c").write_text(readme_program("c"))
+    archive = f"{packages.root}{packages.libdir}/librds.a"
+    wrote(CC, "-o", tmp_path / "program", tmp_path / "readme.c", f"-I{packages.root}/usr/include", archive)
+    assert said(tmp_path / "program", data=SAMPLE) == COUNTS
+
+
+@of_packages
+def test_program_by_pkg_config(packages: Packages, tmp_path: Path, cases: Cases) -> None:
+    cases(2)
+    needs("pkg-config")
+    (tmp_path / "readme.c").write_text(readme_program("c"))
+    names = {
+        "PKG_CONFIG_SYSROOT_DIR": str(packages.root),
+        "PKG_CONFIG_LIBDIR": f"{packages.root}{packages.libdir}/pkgconfig",
+    }
+    kept = {"PKG_CONFIG_ALLOW_SYSTEM_CFLAGS": "1", "PKG_CONFIG_ALLOW_SYSTEM_LIBS": "1"}
+    found = said("pkg-config", "--cflags", "--libs", "rds", env={**os.environ, **names, **kept}).split()
+    wrote(CC, "-o", tmp_path / "program", tmp_path / "readme.c", *found)
+    assert f"librds.so.0 => {packages.root}{packages.libdir}/librds.so.0 " in packages.run_program(
+        "ldd", tmp_path / "program"
+    )
+    assert packages.run_program(tmp_path / "program") == COUNTS
+
+
+@of_packages
+def test_python_of_the_packages(packages: Packages, tmp_path: Path, cases: Cases) -> None:
+    cases(2)
+    (tmp_path / "readme.py").write_text(readme_program("python"))
+    assert packages.run_program(sys.executable, tmp_path / "readme.py") == COUNTS
+    packages.run_program(packages.root / "usr/bin/rds-monitor", "errors", TOP / "examples/station.bin")
+
+
+CMAKE = """
+cmake_minimum_required(VERSION 3.19)
+project(readme C)
+set(folder "${rds_DIR}")
+foreach(other 0.2.1 0.3 1.0 0.3...1 0.1...<0.2 0.1...0.1.9)
+  find_package(rds ${other} QUIET)
+  if(rds_FOUND)
+    message(FATAL_ERROR "found for ${other}")
+  endif()
+  set(rds_DIR "${folder}" CACHE PATH "" FORCE)
+endforeach()
+foreach(other 0.1 0.1...0.2 0.2...<1)
+  find_package(rds ${other} REQUIRED)
+endforeach()
+find_package(rds 0.2 REQUIRED)
+find_package(rds 0.2.0 EXACT REQUIRED)
+if(NOT rds_VERSION VERSION_EQUAL 0.2)
+  message(FATAL_ERROR "version ${rds_VERSION}")
+endif()
+foreach(kind static rds)
+  add_executable(${kind} readme.c)
+  target_link_libraries(${kind} rds::${kind})
+endforeach()
+"""
+
+
+@of_packages
+def test_programs_by_cmake(packages: Packages, tmp_path: Path, cases: Cases) -> None:
+    cases(2)
+    needs("cmake")
+    (tmp_path / "readme.c").write_text(readme_program("c"))
+    (tmp_path / "CMakeLists.txt").write_text(CMAKE)
+    # the folders of the packages are not where they were made for
+    folder = f"{packages.root}{packages.libdir}/cmake/rds"
+    wrote("cmake", "-S", tmp_path, "-B", tmp_path / "made", f"-Drds_DIR={folder}", timeout=300)
+    wrote("cmake", "--build", tmp_path / "made", timeout=300)
+    assert [packages.run_program(tmp_path / "made" / kind) for kind in ("static", "rds")] == [COUNTS, COUNTS]
+
+
+@of_packages
+def test_nothing_is_left_of_removed_packages(
+    rds: str, librds: str, librds_arm64: str | None, tmp_path: Path
+) -> None:
+    needs(*TOOLS, *AS_ROOT)
+    packages = Packages(rds, librds, librds_arm64, tmp_path)
+    packages.dpkg("--purge", *"rds rds-monitor python3-librds librds-dev librds0-dbgsym librds0".split())
+    assert packages.there() == [] and not (packages.root / "usr").exists()
+
+
+def files_below(folder: Path) -> set[str]:
+    return {
+        str(path.relative_to(folder)) for path in folder.rglob("*") if path.is_symlink() or not path.is_dir()
+    }
+
+
+def test_install_and_uninstall(rds: str, librds: str, tmp_path: Path, cases: Cases) -> None:
+    """Below a folder with a blank in its name. What others have there stays."""
+    cases(3)
+    root = tmp_path / "a root"
+    other = root / "usr/share/man/man3/other.3"
+    other.parent.mkdir(parents=True)
+    other.touch()
+    names = [f"PROGRAM={rds}", f"LIBRARY={librds}", f"DESTDIR={root}", "PREFIX=/usr"]
+    wrote("make", "-s", "install", "install-lib", *names, cwd=TOP, timeout=300)
+    there = files_below(root)
+    assert {"usr/bin/rds", "usr/bin/rds-monitor", "usr/include/rds.h", "usr/lib/librds.so"} <= there
+    assert {*map(str, root.rglob("*.3"))} >= {str(root / "usr/share/man/man3/rds_push.3")}
+    wrote("make", "-s", "uninstall", *names[2:], cwd=TOP, timeout=300)
+    assert files_below(root) == {"usr/share/man/man3/other.3"}
+    assert [path for path in root.rglob("*rds*")] == []
+    refused = run("make", "-s", "install-lib", *names[:3], "PREFIX=/a prefix", cwd=TOP)
+    assert b"are folders without blanks" in refused.err and files_below(root) == {
+        "usr/share/man/man3/other.3"
+    }
+
+
+def test_make_deb(rds: str, librds: str) -> None:
+    names = [f"PROGRAM={rds}", f"LIBRARY={librds}", f"FOLDER_arm64={librds}"]
+    words = ["make", "--no-print-directory", "-n", "-o", f"{librds}/librds.so.0", "deb", *names]
+    text = said(*words, cwd=TOP, env={**os.environ, "MAKEFLAGS": ""})
+    assert text.splitlines()[-1] == f"packaging/make_deb.sh {rds} {librds} build {librds}"
+
+
+def test_packages_that_cannot_be_made(rds: str, librds: str, tmp_path: Path, cases: Cases) -> None:
+    cases(4)
+    faults = {
+        "examples is no program": ["examples", librds, tmp_path],
+        "there is no library in examples": [rds, "examples", tmp_path],
+        f"there is no folder {tmp_path}/none": [rds, librds, tmp_path / "none"],
+    }
+    for fault, words in faults.items():
+        assert run(TOP / "packaging/make_deb.sh", *words, cwd=TOP).err.decode() == f"make_deb: {fault}\n"
+    assert run(TOP / "packaging/make_deb.sh").status == 2

@@ -1,0 +1,427 @@
+"""Pages against their sources: options, errors, rows, numbers, files, functions, links and commands.
+
+Each test collects what differs, a line each. How pages read is for their reviewer.
+"""
+
+from __future__ import annotations
+
+import functools
+import os
+import re
+from typing import Any, Iterator
+
+import pytest
+from running import TOP, said
+
+PAGES = ["README.md", "CHANGELOG.md", "examples/README.md", "tests/README.md"]
+PAGES += sorted(f"docs/{path.name}" for path in (TOP / "docs").glob("*.md"))
+MONITOR_PAGES = sorted(f"monitor/{path.name}" for path in (TOP / "monitor").glob("*.md"))
+TESTING = "docs/TESTING.md"
+
+
+class Faults(list[str]):
+    """What differs, a line each."""
+
+    def same(self, what: str, wanted: Any, got: Any) -> None:
+        if wanted == got:
+            return
+        if isinstance(wanted, set):
+            self.append(f"{what}: missing {sorted(wanted - got)}, unknown {sorted(got - wanted)}")
+        else:
+            self.append(f"{what}: {got}, and not {wanted}")
+
+
+@pytest.fixture
+def faults() -> Iterator[Faults]:
+    """The faults of a test, which fails if there are any."""
+    found = Faults()
+    yield found
+    if found:
+        pytest.fail("\n".join(found), pytrace=False)
+
+
+def read(path: str) -> str:
+    return (TOP / path).read_text()
+
+
+def exists(path: str) -> bool:
+    return (TOP / path).exists()
+
+
+def one_line(text: str) -> str:
+    return re.sub(r"\s+", " ", text)
+
+
+def between(text: str, start: str, end: str) -> str:
+    return text.split(start, 1)[1].split(end, 1)[0]
+
+
+def span_in(text: str) -> tuple[int, int] | None:
+    """The lowest and the highest value that a text names first, as '0 to 5'; 2^36 counts as the number."""
+    text = re.sub(r"2\^(\d+)", lambda power: str(2 ** int(power[1])), text)
+    found = re.search(r"(\d+) to (\d+)", text)
+    return (int(found[1]), int(found[2])) if found else None
+
+
+def default_in(pattern: str, text: str) -> str | None:
+    found = re.search(pattern, text)
+    return found[1] if found else None
+
+
+# ---- options, errors and rows
+
+
+class Program:
+    """What the help says."""
+
+    def __init__(self, rds: str) -> None:
+        text = said(rds, "--help")
+        named = re.findall(r"^  ([a-z]+)  ", between(text, "Commands:", "Options:"), re.M)
+        helps = {command: said(rds, command, "--help") + "\n\n" for command in {*named} - {"help"}}
+        self.options = {command: self.options_in(text) for command, text in helps.items()}
+        self.every_option = {name: text for named in self.options.values() for name, text in named.items()}
+        self.refusals = set(re.findall(r"^ +(\d+) ([A-Z]\w+) ", text, re.M))
+        self.rows = set(re.findall(r"^  ([a-z]+),[A-Z]+,?", helps["list"], re.M))
+        self.totals = set(re.findall(r"^total,(\w+),", said(rds, "totals"), re.M))
+
+    @staticmethod
+    def options_in(text: str) -> dict[str, str]:
+        """Each option of a help text with what is said of it."""
+        entries = re.split(r"\n(?=  +-)", "\n" + between(text, "Options:\n", "\n\n"))[1:]
+        parted = (re.match(r" *(?:-\w, )?--([a-z]+)(?: <\w+>)?([\s\S]*)", entry) for entry in entries)
+        return {entry[1]: one_line(entry[2]) for entry in parted if entry and entry[1] != "help"}
+
+
+@pytest.fixture(scope="module")
+def program(rds: str) -> Program:
+    return Program(rds)
+
+
+class Manual:
+    """What rds.1 says."""
+
+    def __init__(self) -> None:
+        text = read("rds.1")
+        self.options: dict[str, set[str]] = {}
+        for form in between(text, ".Sh SYNOPSIS", ".Sh DESCRIPTION").split("\n.Nm\n")[1:]:
+            for commands in re.findall(r"^\.Cm ([a-z| ]+)$", form, re.M):
+                self.options |= dict.fromkeys(commands.split(" | "), set(re.findall(r"Fl -([a-z]+)", form)))
+        entries = re.findall(r"^\.It Fl -([a-z]+)[^\n]*\n((?:(?!\.It |\.El).*\n)*)", text, re.M)
+        self.said = {name: one_line(entry) for name, entry in entries}
+        self.refusals = set(re.findall(r"^\.It (\d+) (\w+)$", text, re.M))
+        rows = between(text, ".Sh ROWS", ".Sh ")
+        self.rows = set(re.findall(r"^\.It Li (\w+)$", rows, re.M))
+        self.totals = every_burst(set(re.findall(r"^\.Li (\w+)", between(rows, ".It Li total", ".El"), re.M)))
+
+
+class Using:
+    """What docs/USING.md and docs/OUTPUT.md say."""
+
+    def __init__(self) -> None:
+        text = read("docs/USING.md")
+        part = between(text, "\n## Options\n", "\n## ")
+        self.table = re.findall(r"^\| `--([a-z]+)[^|]*\| ([^|]*) \| [^|]* \| ([^|]*) ?\|$", part, re.M)
+        self.commands = set(re.findall(r"^\| `([a-z]+)` \|", text.split("\n## Options")[0], re.M))
+        self.refusals = set(re.findall(r"^\| (\d+) \| (\w+) \|", text.split("## Exit status")[1], re.M))
+        self.named = set(re.findall(r"`refused (\d+) (\w+)`", text))
+        text = read("docs/OUTPUT.md")
+        rows = between(text, "| Row | Fields |", "\n\n")
+        self.rows = set(re.findall(r"^\| `([a-z]+)` \|", rows, re.M))
+        totals = between(text, "| Total | Counts |", "\n\n").splitlines()[2:]
+        self.totals = every_burst(
+            {name for row in totals for name in re.findall(r"`(\w+)`", row.split("|")[1])}
+        )
+
+
+def every_burst(names: set[str]) -> set[str]:
+    """Names of totals, of which 'burst1 to burst5' are five."""
+    return names | {f"burst{span}" for span in range(1, 6)} if {"burst1", "burst5"} <= names else names
+
+
+def test_options(program: Program, faults: Faults) -> None:
+    manual, using = Manual(), Using()
+    faults.same("docs/USING.md, commands", set(program.options), using.commands)
+    faults.same("rds.1, commands", set(program.options), set(manual.options))
+    for command in sorted(program.options):
+        names = set(program.options[command])
+        told = {name for name, commands, _ in using.table if f"`{command}`" in commands}
+        faults.same(f"docs/USING.md, options of {command}", names, told)
+        faults.same(f"rds.1, options of {command}", names, manual.options.get(command, set()))
+    for path in ("completions/rds.bash", "completions/_rds"):
+        named = set(re.findall(r"--([a-z]+)", read(path)))
+        faults.same(f"{path}, options", set(program.every_option), set(program.every_option) & named)
+
+
+def test_values_of_options(program: Program, faults: Faults) -> None:
+    manual = Manual()
+    for name, _, values in Using().table:
+        text, entry = program.every_option.get(name, ""), manual.said.get(name, "")
+        default = default_in(r"\[default: (\d+)\]", text)
+        faults.same(f"docs/USING.md, default of --{name}", default, default_in(r"default (\d+)", values))
+        faults.same(f"rds.1, default of --{name}", default, default_in(r"default (\d+)", entry))
+        # the values of --share depend on another option, and are told in words
+        if name != "share" and span_in(text):
+            faults.same(f"docs/USING.md, range of --{name}", span_in(text), span_in(values))
+            faults.same(f"rds.1, range of --{name}", span_in(text), span_in(entry))
+
+
+def test_errors_and_rows(program: Program, faults: Faults) -> None:
+    manual, using = Manual(), Using()
+    for refusals, rows, page in (("docs/USING.md", "docs/OUTPUT.md", using), ("rds.1", "rds.1", manual)):
+        faults.same(f"{refusals}, refusals", program.refusals, page.refusals)  # type: ignore[attr-defined]
+        faults.same(f"{rows}, rows", program.rows, page.rows)  # type: ignore[attr-defined]
+        faults.same(f"{rows}, totals", program.totals, page.totals)  # type: ignore[attr-defined]
+    faults.same("docs/USING.md, refusals in the text", set(), using.named - program.refusals)
+
+
+# ---- numbers
+
+COUNTED = {"four": "4", "eight": "8", "tenth": "10", "hundredth": "100"}
+
+# A number in docs/TESTING.md, and the same number in the test.
+TOLD = (
+    (r"a recording for each of ([\d,]+) seeds", "tests/test_differential.py", r"^SEEDS, .* = (\d+),"),
+    (r"compares ([\d,]+) streams", "tests/test_differential.py", r"^SEEDS, .* = \d+, (\d+),"),
+    (r"`rds list` over ([\d,]+) random recordings", "tests/test_library.py", r"^RECORDINGS = (\d+)"),
+    (r"Random calls of ([\d,]+) seeds", "tests/test_library.py", r'^SEEDS = \{"0.2": (\d+)'),
+    (r"and (\d+) states and", "tests/library/calls.py", r"in range\((\d+)\):\n +begin ="),
+    (r"(\w+) threads call at once", "tests/test_library.py", r"ThreadPoolExecutor\((\d+)\)"),
+    (r"A size is (\w+) times the one before", "tests/test_growth.py", r"^SIZES = \(1, (\d+),"),
+    (r"may take (\w+) times its processor time", "tests/test_growth.py", r"^MOST, .* = (\d+),"),
+    (r"past its bound (\w+) times in a row", "tests/test_growth.py", r"^MOST, .*, (\d+)$"),
+    (r"the measurement, and a (\w+) to spare", "tests/test_work.py", r"spare = (\d+) if"),
+    (r"it is a (\w+), so that one more table shows", "tests/test_work.py", r"spare = \d+ if .* else (\d+)"),
+    (r"64 KiB is allowed, and (\w+) more", "tests/test_work.py", r"size // 65536 \+ (\d+)"),
+)
+
+
+def count_in(pattern: str, text: str) -> str | None:
+    """The number at the first match of the pattern."""
+    found = re.search(pattern, text, re.M)
+    told = found and found[1].replace(",", "").lower()
+    return COUNTED.get(told, told) if told else None
+
+
+@pytest.mark.parametrize("told, path, source", TOLD, ids=[row[1] + row[0] for row in TOLD])
+def test_numbers_of_tests(faults: Faults, told: str, path: str, source: str) -> None:
+    page = one_line(read(TESTING))
+    faults.same(f"{TESTING}, '{told}' as in {path}", count_in(source, read(path)), count_in(told, page))
+
+
+def test_counts_of_tests(faults: Faults) -> None:
+    page = one_line(read(TESTING))
+    sums = len(read("tests/listings.sums").splitlines())
+    faults.same(
+        f"{TESTING}, sums of listings", str(sums), count_in(r"compares the sums of ([\d,]+) texts", page)
+    )
+    jobs = len(re.findall(r"^[^#]", read("tests/work.bounds"), re.M))
+    faults.same(
+        f"{TESTING}, jobs of test_work.py", str(jobs), count_in(r"`tests/test_work.py` runs (\d+) jobs", page)
+    )
+    jobs = len(re.findall(r"^    Job\(", read("tests/test_refusals.py"), re.M))
+    told_jobs = count_in(r"start of a thread of (\d+) jobs", page)
+    faults.same(f"{TESTING}, jobs of test_refusals.py", str(jobs), told_jobs)
+    rows = re.findall(
+        r"^\| (.*?) \| (\d+) times \|", between(read(TESTING), "\n| Job | At most |", "\n\n"), re.M
+    )
+    told = {f"{job} {times}" for text, times in rows for job in re.findall(r"`(\w+)", text)}
+    ratios = re.findall(
+        r"^\S+ : (\d+) : (?:~ )?(\w+)", between(read("tests/test_growth.py"), 'BESIDE = """', '"""'), re.M
+    )
+    faults.same(f"{TESTING}, ratios of test_growth.py", {f"{job} {times}" for times, job in ratios}, told)
+
+
+def test_table_of_the_gate(faults: Faults) -> None:
+    """Each file of tests has a row, and each row is one."""
+    page = between(read(TESTING), "## The gate", "## Wrong bodies")
+    named = {
+        name for row in re.findall(r"^\| `([^|]*)` \|", page, re.M) for name in re.findall(r"[\w.]+", row)
+    }
+    tests = {path.name for path in (TOP / "tests").glob("test_*.py")}
+    faults.same(f"{TESTING}, tests of the gate", tests, {name for name in named if "." in name})
+
+
+def test_seconds_that_a_call_may_take(faults: Faults) -> None:
+    limited = r'environ.get\("LIMIT", (\d+)|atoi\(limit\) : (\d+)'
+    texts = [path.read_text() for path in (TOP / "tests").iterdir() if path.suffix in (".sh", ".py", ".c")]
+    limits = {found[1] or found[2] for text in texts for found in re.finditer(limited, text)}
+    faults.same("tests, the seconds that a call may take", {"60"}, limits)
+
+
+def test_crates_and_edits(faults: Faults) -> None:
+    rows = [line for line in read("crates.txt").splitlines() if not line.startswith("#")]
+    crates = {row.split(":")[0].split()[0] for row in rows}
+    named = set(
+        re.findall(r"`(rds(?:_\w+)?)`", between(read("docs/ARCHITECTURE.md"), "## The crates", "\n## "))
+    )
+    faults.same("docs/ARCHITECTURE.md, crates", crates, named & crates)
+    for crate, count in re.findall(r"^\| `?(rds(?:_\w+)?)`? \|.*\| (\d+) edits", read(TESTING), re.M):
+        edits = [
+            path for kind in ("wrong", "must-fail") for path in (TOP / "crates" / crate / kind).glob("*")
+        ]
+        faults.same(f"{TESTING}, edits of {crate}", len(edits), int(count))
+
+
+# ---- files and functions
+
+# A path in backquotes, or the name of a file; and names of functions, types or constants in a row.
+PLACE = re.compile(r"`([\w.*-]*/[\w./*-]*|[\w-]+\.(?:rt|antt|py|sh|c|h|md|1|answers|bounds|sums))`")
+NAMES = r"(?:`[\w:]+`(?:, | and ))*`[\w:]+`"
+
+
+def file_of(place: str, crate: str) -> str | None:
+    """The file or folder that a page means by a place, which may be one of the crate that it named last."""
+    starts = ("", "crates/", f"crates/{crate}/", f"crates/{crate}/src/", f"crates/{crate}/specs/")
+    return next((start + place for start in starts if exists(start + place)), None)
+
+
+def named_in(text: str) -> set[str]:
+    """The functions, types and constants that a text defines."""
+    pattern = r"\b(?:fn|struct|enum|trait|type|def|class|(?:const|static)(?! fn)) (\w+)|^(\w+)\(\)"
+    return {word or script for word, script in re.findall(pattern, text, re.M)}
+
+
+@functools.cache
+def defined_in(path: str) -> set[str]:
+    """The names that a file defines; those inside an impl also as `Type::function`."""
+    text = read(path)
+    parts = re.findall(r"^(?:pub(?:\(crate\))? )?(?:impl|trait)\b([^{;]*)\{([\s\S]*?)^\}", text, re.M)
+    words = [(word, body) for head, body in parts for word in re.findall(r"\w+", head)]
+    return named_in(text) | {f"{word}::{name}" for word, body in words for name in named_in(body)}
+
+
+def places_in(text: str) -> Iterator[tuple[str, str, list[str]]]:
+    """Each place that a text names, with the crate named last before it and the names beside it."""
+    crate = ""
+    for token in re.finditer(r"`([^`]+)`", text):
+        named = token[1].partition("/")[0]
+        crate = named if (TOP / "crates" / named).is_dir() else crate
+        if PLACE.fullmatch(token[0]):
+            # names beside a place are no farther away
+            before, after = (
+                text[max(0, token.start() - 200) : token.start()],
+                text[token.end() : token.end() + 200],
+            )
+            beside = [
+                re.search(rf"({NAMES}) \($", before),  # `name` (`path`
+                re.search(rf"\(({NAMES}), $", before),  # (`name`, `path`
+                re.match(rf": ({NAMES})", after),  # `path`: `name`
+            ]
+            rows = [found[1].replace(" and ", " ") for found in beside if found]
+            yield token[1], crate, [name for row in rows for name in re.findall(r"[\w:]+", row)]
+
+
+def test_places_of_the_map(faults: Faults) -> None:
+    """The files that docs/ARCHITECTURE.md names, and the functions beside them, in its text and in its drawing."""
+    page = "docs/ARCHITECTURE.md"
+    parts = re.split(r"^```.*$", read(page), flags=re.M)
+    text, drawing = " ".join(parts[::2]), "".join(parts[1::2])
+    found = [*places_in(one_line(text))]
+    lines = re.findall(r"^ \| [ \d]{2}  (\S+) +([\w:]+(?:, [\w:]+)*)(?:  .*)?$", drawing, re.M)
+    found += [(path, "", names.split(", ")) for path, names in lines]
+    for place, crate, names in found:
+        path = file_of(place, crate)
+        if not path:
+            faults.append(f"{page}: there is no {place}")
+        elif (TOP / path).is_file():
+            faults.extend(f"{page}: {path} has no {name}" for name in names if name not in defined_in(path))
+    faults.same(
+        f"{page}, lines of the drawing", sum("/src/" in line for line in drawing.splitlines()), len(lines)
+    )
+
+
+def test_claims(faults: Faults) -> None:
+    """The contracts that docs/PROOFS.md names, with the callers and the files of lemmas of each."""
+    table = [line.split("\t") for line in read("tests/claims.tsv").splitlines()[1:]]
+    proved = between(read("docs/PROOFS.md"), "\n## What is proved\n", "\n## ")
+    rows = re.findall(r"^\| (?!Claim)[^|]* \| ([^|]*) \|$", proved, re.M)
+    faults.same("tests/claims.tsv, contracts", set(rows), {row[0] for row in table})
+    lemmas = {path.stem for path in (TOP / "crates").resolve().glob("*/proofs/**/*.antt")}
+    for _, callers, files in table:
+        for name, row in re.findall(r"(\w+): ((?:`\w+`(?:, )?)+)", callers):
+            path = f"crates/rds_uses/src/{name}.rt"
+            defined = defined_in(path) if exists(path) else set()
+            missing = [caller for caller in re.findall(r"\w+", row) if caller not in defined]
+            faults.extend(f"tests/claims.tsv: {path} has no {caller}" for caller in missing)
+        missing = [name for name in re.findall(r"`(\w+)`", files) if name not in lemmas]
+        faults.extend(f"tests/claims.tsv: no proofs have {name}.antt" for name in missing)
+
+
+def test_whole_proofs_by_hand() -> None:
+    # a proof by hand could set a history to anything, so there are two: of how a history begins, and of how it grows
+    found = sorted(path for path in (TOP / "crates").resolve().glob("*/proofs/**/Proof.antt"))
+    assert [str(path).split("/crates/")[1] for path in found] == [
+        f"rds_tool/proofs/trace/Trace/{name}/Proof.antt" for name in ("new", "note")
+    ]
+
+
+@pytest.mark.parametrize("folder", ["tests", "examples"])
+def test_maps(faults: Faults, folder: str) -> None:
+    """The files of a folder, and those that the tables of its page name."""
+    cells = re.findall(r"^\|([^|]*)\|", read(f"{folder}/README.md"), re.M)
+    named = {name for cell in cells for name in re.findall(r"`([\w./]+)`", cell) if not name.endswith("/")}
+    held = [path.relative_to(TOP / folder) for path in (TOP / folder).rglob("*") if path.is_file()]
+    names = {str(path) for path in held if not {"__pycache__", ".mypy_cache", "out"} & {*path.parts}}
+    faults.same(f"{folder}/README.md, files", names - {"README.md"}, named)
+
+
+def test_glossary(faults: Faults) -> None:
+    words = re.findall(r"^\| ((?!Field term|Word)\w[^|]*) \|", read("docs/GLOSSARY.md"), re.M)
+    twice = {word for word in words if words.count(word) > 1}
+    faults.same("docs/GLOSSARY.md, words that are there twice", set(), twice)
+
+
+# ---- links and commands
+
+
+def headings(path: str) -> set[str]:
+    """What the headings of a page are called in a link."""
+    heads = re.findall(r"^#+ (.*)$", read(path), re.M)
+    return {re.sub(r"[^\w\- ]", "", head.lower()).replace(" ", "-") for head in heads}
+
+
+def test_links(faults: Faults) -> None:
+    """Links lead somewhere, and from README.md a way of links leads to each page."""
+    links: dict[str, set[str]] = {page: set() for page in PAGES + MONITOR_PAGES}
+    for page in links:
+        for link in re.findall(r"\]\(([^)\s]+)\)", re.sub(r"^```[\s\S]*?^```", "", read(page), flags=re.M)):
+            path, _, heading = link.partition("#")
+            target = os.path.normpath(os.path.join(os.path.dirname(page), path)) if path else page
+            if "://" in link:
+                continue
+            if not exists(target):
+                faults.append(f"{page}: the link {link} leads nowhere")
+            elif heading and heading not in headings(target):
+                faults.append(f"{page}: the link {link} names no heading")
+            links[page].add(target)
+    found: set[str] = set()
+    new = {"README.md"}
+    while new:
+        found |= new
+        new = {target for page in new for target in links.get(page, ())} - found
+    faults.extend(f"{page}: no link leads here" for page in sorted({*links} - found))
+
+
+def lines_of_code(page: str) -> list[str]:
+    """The lines of code of a page, and its text in backquotes; of the manual page all lines."""
+    text = read(page)
+    if page == "rds.1":
+        return text.replace("$EXAMPLES/", "examples/").splitlines()
+    return re.findall(r"^    (?:\$ )?(\S.*)$", text, re.M) + re.findall(r"`([^`\n]+)`", text)
+
+
+@pytest.mark.parametrize("page", PAGES + ["rds.1"])
+def test_commands(program: Program, faults: Faults, page: str) -> None:
+    """The scripts, the targets of make, and the commands of rds with their options that a page shows."""
+    targets = set(re.findall(r"^([a-z-]+)(?: [a-z-]+)*:", read("Makefile"), re.M))
+    for line in lines_of_code(page):
+        scripts = re.findall(r"(?<![\w/.])((?:examples|tests|lib|packaging)/[\w/]+\.\w+)", line)
+        faults.extend(f"{page}: there is no {path}" for path in scripts if not exists(path))
+        called = re.findall(r"^make ([a-z-]+)", line)
+        faults.extend(f"{page}: there is no target {target}" for target in called if target not in targets)
+        for command, words in re.findall(r"(?:^|[|;(] *|until )rds ([a-z]+)\b([^|<>;()]*)", line):
+            if command not in {*program.options, "help"}:
+                faults.append(f"{page}: rds has no command {command}")
+            known = {*program.options.get(command, {}), "help"}
+            unknown = [name for name in re.findall(r"(?<!\S)--([a-z]+)", words) if name not in known]
+            faults.extend(f"{page}: rds {command} has no option --{name}" for name in unknown)

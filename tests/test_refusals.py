@@ -1,0 +1,164 @@
+"""Each allocation, read, write and start of a thread of some jobs is refused in turn, and then that one and all after it.
+
+The answer has to be the job's own, or the error with nothing written. If a write is refused, a prefix of the text may be written; if a
+stream is followed, its first rows, each whole. If a thread is not started, the job goes on without it, and the answer is the job's own.
+`rds_bench --calls` calls the libraries directly, and repeats each refused call. refuse.c refuses the calls.
+"""
+
+from __future__ import annotations
+
+import itertools
+import os
+import subprocess
+from pathlib import Path
+from typing import Any, Callable, Iterator, NamedTuple
+
+import pytest
+from inputs import make_refuse
+from running import LIMIT, TOP, Ran, wrote
+
+KINDS = ["alloc", "read", "write", "thread"]
+ZERO = b"00003f000019800005a00001b4"
+ZERO_BYTES = bytes.fromhex(ZERO.decode())
+STATION = (TOP / "examples" / "station.bin").read_bytes()
+LINES = b"1234 2540 5244 5320\n0000 0800 0000 0000\n"
+
+
+class Job(NamedTuple):
+    """A job by its words and its input, and how many threads it starts at least."""
+
+    words: str
+    given: bytes
+    threads: int = 0
+
+
+JOBS = [
+    Job("follow --burst 0", ZERO_BYTES[:10]),
+    # rows by three workers, each of which has 128 KiB at least; a worker more for the second piece
+    Job("scan --workers 3", 16 * STATION, 2),
+    Job("list --pieces 2 --workers 3", 16 * STATION, 3),
+    # a stream of three reads and the end
+    Job("follow", 9 * STATION),
+    Job("scan --hex", ZERO),
+    Job("list --hex --pieces 1 --workers 1", ZERO),
+    Job("list --hex --pieces 2 --workers 2", ZERO + b"00003f000019800025a00001b4"),
+    Job("totals --hex --pieces 16 --workers 4", ZERO + b"00003f000019800025a00001b4"),
+    # a group of version B, and a burst of five bits
+    Job("list --hex", b"00003f02002c10000d400001b4"),
+    Job("list --hex --burst 5 --pieces 1", b"00003f000019800005a00001a5"),
+    # two groups with a cut between them; two bad blocks of three lose the lock; a block that touches a gap
+    Job("list --hex --pieces 2 --workers 2", 2 * ZERO),
+    Job("list --hex --share 2 --of 3 --pieces 2 --workers 2", ZERO + b"000037400019800005240001b4"),
+    Job("list --hex --gaps 104-105 --pieces 2 --workers 2", 2 * ZERO),
+    Job("scan --hex --gaps 104-105,110-111", 2 * ZERO),
+    # three levels of joins by three workers
+    Job("list --pieces 8 --workers 3", 16 * STATION, 5),
+    Job("encode --hex", b"0000 0000 0000 0000\n"),
+    Job("encode", b"1234 2540 5244 5320\n   \n\n0000080000000000"),
+    # two groups encoded as digits, and the list of these
+    Job("encode --hex", LINES),
+    Job("list --hex --pieces 2 --workers 2", b"12341a89501ac52449594c83fb\n00003f02002c10000d400001b4\n"),
+    # a stream that ends in a byte, with a gap in its last block
+    Job("follow --bits 101 --gaps 1-2,99-101", ZERO_BYTES),
+]
+
+
+@pytest.fixture(scope="session")
+def refuse(tmp_path_factory: pytest.TempPathFactory) -> Path:
+    """The library that refuses and counts calls."""
+    return make_refuse(tmp_path_factory.mktemp("refuse"))
+
+
+class Refusing:
+    """Runs of a job with calls refused."""
+
+    def __init__(self, refuse: Path, folder: Path, program: str, given: bytes) -> None:
+        self.folder, self.program = folder, program
+        (folder / "in").write_bytes(given)
+        self.variables = {
+            **os.environ,
+            "LD_PRELOAD": str(refuse),
+            "REFUSE_COUNT": str(folder / "count"),
+            "LIMIT": str(LIMIT),
+        }
+
+    def run(self, words: list[str], kind: str, at: int, is_on: bool = False) -> Ran:
+        """The program with its call `at` of a kind refused, and all after it too if `is_on`."""
+        chosen = {"REFUSE_CALL": kind, "REFUSE_AT": str(at)} | ({"REFUSE_ON": "1"} if is_on else {})
+        names = ("out", "err")
+        with open(self.folder / "in") as given, open(self.folder / "out", "wb") as out, open(
+            self.folder / "err", "wb"
+        ) as err:
+            command, variables = [self.program, *words], {**self.variables, **chosen}
+            status = subprocess.run(
+                command, stdin=given, stdout=out, stderr=err, env=variables, close_fds=False
+            ).returncode
+        return Ran(status, *((self.folder / name).read_bytes() for name in names))
+
+    def calls(self, words: list[str], kind: str) -> int:
+        """How many such calls a job makes."""
+        self.run(words, kind, 0)
+        counts = dict(line.split() for line in (self.folder / "count").read_text().splitlines())
+        return int(counts[kind])
+
+
+def is_refusal(ended: Ran, *names: str) -> bool:
+    return ended.status == 1 and ended.err.decode() in [f"refused {name}\n" for name in names]
+
+
+def is_right(kind: str, ended: Ran, wanted: bytes, is_stream: bool) -> bool:
+    """Whether an answer is allowed, with a call of that kind refused."""
+    is_whole = ended == (0, wanted, b"")
+    has_prefix = wanted.startswith(ended.out)
+    left = has_prefix and ended.out[-1:] in (b"", b"\n") if is_stream else ended.out == b""
+    if kind == "alloc":
+        return is_whole or is_refusal(ended, "8 OutOfMemory") and left
+    if kind == "read":
+        return is_refusal(ended, "9 Read") and left
+    if kind == "write":
+        return is_refusal(ended, "10 Write") and has_prefix
+    return is_whole
+
+
+def each_call(job: Refusing, words: list[str], kind: str) -> Iterator[tuple[str, Ran]]:
+    """Refuses each call of a kind in turn, alone and with all after it: what was refused, and the answer."""
+    for at, is_on in itertools.product(range(1, job.calls(words, kind) + 1), (False, True)):
+        yield f"{kind} {at}{', and all after it' * is_on}", job.run(words, kind, at, is_on)
+
+
+@pytest.mark.parametrize("kind", KINDS)
+@pytest.mark.parametrize("job", JOBS, ids=[f"{number}-{job.words}" for number, job in enumerate(JOBS)])
+def test_refused(
+    rds: str, refuse: Path, tmp_path: Path, job: Job, kind: str, record_property: Callable[..., None]
+) -> None:
+    refusing, words = Refusing(refuse, tmp_path, rds, job.given), job.words.split()
+    wanted = wrote(rds, *words, data=job.given)
+    if kind == "thread" and job.threads:
+        assert refusing.calls(words, kind) >= job.threads
+    tried = 0
+    for refused, ended in each_call(refusing, words, kind):
+        assert is_right(kind, ended, wanted, words[0] == "follow"), f"{refused} refused: {ended}"
+        tried += 1
+    assert tried or kind == "thread"
+    record_property("cases", tried)
+
+
+def test_list_by_one_worker_starts_no_thread(rds: str, refuse: Path, tmp_path: Path) -> None:
+    assert (
+        Refusing(refuse, tmp_path, rds, 7 * STATION).calls("list --pieces 2 --workers 1".split(), "thread")
+        == 0
+    )
+
+
+def test_refused_calls_of_the_libraries(
+    rds_bench: str, refuse: Path, tmp_path: Path, record_property: Any
+) -> None:
+    """rds_bench names no error of the program's: it says so in words of its own."""
+    bench, wanted, tried = Refusing(refuse, tmp_path, rds_bench, b""), wrote(rds_bench, "--calls"), 0
+    assert wanted
+    for refused, ended in each_call(bench, ["--calls"], "alloc"):
+        is_refused = ended.status == 1 and ended.out == b"" and ended.err != b""
+        assert is_refused or ended == (0, wanted, b""), f"{refused} refused: {ended}"
+        tried += 1
+    assert tried
+    record_property("cases", tried)
