@@ -77,6 +77,8 @@ class Inputs:
             return STATION
         rows = {
             "station": lambda: self.groups,
+            # There is work for two workers.
+            "twice": lambda: 2 * self.groups,
             "hiss": lambda: noise(29, 12000),
             "losing": lambda: losing(self.groups),
             "damaged": lambda: damaged(self.groups),
@@ -172,8 +174,11 @@ GROWING = [
     *(
         f"{name} {job}"
         for name in ("station", "damaged", "losing", "hiss")
-        for job in ("scan", "list --pieces 1 --workers 1", "totals --workers 2")
+        for job in ("scan --workers 1", "list --pieces 1 --workers 1", "totals --workers 1")
     ),
+    # Each size is for two workers: a thread that shares its processor with another takes more CPU time.
+    "twice scan --workers 2",
+    "twice totals --workers 2",
     "losing list --loss 1 --reach 8 --pieces 1 --workers 1",
     "losing totals --share 3 --of 20 --pieces PIECES --workers 1",
     "worst totals --loss 1 --pieces PIECES --workers 2",
