@@ -253,7 +253,7 @@ uint8_t rds_push(const uint8_t *bytes, size_t bytes_len, const rds_gap_t *gaps, 
 
 /* Enough bytes of scratch for rds_push_with, without gaps: 10240 for tables and bytes, and 56 per item that is found at once. */
 #define RDS_PUSH_SCRATCH(len, room)                                                                                                    \
-    (11136 + ((size_t)(len) < 960 && 16 * (size_t)(len) < (size_t)(room) ? 896 * (size_t)(len)                                          \
+    (9088 + ((size_t)(len) < 960 && 16 * (size_t)(len) < (size_t)(room) ? 896 * (size_t)(len)                                          \
              : (size_t)(room) < 15360                                   ? 56 * (size_t)(room)                                          \
                                                                         : (size_t)860160))
 

@@ -17,7 +17,7 @@ use Rattle.rds_code.specs.Remainder.{rem}
 use Rattle.rds_code.specs.Offsets.{word, number, offset_of}
 use Rattle.rds_code.specs.Bursts.{IsBurst, burst_length}
 use Rattle.rds_code.specs.Outcomes.{outcome_number, burst_outcome, wanted_after, wanted_of_info}
-use Rattle.rds_code.specs.Inside.Outcomes.{HasBurst, HasNoBurst, IsOutcome, IsTurn, StandIn, wanted_at}
+use Rattle.rds_code.specs.Inside.Outcomes.{HasBurst, HasNoBurst, IsEntry, IsOutcome, IsTurn, StandIn, wanted_at}
 use Rattle.rds_code.specs.Reading.{information, IsValid, wanted_offsets, corrections, by_only, reading}
 use Rattle.rds_code.proofs.RemainderLemmas.{twice}
 use Rattle.rds_code.proofs.BurstLemmas.{rem-burst, longer}
@@ -26,16 +26,16 @@ use Rattle.rds_code.proofs.CorrectionLemmas.{valid_word, word_offset}
 use Rattle.rds_code.proofs.ReadingLemmas.{NoneFits, OneFits, none_by_table, one_by_table, corrections_none, corrections_one, corrections_two, fitting, reads_valid, reads_corrected, third, only_B}
 
 -- one entry more in a table
-pub one_more : (IsEntry : ℕ → ℕ → Type 0) (table : List ℕ) (i k : ℕ) → i ≡ length table → StandIn IsEntry table → IsEntry i k → StandIn IsEntry (table ++ k ∷ [])
-one_more IsEntry table i k last stand here d less =
-    below_more (λ (n : ℕ). IsEntry n (slice_index (table ++ k ∷ []) n)) (length table)
-    (λ n before. subst (IsEntry n) (sym (get_or_append_left table (k ∷ []) 0 n before)) (stand n before))
-    (subst (IsEntry (length table)) (sym (get_or-append_seam table k [] 0)) (subst (λ (n : ℕ). IsEntry n k) last here))
+pub one_more : (limit : ℕ) (table : List ℕ) (i k : ℕ) → i ≡ length table → StandIn limit table → IsEntry limit i k → StandIn limit (table ++ k ∷ [])
+one_more limit table i k last stand here d less =
+    below_more (λ (n : ℕ). IsEntry limit n (slice_index (table ++ k ∷ []) n)) (length table)
+    (λ n before. subst (IsEntry limit n) (sym (get_or_append_left table (k ∷ []) 0 n before)) (stand n before))
+    (subst (IsEntry limit (length table)) (sym (get_or-append_seam table k [] 0)) (subst (λ (n : ℕ). IsEntry limit n k) last here))
     d (omega (arith, less, length-append table (k ∷ [])))
 
 -- the entry that was looked up
-pub entry_of : (IsEntry : ℕ → ℕ → Type 0) (table : List ℕ) (i k : ℕ) → i < length table → k ≡ get_or table i k → StandIn IsEntry table → IsEntry i k
-entry_of IsEntry table i k within is stand = subst (IsEntry i) (sym (is ∙ get_or_default table i k 0 within)) (stand i within)
+pub entry_of : (limit : ℕ) (table : List ℕ) (i k : ℕ) → i < length table → k ≡ get_or table i k → StandIn limit table → IsEntry limit i k
+entry_of limit table i k within is stand = subst (IsEntry limit i) (sym (is ∙ get_or_default table i k 0 within)) (stand i within)
 
 -- ---- the version bit
 

@@ -1,4 +1,4 @@
--- Tables of the outcomes of blocks by their remainders. `Outcomes` keeps them so, and no caller sees them.
+-- A table of the outcomes of blocks by their remainders. `Outcomes` keeps it so, and no caller sees it.
 use Rattle.std.specs.Prelude.{◌≡◌, ℕ, zero, suc, ◌/◌, ◌%◌, ◌<◌, ◌≤◌, ◌⊎◌, List, length, slice_index, bit_xor}
 use Rattle.std.specs.Int.{bit_at}
 use Rattle.std.specs.Int.Count.{ones}
@@ -35,20 +35,14 @@ wanted_at zero = OnlyC
 wanted_at (suc zero) = OnlyCx
 wanted_at (suc (suc v)) = Either
 
--- k is the outcome of block 3 for the triple i: of a version, in sixteens of sixteens, of its outcome with C, in sixteens,
--- and of that with C'
-pub record IsThird (i k : ℕ) : Type 0 where
-  pub value : (w limit : ℕ) → limit ≤ 5 → IsOutcome limit (bit_xor (rem w) (word C)) (i / 16 % 16)
-      → IsOutcome limit (bit_xor (rem w) (word Cx)) (i % 16)
-      → k ≡ outcome_number (reading w 3 (wanted_at (i / 256)) limit)
-  pub most : i / 16 % 16 ≤ 13 → i % 16 ≤ 13 → k ≤ 13
+-- an entry of the table: an outcome and, in sixteens, a turn
+abbrev pub IsEntry : ℕ → ℕ → ℕ → Type 0
+IsEntry limit d k = IsOutcome limit d (k % 16) × IsTurn limit d (k / 16)
 
--- the first entries of a table are so
-abbrev pub StandIn : (ℕ → ℕ → Type 0) → List ℕ → Type 0
-StandIn IsEntry table = (i : ℕ) → i < length table → IsEntry i (slice_index table i)
+-- the entries of a table are those by the first remainders
+abbrev pub StandIn : ℕ → List ℕ → Type 0
+StandIn limit table = (i : ℕ) → i < length table → IsEntry limit i (slice_index table i)
 
-pub record AreOutcomes (limit : ℕ) (outcomes turns thirds : List ℕ) : Type 0 where
-  pub long : (length outcomes ≡ 1024) × (length turns ≡ 1024) × (length thirds ≡ 768)
-  pub each_outcome : StandIn (IsOutcome limit) outcomes
-  pub each_turn : StandIn (IsTurn limit) turns
-  pub each_third : StandIn IsThird thirds
+pub record AreEntries (limit : ℕ) (entries : List ℕ) : Type 0 where
+  pub long : length entries ≡ 1024
+  pub each : StandIn limit entries

@@ -1,4 +1,4 @@
-use Rattle.std.proofs.Common.{ℕ, ◌∙◌, ap, subst, bit_xor}
+use Rattle.std.proofs.Common.{ℕ, ◌/◌, ◌∙◌, ap, subst, bit_xor}
 use Rattle.std.proofs.lemmas.Nat.Bits.{shr_and_one}
 use Rattle.rds_code.specs.Inside.Outcomes.{IsTurn, wanted_at}
 use Rattle.rds_code.specs.Offsets.{word}
@@ -8,8 +8,8 @@ use Rattle.rds_code.proofs.outcomes.Outcomes.wanted_after.Goals as goal
 
 pub returns : goal.returns
 returns c =
-    let turn : ℕ = c.turn-turn.result in
+    let turn : ℕ = c.entry-turn.result / 16 in
     c.wanted_at.ensures
     ∙ ap (λ (bit : ℕ). wanted_at (bit_xor turn bit)) (shr_and_one c.args.w 21)
-    ∙ wanted_by_turn c.args.w c.args.self.now c.turn-turn.ensures.few turn
-    (subst (λ (r : ℕ). IsTurn c.args.self.now (bit_xor r (word B)) turn) c.rem26.ensures.value c.turn-turn.ensures.turn)
+    ∙ wanted_by_turn c.args.w c.args.self.now c.entry-turn.ensures.few turn
+    (subst (λ (r : ℕ). IsTurn c.args.self.now (bit_xor r (word B)) turn) c.rem26.ensures.value c.entry-turn.ensures.entry.1)
