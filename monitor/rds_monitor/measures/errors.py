@@ -10,7 +10,7 @@ import numpy
 from ..rows.clock import clock_of_options, clock_options, number_of
 from ..rows.extent import Extent, write_table
 from ..rows.inputs import describe, input_options, open_input
-from ..rows.items import BLOCK_BITS, MISSING, Rows
+from ..rows.items import BLOCK_BITS, CORRECTED, GROUP_BITS, LOST, VALID, Rows
 from ..rows.listing import groups_in, kinds_of, places_of
 
 
@@ -46,21 +46,36 @@ class Errors:
             more = max(count, 2 * len(self._table)) - len(self._table)
             self._table = numpy.concatenate([self._table, numpy.zeros((more, 4), "i8")])
 
+    def _slot(self, place: int) -> int:
+        return max(int(place / self.bits) - self._first, 0)
+
     def add(self, rows: Rows) -> None:
         groups = groups_in(rows)
-        kinds = kinds_of(groups)
-        read = kinds != MISSING
-        places = places_of(groups)[read]
-        if not len(places):
+        if not len(groups):
             return
-        slots = numpy.maximum((places / self.bits).astype("i8") - self._first, 0)
-        first, after = int(slots.min()), int(slots.max()) + 1
+        first, after = self._slot(groups["place"][0]), self._slot(groups["place"][-1] + GROUP_BITS) + 1
         self._grow(after)
-        counts = numpy.bincount(4 * (slots - first) + kinds[read], minlength=4 * (after - first))
-        self._table[first:after] += counts.reshape(-1, 4)
-        # Places go up, so the last block of an interval is before the first one of the next.
-        last = numpy.append(numpy.flatnonzero(slots[1:] != slots[:-1]), len(slots) - 1)
-        self._table[slots[last], 0] = numpy.maximum(self._table[slots[last], 0], places[last] + BLOCK_BITS)
+        kinds, cuts = kinds_of(groups).reshape(-1), self._cuts(groups, first, after)
+        read = numpy.flatnonzero(kinds)
+        # The last block that was read before the end of each interval: perhaps one of an interval before.
+        last = read[numpy.maximum(numpy.searchsorted(read, cuts[1:]) - 1, 0)]
+        heard = numpy.flatnonzero((last >= cuts[:-1]) & (last < cuts[1:]))
+        last, table = last[heard], self._table[first:after]
+        ends = places_of(groups[last // 4])[numpy.arange(len(last)), last % 4] + BLOCK_BITS
+        table[heard, 0] = numpy.maximum(table[heard, 0], ends)
+        for column, kind in enumerate((LOST, VALID, CORRECTED), 1):
+            # In the intervals between two of these no block was read.
+            table[heard, column] += numpy.add.reduceat(kinds == kind, cuts[heard], dtype="i4")
+
+    def _cuts(self, groups: Rows, first: int, after: int) -> Rows:
+        """How many of the groups' blocks come before each of these intervals, and how many there are."""
+        edges = self.bits * (self._first + numpy.arange(first + 1, after))
+        # The group before an edge may have blocks after it.
+        group = numpy.maximum(numpy.searchsorted(groups["place"], edges) - 1, 0)
+        blocks = numpy.ceil((edges - places_of(groups[group])[:, 0]) / BLOCK_BITS)
+        within = 4 * group + numpy.clip(blocks, 0, 4).astype("i8")
+        cuts: Rows = numpy.concatenate([[0], within, [4 * len(groups)]])
+        return cuts
 
     def row(self, number: int) -> List[int]:
         """Of an interval: where its last block ends, and how many are uncorrectable, valid, and corrected."""
