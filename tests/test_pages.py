@@ -177,58 +177,75 @@ def test_errors_and_rows(program: Program, faults: Faults) -> None:
 # ---- numbers
 
 COUNTED = {"four": "4", "eight": "8", "tenth": "10", "hundredth": "100"}
-
-# A number in docs/TESTING.md, and the same number in the test.
+DIFFERENTIAL, WORK, GROWTH = (f"tests/test_{name}.py" for name in ("differential", "work", "growth"))
+REFUSAL, HEADER = "crates/rds_abi/src/refusal.rt", "lib/rds.h"
+# A number in a page, and the same number in its source. A pattern may tell it several times.
 TOLD = (
-    (r"a recording for each of ([\d,]+) seeds", "tests/test_differential.py", r"^SEEDS, .* = (\d+),"),
-    (r"compares ([\d,]+) streams", "tests/test_differential.py", r"^SEEDS, .* = \d+, (\d+),"),
-    (r"`rds list` over ([\d,]+) random recordings", "tests/test_library.py", r"^RECORDINGS = (\d+)"),
-    (r"Random calls of ([\d,]+) seeds", "tests/test_library.py", r'^SEEDS = \{"0.2": (\d+)'),
-    (r"and (\d+) states and", "tests/library/calls.py", r"in range\((\d+)\):\n +begin ="),
-    (r"(\w+) threads call at once", "tests/test_library.py", r"ThreadPoolExecutor\((\d+)\)"),
-    (r"A size is (\w+) times the one before", "tests/test_growth.py", r"^SIZES = \(1, (\d+),"),
-    (r"may take (\w+) times its processor time", "tests/test_growth.py", r"^MOST, .* = (\d+),"),
-    (r"past its bound (\w+) times in a row", "tests/test_growth.py", r"^MOST, .*, (\d+)$"),
-    (r"the measurement, and a (\w+) to spare", "tests/test_work.py", r"spare = (\d+) if"),
-    (r"it is a (\w+), so that one more table shows", "tests/test_work.py", r"spare = \d+ if .* else (\d+)"),
-    (r"64 KiB is allowed, and (\w+) more", "tests/test_work.py", r"size // 65536 \+ (\d+)"),
+    (TESTING, r"a recording for each of ([\d,]+) seeds", DIFFERENTIAL, r"^SEEDS, .* = (\d+),"),
+    (TESTING, r"compares ([\d,]+) streams", DIFFERENTIAL, r"^SEEDS, .* = \d+, (\d+),"),
+    (TESTING, r"`rds list` over ([\d,]+) random recordings", "tests/test_library.py", r"^RECORDINGS = (\d+)"),
+    (TESTING, r"Random calls of ([\d,]+) seeds", "tests/test_library.py", r'^SEEDS = \{"0.2": (\d+)'),
+    (TESTING, r"and (\d+) states and", "tests/library/calls.py", r"in range\((\d+)\):\n +begin ="),
+    (TESTING, r"(\w+) threads call at once", "tests/test_library.py", r"ThreadPoolExecutor\((\d+)\)"),
+    (TESTING, r"A size is (\w+) times the one before", GROWTH, r"^SIZES = \(1, (\d+),"),
+    (TESTING, r"may take (\w+) times its processor time", GROWTH, r"^MOST, .* = (\d+),"),
+    (TESTING, r"past its bound (\w+) times in a row", GROWTH, r"^MOST, .*, (\d+)$"),
+    (TESTING, r"the measurement, and a (\w+) to spare", WORK, r"spare = (\d+) if"),
+    (TESTING, r"it is a (\w+), so that one more table shows", WORK, r"spare = \d+ if .* else (\d+)"),
+    (TESTING, r"64 KiB is allowed, and (\w+) more", WORK, r"size // 65536 \+ (\d+)"),
+    (HEADER, r"the last (\d+) bytes that", "crates/rds_abi/src/stream.rt", r"MOST_KEPT: u64 = (\d+);"),
+    (
+        HEADER,
+        r"(?:hears up to|and of the) (\d+) bits",
+        "crates/rds_abi/src/part.rt",
+        r"HEARD_BEFORE: u64 = (\d+);",
+    ),
+    (HEADER, r"or as (\d+) bytes may", "crates/rds_live/src/room.rt", r"AT_ONCE: usize = (\d+);"),
+    (
+        HEADER,
+        r"items(?:\[|, )(\d+)(?:\];|, &taken)",
+        "crates/rds_live/src/stream_decoder.rt",
+        r"ITEMS_A_BYTE: usize = (\d+)",
+    ),
+    (
+        HEADER,
+        r"(?:room for|completes at most|count is at most) (\d+)",
+        "crates/rds_live/src/stream_decoder.rt",
+        r"ITEMS_A_BYTE: usize = (\d+)",
+    ),
+    (HEADER, r"The (\d+) bits of a group", "docs/MODEL.md", r"a group of (\d+) bits"),
+    (HEADER, r"2\^(\d+) bits", "crates/rds_stream/src/packed.rt", r"MOST_BITS: u64 = 1 << (\d+);"),
+    (HEADER, r"at most (\d+) bytes of stack", "tests/test_library.py", r"^STACK = (\d+)"),
+    (
+        HEADER,
+        r"(?:more than |word of |A |a )(\d+)(?: bits|-bit word)",
+        REFUSAL,
+        r"word of more than (\d+) bits",
+    ),
+    (
+        HEADER,
+        r"(?:burst is above|corrected, in bits: 0 to|up to limit bits, 0 to|their burst: 1 to) (\d+)",
+        REFUSAL,
+        r"limit is above (\d+)",
+    ),
+    (HEADER, r"(?:reach is not|number of blocks apart:) 1 to (\d+)", REFUSAL, r"reach is not 1 to (\d+)"),
+    (HEADER, r"(?:loss is not|bad blocks lose sync:) 1 to (\d+)", REFUSAL, r"loss is not 1 to (\d+)"),
+    (HEADER, r"(?:of, or of above|last blocks: loss to) (\d+)", REFUSAL, r"or more, up to (\d+)"),
+    (HEADER, r"the library's own from (\d+) on", REFUSAL, r"Refusal::SmallRoom => (\d+),"),
 )
 
 
-def count_in(pattern: str, text: str) -> str | None:
-    """The number at the first match of the pattern."""
-    found = re.search(pattern, text, re.M)
-    told = found and found[1].replace(",", "").lower()
-    return COUNTED.get(told, told) if told else None
+def numbers_in(pattern: str, text: str) -> set[str]:
+    """The numbers at the matches of the pattern."""
+    told = {number.replace(",", "").lower() for number in re.findall(pattern, text, re.M)}
+    return {COUNTED.get(number, number) for number in told}
 
 
-@pytest.mark.parametrize("told, path, source", TOLD, ids=[row[1] + row[0] for row in TOLD])
-def test_numbers_of_tests(faults: Faults, told: str, path: str, source: str) -> None:
-    page = one_line(read(TESTING))
-    faults.same(f"{TESTING}, '{told}' as in {path}", count_in(source, read(path)), count_in(told, page))
-
-
-def test_counts_of_tests(faults: Faults) -> None:
-    page = one_line(read(TESTING))
-    sums = len(read("tests/listings.sums").splitlines())
-    faults.same(
-        f"{TESTING}, sums of listings", str(sums), count_in(r"compares the sums of ([\d,]+) texts", page)
-    )
-    jobs = len(re.findall(r"^[^#]", read("tests/work.bounds"), re.M))
-    faults.same(
-        f"{TESTING}, jobs of test_work.py", str(jobs), count_in(r"`tests/test_work.py` runs (\d+) jobs", page)
-    )
-    jobs = len(re.findall(r"^    Job\(", read("tests/test_refusals.py"), re.M))
-    told_jobs = count_in(r"start of a thread of (\d+) jobs", page)
-    faults.same(f"{TESTING}, jobs of test_refusals.py", str(jobs), told_jobs)
-    rows = re.findall(
-        r"^\| (.*?) \| (\d+) times \|", between(read(TESTING), "\n| Job | At most |", "\n\n"), re.M
-    )
-    told = {f"{job} {times}" for text, times in rows for job in re.findall(r"`(\w+)", text)}
-    ratios = re.findall(
-        r"^\S+ : (\d+) : (?:~ )?(\w+)", between(read("tests/test_growth.py"), 'BESIDE = """', '"""'), re.M
-    )
-    faults.same(f"{TESTING}, ratios of test_growth.py", {f"{job} {times}" for times, job in ratios}, told)
+@pytest.mark.parametrize("page, told, path, source", TOLD, ids=[row[0] + row[1] for row in TOLD])
+def test_numbers(faults: Faults, page: str, told: str, path: str, source: str) -> None:
+    text = one_line(re.sub(r"\n \* ?", "\n", read(page)))
+    numbers = numbers_in(source, read(path))
+    faults.same(f"{page}, '{told}' as in {path}", numbers or {"a number"}, numbers_in(told, text))
 
 
 def test_table_of_the_gate(faults: Faults) -> None:

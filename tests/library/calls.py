@@ -9,18 +9,18 @@ import random
 import struct
 import subprocess
 from dataclasses import dataclass, replace
+from functools import cache
 from itertools import pairwise
-from typing import Iterable, Iterator, NamedTuple, Sequence
+from typing import Iterator, NamedTuple, Sequence
 
 import making
 import plain
 from plain import Item, Read, Recording, Rules, Run, State
 from running import LIMIT
 
-NAMES = (
-    "totals items run finish_run push finish finish_with remainder correct encode name numbers check".split()
-)
-REQUEST, ANSWER = struct.Struct("<7QqQ32s256s"), struct.Struct("<3Q3qQ256s128s")
+OF_ITEMS = "items run finish_run push push_with finish finish_with".split()
+NAMES = ["totals", *OF_ITEMS, *"remainder correct encode name numbers check".split()]
+REQUEST, ANSWER = struct.Struct("<7QqQ32s256s"), struct.Struct("<3Q4qQ256s128s")
 STATE, STREAM, TOTALS = struct.Struct("<2Q4IQ"), struct.Struct("<2I32sQ40s128s32sQ"), struct.Struct("<16Q")
 ITEM, BLOCK = struct.Struct("<Q32s4BI"), struct.Struct("<IH2B")
 MAGIC, VERSION, KEPT = 0x31534452, 1, 30
@@ -72,7 +72,7 @@ class Call:
 
 
 class Answer(NamedTuple):
-    """All that a call may write, and its allocations: how many were refused and not given back, and the most bytes at a time."""
+    """All that a call may write, its allocations (how many were refused and not given back, the most bytes at a time) and its stack."""
 
     refusal: int = 0
     taken: int = UNTOUCHED
@@ -80,6 +80,7 @@ class Answer(NamedTuple):
     refused: int = 0
     kept: int = 0
     most: int = 0
+    stack: int = 0
     is_room_left: int = 1
     known: bytes = bytes(256)
     found: bytes = bytes([PATTERN] * 128)
@@ -95,7 +96,7 @@ def ask(command: Sequence[str], calls: Sequence[Call]) -> list[Answer]:
         answer = Answer(*ANSWER.unpack_from(out, at))
         at += ANSWER.size
         size = 0 if answer.refusal else 13 * (len(call.data) // 8) if call.name == "encode" else 0
-        if not answer.refusal and call.name in NAMES[1:7]:
+        if not answer.refusal and call.name in OF_ITEMS:
             size = ITEM.size * answer.counted
         answers.append(answer._replace(room=out[at : at + size]))
         at += size
@@ -434,9 +435,9 @@ class Draw:
             chunk = call.data[done : min(last, done + chance.randrange(100))]
             asked = replace(call, name="push", data=chunk, known=known)
             wanted = push_answer(asked)
-            yield Asked(asked, wanted)
+            yield from self.by_both(asked, wanted)
             asked = replace(asked, room=chance.randrange(20))
-            yield Asked(asked, push_answer(asked))
+            yield from self.by_both(asked, push_answer(asked))
             known, items, done = wanted.known, items + wanted.counted, done + wanted.taken
         at_once = replace(call, name="push", data=call.data[:done], known=bytes(256))
         yield Asked(at_once, push_answer(at_once)._replace(known=known) if done else push_answer(at_once))
@@ -452,6 +453,18 @@ class Draw:
         ended = replace(call, name="finish", data=b"", bits=0, known=known)
         yield Asked(ended, finish_answer(ended))
         self.left = left
+
+    def by_both(self, call: Call, wanted: Answer) -> Iterator[Asked]:
+        """A push, then one with a scratch as large as rds.h says, with half of it, and with none."""
+        yield Asked(call, wanted)
+        place = STREAM.unpack(call.known)[3]
+        near = sum(end > place - 240 and begin < place + 8 * len(call.data) for begin, end in call.gaps)
+        with_scratch = replace(call, name="push_with", begin=near, end=self.chance.randrange(64), bits=2)
+        yield Asked(with_scratch, wanted)
+        if not wanted.refusal:
+            for halves in (0, 1):
+                too_little = replace(with_scratch, bits=halves)
+                yield Asked(too_little, refused(too_little, OUT_OF_MEMORY))
 
     def streams(self) -> Iterator[Asked]:
         """A byte of a stream that is another; other rules; and numbers that no stream need have."""
@@ -490,5 +503,6 @@ def corrected(word: int, offset: int, limit: int) -> Read:
     return Read(int(offsets[0]), int(burst[0]), int(info[0]))
 
 
-def drawn(seeds: Iterable[int]) -> list[Asked]:
+@cache
+def drawn(seeds: range) -> list[Asked]:
     return [asked for seed in seeds for asked in Draw(seed).all()]
