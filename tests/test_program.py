@@ -115,37 +115,6 @@ def test_argument_that_is_not_utf_8(rds: str) -> None:
 
 # ---- help
 
-OPTIONS = """Options:
-      --hex          The input is hex digits of either case; blanks and line
-                     ends are ignored
-      --bits <N>     Decode only the first N bits, 0 to 68719476736
-                     [default: all bits of the input]
-      --gaps <TEXT>  Ignore the bits at these positions: FROM-TO,FROM-TO and so
-                     on, in order; TO is the first position after a gap
-      --burst <N>    Correct error bursts of up to N bits,
-                     0 to 5 [default: 2]
-      --reach <N>    Acquire sync by two valid blocks, at most N blocks apart,
-                     whose offset words fit each other, 1 to 8 [default: 3]
-      --loss <N>     Drop sync after N consecutive bad blocks, 1 to 64; a
-                     corrected block is bad; ignored with --share [default: 10]
-      --share <N>    Instead of --loss: drop sync when N of the last blocks are
-                     bad, 1 to the value of --of
-      --of <N>       How many of the last blocks --share looks at,
-                     1 to 64; ignored without --share [default: 64]
-      --pieces <N>   Cut the recording into at most N pieces, 1 or more; the
-                     output stays the same [default: 16]
-      --workers <N>  Use at most N threads, 1 to 256; the output stays
-                     the same [default: 4]
-      --progress     Show progress in one line on standard error
-  -h, --help         Print help
-"""
-
-
-@pytest.mark.parametrize("words", ["list --help", "help totals"])
-def test_options_in_help(rds: str, words: str) -> None:
-    text = wrote(rds, *words.split()).decode()
-    assert text[text.index("Options:") :].split("\n\n")[0].rstrip("\n") + "\n" == OPTIONS
-
 
 @pytest.mark.parametrize("command", ["", *COMMANDS])
 def test_help_fits_80_columns(rds: str, command: str) -> None:
