@@ -203,9 +203,12 @@ def test_program_of_0_2_without_the_library(programs: Programs, earlier: Path) -
 
 
 def test_table_by_plain() -> None:
-    known = {text: table.plain_text(text) for text in TABLE}
-    wanted = {text: answer for text, answer in TABLE.items() if known[text] is not None}
-    assert {text: known[text] for text in wanted} == wanted and len(wanted) == 64
+    """It knows neither names nor versions."""
+    known = {text: call for text in TABLE if (call := table.call_of(text)).name in calls.ANSWERS}
+    answers = {
+        text: table.answer_text(text, call, calls.answer_of(call), ERRORS) for text, call in known.items()
+    }
+    assert answers == {text: TABLE[text] for text in known} and len(known) == 80
 
 
 @pytest.fixture(scope="session")
@@ -264,7 +267,7 @@ def test_refused_allocations(programs: Programs, variant: str, cases: Cases) -> 
             answer._replace(most=0, stack=0) for answer in ask(programs(variant), [call, *each])
         )
         for one, answer in zip(each, answers):
-            none = calls.refused(one, calls.OUT_OF_MEMORY)._replace(refused=answer.refused)
+            none = calls.refused(one, "OUT_OF_MEMORY")._replace(refused=answer.refused)
             assert answer in (right._replace(refused=answer.refused), none), one
         refused = [answer.refused > 0 for answer in answers]
         assert right.refusal == 0 and any(refused) and not any(refused[-2:]), call.name

@@ -7,9 +7,9 @@ from types import ModuleType
 from typing import Any, Iterator, Sequence
 
 import plain
-from plain import Item, Read, Recording, Rules
+from plain import Item, Read, Rules
 
-from .calls import BLOCK, ITEM, TOTALS, Answer, Call, corrected, refusal_of
+from .calls import BLOCK, ITEM, TOTALS, Answer, Call
 
 OFFSETS = ("-", "A", "B", "C", "Cx", "D", "C|Cx")
 
@@ -53,10 +53,6 @@ def items_text(items: Sequence[Item]) -> str:
     return "; ".join([str(len(items)), *map(item_text, items)])
 
 
-def refusal_text(number: int, names: dict[int, str]) -> str:
-    return f"refused {number} {names[number]}"
-
-
 # ---- by the library for C
 
 
@@ -79,7 +75,7 @@ def items_of(room: bytes) -> Iterator[Item]:
 def answer_text(text: str, call: Call, answer: Answer, names: dict[int, str]) -> str:
     """The answer of calls.c or of plain.py to the call of a line."""
     if answer.refusal:
-        return refusal_text(answer.refusal, names)
+        return f"refused {answer.refusal} {names[answer.refusal]}"
     if call.name == "totals":
         return " ".join(map(str, TOTALS.unpack(answer.found)[:12]))
     if call.name == "items":
@@ -98,30 +94,6 @@ def answer_text(text: str, call: Call, answer: Answer, names: dict[int, str]) ->
         if text == "rules"
         else f"{version >> 16}.{version >> 8 & 255}.{version & 255}"
     )
-
-
-# ---- by plain.py, which knows neither names nor versions
-
-
-def plain_text(text: str) -> str | None:
-    call = call_of(text)
-    if call.name in ("name", "numbers"):
-        return None
-    if call.name == "remainder":
-        return None if call.begin >> 26 else f"{plain.remainder(call.begin):03X}"
-    if call.name == "correct":
-        return (
-            None
-            if call.begin >> 26 or call.bits > 5
-            else block_text(corrected(call.begin, call.end, call.bits))
-        )
-    if call.name == "encode":
-        return b"".join(map(plain.packed, struct.iter_unpack("<4H", call.data))).hex().upper()
-    if refusal_of(call):
-        return None
-    items = [*plain.report(Recording(call.data, call.bits, call.gaps), call.rules)]
-    totals = plain.totals_of(items).values()
-    return " ".join(map(str, totals)) if call.name == "totals" else items_text(items)
 
 
 # ---- by librds of Python
