@@ -281,70 +281,54 @@ def test_crates_and_edits(faults: Faults) -> None:
 
 # ---- files and functions
 
-# A path in backquotes, or the name of a file; and names of functions, types or constants in a row.
+# A path in backquotes, or the name of a file; and the name of a function, a type or a constant.
 PLACE = re.compile(r"`([\w.*-]*/[\w./*-]*|[\w-]+\.(?:rt|antt|py|sh|c|h|md|1|answers|bounds|sums))`")
-NAMES = r"(?:`[\w:]+`(?:, | and ))*`[\w:]+`"
-
-
-def file_of(place: str, crate: str) -> str | None:
-    """The file or folder that a page means by a place, which may be one of the crate that it named last."""
-    starts = ("", "crates/", f"crates/{crate}/", f"crates/{crate}/src/", f"crates/{crate}/specs/")
-    return next((start + place for start in starts if exists(start + place)), None)
-
-
-def named_in(text: str) -> set[str]:
-    """The functions, types and constants that a text defines."""
-    pattern = r"\b(?:fn|struct|enum|trait|type|def|class|(?:const|static)(?! fn)) (\w+)|^(\w+)\(\)"
-    return {word or script for word, script in re.findall(pattern, text, re.M)}
+NAME = re.compile(r"`((?:\w+::)?[a-z]+_\w+|[A-Z]\w+(?:::\w+)?)`")
 
 
 @functools.cache
 def defined_in(path: str) -> set[str]:
     """The names that a file defines; those inside an impl also as `Type::function`."""
+
+    def named_in(text: str) -> set[str]:
+        pattern = r"\b(?:fn|struct|enum|trait|type|def|class|(?:const|static)(?! fn)) (\w+)|^(\w+)\(\)"
+        return {word or script for word, script in re.findall(pattern, text, re.M)}
+
     text = read(path)
     parts = re.findall(r"^(?:pub(?:\(crate\))? )?(?:impl|trait)\b([^{;]*)\{([\s\S]*?)^\}", text, re.M)
     words = [(word, body) for head, body in parts for word in re.findall(r"\w+", head)]
     return named_in(text) | {f"{word}::{name}" for word, body in words for name in named_in(body)}
 
 
-def places_in(text: str) -> Iterator[tuple[str, str, list[str]]]:
-    """Each place that a text names, with the crate named last before it and the names beside it."""
+def places_in(text: str) -> Iterator[tuple[str, str | None]]:
+    """Each place that a text names, and its file or folder, which may be one of the crate that was named last before it."""
     crate = ""
     for token in re.finditer(r"`([^`]+)`", text):
         named = token[1].partition("/")[0]
-        crate = named if (TOP / "crates" / named).is_dir() else crate
+        crate = named if exists(f"crates/{named}") else crate
         if PLACE.fullmatch(token[0]):
-            # names beside a place are no farther away
-            before, after = (
-                text[max(0, token.start() - 200) : token.start()],
-                text[token.end() : token.end() + 200],
-            )
-            beside = [
-                re.search(rf"({NAMES}) \($", before),  # `name` (`path`
-                re.search(rf"\(({NAMES}), $", before),  # (`name`, `path`
-                re.match(rf": ({NAMES})", after),  # `path`: `name`
-            ]
-            rows = [found[1].replace(" and ", " ") for found in beside if found]
-            yield token[1], crate, [name for row in rows for name in re.findall(r"[\w:]+", row)]
+            starts = ("", "crates/", f"crates/{crate}/", f"crates/{crate}/src/", f"crates/{crate}/specs/")
+            yield token[1], next((start + token[1] for start in starts if exists(start + token[1])), None)
 
 
 def test_places_of_the_map(faults: Faults) -> None:
-    """The files that docs/ARCHITECTURE.md names, and the functions beside them, in its text and in its drawing."""
+    """The files and functions that docs/ARCHITECTURE.md names, in its text and in its drawing."""
     page = "docs/ARCHITECTURE.md"
     parts = re.split(r"^```.*$", read(page), flags=re.M)
-    text, drawing = " ".join(parts[::2]), "".join(parts[1::2])
-    found = [*places_in(one_line(text))]
+    text, drawing = one_line(" ".join(parts[::2])), "".join(parts[1::2])
     lines = re.findall(r"^ \| [ \d]{2}  (\S+) +([\w:]+(?:, [\w:]+)*)(?:  .*)?$", drawing, re.M)
-    found += [(path, "", names.split(", ")) for path, names in lines]
-    for place, crate, names in found:
-        path = file_of(place, crate)
-        if not path:
-            faults.append(f"{page}: there is no {place}")
-        elif (TOP / path).is_file():
-            faults.extend(f"{page}: {path} has no {name}" for name in names if name not in defined_in(path))
-    faults.same(
-        f"{page}, lines of the drawing", sum("/src/" in line for line in drawing.splitlines()), len(lines)
-    )
+    places = [*places_in(text), *(found for path, _ in lines for found in places_in(f"`{path}`"))]
+    faults.extend(f"{page}: there is no {place}" for place, path in places if not path)
+    for path, names in lines:
+        file = f"crates/{path}"
+        missing = [name for name in names.split(", ") if exists(file) and name not in defined_in(file)]
+        faults.extend(f"{page}: {file} has no {name}" for name in missing)
+    patterns = ("crates/*/src/**/*.rt", "crates/*/specs/**/*.antt", "tests/*.py", "lib/rds.h", "crates.txt")
+    texts = [path.read_text() for pattern in patterns for path in TOP.glob(pattern)]
+    held = {word for text in texts for word in re.findall(r"\w+", text)}
+    missing = [name for name in NAME.findall(text) if not {*name.split("::")} <= held and not exists(name)]
+    faults.extend(f"{page}: no source has {name}" for name in missing)
+    faults.same(f"{page}, lines of the drawing", drawing.count("/src/"), len(lines))
 
 
 def test_claims(faults: Faults) -> None:

@@ -16,7 +16,7 @@ import subprocess
 import threading
 import time
 from pathlib import Path
-from typing import Any, Callable, Iterator
+from typing import Any, Callable, Iterator, Sequence
 
 import pytest
 from running import LIMIT, TOP, Ran, run, said, wrote
@@ -106,11 +106,8 @@ def test_how_many_texts_are_compared_in_part() -> None:
 
 def test_argument_that_is_not_utf_8(rds: str) -> None:
     done = subprocess.run([rds, b"\xff"], capture_output=True, timeout=60)
-    assert Ran(done.returncode, done.stdout, done.stderr) == (
-        2,
-        b"",
-        b"error: an argument is not valid UTF-8\n",
-    )
+    fault = b"error: an argument is not valid UTF-8\n"
+    assert (done.returncode, done.stdout, done.stderr) == (2, b"", fault)
 
 
 # ---- help
@@ -124,20 +121,13 @@ def test_help_fits_80_columns(rds: str, command: str) -> None:
 # ---- every number of workers and pieces
 
 EIGHT = FIRST + "".join(f"group,{at},0,A,A:0000,B:0000,C:0000,D:0000\n" for at in range(104, 729, 104))
+EIGHT += totals(31, 0, 0, 0, 0, 0, 0, 0, 8, 7, 1, 0)
 EACH = {
     "list --hex --loss 1 --workers": (256, TEXTS["one_bad"], BY_ONE),
     "totals --hex --loss 1 --workers": (256, TEXTS["one_bad"], BY_ONE[BY_ONE.index("total,") :]),
     # by a reach of four some guesses lock on a false phase, and stay on it
-    "list --hex --reach 3 --workers 2 --pieces": (
-        208,
-        8 * ZERO,
-        EIGHT + totals(31, 0, 0, 0, 0, 0, 0, 0, 8, 7, 1, 0),
-    ),
-    "list --hex --reach 4 --workers 2 --pieces": (
-        208,
-        8 * ZERO,
-        EIGHT + totals(31, 0, 0, 0, 0, 0, 0, 0, 8, 7, 1, 0),
-    ),
+    "list --hex --reach 3 --workers 2 --pieces": (208, 8 * ZERO, EIGHT),
+    "list --hex --reach 4 --workers 2 --pieces": (208, 8 * ZERO, EIGHT),
 }
 
 
@@ -202,25 +192,20 @@ def test_stream_is_listed_as_its_recording(rds: str, station: bytes) -> None:
     assert ended == (0, wrote(rds, "list", *rules, data=station), b"")
 
 
-def rows_begun(rds: str, begun: bytes) -> bytes:
-    """The rows that a stream has given by then: all but the group in progress, and no totals."""
+def follow_begun(rds: str, begun: bytes, command: Sequence[str] = ()) -> tuple[Any, bytes]:
+    """A stream that has these bytes so far, and its rows by then: all but the group in progress, and no totals."""
     rows = [row for row in wrote(rds, "list", data=begun).splitlines(True) if not row.startswith(b"total")]
-    return b"".join(rows[:-1])
-
-
-def follow_begun(rds: str, begun: bytes, **options: Any) -> tuple[subprocess.Popen[bytes], bytes]:
-    """A stream that has these bytes so far, and its rows by then."""
-    child, rows, text = start(rds, "follow", **options), rows_begun(rds, begun), b""
+    child, wanted, text = start(*(command or (rds, "follow"))), b"".join(rows[:-1]), b""
     assert child.stdin and child.stdout
     child.stdin.write(begun)
     child.stdin.flush()
     os.set_blocking(child.stdout.fileno(), False)
     for _ in range(100):
-        text += os.read(child.stdout.fileno(), 65536) if len(text) < len(rows) and has_some(child) else b""
-        if len(text) >= len(rows):
+        text += os.read(child.stdout.fileno(), 65536) if len(text) < len(wanted) and has_some(child) else b""
+        if len(text) >= len(wanted):
             break
         time.sleep(0.05)
-    assert text == rows
+    assert text == wanted
     os.set_blocking(child.stdout.fileno(), True)
     return child, text
 
@@ -243,11 +228,8 @@ def test_rows_stay_if_a_stream_is_ended(rds: str, station: bytes, number: signal
 
 
 def test_stream_that_ignores_signals(rds: str, station: bytes) -> None:
-    def ignore() -> None:
-        signal.signal(signal.SIGINT, signal.SIG_IGN)
-        signal.signal(signal.SIGTERM, signal.SIG_IGN)
-
-    child, text = follow_begun(rds, station[:1305], preexec_fn=ignore)
+    ignored = ["bash", "-c", "trap '' INT TERM; exec \"$0\" follow", rds]
+    child, text = follow_begun(rds, station[:1305], ignored)
     child.send_signal(signal.SIGINT)
     child.send_signal(signal.SIGTERM)
     out, err = child.communicate(timeout=60)
@@ -293,22 +275,10 @@ PROGRESS = {
 }
 
 
-def progress_fault(told: str, line: str, seconds: float) -> str:
-    """What is wrong with a progress line: it has this form, comes twice a second at most, and is erased at the end."""
-    lines = told.split("\r")
-    if not any(re.fullmatch(line, text) for text in lines):
-        return f"no line of this form: {lines}"
-    if lines[-1].strip():
-        return f"the last line is left: {lines[-1]}"
-    return "too many lines" if sum("left" in text for text in lines) > 2 * int(seconds) + 2 else ""
-
-
 @pytest.mark.parametrize("words", PROGRESS)
 def test_progress_line(rds: str, station: bytes, words: str) -> None:
-    """Input and reader are late."""
-    wanted, began = wrote(rds, *words.split(), data=8 * station), time.monotonic()
+    """Input and reader are late. test_progress.py looks at the numbers and times of lines."""
     child = start(rds, *words.split(), "--progress")
-    assert child.stdin and child.stdout and child.stderr
     time.sleep(0.8)
     thread = threading.Thread(target=feed, args=(child.stdin, 8 * station, 1))
     thread.start()
@@ -316,15 +286,9 @@ def test_progress_line(rds: str, station: bytes, words: str) -> None:
     child.stdin = None
     out, err = child.communicate(timeout=60)
     thread.join(60)
-    assert (child.returncode, out) == (0, wanted)
-    assert not progress_fault(err.decode(), PROGRESS[words], time.monotonic() - began)
-
-
-def test_faults_of_a_progress_line() -> None:
-    told = "1 s left\r2 s left\r3 s left\r   "
-    assert not progress_fault(told, ". s left", 1)
-    assert progress_fault(told, ". m left", 1) and progress_fault(told, ". s left", 0)
-    assert progress_fault("1 s left", ". s left", 1)
+    assert (child.returncode, out) == (0, wrote(rds, *words.split(), data=8 * station))
+    lines = err.decode().split("\r")
+    assert any(re.fullmatch(PROGRESS[words], line) for line in lines), f"no line of this form: {lines}"
 
 
 # ---- devices and limits
@@ -346,14 +310,15 @@ REFUSED = {
 }
 
 
-def by_shell(rds: str, text: str, **variables: str) -> Ran:
-    return run("bash", "-c", text, env={**os.environ, "RDS": rds, **variables})
+def by_shell(rds: str, text: str, **variables: object) -> Ran:
+    names = {name: str(value) for name, value in variables.items()}
+    return run("bash", "-c", text, env={**os.environ, "RDS": rds, **names})
 
 
 @pytest.mark.parametrize("row", REFUSED)
 def test_device(rds: str, tmp_path: Path, row: str) -> None:
     (tmp_path / "in").write_text(ZERO)
-    ended = by_shell(rds, f'"$RDS" {row.split(" | ")[1]}', IN=str(tmp_path / "in"))
+    ended = by_shell(rds, f'"$RDS" {row.split(" | ")[1]}', IN=tmp_path / "in")
     assert ended == (1, b"", f"refused {REFUSED[row]}\n".encode())
 
 
@@ -361,7 +326,7 @@ def test_device(rds: str, tmp_path: Path, row: str) -> None:
 def test_past_a_file_size_limit(rds: str, tmp_path: Path, trap: str, status: int, err: bytes) -> None:
     # a file may have a block: the system ends the program by SIGXFSZ, and if that is ignored, writing fails
     script = f'({trap}ulimit -f 1; "$RDS" list <{SAMPLE} >$OUT 2>$ERR) 2>/dev/null'
-    ended = by_shell(rds, script, OUT=str(tmp_path / "out"), ERR=str(tmp_path / "err"))
+    ended = by_shell(rds, script, OUT=tmp_path / "out", ERR=tmp_path / "err")
     assert ended.status == status and (tmp_path / "err").read_bytes() == err
     assert (tmp_path / "out").read_text().startswith(ACQUIRED)
 
@@ -378,9 +343,8 @@ def test_stack_of_192_kib(rds: str, workers: int, times: int, record_property: C
 @pytest.mark.parametrize("command", ["totals", "list"])
 def test_64_workers_in_380_mb_of_address_space(rds: str, command: str) -> None:
     # their stacks are small: the system's default of 8 MB each would not fit
-    ended = by_shell(
-        rds, f'ulimit -s 8192 -v 380000; exec "$RDS" {command} --workers 64 --pieces 64 <{SAMPLE}'
-    )
+    words = f"{command} --workers 64 --pieces 64 <{SAMPLE}"
+    ended = by_shell(rds, f'ulimit -s 8192 -v 380000; exec "$RDS" {words}')
     assert (ended.status, ended.err) == (0, b"") and b"total,valid," in ended.out
 
 
