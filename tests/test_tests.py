@@ -23,7 +23,6 @@ import test_pages
 import test_program
 import test_progress
 import test_refusals
-import test_rows
 import test_work
 from inputs import make_refuse
 from running import TOP, Ran, needs, run, wrote
@@ -198,7 +197,7 @@ SEEN: list[tuple[str, str, Callable[[str, Path], object]]] = [
     ("silent", "", lambda rds, _: test_examples.test_first_decode(wrote(rds, "list", data=SAMPLE))),
     ("hanging", "", lambda rds, at: test_examples.Day(rds, at)),
     ("silent hanging", "", lambda rds, _: test_package.test_completion(rds, test_package.by_bash, "list")),
-    ("one_byte_short", "", lambda rds, _: test_rows.test_places_of_each_length(rds, 2)),
+    ("one_byte_short", "", lambda rds, _: test_differential.test_places_of_each_length(rds, 2)),
     (
         "one_worker_more",
         "threads, where",
