@@ -450,9 +450,12 @@ class Heap:
         self.library.rattle_alloc.restype = self.library.rattle_realloc.restype = Told
         self.begin = ctypes.addressof(self.memory) + 8
 
+    def told(self, name: str, *numbers: int) -> Any:
+        return getattr(self.library, name)(*map(ctypes.c_uint64, numbers))
+
     def call(self, name: str, *numbers: int) -> int:
         """The address that a call answers, or 0."""
-        told = getattr(self.library, name)(*map(ctypes.c_uint64, numbers))
+        told = self.told(name, *numbers)
         return told.at if isinstance(told, Told) and told.ok else 0
 
 
@@ -475,34 +478,17 @@ def test_sizes_and_places_of_heap_c(folder: Path) -> None:
 
     note = ctypes.CFUNCTYPE(ctypes.c_void_p, whole, whole)(answered)
     ctypes.c_void_p.in_dll(heap.library, "noted").value = ctypes.cast(note, ctypes.c_void_p).value
-    for memory, size in itertools.product(
-        (at, None), (0, 1, 8, 4096, 2**31, 2**32 + 1, 2**40, 2**63 - 1)
-    ):
-        answers = [heap.call("rattle_alloc", size, 8)]
-        answers += [heap.call("rattle_realloc", at + 8, old, size, 8) for old in (3, 2**63 - 1)]
+    sizes = (0, 1, 8, 4096, 2**31, 2**32 + 1, 2**40, 2**63 - 1)
+    for memory, size in itertools.product((at, None), sizes):
+        answers = [heap.told("rattle_alloc", size, 8)]
+        answers += [heap.told("rattle_realloc", at + 8, old, size, 8) for old in (3, 2**63 - 1)]
         heap.call("rattle_dealloc", at + 1, size, 8)
         assert asked == [(0, size or 8), (at + 8, size or 8), (at + 8, size or 8), (at + 1, 0)]
-        assert answers == [memory or 0] * 3
+        assert all(one.ok == bool(memory) and one.at and (one.at == at) == one.ok for one in answers)
         asked.clear()
 
 
 LEND = "void lend(uintptr_t at) { heap_scratch = (struct scratch){true, at, at + 4000}; }"
-
-
-def test_last_block_of_a_scratch(folder: Path) -> None:
-    heap = Heap(folder / "last.so", "", LEND)
-    heap.call("lend", heap.begin)
-    first, last = heap.call("rattle_alloc", 100, 1), heap.call("rattle_alloc", 100, 1)
-    assert (first, last) == (heap.begin, heap.begin + 100)
-    assert heap.call("rattle_realloc", last, 100, 3900, 1) == last
-    assert heap.call("rattle_alloc", 1, 1) == heap.call("rattle_realloc", last, 3900, 3901, 1) == 0
-    heap.call("rattle_dealloc", last, 3900, 1)
-    assert heap.call("rattle_alloc", 3900, 1) == last
-    # one that is not the last is moved if it grows
-    assert heap.call("rattle_realloc", last, 3900, 50, 1) == last
-    assert heap.call("rattle_realloc", first, 100, 101, 1) == last + 50
-    # one byte is left, and the next aligned one is past the end
-    assert heap.call("rattle_alloc", 3748, 1) and not heap.call("rattle_alloc", 1, 16)
 
 
 def test_blocks_of_a_scratch(folder: Path, cases: Cases) -> None:
@@ -544,11 +530,8 @@ def alone(folder: Path) -> border.Alone:
 
 
 def test_every_pointer_of_every_function(librds: str, module: ModuleType, alone: border.Alone) -> None:
-    text = border.BORDER
-    assert (
-        border.faults_of(alone(text, "-fsanitize=undefined", "-fno-sanitize-recover=all"), module._ffi, True)
-        == {}
-    )
+    sanitized = alone(border.BORDER, "-fsanitize=undefined", "-fno-sanitize-recover=all")
+    assert border.faults_of(sanitized, module._ffi, True) == {}
     assert border.faults_of(ctypes.CDLL(f"{librds}/librds.so.0"), module._ffi, False) == {}
 
 

@@ -235,35 +235,6 @@ def test_wrong_program(
     fails(text, test, wrong(program), tmp_path)
 
 
-SMALL = r"""
-#define _GNU_SOURCE
-#include <dlfcn.h>
-#include <stdlib.h>
-#include <string.h>
-#include <unistd.h>
-static size_t most(const char *call, size_t size) { return !strcmp(getenv("SMALL"), call) && size > 100 ? 100 : size; }
-ssize_t read(int from, void *to, size_t size)
-{
-    return ((ssize_t (*)(int, void *, size_t))dlsym(RTLD_NEXT, "read"))(from, to, most("read", size));
-}
-ssize_t write(int to, const void *from, size_t size)
-{
-    ssize_t (*real)(int, const void *, size_t) = (ssize_t (*)(int, const void *, size_t))dlsym(RTLD_NEXT, "write");
-    return to == 1 && !strcmp(getenv("SMALL"), "none") ? (ssize_t)size : real(to, from, most("write", size));
-}
-"""
-
-
-@pytest.mark.parametrize("kind, text", [("read", "reads"), ("write", "writes"), ("none", "bytes written")])
-def test_small_reads_and_writes(rds: str, tmp_path: Path, kind: str, text: str) -> None:
-    """Reads or writes of at most 100 bytes, or writes that go nowhere."""
-    library = tmp_path / "small.so"
-    wrote("cc", "-O1", "-shared", "-fPIC", "-o", library, "-x", "c", "-", "-ldl", data=SMALL.encode())
-    preloaded = f'SMALL={kind} LD_PRELOAD="{library}:${{LD_PRELOAD:-}}"'
-    program = script(tmp_path / "small", f'#!/bin/bash\n{preloaded} exec "{rds}" "$@"\n')
-    fails(f"{text}, where", work, str(program), tmp_path, "sample scan --workers 4")
-
-
 # A bench of fixed answers, wrong in one form, or slow over larger inputs: the edit, the two forms, and what is told.
 BENCHES = {
     "failing": ("[ $1 != guess ] || status=1", "items guess", "guess: no time and count"),
