@@ -2,6 +2,8 @@
 
 from __future__ import annotations
 
+import importlib
+import inspect
 import os
 import re
 import shutil
@@ -97,6 +99,9 @@ def script(path: Path, text: str) -> Path:
 def wrong(rds: str, tmp_path: Path) -> Callable[[str], str]:
     """Makes a wrong program by its name."""
     return lambda name: str(script(tmp_path / name, f"#!/bin/bash\nrds={rds}\n{PROGRAMS[name]}\n"))
+
+
+Cases = Callable[[int], None]
 
 
 def note(*_: Any) -> None:
@@ -309,11 +314,10 @@ def copy(tmp_path: Path) -> Path:
     for path in TOP.iterdir():
         if path.name in ("crates", "bindings"):
             (top / path.name).symlink_to(path)
+        elif path.is_file():
+            shutil.copy2(path, top)
         elif path.name not in ("build", ".git"):
-            ignored = shutil.ignore_patterns("__pycache__", ".mypy_cache")
-            shutil.copytree(path, top / path.name, ignore=ignored) if path.is_dir() else shutil.copy2(
-                path, top
-            )
+            shutil.copytree(path, top / path.name, ignore=shutil.ignore_patterns("__pycache__"))
     return top
 
 
@@ -324,10 +328,7 @@ def plant(path: Path, old: str, new: str, *, times: int = 1) -> None:
     path.write_text(text.replace(old, new, times) if old else new)
 
 
-COMMENT = re.compile(r"(/\*.*?\*/)", re.S)
-
-
-def test_wrong_pages(rds: str, copy: Path, record_property: Any) -> None:
+def test_wrong_pages(rds: str, copy: Path, cases: Cases) -> None:
     """Each row of wrong_pages.tsv is planted in one copy, and has to be told; ^ is a line end, and * after a file means each place.
 
     Each number in a comment of lib/rds.h is another, too.
@@ -337,65 +338,60 @@ def test_wrong_pages(rds: str, copy: Path, record_property: Any) -> None:
     for path, old, new, _ in rows:
         texts = [text.replace("^", "\n") for text in (old, new)]
         plant(copy / path.rstrip("*"), *texts, times=-1 if path[-1] == "*" else 1)
-    header, number = copy / "lib" / "rds.h", re.compile(r"\b(\d+)\b")
-    changed = (
-        number.sub(r"\g<1>1", text) if text[:2] == "/*" else text
-        for text in COMMENT.split(header.read_text())
-    )
-    header.write_text("".join(changed))
-    faults = [fault for *_, fault in rows] + [
-        f"{row[0]}, '{row[1]}'" for row in test_pages.TOLD if row[0] == "lib/rds.h"
-    ]
+    header = copy / "lib" / "rds.h"
+    numbers = lambda text: re.sub(r"\b(\d+)\b", r"\g<1>1", text[0])
+    header.write_text(re.sub(r"/\*.*?\*/", numbers, header.read_text(), flags=re.S))
+    faults = [fault for *_, fault in rows]
+    faults += [f"{page}, '{told}'" for page, told, *_ in test_pages.TOLD if page == "lib/rds.h"]
     text = outcome_of("test_pages.py", f"--rds={rds}", top=copy).out.decode()
     assert [fault for fault in faults if fault not in text] == []
-    record_property("cases", 2 + len(faults))
+    cases(2 + len(faults))
 
 
-# Each change of lib/rds.h, and the tests that see it.
-WRONG_HEADER = {
-    ("RDS_TOO_LONG = 5,", "RDS_TOO_LONG = 7,"): "errors all_of_version",
-    ("RDS_RULES {2, 3, 10,", "RDS_RULES {2, 3, 11,"): "usual_rules all_of_version",
-    ("RDS_VERSION 0x000200", "RDS_VERSION 0x000300"): "test_versions",
-    ("uint64_t lost; ", "uint64_t lots; "): "crates rust python all_of_version",
-    ("uint64_t bits;      /*", "uint32_t bits, more; /*"): "crates rust python all_of_version",
-    ("const rds_state_t *state, rds_item_t", "rds_state_t *state, rds_item_t"): "crates rust all_of_version",
-    (
-        "uint8_t rds_remainder(uint32_t word",
-        "uint8_t rds_remainder(uint64_t word",
-    ): "crates rust python all_of_version",
-    ("uint8_t kind;   /*", "uint8_t kind; int last; /*"): "crates rust python all_of_version cpp sizes",
-    ("rds_version_text(void)", "rds_text_of_version(void)"): "symbol_versions all_of_version",
-    ("state             the state at from", "stage             the state at from"): "names_in_comments",
-    (
-        "uint64_t bits, const rds_gap_t *gaps, size_t gaps_len,\n                               const",
-        "uint64_t bit, const rds_gap_t *gaps, size_t gaps_len, const",
-    ): "names_of_parameters",
-    ("An item of a report: 48 bytes", "An item of a report: 47 bytes"): "sizes_in_comments",
-    ("/* A block: 8", "An /* A block: 8"): "crates rust python all_of_version cpp sizes",
-}
+# A change of lib/rds.h, and the tests that see it; in each struct and function a compiler compares.
+DECLARATIONS = "declarations.crates declarations.bindings/rust all_of_version_0_2_is_still_declared"
+ALL = f"{DECLARATIONS} declarations.bindings/python"
+WRONG_HEADER = [
+    ("RDS_TOO_LONG = 5,", "RDS_TOO_LONG = 7,", "errors all_of_version_0_2_is_still_declared"),
+    ("{2, 3, 10, 0, {0}}", "{2, 3, 11, 0, {0}}", "usual_rules all_of_version_0_2_is_still_declared"),
+    ("RDS_VERSION 0x000200", "RDS_VERSION 0x000300", "versions"),
+    ("uint64_t lost; ", "uint64_t lots; ", ALL),
+    ("uint64_t bits;      /*", "uint32_t bits, more; /*", ALL),
+    ("uint8_t kind;   /*", "uint8_t kind; int last; /*", f"{ALL} header_in_cpp sizes_in_comments"),
+    ("const rds_state_t *state", "rds_state_t *state", DECLARATIONS),
+    ("rds_remainder(uint32_t word", "rds_remainder(uint64_t word", ALL),
+    ("rds_version_text(void)", "rds_text_of_version(void)", "symbol_versions"),
+    ("state             the state at", "stage             the state at", "names_in_comments"),
+    ("rds_correct(uint32_t word", "rds_correct(uint32_t block", "names_of_parameters names_in_comments"),
+    ("An item of a report: 48 bytes", "An item of a report: 47 bytes", "sizes_in_comments"),
+]
 
 
-def test_wrong_header(rds: str, librds: str, copy: Path, record_property: Any) -> None:
-    """Each change of lib/rds.h is seen by the tests that it concerns."""
-    header, right, tried = copy / "lib" / "rds.h", (TOP / "lib" / "rds.h").read_text(), 0
-    for (old, new), names in WRONG_HEADER.items():
-        header.write_text(right)
-        plant(header, old, new)
-        ended = outcome_of("test_header.py", f"--rds={rds}", f"--lib={librds}", "-rf", top=copy)
-        told = re.findall(r"^FAILED .*", ended.out.decode(), re.M)
-        missing = [name for name in names.split() if not any(name in row for row in told)]
-        assert missing == [], f"{new}: {told}"
-        tried += len(names.split())
-    record_property("cases", tried)
+@pytest.mark.parametrize("old, new, names", WRONG_HEADER)
+def test_wrong_header(
+    rds: str, librds: str, tmp_path: Path, cases: Cases, old: str, new: str, names: str
+) -> None:
+    cases(len(names.split()))
+    for path in TOP.iterdir():
+        (tmp_path / path.name).symlink_to(path) if path.name != "lib" else shutil.copytree(
+            path, tmp_path / "lib"
+        )
+    plant(tmp_path / "lib/rds.h", old, new)
+    with pytest.MonkeyPatch.context() as patch:
+        patch.setattr(running, "TOP", tmp_path)
+        module = importlib.reload(test_header)
+        for name, _, source in (name.partition(".") for name in names.split()):
+            test, given = getattr(module, f"test_{name}"), {"rds": rds, "librds": librds, "source": source}
+            fails("", test, **{key: given[key] for key in inspect.signature(test).parameters})
+    importlib.reload(test_header)
 
 
 # ---- the run
 
 
 def test_program_that_is_not_there() -> None:
-    assert (
-        "/none is not there" in outcome_of("test_header.py", "-k", "usual_rules", "--rds=/none").out.decode()
-    )
+    ended = outcome_of("test_header.py", "-k", "usual_rules", "--rds=/none")
+    assert "/none is not there" in ended.out.decode()
 
 
 SKIPPING = """
@@ -531,8 +527,6 @@ CALLED = {
     "make_library.sh build/librds-amd64.a build/lib": "make_library.sh",
     "rt ci": "rt",
 }
-
-
 STUBS = "tests/wrong_bodies.py lib/archive.py lib/make_library.sh few/make few/apt-get"
 TOOLS = "tools/rt tools/git tools/python3 tools/aarch64-linux-gnu-gcc"
 
@@ -573,20 +567,20 @@ def gate(tmp_path: Path) -> Gate:
     return Gate(tmp_path / "gate")
 
 
-def test_gate(gate: Gate, record_property: Any) -> None:
+def test_gate(gate: Gate, cases: Cases) -> None:
     ended = gate.make_test()
     assert ended.status == 0 and {*CALLED} <= {*gate.called()}, ended
     assert gate.called()[-3] == "python3 -m pytest -n auto tests monitor/tests"
     for name in CALLED.values():
         assert gate.make_test(failing=name).status not in (0, None), name
-    record_property("cases", 2 * len(CALLED) + 1)
+    cases(2 * len(CALLED) + 1)
 
 
-def test_ci(gate: Gate, record_property: Any) -> None:
+def test_ci(gate: Gate, cases: Cases) -> None:
     """It installs each package if all tools are missing, goes on if that fails, and ends as `make test` does."""
     assert gate.ci(failing="make").status not in (0, None)
     tools = re.findall(r"\S+:(\S+)", (TOP / ".ci/run").read_text().split("tools=(")[1].split(")\n")[0])
     installed = next(line for line in gate.called() if line.startswith("apt-get install ")).split()
     assert len(tools) > 20 and [tool for tool in tools if tool not in installed] == []
     assert gate.ci(failing="apt-get").status == 0 and gate.called()[-1] == "make test"
-    record_property("cases", len(tools) + 2)
+    cases(len(tools) + 2)
