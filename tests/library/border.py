@@ -64,9 +64,8 @@ class Function:
         self.pointers = [one for one in self.parameters if one.is_pointer]
         kinds = {1: ctypes.c_uint8, 2: ctypes.c_uint16, 4: ctypes.c_uint32, 8: ctypes.c_uint64}
         self.function = getattr(library, name)
-        self.function.argtypes = [
-            ctypes.c_void_p if one.is_pointer else kinds[one.size] for one in self.parameters
-        ]
+        sizes = [ctypes.c_void_p if one.is_pointer else kinds[one.size] for one in self.parameters]
+        self.function.argtypes = sizes
         self.function.restype = ctypes.c_uint8
 
     def apart(self, last: str = "", numbers: int = 0x8000000080000080) -> Call:
@@ -76,31 +75,22 @@ class Function:
             call[one.name] = numbers & (1 << 8 * one.size) - 1
             if one.is_pointer:
                 call[one.name] = BEGIN + APART * (MOST - 3 if one.name == last else place)
-            elif f"{one.name}".endswith("_len"):
+            elif one.name.endswith("_len"):
                 call[one.name] = COUNT
         return call
 
-    # ---- what a call has to do
-
-    def answer(self, call: Call) -> int:
-        if self.is_alone:
-            reached(self.library).value = 0
-        return int(self.function(*call.values()))
-
-    def is_refused(self, call: Call) -> bool:
-        answer, is_left = self.answer(call), MEMORY.raw == AS_IT_WAS
-        return answer == BAD_POINTER and is_left and not (self.is_alone and reached(self.library).value)
-
-    def is_taken(self, call: Call) -> bool:
-        answer, is_left = self.answer(call), MEMORY.raw == AS_IT_WAS
+    def is_right(self, call: Call, is_bad: bool) -> bool:
+        """Whether a bad call is refused and writes nothing, and a good one is taken: alone it reaches the proved function unchanged."""
+        reached = ctypes.c_int.in_dll(self.library, "reached") if self.is_alone else ctypes.c_int()
+        reached.value = 0
+        answer, is_left = self.function(*call.values()), MEMORY.raw == AS_IT_WAS
         ctypes.memmove(MEMORY, AS_IT_WAS, len(AS_IT_WAS))
-        if not self.is_alone:
-            return answer != BAD_POINTER
-        is_reached = answer == REACHED and reached(self.library).value == 1 and is_left
+        if is_bad or not self.is_alone:
+            return (answer == BAD_POINTER) == is_bad and (is_left or not is_bad) and not reached.value
         # the scratch of a call is for lib/heap.c
-        return is_reached and all(
-            self.is_handed_on(one, call) for one in self.parameters if "scratch" not in one.name
-        )
+        parameters = [one for one in self.parameters if "scratch" not in one.name]
+        is_reached = answer == REACHED and reached.value == 1 and is_left
+        return is_reached and all(self.is_handed_on(one, call) for one in parameters)
 
     def is_handed_on(self, one: Parameter, call: Call) -> bool:
         seen = ctypes.c_uint64.in_dll(self.library, f"seen_{one.name}").value
@@ -108,12 +98,10 @@ class Function:
             return seen != 0 and seen % one.alignment == 0
         return seen == call[one.name]
 
-    # ---- all calls
-
-    def faults(self) -> Iterator[str]:
-        for text, call, is_bad in self.calls():
-            if not (self.is_refused(call) if is_bad else self.is_taken(call)):
-                yield f"{self.name}: {text}"
+    def faults(self) -> list[str]:
+        return [
+            f"{self.name}: {text}" for text, call, is_bad in self.calls() if not self.is_right(call, is_bad)
+        ]
 
     def calls(self) -> Iterator[tuple[str, Call, bool]]:
         """A text, a call, and whether it has to be refused."""
@@ -160,39 +148,29 @@ class Function:
         begin = call[other.name]
         end = begin + other.size * call.get(f"{other.name}_len", 1)
         before, is_bad = down(begin - length), one.is_written or other.is_written
-        places = [
-            (begin, is_bad),
-            (down(end - 1), is_bad),
-            (before, False),
-            (down(end + one.alignment - 1), False),
-        ]
+        places = [(begin, is_bad), (down(end - 1), is_bad), (before, False)]
+        places += [(down(end + one.alignment - 1), False)]
         places += [(before + one.alignment, is_bad)] * (before + one.alignment + length > begin)
         for at, is_over in places:
             yield f"{one.name} at {at - begin} of {other.name}", {**call, one.name: at}, is_over
 
 
-def reached(library: ctypes.CDLL) -> ctypes.c_int:
-    return ctypes.c_int.in_dll(library, "reached")
-
-
 def faults_of(library: ctypes.CDLL, ffi: Any, is_alone: bool) -> dict[str, list[str]]:
     """The faults of each function that has some."""
     functions = [Function(library, name, ffi, is_alone) for name, text in DECLARED.items() if "*" in text]
-    found = {one.name: [*one.faults()] for one in functions}
+    found = {one.name: one.faults() for one in functions}
     # a NULL that is not refused is written to there
     if not any(found.values()):
         found["rds_refusal_name"] = [*name_faults(library)]
     return {name: faults for name, faults in found.items() if faults}
 
 
+OF_BORDER = {70: b"BadPointer", 72: b"NotAStream", 73: b"OtherVersion", 74: b"OtherRules"}
+
+
 def name_faults(library: ctypes.CDLL) -> Iterator[str]:
     """Names that only lib/border.c has: a room that is too small by a byte, one that is just enough, and none."""
-    for number, name in {
-        70: b"BadPointer",
-        72: b"NotAStream",
-        73: b"OtherVersion",
-        74: b"OtherRules",
-    }.items():
+    for number, name in OF_BORDER.items():
         for length, wanted in ((len(name), SMALL_ROOM), (len(name) + 1, 0)):
             room = ctypes.create_string_buffer(b"x" * 16)
             answer = library.rds_refusal_name(number, ctypes.addressof(room), length)
@@ -208,20 +186,13 @@ def name_faults(library: ctypes.CDLL) -> Iterator[str]:
 
 def stubs() -> str:
     """Proved functions that note their arguments."""
-    names = sorted(
-        {name for text in DECLARED.values() for name in re.findall(r"(\w+)(?:,|$)", text)} - {"void"}
-    )
-    rows = ['#include "rds.h"', "int reached;", *(f"uint64_t seen_{name};" for name in names)]
+    names = {text: re.findall(r"(\w+)(?:,|$)", text.removesuffix("void")) for text in DECLARED.values()}
+    noted = {text: "".join(f"seen_{name} = (uint64_t){name}; " for name in names[text]) for text in names}
+    rows = ['#include "rds.h"', "int reached;"]
+    rows += [f"uint64_t seen_{name};" for name in sorted({name for some in names.values() for name in some})]
     for function, text in DECLARED.items():
-        noted = "".join(
-            f"seen_{name} = (uint64_t){name}; "
-            for name in re.findall(r"(\w+)(?:,|$)", text)
-            if name != "void"
-        )
-        rows += [
-            f"uint8_t proved_{function}({text});",
-            f"uint8_t proved_{function}({text}) {{ reached++; {noted}return {REACHED}; }}",
-        ]
+        head = f"uint8_t proved_{function}({text})"
+        rows += [f"{head};", f"{head} {{ reached++; {noted[text]}return {REACHED}; }}"]
     return "\n".join([*rows, ""])
 
 
