@@ -125,5 +125,7 @@ def sound(programmes: str = "100", groups: str = "400") -> None:
 
 
 if __name__ == "__main__":
-    jobs = {job.__name__: job for job in (corrections, library, sound)}
-    sys.exit(jobs[sys.argv[1]](*sys.argv[2:]) if {*sys.argv[1:2]} & {*jobs} else __doc__)
+    jobs: dict[str, Callable[..., None]] = {job.__name__: job for job in (corrections, library, sound)}
+    if not {*sys.argv[1:2]} & {*jobs}:
+        sys.exit(__doc__)
+    jobs[sys.argv[1]](*sys.argv[2:])

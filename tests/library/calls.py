@@ -502,7 +502,8 @@ class Draw:
             known = chance.choice([bytes(changed), *others])
             has_others = known[88:216] != left.known[88:216] and known[:88] == left.known[:88]
             for name in ("push", chance.choice(["finish", "finish_with"]), "check"):
-                rest = {"data": left.data[:60]} if name == "push" else {"data": b"", "bits": 0, "room": 1}
+                is_end = name != "push"
+                rest: dict[str, Any] = dict(data=b"", bits=0, room=1) if is_end else dict(data=left.data[:60])
                 one = asked(left, name=name, rules=rules, known=known, **rest)
                 yield one._replace(may_be_unlawful=has_others)
 
