@@ -125,7 +125,7 @@ def sound(programmes: str = "100", groups: str = "400") -> None:
 
 
 if __name__ == "__main__":
-    jobs: dict[str, Callable[..., None]] = {job.__name__: job for job in (corrections, library, sound)}
+    jobs: dict[str, Callable[..., None]] = dict(corrections=corrections, library=library, sound=sound)
     if not {*sys.argv[1:2]} & {*jobs}:
         sys.exit(__doc__)
     jobs[sys.argv[1]](*sys.argv[2:])

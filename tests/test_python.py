@@ -9,7 +9,7 @@ import pytest
 from running import TOP, run, wrote
 
 CHECKS = {
-    "types": "mypy --cache-dir /dev/null monitor/rds_monitor bindings/python/librds tests",
+    "types": "mypy --cache-dir build/mypy monitor/rds_monitor bindings/python/librds tests",
     "names": "pyflakes monitor bindings/python packaging tests",
     "form": "black --check --quiet bindings lib monitor packaging tests",
 }
