@@ -376,20 +376,41 @@ def test_recordings_in_python(
         assert streamed(module, call, seed) == (items, totals, True), seed
 
 
+# RDS_PUSH_SCRATCH of as many bytes and items as count.
+MOST_SCRATCH = 11136 + 860160
+
+
 def test_eight_threads_at_once(module: ModuleType) -> None:
-    """Each decodes a damaged copy of the sample, again and again, and finds what one finds; all end one stream, which is only read."""
+    """Each decodes a damaged copy of the sample, again and again, and finds what one finds, with a scratch of its own too.
+
+    All end one stream, which is only read.
+    """
+    ffi, library, whole = module._ffi, module._library, ctypes.c_uint64
     shared = module.Follower()
     shared.push(SAMPLE.read_bytes()[:8000])
-    stream, rules = module._ffi.RdsStream.from_buffer_copy(shared.stream), module._ffi.RdsRules(
-        *plain.Rules()
-    )
+    stream, rules = ffi.RdsStream.from_buffer_copy(shared.stream), ffi.RdsRules(*plain.Rules())
 
     def ended() -> bytes:
-        found, room, count = module._ffi.RdsTotals(), module._ffi.RdsItem(), ctypes.c_uint64()
-        end = [ctypes.byref(it) for it in (rules, stream, room)], [ctypes.byref(it) for it in (count, found)]
-        assert module._library.rds_check(None, 0, *end[0][:2]) == 0
-        assert module._library.rds_finish(None, 0, *end[0], 1, *end[1]) == 0
+        found, room, count = ffi.RdsTotals(), ffi.RdsItem(), whole()
+        end = [ctypes.byref(one) for one in (rules, stream, room)]
+        assert library.rds_check(None, 0, *end[:2]) == 0
+        assert library.rds_finish(None, 0, *end, 1, ctypes.byref(count), ctypes.byref(found)) == 0
         return bytes(found)
+
+    def pushed_with(data: bytes) -> bytes:
+        stream, room, taken, count = ffi.RdsStream(), (ffi.RdsItem * 16384)(), whole(), whole()
+        scratch = ctypes.create_string_buffer(MOST_SCRATCH)
+        state = [ctypes.byref(one) for one in (rules, stream)]
+        told = [
+            room,
+            whole(len(room)),
+            ctypes.byref(taken),
+            ctypes.byref(count),
+            scratch,
+            whole(MOST_SCRATCH),
+        ]
+        assert library.rds_push_with(data, whole(len(data)), None, whole(0), *state, *told) == 0
+        return bytes(stream)
 
     def decoded(number: int) -> tuple[object, object]:
         assert ended() == whole_end
@@ -397,8 +418,8 @@ def test_eight_threads_at_once(module: ModuleType) -> None:
         follower = module.Follower()
         rows = [follower.push_array(part) for part in (data[: len(data) // 2], data[len(data) // 2 :])]
         last, totals = follower.finish_array()
-        assert totals == module.totals(data)
-        return [row for it in [*rows, last] for row in it.tolist()], module.items_array(data).tolist()
+        assert totals == module.totals(data) and pushed_with(data) == follower.stream
+        return [row for part in [*rows, last] for row in part.tolist()], module.items_array(data).tolist()
 
     whole_end = ended()
     damaged = []
@@ -408,7 +429,7 @@ def test_eight_threads_at_once(module: ModuleType) -> None:
             data[r.randrange(len(data))] ^= 1 << number
         damaged.append(bytes(data))
     alone = [*map(decoded, range(8))]
-    assert all(rows == whole for rows, whole in alone)
+    assert all(rows == at_once for rows, at_once in alone)
     with ThreadPoolExecutor(8) as pool:
         assert [*pool.map(decoded, [*range(8)] * 20)] == alone * 20
 

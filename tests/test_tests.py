@@ -165,7 +165,7 @@ def stream(rds: str) -> None:
 
 
 def progress(rds: str) -> None:
-    faults = test_progress.rows_of_list(rds)
+    faults = test_progress.try_rows(rds)
     assert not faults, faults
 
 
