@@ -37,8 +37,6 @@ PROGRAMS = {
     "noisy": 'echo a word >&2; exec "$rds" "$@"',
     "hanging": "exec sleep 1000",
     "misprinting": '"$rds" "$@" | sed "s/default: 3/default: 4/"; exit "${PIPESTATUS[0]}"',
-    "another_error": '"$rds" "$@" 2> >(sed "s/ed .*/ed 5 TooLong/" >&2)',
-    "row_more": '"$rds" "$@" && echo a row',
     "other_status": '"$rds" "$@"; exit 3',
     # the bursts of the next limit
     "other_rules": """is_told=
@@ -133,9 +131,8 @@ def pages(rds: str) -> None:
     assert not faults, faults
 
 
-def refused(rds: str, folder: Path, kind: str = "read") -> None:
-    job = test_refusals.JOBS[6 if kind == "thread" else 5]
-    test_refusals.test_refused(rds, make_refuse(folder), folder, job, kind, note)
+def refused(rds: str, folder: Path) -> None:
+    test_refusals.test_refused(rds, make_refuse(folder), folder, test_refusals.JOBS[5], "read", note)
 
 
 def work(rds: str, folder: Path, job: str) -> None:
@@ -197,8 +194,7 @@ SEEN: list[tuple[str, str, Callable[[str, Path], object]]] = [
         lambda rds, _: test_listings.test_sum(rds, "slips list --burst 1"),
     ),
     ("crew_differs", "", lambda rds, _: test_listings.test_crew(rds, "station", (16, 4))),
-    ("silent hanging content other_status no_progress noisy another_error", "", refused),
-    ("row_more one_byte_short", "", lambda rds, at: refused(rds, at, "thread")),
+    ("silent hanging content other_status no_progress noisy", "", refused),
     ("silent", "", lambda rds, _: test_examples.test_first_decode(wrote(rds, "list", data=SAMPLE))),
     ("hanging", "", lambda rds, at: test_examples.Day(rds, at)),
     ("silent hanging", "", lambda rds, _: test_package.test_completion(rds, test_package.by_bash, "list")),
@@ -238,6 +234,24 @@ def test_wrong_program(
         for module in (running, test_program, test_differential, test_growth, test_refusals, test_progress):
             monkeypatch.setattr(module, "LIMIT", 1)
     fails(text, test, wrong(program), tmp_path)
+
+
+@pytest.mark.parametrize("kind", test_refusals.KINDS)
+def test_answers_to_a_refused_call(kind: str) -> None:
+    """The job's own output is two rows; a stream may leave whole rows, and a refused thread is no refusal."""
+    whole, row, told = (
+        b"row 1\nrow 2\n",
+        b"row 1\n",
+        f"refused {test_refusals.NAMES.get(kind, '14 NoWorker')}\n".encode(),
+    )
+    wrong = [(1, b"", b"refused 5 TooLong\n"), (1, b"", b""), (2, b"", told), (1, whole + b"row 3\n", told)]
+    wrong += [(0, b"", b""), (1, whole, b""), (0, whole, b"a word\n")]
+    wrong += {"write": [], "thread": [(1, b"", told)]}.get(kind, [(1, row, told)])
+    right = Ran(0, whole, b"") if kind == "thread" else Ran(1, b"", told)
+    is_right = lambda ended, is_stream=False: test_refusals.is_right(kind, Ran(*ended), whole, is_stream)
+    assert is_right(right) and [ended for ended in wrong if is_right(ended)] == []
+    assert is_right((1, row, told), True) == (kind != "thread")
+    assert is_right((1, row + b"ro", told), True) == (kind == "write")
 
 
 # A bench of fixed answers, wrong in one form, or slow over larger inputs: the edit, the two forms, and what is told.
