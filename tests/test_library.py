@@ -54,7 +54,7 @@ NEEDED = "_GLOBAL_OFFSET_TABLE_ __stack_chk_fail free malloc memcpy memmove mems
 
 def symbols(*words: object) -> list[list[str]]:
     """The fields of each line of nm."""
-    return sorted((line.split() for line in said("nm", *words).splitlines()), key=lambda row: row[-1])
+    return sorted((line.split() for line in said("nm", *words).splitlines()), key=lambda row: row[-1:])
 
 
 def test_exported_names(librds: str, cases: Cases) -> None:
