@@ -49,21 +49,25 @@ use rds_stream::Recording;
 use rds_sync::Rules;"""
 ROWS = """ghost use Rattle.std.specs.Prelude.{◌∷◌, [], replicate};
 use rds_rows::{Rows, Sheet, Sink, write_rows};"""
-# fmt: off
-EXAMPLES = [Example(*row) for row in [
-    ("rds_code", "read_block", "alloc: Global", f"{CODE}\nuse rds_code::{{Offset, encode_block, read_block}};"),
-    ("rds_stream", "read_heard", "alloc: Global, bytes: Vec<u8>, gaps: Vec<(u64, u64)>, table: BurstTable", f"{CODE}\nuse rds_stream::{{Reader, Recording, read_heard, scan}};"),
-    ("rds_sync", "decode_plain", "alloc: Global, recording: Recording", "use rds_stream::Recording;\nuse rds_sync::{Item, Rules, decode_plain};"),
-    ("rds_live", "MOST_ITEMS", "alloc: Global, rules: Rules, chunks: Vec<&[u8]>", "use rds_live::{MOST_ITEMS, StreamDecoder};\nuse rds_sync::Rules;"),
-    ("rds_live", "resume", f"alloc: Global, rules: Rules, gaps: Vec<(u64, u64)>, {STATE}", KEEP),
-    ("rds_pieces", "stitch", RECORDING, PIECES),
-    ("rds_pieces", "join_runs", f"{RECORDING}, cutting: Cutting", PIECES),
-    ("rds_crew", "decode_crew", f"rt: R, {RECORDING}", CREW),
-    ("rds_crew", "Dealer", "alloc: Global", "use rds_crew::Dealer;"),
-    ("rds_rows", "write_rows", "rt: R, alloc: Global, mut writer: K", ROWS),
-    ("rds_tool", "transcribe", "rt: R, alloc: Global", "use rds_tool::{FromRead, Input, Job, ToWrite, transcribe};"),
-]]
-# fmt: on
+READ_BLOCK = f"{CODE}\nuse rds_code::{{Offset, encode_block, read_block}};"
+READ_HEARD = f"{CODE}\nuse rds_stream::{{Reader, Recording, read_heard, scan}};"
+DECODE_PLAIN = "use rds_stream::Recording;\nuse rds_sync::{Item, Rules, decode_plain};"
+LIVE = "use rds_live::{MOST_ITEMS, StreamDecoder};\nuse rds_sync::Rules;"
+TRANSCRIBE = "use rds_tool::{FromRead, Input, Job, ToWrite, transcribe};"
+BYTES = "bytes: Vec<u8>, gaps: Vec<(u64, u64)>, table: BurstTable"
+EXAMPLES = [
+    Example("rds_code", "read_block", "alloc: Global", READ_BLOCK),
+    Example("rds_stream", "read_heard", f"alloc: Global, {BYTES}", READ_HEARD),
+    Example("rds_sync", "decode_plain", "alloc: Global, recording: Recording", DECODE_PLAIN),
+    Example("rds_live", "MOST_ITEMS", "alloc: Global, rules: Rules, chunks: Vec<&[u8]>", LIVE),
+    Example("rds_live", "resume", f"alloc: Global, rules: Rules, gaps: Vec<(u64, u64)>, {STATE}", KEEP),
+    Example("rds_pieces", "stitch", RECORDING, PIECES),
+    Example("rds_pieces", "join_runs", f"{RECORDING}, cutting: Cutting", PIECES),
+    Example("rds_crew", "decode_crew", f"rt: R, {RECORDING}", CREW),
+    Example("rds_crew", "Dealer", "alloc: Global", "use rds_crew::Dealer;"),
+    Example("rds_rows", "write_rows", "rt: R, alloc: Global, mut writer: K", ROWS),
+    Example("rds_tool", "transcribe", "rt: R, alloc: Global", TRANSCRIBE),
+]
 SURFACE = Example("surface", "decode_plain", "", "")
 # What an example asks of types that it leaves open.
 BOUNDS = {"R": "Threads + Sync + Drop", "K": "Sink + Drop"}
