@@ -178,7 +178,8 @@ def test_errors_and_rows(program: Program, faults: Faults) -> None:
 
 COUNTED = {"four": "4", "eight": "8", "tenth": "10", "hundredth": "100"}
 DIFFERENTIAL, WORK, GROWTH = (f"tests/test_{name}.py" for name in ("differential", "work", "growth"))
-REFUSAL, HEADER = "crates/rds_abi/src/refusal.rt", "lib/rds.h"
+HEADER, PART, REFUSAL = "lib/rds.h", "crates/rds_abi/src/part.rt", "crates/rds_abi/src/refusal.rt"
+DECODER = "crates/rds_live/src/stream_decoder.rt"
 # A number in a page, and the same number in its source. A pattern may tell it several times.
 TOLD = (
     (TESTING, r"a recording for each of ([\d,]+) seeds", DIFFERENTIAL, r"^SEEDS, .* = (\d+),"),
@@ -194,40 +195,15 @@ TOLD = (
     (TESTING, r"it is a (\w+), so that one more table shows", WORK, r"spare = \d+ if .* else (\d+)"),
     (TESTING, r"64 KiB is allowed, and (\w+) more", WORK, r"size // 65536 \+ (\d+)"),
     (HEADER, r"the last (\d+) bytes that", "crates/rds_abi/src/stream.rt", r"MOST_KEPT: u64 = (\d+);"),
-    (
-        HEADER,
-        r"(?:hears up to|and of the) (\d+) bits",
-        "crates/rds_abi/src/part.rt",
-        r"HEARD_BEFORE: u64 = (\d+);",
-    ),
+    (HEADER, r"(?:hears up to|and of the) (\d+) bits", PART, r"HEARD_BEFORE: u64 = (\d+);"),
     (HEADER, r"or as (\d+) bytes may", "crates/rds_live/src/room.rt", r"AT_ONCE: usize = (\d+);"),
-    (
-        HEADER,
-        r"items(?:\[|, )(\d+)(?:\];|, &taken)",
-        "crates/rds_live/src/stream_decoder.rt",
-        r"ITEMS_A_BYTE: usize = (\d+)",
-    ),
-    (
-        HEADER,
-        r"(?:room for|completes at most|count is at most) (\d+)",
-        "crates/rds_live/src/stream_decoder.rt",
-        r"ITEMS_A_BYTE: usize = (\d+)",
-    ),
+    (HEADER, r"items(?:\[|, )(\d+)(?:\];|, &taken)", DECODER, r"ITEMS_A_BYTE: usize = (\d+)"),
+    (HEADER, r"(?:room for|(?:is|completes) at most) (\d+)", DECODER, r"ITEMS_A_BYTE: usize = (\d+)"),
     (HEADER, r"The (\d+) bits of a group", "docs/MODEL.md", r"a group of (\d+) bits"),
     (HEADER, r"2\^(\d+) bits", "crates/rds_stream/src/packed.rt", r"MOST_BITS: u64 = 1 << (\d+);"),
     (HEADER, r"at most (\d+) bytes of stack", "tests/test_library.py", r"^STACK = (\d+)"),
-    (
-        HEADER,
-        r"(?:more than |word of |A |a )(\d+)(?: bits|-bit word)",
-        REFUSAL,
-        r"word of more than (\d+) bits",
-    ),
-    (
-        HEADER,
-        r"(?:burst is above|corrected, in bits: 0 to|up to limit bits, 0 to|their burst: 1 to) (\d+)",
-        REFUSAL,
-        r"limit is above (\d+)",
-    ),
+    (HEADER, r"(?:more than |word of |A |a )(\d+)(?: bits|-bit word)", REFUSAL, r"of more than (\d+) bits"),
+    (HEADER, r"(?:burst is above|bits: 0 to|bits, 0 to|burst: 1 to) (\d+)", REFUSAL, r"is above (\d+)"),
     (HEADER, r"(?:reach is not|number of blocks apart:) 1 to (\d+)", REFUSAL, r"reach is not 1 to (\d+)"),
     (HEADER, r"(?:loss is not|bad blocks lose sync:) 1 to (\d+)", REFUSAL, r"loss is not 1 to (\d+)"),
     (HEADER, r"(?:of, or of above|last blocks: loss to) (\d+)", REFUSAL, r"or more, up to (\d+)"),
