@@ -40,9 +40,7 @@ OPTIONS = {
 def pytest_addoption(parser: pytest.Parser) -> None:
     for name, (usual, text) in OPTIONS.items():
         parser.addoption(name, default=usual, help=text)
-    parser.addoption(
-        "--write-counts", action="store_true", help="write tests/counts.tsv anew, as this run is"
-    )
+    parser.addoption("--write-counts", action="store_true", help="write tests/counts.tsv by this run")
 
 
 # ---- what tests are given
@@ -215,6 +213,5 @@ def pytest_terminal_summary(terminalreporter: Any, config: pytest.Config) -> Non
     elif is_alone and session.exitstatus == pytest.ExitCode.NO_TESTS_COLLECTED:
         session.exitstatus = pytest.ExitCode.OK
     spent = time.process_time() + sum(os.times()[2:4])
-    terminalreporter.write_line(
-        f"{sum(passed for passed, _ in counts.values())} cases, {spent:.0f} processor seconds"
-    )
+    passed = sum(count for count, _ in counts.values())
+    terminalreporter.write_line(f"{passed} cases, {spent:.0f} processor seconds")

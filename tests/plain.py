@@ -343,11 +343,8 @@ class Run:
     def due_block(self, place: int) -> Iterator[Item]:
         number, first, rules = self.state.number, self.state.first, self.rules
         is_bad = int(self.recording.numbers[place]) != number
-        bad = (
-            (self.state.bad << 1 | is_bad) & (1 << rules.of) - 1
-            if rules.of
-            else (self.state.bad + 1) * is_bad
-        )
+        mask, in_a_row = (self.state.bad << 1 | is_bad) & (1 << rules.of) - 1, (self.state.bad + 1) * is_bad
+        bad = mask if rules.of else in_a_row
         is_lost = is_too_bad(bad, rules)
         if number == 4 or is_lost:
             yield self.group(place, first, number)

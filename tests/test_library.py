@@ -139,11 +139,8 @@ def test_names_calls_and_structs_of_0_2(librds: str, earlier: Path) -> None:
 # ---- programs that call the library
 
 VARIANTS = ["0.2", "archive", "valgrind", "core2", "arm64"]
-TOOLS = {
-    "valgrind": ["valgrind"],
-    "core2": ["qemu-x86_64"],
-    "arm64": ["qemu-aarch64", "aarch64-linux-gnu-gcc"],
-}
+OF_ARM64 = ["qemu-aarch64", "aarch64-linux-gnu-gcc"]
+TOOLS = {"valgrind": ["valgrind"], "core2": ["qemu-x86_64"], "arm64": OF_ARM64}
 
 
 class Programs:
@@ -205,10 +202,9 @@ def test_program_of_0_2_without_the_library(programs: Programs, earlier: Path) -
 def test_table_by_plain() -> None:
     """It knows neither names nor versions."""
     known = {text: call for text in TABLE if (call := table.call_of(text)).name in calls.ANSWERS}
-    answers = {
-        text: table.answer_text(text, call, calls.answer_of(call), ERRORS) for text, call in known.items()
-    }
-    assert answers == {text: TABLE[text] for text in known} and len(known) == 80
+    for text, call in known.items():
+        assert table.answer_text(text, call, calls.answer_of(call), ERRORS) == TABLE[text], text
+    assert len(known) == 80
 
 
 @pytest.fixture(scope="session")
@@ -263,9 +259,8 @@ def test_refused_allocations(programs: Programs, variant: str, cases: Cases) -> 
     tried = 0
     for call in asked:
         each = [calls.replace(call, allowed=k, refuses_on=on) for k in range(60) for on in (False, True)]
-        right, *answers = (
-            answer._replace(most=0, stack=0) for answer in ask(programs(variant), [call, *each])
-        )
+        given = ask(programs(variant), [call, *each])
+        right, *answers = (answer._replace(most=0, stack=0) for answer in given)
         for one, answer in zip(each, answers):
             none = calls.refused(one, "OUT_OF_MEMORY")._replace(refused=answer.refused)
             assert answer in (right._replace(refused=answer.refused), none), one
@@ -677,10 +672,8 @@ lrwxrwxrwx usr/lib/librds.so"""
 
 
 def test_installed_files(installed: Path) -> None:
-    rows = said(
-        "find", installed, "!", "-type", "d", "!", "-path", "*/man3/*", "-printf", "%M %P\n"
-    ).splitlines()
-    assert sorted(rows) == MODES.split("\n")
+    words = ["!", "-type", "d", "!", "-path", "*/man3/*", "-printf", "%M %P\n"]
+    assert sorted(said("find", installed, *words).splitlines()) == MODES.split("\n")
     assert sorted(path.name.removesuffix(".3") for path in installed.glob("usr/share/man/man3/*")) == DECLARED
 
 
@@ -692,11 +685,8 @@ def test_installing_below_another_folder(librds: str, tmp_path: Path, cases: Cas
         root = install(librds, tmp_path, "/opt/rds") / "opt/rds/lib"
     assert not any("/opt" in path.read_text() for path in (root / "cmake/rds").iterdir())
     variables = {**os.environ, "PKG_CONFIG_SYSROOT_DIR": "", "PKG_CONFIG_PATH": f"{root}/pkgconfig"}
-    assert said("pkg-config", "--cflags", "--libs", "rds", env=variables).split() == [
-        "-I/opt/rds/include",
-        "-L/opt/rds/lib",
-        "-lrds",
-    ]
+    found = said("pkg-config", "--cflags", "--libs", "rds", env=variables)
+    assert found.split() == ["-I/opt/rds/include", "-L/opt/rds/lib", "-lrds"]
 
 
 def test_program_of_the_header(librds: str, folder: Path) -> None:
@@ -764,9 +754,8 @@ def test_programmes_of_streams(rds: str, shown: Shown, cases: Cases) -> None:
 
 def test_a_programme_as_soon_as_it_is_known(rds: str, shown: Shown) -> None:
     sent, pipe = wrote(rds, "encode", data=b"1234 0548 E100 5041\n" * 5), subprocess.PIPE
-    with subprocess.Popen(
-        [shown.folder / "programmes"], env=shown.variables, stdin=pipe, stdout=pipe
-    ) as child:
+    program = shown.folder / "programmes"
+    with subprocess.Popen(program, env=shown.variables, stdin=pipe, stdout=pipe) as child:
         assert child.stdin and child.stdout
         child.stdin.write(sent)
         child.stdin.flush()
@@ -784,16 +773,14 @@ def test_refused_call_of_a_program(shown: Shown, earlier: Path, name: str) -> No
 # ---- how the library is made
 
 
-@pytest.mark.parametrize(
-    "arch, folder_of, tools",
-    [("amd64", "build/lib", ""), ("arm64", "build/lib-arm64", " aarch64-linux-gnu-")],
-)
+ARCHS = [("amd64", "build/lib", ""), ("arm64", "build/lib-arm64", " aarch64-linux-gnu-")]
+
+
+@pytest.mark.parametrize("arch, folder_of, tools", ARCHS)
 def test_make_lib(arch: str, folder_of: str, tools: str) -> None:
     """After a change of the header the library is made anew, for either processor."""
     words = ["make", "--no-print-directory", "-n", "-W", "lib/rds.h", "lib", f"ARCH={arch}", "RT=true"]
     lines = said(*words, cwd=TOP, env={**os.environ, "MAKEFLAGS": ""}).splitlines()
     archive = f"build/librds-{arch}.a"
-    assert [line.rstrip() for line in lines if line.startswith("lib")] == [
-        f"lib/archive.py {arch} {archive}",
-        f"lib/make_library.sh {archive} {folder_of}{tools}",
-    ]
+    wanted = [f"lib/archive.py {arch} {archive}", f"lib/make_library.sh {archive} {folder_of}{tools}"]
+    assert [line.rstrip() for line in lines if line.startswith("lib")] == wanted

@@ -21,6 +21,7 @@ from typing import Any, Callable, Iterator, Sequence
 import pytest
 from running import LIMIT, TOP, Ran, run, said, wrote
 
+Cases = Callable[[int], None]
 SAMPLE = TOP / "examples" / "station.bin"
 COMMANDS = ["scan", "list", "follow", "totals", "encode"]
 TOTALS = "valid burst1 burst2 burst3 burst4 burst5 lost bits groups complete acquired losses".split()
@@ -89,10 +90,9 @@ def matches(wanted: bytes, text: bytes) -> bool:
     return wanted[1:] in text if wanted[:1] == b"*" else text == wanted
 
 
-@pytest.mark.parametrize(
-    "words, given, status, out, err", [row[1:] for row in ROWS], ids=[row[0] for row in ROWS]
-)
-def test_table(rds: str, words: str, given: str, status: str, out: str, err: str) -> None:
+@pytest.mark.parametrize("row", ROWS, ids=[row[0] for row in ROWS])
+def test_table(rds: str, row: list[str]) -> None:
+    _, words, given, status, out, err = row
     ended = run(rds, *shlex.split(words), data=spelled(given))
     assert ended.status == int(status), ended.err
     assert matches(spelled(out), ended.out), ended.out
@@ -164,12 +164,10 @@ def given_late(child: subprocess.Popen[bytes], *parts: bytes, pause: float = 0.0
 
 
 @pytest.mark.parametrize("bits", [0, 1, 7, 8, 9, *range(3100, 3113), 3199, 3200])
-def test_stream_of_some_bits(
-    rds: str, station: bytes, bits: int, record_property: Callable[..., None]
-) -> None:
+def test_stream_of_some_bits(rds: str, station: bytes, bits: int, cases: Cases) -> None:
     # gaps at and about the borders of chunks
     gaps: list[list[str]] = [[], ["--gaps=1591-1593,1600-1608,1999-2000,2300-2600"]] if bits >= 3100 else [[]]
-    record_property("cases", len(gaps))
+    cases(len(gaps))
     begun = station[:400]
     for words in gaps:
         wanted = wrote(rds, "list", "--bits", bits, *words, data=begun)
@@ -333,8 +331,8 @@ def test_past_a_file_size_limit(rds: str, tmp_path: Path, trap: str, status: int
 
 # The system puts the stack at another place each time, and what is there before counts too: so once is not enough.
 @pytest.mark.parametrize("workers, times", [(1, 1), (4, 8)])
-def test_stack_of_192_kib(rds: str, workers: int, times: int, record_property: Callable[..., None]) -> None:
-    record_property("cases", times)
+def test_stack_of_192_kib(rds: str, workers: int, times: int, cases: Cases) -> None:
+    cases(times)
     for _ in range(times):
         ended = by_shell(rds, f'ulimit -s 192; exec "$RDS" list --workers {workers} <{SAMPLE}')
         assert (ended.status, ended.err) == (0, b"") and ended.out.decode().startswith(ACQUIRED)

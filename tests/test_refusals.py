@@ -17,6 +17,7 @@ import pytest
 from inputs import make_refuse
 from running import LIMIT, TOP, Ran, wrote
 
+Cases = Callable[[int], None]
 KINDS = ["alloc", "read", "write", "thread"]
 ZERO = b"00003f000019800005a00001b4"
 ZERO_BYTES = bytes.fromhex(ZERO.decode())
@@ -114,9 +115,7 @@ def each_call(job: Refusing, words: list[str], kind: str) -> Iterator[tuple[str,
 
 @pytest.mark.parametrize("kind", KINDS)
 @pytest.mark.parametrize("job", JOBS, ids=[f"{number}-{job.words}" for number, job in enumerate(JOBS)])
-def test_refused(
-    rds: str, refuse: Path, tmp_path: Path, job: Job, kind: str, record_property: Callable[..., None]
-) -> None:
+def test_refused(rds: str, refuse: Path, tmp_path: Path, job: Job, kind: str, cases: Cases) -> None:
     refusing, words = Refusing(refuse, tmp_path, rds, job.given), job.words.split()
     wanted = wrote(rds, *words, data=job.given)
     if kind == "thread" and job.threads:
@@ -126,7 +125,7 @@ def test_refused(
         assert is_right(kind, ended, wanted, words[0] == "follow"), f"{refused} refused: {ended}"
         tried += 1
     assert tried or kind == "thread"
-    record_property("cases", tried)
+    cases(tried)
 
 
 def test_list_by_one_worker_starts_no_thread(rds: str, refuse: Path, tmp_path: Path) -> None:
@@ -134,9 +133,7 @@ def test_list_by_one_worker_starts_no_thread(rds: str, refuse: Path, tmp_path: P
     assert job.calls("list --pieces 2 --workers 1".split(), "thread") == 0
 
 
-def test_refused_calls_of_the_libraries(
-    rds_bench: str, refuse: Path, tmp_path: Path, record_property: Any
-) -> None:
+def test_refused_calls_of_the_libraries(rds_bench: str, refuse: Path, tmp_path: Path, cases: Cases) -> None:
     """rds_bench names no error of the program's: it says so in words of its own."""
     bench, wanted, tried = Refusing(refuse, tmp_path, rds_bench, b""), wrote(rds_bench, "--calls"), 0
     assert wanted
@@ -145,4 +142,4 @@ def test_refused_calls_of_the_libraries(
         assert is_refused or ended == (0, wanted, b""), f"{refused} refused: {ended}"
         tried += 1
     assert tried
-    record_property("cases", tried)
+    cases(tried)

@@ -122,7 +122,7 @@ def each_number(words: str) -> Callable[[str, Path], object]:
 
 def table(rds: str) -> None:
     for row in test_program.ROWS:
-        test_program.test_table(rds, *row[1:])
+        test_program.test_table(rds, row)
 
 
 def pages(rds: str) -> None:
@@ -222,12 +222,7 @@ SEEN: list[tuple[str, str, Callable[[str, Path], object]]] = [
     [(program, text, test) for programs, text, test in SEEN for program in programs.split()],
 )
 def test_wrong_program(
-    wrong: Callable[[str], str],
-    tmp_path: Path,
-    monkeypatch: pytest.MonkeyPatch,
-    program: str,
-    text: str,
-    test: Any,
+    wrong: Callable[[str], str], tmp_path: Path, monkeypatch: Any, program: str, text: str, test: Any
 ) -> None:
     if program == "hanging":
         monkeypatch.setenv("LIMIT", "1")

@@ -19,9 +19,8 @@ LIB = TOP / "lib"
 CC = os.environ.get("CC", "cc")
 BORDER = (LIB / "border.c").read_text()
 HEADER = re.sub(r"/\*.*?\*/", "", (LIB / "rds.h").read_text(), flags=re.S)
-DECLARED = {
-    name: " ".join(text.split()) for name, text in re.findall(r"^\w+ (rds_\w+)\(([^)]*)\);", HEADER, re.M)
-}
+ROWS = re.findall(r"^\w+ (rds_\w+)\(([^)]*)\);", HEADER, re.M)
+DECLARED = {name: " ".join(text.split()) for name, text in ROWS}
 REACHED, BAD_POINTER, SMALL_ROOM = 200, 70, 64
 # A row has three values, and each pointer 1024 bytes of its own.
 COUNT, APART, MOST = 3, 1024, 30

@@ -160,22 +160,17 @@ def refused(call: Call, name: str, count: int = UNTOUCHED) -> Answer:
     return Answer(NUMBERS[name], counted=count, known=call.known.ljust(256, b"\0"))
 
 
-def refuse(*errors: tuple[bool, str]) -> None:
+def refuse(**errors: bool) -> None:
     """Raises the first error that applies."""
-    for applies, name in errors:
+    for name, applies in errors.items():
         if applies:
             raise Refused(name)
 
 
 def check_rules(call: Call) -> None:
     burst, reach, bad, of = call.rules
-    refuse(
-        (call.reserved != 0, "RESERVED_FIELD"),
-        (burst > 5, "BURST_RANGE"),
-        (not 1 <= reach <= 8, "REACH_RANGE"),
-        (of > 0 and not 1 <= bad <= of <= 64, "SHARE_RANGE"),
-        (of == 0 and not 1 <= bad <= 64, "LOSS_RANGE"),
-    )
+    refuse(RESERVED_FIELD=call.reserved != 0, BURST_RANGE=burst > 5, REACH_RANGE=not 1 <= reach <= 8)
+    refuse(SHARE_RANGE=of > 0 and not 1 <= bad <= of <= 64, LOSS_RANGE=of == 0 and not 1 <= bad <= 64)
 
 
 def check_recording(call: Call) -> Recording:
@@ -183,9 +178,7 @@ def check_recording(call: Call) -> Recording:
     are_gaps = ends == sorted(ends) and all(begin < end for begin, end in call.gaps)
     check_rules(call)
     refuse(
-        (call.bits > MOST_BITS, "TOO_LONG"),
-        (call.bits > 8 * len(call.data), "BITS_PAST_BYTES"),
-        (not are_gaps, "BAD_GAPS"),
+        TOO_LONG=call.bits > MOST_BITS, BITS_PAST_BYTES=call.bits > 8 * len(call.data), BAD_GAPS=not are_gaps
     )
     return recording_of(call.data, call.bits, tuple(call.gaps))
 
@@ -222,7 +215,7 @@ def state_at(call: Call, place: int) -> Run:
     """The run that goes on from the state of a call at this place."""
     recording, state = check_recording(call), State(*STATE.unpack(call.known)[:4])
     is_told = raw_state(state, call.rules) == call.known and plain.is_lawful(state, place, call.rules)
-    refuse((not call.begin <= call.end <= call.bits, "PLACE_RANGE"), (not is_told, "UNLAWFUL_STATE"))
+    refuse(PLACE_RANGE=not call.begin <= call.end <= call.bits, UNLAWFUL_STATE=not is_told)
     return Run(recording, call.rules, state)
 
 
@@ -230,7 +223,7 @@ def push(call: Call) -> Answer:
     stream = parsed(call.known, call.rules)
     if stream is None:
         raise Refused("UNLAWFUL_STATE")
-    refuse((stream.place + 8 * len(call.data) > MOST_BITS, "TOO_LONG"))
+    refuse(TOO_LONG=stream.place + 8 * len(call.data) > MOST_BITS)
     heard, items, taken = Heard(call, stream), list[Item](), 0
     while taken < len(call.data):
         before = heard.run.state
@@ -252,9 +245,8 @@ class Heard:
         self.moved, self.begin = stream.place - 8 * len(stream.tail), 8 * len(stream.tail)
         bits, gaps = 8 * len(self.tail), [(begin - self.moved, end - self.moved) for begin, end in call.gaps]
         cut = [(max(begin, 0), min(end, bits)) for begin, end in gaps if end > 0 and begin < bits]
-        self.run = Run(
-            Recording(self.tail, None, cut), call.rules, self.state_moved(stream.state, -self.moved)
-        )
+        recording = Recording(self.tail, None, cut)
+        self.run = Run(recording, call.rules, self.state_moved(stream.state, -self.moved))
 
     @staticmethod
     def state_moved(state: State, bits: int) -> State:
@@ -283,10 +275,7 @@ def finish(call: Call) -> Answer:
     stream = parsed(call.known, call.rules)
     if stream is None:
         raise Refused("UNLAWFUL_STATE")
-    refuse(
-        (stream.place + call.bits > MOST_BITS, "TOO_LONG"),
-        (call.bits > 8 * len(call.data), "BITS_PAST_BYTES"),
-    )
+    refuse(TOO_LONG=stream.place + call.bits > MOST_BITS, BITS_PAST_BYTES=call.bits > 8 * len(call.data))
     heard = Heard(call, stream)
     items = heard.over(0, call.bits) + heard.end()
     return with_items(call, items, found=found(raw_totals(heard.totals(items))))
@@ -297,11 +286,9 @@ def check(call: Call) -> Answer:
     magic, version, rules = STREAM.unpack(call.known)[:3]
     if parsed(call.known, call.rules) is None:
         refuse(
-            (magic != NUMBERS["STREAM_MAGIC"], "NOT_A_STREAM"),
-            (version != NUMBERS["STREAM_VERSION"], "OTHER_VERSION"),
-            (rules[:16] != raw_rules(call.rules)[:16], "OTHER_RULES"),
-            (True, "UNLAWFUL_STATE"),
+            NOT_A_STREAM=magic != NUMBERS["STREAM_MAGIC"], OTHER_VERSION=version != NUMBERS["STREAM_VERSION"]
         )
+        refuse(OTHER_RULES=rules[:16] != raw_rules(call.rules)[:16], UNLAWFUL_STATE=True)
     return Answer(known=call.known)
 
 
@@ -312,15 +299,13 @@ def run(call: Call) -> Answer:
 
 
 def remainder(call: Call) -> Answer:
-    refuse((call.begin >> 26 > 0, "BLOCK_RANGE"))
+    refuse(BLOCK_RANGE=call.begin >> 26 > 0)
     return Answer(found=found(struct.pack("<H", plain.remainder(call.begin))))
 
 
 def correct(call: Call) -> Answer:
     word, offset, limit = call.begin, call.end, call.bits
-    refuse(
-        (word >> 26 > 0, "BLOCK_RANGE"), (not 1 <= offset <= 6, "OFFSET_RANGE"), (limit > 5, "BURST_RANGE")
-    )
+    refuse(BLOCK_RANGE=word >> 26 > 0, OFFSET_RANGE=not 1 <= offset <= 6, BURST_RANGE=limit > 5)
     recording = Recording((word << 6).to_bytes(4, "big"), 26)
     read = recording.read(plain.np.array([25]), plain.np.array([offset]), limit)
     return Answer(found=found(raw_block(Read(*(int(row[0]) for row in read)))))
@@ -328,7 +313,7 @@ def correct(call: Call) -> Answer:
 
 def encode(call: Call) -> Answer:
     groups = [*struct.iter_unpack("<4H", call.data)]
-    refuse((len(groups) > call.room, "SMALL_ROOM"))
+    refuse(SMALL_ROOM=len(groups) > call.room)
     return Answer(room=b"".join(map(plain.packed, groups)))
 
 

@@ -19,9 +19,8 @@ def call_of(text: str) -> Call:
     name, *words = text.split()
     if name in ("totals", "items"):
         data = bytes.fromhex(words[0].strip("-"))
-        return Call(
-            name, data, int(words[1]), plain.gaps_of(words[6].strip("-")), Rules(*map(int, words[2:6]))
-        )
+        gaps, rules = plain.gaps_of(words[6].strip("-")), Rules(*map(int, words[2:6]))
+        return Call(name, data, int(words[1]), gaps, rules)
     if name == "encode":
         groups = [[int(group[k : k + 4], 16) for k in range(0, 16, 4)] for group in words]
         return Call(name, b"".join(struct.pack("<4H", *group) for group in groups))
@@ -89,11 +88,9 @@ def answer_text(text: str, call: Call, answer: Answer, names: dict[int, str]) ->
     if call.name == "name":
         return f"refused {call.begin} {answer.found.split(bytes(1))[0].decode()}"
     version, *rules = struct.unpack_from("<5I", answer.found)
-    return (
-        " ".join(map(str, rules))
-        if text == "rules"
-        else f"{version >> 16}.{version >> 8 & 255}.{version & 255}"
-    )
+    if text == "rules":
+        return " ".join(map(str, rules))
+    return f"{version >> 16}.{version >> 8 & 255}.{version & 255}"
 
 
 # ---- by librds of Python
@@ -134,12 +131,10 @@ def python_text(librds: ModuleType, text: str) -> str:
         return f"refused {refused.number} {refused.name}"
     if name == "name":
         return f"refused {call.begin} {librds.Refused(call.begin).name}"
+    if name == "version":
+        return ".".join(map(str, librds.version()))
     rules = librds.Rules()
-    return (
-        ".".join(map(str, librds.version()))
-        if name == "version"
-        else f"{rules.burst} {rules.reach} {rules.loss} {rules.of}"
-    )
+    return f"{rules.burst} {rules.reach} {rules.loss} {rules.of}"
 
 
 def python_totals(totals: Any) -> str:
