@@ -241,7 +241,7 @@ def test_answers_to_a_refused_call(kind: str) -> None:
     )
     wrong = [(1, b"", b"refused 5 TooLong\n"), (1, b"", b""), (2, b"", told), (1, whole + b"row 3\n", told)]
     wrong += [(0, b"", b""), (1, whole, b""), (0, whole, b"a word\n")]
-    wrong += {"write": [], "thread": [(1, b"", told)]}.get(kind, [(1, row, told)])
+    wrong += [] if kind == "write" else [(1, b"" if kind == "thread" else row, told)]
     right = Ran(0, whole, b"") if kind == "thread" else Ran(1, b"", told)
     is_right = lambda ended, is_stream=False: test_refusals.is_right(kind, Ran(*ended), whole, is_stream)
     assert is_right(right) and [ended for ended in wrong if is_right(ended)] == []
