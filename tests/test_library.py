@@ -359,9 +359,7 @@ def test_recordings_in_c(programs: Programs, recordings: list[Call], listed: lis
     assert kinds == {"acquired", "group", "lost", "total"}
 
 
-def test_recordings_in_python(
-    module: ModuleType, recordings: list[Call], listed: list[str], cases: Cases
-) -> None:
+def test_recordings_in_python(module: ModuleType, recordings: Any, listed: Any, cases: Cases) -> None:
     cases(2 * len(recordings))
     for seed, (call, wanted) in enumerate(zip(recordings, listed)):
         asked = call.data, call.bits, call.gaps, module.Rules(*call.rules)
@@ -396,14 +394,7 @@ def test_eight_threads_at_once(module: ModuleType) -> None:
         stream, room, taken, count = ffi.RdsStream(), (ffi.RdsItem * 16384)(), whole(), whole()
         scratch = ctypes.create_string_buffer(MOST_SCRATCH)
         state = [ctypes.byref(one) for one in (rules, stream)]
-        told = [
-            room,
-            whole(len(room)),
-            ctypes.byref(taken),
-            ctypes.byref(count),
-            scratch,
-            whole(MOST_SCRATCH),
-        ]
+        told = [room, whole(len(room)), *map(ctypes.byref, (taken, count)), scratch, whole(MOST_SCRATCH)]
         assert library.rds_push_with(data, whole(len(data)), None, whole(0), *state, *told) == 0
         return bytes(stream)
 
@@ -573,13 +564,9 @@ class Cargo:
 
     def __init__(self, librds: str, folder: Path) -> None:
         self.target = folder / "cargo"
-        self.variables = {
-            **os.environ,
-            "RDS_LIB_DIR": librds,
-            "CARGO_TARGET_DIR": str(self.target),
-            "CARGO_INCREMENTAL": "0",
-            "CARGO_PROFILE_DEV_DEBUG": "0",
-        }
+        folders = {"RDS_LIB_DIR": librds, "CARGO_TARGET_DIR": str(self.target)}
+        quick = {"CARGO_INCREMENTAL": "0", "CARGO_PROFILE_DEV_DEBUG": "0"}
+        self.variables = {**os.environ, **folders, **quick}
 
     def run(self, *words: object, cwd: Path = TOP, data: bytes = b"", **variables: Any) -> Ran:
         given: dict[str, str | None] = {**self.variables, "PWD": str(cwd), **variables}
