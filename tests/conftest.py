@@ -102,6 +102,9 @@ def pytest_cmdline_main(config: pytest.Config) -> None:
 
 def pytest_configure(config: pytest.Config) -> None:
     """The tests' files are in memory if there is room: some tests wait for each of their writes."""
+    if hasattr(config, "workerinput"):
+        # a worker is told only the words of the command line
+        config.option.loadgroup = True
     if hasattr(config, "workerinput") or config.option.basetemp:
         return
     shared = Path("/dev/shm")
