@@ -432,6 +432,21 @@ def test_tests_that_run_alone_count(copy: Path) -> None:
     assert ended.status == 1 and "1 failed" in ended.out.decode()
 
 
+GROUP = """
+import pytest
+@pytest.mark.xdist_group("one")
+@pytest.mark.parametrize("number", range(8))
+def test_of_a_group(number, worker_id): open("workers", "a").write(worker_id + " ")
+"""
+
+
+def test_group_runs_by_one_worker(copy: Path) -> None:
+    (copy / "tests" / "test_some.py").write_text(GROUP)
+    ended = run(sys.executable, "-m", "pytest", "-q", "-n", "2", "test_some.py", cwd=copy / "tests")
+    workers = (copy / "tests" / "workers").read_text().split()
+    assert len(workers) == 8 and len({*workers}) == 1, ended.out
+
+
 # ---- the tools
 
 
