@@ -28,44 +28,42 @@ os.environ.setdefault("RDS", str(next((path for path in BUILT if path.exists()),
 os.environ.setdefault("RDS_LIBRARY", str(TOP / "build" / "lib" / "librds.so.0"))
 
 
+# each option, its usual value and its help
+OPTIONS = {
+    "--rds": (os.environ["RDS"], "the program; for monitor/tests too, name it in RDS"),
+    "--lib": (os.path.dirname(os.environ["RDS_LIBRARY"]), "the folder that lib/make_library.sh made"),
+    "--arm64": (f"{TOP}/build/lib-arm64", "the same for arm64"),
+    "--bench": (f"{TOP}/crates/rds_bench/out/rds_bench", "the program rds_bench"),
+}
+
+
 def pytest_addoption(parser: pytest.Parser) -> None:
-    library = Path(os.environ["RDS_LIBRARY"]).parent
-    bench = TOP / "crates" / "rds_bench" / "out" / "rds_bench"
-    parser.addoption(
-        "--rds", default=os.environ["RDS"], help="the program; for monitor/tests too, name it in RDS"
-    )
-    parser.addoption("--lib", default=str(library), help="the folder that lib/make_library.sh made")
-    parser.addoption("--arm64", default=str(TOP / "build" / "lib-arm64"), help="the same for arm64")
-    parser.addoption("--bench", default=str(bench), help="the program rds_bench")
-    parser.addoption(
-        "--write-counts", action="store_true", help="write tests/counts.tsv anew, as this run is"
-    )
+    for name, (usual, text) in OPTIONS.items():
+        parser.addoption(name, default=usual, help=text)
+    parser.addoption("--write-counts", action="store_true", help="write tests/counts.tsv by this run")
 
 
 # ---- what tests are given
 
 
-def existing(path: str, cure: str) -> str:
-    """The path, if there is such a file; a test that needs it fails otherwise."""
+def existing(request: pytest.FixtureRequest, option: str, name: str, cure: str) -> str:
+    """The path that an option names, or a file in it; a test that needs it fails if it is not there."""
+    path = request.config.getoption(option) + name
     if not os.path.exists(path):
-        pytest.fail(f"{path} is not there: {cure}", pytrace=False)
+        pytest.fail(f"{path} is not there: {cure}, {option} names another", pytrace=False)
     return os.path.realpath(path)
 
 
 @pytest.fixture(scope="session")
 def rds(request: pytest.FixtureRequest) -> str:
     """The path of the program."""
-    return existing(request.config.getoption("--rds"), "`make` builds it, --rds names another")
+    return existing(request, "--rds", "", "`make` builds it")
 
 
 @pytest.fixture(scope="session")
 def librds(request: pytest.FixtureRequest) -> str:
     """The folder of the library for C: librds.a, librds.so.0 and rds.h."""
-    return os.path.dirname(
-        existing(
-            request.config.getoption("--lib") + "/librds.so.0", "`make lib` builds it, --lib names another"
-        )
-    )
+    return os.path.dirname(existing(request, "--lib", "/librds.so.0", "`make lib` builds it"))
 
 
 @pytest.fixture(scope="session")
@@ -78,9 +76,7 @@ def librds_arm64(request: pytest.FixtureRequest) -> str | None:
 @pytest.fixture(scope="session")
 def rds_bench(request: pytest.FixtureRequest) -> str:
     """The path of rds_bench."""
-    return existing(
-        request.config.getoption("--bench"), "`rt run` in crates/rds_bench builds it, --bench names another"
-    )
+    return existing(request, "--bench", "", "`rt run` in crates/rds_bench builds it")
 
 
 @pytest.fixture(scope="session")
@@ -106,6 +102,9 @@ def pytest_cmdline_main(config: pytest.Config) -> None:
 
 def pytest_configure(config: pytest.Config) -> None:
     """The tests' files are in memory if there is room: some tests wait for each of their writes."""
+    if hasattr(config, "workerinput"):
+        # a worker is told only the words of the command line
+        config.option.loadgroup = True
     if hasattr(config, "workerinput") or config.option.basetemp:
         return
     shared = Path("/dev/shm")
@@ -141,25 +140,12 @@ def pytest_sessionfinish(session: pytest.Session) -> None:
 
 def run_alone(config: pytest.Config) -> tuple[int, dict[str, list[int]]]:
     """Runs the tests that the workers left out: the exit status, and their counts."""
-    chosen = [f"{name}={config.getoption(name)}" for name in ("--rds", "--lib", "--arm64", "--bench")]
-    words = [
-        sys.executable,
-        "-m",
-        "pytest",
-        "-q",
-        "-n",
-        "0",
-        "-m",
-        "alone",
-        "-k",
-        config.option.keyword,
-        *chosen,
-    ]
+    chosen = [f"{name}={config.getoption(name)}" for name in OPTIONS]
+    words = [sys.executable, *"-m pytest -q -n 0 -m alone -k".split(), config.option.keyword, *chosen]
     with tempfile.NamedTemporaryFile() as told:
-        ran = subprocess.run(
-            words + config.args, cwd=config.invocation_params.dir, env={**os.environ, TOLD: told.name}
-        )
-        return ran.returncode, json.load(told)
+        variables, folder = {**os.environ, TOLD: told.name}, config.invocation_params.dir
+        status = subprocess.run(words + config.args, cwd=folder, env=variables).returncode
+        return status, json.load(told)
 
 
 # ---- how many tests there have to be
@@ -175,14 +161,6 @@ def counts_of(stats: dict[str, list[Any]]) -> dict[str, list[int]]:
     return counts
 
 
-def added(counts: dict[str, list[int]], others: dict[str, list[int]]) -> dict[str, list[int]]:
-    """The sums of both: a file may have tests that run alone and others."""
-    return {
-        path: [sum(pair) for pair in zip(counts.get(path, [0, 0]), others.get(path, [0, 0]))]
-        for path in {*counts, *others}
-    }
-
-
 def wanted_counts() -> dict[str, list[int]]:
     """The rows of the table."""
     rows = [line.split("\t") for line in COUNTS.read_text().splitlines()[1:]]
@@ -192,10 +170,7 @@ def wanted_counts() -> dict[str, list[int]]:
 def missing_tests(config: pytest.Config, counts: dict[str, list[int]]) -> list[str]:
     """A line for each file of which fewer tests passed than the table has."""
     wanted, faults = wanted_counts(), []
-    is_whole = all(
-        any(TOP / folder == Path(arg).resolve() for arg in config.args)
-        for folder in ("tests", "monitor/tests")
-    )
+    is_whole = {TOP / "tests", TOP / "monitor/tests"} <= {Path(arg).resolve() for arg in config.args}
     has_all_tools = bool(os.environ.get("RDS_ALL_TOOLS"))
     for path in sorted({*counts, *wanted} if is_whole else {*counts} & {*wanted}):
         passed, skipped = counts.get(path, [0, 0])
@@ -209,17 +184,14 @@ def missing_tests(config: pytest.Config, counts: dict[str, list[int]]) -> list[s
 def write_counts(counts: dict[str, list[int]]) -> None:
     """Writes the table, in which these counts replace those of their files."""
     rows = sorted({**wanted_counts(), **counts}.items())
-    text = "".join(
-        f"{path}\t{passed}\t{skipped}\n" for path, (passed, skipped) in rows if (TOP / path).exists()
-    )
-    COUNTS.write_text("file\tpassed\tskipped\n" + text)
+    lines = [f"{path}\t{passed}\t{skipped}" for path, (passed, skipped) in rows if (TOP / path).exists()]
+    COUNTS.write_text("\n".join(["file\tpassed\tskipped", *lines, ""]))
 
 
 def is_part(config: pytest.Config) -> bool:
     """Whether files were run in part."""
-    chosen = (
-        config.option.keyword or config.option.markexpr or config.option.collectonly or config.option.maxfail
-    )
+    option = config.option
+    chosen = option.keyword or option.markexpr or option.collectonly or option.maxfail
     return bool(chosen) or any("::" in arg for arg in config.args)
 
 
@@ -230,20 +202,19 @@ def pytest_terminal_summary(terminalreporter: Any, config: pytest.Config) -> Non
         return
     if config.stash.get(LEFT_OUT, 0):
         status, of_alone = run_alone(config)
-        counts = added(counts, of_alone)
+        # a file may have tests that run alone and others
+        for path, more in of_alone.items():
+            counts[path] = [sum(pair) for pair in zip(counts.get(path, [0, 0]), more)]
     if config.getoption("--write-counts"):
         write_counts(counts)
     faults = [] if is_part(config) else missing_tests(config, counts)
     for fault in faults:
         terminalreporter.write_line(f"tests/counts.tsv: {fault}", red=True)
+    session, is_alone = terminalreporter._session, config.stash.get(LEFT_OUT, 0)
     if status or faults:
-        terminalreporter._session.exitstatus = pytest.ExitCode.TESTS_FAILED
-    elif (
-        config.stash.get(LEFT_OUT, 0)
-        and terminalreporter._session.exitstatus == pytest.ExitCode.NO_TESTS_COLLECTED
-    ):
-        terminalreporter._session.exitstatus = pytest.ExitCode.OK
+        session.exitstatus = pytest.ExitCode.TESTS_FAILED
+    elif is_alone and session.exitstatus == pytest.ExitCode.NO_TESTS_COLLECTED:
+        session.exitstatus = pytest.ExitCode.OK
     spent = time.process_time() + sum(os.times()[2:4])
-    terminalreporter.write_line(
-        f"{sum(passed for passed, _ in counts.values())} cases, {spent:.0f} processor seconds"
-    )
+    passed = sum(count for count, _ in counts.values())
+    terminalreporter.write_line(f"{passed} cases, {spent:.0f} processor seconds")

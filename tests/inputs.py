@@ -33,9 +33,8 @@ def past_mending(groups: list[str]) -> list[str]:
 
     If one bad block loses sync, sync is lost as soon as it is acquired.
     """
-    mask = sum(
-        bit << 4 * (26 - place) for place, bit in ((8, 2), (11, 8), (13, 2), (21, 2), (24, 8), (26, 2))
-    )
+    errors = ((8, 2), (11, 8), (13, 2), (21, 2), (24, 8), (26, 2))
+    mask = sum(bit << 4 * (26 - place) for place, bit in errors)
     return [f"{int(group, 16) ^ mask:026x}" for group in groups]
 
 
@@ -46,8 +45,6 @@ def gaps(count: int, each: int = 500, start: int = 0) -> str:
 
 def make_refuse(folder: Path) -> Path:
     """The library that refuses and counts calls of a program."""
-    path = folder / "refuse.so"
-    wrote(
-        os.environ.get("CC", "cc"), "-O1", "-shared", "-fPIC", "-o", path, TOP / "tests" / "refuse.c", "-ldl"
-    )
+    path, source = folder / "refuse.so", TOP / "tests" / "refuse.c"
+    wrote(os.environ.get("CC", "cc"), "-O1", "-shared", "-fPIC", "-o", path, source, "-ldl")
     return path

@@ -34,20 +34,7 @@ NAMES = ("", "A", "B", "C", "Cx", "D")
 WORDS = (0, 0x0FC, 0x198, 0x168, 0x350, 0x1B4)
 NUMBERS = np.array([0, 1, 2, 3, 3, 4])
 
-TOTALS = (
-    "valid",
-    "burst1",
-    "burst2",
-    "burst3",
-    "burst4",
-    "burst5",
-    "lost",
-    "bits",
-    "groups",
-    "complete",
-    "acquired",
-    "losses",
-)
+TOTALS = "valid burst1 burst2 burst3 burst4 burst5 lost bits groups complete acquired losses".split()
 
 
 # ---- the block code
@@ -100,9 +87,8 @@ def span(burst: int) -> int:
 
 def bursts(limit: int) -> set[int]:
     """All words of 26 bits whose span is at most the limit."""
-    return {
-        form << shift for form in range(1, 1 << limit) for shift in range(BLOCK) if form << shift <= WINDOW
-    }
+    shifted = (form << shift for form in range(1, 1 << limit) for shift in range(BLOCK))
+    return {burst for burst in shifted if burst <= WINDOW}
 
 
 @lru_cache
@@ -357,11 +343,8 @@ class Run:
     def due_block(self, place: int) -> Iterator[Item]:
         number, first, rules = self.state.number, self.state.first, self.rules
         is_bad = int(self.recording.numbers[place]) != number
-        bad = (
-            (self.state.bad << 1 | is_bad) & (1 << rules.of) - 1
-            if rules.of
-            else (self.state.bad + 1) * is_bad
-        )
+        mask, in_a_row = (self.state.bad << 1 | is_bad) & (1 << rules.of) - 1, (self.state.bad + 1) * is_bad
+        bad = mask if rules.of else in_a_row
         is_lost = is_too_bad(bad, rules)
         if number == 4 or is_lost:
             yield self.group(place, first, number)
@@ -426,6 +409,9 @@ def encoded(lines: bytes, is_hex: bool) -> bytes | None:
     return b"".join(packed(it).hex().encode() + b"\n" if is_hex else packed(it) for it in groups)
 
 
+RULES = {"burst": 2, "reach": 3, "loss": 10, "share": None, "of": 64}
+
+
 @lru_cache
 def arguments() -> argparse.ArgumentParser:
     """The parser of the command line."""
@@ -436,12 +422,8 @@ def arguments() -> argparse.ArgumentParser:
         job.add_argument("--hex", action="store_true")
         job.add_argument("--bits", type=int)
         job.add_argument("--gaps", type=gaps_of, default=())
-        if name != "scan":
-            job.add_argument("--burst", type=int, default=2)
-            job.add_argument("--reach", type=int, default=3)
-            job.add_argument("--loss", type=int, default=10)
-            job.add_argument("--share", type=int)
-            job.add_argument("--of", type=int, default=64)
+        for rule, usual in RULES.items() if name != "scan" else ():
+            job.add_argument(f"--{rule}", type=int, default=usual)
     jobs.add_parser("encode").add_argument("--hex", action="store_true")
     return parser
 

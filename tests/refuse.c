@@ -105,38 +105,29 @@ static void gone(void *memory)
         atomic_fetch_sub(&held, (long)malloc_usable_size(memory));
 }
 
-static void *refused_memory(void)
-{
-    errno = ENOMEM;
-    return NULL;
-}
+/* NULL, and the error, if the allocation is refused. */
+#define MEMORY(size, call)                                                                                                             \
+    if (is_refused_memory(size)) {                                                                                                     \
+        errno = ENOMEM;                                                                                                                \
+        return NULL;                                                                                                                   \
+    }                                                                                                                                  \
+    return taken(call)
 
-void *malloc(size_t size)
-{
-    return is_refused_memory(size) ? refused_memory() : taken(__libc_malloc(size));
-}
-
-void *calloc(size_t count, size_t size)
-{
-    return is_refused_memory(count * size) ? refused_memory() : taken(__libc_calloc(count, size));
-}
+void *malloc(size_t size) { MEMORY(size, __libc_malloc(size)); }
+void *calloc(size_t count, size_t size) { MEMORY(count * size, __libc_calloc(count, size)); }
+void *aligned_alloc(size_t align, size_t size) { MEMORY(size, __libc_memalign(align, size)); }
 
 /* Memory that moves is counted once, at its new place. */
-void *realloc(void *old, size_t size)
+static void *moved(void *old, size_t size)
 {
-    if (is_refused_memory(size))
-        return refused_memory();
     long before = old ? (long)malloc_usable_size(old) : 0;
     void *new = __libc_realloc(old, size);
     if (new)
         atomic_fetch_sub(&held, before);
-    return taken(new);
+    return new;
 }
 
-void *aligned_alloc(size_t align, size_t size)
-{
-    return is_refused_memory(size) ? refused_memory() : taken(__libc_memalign(align, size));
-}
+void *realloc(void *old, size_t size) { MEMORY(size, moved(old, size)); }
 
 int posix_memalign(void **out, size_t align, size_t size)
 {
@@ -152,36 +143,28 @@ void free(void *memory)
     __libc_free(memory);
 }
 
+/* The function of the C library by this name. */
+#define REAL(name) ((__typeof__(name) *)dlsym(RTLD_NEXT, #name))
+
 ssize_t read(int from, void *buffer, size_t size)
 {
-    static ssize_t (*real)(int, void *, size_t);
-    if (!real)
-        real = (ssize_t (*)(int, void *, size_t))dlsym(RTLD_NEXT, "read");
     if (from == STDIN_FILENO && is_refused(READ)) {
         errno = EIO;
         return -1;
     }
-    return real(from, buffer, size);
+    return REAL(read)(from, buffer, size);
 }
 
 ssize_t write(int to, const void *buffer, size_t size)
 {
-    static ssize_t (*real)(int, const void *, size_t);
-    if (!real)
-        real = (ssize_t (*)(int, const void *, size_t))dlsym(RTLD_NEXT, "write");
     if (to == STDOUT_FILENO && is_refused(WRITE)) {
         errno = EIO;
         return -1;
     }
-    return real(to, buffer, size);
+    return REAL(write)(to, buffer, size);
 }
 
 int pthread_create(pthread_t *thread, const pthread_attr_t *attributes, void *(*body)(void *), void *argument)
 {
-    static int (*real)(pthread_t *, const pthread_attr_t *, void *(*)(void *), void *);
-    if (!real)
-        real = (int (*)(pthread_t *, const pthread_attr_t *, void *(*)(void *), void *))dlsym(RTLD_NEXT, "pthread_create");
-    if (is_refused(THREAD))
-        return EAGAIN;
-    return real(thread, attributes, body, argument);
+    return is_refused(THREAD) ? EAGAIN : REAL(pthread_create)(thread, attributes, body, argument);
 }

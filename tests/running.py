@@ -38,9 +38,8 @@ def run(*words: Any, data: bytes = b"", **options: Any) -> Ran:
 def wrote(*words: Any, data: bytes = b"", **options: Any) -> bytes:
     """The standard output of a run that has to end in status 0."""
     done = run(*words, data=data, **options)
-    assert (
-        done.status == 0
-    ), f"{words}: status {done.status}\n{done.out.decode()[-2000:]}{done.err.decode()[-2000:]}"
+    text = done.out.decode(errors="replace")[-2000:] + done.err.decode(errors="replace")[-2000:]
+    assert done.status == 0, f"{words}: status {done.status}\n{text}"
     return done.out
 
 

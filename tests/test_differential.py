@@ -4,12 +4,16 @@ For each seed making.py makes a recording, and lines of groups. The program scan
 workers that are drawn from the seed. It follows it in chunks of random lengths, and its beginning byte by byte; and it encodes the lines. Each
 seed has a byte that is no digit and no blank, which is refused. Streams are parts of a station from any bit on, with wrong bits and stretches
 that say nothing; at every tenth seed the pipe is slow. A run that differs is shown by its seed and its words.
+
+The program stores the rows of groups eight bytes at a time, and plain.py writes them by Python's csv module: all forms of each field occur, and
+places of 2 to 11 digits, as the first group is found at place 26 or later.
 """
 
 from __future__ import annotations
 
 import os
 import random
+import re
 import subprocess
 import time
 from concurrent.futures import ThreadPoolExecutor
@@ -130,6 +134,43 @@ def test_recordings_and_lines(rds: str, first: int, cases: Cases) -> None:
     assert [text for trial in trials for text in trial.differing] == []
     assert {trial.runs for trial in trials} == {RUNS}
     cases(RUNS * len(trials))
+
+
+BLOCKS = [f"{offset}:{word}" for offset in ("A", "B", "C", "Cx", "D") for word in ("####", "####~#######")]
+FORMS = {*BLOCKS, "none", "lost", "A", "A!", "B", "B!", "?", "-", *map(str, range(16))}
+
+
+def test_every_form_of_a_field(rds: str) -> None:
+    """All occur in the groups of the first recordings, each hexadecimal digit as #."""
+    seen: set[str] = set()
+    for seed in range(1, 41):
+        data = making.recording(seed)
+        listed = wanted(["list"], data) or b""
+        assert run(rds, "list", data=data) == (0, listed, b""), f"seed {seed}"
+        fields = re.findall(r"^group,\d+,(.*)$", listed.decode(), re.M)
+        seen |= {*re.sub(r"(?<=[:~])\w+", lambda word: "#" * len(word[0]), ",".join(fields)).split(",")}
+    assert seen == FORMS
+
+
+# Bytes of zeros have no valid window: they only move what comes after them, from one prefix on.
+PREFIX, CHUNK = 8, bytes(1 << 20)
+
+
+@pytest.mark.parametrize("digits", range(2, 12))
+def test_places_of_each_length(rds: str, digits: int) -> None:
+    words = ([0xD393, word, 0xABCD, 0x0123] for word in range(0, 65536, 257))
+    zeros = 10 ** (digits - 1) // 8 if digits > 2 else 0
+    data = bytes(PREFIX if zeros else 0) + b"".join(map(plain.packed, words)) + making.recording(2)
+    with subprocess.Popen([rds, "follow"], stdin=subprocess.PIPE, stdout=subprocess.PIPE) as program:
+        assert program.stdin
+        for _ in range(zeros // len(CHUNK)):
+            program.stdin.write(CHUNK)
+        program.stdin.write(bytes(zeros % len(CHUNK)))
+        out, _ = program.communicate(data, timeout=LIMIT)
+    row = re.compile(r"^(acquired|group|lost),(\d+)", re.M)
+    listed = (wanted(["list"], data) or b"").decode()
+    moved = row.sub(lambda found: f"{found[1]},{int(found[2]) + 8 * zeros}", listed)
+    assert out.decode() == moved and re.search(rf"^(group|acquired),\d{{{digits}}},", moved, re.M)
 
 
 def test_two_seeds_differ() -> None:

@@ -3,16 +3,16 @@
 from __future__ import annotations
 
 import os
+import random
 import shutil
 import subprocess
-import sys
 import time
 from pathlib import Path
 from typing import Callable
 
-
 import pytest
 from running import TOP, Ran, needs, run, said, wrote
+from test_differential import hand_on
 
 EXAMPLES = TOP / "examples"
 ROTATE_USAGE = "usage: rotate.sh [--by FORMAT] FOLDER < LISTING"
@@ -42,6 +42,13 @@ def is_refused(ended: Ran, status: int, text: str) -> bool:
     return (ended.status, ended.err.decode().partition("\n")[0]) == (status, text)
 
 
+def in_its_place(path: Path, command: str) -> None:
+    """A command by another name."""
+    path.parent.mkdir(exist_ok=True)
+    path.write_text(f'#!/bin/sh\nexec {command} "$@"\n')
+    path.chmod(0o755)
+
+
 def held_in(folder: Path) -> bytes:
     return b"".join(path.read_bytes() for path in sorted(folder.iterdir()))
 
@@ -49,23 +56,21 @@ def held_in(folder: Path) -> bytes:
 # ---- rotation of a stream
 
 
-def streamed(rds: str, station: bytes) -> bytes:
-    """What `rds follow` gives of the sample, in random chunks."""
-    chunks = wrote(sys.executable, TOP / "tests" / "chunks.py", 1, 2000, data=station)
-    return wrote(rds, "follow", data=chunks)
-
-
-def test_a_file_a_second(rds: str, listing: bytes, tmp_path: Path, cases: Cases) -> None:
+def test_a_file_a_second(rds: str, station: bytes, listing: bytes, tmp_path: Path, cases: Cases) -> None:
+    """The stream comes in chunks of random lengths over more than a second."""
     cases(2)
-    chunks = f"{TOP}/tests/chunks.py 1 2000 0.1 < {EXAMPLES}/station.bin"
     rotate = f"{EXAMPLES}/rotate.sh --by %Y-%m-%dT%H:%M:%SZ {tmp_path}/seconds"
-    wrote("bash", "-o", "pipefail", "-c", f"{chunks} | {rds} follow | {rotate}")
+    words = ["bash", "-o", "pipefail", "-c", f"{rds} follow | {rotate}"]
+    with subprocess.Popen(words, stdin=subprocess.PIPE) as child:
+        assert child.stdin
+        hand_on(os.dup(child.stdin.fileno()), station, 2000, 0.1, random.Random(1))
+    assert child.returncode == 0
     assert held_in(tmp_path / "seconds") == listing and len([*(tmp_path / "seconds").iterdir()]) > 1
 
 
 def test_a_file_that_is_there_is_added_to(rds: str, station: bytes, listing: bytes, tmp_path: Path) -> None:
     for _ in range(2):
-        told("rotate.sh", "--by", "listing", tmp_path / "one", data=streamed(rds, station))
+        told("rotate.sh", "--by", "listing", tmp_path / "one", data=wrote(rds, "follow", data=station))
     assert (tmp_path / "one" / "listing.csv").read_bytes() == 2 * listing
 
 
@@ -102,9 +107,7 @@ def test_rows_of_any_text(tmp_path: Path, cases: Cases) -> None:
 
 def test_a_file_by_the_hour_in_utc(tmp_path: Path) -> None:
     clock = tmp_path / "clock"
-    clock.mkdir()
-    (clock / "date").write_text(f'#!/bin/sh\nexec {shutil.which("date")} -d "2026-11-24 15:30 UTC" "$@"\n')
-    (clock / "date").chmod(0o755)
+    in_its_place(clock / "date", f'{shutil.which("date")} -d "2026-11-24 15:30 UTC"')
     told("rotate.sh", tmp_path / "hour", data=b"a row\n", TZ="XYZ-5:30", PATH=f"{clock}:{os.environ['PATH']}")
     assert [path.name for path in (tmp_path / "hour").iterdir()] == ["2026-11-24T15Z.csv"]
 
@@ -121,15 +124,8 @@ def test_rotation_onto_a_full_device(listing: bytes, tmp_path: Path) -> None:
 
 def test_a_stream_that_may_begin_anew(rds: str, listing: bytes, tmp_path: Path) -> None:
     script = 'rds() { "$RDS" "$@"; }; until rds follow 2> fault; do grep -q TooLong fault || exit 1; done'
-    ended = run(
-        "sh",
-        "-c",
-        script,
-        data=(EXAMPLES / "station.bin").read_bytes(),
-        cwd=tmp_path,
-        env={**os.environ, "RDS": rds},
-    )
-    assert ended == (0, listing, b"")
+    held, variables = (EXAMPLES / "station.bin").read_bytes(), {**os.environ, "RDS": rds}
+    assert run("sh", "-c", script, data=held, cwd=tmp_path, env=variables) == (0, listing, b"")
 
 
 # ---- the sample
@@ -212,10 +208,8 @@ def test_errors_and_outages_of_the_day(day: Day, cases: Cases) -> None:
 
 def read_in_gaps(listing: bytes, dropped: bytes) -> int:
     """How many blocks that touch a gap are neither missing nor uncorrectable."""
-    gaps = [
-        (start, start + length) for start, length in (map(int, line.split()) for line in dropped.splitlines())
-    ]
-    count = 0
+    drops = (map(int, line.split()) for line in dropped.splitlines())
+    gaps, count = [(start, start + length) for start, length in drops], 0
     for row in (line.split(",") for line in listing.decode().splitlines() if line.startswith("group,")):
         heard = [place for place in range(4) if row[4 + place] != "none"]
         begins = [int(row[1]) + 26 * (place - heard[0]) for place in heard if row[4 + place] != "lost"]
@@ -237,8 +231,7 @@ def test_dropped_samples_as_gaps(day: Day, cases: Cases) -> None:
 def test_gaps_by_awk(day: Day, tmp_path: Path, awk: str, cases: Cases) -> None:
     cases(2)
     needs(awk.split()[0])
-    (tmp_path / "awk").write_text(f'#!/bin/sh\nexec {awk} "$@"\n')
-    (tmp_path / "awk").chmod(0o755)
+    in_its_place(tmp_path / "awk", awk)
     path = f"{tmp_path}:{os.environ['PATH']}"
     assert told("gaps.sh", data=day.dropped, PATH=path) == GAPS
     assert told("gaps.sh", data=b"68719476730 6\n", PATH=path) == "--gaps=68719476730-68719476736"

@@ -19,86 +19,56 @@ from running import TOP, run
 # The seconds that one run of the compiler may take.
 LIMIT = 300
 RECORDING = "alloc: Global, recording: Recording, rules: Rules"
+STATE = "live: StreamDecoder<'_>, tail: &[u8], place: u64, state: State, totals: Totals"
 
 
 class Example(NamedTuple):
-    """The crate of an example, the declarations that it needs, the parameters of its function, and a name in it."""
+    """The crate of an example, a name in it, the parameters of its function, and the declarations that it needs."""
 
     crate: str
-    uses: str
-    parameters: str
     name: str
+    parameters: str
+    uses: str
 
     @property
     def module(self) -> str:
         return f"{self.crate}_{self.name.lower()}"
 
 
+CODE = "use rds_code::{BlockNumber, BurstLimit, BurstTable, Wanted};"
 PIECES = """use rds_pieces::{Cutting, join_runs, speculate, stitch};
 use rds_stream::{Counted, Recording};
 use rds_sync::Rules;"""
-EXAMPLES = [
-    Example(
-        "rds_code",
-        "use rds_code::{BlockNumber, BurstLimit, BurstTable, Offset, Wanted, encode_block, read_block};",
-        "alloc: Global",
-        "read_block",
-    ),
-    Example(
-        "rds_stream",
-        """use rds_code::{BlockNumber, BurstLimit, BurstTable, Wanted};
-use rds_stream::{Reader, Recording, read_heard, scan};""",
-        "alloc: Global, bytes: Vec<u8>, gaps: Vec<(u64, u64)>, table: BurstTable",
-        "read_heard",
-    ),
-    Example(
-        "rds_sync",
-        "use rds_stream::Recording;\nuse rds_sync::{Item, Rules, decode_plain};",
-        "alloc: Global, recording: Recording",
-        "decode_plain",
-    ),
-    Example(
-        "rds_live",
-        "use rds_live::{MOST_ITEMS, StreamDecoder};\nuse rds_sync::Rules;",
-        "alloc: Global, rules: Rules, chunks: Vec<&[u8]>",
-        "MOST_ITEMS",
-    ),
-    Example(
-        "rds_live",
-        """use rds_live::StreamDecoder;
+KEEP = """use rds_live::StreamDecoder;
 use rds_sync::{Rules, State, Totals};
 
-fn keep(_tail: &[u8], _place: u64, _state: State, _totals: Totals) {}""",
-        "alloc: Global, rules: Rules, gaps: Vec<(u64, u64)>, live: StreamDecoder<'_>, tail: &[u8], place: u64, state: State, totals: Totals",
-        "resume",
-    ),
-    Example("rds_pieces", PIECES, RECORDING, "stitch"),
-    Example("rds_pieces", PIECES, f"{RECORDING}, cutting: Cutting", "join_runs"),
-    Example(
-        "rds_crew",
-        """use rds_crew::{OpenGate, decode_crew};
+fn keep(_tail: &[u8], _place: u64, _state: State, _totals: Totals) {}"""
+CREW = """use rds_crew::{OpenGate, decode_crew};
 use rds_pieces::{Cutting, RecordingWork};
 use rds_stream::Recording;
-use rds_sync::Rules;""",
-        f"rt: R, {RECORDING}",
-        "decode_crew",
-    ),
-    Example("rds_crew", "use rds_crew::Dealer;", "alloc: Global", "Dealer"),
-    Example(
-        "rds_rows",
-        """ghost use Rattle.std.specs.Prelude.{◌∷◌, [], replicate};
-use rds_rows::{Rows, Sheet, Sink, write_rows};""",
-        "rt: R, alloc: Global, mut writer: K",
-        "write_rows",
-    ),
-    Example(
-        "rds_tool",
-        "use rds_tool::{FromRead, Input, Job, ToWrite, transcribe};",
-        "rt: R, alloc: Global",
-        "transcribe",
-    ),
+use rds_sync::Rules;"""
+ROWS = """ghost use Rattle.std.specs.Prelude.{◌∷◌, [], replicate};
+use rds_rows::{Rows, Sheet, Sink, write_rows};"""
+READ_BLOCK = f"{CODE}\nuse rds_code::{{Offset, encode_block, read_block}};"
+READ_HEARD = f"{CODE}\nuse rds_stream::{{Reader, Recording, read_heard, scan}};"
+DECODE_PLAIN = "use rds_stream::Recording;\nuse rds_sync::{Item, Rules, decode_plain};"
+LIVE = "use rds_live::{MOST_ITEMS, StreamDecoder};\nuse rds_sync::Rules;"
+TRANSCRIBE = "use rds_tool::{FromRead, Input, Job, ToWrite, transcribe};"
+BYTES = "bytes: Vec<u8>, gaps: Vec<(u64, u64)>, table: BurstTable"
+EXAMPLES = [
+    Example("rds_code", "read_block", "alloc: Global", READ_BLOCK),
+    Example("rds_stream", "read_heard", f"alloc: Global, {BYTES}", READ_HEARD),
+    Example("rds_sync", "decode_plain", "alloc: Global, recording: Recording", DECODE_PLAIN),
+    Example("rds_live", "MOST_ITEMS", "alloc: Global, rules: Rules, chunks: Vec<&[u8]>", LIVE),
+    Example("rds_live", "resume", f"alloc: Global, rules: Rules, gaps: Vec<(u64, u64)>, {STATE}", KEEP),
+    Example("rds_pieces", "stitch", RECORDING, PIECES),
+    Example("rds_pieces", "join_runs", f"{RECORDING}, cutting: Cutting", PIECES),
+    Example("rds_crew", "decode_crew", f"rt: R, {RECORDING}", CREW),
+    Example("rds_crew", "Dealer", "alloc: Global", "use rds_crew::Dealer;"),
+    Example("rds_rows", "write_rows", "rt: R, alloc: Global, mut writer: K", ROWS),
+    Example("rds_tool", "transcribe", "rt: R, alloc: Global", TRANSCRIBE),
 ]
-SURFACE = Example("surface", "", "", "decode_plain")
+SURFACE = Example("surface", "decode_plain", "", "")
 # What an example asks of types that it leaves open.
 BOUNDS = {"R": "Threads + Sync + Drop", "K": "Sink + Drop"}
 
@@ -139,32 +109,16 @@ def misnamed(text: str, name: str) -> str:
 
 def compiled(folder: Path, modules: dict[str, str]) -> str:
     """What the compiler says of a crate of these modules."""
-    words = [
-        f"{KIT}/bin/rattle",
-        "check",
-        "--crate-name",
-        "front_pages",
-        "src/lib.rt",
-        "--jobs",
-        "1",
-        "--only",
-        "",
-    ]
-    words += [
-        "--logic-built",
-        f"{KIT}/logic_built",
-        "--antt-project",
-        f"{KIT}/rattle/logic/antt-project.json",
-    ]
-    words += ["-L", f"dependency={KIT}/rlibs"]
+    words = [f"{KIT}/bin/rattle", *"check --crate-name front_pages src/lib.rt --jobs 1 --only".split(), ""]
+    words += ["--logic-built", f"{KIT}/logic_built"]
+    words += ["--antt-project", f"{KIT}/rattle/logic/antt-project.json", "-L", f"dependency={KIT}/rlibs"]
     for name in "std anyhow atomic_table clap core csv hex itoa thiserror".split():
         words += ["--extern", f"{name}={KIT}/rlibs/{name}.rlib"]
     for crate in LIBRARIES:
         words += ["--extern", f"{crate}={built(crate)}", "-L", f"dependency={os.path.dirname(built(crate))}"]
     (folder / "src").mkdir(exist_ok=True)
-    (folder / "src/lib.rt").write_text(
-        "#![tactic(auto)]\n\n" + "".join(f"pub mod {name};\n" for name in modules)
-    )
+    root = "".join(f"pub mod {name};\n" for name in modules)
+    (folder / "src/lib.rt").write_text(f"#![tactic(auto)]\n\n{root}")
     for name, text in modules.items():
         (folder / f"src/{name}.rt").write_text(text)
     ended = run(*words, cwd=folder, timeout=LIMIT)

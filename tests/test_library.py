@@ -10,6 +10,7 @@ import csv
 import ctypes
 import importlib
 import io
+import itertools
 import os
 import random
 import re
@@ -20,12 +21,12 @@ import sys
 from concurrent.futures import ThreadPoolExecutor
 from pathlib import Path
 from types import ModuleType
-from typing import Any, Callable, Iterator
+from typing import Any, Callable
 
 import plain
 import pytest
 import worst_inputs
-from library import calls, table
+from library import border, calls, table
 from library.calls import Answer, Call, ask, drawn
 from running import LIMIT, TOP, Ran, needs, readme_program, run, said, wrote
 
@@ -46,29 +47,23 @@ def folder(tmp_path_factory: pytest.TempPathFactory) -> Path:
 
 # ---- names and data of the libraries
 
-
-def symbols(*words: object) -> Iterator[list[str]]:
-    """The fields of each line of nm."""
-    return (line.split() for line in said("nm", *words).splitlines())
-
-
 DECLARED = sorted(re.findall(r"^[a-z0-9_ ]*[ *](rds_[a-z_]*)\((?!.*\{)", HEADER, re.M))
+# the first is the linker's, for what each thread has of its own
+NEEDED = "_GLOBAL_OFFSET_TABLE_ __stack_chk_fail free malloc memcpy memmove memset realloc strlen".split()
+
+
+def symbols(*words: object) -> list[list[str]]:
+    """The fields of each line of nm."""
+    return sorted((line.split() for line in said("nm", *words).splitlines()), key=lambda row: row[-1:])
 
 
 def test_exported_names(librds: str, cases: Cases) -> None:
     cases(4)
-    shown = [
-        row[2].split("@")[0]
-        for row in symbols("-D", "--defined-only", f"{librds}/librds.so.0")
-        if row[1] == "T"
-    ]
-    assert sorted(shown) == DECLARED
+    shown = symbols("-D", "--defined-only", f"{librds}/librds.so.0")
+    assert [row[2].split("@")[0] for row in shown if row[1] == "T"] == DECLARED
     archive = f"{librds}/librds.a"
-    assert sorted(row[2] for row in symbols("--defined-only", "-g", archive) if len(row) == 3) == DECLARED
-    needed = sorted(row[1] for row in symbols("-u", archive) if len(row) == 2)
-    # the first is the linker's, for what each thread has of its own
-    names = "_GLOBAL_OFFSET_TABLE_ __stack_chk_fail free malloc memcpy memmove memset realloc strlen"
-    assert needed == names.split()
+    assert [row[2] for row in symbols("--defined-only", "-g", archive) if len(row) == 3] == DECLARED
+    assert [row[1] for row in symbols("-u", archive) if len(row) == 2] == NEEDED
     # an array of no values is handed on as this, which has the alignment of max_align_t
     assert [row[1] for row in symbols("-S", archive) if row[-1:] == ["none"]] == ["0000000000000020"]
 
@@ -94,8 +89,7 @@ def test_files_of_the_library(librds: str, cases: Cases) -> None:
     assert Path(f"{librds}/rds.h").read_text() == HEADER
     for name in ("librds.a", "librds.so.0"):
         held = Path(f"{librds}/{name}").read_bytes()
-        assert not re.search(rb"[ -~]{4,}", b"") and b"\n/tmp/" not in held and f"{TOP}/".encode() not in held
-        assert b"\0/tmp/" not in held
+        assert not any(path in held for path in (b"\n/tmp/", b"\0/tmp/", f"{TOP}/".encode()))
     row = said("ar", "tv", f"{librds}/librds.a", env={**os.environ, "TZ": "UTC"}).split()
     assert [row[1], row[-2], row[-1]] == ["0/0", "1970", "rds.o"]
 
@@ -107,33 +101,15 @@ def test_an_error_that_nobody_looks_at(start: str, is_taken: bool, tmp_path: Pat
     assert (run(*words, data=text.encode()).status == 0) == is_taken
 
 
-@pytest.mark.parametrize("compiler", [(CC, "-std=c11"), ("c++", "-std=c++17", "-x", "c++")])
-def test_declarations(librds: str, compiler: tuple[str, ...], tmp_path: Path) -> None:
-    """The header beside the sources, the bindings and a compiler."""
-    needs(compiler[0])
-    wrote(sys.executable, HERE / "layout.py", TOP / "lib" / "rds.h", tmp_path)
-    words = [
-        *compiler,
-        *STRICT,
-        f"-I{librds}",
-        "-o",
-        tmp_path / "layout",
-        tmp_path / "layout.c",
-        "-x",
-        "none",
-    ]
-    wrote(*words, f"{librds}/librds.a")
-    wrote(tmp_path / "layout")
-
-
 # ---- the library of version 0.2
 
 
 def stub(answer: str) -> str:
     """The functions of version 0.2 with this body."""
-    declared = re.findall(r"^((?:uint|const)[^;]*\)) *;", (HERE / "rds_0_2.h").read_text(), re.M)
-    bodies = (f"{it} {{ return {'__func__' if it[0] == 'c' else answer}; }}" for it in declared)
-    return '#include "rds.h"\n' + "\n".join(bodies)
+    pattern = r"^(?:RDS_MUST_USE )?((?:uint|const)[^;]*\));"
+    declared = re.findall(pattern, (HERE / "rds_0_2.h").read_text(), re.M)
+    bodies = (f"{one} {{ return {'__func__' if one[0] == 'c' else answer}; }}" for one in declared)
+    return "\n".join(['#include "rds.h"', *bodies])
 
 
 def make_earlier(folder: Path) -> Path:
@@ -163,11 +139,8 @@ def test_names_calls_and_structs_of_0_2(librds: str, earlier: Path) -> None:
 # ---- programs that call the library
 
 VARIANTS = ["0.2", "archive", "valgrind", "core2", "arm64"]
-TOOLS = {
-    "valgrind": ["valgrind"],
-    "core2": ["qemu-x86_64"],
-    "arm64": ["qemu-aarch64", "aarch64-linux-gnu-gcc"],
-}
+OF_ARM64 = ["qemu-aarch64", "aarch64-linux-gnu-gcc"]
+TOOLS = {"valgrind": ["valgrind"], "core2": ["qemu-x86_64"], "arm64": OF_ARM64}
 
 
 class Programs:
@@ -227,9 +200,11 @@ def test_program_of_0_2_without_the_library(programs: Programs, earlier: Path) -
 
 
 def test_table_by_plain() -> None:
-    known = {text: table.plain_text(text) for text in TABLE}
-    wanted = {text: answer for text, answer in TABLE.items() if known[text] is not None}
-    assert {text: known[text] for text in wanted} == wanted and len(wanted) > 90
+    """It knows neither names nor versions."""
+    known = {text: call for text in TABLE if (call := table.call_of(text)).name in calls.ANSWERS}
+    for text, call in known.items():
+        assert table.answer_text(text, call, calls.answer_of(call), ERRORS) == TABLE[text], text
+    assert len(known) == 80
 
 
 @pytest.fixture(scope="session")
@@ -247,23 +222,28 @@ def test_table_in_python(module: ModuleType) -> None:
 
 # ---- random calls, and refused allocations
 
-# How many seeds each variant has: an emulator is slow.
-SEEDS = {"0.2": 300, "archive": 0, "valgrind": 10, "core2": 30, "arm64": 30}
+# How many seeds each variant has: an emulator is slow. rds_check and rds_push_with came after 0.2.
+SEEDS = {"0.2": 300, "archive": 300, "valgrind": 10, "core2": 30, "arm64": 30}
+AFTER_0_2 = ("check", "push_with")
+STACK = 8192
 
 
-def answer_as_plain(command: list[str], seeds: range, is_0_2: bool = False) -> int:
-    """Whether all calls of these seeds are answered as plain.py answers them; gives their number. rds_check came after 0.2."""
-    asked = [it for it in drawn(seeds) if not is_0_2 or it.call.name != "check"]
-    for one, given in zip(asked, ask(command, [it.call for it in asked])):
-        assert one.is_answered(given._replace(most=0)), f"{one}: {given}"
+def answer_as_plain(variant: str, command: list[str], seeds: range) -> int:
+    """Whether all calls of these seeds are answered as plain.py answers them; gives their number."""
+    asked = [one for one in drawn(seeds) if variant != "0.2" or one.call.name not in AFTER_0_2]
+    for one, given in zip(asked, ask(command, [one.call for one in asked])):
+        assert variant != "archive" or given.stack <= STACK, f"{one.call.name}: {given.stack} bytes of stack"
+        # a push with scratch takes no other memory
+        most = given.most if one.call.name == "push_with" else 0
+        assert one.is_answered(given._replace(most=most, stack=0)), f"{one}: {given}"
     return len(asked)
 
 
-@pytest.mark.parametrize("variant", [variant for variant in VARIANTS if SEEDS[variant]])
+@pytest.mark.parametrize("variant", VARIANTS)
 def test_random_calls(programs: Programs, variant: str, cases: Cases) -> None:
     command, last = programs(variant), SEEDS[variant] + 1
     parts = [range(first, min(first + 100, last)) for first in range(1, last, 100)]
-    cases(sum(answer_as_plain(command, seeds, variant == "0.2") for seeds in parts))
+    cases(sum(answer_as_plain(variant, command, seeds) for seeds in parts))
 
 
 @pytest.mark.parametrize("variant", ["archive", "core2", "arm64"])
@@ -279,9 +259,10 @@ def test_refused_allocations(programs: Programs, variant: str, cases: Cases) -> 
     tried = 0
     for call in asked:
         each = [calls.replace(call, allowed=k, refuses_on=on) for k in range(60) for on in (False, True)]
-        right, *answers = (answer._replace(most=0) for answer in ask(programs(variant), [call, *each]))
+        given = ask(programs(variant), [call, *each])
+        right, *answers = (answer._replace(most=0, stack=0) for answer in given)
         for one, answer in zip(each, answers):
-            none = calls.refused(one, calls.OUT_OF_MEMORY)._replace(refused=answer.refused)
+            none = calls.refused(one, "OUT_OF_MEMORY")._replace(refused=answer.refused)
             assert answer in (right._replace(refused=answer.refused), none), one
         refused = [answer.refused > 0 for answer in answers]
         assert right.refusal == 0 and any(refused) and not any(refused[-2:]), call.name
@@ -378,9 +359,7 @@ def test_recordings_in_c(programs: Programs, recordings: list[Call], listed: lis
     assert kinds == {"acquired", "group", "lost", "total"}
 
 
-def test_recordings_in_python(
-    module: ModuleType, recordings: list[Call], listed: list[str], cases: Cases
-) -> None:
+def test_recordings_in_python(module: ModuleType, recordings: Any, listed: Any, cases: Cases) -> None:
     cases(2 * len(recordings))
     for seed, (call, wanted) in enumerate(zip(recordings, listed)):
         asked = call.data, call.bits, call.gaps, module.Rules(*call.rules)
@@ -390,20 +369,34 @@ def test_recordings_in_python(
         assert streamed(module, call, seed) == (items, totals, True), seed
 
 
+# RDS_PUSH_SCRATCH of as many bytes and items as count.
+MOST_SCRATCH = 11136 + 860160
+
+
 def test_eight_threads_at_once(module: ModuleType) -> None:
-    """Each decodes a damaged copy of the sample, again and again, and finds what one finds; all end one stream, which is only read."""
+    """Each decodes a damaged copy of the sample, again and again, and finds what one finds, with a scratch of its own too.
+
+    All end one stream, which is only read.
+    """
+    ffi, library, whole = module._ffi, module._library, ctypes.c_uint64
     shared = module.Follower()
     shared.push(SAMPLE.read_bytes()[:8000])
-    stream, rules = module._ffi.RdsStream.from_buffer_copy(shared.stream), module._ffi.RdsRules(
-        *plain.Rules()
-    )
+    stream, rules = ffi.RdsStream.from_buffer_copy(shared.stream), ffi.RdsRules(*plain.Rules())
 
     def ended() -> bytes:
-        found, room, count = module._ffi.RdsTotals(), module._ffi.RdsItem(), ctypes.c_uint64()
-        end = [ctypes.byref(it) for it in (rules, stream, room)], [ctypes.byref(it) for it in (count, found)]
-        assert module._library.rds_check(None, 0, *end[0][:2]) == 0
-        assert module._library.rds_finish(None, 0, *end[0], 1, *end[1]) == 0
+        found, room, count = ffi.RdsTotals(), ffi.RdsItem(), whole()
+        end = [ctypes.byref(one) for one in (rules, stream, room)]
+        assert library.rds_check(None, 0, *end[:2]) == 0
+        assert library.rds_finish(None, 0, *end, 1, ctypes.byref(count), ctypes.byref(found)) == 0
         return bytes(found)
+
+    def pushed_with(data: bytes) -> bytes:
+        stream, room, taken, count = ffi.RdsStream(), (ffi.RdsItem * 16384)(), whole(), whole()
+        scratch = ctypes.create_string_buffer(MOST_SCRATCH)
+        state = [ctypes.byref(one) for one in (rules, stream)]
+        told = [room, whole(len(room)), *map(ctypes.byref, (taken, count)), scratch, whole(MOST_SCRATCH)]
+        assert library.rds_push_with(data, whole(len(data)), None, whole(0), *state, *told) == 0
+        return bytes(stream)
 
     def decoded(number: int) -> tuple[object, object]:
         assert ended() == whole_end
@@ -411,8 +404,8 @@ def test_eight_threads_at_once(module: ModuleType) -> None:
         follower = module.Follower()
         rows = [follower.push_array(part) for part in (data[: len(data) // 2], data[len(data) // 2 :])]
         last, totals = follower.finish_array()
-        assert totals == module.totals(data)
-        return [row for it in [*rows, last] for row in it.tolist()], module.items_array(data).tolist()
+        assert totals == module.totals(data) and pushed_with(data) == follower.stream
+        return [row for part in [*rows, last] for row in part.tolist()], module.items_array(data).tolist()
 
     whole_end = ended()
     damaged = []
@@ -422,7 +415,7 @@ def test_eight_threads_at_once(module: ModuleType) -> None:
             data[r.randrange(len(data))] ^= 1 << number
         damaged.append(bytes(data))
     alone = [*map(decoded, range(8))]
-    assert all(rows == whole for rows, whole in alone)
+    assert all(rows == at_once for rows, at_once in alone)
     with ThreadPoolExecutor(8) as pool:
         assert [*pool.map(decoded, [*range(8)] * 20)] == alone * 20
 
@@ -448,80 +441,66 @@ def test_texts(librds: str) -> None:
     assert offsets == ["unknown", "A", "B", "C", "Cx", "D", "C or Cx", "unknown"]
 
 
-def test_sizes_and_places_of_heap_c(folder: Path) -> None:
-    """lib/heap.c over a malloc, realloc and free that note their arguments: each is handed on unchanged."""
-    noted = "void *(*noted)(void *, size_t);\n#define malloc(size) noted(NULL, size)\n#define realloc(at, size) noted(at, size)\n"
-    text = f'#include <stdint.h>\n#include <stdlib.h>\n{noted}#define free(at) noted(at, 0)\n#include "{TOP}/lib/heap.c"\n'
-    wrote(CC, "-shared", "-fPIC", "-o", folder / "heap.so", "-x", "c", "-", data=text.encode())
-    library = ctypes.CDLL(str(folder / "heap.so"))
-    whole, place = ctypes.c_uint64, ctypes.create_string_buffer(16)
-    asked: list[tuple[int, ...]] = []
-    at = ctypes.addressof(place)
+class Told(ctypes.Structure):
+    """The answer of lib/heap.c."""
 
-    class Told(ctypes.Structure):
-        _fields_ = [("ok", whole), ("at", whole)]
-
-    library.rattle_alloc.restype = library.rattle_realloc.restype = Told
-    for memory in (at, None):
-
-        def answered(*given: int, memory: int | None = memory) -> int | None:
-            asked.append(given)
-            return memory
-
-        note = ctypes.CFUNCTYPE(ctypes.c_void_p, whole, whole)(answered)
-        ctypes.c_void_p.in_dll(library, "noted").value = ctypes.cast(note, ctypes.c_void_p).value
-        for size in (0, 1, 8, 4096, 2**31, 2**32 + 1, 2**40, 2**63 - 1):
-            answers = [library.rattle_alloc(whole(size), whole(8))]
-            answers += [
-                library.rattle_realloc(whole(at + 8), whole(old), whole(size), whole(8))
-                for old in (3, 2**63 - 1)
-            ]
-            library.rattle_dealloc(whole(at + 1), whole(size), whole(8))
-            wanted = size or 8
-            assert asked == [(0, wanted), (at + 8, wanted), (at + 8, wanted), (at + 1, 0)]
-            assert all(it.ok == bool(memory) and it.at and (it.at == at) == bool(memory) for it in answers)
-            asked.clear()
+    _fields_ = [("ok", ctypes.c_uint64), ("at", ctypes.c_uint64)]
 
 
 class Heap:
-    """lib/heap.c with a scratch of 4000 bytes that is lent for good."""
+    """lib/heap.c, compiled between two texts."""
 
-    class Told(ctypes.Structure):
-        _fields_ = [("ok", ctypes.c_uint64), ("at", ctypes.c_uint64)]
-
-    def __init__(self, path: Path) -> None:
-        lend = "void lend(uintptr_t at) { heap_scratch = (struct scratch){true, at, at + 4000}; }"
-        text = f'#include "{TOP}/lib/heap.c"\n{lend}\n'
+    def __init__(self, path: Path, before: str, after: str) -> None:
+        text = f'{before}\n#include "{TOP}/lib/heap.c"\n{after}\n'
         wrote(CC, "-shared", "-fPIC", "-o", path, "-x", "c", "-", data=text.encode())
         self.library, self.memory = ctypes.CDLL(str(path)), ctypes.create_string_buffer(4100)
-        self.library.rattle_alloc.restype = self.library.rattle_realloc.restype = self.Told
+        self.library.rattle_alloc.restype = self.library.rattle_realloc.restype = Told
         self.begin = ctypes.addressof(self.memory) + 8
+
+    def told(self, name: str, *numbers: int) -> Any:
+        return getattr(self.library, name)(*map(ctypes.c_uint64, numbers))
 
     def call(self, name: str, *numbers: int) -> int:
         """The address that a call answers, or 0."""
-        told = getattr(self.library, name)(*map(ctypes.c_uint64, numbers))
-        return told.at if isinstance(told, self.Told) and told.ok else 0
+        told = self.told(name, *numbers)
+        return told.at if isinstance(told, Told) and told.ok else 0
 
 
-def test_last_block_of_a_scratch(folder: Path) -> None:
-    heap = Heap(folder / "last.so")
-    heap.call("lend", heap.begin)
-    first, last = heap.call("rattle_alloc", 100, 1), heap.call("rattle_alloc", 100, 1)
-    assert (first, last) == (heap.begin, heap.begin + 100)
-    assert heap.call("rattle_realloc", last, 100, 3900, 1) == last
-    assert heap.call("rattle_alloc", 1, 1) == heap.call("rattle_realloc", last, 3900, 3901, 1) == 0
-    heap.call("rattle_dealloc", last, 3900, 1)
-    assert heap.call("rattle_alloc", 3900, 1) == last
-    # one that is not the last is moved if it grows
-    assert heap.call("rattle_realloc", last, 3900, 50, 1) == last
-    assert heap.call("rattle_realloc", first, 100, 101, 1) == last + 50
-    # one byte is left, and the next aligned one is past the end
-    assert heap.call("rattle_alloc", 3748, 1) and not heap.call("rattle_alloc", 1, 16)
+NOTING = """#include <stdint.h>
+#include <stdlib.h>
+void *(*noted)(void *, size_t);
+#define malloc(size) noted(NULL, size)
+#define realloc(at, size) noted(at, size)
+#define free(at) noted(at, 0)"""
+
+
+def test_sizes_and_places_of_heap_c(folder: Path) -> None:
+    """lib/heap.c over a malloc, realloc and free that note their arguments: each is handed on unchanged."""
+    heap, asked = Heap(folder / "heap.so", NOTING, ""), []
+    at, whole = heap.begin, ctypes.c_uint64
+
+    def answered(*given: int) -> int | None:
+        asked.append(given)
+        return memory
+
+    note = ctypes.CFUNCTYPE(ctypes.c_void_p, whole, whole)(answered)
+    ctypes.c_void_p.in_dll(heap.library, "noted").value = ctypes.cast(note, ctypes.c_void_p).value
+    sizes = (0, 1, 8, 4096, 2**31, 2**32 + 1, 2**40, 2**63 - 1)
+    for memory, size in itertools.product((at, None), sizes):
+        answers = [heap.told("rattle_alloc", size, 8)]
+        answers += [heap.told("rattle_realloc", at + 8, old, size, 8) for old in (3, 2**63 - 1)]
+        heap.call("rattle_dealloc", at + 1, size, 8)
+        assert asked == [(0, size or 8), (at + 8, size or 8), (at + 8, size or 8), (at + 1, 0)]
+        assert all(one.ok == bool(memory) and one.at and (one.at == at) == one.ok for one in answers)
+        asked.clear()
+
+
+LEND = "void lend(uintptr_t at) { heap_scratch = (struct scratch){true, at, at + 4000}; }"
 
 
 def test_blocks_of_a_scratch(folder: Path, cases: Cases) -> None:
     """Random ones are aligned, inside the scratch, apart, and keep their bytes if they are moved."""
-    heap, r, turns, refused, moved = Heap(folder / "lent.so"), random.Random(1), 20000, 0, 0
+    heap, r, turns, refused, moved = Heap(folder / "lent.so", "", LEND), random.Random(1), 20000, 0, 0
     blocks: dict[int, tuple[int, bytes]] = {}
     for _ in range(turns):
         if not blocks:
@@ -548,38 +527,29 @@ def test_blocks_of_a_scratch(folder: Path, cases: Cases) -> None:
     cases(turns)
 
 
-def test_stack_that_calls_take(librds: str, folder: Path) -> None:
-    words = [
-        CC,
-        "-std=c11",
-        *STRICT,
-        f"-I{librds}",
-        "-o",
-        folder / "stack",
-        HERE / "stack.c",
-        f"{librds}/librds.a",
-    ]
-    wrote(*words, "-lpthread")
-    wrote(folder / "stack", SAMPLE)
-
-
-def test_push_with_a_scratch(librds: str, folder: Path, cases: Cases) -> None:
-    """It calls no malloc, and apart from that does what rds_push does; half of the scratch is too little."""
-    wrapped = [f"-Wl,--wrap={name}" for name in ("malloc", "realloc", "free")]
-    words = [CC, "-std=c11", *STRICT, f"-I{librds}", *wrapped, "-o", folder / "scratch", HERE / "scratch.c"]
-    wrote(*words, f"{librds}/librds.a", "-lpthread")
-    pushes, random_calls, times = said(folder / "scratch", SAMPLE).splitlines()
-    print(times)
-    numbers = [*map(int, re.findall(r"\d+", pushes + random_calls))]
-    assert numbers[:3] == [10000, 148, 2] and numbers[3] > 50000 and numbers[4] == 3000 and numbers[5] > 1000
-    cases(2 * numbers[0] + numbers[4] + 2 * numbers[5])
-
-
 # ---- pointers
 
 
-def test_every_pointer_of_every_function(librds: str, tmp_path: Path) -> None:
-    wrote(sys.executable, HERE / "border.py", librds, tmp_path, timeout=300)
+@pytest.fixture(scope="session")
+def alone(folder: Path) -> border.Alone:
+    (folder / "border").mkdir()
+    return border.Alone(folder / "border")
+
+
+def test_every_pointer_of_every_function(librds: str, module: ModuleType, alone: border.Alone) -> None:
+    sanitized = alone(border.BORDER, "-fsanitize=undefined", "-fno-sanitize-recover=all")
+    assert border.faults_of(sanitized, module._ffi, True) == {}
+    assert border.faults_of(ctypes.CDLL(f"{librds}/librds.so.0"), module._ffi, False) == {}
+
+
+def test_mistakes_in_border_c(module: ModuleType, alone: border.Alone, cases: Cases) -> None:
+    tried = 0
+    for text, copy, functions in border.mistaken():
+        found = border.faults_of(alone(copy), module._ffi, True)
+        assert found and functions <= {*found}, f"{text}: {functions - {*found}}"
+        tried += max(1, len(functions))
+    assert tried >= 150
+    cases(tried)
 
 
 # ---- Rust
@@ -594,13 +564,9 @@ class Cargo:
 
     def __init__(self, librds: str, folder: Path) -> None:
         self.target = folder / "cargo"
-        self.variables = {
-            **os.environ,
-            "RDS_LIB_DIR": librds,
-            "CARGO_TARGET_DIR": str(self.target),
-            "CARGO_INCREMENTAL": "0",
-            "CARGO_PROFILE_DEV_DEBUG": "0",
-        }
+        folders = {"RDS_LIB_DIR": librds, "CARGO_TARGET_DIR": str(self.target)}
+        quick = {"CARGO_INCREMENTAL": "0", "CARGO_PROFILE_DEV_DEBUG": "0"}
+        self.variables = {**os.environ, **folders, **quick}
 
     def run(self, *words: object, cwd: Path = TOP, data: bytes = b"", **variables: Any) -> Ran:
         given: dict[str, str | None] = {**self.variables, "PWD": str(cwd), **variables}
@@ -693,10 +659,8 @@ lrwxrwxrwx usr/lib/librds.so"""
 
 
 def test_installed_files(installed: Path) -> None:
-    rows = said(
-        "find", installed, "!", "-type", "d", "!", "-path", "*/man3/*", "-printf", "%M %P\n"
-    ).splitlines()
-    assert sorted(rows) == MODES.split("\n")
+    words = ["!", "-type", "d", "!", "-path", "*/man3/*", "-printf", "%M %P\n"]
+    assert sorted(said("find", installed, *words).splitlines()) == MODES.split("\n")
     assert sorted(path.name.removesuffix(".3") for path in installed.glob("usr/share/man/man3/*")) == DECLARED
 
 
@@ -708,11 +672,8 @@ def test_installing_below_another_folder(librds: str, tmp_path: Path, cases: Cas
         root = install(librds, tmp_path, "/opt/rds") / "opt/rds/lib"
     assert not any("/opt" in path.read_text() for path in (root / "cmake/rds").iterdir())
     variables = {**os.environ, "PKG_CONFIG_SYSROOT_DIR": "", "PKG_CONFIG_PATH": f"{root}/pkgconfig"}
-    assert said("pkg-config", "--cflags", "--libs", "rds", env=variables).split() == [
-        "-I/opt/rds/include",
-        "-L/opt/rds/lib",
-        "-lrds",
-    ]
+    found = said("pkg-config", "--cflags", "--libs", "rds", env=variables)
+    assert found.split() == ["-I/opt/rds/include", "-L/opt/rds/lib", "-lrds"]
 
 
 def test_program_of_the_header(librds: str, folder: Path) -> None:
@@ -780,9 +741,8 @@ def test_programmes_of_streams(rds: str, shown: Shown, cases: Cases) -> None:
 
 def test_a_programme_as_soon_as_it_is_known(rds: str, shown: Shown) -> None:
     sent, pipe = wrote(rds, "encode", data=b"1234 0548 E100 5041\n" * 5), subprocess.PIPE
-    with subprocess.Popen(
-        [shown.folder / "programmes"], env=shown.variables, stdin=pipe, stdout=pipe
-    ) as child:
+    program = shown.folder / "programmes"
+    with subprocess.Popen(program, env=shown.variables, stdin=pipe, stdout=pipe) as child:
         assert child.stdin and child.stdout
         child.stdin.write(sent)
         child.stdin.flush()
@@ -800,58 +760,14 @@ def test_refused_call_of_a_program(shown: Shown, earlier: Path, name: str) -> No
 # ---- how the library is made
 
 
-@pytest.mark.parametrize(
-    "arch, folder_of, tools",
-    [("amd64", "build/lib", ""), ("arm64", "build/lib-arm64", " aarch64-linux-gnu-")],
-)
+ARCHS = [("amd64", "build/lib", ""), ("arm64", "build/lib-arm64", " aarch64-linux-gnu-")]
+
+
+@pytest.mark.parametrize("arch, folder_of, tools", ARCHS)
 def test_make_lib(arch: str, folder_of: str, tools: str) -> None:
     """After a change of the header the library is made anew, for either processor."""
     words = ["make", "--no-print-directory", "-n", "-W", "lib/rds.h", "lib", f"ARCH={arch}", "RT=true"]
     lines = said(*words, cwd=TOP, env={**os.environ, "MAKEFLAGS": ""}).splitlines()
     archive = f"build/librds-{arch}.a"
-    assert [line.rstrip() for line in lines if line.startswith("lib")] == [
-        f"lib/archive.py {arch} {archive}",
-        f"lib/make_library.sh {archive} {folder_of}{tools}",
-    ]
-
-
-CALLS = {"amd64": "--cpu x86-64", "arm64": "--target aarch64-unknown-linux-gnu"}
-
-
-def test_calls_of_the_toolchain(tmp_path: Path, cases: Cases) -> None:
-    """lib/archive.py over one that notes its arguments and fails: first one library is built, then all are."""
-    cases(3)
-    kit, tree, none = tmp_path / "kit/bin", tmp_path / "tree", tmp_path / "none.a"
-    kit.mkdir(parents=True)
-    for name in ("rt", "rattle"):
-        (kit / name).write_text(
-            '#!/bin/sh\necho "${0##*/} $*" >"${0%/*}/called"\nprintf "no proof"\nexit 1\n'
-        )
-        (kit / name).chmod(0o755)
-    for name in ["crates.txt", "tests/holes.py", *(f"lib/{path.name}" for path in (TOP / "lib").iterdir())]:
-        (tree / name).parent.mkdir(parents=True, exist_ok=True)
-        shutil.copy2(TOP / name, tree / name)
-    for path in (TOP / "crates").glob("*/src/lib.rt"):
-        shutil.copytree(
-            path.parent, tree / path.parent.relative_to(TOP), ignore=shutil.ignore_patterns("[!l]*", "l[!i]*")
-        )
-
-    def archive(arch: str) -> tuple[str, Ran]:
-        ended = run(
-            sys.executable, tree / "lib/archive.py", arch, none, env={**os.environ, "RT": str(kit / "rt")}
-        )
-        return (kit / "called").read_text().strip(), ended
-
-    def build(name: str) -> None:
-        (tree / "crates" / name / f"out/rlib/{name}.rlib").mkdir(parents=True, exist_ok=True)
-
-    build("rds_code")
-    called, ended = archive("amd64")
-    assert (called, ended.status) == ("rt lib", 1)
-    for crate in (tree / "crates").iterdir():
-        build(crate.name)
-    for arch, target in CALLS.items():
-        called, ended = archive(arch)
-        assert (ended.status, ended.out) == (1, b"no proof\n")
-        kept = f"--incremental {tree}/build/kept_rds_c -o {none}"
-        assert called.endswith(f"--backend llvm {target} {kept}")
+    wanted = [f"lib/archive.py {arch} {archive}", f"lib/make_library.sh {archive} {folder_of}{tools}"]
+    assert [line.rstrip() for line in lines if line.startswith("lib")] == wanted

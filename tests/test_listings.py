@@ -23,17 +23,12 @@ pytestmark = pytest.mark.xdist_group("listings")
 
 def texts() -> Iterator[str]:
     """The texts that are made: an input and the words of a job."""
-    usual = [
-        "scan",
-        "list",
-        "totals",
-        "list --burst 0 --reach 1 --loss 1",
-        "list --burst 5 --reach 8 --loss 64",
-    ]
-    yield from (f"{name} {job}" for name in INPUTS for job in usual)
+    loose = ["list --burst 0 --reach 1 --loss 1", "list --burst 5 --reach 8 --loss 64"]
+    yield from (f"{name} {job}" for name in INPUTS for job in ["scan", "list", "totals", *loose])
     yield from (f"station list --bits {bits}" for bits in (1, 26, 1037, 99999))
-    rules = [f"--burst {burst}" for burst in (1, 3, 4)] + [
-        f"--reach {reach}" for reach in (1, 2, 4, 5, 6, 7, 8)
+    rules = [
+        *(f"--burst {burst}" for burst in (1, 3, 4)),
+        *(f"--reach {reach}" for reach in range(1, 9) if reach != 3),
     ]
     rules += ["--loss 2", "--loss 5", "--loss 33", "--share 8 --of 40", "--share 20 --of 64"]
     rules += [GAPS, f"{GAPS} --burst 5 --reach 8 --share 5 --of 9"]
@@ -44,11 +39,11 @@ def texts() -> Iterator[str]:
 
 def damaged(lines: list[str], seed: int, rarity: int) -> list[str]:
     """Lines of digits, with one digit in `rarity` changed."""
-    numbers = chances(seed)
-    return [
-        "".join(digit if (x := next(numbers)) % rarity else f"{x // rarity % 16:x}" for digit in line)
-        for line in lines
-    ]
+    numbers, rows = chances(seed), []
+    for line in lines:
+        drawn = [(digit, next(numbers)) for digit in line]
+        rows.append("".join(digit if x % rarity else f"{x // rarity % 16:x}" for digit, x in drawn))
+    return rows
 
 
 def slipped(lines: list[str], every: int) -> list[str]:
@@ -63,13 +58,8 @@ def recordings() -> dict[str, bytes]:
     rows: dict[str, list[str]] = {"clean": sent(words(11, 20000)), "noise": words(14, 6000), "empty": []}
     rows["damaged"] = damaged(rows["clean"], 12, 97)
     rows["slips"] = damaged(slipped(rows["clean"][:4900], 100), 13, 800)
-    rows["mixed"] = (
-        rows["clean"][:700]
-        + rows["noise"][:900]
-        + rows["damaged"][-800:]
-        + rows["slips"][:300]
-        + rows["noise"][:3]
-    )
+    rows["mixed"] = rows["clean"][:700] + rows["noise"][:900] + rows["damaged"][-800:]
+    rows["mixed"] += rows["slips"][:300] + rows["noise"][:3]
     rows["station"] = [(TOP / "examples" / "station.bin").read_bytes().hex()]
     return {name: "".join(f"{row}\n" for row in rows[name]).encode() for name in INPUTS}
 

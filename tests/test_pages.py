@@ -177,58 +177,51 @@ def test_errors_and_rows(program: Program, faults: Faults) -> None:
 # ---- numbers
 
 COUNTED = {"four": "4", "eight": "8", "tenth": "10", "hundredth": "100"}
-
-# A number in docs/TESTING.md, and the same number in the test.
+DIFFERENTIAL, WORK, GROWTH = (f"tests/test_{name}.py" for name in ("differential", "work", "growth"))
+HEADER, PART, REFUSAL = "lib/rds.h", "crates/rds_abi/src/part.rt", "crates/rds_abi/src/refusal.rt"
+DECODER = "crates/rds_live/src/stream_decoder.rt"
+# A number in a page, and the same number in its source. A pattern may tell it several times.
 TOLD = (
-    (r"a recording for each of ([\d,]+) seeds", "tests/test_differential.py", r"^SEEDS, .* = (\d+),"),
-    (r"compares ([\d,]+) streams", "tests/test_differential.py", r"^SEEDS, .* = \d+, (\d+),"),
-    (r"`rds list` over ([\d,]+) random recordings", "tests/test_library.py", r"^RECORDINGS = (\d+)"),
-    (r"Random calls of ([\d,]+) seeds", "tests/test_library.py", r'^SEEDS = \{"0.2": (\d+)'),
-    (r"and (\d+) states and", "tests/library/calls.py", r"in range\((\d+)\):\n +begin ="),
-    (r"(\w+) threads call at once", "tests/test_library.py", r"ThreadPoolExecutor\((\d+)\)"),
-    (r"A size is (\w+) times the one before", "tests/test_growth.py", r"^SIZES = \(1, (\d+),"),
-    (r"may take (\w+) times its processor time", "tests/test_growth.py", r"^MOST, .* = (\d+),"),
-    (r"past its bound (\w+) times in a row", "tests/test_growth.py", r"^MOST, .*, (\d+)$"),
-    (r"the measurement, and a (\w+) to spare", "tests/test_work.py", r"spare = (\d+) if"),
-    (r"it is a (\w+), so that one more table shows", "tests/test_work.py", r"spare = \d+ if .* else (\d+)"),
-    (r"64 KiB is allowed, and (\w+) more", "tests/test_work.py", r"size // 65536 \+ (\d+)"),
+    (TESTING, r"a recording for each of ([\d,]+) seeds", DIFFERENTIAL, r"^SEEDS, .* = (\d+),"),
+    (TESTING, r"compares ([\d,]+) streams", DIFFERENTIAL, r"^SEEDS, .* = \d+, (\d+),"),
+    (TESTING, r"`rds list` over ([\d,]+) random recordings", "tests/test_library.py", r"^RECORDINGS = (\d+)"),
+    (TESTING, r"Random calls of ([\d,]+) seeds", "tests/test_library.py", r'^SEEDS = \{"0.2": (\d+)'),
+    (TESTING, r"and (\d+) states and", "tests/library/calls.py", r"in range\((\d+)\):\n +begin ="),
+    (TESTING, r"(\w+) threads call at once", "tests/test_library.py", r"ThreadPoolExecutor\((\d+)\)"),
+    (TESTING, r"A size is (\w+) times the one before", GROWTH, r"^SIZES = \(1, (\d+),"),
+    (TESTING, r"may take (\w+) times its processor time", GROWTH, r"^MOST, .* = (\d+),"),
+    (TESTING, r"past its bound (\w+) times in a row", GROWTH, r"^MOST, .*, (\d+)$"),
+    (TESTING, r"the measurement, and a (\w+) to spare", WORK, r"spare = (\d+) if"),
+    (TESTING, r"it is a (\w+), so that one more table shows", WORK, r"spare = \d+ if .* else (\d+)"),
+    (TESTING, r"64 KiB is allowed, and (\w+) more", WORK, r"size // 65536 \+ (\d+)"),
+    (HEADER, r"the last (\d+) bytes that", "crates/rds_abi/src/stream.rt", r"MOST_KEPT: u64 = (\d+);"),
+    (HEADER, r"(?:hears up to|and of the) (\d+) bits", PART, r"HEARD_BEFORE: u64 = (\d+);"),
+    (HEADER, r"or as (\d+) bytes may", "crates/rds_live/src/room.rt", r"AT_ONCE: usize = (\d+);"),
+    (HEADER, r"items(?:\[|, )(\d+)(?:\];|, &taken)", DECODER, r"ITEMS_A_BYTE: usize = (\d+)"),
+    (HEADER, r"(?:room for|(?:is|completes) at most) (\d+)", DECODER, r"ITEMS_A_BYTE: usize = (\d+)"),
+    (HEADER, r"The (\d+) bits of a group", "docs/MODEL.md", r"a group of (\d+) bits"),
+    (HEADER, r"2\^(\d+) bits", "crates/rds_stream/src/packed.rt", r"MOST_BITS: u64 = 1 << (\d+);"),
+    (HEADER, r"at most (\d+) bytes of stack", "tests/test_library.py", r"^STACK = (\d+)"),
+    (HEADER, r"(?:more than |word of |A |a )(\d+)(?: bits|-bit word)", REFUSAL, r"of more than (\d+) bits"),
+    (HEADER, r"(?:burst is above|bits: 0 to|bits, 0 to|burst: 1 to) (\d+)", REFUSAL, r"is above (\d+)"),
+    (HEADER, r"(?:reach is not|number of blocks apart:) 1 to (\d+)", REFUSAL, r"reach is not 1 to (\d+)"),
+    (HEADER, r"(?:loss is not|bad blocks lose sync:) 1 to (\d+)", REFUSAL, r"loss is not 1 to (\d+)"),
+    (HEADER, r"(?:of, or of above|last blocks: loss to) (\d+)", REFUSAL, r"or more, up to (\d+)"),
+    (HEADER, r"the library's own from (\d+) on", REFUSAL, r"Refusal::SmallRoom => (\d+),"),
 )
 
 
-def count_in(pattern: str, text: str) -> str | None:
-    """The number at the first match of the pattern."""
-    found = re.search(pattern, text, re.M)
-    told = found and found[1].replace(",", "").lower()
-    return COUNTED.get(told, told) if told else None
+def numbers_in(pattern: str, text: str) -> set[str]:
+    """The numbers at the matches of the pattern."""
+    told = {number.replace(",", "").lower() for number in re.findall(pattern, text, re.M)}
+    return {COUNTED.get(number, number) for number in told}
 
 
-@pytest.mark.parametrize("told, path, source", TOLD, ids=[row[1] + row[0] for row in TOLD])
-def test_numbers_of_tests(faults: Faults, told: str, path: str, source: str) -> None:
-    page = one_line(read(TESTING))
-    faults.same(f"{TESTING}, '{told}' as in {path}", count_in(source, read(path)), count_in(told, page))
-
-
-def test_counts_of_tests(faults: Faults) -> None:
-    page = one_line(read(TESTING))
-    sums = len(read("tests/listings.sums").splitlines())
-    faults.same(
-        f"{TESTING}, sums of listings", str(sums), count_in(r"compares the sums of ([\d,]+) texts", page)
-    )
-    jobs = len(re.findall(r"^[^#]", read("tests/work.bounds"), re.M))
-    faults.same(
-        f"{TESTING}, jobs of test_work.py", str(jobs), count_in(r"`tests/test_work.py` runs (\d+) jobs", page)
-    )
-    jobs = len(re.findall(r"^    Job\(", read("tests/test_refusals.py"), re.M))
-    told_jobs = count_in(r"start of a thread of (\d+) jobs", page)
-    faults.same(f"{TESTING}, jobs of test_refusals.py", str(jobs), told_jobs)
-    rows = re.findall(
-        r"^\| (.*?) \| (\d+) times \|", between(read(TESTING), "\n| Job | At most |", "\n\n"), re.M
-    )
-    told = {f"{job} {times}" for text, times in rows for job in re.findall(r"`(\w+)", text)}
-    ratios = re.findall(
-        r"^\S+ : (\d+) : (?:~ )?(\w+)", between(read("tests/test_growth.py"), 'BESIDE = """', '"""'), re.M
-    )
-    faults.same(f"{TESTING}, ratios of test_growth.py", {f"{job} {times}" for times, job in ratios}, told)
+@pytest.mark.parametrize("page, told, path, source", TOLD, ids=[row[0] + row[1] for row in TOLD])
+def test_numbers(faults: Faults, page: str, told: str, path: str, source: str) -> None:
+    text = one_line(re.sub(r"\n \* ?", "\n", read(page)))
+    numbers = numbers_in(source, read(path))
+    faults.same(f"{page}, '{told}' as in {path}", numbers or {"a number"}, numbers_in(told, text))
 
 
 def test_table_of_the_gate(faults: Faults) -> None:
@@ -264,70 +257,54 @@ def test_crates_and_edits(faults: Faults) -> None:
 
 # ---- files and functions
 
-# A path in backquotes, or the name of a file; and names of functions, types or constants in a row.
+# A path in backquotes, or the name of a file; and the name of a function, a type or a constant.
 PLACE = re.compile(r"`([\w.*-]*/[\w./*-]*|[\w-]+\.(?:rt|antt|py|sh|c|h|md|1|answers|bounds|sums))`")
-NAMES = r"(?:`[\w:]+`(?:, | and ))*`[\w:]+`"
-
-
-def file_of(place: str, crate: str) -> str | None:
-    """The file or folder that a page means by a place, which may be one of the crate that it named last."""
-    starts = ("", "crates/", f"crates/{crate}/", f"crates/{crate}/src/", f"crates/{crate}/specs/")
-    return next((start + place for start in starts if exists(start + place)), None)
-
-
-def named_in(text: str) -> set[str]:
-    """The functions, types and constants that a text defines."""
-    pattern = r"\b(?:fn|struct|enum|trait|type|def|class|(?:const|static)(?! fn)) (\w+)|^(\w+)\(\)"
-    return {word or script for word, script in re.findall(pattern, text, re.M)}
+NAME = re.compile(r"`((?:\w+::)?[a-z]+_\w+|[A-Z]\w+(?:::\w+)?)`")
 
 
 @functools.cache
 def defined_in(path: str) -> set[str]:
     """The names that a file defines; those inside an impl also as `Type::function`."""
+
+    def named_in(text: str) -> set[str]:
+        pattern = r"\b(?:fn|struct|enum|trait|type|def|class|(?:const|static)(?! fn)) (\w+)|^(\w+)\(\)"
+        return {word or script for word, script in re.findall(pattern, text, re.M)}
+
     text = read(path)
     parts = re.findall(r"^(?:pub(?:\(crate\))? )?(?:impl|trait)\b([^{;]*)\{([\s\S]*?)^\}", text, re.M)
     words = [(word, body) for head, body in parts for word in re.findall(r"\w+", head)]
     return named_in(text) | {f"{word}::{name}" for word, body in words for name in named_in(body)}
 
 
-def places_in(text: str) -> Iterator[tuple[str, str, list[str]]]:
-    """Each place that a text names, with the crate named last before it and the names beside it."""
+def places_in(text: str) -> Iterator[tuple[str, str | None]]:
+    """Each place that a text names, and its file or folder, which may be one of the crate that was named last before it."""
     crate = ""
     for token in re.finditer(r"`([^`]+)`", text):
         named = token[1].partition("/")[0]
-        crate = named if (TOP / "crates" / named).is_dir() else crate
+        crate = named if exists(f"crates/{named}") else crate
         if PLACE.fullmatch(token[0]):
-            # names beside a place are no farther away
-            before, after = (
-                text[max(0, token.start() - 200) : token.start()],
-                text[token.end() : token.end() + 200],
-            )
-            beside = [
-                re.search(rf"({NAMES}) \($", before),  # `name` (`path`
-                re.search(rf"\(({NAMES}), $", before),  # (`name`, `path`
-                re.match(rf": ({NAMES})", after),  # `path`: `name`
-            ]
-            rows = [found[1].replace(" and ", " ") for found in beside if found]
-            yield token[1], crate, [name for row in rows for name in re.findall(r"[\w:]+", row)]
+            starts = ("", "crates/", f"crates/{crate}/", f"crates/{crate}/src/", f"crates/{crate}/specs/")
+            yield token[1], next((start + token[1] for start in starts if exists(start + token[1])), None)
 
 
 def test_places_of_the_map(faults: Faults) -> None:
-    """The files that docs/ARCHITECTURE.md names, and the functions beside them, in its text and in its drawing."""
+    """The files and functions that docs/ARCHITECTURE.md names, in its text and in its drawing."""
     page = "docs/ARCHITECTURE.md"
     parts = re.split(r"^```.*$", read(page), flags=re.M)
-    text, drawing = " ".join(parts[::2]), "".join(parts[1::2])
-    found = [*places_in(one_line(text))]
+    text, drawing = one_line(" ".join(parts[::2])), "".join(parts[1::2])
     lines = re.findall(r"^ \| [ \d]{2}  (\S+) +([\w:]+(?:, [\w:]+)*)(?:  .*)?$", drawing, re.M)
-    found += [(path, "", names.split(", ")) for path, names in lines]
-    for place, crate, names in found:
-        path = file_of(place, crate)
-        if not path:
-            faults.append(f"{page}: there is no {place}")
-        elif (TOP / path).is_file():
-            faults.extend(f"{page}: {path} has no {name}" for name in names if name not in defined_in(path))
-    faults.same(
-        f"{page}, lines of the drawing", sum("/src/" in line for line in drawing.splitlines()), len(lines)
-    )
+    places = [*places_in(text), *(found for path, _ in lines for found in places_in(f"`{path}`"))]
+    faults.extend(f"{page}: there is no {place}" for place, path in places if not path)
+    for path, names in lines:
+        file = f"crates/{path}"
+        missing = [name for name in names.split(", ") if exists(file) and name not in defined_in(file)]
+        faults.extend(f"{page}: {file} has no {name}" for name in missing)
+    patterns = ("crates/*/src/**/*.rt", "crates/*/specs/**/*.antt", "tests/*.py", "lib/rds.h", "crates.txt")
+    texts = [path.read_text() for pattern in patterns for path in TOP.glob(pattern)]
+    held = {word for text in texts for word in re.findall(r"\w+", text)}
+    missing = [name for name in NAME.findall(text) if not {*name.split("::")} <= held and not exists(name)]
+    faults.extend(f"{page}: no source has {name}" for name in missing)
+    faults.same(f"{page}, lines of the drawing", drawing.count("/src/"), len(lines))
 
 
 def test_claims(faults: Faults) -> None:

@@ -16,11 +16,12 @@ import subprocess
 import threading
 import time
 from pathlib import Path
-from typing import Any, Callable, Iterator
+from typing import Any, Callable, Iterator, Sequence
 
 import pytest
 from running import LIMIT, TOP, Ran, run, said, wrote
 
+Cases = Callable[[int], None]
 SAMPLE = TOP / "examples" / "station.bin"
 COMMANDS = ["scan", "list", "follow", "totals", "encode"]
 TOTALS = "valid burst1 burst2 burst3 burst4 burst5 lost bits groups complete acquired losses".split()
@@ -89,10 +90,9 @@ def matches(wanted: bytes, text: bytes) -> bool:
     return wanted[1:] in text if wanted[:1] == b"*" else text == wanted
 
 
-@pytest.mark.parametrize(
-    "words, given, status, out, err", [row[1:] for row in ROWS], ids=[row[0] for row in ROWS]
-)
-def test_table(rds: str, words: str, given: str, status: str, out: str, err: str) -> None:
+@pytest.mark.parametrize("row", ROWS, ids=[row[0] for row in ROWS])
+def test_table(rds: str, row: list[str]) -> None:
+    _, words, given, status, out, err = row
     ended = run(rds, *shlex.split(words), data=spelled(given))
     assert ended.status == int(status), ended.err
     assert matches(spelled(out), ended.out), ended.out
@@ -106,45 +106,11 @@ def test_how_many_texts_are_compared_in_part() -> None:
 
 def test_argument_that_is_not_utf_8(rds: str) -> None:
     done = subprocess.run([rds, b"\xff"], capture_output=True, timeout=60)
-    assert Ran(done.returncode, done.stdout, done.stderr) == (
-        2,
-        b"",
-        b"error: an argument is not valid UTF-8\n",
-    )
+    fault = b"error: an argument is not valid UTF-8\n"
+    assert (done.returncode, done.stdout, done.stderr) == (2, b"", fault)
 
 
 # ---- help
-
-OPTIONS = """Options:
-      --hex          The input is hex digits of either case; blanks and line
-                     ends are ignored
-      --bits <N>     Decode only the first N bits, 0 to 68719476736
-                     [default: all bits of the input]
-      --gaps <TEXT>  Ignore the bits at these positions: FROM-TO,FROM-TO and so
-                     on, in order; TO is the first position after a gap
-      --burst <N>    Correct error bursts of up to N bits,
-                     0 to 5 [default: 2]
-      --reach <N>    Acquire sync by two valid blocks, at most N blocks apart,
-                     whose offset words fit each other, 1 to 8 [default: 3]
-      --loss <N>     Drop sync after N consecutive bad blocks, 1 to 64; a
-                     corrected block is bad; ignored with --share [default: 10]
-      --share <N>    Instead of --loss: drop sync when N of the last blocks are
-                     bad, 1 to the value of --of
-      --of <N>       How many of the last blocks --share looks at,
-                     1 to 64; ignored without --share [default: 64]
-      --pieces <N>   Cut the recording into at most N pieces, 1 or more; the
-                     output stays the same [default: 16]
-      --workers <N>  Use at most N threads, 1 to 256; the output stays
-                     the same [default: 4]
-      --progress     Show progress in one line on standard error
-  -h, --help         Print help
-"""
-
-
-@pytest.mark.parametrize("words", ["list --help", "help totals"])
-def test_options_in_help(rds: str, words: str) -> None:
-    text = wrote(rds, *words.split()).decode()
-    assert text[text.index("Options:") :].split("\n\n")[0].rstrip("\n") + "\n" == OPTIONS
 
 
 @pytest.mark.parametrize("command", ["", *COMMANDS])
@@ -155,20 +121,13 @@ def test_help_fits_80_columns(rds: str, command: str) -> None:
 # ---- every number of workers and pieces
 
 EIGHT = FIRST + "".join(f"group,{at},0,A,A:0000,B:0000,C:0000,D:0000\n" for at in range(104, 729, 104))
+EIGHT += totals(31, 0, 0, 0, 0, 0, 0, 0, 8, 7, 1, 0)
 EACH = {
     "list --hex --loss 1 --workers": (256, TEXTS["one_bad"], BY_ONE),
     "totals --hex --loss 1 --workers": (256, TEXTS["one_bad"], BY_ONE[BY_ONE.index("total,") :]),
     # by a reach of four some guesses lock on a false phase, and stay on it
-    "list --hex --reach 3 --workers 2 --pieces": (
-        208,
-        8 * ZERO,
-        EIGHT + totals(31, 0, 0, 0, 0, 0, 0, 0, 8, 7, 1, 0),
-    ),
-    "list --hex --reach 4 --workers 2 --pieces": (
-        208,
-        8 * ZERO,
-        EIGHT + totals(31, 0, 0, 0, 0, 0, 0, 0, 8, 7, 1, 0),
-    ),
+    "list --hex --reach 3 --workers 2 --pieces": (208, 8 * ZERO, EIGHT),
+    "list --hex --reach 4 --workers 2 --pieces": (208, 8 * ZERO, EIGHT),
 }
 
 
@@ -205,12 +164,10 @@ def given_late(child: subprocess.Popen[bytes], *parts: bytes, pause: float = 0.0
 
 
 @pytest.mark.parametrize("bits", [0, 1, 7, 8, 9, *range(3100, 3113), 3199, 3200])
-def test_stream_of_some_bits(
-    rds: str, station: bytes, bits: int, record_property: Callable[..., None]
-) -> None:
+def test_stream_of_some_bits(rds: str, station: bytes, bits: int, cases: Cases) -> None:
     # gaps at and about the borders of chunks
     gaps: list[list[str]] = [[], ["--gaps=1591-1593,1600-1608,1999-2000,2300-2600"]] if bits >= 3100 else [[]]
-    record_property("cases", len(gaps))
+    cases(len(gaps))
     begun = station[:400]
     for words in gaps:
         wanted = wrote(rds, "list", "--bits", bits, *words, data=begun)
@@ -233,25 +190,20 @@ def test_stream_is_listed_as_its_recording(rds: str, station: bytes) -> None:
     assert ended == (0, wrote(rds, "list", *rules, data=station), b"")
 
 
-def rows_begun(rds: str, begun: bytes) -> bytes:
-    """The rows that a stream has given by then: all but the group in progress, and no totals."""
+def follow_begun(rds: str, begun: bytes, command: Sequence[str] = ()) -> tuple[Any, bytes]:
+    """A stream that has these bytes so far, and its rows by then: all but the group in progress, and no totals."""
     rows = [row for row in wrote(rds, "list", data=begun).splitlines(True) if not row.startswith(b"total")]
-    return b"".join(rows[:-1])
-
-
-def follow_begun(rds: str, begun: bytes, **options: Any) -> tuple[subprocess.Popen[bytes], bytes]:
-    """A stream that has these bytes so far, and its rows by then."""
-    child, rows, text = start(rds, "follow", **options), rows_begun(rds, begun), b""
+    child, wanted, text = start(*(command or (rds, "follow"))), b"".join(rows[:-1]), b""
     assert child.stdin and child.stdout
     child.stdin.write(begun)
     child.stdin.flush()
     os.set_blocking(child.stdout.fileno(), False)
     for _ in range(100):
-        text += os.read(child.stdout.fileno(), 65536) if len(text) < len(rows) and has_some(child) else b""
-        if len(text) >= len(rows):
+        text += os.read(child.stdout.fileno(), 65536) if len(text) < len(wanted) and has_some(child) else b""
+        if len(text) >= len(wanted):
             break
         time.sleep(0.05)
-    assert text == rows
+    assert text == wanted
     os.set_blocking(child.stdout.fileno(), True)
     return child, text
 
@@ -274,11 +226,8 @@ def test_rows_stay_if_a_stream_is_ended(rds: str, station: bytes, number: signal
 
 
 def test_stream_that_ignores_signals(rds: str, station: bytes) -> None:
-    def ignore() -> None:
-        signal.signal(signal.SIGINT, signal.SIG_IGN)
-        signal.signal(signal.SIGTERM, signal.SIG_IGN)
-
-    child, text = follow_begun(rds, station[:1305], preexec_fn=ignore)
+    ignored = ["bash", "-c", "trap '' INT TERM; exec \"$0\" follow", rds]
+    child, text = follow_begun(rds, station[:1305], ignored)
     child.send_signal(signal.SIGINT)
     child.send_signal(signal.SIGTERM)
     out, err = child.communicate(timeout=60)
@@ -324,22 +273,10 @@ PROGRESS = {
 }
 
 
-def progress_fault(told: str, line: str, seconds: float) -> str:
-    """What is wrong with a progress line: it has this form, comes twice a second at most, and is erased at the end."""
-    lines = told.split("\r")
-    if not any(re.fullmatch(line, text) for text in lines):
-        return f"no line of this form: {lines}"
-    if lines[-1].strip():
-        return f"the last line is left: {lines[-1]}"
-    return "too many lines" if sum("left" in text for text in lines) > 2 * int(seconds) + 2 else ""
-
-
 @pytest.mark.parametrize("words", PROGRESS)
 def test_progress_line(rds: str, station: bytes, words: str) -> None:
-    """Input and reader are late."""
-    wanted, began = wrote(rds, *words.split(), data=8 * station), time.monotonic()
+    """Input and reader are late. test_progress.py looks at the numbers and times of lines."""
     child = start(rds, *words.split(), "--progress")
-    assert child.stdin and child.stdout and child.stderr
     time.sleep(0.8)
     thread = threading.Thread(target=feed, args=(child.stdin, 8 * station, 1))
     thread.start()
@@ -347,15 +284,9 @@ def test_progress_line(rds: str, station: bytes, words: str) -> None:
     child.stdin = None
     out, err = child.communicate(timeout=60)
     thread.join(60)
-    assert (child.returncode, out) == (0, wanted)
-    assert not progress_fault(err.decode(), PROGRESS[words], time.monotonic() - began)
-
-
-def test_faults_of_a_progress_line() -> None:
-    told = "1 s left\r2 s left\r3 s left\r   "
-    assert not progress_fault(told, ". s left", 1)
-    assert progress_fault(told, ". m left", 1) and progress_fault(told, ". s left", 0)
-    assert progress_fault("1 s left", ". s left", 1)
+    assert (child.returncode, out) == (0, wrote(rds, *words.split(), data=8 * station))
+    lines = err.decode().split("\r")
+    assert any(re.fullmatch(PROGRESS[words], line) for line in lines), f"no line of this form: {lines}"
 
 
 # ---- devices and limits
@@ -377,14 +308,15 @@ REFUSED = {
 }
 
 
-def by_shell(rds: str, text: str, **variables: str) -> Ran:
-    return run("bash", "-c", text, env={**os.environ, "RDS": rds, **variables})
+def by_shell(rds: str, text: str, **variables: object) -> Ran:
+    names = {name: str(value) for name, value in variables.items()}
+    return run("bash", "-c", text, env={**os.environ, "RDS": rds, **names})
 
 
 @pytest.mark.parametrize("row", REFUSED)
 def test_device(rds: str, tmp_path: Path, row: str) -> None:
     (tmp_path / "in").write_text(ZERO)
-    ended = by_shell(rds, f'"$RDS" {row.split(" | ")[1]}', IN=str(tmp_path / "in"))
+    ended = by_shell(rds, f'"$RDS" {row.split(" | ")[1]}', IN=tmp_path / "in")
     assert ended == (1, b"", f"refused {REFUSED[row]}\n".encode())
 
 
@@ -392,15 +324,15 @@ def test_device(rds: str, tmp_path: Path, row: str) -> None:
 def test_past_a_file_size_limit(rds: str, tmp_path: Path, trap: str, status: int, err: bytes) -> None:
     # a file may have a block: the system ends the program by SIGXFSZ, and if that is ignored, writing fails
     script = f'({trap}ulimit -f 1; "$RDS" list <{SAMPLE} >$OUT 2>$ERR) 2>/dev/null'
-    ended = by_shell(rds, script, OUT=str(tmp_path / "out"), ERR=str(tmp_path / "err"))
+    ended = by_shell(rds, script, OUT=tmp_path / "out", ERR=tmp_path / "err")
     assert ended.status == status and (tmp_path / "err").read_bytes() == err
     assert (tmp_path / "out").read_text().startswith(ACQUIRED)
 
 
 # The system puts the stack at another place each time, and what is there before counts too: so once is not enough.
 @pytest.mark.parametrize("workers, times", [(1, 1), (4, 8)])
-def test_stack_of_192_kib(rds: str, workers: int, times: int, record_property: Callable[..., None]) -> None:
-    record_property("cases", times)
+def test_stack_of_192_kib(rds: str, workers: int, times: int, cases: Cases) -> None:
+    cases(times)
     for _ in range(times):
         ended = by_shell(rds, f'ulimit -s 192; exec "$RDS" list --workers {workers} <{SAMPLE}')
         assert (ended.status, ended.err) == (0, b"") and ended.out.decode().startswith(ACQUIRED)
@@ -409,9 +341,8 @@ def test_stack_of_192_kib(rds: str, workers: int, times: int, record_property: C
 @pytest.mark.parametrize("command", ["totals", "list"])
 def test_64_workers_in_380_mb_of_address_space(rds: str, command: str) -> None:
     # their stacks are small: the system's default of 8 MB each would not fit
-    ended = by_shell(
-        rds, f'ulimit -s 8192 -v 380000; exec "$RDS" {command} --workers 64 --pieces 64 <{SAMPLE}'
-    )
+    words = f"{command} --workers 64 --pieces 64 <{SAMPLE}"
+    ended = by_shell(rds, f'ulimit -s 8192 -v 380000; exec "$RDS" {words}')
     assert (ended.status, ended.err) == (0, b"") and b"total,valid," in ended.out
 
 

@@ -177,9 +177,17 @@ def pieces_faults(job: Job) -> Iterator[str]:
         yield f"too few lines: {job.said!r}"
 
 
-def try_rows(rds: str, words: list[str], held: bytes, bits: int) -> list[str]:
+def late_noise() -> bytes:
+    station = (TOP / "examples" / "station.bin").read_bytes()
+    return 50 * station + random.Random(1).randbytes(50 * len(station))
+
+
+def try_rows(rds: str, words: str = "list --workers 2") -> list[str]:
     """Rows to a slow reader, of a program that was stopped before the first."""
-    job = Job(rds, words, held)
+    noise = late_noise()
+    bits = int(found[1]) if (found := re.search(r"--bits (\d+)", words)) else 8 * len(noise)
+    held = noise.hex().encode() if "--hex" in words else noise
+    job = Job(rds, words.split(), held)
     time.sleep(0.02)
     job.child.send_signal(signal.SIGSTOP)
     time.sleep(WAIT)
@@ -189,8 +197,7 @@ def try_rows(rds: str, words: list[str], held: bytes, bits: int) -> list[str]:
     last = time.monotonic()
     time.sleep(WAIT)
     job.read(LOOK)
-    ended = job.close()
-    is_same = ended == 0 and wrote(rds, *words, data=held) == job.text
+    is_same = job.close() == 0 and wrote(rds, *words.split(), data=held) == job.text
     return [*rows_faults(job, bits, first, last), *job.faults(), *([] if is_same else ["another text"])]
 
 
@@ -207,26 +214,15 @@ def try_pieces(rds: str) -> list[str]:
     return [*pieces_faults(job), *job.faults(), *([] if is_whole else ["another text"])]
 
 
-def rows_of_list(rds: str) -> list[str]:
-    return try_rows(rds, ["list", "--workers", "2"], late_noise(), 8 * len(late_noise()))
+TRIALS: list[Callable[[str], list[str]]] = [
+    try_rows,
+    lambda rds: try_rows(rds, "list --workers 1 --bits 12500000"),
+    lambda rds: try_rows(rds, "scan --hex --workers 1"),
+    try_pieces,
+]
 
 
-def rows_of_some_bits(rds: str) -> list[str]:
-    bits = 8 * len(late_noise()) * 5 // 8
-    return try_rows(rds, ["list", "--workers", "1", "--bits", str(bits)], late_noise(), bits)
-
-
-def rows_of_a_scan_of_digits(rds: str) -> list[str]:
-    held = late_noise()
-    return try_rows(rds, ["scan", "--hex", "--workers", "1"], held.hex().encode(), 8 * len(held))
-
-
-def late_noise() -> bytes:
-    station = (TOP / "examples" / "station.bin").read_bytes()
-    return 50 * station + random.Random(1).randbytes(50 * len(station))
-
-
-@pytest.mark.parametrize("trial", [rows_of_list, rows_of_some_bits, rows_of_a_scan_of_digits, try_pieces])
+@pytest.mark.parametrize("trial", TRIALS)
 def test_progress(rds: str, trial: Callable[[str], list[str]], request: pytest.FixtureRequest) -> None:
     attempts = 1 if request.config.option.maxfail else ATTEMPTS
     faults: list[str] = []

@@ -9,8 +9,7 @@ import pytest
 from running import TOP, run, wrote
 
 CHECKS = {
-    "types of rds-monitor and librds": "mypy --strict --cache-dir /dev/null monitor/rds_monitor bindings/python/librds",
-    "types of the tests": "mypy --ignore-missing-imports --cache-dir /dev/null tests",
+    "types": "mypy --cache-dir build/mypy monitor/rds_monitor bindings/python/librds tests",
     "names": "pyflakes monitor bindings/python packaging tests",
     "form": "black --check --quiet bindings lib monitor packaging tests",
 }

@@ -17,6 +17,7 @@ import pytest
 from inputs import make_refuse
 from running import LIMIT, TOP, Ran, wrote
 
+Cases = Callable[[int], None]
 KINDS = ["alloc", "read", "write", "thread"]
 ZERO = b"00003f000019800005a00001b4"
 ZERO_BYTES = bytes.fromhex(ZERO.decode())
@@ -75,25 +76,17 @@ class Refusing:
     def __init__(self, refuse: Path, folder: Path, program: str, given: bytes) -> None:
         self.folder, self.program = folder, program
         (folder / "in").write_bytes(given)
-        self.variables = {
-            **os.environ,
-            "LD_PRELOAD": str(refuse),
-            "REFUSE_COUNT": str(folder / "count"),
-            "LIMIT": str(LIMIT),
-        }
+        names = {"LD_PRELOAD": str(refuse), "REFUSE_COUNT": str(folder / "count"), "LIMIT": str(LIMIT)}
+        self.variables = {**os.environ, **names}
 
     def run(self, words: list[str], kind: str, at: int, is_on: bool = False) -> Ran:
         """The program with its call `at` of a kind refused, and all after it too if `is_on`."""
         chosen = {"REFUSE_CALL": kind, "REFUSE_AT": str(at)} | ({"REFUSE_ON": "1"} if is_on else {})
-        names = ("out", "err")
-        with open(self.folder / "in") as given, open(self.folder / "out", "wb") as out, open(
-            self.folder / "err", "wb"
-        ) as err:
-            command, variables = [self.program, *words], {**self.variables, **chosen}
-            status = subprocess.run(
-                command, stdin=given, stdout=out, stderr=err, env=variables, close_fds=False
-            ).returncode
-        return Ran(status, *((self.folder / name).read_bytes() for name in names))
+        out, err = self.folder / "out", self.folder / "err"
+        with (self.folder / "in").open() as given, out.open("wb") as to, err.open("wb") as told:
+            pipes: dict[str, Any] = {"stdin": given, "stdout": to, "stderr": told, "close_fds": False}
+            ended = subprocess.run([self.program, *words], env={**self.variables, **chosen}, **pipes)
+        return Ran(ended.returncode, out.read_bytes(), err.read_bytes())
 
     def calls(self, words: list[str], kind: str) -> int:
         """How many such calls a job makes."""
@@ -102,22 +95,16 @@ class Refusing:
         return int(counts[kind])
 
 
-def is_refusal(ended: Ran, *names: str) -> bool:
-    return ended.status == 1 and ended.err.decode() in [f"refused {name}\n" for name in names]
+NAMES = {"alloc": "8 OutOfMemory", "read": "9 Read", "write": "10 Write"}
 
 
 def is_right(kind: str, ended: Ran, wanted: bytes, is_stream: bool) -> bool:
     """Whether an answer is allowed, with a call of that kind refused."""
-    is_whole = ended == (0, wanted, b"")
-    has_prefix = wanted.startswith(ended.out)
-    left = has_prefix and ended.out[-1:] in (b"", b"\n") if is_stream else ended.out == b""
-    if kind == "alloc":
-        return is_whole or is_refusal(ended, "8 OutOfMemory") and left
-    if kind == "read":
-        return is_refusal(ended, "9 Read") and left
-    if kind == "write":
-        return is_refusal(ended, "10 Write") and has_prefix
-    return is_whole
+    if kind == "thread" or kind == "alloc" and ended == (0, wanted, b""):
+        return ended == (0, wanted, b"")
+    is_prefix, is_row = wanted.startswith(ended.out), ended.out[-1:] in (b"", b"\n")
+    is_left = is_prefix if kind == "write" else is_prefix and is_row if is_stream else not ended.out
+    return is_left and (ended.status, ended.err) == (1, f"refused {NAMES[kind]}\n".encode())
 
 
 def each_call(job: Refusing, words: list[str], kind: str) -> Iterator[tuple[str, Ran]]:
@@ -128,9 +115,7 @@ def each_call(job: Refusing, words: list[str], kind: str) -> Iterator[tuple[str,
 
 @pytest.mark.parametrize("kind", KINDS)
 @pytest.mark.parametrize("job", JOBS, ids=[f"{number}-{job.words}" for number, job in enumerate(JOBS)])
-def test_refused(
-    rds: str, refuse: Path, tmp_path: Path, job: Job, kind: str, record_property: Callable[..., None]
-) -> None:
+def test_refused(rds: str, refuse: Path, tmp_path: Path, job: Job, kind: str, cases: Cases) -> None:
     refusing, words = Refusing(refuse, tmp_path, rds, job.given), job.words.split()
     wanted = wrote(rds, *words, data=job.given)
     if kind == "thread" and job.threads:
@@ -140,19 +125,15 @@ def test_refused(
         assert is_right(kind, ended, wanted, words[0] == "follow"), f"{refused} refused: {ended}"
         tried += 1
     assert tried or kind == "thread"
-    record_property("cases", tried)
+    cases(tried)
 
 
 def test_list_by_one_worker_starts_no_thread(rds: str, refuse: Path, tmp_path: Path) -> None:
-    assert (
-        Refusing(refuse, tmp_path, rds, 7 * STATION).calls("list --pieces 2 --workers 1".split(), "thread")
-        == 0
-    )
+    job = Refusing(refuse, tmp_path, rds, 7 * STATION)
+    assert job.calls("list --pieces 2 --workers 1".split(), "thread") == 0
 
 
-def test_refused_calls_of_the_libraries(
-    rds_bench: str, refuse: Path, tmp_path: Path, record_property: Any
-) -> None:
+def test_refused_calls_of_the_libraries(rds_bench: str, refuse: Path, tmp_path: Path, cases: Cases) -> None:
     """rds_bench names no error of the program's: it says so in words of its own."""
     bench, wanted, tried = Refusing(refuse, tmp_path, rds_bench, b""), wrote(rds_bench, "--calls"), 0
     assert wanted
@@ -161,4 +142,4 @@ def test_refused_calls_of_the_libraries(
         assert is_refused or ended == (0, wanted, b""), f"{refused} refused: {ended}"
         tried += 1
     assert tried
-    record_property("cases", tried)
+    cases(tried)

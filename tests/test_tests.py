@@ -2,6 +2,8 @@
 
 from __future__ import annotations
 
+import importlib
+import inspect
 import os
 import re
 import shutil
@@ -23,8 +25,8 @@ import test_pages
 import test_program
 import test_progress
 import test_refusals
-import test_rows
 import test_work
+from inputs import make_refuse
 from running import TOP, Ran, needs, run, wrote
 
 # Wrong programs, in bash; $rds is the right one.
@@ -73,30 +75,31 @@ PROGRAMS = {
         exec "$rds" "$@" """,
 }
 # Numbers of both kinds of progress lines are too high.
-HIGHER = {
-    "later": (2, r"(?<=bits, )\d+(?= s left)|(?<=pieces, )\d+(?= s left)"),
-    "beyond": (9, r"(?<=of )\d+(?= %| pieces)"),
-    "ahead": (9, r"(?<=written )\d+(?= MB)|(?<=decoded )\d+(?= of)"),
-}
-for name, (more, numbers) in HIGHER.items():
-    PROGRAMS[
-        name
-    ] = f"""exec "$rds" "$@" 2> >(exec python3 -c 'import os, re
+TOO_HIGH = """exec "$rds" "$@" 2> >(exec python3 -c 'import os, re
 while said := os.read(0, 4096):
     os.write(2, re.sub(rb"{numbers}", lambda found: b"%d" % (int(found[0]) + {more}), said))')"""
+PROGRAMS |= {
+    "later": TOO_HIGH.format(more=2, numbers=r"(?<=bits, )\d+(?= s left)|(?<=pieces, )\d+(?= s left)"),
+    "beyond": TOO_HIGH.format(more=9, numbers=r"(?<=of )\d+(?= %| pieces)"),
+    "ahead": TOO_HIGH.format(more=9, numbers=r"(?<=written )\d+(?= MB)|(?<=decoded )\d+(?= of)"),
+}
+
+
+def script(path: Path, text: str) -> Path:
+    """A program of this text."""
+    path.parent.mkdir(parents=True, exist_ok=True)
+    path.write_text(text)
+    path.chmod(0o755)
+    return path
 
 
 @pytest.fixture
 def wrong(rds: str, tmp_path: Path) -> Callable[[str], str]:
     """Makes a wrong program by its name."""
+    return lambda name: str(script(tmp_path / name, f"#!/bin/bash\nrds={rds}\n{PROGRAMS[name]}\n"))
 
-    def make(name: str) -> str:
-        path = tmp_path / name
-        path.write_text(f"#!/bin/bash\nrds={rds}\n{PROGRAMS[name]}\n")
-        path.chmod(0o755)
-        return str(path)
 
-    return make
+Cases = Callable[[int], None]
 
 
 def note(*_: Any) -> None:
@@ -112,75 +115,24 @@ def fails(text: str, test: Callable[..., Any], *arguments: Any, **named: Any) ->
 
 # ---- wrong programs
 
-# The wrong programs, what the failure says, and the test that has to see each, called with the program and a folder.
-SAMPLE = test_growth.STATION
-JOB = test_refusals.JOBS[5]
-ZERO = "list --hex --pieces 1 --workers 1".split()
-DIFFERENTIAL = (
-    "silent one_byte_short other_rules without_gaps hex_short encode_short encode_status takes_any_line"
-)
-SEEN: list[tuple[str, str, Callable[[str, Path], object]]] = [
-    (
-        "silent one_byte_short content other_rules noisy",
-        "",
-        lambda rds, _: [test_program.test_table(rds, *row[1:]) for row in test_program.ROWS],
-    ),
-    ("hanging", "", lambda rds, _: test_program.test_reader_that_leaves_early(rds, SAMPLE, "list")),
-    (
-        "silent",
-        "no line of this form",
-        lambda rds, _: test_program.test_progress_line(rds, SAMPLE, "list --workers 1"),
-    ),
-    ("silent", "", lambda rds, at: test_program.test_device(rds, at, [*test_program.REFUSED][1])),
-    *(
-        (
-            "last_number",
-            r": (256|208)\n|^(256|208)\b",
-            lambda rds, _, each=each: test_program.test_each_number_makes_the_same(rds, each),
-        )
-        for each in test_program.EACH
-    ),
-    ("misprinting", "default of --reach", lambda rds, _: pages(rds, test_pages.test_values_of_options)),
-    ("silent", "", lambda rds, _: test_pages.Program(rds)),
-    ("misprinting", "", lambda rds, _: test_header.test_macros(rds)),
-    (
-        "silent one_byte_short other_rules hanging",
-        "",
-        lambda rds, _: test_listings.test_sum(rds, "slips list --burst 1"),
-    ),
-    ("crew_differs", "", lambda rds, _: test_listings.test_crew(rds, "station", (16, 4))),
-    (
-        "silent hanging",
-        "",
-        lambda rds, at: test_refusals.test_refused(rds, test_refusals.make_refuse(at), at, JOB, "read", note),
-    ),
-    ("silent", "", lambda rds, _: test_examples.test_first_decode(wrote(rds, "list", data=SAMPLE))),
-    ("hanging", "", lambda rds, at: test_examples.Day(rds, at)),
-    ("silent hanging", "", lambda rds, _: test_package.test_completion(rds, test_package.by_bash, "list")),
-    ("one_byte_short", "", lambda rds, _: test_rows.test_places_of_each_length(rds, 2)),
-    (
-        "one_worker_more",
-        "threads, where",
-        lambda rds, at: work(rds, at, "station totals --pieces 16 --workers 4"),
-    ),
-    ("silent", "bytes written, where", lambda rds, at: work(rds, at, "empty list --workers 1")),
-    ("hanging", "", lambda rds, at: work(rds, at, "sample scan --workers 4")),
-    ("silent", "is not done", lambda rds, at: ways(rds, at, "lines.1", "encode", "encode --hex")),
-    ("squared slow_second slow_third", "CPU-milliseconds", lambda rds, at: growth(rds, at)),
-    (DIFFERENTIAL, "seed", lambda rds, _: differ(rds, range(1, 6))),
-    ("noisy other_status", "'13 of 13'", lambda rds, _: differ(rds, range(1, 2))),
-    ("hanging", "'13 of 13'", lambda rds, _: differ(rds, range(1, 2))),
-    ("silent one_byte_short other_rules without_gaps", "seed", lambda rds, _: stream(rds, range(1, 31))),
-    ("noisy other_status hanging", "'4 of 4'", lambda rds, _: stream(rds, range(1, 5))),
-    ("later beyond ahead progress_short no_progress silent hanging", "", lambda rds, _: progress(rds)),
-    ("other_rules", "", lambda rds, at: recordings(rds)),
-]
+
+def each_number(words: str) -> Callable[[str, Path], object]:
+    return lambda rds, _: test_program.test_each_number_makes_the_same(rds, words)
 
 
-def pages(rds: str, test: Callable[..., None]) -> None:
+def table(rds: str) -> None:
+    for row in test_program.ROWS:
+        test_program.test_table(rds, row)
+
+
+def pages(rds: str) -> None:
     faults = test_pages.Faults()
-    test(test_pages.Program(rds), faults)
+    test_pages.test_values_of_options(test_pages.Program(rds), faults)
     assert not faults, faults
+
+
+def refused(rds: str, folder: Path) -> None:
+    test_refusals.test_refused(rds, make_refuse(folder), folder, test_refusals.JOBS[5], "read", note)
 
 
 def work(rds: str, folder: Path, job: str) -> None:
@@ -198,19 +150,19 @@ def ways(rds: str, folder: Path, name: str, *both: str) -> None:
     test_growth.test_two_ways(rds, test_growth.Inputs(folder), name, "9", *both)
 
 
-def differ(rds: str, seeds: range) -> None:
-    trials = [test_differential.Trial(rds, seed).try_all() for seed in seeds]
-    differing = [text for trial in trials for text in trial.differing]
-    assert not differing, f"'{len(differing)} of {sum(trial.runs for trial in trials)}' {differing}"
+def differ(rds: str) -> None:
+    for seed in range(1, 6):
+        trial = test_differential.Trial(rds, seed).try_all()
+        assert not trial.differing, f"'{len(trial.differing)} of {trial.runs}' {trial.differing}"
 
 
-def stream(rds: str, seeds: range) -> None:
-    differing = [text for seed in seeds if (text := test_differential.difference(rds, seed))]
-    assert not differing, f"'{len(differing)} of {len(seeds)}' {differing}"
+def stream(rds: str) -> None:
+    for seed in range(1, 31):
+        assert not (text := test_differential.difference(rds, seed)), text
 
 
 def progress(rds: str) -> None:
-    faults = test_progress.rows_of_list(rds)
+    faults = test_progress.try_rows(rds)
     assert not faults, faults
 
 
@@ -223,17 +175,54 @@ def recordings(rds: str) -> None:
         assert test_library.listing(items, plain.totals_of(items)) == listed
 
 
+# The wrong programs, what the failure says, and the test that has to see each, called with the program and a folder.
+SAMPLE = test_growth.STATION
+DIFFERING = "silent one_byte_short other_rules without_gaps"
+OF_LINES = "hex_short encode_short encode_status takes_any_line"
+SEEN: list[tuple[str, str, Callable[[str, Path], object]]] = [
+    ("silent one_byte_short content other_rules noisy", "", lambda rds, _: table(rds)),
+    ("hanging", "", lambda rds, _: test_program.test_reader_that_leaves_early(rds, SAMPLE, "list")),
+    ("silent", "no line of", lambda rds, _: test_program.test_progress_line(rds, SAMPLE, "list --workers 1")),
+    ("silent", "", lambda rds, at: test_program.test_device(rds, at, [*test_program.REFUSED][1])),
+    *(("last_number", r": (256|208)\n|^(256|208)\b", each_number(words)) for words in test_program.EACH),
+    ("misprinting", "default of --reach", lambda rds, _: pages(rds)),
+    ("silent", "", lambda rds, _: test_pages.Program(rds)),
+    ("misprinting", "", lambda rds, _: test_header.test_usual_rules(rds)),
+    (
+        f"{DIFFERING} hanging".replace("without_gaps ", ""),
+        "",
+        lambda rds, _: test_listings.test_sum(rds, "slips list --burst 1"),
+    ),
+    ("crew_differs", "", lambda rds, _: test_listings.test_crew(rds, "station", (16, 4))),
+    ("silent hanging content other_status no_progress noisy", "", refused),
+    ("silent", "", lambda rds, _: test_examples.test_first_decode(wrote(rds, "list", data=SAMPLE))),
+    ("hanging", "", lambda rds, at: test_examples.Day(rds, at)),
+    ("silent hanging", "", lambda rds, _: test_package.test_completion(rds, test_package.by_bash, "list")),
+    ("one_byte_short", "", lambda rds, _: test_differential.test_places_of_each_length(rds, 2)),
+    (
+        "one_worker_more",
+        "threads, where",
+        lambda rds, at: work(rds, at, "station totals --pieces 16 --workers 4"),
+    ),
+    ("silent", "bytes written, where", lambda rds, at: work(rds, at, "empty list --workers 1")),
+    ("hanging", "", lambda rds, at: work(rds, at, "sample scan --workers 4")),
+    ("silent", "is not done", lambda rds, at: ways(rds, at, "lines.1", "encode", "encode --hex")),
+    ("squared slow_second slow_third", "CPU-milliseconds", lambda rds, at: growth(rds, at)),
+    (f"{DIFFERING} {OF_LINES}", "seed", lambda rds, _: differ(rds)),
+    ("noisy other_status hanging", "'13 of 13'", lambda rds, _: differ(rds)),
+    (DIFFERING, "seed", lambda rds, _: stream(rds)),
+    ("noisy other_status hanging", "seed 1:", lambda rds, _: stream(rds)),
+    ("later beyond ahead progress_short no_progress silent hanging", "", lambda rds, _: progress(rds)),
+    ("other_rules", "", lambda rds, _: recordings(rds)),
+]
+
+
 @pytest.mark.parametrize(
     "program, text, test",
     [(program, text, test) for programs, text, test in SEEN for program in programs.split()],
 )
 def test_wrong_program(
-    wrong: Callable[[str], str],
-    tmp_path: Path,
-    monkeypatch: pytest.MonkeyPatch,
-    program: str,
-    text: str,
-    test: Any,
+    wrong: Callable[[str], str], tmp_path: Path, monkeypatch: Any, program: str, text: str, test: Any
 ) -> None:
     if program == "hanging":
         monkeypatch.setenv("LIMIT", "1")
@@ -242,62 +231,22 @@ def test_wrong_program(
     fails(text, test, wrong(program), tmp_path)
 
 
-SMALL = r"""
-#define _GNU_SOURCE
-#include <dlfcn.h>
-#include <stdlib.h>
-#include <string.h>
-#include <unistd.h>
-static size_t most(const char *call, size_t size) { return !strcmp(getenv("SMALL"), call) && size > 100 ? 100 : size; }
-ssize_t read(int from, void *to, size_t size)
-{
-    return ((ssize_t (*)(int, void *, size_t))dlsym(RTLD_NEXT, "read"))(from, to, most("read", size));
-}
-ssize_t write(int to, const void *from, size_t size)
-{
-    ssize_t (*real)(int, const void *, size_t) = (ssize_t (*)(int, const void *, size_t))dlsym(RTLD_NEXT, "write");
-    return to == 1 && !strcmp(getenv("SMALL"), "none") ? (ssize_t)size : real(to, from, most("write", size));
-}
-"""
-
-
-@pytest.mark.parametrize("kind, text", [("read", "reads"), ("write", "writes"), ("none", "bytes written")])
-def test_small_reads_and_writes(rds: str, tmp_path: Path, kind: str, text: str) -> None:
-    """Reads or writes of at most 100 bytes, or writes that go nowhere."""
-    library, program = tmp_path / "small.so", tmp_path / "small"
-    wrote("cc", "-O1", "-shared", "-fPIC", "-o", library, "-x", "c", "-", "-ldl", data=SMALL.encode())
-    preloaded = f'SMALL={kind} LD_PRELOAD="{library}:${{LD_PRELOAD:-}}"'
-    program.write_text(f'#!/bin/bash\n{preloaded} exec "{rds}" "$@"\n')
-    program.chmod(0o755)
-    fails(f"{text}, where", work, str(program), tmp_path, "sample scan --workers 4")
-
-
-# Wrong answers to a refused call: the kind of the call, status, output and error; the job's own output is two rows.
-WRONG_ANSWERS = {
-    "another error": ("alloc read write thread", 1, b"", b"refused 5 TooLong\n"),
-    "no error": ("alloc read write thread", 1, b"", b""),
-    "another status": ("alloc read write thread", 2, b"", b"refused %s\n"),
-    "a row more": ("alloc read write thread", 1, b"row 1\nrow 2\nrow 3\n", b"refused %s\n"),
-    "a row of no stream": ("alloc read thread", 1, b"row 1\n", b"refused %s\n"),
-    "nothing, and no error": ("alloc read write thread", 0, b"", b""),
-    "its own text, and the status of an error": ("alloc read write thread", 1, b"row 1\nrow 2\n", b""),
-    "its own text, with a word": ("alloc read write thread", 0, b"row 1\nrow 2\n", b"a word\n"),
-}
-NAMES = {"alloc": b"8 OutOfMemory", "read": b"9 Read", "write": b"10 Write", "thread": b"14 NoWorker"}
-
-
-@pytest.mark.parametrize("name", WRONG_ANSWERS)
-def test_wrong_answer_to_a_refused_call(name: str) -> None:
-    kinds, status, out, err = WRONG_ANSWERS[name]
-    is_right, whole = test_refusals.is_right, b"row 1\nrow 2\n"
-    for kind in kinds.split():
-        assert not is_right(kind, Ran(status, out, err.replace(b"%s", NAMES[kind])), whole, False)
-        right = Ran(0, whole, b"") if kind == "thread" else Ran(1, b"", b"refused %s\n" % NAMES[kind])
-        assert is_right(kind, right, whole, False)
-    # a stream may leave whole rows; and a refused thread is no refusal
-    assert is_right("read", Ran(1, b"row 1\n", b"refused 9 Read\n"), whole, True)
-    assert not is_right("read", Ran(1, b"row 1\nro", b"refused 9 Read\n"), whole, True)
-    assert not is_right("thread", Ran(1, b"", b"refused 14 NoWorker\n"), whole, False)
+@pytest.mark.parametrize("kind", test_refusals.KINDS)
+def test_answers_to_a_refused_call(kind: str) -> None:
+    """The job's own output is two rows; a stream may leave whole rows, and a refused thread is no refusal."""
+    whole, row, told = (
+        b"row 1\nrow 2\n",
+        b"row 1\n",
+        f"refused {test_refusals.NAMES.get(kind, '14 NoWorker')}\n".encode(),
+    )
+    wrong = [(1, b"", b"refused 5 TooLong\n"), (1, b"", b""), (2, b"", told), (1, whole + b"row 3\n", told)]
+    wrong += [(0, b"", b""), (1, whole, b""), (0, whole, b"a word\n")]
+    wrong += [] if kind == "write" else [(1, b"" if kind == "thread" else row, told)]
+    right = Ran(0, whole, b"") if kind == "thread" else Ran(1, b"", told)
+    is_right = lambda ended, is_stream=False: test_refusals.is_right(kind, Ran(*ended), whole, is_stream)
+    assert is_right(right) and [ended for ended in wrong if is_right(ended)] == []
+    assert is_right((1, row, told), True) == (kind != "thread")
+    assert is_right((1, row + b"ro", told), True) == (kind == "write")
 
 
 # A bench of fixed answers, wrong in one form, or slow over larger inputs: the edit, the two forms, and what is told.
@@ -319,11 +268,11 @@ BENCHES = {
 @pytest.mark.parametrize("name", BENCHES)
 def test_wrong_bench(tmp_path: Path, name: str) -> None:
     edit, forms, text = BENCHES[name]
-    bench, inputs = tmp_path / f"bench_{name}", test_growth.Inputs(tmp_path)
+    inputs = test_growth.Inputs(tmp_path)
     times = "([scan]=1 [windows]=1 [places]=4 [divided]=16 [report]=1 [guess]=1 [items]=4)"
     answer = 'echo "${times[$1]} $found" && exit $status'
-    bench.write_text(f"#!/bin/bash\ndeclare -A times={times}\nfound=7 status=0\n{edit}\n{answer}\n")
-    bench.chmod(0o755)
+    text_of_bench = f"#!/bin/bash\ndeclare -A times={times}\nfound=7 status=0\n{edit}\n{answer}\n"
+    bench = script(tmp_path / f"bench_{name}", text_of_bench)
     if " " in forms:
         fails(text, test_growth.test_forms, str(bench), inputs, "150", *forms.split(), "lines.1")
     else:
@@ -338,22 +287,20 @@ def test_wrong_library(librds: str, tmp_path: Path) -> None:
         fails("", test_library.test_exported_names, str(earlier / name), note)
         fails("", test_library.test_texts, str(earlier / name))
         words = ["env", f"LD_LIBRARY_PATH={earlier / name}", *programs("0.2")]
-        fails("", test_library.answer_as_plain, words, range(1, 3), is_0_2=True)
+        fails("", test_library.answer_as_plain, "0.2", words, range(1, 3))
 
 
-@pytest.mark.parametrize(
-    "fault",
-    [
-        lambda text: "",
-        lambda text: text[:-1],
-        lambda text: text + text.splitlines()[-1] + "\n",
-        lambda text: text + "1 1 1 nothing scan\n",
-        lambda text: text + "no bounds\n",
-    ],
-)
-def test_bounds_that_are_not_whole(
-    tmp_path: Path, monkeypatch: pytest.MonkeyPatch, fault: Callable[[str], str]
-) -> None:
+BAD_BOUNDS: list[Callable[[str], str]] = [
+    lambda text: "",
+    lambda text: text[:-1],
+    lambda text: text + text.splitlines()[-1] + "\n",
+    lambda text: text + "1 1 1 nothing scan\n",
+    lambda text: text + "no bounds\n",
+]
+
+
+@pytest.mark.parametrize("fault", BAD_BOUNDS)
+def test_bounds_that_are_not_whole(tmp_path: Path, monkeypatch: pytest.MonkeyPatch, fault: Any) -> None:
     (tmp_path / "bounds").write_text(fault(test_work.TABLE.read_text()))
     monkeypatch.setattr(test_work, "TABLE", tmp_path / "bounds")
     fails("", test_work.lines)
@@ -368,14 +315,6 @@ def outcome_of(*words: str, top: Path = TOP, **variables: str) -> Ran:
     return run(*asked, cwd=top / "tests", timeout=600, env={**os.environ, **variables})
 
 
-def failures(ended: Ran) -> int:
-    """How many tests failed, of a run that ended as one with failures does."""
-    text = ended.out.decode()
-    found = re.search(r"^(\d+) failed|^(?:.*, )?(\d+) errors?\b", text.splitlines()[-1]) if text else None
-    assert ended.status == 1 and found, text[-2000:] + ended.err.decode()[-2000:]
-    return int(found[1] or found[2])
-
-
 @pytest.fixture
 def copy(tmp_path: Path) -> Path:
     """A copy of the tree, whose crates and bindings are those of the tree."""
@@ -384,70 +323,84 @@ def copy(tmp_path: Path) -> Path:
     for path in TOP.iterdir():
         if path.name in ("crates", "bindings"):
             (top / path.name).symlink_to(path)
-        elif path.is_dir() and path.name not in ("build", ".git"):
-            shutil.copytree(
-                path, top / path.name, ignore=shutil.ignore_patterns("__pycache__", ".mypy_cache")
-            )
         elif path.is_file():
-            shutil.copy2(path, top / path.name)
+            shutil.copy2(path, top)
+        elif path.name not in ("build", ".git"):
+            shutil.copytree(path, top / path.name, ignore=shutil.ignore_patterns("__pycache__"))
     return top
 
 
-def plant(path: Path, old: str, new: str, times: int = 1) -> None:
+def plant(path: Path, old: str, new: str, *, times: int = 1) -> None:
     """Replaces a text of a file, which has to be there; without one the file is new."""
     text = path.read_text() if old else ""
     assert old in text and (old or not path.exists()), f"{path}: {old}"
     path.write_text(text.replace(old, new, times) if old else new)
 
 
-def test_wrong_pages(rds: str, copy: Path, record_property: Any) -> None:
-    """Each row of wrong_pages.tsv is planted in one copy, and has to be told; ^ is a line end, and * after a file means each place."""
+def test_wrong_pages(rds: str, copy: Path, cases: Cases) -> None:
+    """Each row of wrong_pages.tsv is planted in one copy, and has to be told; ^ is a line end, and * after a file means each place.
+
+    Each number in a comment of lib/rds.h is another, too.
+    """
     assert outcome_of("test_pages.py", f"--rds={rds}", top=copy).status == 0
     rows = [line.split("\t") for line in (TOP / "tests" / "wrong_pages.tsv").read_text().splitlines()[1:]]
     for path, old, new, _ in rows:
-        plant(
-            copy / path.rstrip("*"),
-            old.replace("^", "\n"),
-            new.replace("^", "\n"),
-            -1 if path[-1] == "*" else 1,
-        )
-    text = outcome_of("test_pages.py", f"--rds={rds}", top=copy).out.decode()
-    assert [fault for *_, fault in rows if fault not in text] == []
-    record_property("cases", 2 + len(rows))
-
-
-WRONG_HEADER = {
-    "RDS_TOO_LONG = 5,": "RDS_TOO_LONG = 7,",
-    "RDS_RULES {2, 3, 10,": "RDS_RULES {2, 3, 11,",
-    "RDS_VERSION 0x000200": "RDS_VERSION 0x000300",
-    "uint64_t lost; ": "uint64_t lots; ",
-    "rds_version_text(void)": "rds_text_of_version(void)",
-    "state             the state at from": "stage             the state at from",
-}
-
-
-def test_wrong_header(rds: str, librds: str, copy: Path, record_property: Any) -> None:
-    """Each number of a comment is another; and each other test sees a change."""
+        texts = [text.replace("^", "\n") for text in (old, new)]
+        plant(copy / path.rstrip("*"), *texts, times=-1 if path[-1] == "*" else 1)
     header = copy / "lib" / "rds.h"
-    for old, new in WRONG_HEADER.items():
-        plant(header, old, new)
-    changed = re.sub(
-        r"/\*.*?\*/",
-        lambda comment: re.sub(r"\b(\d+)\b", r"\g<1>1", comment[0]),
-        header.read_text(),
-        flags=re.S,
-    )
-    header.write_text(changed)
-    ended = outcome_of("test_header.py", f"--rds={rds}", f"--lib={librds}", top=copy)
-    assert "passed" not in ended.out.decode().splitlines()[-1] and failures(ended) > 20
-    record_property("cases", failures(ended))
+    numbers = lambda text: re.sub(r"\b(\d+)\b", r"\g<1>1", text[0])
+    header.write_text(re.sub(r"/\*.*?\*/", numbers, header.read_text(), flags=re.S))
+    faults = [fault for *_, fault in rows]
+    faults += [f"{page}, '{told}'" for page, told, *_ in test_pages.TOLD if page == "lib/rds.h"]
+    text = outcome_of("test_pages.py", f"--rds={rds}", top=copy).out.decode()
+    assert [fault for fault in faults if fault not in text] == []
+    cases(2 + len(faults))
+
+
+# A change of lib/rds.h, and the tests that see it; in each struct and function a compiler compares.
+DECLARATIONS = "declarations.crates declarations.bindings/rust all_of_version_0_2_is_still_declared"
+ALL = f"{DECLARATIONS} declarations.bindings/python"
+WRONG_HEADER = [
+    ("RDS_TOO_LONG = 5,", "RDS_TOO_LONG = 7,", "errors all_of_version_0_2_is_still_declared"),
+    ("{2, 3, 10, 0, {0}}", "{2, 3, 11, 0, {0}}", "usual_rules all_of_version_0_2_is_still_declared"),
+    ("RDS_VERSION 0x000200", "RDS_VERSION 0x000300", "versions"),
+    ("uint64_t lost; ", "uint64_t lots; ", ALL),
+    ("uint64_t bits;      /*", "uint32_t bits, more; /*", ALL),
+    ("uint8_t kind;   /*", "uint8_t kind; int last; /*", f"{ALL} header_in_cpp sizes_in_comments"),
+    ("const rds_state_t *state", "rds_state_t *state", DECLARATIONS),
+    ("rds_remainder(uint32_t word", "rds_remainder(uint64_t word", ALL),
+    ("rds_version_text(void)", "rds_text_of_version(void)", "symbol_versions"),
+    ("state             the state at", "stage             the state at", "names_in_comments"),
+    ("rds_correct(uint32_t word", "rds_correct(uint32_t block", "names_of_parameters names_in_comments"),
+    ("An item of a report: 48 bytes", "An item of a report: 47 bytes", "sizes_in_comments"),
+]
+
+
+@pytest.mark.parametrize("old, new, names", WRONG_HEADER)
+def test_wrong_header(
+    rds: str, librds: str, tmp_path: Path, cases: Cases, old: str, new: str, names: str
+) -> None:
+    cases(len(names.split()))
+    for path in TOP.iterdir():
+        (tmp_path / path.name).symlink_to(path) if path.name != "lib" else shutil.copytree(
+            path, tmp_path / "lib"
+        )
+    plant(tmp_path / "lib/rds.h", old, new)
+    with pytest.MonkeyPatch.context() as patch:
+        patch.setattr(running, "TOP", tmp_path)
+        module = importlib.reload(test_header)
+        for name, _, source in (name.partition(".") for name in names.split()):
+            test, given = getattr(module, f"test_{name}"), {"rds": rds, "librds": librds, "source": source}
+            fails("", test, **{key: given[key] for key in inspect.signature(test).parameters})
+    importlib.reload(test_header)
 
 
 # ---- the run
 
 
 def test_program_that_is_not_there() -> None:
-    assert "/none is not there" in outcome_of("test_header.py", "-k", "macros", "--rds=/none").out.decode()
+    ended = outcome_of("test_header.py", "-k", "usual_rules", "--rds=/none")
+    assert "/none is not there" in ended.out.decode()
 
 
 SKIPPING = """
@@ -457,63 +410,58 @@ def test_without(): needs("a-tool-that-is-not-there")
 """
 
 
+# A row of the table, whether all tools have to be there, and whether the run passes.
+ROWS_OF_COUNTS = [("2\t0", "", True), ("3\t0", "", False), ("2\t0", "1", False), ("1\t1", "1", True)]
+
+
 def test_fewer_tests_than_the_table_has(copy: Path) -> None:
     """A test that is gone fails the run, and one that is skipped if all tools have to be there; its reason is told."""
     (copy / "tests" / "test_some.py").write_text(SKIPPING)
-    counts = copy / "tests" / "counts.tsv"
-    for row, variables, is_enough in (
-        ("2\t0", "", True),
-        ("3\t0", "", False),
-        ("2\t0", "1", False),
-        ("1\t1", "1", True),
-    ):
-        counts.write_text(f"file\tpassed\tskipped\ntests/test_some.py\t{row}\n")
+    for row, variables, is_enough in ROWS_OF_COUNTS:
+        (copy / "tests" / "counts.tsv").write_text(f"file\tpassed\tskipped\ntests/test_some.py\t{row}\n")
         ended = outcome_of("test_some.py", top=copy, RDS_ALL_TOOLS=variables)
-        assert (ended.status == 0) == is_enough, ended.out
-        assert "there is no a-tool-that-is-not-there on the PATH" in ended.out.decode()
-        assert (
-            is_enough or "tests/counts.tsv: tests/test_some.py: 1 passed and 1 skipped" in ended.out.decode()
-        )
+        text, fault = ended.out.decode(), "tests/counts.tsv: tests/test_some.py: 1 passed and 1 skipped"
+        assert (ended.status == 0) == is_enough, text
+        assert "there is no a-tool-that-is-not-there on the PATH" in text and (is_enough or fault in text)
 
 
 def test_tests_that_run_alone_count(copy: Path) -> None:
-    (copy / "tests" / "test_some.py").write_text(
-        "import pytest\n@pytest.mark.alone\ndef test_of_time(): assert False\n"
-    )
+    alone = "import pytest\n@pytest.mark.alone\ndef test_of_time(): assert False\n"
+    (copy / "tests" / "test_some.py").write_text(alone)
     ended = run(sys.executable, "-m", "pytest", "-n", "1", "test_some.py", cwd=copy / "tests")
     assert ended.status == 1 and "1 failed" in ended.out.decode()
+
+
+GROUP = """
+import pytest
+@pytest.mark.xdist_group("one")
+@pytest.mark.parametrize("number", range(8))
+def test_of_a_group(number, worker_id): open("workers", "a").write(worker_id + " ")
+"""
+
+
+def test_group_runs_by_one_worker(copy: Path) -> None:
+    (copy / "tests" / "test_some.py").write_text(GROUP)
+    ended = run(sys.executable, "-m", "pytest", "-q", "-n", "2", "test_some.py", cwd=copy / "tests")
+    workers = (copy / "tests" / "workers").read_text().split()
+    assert len(workers) == 8 and len({*workers}) == 1, ended.out
 
 
 # ---- the tools
 
 
+# Tools that come with others, or with Debian itself.
+OTHER_TOOLS = "dpkg dpkg-architecture dpkg-deb readelf strip objdump qemu-x86_64 make python3 rt a-tool-that-is-not-there"
+
+
 def test_tools_that_the_gate_installs() -> None:
     """A test whose tool is missing is skipped: .ci/run names each tool but some that come with others."""
-    others = {
-        "dpkg",
-        "dpkg-architecture",
-        "dpkg-deb",
-        "readelf",
-        "strip",
-        "objdump",
-        "qemu-x86_64",
-        "make",
-        "python3",
-        "rt",
-        "a-tool-that-is-not-there",
-    }
-    texts = [path.read_text() for path in (TOP / "tests").glob("test_*.py")]
-    tools = {
-        tool
-        for text in texts
-        for row in re.findall(r"\bneeds\(([^*)]*)\)", text)
-        for tool in re.findall(r'"([\w-]+)"', row)
-    }
+    texts = "".join(path.read_text() for path in (TOP / "tests").glob("test_*.py"))
+    rows = re.findall(r"\bneeds\(([^*)]*)\)", texts)
+    tools = {tool for row in rows for tool in re.findall(r'"([\w-]+)"', row)}
     gate = (TOP / ".ci/run").read_text()
-    assert (
-        len(tools) > 12
-        and [tool for tool in tools - others if not re.search(rf"\b{re.escape(tool)}(?![\w-])", gate)] == []
-    )
+    missing = {tool for tool in tools if not re.search(rf"\b{re.escape(tool)}(?![\w-])", gate)}
+    assert len(tools) > 12 and missing <= {*OTHER_TOOLS.split()}
 
 
 # ---- wrong bodies, front pages and proofs
@@ -542,58 +490,53 @@ def crates(copy: Path) -> Path:
     return copy
 
 
+def wrong_bodies(top: Path, *words: object, rt: str = "true") -> tuple[int | None, str]:
+    """The status of the script, and what it tells."""
+    variables = {**os.environ, **({"RT": rt} if rt else {})}
+    ended = run(sys.executable, top / "tests" / "wrong_bodies.py", *words, env=variables, timeout=600)
+    return ended.status, (ended.out + ended.err).decode()
+
+
 @pytest.mark.parametrize("fault", ANSWERS)
 def test_answers_that_are_not_whole(crates: Path, fault: str) -> None:
     # nothing is proved, as no crate has the name 'none'
-    table = crates / "tests" / "wrong_bodies.answers"
-    table.write_text(ANSWERS[fault](table.read_text()))
-    ended = run(
-        sys.executable, crates / "tests" / "wrong_bodies.py", "none", env={**os.environ, "RT": "true"}
-    )
-    assert ended.status not in (0, None) and fault in (ended.out + ended.err).decode()
+    answers = crates / "tests" / "wrong_bodies.answers"
+    answers.write_text(ANSWERS[fault](answers.read_text()))
+    status, text = wrong_bodies(crates, "none")
+    assert status not in (0, None) and fault in text
 
 
 def test_wrong_bodies_without_a_toolchain(tmp_path: Path) -> None:
     log = tmp_path / "proofs.log"
     log.write_text("rt: rds_code NOT PROVED\nproofs: ended\n")
-    path = TOP / "tests" / "wrong_bodies.py"
-    ended = run(sys.executable, path, env={**os.environ, "RT": "none"})
-    assert ended.status == 1 and "no Rattle toolchain" in (ended.out + ended.err).decode()
-    ended = run(sys.executable, path, "--beside", log, "rds_stream", env={**os.environ, "RT": "true"})
-    assert ended.status == 1 and "rds_code is not proved" in (ended.out + ended.err).decode()
+    status, text = wrong_bodies(TOP, rt="none")
+    assert status == 1 and "no Rattle toolchain" in text
+    status, text = wrong_bodies(TOP, "--beside", log, "rds_stream")
+    assert status == 1 and "rds_code is not proved" in text
 
 
 def test_edit_that_changes_nothing(crates: Path) -> None:
     needs("rt")
-    folder = crates / "crates" / "rds_code"
+    folder, same = crates / "crates" / "rds_code", "1..=4 => Some(BlockNumber { number }),"
     for edit in (folder / "wrong").iterdir():
         # the goals of another edit of the same file must not count for this one
         edit.unlink() if edit.name != "no_block_after_the_fourth.edit" else None
-    same = "1..=4 => Some(BlockNumber { number }),"
-    (folder / "wrong" / "nothing_is_changed.edit").write_text(
-        f"file: src/block_number.rt\nold: {same}\nnew: {same} // the same\n"
-    )
+    unchanged = f"file: src/block_number.rt\nold: {same}\nnew: {same} // the same\n"
+    (folder / "wrong" / "nothing_is_changed.edit").write_text(unchanged)
     answers = crates / "tests" / "wrong_bodies.answers"
-    answers.write_text(
-        "".join(line for line in answers.read_text().splitlines(True) if not line.startswith("rds_code"))
-    )
-    ended = run(sys.executable, crates / "tests" / "wrong_bodies.py", "rds_code", timeout=600)
-    assert (
-        ended.status == 1
-        and "1 as they must be, 1 not: rds_code/nothing_is_changed" in (ended.out + ended.err).decode()
-    )
+    answers.write_text(re.sub("^rds_code.*\n", "", answers.read_text(), flags=re.M))
+    status, text = wrong_bodies(crates, "rds_code", rt="")
+    assert status == 1 and "1 as they must be, 1 not: rds_code/nothing_is_changed" in text
     (folder / "must-fail").mkdir()
-    (folder / "must-fail" / "none.edit").write_text(
-        "file: src/remainder.rt\nold: a text that is nowhere\nnew: another\n"
-    )
-    ended = run(sys.executable, crates / "tests" / "wrong_bodies.py", "none")
-    assert ended.status == 1 and "the text occurs 0 times" in (ended.out + ended.err).decode()
+    nowhere = "file: src/remainder.rt\nold: a text that is nowhere\nnew: another\n"
+    (folder / "must-fail" / "none.edit").write_text(nowhere)
+    status, text = wrong_bodies(crates, "none", rt="")
+    assert status == 1 and "the text occurs 0 times" in text
 
 
 def test_proofs_that_fail(crates: Path, tmp_path: Path) -> None:
-    (tmp_path / "rt").write_text('#!/bin/sh\necho "rt: rds_code NOT PROVED"; exit 1\n')
-    (tmp_path / "rt").chmod(0o755)
-    ended = run("make", "-C", crates, f"RT={tmp_path}/rt", "proofs", env={**os.environ, "MAKEFLAGS": ""})
+    failing = script(tmp_path / "rt", '#!/bin/sh\necho "rt: rds_code NOT PROVED"; exit 1\n')
+    ended = run("make", "-C", crates, f"RT={failing}", "proofs", env={**os.environ, "MAKEFLAGS": ""})
     assert ended.status != 0 and "rt: rds_code NOT PROVED" in ended.out.decode()
     assert "proofs: ended" in (crates / "build/proofs.log").read_text().splitlines()
 
@@ -608,6 +551,8 @@ CALLED = {
     "make_library.sh build/librds-amd64.a build/lib": "make_library.sh",
     "rt ci": "rt",
 }
+STUBS = "tests/wrong_bodies.py lib/archive.py lib/make_library.sh few/make few/apt-get"
+TOOLS = "tools/rt tools/git tools/python3 tools/aarch64-linux-gnu-gcc"
 
 
 class Gate:
@@ -615,18 +560,15 @@ class Gate:
 
     def __init__(self, top: Path) -> None:
         self.top = top
-        for name in ("tests", "lib", ".ci", "tools", "few"):
-            (top / name).mkdir(parents=True)
-        shutil.copy2(TOP / "Makefile", top)
-        shutil.copy2(TOP / ".ci/run", top / ".ci")
-        (top / "crates.txt").touch()
-        (top / "crates").mkdir()
-        stubs = ["tests/wrong_bodies.py", "lib/archive.py", "lib/make_library.sh", "few/make", "few/apt-get"]
-        for name in stubs + [f"tools/{tool}" for tool in ("rt", "git", "python3", "aarch64-linux-gnu-gcc")]:
-            failing = '[ "${0##*/}" != "$FAILING" ] && [ "${0##*/} $1" != "$FAILING" ]'
-            (top / name).write_text(f'#!/bin/sh\necho "${{0##*/}} $*" >>{top}/called\n{failing}\n')
-            (top / name).chmod(0o755)
+        failing = '[ "${0##*/}" != "$FAILING" ] && [ "${0##*/} $1" != "$FAILING" ]'
+        for name in f"{STUBS} {TOOLS}".split():
+            script(top / name, f'#!/bin/sh\necho "${{0##*/}} $*" >>{top}/called\n{failing}\n')
         (top / "few/dirname").symlink_to(str(shutil.which("dirname")))
+        (top / ".ci").mkdir()
+        (top / "crates").mkdir()
+        (top / "crates.txt").touch()
+        for path in ("Makefile", ".ci/run"):
+            shutil.copy2(TOP / path, top / path)
 
     def run(self, *words: str, path: str, failing: str = "") -> Ran:
         (self.top / "called").write_text("")
@@ -649,20 +591,20 @@ def gate(tmp_path: Path) -> Gate:
     return Gate(tmp_path / "gate")
 
 
-def test_gate(gate: Gate, record_property: Any) -> None:
+def test_gate(gate: Gate, cases: Cases) -> None:
     ended = gate.make_test()
     assert ended.status == 0 and {*CALLED} <= {*gate.called()}, ended
     assert gate.called()[-3] == "python3 -m pytest -n auto tests monitor/tests"
     for name in CALLED.values():
         assert gate.make_test(failing=name).status not in (0, None), name
-    record_property("cases", 2 * len(CALLED) + 1)
+    cases(2 * len(CALLED) + 1)
 
 
-def test_ci(gate: Gate, record_property: Any) -> None:
+def test_ci(gate: Gate, cases: Cases) -> None:
     """It installs each package if all tools are missing, goes on if that fails, and ends as `make test` does."""
     assert gate.ci(failing="make").status not in (0, None)
     tools = re.findall(r"\S+:(\S+)", (TOP / ".ci/run").read_text().split("tools=(")[1].split(")\n")[0])
     installed = next(line for line in gate.called() if line.startswith("apt-get install ")).split()
     assert len(tools) > 20 and [tool for tool in tools if tool not in installed] == []
     assert gate.ci(failing="apt-get").status == 0 and gate.called()[-1] == "make test"
-    record_property("cases", len(tools) + 2)
+    cases(len(tools) + 2)

@@ -52,9 +52,8 @@ def lines() -> list[Line]:
     assert found and text.endswith("\n"), f"{TABLE}: there is no line, or the last one is cut off"
     table = [Line(job, [*map(int, numbers.split())]) for numbers, job in found]
     assert all(len(line.bounds) == (1 if line.counts_instructions else 4) for line in table), table
-    assert (
-        len({line.job for line in table}) == len(table) == text.count("\n") - text.count("#")
-    ), "two lines of a job"
+    rows = text.count("\n") - text.count("#")
+    assert len({line.job for line in table}) == len(table) == rows, "two lines of a job"
     return table
 
 
@@ -80,12 +79,11 @@ def wrong(share: float, times: int) -> bytes:
 
 
 def dump(held: bytes, spoilt: int = 0) -> bytes:
-    """Digits, 16 bytes a line; a byte of one line in `spoilt` is another."""
+    """Digits, 16 bytes a line; in each line whose number is a multiple of `spoilt` a byte is another."""
     rows = [held[k : k + 16].hex(" ") for k in range(0, len(held), 16)]
-    if spoilt:
-        rows = [row if k % spoilt else f"{row[:3]}ff{row[5:]}" for k, row in enumerate(rows, 1)]
-    is_whole = [not spoilt or k % spoilt != 0 for k in range(1, len(rows) + 1)]
-    return "".join(f"{' ' * whole}{row}\n" for row, whole in zip(rows, is_whole)).encode()
+    is_spoilt = [spoilt > 0 and number % spoilt == 0 for number in range(1, len(rows) + 1)]
+    lines = [f"{row[:3]}ff{row[5:]}\n" if other else f" {row}\n" for row, other in zip(rows, is_spoilt)]
+    return "".join(lines).encode()
 
 
 def lines_of(rows: list[str]) -> bytes:
@@ -143,22 +141,15 @@ class Work:
     def count(self, job: str) -> dict[str, int]:
         """The calls of a job, by the names of NAMES and more."""
         path, command = self.command(job)
-        variables = {
-            "REFUSE_COUNT": f"{self.folder}/counts",
-            "LD_PRELOAD": str(self.refuse),
-            "LIMIT": str(LIMIT),
-        }
-        with path.open("rb") as given, (self.folder / "out").open("wb") as out:
-            ended = run(*command, stdin=given, stdout=out, env={**os.environ, **variables})
+        counts, out = self.folder / "counts", self.folder / "out"
+        names = {"REFUSE_COUNT": str(counts), "LD_PRELOAD": str(self.refuse), "LIMIT": str(LIMIT)}
+        with path.open("rb") as given, out.open("wb") as to:
+            ended = run(*command, stdin=given, stdout=to, env={**os.environ, **names})
         assert ended.status == 0, f"{job}: {ended}"
-        counts = dict(line.split() for line in (self.folder / "counts").read_text().splitlines())
-        names = dict(zip(["alloc", "bytes", "peak", "thread", "read", "write"], [*NAMES, "reads", "writes"]))
-        told = {names[name]: int(number) for name, number in counts.items() if name in names}
-        return {
-            **told,
-            "bytes read": path.stat().st_size,
-            "bytes written": (self.folder / "out").stat().st_size,
-        }
+        told = dict(line.split() for line in counts.read_text().splitlines())
+        keys = ("alloc", "bytes", "peak", "thread", "read", "write")
+        numbers = dict(zip([*NAMES, "reads", "writes"], (int(told[key]) for key in keys)))
+        return {**numbers, "bytes read": path.stat().st_size, "bytes written": out.stat().st_size}
 
     def instructions(self, job: str) -> int:
         path, command = self.command(job)
@@ -198,9 +189,12 @@ def work(rds: str, tmp_path_factory: pytest.TempPathFactory) -> Work:
     return Work(rds, tmp_path_factory.mktemp("work"))
 
 
-@pytest.mark.parametrize(
-    "line", [line for line in lines() if not line.counts_instructions], ids=lambda line: line.job
-)
+def lines_for(counts_instructions: bool) -> pytest.MarkDecorator:
+    chosen = [line for line in lines() if line.counts_instructions == counts_instructions]
+    return pytest.mark.parametrize("line", chosen, ids=lambda line: line.job)
+
+
+@lines_for(counts_instructions=False)
 def test_job(work: Work, line: Line, cases: Callable[[int], None]) -> None:
     counts = work.count(line.job)
     told = faults(line, counts)
@@ -208,30 +202,19 @@ def test_job(work: Work, line: Line, cases: Callable[[int], None]) -> None:
     cases(len(ranges(line, counts)))
 
 
-@pytest.mark.parametrize(
-    "line", [line for line in lines() if line.counts_instructions], ids=lambda line: line.job
-)
+@lines_for(counts_instructions=True)
 def test_instructions(work: Work, line: Line) -> None:
     needs("valgrind")
     assert line.bounds[0] * 9 // 10 <= work.instructions(line.job) <= line.bounds[0]
 
 
 def test_each_bound_is_looked_at(work: Work) -> None:
-    counts = work.count("sample scan --workers 4")
-    assert len(faults(Line("sample scan --workers 4", [1, 1, 1, 99]), counts)) == 4
-    assert (
-        len(
-            faults(
-                Line(
-                    "sample scan --workers 4",
-                    [2 * counts[name] + 1 for name in NAMES[:3]] + [counts["threads"]],
-                ),
-                counts,
-            )
-        )
-        == 3
-    )
-    alone = Line("sample scan --workers 1", [counts[name] * 5 // 4 + 2 for name in NAMES[:3]] + [0])
+    job = "sample scan --workers 4"
+    counts = work.count(job)
+    most = [counts[name] for name in NAMES[:3]]
+    assert len(faults(Line(job, [1, 1, 1, 99]), counts)) == 4
+    assert len(faults(Line(job, [*(2 * number + 1 for number in most), counts["threads"]]), counts)) == 3
+    alone = Line("sample scan --workers 1", [*(number * 5 // 4 + 2 for number in most), 0])
     assert len(faults(alone, {**counts, "threads": 0, "reads": 99, "writes": 99, "bytes written": 0})) == 6
 
 
@@ -272,7 +255,8 @@ def measured(work: Work, line: Line) -> Line:
     runs = [work.count(line.job) for _ in range(3)]
     most = [max(counts[name] for counts in runs) for name in NAMES[:3]]
     spare = 10 if most[1] >= 1000000 else 100
-    return line._replace(bounds=[it + it // spare for it in most] + (line.bounds[3:] or [runs[0]["threads"]]))
+    threads = line.bounds[3:] or [runs[0]["threads"]]
+    return line._replace(bounds=[count + count // spare for count in most] + threads)
 
 
 def main(rds: str, *jobs: str) -> None:

@@ -1,28 +1,19 @@
-#!/usr/bin/env python3
-"""Recordings of which a run keeps the most: bits that are valid windows at chosen places.
-
-    tests/worst_inputs.py PLAN BYTES > RECORDING
+"""Recordings of which a run keeps the most: bits that are valid windows at chosen places: tests/worst_inputs.py PLAN BYTES
 
 A window is valid with an offset word if its remainder by the generator is that word (EN 50067:1998, Annex B): ten linear equations,
 modulo 2, of its 26 bits. The windows of a plan repeat after some number of bytes. So the equations are solved once, for a ring of that
 length, and the ring is written again and again. The free bits are pseudo-random, by the first seed for which no other window is
-valid: another window might acquire sync, or be the next block. The same words give the same bytes.
+valid: another window might acquire sync, or be the next block. The same plan gives the same bytes.
 """
-import argparse
+
 import itertools
 import random
 import sys
 
-GENERATOR = 0x5B9
-BLOCK = 26
-NUMBERS = {
-    0x0FC: 1,
-    0x198: 2,
-    0x168: 3,
-    0x350: 3,
-    0x1B4: 4,
-}  # the offset words, with the numbers of their blocks
-WORDS = {1: 0x0FC, 2: 0x198, 3: 0x168, 4: 0x1B4}
+from plain import A, B, BLOCK, C, D, NUMBERS, OFFSET_OF, WORDS, remainder
+
+# the offset word of each block number
+WORD_OF = {number: WORDS[offset] for number, offset in enumerate((A, B, C, D), 1)}
 
 
 # ---- plans: the length of a ring in bits, and its windows, each by its last place and the number of its block
@@ -57,21 +48,13 @@ PLANS = {plan.__name__: plan for plan in (short_locks, three_phases)}
 # ---- bits that have the windows of a plan
 
 
-def remainder(block):
-    """The remainder of 26 bits by the generator."""
-    for shift in reversed(range(16)):
-        if block >> (shift + 10) & 1:
-            block ^= GENERATOR << shift
-    return block
-
-
 def equations(length, windows):
     """What the windows ask: sets of places, each as a number whose bits they are, and the parity of the bits there."""
     shares = [remainder(1 << k) for k in range(BLOCK)]
     for last, number in windows:
         for row in range(10):
             places = sum(1 << (last - k) % length for k in range(BLOCK) if shares[k] >> row & 1)
-            yield places, WORDS[number] >> row & 1
+            yield places, WORD_OF[number] >> row & 1
 
 
 def solved(rows):
@@ -105,8 +88,8 @@ def windows_of(bits):
     """The valid windows of a ring, in order."""
     for last in range(len(bits)):
         block = sum(bits[(last - k) % len(bits)] << k for k in range(BLOCK))
-        if remainder(block) in NUMBERS:
-            yield last, NUMBERS[remainder(block)]
+        if number := NUMBERS[OFFSET_OF[remainder(block)]]:
+            yield last, number
 
 
 def ring_of(plan):
@@ -125,13 +108,5 @@ def recording(name, size):
     return (ring * (size // len(ring) + 1))[:size]
 
 
-def main():
-    parser = argparse.ArgumentParser(description=__doc__.split("\n")[0])
-    parser.add_argument("plan", choices=PLANS)
-    parser.add_argument("bytes", type=int, help="how long the recording is")
-    args = parser.parse_args()
-    sys.stdout.buffer.write(recording(args.plan, args.bytes))
-
-
 if __name__ == "__main__":
-    main()
+    sys.stdout.buffer.write(recording(sys.argv[1], int(sys.argv[2])))

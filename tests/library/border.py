@@ -1,114 +1,220 @@
-#!/usr/bin/env python3
-"""Tries each pointer of each function of lib/rds.h: tests/library/border.py LIBRARY-FOLDER FOLDER
+"""Each pointer of each function of lib/rds.h, in each bad and each good place.
 
-The declarations give a table of pointers: which are rows, which are written, how they are aligned. border.c goes over it twice. First
-over lib/border.c without the proved code, where each proved function is one that notes how it was called, with the sanitizers for addresses and
-undefined behaviour. Then over librds.a, under valgrind where it is installed. Last, each check is taken out of a copy of lib/border.c
-in turn, which has to be noticed. FOLDER takes what is made.
+lib/border.c is tried over proved functions that only note their arguments: a bad pointer is refused before one is called, and a good call
+reaches it unchanged. The library refuses the same pointers, and writes nothing then. Copies of lib/border.c with mistakes show that each is seen.
 """
 
+from __future__ import annotations
+
+import ctypes
+import itertools
 import os
 import re
-import shutil
-import subprocess
-import sys
-from concurrent.futures import ThreadPoolExecutor
+from pathlib import Path
+from typing import Any, Iterator, NamedTuple
 
-HERE = os.path.dirname(os.path.abspath(__file__))
-LIB = os.path.join(os.path.dirname(os.path.dirname(HERE)), "lib")
+from running import TOP, wrote
+
+LIB = TOP / "lib"
 CC = os.environ.get("CC", "cc")
-TIMEOUT = 120
+BORDER = (LIB / "border.c").read_text()
+HEADER = re.sub(r"/\*.*?\*/", "", (LIB / "rds.h").read_text(), flags=re.S)
+ROWS = re.findall(r"^\w+ (rds_\w+)\(([^)]*)\);", HEADER, re.M)
+DECLARED = {name: " ".join(text.split()) for name, text in ROWS}
+REACHED, BAD_POINTER, SMALL_ROOM = 200, 70, 64
+# A row has three values, and each pointer 1024 bytes of its own.
+COUNT, APART, MOST = 3, 1024, 30
+PTRDIFF_MAX, SIZE_MAX = 2**63 - 1, 2**64 - 1
+MEMORY = ctypes.create_string_buffer(b"\x5a" * (APART * MOST))
+BEGIN = -(-ctypes.addressof(MEMORY) // 64) * 64
+AS_IT_WAS = MEMORY.raw
+# Arguments by name; a pointer is an address.
+Call = dict[str, int]
 
 
-def read(path):
-    with open(path, encoding="utf-8") as file:
-        return file.read()
+class Parameter(NamedTuple):
+    """A parameter, with the size and the alignment of its type or of what it points to."""
+
+    name: str
+    size: int
+    alignment: int
+    is_pointer: bool
+    is_written: bool
+    is_row: bool
 
 
-def write(path, text):
-    with open(path, "w", encoding="utf-8") as file:
-        file.write(text)
+def layout(kind: str, ffi: Any) -> tuple[int, int]:
+    if kind.startswith("rds_"):
+        struct = getattr(ffi, "".join(map(str.capitalize, kind.removesuffix("_t").split("_"))))
+        return ctypes.sizeof(struct), ctypes.alignment(struct)
+    size = 8 if kind == "size_t" else int(kind.strip("uint_")) // 8
+    return size, size
 
 
-# ---- the table
+class Function:
+    """A function of the header, in a library."""
+
+    def __init__(self, library: ctypes.CDLL, name: str, ffi: Any, is_alone: bool) -> None:
+        self.library, self.name, self.is_alone, text = library, name, is_alone, DECLARED[name]
+        self.parameters = [
+            Parameter(name, *layout(kind, ffi), bool(star), not const, f"{name}_len" in text)
+            for const, kind, star, name in re.findall(r"(const )?(\w+) (\*?)(\w+)", text)
+        ]
+        self.pointers = [one for one in self.parameters if one.is_pointer]
+        kinds = {1: ctypes.c_uint8, 2: ctypes.c_uint16, 4: ctypes.c_uint32, 8: ctypes.c_uint64}
+        self.function = getattr(library, name)
+        sizes = [ctypes.c_void_p if one.is_pointer else kinds[one.size] for one in self.parameters]
+        self.function.argtypes = sizes
+        self.function.restype = ctypes.c_uint8
+
+    def apart(self, last: str = "", numbers: int = 0x8000000080000080) -> Call:
+        """All pointers apart, in rising order but for one, which comes last. Numbers have a bit that is lost if they are cut."""
+        call: Call = {}
+        for place, one in enumerate(self.parameters, 1):
+            call[one.name] = numbers & (1 << 8 * one.size) - 1
+            if one.is_pointer:
+                call[one.name] = BEGIN + APART * (MOST - 3 if one.name == last else place)
+            elif one.name.endswith("_len"):
+                call[one.name] = COUNT
+        return call
+
+    def is_right(self, call: Call, is_bad: bool) -> bool:
+        """Whether a bad call is refused and writes nothing, and a good one is taken: alone it reaches the proved function unchanged."""
+        reached = ctypes.c_int.in_dll(self.library, "reached") if self.is_alone else ctypes.c_int()
+        reached.value = 0
+        answer, is_left = self.function(*call.values()), MEMORY.raw == AS_IT_WAS
+        ctypes.memmove(MEMORY, AS_IT_WAS, len(AS_IT_WAS))
+        if is_bad or not self.is_alone:
+            return (answer == BAD_POINTER) == is_bad and (is_left or not is_bad) and not reached.value
+        # the scratch of a call is for lib/heap.c
+        parameters = [one for one in self.parameters if "scratch" not in one.name]
+        is_reached = answer == REACHED and reached.value == 1 and is_left
+        return is_reached and all(self.is_handed_on(one, call) for one in parameters)
+
+    def is_handed_on(self, one: Parameter, call: Call) -> bool:
+        seen = ctypes.c_uint64.in_dll(self.library, f"seen_{one.name}").value
+        if one.is_row and not call[f"{one.name}_len"]:
+            return seen != 0 and seen % one.alignment == 0
+        return seen == call[one.name]
+
+    def faults(self) -> list[str]:
+        return [
+            f"{self.name}: {text}" for text, call, is_bad in self.calls() if not self.is_right(call, is_bad)
+        ]
+
+    def calls(self) -> Iterator[tuple[str, Call, bool]]:
+        """A text, a call, and whether it has to be refused."""
+        for numbers in (0x8000000080000080, 0, SIZE_MAX):
+            yield "all good", self.apart(numbers=numbers), False
+        for one in self.pointers:
+            call = self.apart(one.name)
+            for by in range(1, one.alignment):
+                yield f"{one.name} not aligned", {**call, one.name: call[one.name] + by}, True
+            yield f"{one.name} NULL", {**call, one.name: 0}, True
+            if one.is_row:
+                yield from self.empty(one, {**call, f"{one.name}_len": 0})
+                yield from self.too_many(one, call)
+            for other in self.pointers:
+                if other != one:
+                    yield from self.over(one, other, call)
+
+    def empty(self, one: Parameter, call: Call) -> Iterator[tuple[str, Call, bool]]:
+        """Without values any pointer will do."""
+        inside = [self.apart(one.name)[other.name] + 1 for other in self.pointers]
+        for at in (call[one.name], call[one.name] + 1, 0, *inside):
+            yield f"{one.name} without values", {**call, one.name: at}, False
+
+    def too_many(self, one: Parameter, call: Call) -> Iterator[tuple[str, Call, bool]]:
+        """More values than memory can hold, and past its end."""
+        most, name = PTRDIFF_MAX // one.size, f"{one.name}_len"
+        yield f"{one.name} with a value too many", {**call, name: most + 1}, True
+        if one.size > 1:
+            yield f"{one.name} of a size that wraps", {**call, name: SIZE_MAX // one.size + 2}, True
+        end = SIZE_MAX - COUNT * one.size + 1
+        end -= end % one.alignment
+        yield f"{one.name} past the end of memory", {**call, one.name: end}, True
+        if self.is_alone:
+            yield f"{one.name} at the end of memory", {**call, one.name: end - one.alignment}, False
+            yield f"{one.name} of as many values as memory can hold", {**call, name: most}, False
+
+    def over(self, one: Parameter, other: Parameter, call: Call) -> Iterator[tuple[str, Call, bool]]:
+        """One at the place of another: over its first and its last byte, just before and just after."""
+
+        def down(at: int) -> int:
+            return at - at % one.alignment
+
+        length = one.size * call.get(f"{one.name}_len", 1)
+        begin = call[other.name]
+        end = begin + other.size * call.get(f"{other.name}_len", 1)
+        before, is_bad = down(begin - length), one.is_written or other.is_written
+        places = [(begin, is_bad), (down(end - 1), is_bad), (before, False)]
+        places += [(down(end + one.alignment - 1), False)]
+        places += [(before + one.alignment, is_bad)] * (before + one.alignment + length > begin)
+        for at, is_over in places:
+            yield f"{one.name} at {at - begin} of {other.name}", {**call, one.name: at}, is_over
 
 
-def functions_of(header):
-    """Each function with its arguments: (declaration, type, whether it is a pointer, name)."""
-    text = re.sub(r"/\*.*?\*/", "", header, flags=re.S)
-    for name, given in re.findall(r"^\w+ (rds_\w+)\(([^)]*)\);", text, re.M):
-        arguments = [" ".join(it.split()) for it in given.split(",")]
-        parts = [re.fullmatch(r"((?:const )?(\w+)) (\*?)(\w+)", it) for it in arguments if it != "void"]
-        yield name, [(it[1], it[2], bool(it[3]), it[4]) for it in parts]
+def faults_of(library: ctypes.CDLL, ffi: Any, is_alone: bool) -> dict[str, list[str]]:
+    """The faults of each function that has some."""
+    functions = [Function(library, name, ffi, is_alone) for name, text in DECLARED.items() if "*" in text]
+    found = {one.name: one.faults() for one in functions}
+    # a NULL that is not refused is written to there
+    if not any(found.values()):
+        found["rds_refusal_name"] = [*name_faults(library)]
+    return {name: faults for name, faults in found.items() if faults}
 
 
-def table_of(header):
-    """border_table.h: for each function with a pointer its call, its stub and its row."""
-    calls, rows = [], []
-    for name, arguments in functions_of(header):
-        names = {argument for _, _, _, argument in arguments}
-        pointers = [argument for _, _, is_pointer, argument in arguments if is_pointer]
-        if not pointers:
-            continue
-        given, noted, declared, entries = [], [], [], []
-        for place, (declared_type, plain, is_pointer, argument) in enumerate(arguments):
-            declared.append(f"{declared_type} {'*' if is_pointer else ''}{argument}")
-            if is_pointer:
-                is_row, is_written = f"{argument}_len" in names, not declared_type.startswith("const ")
-                given.append(f"call->at[{pointers.index(argument)}]")
-                noted.append(f"seen.with.at[{pointers.index(argument)}] = (void *){argument};")
-                noted += [] if is_row else [f"seen.with.count[{pointers.index(argument)}] = 1;"]
-                # the scratch of a call is for lib/heap.c
-                truth = ", ".join(str(it).lower() for it in (is_row, is_written, argument != "scratch"))
-                entries.append(f'{{"{argument}", sizeof({plain}), _Alignof({plain}), {truth}}}')
-            elif argument.removesuffix("_len") in pointers:
-                row = pointers.index(argument.removesuffix("_len"))
-                given.append(f"call->count[{row}]")
-                noted.append(f"seen.with.count[{row}] = {argument};")
-            else:
-                number = f"({plain})number_at({place})"
-                given.append(number)
-                noted.append(f"seen.has_scalars = seen.has_scalars && {argument} == {number};")
-        calls.append(
-            f"static uint8_t call_{name}(const struct call *call) {{ return {name}({', '.join(given)}); }}\n"
-            f"#ifdef STUBS\nuint8_t proved_{name}({', '.join(declared)});\nuint8_t proved_{name}({', '.join(declared)})\n"
-            f"{{ seen.times++; {' '.join(noted)} return REACHED; }}\n#endif\n"
-        )
-        rows.append(f'    {{"{name}", call_{name}, {len(pointers)}, {{{", ".join(entries)}}}}},')
-    stub = "#ifdef STUBS\nuint32_t proved_rds_version(void);\nuint32_t proved_rds_version(void) { return 0; }\n#endif\n"
-    return (
-        "".join(calls) + stub + "static const struct function functions[] = {\n" + "\n".join(rows) + "\n};\n"
-    )
+OF_BORDER = {70: b"BadPointer", 72: b"NotAStream", 73: b"OtherVersion", 74: b"OtherRules"}
 
 
-# ---- checks taken out
+def name_faults(library: ctypes.CDLL) -> Iterator[str]:
+    """Names that only lib/border.c has: a room that is too small by a byte, one that is just enough, and none."""
+    for number, name in OF_BORDER.items():
+        for length, wanted in ((len(name), SMALL_ROOM), (len(name) + 1, 0)):
+            room = ctypes.create_string_buffer(b"x" * 16)
+            answer = library.rds_refusal_name(number, ctypes.addressof(room), length)
+            text = b"x" * 16 if wanted else name + b"\0" + b"x" * (15 - len(name))
+            if answer != wanted or room.raw[:16] != text:
+                yield f"rds_refusal_name: {answer} and {room.raw[:16]!r} of {number} in {length} bytes"
+        if library.rds_refusal_name(number, None, 16) != BAD_POINTER:
+            yield f"rds_refusal_name: NULL for the name of {number}"
 
 
-def without_a_check(border):
-    """Copies of lib/border.c, each with one mistake."""
-    for call in re.finditer(r"LOOK_AT\(([^;]*)\);\n", border):
-        looks = re.findall(r"\w+\(\w+\)", call[1])
-        function = re.findall(r"^uint8_t (rds_\w+)\(", border[: call.start()], re.M)[-1]
-        for place, look in enumerate(looks):
-            others = [*looks[:place], *looks[place + 1 :]]
-            mistakes = {
-                "left out": others,
-                "as read": [*looks[:place], look.replace("_WRITTEN", ""), *looks[place + 1 :]],
-            }
-            mistakes["as one"] = [*looks[:place], look.replace("MANY", "ONE"), *looks[place + 1 :]]
-            for what, said in mistakes.items():
-                # A function with one pointer has no second value for it to overlap.
-                if said != looks and said and (what != "as read" or len(looks) > 1):
-                    yield f"{function}: {look} {what}", border[: call.start(1)] + ", ".join(said) + border[
-                        call.end(1) :
-                    ]
-    for row in re.finditer(r"(?<= )?ROW\((\w+)\)", border):
-        if row[1] != "p":
-            yield f"a row of {row[1]} handed on as it is", f"{border[:row.start()]}{row[1]}, {row[1]}_len{border[row.end():]}"
-    for old, new in MISTAKES:
-        assert border.count(old) == 1, old
-        yield f"{old} as {new}", border.replace(old, new)
+# ---- lib/border.c alone
 
+
+def stubs() -> str:
+    """Proved functions that note their arguments."""
+    names = {text: re.findall(r"(\w+)(?:,|$)", text.removesuffix("void")) for text in DECLARED.values()}
+    noted = {text: "".join(f"seen_{name} = (uint64_t){name}; " for name in names[text]) for text in names}
+    rows = ['#include "rds.h"', "int reached;"]
+    rows += [f"uint64_t seen_{name};" for name in sorted({name for some in names.values() for name in some})]
+    for function, text in DECLARED.items():
+        head = f"uint8_t proved_{function}({text})"
+        rows += [f"{head};", f"{head} {{ reached++; {noted[text]}return {REACHED}; }}"]
+    return "\n".join([*rows, ""])
+
+
+class Alone:
+    """Makes libraries of texts of lib/border.c."""
+
+    def __init__(self, folder: Path) -> None:
+        self.folder, self.count = folder, 0
+        (folder / "stubs.c").write_text(stubs())
+        self.objects = [folder / "stubs.o", folder / "heap.o"]
+        for source, made in zip((folder / "stubs.c", LIB / "heap.c"), self.objects):
+            wrote(CC, "-fPIC", f"-I{LIB}", "-c", "-o", made, source)
+
+    def __call__(self, border: str, *options: str) -> ctypes.CDLL:
+        self.count += 1
+        path = self.folder / f"border{self.count}.c"
+        path.write_text(border)
+        words = ["-std=c11", "-Wall", "-Wextra", "-Werror", "-shared", "-fPIC", f"-I{LIB}", *options]
+        wrote(CC, *words, "-o", path.with_suffix(".so"), path, *self.objects)
+        return ctypes.CDLL(str(path.with_suffix(".so")))
+
+
+# ---- mistakes
 
 MISTAKES = [
     ("!it->at || ", ""),
@@ -127,6 +233,7 @@ MISTAKES = [
     ("lent[k].is_written && do_overlap", "do_overlap"),
     ("for (size_t k = 1; k < count; k++)", "for (size_t k = 2; k < count; k++)"),
     ("for (size_t j = 0; j < k; j++)", "for (size_t j = 1; j < k; j++)"),
+    ("k = 0; k < count; k++)\n        if (is_nowhere", "k = 1; k < count; k++)\n        if (is_nowhere"),
     ("room_len < len", "room_len <= len"),
     ("room_len < len", "room_len + 1 < len"),
     ("memcpy(room, name, len)", "memcpy(room, name, len - 1)"),
@@ -134,88 +241,39 @@ MISTAKES = [
     ("number == RDS_BAD_POINTER", "number == RDS_NO_REFUSAL"),
     ("number >= RDS_NOT_A_STREAM", "number > RDS_NOT_A_STREAM"),
     ("number <= RDS_OTHER_RULES", "number < RDS_OTHER_RULES"),
-    (
-        "for (size_t k = 0; k < count; k++)\n        if (is_nowhere",
-        "for (size_t k = 1; k < count; k++)\n        if (is_nowhere",
-    ),
 ]
+# One of a function's looks at its values, or of the rows that it hands on, as it must not be.
+WRONG = {
+    "left out": (r"\w+\(\w+\)(?:,\s+)?", lambda look: ""),
+    "as read": (r"\w+_WRITTEN(?=\()", lambda look: look.removesuffix("_WRITTEN")),
+    "as one": (r"MANY(?=\w*\()", lambda look: "ONE"),
+    "as it is": (r"ROW\(\w+\)", lambda row: f"{row[4:-1]}, {row[4:-1]}_len"),
+}
 
 
-# ---- runs
+def with_wrong_look(kind: str, place: int) -> tuple[str, set[str]]:
+    """lib/border.c with one look of each function as it must not be, and the functions that have such a look."""
+    pattern, edit = WRONG[kind]
+    changed = set()
+
+    def edited(body: re.Match[str]) -> str:
+        part = re.search(r"return .*;" if kind == "as it is" else r"(?<=LOOK_AT\()[^;]*(?=\))", body[0])
+        found = [*re.finditer(pattern, part[0])] if part else []
+        if not part or len(found) <= place or kind != "as it is" and "," not in part[0]:
+            return body[0]
+        changed.add(body[1])
+        start, end = (part.start() + at for at in found[place].span())
+        return re.sub(r",\s*(?=\);)", "", body[0][:start] + edit(found[place][0]) + body[0][end:])
+
+    return re.sub(r"^uint8_t (rds_\w+)\([^;{]*\{.*?^\}", edited, BORDER, flags=re.M | re.S), changed
 
 
-def ran(words):
-    done = subprocess.run(
-        words,
-        stdout=subprocess.PIPE,
-        stderr=subprocess.STDOUT,
-        encoding="utf-8",
-        timeout=TIMEOUT,
-        check=False,
-    )
-    return done.returncode, done.stdout
-
-
-def made(program, sources, folder, *options):
-    words = [
-        CC,
-        "-std=c11",
-        "-Wall",
-        "-Wextra",
-        "-Werror",
-        f"-I{LIB}",
-        f"-I{folder}",
-        *options,
-        "-o",
-        program,
-        *sources,
-    ]
-    status, said = ran(words)
-    if status:
-        sys.exit(f"border.py: {' '.join(words)}\n{said}")
-    return program
-
-
-def is_noticed(folder, number, border):
-    """Whether border.c finds fault with this copy of lib/border.c: it says so, or is ended by a signal."""
-    copy, program = f"{folder}/mistake{number}.c", f"{folder}/mistake{number}"
-    write(copy, border)
-    made(program, [f"{folder}/stubs.o", copy, f"{LIB}/heap.c"], folder, "-O0")
-    status, _ = ran([program])
-    return status == 1 or status < 0
-
-
-def main():
-    library, folder = (os.path.realpath(it) for it in sys.argv[1:])
-    write(f"{folder}/border_table.h", table_of(read(f"{LIB}/rds.h")))
-    test, border, heap = f"{HERE}/border.c", f"{LIB}/border.c", f"{LIB}/heap.c"
-    faults = []
-
-    def tried(name, words):
-        status, said = ran(words)
-        print(f"{name}: {said.strip()}")
-        if status:
-            faults.append(name)
-
-    sanitized = ["-g", "-fsanitize=address,undefined", "-fno-sanitize-recover=all", "-DSTUBS"]
-    tried("lib/border.c", [made(f"{folder}/alone", [test, border, heap], folder, *sanitized)])
-    whole = made(f"{folder}/whole", [test, f"{library}/librds.a"], folder, "-O1")
-    checker = ["valgrind", "-q", "--error-exitcode=99"] if shutil.which("valgrind") else []
-    tried("librds.a", [*checker, whole])
-    status, said = ran(
-        [CC, "-std=c11", f"-I{LIB}", f"-I{folder}", "-DSTUBS", "-O0", "-c", "-o", f"{folder}/stubs.o", test]
-    )
-    if status:
-        sys.exit(said)
-    mistakes = list(without_a_check(read(border)))
-    with ThreadPoolExecutor(os.cpu_count()) as pool:
-        found = list(pool.map(lambda it: is_noticed(folder, it[0], it[1][1]), enumerate(mistakes)))
-    unseen = [name for (name, _), is_found in zip(mistakes, found) if not is_found]
-    print(f"{len(mistakes)} mistakes in lib/border.c, {len(unseen)} not noticed", *unseen, sep="\n  ")
-    return bool(faults or unseen) or len(mistakes) < 90
-
-
-if __name__ == "__main__":
-    if len(sys.argv) != 3:
-        sys.exit(__doc__)
-    sys.exit(main())
+def mistaken() -> Iterator[tuple[str, str, set[str]]]:
+    """A text, a copy of lib/border.c with mistakes, and the functions that have one each."""
+    for old, new in MISTAKES:
+        assert BORDER.count(old) == 1, old
+        yield f"{old} as {new}", BORDER.replace(old, new), set()
+    for kind, place in itertools.product(WRONG, range(9)):
+        text, changed = with_wrong_look(kind, place)
+        if changed:
+            yield f"look {place} {kind}", text, changed

@@ -2,17 +2,20 @@
  * output, both as the structs below.
  *
  * Whatever a call may write is filled with a pattern first. With REFUSING, the allocation after the first `allowed` ones of a call is
- * refused, and the later ones too if `refuses_on`. The answer says how many were refused, how many were not given back, and the most bytes
- * at a time. */
+ * refused, and the later ones too if `refuses_on`. The answer says how many were refused, how many were not given back, the most bytes
+ * at a time, and the bytes of stack. A scratch is just as large as rds.h says, or half of it, at any address, between bytes of the pattern. */
 #include "rds.h"
 
 #include <malloc.h>
 #include <stdio.h>
 #include <stdlib.h>
 #include <string.h>
+#include <ucontext.h>
 
-enum call { TOTALS, ITEMS, RUN, FINISH_RUN, PUSH, FINISH, FINISH_WITH, REMAINDER, CORRECT, ENCODE, NAME, NUMBERS, CHECK };
+enum call { TOTALS, ITEMS, RUN, FINISH_RUN, PUSH, PUSH_WITH, FINISH, FINISH_WITH, REMAINDER, CORRECT, ENCODE, NAME, NUMBERS, CHECK };
 enum { MOST_BYTES = 1 << 20, MOST_GAPS = 1 << 10, MOST_ITEMS = 1 << 14, PATTERN = 0x5A };
+/* What rds.h says of each gap near the bytes of a push with scratch, and the stack that a call is given. */
+enum { A_GAP = 64, AROUND = 64, STACK = 1 << 18 };
 
 struct request {
     uint64_t call, bytes_len, bits, gaps_len, from, to, room_len;
@@ -27,8 +30,8 @@ struct request {
 
 struct answer {
     uint64_t refusal, taken, count;
-    int64_t refused, kept, most; /* `most` bytes at a time */
-    uint64_t is_room_left; /* whether nothing was written to the room but `count` items, or nothing after an error */
+    int64_t refused, kept, most, stack; /* `most` bytes at a time */
+    uint64_t is_room_left; /* whether nothing was written to the room but `count` items, or nothing after an error; nor around a scratch */
     unsigned char known[sizeof(rds_stream_t)];
     union {
         rds_totals_t totals;
@@ -47,6 +50,8 @@ static union {
     rds_item_t items[MOST_ITEMS + 1];
     rds_packed_t packed[1];
 } room;
+static uint8_t scratch[MOST_BYTES];
+static size_t scratch_len;
 
 #ifdef REFUSING
 extern void *__libc_malloc(size_t);
@@ -100,6 +105,8 @@ static int is_calling;
 #define STREAM gaps, asked.gaps_len, &asked.rules, &asked.known.stream
 #define ROOM room.items, asked.room_len
 #define COUNT &answer.count
+/* Of a push with scratch `from` are the gaps near its bytes, `to` is the scratch's address, and `bits` are its halves. */
+#define SCRATCH (scratch_len ? scratch + AROUND + asked.to : NULL), scratch_len
 
 static uint8_t called(void)
 {
@@ -110,6 +117,10 @@ static uint8_t called(void)
     case RUN: return rds_run(RECORDING, asked.from, asked.to, &asked.known.state, ROOM, COUNT);
     case FINISH_RUN: return rds_finish_run(RECORDING, &asked.known.state, ROOM, COUNT);
     case PUSH: return rds_push(bytes, asked.bytes_len, STREAM, ROOM, &answer.taken, COUNT);
+#ifndef OF_0_2
+    case PUSH_WITH: return rds_push_with(bytes, asked.bytes_len, STREAM, ROOM, &answer.taken, COUNT, SCRATCH);
+    case CHECK: return rds_check(STREAM);
+#endif
     case FINISH: return rds_finish(STREAM, ROOM, COUNT, &answer.found.totals);
     case FINISH_WITH: return rds_finish_with(bytes, asked.bytes_len, asked.bits, STREAM, ROOM, COUNT, &answer.found.totals);
     case REMAINDER: return rds_remainder((uint32_t)asked.from, &answer.found.remainder);
@@ -120,12 +131,43 @@ static uint8_t called(void)
         answer.found.numbers[0] = rds_version();
         memcpy(answer.found.numbers + 1, &usual, 4 * sizeof(uint32_t));
         return 0;
-#ifndef OF_0_2
-    case CHECK: return rds_check(STREAM);
-#endif
     default: exit(3);
     }
 }
+
+#ifdef REFUSING
+static ucontext_t caller, callee;
+static unsigned char stack[STACK];
+
+static void call_there(void)
+{
+    if (is_calling)
+        answer.refusal = called();
+}
+
+/* The bytes of stack that a call takes, by the pattern that it leaves. */
+static int64_t stack_of_call(void)
+{
+    size_t left = 0;
+    memset(stack, PATTERN, sizeof stack);
+    getcontext(&callee);
+    callee.uc_stack.ss_sp = stack;
+    callee.uc_stack.ss_size = sizeof stack;
+    callee.uc_link = &caller;
+    makecontext(&callee, call_there, 0);
+    swapcontext(&caller, &callee);
+    while (stack[left] == PATTERN)
+        left++;
+    return (int64_t)(sizeof stack - left);
+}
+#else
+static int64_t stack_of_call(void)
+{
+    if (is_calling)
+        answer.refusal = called();
+    return 0;
+}
+#endif
 
 /* How many bytes of the room a call wrote. */
 static size_t written(void)
@@ -144,8 +186,26 @@ static int is_pattern(const unsigned char *at, const unsigned char *end)
     return at == end;
 }
 
+static void set_scratch(void)
+{
+#ifndef OF_0_2
+    scratch_len = (RDS_PUSH_SCRATCH(asked.bytes_len, asked.room_len) + A_GAP * asked.from) * asked.bits / 2;
+#endif
+    if (asked.call != PUSH_WITH || scratch_len + AROUND + asked.to + AROUND > sizeof scratch)
+        exit(4);
+    memset(scratch, PATTERN, AROUND + asked.to);
+    memset(scratch + AROUND + asked.to + scratch_len, PATTERN, AROUND);
+}
+
+static int is_scratch_left(void)
+{
+    const unsigned char *first = scratch + AROUND + asked.to, *end = first + scratch_len;
+    return is_pattern(scratch, first) && is_pattern(end, end + AROUND);
+}
+
 int main(void)
 {
+    const int64_t no_stack = stack_of_call();
     while (fread(&asked, sizeof asked, 1, stdin)) {
         const unsigned char *first = (const unsigned char *)&room, *end = (const unsigned char *)(room.items + asked.room_len + 1);
         if (asked.bytes_len > MOST_BYTES || asked.gaps_len > MOST_GAPS || asked.room_len > MOST_ITEMS ||
@@ -154,13 +214,15 @@ int main(void)
         memset(&answer, PATTERN, sizeof answer);
         memset(&room, PATTERN, (size_t)(end - first));
         answer.refused = answer.kept = answer.most = 0;
+        if (asked.call == PUSH_WITH)
+            set_scratch();
         allowed = asked.allowed;
         is_calling = 1;
-        answer.refusal = called();
+        answer.stack = stack_of_call() - no_stack;
         is_calling = 0;
         allowed = -1;
         memcpy(answer.known, &asked.known, sizeof answer.known);
-        answer.is_room_left = (uint64_t)is_pattern(first + written(), end);
+        answer.is_room_left = (uint64_t)(is_pattern(first + written(), end) && (asked.call != PUSH_WITH || is_scratch_left()));
         fwrite(&answer, sizeof answer, 1, stdout);
         fwrite(&room, 1, written(), stdout);
     }

@@ -7,9 +7,9 @@ from types import ModuleType
 from typing import Any, Iterator, Sequence
 
 import plain
-from plain import Item, Read, Recording, Rules
+from plain import Item, Read, Rules
 
-from .calls import BLOCK, ITEM, TOTALS, Answer, Call, corrected, refusal_of
+from .calls import BLOCK, ITEM, TOTALS, Answer, Call
 
 OFFSETS = ("-", "A", "B", "C", "Cx", "D", "C|Cx")
 
@@ -19,9 +19,8 @@ def call_of(text: str) -> Call:
     name, *words = text.split()
     if name in ("totals", "items"):
         data = bytes.fromhex(words[0].strip("-"))
-        return Call(
-            name, data, int(words[1]), plain.gaps_of(words[6].strip("-")), Rules(*map(int, words[2:6]))
-        )
+        gaps, rules = plain.gaps_of(words[6].strip("-")), Rules(*map(int, words[2:6]))
+        return Call(name, data, int(words[1]), gaps, rules)
     if name == "encode":
         groups = [[int(group[k : k + 4], 16) for k in range(0, 16, 4)] for group in words]
         return Call(name, b"".join(struct.pack("<4H", *group) for group in groups))
@@ -53,10 +52,6 @@ def items_text(items: Sequence[Item]) -> str:
     return "; ".join([str(len(items)), *map(item_text, items)])
 
 
-def refusal_text(number: int, names: dict[int, str]) -> str:
-    return f"refused {number} {names[number]}"
-
-
 # ---- by the library for C
 
 
@@ -79,7 +74,7 @@ def items_of(room: bytes) -> Iterator[Item]:
 def answer_text(text: str, call: Call, answer: Answer, names: dict[int, str]) -> str:
     """The answer of calls.c or of plain.py to the call of a line."""
     if answer.refusal:
-        return refusal_text(answer.refusal, names)
+        return f"refused {answer.refusal} {names[answer.refusal]}"
     if call.name == "totals":
         return " ".join(map(str, TOTALS.unpack(answer.found)[:12]))
     if call.name == "items":
@@ -93,35 +88,9 @@ def answer_text(text: str, call: Call, answer: Answer, names: dict[int, str]) ->
     if call.name == "name":
         return f"refused {call.begin} {answer.found.split(bytes(1))[0].decode()}"
     version, *rules = struct.unpack_from("<5I", answer.found)
-    return (
-        " ".join(map(str, rules))
-        if text == "rules"
-        else f"{version >> 16}.{version >> 8 & 255}.{version & 255}"
-    )
-
-
-# ---- by plain.py, which knows neither names nor versions
-
-
-def plain_text(text: str) -> str | None:
-    call = call_of(text)
-    if call.name in ("name", "numbers"):
-        return None
-    if call.name == "remainder":
-        return None if call.begin >> 26 else f"{plain.remainder(call.begin):03X}"
-    if call.name == "correct":
-        return (
-            None
-            if call.begin >> 26 or call.bits > 5
-            else block_text(corrected(call.begin, call.end, call.bits))
-        )
-    if call.name == "encode":
-        return b"".join(map(plain.packed, struct.iter_unpack("<4H", call.data))).hex().upper()
-    if refusal_of(call):
-        return None
-    items = [*plain.report(Recording(call.data, call.bits, call.gaps), call.rules)]
-    totals = plain.totals_of(items).values()
-    return " ".join(map(str, totals)) if call.name == "totals" else items_text(items)
+    if text == "rules":
+        return " ".join(map(str, rules))
+    return f"{version >> 16}.{version >> 8 & 255}.{version & 255}"
 
 
 # ---- by librds of Python
@@ -162,12 +131,10 @@ def python_text(librds: ModuleType, text: str) -> str:
         return f"refused {refused.number} {refused.name}"
     if name == "name":
         return f"refused {call.begin} {librds.Refused(call.begin).name}"
+    if name == "version":
+        return ".".join(map(str, librds.version()))
     rules = librds.Rules()
-    return (
-        ".".join(map(str, librds.version()))
-        if name == "version"
-        else f"{rules.burst} {rules.reach} {rules.loss} {rules.of}"
-    )
+    return f"{rules.burst} {rules.reach} {rules.loss} {rules.of}"
 
 
 def python_totals(totals: Any) -> str:

@@ -1,4 +1,4 @@
-"""What rds.h declares, for ctypes. tests/library/layout.py compares each line with it."""
+"""What rds.h declares, for ctypes. tests/test_header.py compares each line with it."""
 
 from __future__ import annotations
 

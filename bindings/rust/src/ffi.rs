@@ -1,4 +1,4 @@
-//! The declarations of `rds.h`, which says what each name means. `tests/library/layout.py` compares each line with it.
+//! The declarations of `rds.h`, which says what each name means. `tests/test_header.py` compares each line with it.
 #![allow(missing_docs)]
 
 #[repr(C)]

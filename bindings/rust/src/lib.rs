@@ -76,7 +76,7 @@ impl Refused {
     }
 }
 
-/// `tests/library/layout.py` compares these with the proved code, and those that it does not have with `lib/border.c`.
+/// `tests/test_header.py` compares these with the proved code, and those that it does not have with `lib/border.c`.
 const REASONS: [(u8, &str); 19] = [
     (1, "the burst limit is above 5"),
     (2, "the reach is not 1 to 8"),

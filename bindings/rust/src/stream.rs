@@ -64,7 +64,7 @@ impl RdsStream {
     /// # Ok::<(), rds::Refused>(())
     /// ```
     pub fn to_bytes(&self) -> [u8; BYTES] {
-        // SAFETY: the fields are integers, and no byte lies between two of them: `tests/library/layout.py` looks.
+        // SAFETY: the fields are integers, and no byte lies between two of them: `tests/test_header.py` looks.
         unsafe { std::mem::transmute(*self) }
     }
 
