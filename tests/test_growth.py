@@ -10,6 +10,7 @@ Rattle, and two forms of one task: if their times get too close, the slow form m
 from __future__ import annotations
 
 import os
+import signal
 import subprocess
 import time
 from functools import lru_cache
@@ -127,7 +128,8 @@ def spend(command: Sequence[object], path: Path, limit: float = LIMIT, is_slow: 
             out.append(part)
             time.sleep(0.005 if is_slow else 0)
             if time.monotonic() > began + limit:
-                child.kill()
+                # Popen.kill would look whether it has ended, and take its status from wait4.
+                os.kill(child.pid, signal.SIGKILL)
         _, status, used = os.wait4(child.pid, 0)
         child.returncode = os.waitstatus_to_exitcode(status)
     is_done = child.returncode == 0 and out
