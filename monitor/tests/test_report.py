@@ -332,6 +332,10 @@ def test_pages_of_a_year(year: Path) -> None:
     assert march["totals"]["sent"] == 31 * 1440 // 2 * 5481
     assert told["held"]["AF"] == "98.5 101.2" and told["held"]["CT"] == "+0.250 s from the recording's clock"
     assert len(told["lanes"][0][1]) == 1 and told["outage_count"] == 365
+    # A new RT each three minutes is in no list, and its lane says so.
+    assert march["more"] == 31 * 480 and told["held"]["RT"] == "Alpha: title 479"
+    lanes = {lane: [march["texts"][number] for *_, number in rows] for lane, rows in march["lanes"]}
+    assert (lanes["PS"], lanes["RT"]) == (["Alpha"], ["several texts"])
     quiet = 3 * 24 * (3600 - int(OUTAGE * RATE) / RATE) + minutes / 60 * int(OUTAGE * RATE) / RATE
     assert sum(row[2] for row in told["outages"]) == pytest.approx(quiet, abs=1)
     with open(folder / "availability.csv", encoding="utf-8", newline="") as file:

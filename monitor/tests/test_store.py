@@ -344,9 +344,7 @@ def seen(path: Path) -> Any:
     found = {}
     for view in VIEWED:
         columns = [
-            name
-            for name in asked(path, f"SELECT name FROM pragma_table_info('{view}')")
-            if name != "session"
+            name for name in asked(path, f"SELECT name FROM pragma_table_info('{view}')") if name != "session"
         ]
         found[view] = sorted(map(str, asked(path, f"SELECT {', '.join(columns)} FROM {view}")))
     return found

@@ -71,6 +71,9 @@ class Lanes:
         if at > begin:
             join(self.found.setdefault(lane, []), (begin, at, text), CUT)
 
+    def drop(self, lane: str) -> None:
+        self._open.pop(lane, None)
+
     def end(self, at: float) -> None:
         for lane in list(self._open):
             self._close(lane, at)

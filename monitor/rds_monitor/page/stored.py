@@ -6,8 +6,9 @@ import itertools
 import json
 import math
 import sqlite3
+from collections import Counter
 from functools import lru_cache
-from typing import Any, Dict, Iterator, List, NamedTuple, Optional, Tuple
+from typing import Any, Dict, Iterable, Iterator, List, NamedTuple, Optional, Sequence, Tuple
 from urllib.parse import quote
 
 import numpy
@@ -16,15 +17,22 @@ from ..content.charset import printable
 from ..db.schema import MARK
 from ..db.standing import Availability, Standing, standing_of
 from ..rows.items import Fault
-from .line import CUT, Counted, Lanes, TimeLine, Said, add_mix, said
+from .line import CUT, MOST_LISTED, SEVERAL, Counted, Lanes, Said, TimeLine, add_mix, join, said
 from .overview import DAY, Span, tile_of
 
 MAGIC = b"SQLite format 3\0"
 # Seconds of an interval of a page. In two minutes there is one that is stored, though the sampler's clock is off.
 STEPS = (120, 3600, DAY)
-# With intervals of an hour the group mix is that of one minute in ten.
-MIX_MINUTES = 10
+# With intervals of an hour the group mix is that of one minute in twenty.
+MIX_MINUTES = 20
 MOST_FACTS = 20000
+SESSIONS = "WHERE session IN (SELECT value FROM json_each(?))"
+OUTAGES = f"SELECT session, begin_place, end_place FROM outage_rows {SESSIONS} ORDER BY 1, 2"
+COUNTS_OF_FACTS = f"SELECT fact, COUNT(*) FROM event_rows {SESSIONS} GROUP BY fact"
+EVENTS = (
+    f"SELECT session, place, fact FROM event_rows {SESSIONS} AND fact NOT IN (SELECT value FROM json_each(?))"
+    " ORDER BY session, place, number"
+)
 
 
 def is_database(path: str) -> bool:
@@ -33,6 +41,13 @@ def is_database(path: str) -> bool:
             return file.read(len(MAGIC)) == MAGIC
     except OSError:
         return False
+
+
+class Busy(NamedTuple):
+    """Columns of minutes whose item changes often, and the facts of all items that do."""
+
+    lanes: List[str]
+    facts: List[int]
 
 
 class StoredSession(NamedTuple):
@@ -160,17 +175,23 @@ class StoredStation:
 
     def line(self, begin: float, end: float, step: int) -> TimeLine:
         """All from one time to another, which are of whole steps, with the blocks by these."""
-        line, counts = TimeLine(), numpy.zeros((math.ceil((end - begin) / step), 5), "i8")
+        line, blocks_at = TimeLine(), [(0, 0, 0, 0, 0, 0)]
         mix: Dict[float, Dict[str, int]] = {}
         while self._done < len(self.sessions) and self.sessions[self._done].end <= begin:
             self._done += 1
-        for session in itertools.takewhile(lambda one: one.begin < end, self.sessions[self._done :]):
+        sessions = list(itertools.takewhile(lambda one: one.begin < end, self.sessions[self._done :]))
+        numbers = json.dumps([session.number for session in sessions])
+        busy = self._busy(line, numbers, step)
+        outages, events = self._rows_of(OUTAGES, numbers), self._rows_of(
+            EVENTS, numbers, json.dumps(busy.facts)
+        )
+        for session in sessions:
             if session.recording != self._run:
                 self._lanes.end(self._heard)
-            sent = valid = 0
+            low, high, sent, valid = max(begin, session.begin), min(end, session.end), 0, 0
             last: Optional[float] = None
-            for at, blocks, more, offset, mixes in self._slots(session, begin, end, step):
-                counts[int((at - begin) // step)] += blocks
+            for at, blocks, more, offset, mixes, *held in self._slots(session, begin, end, step, busy.lanes):
+                blocks_at.append((int((at - begin) // step), *blocks))
                 sent, valid = sent + blocks[0], valid + blocks[1]
                 line.more += more
                 if offset is not None:
@@ -178,28 +199,71 @@ class StoredStation:
                     last = offset
                 for told in json.loads(f"[{mixes or ''}]"):
                     add_mix(mix.setdefault(at, {}), told)
-            low, high = max(begin, session.begin), min(end, session.end)
+                for lane, least, most in zip(busy.lanes, held[::2], held[1::2]):
+                    if least is not None:
+                        text = self._stored.fact(least).text if least == most else SEVERAL
+                        one = max(at, low), min(at + step, high), text
+                        join(line.lanes.setdefault(lane.upper(), []), one, CUT)
             self._add_session(line, session, [low, high, high - low, sent, valid])
-            self._add_outages(line, session, begin, end)
-            self._hear(line, session, begin, end)
+            self._add_outages(line, session, outages.get(session.number, ()), begin, end)
+            self._hear(line, session, events.get(session.number, ()), begin, end)
             if last is not None:
                 self.held["CT"] = f"{last:+.3f} s from the recording's clock"
             self._run, self._heard = session.recording, high
         if self._heard < end - CUT:
             self._lanes.end(self._heard)
+        counts, table = numpy.zeros((max(1, math.ceil((end - begin) / step)), 5), "i8"), numpy.array(
+            blocks_at
+        )
+        numpy.add.at(counts, table[:, 0], table[:, 1:])
         line.parts = [Counted(begin, step, counts)]
         line.mix = [[at, at + step, found] for at, found in sorted(mix.items())]
-        line.lanes = self._lanes.taken(end)
+        line.lanes = {**self._lanes.taken(end), **line.lanes}
+        if sessions:
+            self._hear_last(sessions[-1], busy.lanes)
         return line
 
+    def _rows_of(self, query: str, *given: str) -> Dict[int, List[Tuple[int, int]]]:
+        """Pairs of numbers by their sessions."""
+        found: Dict[int, List[Tuple[int, int]]] = {}
+        for session, *pair in self._stored.rows(query, *given):
+            found.setdefault(session, []).append((pair[0], pair[1]))
+        return found
+
+    def _busy(self, line: TimeLine, numbers: str, step: int) -> Busy:
+        """The items that change too often to be listed. Their texts at the ends of minutes are looked at, if minutes have them."""
+        counts: "Counter[str]" = Counter()
+        facts: Dict[str, List[int]] = {}
+        for fact, count in self._stored.rows(COUNTS_OF_FACTS, numbers) if step >= 3600 else ():
+            item = self._stored.fact(fact).item
+            counts[item] += count
+            facts.setdefault(item, []).append(fact)
+        items = [item for item, count in counts.items() if count > MOST_LISTED]
+        line.more += sum(counts[item] for item in items)
+        lanes = [item.lower() for item in items if item in ("PS", "RT")]
+        for lane in lanes:
+            self._lanes.drop(lane.upper())
+        return Busy(lanes, [fact for item in items for fact in facts[item]])
+
+    def _hear_last(self, session: StoredSession, lanes: Sequence[str]) -> None:
+        """What busy items say at last goes on in the next line."""
+        for lane in lanes:
+            query = f"SELECT {lane} FROM minute_rows WHERE session = ? AND {lane} NOTNULL ORDER BY minute DESC LIMIT 1"
+            for (fact,) in self._stored.rows(query, session.number):
+                what = self._stored.fact(fact)
+                self._lanes.hear(self._heard, what)
+                self.held[what.item] = what.text
+
     def _slots(
-        self, session: StoredSession, begin: float, end: float, step: int
+        self, session: StoredSession, begin: float, end: float, step: int, lanes: Sequence[str]
     ) -> Iterator[Tuple[Any, ...]]:
-        """Of each step: its begin, blocks, how many events were left out, the clock's offset, and the group mix of some minutes. A
-        minute belongs to the step in which it begins, or else its session."""
+        """Of each step: its begin, blocks, how many events were left out, the clock's offset, the group mix of some minutes, and the
+        least and the greatest fact of each lane. A minute belongs to the step in which it begins, or else its session.
+        """
         mixes = f"GROUP_CONCAT(CASE WHEN minute % {MIX_MINUTES if step >= 3600 else 1} = 0 THEN mix END)"
+        facts = "".join(f", MIN({lane}), MAX({lane})" for lane in lanes)
         query = (
-            f"SELECT SUM(sent), SUM(valid), SUM(corrected), SUM(lost), SUM(missing), SUM(more), AVG(clock_s), {mixes}"
+            f"SELECT SUM(sent), SUM(valid), SUM(corrected), SUM(lost), SUM(missing), SUM(more), AVG(clock_s), {mixes}{facts}"
             " FROM minute_rows WHERE session = ? AND minute >= ? AND minute < ?"
         )
 
@@ -219,25 +283,36 @@ class StoredStation:
             line.sessions.pop()
         line.sessions.append(row)
 
-    def _add_outages(self, line: TimeLine, session: StoredSession, begin: float, end: float) -> None:
-        query = "SELECT begin_place, end_place FROM outage_rows WHERE session = ? AND end_place > ? AND begin_place < ? ORDER BY 1"
-        rows = self._stored.rows(query, session.number, session.place(begin), session.place(end))
-        if session.quiet is not None:
-            rows.append((session.quiet, session.place(session.end)))
-        for first, after in rows:
+    def _add_outages(
+        self,
+        line: TimeLine,
+        session: StoredSession,
+        rows: Iterable[Tuple[int, int]],
+        begin: float,
+        end: float,
+    ) -> None:
+        lasting = [] if session.quiet is None else [(session.quiet, session.place(session.end))]
+        for first, after in [*rows, *lasting]:
             low, high = max(begin, session.at(first)), min(end, session.at(after))
-            if line.outages and low - line.outages[-1][1] <= CUT:
-                low = line.outages.pop()[0]
+            if high > low and line.outages and low - line.outages[-1][1] <= CUT:
+                low, before, _ = line.outages.pop()
+                high = max(before, high)
             if high > low:
                 line.outages.append([low, high, high - low])
 
-    def _hear(self, line: TimeLine, session: StoredSession, begin: float, end: float) -> None:
-        query = "SELECT place, fact FROM event_rows WHERE session = ? AND place >= ? AND place < ? ORDER BY place, number"
-        hear, held, append = self._lanes.hear, self.held, line.events.append
-        for place, fact in self._stored.rows(query, session.number, session.place(begin), session.place(end)):
-            at, what = session.start + place / session.rate, self._stored.fact(fact)
-            append([at, what.item, what.text])
-            hear(at, what)
-            if what.item == "PI":
-                held.clear()
-            held[what.item] = what.text
+    def _hear(
+        self,
+        line: TimeLine,
+        session: StoredSession,
+        rows: Iterable[Tuple[int, int]],
+        begin: float,
+        end: float,
+    ) -> None:
+        for place, fact in rows:
+            at, what = session.at(place), self._stored.fact(fact)
+            if begin <= at < end:
+                line.events.append([at, what.item, what.text])
+                self._lanes.hear(at, what)
+                if what.item == "PI":
+                    self.held.clear()
+                self.held[what.item] = what.text
