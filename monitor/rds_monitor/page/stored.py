@@ -175,7 +175,8 @@ class StoredStation:
 
     def line(self, begin: float, end: float, step: int) -> TimeLine:
         """All from one time to another, which are of whole steps, with the blocks by these."""
-        line, blocks_at = TimeLine(), [(0, 0, 0, 0, 0, 0)]
+        line = TimeLine()
+        blocks_at: List[Tuple[int, ...]] = [(0, 0, 0, 0, 0, 0)]
         mix: Dict[float, Dict[str, int]] = {}
         while self._done < len(self.sessions) and self.sessions[self._done].end <= begin:
             self._done += 1
@@ -212,9 +213,8 @@ class StoredStation:
             self._run, self._heard = session.recording, high
         if self._heard < end - CUT:
             self._lanes.end(self._heard)
-        counts, table = numpy.zeros((max(1, math.ceil((end - begin) / step)), 5), "i8"), numpy.array(
-            blocks_at
-        )
+        counts = numpy.zeros((max(1, math.ceil((end - begin) / step)), 5), "i8")
+        table = numpy.array(blocks_at)
         numpy.add.at(counts, table[:, 0], table[:, 1:])
         line.parts = [Counted(begin, step, counts)]
         line.mix = [[at, at + step, found] for at, found in sorted(mix.items())]
