@@ -1,10 +1,20 @@
-"""A database of years, made of rows: a station's minutes with a known share of valid blocks, outages and texts."""
+#!/usr/bin/env python3
+"""A database of years, made of rows: a station's minutes with a known share of valid blocks, outages and texts.
+
+monitor/tests/years.py [STATIONS] measures the pages of a year of thirty stations.
+"""
 
 from __future__ import annotations
 
+import os
 import sqlite3
+import subprocess
+import sys
+import tempfile
 from pathlib import Path
 from typing import Any, List, Sequence, Tuple
+
+from conftest import COMMAND
 
 from rds_monitor.db.store import Store
 
@@ -74,3 +84,24 @@ def add_day(data: sqlite3.Connection, name: str, day: int, facts: List[int]) -> 
         data.executemany("INSERT INTO event_rows VALUES(?, ?, ?, ?)", events)
         quiet = (begin, end) if day in QUIET else (begin + 1000, begin + 1000 + int(OUTAGE * RATE))
         data.execute("INSERT INTO outage_rows VALUES(?, ?, ?)", (session, *quiet))
+
+
+def main(count: int) -> None:
+    with tempfile.TemporaryDirectory() as name:
+        folder = Path(name)
+        # In a process of its own: the memory of this one would count for those it starts.
+        if not os.fork():
+            make_year(folder / "years.db", [f"Station {at}" for at in range(count)])
+            os._exit(0)
+        os.wait()
+        process = subprocess.Popen([*COMMAND, "report", "--into", folder / "pages", folder / "years.db"])
+        _, status, used = os.wait4(process.pid, 0)
+        sizes = [path.stat().st_size for path in (folder / "pages").iterdir()]
+        print(
+            f"{used.ru_utime + used.ru_stime:.1f} CPU-seconds, {used.ru_maxrss / 1024:.0f} MB, status {status}"
+        )
+        print(f"{len(sizes)} files, the largest of {max(sizes) / 1e6:.2f} MB")
+
+
+if __name__ == "__main__":
+    main(int(sys.argv[1]) if sys.argv[1:] else 30)
