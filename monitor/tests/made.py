@@ -7,7 +7,7 @@ import os
 import pty
 import subprocess
 import sys
-from typing import Any, Iterator, List, NamedTuple, Optional, Sequence
+from typing import Any, Dict, Iterator, List, NamedTuple, Optional, Sequence
 from unittest import mock
 
 import numpy
@@ -152,3 +152,9 @@ def peak_memory(*words: str, data: bytes) -> int:
 def chunks_of(data: bytes, size: int) -> Iterator[bytes]:
     for begin in range(0, len(data), size):
         yield data[begin : begin + size]
+
+
+def session_of(**changes: Any) -> Dict[str, Any]:
+    """A session of a hundred seconds as the page of `report` has it."""
+    known = dict(start=None, begin=0, end=100, step=1, counts=[[45, 40, 3, 1, 1]] * 100, outages=[[1, 2]])
+    return {**known, **dict(mix=[], clock=[], events=[], carried=[], more=0, held={}, silent=0), **changes}

@@ -9,7 +9,7 @@ from ..rows.clock import utc_text
 from ..rows.items import Fault
 from .schema import HELD
 
-# The tables of a session's rows, and those of a watch by station with the columns that tell one row from another.
+# The tables of a session's rows, without `hour_files`, which names files of the other watch; and those of a watch by station with the columns that tell one row from another.
 SESSION_TABLES = ("totals", "minute_rows", "event_rows", "outage_rows", "group_rows")
 STATION_TABLES = (("alarm_rows", "station, alarm, begin_at"), ("run_rows", "station, begin_at"))
 FACTS = (*HELD, "fact")
