@@ -9,8 +9,9 @@ from ..rows.clock import utc_text
 from ..rows.items import Fault
 from .schema import HELD
 
-# The tables of a session's rows, without `hour_files`, which names files of the other watch; and those of a watch by station with the columns that tell one row from another.
+# The tables of a session's rows: without `hour_files`, since these are files of the other watch.
 SESSION_TABLES = ("totals", "minute_rows", "event_rows", "outage_rows", "group_rows")
+# Tables of a watch, with the columns that tell one row from another.
 STATION_TABLES = (("alarm_rows", "station, alarm, begin_at"), ("run_rows", "station, begin_at"))
 FACTS = (*HELD, "fact")
 SESSION = "number, start, rate, minute_bits, begin_place, end_place, finished, quiet_place"
