@@ -25,6 +25,7 @@ from .rows.listing import CUT
 LOCK, WORK = ".batch.lock", ".batch-"
 COMPLETE = re.compile(rb"^total,complete,([0-9]+),", re.MULTILINE)
 LAST = re.compile(rb"^total,losses,[0-9]+,-,-,-,-,-\n\Z", re.MULTILINE)
+OPTIONS = ("--suffix", "--options", "--demod", "--shared", "--wait")
 LEAST = 2  # complete groups that show a station
 
 DESCRIPTION = """\
@@ -123,10 +124,16 @@ def job_text(arguments: argparse.Namespace, program: str) -> str:
     return f"said=$( ( {work} ) 2>&1 ); s=$?; printf '%s %s %s\\n' {{}} $s {said}; exit $s"
 
 
+def copies(arguments: argparse.Namespace) -> bool:
+    """Whether recordings are copied to other machines."""
+    return not arguments.shared and any(
+        re.match(r"-S|--ssh-?login|--slf", word) for word in arguments.parallel
+    )
+
+
 def parallel_words(arguments: argparse.Namespace, text: str) -> List[str]:
     words = ["parallel", "--will-cite", "--workdir", "."]
-    remote = any(re.match(r"-S|--ssh-?login|--slf", word) for word in arguments.parallel)
-    if remote and not arguments.shared:
+    if copies(arguments):
         words[-1] = "..."
         words += ["--transferfile", "{}.in", "--return", "{}.csv", "--cleanup"]
     return [*words, *arguments.parallel, text]
@@ -231,8 +238,15 @@ def run_batch(arguments: argparse.Namespace) -> int:
             shlex.split(getattr(arguments, name) or "")
         except ValueError as error:
             raise Misuse(f"--{name}: {error}") from None
+    for word in arguments.parallel:
+        if word.partition("=")[0] in OPTIONS:
+            raise Misuse(f"{word}: put it before RECORDINGS; options after the folders go to GNU parallel")
     if not shutil.which("parallel"):
         raise Fault("there is no GNU parallel: install Debian's package parallel")
+    if copies(arguments) and not shutil.which("rsync"):
+        raise Fault(
+            "there is no rsync, which copies recordings: install Debian's package rsync, or say --shared"
+        )
     if not os.path.isdir(arguments.recordings):
         raise Fault(f"there is no folder {arguments.recordings!r}")
     os.makedirs(arguments.listings, exist_ok=True)

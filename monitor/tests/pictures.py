@@ -1,7 +1,7 @@
 #!/usr/bin/env python3
 """The pictures of the docs, by Chromium: monitor/tests/pictures.py FOLDER [network]
 
-It writes overview.png and station.png there, of a page of `report`, and network.png, of the demonstration's page after some two minutes;
+It writes overview.png and station.png there, of a page of `report`, year.png, of a page of `report --into`, and network.png, of the demonstration's page after some two minutes;
 the last one alone if asked. RDS_LIBRARY names the library; network.png needs none.
 """
 
@@ -20,6 +20,7 @@ import numpy
 from browser import browser
 from conftest import TOP, monitor
 from sent import Words, clock, group, name, text
+from years import make_year
 
 START = "2026-03-29T00:00:00Z"
 # Groups per second.
@@ -108,8 +109,12 @@ def report(into: Path) -> None:
             done = monitor("report", *words, cwd=folder)
             assert done.returncode == 0, done.stderr
             (folder / f"{page}.html").write_bytes(done.stdout)
+        make_year(folder / "year.db", ["Alpha"])
+        done = monitor("report", "--into", folder, folder / "year.db")
+        assert done.returncode == 0, done.stderr
+        (folder / "Alpha-2025.html").rename(folder / "year.html")
         with browser(folder) as driver:
-            for page, height in (("overview", 540), ("station", 790)):
+            for page, height in (("overview", 540), ("station", 790), ("year", 1340)):
                 driver.get((folder / f"{page}.html").as_uri())
                 driver.set_window_size(1000, height)
                 driver.save_screenshot(str(into / f"{page}.png"))

@@ -104,6 +104,7 @@ def test_what_failed_is_named_and_the_others_are_decoded(folders: Any, station_l
         (("x",), 2, b"usage"),
         (("--suffix", "/", ".", "listings"), 2, b"suffix"),
         (("--options", "'", ".", "listings"), 2, b"--options: No closing quotation"),
+        ((".", "listings", "--jobs", "2", "--suffix=.hex"), 2, b"--suffix=.hex: put it before RECORDINGS"),
     ],
 )
 def test_folders_that_are_not_there(words_: Any, status: int, said: bytes, tmp_path: Path) -> None:
@@ -334,6 +335,16 @@ def machines(tmp_path: Path) -> Iterator[List[str]]:
         for server in servers:
             server.terminate()
             server.wait()
+
+
+def test_a_missing_rsync_is_told_once(folders: Any, tmp_path: Path, monkeypatch: pytest.MonkeyPatch) -> None:
+    fill(folders[0], NAMES[:2])
+    for tool in ("parallel", "sh"):
+        (tmp_path / tool).symlink_to(shutil.which(tool) or "")
+    monkeypatch.setenv("PATH", str(tmp_path))
+    done = run("batch", *folders, "--sshlogin", "anna")
+    assert done.status == 1 and done.err.count("rsync") == 2 and done.err.count("\n") == 1, done.err
+    assert not folders[1].exists()
 
 
 @pytest.mark.parametrize("shared", [True, False])

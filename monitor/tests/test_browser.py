@@ -13,11 +13,11 @@ import pytest
 
 from browser import browser, missing
 from conftest import encode, monitor
-from made import session_of
 from rds_monitor.content.charset import printable
-from rds_monitor.page.report import D3, page_of, told_of
+from rds_monitor.page.html import D3, page_of
 from sent import clock, group
-from test_report import EVIL, station
+from test_report import EVIL, station, told_line
+from years import make_year
 
 LACKING = [*missing(), *([] if Path(D3).exists() else ["libjs-d3"])]
 # In one worker, so that there is one browser.
@@ -29,7 +29,8 @@ pytest.importorskip("jinja2")
 Keys: Any = None if LACKING else importlib.import_module("selenium.webdriver.common.keys").Keys
 
 START = ("--start", "2026-03-29T00:30:00Z")
-HOSTILE = printable("\u202eabc <img src=x onerror=alert(1)> A" + "\u0301" * 64 + "\x1b[31m 'q\" &lt;")
+SENT = "\u202eabc <img src=x onerror=alert(1)> A" + "\u0301" * 64 + "\x1b[31m 'q\" &lt;"
+HOSTILE = printable(SENT)
 
 
 def told_the_time(seconds: int, slow: float) -> bytes:
@@ -59,27 +60,25 @@ def folder(tmp_path_factory: Any) -> Path:
         words = ("--station", "Year", "--name", month, "--start", start, "year.db", path)
         assert monitor("db", *words, cwd=made).returncode == 0
     write(made, "year", "year.db")
+    make_year(made / "years.db", ["Alpha"])
+    assert monitor("report", "--into", "years", "years.db", cwd=made).returncode == 0
     (made / "clock.bin").write_bytes(told_the_time(600, 0.001))
     write(made, "clock", *START, "clock.bin")
     mix = {f"{n}A": 10 * n for n in range(1, 13)}
-    counted = session_of(
-        end=7200,
-        counts=[[45, 40, 3, 1, 1]] * 7200,
-        outages=[[60, 61.5], [5400, 5401]],
-        events=[[10 + 30 * n, "PTY", str(n + 1)] for n in range(210)],
+    events = [[10 + 30 * n, "pty", str(n + 1)] for n in range(210)]
+    counted = told_line(
+        "counted",
+        7200.0,
+        [[45, 40, 3, 1, 1]] * 7200,
+        events,
+        outages=[[60, 61.5, 1.5], [5400, 5401, 1.0]],
         more=7,
-        mix=[[0, {**mix, "0A": 8, "15B": 9}], [1, mix]],
+        mix=[[0, 60, {**mix, "0A": 8, "15B": 9}], [60, 120, mix]],
     )
-    (made / "counted.html").write_text(page_of("Pages", [told_of("counted", [counted])]), "utf-8")
-    texts = {"PS": HOSTILE, "RT": HOSTILE}
-    events = [[9, "RT", HOSTILE], [9, "PS", HOSTILE]]
-    hostile = session_of(end=600, counts=[[45, 45, 0, 0, 0]] * 600, outages=[], events=events, held=texts)
-    (made / "hostile.html").write_text(page_of("Pages", [told_of(HOSTILE, [hostile])]), "utf-8")
-    hours = [
-        session_of(start=1000.0, events=[[5, "RT", "One"]]),
-        session_of(start=1100.0, carried=[["RT", "One"]]),
-    ]
-    (made / "hours.html").write_text(page_of("Pages", [told_of("hours", hours)]), "utf-8")
+    (made / "counted.html").write_text(page_of("Pages", [counted]), "utf-8")
+    texts, events = {"PS": HOSTILE, "RT": HOSTILE}, [[9, "rt", SENT], [9, "ps", SENT]]
+    hostile = told_line(SENT, 600.0, [[45, 45, 0, 0, 0]] * 600, events, texts)
+    (made / "hostile.html").write_text(page_of("Pages", [hostile]), "utf-8")
     return made
 
 
@@ -201,7 +200,7 @@ def test_what_the_lines_and_tables_say(opened: Any, folder: Path) -> None:
     cells = {
         kind: [cell.text for cell in all_of(page, f".{kind} tbody td")] for kind in ("sessions", "outages")
     }
-    assert cells["sessions"] == ["00:00:00", "02:00:00", "324000", "288000"]
+    assert cells["sessions"] == ["00:00:00", "02:00:00", "7200.000", "324000", "288000"]
     assert cells["outages"] == ["00:01:00", "00:01:01", "1.500", "01:30:00", "01:30:01", "1.000"]
     rows = [element.text for element in all_of(page, ".events tbody tr")]
     assert len(rows) == 202
@@ -209,7 +208,7 @@ def test_what_the_lines_and_tables_say(opened: Any, folder: Path) -> None:
     assert rows[0] == "00:00:10 PTY 1"
     lane = [element.get_attribute("textContent") for element in all_of(page, "rect.item title")]
     assert lane and lane[0] == "PTY from 00:00:10: 1"
-    types = [element.text.strip() for element in all_of(page, ".types span")]
+    types = [element.text.strip() for element in all_of(page, ".types > span")]
     assert types == [*sorted(f"{n}A" for n in range(1, 13)), "other"]
     titles = [element.get_attribute("textContent") for element in all_of(page, "rect.mix title")]
     assert any(title.startswith("other: 17 groups") for title in titles)
@@ -223,28 +222,83 @@ def test_what_the_lines_and_tables_say(opened: Any, folder: Path) -> None:
     assert len(all_of(page, ".outages tbody tr")) == 0 and len(all_of(page, ".sessions tbody tr")) == 1
 
 
-def test_a_text_is_drawn_in_each_hour(opened: Any) -> None:
-    """Though it is told only once, where it changed."""
-    page = opened("hours")
-    bars, rows = all_of(page, "rect.item"), all_of(page, ".events tbody tr")
-    assert len(bars) == 2 and [row.text for row in rows] == ["1970-01-01 00:16:45Z RT One"]
-    assert all(bar.get_attribute("textContent").endswith(": One") for bar in bars)
-    first, second = (float(bar.get_attribute("x")) for bar in bars)
-    assert abs(first + float(bars[0].get_attribute("width")) - second) < 1
-
-
 def test_an_outage_is_seen_at_any_zoom(opened: Any) -> None:
     page = opened("one")
     rows = all_of(page, ".outages tbody tr")
     assert len(rows) == 1 and 1.9 < float(rows[0].text.split()[-1]) < 2.3
     for _ in range(3):
-        bars = all_of(page, "rect.outage")
-        assert len(bars) == 1 and float(bars[0].get_attribute("width")) >= 2
+        # Of two columns each may have another share.
+        assert len(all_of(page, "rect.outage")) in (1, 2) and sum(drawn(page, "outage")) >= 2
         click(page, "in")
         # It is in the middle of the second half.
         click(page, "right")
         if not all_of(page, "rect.outage"):
             click(page, "left")
+
+
+def drawn(page: Any, kind: str, part: str = "width") -> List[float]:
+    return [float(element.get_attribute(part)) for element in all_of(page, f"rect.{kind}")]
+
+
+def test_pages_of_a_year(opened: Any, folder: Path) -> None:
+    """From the overview to a year by days and a month by hours. Outages are drawn by their share, a constant PI as one strip."""
+    page = opened("years/index")
+    page.execute_script("arguments[0].click()", all_of(page, "table a")[0])
+    assert page.current_url.endswith("/Alpha-2025.html")
+    width = sum(drawn(page, "session"))
+    lanes = [element.get_attribute("textContent") for element in all_of(page, "rect.item title")]
+    assert [lane.split(" from ")[0] for lane in lanes if lane[:2] in ("PI", "AF")] == ["PI", "AF"]
+    assert lanes[0].endswith(": D318") and drawn(page, "item")[0] == pytest.approx(width, abs=4)
+    # Two seconds of each hour, and in March three days: 0.06 % are a line of a pixel, and these days are whole bars.
+    heights = drawn(page, "outage", "height")
+    assert max(heights) == max(drawn(page, "session", "height")) > 10
+    lines = sum(wide for wide, high in zip(drawn(page, "outage"), heights) if high == 1)
+    assert lines == pytest.approx(width * 362 / 365, abs=4) and sum(drawn(page, "outage")) == pytest.approx(
+        width, abs=4
+    )
+    rows = [row.text for row in all_of(page, ".outages tbody tr")]
+    assert rows[0] == "2025-01-01 00:00:00Z 2025-01-02 00:00:00Z 48.000" and rows[-1] == "165 more: zoom in"
+    (march,) = [link for link in all_of(page, "table a") if link.text == "2025-03"]
+    page.execute_script("arguments[0].click()", march)
+    assert begin_of_view(page) == "2025-03-01 00:00:00Z"
+    click(page, "hour")
+    click(page, "left")
+    assert all_of(page, "rect.valid") and drawn(page, "outage", "height")
+    for link in ("2025-04", "2025", "all stations"):
+        (found,) = [one for one in all_of(page, "p a") if one.text == link]
+        page.execute_script("arguments[0].click()", found)
+    assert page.current_url.endswith("/index.html")
+
+
+# Words that are on two lines.
+BROKEN = """
+const found = [], texts = document.createTreeWalker(document.body, NodeFilter.SHOW_TEXT);
+while (texts.nextNode()) {
+  const text = texts.currentNode;
+  if (text.parentElement.closest("script, svg")) continue;
+  for (const word of text.data.matchAll(/\\S+/g)) {
+    const range = document.createRange();
+    range.setStart(text, word.index);
+    range.setEnd(text, word.index + word[0].length);
+    if (new Set([...range.getClientRects()].map((it) => it.top)).size > 1) found.push(word[0]);
+  }
+}
+return found;"""
+
+
+@pytest.mark.parametrize(
+    "name", ["years/index", "years/Alpha-2025", "years/Alpha-2025-03", "counted", "clock"]
+)
+def test_on_a_phone_no_word_breaks(opened: Any, name: str) -> None:
+    page = opened(name)
+    size = {"width": 360, "height": 740, "deviceScaleFactor": 1, "mobile": True}
+    page.execute_cdp_cmd("Emulation.setDeviceMetricsOverride", size)
+    try:
+        page.refresh()
+        assert page.execute_script(BROKEN) == []
+        assert page.execute_script("return document.documentElement.scrollWidth") == 360
+    finally:
+        page.execute_cdp_cmd("Emulation.clearDeviceMetricsOverride", {})
 
 
 def test_all_lanes_are_drawn(opened: Any) -> None:

@@ -34,13 +34,14 @@ WANTED: Dict[str, List[str]] = {
     "JSON": ['"pi":"0xD393"'],
     "Tables": ["2026-03-29T00:30:00.043Z"],
     "A database": [""],
+    "Years of a network": ["<title>"],
     "Hourly files": ["total,groups,100,"],
     "A folder of recordings": ["total,groups,1923,"],
     "Dropped samples": ["group,104,0,A,lost,"],
     "Explain an error": ["line 2"],
 }
-NEEDS = {"A page": ["jinja2"], "Tables": ["pyarrow"]}
-TOOLS = {"A database": "sqlite3", "A folder of recordings": "parallel"}
+NEEDS = {"A page": ["jinja2"], "Years of a network": ["jinja2"], "Tables": ["pyarrow"]}
+TOOLS = {"A database": "sqlite3", "A folder of recordings": "parallel", "Years of a network": "parallel"}
 
 
 def told_by_the_clock() -> bytes:
@@ -66,8 +67,10 @@ def kitchen(folder: Path) -> Path:
     """All that the recipes name."""
     station = STATION.read_bytes()
     (folder / "examples").symlink_to(TOP / "examples")
-    (folder / "recordings").mkdir()
-    for name in ("recording.bin", "monday.bin", "recordings/a.bin"):
+    for path in ("recordings", "archive/Alpha", "archive/Beta"):
+        (folder / path).mkdir(parents=True)
+    days = ("archive/Alpha/2026-03-29.bin", "archive/Beta/2026-03-29.bin", "archive/Beta/2026-03-30.bin")
+    for name in ("recording.bin", "monday.bin", "recordings/a.bin", *days):
         (folder / name).write_bytes(station)
     (folder / "growing.csv").write_bytes(rds("list", data=station).split(b"total,")[0])
     (folder / "dropped.log").write_text("104 26\n")
@@ -91,7 +94,11 @@ def test_each_recipe_is_tried() -> None:
 def test_a_recipe(title: str, kitchen: Path, done: Callable[[str], str]) -> None:
     for module in NEEDS.get(title, []):
         pytest.importorskip(module)
-    if title == "A page" and not os.path.exists(D3) or not shutil.which(TOOLS.get(title, "sh")):
+    if (
+        "jinja2" in NEEDS.get(title, [])
+        and not os.path.exists(D3)
+        or not shutil.which(TOOLS.get(title, "sh"))
+    ):
         pytest.skip("needs another tool")
     for commands, wanted in zip(BLOCKS[title], WANTED[title]):
         if "clock" in commands:
@@ -102,7 +109,8 @@ def test_a_recipe(title: str, kitchen: Path, done: Callable[[str], str]) -> None
             else f"{commands.rstrip()} 2>&1 || [ $? = 1 ]"
         )
         files = [kitchen / text for text in re.findall(r"> (\S+)", commands)] + [
-            *kitchen.glob("listings/*.csv")
+            *kitchen.glob("listings/*.csv"),
+            *kitchen.glob("pages/*-2026.html"),
         ]
         assert all(file.stat().st_size for file in files)
         assert wanted in out + "".join(file.read_bytes().decode("latin-1") for file in files)

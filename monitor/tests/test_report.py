@@ -3,6 +3,7 @@
 from __future__ import annotations
 
 import base64
+import csv
 import hashlib
 import json
 import os
@@ -14,9 +15,12 @@ from typing import Any, Dict, List
 import numpy
 import pytest
 from conftest import encode, monitor, rds
-from made import session_of
-from rds_monitor.page.overview import Span, bad_percent, last_minute, line_of, polyline, tile_of
-from rds_monitor.page.report import encoded, told_of
+from made import peak_memory
+from rds_monitor.page.html import told_of
+from rds_monitor.page.line import COUNTS, Counted, Lanes, TimeLine, bad_percent, encoded, said
+from rds_monitor.page.overview import Span, last_minute, line_of, polyline, tile_of
+
+from years import MINUTES, OUTAGE, RATE, make_year
 
 pytest.importorskip("jinja2")
 D3 = os.environ.get("RDS_D3", "/usr/share/javascript/d3/d3.min.js")
@@ -49,10 +53,29 @@ def data_of(text: str) -> List[Dict[str, Any]]:
     return list(json.loads(found[1]))
 
 
+def told_line(
+    name: str, end: float, counts: Any, events: Any = (), held: Any = {}, **lists: Any
+) -> Dict[str, Any]:
+    """A station with these blocks by seconds, events of time, item and value, and lists of its line."""
+    line, lanes = TimeLine(), Lanes()
+    line.parts = [Counted(0.0, 1, numpy.array(counts, "i8"))]
+    line.sessions = [[0.0, end, end, *line.parts[0].counts.sum(0)[:2].tolist()]]
+    for at, item, value in events:
+        line.events.append([at, said(item, value).item, said(item, value).text])
+        lanes.hear(at, said(item, value))
+    line.lanes = lanes.taken(end)
+    vars(line).update(lists)
+    return told_of(name, line, (0.0, end), None, held, tile_of([], end, 0.0))
+
+
+def events_of(told: Dict[str, Any]) -> List[Any]:
+    return [[at, item, told["texts"][number]] for at, item, number in told["events"]]
+
+
 @needs_d3
 def test_counts_are_those_of_errors(station: bytes) -> None:
     told = data_of(page(data=station))[0]
-    blocks = told["sessions"][0]["blocks"]
+    (blocks,) = told["parts"]
     errors = monitor("errors", "--every", "1", data=station).stdout.decode()
     rows = [row.split(",") for row in errors.splitlines()[1:]]
     for name, column in (("sent", 2), ("corrected", 4), ("lost", 5), ("missing", 6)):
@@ -76,17 +99,20 @@ def test_numbers_on_the_page(tmp_path: Path) -> None:
     totals, tile = told["totals"], told["tile"]
     assert len({*totals.values()}) == 5
     assert tile["minute"] != told["bad_percent"] != tile["silent"]
-    assert told["outages"] not in (0, len(told["sessions"]))
+    assert told["outage_count"] == len(told["outages"]) not in (0, len(told["sessions"]))
     plain = " ".join(re.sub(r"<[^>]*>", " ", re.sub(r"<script.*?</script>", "", text, flags=re.S)).split())
     counts = " ".join(str(totals[row]) for row in ("sent", "valid", "corrected", "lost", "missing"))
-    for said in (
+    for words in (
         f"Blocks sent valid corrected uncorrectable not read {counts} ",
         f"a.bin : {told['bad_percent']} % of the blocks sent are bad.",
         f"{tile['minute']} % bad blocks in the last minute",
         f"last whole group {tile['silent']} s before the end",
     ):
-        assert said in plain
-    assert f"{totals['valid']} of {totals['sent']} blocks sent are valid, {told['outages']} outages." in text
+        assert words in plain
+    assert (
+        f"{totals['valid']} of {totals['sent']} blocks sent are valid, {told['outage_count']} outages."
+        in text
+    )
     assert told["bad_percent"] == round(100 * (totals["sent"] - totals["valid"]) / totals["sent"], 2)
 
 
@@ -102,21 +128,55 @@ def test_sizes_of_numbers() -> None:
         assert columns == {"sent": [most, 1], "lost": [1, 0], "missing": [most, 0]}
 
 
-def test_what_is_told_of_sessions() -> None:
-    """The alarm is that of the last one, the contents are the last that there were, and events that are too many are counted."""
-    first = session_of(start=1000.0, silent=50.0, held={"PS": "OLD"}, events=[[1, "PS", "X"]] * 2003)
-    second = session_of(start=1500.0, held={"PS": "NEW"})
-    third = session_of(start=900.0, end=10, counts=[[45, 45, 0, 0, 0]] * 10)
-    told = told_of("it", [first, second, third])
-    assert told["held"] == {"PS": "NEW"}
-    assert told["tile"]["alarm"] == ""
-    assert told["end"] == 700
-    assert told["start"] == 900
-    assert [entry["more"] for entry in told["sessions"]] == [3, 0, 0]
-    assert len(told["sessions"][0]["events"]) == 2000
-    assert told["outages"] == 3
-    year = told_of("it", [session_of(end=300000, counts=[[45, 45, 0, 0, 0]] * 300000)])["sessions"][0]
-    assert year["step"] == 4 and len(base64.b64decode(year["blocks"]["sent"])) == 75000
+def test_long_lists_have_a_row_per_step() -> None:
+    """Sums stay, a time over several steps has its share in each, and items that change most are left out first."""
+    line = TimeLine()
+    line.parts = [Counted(0.0, 60, numpy.array([[100, 90, 5, 3, 2]] * 180))]
+    line.outages = [[60.0 * n, 60.0 * n + 6, 6.0] for n in range(180)] + [[10798.0, 10802.0, 4.0]]
+    line.mix = [[60.0 * n, 60.0 * n + 60, {"0A": 2, "2A": n}] for n in range(180)]
+    line.clock = [[60.0 * n, 0.5 + n // 60] for n in range(180)]
+    line.events = [[60.0 * n, "RT", str(n)] for n in range(180)] + [[5.0, "PS", "X"]]
+    line.lanes = {
+        "PS": [(0.0, 10800.0, "X")],
+        "RT": [(60.0 * n, 60.0 * n + 60, str(max(n, 60))) for n in range(180)],
+    }
+    few = line.fewer(3600, 20)
+    assert few.parts[0].counts.tolist() == [[6000, 5400, 300, 180, 120]] * 3 and few.parts[0].step == 3600
+    assert few.outages == [[0, 3600, 360], [3600, 7200, 360], [7200, 10800, 362], [10800, 14400, 2]]
+    assert few.mix == [
+        [3600 * k, 3600 * k + 3600, {"0A": 120, "2A": sum(range(60 * k, 60 * k + 60))}] for k in range(3)
+    ]
+    assert few.clock == [[1800, 0.5], [5400, 1.5], [9000, 2.5]]
+    assert few.events == [[5.0, "PS", "X"]] and few.more == 180
+    assert few.lanes == {"PS": [(0, 10800, "X")], "RT": [(0, 3600, "60"), (3600, 10800, "several texts")]}
+    assert few.fewer(3600, 20).told(0) == few.told(0) and line.fewer(60).told(0) == line.told(0)
+
+
+def test_lanes() -> None:
+    """A text holds until it changes, the PI does or its session ends; one that is told again goes on."""
+    lanes = Lanes()
+    heard = [
+        (1, "pi", "D393"),
+        (2, "ps", "A"),
+        (3, "ps", "B"),
+        (4, "tp", None),
+        (5, "pi", "D394"),
+        (6, "ps", "B"),
+        (8, "ps", "B"),
+    ]
+    for at, item, value in heard:
+        lanes.hear(at, said(item, value))
+    assert lanes.taken(9) == {
+        "PI": [(1, 5, "D393"), (5, 9, "D394")],
+        "PS": [(2, 3, "A"), (3, 5, "B"), (6, 9, "B")],
+    }
+    lanes.end(10)
+    lanes.hear(11, said("eon:D312.ps", "OTHER"))
+    assert lanes.taken(12) == {
+        "PI": [(9, 10, "D394")],
+        "PS": [(9, 10, "B")],
+        "EON": [(11, 12, "D312 PS: OTHER")],
+    }
 
 
 @pytest.mark.parametrize(
@@ -154,8 +214,7 @@ def test_scripts_and_style_are_those_of_the_policy() -> None:
 @needs_d3
 def test_texts_of_a_station_are_shown_as_text() -> None:
     text = page(data=station(text=EVIL))
-    told = data_of(text)[0]["sessions"][0]
-    assert any(entry[2].startswith("<script>alert") for entry in told["events"])
+    assert any(text.startswith("<script>alert") for text in data_of(text)[0]["texts"])
     rest = re.sub(r"<script>.*?</script>", "", text, flags=re.S)
     assert "<script>alert" not in text and "&lt;script&gt;alert(&#34;1&#34;)" in rest
 
@@ -178,7 +237,7 @@ def test_a_day_is_below_a_megabyte(tmp_path: Path) -> None:
     # 20,000 rounds each; after 16 the groups are the same again
     path.write_bytes(b"".join(1250 * station(text=f"hour {number}", rounds=16) for number in range(24)))
     text = page("--start", "2026-03-29T00:30:00Z", path)
-    told = data_of(text)[0]["sessions"][0]
+    told = data_of(text)[0]
     assert 80000 < told["end"] < 86400 and len(told["mix"]) > 1300
     assert 500_000 < len(text) < 1_000_000
 
@@ -198,9 +257,13 @@ def test_a_tile_tells_the_last_minute_and_the_last_whole_group(tmp_path: Path) -
 def test_sessions_of_a_stream_are_on_one_line_of_time() -> None:
     listing = rds("list", data=station())
     told = data_of(page("--trust-length", data=listing + listing))[0]
-    first, second = told["sessions"]
-    assert second["at"] == first["end"] and told["end"] == round(2 * first["end"], 3)
-    assert first["events"] == second["events"] and told["totals"]["sent"] == 2 * first["totals"]["sent"]
+    (begin, end, seconds, sent, valid), second = told["sessions"]
+    assert (begin, end) == (0, seconds) and abs(told["end"] - 2 * end) < 0.002
+    assert second == [end, told["end"], seconds, sent, valid] and told["totals"]["sent"] == 2 * sent
+    events = events_of(told)
+    once, again = events[: len(events) // 2], events[len(events) // 2 :]
+    assert once and [event[1:] for event in once] == [event[1:] for event in again]
+    assert all(abs(one[0] + end - other[0]) < 0.002 for one, other in zip(once, again))
 
 
 @needs_d3
@@ -228,11 +291,96 @@ def test_stations_of_a_database(tmp_path: Path, station: bytes) -> None:
     told = {datum["name"]: datum for datum in data_of(page(database))}
     assert sorted(told) == ["Alpha", "Beta <b>"]
     alpha, alone = told["Alpha"], data_of(page(good))[0]
-    assert [row["at"] for row in alpha["sessions"]] == [0, 3600]
-    assert alpha["sessions"][0]["totals"] == alone["totals"]
-    assert alpha["sessions"][0]["events"] == alone["sessions"][0]["events"]
-    assert alpha["held"]["PS"] == "PAXOLIDU"
-    assert alpha["sessions"][1]["outages"] == data_of(page(bad))[0]["sessions"][0]["outages"] != []
+    assert [row[0] for row in alpha["sessions"]] == [0, 3600]
+    counts = [alone["totals"]["sent"], alone["totals"]["valid"]]
+    assert alpha["sessions"][0] == [0, *alone["sessions"][0][1:3], *counts]
+    events = events_of(alone)
+    assert events_of(alpha)[: len(events)] == events
+    assert alpha["held"]["PS"] == "PAXOLIDU" and alpha["held"]["CT"].endswith("s from the recording's clock")
+    outages = data_of(page(bad))[0]["outages"]
+    assert alpha["outages"] == [
+        [pytest.approx(row[0] + 3600), pytest.approx(row[1] + 3600), row[2]] for row in outages
+    ]
+    assert outages
+
+
+@pytest.fixture(scope="module")
+def year(tmp_path_factory: Any) -> Path:
+    path: Path = tmp_path_factory.mktemp("years") / "year.db"
+    make_year(path, ["Alpha"])
+    return path
+
+
+@needs_d3
+def test_pages_of_a_year(year: Path) -> None:
+    """Pages of at most 2 MB by days and hours, in little memory; sums are those of the rows, and each second of a month is told."""
+    folder = year.parent / "pages"
+    assert peak_memory("report", "--into", str(folder), str(year), data=b"") < 200_000
+    names = [
+        *(f"Alpha-2025-{month:02}.html" for month in range(1, 13)),
+        "Alpha-2025.html",
+        "availability.csv",
+        "index.html",
+    ]
+    assert sorted(path.name for path in folder.iterdir()) == names
+    assert all(path.stat().st_size < 2_000_000 for path in folder.iterdir())
+    told, march = (data_of((folder / f"Alpha-2025{month}.html").read_text())[0] for month in ("", "-03"))
+    minutes = 365 * 1440
+    sums = {name: minutes // 2 * (one + other) for name, one, other in zip(COUNTS, *MINUTES)}
+    assert told["totals"] == sums and told["parts"][0]["step"] == 86400
+    assert march["parts"][0]["step"] == 3600 and march["end"] == 31 * 86400
+    assert march["totals"]["sent"] == 31 * 1440 // 2 * 5481
+    assert told["held"]["AF"] == "98.5 101.2" and told["held"]["CT"] == "+0.250 s from the recording's clock"
+    assert len(told["lanes"][0][1]) == 1 and told["outage_count"] == 365
+    # A new RT each three minutes is in no list, and its lane says so.
+    assert march["more"] == 31 * 480 and told["held"]["RT"] == "Alpha: title 479"
+    lanes = {lane: [march["texts"][number] for *_, number in rows] for lane, rows in march["lanes"]}
+    assert (lanes["PS"], lanes["RT"]) == (["Alpha"], ["several texts"])
+    quiet = 3 * 24 * (3600 - int(OUTAGE * RATE) / RATE) + minutes / 60 * int(OUTAGE * RATE) / RATE
+    assert sum(row[2] for row in told["outages"]) == pytest.approx(quiet, abs=1)
+    with open(folder / "availability.csv", encoding="utf-8", newline="") as file:
+        rows = list(csv.DictReader(file))
+    assert [row["month"] for row in rows] == [f"2025-{month:02}" for month in range(1, 13)]
+    april = 30 * 24 * int(OUTAGE * RATE) / RATE
+    assert float(rows[3]["noise_s"]) == pytest.approx(april, abs=0.01) and rows[3]["outages"] == "720"
+    assert rows[2]["longest_outage_s"] == "259200.0" and rows[3]["received_percent"] == "99.944"
+    for row, days in zip(rows, (31, 28, 31, 30, 31, 30, 31, 31, 30, 31, 30, 31)):
+        seconds = sum(float(row[f"{name}_s"]) for name in ("received", "noise", "down", "unknown"))
+        assert seconds == pytest.approx(86400 * days, abs=0.01)
+
+
+@needs_d3
+def test_years_of_some_days(tmp_path: Path, station: bytes) -> None:
+    """A month without any session has no page, a start that is not known is named, and names are escaped."""
+    (tmp_path / "it.bin").write_bytes(station)
+    for name, start in (("1", "2024-12-31T23:59:00Z"), ("2", "2025-02-28T12:00:00Z"), ("3", None)):
+        words = ["--station", "A/<b>", "--name", name, *(("--start", start) if start else ())]
+        assert monitor("db", *words, tmp_path / "it.db", tmp_path / "it.bin").returncode == 0
+    done = monitor("report", "--into", tmp_path / "pages", tmp_path / "it.db")
+    assert done.returncode == 0
+    assert done.stderr == b"rds-monitor report: A/<b>: 1 sessions whose start is not known are left out\n"
+    beside = [f"A%2F%3Cb%3E-{time}.html" for time in ("2024-12", "2024", "2025-01", "2025-02", "2025")]
+    assert sorted(path.name for path in (tmp_path / "pages").iterdir()) == [
+        *beside,
+        "availability.csv",
+        "index.html",
+    ]
+    assert (
+        'href="A%252F%253Cb%253E-2025-02.html"' in (tmp_path / "pages" / "A%2F%3Cb%3E-2025.html").read_text()
+    )
+    rows = (tmp_path / "pages" / "availability.csv").read_text().splitlines()[1:]
+    assert [row.split(",")[1] for row in rows] == ["2024-12", "2025-01", "2025-02"]
+    assert float(rows[1].split(",")[2]) == pytest.approx(8 * len(station) / RATE - 60, abs=0.01)
+
+
+def test_into_is_for_a_database(tmp_path: Path) -> None:
+    (tmp_path / "it.bin").write_bytes(b"x")
+    done = monitor("report", "--into", tmp_path / "pages", tmp_path / "it.bin")
+    assert (
+        done.returncode == 2
+        and b"--into is for one database" in done.stderr
+        and not (tmp_path / "pages").exists()
+    )
 
 
 def test_a_database_of_something_else(tmp_path: Path) -> None:

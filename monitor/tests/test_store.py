@@ -334,6 +334,108 @@ def test_names_are_data(tmp_path, station: bytes) -> None:
     assert done.returncode == 0, done.stderr
 
 
+# ---- two databases as one
+
+VIEWED = ("minutes", "events", "outages", "groups", "days", "alarms", "runs", "spans", "totals")
+
+
+def seen(path: Path) -> Any:
+    """All that a database tells, without its own numbers of sessions."""
+    found = {}
+    for view in VIEWED:
+        columns = [
+            name for name in asked(path, f"SELECT name FROM pragma_table_info('{view}')") if name != "session"
+        ]
+        found[view] = sorted(map(str, asked(path, f"SELECT {', '.join(columns)} FROM {view}")))
+    return found
+
+
+def change(path: Path, *statements: str) -> None:
+    connection = sqlite3.connect(path)
+    for statement in statements:
+        connection.execute(statement)
+    connection.commit()
+    connection.close()
+
+
+def test_two_databases_are_merged(tmp_path, station: bytes) -> None:
+    """It is the one that has all recordings; what is in both is there once, however often it is merged."""
+    noisy = station[:9000] + bytes(3000) + station[12000:]
+    recordings = {name: station if at % 2 else noisy for at, name in enumerate("abcd")}
+    for database, names in (("one", "ab"), ("two", "bcd"), ("all", "abcd")):
+        for name in names:
+            start = f"2026-03-29T0{'abcd'.index(name)}:59:00Z"
+            words = ("--groups --name", name, "--station", name.upper(), "--start", start)
+            add(*words, tmp_path / database, data=recordings[name])
+    told = "INSERT INTO {0}_rows(station, {1}) VALUES('{2}', {3})"
+    alarm, run_of, watched = ("alarm, begin_at, end_at, text", "begin_at, end_at, reason", "begin_at, end_at")
+    rows = [
+        ("one two all", told.format("alarm", alarm, "B", "'pi', 5, 9, 'x'")),
+        ("one all", told.format("alarm", alarm, "A", "'pi', 5, NULL, 'x'")),
+        ("two all", told.format("run", run_of, "B", "5, 9, 'x'")),
+        ("one", told.format("watched", watched, "B", "0, 70")),
+        ("two", told.format("watched", watched, "B", "60, 90")),
+        ("all", told.format("watched", watched, "B", "0, 90")),
+        ("one", "INSERT INTO station_rows VALUES('B', 8, 'old')"),
+        ("two", "INSERT INTO station_rows VALUES('B', 9, 'new')"),
+    ]
+    for databases, statement in rows:
+        for name in databases.split():
+            change(tmp_path / name, statement)
+    for _ in range(2):
+        assert said("db", "--merge", tmp_path / "two", tmp_path / "one") == []
+        assert seen(tmp_path / "one") == seen(tmp_path / "all")
+        assert asked(tmp_path / "one", "SELECT state FROM stations") == ["new"]
+        assert asked(
+            tmp_path / "one", "SELECT COUNT(*) - COUNT(DISTINCT item || COALESCE(value, '')) FROM facts"
+        ) == [0]
+    add("--merge", tmp_path / "all", tmp_path / "fresh")
+    assert seen(tmp_path / "fresh") == seen(tmp_path / "all")
+
+
+@pytest.mark.parametrize(
+    "statement,fault",
+    [
+        ("UPDATE minute_rows SET valid = 7 WHERE minute = 1", "session 0 of recording 'it' is in both"),
+        (
+            "DELETE FROM event_rows WHERE place = (SELECT MAX(place) FROM event_rows)",
+            "session 0 of recording 'it' is in both",
+        ),
+        ("UPDATE facts SET value = 'OTHER' WHERE item = 'ps'", "session 0 of recording 'it' is in both"),
+        ("UPDATE sessions SET start = 9", "session 0 of recording 'it' is in both"),
+        ("UPDATE recordings SET station = 'Y'", "recording 'it' is of station 'X' and of 'Y'"),
+        ("UPDATE alarm_rows SET end_at = 8", "the alarm 'X' 'pi' of 1970-01-01T00:00:05.000Z is in both"),
+    ],
+)
+def test_a_merge_that_differs_changes_nothing(tmp_path, station: bytes, statement: str, fault: str) -> None:
+    for name in ("one", "two"):
+        add("--station X --name it", tmp_path / name, data=station)
+        change(
+            tmp_path / name, "INSERT INTO alarm_rows(station, alarm, begin_at, text) VALUES('X', 'pi', 5, '')"
+        )
+    add("--station X --name more", tmp_path / "two", data=station)
+    change(tmp_path / "two", statement)
+    before = [seen(tmp_path / name) for name in ("one", "two")]
+    done = run("db", "--merge", tmp_path / "two", tmp_path / "one")
+    assert done.status == 1 and f"rds-monitor db: {fault}" in done.err
+    assert [seen(tmp_path / name) for name in ("one", "two")] == before
+    assert asked(tmp_path / "one", "SELECT name FROM recordings") == ["it"]
+
+
+def test_what_cannot_be_merged(tmp_path, station: bytes) -> None:
+    (tmp_path / "it").write_bytes(station)
+    add(tmp_path / "one", tmp_path / "it")
+    for words, status, fault in (
+        (("none", "one"), 1, "there is no database 'none'"),
+        (("one", "one"), 1, "'one' cannot be merged into itself"),
+        (("it", "one"), 1, "'it' is no database of rds-monitor"),
+        (("one", "two", "it"), 2, "--merge adds a database, and no INPUT"),
+    ):
+        done = monitor("db", "--merge", *words, cwd=tmp_path)
+        assert done.returncode == status and fault in done.stderr.decode()
+    assert sorted(path.name for path in tmp_path.iterdir()) == ["it", "one"]
+
+
 # ---- its size
 
 

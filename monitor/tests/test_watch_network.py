@@ -581,9 +581,10 @@ def test_a_page_of_the_database_of_a_watch(tmp_path: Path) -> None:
         told["Gamma"]["tile"]["state"] == "no session" and "silent: no byte" in told["Gamma"]["tile"]["alarm"]
     )
     assert told["Gamma"]["bad_percent"] is None
-    first, second = told["Beta"]["sessions"]
-    assert ["PS", "ALPHA"] in [event[1:] for event in first["events"]]
-    assert ("PS", "ALPHA") in second["carried"] and not second["events"]
+    # It is told once, and drawn over both hours.
+    (names,) = (stretches for lane, stretches in told["Beta"]["lanes"] if lane == "PS")
+    ((begin, end, text),) = names
+    assert told["Beta"]["texts"][text] == "ALPHA" and end - begin > 80
     seconds = told["Beta"]["available"]
     assert abs(sum(seconds.values()) - 93) < 11 and seconds["received"] > 80
 

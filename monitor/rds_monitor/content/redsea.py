@@ -7,7 +7,7 @@ from __future__ import annotations
 
 from functools import lru_cache
 from itertools import repeat
-from typing import Any, Callable, Dict, Iterator, List, Tuple
+from typing import Any, Callable, Dict, List, Tuple
 
 import numpy
 
@@ -23,8 +23,10 @@ from .networks import kilohertz
 
 Object = Dict[str, Any]
 Words = Tuple[int, int, int, int]
-# How many groups are remembered: more than a station sends in turn.
-MOST_WRITTEN = 1 << 10
+# How many groups of a type are remembered: more than a station sends in turn.
+MOST_WRITTEN = 1 << 12
+# The segment in which a name or text is written, besides the group in which it changes: of these bits of block 2.
+WRITTEN_IN = {"ps": (3, 3), "rt": (0xF, 0)}
 # The group types that tell an item, but for the group in which it changes.
 TOLD_IN = {
     **dict.fromkeys("di_dynamic_pty di_compressed di_artificial_head di_stereo ps af".split(), "0A 0B 15B"),
@@ -63,7 +65,7 @@ class Redsea:
         }
         self._makers = {name: maker for names, maker in makers.items() for name in names.split()}
 
-    def lines(self, rows: Rows, clock: Clock) -> Iterator[str]:
+    def lines(self, rows: Rows, clock: Clock) -> List[str]:
         """A line per group whose second block is known, from the first group on whose PI counts."""
         events = self._decoder.feed(rows)
         groups = rows[(rows["what"] == GROUP) & (rows["kind2"] >= VALID)]
@@ -77,28 +79,44 @@ class Redsea:
         if clock.start is not None:
             times = utc_texts(clock.start + groups["place"] / clock.rate)
             times = [f',"rx_time":"{time}"' for time in times]
-        told, next_event = 0, events[0].place if events else -1
-        for place, of, group, time in zip(groups["place"].tolist(), pi.tolist(), key.tolist(), times):
+        of_type = [self._written[code] for code in (second >> 11).tolist()]
+        columns = list(
+            zip(pi.tolist(), of_type, key.tolist(), times if clock.start is not None else repeat(""))
+        )
+        lines: List[str] = []
+        begin = 0
+        ends = numpy.searchsorted(groups["place"], [event.place for event in events]).tolist()
+        for event, end in zip(events, ends):
+            # Events of one group change it together.
+            if end > begin:
+                lines += self._lines_of(columns[begin:end])
+                begin = end
+            self._hold(event)
+        return lines + self._lines_of(columns[begin:])
+
+    def _lines_of(self, groups: List[Tuple[int, Dict[int, Tuple[str, str]], int, str]]) -> List[str]:
+        """The lines of groups in a row, in the first of which items may have changed."""
+        lines, own = [], self._pi
+        for pi, written, group, time in groups:
+            if own >= 0 and (pi == own or pi < 0):
+                found = written.get(group)
+                if found is None or self._fresh:
+                    found = self._texts(group)
+                    if not self._fresh and len(written) < MOST_WRITTEN:
+                        written[group] = found
+                lines.append(found[0] + time + found[1])
             self._fresh = []
-            while told < len(events) and next_event <= place:
-                self._hold(events[told])
-                told += 1
-                next_event = events[told].place if told < len(events) else -1
-            if self._pi >= 0 and (of == self._pi or of < 0):
-                known = self._written[group >> 43 & 31]
-                written = known.get(group)
-                if written is None or self._fresh:
-                    written = self._texts(group)
-                    if not self._fresh and len(known) < MOST_WRITTEN:
-                        known[group] = written
-                yield f"{written[0]}{time}{written[1]}\n"
+        return lines
 
     def _hold(self, event: Event) -> None:
         name = event.item.partition(":")[0]
         if name == "pi":
             self._held, self._pi = {}, event.pi
         for code in range(32) if name == "pi" else codes_of(TOLD_IN.get(name, "")):
-            self._written[code].clear()
+            known = self._written[code]
+            bits, segment = WRITTEN_IN.get(name, (0, 0))
+            for group in [group for group in known if group >> 32 & bits == segment]:
+                del known[group]
         self._held[event.item] = event.value
         self._fresh.append(event.item)
 
@@ -111,7 +129,7 @@ class Redsea:
         if group >> 48 & 1 and name in self._makers:
             self._makers[name](rest, (self._pi, second, group >> 16 & 0xFFFF, group & 0xFFFF))
         self._applications(rest)
-        return self._head(self._pi, second & 0xFFE0), "," + safe_json(rest)[1:] if rest else "}"
+        return self._head(self._pi, second & 0xFFE0), "," + safe_json(rest)[1:] + "\n" if rest else "}\n"
 
     def _head_of(self, pi: int, second: int) -> str:
         head = {"pi": f"0x{pi:04X}", "group": name_of(second >> 11), "tp": bool(second & 0x400)}

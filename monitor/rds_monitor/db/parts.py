@@ -10,11 +10,11 @@ import numpy
 from ..content.decoder import Decoder, Event
 from ..measures.clock import Tick, ticks_of
 from ..measures.errors import Errors, Interval, IntervalCounter
-from ..measures.measure import Mix, type_names
+from ..measures.measure import TYPES, type_index, type_names
 from ..measures.outages import Outages
 from ..rows.clock import Clock
 from ..rows.extent import Progress
-from ..rows.items import GROUP_BITS, ITEM, Rows, Source, Totals
+from ..rows.items import GROUP, GROUP_BITS, ITEM, Rows, Source, Totals
 from ..rows.listing import Listing, begins_of, ends_of
 
 MINUTE_BITS = 71250.0
@@ -81,7 +81,7 @@ class Part:
     def __init__(self, clock: Clock, begin: int, contents: Contents, bits: float = MINUTE_BITS):
         self.clock, self.begin, self.end, self.contents = clock, begin, begin, contents
         self.bits, self._at = bits, int(begin // bits)
-        self._errors, self._mix = Errors(bits, self._at), Mix()
+        self._errors, self._mix = Errors(bits, self._at), numpy.zeros(TYPES, "i8")
         self._blocks = IntervalCounter(self._errors, begin)
         self._ticks: List[Tick] = []
         self._seen: Dict[str, int] = {}
@@ -101,14 +101,14 @@ class Part:
         self._told.ticks.extend(ticks)
         self._ticks += ticks
         minutes = numpy.maximum.accumulate(numpy.maximum(rows["place"] // self.bits, self._at)).astype("i8")
-        edges = [0, *(numpy.flatnonzero(minutes[1:] != minutes[:-1]) + 1).tolist(), len(rows)]
+        begins = numpy.diff(minutes, prepend=-1) > 0
         done = 0
-        for first, after in zip(edges, edges[1:]):
+        for first, mix in zip(numpy.flatnonzero(begins).tolist(), mixes_of(rows, numpy.cumsum(begins) - 1)):
             while done < len(events) and events[done].place < minutes[first] * self.bits:
                 self._keep(events[done])
                 done += 1
             self._reach(int(minutes[first]))
-            self._mix.add(rows[first:after])
+            self._mix += mix
         for event in events[done:]:
             self._keep(event)
         self.end = max(self.end, int(ends_of(rows[-1:])[0]))
@@ -140,7 +140,8 @@ class Part:
         """The minute in progress ends at this position."""
         blocks, held, offset = self._blocks.upto(end), dict(self.contents.held), self._offset(end)
         self._told.minutes.append(MinuteRow(self._at, blocks, counts_of(self._mix), held, offset, self._more))
-        self._at, self._mix, self._more, self._seen = self._at + 1, Mix(), 0, {}
+        self._at, self._more, self._seen = self._at + 1, 0, {}
+        self._mix = numpy.zeros(TYPES, "i8")
 
     def _offset(self, end: float) -> Optional[float]:
         """The clock of the station in this minute, less that of the recording."""
@@ -165,11 +166,18 @@ class Part:
         return told
 
 
-def counts_of(mix: Mix) -> Dict[str, int]:
+def mixes_of(rows: Rows, minutes: Rows) -> Rows:
+    """Groups by type in each of some minutes, whose numbers from 0 on are those of the rows."""
+    is_group = rows["what"] == GROUP
+    index = minutes[is_group] * TYPES + type_index(rows[is_group])
+    count = int(minutes[-1]) + 1
+    found: Rows = numpy.bincount(index, minlength=count * TYPES).reshape(count, TYPES)
+    return found
+
+
+def counts_of(mix: Rows) -> Dict[str, int]:
     """Groups by type, such as 0A: those with a corrected block 2 too."""
-    return {
-        "".join(type_names(kind)): int(mix.valid[kind] + mix.corrected[kind]) for kind in sorted(mix.first)
-    }
+    return {"".join(type_names(kind)): int(mix[kind]) for kind in numpy.flatnonzero(mix).tolist()}
 
 
 class Session:

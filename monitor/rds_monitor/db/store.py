@@ -18,6 +18,7 @@ from ..rows.hours import clock_of_hour, hour_of
 from ..rows.inputs import input_options, open_input
 from ..rows.items import BLOCKS, VALID, Fault, Misuse, Rows, Source, Totals
 from ..rows.listing import TOTAL_NAMES, VERSION_NAMES, block_texts, flat, groups_in, kinds_of
+from .merge import merge
 from .parts import MinuteRow, Session, Told, sessions_of
 from .schema import HELD, MARK, MIGRATIONS
 
@@ -169,6 +170,20 @@ class Store:
         except sqlite3.Error as error:
             raise Fault(f"the database: {error}") from None
 
+    def merge(self, path: str) -> None:
+        """Adds all of another database, which is brought up to date, or nothing."""
+        try:
+            self._database.execute("ATTACH ? AS other", (os.path.abspath(path),))
+            self._database.execute("BEGIN IMMEDIATE")
+            try:
+                merge(self._database)
+                self._database.execute("COMMIT")
+            except BaseException:
+                self._roll_back()
+                raise
+        except sqlite3.Error as error:
+            raise Fault(f"the database: {error}") from None
+
     def _read(self, source: Source, clock: Clock, groups: bool) -> List[Recorded]:
         self._database.execute("DELETE FROM temp.groups")
         found: Dict[int, Recorded] = {}
@@ -242,7 +257,7 @@ def options_db(parser: argparse.ArgumentParser) -> None:
     )
     parser.epilog = (
         "example:\n  rds-monitor db --station Alpha --start 2026-03-30T00:00:00Z year.db monday.bin\n"
-        "  sqlite3 -box year.db 'SELECT * FROM days'\n"
+        "  rds-monitor db --merge north.db year.db\n  sqlite3 -box year.db 'SELECT * FROM days'\n"
         "views: minutes, events, outages, groups, days, station_outages"
     )
     parser.add_argument("database", metavar="DATABASE")
@@ -250,11 +265,15 @@ def options_db(parser: argparse.ArgumentParser) -> None:
     parser.add_argument("--name", metavar="TEXT", help="the recording's name (default: that of its file)")
     parser.add_argument("--station", metavar="TEXT", help="the station's name")
     parser.add_argument("--groups", action="store_true", help="store all groups too: some 80 MB per day")
+    text = "add all of another database; of a session that is in both the rows have to be the same"
+    parser.add_argument("--merge", metavar="OTHER", help=text)
     clock_options(parser)
 
 
 def run_db(arguments: argparse.Namespace) -> int:
     paths: List[str] = arguments.input
+    if arguments.merge is not None:
+        return run_merge(arguments.merge, arguments.database, paths)
     for option in ("name", "start"):
         if getattr(arguments, option) is not None and len(paths) != 1:
             raise Misuse(f"--{option} is for one input")
@@ -274,4 +293,18 @@ def run_db(arguments: argparse.Namespace) -> int:
         store.add(name, station, source, clock_of_hour(arguments, path), arguments.groups)
     if store:
         store.close()
+    return 0
+
+
+def run_merge(other: str, path: str, paths: List[str]) -> int:
+    if paths != ["-"]:
+        raise Misuse("--merge adds a database, and no INPUT")
+    if not os.path.exists(other):
+        raise Fault(f"there is no database {other!r}")
+    if os.path.exists(path) and os.path.samefile(other, path):
+        raise Fault(f"{other!r} cannot be merged into itself")
+    Store(other).close()
+    store = Store(path)
+    store.merge(other)
+    store.close()
     return 0

@@ -7,6 +7,7 @@ from typing import Any, Dict, List, NamedTuple, Optional, Sequence
 import numpy
 
 from ..db.standing import Standing, standing
+from .line import bad_percent
 
 DAY, POINTS = 86400, 96
 
@@ -19,11 +20,6 @@ class Span(NamedTuple):
     step: int
     sent: Any
     valid: Any
-
-
-def bad_percent(sent: int, valid: int) -> Optional[float]:
-    """Of the blocks sent, if there were any."""
-    return round(100 * (sent - valid) / sent, 2) if sent else None
 
 
 def line_of(spans: Sequence[Span], end: float) -> List[Optional[float]]:

@@ -8,8 +8,7 @@
   const TYPES = 12, OTHER = "other";
   const SPANS = {minute: 60, hour: 3600, day: 86400};
   // The lanes of a chart from top to bottom, by their heights.
-  const BLOCKS = 170, BAR = 12, MIX = 60, ITEM = 15, CLOCK = 50, AXIS = 22;
-  const LANES = ["PI", "PS", "RT", "PTY", "TP", "TA", "AF", "EON"];
+  const BLOCKS = 170, BAR = 20, MIX = 60, ITEM = 15, CLOCK = 50, AXIS = 22;
 
   // The numbers of a column, one, two or four bytes each.
   function numbers(text, bytes) {
@@ -17,40 +16,12 @@
     return bytes === "1" ? raw : bytes === "2" ? new Uint16Array(raw.buffer) : new Uint32Array(raw.buffer);
   }
 
-  function cell(row, text) {
+  function cell(row, text, kind = "") {
     const made = document.createElement("td"), inside = document.createElement("bdi");
+    made.className = kind;
     inside.textContent = text;
     made.appendChild(inside);
     row.appendChild(made);
-  }
-
-  // The lane of an item, if it has one: frequencies of other networks are of EON.
-  function laneOf(item) {
-    const word = item.split(" ")[0];
-    return LANES.includes(word) ? word : null;
-  }
-
-  // What each lane showed from when to when, over all sessions.
-  function stretchesOf(sessions) {
-    const lanes = new Map();
-    for (const session of sessions) {
-      const open = new Map(), end = session.at + session.end;
-      // Until an item changes, what it said in the part before holds.
-      const carried = (session.carried || []).map(([item, text]) => [session.begin, item, text]);
-      for (const [time, item, text] of [...carried, ...session.events]) {
-        const name = laneOf(item), at = session.at + time;
-        if (!name) continue;
-        if (!lanes.has(name)) lanes.set(name, []);
-        if (open.has(name)) open.get(name).to = at;
-        open.delete(name);
-        // An item that is no longer sent has no text.
-        if (!text) continue;
-        const one = {from: at, to: end, text: name === "EON" ? `${item.slice(4)}: ${text}` : text};
-        open.set(name, one);
-        lanes.get(name).push(one);
-      }
-    }
-    return LANES.filter((name) => lanes.has(name)).map((name) => ({name, stretches: lanes.get(name)}));
   }
 
   class Chart {
@@ -58,10 +29,12 @@
       this.article = article;
       this.station = stations[article.dataset.station];
       this.sessions = this.station.sessions;
-      this.from = Math.min(...this.sessions.map((it) => it.at + it.begin));
+      this.from = this.sessions[0][0];
       this.to = Math.max(this.station.end, this.from + SHORTEST);
-      this.collect();
-      this.lanes = stretchesOf(this.sessions);
+      for (const it of this.station.parts)
+        for (const name of ["sent", ...PARTS]) it[name] = numbers(it[name], it.bytes);
+      this.types = this.commonTypes();
+      this.lanes = this.station.lanes.map(([name, stretches]) => ({name, stretches}));
       const colours = d3.scale.category20().domain(this.types.filter((it) => it !== OTHER));
       this.colour = (type) => type === OTHER ? "#888" : colours(type);
       this.nameTypes();
@@ -70,28 +43,14 @@
       this.show(this.from, this.to);
     }
 
-    // The parts of all sessions, by the time of the station.
-    collect() {
-      const moved = (name, make) => this.sessions.flatMap((it) => it[name].map((one) => make(it.at, one)));
-      for (const it of this.sessions) {
-        it.columns = {};
-        for (const name of ["sent", ...PARTS]) it.columns[name] = numbers(it.blocks[name], it.blocks.bytes);
-      }
-      this.mix = moved("mix", (at, [minute, counts]) => [at + 60 * minute, counts]);
-      this.clock = moved("clock", (at, [time, offset]) => [at + time, offset]);
-      this.outages = moved("outages", (at, [begin, end]) => [at + begin, at + end]);
-      this.events = moved("events", (at, [time, item, text]) => [at + time, item, text]);
-      this.types = this.commonTypes();
-    }
-
     // The group types that are counted most, in order of name, and `other` for the rest, if there is one.
     commonTypes() {
       const sums = new Map();
-      for (const [, counts] of this.mix)
+      for (const [, , counts] of this.station.mix)
         for (const type in counts) sums.set(type, (sums.get(type) || 0) + counts[type]);
       const sorted = [...sums.keys()].sort((one, two) => sums.get(two) - sums.get(one)), most = sorted.slice(0, TYPES).sort();
       if (sorted.length > TYPES)
-        for (const it of this.mix) it[1] = this.withOther(it[1], most);
+        for (const it of this.station.mix) it[2] = this.withOther(it[2], most);
       return sorted.length > TYPES ? [...most, OTHER] : most;
     }
 
@@ -107,8 +66,9 @@
     nameTypes() {
       const into = d3.select(this.article.querySelector(".types"));
       for (const type of this.types) {
-        into.append("svg").append("rect").attr("width", "100%").attr("height", "100%").attr("fill", this.colour(type));
-        into.append("span").text(` ${type}`);
+        const one = into.append("span");
+        one.append("svg").append("rect").attr("width", "100%").attr("height", "100%").attr("fill", this.colour(type));
+        one.append("span").text(` ${type} `);
       }
     }
 
@@ -118,7 +78,7 @@
       const next = (height) => (top += height) - height;
       this.tops = {outages: next(BAR), sessions: next(BAR), mix: next(MIX + 4)};
       for (const lane of this.lanes) lane.top = next(ITEM);
-      this.tops.clock = this.clock.length ? next(CLOCK + 8) : null;
+      this.tops.clock = this.station.clock.length ? next(CLOCK + 8) : null;
       this.tops.axis = top;
       this.svg = d3.select(this.article.querySelector(".chart")).append("svg").attr("height", top + AXIS);
     }
@@ -187,16 +147,15 @@
     // The blocks of each column of pixels.
     sums(count) {
       const found = Array.from({length: count}, () => ({sent: 0, missing: 0, lost: 0, corrected: 0}));
-      for (const session of this.sessions) for (let k = 0; k < count; k++) this.addSum(session, found[k], k, count);
+      for (const part of this.station.parts) for (let k = 0; k < count; k++) this.addSum(part, found[k], k, count);
       return found;
     }
 
-    addSum(session, sum, k, count) {
-      const {step, begin, at, columns} = session;
-      const edge = (n) => Math.floor((this.first + (this.last - this.first) * n / count - at - begin) / step);
+    addSum(part, sum, k, count) {
+      const edge = (n) => Math.floor((this.first + (this.last - this.first) * n / count - part.at) / part.step);
       // An interval longer than a column counts in each that it covers.
-      const low = edge(k), high = Math.min(columns.sent.length, Math.max(low + 1, edge(k + 1)));
-      for (let n = Math.max(0, low); n < high; n++) for (const name in sum) sum[name] += columns[name][n];
+      const low = edge(k), high = Math.min(part.sent.length, Math.max(low + 1, edge(k + 1)));
+      for (let n = Math.max(0, low); n < high; n++) for (const name in sum) sum[name] += part[name][n];
     }
 
     draw() {
@@ -205,12 +164,12 @@
       this.svg.selectAll("*").remove();
       const sums = this.sums(Math.floor((width - MARGIN.left - MARGIN.right) / COLUMN));
       this.drawBlocks(sums);
-      this.drawBars("session", this.tops.sessions, this.sessions.map((it) => [it.at + it.begin, it.at + it.end]), "session");
-      this.drawBars("outage", this.tops.outages, this.outages, "no RDS");
+      this.drawShares("session", this.tops.sessions, this.sessions, sums.length);
+      this.drawShares("outage", this.tops.outages, this.station.outages, sums.length);
       this.drawMix(sums.length);
       for (const lane of this.lanes) this.drawLane(lane);
       if (this.tops.clock !== null) this.drawClock();
-      const axis = d3.svg.axis().scale(this.x).orient("bottom").ticks(6).tickFormat((at) => this.tick(at));
+      const axis = d3.svg.axis().scale(this.x).orient("bottom").ticks(Math.min(6, width / 150)).tickFormat((at) => this.tick(at));
       this.svg.append("g").attr("class", "axis").attr("transform", `translate(0,${this.tops.axis})`).call(axis);
       this.tell(sums);
     }
@@ -249,25 +208,36 @@
       this.svg.append("g").attr("class", "axis").attr("transform", `translate(${MARGIN.left},0)`).call(axis);
     }
 
-    // Bars from time to time, each at least two pixels wide at any zoom.
-    drawBars(kind, top, spans, told) {
-      this.name(`${kind}s`, top + BAR - 2);
-      for (const [begin, end] of spans) {
-        if (end < this.first || begin > this.last) continue;
-        const low = this.x(Math.max(begin, this.first)), high = this.x(Math.min(end, this.last));
-        this.rect(kind, low, top + 2, Math.max(2, high - low), BAR - 4).append("title").text(
-          `${told} from ${this.time(begin)} to ${this.time(end)}`);
+    // The share of each column of pixels that times take: as a bar of that height, of one pixel at least. Equal ones in a row are one.
+    drawShares(kind, top, spans, count) {
+      this.name(`${kind}s`, top + BAR / 2 + 4);
+      const shares = new Array(count).fill(0), width = (this.last - this.first) / count;
+      for (const [begin, end, seconds] of spans) {
+        const low = (begin - this.first) / width, high = Math.max(low, (end - this.first) / width);
+        for (let k = Math.max(0, Math.floor(low)); k < count && k <= high; k++) {
+          const share = high > low ? (Math.min(k + 1, high) - Math.max(k, low)) / (high - low) : 1;
+          shares[k] += share * seconds / width;
+        }
+      }
+      const height = (k) => shares[k] > 0 ? Math.max(1, Math.round(Math.min(1, shares[k]) * (BAR - 4))) : 0;
+      for (let from = 0, k = 0; from < count; from = k) {
+        const high = height(from);
+        while (k < count && height(k) === high) k++;
+        if (!high) continue;
+        const times = `from ${this.time(this.first + from * width)} to ${this.time(this.first + k * width)}`;
+        this.rect(kind, MARGIN.left + from * COLUMN, top + BAR - 2 - high, (k - from) * COLUMN, high).append("title").text(
+          `${kind}s ${times}: ${(100 * d3.mean(shares.slice(from, k))).toFixed(1)} %`);
       }
     }
 
     drawMix(count) {
       this.name("groups", this.tops.mix + MIX / 2);
-      const seen = this.mix.filter(([at]) => at + 60 > this.first && at < this.last);
+      const seen = this.station.mix.filter(([begin, end]) => end > this.first && begin < this.last);
       const every = Math.max(1, Math.ceil(seen.length / count));
       for (let k = 0; k < seen.length; k += every) {
         const part = seen.slice(k, k + every), left = this.x(Math.max(part[0][0], this.first));
-        const right = this.x(Math.min(part[part.length - 1][0] + 60, this.last));
-        const counts = this.types.map((type) => d3.sum(part, ([, it]) => it[type] || 0)), all = d3.sum(counts);
+        const right = this.x(Math.min(part[part.length - 1][1], this.last));
+        const counts = this.types.map((type) => d3.sum(part, ([, , it]) => it[type] || 0)), all = d3.sum(counts);
         let top = this.tops.mix;
         counts.forEach((number, at) => {
           const height = all ? MIX * number / all : 0;
@@ -282,7 +252,8 @@
     drawLane(lane) {
       this.name(lane.name, lane.top + ITEM - 4);
       let edge = -1, drawn = 0;
-      for (const {from, to, text} of lane.stretches) {
+      for (const [from, to, number] of lane.stretches) {
+        const text = this.station.texts[number];
         if (to < this.first || from > this.last) continue;
         const low = this.x(Math.max(from, this.first)), high = Math.max(low + 1, this.x(Math.min(to, this.last)));
         // Of those within one pixel the first is drawn.
@@ -296,7 +267,7 @@
 
     // The station's clock less that of the recording.
     drawClock() {
-      const seen = this.clock.filter(([at]) => at >= this.first && at <= this.last), top = this.tops.clock + 4;
+      const seen = this.station.clock.filter(([at]) => at >= this.first && at <= this.last), top = this.tops.clock + 4;
       if (!seen.length) return;
       const [low, high] = d3.extent(seen, (it) => it[1]), room = Math.max(0.1, 0.1 * (high - low));
       const y = d3.scale.linear().domain([low - room, high + room]).range([top + CLOCK, top]);
@@ -315,18 +286,18 @@
         body.textContent = "";
         for (const texts of rows.slice(0, ROWS)) {
           const row = document.createElement("tr");
-          texts.forEach((text) => cell(row, text));
+          texts.forEach((text, at) => cell(row, text, name === "events" && at > 1 ? "text" : ""));
           body.appendChild(row);
         }
         if (rows.length > ROWS) cell(body.appendChild(document.createElement("tr")), `${rows.length - ROWS} more: zoom in`);
       };
       const inside = (begin, end) => end >= this.first && begin <= this.last;
-      fill("sessions", this.sessions.map(
-        (it) => [this.time(it.at + it.begin), this.time(it.at + it.end), it.totals.sent, it.totals.valid]));
-      fill("outages", this.outages.filter((it) => inside(...it)).map(
-        ([begin, end]) => [this.time(begin), this.time(end), (end - begin).toFixed(3)]));
-      const more = d3.sum(this.sessions, (it) => it.more);
-      fill("events", this.events.filter((it) => inside(it[0], it[0])).map(([at, item, text]) => [this.time(at), item, text]));
+      const {events, more, outages, texts} = this.station;
+      const times = (rows) => rows.filter(([begin, end]) => inside(begin, end)).map(
+        ([begin, end, seconds, ...counts]) => [this.time(begin), this.time(end), seconds.toFixed(3), ...counts.map(Math.round)]);
+      fill("sessions", times(this.sessions));
+      fill("outages", times(outages));
+      fill("events", events.filter(([at]) => inside(at, at)).map(([at, item, text]) => [this.time(at), item, texts[text]]));
       if (more) cell(this.article.querySelector(".events tbody").appendChild(document.createElement("tr")), `${more} more are not on this page`);
     }
   }

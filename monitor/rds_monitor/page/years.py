@@ -1,0 +1,177 @@
+"""Pages of years: in one folder an overview, the availability as CSV, and per station a page by days and one per month by hours."""
+
+from __future__ import annotations
+
+import csv
+import datetime
+import io
+import os
+import sys
+from typing import Any, Iterator, List, NamedTuple, Sequence, Tuple
+from urllib.parse import quote
+
+from ..content.charset import printable
+from .html import Station, page_of, told_of
+from .line import MOST_LISTED, TimeLine
+from .overview import tile_of
+from .stored import Stored, StoredStation
+
+HOUR, DAY = 3600, 86400
+UTC = datetime.timezone.utc
+HEAD = "received, s|noise, s|down, s|unknown, s|received, %|outages|longest, s|sent|valid|valid, %".split("|")
+NAMES = "Jan Feb Mar Apr May Jun Jul Aug Sep Oct Nov Dec".split()
+
+
+class Month(NamedTuple):
+    """A month of a station, a row of the CSV: the first four numbers add up to its seconds."""
+
+    station: str
+    month: str
+    received_s: float
+    noise_s: float
+    down_s: float
+    unknown_s: float
+    received_percent: float
+    outages: int
+    longest_outage_s: float
+    sent: int
+    valid: int
+    valid_percent: Any
+
+
+class LinkTable(NamedTuple):
+    """A table of a page: each cell is a text and the link to a page, or none."""
+
+    caption: str
+    head: Sequence[str]
+    rows: Sequence[Sequence[Tuple[str, str]]]
+
+
+class CalendarMonth(NamedTuple):
+    """A month in UTC, from its begin to the next one's, in seconds since 1970."""
+
+    year: int
+    number: int
+
+    @property
+    def begin(self) -> float:
+        return datetime.datetime(self.year, self.number, 1, tzinfo=UTC).timestamp()
+
+    @property
+    def next(self) -> "CalendarMonth":
+        return CalendarMonth(self.year + self.number // 12, self.number % 12 + 1)
+
+    @property
+    def last(self) -> "CalendarMonth":
+        return CalendarMonth(self.year - (self.number == 1), (self.number - 2) % 12 + 1)
+
+    def __str__(self) -> str:
+        return f"{self.year}-{self.number:02}"
+
+
+def months_of(begin: float, end: float) -> Iterator[CalendarMonth]:
+    """Those of an extent."""
+    first = datetime.datetime.fromtimestamp(begin, UTC)
+    month = CalendarMonth(first.year, first.month)
+    while month.begin < end:
+        yield month
+        month = month.next
+
+
+def file_of(name: str, time: Any) -> str:
+    """A page's file: signs that are special in names of files or links are escaped."""
+    return f"{quote(name, safe='')}-{time}.html"
+
+
+def month_of(station: StoredStation, month: CalendarMonth, line: TimeLine) -> Month:
+    begin, end = month.begin, month.next.begin
+    seconds, sums = station.available(line, begin, end), line.sums()
+    sent, valid = sums["sent"], sums["valid"]
+    times: List[Any] = [round(value, 3) for value in seconds]
+    times.append(round(100 * seconds.received / (end - begin), 3))
+    times += [len(line.outages), round(max((row[2] for row in line.outages), default=0.0), 3)]
+    percent = round(100 * valid / sent, 3) if sent else None
+    return Month._make([printable(station.name), str(month), *times, sent, valid, percent])
+
+
+class Folder:
+    """The pages, each written by renaming a new file."""
+
+    def __init__(self, path: str, title: str):
+        self._path, self._title = path, title
+        self._months: List[Month] = []
+        self._tiles: List[Station] = []
+        self._years: List[Sequence[Tuple[str, str]]] = []
+        os.makedirs(path, exist_ok=True)
+
+    def add(self, station: StoredStation) -> None:
+        months = list(months_of(station.begin, station.end))
+        for year in sorted({month.year for month in months}):
+            told = self._add_year(station, year, [month for month in months if month.year == year])
+        if months:
+            tile = {key: told[key] for key in ("name", "held", "bad_percent")}
+            self._tiles.append(
+                {**tile, "tile": station.tile(), "page": file_of(station.name, months[-1].year)}
+            )
+
+    def _add_year(self, station: StoredStation, year: int, months: List[CalendarMonth]) -> Station:
+        """The pages of a year and its months; what the year's page tells."""
+        whole, rows, cells = TimeLine(), [], [("", "")] * 12
+        links = [("all stations", "index.html"), (str(year), file_of(station.name, year))]
+        for month in months:
+            line = station.line(month.begin, month.next.begin, HOUR)
+            row, file = month_of(station, month, line), ""
+            line = line.fewer(HOUR)
+            if line.sessions or row.down_s:
+                file = file_of(station.name, month)
+                beside = [
+                    (str(one), file_of(station.name, one))
+                    for one in (month.last, month.next)
+                    if one in months
+                ]
+                self._tell(file, station, [month], line, links=[*links, *beside])
+            self._months.append(row)
+            cells[month.number - 1] = f"{row.received_percent:.2f} %", file
+            rows.append(
+                [(str(month), file), *(("" if value is None else str(value), "") for value in row[2:])]
+            )
+            whole.extend(line.fewer(DAY, MOST_LISTED // 12))
+        self._years.append([(printable(station.name), links[1][1]), (str(year), ""), *cells])
+        table = LinkTable("Availability by month", ["month", *HEAD], rows)
+        return self._tell(links[1][1], station, months, whole, links=links[:1], table=table)
+
+    def _tell(
+        self, file: str, station: StoredStation, months: List[CalendarMonth], line: TimeLine, **more: Any
+    ) -> Station:
+        begin, end = months[0].begin, months[-1].next.begin
+        times = begin, min(end, station.end)
+        told = told_of(station.name, line, times, begin, station.held, tile_of([], times[1], None))
+        self._write(file, page_of(self._title, [told], **more))
+        return told
+
+    def _write(self, name: str, text: str) -> None:
+        """A reader sees the old file or the new one."""
+        path = os.path.join(self._path, name)
+        with open(f"{path}.new", "w", encoding="utf-8", newline="") as file:
+            file.write(text)
+        os.replace(f"{path}.new", path)
+
+    def close(self) -> None:
+        """The pages of all stations."""
+        rows = io.StringIO()
+        csv.writer(rows, lineterminator="\n").writerows([Month._fields, *self._months])
+        self._write("availability.csv", rows.getvalue())
+        table = LinkTable("Received, of all time", ["station", "year", *NAMES], self._years)
+        links = [("the same as CSV, with outages and blocks", "availability.csv")]
+        self._write("index.html", page_of(self._title, self._tiles, links=links, table=table))
+
+
+def write_years(path: str, folder: str, title: str) -> int:
+    pages = Folder(folder, title)
+    for station in Stored(path).stations(with_unknown=False):
+        if station.unknown:
+            text = f"{station.unknown} sessions whose start is not known are left out"
+            print(f"rds-monitor report: {printable(station.name)}: {text}", file=sys.stderr)
+        pages.add(station)
+    pages.close()
+    return 0

@@ -1,0 +1,60 @@
+"""Groups as redsea's JSON: the same however the rows are cut, and each text of a group in turn made once."""
+
+from __future__ import annotations
+
+from typing import Any, Iterator, List
+
+import numpy
+import pytest
+
+from conftest import rds
+from made import read
+from rds_monitor.content.decoder import Decoder
+from rds_monitor.content.redsea import Redsea
+from rds_monitor.rows.clock import Clock
+from rds_monitor.rows.items import Rows
+from sent import group, name, text
+
+
+@pytest.fixture(scope="module")
+def rows() -> Rows:
+    """A station whose name and text change, with one bit in 200 wrong."""
+    sent = []
+    for n in range(40):
+        sent += (
+            name(b"NAME %3d" % (n % 2)) * 3
+            + text(b"A text of many segments, number %d\r" % (n % 2)) * 4
+            + [group("8A", n)]
+        )
+    bits = numpy.frombuffer(
+        rds("encode", data="".join("%04X%04X%04X%04X\n" % tuple(words) for words in sent).encode()), "u1"
+    )
+    wrong = numpy.packbits(numpy.random.default_rng(1).random(8 * len(bits)) < 0.005)
+    return read(rds("list", data=(bits ^ wrong).tobytes()))
+
+
+def lines(rows: Rows, bounds: List[int], clock: Clock = Clock()) -> Iterator[str]:
+    redsea = Redsea(Decoder(lapses=True))
+    for begin, end in zip([0, *bounds], [*bounds, len(rows)]):
+        yield from redsea.lines(rows[begin:end], clock)
+
+
+def test_chunks_change_nothing(rows: Rows) -> None:
+    whole = list(lines(rows, []))
+    assert (
+        len(whole) > 500
+        and any("radiotext" in line for line in whole)
+        and any('"ps"' in line for line in whole)
+    )
+    assert list(lines(rows, list(range(1, len(rows), 5)))) == whole
+    timed = [line.replace(',"rx_time"', "|").partition("|") for line in lines(rows, [], Clock(0.0))]
+    assert [before + after[27:] for before, _, after in timed] == whole
+
+
+def test_the_text_of_a_group_is_made_once(rows: Rows, monkeypatch: Any) -> None:
+    """While the items hold that it tells: a new RT has no effect on the segments that do not write it."""
+    made: List[int] = []
+    texts = Redsea._texts
+    monkeypatch.setattr(Redsea, "_texts", lambda self, group: made.append(group) or texts(self, group))
+    changes = len(Decoder(lapses=True).feed(rows))
+    assert len(list(lines(rows, []))) > len(made) and len(made) <= len(set(made)) + 2 * changes
