@@ -3,7 +3,6 @@
 from __future__ import annotations
 
 import re
-from itertools import chain
 from typing import Any, Dict, List, NamedTuple, Sequence, Tuple
 
 import pytest
@@ -11,6 +10,7 @@ import pytest
 import sent
 from conftest import encode
 from rds_monitor.content.decoder import ITEMS, Decoder, Event
+from rds_monitor.content.looks import name_of
 from rds_monitor.content.networks import FrequencyList
 from rds_monitor.rows.opening import open_source
 from sent import Words, clock, eon, eon_name, events_of, group, label, name, oda, segments, tags, text, told
@@ -325,7 +325,7 @@ def test_values_that_hold(title: str, tmp_path: Any) -> None:
     assert {event.pi for event in decoder_events} == {case.groups[0][0]}
 
 
-def test_every_item_is_listed_and_has_a_case() -> None:
+def test_every_item_and_group_type_has_a_case() -> None:
     """The items of the help and those of the cases, by their names alone."""
 
     def bare(item: str) -> str:
@@ -333,17 +333,8 @@ def test_every_item_is_listed_and_has_a_case() -> None:
 
     listed = {bare(word) for word in re.sub(r"\(.*?\)", "", ITEMS).split()}
     assert {bare(item) for case in CASES.values() for item in case.held} == listed
-
-
-def test_every_group_type_has_a_case() -> None:
-    kinds = {
-        f"{words[1] >> 12}{'AB'[words[1] >> 11 & 1]}" for case in CASES.values() for words in case.groups
-    }
-    assert kinds >= set(
-        """
-        0A 0B 1A 1B 2A 2B 3A 4A 5A 5B 6A 6B 7A 8A 9A 10A 11A 12A 13A 14A 14B 15A 15B
-    """.split()
-    )
+    kinds = {name_of(words[1] >> 11) for case in CASES.values() for words in case.groups}
+    assert kinds >= {*"0A 0B 1A 1B 2A 2B 3A 4A 5A 5B 6A 6B 7A 8A 9A 10A 11A 12A 13A 14A 14B 15A 15B".split()}
 
 
 def values(groups: Sequence[Words], item: str) -> List[Any]:
@@ -427,51 +418,40 @@ def test_a_text_without_an_end_is_not_cut_where_groups_are_lost(segments: Sequen
 # ---- lists of frequencies that change
 
 
-def lists(*cycles: Sequence[int]) -> List[Any]:
-    groups = [group("0A", 8 | k % 4, pair, 0x2020) for k, pair in enumerate(chain(*cycles))]
+def lists(pairs: Sequence[int]) -> List[Any]:
+    groups = [group("0A", 8 | k % 4, pair, 0x2020) for k, pair in enumerate(pairs)]
     return [event.value for event in events_of(groups) if event.item.startswith("af")]
-
-
-A = [0xE50A, 0x1E32, 0x465A]
-
-
-ALL_OF_A = [88500, 90500, 92500, 94500, 96500]
-CHANGED, ALL_CHANGED = [0xE50A, 0x1E32, 0x4664], [88500, 90500, 92500, 94500, 97500]
-B, B_CHANGED, OTHER = [0xE512, 0x1278, 0x8E12], [0xE512, 0x127D, 0x8E12], [0xE30F, 0x0F4B]
 
 
 def by_b(tuned: int, same: Sequence[int], regional: Sequence[int] = ()) -> Dict[str, Any]:
     return {"tuned": tuned, "same": [*same], "regional": [*regional]}
 
 
+A, ALL_OF_A = [0xE50A, 0x1E32, 0x465A], [88500, 90500, 92500, 94500, 96500]
+CHANGED, ALL_CHANGED = [0xE50A, 0x1E32, 0x4664], [88500, 90500, 92500, 94500, 97500]
+B, B_CHANGED, OTHER = [0xE512, 0x1278, 0x8E12], [0xE512, 0x127D, 0x8E12], [0xE30F, 0x0F4B]
 ALL_OF_B, ALL_B_CHANGED = by_b(89300, [99500], [101700]), by_b(89300, [100000], [101700])
+LISTS = {
+    "method A changes one entry": (10 * A + 10 * CHANGED + 10 * A, [ALL_OF_A, ALL_CHANGED, ALL_OF_A]),
+    "method A changes within two turns": (3 * A + 2 * CHANGED, [ALL_OF_A, ALL_CHANGED]),
+    "method A grows": (5 * A + 5 * [0xE60A, 0x1E32, 0x465A, 0x64CD], [ALL_OF_A, [*ALL_OF_A, 97500]]),
+    "method B changes one entry": (10 * B + 10 * B_CHANGED + 10 * B, [ALL_OF_B, ALL_B_CHANGED, ALL_OF_B]),
+    # The order of a pair alone says whether its frequency is of a regional variant.
+    "method B becomes regional": (
+        10 * [0xE312, 0x1278] + 10 * [0xE312, 0x7812],
+        [by_b(89300, [99500]), by_b(89300, [], [99500])],
+    ),
+    "method B of two transmitters changes one entry": (
+        10 * [*B, *OTHER] + 10 * [*B_CHANGED, *OTHER],
+        [ALL_OF_B, by_b(89000, [95000]), ALL_B_CHANGED],
+    ),
+}
 
 
-@pytest.mark.parametrize(
-    "cycles, found",
-    [
-        ([*10 * [A], *10 * [CHANGED], *10 * [A]], [ALL_OF_A, ALL_CHANGED, ALL_OF_A]),
-        ([*5 * [A], *5 * [[0xE60A, 0x1E32, 0x465A, 0x64CD]]], [ALL_OF_A, [*ALL_OF_A, 97500]]),
-        ([*10 * [B], *10 * [B_CHANGED], *10 * [B]], [ALL_OF_B, ALL_B_CHANGED, ALL_OF_B]),
-        # The order of a pair alone says whether its frequency is of a regional variant.
-        (
-            [*10 * [[0xE312, 0x1278]], *10 * [[0xE312, 0x7812]]],
-            [by_b(89300, [99500]), by_b(89300, [], [99500])],
-        ),
-    ],
-    ids=[
-        "method A changes one entry",
-        "method A grows",
-        "method B changes one entry",
-        "method B becomes regional",
-    ],
-)
-def test_a_list_that_changes(cycles: Sequence[Sequence[int]], found: List[Any]) -> None:
-    assert lists(*cycles) == found
-
-
-def test_a_change_is_told_within_two_turns() -> None:
-    assert lists(*3 * [A], *2 * [CHANGED])[-1] == ALL_CHANGED
+@pytest.mark.parametrize("title", LISTS)
+def test_a_list_that_changes(title: str) -> None:
+    pairs, found = LISTS[title]
+    assert lists(pairs) == found
 
 
 def test_the_same_frequencies_in_another_order_are_the_same_list() -> None:
@@ -482,12 +462,6 @@ def test_the_same_frequencies_in_another_order_are_the_same_list() -> None:
     assert [entry for entry in map(found.take, heard) if entry is not None] == [ALL_OF_A]
 
 
-def test_method_b_of_several_transmitters_that_changes_one_entry() -> None:
-    found = lists(*10 * [[*B, *OTHER]], *10 * [[*B_CHANGED, *OTHER]])
-    assert [entry for entry in found if entry["tuned"] == 89300] == [ALL_OF_B, ALL_B_CHANGED]
-    assert [entry for entry in found if entry["tuned"] == 89000] == [by_b(89000, [95000])]
-
-
 def test_another_method_replaces_the_list() -> None:
     held = {}
     for event in events_of([group("0A", 8, pair, 0) for pair in 3 * A + 3 * [0xE312, 0x1278]]):
@@ -496,5 +470,4 @@ def test_another_method_replaces_the_list() -> None:
 
 
 def test_a_wrong_pair_does_not_stay() -> None:
-    wrong = [0xE50A, 0x1E32, 0x9999, 0x465A]
-    assert lists(*4 * [A], wrong, *6 * [A])[-1] == ALL_OF_A
+    assert lists(4 * A + [0xE50A, 0x1E32, 0x9999, 0x465A] + 6 * A)[-1] == ALL_OF_A

@@ -4,13 +4,14 @@ from __future__ import annotations
 
 from typing import Any, Dict, Iterable, List, Optional, Sequence, Tuple
 
-import numpy
+
 import pytest
 from hypothesis import given, settings, strategies as st
 
 from rds_monitor.content.decoder import Decoder, Event
 from rds_monitor.rows.items import CORRECTED, LOST
 from sent import PI, Damage, Words, clock, eon, events_of, group, label, name, oda, rows_of, tags, text, told
+from test_contents_random import Station, damage_of
 
 NAMED = name(b"PAXO 318")
 THRICE = 3 * NAMED
@@ -106,10 +107,8 @@ def test_corrected_blocks_alone_give_no_pi() -> None:
 
 def test_another_programme_is_another_station() -> None:
     """What was said before the change says nothing of the other one, alike or not."""
-    found = events_of(NAMED + OTHER[:2])
-    of_first = [(PI, "D318"), (PI, 10), (PI, "PAXO 318")]
-    told_of_both = [(entry.pi, entry.value) for entry in found if entry.item in ("pi", "pty", "ps")]
-    assert told_of_both == [*of_first, (0xD319, "D319"), (0xD319, 10)]
+    found = [entry[1:4:2] for entry in events_of(NAMED + OTHER[:2]) if entry.item in ("pi", "pty", "ps")]
+    assert found == [(PI, "D318"), (PI, 10), (PI, "PAXO 318"), (0xD319, "D319"), (0xD319, 10)]
 
 
 def test_a_group_without_pi_after_an_acquisition_is_of_no_programme() -> None:
@@ -232,27 +231,10 @@ def check_order(events: Sequence[Event]) -> None:
 
 
 def sample(seed: int, count: int) -> Any:
-    """A station's groups with changing contents, and damage: rows as they are received."""
-    rng = numpy.random.default_rng(seed)
-    groups: List[Words] = [oda(0x4BD7, "11A")]
-    for k in range(count // 40):
-        title = b"Title%d" % rng.integers(4)
-        groups += name(b"PAXO %03d" % rng.integers(3), [0xE50A, 0x1E32, 0x465A + int(rng.integers(2))])
-        groups += text(title + b" by Artist%d\r" % rng.integers(3), k // 3 % 2)
-        groups += [tags(k // 3 % 2, 1, (1, 0, len(title) - 1), (4, len(title) + 4, 6))]
-        groups += [label(0, 0xE0, int(rng.integers(2)) << 11), eon(int(rng.integers(4)), 0x4142)]
-        groups += [group("14B", int(rng.integers(2)) << 3, 0, 0xD312)]
-        groups += [
-            group("10A", int(rng.integers(2)) << 4 | k % 2, 0x4142, 0x4344 + k // 10) for k in range(4)
-        ]
-        groups += text(b"No end", k // 3 % 2 ^ 1) if k % 7 == 0 else []
-    damage = []
-    for number, block in ((number, block) for number in range(len(groups)) for block in (1, 2, 3, 4)):
-        draw = rng.random()
-        if draw < 0.16:
-            wrong = int(rng.integers(0x10000)) if draw >= 0.15 else None
-            damage.append((number, Damage(block, LOST if draw < 0.05 else CORRECTED, wrong)))
-    return rows_of(groups, damage, tuple(range(0, len(groups), 100)))
+    """The rows of a random station, with damage to a sixth of the groups' blocks, and acquisitions."""
+    groups = Station(seed).groups(count)
+    damage = damage_of(groups, seed, 0.16)
+    return rows_of([said.words for said in groups], damage, tuple(range(0, count, 100)))
 
 
 def fed(decoder: Decoder, rows: Any, size: int = 10**6) -> List[Event]:
@@ -265,11 +247,9 @@ def test_news_are_all_that_matters(seed: int) -> None:
     """A decoder that looks at every value that counts tells the same, but for lists of frequencies, which it may
     complete earlier."""
     rows = sample(seed, 1500)
-
-    def but_lists(events: Sequence[Event]) -> List[Event]:
-        return [event for event in events if not event.item.startswith("af")]
-
-    assert but_lists(Decoder().feed(rows)) == but_lists(Decoder(everything=True).feed(rows))
+    told_by = (Decoder(everything=value).feed(rows) for value in (False, True))
+    news, everything = ([event for event in found if event.item[:2] != "af"] for found in told_by)
+    assert news == everything
 
 
 @pytest.mark.parametrize("seed, size", [(0, 1), (1, 3), (2, 40), (3, 500)])
