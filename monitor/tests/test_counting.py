@@ -10,7 +10,7 @@ from hypothesis import given, settings, strategies as st
 
 from rds_monitor.content.decoder import Decoder, Event
 from rds_monitor.rows.items import CORRECTED, LOST
-from sent import PI, Damage, Words, clock, eon, events_of, group, label, name, oda, rows_of, tags, text, told
+from sent import PI, Damage, Words, clock, events_of, group, name, oda, rows_of, text, told
 from test_contents_random import Station, damage_of
 
 NAMED = name(b"PAXO 318")
