@@ -347,8 +347,3 @@ def test_redsea_has_nothing_of_the_programme_before() -> None:
 def test_a_cut_listing_is_refused(station_listing: bytes) -> None:
     done = monitor("info", data=station_listing[:-200])
     assert done.returncode == 1 and done.stderr.startswith(b"rds-monitor info: ")
-
-
-def test_options_that_contradict() -> None:
-    for words in ("info --csv --json", "json --rows --redsea", "groups --times --spy"):
-        assert monitor(*words.split(), STATION).returncode == 2
