@@ -87,7 +87,9 @@ class Evidence:
         counts = self._counts(seen)
         counted = News(*(column[counts] for column in seen[:3]))
         news = counted if everything or not counted.key.size else self._news(counted)
-        self._prune()
+        if len(self.parts) > MOST_PARTS:
+            # Noise gives parts that never count: they are forgotten when there are too many.
+            self.parts = {name: part for name, part in self.parts.items() if part.counted is not None}
         return news
 
     def _news(self, counted: News) -> News:
@@ -175,11 +177,6 @@ class Evidence:
         for name, value, now in zip(names, counted.value[ends].tolist(), state[ends].tolist()):
             self.parts[name] = self.parts[name]._replace(counted=value, state=now)
         return fresh
-
-    def _prune(self) -> None:
-        """Noise gives parts that never count: they are forgotten when there are too many."""
-        if len(self.parts) > MOST_PARTS:
-            self.parts = {name: part for name, part in self.parts.items() if part.counted is not None}
 
 
 class Epochs:

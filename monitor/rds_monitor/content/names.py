@@ -125,10 +125,8 @@ Zambia; zw Zimbabwe
 
 def country(extended: int, pi: int) -> Optional[str]:
     """The ISO 3166 code of the country, from the extended country code and the PI's first digit."""
-    digit = pi >> 12
-    if extended not in _COUNTRIES or digit == 0:
-        return None
-    found = _COUNTRIES[extended].split()[digit - 1]
+    countries, digit = _COUNTRIES.get(extended, "").split(), pi >> 12
+    found = countries[digit - 1] if countries and digit else "--"
     return None if found == "--" else found
 
 
@@ -143,10 +141,8 @@ def call_letters(pi: int) -> Optional[str]:
         pi = (pi & 0xF00) << 4 | pi & 0xFF
     for first, begin, end in (("K", 0x1000, 0x54A8), ("W", 0x54A8, 0x9950)):
         if begin <= pi < end:
-            number = pi - begin
-            return first + "".join(
-                chr(ord("A") + digit) for digit in (number // 676, number // 26 % 26, number % 26)
-            )
+            digits = (pi - begin) // 676, (pi - begin) // 26 % 26, (pi - begin) % 26
+            return first + "".join(chr(ord("A") + digit) for digit in digits)
     return None
 
 

@@ -40,9 +40,7 @@ class Clock(NamedTuple):
 
     def utc(self, *places: float) -> List[str]:
         """UTC columns."""
-        return (
-            [utc_text(self.start + place / self.rate) for place in places] if self.start is not None else []
-        )
+        return [] if self.start is None else [utc_text(self.start + place / self.rate) for place in places]
 
 
 def utc_text(seconds: float) -> str:
