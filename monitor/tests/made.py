@@ -103,7 +103,7 @@ def run(*words: Any, data: bytes = b"") -> Done:
             status = cli.main([str(word) for word in words])
         except SystemExit as end:
             status = end.code if isinstance(end.code, int) else 1
-    out, err = (stream.detach().getvalue().decode() for stream in streams[1:])  # type: ignore[attr-defined]
+    out, err = (stream.detach().getvalue().decode() for stream in streams[1:])
     return Done(status, out, err)
 
 

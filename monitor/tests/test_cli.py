@@ -288,7 +288,7 @@ def test_values_that_completion_of_rds_offers() -> None:
             if not takes_value:
                 assert "--help" in offered
                 continue
-            first, last = re.search(r"(\d+) (?:to (\d+)|or more)", text + " 0 to 0").groups()  # type: ignore[union-attr]
+            first, last = re.search(r"(\d+) (?:to (\d+)|or more)", text + " 0 to 0").groups()
             numbers = [int(word) for word in offered]
             in_zsh = re.search(rf"'(?:\([^)]*\))?{name}\[[^]]*\]:[^:']*:\(([\d ]*)\)'", ZSH)
             assert numbers == ([int(text) for text in in_zsh[1].split()] if in_zsh else [])

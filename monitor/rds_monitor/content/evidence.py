@@ -195,8 +195,7 @@ class Epochs:
 
     def flag(self, at: Array) -> Array:
         """The flag that holds in each of these groups; that of a group holds from itself on."""
-        flag: Array = self._flags[numpy.searchsorted(self._at, at, side="right")]
-        return flag
+        return self._flags[numpy.searchsorted(self._at, at, side="right")]
 
     def number(self, at: Array) -> Array:
         number: Array = self._numbers[numpy.searchsorted(self._at, at, side="right")] & 0xFFFFFF

@@ -135,9 +135,8 @@ class OpenData(Taker):
         if "scope" in self._service:
             known = [("location table", "location_table"), ("service", "service")]
             parts = [f"{name} {self._service[key]}" for name, key in known if key in self._service]
-            self._tell(
-                "tmc_service", dict(self._service), ", ".join([*parts, " ".join(self._service["scope"])])
-            )
+            shown = ", ".join([*parts, " ".join(self._service["scope"])])
+            self._tell("tmc_service", dict(self._service), shown)
 
 
 class Features(Taker):

@@ -183,8 +183,5 @@ class OtherNetworks(Taker):
         linked, extended, international = (bool(value & bit) for bit in (0x8000, 0x4000, 0x1000))
         number = value & 0xFFF
         found = dict(linked=linked, extended_generic=extended, international=international, set=number)
-        self._tell(
-            f"{of}.linkage",
-            found,
-            f"{'linked' if linked else 'not linked'}, set {number:03X}{', international' * international}",
-        )
+        shown = f"{'linked' if linked else 'not linked'}, set {number:03X}{', international' * international}"
+        self._tell(f"{of}.linkage", found, shown)

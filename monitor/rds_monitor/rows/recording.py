@@ -22,11 +22,6 @@ def library() -> Any:
         raise Fault(str(error)) from None
 
 
-def totals_of_librds(found: Any) -> Totals:
-    """The totals of the module librds."""
-    return Totals(*(getattr(found, name) for name in Totals._fields))
-
-
 class Recording:
     """Packed bits, decoded by librds chunk by chunk."""
 
@@ -61,7 +56,7 @@ class Recording:
     def _finish(self, follower: Any, data: bytes, bits: int) -> Rows:
         rows: Rows
         rows, totals = follower.finish_array(data, bits)
-        self.totals = totals_of_librds(totals)
+        self.totals = Totals(*(getattr(totals, name) for name in Totals._fields))
         self.length = length = int(follower.place) + bits
         if self._gaps and self._gaps[-1][1] > length:
             end = f"a gap ends at {self._gaps[-1][1]}, past the {length} bits of the recording"
