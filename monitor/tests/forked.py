@@ -25,9 +25,7 @@ def _context() -> Any:
     return found
 
 
-def _command(
-    words: Sequence[str], folder: str, environment: Dict[str, str], files: Sequence[Connection]
-) -> None:
+def _command(words: Sequence[str], folder: str, known: Dict[str, str], files: Sequence[Connection]) -> None:
     for number, file in enumerate(files):
         os.dup2(file.fileno(), number)
     # Those that Python opened know what they were opened for.
@@ -36,7 +34,7 @@ def _command(
     sys.argv[1:] = words
     os.chdir(folder)
     os.environ.clear()
-    os.environ.update(environment)
+    os.environ.update(known)
     runpy.run_module("rds_monitor", run_name="__main__", alter_sys=True)
 
 

@@ -39,9 +39,7 @@ def bits_of(receiver: Receiver, signal: Array, block: int = 65536) -> Array:
     return numpy.concatenate([*parts, receiver.finish()])
 
 
-def received(
-    signal: Array, rate: int, block: int = 65536, **options: Any
-) -> Tuple[List[Words], Dict[str, Any]]:
+def received(signal: Array, rate: int, block: int = 65536, **options: Any) -> Tuple[List[Words], Any]:
     """The groups of a signal, and the report."""
     receiver = Receiver(rate, numpy.iscomplexobj(signal), **options)
     groups = whole_groups(numpy.packbits(bits_of(receiver, signal, block)).tobytes())

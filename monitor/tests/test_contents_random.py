@@ -74,12 +74,10 @@ class Station:
             self._texts[item] = self._word(least, most)
         return str(self._texts[item])
 
-    def _named(
-        self, item: str, groups: Callable[[bytes], List[Words]], most: int = 8, **own: Any
-    ) -> List[Said]:
+    def _named(self, item: str, made: Callable[..., List[Words]], most: int = 8, **own: Any) -> List[Said]:
         """A name or text in groups of its own, all of which say these values too."""
         name = self._changing(item, 1, most)
-        return [Said(words, own, {item: name}) for words in groups(name.encode())]
+        return [Said(words, own, {item: name}) for words in made(name.encode())]
 
     def _name(self) -> List[Said]:
         name, flags = self._changing("ps", 1, 8), self._chance.randrange(4) << 3

@@ -154,9 +154,7 @@ def plain(values: Sequence[Tuple[int, bool, bool]]) -> List[int]:
 
 @settings(max_examples=100, deadline=None)
 @given(st.lists(st.tuples(st.integers(0, 3), *4 * [st.booleans()]), max_size=40))
-def test_programme_types_count_as_the_plain_rule_says(
-    received: List[Tuple[int, bool, bool, bool, bool]]
-) -> None:
+def test_programme_types_count_by_the_plain_rule(received: List[Tuple[int, bool, bool, bool, bool]]) -> None:
     """Groups with a valid PI, so that only block 2 matters: its value, whether it was corrected, whether others were
     not valid."""
     groups = [group("6A", 0, pty=9), *(group("6A", 0, pty=entry[0]) for entry in received)]
@@ -173,9 +171,7 @@ def test_programme_types_count_as_the_plain_rule_says(
 
 
 @settings(max_examples=100, deadline=None)
-@given(
-    st.lists(st.tuples(st.sampled_from([0xD318, 0xD319, 0xD31A]), st.booleans(), st.booleans()), max_size=30)
-)
+@given(st.lists(st.tuples(st.sampled_from([0xD318, 0xD319, 0xD31A]), *2 * [st.booleans()]), max_size=30))
 def test_programmes_count_as_the_plain_rule_says(received: List[Tuple[int, bool, bool]]) -> None:
     groups = [group("6A", 0, pi=pi) for pi, _, _ in received]
     bad = [(number, *flags) for number, (_, *flags) in enumerate(received)]
@@ -206,9 +202,7 @@ def words_of(drawn: Sequence[Any]) -> List[Words]:
 
 @settings(max_examples=100, deadline=None)
 @given(st.lists(ANY, max_size=60), st.lists(DAMAGE, max_size=30), st.sets(st.integers(0, 59), max_size=3))
-def test_any_groups_decode_and_chunks_make_no_difference(
-    drawn: Sequence[Any], damage: Any, acquired: Any
-) -> None:
+def test_any_groups_decode_alike_in_chunks(drawn: Sequence[Any], damage: Any, acquired: Any) -> None:
     rows = rows_of(words_of(drawn), damage, tuple(acquired))
     whole = Decoder().feed(rows)
     assert fed(Decoder(), rows, 1) == fed(Decoder(), rows, 7) == whole

@@ -114,9 +114,7 @@ def test_a_station_that_comes_late(tmp_path: Path) -> None:
 NOISE = numpy.random.default_rng(1).bytes(320000)
 
 
-@pytest.mark.parametrize(
-    "data,said", [(b"", "is empty"), (NOISE, "two complete groups")], ids=["empty", "noise"]
-)
+@pytest.mark.parametrize("data,said", [(b"", "is empty"), (NOISE, "two complete groups")], ids=len)
 def test_no_form(data: bytes, said: str, tmp_path: Path) -> None:
     (tmp_path / "noise").write_bytes(data)
     done = monitor("form", tmp_path / "noise")
@@ -153,9 +151,8 @@ def radio() -> Array:
     [("mpx.wav", "s16"), ("mpx.s16", "s16"), ("mpx.f32", "f32"), ("iq.wav", "s16"), ("iq.u8", "u8")],
 )
 def test_signals(name: str, form: str, signal: Array, radio: Array, tmp_path: Path) -> None:
-    kind, samples, rate, channels = (
-        ("IQ", radio, 256000, 2) if name[:2] == "iq" else ("MPX", signal, 192000, 1)
-    )
+    of_iq, of_mpx = ("IQ", radio, 256000, 2), ("MPX", signal, 192000, 1)
+    kind, samples, rate, channels = of_iq if name[:2] == "iq" else of_mpx
     data = stored(samples, form)
     (tmp_path / name).write_bytes(wav(data, form, rate, channels) if name.endswith("wav") else data)
     groups, found, cure = forms(tmp_path / name)[0]

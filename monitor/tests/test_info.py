@@ -123,10 +123,11 @@ def told(item: str, data: bytes) -> List[Any]:
     return [entry["value"] for entry in lines(said("json", data=data)) if entry.get("item") == item]
 
 
+COMMANDS = ("info", "info --csv", "json", "json --redsea")
+
+
 def shown_anywhere(data: bytes) -> str:
-    return "".join(
-        said(*words, data=data) for words in (["info"], ["info", "--csv"], ["json"], ["json", "--redsea"])
-    )
+    return "".join(said(*words.split(), data=data) for words in COMMANDS)
 
 
 @pytest.mark.parametrize("which", HOSTILE)
@@ -201,10 +202,8 @@ def test_a_row_comes_with_the_last_bit_of_its_group(first: List[str], station: b
 def test_events_in_order() -> None:
     found = lines(said("json", STATION))
     assert found[0] == {"kind": "acquired", "place": 51, "time_s": 0.043, "number": 2}
-    first = dict(
-        kind="content", place=104, time_s=0.088, pi="D393", item="pi", value="D393", before=None, text="D393"
-    )
-    assert found[1] == first
+    first = dict(kind="content", place=104, time_s=0.088, pi="D393", item="pi", before=None)
+    assert found[1] == {**first, "value": "D393", "text": "D393"}
     assert [entry["place"] for entry in found] == sorted(entry["place"] for entry in found)
 
 

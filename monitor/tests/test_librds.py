@@ -460,10 +460,8 @@ def test_defaults() -> None:
     header = (TOP / "lib" / "rds.h").read_text()
     (numbers,) = re.findall(r"define RDS_RULES \{(\d+), (\d+), (\d+), (\d+),", header)
     assert dataclasses.astuple(librds.Rules()) == tuple(map(int, numbers))
-    wanted = dict(
-        bits=None, gaps=(), rules=librds.Rules(), limit=int(numbers[0]), stream=bytes(256), data=b""
-    )
-    wanted |= dict(offset=None, info=None, burst=0, cause=0, follower=None)
+    wanted = dict(bits=None, gaps=(), limit=int(numbers[0]), stream=bytes(256), data=b"")
+    wanted |= dict(rules=librds.Rules(), offset=None, info=None, burst=0, cause=0, follower=None)
     others = ("ITEM", "Rules", "Kind", "Error")
     calls = [getattr(librds, name) for name in librds.__all__ if name not in others]
     calls += filter(inspect.isfunction, vars(librds.Follower).values())
@@ -520,9 +518,8 @@ def test_which_library_is_loaded(tmp_path) -> None:
     own.unlink()
     own.write_bytes(b"no library")
     assert loaded(RDS_LIBRARY=LIBRARY) == LIBRARY
-    assert "libc.so.6: this is not librds, or an older one: it has no rds_totals" in loaded(
-        RDS_LIBRARY="libc.so.6"
-    )
+    other = {"RDS_LIBRARY": "libc.so.6"}
+    assert "libc.so.6: this is not librds, or an older one: it has no rds_totals" in loaded(**other)
     for version in ("0.99.0", "-1.0.0"):
         late = f"import librds._ffi as module; module.VERSION = ({version.replace('.', ',')}); module.load()"
         assert f"but this module needs {version} or later" in ran([sys.executable, "-c", late]).stderr
@@ -539,9 +536,7 @@ def test_files_and_sums_of_a_wheel(tmp_path) -> None:
     path = wheel_of(LIBRARY, tmp_path).stdout.strip()
     with zipfile.ZipFile(path) as wheel:
         files = {name: wheel.read(name) for name in wheel.namelist()}
-        forms = {
-            (entry.date_time, entry.external_attr >> 16, entry.compress_type) for entry in wheel.infolist()
-        }
+        forms = {(it.date_time, it.external_attr >> 16, it.compress_type) for it in wheel.infolist()}
     # So the same library gives the same bytes, and all may read the installed files.
     assert forms == {((1980, 1, 1, 0, 0, 0), 0o100644, zipfile.ZIP_DEFLATED)}
     record = next(name for name in files if name.endswith("/RECORD"))

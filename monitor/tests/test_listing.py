@@ -298,9 +298,10 @@ def test_random_listings_are_read_as_they_were_written(rows: List[Rows]) -> None
 BYTES = st.sampled_from(b"0123456789ABCDEFabx:~,-!?\r\n gl\0\xff")
 
 
-@settings(
-    max_examples=400, deadline=None, suppress_health_check=[HealthCheck.filter_too_much, HealthCheck.too_slow]
-)
+SLOW = [HealthCheck.filter_too_much, HealthCheck.too_slow]
+
+
+@settings(max_examples=400, deadline=None, suppress_health_check=SLOW)
 @given(st.data())
 def test_damage_is_refused_or_read_as_it_stands(data) -> None:
     text = bytearray(data.draw(st.sampled_from(DAMAGED)))

@@ -22,6 +22,7 @@ from rds_monitor.rows.parse import _set_types
 WORDS = (0xD393, 0x0548, 0xE0CD, 0x5041)
 AT = "--start 2026-03-29T00:30:00Z"
 START = AT.split()
+COMMANDS = ["errors", "outages", "programmes", "types", "corrected", "table"]
 
 
 @pytest.fixture(scope="module")
@@ -113,10 +114,7 @@ def test_a_pause_by_default(seconds: float, programmes: int) -> None:
     assert len(said("programmes", "--unfinished", data=listing(rows, totals=False))) == 1 + programmes
 
 
-@pytest.mark.parametrize(
-    "command",
-    ["errors", "outages", "programmes", "types", "corrected", "table", "groups", "json", "info", "report"],
-)
+@pytest.mark.parametrize("command", [*COMMANDS, "groups", "json", "info", "report"])
 def test_recordings_of_nothing(command: str) -> None:
     """No bit, less than a block, and some blocks of noise: nothing is divided by what is not there."""
     if command == "report":
@@ -200,9 +198,7 @@ def test_parquet(station: bytes, tmp_path) -> None:
 # ---- other tables, and parts
 
 
-@pytest.mark.parametrize(
-    "command", ["errors", "outages", "programmes", "types", "corrected", "table", "clock"]
-)
+@pytest.mark.parametrize("command", [*COMMANDS, "clock"])
 def test_inputs_that_are_no_listing(command: str, station_listing: bytes) -> None:
     table = "\n".join(said("errors", data=station_listing)).encode()
     for data, fault in (
@@ -236,9 +232,7 @@ def test_a_recording_longer_than_its_rows(station: bytes, station_listing: bytes
         assert done.status == status and fault in done.err
 
 
-@pytest.mark.parametrize(
-    "command", ["errors", "outages", "programmes", "types", "corrected", "table", "report"]
-)
+@pytest.mark.parametrize("command", [*COMMANDS, "report"])
 def test_a_listing_has_the_tables_of_its_recording(command: str, station: bytes) -> None:
     """In all fields, if its length is told: it may end in bits of no row."""
     data = damaged(station, 0.02, 4) + numpy.random.default_rng(4).bytes(9000) + station[:5000] + bytes(700)

@@ -144,9 +144,8 @@ class Evidence:
         ]
         active = numpy.logical_or.reduceat(changed, starts) | numpy.array(stale, bool)
         bounds = numpy.flatnonzero(_firsts(message))
-        of_message = numpy.repeat(
-            numpy.logical_or.reduceat(active, bounds), numpy.diff([*bounds, message.size])
-        )
+        sizes = numpy.diff([*bounds, message.size])
+        of_message = numpy.repeat(numpy.logical_or.reduceat(active, bounds), sizes)
         return numpy.repeat(of_message, numpy.diff([*starts, counted.key.size]))
 
     def _states_of(self, counted: News, changed: Array) -> Array:

@@ -91,9 +91,7 @@ def run_programmes(arguments: argparse.Namespace) -> int:
     clock, extent = clock_of_options(arguments), Extent(open_input(arguments))
     names = "begin_s end_s programme groups begin_place end_place".split()
     found = programmes_in(extent, Programmes(arguments.least, arguments.pause * clock.rate))
-    rows = (
-        [*clock.texts(*ends), f"{pi:04X}", groups, *ends, *clock.utc(*ends)] for pi, groups, *ends in found
-    )
+    rows = ([*clock.texts(*ends), f"{pi:04X}", count, *ends, *clock.utc(*ends)] for pi, count, *ends in found)
     return write_table([*names, *clock.names("begin", "end")], rows)
 
 
