@@ -407,15 +407,13 @@ def test_unpacked_bits_are_the_same(signal: Array, file: Any) -> None:
     assert b"coherent for 100.0 %" in packed.stderr
 
 
-def test_json_at_times_and_at_the_end() -> None:
+def test_json_at_times_and_at_the_end(signal: Array) -> None:
     data = stored(mpx(encode(words(3, 48)), 192000), "s16")
     done = monitor("demod", *S16, "--json", "--every", 0.2, data=data)
     told = [json.loads(line) for line in done.stderr.splitlines()]
     assert len(told) >= 3 and told[0]["seconds"] < told[-1]["seconds"]
     assert abs(told[-1]["snr_db"] - 30) < 1 and told[-1]["bits"] >= 48 * 104 - 5 and told[-1]["locked"] == 1
-
-
-def test_no_more_reports_than_asked_for(signal: Array) -> None:
+    # No more of them than were asked for.
     done = monitor("demod", *S16, "--json", "--every", 0.8, data=stored(signal, "s16") * 3)
     times = [json.loads(line)["seconds"] for line in done.stderr.splitlines()]
     assert len(times) >= 4 and all(after - before >= 0.8 for before, after in zip(times, times[1:-1]))
@@ -425,19 +423,15 @@ def test_no_more_reports_than_asked_for(signal: Array) -> None:
 def test_a_wrong_rate_is_told(rate: int, said: int) -> None:
     data = stored(mpx(encode(words(6, 30)), rate), "s16")
     done = monitor("demod", "--raw", "s16", "--rate", said, data=data)
-    assert done.returncode == 1
-    assert f"no RDS at {said} samples per second, but at {rate}: use --rate {rate}" in done.stderr.decode()
+    fault = f"no RDS at {said} samples per second, but at {rate}: use --rate {rate}"
+    assert done.returncode == 1 and fault in done.stderr.decode()
 
 
-def test_a_wrong_rate_in_a_header(signal: Array, file: Any) -> None:
+def test_a_wrong_rate_in_a_header_and_no_rds(signal: Array, file: Any) -> None:
     path = file(wav(stored(signal, "s16"), "s16", 250000))
     assert b"use --rate 192000" in monitor("demod", path).stderr
     assert demodulated("--rate", 192000, path) == GROUPS[1:]
-
-
-def test_no_rds() -> None:
-    noise = stored(numpy.random.default_rng(3).standard_normal(3 * RATE), "s16")
-    done = monitor("demod", "--raw", "s16", "--rate", RATE, data=noise)
+    done = monitor("demod", "--raw", "s16", "--rate", RATE, data=stored(NOISE[: 3 * RATE], "s16"))
     assert done.returncode == 1 and b"no RDS was found" in done.stderr
 
 

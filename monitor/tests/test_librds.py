@@ -83,12 +83,13 @@ def test_the_words_of_a_group() -> None:
         assert groups == [(None, *words[1:]), words, words]
 
 
+# By the number of the error, rules that it refuses.
 RULES = {
     1: [(6,), (-1,), (2**32 + 2,)],
     2: [(2, 0), (2, 2**32 + 3)],
     3: [(2, 3, 0), (2, 3, 2**64 + 10)],
-    15: [(2, 3, 5, 65), (2, 3, 5, -1)],
 }
+RULES[15] = [(2, 3, 5, 65), (2, 3, 5, -1)]
 
 
 @pytest.mark.parametrize("rules, number", [(rules, number) for number in RULES for rules in RULES[number]])
@@ -217,18 +218,9 @@ def test_threads_may_share_a_follower(station: bytes) -> None:
 
 def installed(python: str, inside: "os.PathLike[str]", wheel: str, environment: dict) -> bool:
     """Whether a fresh environment was made, and has the wheel."""
-    pip = [
-        python,
-        "-m",
-        "pip",
-        "--python",
-        inside,
-        *"install -q --no-index --disable-pip-version-check".split(),
-    ]
-    commands = (
-        [python, "-m", "venv", "--without-pip", os.path.dirname(os.path.dirname(inside))],
-        [*pip, wheel],
-    )
+    install = f"-m pip --python {inside} install -q --no-index --disable-pip-version-check".split()
+    folder = os.path.dirname(os.path.dirname(inside))
+    commands = ([python, "-m", "venv", "--without-pip", folder], [python, *install, wheel])
     options = {"env": environment, "capture_output": True}
     return all(subprocess.run(command, **options).returncode == 0 for command in commands)
 

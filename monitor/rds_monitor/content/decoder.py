@@ -36,21 +36,14 @@ class Programme:
     def __init__(self, pi: int, teller: Teller, rbds: bool, everything: bool, data: bool) -> None:
         self.pi, self._teller = pi, teller
         self._received = Received(everything)
-        takers: List[Taker] = [
+        plain = (*features.PLAIN, networks.Frequencies, *texts.PLAIN)
+        takers: List[Taker] = [taker(teller) for taker in plain]
+        takers += [
             features.Flags(teller, rbds),
             features.SlowLabels(teller, pi),
-            features.ClockTime(teller),
-            features.OpenData(teller),
             features.Features(teller, data),
-            features.TrafficMessages(teller),
-            features.DabLink(teller),
-            networks.Frequencies(teller),
-            networks.OtherNetworks(teller, rbds),
-            texts.Name(teller),
-            texts.RadioText(teller),
-            texts.LongName(teller),
-            texts.EnhancedText(teller),
         ]
+        takers.append(networks.OtherNetworks(teller, rbds))
         self._takers: Dict[int, List[Taker]] = {}
         for one in takers:
             for kind in one.kinds:

@@ -212,3 +212,7 @@ class DabLink(Taker):
         found = {"ensemble": f"{ensemble:04X}", "channel": channel, "mode": mode}
         shown = f"ensemble {ensemble:04X}, channel {channel or 'unknown'}, mode {mode}"
         self._tell(f"dab:{16 * frequency / 1000:.3f}", found, shown)
+
+
+# Those that need only the teller.
+PLAIN = (ClockTime, OpenData, TrafficMessages, DabLink)
