@@ -196,7 +196,7 @@ def test_the_deviation_is_that_sent(rate: int, cnr: float, loudness: float, equa
     assert abs(told["rds_to_pilot_db"] - 20 * numpy.log10(1.39 / 6.75)) < 0.25
 
 
-@pytest.mark.parametrize("rate,count,equalise", [(480000, 60, True), (499999, 12, False)])
+@pytest.mark.parametrize("rate,count,equalise", [(480000, 30, True), (499999, 12, False)])
 def test_a_stronger_neighbour_in_the_band(rate: int, count: int, equalise: bool) -> None:
     """200 kHz away, 6 dB stronger."""
     groups, others = words(5, count), words(6, count)
