@@ -13,7 +13,6 @@ from typing import Any, Callable, Dict, List, Optional, Sequence
 import numpy
 
 from .rows.items import Fault
-from .signal.blocks import REMAINDERS
 
 HEX_TEXT = re.compile(rb"[0-9A-Fa-f \t\r\n]*")
 DIGITS = b"0123456789ABCDEFabcdef"
@@ -126,9 +125,11 @@ def blocks_e(words: Sequence[str], held: bytes) -> List[str]:
     if count < 26 * LEAST_E:
         return []
     remainders, ones = numpy.zeros(count, "u2"), numpy.zeros(count, "u1")
-    for begin, column in enumerate(REMAINDERS):
-        remainders ^= bits[begin : begin + count] * numpy.uint16(column)
+    check = 1
+    for begin in range(25, -1, -1):
+        remainders ^= bits[begin : begin + count] * numpy.uint16(check)
         ones |= bits[begin : begin + count]
+        check = check << 1 ^ (0x5B9 if check >> 9 else 0)
     is_e = (remainders == 0) & (ones > 0)
     last, is_told = count - 26 * (LEAST_E - 1), numpy.zeros(count, bool)
     runs = numpy.logical_and.reduce([is_e[26 * k : last + 26 * k] for k in range(LEAST_E)])

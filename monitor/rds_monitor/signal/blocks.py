@@ -19,10 +19,8 @@ NUMBERS[[0x0FC, 0x198, 0x168, 0x350, 0x1B4]] = 0, 1, 2, 2, 3
 
 
 # That of each bit of a block, the first bit first.
-_FROM_LAST = accumulate(
-    range(BLOCK_BITS - 1), lambda rest, _: rest << 1 ^ (GENERATOR if rest >> 9 else 0), initial=1
-)
-REMAINDERS = [*_FROM_LAST][::-1]
+_DOUBLED = accumulate([1] * BLOCK_BITS, lambda rest, _: rest << 1 ^ (GENERATOR if rest >> 9 else 0))
+REMAINDERS = [*_DOUBLED][::-1]
 
 
 class BlockCounter:
