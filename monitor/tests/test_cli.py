@@ -320,6 +320,7 @@ def test_options_that_exclude_each_other() -> None:
 # ---- the manual page of rds
 
 # Numbers of the page that no help says: from standards, processors, and an example.
+MANUAL = (TOP / "rds.1").read_text()
 OF_THE_PAGE = "62106 baseband,62106 earlier,50067,1998,64 processor,2 and,2009 on,104,130".split(",")
 
 
@@ -327,8 +328,7 @@ def test_numbers_on_the_manual_page_of_rds() -> None:
     """Each is in the program's help, before the same word."""
     commands = ((), *((name,) for name in commands_of_rds() if name != "help"))
     help_of_all = " ".join(word for words in commands for word in rds(*words, "--help").decode().split())
-    manual = (TOP / "rds.1").read_text()
-    page = " ".join(re.sub(r"^\.(?:Dd|Dt|It \d+|Xr|Bl).*|^\.\w+ ?", "", manual, flags=re.M).split())
+    page = " ".join(re.sub(r"^\.(?:Dd|Dt|It \d+|Xr|Bl).*|^\.\w+ ?", "", MANUAL, flags=re.M).split())
     digits, most = 2 * len(rds("encode", data=b"0" * 16)), 2**36
     known = {*OF_THE_PAGE, f"{digits} digits", f"1 to {len(str(most)) + 1} digits"}
     found = re.findall(r"\b\d+(?: (?:to|is) \d+)?\b(?: \w+)?", page)
@@ -339,15 +339,13 @@ def test_numbers_on_the_manual_page_of_rds() -> None:
     last_bit = "The position of the last bit of the block that acquired"
     assert all(claim in page and claim in help_of_all for claim in of_both)
     assert all(claim in page for claim in ("at most twice a second", "in seven hex digits", last_bit))
-    assert "0 The output is complete, or" in " ".join(re.sub(r"^\.It ", "", manual, flags=re.M).split())
+    assert "0 The output is complete, or" in " ".join(re.sub(r"^\.It ", "", MANUAL, flags=re.M).split())
 
 
 def test_numbers_of_errors_on_the_manual_page_of_rds() -> None:
     """Each error has the numbers that the help gives it."""
     of_help = re.findall(r"^ +(\d+ [A-Z]\w+) +((?:.*\n(?! +\d+ [A-Z]|\n))*.*)", rds("--help").decode(), re.M)
-    of_page = re.findall(
-        r"^\.It (\d+ [A-Z]\w+)\n((?:(?!\.It |\.El).*\n)*)", (TOP / "rds.1").read_text(), re.M
-    )
+    of_page = re.findall(r"^\.It (\d+ [A-Z]\w+)\n((?:(?!\.It |\.El).*\n)*)", MANUAL, re.M)
     told, page = ({name: re.findall(r"\d+", text) for name, text in found} for found in (of_help, of_page))
     assert len(told) == 16 and told == page
 

@@ -32,13 +32,16 @@ def each(numbers: Iterable[int], *damage: Damage) -> List[Tuple[int, Damage]]:
 LOSE = {block: Damage(block, LOST) for block in (1, 2, 3, 4)}
 MEND = {block: Damage(block, CORRECTED) for block in (1, 2, 3, 4)}
 OTHER = [(0xD319, *words[1:]) for words in NAMED]
-IN_HOUSE = group("6A", 0)
+TWICE, LACKING = [group("6A", 0), *NAMED, *NAMED], each(range(1, 9), LOSE[3])
 TURNS = [group("6A", 0, pty=value) for value in (1, 2, 1, 2, 1, 2)]
-A_TEXT = text(b"A text\r")
-WHOLE, STRAY = text(b"AAAABBBBCCCC\r"), text(b"XXXX", 1)
+A_TEXT, HALVES = text(b"A text\r"), each(range(6), LOSE[4]) + each(range(6, 10), LOSE[3])
+STAYS = "AAAABBBBCCCC"
+WHOLE, STRAY = text(STAYS.encode() + b"\r"), text(b"XXXX", 1)
 STRAYS = WHOLE + [WHOLE[1], *STRAY, WHOLE[2], *STRAY, *WHOLE[1:]]
 CLOCKS, TRAFFIC = NAMED + 3 * [clock(61128, 1, 30, 4)], NAMED + 2 * [group("8A", 1, 2, 3)]
-OF_B = name(b"PAXO 318", kind="0B")
+OF_B, OTHER_3 = name(b"PAXO 318", kind="0B"), Damage(3, CORRECTED, 0xD319)
+BOTH, TAKEN = [group("6A", 0, pty=9), *2 * OF_B], NAMED + [oda(0x1234, "2A")] + A_TEXT
+GUEST = NAMED + [(0xD319, *group("6A", 0, pty=5)[1:])] + NAMED
 PAXO = ["PAXO 318"]
 # By their titles, groups with their damage, the items, and the values that are told of these.
 CASES: Dict[str, Tuple[List[Words], List[Tuple[int, Damage]], str, List[Any]]] = {
@@ -51,47 +54,22 @@ CASES: Dict[str, Tuple[List[Words], List[Tuple[int, Damage]], str, List[Any]]] =
     "two corrected pairs beside two valid ones": (NAMED, each([1, 2], MEND[4]), "ps", []),
     "valid blocks of groups that are not whole, thrice": (THRICE, each(range(12), LOSE[3]), "ps", PAXO),
     "valid blocks of groups that are not whole, once": (NAMED, each(range(4), LOSE[3]), "ps", []),
-    "a corrected block, then a valid one": (
-        *([IN_HOUSE, *NAMED, *NAMED], each(range(1, 9), LOSE[3]) + each(range(1, 5), MEND[4])),
-        *("ps", PAXO),
-    ),
-    "a valid block, then a corrected one": (
-        *([IN_HOUSE, *NAMED, *NAMED], each(range(1, 9), LOSE[3]) + each(range(5, 9), MEND[4])),
-        *("ps", PAXO),
-    ),
+    "a corrected block, then a valid one": (TWICE, LACKING + each(range(1, 5), MEND[4]), "ps", PAXO),
+    "a valid block, then a corrected one": (TWICE, LACKING + each(range(5, 9), MEND[4]), "ps", PAXO),
     "a wrong correction once": (THRICE, [(5, Damage(4, CORRECTED, 0x5151))], "ps", PAXO),
     "a value in between breaks a row": (TURNS, each(range(6), LOSE[3]), "pty", []),
-    "halves of groups make a text": (
-        5 * A_TEXT,
-        each(range(6), LOSE[4]) + each(range(6, 10), LOSE[3]),
-        "rt",
-        ["A text"],
-    ),
+    "halves of groups make a text": (5 * A_TEXT, HALVES, "rt", ["A text"]),
     "a text of which blocks 4 were lost": (3 * A_TEXT, each(range(6), LOSE[4]), "rt", []),
-    "pairs under a flag that does not count": (
-        STRAYS,
-        each([5, 7], LOSE[1]),
-        "rt rt_ab",
-        ["A", "AAAABBBBCCCC"],
-    ),
+    "pairs under a flag that does not count": (STRAYS, each([5, 7], LOSE[1]), "rt rt_ab", ["A", STAYS]),
     "clock time needs a valid group": (CLOCKS, each([4, 5, 6], MEND[1]), "ct", []),
     "a PI once in a corrected block": (2 * NAMED, [(4, Damage(1, CORRECTED, 0xD319))], "pi", ["D318"]),
-    "a group of a PI that does not count": (
-        *(NAMED + [(0xD319, *group("6A", 0, pty=5)[1:])] + NAMED, each([4], LOSE[3])),
-        *("pi pty", ["D318", 10]),
-    ),
-    "blocks 1 and 3 that name two programmes": (
-        *([group("6A", 0, pty=9), *2 * OF_B], each(range(1, 9), Damage(3, CORRECTED, 0xD319))),
-        *("pi ps pty", ["D318", 9]),
-    ),
+    "a group of a PI that does not count": (GUEST, each([4], LOSE[3]), "pi pty", ["D318", 10]),
+    "blocks 1 and 3 that name two programmes": (BOTH, each(range(1, 9), OTHER_3), "pi ps pty", ["D318", 9]),
     "a programme by block 3 of version B": (3 * OF_B, each(range(12), LOSE[1]), "pi ps", ["D318", *PAXO]),
     "a feature in corrected blocks": (TRAFFIC, each([4, 5], MEND[2]), "tmc", []),
     "a feature once in a valid block": (TRAFFIC, each([4], LOSE[4]) + each([5], MEND[2]), "tmc", []),
     "a feature in two valid blocks": (TRAFFIC, each([4, 5], LOSE[4]), "tmc", [True]),
-    "an application by a wrong correction takes no group": (
-        *(NAMED + [oda(0x1234, "2A")] + A_TEXT, each([4], MEND[4])),
-        *("rt oda:1234", ["A text"]),
-    ),
+    "an application by a wrong correction": (TAKEN, each([4], MEND[4]), "rt oda:1234", ["A text"]),
 }
 
 
