@@ -41,22 +41,14 @@ GROUP = (0xD393, 0x0548, 0xE0CD, 0x5041)
 
 
 def test_a_buffer_of_bytes_is_needed(station: bytes) -> None:
-    wanted = librds.totals(station)
-    for data in (
-        bytearray(station),
-        memoryview(station),
-        numpy.frombuffer(station, "u1"),
-        memoryview(station + b"x")[:-1],
-        memoryview(station).cast("c"),
-    ):
-        assert librds.totals(data) == wanted
-    doubled = numpy.repeat(numpy.frombuffer(station, "u1"), 2)
-    assert librds.totals(doubled[::2]) == wanted
+    wanted, view, flat = librds.totals(station), memoryview(station), numpy.frombuffer(station, "u1")
+    every_second = numpy.repeat(flat, 2)[::2]
+    parts = memoryview(station + b"x")[:-1], view.cast("c"), every_second
+    assert all(librds.totals(data) == wanted for data in (bytearray(station), view, flat, *parts))
     for data in (25000, "text", [1, 2], None, numpy.zeros(8, "i8"), numpy.zeros(8, bool)):
-        with pytest.raises(TypeError):
-            librds.totals(data)
-        with pytest.raises(TypeError):
-            librds.Follower().push(data)
+        for call in (librds.totals, librds.Follower().push):
+            with pytest.raises(TypeError):
+                call(data)
 
 
 def refusal(call: Callable[[], object]) -> int:
@@ -166,11 +158,9 @@ def test_memory_that_is_refused() -> None:
 
 @pytest.mark.parametrize("rules", [None, (2, 3, 10, 0), "2"])
 def test_rules_are_rules(rules: object) -> None:
-    for call in (librds.totals, librds.items, librds.items_array):
+    for call in (librds.totals, librds.items, librds.items_array, lambda _, rules: librds.Follower(rules)):
         with pytest.raises(TypeError, match="rules are a librds.Rules, not"):
             call(b"", rules=rules)
-    with pytest.raises(TypeError, match="rules are a librds.Rules, not"):
-        librds.Follower(rules)
 
 
 def test_rows_are_flat_and_typed(station: bytes) -> None:
@@ -248,10 +238,8 @@ def test_a_wheel_with_the_library(tmp_path, station: bytes) -> None:
     code = "import sys, librds; print(librds.__file__); print(librds.totals(sys.stdin.buffer.read()).groups)"
     options = {"input": station, "capture_output": True, "env": environment, "check": True, "cwd": tmp_path}
     (package,) = (tmp_path / "venv").glob("lib/*/site-packages/librds")
-    assert subprocess.run([inside, "-c", code], **options).stdout.decode().split() == [
-        str(package / "__init__.py"),
-        "1923",
-    ]
+    done = subprocess.run([inside, "-c", code], **options)
+    assert done.stdout.decode().split() == [str(package / "__init__.py"), "1923"]
     other = wheel_of(next(name for name in ("/bin/bash", "/bin/ls") if os.path.exists(name)), tmp_path)
     assert other.returncode == 1 and "a wheel cannot need" in other.stderr
 
@@ -518,9 +506,8 @@ def test_which_library_is_loaded(tmp_path) -> None:
     ffi = importlib.import_module("librds._ffi")
     nodes = re.findall(r"^RDS_(\d+)\.(\d+) \{(.*?)\}", (TOP / "lib" / "rds.map").read_text(), re.M | re.S)
     needed = [node[:2] for node in nodes if any(f"{function};" in node[2] for function in ffi.FUNCTIONS)]
-    assert (
-        max(tuple(map(int, node)) for node in needed) == ffi.VERSION[:2] and ffi.VERSION <= librds.version()
-    )
+    latest = max(tuple(map(int, node)) for node in needed)
+    assert latest == ffi.VERSION[:2] and ffi.VERSION <= librds.version()
 
 
 def test_files_and_sums_of_a_wheel(tmp_path) -> None:
@@ -528,7 +515,7 @@ def test_files_and_sums_of_a_wheel(tmp_path) -> None:
     path = wheel_of(LIBRARY, tmp_path).stdout.strip()
     with zipfile.ZipFile(path) as wheel:
         files = {name: wheel.read(name) for name in wheel.namelist()}
-        forms = {(it.date_time, it.external_attr >> 16, it.compress_type) for it in wheel.infolist()}
+        forms = {(one.date_time, one.external_attr >> 16, one.compress_type) for one in wheel.infolist()}
     # So the same library gives the same bytes, and all may read the installed files.
     assert forms == {((1980, 1, 1, 0, 0, 0), 0o100644, zipfile.ZIP_DEFLATED)}
     record = next(name for name in files if name.endswith("/RECORD"))
@@ -541,9 +528,8 @@ def test_files_and_sums_of_a_wheel(tmp_path) -> None:
     package = {file.partition("/")[2] for file in files if file.startswith("librds/")}
     assert package == {"__init__.py", "_ffi.py", "py.typed", "librds.so.0"}
     project = (BINDINGS / "pyproject.toml").read_text()
-    says, form = (
-        email.message_from_bytes(files[record.replace("RECORD", name)]) for name in ("METADATA", "WHEEL")
-    )
+    texts = [files[record.replace("RECORD", name)] for name in ("METADATA", "WHEEL")]
+    says, form = map(email.message_from_bytes, texts)
     for line in (
         f'requires-python = "{says["Requires-Python"]}"',
         f'version = "{says["Version"]}"',
