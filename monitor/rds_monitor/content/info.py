@@ -49,9 +49,8 @@ def options_info(parser: argparse.ArgumentParser) -> None:
         "items in CSV and JSON, with examples of which of several:\n" + textwrap.indent(ITEMS, "  ")
     )
     input_options(parser)
-    parser.add_argument(
-        "--rbds", action="store_true", help="RBDS: its names of programme types, and call letters by the PI"
-    )
+    of_rbds = "RBDS: its names of programme types, and call letters by the PI"
+    parser.add_argument("--rbds", action="store_true", help=of_rbds)
     form = parser.add_mutually_exclusive_group()
     form.add_argument("--csv", action="store_true", help="a row per change")
     form.add_argument("--json", action="store_true", help="a line of JSON per change")

@@ -5,7 +5,7 @@ from __future__ import annotations
 import argparse
 import sys
 from functools import partial
-from typing import BinaryIO, Callable, Dict, Iterator, NamedTuple, Tuple
+from typing import Any, BinaryIO, Callable, Dict, Iterator, NamedTuple, Tuple
 
 import numpy
 
@@ -175,23 +175,21 @@ def options_pack(parser: argparse.ArgumentParser) -> None:
         "examples:\n  rds-monitor pack --from bytes bits.dat > recording.bin\n"
         "  rds-monitor pack --from f32 --invert soft.f32 | rds list"
     )
-    parser.add_argument(
-        "input", nargs="?", default="-", metavar="INPUT", help="the bits (default: - for standard input)"
-    )
-    parser.add_argument(
-        "--from",
-        dest="form",
-        required=True,
-        choices=sorted(NAMES),
-        metavar="FORM",
-        help="; ".join(f"{name}: {text}" for name, text in NAMES.items()),
-    )
-    parser.add_argument("--lsb-first", action="store_true", help="the bytes are LSB first (packed and hex)")
-    parser.add_argument("--invert", action="store_true", help="invert the bits")
-    parser.add_argument("--differential", action="store_true", help="decode the bits differentially")
-    parser.add_argument(
-        "--output", default="-", metavar="FILE", help="write to FILE (default: standard output)"
-    )
+    file, flag = {"default": "-", "metavar": "FILE"}, {"action": "store_true"}
+    forms = {"dest": "form", "required": True, "choices": sorted(NAMES), "metavar": "FORM"}
+    options: Dict[str, Tuple[Dict[str, Any], str]] = {
+        "input": (
+            {"nargs": "?", "default": "-", "metavar": "INPUT"},
+            "the bits (default: - for standard input)",
+        ),
+        "--from": (forms, "; ".join(f"{name}: {text}" for name, text in NAMES.items())),
+        "--lsb-first": (flag, "the bytes are LSB first (packed and hex)"),
+        "--invert": (flag, "invert the bits"),
+        "--differential": (flag, "decode the bits differentially"),
+        "--output": (file, "write to FILE (default: standard output)"),
+    }
+    for name, (how, text) in options.items():
+        parser.add_argument(name, help=text, **how)
 
 
 def open_binary(path: str, mode: str) -> BinaryIO:
