@@ -153,9 +153,8 @@ class Evidence:
         message = counted.key >> POSITION_BITS
         bounds: List[int] = numpy.flatnonzero(_firsts(message)).tolist()
         names = message[bounds].tolist()
-        state = numpy.repeat(
-            [self.states.get(name, 0) for name in names], numpy.diff([*bounds, message.size])
-        )
+        known = [self.states.get(name, 0) for name in names]
+        state = numpy.repeat(known, numpy.diff([*bounds, message.size]))
         tick = counted.at << POSITION_BITS | counted.key & (1 << POSITION_BITS) - 1
         for begin, end, name in zip(bounds, [*bounds[1:], message.size], names):
             ticks = numpy.sort(tick[begin:end][changed[begin:end]])

@@ -90,9 +90,8 @@ def _looks() -> Dict[Kind, List[Look]]:
 
 LOOKS = _looks()
 # Kinds that are each sifted by themselves, and those of a part of the texts below.
-APART = {
-    Kind[name] for name in "TP_PTY ODA ODA_MESSAGE EON_TA TDC_DATA IH_DATA AF EON_AF CT TAGS ERT_TAGS".split()
-}
+_APART = "TP_PTY ODA ODA_MESSAGE EON_TA TDC_DATA IH_DATA AF EON_AF CT TAGS ERT_TAGS"
+APART = {Kind[name] for name in _APART.split()}
 FLAGS = (Kind.RT_FLAG, Kind.PTYN_FLAG, Kind.ERT_CODING)
 
 

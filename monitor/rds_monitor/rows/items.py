@@ -92,10 +92,9 @@ def totals_of(rows: Rows) -> Totals:
     complete = (kinds[0] & kinds[1] & kinds[2] & kinds[3] & VALID) > 0
     counts = outcomes[LOST], numpy.unpackbits(bursts.view("u1")).sum(), what[GROUP], complete.sum()
     lost, bits, groups, whole = map(int, counts)
-    acquired, losses = int(what[ACQUIRED]), int(what[LOSS])
-    return Totals(
-        int(outcomes[VALID]), tuple(lengths[1:6].tolist()), lost, bits, groups, whole, acquired, losses
-    )
+    gains, losses = int(what[ACQUIRED]), int(what[LOSS])
+    of_bursts = tuple(lengths[1:6].tolist())
+    return Totals(int(outcomes[VALID]), of_bursts, lost, bits, groups, whole, gains, losses)
 
 
 def burst_lengths(masks: Rows) -> Rows:

@@ -119,10 +119,8 @@ class Receiver:
         mpx_rate = self._fm.rate if self._fm else Fraction(rate)
         # Decisions are made after the equaliser, levels are measured before it.
         rows = 2 if equalise else 1
-        shape, block = (CARRIER_HZ, CHIP_RATE, matched_filter, SAMPLES_PER_CHIP * CHIP_RATE), at_least(
-            mpx_rate / 4
-        )
-        self._band = Passband(mpx_rate, *shape, block, True, rows)
+        shape = (CARRIER_HZ, CHIP_RATE, matched_filter, SAMPLES_PER_CHIP * CHIP_RATE)
+        self._band = Passband(mpx_rate, *shape, at_least(mpx_rate / 4), True, rows)
         self.quality = Quality(1.0, True, self._fm.response) if self._fm else Quality(full_scale)
         self._band.watch = self.quality.watch
         self._rate = float(self._band.rate_out)
