@@ -17,7 +17,7 @@ from rds_monitor.rows.clock import Clock
 from rds_monitor.rows.items import CORRECTED, LOST
 from sent import Damage, Words, group
 
-SEEDS, GROUPS = 200, 500
+SEEDS, GROUPS = 100, 500
 # How long a name, a text or a list may be told after it was sent: turns that are joined, as groups of the station.
 KEPT = 700
 LETTERS = "ABCDEFGHIJKLMNOPQRSTUVWXYZ 0123456789"
@@ -92,7 +92,7 @@ class Station:
         groups = sent.text(text.encode() + b"\r", self._flag, self._chance.choice(("2A", "2A", "2A", "2B")))
         found = [Said(words, {"rt_ab": "AB"[self._flag]}, {"rt": text}) for words in groups]
         title = text.partition(" ")[0]
-        if self._chance.random() < 0.5 and 0 < len(title) < len(text):
+        if 0 < len(title) < len(text):
             tag = sent.tags(1, 1, (1, 0, len(title) - 1), kind=self._applications[0x4BD7])
             own = {"rt_plus_toggle": 1, "rt_plus_running": True, "rt_plus:item.title": title}
             found.append(Said(tag, own))
