@@ -114,7 +114,5 @@ def _group_row(place: int, words: Sequence[int]) -> Tuple[int, ...]:
     is_b = second >> 11 & 1 if second >= 0 else third >= 0 and third == first
     version = (VERSION_B if is_b else VERSION_A) if max(second, third) >= 0 else VERSION_UNKNOWN
     offsets = (1, 2, 4 if is_b else 3, 5)
-    found = (
-        (0, word, VALID, offset) if word >= 0 else (0, 0, LOST, 0) for word, offset in zip(words, offsets)
-    )
+    found = ((0, word, VALID, own) if word >= 0 else (0, 0, LOST, 0) for word, own in zip(words, offsets))
     return (place, *chain(*found), GROUP, second >> 12 if second >= 0 else UNKNOWN_TYPE, version, 0)
