@@ -96,10 +96,14 @@ def test_a_recipe(title: str, kitchen: Path, done: Callable[[str], str]) -> None
     for commands, wanted in zip(BLOCKS[title], WANTED[title]):
         if "clock" in commands:
             (kitchen / "recording.bin").write_bytes(told_by_the_clock())
-        is_error = title == "Explain an error"
-        out = done(f"{commands.rstrip()} 2>&1 || [ $? = 1 ]" if is_error else f"set -e\n{commands}")
-        named = [kitchen / text for text in re.findall(r"> (\S+)", commands)]
-        files = [*named, *kitchen.glob("listings/*.csv")]
+        out = done(
+            f"set -e\n{commands}"
+            if title != "Explain an error"
+            else f"{commands.rstrip()} 2>&1 || [ $? = 1 ]"
+        )
+        files = [kitchen / text for text in re.findall(r"> (\S+)", commands)] + [
+            *kitchen.glob("listings/*.csv")
+        ]
         assert all(file.stat().st_size for file in files)
         assert wanted in out + "".join(file.read_bytes().decode("latin-1") for file in files)
 
