@@ -243,22 +243,18 @@ def test_rows_of_damaged_groups() -> None:
     assert found[4] == {"kind": "lost", "place": 233, "time_s": 0.196}
 
 
+PIN = 15 << 11 | 20 << 6 | 30
+
+
 def redsea(*groups: Words, data: bytes = b"") -> List[Dict[str, Any]]:
     return lines(said("json", "--redsea", "--unfinished", data=data or bits(*groups)))
 
 
 def test_redsea_has_a_line_per_group_with_its_keys() -> None:
-    groups = [
-        *name(b"PAXO 318", [0xE301, 0xFA01, 0xCCCD]),
-        *(
-            label(0, 0xE0, 15 << 11 | 20 << 6 | 30),
-            label(3, 8),
-            *text(b"Song by Singer\r"),
-            oda(0x4BD7, "11A"),
-        ),
-        *(tags(1, 1, (1, 0, 3), (4, 8, 5)), clock(61128, 1, 30, 4), eon(13, 17 << 11 | 1)),
-        *(group("14B", 0x18, 0, 0xD312), group("5A", 3, 0xFF01, 0x0203)),
-    ]
+    groups = [*name(b"PAXO 318", [0xE301, 0xFA01, 0xCCCD]), label(0, 0xE0, PIN), label(3, 8)]
+    groups += [*text(b"Song by Singer\r"), oda(0x4BD7, "11A"), tags(1, 1, (1, 0, 3), (4, 8, 5))]
+    groups += [clock(61128, 1, 30, 4), eon(13, 17 << 11 | 1), group("14B", 0x18, 0, 0xD312)]
+    groups.append(group("5A", 3, 0xFF01, 0x0203))
     found = redsea(*groups)
     assert len(found) == len(groups)
     every = {"pi": "0xD318", "tp": True, "prog_type": "Pop music"}
@@ -295,7 +291,6 @@ def test_json_has_the_bytes_of_channels_and_in_house_data() -> None:
     assert "FF 01" not in said("info", data=data)
 
 
-PIN = 15 << 11 | 20 << 6 | 30
 # Groups that are rare, with the keys of each.
 RARE: List[Tuple[Words, Dict[str, Any]]] = [
     (clock(61128, 1, 30, 0), {"clock_time": "2026-03-29T01:30:00Z"}),
