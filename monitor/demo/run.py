@@ -37,28 +37,13 @@ STATIONS = (
 
 
 def table(folder: Path) -> str:
-    lines = [f"folder = {json.dumps(str(folder))}"]
+    found = f"folder = {json.dumps(str(folder))}\n"
     for name, frequency, pi, ps, rt, more in STATIONS:
-        command = [
-            sys.executable,
-            str(HERE / "station.py"),
-            "--pi",
-            pi,
-            "--ps",
-            ps,
-            "--rt",
-            rt,
-            *more.split(),
-        ]
-        lines += [
-            "[[station]]",
-            f'name = "{name}"',
-            f"frequency = {frequency}",
-            f'pi = "{pi}"',
-            f'ps = "{ps}"',
-        ]
-        lines.append(f"command = {json.dumps(command)}")
-    return "\n".join(lines) + "\n"
+        options = ["--pi", pi, "--ps", ps, "--rt", rt, *more.split()]
+        command = json.dumps([sys.executable, str(HERE / "station.py"), *options])
+        found += f'[[station]]\nname = "{name}"\nfrequency = {frequency}\npi = "{pi}"\nps = "{ps}"\n'
+        found += f"command = {command}\n"
+    return found
 
 
 def environment() -> "dict[str, str]":
@@ -72,9 +57,8 @@ def environment() -> "dict[str, str]":
 
 
 def has(module: str, known: "dict[str, str]") -> bool:
-    return not subprocess.call(
-        [sys.executable, "-c", f"import {module}"], env=known, stderr=subprocess.DEVNULL
-    )
+    words = [sys.executable, "-c", f"import {module}"]
+    return not subprocess.call(words, env=known, stderr=subprocess.DEVNULL)
 
 
 def decoder(known: "dict[str, str]") -> "list[str]":

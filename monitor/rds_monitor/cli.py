@@ -71,12 +71,9 @@ class Parser(argparse.ArgumentParser):
 
 
 def parser_of(command: Command) -> Parser:
-    parser = Parser(
-        prog=f"rds-monitor {command.name}",
-        description=command.summary[0].upper() + command.summary[1:] + ".",
-        formatter_class=argparse.RawDescriptionHelpFormatter,
-        allow_abbrev=False,
-    )
+    name, text = f"rds-monitor {command.name}", f"{command.summary[0].upper()}{command.summary[1:]}."
+    form = argparse.RawDescriptionHelpFormatter
+    parser = Parser(prog=name, description=text, formatter_class=form, allow_abbrev=False)
     command.options(parser)
     return parser
 

@@ -29,9 +29,8 @@ def options_why(parser: argparse.ArgumentParser) -> None:
         "example:\n  rds-monitor why encode < groups.txt\n"
         "  rds-monitor why list --hex --gaps=104-105,100-130 < recording.hex"
     )
-    parser.add_argument(
-        "words", metavar="WORD", nargs=argparse.REMAINDER, help="the words that rds was called with"
-    )
+    text = "the words that rds was called with"
+    parser.add_argument("words", metavar="WORD", nargs=argparse.REMAINDER, help=text)
 
 
 def run_why(arguments: argparse.Namespace) -> int:
@@ -70,18 +69,13 @@ def bits_held(words: Sequence[str], held: bytes) -> int:
     return 8 * len(held)
 
 
-def bits_of_input(words: Sequence[str], held: bytes) -> List[str]:
-    return [f"the input holds {bits_held(words, held)} bits"]
-
-
 def hex_text(_words: Sequence[str], held: bytes) -> List[str]:
     found = HEX_TEXT.match(held)
     at = found.end() if found else 0
     if at < len(held):
         line, column = held.count(b"\n", 0, at) + 1, at - (held.rfind(b"\n", 0, at) + 1) + 1
-        return [
-            f"byte {at + 1} (line {line}, column {column}) is 0x{held[at]:02X}, neither a digit nor blank"
-        ]
+        place = f"byte {at + 1} (line {line}, column {column})"
+        return [f"{place} is 0x{held[at]:02X}, neither a digit nor blank"]
     return [f"there are {bits_held(['--hex'], held) // 4} digits, an odd number"]
 
 
@@ -100,12 +94,11 @@ def bad_gaps(words: Sequence[str], held: bytes) -> List[str]:
     for number, gap in enumerate((option(words, "gaps") or "").split(","), 1):
         begin, _, after = gap.partition("-")
         start, stop = int(begin), int(after)
-        faults = [
+        for is_bad, fault in (
             (start >= stop, "is empty"),
             (stop > bits, f"goes past the end of the recording, {bits} bits"),
             (start < end, f"begins before {end}, the end of the one before it"),
-        ]
-        for is_bad, fault in faults:
+        ):
             if is_bad:
                 return [f"gap {number}, {gap}, {fault}"]
         end = stop
@@ -146,14 +139,12 @@ def blocks_e(words: Sequence[str], held: bytes) -> List[str]:
     found = int(numpy.bincount(numpy.flatnonzero(is_told) % 26, minlength=26).max())
     if not found:
         return []
-    return [
-        f"{found} of the blocks in the first {len(bits)} bits have offset word E (RBDS with MMBS): they count as bad, and 10 in "
-        "a row lose sync; --loss 64 keeps it"
-    ]
+    counted = f"{found} of the blocks in the first {len(bits)} bits have offset word E (RBDS with MMBS)"
+    return [f"{counted}: they count as bad, and 10 in a row lose sync; --loss 64 keeps it"]
 
 
 TELLERS: Dict[int, Callable[[Sequence[str], bytes], List[str]]] = {
-    4: bits_of_input,
+    4: lambda words, held: [f"the input holds {bits_held(words, held)} bits"],
     11: hex_text,
     12: group_text,
     16: bad_gaps,

@@ -7,7 +7,7 @@ import subprocess
 import sys
 import time
 from pathlib import Path
-from typing import Any, Callable, Iterable, Sequence
+from typing import Any, Iterable, Sequence
 
 import forked
 import pytest
@@ -64,15 +64,3 @@ def station() -> bytes:
 @pytest.fixture(scope="session")
 def station_listing(station: bytes) -> bytes:
     return rds("list", data=station)
-
-
-@pytest.fixture
-def said() -> Callable[..., str]:
-    """Standard output of a command that must end well."""
-
-    def run(*words: Any, data: bytes = b"") -> str:
-        done = monitor(*words, data=data)
-        assert done.returncode == 0, done.stderr.decode()
-        return done.stdout.decode()
-
-    return run

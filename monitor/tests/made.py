@@ -7,45 +7,43 @@ import os
 import pty
 import subprocess
 import sys
-from typing import Any, Dict, Iterator, List, NamedTuple, Optional, Sequence
+from typing import Any, Dict, Iterable, List, NamedTuple, Optional, Sequence
 from unittest import mock
 
 import numpy
 
 from rds_monitor import cli
-from rds_monitor.rows.items import (
-    ACQUIRED,
-    CORRECTED,
-    GROUP,
-    ITEM,
-    LOSS,
-    LOST,
-    VALID,
-    Reading,
-    Rows,
-    totals_of,
-)
+from rds_monitor.rows.items import ACQUIRED, CORRECTED, GROUP, ITEM, LOSS, LOST, VALID, Reading, Rows
+from rds_monitor.rows.items import totals_of
 from rds_monitor.rows.listing import Listing, text_of, totals_text
 from rds_monitor.rows.parse import _set_types
 
 BLOCK_OFFSETS = (1, 2, 3, 5)
 
 
+def damaged(data: bytes, rate: float, seed: int) -> bytes:
+    """The bits, of which each is inverted at this rate."""
+    inverted = numpy.random.default_rng(seed).random(8 * len(data)) < rate
+    return (numpy.frombuffer(data, "u1") ^ numpy.packbits(inverted)).tobytes()
+
+
 def block(row: Any, number: int, word: Optional[int], burst: int = 0) -> None:
     """Sets a block of a row: valid, corrected with a burst, or without a word uncorrectable."""
     row[f"kind{number}"] = LOST if word is None else CORRECTED if burst else VALID
     if word is not None:
-        row[f"info{number}"], row[f"burst{number}"], row[f"offset{number}"] = (
-            word,
-            burst,
-            BLOCK_OFFSETS[number - 1],
-        )
+        for name, value in (("info", word), ("burst", burst), ("offset", BLOCK_OFFSETS[number - 1])):
+            row[f"{name}{number}"] = value
+
+
+def row_of(what: int, place: int, number: int = 0) -> Rows:
+    rows = numpy.zeros(1, ITEM)
+    rows["what"], rows["place"], rows["number"] = what, place, number
+    return rows
 
 
 def group_row(place: int, words: Sequence[Optional[int]], first: int = 1, prime: bool = False) -> Rows:
     """A group whose blocks from `first` on were read; with `prime` block 3 has offset C'."""
-    rows = numpy.zeros(1, ITEM)
-    rows["what"], rows["place"] = GROUP, place
+    rows = row_of(GROUP, place)
     for number, word in enumerate(words, first):
         block(rows[0], number, word)
     if prime and rows["kind3"][0] >= VALID:
@@ -55,15 +53,11 @@ def group_row(place: int, words: Sequence[Optional[int]], first: int = 1, prime:
 
 
 def acquired_row(place: int, number: int) -> Rows:
-    rows = numpy.zeros(1, ITEM)
-    rows["what"], rows["place"], rows["number"] = ACQUIRED, place, number
-    return rows
+    return row_of(ACQUIRED, place, number)
 
 
 def loss_row(place: int) -> Rows:
-    rows = numpy.zeros(1, ITEM)
-    rows["what"], rows["place"] = LOSS, place
-    return rows
+    return row_of(LOSS, place)
 
 
 def lock(begin: int, groups: Sequence[Sequence[Optional[int]]], lost: bool = True) -> List[Rows]:
@@ -73,16 +67,19 @@ def lock(begin: int, groups: Sequence[Sequence[Optional[int]]], lost: bool = Tru
     return rows + ([loss_row(begin + 104 * len(groups) - 1)] if lost else [])
 
 
-def listing(rows: Sequence[Rows], totals: bool = True) -> bytes:
+def joined(rows: Iterable[Rows]) -> Rows:
+    return numpy.concatenate([numpy.zeros(0, ITEM), *rows])
+
+
+def listing(rows: Iterable[Rows], totals: bool = True) -> bytes:
     """The text of rows, with their totals."""
-    whole = numpy.concatenate([numpy.zeros(0, ITEM), *rows])
+    whole = joined(rows)
     return text_of(whole) + (totals_text(totals_of(whole)) if totals else b"")
 
 
 def read(text: bytes, **options: Any) -> Rows:
     """The rows of a listing."""
-    source = Listing(io.BytesIO(text), b"", Reading(**options))
-    return numpy.concatenate([numpy.zeros(0, ITEM), *source.chunks()])
+    return joined(Listing(io.BytesIO(text), b"", Reading(**options)).chunks())
 
 
 def split(words: Sequence[Any]) -> List[Any]:
@@ -106,7 +103,7 @@ def run(*words: Any, data: bytes = b"") -> Done:
             status = cli.main([str(word) for word in words])
         except SystemExit as end:
             status = end.code if isinstance(end.code, int) else 1
-    out, err = (stream.detach().getvalue().decode() for stream in streams[1:])  # type: ignore[attr-defined]
+    out, err = (stream.detach().getvalue().decode() for stream in streams[1:])
     return Done(status, out, err)
 
 
@@ -147,11 +144,6 @@ def peak_memory(*words: str, data: bytes) -> int:
     )
     done = subprocess.run([sys.executable, "-c", code, *words], input=data, capture_output=True)
     return int(done.stderr.splitlines()[-1])
-
-
-def chunks_of(data: bytes, size: int) -> Iterator[bytes]:
-    for begin in range(0, len(data), size):
-        yield data[begin : begin + size]
 
 
 def session_of(**changes: Any) -> Dict[str, Any]:

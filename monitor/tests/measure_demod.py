@@ -33,13 +33,16 @@ def whole_groups(bits: bytes) -> List[Words]:
     return found
 
 
-def received(
-    signal: Array, rate: int, block: int = 65536, **options: Any
-) -> Tuple[List[Words], Dict[str, Any]]:
-    """The groups of a signal, handed over a block at a time, and the report."""
-    receiver = Receiver(rate, numpy.iscomplexobj(signal), **options)
+def bits_of(receiver: Receiver, signal: Array, block: int = 65536) -> Array:
+    """The bits of a signal that is handed over a block at a time."""
     parts = [receiver.push(signal[at : at + block]) for at in range(0, signal.size, block)]
-    groups = whole_groups(numpy.packbits(numpy.concatenate([*parts, receiver.finish()])).tobytes())
+    return numpy.concatenate([*parts, receiver.finish()])
+
+
+def received(signal: Array, rate: int, block: int = 65536, **options: Any) -> Tuple[List[Words], Any]:
+    """The groups of a signal, and the report."""
+    receiver = Receiver(rate, numpy.iscomplexobj(signal), **options)
+    groups = whole_groups(numpy.packbits(bits_of(receiver, signal, block)).tobytes())
     return groups, receiver.quality.report()
 
 
@@ -105,15 +108,13 @@ TABLES = {
         levels,
         {
             f"{rate:,} | {cnr} dB": (rate, cnr)
-            for rate, cnr in (
-                (171000, 15),
-                (171000, 50),
-                (250000, 15),
-                (250000, 50),
-                (1024000, 30),
-                (2400000, 15),
-                (2400000, 50),
+            for rate, ratios in (
+                (171000, (15, 50)),
+                (250000, (15, 50)),
+                (1024000, (30,)),
+                (2400000, (15, 50)),
             )
+            for cnr in ratios
         },
     ),
     "multipath": Table(

@@ -55,8 +55,7 @@ def baseband(chips: Array, times: Array) -> Array:
         chip /= below
         total += chip
     signal = numpy.cos(2 * numpy.pi * within) * total + at_poles
-    result: Array = signal / numpy.sqrt(numpy.mean(signal**2))
-    return result
+    return signal / numpy.sqrt(numpy.mean(signal**2))
 
 
 def low_noise(random: numpy.random.Generator, size: int, rate: int) -> Array:
@@ -74,9 +73,8 @@ def longer_audio(longer: int, rate: int) -> Array:
     random = numpy.random.default_rng(5)
     # Half of the power of each channel is in both.
     both, difference = (low_noise(random, longer, rate) for _ in range(2))
-    programme = numpy.sqrt(3) * both + difference * numpy.sin(
-        4 * numpy.pi * PILOT_HZ / rate * numpy.arange(longer)
-    )
+    stereo = numpy.sin(4 * numpy.pi * PILOT_HZ / rate * numpy.arange(longer))
+    programme = numpy.sqrt(3) * both + difference * stereo
     result: Array = programme / (4 * numpy.std(programme))
     result.setflags(write=False)
     return result
@@ -146,15 +144,13 @@ def phases(multiplex: Array, rate: int) -> Array:
     size = 1 << multiplex.size.bit_length()
     spectrum = numpy.fft.rfft(multiplex, size) * numpy.sinc(numpy.fft.rfftfreq(size))
     means = numpy.fft.irfft(spectrum)[: multiplex.size]
-    result: Array = 2 * numpy.pi * DEVIATION_HZ / rate * numpy.cumsum(means)
-    return result
+    return 2 * numpy.pi * DEVIATION_HZ / rate * numpy.cumsum(means)
 
 
 def delayed(signal: Array, samples: float) -> Array:
     """By a number of samples that need not be whole."""
     frequencies = numpy.fft.fftfreq(signal.size)
-    result: Array = numpy.fft.ifft(numpy.fft.fft(signal) * numpy.exp(-2j * numpy.pi * frequencies * samples))
-    return result
+    return numpy.fft.ifft(numpy.fft.fft(signal) * numpy.exp(-2j * numpy.pi * frequencies * samples))
 
 
 def iq(
@@ -177,11 +173,9 @@ def iq(
     if cnr is not None:
         random = numpy.random.default_rng(seed + 100)
         power = numpy.mean(numpy.abs(received) ** 2) / 10 ** (cnr / 10) * rate / 200e3
-        received += numpy.sqrt(power / 2) * (
-            random.standard_normal(sent.size) + 1j * random.standard_normal(sent.size)
-        )
-    result: Array = received * numpy.exp(2j * numpy.pi * offset * times)
-    return result
+        noise = random.standard_normal(sent.size) + 1j * random.standard_normal(sent.size)
+        received += numpy.sqrt(power / 2) * noise
+    return received * numpy.exp(2j * numpy.pi * offset * times)
 
 
 # ---- samples as files
@@ -193,9 +187,8 @@ def stored(values: Array, form: str, peak: float = 3.0) -> bytes:
     if form in ("f32", "f64"):
         return flat.astype("<f4" if form == "f32" else "<f8").tobytes()
     bits = {"u8": 8, "s16": 16, "s24": 24, "s32": 32}[form]
-    whole = numpy.clip(
-        numpy.rint(flat / peak * (2 ** (bits - 1) - 1)), -(2 ** (bits - 1)), 2 ** (bits - 1) - 1
-    )
+    full = 2 ** (bits - 1)
+    whole = numpy.clip(numpy.rint(flat / peak * (full - 1)), -full, full - 1)
     if form == "u8":
         return (whole + 128).astype("u1").tobytes()
     if form == "s24":
@@ -229,7 +222,7 @@ def wav(
 def words(seed: int, count: int) -> "list[tuple[int, int, int, int]]":
     """Groups of pseudo-random words."""
     random = numpy.random.default_rng(seed)
-    return [tuple(int(word) for word in row) for row in random.integers(0, 65536, (count, 4))]  # type: ignore[misc]
+    return [tuple(int(word) for word in row) for row in random.integers(0, 65536, (count, 4))]
 
 
 def make_minute(path: str) -> None:

@@ -91,9 +91,11 @@ class Damage(NamedTuple):
     word: Optional[int] = None
 
 
-def rows_of(
-    groups: Sequence[Words], damage: Sequence[Tuple[int, Damage]] = (), acquired: Sequence[int] = (0,)
-) -> Rows:
+# By the numbers of the groups.
+Damages = Sequence[Tuple[int, Damage]]
+
+
+def rows_of(groups: Sequence[Words], damage: Damages = (), acquired: Sequence[int] = (0,)) -> Rows:
     """The rows of groups, with damage to some, and acquisitions before others."""
     by_group: dict[int, List[Damage]] = {}
     for number, one in damage:
@@ -117,10 +119,7 @@ def rows_of(
 
 
 def events_of(
-    groups: Sequence[Words],
-    damage: Sequence[Tuple[int, Damage]] = (),
-    acquired: Sequence[int] = (0,),
-    **options: Any,
+    groups: Sequence[Words], damage: Damages = (), acquired: Sequence[int] = (0,), **options: Any
 ) -> List[Event]:
     return Decoder(**options).feed(rows_of(groups, damage, acquired))
 

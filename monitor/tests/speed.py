@@ -26,36 +26,30 @@ MEMORY_MB = 100
 class Limit(NamedTuple):
     """A command, and how many times the seconds of the list it may take from a recording and from a listing."""
 
-    words: Sequence[str]
-    recording: float
-    listing: float
+    words: str
+    recording: float = 2
+    listing: float = 8
 
 
 LIMITS = (
-    Limit(("errors",), 2, 8),
-    Limit(("outages",), 2, 8),
-    Limit(("groups",), 2, 8),
-    Limit(("programmes",), 2, 8),
-    Limit(("types",), 2, 8),
-    Limit(("info",), 25, 30),
-    Limit(("json", "--redsea"), 35, 40),
-    Limit(("db", "--name", "day", "{folder}/day.db"), 10, 20),
+    *map(Limit, ("errors", "outages", "groups", "programmes", "types")),
+    Limit("info", 25, 30),
+    Limit("json --redsea", 35, 40),
+    Limit("db --name day {folder}/day.db", 10, 20),
 )
 
 
 def make_day(path: Path) -> None:
     import librds
-    import numpy
+    from made import damaged
 
     rows = librds.items_array(STATION.read_bytes())
     rows = rows[rows["what"] == 2][1:-1]
-    words = numpy.stack([rows[f"info{block}"] for block in (1, 2, 3, 4)], 1)
-    sent = (librds.encode(words.tolist()) * (GROUPS // len(words) + 1))[: 13 * GROUPS]
-    random, size = numpy.random.default_rng(1), 1 << 20
+    groups = list(zip(*(rows[f"info{block}"].tolist() for block in (1, 2, 3, 4))))
+    sent, size = (librds.encode(groups) * (GROUPS // len(groups) + 1))[: 13 * GROUPS], 1 << 20
     with open(path, "wb") as file:
         for begin in range(0, len(sent), size):
-            part = numpy.frombuffer(sent[begin : begin + size], "u1")
-            file.write(part ^ numpy.packbits(random.random(8 * len(part)) < 0.01))
+            file.write(damaged(sent[begin : begin + size], 0.01, begin))
 
 
 def measured(words: Sequence[str], given: Optional[Path], into: Path, runs: int) -> Tuple[float, float]:
@@ -85,9 +79,9 @@ def main(runs: int) -> int:
         columns = f"{'times':>6} {'limit':>5} {'MB':>4}"
         print(f"{'command':13} {'recording':>9} {columns}   {'listing':>9} {columns}")
         for limit in LIMITS:
-            row = [f"{' '.join(limit.words[:2])[:13]:13}"]
+            row = [f"{' '.join(limit.words.split()[:2])[:13]:13}"]
             for path, most in ((day, limit.recording), (listing, limit.listing)):
-                words = [*COMMAND, *(word.format(folder=folder) for word in limit.words), str(path)]
+                words = [*COMMAND, *limit.words.format(folder=folder).split(), str(path)]
                 seconds, memory = measured(words, None, folder / "out", runs)
                 unit = min(unit, measured(lister, day, folder / "again", runs)[0])
                 within = seconds <= most * unit and memory < MEMORY_MB
@@ -101,10 +95,8 @@ def main(runs: int) -> int:
     return min(failed, 1)
 
 
-# CPU-seconds for a day's page, and its size.
-REPORT_SECONDS, REPORT_BYTES = 5.0, 1_000_000
-# CPU-seconds for a minute of 192 kHz MPX.
-DEMOD_SECONDS = 1.0
+# CPU-seconds for a day's page, and its size; and for a minute of 192 kHz MPX.
+REPORT_SECONDS, REPORT_BYTES, DEMOD_SECONDS = 5.0, 1_000_000, 1.0
 
 
 def report_within_its_limit(folder: Path, runs: int) -> bool:

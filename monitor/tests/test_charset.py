@@ -42,9 +42,8 @@ def test_every_printed_character_is_that_of_the_table() -> None:
 
 
 def test_controls() -> None:
-    assert [character(code) for code in (0x0A, 0x0B, 0x1F)] == [" ", " ", ""]
-    others = [code for code in range(0x20) if code not in (0x0A, 0x0B, 0x1F)]
-    assert [character(code) for code in others] == [chr(code) for code in others]
+    shown = {0x0A: " ", 0x0B: " ", 0x1F: ""}
+    assert [*map(character, range(0x20))] == [shown.get(code, chr(code)) for code in range(0x20)]
 
 
 def test_all_codes_decode_one_by_one() -> None:
@@ -53,37 +52,37 @@ def test_all_codes_decode_one_by_one() -> None:
     assert len(set(decode(bytes(range(0x20, 0x7F)) + bytes(range(0x80, 0xFF))))) == 95 + 127
 
 
-@pytest.mark.parametrize(
-    "text, shown",
-    [
-        ("Köln ¤$", "Köln ¤$"),
-        ("\x1b[2J", "\\x1b[2J"),
-        ("\x9b31m", "\\x9b31m"),
-        ("a\r\nb\tc\0", "a\\x0d\\x0ab\\x09c\\x00"),
-        ("back\\slash", "back\\\\slash"),
-        ("back\\släsh", "back\\\\släsh"),
-        ("\u202eevil\u202c", "\\u202eevil\\u202c"),
-        ("\u200f\u2066\u2028\ufeff", "\\u200f\\u2066\\u2028\\ufeff"),
-        ("\U000e0041", "\\U000e0041"),
-        ("e\u0301\u0302", "e\u0301\u0302"),
-        ("e" + "\u0301" * 64, "e\u0301\u0301" + "\\u0301" * 62),
-        ("\u0301", "\\u0301"),
-        (" \u0301", " \\u0301"),
-        ("<script>&'\"", "<script>&'\""),
-    ],
-)
-def test_printable(text: str, shown: str) -> None:
-    assert printable(text) == shown
+SHOWN = {
+    "Köln ¤$": "Köln ¤$",
+    "\x1b[2J": "\\x1b[2J",
+    "\x9b31m": "\\x9b31m",
+    "a\r\nb\tc\0": "a\\x0d\\x0ab\\x09c\\x00",
+    "back\\slash": "back\\\\slash",
+    "back\\släsh": "back\\\\släsh",
+    "\u202eevil\u202c": "\\u202eevil\\u202c",
+    "\u200f\u2066\u2028\ufeff": "\\u200f\\u2066\\u2028\\ufeff",
+    "\U000e0041": "\\U000e0041",
+    "e\u0301\u0302": "e\u0301\u0302",
+    "e" + "\u0301" * 64: "e\u0301\u0301" + "\\u0301" * 62,
+    "\u0301": "\\u0301",
+    " \u0301": " \\u0301",
+    "<script>&'\"": "<script>&'\"",
+}
+
+
+@pytest.mark.parametrize("text", SHOWN)
+def test_printable(text: str) -> None:
+    assert printable(text) == SHOWN[text]
+
+
+def are_safe(text: str) -> bool:
+    return not {*map(unicodedata.category, text)} & {"Cc", "Cf", "Cs", "Co", "Cn", "Zl", "Zp"}
 
 
 @given(st.text())
 def test_printable_is_one_safe_line(text: str) -> None:
     shown = printable(text)
-    assert shown.encode("utf-8").decode("utf-8") == shown
-    assert not [
-        sign for sign in shown if unicodedata.category(sign) in ("Cc", "Cf", "Cs", "Co", "Cn", "Zl", "Zp")
-    ]
-    assert "\n" not in shown
+    assert shown.encode("utf-8").decode("utf-8") == shown and are_safe(shown)
 
 
 @given(st.text(), st.text())
@@ -103,7 +102,4 @@ def test_json_is_looked_at_where_it_may_be_unsafe(text: str) -> None:
 @given(st.text())
 def test_json_is_safe_and_the_same(text: str) -> None:
     line = safe_json({"value": text})
-    assert json.loads(line) == {"value": text}
-    assert not [
-        sign for sign in line if unicodedata.category(sign) in ("Cc", "Cf", "Cs", "Co", "Cn", "Zl", "Zp")
-    ]
+    assert json.loads(line) == {"value": text} and are_safe(line)

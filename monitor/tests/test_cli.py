@@ -10,6 +10,7 @@ import re
 import shutil
 import subprocess
 import sys
+from itertools import chain
 from unittest import mock
 
 import pytest
@@ -33,41 +34,46 @@ def test_help_has_an_example() -> None:
     assert run().out == text and run("--version").out == f"rds-monitor {cli.__version__}\n"
 
 
-@pytest.mark.parametrize(
-    "words, fault",
-    [
-        ("--every 0.5", "an interval has a second or more"),
-        ("a b", "unrecognized arguments: b"),
-        ("--gaps 5", "'5' is no pair FROM-TO"),
-        ("--bits -1", "--bits"),
-        ("--loss 3 --share 3", "contradict each other"),
-        ("--of 3", "--of needs --share"),
-        ("--ever 5", "unrecognized"),
-    ],
-)
-def test_command_lines_that_are_none(words: str, fault: str) -> None:
-    done = run("errors", *words.split())
+# Command lines, with the fault of each.
+COMMAND_LINES = """
+nothing                                    there is no command 'nothing': rds-monitor --help lists them
+errors --every 0.5                         an interval has a second or more
+errors a b                                 unrecognized arguments: b
+errors --gaps 5                            '5' is no pair FROM-TO
+errors --bits -1                           --bits
+errors --loss 3 --share 3                  contradict each other
+errors --of 3                              --of needs --share
+errors --ever 5                            unrecognized
+programmes --least x                       'x' is no number of groups
+info --csv --json                          not allowed with
+json --rows --redsea                       not allowed with
+groups --times --spy                       not allowed with
+demod --raw s16                            --raw needs --rate
+demod --rate fast --raw s16                invalid int value: 'fast'
+demod --raw s16 --rate 171000 --channel 1  --channel is for MPX in a file with a header
+demod --offset 5                           --offset and --no-equaliser are for --iq
+demod --raw s16 --rate 171000 --every 0    --every is a number of seconds above 0
+demod --raw s8 --rate 171000               invalid choice: 's8'
+pack                                       required: --from
+pack --from nothing                        invalid choice: 'nothing'
+pack --from bytes --lsb-first              --lsb-first is for packed bits
+"""
+
+
+@pytest.mark.parametrize("row", COMMAND_LINES.strip().splitlines())
+def test_command_lines_that_are_none(row: str) -> None:
+    words, fault = re.split(" {2,}", row)
+    done = run(*words.split())
     assert done.status == 2 and fault in done.err and done.out == "", done
 
 
-def test_commands_that_are_none() -> None:
-    assert run("nothing").err == "rds-monitor: there is no command 'nothing': rds-monitor --help lists them\n"
-    done = run("programmes", "--least", "x")
-    assert done.status == 2 and "'x' is no number of groups" in done.err and done.out == ""
+# Options that rds refuses, with its error.
+RULES = "burst 6: 1 BurstRange; reach 0: 2; loss 65: 3; share 5 --of 4: 15; bits 300000: 4; gaps 9-9: 16"
 
 
-@pytest.mark.parametrize(
-    "words, fault",
-    [
-        ("--burst 6", "1 BurstRange"),
-        ("--reach 0", "2"),
-        ("--loss 65", "3"),
-        ("--share 5 --of 4", "15"),
-        ("--bits 300000", "4"),
-        ("--gaps 9-9", "16"),
-    ],
-)
-def test_rules_are_those_of_rds(words: str, fault: str, station: bytes) -> None:
+@pytest.mark.parametrize("rule", RULES.split("; "))
+def test_rules_are_those_of_rds(rule: str, station: bytes) -> None:
+    words, fault = f"--{rule}".split(": ")
     done = run("errors", *words.split(), data=station)
     assert done.status == 1 and f"refused {fault}" in done.err and done.out == ""
 
@@ -75,41 +81,40 @@ def test_rules_are_those_of_rds(words: str, fault: str, station: bytes) -> None:
 def test_no_library_for_a_recording(station: bytes, station_listing: bytes) -> None:
     """A listing needs none."""
     environment = {**os.environ, "RDS_LIBRARY": "/none"}
-    done = monitor("errors", data=station, env=environment)
-    assert done.returncode == 1 and b"RDS_LIBRARY" in done.stderr and b"Traceback" not in done.stderr
     assert monitor("errors", data=station_listing, env=environment).returncode == 0
-    done = monitor("errors", data=station, env={**environment, "PYTHONPATH": str(MONITOR)})
-    assert done.returncode == 1 and b"python3-librds" in done.stderr
+    for more, fault in (({}, b"RDS_LIBRARY"), ({"PYTHONPATH": str(MONITOR)}, b"python3-librds")):
+        done = monitor("errors", data=station, env={**environment, **more})
+        assert done.returncode == 1 and fault in done.stderr and b"Traceback" not in done.stderr
 
 
 def test_no_numpy() -> None:
-    code = "import sys; sys.modules['numpy'] = None; import rds_monitor.__main__"
-    done = ran([sys.executable, "-c", code])
-    assert (done.returncode, done.stdout) == (1, "")
-    assert done.stderr == "rds-monitor needs the Python module numpy: install python3-numpy\n"
+    done = ran([sys.executable, "-c", "import sys; sys.modules['numpy'] = None; import rds_monitor.__main__"])
+    fault = "rds-monitor needs the Python module numpy: install python3-numpy\n"
+    assert (done.returncode, done.stdout, done.stderr) == (1, "", fault)
 
 
-@pytest.mark.parametrize(
-    "command", ["outages", "programmes", "corrected", "table", "types", "errors", "info --csv"]
-)
+COMMANDS = ["outages", "programmes", "corrected", "table", "types", "errors", "info --csv"]
+
+
+@pytest.mark.parametrize("command", COMMANDS)
 def test_an_output_that_fails_is_not_begun(command: str, station: bytes) -> None:
     """Without the library, and for a listing whose first row is none: no row, and no names of columns."""
-    missing = {"RDS_LIBRARY": "/none"}
-    done = monitor(*command.split(), data=station, env={**os.environ, **missing})
-    assert (done.returncode, done.stdout) == (1, b"") and b"install librds" in done.stderr
-    done = monitor(*command.split(), data=b"acquired,51,9,-,-,-,-,-\n")
-    assert (done.returncode, done.stdout) == (1, b"") and b"row 1" in done.stderr
+    row, environment = b"acquired,51,9,-,-,-,-,-\n", {**os.environ, "RDS_LIBRARY": "/none"}
+    for data, fault, options in ((station, b"install librds", {"env": environment}), (row, b"row 1", {})):
+        done = monitor(*command.split(), data=data, **options)
+        assert (done.returncode, done.stdout) == (1, b"") and fault in done.stderr
 
 
 # ---- streams
 
 
-@pytest.mark.parametrize("command", ["errors", "table", "types"])
+@pytest.mark.parametrize("command", ["errors", "table", "types", "pack --from packed"])
 def test_a_full_device(command: str, station: bytes) -> None:
     with open("/dev/full", "wb") as full:
-        done = subprocess.run([*COMMAND, command], input=station, stdout=full, stderr=subprocess.PIPE)
+        words = [*COMMAND, *command.split()]
+        done = subprocess.run(words, input=station, stdout=full, stderr=subprocess.PIPE)
     assert done.returncode == 1
-    assert done.stderr == f"rds-monitor {command}: writing: No space left on device\n".encode()
+    assert done.stderr == f"rds-monitor {command.split()[0]}: writing: No space left on device\n".encode()
 
 
 def test_a_reader_that_leaves(station_listing: bytes, tmp_path) -> None:
@@ -135,7 +140,7 @@ def test_names_of_files(name: str, station: bytes, station_listing: bytes, tmp_p
     monkeypatch.chdir(tmp_path)
     (tmp_path / name).write_bytes(station)
     wanted = said("errors", data=station)
-    assert said("errors", "--", name) == wanted and said("errors", f"./{name}") == wanted
+    assert said("errors", "--", name) == said("errors", f"./{name}") == wanted
     assert said("errors", f"--length=./{name}", data=station_listing) == wanted
     gone = run("errors", "--", name + "!")
     assert gone.status == 1 and gone.err.count("\n") == 1 and gone.err[:-1].isprintable()
@@ -200,16 +205,14 @@ def test_the_manual_page_is_right(pages: dict) -> None:
         assert run(*words).status == status and f"\n.TP\n{status}\n" in text
 
 
-def actions() -> dict:
-    """The options and arguments of each command."""
-    return {command.name: cli.parser_of(command)._actions for command in cli.COMMANDS}
+ACTIONS = {command.name: cli.parser_of(command)._actions for command in cli.COMMANDS}
 
 
 def test_each_option_is_on_each_page(pages: dict) -> None:
     text = pages["rds-monitor.1"].read_text().replace("\\-", "-")
     bash, zsh = pages["rds-monitor.bash"], pages["_rds-monitor"].read_text()
     assert zsh.startswith("#compdef rds-monitor\n")
-    for command, found in actions().items():
+    for command, found in ACTIONS.items():
         of_page = text.split(f"\n.SS {command}\n")[1].split("\n.S")[0]
         of_zsh = zsh.split(f"\n_shtab_rds_monitor_{command}_options=(")[1].split("\n)")[0]
         names = [name for action in found for name in action.option_strings]
@@ -224,10 +227,10 @@ def test_each_option_is_on_each_page(pages: dict) -> None:
 def test_defaults_are_those_of_the_help() -> None:
     """A number in brackets at the end of an option's help is its default."""
     told = 0
-    for command, action in ((command, action) for command, found in actions().items() for action in found):
+    for action in chain(*ACTIONS.values()):
         number = re.search(r"\((\d+(?:\.\d+)?)(?: [^()]*)?\)(?:;|:|$)", action.help or "")
         if number and isinstance(action.default, (int, float)) and action.default is not argparse.SUPPRESS:
-            assert float(number[1]) == action.default, (command, action.option_strings)
+            assert float(number[1]) == action.default, action.option_strings
             told += 1
     assert told > 5
 
@@ -262,7 +265,7 @@ def test_completion_in_zsh(pages: dict) -> None:
 
 # ---- completion of rds
 
-BASH, ZSH = "completions/rds.bash", "completions/_rds"
+BASH, ZSH = TOP / "completions" / "rds.bash", (TOP / "completions" / "_rds").read_text()
 
 
 def options_of_rds(command: str) -> dict:
@@ -281,15 +284,13 @@ def test_values_that_completion_of_rds_offers() -> None:
     """They are all numbers of the range, or some of them; an option is not followed by another one in place of its value."""
     for command in commands_of_rds().keys() - {"help"}:
         for name, (takes_value, text) in options_of_rds(command).items():
-            offered = completed(command, name, "", program="rds", file=TOP / BASH)
+            offered = completed(command, name, "", program="rds", file=BASH)
             if not takes_value:
                 assert "--help" in offered
                 continue
-            first, last = re.search(r"(\d+) (?:to (\d+)|or more)", text + " 0 to 0").groups()  # type: ignore[union-attr]
+            first, last = re.search(r"(\d+) (?:to (\d+)|or more)", text + " 0 to 0").groups()
             numbers = [int(word) for word in offered]
-            in_zsh = re.search(
-                rf"'(?:\([^)]*\))?{name}\[[^]]*\]:[^:']*:\(([\d ]*)\)'", (TOP / ZSH).read_text()
-            )
+            in_zsh = re.search(rf"'(?:\([^)]*\))?{name}\[[^]]*\]:[^:']*:\(([\d ]*)\)'", ZSH)
             assert numbers == ([int(text) for text in in_zsh[1].split()] if in_zsh else [])
             assert all(int(first) <= number <= int(last) for number in numbers)
             if name in ("--burst", "--reach"):
@@ -298,29 +299,28 @@ def test_values_that_completion_of_rds_offers() -> None:
 
 def test_texts_of_completion_of_rds() -> None:
     """zsh shows the beginning of what the help says."""
-    text = (TOP / ZSH).read_text()
-    assert text.startswith("#compdef rds\n")
+    assert ZSH.startswith("#compdef rds\n")
     for command, summary in commands_of_rds().items():
-        assert command == "help" or f"'{command}:{summary[0].lower()}{summary[1:]}'" in text
+        assert command == "help" or f"'{command}:{summary[0].lower()}{summary[1:]}'" in ZSH
         for name, (_, told) in {} if command in ("help", "encode") else options_of_rds(command).items():
             pattern = rf"'(?:\([^)]*\))?(?:{name}|\{{-h,{name}\}}')\[([^]]*)\]"
-            (shown,) = re.findall(pattern, text.replace("{-h,--help}'", "--help"))[:1]
+            (shown,) = re.findall(pattern, ZSH.replace("{-h,--help}'", "--help"))[:1]
             assert name == "--bits" or shown in told.replace(",", "").lower().replace(" n ", " N "), name
 
 
 def test_options_that_exclude_each_other() -> None:
     """As zsh has them: --loss and --share, of which --of is a part."""
-    excluded = dict(re.findall(r"'\(([^)]*)\)(--[a-z]+)\[", (TOP / ZSH).read_text()))
-    assert excluded == {"--share --of": "--loss", "--loss": "--of"}
-    assert "'(--loss)--share[" in (TOP / ZSH).read_text()
+    excluded = dict(re.findall(r"'\(([^)]*)\)(--[a-z]+)\[", ZSH))
+    assert excluded == {"--share --of": "--loss", "--loss": "--of"} and "'(--loss)--share[" in ZSH
     for words in (["--loss", "3", "--share", "3"], ["--loss", "3", "--of", "3"]):
         assert b"ignored" in subprocess.run([PROGRAM, "list", *words], input=b"", capture_output=True).stderr
-    assert options_of_rds("list")["--gaps"][1].count("FROM-TO") and ":FROM-TO,..'" in (TOP / ZSH).read_text()
+    assert options_of_rds("list")["--gaps"][1].count("FROM-TO") and ":FROM-TO,..'" in ZSH
 
 
 # ---- the manual page of rds
 
 # Numbers of the page that no help says: from standards, processors, and an example.
+MANUAL = (TOP / "rds.1").read_text()
 OF_THE_PAGE = "62106 baseband,62106 earlier,50067,1998,64 processor,2 and,2009 on,104,130".split(",")
 
 
@@ -328,28 +328,24 @@ def test_numbers_on_the_manual_page_of_rds() -> None:
     """Each is in the program's help, before the same word."""
     commands = ((), *((name,) for name in commands_of_rds() if name != "help"))
     help_of_all = " ".join(word for words in commands for word in rds(*words, "--help").decode().split())
-    manual = (TOP / "rds.1").read_text()
-    page = " ".join(re.sub(r"^\.(?:Dd|Dt|It \d+|Xr|Bl).*|^\.\w+ ?", "", manual, flags=re.M).split())
+    page = " ".join(re.sub(r"^\.(?:Dd|Dt|It \d+|Xr|Bl).*|^\.\w+ ?", "", MANUAL, flags=re.M).split())
     digits, most = 2 * len(rds("encode", data=b"0" * 16)), 2**36
     known = {*OF_THE_PAGE, f"{digits} digits", f"1 to {len(str(most)) + 1} digits"}
     found = re.findall(r"\b\d+(?: (?:to|is) \d+)?\b(?: \w+)?", page)
     assert [entry for entry in found if entry not in known and entry not in help_of_all] == []
     assert known <= {*found}
     assert rds("list", "--gaps", "104-130", "--bits", 130, data=bytes(20))
-    for claim in ("first position after a gap", "16 information bits, then 10 check bits", "eight fields"):
-        assert claim in page and claim in help_of_all
+    of_both = ("first position after a gap", "16 information bits, then 10 check bits", "eight fields")
     last_bit = "The position of the last bit of the block that acquired"
-    for claim in ("at most twice a second", "in seven hex digits", last_bit):
-        assert claim in page
-    assert "0 The output is complete, or" in " ".join(re.sub(r"^\.It ", "", manual, flags=re.M).split())
+    assert all(claim in page and claim in help_of_all for claim in of_both)
+    assert all(claim in page for claim in ("at most twice a second", "in seven hex digits", last_bit))
+    assert "0 The output is complete, or" in " ".join(re.sub(r"^\.It ", "", MANUAL, flags=re.M).split())
 
 
 def test_numbers_of_errors_on_the_manual_page_of_rds() -> None:
     """Each error has the numbers that the help gives it."""
     of_help = re.findall(r"^ +(\d+ [A-Z]\w+) +((?:.*\n(?! +\d+ [A-Z]|\n))*.*)", rds("--help").decode(), re.M)
-    of_page = re.findall(
-        r"^\.It (\d+ [A-Z]\w+)\n((?:(?!\.It |\.El).*\n)*)", (TOP / "rds.1").read_text(), re.M
-    )
+    of_page = re.findall(r"^\.It (\d+ [A-Z]\w+)\n((?:(?!\.It |\.El).*\n)*)", MANUAL, re.M)
     told, page = ({name: re.findall(r"\d+", text) for name, text in found} for found in (of_help, of_page))
     assert len(told) == 16 and told == page
 

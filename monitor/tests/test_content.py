@@ -3,7 +3,6 @@
 from __future__ import annotations
 
 import re
-from itertools import chain
 from typing import Any, Dict, List, NamedTuple, Sequence, Tuple
 
 import pytest
@@ -11,11 +10,13 @@ import pytest
 import sent
 from conftest import encode
 from rds_monitor.content.decoder import ITEMS, Decoder, Event
+from rds_monitor.content.looks import name_of
 from rds_monitor.content.networks import FrequencyList
 from rds_monitor.rows.opening import open_source
 from sent import Words, clock, eon, eon_name, events_of, group, label, name, oda, segments, tags, text, told
 from sent import type_name
 
+TEXT_32 = "A text of 32 characters in all.."
 LONG = b"The first text, of the standard's length for once, all 64 of it."
 
 
@@ -40,16 +41,16 @@ DI = ("di_stereo", "di_artificial_head", "di_compressed", "di_dynamic_pty")
 # The RadioText that the tags below are of, a song's title and artist.
 RT_PLUS, SONG, TITLE, ARTIST = oda(0x4BD7, "11A"), text(b"Song by Singer\r"), (1, 0, 3), (4, 8, 5)
 TAGGED = {"rt_plus:item.title": "Song", "rt_plus:item.artist": "Singer"}
-SCOPE = ["national", "regional"]
+SERVICE = dict(location_table=1, alternative_frequencies=True, mode="basic", service=10)
+SERVICE["scope"] = ["national", "regional"]
+MESSAGE = dict(event=701, location=4321, direction="negative", extent=3)
 TRAFFIC = segments("8A", b"Traffic1", 2, 0x14)
 
 CASES: Dict[str, Case] = {
     "PI, TP, PTY": Case(
         [group("6A", 0)], {"pi": "D318", "tp": True, "pty": 10}, texts={"tp": "yes", "pty": "10 Pop music"}
     ),
-    "no traffic programme, no programme type": Case(
-        [group("6A", 0, tp=0, pty=0)], {"tp": False, "pty": 0}, texts={"pty": "0 None"}
-    ),
+    "no TP, no PTY": Case([group("6A", 0, tp=0, pty=0)], {"tp": False, "pty": 0}, texts={"pty": "0 None"}),
     # The standard's own example is KGTB.
     "call letters": Case([group("6A", 0, pi=0x21C7)], {"pi": "21C7", "call_letters": "KGTB"}, {"rbds": True}),
     "no call letters but of RBDS": Case([group("6A", 0, pi=0x21C7)], {"call_letters": None}),
@@ -88,9 +89,7 @@ CASES: Dict[str, Case] = {
     "2A: RT without an end": Case(3 * text(b"Twelve signs"), {"rt": "Twelve signs"}),
     "2A: RT without an end, once": Case(text(b"Twelve signs"), {"rt": None}),
     "2A: line break, headline, soft hyphen": Case(text(b"a\nb\x0bc\x1fd\r"), {"rt": "a b cd"}),
-    "2B: RT": Case(
-        text(b"A text of 32 characters in all..", kind="2B"), {"rt": "A text of 32 characters in all.."}
-    ),
+    "2B: RT": Case(text(TEXT_32.encode(), kind="2B"), {"rt": TEXT_32}),
     "3A: ODA": Case(
         [oda(0x4BD7, "11A")],
         {"oda:4BD7": {"group": "11A", "name": "RadioText Plus (RT+)"}},
@@ -115,19 +114,15 @@ CASES: Dict[str, Case] = {
     "5B: TDC": Case([group("5B", 31, 0, 0x0203)], {"tdc:31": True}),
     "5A: bytes": Case([group("5A", 3, 0xFF01, 0x0203)], {"tdc_data:3": "FF 01 02 03"}, {"data": True}),
     "5B: bytes": Case([group("5B", 31, 0, 0x0203)], {"tdc_data:31": "02 03"}, {"data": True}),
-    "5A: bytes of another application": Case(
+    "5A: another application, bytes": Case(
         [group("5A", 3, 1, 2), oda(0x1234, "5A"), group("5A", 3, 1, 3)], {"tdc_data:3": None}, {"data": True}
     ),
-    "6A: in-house data": Case(
-        [group("6A", 0x1F, 0x1234, 0x5678)], {"ih_data": "1F 1234 5678"}, {"data": True}
-    ),
-    "6B: in-house data": Case([group("6B", 3, 0, 0x5678)], {"ih_data": "03 5678"}, {"data": True}),
-    "6A: in-house data of another application": Case(
+    "6A: data": Case([group("6A", 0x1F, 0x1234, 0x5678)], {"ih_data": "1F 1234 5678"}, {"data": True}),
+    "6B: data": Case([group("6B", 3, 0, 0x5678)], {"ih_data": "03 5678"}, {"data": True}),
+    "6A: data of another application": Case(
         [group("6A", 3, 1, 2), oda(0x1234, "6A"), group("6A", 3, 1, 3)], {"ih_data": None}, {"data": True}
     ),
-    "6A: in-house data only if they are asked for": Case(
-        [group("6A", 3, 1, 2)], {"ih": True, "ih_data": None}
-    ),
+    "6A: in-house data if not asked for": Case([group("6A", 3, 1, 2)], {"ih": True, "ih_data": None}),
     "6A: in-house": Case([group("6A", 3, 1, 2)], {"ih": True}),
     "6B: in-house": Case([group("6B", 3, 1, 2)], {"ih": True}),
     "7A: radio paging": Case([group("7A", 3, 1, 2)], {"rp": True}),
@@ -136,20 +131,12 @@ CASES: Dict[str, Case] = {
     "8A: TMC by CD47": Case([oda(0xCD47, "8A"), group("8A", 3, 1, 2)], {"tmc": True}),
     "8A: TMC service": Case(
         [oda(0xCD46, "8A", 0x0066), oda(0xCD46, "8A", 0x6280)],
-        {
-            "tmc_service": dict(
-                location_table=1, alternative_frequencies=True, mode="basic", scope=SCOPE, service=10
-            )
-        },
+        {"tmc_service": SERVICE},
         texts={"tmc_service": "location table 1, service 10, national regional"},
     ),
     "8A: TMC message in one group": Case(
         [group("8A", 0b01101, 1 << 15 | 1 << 14 | 3 << 11 | 701, 4321)],
-        {
-            "tmc_message": dict(
-                event=701, location=4321, direction="negative", extent=3, diversion=True, duration=5
-            )
-        },
+        {"tmc_message": {**MESSAGE, "diversion": True, "duration": 5}},
         texts={"tmc_message": "event 701 at location 4321, extent -3, duration 5, diversion advised"},
     ),
     "8A: TMC message in several groups": Case(
@@ -168,15 +155,13 @@ CASES: Dict[str, Case] = {
     "9A: another application": Case([oda(0x1234, "9A"), group("9A", 0x1F, 0x1234, 0x5678)], {"ews": None}),
     "10A: PTYN": Case(type_name(b"Football"), {"ptyn": "Football"}),
     "10A: PTYN, another": Case(type_name(b"Football") + type_name(b"Handball", 1), {"ptyn": "Handball"}),
-    "14A: PS of another network": Case(
-        eon_name(b"OTHER FM"), {"eon:D312.ps": "OTHER FM", "eon:D312.tp": False}
-    ),
+    "14A: PS": Case(eon_name(b"OTHER FM"), {"eon:D312.ps": "OTHER FM", "eon:D312.tp": False}),
     "14A: PS of two networks at once": Case(
         [entry for both in zip(eon_name(b"OTHER FM"), eon_name(b"THIRD FM", 0xD313)) for entry in both],
         {"eon:D312.ps": "OTHER FM", "eon:D313.ps": "THIRD FM"},
     ),
-    "14A: TP of another network": Case([eon(15, 0, tp=1)], {"eon:D312.tp": True}),
-    "14A: AF of another network": Case(
+    "14A: TP": Case([eon(15, 0, tp=1)], {"eon:D312.tp": True}),
+    "14A: AF": Case(
         [eon(4, 0xE301), eon(4, 0x3264)],
         {"eon:D312.af": [87600, 92500, 97500]},
         texts={"eon:D312.af": "87.6 92.5 97.5"},
@@ -201,18 +186,10 @@ CASES: Dict[str, Case] = {
         texts={"eon:D312.pty": "17 Finance"},
     ),
     "14A: PIN": Case([eon(14, 2 << 11 | 7 << 6 | 8)], {"eon:D312.pin": "02 07:08"}),
-    "14B: TA of another network": Case(
-        [group("14B", 0x18, 0, 0xD312)], {"eon:D312.tp": True, "eon:D312.ta": True}
-    ),
-    "14B: no TA of another network": Case(
-        [group("14B", 0x10, 0, 0xD312)], {"eon:D312.tp": True, "eon:D312.ta": False}
-    ),
-    "15A: long PS": Case(
-        segments("15A", "Straße der Lieder, täglich\r".encode(), 8), {"lps": "Straße der Lieder, täglich"}
-    ),
-    "15A: long PS of 32 bytes": Case(
-        segments("15A", b"A long PS has 32 bytes, as here."), {"lps": "A long PS has 32 bytes, as here."}
-    ),
+    "14B: TA": Case([group("14B", 0x18, 0, 0xD312)], {"eon:D312.tp": True, "eon:D312.ta": True}),
+    "14B: no TA": Case([group("14B", 0x10, 0, 0xD312)], {"eon:D312.tp": True, "eon:D312.ta": False}),
+    "15A: long PS": Case(segments("15A", "Straße, täglich\r".encode(), 8), {"lps": "Straße, täglich"}),
+    "15A: 32 bytes": Case(segments("15A", TEXT_32.encode()), {"lps": TEXT_32}),
     "RT+": Case(
         [RT_PLUS, *SONG, tags(1, 1, TITLE, ARTIST)], {**TAGGED, "rt_plus_running": True, "rt_plus_toggle": 1}
     ),
@@ -225,9 +202,7 @@ CASES: Dict[str, Case] = {
         {"rt_plus:item.title": "Song", "rt": "Other words"},
     ),
     "RT+ in a group that is not its own": Case([*SONG, tags(1, 1, TITLE)], {"rt_plus:item.title": None}),
-    "RT+ past the end": Case(
-        [RT_PLUS, *text(b"Song\r"), tags(1, 1, (1, 40, 3))], {"rt_plus:item.title": None}
-    ),
+    "RT+ past the end": Case([RT_PLUS, *text(b"So\r"), tags(1, 1, (1, 40, 3))], {"rt_plus:item.title": None}),
     "eRT": Case(
         [oda(0x6552, "13A", 1), *segments("13A", "Ελληνικά 中文\r".encode())],
         {"ert": "Ελληνικά 中文", "erp": None},
@@ -259,7 +234,7 @@ CASES: Dict[str, Case] = {
         [group("3A", 0, 0, 0x4BD7), *SONG, group("0A", 1, 0x2000, 0x2046)],
         {"rt_plus:item.title": None, "rt_plus_running": None},
     ),
-    "RT+ in a group that no application may have": Case(
+    "RT+ in a group that carries none": Case(
         [oda(0x4BD7, "2B"), *SONG, tags(1, 1, TITLE, kind="2B")],
         {"rt_plus:item.title": None},
         texts={"oda:4BD7": "RadioText Plus (RT+) in 2B, which carries none"},
@@ -325,7 +300,7 @@ def test_values_that_hold(title: str, tmp_path: Any) -> None:
     assert {event.pi for event in decoder_events} == {case.groups[0][0]}
 
 
-def test_every_item_is_listed_and_has_a_case() -> None:
+def test_every_item_and_group_type_has_a_case() -> None:
     """The items of the help and those of the cases, by their names alone."""
 
     def bare(item: str) -> str:
@@ -333,17 +308,8 @@ def test_every_item_is_listed_and_has_a_case() -> None:
 
     listed = {bare(word) for word in re.sub(r"\(.*?\)", "", ITEMS).split()}
     assert {bare(item) for case in CASES.values() for item in case.held} == listed
-
-
-def test_every_group_type_has_a_case() -> None:
-    kinds = {
-        f"{words[1] >> 12}{'AB'[words[1] >> 11 & 1]}" for case in CASES.values() for words in case.groups
-    }
-    assert kinds >= set(
-        """
-        0A 0B 1A 1B 2A 2B 3A 4A 5A 5B 6A 6B 7A 8A 9A 10A 11A 12A 13A 14A 14B 15A 15B
-    """.split()
-    )
+    kinds = {name_of(words[1] >> 11) for case in CASES.values() for words in case.groups}
+    assert kinds >= {*"0A 0B 1A 1B 2A 2B 3A 4A 5A 5B 6A 6B 7A 8A 9A 10A 11A 12A 13A 14A 14B 15A 15B".split()}
 
 
 def values(groups: Sequence[Words], item: str) -> List[Any]:
@@ -427,51 +393,40 @@ def test_a_text_without_an_end_is_not_cut_where_groups_are_lost(segments: Sequen
 # ---- lists of frequencies that change
 
 
-def lists(*cycles: Sequence[int]) -> List[Any]:
-    groups = [group("0A", 8 | k % 4, pair, 0x2020) for k, pair in enumerate(chain(*cycles))]
+def lists(pairs: Sequence[int]) -> List[Any]:
+    groups = [group("0A", 8 | k % 4, pair, 0x2020) for k, pair in enumerate(pairs)]
     return [event.value for event in events_of(groups) if event.item.startswith("af")]
-
-
-A = [0xE50A, 0x1E32, 0x465A]
-
-
-ALL_OF_A = [88500, 90500, 92500, 94500, 96500]
-CHANGED, ALL_CHANGED = [0xE50A, 0x1E32, 0x4664], [88500, 90500, 92500, 94500, 97500]
-B, B_CHANGED, OTHER = [0xE512, 0x1278, 0x8E12], [0xE512, 0x127D, 0x8E12], [0xE30F, 0x0F4B]
 
 
 def by_b(tuned: int, same: Sequence[int], regional: Sequence[int] = ()) -> Dict[str, Any]:
     return {"tuned": tuned, "same": [*same], "regional": [*regional]}
 
 
+A, ALL_OF_A = [0xE50A, 0x1E32, 0x465A], [88500, 90500, 92500, 94500, 96500]
+CHANGED, ALL_CHANGED = [0xE50A, 0x1E32, 0x4664], [88500, 90500, 92500, 94500, 97500]
+B, B_CHANGED, OTHER = [0xE512, 0x1278, 0x8E12], [0xE512, 0x127D, 0x8E12], [0xE30F, 0x0F4B]
 ALL_OF_B, ALL_B_CHANGED = by_b(89300, [99500], [101700]), by_b(89300, [100000], [101700])
+LISTS = {
+    "method A changes one entry": (10 * A + 10 * CHANGED + 10 * A, [ALL_OF_A, ALL_CHANGED, ALL_OF_A]),
+    "method A changes within two turns": (3 * A + 2 * CHANGED, [ALL_OF_A, ALL_CHANGED]),
+    "method A grows": (5 * A + 5 * [0xE60A, 0x1E32, 0x465A, 0x64CD], [ALL_OF_A, [*ALL_OF_A, 97500]]),
+    "method B changes one entry": (10 * B + 10 * B_CHANGED + 10 * B, [ALL_OF_B, ALL_B_CHANGED, ALL_OF_B]),
+    # The order of a pair alone says whether its frequency is of a regional variant.
+    "method B becomes regional": (
+        10 * [0xE312, 0x1278] + 10 * [0xE312, 0x7812],
+        [by_b(89300, [99500]), by_b(89300, [], [99500])],
+    ),
+    "method B of two transmitters changes one entry": (
+        10 * [*B, *OTHER] + 10 * [*B_CHANGED, *OTHER],
+        [ALL_OF_B, by_b(89000, [95000]), ALL_B_CHANGED],
+    ),
+}
 
 
-@pytest.mark.parametrize(
-    "cycles, found",
-    [
-        ([*10 * [A], *10 * [CHANGED], *10 * [A]], [ALL_OF_A, ALL_CHANGED, ALL_OF_A]),
-        ([*5 * [A], *5 * [[0xE60A, 0x1E32, 0x465A, 0x64CD]]], [ALL_OF_A, [*ALL_OF_A, 97500]]),
-        ([*10 * [B], *10 * [B_CHANGED], *10 * [B]], [ALL_OF_B, ALL_B_CHANGED, ALL_OF_B]),
-        # The order of a pair alone says whether its frequency is of a regional variant.
-        (
-            [*10 * [[0xE312, 0x1278]], *10 * [[0xE312, 0x7812]]],
-            [by_b(89300, [99500]), by_b(89300, [], [99500])],
-        ),
-    ],
-    ids=[
-        "method A changes one entry",
-        "method A grows",
-        "method B changes one entry",
-        "method B becomes regional",
-    ],
-)
-def test_a_list_that_changes(cycles: Sequence[Sequence[int]], found: List[Any]) -> None:
-    assert lists(*cycles) == found
-
-
-def test_a_change_is_told_within_two_turns() -> None:
-    assert lists(*3 * [A], *2 * [CHANGED])[-1] == ALL_CHANGED
+@pytest.mark.parametrize("title", LISTS)
+def test_a_list_that_changes(title: str) -> None:
+    pairs, found = LISTS[title]
+    assert lists(pairs) == found
 
 
 def test_the_same_frequencies_in_another_order_are_the_same_list() -> None:
@@ -482,12 +437,6 @@ def test_the_same_frequencies_in_another_order_are_the_same_list() -> None:
     assert [entry for entry in map(found.take, heard) if entry is not None] == [ALL_OF_A]
 
 
-def test_method_b_of_several_transmitters_that_changes_one_entry() -> None:
-    found = lists(*10 * [[*B, *OTHER]], *10 * [[*B_CHANGED, *OTHER]])
-    assert [entry for entry in found if entry["tuned"] == 89300] == [ALL_OF_B, ALL_B_CHANGED]
-    assert [entry for entry in found if entry["tuned"] == 89000] == [by_b(89000, [95000])]
-
-
 def test_another_method_replaces_the_list() -> None:
     held = {}
     for event in events_of([group("0A", 8, pair, 0) for pair in 3 * A + 3 * [0xE312, 0x1278]]):
@@ -496,5 +445,4 @@ def test_another_method_replaces_the_list() -> None:
 
 
 def test_a_wrong_pair_does_not_stay() -> None:
-    wrong = [0xE50A, 0x1E32, 0x9999, 0x465A]
-    assert lists(*4 * [A], wrong, *6 * [A])[-1] == ALL_OF_A
+    assert lists(4 * A + [0xE50A, 0x1E32, 0x9999, 0x465A] + 6 * A)[-1] == ALL_OF_A

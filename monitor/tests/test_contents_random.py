@@ -5,6 +5,7 @@ from __future__ import annotations
 
 import random
 from collections import Counter
+from itertools import product, zip_longest
 from typing import Any, Callable, Dict, List, NamedTuple, Tuple
 
 import pytest
@@ -16,10 +17,12 @@ from rds_monitor.rows.clock import Clock
 from rds_monitor.rows.items import CORRECTED, LOST
 from sent import Damage, Words, group
 
-SEEDS, GROUPS = 200, 500
+SEEDS, GROUPS = 100, 500
 # How long a name, a text or a list may be told after it was sent: turns that are joined, as groups of the station.
 KEPT = 700
 LETTERS = "ABCDEFGHIJKLMNOPQRSTUVWXYZ 0123456789"
+# Frequencies, and the pairs that list them.
+LISTS = (([], [0xE0CD] * 4), ([88500, 90500, 92500, 94500, 96500], [0xE50A, 0x1E32, 0x465A]))
 
 
 class Said(NamedTuple):
@@ -36,7 +39,7 @@ class Station:
     def __init__(self, seed: int) -> None:
         self._chance = random.Random(seed)
         self.pi = self._chance.randrange(0x1000, 0xFFFF)
-        self._flags = {"tp": 1, "pty": 5}
+        self._tp, self._pty = 1, 5
         self._texts: Dict[str, Any] = {}
         self._flag = 0
         self._applications = {0x4BD7: self._free("11A 12A"), 0x1234: self._free("3B 9B 12B")}
@@ -45,25 +48,22 @@ class Station:
         return self._chance.choice(kinds.split())
 
     def groups(self, count: int) -> List[Said]:
-        others: List[Callable[[], List[Said]]] = [self._labels, self._assignments, self._clock, self._network]
-        others += [self._type_name, self._long_name, self._traffic, self._other]
+        others = [self._labels, self._assignments, self._clock, self._network, self._type_name]
+        others += [self._long_name, self._traffic, self._other]
         found: List[Said] = []
         while len(found) < count:
             # Turns of several services are sent side by side, as real encoders do, each in its order.
             turns = [make() for make in (self._name, self._radio_text) if self._chance.random() < 0.7]
             turns.append(self._chance.choice(others)())
-            for k in range(max(map(len, turns))):
-                found += [turn[k] for turn in turns if k < len(turn)]
+            found += [said for at_once in zip_longest(*turns) for said in at_once if said]
         return [self._with_flags(said) for said in found[:count]]
 
     def _with_flags(self, said: Said) -> Said:
         if self._chance.random() < 0.01:
-            self._flags = {"tp": self._chance.randrange(2), "pty": self._chance.randrange(32)}
-        tp, pty = self._flags["tp"], self._flags["pty"]
-        words = (self.pi, said.words[1] & ~0x7E0 | tp << 10 | pty << 5, *said.words[2:])
-        if said.words[1] >> 11 & 1:
-            words = (*words[:2], self.pi, words[3])
-        return said._replace(words=words, own={**said.own, "tp": bool(tp), "pty": pty})
+            self._tp, self._pty = self._chance.randrange(2), self._chance.randrange(32)
+        third = self.pi if said.words[1] >> 11 & 1 else said.words[2]
+        words = (self.pi, said.words[1] & ~0x7E0 | self._tp << 10 | self._pty << 5, third, said.words[3])
+        return said._replace(words=words, own={**said.own, "tp": bool(self._tp), "pty": self._pty})
 
     def _word(self, least: int, most: int) -> str:
         return "".join(self._chance.choices(LETTERS, k=self._chance.randint(least, most))).strip() or "X"
@@ -74,30 +74,28 @@ class Station:
             self._texts[item] = self._word(least, most)
         return str(self._texts[item])
 
-    def _named(
-        self, item: str, groups: Callable[[bytes], List[Words]], most: int = 8, **own: Any
-    ) -> List[Said]:
+    def _named(self, item: str, made: Callable[..., List[Words]], most: int = 8, **own: Any) -> List[Said]:
         """A name or text in groups of its own, all of which say these values too."""
         name = self._changing(item, 1, most)
-        return [Said(words, own, {item: name}) for words in groups(name.encode())]
+        return [Said(words, own, {item: name}) for words in made(name.encode())]
 
     def _name(self) -> List[Said]:
         name, flags = self._changing("ps", 1, 8), self._chance.randrange(4) << 3
+        kind, (heard, pairs) = self._chance.choice(("0A", "0A", "0B")), self._chance.choice(LISTS)
         own = {"ta": bool(flags >> 4), "ms": "music" if flags & 8 else "speech"}
-        groups = sent.name(name.encode(), (0xE0CD,) * 4, flags, self._chance.choice(("0A", "0A", "0B")))
-        return [Said(words, own, {"ps": name, "af": []}) for words in groups]
+        groups = sent.name(name.encode(), pairs, flags, kind)
+        return [Said(words, own, {"ps": name, "af": heard}) for words in groups]
 
     def _radio_text(self) -> List[Said]:
         text = self._changing("rt", 1, 31, 0.4)
         self._flag ^= self._chance.random() < 0.2
-        kind = self._chance.choice(("2A", "2A", "2A", "2B"))
-        groups = sent.text(text.encode() + b"\r", self._flag, kind)
+        groups = sent.text(text.encode() + b"\r", self._flag, self._chance.choice(("2A", "2A", "2A", "2B")))
         found = [Said(words, {"rt_ab": "AB"[self._flag]}, {"rt": text}) for words in groups]
-        if self._chance.random() < 0.5 and " " in text and text.index(" ") > 0:
-            end = text.index(" ")
-            tag = sent.tags(1, 1, (1, 0, end - 1), kind=self._applications[0x4BD7])
-            own = {"rt_plus_toggle": 1, "rt_plus_running": True, "rt_plus:item.title": text[:end]}
-            return [*found, Said(tag, own)]
+        title = text.partition(" ")[0]
+        if 0 < len(title) < len(text):
+            tag = sent.tags(1, 1, (1, 0, len(title) - 1), kind=self._applications[0x4BD7])
+            own = {"rt_plus_toggle": 1, "rt_plus_running": True, "rt_plus:item.title": title}
+            found.append(Said(tag, own))
         return found
 
     def _labels(self) -> List[Said]:
@@ -145,32 +143,31 @@ class Station:
 def damage_of(groups: List[Said], seed: int, bad: float) -> List[Tuple[int, Damage]]:
     """Lost and corrected blocks, one in a hundred of these wrongly."""
     chance, found = random.Random(seed), []
-    for number in range(len(groups)):
-        for block in (1, 2, 3, 4):
-            if chance.random() < bad:
-                wrong = chance.randrange(1 << 16) if chance.random() < 0.01 else None
-                kind = chance.choice((LOST, CORRECTED, CORRECTED))
-                found.append((number, Damage(block, kind, wrong)))
+    for number, block in product(range(len(groups)), (1, 2, 3, 4)):
+        if chance.random() < bad:
+            wrong = chance.randrange(1 << 16) if chance.random() < 0.01 else None
+            found.append((number, Damage(block, chance.choice((LOST, CORRECTED, CORRECTED)), wrong)))
     return found
 
 
 def is_sent(event: Event, groups: List[Said]) -> bool:
-    """Whether the value was sent: by the group itself, or as a whole in its last turns."""
+    """Whether the value was sent: by the group itself, or as a whole in its last turns. A list that was heard from its
+    middle on has another order."""
     number = event.place // 104
-    own = groups[number].own.get(event.item)
+    own, latest = groups[number].own.get(event.item), groups[max(0, number - KEPT) : number + 1]
+    value = sorted(event.value) if event.item == "af" else event.value
     if event.item.startswith("oda:"):
-        return bool(own) and event.value["group"] == own
+        return bool(own) and value["group"] == own
     if event.item == "ct":
         day, hour, minute = own or (0, 0, 0)
-        return bool(own) and event.value.endswith(f"T{hour:02}:{minute:02}+00:00")
-    latest = groups[max(0, number - KEPT) : number + 1]
+        return bool(own) and value.endswith(f"T{hour:02}:{minute:02}+00:00")
     if event.item.startswith("di_"):
-        return event.value is False
+        return value is False
     if event.item.startswith("rt_plus:"):
-        return any(said.own.get(event.item) == event.value for said in latest)
+        return any(said.own.get(event.item) == value for said in latest)
     if own is not None:
-        return bool(own == event.value)
-    return any(said.part_of.get(event.item) == event.value for said in latest if event.item in said.part_of)
+        return bool(own == value)
+    return any(said.part_of.get(event.item) == value for said in latest if event.item in said.part_of)
 
 
 def test_random_groups_have_no_end_of_parts() -> None:

@@ -9,6 +9,7 @@ import pytest
 import sent
 from made import listing, lock, read, said
 from rds_monitor.content.decoder import Decoder
+from test_counting import fed
 
 PI = 0xD3C2
 Group = Tuple[Optional[int], ...]
@@ -68,9 +69,7 @@ CASES = {
 
 def told(data: bytes, size: int = 10**6) -> List[Tuple[str, Any]]:
     """The items and values that are told of a listing in chunks."""
-    decoder, rows = Decoder(), read(data)
-    events = [event for k in range(0, len(rows), size) for event in decoder.feed(rows[k : k + size])]
-    return [(event.item, event.value) for event in events]
+    return [(event.item, event.value) for event in fed(Decoder(), read(data), size)]
 
 
 @pytest.mark.parametrize("size", [10**6, 1])
@@ -116,14 +115,12 @@ def test_redsea_has_the_start_of_a_programme_item_by_its_own_number() -> None:
 
 def test_redsea_has_no_text_of_the_flag_before() -> None:
     """The same text under another flag comes again once it is whole."""
-    lines = [
-        "%X,A,A:D3C2,B:%04X,C:%04X,D:%04X" % (2, *group[1:])
-        for flag in (0, 1)
-        for group in text("Hi\r ", flag)
-    ]
-    found = redsea("0,A,A:D3C2,B:0228,C:E0E0,D:4141", *lines, *lines[1:])
-    texts = [(group.get("rt_ab"), group.get("radiotext")) for group in found[1:]]
-    assert texts == [("A", "Hi"), ("B", "Hi"), ("B", "Hi")]
-    longer = ["%X,A,A:D3C2,B:%04X,C:%04X,D:%04X" % (2, *group[1:]) for group in text("Two segs", 1)]
-    found = redsea("0,A,A:D3C2,B:0228,C:E0E0,D:4141", lines[0], *longer)
-    assert [(group.get("rt_ab"), group.get("radiotext")) for group in found[2:]] == [("B", None), ("B", None)]
+    first = "0,A,A:D3C2,B:0228,C:E0E0,D:4141"
+
+    def texts(*groups: Group) -> List[Any]:
+        lines = ["2,A,A:D3C2,B:%04X,C:%04X,D:%04X" % words[1:] for words in groups]
+        return [(group.get("rt_ab"), group.get("radiotext")) for group in redsea(first, *lines)[1:]]
+
+    groups = [*text("Hi\r ", 0), *text("Hi\r ", 1)]
+    assert texts(*groups, groups[1]) == [("A", "Hi"), ("B", "Hi"), ("B", "Hi")]
+    assert texts(groups[0], *text("Two segs", 1)) == [("A", "Hi"), ("B", None), ("B", None)]

@@ -4,13 +4,14 @@ from __future__ import annotations
 
 from typing import Any, Dict, Iterable, List, Optional, Sequence, Tuple
 
-import numpy
+
 import pytest
 from hypothesis import given, settings, strategies as st
 
 from rds_monitor.content.decoder import Decoder, Event
 from rds_monitor.rows.items import CORRECTED, LOST
-from sent import PI, Damage, Words, clock, eon, events_of, group, label, name, oda, rows_of, tags, text, told
+from sent import PI, Damage, Words, clock, events_of, group, name, oda, rows_of, text, told
+from test_contents_random import Station, damage_of
 
 NAMED = name(b"PAXO 318")
 THRICE = 3 * NAMED
@@ -31,13 +32,16 @@ def each(numbers: Iterable[int], *damage: Damage) -> List[Tuple[int, Damage]]:
 LOSE = {block: Damage(block, LOST) for block in (1, 2, 3, 4)}
 MEND = {block: Damage(block, CORRECTED) for block in (1, 2, 3, 4)}
 OTHER = [(0xD319, *words[1:]) for words in NAMED]
-IN_HOUSE = group("6A", 0)
+TWICE, LACKING = [group("6A", 0), *NAMED, *NAMED], each(range(1, 9), LOSE[3])
 TURNS = [group("6A", 0, pty=value) for value in (1, 2, 1, 2, 1, 2)]
-A_TEXT = text(b"A text\r")
-WHOLE, STRAY = text(b"AAAABBBBCCCC\r"), text(b"XXXX", 1)
+A_TEXT, HALVES = text(b"A text\r"), each(range(6), LOSE[4]) + each(range(6, 10), LOSE[3])
+STAYS = "AAAABBBBCCCC"
+WHOLE, STRAY = text(STAYS.encode() + b"\r"), text(b"XXXX", 1)
 STRAYS = WHOLE + [WHOLE[1], *STRAY, WHOLE[2], *STRAY, *WHOLE[1:]]
 CLOCKS, TRAFFIC = NAMED + 3 * [clock(61128, 1, 30, 4)], NAMED + 2 * [group("8A", 1, 2, 3)]
-OF_B = name(b"PAXO 318", kind="0B")
+OF_B, OTHER_3 = name(b"PAXO 318", kind="0B"), Damage(3, CORRECTED, 0xD319)
+BOTH, TAKEN = [group("6A", 0, pty=9), *2 * OF_B], NAMED + [oda(0x1234, "2A")] + A_TEXT
+GUEST = NAMED + [(0xD319, *group("6A", 0, pty=5)[1:])] + NAMED
 PAXO = ["PAXO 318"]
 # By their titles, groups with their damage, the items, and the values that are told of these.
 CASES: Dict[str, Tuple[List[Words], List[Tuple[int, Damage]], str, List[Any]]] = {
@@ -50,47 +54,22 @@ CASES: Dict[str, Tuple[List[Words], List[Tuple[int, Damage]], str, List[Any]]] =
     "two corrected pairs beside two valid ones": (NAMED, each([1, 2], MEND[4]), "ps", []),
     "valid blocks of groups that are not whole, thrice": (THRICE, each(range(12), LOSE[3]), "ps", PAXO),
     "valid blocks of groups that are not whole, once": (NAMED, each(range(4), LOSE[3]), "ps", []),
-    "a corrected block, then a valid one": (
-        *([IN_HOUSE, *NAMED, *NAMED], each(range(1, 9), LOSE[3]) + each(range(1, 5), MEND[4])),
-        *("ps", PAXO),
-    ),
-    "a valid block, then a corrected one": (
-        *([IN_HOUSE, *NAMED, *NAMED], each(range(1, 9), LOSE[3]) + each(range(5, 9), MEND[4])),
-        *("ps", PAXO),
-    ),
+    "a corrected block, then a valid one": (TWICE, LACKING + each(range(1, 5), MEND[4]), "ps", PAXO),
+    "a valid block, then a corrected one": (TWICE, LACKING + each(range(5, 9), MEND[4]), "ps", PAXO),
     "a wrong correction once": (THRICE, [(5, Damage(4, CORRECTED, 0x5151))], "ps", PAXO),
     "a value in between breaks a row": (TURNS, each(range(6), LOSE[3]), "pty", []),
-    "halves of groups make a text": (
-        5 * A_TEXT,
-        each(range(6), LOSE[4]) + each(range(6, 10), LOSE[3]),
-        "rt",
-        ["A text"],
-    ),
+    "halves of groups make a text": (5 * A_TEXT, HALVES, "rt", ["A text"]),
     "a text of which blocks 4 were lost": (3 * A_TEXT, each(range(6), LOSE[4]), "rt", []),
-    "pairs under a flag that does not count": (
-        STRAYS,
-        each([5, 7], LOSE[1]),
-        "rt rt_ab",
-        ["A", "AAAABBBBCCCC"],
-    ),
+    "pairs under a flag that does not count": (STRAYS, each([5, 7], LOSE[1]), "rt rt_ab", ["A", STAYS]),
     "clock time needs a valid group": (CLOCKS, each([4, 5, 6], MEND[1]), "ct", []),
     "a PI once in a corrected block": (2 * NAMED, [(4, Damage(1, CORRECTED, 0xD319))], "pi", ["D318"]),
-    "a group of a PI that does not count": (
-        *(NAMED + [(0xD319, *group("6A", 0, pty=5)[1:])] + NAMED, each([4], LOSE[3])),
-        *("pi pty", ["D318", 10]),
-    ),
-    "blocks 1 and 3 that name two programmes": (
-        *([group("6A", 0, pty=9), *2 * OF_B], each(range(1, 9), Damage(3, CORRECTED, 0xD319))),
-        *("pi ps pty", ["D318", 9]),
-    ),
+    "a group of a PI that does not count": (GUEST, each([4], LOSE[3]), "pi pty", ["D318", 10]),
+    "blocks 1 and 3 that name two programmes": (BOTH, each(range(1, 9), OTHER_3), "pi ps pty", ["D318", 9]),
     "a programme by block 3 of version B": (3 * OF_B, each(range(12), LOSE[1]), "pi ps", ["D318", *PAXO]),
     "a feature in corrected blocks": (TRAFFIC, each([4, 5], MEND[2]), "tmc", []),
     "a feature once in a valid block": (TRAFFIC, each([4], LOSE[4]) + each([5], MEND[2]), "tmc", []),
     "a feature in two valid blocks": (TRAFFIC, each([4, 5], LOSE[4]), "tmc", [True]),
-    "an application by a wrong correction takes no group": (
-        *(NAMED + [oda(0x1234, "2A")] + A_TEXT, each([4], MEND[4])),
-        *("rt oda:1234", ["A text"]),
-    ),
+    "an application by a wrong correction": (TAKEN, each([4], MEND[4]), "rt oda:1234", ["A text"]),
 }
 
 
@@ -106,10 +85,8 @@ def test_corrected_blocks_alone_give_no_pi() -> None:
 
 def test_another_programme_is_another_station() -> None:
     """What was said before the change says nothing of the other one, alike or not."""
-    found = events_of(NAMED + OTHER[:2])
-    of_first = [(PI, "D318"), (PI, 10), (PI, "PAXO 318")]
-    told_of_both = [(entry.pi, entry.value) for entry in found if entry.item in ("pi", "pty", "ps")]
-    assert told_of_both == [*of_first, (0xD319, "D319"), (0xD319, 10)]
+    found = [entry[1:4:2] for entry in events_of(NAMED + OTHER[:2]) if entry.item in ("pi", "pty", "ps")]
+    assert found == [(PI, "D318"), (PI, 10), (PI, "PAXO 318"), (0xD319, "D319"), (0xD319, 10)]
 
 
 def test_a_group_without_pi_after_an_acquisition_is_of_no_programme() -> None:
@@ -155,9 +132,7 @@ def plain(values: Sequence[Tuple[int, bool, bool]]) -> List[int]:
 
 @settings(max_examples=100, deadline=None)
 @given(st.lists(st.tuples(st.integers(0, 3), *4 * [st.booleans()]), max_size=40))
-def test_programme_types_count_as_the_plain_rule_says(
-    received: List[Tuple[int, bool, bool, bool, bool]]
-) -> None:
+def test_programme_types_count_by_the_plain_rule(received: List[Tuple[int, bool, bool, bool, bool]]) -> None:
     """Groups with a valid PI, so that only block 2 matters: its value, whether it was corrected, whether others were
     not valid."""
     groups = [group("6A", 0, pty=9), *(group("6A", 0, pty=entry[0]) for entry in received)]
@@ -174,9 +149,7 @@ def test_programme_types_count_as_the_plain_rule_says(
 
 
 @settings(max_examples=100, deadline=None)
-@given(
-    st.lists(st.tuples(st.sampled_from([0xD318, 0xD319, 0xD31A]), st.booleans(), st.booleans()), max_size=30)
-)
+@given(st.lists(st.tuples(st.sampled_from([0xD318, 0xD319, 0xD31A]), *2 * [st.booleans()]), max_size=30))
 def test_programmes_count_as_the_plain_rule_says(received: List[Tuple[int, bool, bool]]) -> None:
     groups = [group("6A", 0, pi=pi) for pi, _, _ in received]
     bad = [(number, *flags) for number, (_, *flags) in enumerate(received)]
@@ -207,9 +180,7 @@ def words_of(drawn: Sequence[Any]) -> List[Words]:
 
 @settings(max_examples=100, deadline=None)
 @given(st.lists(ANY, max_size=60), st.lists(DAMAGE, max_size=30), st.sets(st.integers(0, 59), max_size=3))
-def test_any_groups_decode_and_chunks_make_no_difference(
-    drawn: Sequence[Any], damage: Any, acquired: Any
-) -> None:
+def test_any_groups_decode_alike_in_chunks(drawn: Sequence[Any], damage: Any, acquired: Any) -> None:
     rows = rows_of(words_of(drawn), damage, tuple(acquired))
     whole = Decoder().feed(rows)
     assert fed(Decoder(), rows, 1) == fed(Decoder(), rows, 7) == whole
@@ -232,27 +203,10 @@ def check_order(events: Sequence[Event]) -> None:
 
 
 def sample(seed: int, count: int) -> Any:
-    """A station's groups with changing contents, and damage: rows as they are received."""
-    rng = numpy.random.default_rng(seed)
-    groups: List[Words] = [oda(0x4BD7, "11A")]
-    for k in range(count // 40):
-        title = b"Title%d" % rng.integers(4)
-        groups += name(b"PAXO %03d" % rng.integers(3), [0xE50A, 0x1E32, 0x465A + int(rng.integers(2))])
-        groups += text(title + b" by Artist%d\r" % rng.integers(3), k // 3 % 2)
-        groups += [tags(k // 3 % 2, 1, (1, 0, len(title) - 1), (4, len(title) + 4, 6))]
-        groups += [label(0, 0xE0, int(rng.integers(2)) << 11), eon(int(rng.integers(4)), 0x4142)]
-        groups += [group("14B", int(rng.integers(2)) << 3, 0, 0xD312)]
-        groups += [
-            group("10A", int(rng.integers(2)) << 4 | k % 2, 0x4142, 0x4344 + k // 10) for k in range(4)
-        ]
-        groups += text(b"No end", k // 3 % 2 ^ 1) if k % 7 == 0 else []
-    damage = []
-    for number, block in ((number, block) for number in range(len(groups)) for block in (1, 2, 3, 4)):
-        draw = rng.random()
-        if draw < 0.16:
-            wrong = int(rng.integers(0x10000)) if draw >= 0.15 else None
-            damage.append((number, Damage(block, LOST if draw < 0.05 else CORRECTED, wrong)))
-    return rows_of(groups, damage, tuple(range(0, len(groups), 100)))
+    """The rows of a random station, with damage to a sixth of the groups' blocks, and acquisitions."""
+    groups = Station(seed).groups(count)
+    damage = damage_of(groups, seed, 0.16)
+    return rows_of([said.words for said in groups], damage, tuple(range(0, count, 100)))
 
 
 def fed(decoder: Decoder, rows: Any, size: int = 10**6) -> List[Event]:
@@ -265,11 +219,9 @@ def test_news_are_all_that_matters(seed: int) -> None:
     """A decoder that looks at every value that counts tells the same, but for lists of frequencies, which it may
     complete earlier."""
     rows = sample(seed, 1500)
-
-    def but_lists(events: Sequence[Event]) -> List[Event]:
-        return [event for event in events if not event.item.startswith("af")]
-
-    assert but_lists(Decoder().feed(rows)) == but_lists(Decoder(everything=True).feed(rows))
+    told_by = (Decoder(everything=value).feed(rows) for value in (False, True))
+    news, everything = ([event for event in found if event.item[:2] != "af"] for found in told_by)
+    assert news == everything
 
 
 @pytest.mark.parametrize("seed, size", [(0, 1), (1, 3), (2, 40), (3, 500)])

@@ -4,17 +4,18 @@ from __future__ import annotations
 
 import json
 import os
+import re
 import struct
-from typing import Any, Callable, Dict, List, Tuple
+from typing import Any, Dict, List, Tuple
 
 import measure_demod
 import numpy
 import pytest
-from conftest import PROGRAM, TOP, encode, monitor, rds
+from conftest import TOP, encode, monitor, rds
 from hypothesis import given, settings
 from hypothesis import strategies as st
 from made import on_a_terminal, peak_memory
-from measure_demod import TABLES, Words, right, whole_groups
+from measure_demod import TABLES, Words, bits_of, right, whole_groups
 from modulator import Array, dropped, iq, mpx, stored, wav, words
 
 from rds_monitor.signal.demod import sentence
@@ -32,25 +33,16 @@ def received(signal: Array, rate: int = RATE, **options: Any) -> Tuple[List[Word
 # ---- the receiver
 
 
-@pytest.mark.parametrize(
-    "options",
-    [
-        {"snr": 30},
-        {"snr": 10},
-        {"snr": 20, "carrier_offset": 12},
-        {"snr": 20, "carrier_offset": -25},
-        {"snr": 20, "phase": 90},
-        {"snr": 20, "clock_offset": 100},
-        {"snr": 20, "clock_offset": -100},
-        {"snr": 20, "clock_offset": 1000},
-        {"snr": 20, "stereo": False},
-        # The bit at the flip is wrong, and corrected.
-        {"snr": 20, "flip": 1.0},
-    ],
-    ids=str,
-)
-def test_all_groups_but_the_first(options: Any) -> None:
-    assert received(mpx(SENT, RATE, **options))[0] == GROUPS[1:]
+# Signals; the bit at the flip is wrong, and corrected.
+SIGNALS = """
+snr=30; snr=10; snr=20 carrier_offset=12; snr=20 carrier_offset=-25; snr=20 phase=90; snr=20 clock_offset=100;
+snr=20 clock_offset=-100; snr=20 clock_offset=1000; snr=20 stereo=0; snr=20 flip=1"""
+
+
+@pytest.mark.parametrize("options", re.split(r";\s", SIGNALS.strip()))
+def test_all_groups_but_the_first(options: str) -> None:
+    values = {name: float(value) for name, value in (word.split("=") for word in options.split())}
+    assert received(mpx(SENT, RATE, **values))[0] == GROUPS[1:]
 
 
 @pytest.mark.parametrize("snr,least", [(1, 21), (-2, 10)])
@@ -66,8 +58,7 @@ def test_rates(rate: int) -> None:
 @pytest.mark.parametrize("rate", [171000, 192000, 250001])
 def test_no_bit_is_wrong_without_noise(rate: int) -> None:
     sent = numpy.unpackbits(numpy.frombuffer(SENT, "u1"))
-    receiver = Receiver(rate)
-    bits = numpy.concatenate([receiver.push(mpx(SENT, rate, snr=40)), receiver.finish()])
+    bits = bits_of(Receiver(rate), mpx(SENT, rate, snr=40))
     # The first bit has none before it; the last ones may be cut.
     assert min(int((bits[at : at + 2400] != sent[10:2410]).sum()) for at in range(4, 16)) == 0
 
@@ -90,14 +81,13 @@ def test_groups_on_both_sides_of_silence_and_of_noise() -> None:
 def test_nearly_as_many_bits_as_were_sent_and_they_keep_time() -> None:
     signal = mpx(SENT, RATE)
     for gap in (numpy.zeros(10 * RATE), numpy.random.default_rng(2).standard_normal(10 * RATE)):
-        receiver = Receiver(RATE)
         whole = numpy.concatenate([signal, gap, signal])
-        bits = numpy.concatenate([receiver.push(whole), receiver.finish()])
-        assert abs(bits.size - whole.size / RATE * 1187.5) < 5
+        bits, sent = bits_of(Receiver(RATE), whole), whole.size / RATE * 1187.5
+        assert abs(bits.size - sent) < 5
         lines = rds("list", data=numpy.packbits(bits).tobytes()).decode().splitlines()
         places = [int(line.split(",")[1]) for line in lines if line.startswith("group,")]
         # The clock goes on through what is no signal.
-        assert abs(places[-1] - (whole.size / RATE * 1187.5 - 104)) < 110
+        assert abs(places[-1] - (sent - 104)) < 110
 
 
 # ---- jumps
@@ -128,10 +118,14 @@ def test_iq_with_jumps_and_dropped_samples(jump: float) -> None:
     assert right(FIVE_SECONDS, dropped(signal, 100, rate), rate, equalise=True) >= 57
 
 
-@pytest.mark.parametrize(
-    "name,case",
-    [("noise", "−2 dB"), ("jumps", "100 samples dropped per second"), ("multipath", "10 µs, −1 dB | 30 dB")],
-)
+ROWS = [
+    ("noise", "−2 dB"),
+    ("jumps", "100 samples dropped per second"),
+    ("multipath", "10 µs, −1 dB | 30 dB"),
+]
+
+
+@pytest.mark.parametrize("name,case", ROWS)
 def test_a_row_of_the_page(name: str, case: str) -> None:
     """The tables of docs/ACCURACY.md are those that measure_demod.py prints, but for what other sums may change."""
     lines = (TOP / "docs" / "ACCURACY.md").read_text().splitlines()
@@ -157,23 +151,19 @@ def test_report(snr: float) -> None:
     assert told["rds_khz"] is None
 
 
-@pytest.mark.parametrize(
-    "name,signal",
-    [
-        ("noise", numpy.random.default_rng(3).standard_normal(4 * RATE)),
-        ("silence", numpy.zeros(2 * RATE)),
-        ("a tone", numpy.sin(2 * numpy.pi * 57005 / RATE * numpy.arange(4 * RATE))),
-    ],
-)
-def test_what_is_no_rds_is_never_locked(name: str, signal: Array) -> None:
+NOISE = numpy.random.default_rng(3).standard_normal(6 * RATE)
+TONE = numpy.sin(2 * numpy.pi * 57005 / RATE * numpy.arange(4 * RATE))
+
+
+@pytest.mark.parametrize("signal", [NOISE, numpy.zeros(2 * RATE), TONE], ids=["noise", "silence", "tone"])
+def test_what_is_no_rds_is_never_locked(signal: Array) -> None:
     told = received(signal)[1]
     assert told["received"] < 0.002
     assert told["locked"] == 0 and told["snr_db"] is None and told["first_lock_s"] is None
 
 
 def test_lock_of_a_part() -> None:
-    noise = numpy.random.default_rng(3).standard_normal(6 * RATE)
-    told = received(numpy.concatenate([noise, mpx(SENT, RATE)]))[1]
+    told = received(numpy.concatenate([NOISE, mpx(SENT, RATE)]))[1]
     assert abs(told["received"] - 2.1 / 8.1) < 0.02
     assert abs(told["first_lock_s"] - 6) < 0.5 and abs(told["locked"] - 2.1 / 8.1) < 0.05
 
@@ -188,14 +178,10 @@ def test_bits_in_valid_blocks(snr: float, least: float, most: float) -> None:
 # ---- IQ
 
 
-@pytest.mark.parametrize(
-    "rate,offset", [(240000, 0.0), (250000, 20000.0), (1024000, 0.0), (1200000, 250000.0)]
-)
+@pytest.mark.parametrize("rate,offset", [(240000, 0), (250000, 20000), (1024000, 0), (1200000, 250000)])
 def test_iq(rate: int, offset: float) -> None:
-    groups = GROUPS[:8]
-    signal = iq(mpx(encode(groups), rate, snr=40), rate, cnr=40, offset=offset)
-    found, _ = received(signal, rate, offset=offset)
-    assert found == groups[1:]
+    signal = iq(mpx(encode(GROUPS[:8]), rate, snr=40), rate, cnr=40, offset=offset)
+    assert received(signal, rate, offset=float(offset))[0] == GROUPS[1:8]
 
 
 @pytest.mark.parametrize("equalise", [False, True])
@@ -210,7 +196,7 @@ def test_the_deviation_is_that_sent(rate: int, cnr: float, loudness: float, equa
     assert abs(told["rds_to_pilot_db"] - 20 * numpy.log10(1.39 / 6.75)) < 0.25
 
 
-@pytest.mark.parametrize("rate,count,equalise", [(480000, 60, True), (499999, 12, False)])
+@pytest.mark.parametrize("rate,count,equalise", [(480000, 30, True), (499999, 12, False)])
 def test_a_stronger_neighbour_in_the_band(rate: int, count: int, equalise: bool) -> None:
     """200 kHz away, 6 dB stronger."""
     groups, others = words(5, count), words(6, count)
@@ -238,11 +224,11 @@ def test_the_equaliser_does_not_harm_a_weak_iq_signal() -> None:
 
 
 def test_a_station_after_silence_in_iq() -> None:
-    rate = 256000
-    signal = iq(mpx(SENT, rate, snr=40), rate, cnr=40)
+    rate, groups = 256000, GROUPS[:14]
+    signal = iq(mpx(encode(groups), rate, snr=40), rate, cnr=40)
     for silence in (numpy.zeros(rate // 4, complex), 1e-6 * signal[: rate // 4]):
         found, _ = received(numpy.concatenate([signal, silence, signal]), rate, equalise=True)
-        assert found[:22] == GROUPS[1:23] and found[-20:] == GROUPS[-20:]
+        assert found[:12] == groups[1:13] and found[-10:] == groups[-10:]
 
 
 @given(
@@ -263,11 +249,7 @@ def test_any_samples_give_bits_in_time(kind: str, is_iq: bool, seconds: float, b
         "steps": numpy.arange(size) % 1000.0,
     }[kind]
     given_ = signal + 1j * signal[::-1] if is_iq else signal
-    receiver = Receiver(RATE, is_iq, equalise=is_iq)
-    parts = [receiver.push(given_[at : at + block]) for at in range(0, size, max(block, 1000))] + [
-        receiver.finish()
-    ]
-    bits = numpy.concatenate(parts)
+    bits = bits_of(Receiver(RATE, is_iq, equalise=is_iq), given_, max(block, 1000))
     assert set(bits.tolist()) <= {0, 1}
     if block >= 1000:
         assert abs(bits.size - seconds * 1187.5) < 8
@@ -300,21 +282,19 @@ def file(tmp_path: Any) -> Any:
 
 
 LONG_CHUNK = b"LIST" + struct.pack("<I", 300001) + bytes(300002)
-WAVES: Dict[str, Callable[[Array], bytes]] = {
-    "s16": lambda signal: wav(stored(signal, "s16"), "s16", 192000),
-    "s24": lambda signal: wav(stored(signal, "s24"), "s24", 192000),
-    "s32": lambda signal: wav(stored(signal, "s32"), "s32", 192000),
-    "f32": lambda signal: wav(stored(signal, "f32"), "f32", 192000),
-    "f64": lambda signal: wav(stored(signal, "f64"), "f64", 192000),
+WAVES: Dict[str, Dict[str, Any]] = {
+    **dict.fromkeys(("s16", "s24", "s32", "f32", "f64"), {}),
     # Half a sample more would be a fault.
-    "long form": lambda signal: wav(stored(signal, "s16"), "s16", 192000, long_form=True) + b"LIST.",
-    "long chunk": lambda signal: wav(stored(signal, "s16"), "s16", 192000, more=LONG_CHUNK),
+    "s16 long form": {"long_form": True},
+    "s16 long chunk": {"more": LONG_CHUNK},
 }
 
 
 @pytest.mark.parametrize("which", WAVES)
 def test_wav(which: str, signal: Array, file: Any) -> None:
-    assert demodulated(file(WAVES[which](signal))) == GROUPS[1:]
+    form, is_long = which[:3], "long_form" in WAVES[which]
+    data = wav(stored(signal, form), form, 192000, **WAVES[which]) + b"LIST." * is_long
+    assert demodulated(file(data)) == GROUPS[1:]
 
 
 @pytest.mark.parametrize("form", ["s16", "f32", "u8"])
@@ -322,9 +302,14 @@ def test_raw_samples_from_a_pipe(form: str, signal: Array) -> None:
     assert demodulated("--raw", form, "--rate", 192000, data=stored(signal, form)) == GROUPS[1:]
 
 
+@pytest.fixture(scope="module")
+def radio() -> Array:
+    return iq(mpx(encode(GROUPS[:12]), 256000, snr=40), 256000, cnr=40)
+
+
 @pytest.mark.parametrize("form", ["u8", "s16", "f32"])
-def test_raw_iq(form: str) -> None:
-    data = stored(iq(mpx(encode(GROUPS[:12]), 256000, snr=40), 256000, cnr=40), form)
+def test_raw_iq(form: str, radio: Array) -> None:
+    data = stored(radio, form)
     assert demodulated("--raw", form, "--iq", "--rate", 256000, data=data) == GROUPS[1:12]
 
 
@@ -342,22 +327,23 @@ def test_the_equaliser_is_on_by_default(echo: Array) -> None:
     assert equalised >= 24 > 10 >= plain
 
 
+LEVELS = {"rds_khz": 2.25, "rds_to_pilot_db": -9.5, "rds_dbfs": -30.5}
+
+
 @pytest.mark.parametrize(
     "known,end",
     [
-        ({"rds_khz": 2.25, "rds_to_pilot_db": -9.5}, "; deviation 2.25 kHz"),
-        ({"rds_to_pilot_db": -9.5, "rds_dbfs": -30.5}, "; level -9.5 dB relative to the pilot"),
-        ({"rds_dbfs": -30.5}, "; level -30.5 dBFS"),
+        ("rds_khz rds_to_pilot_db", "; deviation 2.25 kHz"),
+        ("rds_to_pilot_db rds_dbfs", "; level -9.5 dB relative to the pilot"),
+        ("rds_dbfs", "; level -30.5 dBFS"),
         # A signal that is coherent only when it is equalised.
-        ({}, ", clock +0.0 ppm"),
+        ("", ", clock +0.0 ppm"),
     ],
 )
-def test_the_first_level_that_is_known_is_told(known: Any, end: str) -> None:
+def test_the_first_level_that_is_known_is_told(known: str, end: str) -> None:
     told = received(mpx(SENT, RATE))[1]
-    told.update(
-        {"clock_offset_ppm": 0.0, "rds_khz": None, "rds_to_pilot_db": None, "rds_dbfs": None, **known}
-    )
-    assert sentence(told).endswith(end)
+    told.update({name: value if name in known.split() else None for name, value in LEVELS.items()})
+    assert sentence({**told, "clock_offset_ppm": 0.0}).endswith(end)
 
 
 @pytest.mark.parametrize("form,level", [("s16", -40.0), ("f32", -30.5), ("u8", -40.0)])
@@ -377,15 +363,13 @@ def test_a_terminal_has_one_line_that_is_overwritten(signal: Array, tmp_path: An
     options = ("--raw", "s16", "--rate", "192000", "--output", "/dev/null")
     said = on_a_terminal("-c", code, "demod", *options, str(tmp_path / "it"))
     lines = said.split(b"\r")
-    assert len(lines) >= 4
+    assert len(lines) >= 4 and said.count(b"\n") == 1
     assert all(line.endswith(b"\x1b[K") for line in lines[1:-2])
-    assert said.count(b"\n") == 1
     assert b"rds-monitor demod: " in said and b" in valid blocks" in lines[2]
 
 
-def test_iq_in_wav(file: Any) -> None:
-    values = iq(mpx(encode(GROUPS[:12]), 256000, snr=40), 256000, cnr=40)
-    path = file(wav(stored(values, "s16"), "s16", 256000, channels=2))
+def test_iq_in_wav(file: Any, radio: Array) -> None:
+    path = file(wav(stored(radio, "s16"), "s16", 256000, channels=2))
     assert demodulated("--iq", path) == GROUPS[1:12]
     assert b"2 channels" in monitor("demod", path).stderr
 
@@ -423,15 +407,13 @@ def test_unpacked_bits_are_the_same(signal: Array, file: Any) -> None:
     assert b"coherent for 100.0 %" in packed.stderr
 
 
-def test_json_at_times_and_at_the_end() -> None:
+def test_json_at_times_and_at_the_end(signal: Array) -> None:
     data = stored(mpx(encode(words(3, 48)), 192000), "s16")
     done = monitor("demod", *S16, "--json", "--every", 0.2, data=data)
     told = [json.loads(line) for line in done.stderr.splitlines()]
     assert len(told) >= 3 and told[0]["seconds"] < told[-1]["seconds"]
     assert abs(told[-1]["snr_db"] - 30) < 1 and told[-1]["bits"] >= 48 * 104 - 5 and told[-1]["locked"] == 1
-
-
-def test_no_more_reports_than_asked_for(signal: Array) -> None:
+    # No more of them than were asked for.
     done = monitor("demod", *S16, "--json", "--every", 0.8, data=stored(signal, "s16") * 3)
     times = [json.loads(line)["seconds"] for line in done.stderr.splitlines()]
     assert len(times) >= 4 and all(after - before >= 0.8 for before, after in zip(times, times[1:-1]))
@@ -441,19 +423,15 @@ def test_no_more_reports_than_asked_for(signal: Array) -> None:
 def test_a_wrong_rate_is_told(rate: int, said: int) -> None:
     data = stored(mpx(encode(words(6, 30)), rate), "s16")
     done = monitor("demod", "--raw", "s16", "--rate", said, data=data)
-    assert done.returncode == 1
-    assert f"no RDS at {said} samples per second, but at {rate}: use --rate {rate}" in done.stderr.decode()
+    fault = f"no RDS at {said} samples per second, but at {rate}: use --rate {rate}"
+    assert done.returncode == 1 and fault in done.stderr.decode()
 
 
-def test_a_wrong_rate_in_a_header(signal: Array, file: Any) -> None:
+def test_a_wrong_rate_in_a_header_and_no_rds(signal: Array, file: Any) -> None:
     path = file(wav(stored(signal, "s16"), "s16", 250000))
     assert b"use --rate 192000" in monitor("demod", path).stderr
     assert demodulated("--rate", 192000, path) == GROUPS[1:]
-
-
-def test_no_rds() -> None:
-    noise = stored(numpy.random.default_rng(3).standard_normal(3 * RATE), "s16")
-    done = monitor("demod", "--raw", "s16", "--rate", RATE, data=noise)
+    done = monitor("demod", "--raw", "s16", "--rate", RATE, data=stored(NOISE[: 3 * RATE], "s16"))
     assert done.returncode == 1 and b"no RDS was found" in done.stderr
 
 
@@ -462,57 +440,38 @@ def test_a_file_that_is_cut_off_gives_the_bits_up_to_there(signal: Array, file: 
     whole = monitor("demod", file(data)).stdout
     done = monitor("demod", file(data[:500000]))
     assert done.returncode == 1
-    assert (
-        f"the file is cut off: it has 499956 of the {len(data) - 44} bytes of samples" in done.stderr.decode()
-    )
+    assert f"it has 499956 of the {len(data) - 44} bytes of samples" in done.stderr.decode()
     assert done.stdout[:180] == whole[:180] and len(done.stdout) > 190
 
 
 WAV = wav(bytes(100), "s16", 192000)
 
 
-@pytest.mark.parametrize(
-    "command,data,said",
-    [
-        ("--raw s16 --rate 171000", bytes(1001), "ends within a sample, 1 bytes after the last whole one"),
-        ("--raw s16 --rate 171000", b"", "there is no sample in the input"),
-        ("--raw s16 --rate 171000", bytes(100), "the input is too short for a bit"),
-        ("--raw s16 --rate 127999", bytes(100), "a sample rate of 127999 is not 128000 to 3200000"),
-        ("--raw f32 --rate 171000", bytes(400) + b"\0\0\xc0\x7f", "sample 101 is nan: no signal has it"),
-        ("", bytes(100), "the input is neither WAV nor FLAC: name its samples with --raw and --rate"),
-        ("", b"fLaC" + bytes(100), "FLAC is read from a file only"),
-        ("", wav(b"", "s16", 192000), "there is no sample in the input"),
-        ("", WAV[:30], "the WAV file ends within its header"),
-        ("", wav(b"", "s16", 192000, more=b"LIST" + b"\xff" * 4 + bytes(100)), "ends within its header"),
-        ("", WAV.replace(b"\1\0\1\0", b"\7\0\1\0", 1), "WAV samples of format 7 with 16 bits are not read"),
-        ("none-such", b"", "'none-such' cannot be read: No such file or directory"),
-    ],
-)
+RAW = "--raw s16 --rate 171000"
+# The words and the input, with the fault.
+NO_INPUTS = [
+    (RAW, bytes(1001), "ends within a sample, 1 bytes after the last whole one"),
+    (RAW, b"", "there is no sample in the input"),
+    (RAW, bytes(100), "the input is too short for a bit"),
+    ("--raw s16 --rate 127999", bytes(100), "a sample rate of 127999 is not 128000 to 3200000"),
+    ("--raw f32 --rate 171000", bytes(400) + b"\0\0\xc0\x7f", "sample 101 is nan: no signal has it"),
+    ("", bytes(100), "the input is neither WAV nor FLAC: name its samples with --raw and --rate"),
+    ("", b"fLaC" + bytes(100), "FLAC is read from a file only"),
+    ("", wav(b"", "s16", 192000), "there is no sample in the input"),
+    ("", WAV[:30], "the WAV file ends within its header"),
+    ("", wav(b"", "s16", 192000, more=b"LIST" + b"\xff" * 4 + bytes(100)), "ends within its header"),
+    ("", WAV.replace(b"\1\0\1\0", b"\7\0\1\0", 1), "WAV samples of format 7 with 16 bits are not read"),
+    ("none-such", b"", "'none-such' cannot be read: No such file or directory"),
+]
+
+
+@pytest.mark.parametrize("command,data,said", NO_INPUTS)
 def test_inputs_that_cannot_be_read(command: str, data: bytes, said: str) -> None:
     done = monitor("demod", *command.split(), data=data)
     assert done.returncode == 1 and said in done.stderr.decode()
-
-
-@pytest.mark.parametrize(
-    "words_",
-    [
-        "--raw s16",
-        "--rate fast --raw s16",
-        "--raw s16 --rate 171000 --channel 1",
-        "--offset 5",
-        "--raw s16 --rate 171000 --every 0",
-        "--raw s8 --rate 171000",
-    ],
-)
-def test_usage_errors(words_: str) -> None:
-    assert monitor("demod", *words_.split()).returncode == 2
 
 
 @pytest.mark.skipif(not os.path.exists("/dev/full"), reason="there is no /dev/full")
 def test_a_full_disk(signal: Array) -> None:
     done = monitor("demod", *S16, "--output", "/dev/full", data=stored(signal, "s16"))
     assert done.returncode == 1 and b"No space left on device" in done.stderr
-
-
-def test_the_program_is_there() -> None:
-    assert os.access(PROGRAM, os.X_OK)

@@ -17,8 +17,7 @@ from sent import clock, group, label, tags
 def test_every_line_is_a_field() -> None:
     assert len(FIELDS) == len(TABLE.strip().splitlines()) - 1
     for field in FIELDS.values():
-        assert field.clause
-        assert field.meaning
+        assert field.clause and field.meaning
         assert all(1 <= block <= 4 and shift + mask.bit_length() <= 16 for block, shift, mask in field.parts)
 
 
@@ -73,29 +72,23 @@ def test_a_field_is_read_and_its_neighbours_are_not(field: str) -> None:
     assert FIELDS[field].of(outside) == 0
 
 
-def test_arrays_are_read_alike() -> None:
-    words = [numpy.array(column) for column in zip(clock(61128, 1, 30, 4), clock(61129, 23, 59, -7))]
+def test_arrays_are_read_alike_and_payloads_are_the_37_bits_of_a_group() -> None:
+    one, other = clock(61128, 1, 30, 4), clock(61129, 23, 59, -7)
+    words = [numpy.array(column) for column in zip(one, other)]
     assert FIELDS["ct.day"].of(words).tolist() == [61128, 61129]
+    assert FIELDS["ct.day"].of(payload(FIELDS["ct"].of(one))) == 61128
 
 
-def test_a_payload_is_the_37_bits_of_a_group() -> None:
-    words = clock(61128, 1, 30, 4)
-    assert FIELDS["ct.day"].of(payload(FIELDS["ct"].of(words))) == 61128
-
-
-def test_every_look_is_of_known_fields_in_groups_that_have_them() -> None:
+def test_every_look_and_text_is_of_known_fields_in_groups_that_have_them() -> None:
     for look in chain(*looks.LOOKS.values()):
         for name in filter(None, (look.value, look.position, look.message, look.when)):
             groups = set(FIELDS[name].groups)
             assert groups >= set(look.groups.split()) or groups == {"all"}, (look, name)
-
-
-def test_every_text_is_of_known_fields_in_groups_that_have_them() -> None:
-    for look in looks.TEXTS:
-        for name in filter(None, (look.segment, *look.pairs, look.message)):
-            assert set(FIELDS[name].groups) >= set(look.groups.split()), (look, name)
-        most = (1 << FIELDS[look.segment].width) - look.first
-        assert len(look.pairs) == look.shape.pairs and look.shape.segments <= most
+    for text in looks.TEXTS:
+        for name in filter(None, (text.segment, *text.pairs, text.message)):
+            assert set(FIELDS[name].groups) >= set(text.groups.split()), (text, name)
+        most = (1 << FIELDS[text.segment].width) - text.first
+        assert len(text.pairs) == text.shape.pairs and text.shape.segments <= most
 
 
 def test_which_groups_may_carry_an_application() -> None:
@@ -107,52 +100,21 @@ def test_which_groups_may_carry_an_application() -> None:
 
 def test_call_letters() -> None:
     """NRSC-4-B, annex D.7: the first and last of K and W, both kinds of zeros, and PI that have none."""
-    shown = {
-        0x1000: "KAAA",
-        0x54A7: "KZZZ",
-        0x54A8: "WAAA",
-        0x994F: "WZZZ",
-        0x7106: "WKTI",
-        0xA123: "KABJ",
-        0xAF12: "KATS",
-        0x9950: None,
-        0x0FFF: None,
-        0xB001: None,
-    }
-    assert {pi: names.call_letters(pi) for pi in shown} == shown
+    known, none = (0x1000, 0x54A7, 0x54A8, 0x994F, 0x7106, 0xA123, 0xAF12), (0x9950, 0x0FFF, 0xB001)
+    assert [*map(names.call_letters, known)] == "KAAA KZZZ WAAA WZZZ WKTI KABJ KATS".split()
+    assert [*map(names.call_letters, none)] == 3 * [None]
 
 
 def test_names() -> None:
     assert len(names.PROGRAMME_TYPES) == len(names.PROGRAMME_TYPES_RBDS) == 32
     assert len(names.CONTENT_TYPES) == 64
     assert names.programme_type(31) == "Alarm" and names.programme_type(31, True) == "Emergency"
-    assert [names.language(code) for code in (0, 8, 0x2B, 0x2C, 0x40, 0x44, 0x45, 0x7F, 0x80)] == [
-        "Unknown",
-        "German",
-        "Walloon",
-        None,
-        "Background sound, clean feed",
-        None,
-        "Zulu",
-        "Amharic",
-        None,
-    ]
-    assert [
-        names.country(*one)
-        for one in (
-            (0xE0, 0xD318),
-            (0xE1, 0xF201),
-            (0xE0, 0x1234),
-            (0xA0, 0x1234),
-            (0xE0, 0x0234),
-            (0x00, 0xD318),
-        )
-    ] == ["de", "fr", "de", "us", None, None]
-    assert all(
-        code in names.COUNTRY_NAMES
-        for extended in range(256)
-        for code in filter(None, (names.country(extended, digit << 12) for digit in range(16)))
-    )
-    assert names.DAB_CHANNELS[174928] == "5A"
-    assert names.DAB_CHANNELS[220352] == "11C"
-    assert names.DAB_CHANNELS[239200] == "13F"
+    languages = "Unknown German Walloon Zulu Amharic".split()
+    assert [*map(names.language, (0, 8, 0x2B, 0x45, 0x7F))] == languages
+    assert [*map(names.language, (0x2C, 0x44, 0x80))] == 3 * [None]
+    assert names.language(0x40) == "Background sound, clean feed"
+    extended, pis = (0xE0, 0xE1, 0xE0, 0xA0, 0xE0, 0x00), (0xD318, 0xF201, 0x1234, 0x1234, 0x0234, 0xD318)
+    assert [*map(names.country, extended, pis)] == ["de", "fr", "de", "us", None, None]
+    found = {names.country(code, digit << 12) for code in range(256) for digit in range(16)} - {None}
+    assert found <= {*names.COUNTRY_NAMES}
+    assert [names.DAB_CHANNELS[kilohertz] for kilohertz in (174928, 220352, 239200)] == ["5A", "11C", "13F"]

@@ -3,17 +3,19 @@
 from __future__ import annotations
 
 import os
+import re
 import subprocess
 import sys
 import unittest.mock
 from pathlib import Path
-from typing import Any, List, Optional, Sequence, Tuple
+from typing import Any, Callable, Dict, List, Optional, Sequence, Tuple
 
 import numpy
 import pytest
-from conftest import COMMAND, PROGRAM, STATION, encode, monitor, rds
+from conftest import PROGRAM, STATION, encode, monitor, rds
 from hypothesis import given, settings
 from hypothesis import strategies as st
+from made import output as rds_monitor
 from modulator import Array, iq, mpx, stored, wav, words
 
 from rds_monitor.signal.pack import READERS, Conversion, bits_of, packed_of
@@ -30,27 +32,18 @@ def forms(path: Any) -> List[Tuple[int, str, str]]:
     """The rows of `form`."""
     done = monitor("form", path)
     assert done.returncode == 0, done.stderr
-    lines = done.stdout.decode().splitlines()
-    assert lines[0] == "complete groups, form, command"
-    found = []
-    for line in lines[1:]:
-        count, rest = line.split(maxsplit=1)
-        name, command = rest.split("  ", 1)
-        found.append((int(count), name, command.strip()))
-    return found
+    names, *lines = done.stdout.decode().splitlines()
+    assert names == "complete groups, form, command"
+    rows = (re.split(" {2,}", line.strip(), maxsplit=2) for line in lines)
+    return [(int(count), name, command) for count, name, command in rows]
 
 
 def shell(command: str, tmp_path: Path) -> bytes:
     """What a command writes, with the programs that it names on the path."""
-    tools = tmp_path / "tools"
-    tools.mkdir(exist_ok=True)
-    for name, text in (
-        ("rds-monitor", f'exec {sys.executable} -m rds_monitor "$@"'),
-        ("rds", f'exec {PROGRAM} "$@"'),
-    ):
-        (tools / name).write_text(f"#!/bin/sh\n{text}\n")
-        (tools / name).chmod(0o755)
-    environment = {**os.environ, "PATH": f"{tools}:{os.environ['PATH']}"}
+    for name, text in (("rds-monitor", f"{sys.executable} -m rds_monitor"), ("rds", PROGRAM)):
+        (tmp_path / name).write_text(f'#!/bin/sh\nexec {text} "$@"\n')
+        (tmp_path / name).chmod(0o755)
+    environment = {**os.environ, "PATH": f"{tmp_path}:{os.environ['PATH']}"}
     return subprocess.run(["sh", "-c", command], env=environment, check=True, stdout=subprocess.PIPE).stdout
 
 
@@ -103,15 +96,13 @@ def test_the_form_and_its_cure(name: str, data: bytes, options: Optional[str], t
 
 
 def test_lines_of_groups(tmp_path: Path) -> None:
-    lines = rds("list", data=STATION_BYTES).decode().splitlines()
-    rows = [line.split(",")[4:] for line in lines if line.startswith("group,")]
-    words_ = [" ".join(block.split(":")[-1][:4] for block in row) for row in rows]
-    text = "".join(f"{line} @2026/03/29 00:30:00.00\r\n" for line in words_)
+    lines = rds_monitor("groups", STATION).splitlines()
+    text = "".join(f"{line} @2026/03/29 00:30:00.00\r\n" for line in lines)
     (tmp_path / "lines").write_text(text)
     _, name, cure = forms(tmp_path / "lines")[0]
     assert name == "lines of hexadecimal words"
     # The first one lacks a block.
-    assert rds("list", data=shell(cure, tmp_path)).count(b"\ngroup,") >= len(rows) - 2
+    assert rds("list", data=shell(cure, tmp_path)).count(b"\ngroup,") >= len(lines) - 2
 
 
 def test_a_station_that_comes_late(tmp_path: Path) -> None:
@@ -120,18 +111,14 @@ def test_a_station_that_comes_late(tmp_path: Path) -> None:
     assert forms(tmp_path / "late")[0][1] == "packed bits"
 
 
-@pytest.mark.parametrize(
-    "data,said",
-    [(b"", "is empty"), (numpy.random.default_rng(1).bytes(320000), "two complete groups")],
-    ids=["empty", "noise"],
-)
+NOISE = numpy.random.default_rng(1).bytes(320000)
+
+
+@pytest.mark.parametrize("data,said", [(b"", "is empty"), (NOISE, "two complete groups")], ids=len)
 def test_no_form(data: bytes, said: str, tmp_path: Path) -> None:
     (tmp_path / "noise").write_bytes(data)
     done = monitor("form", tmp_path / "noise")
     assert (done.returncode, done.stdout) == (1, b"") and said in done.stderr.decode()
-
-
-def test_a_file_that_is_not_there() -> None:
     assert monitor("form", "none such").returncode == 1
 
 
@@ -164,13 +151,13 @@ def radio() -> Array:
     [("mpx.wav", "s16"), ("mpx.s16", "s16"), ("mpx.f32", "f32"), ("iq.wav", "s16"), ("iq.u8", "u8")],
 )
 def test_signals(name: str, form: str, signal: Array, radio: Array, tmp_path: Path) -> None:
-    is_iq = name.startswith("iq")
-    rate = 256000 if is_iq else 192000
-    data = stored(radio if is_iq else signal, form)
-    (tmp_path / name).write_bytes(wav(data, form, rate, channels=1 + is_iq) if name.endswith("wav") else data)
+    of_iq, of_mpx = ("IQ", radio, 256000, 2), ("MPX", signal, 192000, 1)
+    kind, samples, rate, channels = of_iq if name[:2] == "iq" else of_mpx
+    data = stored(samples, form)
+    (tmp_path / name).write_bytes(wav(data, form, rate, channels) if name.endswith("wav") else data)
     groups, found, cure = forms(tmp_path / name)[0]
-    assert groups >= 40 and ("IQ" if is_iq else "MPX") in found and str(rate) in found
-    assert cure.startswith("rds-monitor demod ") and (" --iq" in cure) == is_iq
+    assert groups >= 40 and kind in found and str(rate) in found
+    assert cure.startswith("rds-monitor demod ") and (" --iq" in cure) == (kind == "IQ")
     assert int(rds("totals", data=shell(cure, tmp_path)).split(b"total,complete,")[1].split(b",")[0]) >= 45
 
 
@@ -186,48 +173,35 @@ def test_mpx_in_the_second_channel_and_in_flac(signal: Array, tmp_path: Path) ->
 # ---- pack
 
 
-@pytest.mark.parametrize(
-    "words_,data,said",
-    [
-        (("--from", "bytes"), b"\0\1\2", "byte 3 is 0x02, neither 0x00 nor 0x01"),
-        (("--from", "bytes255"), b"\1\0", "byte 1 is 0x01, neither 0x00 nor 0xFF"),
-        (("--from", "text"), b"01 2", "character 4 is neither 0 nor 1"),
-        (("--from", "text"), b" \n", "there is no bit in the input"),
-        (("--from", "hex"), b"12\n3g", "byte 5 is 0x67, neither a hexadecimal digit nor blank"),
-        (("--from", "hex"), b"1 2\n3", "there is an odd number of hexadecimal digits"),
-        (("--from", "s8"), b"\1\0\1", "no sample is below zero"),
-        (("--from", "s8"), b"\xff\0", "no sample is above zero"),
-        (("--from", "f32"), b"", "there is no bit in the input"),
-        (("--from", "s16"), b"\1\0\xff", "the last sample is cut off"),
-        (("--from", "f32"), b"\0\0\x80\x7f", "a sample is no number"),
-        (("--from", "wav"), STATION_BYTES, "neither WAV nor FLAC"),
-        (("--from", "wav"), wav(bytes(8), "s16", 1187, channels=2), "the WAV file has 2 channels"),
-        (("--from", "bytes", "none such"), b"", "none such: No such file or directory"),
-    ],
-)
-def test_inputs_that_are_no_bits(words_: Sequence[str], data: bytes, said: str) -> None:
-    done = monitor("pack", *words_, data=data)
+# Inputs of `pack --from FORM`, with the fault of each.
+NO_BITS = [
+    ("bytes", b"\0\1\2", "byte 3 is 0x02, neither 0x00 nor 0x01"),
+    ("bytes255", b"\1\0", "byte 1 is 0x01, neither 0x00 nor 0xFF"),
+    ("text", b"01 2", "character 4 is neither 0 nor 1"),
+    ("text", b" \n", "there is no bit in the input"),
+    ("hex", b"12\n3g", "byte 5 is 0x67, neither a hexadecimal digit nor blank"),
+    ("hex", b"1 2\n3", "there is an odd number of hexadecimal digits"),
+    ("s8", b"\1\0\1", "no sample is below zero"),
+    ("s8", b"\xff\0", "no sample is above zero"),
+    ("f32", b"", "there is no bit in the input"),
+    ("s16", b"\1\0\xff", "the last sample is cut off"),
+    ("f32", b"\0\0\x80\x7f", "a sample is no number"),
+    ("wav", STATION_BYTES, "neither WAV nor FLAC"),
+    ("wav", wav(bytes(8), "s16", 1187, channels=2), "the WAV file has 2 channels"),
+    ("bytes none", b"", "none: No such file or directory"),
+]
+
+
+@pytest.mark.parametrize("words_,data,said", NO_BITS)
+def test_inputs_that_are_no_bits(words_: str, data: bytes, said: str) -> None:
+    done = monitor("pack", "--from", *words_.split(), data=data)
     assert done.returncode == 1 and said in done.stderr.decode()
-
-
-@pytest.mark.parametrize("words_", [(), ("--from", "nothing"), ("--from", "bytes", "--lsb-first")])
-def test_usage_errors(words_: Sequence[str]) -> None:
-    assert monitor("pack", *words_).returncode == 2
 
 
 def test_the_number_of_bits_is_told_if_the_last_byte_is_not_full() -> None:
     done = monitor("pack", "--from", "text", data=b"101\n")
     assert done.stdout == b"\xa0" and b"3 bits" in done.stderr and b"--bits 3" in done.stderr
     assert monitor("pack", "--from", "text", data=b"10101010").stderr == b""
-
-
-@pytest.mark.skipif(not os.path.exists("/dev/full"), reason="there is no /dev/full")
-def test_a_full_disk(tmp_path: Path) -> None:
-    with open("/dev/full", "wb") as full:
-        done = subprocess.run(
-            [*COMMAND, "pack", "--from", "packed", str(STATION)], stdout=full, stderr=subprocess.PIPE
-        )
-    assert done.returncode == 1 and b"No space left on device" in done.stderr
 
 
 class Trickle:
@@ -242,16 +216,16 @@ class Trickle:
         return taken
 
 
-ENCODINGS = {
+ENCODINGS: Dict[str, Callable[[Array], bytes]] = {
     "packed": lambda bits: numpy.packbits(bits).tobytes(),
     "bytes": lambda bits: bits.tobytes(),
-    "bytes255": lambda bits: (bits * 255).astype("u1").tobytes(),
-    "text": lambda bits: (bits + 48).astype("u1").tobytes(),
+    "bytes255": lambda bits: (bits * 255).tobytes(),
+    "text": lambda bits: (bits + 48).tobytes(),
     "hex": lambda bits: numpy.packbits(bits).tobytes().hex().encode(),
     "s8": lambda bits: (2 * bits.astype("i1") - 1).tobytes(),
     "s16": lambda bits: (2 * bits.astype("<i2") - 1).tobytes(),
     "f32": lambda bits: (2 * bits.astype("<f4") - 1).tobytes(),
-    "wav": lambda bits: wav((2 * bits.astype("<i2") - 1).tobytes(), "s16", 1187),
+    "wav": lambda bits: wav(ENCODINGS["s16"](bits), "s16", 1187),
 }
 
 
@@ -276,12 +250,8 @@ def test_what_was_written_in_a_form_is_read(
     sent = numpy.bitwise_xor.accumulate(bits) if differential else bits
     sent = sent ^ 1 if inverted else sent
     stream: Any = Trickle(ENCODINGS[form](sent.astype("u1")), steps if form != "wav" else [])
+    change = Conversion(inverted=inverted, differential=differential)
     with unittest.mock.patch("rds_monitor.signal.pack.CHUNK", chunk):
-        parts = list(
-            packed_of(bits_of(stream, form, Conversion(inverted=inverted, differential=differential)))
-        )
+        parts, counts = zip(*packed_of(bits_of(stream, form, change)))
     if set(sent.tolist()) == {0, 1}:
-        assert (b"".join(part for part, _ in parts), sum(count for _, count in parts)) == (
-            b"\x5a" + data,
-            bits.size,
-        )
+        assert (b"".join(parts), sum(counts)) == (b"\x5a" + data, bits.size)

@@ -44,13 +44,10 @@ def ours(path: Path) -> Dict[str, str]:
 
 def local(clock_time: str) -> str:
     """The local time from gr-rds' words: UTC, and the hours of the offset."""
-    match = re.fullmatch(r"(\d+)\.(\d+)\.(\d+), (\d+):(\d+) \(([-+]\d+\.\d)h\)", clock_time)
-    assert match
-    day, month, year, hour, minute = map(int, match.groups()[:5])
-    time = datetime.datetime(year, month, day, hour, minute, tzinfo=datetime.timezone.utc)
-    return time.astimezone(datetime.timezone(datetime.timedelta(hours=float(match[6])))).isoformat(
-        timespec="minutes"
-    )
+    utc, offset = re.fullmatch(r"(.*) \(([-+]\d+\.\d)h\)", clock_time).groups()
+    zone = datetime.timezone(datetime.timedelta(hours=float(offset)))
+    time = datetime.datetime.strptime(f"{utc} +0000", "%d.%m.%Y, %H:%M %z")
+    return time.astimezone(zone).isoformat(timespec="minutes")
 
 
 LONG = b"A text that is as long as it is, and ends in blanks alone".ljust(64)
@@ -58,18 +55,10 @@ AF = [0xE301, 0x3264]
 CASES: Dict[str, List[Words]] = {
     "all flags": [*name(b"PAXO 318", AF, flags=28), *text(LONG), clock(61128, 1, 30, 4)],
     "no flags": [*name(b"ABCDEFGH", AF, flags=0, tp=0), *text(LONG, tp=0)],
-    "version B": [
-        *name(b"PAXO 318", flags=8, kind="0B"),
-        *text(LONG[:32], kind="2B"),
-        clock(61128, 22, 59, -7),
-    ],
+    "version B": [*name(b"PAXO 318", kind="0B"), *text(LONG[:32], kind="2B"), clock(61128, 22, 59, -7)],
     "a feature each": [
-        *name(b"PAXO 318", AF, flags=8),
-        group("1A", 0, 0xE0),
-        group("14A", 0, 0x4142, 0xD312),
-        group("3A", 22, 0, 0x4BD7),
-        group("10A", 0, 0x4142, 0x4344),
-        *text(LONG),
+        *(*name(b"PAXO 318", AF), group("1A", 0, 0xE0), group("14A", 0, 0x4142, 0xD312)),
+        *(group("3A", 22, 0, 0x4BD7), group("10A", 0, 0x4142, 0x4344), *text(LONG)),
     ],
 }
 
@@ -77,18 +66,14 @@ CASES: Dict[str, List[Words]] = {
 @pytest.mark.parametrize("which", [*CASES, "the sample"])
 def test_a_reading_by_gnuradio_agrees(which: str, tmp_path: Path) -> None:
     path = tmp_path / "reading.bin"
-    path.write_bytes(
-        STATION.read_bytes() if which == "the sample" else encode([group("15A", 0x1F), *2 * CASES[which]])
-    )
+    groups = [group("15A", 0x1F), *2 * CASES.get(which, [])]
+    path.write_bytes(encode(groups) if which in CASES else STATION.read_bytes())
     read, held = theirs(path), ours(path)
-    assert read["pi"] == held["pi"] and read["ps"] == held["ps"] and read["rt"] == held["rt"]
+    assert [read[item] for item in ("pi", "ps", "rt")] == [held[item] for item in ("pi", "ps", "rt")]
     assert read["pty"].lower() == held["pty"].split(" ", 1)[1].lower()
-    assert {item: flag == "1" for item, flag in zip(FLAGS, read["flags"])} == {
-        item: held[item] in ("yes", "music") for item in FLAGS
-    }
-    if "ct" in read:
-        assert local(read["ct"]) == held["ct"]
+    flags = {item: flag == "1" for item, flag in zip(FLAGS, read["flags"])}
+    assert flags == {item: held[item] in ("yes", "music") for item in FLAGS}
+    assert "ct" not in read or local(read["ct"]) == held["ct"]
     if "af" in read and "af" in held:
-        assert {f"{float(one):.1f}" for one in re.findall(r"[\d.]+(?=MHz)", read["af"])} <= set(
-            held["af"].split()
-        )
+        found = {f"{float(one):.1f}" for one in re.findall(r"[\d.]+(?=MHz)", read["af"])}
+        assert found <= {*held["af"].split()}

@@ -4,6 +4,7 @@ from __future__ import annotations
 
 import io
 import json
+import re
 from typing import Any, List
 
 import numpy
@@ -14,7 +15,7 @@ from conftest import STATION, encode, monitor, rds
 from rds_monitor.measures.groups import text_of
 from rds_monitor.rows.group_lines import GroupLines
 from rds_monitor.rows.heads import is_groups
-from rds_monitor.rows.items import GROUP, LOST, VALID, Fault
+from rds_monitor.rows.items import BLOCKS, GROUP, LOST, VALID, Fault, Totals
 from rds_monitor.rows.listing import groups_in
 from made import output as said
 from sent import group, name, text
@@ -60,10 +61,8 @@ def test_lines_of_a_row(row: str, options: str, line: str) -> None:
 
 
 def test_whole_groups_go_back_into_the_encoder() -> None:
-    lines = said("groups", "--whole", STATION)
-    assert rds("encode", data=lines.encode()) in STATION.read_bytes() or rds(
-        "list", data=rds("encode", data=lines.encode())
-    )
+    sent = rds("encode", data=said("groups", "--whole", STATION).encode())
+    assert sent in STATION.read_bytes() or rds("list", data=sent)
 
 
 def test_spy_needs_a_start() -> None:
@@ -85,31 +84,24 @@ D318 054B E0CD 3138 @2026/03/29 00:31:40.00\r
 def test_a_log_of_rds_spy() -> None:
     source, rows = read(SPY)
     groups = rows[rows["what"] == GROUP]
-    assert [[groups[f"kind{k}"][n] for k in (1, 2, 3, 4)] for n in range(4)] == [
-        [VALID] * 4,
-        [VALID, VALID, LOST, VALID],
-        [LOST, LOST, VALID, LOST],
-        [VALID] * 4,
+    assert [[groups[f"kind{k}"][n] for k in BLOCKS] for n in range(4)] == [
+        *([VALID] * 4, [VALID, VALID, LOST, VALID]),
+        *([LOST, LOST, VALID, LOST], [VALID] * 4),
     ]
+    last = round(99.91 * 1187.5)
     assert groups["info1"].tolist() == [0xD318, 0xD318, 0, 0xD318]
-    assert groups["number"].tolist() == [0, 0, 255, 0]
-    assert groups["place"].tolist() == [0, 104, 208, round(99.91 * 1187.5)]
-    assert source.start == 1774744200.09
-    assert rows["place"].tolist() == [25, 0, 104, 208, 311, groups["place"][3] + 25, groups["place"][3]]
-    assert rows["what"].tolist() == [1, 2, 2, 2, 3, 1, 2] and source.length == groups["place"][-1] + 104
-    assert source.totals.groups == 4
-    assert source.totals.complete == 2
-    assert source.totals.valid == 12
-    assert source.totals.lost == 4
-    assert source.totals.acquired == 2 and source.totals.losses == 1
+    assert groups["number"].tolist() == [0, 0, 255, 0] and groups["place"].tolist() == [0, 104, 208, last]
+    assert rows["place"].tolist() == [25, 0, 104, 208, 311, last + 25, last]
+    assert rows["what"].tolist() == [1, 2, 2, 2, 3, 1, 2]
+    assert (source.start, source.length) == (1774744200.09, last + 104)
+    assert source.totals == Totals(12, (0,) * 5, 4, 0, groups=4, complete=2, acquired=2, losses=1)
 
 
 @pytest.mark.parametrize("late, losses", [(1.2, 0), (1.4, 1)])
 def test_times_that_are_late(late: float, losses: int) -> None:
     """A computer that is late writes a time up to 1.25 s after the group. The last line needs no end."""
-    source, rows = read(
-        f"D318 0548 E0CD 5041 @2026-03-29 00:30:00\nD318 0549 E0CD 584F @2026-03-29 00:30:0{late + 0.0876:.2f}".encode()
-    )
+    first, time = "D318 0548 E0CD 5041 @2026-03-29 00:30:00\n", late + 0.0876
+    source, rows = read(f"{first}D318 0549 E0CD 584F @2026-03-29 00:30:0{time:.2f}".encode())
     assert source.totals.losses == losses and source.totals.groups == 2 and len(rows) == 3 + 2 * losses
 
 
@@ -119,40 +111,35 @@ def test_a_log_gives_times() -> None:
     assert found[-1]["time_utc"][:19] == "2026-03-29T00:31:40"
 
 
-@pytest.mark.parametrize(
-    "line",
-    [
-        "D318 0548 E0CD 5041",
-        "d318 0548 e0cd 5041",
-        "D3180548E0CD5041",
-        "D318 0548 E0CD 5041 @2026/03/29 00:30:00",
-        " D318\t0548 E0CD  5041 ",
-        "D318 0548 E0CD 5041 2026-03-29T00:30:00",
-        "G:\nD3180548E0CD5041",
-    ],
+FORMS = (
+    *(LINE, LINE.lower(), LINE.replace(" ", ""), f"{LINE} @2026/03/29 00:30:00", " D318\t0548 E0CD  5041 "),
+    *(f"{LINE} 2026-03-29T00:30:00", "G:\nD3180548E0CD5041"),
 )
+
+
+@pytest.mark.parametrize("line", FORMS)
 def test_forms_of_a_line(line: str) -> None:
     _, rows = read(line.encode() + b"\n")
-    assert text_of(groups_in(rows))[:20] == b"D318 0548 E0CD 5041\n"
+    assert text_of(groups_in(rows))[:20] == LINE.encode() + b"\n"
 
 
-@pytest.mark.parametrize(
-    "line",
-    [
-        "D318 0548 E0CD",
-        "D318 0548 E0CD 504",
-        "D318 0548 E0CD 50411",
-        "D318 0548 E0CD 50G1",
-        "D318 0548 E0CD --41",
-        "D318 0548 E0CD 5041 @yesterday",
-        "group,0,0,A,A:D318,B:0548,C:E0CD,D:5041",
-        "D318 0548 E0CD 5041x",
-        "D318 0548 E0CD 5041 @2026/13/29 00:30:00",
-    ],
-)
+OTHER_LINES = """
+D318 0548 E0CD
+D318 0548 E0CD 504
+D318 0548 E0CD 50411
+D318 0548 E0CD 50G1
+D318 0548 E0CD --41
+D318 0548 E0CD 5041 @yesterday
+group,0,0,A,A:D318,B:0548,C:E0CD,D:5041
+D318 0548 E0CD 5041x
+D318 0548 E0CD 5041 @2026/13/29 00:30:00
+"""
+
+
+@pytest.mark.parametrize("line", OTHER_LINES.strip().splitlines())
 def test_other_lines_are_refused_by_their_number(line: str) -> None:
     with pytest.raises(Fault, match="^line 3"):
-        read(b"D318 0548 E0CD 5041\n\n" + line.encode() + b"\n")
+        read(f"{LINE}\n\n{line}\n".encode())
 
 
 def test_version_b_repeats_the_pi() -> None:
@@ -162,29 +149,23 @@ def test_version_b_repeats_the_pi() -> None:
 
 
 def test_told_apart_from_recordings_and_listings(station_listing: bytes) -> None:
-    assert not is_groups(STATION.read_bytes()[:4096]) and not is_groups(station_listing[:4096])
-    assert is_groups(SPY) and is_groups(b"D318 0548 E0CD 5041\n") and is_groups(b"D318 0548 E0CD 5041")
-    assert not is_groups(b"") and not is_groups(b"\n\n") and not is_groups(b"D3180548E0CD5041\n")
+    for head in (STATION.read_bytes()[:4096], station_listing[:4096], b"", b"\n\n", b"D3180548E0CD5041\n"):
+        assert not is_groups(head)
+    assert all(map(is_groups, (SPY, LINE.encode(), LINE.encode() + b"\n")))
 
 
 def test_every_command_reads_lines() -> None:
     groups = name(b"PAXO 318") + text(b"A text\r")
-    lines = "".join("%04X %04X %04X %04X\n" % word for word in groups)
-    assert "PAXO 318" in said("info", data=lines.encode()) and "A text" in said("info", data=lines.encode())
-    assert said("groups", data=lines.encode()) == lines
-    recorded: List[Any] = [
-        json.loads(line) for line in said("json", data=encode([group("6A", 0), *groups])).splitlines()
-    ]
-    logged = [json.loads(line) for line in said("json", data=lines.encode()).splitlines()]
+    lines = "".join("%04X %04X %04X %04X\n" % word for word in groups).encode()
+    assert {"PAXO 318", "A text"} <= {*re.split("  +| *\\(|\n", said("info", data=lines))}
+    assert said("groups", data=lines).encode() == lines
 
-    def contents(found: List[Any]) -> Any:
-        return [
-            (entry["item"], entry["value"])
-            for entry in found
-            if entry["kind"] == "content" and entry["item"] != "ih"
-        ]
+    def contents(data: bytes) -> List[Any]:
+        entries = map(json.loads, said("json", data=data).splitlines())
+        told = [(entry["item"], entry["value"]) for entry in entries if entry["kind"] == "content"]
+        return [pair for pair in told if pair[0] != "ih"]
 
-    assert contents(recorded) == contents(logged)
+    assert contents(encode([group("6A", 0), *groups])) == contents(lines)
 
 
 WORD = st.one_of(st.none(), st.integers(0, 0xFFFF))
@@ -193,9 +174,8 @@ WORD = st.one_of(st.none(), st.integers(0, 0xFFFF))
 @settings(max_examples=100, deadline=None)
 @given(st.lists(st.tuples(WORD, WORD, WORD, WORD), max_size=20))
 def test_lines_that_are_read_are_written_the_same(words: List[Any]) -> None:
-    lines = "".join(
-        " ".join("----" if entry is None else f"{entry:04X}" for entry in word) + "\n" for word in words
-    ).encode()
+    texts = [["----" if entry is None else f"{entry:04X}" for entry in word] for word in words]
+    lines = "".join(" ".join(text) + "\n" for text in texts).encode()
     source, rows = read(lines)
     assert text_of(groups_in(rows)) == lines
     assert source.length == 104 * len(words) and source.totals.groups == len(words)

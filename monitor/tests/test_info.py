@@ -6,10 +6,11 @@ import csv
 import io
 import json
 import os
+import re
 import subprocess
 import time
 import unicodedata
-from typing import Any, Dict, List
+from typing import Any, Dict, List, Tuple
 
 import pytest
 
@@ -19,12 +20,11 @@ from rds_monitor.rows.listing import TOTAL_NAMES
 from sent import Words, clock, eon, group, label, name, oda, segments, tags, text
 
 LONG = b"The first text, of the standard's length for once, all 64 of it."
-START = group("15A", 0x1F, 0x2020, 0x2020)
 
 
 def bits(*groups: Words) -> bytes:
     """Groups as bits. Sync is acquired in the first, so it is not whole."""
-    return encode([START, *groups])
+    return encode([group("15A", 0x1F, 0x2020, 0x2020), *groups])
 
 
 def rows(output: str) -> List[Dict[str, str]]:
@@ -37,38 +37,24 @@ def lines(output: str) -> List[Dict[str, Any]]:
 
 STATION_GROUPS = [
     *name(b"PAXO 318", [0xE301, 0xFA01, 0xCCCD]),
-    *text(LONG),
-    label(0, 0xE0),
-    label(3, 8),
-    clock(61128, 1, 30, 4),
-    *text(b"The second one,\rends", 1),
-    clock(61128, 22, 59, -7),
+    *(*text(LONG), label(0, 0xE0), label(3, 8), clock(61128, 1, 30, 4)),
+    *(*text(b"The second one,\rends", 1), clock(61128, 22, 59, -7)),
     *name(b"PAXO 318", flags=24, kind="0B"),
     *text(b"A text of 32 characters in all..", kind="2B"),
 ]
+# What the station says in them, in order.
+CHANGES = f"""
+pi=D318; tp=yes; pty=10 Pop music; ta=no; ms=music; af=87.6 0.153 107.9; ps=PAXO 318; rt={LONG.decode()};
+ecc=E0; language=08 German; ct=2026-03-29T03:30+02:00; rt=The second one,; ct=2026-03-29T19:29-03:30; ta=yes;
+rt=A text of 32 characters in all.."""
 
 
 def test_changes_as_csv() -> None:
-    """What the old station_info.py told of these groups, in the same order, with the names of today."""
     found = rows(said("info", "--csv", data=bits(*STATION_GROUPS)))
-    old = ("pi", "tp", "pty", "ta", "ms", "af", "ps", "rt", "ecc", "language", "ct")
-    assert [(entry["pi"], entry["item"], entry["value"]) for entry in found if entry["item"] in old] == [
-        ("D318", "pi", "D318"),
-        ("D318", "tp", "yes"),
-        ("D318", "pty", "10 Pop music"),
-        ("D318", "ta", "no"),
-        ("D318", "ms", "music"),
-        ("D318", "af", "87.6 0.153 107.9"),
-        ("D318", "ps", "PAXO 318"),
-        ("D318", "rt", LONG.decode()),
-        ("D318", "ecc", "E0"),
-        ("D318", "language", "08 German"),
-        ("D318", "ct", "2026-03-29T03:30+02:00"),
-        ("D318", "rt", "The second one,"),
-        ("D318", "ct", "2026-03-29T19:29-03:30"),
-        ("D318", "ta", "yes"),
-        ("D318", "rt", "A text of 32 characters in all.."),
-    ]
+    wanted = re.split(r";\s", CHANGES.strip())
+    items = {change.partition("=")[0] for change in wanted}
+    assert [f"{row['item']}={row['value']}" for row in found if row["item"] in items] == wanted
+    assert {row["pi"] for row in found} == {"D318"}
 
 
 def test_times_and_places() -> None:
@@ -91,22 +77,17 @@ def test_csv_and_json_and_listing_agree() -> None:
 
 def test_the_summary() -> None:
     found = said("info", data=bits(*STATION_GROUPS))
-    assert found.startswith("D318 PAXO 318\n")
-    for line in (
-        "PTY              10 Pop music  (since 0.088 s)",
-        "TA               yes  (since 2.627 s, 1 change)",
-        "Country          Germany",
-        "AF               87.6 0.153 107.9",
-        "CT               2026-03-29T19:29-03:30  (since 2.540 s, 1 change)",
-        "RT               A text of 32 characters in all..  (since",
-        "2 changes)",
-    ):
-        assert line in found, found
-
-
-def test_the_summary_of_two_programmes() -> None:
-    found = said("info", data=bits(*name(b"ONE"), *name(b"TWO", pi=0xD319)))
-    assert [line for line in found.splitlines() if line and line[0] != " "] == ["D318 ONE", "D319 TWO"]
+    assert found.startswith("D318 PAXO 318\n") and "2 changes)" in found
+    wanted = """
+  PTY              10 Pop music  (since 0.088 s)
+  TA               yes  (since 2.627 s, 1 change)
+  Country          Germany
+  AF               87.6 0.153 107.9
+  CT               2026-03-29T19:29-03:30  (since 2.540 s, 1 change)
+  RT               A text of 32 characters in all..  (since"""
+    assert [line for line in wanted.strip("\n").splitlines() if line not in found] == []
+    two = said("info", data=bits(*name(b"ONE"), *name(b"TWO", pi=0xD319)))
+    assert [line for line in two.splitlines() if line and line[0] != " "] == ["D318 ONE", "D319 TWO"]
 
 
 def test_no_station() -> None:
@@ -118,8 +99,7 @@ def test_no_station() -> None:
 def test_the_sample() -> None:
     found = said("info", STATION)
     assert found.startswith("D393 PAXOLIDU\n")
-    assert "Verified RDS decoding" in found
-    assert "RDS-TMC: ALERT-C in 8A" in found
+    assert "Verified RDS decoding" in found and "RDS-TMC: ALERT-C in 8A" in found
 
 
 def test_rbds() -> None:
@@ -143,10 +123,11 @@ def told(item: str, data: bytes) -> List[Any]:
     return [entry["value"] for entry in lines(said("json", data=data)) if entry.get("item") == item]
 
 
+COMMANDS = ("info", "info --csv", "json", "json --redsea")
+
+
 def shown_anywhere(data: bytes) -> str:
-    return "".join(
-        said(*words, data=data) for words in (["info"], ["info", "--csv"], ["json"], ["json", "--redsea"])
-    )
+    return "".join(said(*words.split(), data=data) for words in COMMANDS)
 
 
 @pytest.mark.parametrize("which", HOSTILE)
@@ -172,11 +153,8 @@ def test_hostile_marks_in_utf8_are_shown_as_text(which: str) -> None:
     content = MARKS[which].encode()[:120] + b"\r"
     data = bits(oda(0x6552, "12A", 1), *segments("12A", content, 32))
     assert told("ert", data) == [content[:-1].decode("utf-8", "replace")]
-    shown = shown_anywhere(data)
-    assert not [
-        sign for sign in shown if sign != "\n" and unicodedata.category(sign) in ("Cc", "Cf", "Zl", "Zp")
-    ]
-    assert "\u0301" * 3 not in shown
+    shown = shown_anywhere(data).replace("\n", "")
+    assert not {*map(unicodedata.category, shown)} & {"Cc", "Cf", "Zl", "Zp"} and "\u0301" * 3 not in shown
 
 
 def test_output_is_utf8_whatever_the_locale() -> None:
@@ -224,10 +202,8 @@ def test_a_row_comes_with_the_last_bit_of_its_group(first: List[str], station: b
 def test_events_in_order() -> None:
     found = lines(said("json", STATION))
     assert found[0] == {"kind": "acquired", "place": 51, "time_s": 0.043, "number": 2}
-    first = dict(
-        kind="content", place=104, time_s=0.088, pi="D393", item="pi", value="D393", before=None, text="D393"
-    )
-    assert found[1] == first
+    first = dict(kind="content", place=104, time_s=0.088, pi="D393", item="pi", before=None)
+    assert found[1] == {**first, "value": "D393", "text": "D393"}
     assert [entry["place"] for entry in found] == sorted(entry["place"] for entry in found)
 
 
@@ -267,23 +243,18 @@ def test_rows_of_damaged_groups() -> None:
     assert found[4] == {"kind": "lost", "place": 233, "time_s": 0.196}
 
 
-def redsea(*groups: Words) -> List[Dict[str, Any]]:
-    return lines(said("json", "--redsea", data=bits(*groups)))
+PIN = 15 << 11 | 20 << 6 | 30
+
+
+def redsea(*groups: Words, data: bytes = b"") -> List[Dict[str, Any]]:
+    return lines(said("json", "--redsea", "--unfinished", data=data or bits(*groups)))
 
 
 def test_redsea_has_a_line_per_group_with_its_keys() -> None:
-    groups = [
-        *name(b"PAXO 318", [0xE301, 0xFA01, 0xCCCD]),
-        label(0, 0xE0, 15 << 11 | 20 << 6 | 30),
-        label(3, 8),
-        *text(b"Song by Singer\r"),
-        oda(0x4BD7, "11A"),
-        tags(1, 1, (1, 0, 3), (4, 8, 5)),
-        clock(61128, 1, 30, 4),
-        eon(13, 17 << 11 | 1),
-        group("14B", 0x18, 0, 0xD312),
-        group("5A", 3, 0xFF01, 0x0203),
-    ]
+    groups = [*name(b"PAXO 318", [0xE301, 0xFA01, 0xCCCD]), label(0, 0xE0, PIN), label(3, 8)]
+    groups += [*text(b"Song by Singer\r"), oda(0x4BD7, "11A"), tags(1, 1, (1, 0, 3), (4, 8, 5))]
+    groups += [clock(61128, 1, 30, 4), eon(13, 17 << 11 | 1), group("14B", 0x18, 0, 0xD312)]
+    groups.append(group("5A", 3, 0xFF01, 0x0203))
     found = redsea(*groups)
     assert len(found) == len(groups)
     every = {"pi": "0xD318", "tp": True, "prog_type": "Pop music"}
@@ -291,66 +262,59 @@ def test_redsea_has_a_line_per_group_with_its_keys() -> None:
     assert [entry["group"] for entry in found[:5]] == ["0A"] * 4 + ["1A"]
     first = {**every, "group": "0A", "ta": False, "is_music": True, "di": {"stereo": False}}
     assert found[3] == {**first, "ps": "PAXO 318", "alt_frequencies_a": [87600, 153, 107900]}
-    assert found[4]["country"] == "de" and found[4]["has_linkage"] is False
-    assert found[4]["prog_item_started"] == {"day": 15, "time": "20:30"}
-    assert found[5]["language"] == "German"
-    assert found[9]["radiotext"] == "Song by Singer" and found[9]["rt_ab"] == "A"
-    assert found[10]["open_data_app"] == dict(oda_group="11A", app_name="RadioText Plus (RT+)", message=0)
-    told_tags = [
-        {"content-type": "item_title", "data": "Song"},
-        {"content-type": "item_artist", "data": "Singer"},
-    ]
-    assert found[11]["radiotext_plus"] == dict(item_running=True, item_toggle=1, tags=told_tags)
-    assert found[12]["clock_time"] == "2026-03-29T03:30:00+02:00"
-    assert found[13]["other_network"] == {"pi": "0xD312", "tp": False, "ta": True, "prog_type": "Finance"}
-    assert found[14]["other_network"] == {"pi": "0xD312", "tp": True, "ta": True}
-    assert found[15]["transparent_data"] == {"address": 3, "raw": "FF 01 02 03"}
+    song = [{"content-type": "item_title", "data": "Song"}, {"content-type": "item_artist", "data": "Singer"}]
+    wanted = {
+        4: dict(country="de", has_linkage=False, prog_item_started={"day": 15, "time": "20:30"}),
+        5: dict(language="German"),
+        9: dict(radiotext="Song by Singer", rt_ab="A"),
+        10: dict(open_data_app=dict(oda_group="11A", app_name="RadioText Plus (RT+)", message=0)),
+        11: dict(radiotext_plus=dict(item_running=True, item_toggle=1, tags=song)),
+        12: dict(clock_time="2026-03-29T03:30:00+02:00"),
+        13: dict(other_network={"pi": "0xD312", "tp": False, "ta": True, "prog_type": "Finance"}),
+        14: dict(other_network={"pi": "0xD312", "tp": True, "ta": True}),
+        15: dict(transparent_data={"address": 3, "raw": "FF 01 02 03"}),
+    }
+    assert {k: {key: found[k][key] for key in keys} for k, keys in wanted.items()} == wanted
 
 
 def test_json_has_the_bytes_of_channels_and_in_house_data() -> None:
     """Each change of them; info has none."""
-    changing = [
-        group("5A", 3, 0xFF01, 0x0203),
-        group("6A", 1, 2, 3),
-        group("5A", 3, 0xFF01, 0x0203),
-        group("5A", 3, 4, 5),
+    one, other = group("5A", 3, 0xFF01, 0x0203), group("5A", 3, 4, 5)
+    data = bits(*name(b"PAXO 318"), one, group("6A", 1, 2, 3), one, other)
+    told = [(entry["item"], entry["value"]) for entry in lines(said("json", data=data)) if "item" in entry]
+    found = [pair for pair in told if "_data" in pair[0]]
+    assert found == [
+        ("tdc_data:3", "FF 01 02 03"),
+        ("ih_data", "01 0002 0003"),
+        ("tdc_data:3", "00 04 00 05"),
     ]
-    data = bits(*name(b"PAXO 318"), *changing)
-    found = [(entry["item"], entry["value"]) for entry in lines(said("json", data=data)) if "item" in entry]
-    told = [(item, value) for item, value in found if "_data" in item]
-    assert told == [("tdc_data:3", "FF 01 02 03"), ("ih_data", "01 0002 0003"), ("tdc_data:3", "00 04 00 05")]
     assert "FF 01" not in said("info", data=data)
 
 
+# Groups that are rare, with the keys of each.
+RARE: List[Tuple[Words, Dict[str, Any]]] = [
+    (clock(61128, 1, 30, 0), {"clock_time": "2026-03-29T01:30:00Z"}),
+    (label(1, 0x123), {"tmc_id": 0x123}),
+    (group("6A", 0x1F, 0x1234, 0x5678), {"in_house_data": [0x1F, 0x1234, 0x5678]}),
+    (group("6B", 3, 0xD318, 0x5678), {"in_house_data": [3, 0x5678]}),
+    (eon(4, 0xE101), {"alt_frequencies": [87600]}),
+    (eon(5, 0x0102), {"kilohertz": 87700}),
+    (eon(9, 0x0110), {"kilohertz": 531}),
+    (eon(12, 0x8042), {"has_linkage": True, "linkage_set": 0x42}),
+    (eon(12, 0x0042), {"has_linkage": False}),
+    (eon(14, PIN), {"prog_item_number": PIN, "prog_item_started": {"day": 15, "time": "20:30"}}),
+]
+
+
 def test_redsea_has_the_keys_of_groups_that_are_rare() -> None:
-    """Clock time without an offset, TMC identification, in-house data, and the variants of other networks."""
-    groups = [
-        *name(b"PAXO 318"),
-        clock(61128, 1, 30, 0),
-        label(1, 0x123),
-        group("6A", 0x1F, 0x1234, 0x5678),
-        group("6B", 3, 0xD318, 0x5678),
-        eon(4, 0xE101),
-        eon(5, 0x0102),
-        eon(9, 0x0110),
-        eon(12, 0x8042),
-        eon(12, 0x0042),
-        eon(14, 15 << 11 | 20 << 6 | 30),
-    ]
-    found = redsea(*groups)[4:]
-    assert found[0]["clock_time"] == "2026-03-29T01:30:00Z"
-    assert found[1]["tmc_id"] == 0x123
-    assert found[2]["in_house_data"] == [0x1F, 0x1234, 0x5678] and found[3]["in_house_data"] == [3, 0x5678]
-    others = [entry["other_network"] for entry in found[4:]]
-    assert all(other.pop("pi") == "0xD312" and other.pop("tp") is False for other in others)
-    assert others == [
-        {"alt_frequencies": [87600]},
-        {"kilohertz": 87700},
-        {"kilohertz": 531},
-        {"has_linkage": True, "linkage_set": 0x42},
-        {"has_linkage": False},
-        {"prog_item_number": 15 << 11 | 20 << 6 | 30, "prog_item_started": {"day": 15, "time": "20:30"}},
-    ]
+    """Those of another network are in an object of their own, with its PI and TP."""
+    found = redsea(*name(b"PAXO 318"), *(words for words, _ in RARE))[4:]
+    for entry, (words, keys) in zip(found, RARE):
+        if words[1] >> 12 == 14:
+            assert entry["other_network"] == {"pi": "0xD312", "tp": False, **keys}
+        else:
+            assert {**entry, **keys} == entry
+    assert len(found) == len(RARE)
 
 
 def test_redsea_has_a_ps_as_soon_as_it_is_whole() -> None:
@@ -364,7 +328,7 @@ def test_redsea_has_no_line_of_a_programme_that_does_not_count() -> None:
     listing = [row for row in rds("list", data=data).decode().splitlines() if not row.startswith("total")]
     once = next(k for k, row in enumerate(listing) if "A:D319" in row)
     listing[once] = listing[once].rsplit(",", 1)[0] + ",lost"
-    found = lines(said("json", "--redsea", "--unfinished", data="\n".join([*listing, ""]).encode()))
+    found = redsea(data="\n".join([*listing, ""]).encode())
     assert [entry["pi"] for entry in found] == 8 * ["0xD318"] + 5 * ["0xD31A"]
     assert [entry.get("ps") for entry in found if entry["pi"] == "0xD31A"] == [None, None, None, None, "TWO"]
 
@@ -377,14 +341,3 @@ def test_redsea_has_nothing_of_the_programme_before() -> None:
 def test_a_cut_listing_is_refused(station_listing: bytes) -> None:
     done = monitor("info", data=station_listing[:-200])
     assert done.returncode == 1 and done.stderr.startswith(b"rds-monitor info: ")
-
-
-@pytest.mark.parametrize("command", ["info", "json", "groups"])
-def test_help_has_an_example(command: str) -> None:
-    assert "example:" in said(command, "--help")
-
-
-def test_options_that_contradict() -> None:
-    assert monitor("info", "--csv", "--json", STATION).returncode == 2
-    assert monitor("json", "--rows", "--redsea", STATION).returncode == 2
-    assert monitor("groups", "--times", "--spy", STATION).returncode == 2

@@ -19,10 +19,11 @@ import shutil
 import socket
 import subprocess
 import sys
-import threading
+
 import tracemalloc
 import typing
 import zipfile
+from concurrent.futures import ThreadPoolExecutor
 from typing import Callable
 
 import numpy
@@ -40,22 +41,14 @@ GROUP = (0xD393, 0x0548, 0xE0CD, 0x5041)
 
 
 def test_a_buffer_of_bytes_is_needed(station: bytes) -> None:
-    wanted = librds.totals(station)
-    for data in (
-        bytearray(station),
-        memoryview(station),
-        numpy.frombuffer(station, "u1"),
-        memoryview(station + b"x")[:-1],
-        memoryview(station).cast("c"),
-    ):
-        assert librds.totals(data) == wanted
-    doubled = numpy.repeat(numpy.frombuffer(station, "u1"), 2)
-    assert librds.totals(doubled[::2]) == wanted
+    wanted, view, flat = librds.totals(station), memoryview(station), numpy.frombuffer(station, "u1")
+    every_second = numpy.repeat(flat, 2)[::2]
+    parts = memoryview(station + b"x")[:-1], view.cast("c"), every_second
+    assert all(librds.totals(data) == wanted for data in (bytearray(station), view, flat, *parts))
     for data in (25000, "text", [1, 2], None, numpy.zeros(8, "i8"), numpy.zeros(8, bool)):
-        with pytest.raises(TypeError):
-            librds.totals(data)
-        with pytest.raises(TypeError):
-            librds.Follower().push(data)
+        for call in (librds.totals, librds.Follower().push):
+            with pytest.raises(TypeError):
+                call(data)
 
 
 def refusal(call: Callable[[], object]) -> int:
@@ -76,17 +69,19 @@ def test_a_group_is_four_words_of_16_bits() -> None:
 
 def test_the_words_of_a_group() -> None:
     """Sync is acquired on a block 2, so the first group lacks its block 1."""
-    items = librds.items(librds.encode([GROUP] * 3))
-    groups = [item.words for item in items if isinstance(item, librds.Group)]
-    assert groups == [(None, *GROUP[1:]), GROUP, GROUP]
+    for words in (GROUP, (0, 0, 0, 0)):
+        items = librds.items(librds.encode([words] * 3))
+        groups = [item.words for item in items if isinstance(item, librds.Group)]
+        assert groups == [(None, *words[1:]), words, words]
 
 
+# By the number of the error, rules that it refuses.
 RULES = {
     1: [(6,), (-1,), (2**32 + 2,)],
     2: [(2, 0), (2, 2**32 + 3)],
     3: [(2, 3, 0), (2, 3, 2**64 + 10)],
-    15: [(2, 3, 5, 65), (2, 3, 5, -1)],
 }
+RULES[15] = [(2, 3, 5, 65), (2, 3, 5, -1)]
 
 
 @pytest.mark.parametrize("rules, number", [(rules, number) for number in RULES for rules in RULES[number]])
@@ -105,6 +100,13 @@ def test_words_and_their_limits() -> None:
     assert refusal(lambda: librds.correct(1, "E")) == 68
     for limit in (6, -1, 256, 2**64):
         assert refusal(lambda: librds.correct(1, "A", limit)) == 1
+    # by the default limit
+    assert librds.correct(0x095_00C8 ^ 0x18, "A").kind == librds.Kind.CORRECTED
+    assert librds.correct(0x095_00C8 ^ 0x38, "A").kind == librds.Kind.LOST
+    assert librds.correct(0x384_0283, "C or Cx") == librds.Block(librds.Kind.CORRECTED, "Cx", 0xE100, 0x30)
+    assert librds.correct(0x384_0283, "C").kind == librds.Kind.LOST
+    for name, spelled in (("Cx", "C'"), ("C or Cx", "C or C'")):
+        assert librds.correct(0x384_0283, name) == librds.correct(0x384_0283, spelled)
 
 
 def test_places_and_gaps(station: bytes) -> None:
@@ -156,11 +158,9 @@ def test_memory_that_is_refused() -> None:
 
 @pytest.mark.parametrize("rules", [None, (2, 3, 10, 0), "2"])
 def test_rules_are_rules(rules: object) -> None:
-    for call in (librds.totals, librds.items, librds.items_array):
+    for call in (librds.totals, librds.items, librds.items_array, lambda _, rules: librds.Follower(rules)):
         with pytest.raises(TypeError, match="rules are a librds.Rules, not"):
             call(b"", rules=rules)
-    with pytest.raises(TypeError, match="rules are a librds.Rules, not"):
-        librds.Follower(rules)
 
 
 def test_rows_are_flat_and_typed(station: bytes) -> None:
@@ -183,91 +183,64 @@ def test_pandas_takes_them(station: bytes) -> None:
 
 
 def test_a_stream_in_arrays(station: bytes) -> None:
-    whole, bits = librds.items_array(station, 100003), 100003
-    follower, rows = librds.Follower(), []
-    for begin in range(0, bits // 8, 777):
-        rows.append(follower.push_array(station[begin : min(begin + 777, bits // 8)]))
+    bits, follower = 100003, librds.Follower()
+    rows = [
+        follower.push_array(station[begin : min(begin + 777, bits // 8)])
+        for begin in range(0, bits // 8, 777)
+    ]
     last, totals = follower.finish_array(station[bits // 8 :][:1], bits % 8)
-    assert (numpy.concatenate([*rows, last]) == whole).all() and totals == librds.totals(station, bits)
+    assert (numpy.concatenate([*rows, last]) == librds.items_array(station, bits)).all()
+    assert totals == librds.totals(station, bits)
     again = pickle.loads(pickle.dumps(follower))
     assert again.stream == follower.stream and again.place == bits // 8 * 8
 
 
 def test_threads_may_share_a_follower(station: bytes) -> None:
-    follower, counts = librds.Follower(), []
+    follower, alone = librds.Follower(), librds.Follower()
 
-    def work() -> None:
-        counts.append(sum(len(follower.push_array(station)) for _ in range(40)))
+    def work(_: int) -> int:
+        return sum(len(follower.push_array(station)) for _ in range(40))
 
-    threads = [threading.Thread(target=work) for _ in range(4)]
-    for thread in threads:
-        thread.start()
-    for thread in threads:
-        thread.join()
-    alone = librds.Follower()
+    with ThreadPoolExecutor(4) as pool:
+        counts = [*pool.map(work, range(4))]
     assert sum(counts) == len(alone.push_array(station * 160)) and follower.stream == alone.stream
-
-
-def test_the_library_that_is_loaded(tmp_path) -> None:
-    """The one that is named, or librds.so.0; another library, or an older one, is refused."""
-    path = os.path.realpath(os.environ["RDS_LIBRARY"])
-    environment = {key: value for key, value in os.environ.items() if key != "RDS_LIBRARY"}
-    (tmp_path / "librds.so.0").symlink_to(path)
-    ask = [sys.executable, "-c", "import librds; print(librds.version())"]
-    found = ran(ask, env={**environment, "LD_LIBRARY_PATH": str(tmp_path)})
-    assert found.stdout == f"{librds.version()}\n", found.stderr
-    other = ran(ask, env={**environment, "RDS_LIBRARY": "libc.so.6"})
-    assert "libc.so.6: this is not librds, or an older one: it has no rds_totals" in other.stderr
-    none = ran(ask, env={**environment, "RDS_LIBRARY": str(tmp_path / "none")})
-    assert "install librds (make install-lib), or name its librds.so.0 in RDS_LIBRARY" in none.stderr
-    ffi = importlib.import_module("librds._ffi")
-    nodes = re.findall(r"^RDS_(\d+)\.(\d+) \{(.*?)\}", (TOP / "lib" / "rds.map").read_text(), re.M | re.S)
-    needed = [
-        (int(first), int(second))
-        for first, second, names in nodes
-        if any(f"{function};" in names for function in ffi.FUNCTIONS)
-    ]
-    assert max(needed) == ffi.VERSION[:2] and ffi.VERSION <= librds.version()
-    late = "import librds._ffi as it; it.VERSION = (0, 99, 0); it.load()"
-    older = ran([sys.executable, "-c", late])
-    assert "but this module needs 0.99.0 or later" in older.stderr
 
 
 def installed(python: str, inside: "os.PathLike[str]", wheel: str, environment: dict) -> bool:
     """Whether a fresh environment was made, and has the wheel."""
+    install = f"-m pip --python {inside} install -q --no-index --disable-pip-version-check".split()
     folder = os.path.dirname(os.path.dirname(inside))
-    install = "install -q --no-index --disable-pip-version-check".split()
-    pip = [python, "-m", "pip", "--python", inside, *install]
-    commands = ([python, "-m", "venv", "--without-pip", folder], [*pip, wheel])
-    return all(
-        subprocess.run(command, env=environment, capture_output=True).returncode == 0 for command in commands
-    )
+    commands = ([python, "-m", "venv", "--without-pip", folder], [python, *install, wheel])
+    options = {"env": environment, "capture_output": True}
+    return all(subprocess.run(command, **options).returncode == 0 for command in commands)
+
+
+BINDINGS = TOP / "bindings" / "python"
+LIBRARY = os.path.realpath(os.environ["RDS_LIBRARY"])
+
+
+def wheel_of(library: object, folder: object) -> "subprocess.CompletedProcess[str]":
+    return ran([sys.executable, BINDINGS / "make_wheel.py", library, folder])
+
+
+def without(*names: str) -> dict:
+    """The environment but for these variables."""
+    return {key: value for key, value in os.environ.items() if key not in names}
 
 
 def test_a_wheel_with_the_library(tmp_path, station: bytes) -> None:
     """It is installed into a fresh environment, where nothing else knows of the library."""
-    make = [sys.executable, TOP / "bindings" / "python" / "make_wheel.py"]
-    library = os.path.realpath(os.environ["RDS_LIBRARY"])
-    made = [ran([*make, library, tmp_path], check=True).stdout.strip() for _ in range(2)]
-    assert made[0] == made[1] and "-py3-none-manylinux_2_17_" in made[0]
-    inside = tmp_path / "venv" / "bin" / "python"
-    environment = {
-        key: value for key, value in os.environ.items() if key not in ("RDS_LIBRARY", "PYTHONPATH")
-    }
-    python = next(
-        (name for name in ("python3", sys.executable) if installed(name, inside, made[0], environment)), None
-    )
-    if python is None:
+    made, again = (wheel_of(LIBRARY, tmp_path).stdout.strip() for _ in range(2))
+    assert made == again and "-py3-none-manylinux_2_17_" in made
+    inside, environment = tmp_path / "venv" / "bin" / "python", without("RDS_LIBRARY", "PYTHONPATH")
+    if not any(installed(name, inside, made, environment) for name in ("python3", sys.executable)):
         pytest.skip("no pip of 22.3 or later, or no venv")
     code = "import sys, librds; print(librds.__file__); print(librds.totals(sys.stdin.buffer.read()).groups)"
-    done = subprocess.run(
-        [inside, "-c", code], input=station, capture_output=True, env=environment, check=True, cwd=tmp_path
-    )
-    assert done.stdout.decode().split() == [
-        str(next((tmp_path / "venv").glob("lib/*/site-packages/librds")) / "__init__.py"),
-        "1923",
-    ]
-    other = ran([*make, next(name for name in ("/bin/bash", "/bin/ls") if os.path.exists(name)), tmp_path])
+    options = {"input": station, "capture_output": True, "env": environment, "check": True, "cwd": tmp_path}
+    (package,) = (tmp_path / "venv").glob("lib/*/site-packages/librds")
+    done = subprocess.run([inside, "-c", code], **options)
+    assert done.stdout.decode().split() == [str(package / "__init__.py"), "1923"]
+    other = wheel_of(next(name for name in ("/bin/bash", "/bin/ls") if os.path.exists(name)), tmp_path)
     assert other.returncode == 1 and "a wheel cannot need" in other.stderr
 
 
@@ -464,48 +437,26 @@ def test_each_end_of_a_stream_is_the_same(station: bytes) -> None:
 
 def test_defaults() -> None:
     """The rules are those of rds.h, and a function's other defaults leave nothing out."""
-    (numbers,) = re.findall(
-        r"define RDS_RULES \{(\d+), (\d+), (\d+), (\d+),", (TOP / "lib" / "rds.h").read_text()
-    )
+    header = (TOP / "lib" / "rds.h").read_text()
+    (numbers,) = re.findall(r"define RDS_RULES \{(\d+), (\d+), (\d+), (\d+),", header)
     assert dataclasses.astuple(librds.Rules()) == tuple(map(int, numbers))
-    wanted = dict(
-        bits=None, gaps=(), rules=librds.Rules(), limit=int(numbers[0]), stream=bytes(256), data=b""
-    )
-    wanted |= dict(offset=None, info=None, burst=0, cause=0, follower=None)
-    calls = [
-        getattr(librds, name) for name in librds.__all__ if name not in ("ITEM", "Rules", "Kind", "Error")
-    ]
-    calls += [value for name, value in vars(librds.Follower).items() if inspect.isfunction(value)]
-    found = {
-        (name, value.default)
-        for call in calls
-        for name, value in inspect.signature(call).parameters.items()
-        if value.default is not value.empty
-    }
+    wanted = dict(bits=None, gaps=(), limit=int(numbers[0]), stream=bytes(256), data=b"")
+    wanted |= dict(rules=librds.Rules(), offset=None, info=None, burst=0, cause=0, follower=None)
+    others = ("ITEM", "Rules", "Kind", "Error")
+    calls = [getattr(librds, name) for name in librds.__all__ if name not in others]
+    calls += filter(inspect.isfunction, vars(librds.Follower).values())
+    parameters = [found for call in calls for found in inspect.signature(call).parameters.items()]
+    found = {(name, value.default) for name, value in parameters if value.default is not value.empty}
     assert found == {*wanted.items()}
-
-
-def test_words_of_0_and_the_default_limit() -> None:
-    items = librds.items(librds.encode([(0, 0, 0, 0)] * 2))
-    assert [item.words for item in items if isinstance(item, librds.Group)][1] == (0, 0, 0, 0)
-    assert librds.correct(0x095_00C8 ^ 0x18, "A").kind == librds.Kind.CORRECTED
-    assert librds.correct(0x095_00C8 ^ 0x38, "A").kind == librds.Kind.LOST
-    assert librds.correct(0x384_0283, "C or Cx") == librds.Block(librds.Kind.CORRECTED, "Cx", 0xE100, 0x30)
-    assert librds.correct(0x384_0283, "C").kind == librds.Kind.LOST
-    for name, spelled in (("Cx", "C'"), ("C or Cx", "C or C'")):
-        assert librds.correct(0x384_0283, name) == librds.correct(0x384_0283, spelled)
 
 
 def test_names_and_texts_of_the_module() -> None:
     """Names, kinds of values, and the examples in its texts."""
-    own = {
-        name
-        for name, value in vars(librds).items()
-        if getattr(value, "__module__", "") == "librds" and name[0] != "_"
-    }
-    assert set(librds.__all__) == {*own, "ITEM"} and len(librds.__all__) == len(own) + 1
+    own = {name for name, value in vars(librds).items() if getattr(value, "__module__", "") == "librds"}
+    public = {name for name in own if name[0] != "_"}
+    assert set(librds.__all__) == {*public, "ITEM"} and len(librds.__all__) == len(public) + 1
     assert issubclass(librds.Refused, ValueError)
-    values = [var for var in vars(librds).values() if dataclasses.is_dataclass(var)]
+    values = [value for value in vars(librds).values() if dataclasses.is_dataclass(value)]
     assert len(values) == 6 and all(value.__dataclass_params__.frozen for value in values)
     assert len({librds.Rules(), librds.Rules(2), librds.Totals(0, (), 0, 0, 0, 0, 0, 0)}) == 2
     # A call of any other kind of library holds up Python's other threads.
@@ -513,54 +464,58 @@ def test_names_and_texts_of_the_module() -> None:
     with pytest.raises(AttributeError):
         librds.Rules().burst = 3
     assert {bytes, bytearray, memoryview} <= set(typing.get_args(librds.Buffer))
-    examples = [
-        line.strip()
-        for name in librds.__all__
-        for line in (getattr(librds, name).__doc__ or "").splitlines()
-        if line.strip().startswith("librds.") and " == " in line
-    ]
+    texts = "\n".join(getattr(librds, name).__doc__ or "" for name in librds.__all__)
+    examples = re.findall(r"^ *(librds\..* == .*)", texts, re.M)
     assert len(examples) == 3 and all(eval(example, {"librds": librds}) for example in examples), examples
 
 
-def test_which_library_comes_first(tmp_path) -> None:
-    """That of RDS_LIBRARY, the one beside the module, the system's, the linker's. None takes the place of a named one."""
-    path = os.path.realpath(os.environ["RDS_LIBRARY"])
-    package = tmp_path / "librds"
+def test_which_library_is_loaded(tmp_path) -> None:
+    """That of RDS_LIBRARY, the one beside the module, the system's, the linker's. None takes the place of a named one;
+    another library, or an older one, is an error."""
+    package, system = tmp_path / "librds", tmp_path / "system"
     shutil.copytree(os.path.dirname(librds.__file__), package, ignore=shutil.ignore_patterns("__pycache__"))
-    environment = {key: value for key, value in os.environ.items() if key != "RDS_LIBRARY"}
-    environment["PYTHONPATH"] = str(tmp_path)
+    system.mkdir()
+    (system / "librds.so.0").symlink_to(LIBRARY)
+    own = package / "librds.so.0"
 
     def loaded(first: str = "", **more: str) -> str:
-        code = f"import sys, ctypes.util; sys.path.insert(0, {str(tmp_path)!r}); {first}\nimport librds; print(librds._library._name)"
-        done = ran([sys.executable, "-c", code], env={**environment, **more})
+        code = f"import sys, ctypes.util; sys.path.insert(0, {str(tmp_path)!r}); {first}"
+        words = [sys.executable, "-c", f"{code}\nimport librds; print(librds._library._name)"]
+        done = ran(words, env={**without("RDS_LIBRARY"), "PYTHONPATH": str(tmp_path), **more})
         return done.stdout.strip() or done.stderr
 
-    linker = f"ctypes.util.find_library = {{'rds': {path!r}}}.get"
-    assert "install librds" in loaded(linker, RDS_LIBRARY=str(tmp_path / "none"))
-    if "install librds" in loaded():  # else the system has one
-        assert loaded(linker) == path
-    own = package / "librds.so.0"
-    own.symlink_to(path)
-    assert loaded(LD_LIBRARY_PATH=os.path.dirname(path)) == str(own)
+    linker, cure = (
+        f"ctypes.util.find_library = {{'rds': {LIBRARY!r}}}.get",
+        "install librds (make install-lib)",
+    )
+    none = loaded(linker, RDS_LIBRARY=str(tmp_path / "none"))
+    assert f"{cure}, or name its librds.so.0 in RDS_LIBRARY" in none
+    if cure in loaded():  # else the system has one
+        assert loaded(linker) == LIBRARY
+    assert loaded(LD_LIBRARY_PATH=str(system)) == "librds.so.0"
+    own.symlink_to(LIBRARY)
+    assert loaded(LD_LIBRARY_PATH=str(system)) == str(own)
     own.unlink()
     own.write_bytes(b"no library")
-    assert loaded(RDS_LIBRARY=path) == path
-    later = "import librds._ffi as it; it.VERSION = (-1, 0, 0); it.load()"
-    done = ran([sys.executable, "-c", later])
-    assert "but this module needs -1.0.0 or later" in done.stderr
+    assert loaded(RDS_LIBRARY=LIBRARY) == LIBRARY
+    other = {"RDS_LIBRARY": "libc.so.6"}
+    assert "libc.so.6: this is not librds, or an older one: it has no rds_totals" in loaded(**other)
+    for version in ("0.99.0", "-1.0.0"):
+        late = f"import librds._ffi as module; module.VERSION = ({version.replace('.', ',')}); module.load()"
+        assert f"but this module needs {version} or later" in ran([sys.executable, "-c", late]).stderr
+    ffi = importlib.import_module("librds._ffi")
+    nodes = re.findall(r"^RDS_(\d+)\.(\d+) \{(.*?)\}", (TOP / "lib" / "rds.map").read_text(), re.M | re.S)
+    needed = [node[:2] for node in nodes if any(f"{function};" in node[2] for function in ffi.FUNCTIONS)]
+    latest = max(tuple(map(int, node)) for node in needed)
+    assert latest == ffi.VERSION[:2] and ffi.VERSION <= librds.version()
 
 
 def test_files_and_sums_of_a_wheel(tmp_path) -> None:
     """Its needs are those of pyproject.toml. A library of another processor has no wheel."""
-    folder = TOP / "bindings" / "python"
-    library = os.path.realpath(os.environ["RDS_LIBRARY"])
-    make = [sys.executable, folder / "make_wheel.py"]
-    path = ran([*make, library, tmp_path], check=True).stdout.strip()
+    path = wheel_of(LIBRARY, tmp_path).stdout.strip()
     with zipfile.ZipFile(path) as wheel:
         files = {name: wheel.read(name) for name in wheel.namelist()}
-        forms = {
-            (entry.date_time, entry.external_attr >> 16, entry.compress_type) for entry in wheel.infolist()
-        }
+        forms = {(one.date_time, one.external_attr >> 16, one.compress_type) for one in wheel.infolist()}
     # So the same library gives the same bytes, and all may read the installed files.
     assert forms == {((1980, 1, 1, 0, 0, 0), 0o100644, zipfile.ZIP_DEFLATED)}
     record = next(name for name in files if name.endswith("/RECORD"))
@@ -570,36 +525,34 @@ def test_files_and_sums_of_a_wheel(tmp_path) -> None:
         if name != record:
             wanted = base64.urlsafe_b64encode(hashlib.sha256(files[name]).digest()).rstrip(b"=").decode()
             assert (sum_of, length) == (f"sha256={wanted}", str(len(files[name])))
-    assert {file for file in files if file.startswith("librds/")} == {
-        f"librds/{name}" for name in ("__init__.py", "_ffi.py", "py.typed", "librds.so.0")
-    }
-    project = (folder / "pyproject.toml").read_text()
-    says = email.message_from_bytes(files[record.replace("RECORD", "METADATA")])
-    assert f'requires-python = "{says["Requires-Python"]}"' in project
-    assert f'version = "{says["Version"]}"' in project
-    form = email.message_from_bytes(files[record.replace("RECORD", "WHEEL")])
-    assert (form["Root-Is-Purelib"], f"librds-{says['Version']}-{form['Tag']}.whl") == (
-        "false",
-        os.path.basename(path),
-    )
+    package = {file.partition("/")[2] for file in files if file.startswith("librds/")}
+    assert package == {"__init__.py", "_ffi.py", "py.typed", "librds.so.0"}
+    project = (BINDINGS / "pyproject.toml").read_text()
+    texts = [files[record.replace("RECORD", name)] for name in ("METADATA", "WHEEL")]
+    says, form = map(email.message_from_bytes, texts)
+    for line in (
+        f'requires-python = "{says["Requires-Python"]}"',
+        f'version = "{says["Version"]}"',
+        'arrays = ["numpy"]',
+        'package-data = { librds = ["py.typed"] }',
+    ):
+        assert line in project
+    name = f"librds-{says['Version']}-{form['Tag']}.whl"
+    assert (form["Root-Is-Purelib"], name) == ("false", os.path.basename(path))
     assert says.get_all("Provides-Extra") == ["arrays"]
+    assert says.get_all("Requires-Dist") == ["numpy; extra == 'arrays'"]
     listed = re.findall(r'^    "(.*)",$', project, re.M)
     assert len(listed) > 3 and says.get_all("Classifier") == listed and "RDS" in says["Keywords"].split(",")
     assert says["Description-Content-Type"] == "text/markdown"
-    assert says.get_payload() == (folder / "README.md").read_text()
-    assert says.get_all("Requires-Dist") == ["numpy; extra == 'arrays'"]
-    assert 'arrays = ["numpy"]' in project
-    assert 'package-data = { librds = ["py.typed"] }' in project
-    other = tmp_path / "other.so"
-    data = bytearray(open(library, "rb").read())
+    assert says.get_payload() == (BINDINGS / "README.md").read_text()
+    other, data = tmp_path / "other.so", bytearray(open(LIBRARY, "rb").read())
     other.write_bytes(data.replace(b"GLIBC_2.14\0", b"GLIBC_2.34\0"))
     if other.read_bytes() != data:  # else another processor's library
-        later = ran([*make, other, tmp_path], check=True).stdout
-        assert "-py3-none-manylinux_2_34_" in later
+        assert "-py3-none-manylinux_2_34_" in wheel_of(other, tmp_path).stdout
     other.write_bytes(data.replace(b"libc.so.6\0", b"libm.so.6\0"))
-    assert "a wheel cannot need libm.so.6" in ran([*make, other, tmp_path]).stderr
+    assert "a wheel cannot need libm.so.6" in wheel_of(other, tmp_path).stderr
     data[18:20] = (243).to_bytes(2, "little")  # of RISC-V
     other.write_bytes(data)
-    for value in (other, folder / "make_wheel.py"):
-        done = ran([*make, value, tmp_path])
+    for value in (other, BINDINGS / "make_wheel.py"):
+        done = wheel_of(value, tmp_path)
         assert done.returncode == 1 and "no library of x86_64 or aarch64" in done.stderr

@@ -4,6 +4,7 @@ row."""
 from __future__ import annotations
 
 import io
+from collections import defaultdict
 from typing import Any, List, Optional
 
 import numpy
@@ -11,21 +12,24 @@ import pytest
 from hypothesis import HealthCheck, given, settings, strategies as st
 
 from conftest import encode, rds
-from made import acquired_row, block, group_row, listing, lock, loss_row, read
+from made import acquired_row, block, damaged, group_row, joined, listing, lock, loss_row, read
 from rds_monitor.rows import listing as of_listing
 from rds_monitor.rows.heads import HEADER
-from rds_monitor.rows.items import GROUP, ITEM, VALID, Fault, Reading, Rows, Rules, totals_of
+from rds_monitor.rows.items import BLOCKS, GROUP, VALID, Fault, Reading, Rows, Rules, totals_of
 from rds_monitor.rows.listing import Listing, text_of, totals_text
 from rds_monitor.rows.opening import open_source
-from rds_monitor.rows.parse import _set_types, parse
+from rds_monitor.rows.parse import _set_types
 
 WORDS = (0xD393, 0x0548, 0xE0CD, 0x5041)
 
 
 def written(source: Any) -> bytes:
     """The rows of a source and its totals, as text."""
-    rows = numpy.concatenate([numpy.zeros(0, ITEM), *source.chunks()])
-    return text_of(rows) + (totals_text(source.totals) if source.totals else b"")
+    return text_of(joined(source.chunks())) + (totals_text(source.totals) if source.totals else b"")
+
+
+def source_of(text: bytes, **options: Any) -> Listing:
+    return Listing(io.BytesIO(text), b"", Reading(**options))
 
 
 def refused(text: bytes, **options: object) -> str:
@@ -40,10 +44,7 @@ def refused(text: bytes, **options: object) -> str:
 @pytest.fixture(scope="module")
 def noisy(station: bytes) -> bytes:
     """The station, damaged, noise, and the station again."""
-    random = numpy.random.default_rng(1)
-    damage = numpy.packbits(random.random(8 * len(station)) < 0.02)
-    noise = random.integers(0, 256, 20000, "u1")
-    return bytes(numpy.frombuffer(station, "u1") ^ damage) + noise.tobytes() + station
+    return damaged(station, 0.02, 1) + numpy.random.default_rng(1).bytes(20000) + station
 
 
 OPTIONS = ("", "--burst 5 --reach 8 --loss 1", "--burst 5 --reach 8 --loss 64", "--burst 0 --share 3 --of 5")
@@ -52,7 +53,7 @@ OPTIONS = ("", "--burst 5 --reach 8 --loss 1", "--burst 5 --reach 8 --loss 64", 
 @pytest.mark.parametrize("options", OPTIONS)
 def test_a_listing_is_read_and_written_again(noisy: bytes, options: str) -> None:
     text = rds("list", *options.split(), data=noisy)
-    assert written(Listing(io.BytesIO(text), b"")) == text
+    assert written(source_of(text)) == text
 
 
 def test_a_recording_and_its_listing_are_the_same_rows(noisy: bytes, tmp_path) -> None:
@@ -75,43 +76,31 @@ def test_the_cut_of_reads_changes_nothing(station_listing: bytes, size: int, mon
 
 
 def test_bits_gaps_and_hexadecimal_text(station: bytes, tmp_path) -> None:
-    (tmp_path / "it.hex").write_text(station.hex(" ", 7) + "\n")
-    path = str(tmp_path / "it.hex")
+    path = tmp_path / "it.hex"
+    path.write_text(station.hex(" ", 7) + "\n")
     gaps = [(104, 105), (50000, 50300)]
     wanted = rds("list", "--bits", 100003, "--gaps", "104-105,50000-50300", data=station)
-    assert written(open_source(path, Reading(hex=True, bits=100003, gaps=gaps))) == wanted
-    for options, fault in (
-        ({"bits": 300000}, "BitsPastBytes"),
-        ({"gaps": [(0, 300000)]}, "BadGaps"),
-        ({"rules": Rules(6)}, "BurstRange"),
+    assert written(open_source(str(path), Reading(hex=True, bits=100003, gaps=gaps))) == wanted
+    for text, options, fault in (
+        (station.hex(), {"bits": 300000}, "BitsPastBytes"),
+        (station.hex(), {"gaps": [(0, 300000)]}, "BadGaps"),
+        (station.hex(), {"rules": Rules(6)}, "BurstRange"),
+        ("123", {}, "refused 11 HexText"),
+        ("12 3x", {}, "refused 11 HexText"),
     ):
+        path.write_text(text)
         with pytest.raises(Fault, match=fault):
-            list(open_source(path, Reading(hex=True, **options)).chunks())
-    for text in ("123", "12 3x"):
-        (tmp_path / "it.hex").write_text(text)
-        with pytest.raises(Fault, match="refused 11 HexText"):
-            list(open_source(path, Reading(hex=True)).chunks())
+            list(open_source(str(path), Reading(hex=True, **options)).chunks())
 
 
 # ---- other hands
 
 
 def test_windows_lines_a_mark_and_names_of_columns_are_read_right(station_listing: bytes) -> None:
-    whole = read(station_listing)
-    for text in (
-        station_listing.replace(b"\n", b"\r\n"),
-        b"\xef\xbb\xbf" + station_listing,
-        HEADER + b"\n" + station_listing,
-        b"\xef\xbb\xbf" + (HEADER + b"\n" + station_listing).replace(b"\n", b"\r\n"),
-        station_listing[:-1],
-        station_listing.replace(b"\n", b"\r\n")[:-1],
-    ):
-        assert (read(text) == whole).all()
-
-
-def test_windows_lines_are_the_same_table(station_listing: bytes, tmp_path, said) -> None:
-    (tmp_path / "it.csv").write_bytes(station_listing.replace(b"\n", b"\r\n"))
-    assert said("errors", tmp_path / "it.csv") == said("errors", data=station_listing)
+    whole, windows = read(station_listing), station_listing.replace(b"\n", b"\r\n")
+    for text in (windows, HEADER + b"\n" + station_listing, HEADER + b"\r\n" + windows):
+        for form in (text, text[:-1], b"\xef\xbb\xbf" + text):
+            assert (read(form) == whole).all()
 
 
 # Rows, and the fault of each; \\r and \\n are the ends of lines.
@@ -168,18 +157,19 @@ def test_the_first_bad_row_is_told(station_listing: bytes) -> None:
     assert refused(b"\n".join(lines)).startswith("row 501: its block 1")
 
 
-@pytest.mark.parametrize(
-    "head, reason",
-    [
-        ("group,1".encode("utf-16"), "UTF-16"),
-        (b"begin_s,end_s,sent,valid\n0,60,1,1\n", "row 1: 'begin_s,end_s,sent,valid' is no row"),
-        (b"12345678 9ABCDEF0\n", "hexadecimal text: use --hex"),
-        (b"", "the input is empty"),
-    ],
-)
-def test_inputs_that_are_none(head: bytes, reason: str, tmp_path) -> None:
+# Beginnings of inputs, with the fault of each.
+NO_INPUTS = {
+    "group,1".encode("utf-16"): "UTF-16",
+    b"begin_s,end_s,sent,valid\n0,60,1,1\n": "row 1: 'begin_s,end_s,sent,valid' is no row",
+    b"12345678 9ABCDEF0\n": "hexadecimal text: use --hex",
+    b"": "the input is empty",
+}
+
+
+@pytest.mark.parametrize("head", NO_INPUTS)
+def test_inputs_that_are_none(head: bytes, tmp_path) -> None:
     (tmp_path / "it").write_bytes(head)
-    with pytest.raises(Fault, match=reason):
+    with pytest.raises(Fault, match=NO_INPUTS[head]):
         open_source(str(tmp_path / "it"))
 
 
@@ -197,34 +187,27 @@ def test_a_file_that_cannot_be_read(tmp_path) -> None:
 
 
 def test_a_second_listing_is_named(station_listing: bytes) -> None:
-    number = station_listing.count(b"\n") + 1
-    assert refused(station_listing * 2).startswith(f"row {number}: a second listing begins here")
+    number, second = station_listing.count(b"\n") + 1, "a second listing begins here"
     rows = station_listing[: station_listing.index(b"total,")]
-    assert refused(rows + station_listing, unfinished_ok=True).startswith(
-        f"row {number - 12}: a second listing begins here"
-    )
-    assert "a second listing begins here" in refused(station_listing + HEADER + b"\n" + station_listing)
-    empty = listing([])
-    assert "a second listing" in refused(empty * 2)
+    assert refused(station_listing * 2).startswith(f"row {number}: {second}")
+    part = refused(rows + station_listing, unfinished_ok=True)
+    assert part.startswith(f"row {number - 12}: {second}")
+    assert second in refused(station_listing + HEADER + b"\n" + station_listing)
+    assert second in refused(listing([]) * 2)
     # A restart whose places are above those before.
-    assert "a second listing" in refused(
-        listing(lock(26, [WORDS], False) + lock(500, [WORDS])), unfinished_ok=True
-    )
+    assert second in refused(listing(lock(26, [WORDS], False) + lock(500, [WORDS])), unfinished_ok=True)
 
 
 def test_sessions_are_told_apart(station_listing: bytes) -> None:
-    rows = station_listing[: station_listing.index(b"total,")]
+    rows, whole = station_listing[: station_listing.index(b"total,")], read(station_listing)
     for text, count in ((station_listing * 3, 3), (rows + rows + station_listing, 3), (rows * 2, 2)):
-        source = Listing(io.BytesIO(text), b"", Reading(sessions=True, unfinished_ok=True))
-        found: dict = {}
+        source, found = source_of(text, sessions=True, unfinished_ok=True), defaultdict(list)
         for chunk in source.chunks():
-            found.setdefault(source.session, []).append(chunk)
-        assert sorted(found) == list(range(count))
-        for chunks in found.values():
-            assert (numpy.concatenate(chunks) == read(station_listing)).all()
-    source = Listing(io.BytesIO(rows * 2), b"", Reading(sessions=True))
+            found[source.session].append(chunk)
+        assert sorted(found) == [*range(count)]
+        assert all((joined(chunks) == whole).all() for chunks in found.values())
     with pytest.raises(Fault, match="does not end in its totals"):
-        list(source.chunks())
+        list(source_of(rows * 2, sessions=True).chunks())
 
 
 def test_places_that_go_back() -> None:
@@ -246,11 +229,9 @@ def test_a_row_that_is_missing(gone: int) -> None:
 
 
 def test_a_row_too_many() -> None:
-    text = listing([*lock(26, [WORDS] * 5, lost=False)])
-    other = listing([*lock(26, [WORDS] * 4, lost=False)])
-    assert "rows are missing or too many" in refused(
-        text[: text.index(b"total,")] + other[other.index(b"total,") :], unfinished_ok=True
-    )
+    text, other = (listing(lock(26, [WORDS] * count, lost=False)) for count in (5, 4))
+    both = text[: text.index(b"total,")] + other[other.index(b"total,") :]
+    assert "rows are missing or too many" in refused(both, unfinished_ok=True)
 
 
 def test_a_listing_without_totals(station_listing: bytes) -> None:
@@ -306,22 +287,21 @@ def random_group(draw, place: int, first: int, last: int) -> Rows:
 @settings(max_examples=120, deadline=None)
 @given(locks())
 def test_random_listings_are_read_as_they_were_written(rows: List[Rows]) -> None:
-    whole = numpy.concatenate([numpy.zeros(0, ITEM), *rows])
-    text = listing(rows)
+    whole, text = joined(rows), listing(rows)
     assert (read(text) == whole).all()
-    source = Listing(io.BytesIO(text), b"")
+    source = source_of(text)
     assert written(source) == text
-    assert sum(source.totals.bursts) + source.totals.valid + source.totals.lost == sum(
-        int((whole[f"kind{number}"] > 0).sum()) for number in (1, 2, 3, 4)
-    )
+    blocks = sum(int((whole[f"kind{number}"] > 0).sum()) for number in BLOCKS)
+    assert sum(source.totals.bursts) + source.totals.valid + source.totals.lost == blocks
 
 
 BYTES = st.sampled_from(b"0123456789ABCDEFabx:~,-!?\r\n gl\0\xff")
 
 
-@settings(
-    max_examples=400, deadline=None, suppress_health_check=[HealthCheck.filter_too_much, HealthCheck.too_slow]
-)
+SLOW = [HealthCheck.filter_too_much, HealthCheck.too_slow]
+
+
+@settings(max_examples=400, deadline=None, suppress_health_check=SLOW)
 @given(st.data())
 def test_damage_is_refused_or_read_as_it_stands(data) -> None:
     text = bytearray(data.draw(st.sampled_from(DAMAGED)))
@@ -331,7 +311,7 @@ def test_damage_is_refused_or_read_as_it_stands(data) -> None:
         damage(text, at, way, data.draw(BYTES))
     for part in (False, True):
         try:
-            again = written(Listing(io.BytesIO(bytes(text)), b"", Reading(unfinished_ok=part)))
+            again = written(source_of(bytes(text), unfinished_ok=part))
         except Fault:
             continue
         plain = bytes(text).removeprefix(HEADER + b"\n").replace(b"\r\n", b"\n")
@@ -345,49 +325,40 @@ def test_damage_is_refused_or_read_as_it_stands(data) -> None:
 
 
 def damage(text: bytearray, at: int, way: str, byte: int) -> None:
-    line = text.rfind(b"\n", 0, at) + 1
+    begin = text.rfind(b"\n", 0, at) + 1
     end = text.find(b"\n", at) + 1 or len(text)
-    if way == "change":
-        text[at] = byte
-    elif way == "insert":
-        text.insert(at, byte)
-    elif way == "delete":
-        del text[at]
-    elif way == "line":
-        del text[line:end]
-    elif way == "double":
-        text[line:line] = text[line:end]
-    else:
-        following = text.find(b"\n", end) + 1 or len(text)
-        text[line:following] = text[end:following] + text[line:end]
-    if not text:
-        text += b"\n"
+    after = text.find(b"\n", end) + 1 or len(text)
+    line, following = text[begin:end], text[end:after]
+    for name, first, last, new in (
+        ("change", at, at + 1, bytes([byte])),
+        ("insert", at, at, bytes([byte])),
+        ("delete", at, at + 1, b""),
+        ("line", begin, end, b""),
+        ("double", begin, end, 2 * line),
+        ("swap", begin, after, following + line),
+    ):
+        if way == name:
+            text[first:last] = new
+    text[:] = text or b"\n"
 
 
 def _damaged() -> List[bytes]:
     random = numpy.random.default_rng(2)
-    rows: List[Rows] = []
-    place = 26
+    rows, place = [], 26
     for count in (3, 1, 6):
         rows += lock(place, random.integers(0, 65536, (count, 4)).tolist())
         place += 104 * count + 700
-    text = listing(rows)
     groups = encode(random.integers(0, 65536, (12, 4)).tolist())
-    flipped = numpy.frombuffer(groups, "u1") ^ numpy.packbits(random.random(8 * len(groups)) < 0.02)
-    return [text, rds("list", "--burst", 5, data=flipped.tobytes())]
+    return [listing(rows), rds("list", "--burst", 5, data=damaged(groups, 0.02, 2))]
 
 
 DAMAGED = _damaged()
 
 
 def test_a_long_listing_is_read_in_chunks(station: bytes) -> None:
-    text = rds("list", data=station)
-    rows, _ = parse(text)
-    groups = [row for row in rows if row["what"] == GROUP]
-    many = numpy.tile(numpy.array(groups[1:1001], ITEM), 40)
+    rows = read(rds("list", data=station))
+    many = numpy.tile(rows[rows["what"] == GROUP][1:1001], 40)
     many["place"] = 104 * numpy.arange(len(many)) + 104
-    for number in (1, 2, 3, 4):
-        assert (many[f"kind{number}"] == VALID).all()
-    whole = listing([acquired_row(129, 1), many])
-    sizes = [len(chunk) for chunk in Listing(io.BytesIO(whole), b"").chunks()]
+    assert all((many[f"kind{number}"] == VALID).all() for number in BLOCKS)
+    sizes = [len(chunk) for chunk in source_of(listing([acquired_row(129, 1), many])).chunks()]
     assert max(sizes) <= 65536 and sum(sizes) == 40001 and len(sizes) > 2

@@ -12,7 +12,7 @@ import pytest
 from hypothesis import given, settings, strategies as st
 
 from conftest import rds
-from made import BLOCK_OFFSETS, block, group_row, listing, run, said
+from made import BLOCK_OFFSETS, block, damaged, group_row, listing, output, run, said
 from rds_monitor.measures.errors import Errors
 from rds_monitor.measures.measure import Programmes
 from rds_monitor.measures.outages import Outages
@@ -20,18 +20,16 @@ from rds_monitor.rows.items import CORRECTED, GROUP, ITEM, LOST, VALID, Rows
 from rds_monitor.rows.parse import _set_types
 
 WORDS = (0xD393, 0x0548, 0xE0CD, 0x5041)
-START = ("--start", "2026-03-29T00:30:00Z")
-
-
-def corrected_group(place: int) -> Rows:
-    rows = group_row(place, WORDS)
-    block(rows[0], 4, 0x5041, 1)
-    return rows
+AT = "--start 2026-03-29T00:30:00Z"
+START = AT.split()
+COMMANDS = ["errors", "outages", "programmes", "types", "corrected", "table"]
 
 
 @pytest.fixture(scope="module")
 def two() -> bytes:
-    return listing([corrected_group(104), group_row(208, (0xD393, 0x0549, 0xE0CD, 0x584F))], totals=False)
+    corrected = group_row(104, WORDS)
+    block(corrected[0], 4, 0x5041, 1)
+    return listing([corrected, group_row(208, (0xD393, 0x0549, 0xE0CD, 0x584F))], totals=False)
 
 
 @pytest.fixture(scope="module")
@@ -43,48 +41,37 @@ def outages() -> bytes:
 
 # ---- tables with their times
 
+CLOCK_OFF = "--rate 1200 --start 2026-03-29T00:30:00.5Z"
+# What is asked of the two groups, and the rows after the names of the columns.
+TABLES = {
+    f"errors {AT} --every 1 --length 2375": """
+begin_s,end_s,sent,valid,corrected,lost,missing,bad_percent,begin_utc,end_utc
+0,1,41,7,1,0,33,82.93,2026-03-29T00:30:00.088Z,2026-03-29T00:30:01.000Z
+1,2,46,0,0,0,46,100.00,2026-03-29T00:30:01.000Z,2026-03-29T00:30:02.000Z""",
+    f"corrected {AT} --rate 1187.5": """
+place,type,version,block,offset,word,burst,span,time_s,time_utc
+104,0,A,4,D,5041,0000001,1,0.153,2026-03-29T00:30:00.153Z""",
+    f"programmes {CLOCK_OFF} --least 2": """
+begin_s,end_s,programme,groups,begin_place,end_place,begin_utc,end_utc
+0.087,0.260,D393,2,104,312,2026-03-29T00:30:00.587Z,2026-03-29T00:30:00.760Z""",
+    f"outages {AT} --rate 1200 --shortest 0.5 --length 1200": """
+begin_s,end_s,length_s,begin_place,end_place,begin_utc,end_utc
+0.260,1.000,0.740,312,1200,2026-03-29T00:30:00.260Z,2026-03-29T00:30:01.000Z""",
+}
+
+
+@pytest.mark.parametrize("asked", TABLES)
+def test_tables_with_their_times(asked: str, two: bytes) -> None:
+    assert said(*asked.split(), "--unfinished", data=two) == TABLES[asked].split()
+
 
 def test_block_errors_of_the_sample(station: bytes, station_listing: bytes, tmp_path) -> None:
-    wanted = [
-        "begin_s,end_s,sent,valid,corrected,lost,missing,bad_percent",
-        "0,60,2741,2740,0,0,1,0.04",
-        "60,120,2740,2740,0,0,0,0.00",
-        "120,168,2211,2211,0,0,0,0.00",
-    ]
-    assert said("errors", data=station) == wanted
+    names = "begin_s,end_s,sent,valid,corrected,lost,missing,bad_percent"
+    rows = "0,60,2741,2740,0,0,1,0.04 60,120,2740,2740,0,0,0,0.00 120,168,2211,2211,0,0,0,0.00"
+    assert said("errors", data=station) == [names, *rows.split()]
     (tmp_path / "-a station's.bin").write_bytes(station)
     for length in (200000, tmp_path / "-a station's.bin"):
-        assert said("errors", "--length", length, data=station_listing) == wanted
-
-
-def test_block_errors_with_their_times(two: bytes) -> None:
-    assert said("errors", "--unfinished", *START, "--every", 1, "--length", 2375, data=two) == [
-        "begin_s,end_s,sent,valid,corrected,lost,missing,bad_percent,begin_utc,end_utc",
-        "0,1,41,7,1,0,33,82.93,2026-03-29T00:30:00.088Z,2026-03-29T00:30:01.000Z",
-        "1,2,46,0,0,0,46,100.00,2026-03-29T00:30:01.000Z,2026-03-29T00:30:02.000Z",
-    ]
-
-
-def test_a_correction_with_its_times(two: bytes) -> None:
-    assert said("corrected", "--unfinished", *START, "--rate", 1187.5, data=two) == [
-        "place,type,version,block,offset,word,burst,span,time_s,time_utc",
-        "104,0,A,4,D,5041,0000001,1,0.153,2026-03-29T00:30:00.153Z",
-    ]
-
-
-def test_programmes_by_a_clock_that_is_off(two: bytes) -> None:
-    clock = ("--rate", 1200, "--start", "2026-03-29T00:30:00.5Z")
-    assert said("programmes", "--unfinished", *clock, "--least", 2, data=two) == [
-        "begin_s,end_s,programme,groups,begin_place,end_place,begin_utc,end_utc",
-        "0.087,0.260,D393,2,104,312,2026-03-29T00:30:00.587Z,2026-03-29T00:30:00.760Z",
-    ]
-
-
-def test_outages_with_their_times(two: bytes) -> None:
-    ask = ("outages", "--unfinished", *START, "--rate", 1200, "--shortest", 0.5, "--length", 1200)
-    assert said(*ask, data=two)[1:] == [
-        "0.260,1.000,0.740,312,1200,2026-03-29T00:30:00.260Z,2026-03-29T00:30:01.000Z"
-    ]
+        assert said("errors", "--length", length, data=station_listing) == [names, *rows.split()]
 
 
 def test_outages_by_their_places(outages: bytes) -> None:
@@ -111,14 +98,11 @@ def test_outages_by_their_places(outages: bytes) -> None:
 def test_the_end_of_a_part(two: bytes) -> None:
     """It ends with its last row, after which there is no outage, however short; nor is a stretch of two groups told."""
     assert said("errors", "--unfinished", *START, data=two)[-1].endswith(",2026-03-29T00:30:00.263Z")
-    assert said("outages", "--unfinished", "--shortest", 0, "--length", 312, data=two)[2:] == []
     assert said("programmes", "--unfinished", data=two)[1:] == []
     # An outage of just the shortest length is told: 0.08 s are 95 bits.
-    ends = [
-        said("outages", "--unfinished", "--shortest", 0.08, "--length", value, data=two)[-1].split(",")[3]
-        for value in (406, 407)
-    ]
-    assert ends == ["begin_place", "312"]
+    for shortest, length, end in ((0, 312, "182"), (0.08, 406, "begin_place"), (0.08, 407, "312")):
+        asked = ("outages", "--unfinished", "--shortest", shortest, "--length", length)
+        assert said(*asked, data=two)[-1].split(",")[3] == end
     assert [run("errors", "--rate", value, data=two).status for value in (1068, 1307)] == [2, 2]
 
 
@@ -130,10 +114,7 @@ def test_a_pause_by_default(seconds: float, programmes: int) -> None:
     assert len(said("programmes", "--unfinished", data=listing(rows, totals=False))) == 1 + programmes
 
 
-@pytest.mark.parametrize(
-    "command",
-    ["errors", "outages", "programmes", "types", "corrected", "table", "groups", "json", "info", "report"],
-)
+@pytest.mark.parametrize("command", [*COMMANDS, "groups", "json", "info", "report"])
 def test_recordings_of_nothing(command: str) -> None:
     """No bit, less than a block, and some blocks of noise: nothing is divided by what is not there."""
     if command == "report":
@@ -210,59 +191,51 @@ def test_parquet(station: bytes, tmp_path) -> None:
         frame = pandas.read_parquet(tmp_path / "it.parquet")
     except (ImportError, FileNotFoundError):
         assert done.status == 1 and "Parquet needs pyarrow" in done.err
-        return
-    assert len(frame) == 1924 and frame.info1[2] == 0xD393
+    else:
+        assert len(frame) == 1924 and frame.info1[2] == 0xD393
 
 
 # ---- other tables, and parts
 
 
-@pytest.mark.parametrize(
-    "command", ["errors", "outages", "programmes", "types", "corrected", "table", "clock"]
-)
+@pytest.mark.parametrize("command", [*COMMANDS, "clock"])
 def test_inputs_that_are_no_listing(command: str, station_listing: bytes) -> None:
     table = "\n".join(said("errors", data=station_listing)).encode()
-    done = run(command, data=table)
-    assert (done.status, done.err.split(": ")[1]) == (1, "row 1")
-    cut = station_listing[:30000]
-    done = run(command, data=cut)
-    assert done.status == 1 and "does not end in its totals" in done.err
-    done = run(command, data=station_listing * 2)
-    assert done.status == 1 and "a second listing begins here" in done.err
+    for data, fault in (
+        (table, f"rds-monitor {command}: row 1: "),
+        (station_listing[:30000], "does not end in its totals"),
+        (station_listing * 2, "a second listing begins here"),
+    ):
+        done = run(command, data=data)
+        assert done.status == 1 and fault in done.err
 
 
 def test_a_part_of_a_listing(station_listing: bytes) -> None:
-    lines = station_listing.splitlines(keepends=True)
-    part = b"".join(lines[500:1500])
+    part = b"".join(station_listing.splitlines(keepends=True)[500:1500])
     rows = [line.split(",") for line in said("errors", "--unfinished", data=part)[1:]]
     assert sum(int(row[2]) for row in rows) == 4000 == sum(int(row[3]) for row in rows)
     assert said("outages", "--unfinished", data=part)[1:] == []
     assert run("errors", data=part).status == 1
 
 
-def test_a_recording_longer_than_its_rows(station_listing: bytes) -> None:
-    done = run("errors", "--length", 1600000, data=station_listing)
-    assert done.status == 1 and "--trust-length" in done.err
-    done = run("outages", "--length", 199888, data=station_listing)
-    assert done.status == 1 and "past the 199888 bits of the recording" in done.err
+def test_a_recording_longer_than_its_rows(station: bytes, station_listing: bytes) -> None:
     assert said("outages", "--trust-length", "--length", 1600000, data=station_listing)[1:] == [
         "168.414,1347.368,1178.954,199992,1600000"
     ]
-    assert run("errors", "--length", "none", data=station_listing).err == (
-        "rds-monitor errors: --length 'none': No such file or directory\n"
-    )
-    done = run("errors", "--length", 5, data=b"\0" * 100)
-    assert done.status == 2 and "--length is for a listing" in done.err
+    for data, asked, status, fault in (
+        (station_listing, "errors --length 1600000", 1, "--trust-length"),
+        (station_listing, "outages --length 199888", 1, "past the 199888 bits of the recording"),
+        (station_listing, "errors --length none", 1, "errors: --length 'none': No such file or directory\n"),
+        (station, "errors --length 5", 2, "--length is for a listing"),
+    ):
+        done = run(*asked.split(), data=data)
+        assert done.status == status and fault in done.err
 
 
-@pytest.mark.parametrize(
-    "command", ["errors", "outages", "programmes", "types", "corrected", "table", "report"]
-)
+@pytest.mark.parametrize("command", [*COMMANDS, "report"])
 def test_a_listing_has_the_tables_of_its_recording(command: str, station: bytes) -> None:
     """In all fields, if its length is told: it may end in bits of no row."""
-    random = numpy.random.default_rng(4)
-    damaged = numpy.frombuffer(station, "u1") ^ numpy.packbits(random.random(8 * len(station)) < 0.02)
-    data = damaged.tobytes() + random.bytes(9000) + station[:5000] + bytes(700)
+    data = damaged(station, 0.02, 4) + numpy.random.default_rng(4).bytes(9000) + station[:5000] + bytes(700)
     of_recording = run(command, *START, data=data)
     if "needs D3" in of_recording.err or command == "report" and not importlib.util.find_spec("jinja2"):
         pytest.skip("needs libjs-d3 and jinja2")
@@ -394,27 +367,23 @@ def test_programmes_against_a_loop(rows: Rows, cuts: List[int], least: int) -> N
 
 def test_counts_are_those_of_the_totals(station: bytes) -> None:
     """Damaged as it may be, what the tables count is what rds counts."""
-    random = numpy.random.default_rng(3)
-    for rate in (0.001, 0.02, 0.08, 0.5):
-        damage = numpy.packbits(random.random(8 * len(station)) < rate)
-        data = (numpy.frombuffer(station, "u1") ^ damage).tobytes()
+    for seed, rate in enumerate((0.001, 0.02, 0.08, 0.5)):
+        data = damaged(station, rate, seed)
         told = rds("totals", "--loss", 20, data=data).decode().splitlines()
-        totals = dict(line.split(",")[1:3] for line in told)
-        lines = said("errors", "--loss", 20, "--every", 7, data=data)[1:]
-        rows = [[int(entry) for entry in line.split(",")[2:7]] for line in lines]
-        sums = numpy.sum(rows, axis=0).tolist()
-        corrected = sum(int(totals[f"burst{n}"]) for n in range(1, 6))
-        assert sums[1:4] == [int(totals["valid"]), corrected, int(totals["lost"])]
-        assert sums[0] == sum(sums[1:])
+        totals = {name: int(value) for _, name, value, *_ in (line.split(",") for line in told)}
+        errors, corrected, types = (
+            [line.split(",") for line in said(*asked, "--loss", 20, data=data)[1:]]
+            for asked in (("errors", "--every", 7), ("corrected",), ("types",))
+        )
+        sums = numpy.sum([[int(entry) for entry in row[2:7]] for row in errors], axis=0).tolist()
+        bursts = sum(totals[f"burst{n}"] for n in range(1, 6))
+        assert sums[1:4] == [totals["valid"], bursts, totals["lost"]] and len(corrected) == bursts
         # A block that begins before the end and is cut there was not sent whole.
-        assert sums[0] in (8 * len(data) // 26, 8 * len(data) // 26 + 1)
-        assert len(said("corrected", "--loss", 20, data=data)) == corrected + 1
-        mix = [line.split(",") for line in said("types", "--loss", 20, data=data)[1:]]
-        assert sum(int(row[2]) + int(row[3]) for row in mix) == int(totals["groups"])
+        assert sums[0] == sum(sums[1:]) and sums[0] in (8 * len(data) // 26, 8 * len(data) // 26 + 1)
+        assert sum(int(row[2]) + int(row[3]) for row in types) == totals["groups"]
 
 
 def test_the_output_is_awks_too(station: bytes) -> None:
     """Fields have no quotes and no blanks."""
     for command in ("errors", "outages", "programmes", "types"):
-        for line in said(command, *START, data=station):
-            assert '"' not in line and " " not in line
+        assert not {'"', " "} & {*output(command, *START, data=station)}

@@ -30,7 +30,7 @@ def section(title: str) -> str:
 
 def block(text: str) -> List[str]:
     """The lines of the first indented block."""
-    return [line[4:] for line in re.search(r"(?:^    .*\n)+", text, re.M)[0].splitlines()]  # type: ignore[index]
+    return [line[4:] for line in re.search(r"(?:^    .*\n)+", text, re.M)[0].splitlines()]
 
 
 # The command of each task, with a text that its output or its file has.
@@ -59,17 +59,15 @@ def folder(tmp_path: Path) -> Path:
 
 
 def started(folder: Path, command: str) -> "subprocess.Popen[str]":
-    path = os.pathsep.join([str(folder / "bin"), os.environ["PATH"]])
-    return subprocess.Popen(
-        ["bash", "-o", "pipefail", "-c", command],
-        cwd=folder,
-        env={**os.environ, "PATH": path},
-        stdin=subprocess.DEVNULL,
-        stdout=subprocess.PIPE,
-        stderr=subprocess.PIPE,
-        text=True,
-        start_new_session=True,
-    )
+    words = ["bash", "-o", "pipefail", "-c", command]
+    environment = {**os.environ, "PATH": os.pathsep.join([str(folder / "bin"), os.environ["PATH"]])}
+    streams = {
+        "stdin": subprocess.DEVNULL,
+        "stdout": subprocess.PIPE,
+        "stderr": subprocess.PIPE,
+        "text": True,
+    }
+    return subprocess.Popen(words, cwd=folder, env=environment, start_new_session=True, **streams)
 
 
 @pytest.fixture
@@ -100,31 +98,28 @@ def test_a_task(command: str, folder: Path, done: Callable[[str], str]) -> None:
         pytest.importorskip("jinja2")
         if not os.path.exists(D3):
             pytest.skip("needs libjs-d3")
-    groups = (folder / "groups.txt").read_text()
-    out = done(command)
-    file = command.partition("> ")[2]
-    assert TASKS[command] in (out if not file else (folder / file).read_bytes().decode("latin-1"))
-    if file == "bits.bin":
-        assert (folder / file).read_bytes() == rds("encode", data=groups.encode())
+    groups, file = (folder / "groups.txt").read_bytes(), command.partition("> ")[2]
+    out = done(command).encode()
+    written = (folder / file).read_bytes() if file else out
+    assert TASKS[command].encode() in written
+    assert file != "bits.bin" or written == rds("encode", data=groups)
 
 
 def test_a_watch(folder: Path) -> None:
     words = json.dumps(["sh", "-c", f"cat '{STATION}'; sleep 600"])
-    (folder / "stations.toml").write_text(
-        f'folder = "{folder}"\n[[station]]\nname = "Alpha"\ncommand = {words}\n'
-    )
-    process = started(folder, f"exec {WATCH}")
-    try:
-        end = time.monotonic() + PATIENCE
-        while not (folder / "pages" / "index.html").exists():
-            assert time.monotonic() < end and process.poll() is None
-            time.sleep(0.05)
-        process.terminate()
-        assert process.wait(PATIENCE) == 0
-    finally:
-        if process.poll() is None:
-            os.killpg(process.pid, signal.SIGKILL)
-            process.wait()
+    table = f'folder = "{folder}"\n[[station]]\nname = "Alpha"\ncommand = {words}\n'
+    (folder / "stations.toml").write_text(table)
+    with started(folder, f"exec {WATCH}") as process:
+        try:
+            end = time.monotonic() + PATIENCE
+            while not (folder / "pages" / "index.html").exists():
+                assert time.monotonic() < end and process.poll() is None
+                time.sleep(0.05)
+            process.terminate()
+            assert process.wait(PATIENCE) == 0
+        finally:
+            if process.poll() is None:
+                os.killpg(process.pid, signal.SIGKILL)
 
 
 def test_the_session(folder: Path, done: Callable[[str], str]) -> None:
@@ -138,7 +133,7 @@ def test_the_session(folder: Path, done: Callable[[str], str]) -> None:
 def test_the_live_pipe(folder: Path, done: Callable[[str], str]) -> None:
     """Ten seconds of the station as a receiver's MPX, given by a program of the receiver's name."""
     command = "\n".join(block(section("Live, from an RTL-SDR")))
-    rate = int(re.search(r"--rate (\d+)", command)[1])  # type: ignore[index]
+    rate = int(re.search(r"--rate (\d+)", command)[1])
     assert command.startswith(f"rtl_fm -M fm -l 0 -A std -p 0 -s {rate // 1000}k ")
     assert " --raw s16 " in command
     (folder / "mpx.s16").write_bytes(stored(mpx(STATION.read_bytes()[: 10 * 1188 // 8], rate), "s16"))

@@ -2,15 +2,13 @@
 
 from __future__ import annotations
 
-import os
-import subprocess
 from pathlib import Path
-from typing import Any, Dict, List
+from typing import Dict
 
 import pytest
 
 from conftest import COMMAND, PROGRAM
-from speed import make_day
+from speed import make_day, measured
 
 COMMANDS = ("errors", "outages", "groups")
 # Times the seconds of the list, and the seconds that the imports take.
@@ -18,38 +16,21 @@ MOST, IMPORTS = 1.75, 0.2
 ROUNDS = 20
 
 
-@pytest.fixture(scope="module")
-def day(tmp_path_factory: Any) -> Path:
-    path: Path = tmp_path_factory.mktemp("day") / "day.bin"
-    make_day(path)
-    return path
-
-
-def used(words: List[str], given: Path, into: Path) -> float:
-    """Processor seconds of a run, with modules that are compiled once and an output with a buffer, as installed."""
-    environment = {
-        key: value
-        for key, value in os.environ.items()
-        if key not in ("PYTHONDONTWRITEBYTECODE", "PYTHONUNBUFFERED")
-    }
-    with open(given, "rb") as stdin, open(into, "wb") as stdout:
-        process = subprocess.Popen(
-            words, stdin=stdin, stdout=stdout, env={**environment, "PYTHONPYCACHEPREFIX": str(into.parent)}
-        )
-        _, status, usage = os.wait4(process.pid, 0)
-    assert status == 0
-    return usage.ru_utime + usage.ru_stime
-
-
 @pytest.mark.alone
-def test_a_day_takes_little_longer_than_its_list(day: Path, tmp_path: Path) -> None:
+def test_a_day_takes_little_longer_than_its_list(tmp_path: Path, monkeypatch: pytest.MonkeyPatch) -> None:
     """By the least of some rounds: it ends with the first one after which it holds."""
+    make_day(tmp_path / "day.bin")
+    # Modules are compiled once, and the output has a buffer, as installed.
+    for name in ("PYTHONDONTWRITEBYTECODE", "PYTHONUNBUFFERED"):
+        monkeypatch.delenv(name, raising=False)
+    monkeypatch.setenv("PYTHONPYCACHEPREFIX", str(tmp_path))
     asked = {"list": [PROGRAM, "list", "--workers", "1"]}
     asked.update((command, [*COMMAND, command]) for command in COMMANDS)
     least: Dict[str, float] = {}
     for _ in range(ROUNDS):
         for name, words in asked.items():
-            least[name] = min(used(words, day, tmp_path / "out"), least.get(name, 1e9))
+            seconds, _ = measured(words, tmp_path / "day.bin", tmp_path / "out", 1)
+            least[name] = min(seconds, least.get(name, 1e9))
         if all(least[command] <= MOST * least["list"] + IMPORTS for command in COMMANDS):
             return
     raise AssertionError(least)

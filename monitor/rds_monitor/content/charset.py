@@ -77,13 +77,11 @@ def printable(text: str) -> str:
     Escaped by a backslash, as in Python, are controls, marks that turn the direction of writing, combining marks beyond
     two on a letter, and a backslash.
     """
+    text = text.replace("\\", "\\\\")
     if text.isascii() and text.isprintable():
-        return text.replace("\\", "\\\\")
-    shown = [
-        _escaped(sign) if bad or _is_unsafe(sign) else "\\\\" if sign == "\\" else sign
-        for sign, bad in zip(text, _marks(text))
-    ]
-    return "".join(shown)
+        return text
+    signs = zip(text, _marks(text))
+    return "".join([_escaped(sign) if bad or _is_unsafe(sign) else sign for sign, bad in signs])
 
 
 _ENCODER = json.JSONEncoder(ensure_ascii=False, separators=(",", ":"))
@@ -102,7 +100,5 @@ _RUN = re.compile(r"[A-Za-z]?[^ -~]+")
 
 
 def _safe_run(found: "re.Match[str]") -> str:
-    run = found[0]
-    return "".join(
-        [json.dumps(sign)[1:-1] if bad or _is_unsafe(sign) else sign for sign, bad in zip(run, _marks(run))]
-    )
+    signs = zip(found[0], _marks(found[0]))
+    return "".join([json.dumps(sign)[1:-1] if bad or _is_unsafe(sign) else sign for sign, bad in signs])

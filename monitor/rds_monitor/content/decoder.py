@@ -36,21 +36,14 @@ class Programme:
     def __init__(self, pi: int, teller: Teller, rbds: bool, everything: bool, data: bool) -> None:
         self.pi, self._teller = pi, teller
         self._received = Received(everything)
-        takers: List[Taker] = [
+        plain = (*features.PLAIN, networks.Frequencies, *texts.PLAIN)
+        takers: List[Taker] = [taker(teller) for taker in plain]
+        takers += [
             features.Flags(teller, rbds),
             features.SlowLabels(teller, pi),
-            features.ClockTime(teller),
-            features.OpenData(teller),
             features.Features(teller, data),
-            features.TrafficMessages(teller),
-            features.DabLink(teller),
-            networks.Frequencies(teller),
-            networks.OtherNetworks(teller, rbds),
-            texts.Name(teller),
-            texts.RadioText(teller),
-            texts.LongName(teller),
-            texts.EnhancedText(teller),
         ]
+        takers.append(networks.OtherNetworks(teller, rbds))
         self._takers: Dict[int, List[Taker]] = {}
         for one in takers:
             for kind in one.kinds:
@@ -102,16 +95,14 @@ class Decoder:
     def _feed(self, rows: Rows) -> None:
         is_group = rows["what"] == GROUP
         acquired = numpy.concatenate([[0], numpy.cumsum(rows["what"] == ACQUIRED)])
-        rows_of_groups, at = (
-            (rows, acquired[1:]) if is_group.all() else (rows[is_group], acquired[1:][is_group])
-        )
+        groups, at = (rows, acquired[1:]) if is_group.all() else (rows[is_group], acquired[1:][is_group])
         fresh = at != numpy.concatenate([[0], at])[:-1]
-        if fresh.size:
-            fresh[0] |= self._fresh
-            self._fresh = bool(acquired[-1] != at[-1])
-            self._feed_groups(rows_of_groups, fresh)
-        else:
+        if not fresh.size:
             self._fresh |= bool(acquired[-1])
+            return
+        fresh[0] |= self._fresh
+        self._fresh = bool(acquired[-1] != at[-1])
+        self._feed_groups(groups, fresh)
 
     def _feed_groups(self, rows: Rows, fresh: Array) -> None:
         groups = columns_of(rows)
@@ -145,16 +136,9 @@ class Decoder:
         value = numpy.where(first, groups.words[0], groups.words[2])
         sound = (~first | groups.valid[0]) & (~third | groups.valid[2])
         index = numpy.flatnonzero(has)
-        counted = self._identifications.news(
-            Observations(
-                numpy.zeros(index.size, "i8") + key_of(0),
-                index,
-                value[index],
-                groups.whole[index],
-                sound[index],
-            ),
-            True,
-        )
+        key = numpy.zeros(index.size, "i8") + key_of(0)
+        seen = Observations(key, index, value[index], groups.whole[index], sound[index])
+        counted = self._identifications.news(seen, True)
         now = self.programme.pi if self.programme else -1
         counts = numpy.zeros(has.size, bool)
         counts[counted.at] = True

@@ -87,7 +87,9 @@ class Evidence:
         counts = self._counts(seen)
         counted = News(*(column[counts] for column in seen[:3]))
         news = counted if everything or not counted.key.size else self._news(counted)
-        self._prune()
+        if len(self.parts) > MOST_PARTS:
+            # Noise gives parts that never count: they are forgotten when there are too many.
+            self.parts = {name: part for name, part in self.parts.items() if part.counted is not None}
         return news
 
     def _news(self, counted: News) -> News:
@@ -142,9 +144,8 @@ class Evidence:
         ]
         active = numpy.logical_or.reduceat(changed, starts) | numpy.array(stale, bool)
         bounds = numpy.flatnonzero(_firsts(message))
-        of_message = numpy.repeat(
-            numpy.logical_or.reduceat(active, bounds), numpy.diff([*bounds, message.size])
-        )
+        sizes = numpy.diff([*bounds, message.size])
+        of_message = numpy.repeat(numpy.logical_or.reduceat(active, bounds), sizes)
         return numpy.repeat(of_message, numpy.diff([*starts, counted.key.size]))
 
     def _states_of(self, counted: News, changed: Array) -> Array:
@@ -152,9 +153,8 @@ class Evidence:
         message = counted.key >> POSITION_BITS
         bounds: List[int] = numpy.flatnonzero(_firsts(message)).tolist()
         names = message[bounds].tolist()
-        state = numpy.repeat(
-            [self.states.get(name, 0) for name in names], numpy.diff([*bounds, message.size])
-        )
+        known = [self.states.get(name, 0) for name in names]
+        state = numpy.repeat(known, numpy.diff([*bounds, message.size]))
         tick = counted.at << POSITION_BITS | counted.key & (1 << POSITION_BITS) - 1
         for begin, end, name in zip(bounds, [*bounds[1:], message.size], names):
             ticks = numpy.sort(tick[begin:end][changed[begin:end]])
@@ -176,11 +176,6 @@ class Evidence:
             self.parts[name] = self.parts[name]._replace(counted=value, state=now)
         return fresh
 
-    def _prune(self) -> None:
-        """Noise gives parts that never count: they are forgotten when there are too many."""
-        if len(self.parts) > MOST_PARTS:
-            self.parts = {name: part for name, part in self.parts.items() if part.counted is not None}
-
 
 class Epochs:
     """The messages of a kind with an A/B flag: each turn of the flag begins another message."""
@@ -198,8 +193,7 @@ class Epochs:
 
     def flag(self, at: Array) -> Array:
         """The flag that holds in each of these groups; that of a group holds from itself on."""
-        flag: Array = self._flags[numpy.searchsorted(self._at, at, side="right")]
-        return flag
+        return self._flags[numpy.searchsorted(self._at, at, side="right")]
 
     def number(self, at: Array) -> Array:
         number: Array = self._numbers[numpy.searchsorted(self._at, at, side="right")] & 0xFFFFFF

@@ -135,9 +135,8 @@ class OpenData(Taker):
         if "scope" in self._service:
             known = [("location table", "location_table"), ("service", "service")]
             parts = [f"{name} {self._service[key]}" for name, key in known if key in self._service]
-            self._tell(
-                "tmc_service", dict(self._service), ", ".join([*parts, " ".join(self._service["scope"])])
-            )
+            shown = ", ".join([*parts, " ".join(self._service["scope"])])
+            self._tell("tmc_service", dict(self._service), shown)
 
 
 class Features(Taker):
@@ -213,3 +212,7 @@ class DabLink(Taker):
         found = {"ensemble": f"{ensemble:04X}", "channel": channel, "mode": mode}
         shown = f"ensemble {ensemble:04X}, channel {channel or 'unknown'}, mode {mode}"
         self._tell(f"dab:{16 * frequency / 1000:.3f}", found, shown)
+
+
+# Those that need only the teller.
+PLAIN = (ClockTime, OpenData, TrafficMessages, DabLink)

@@ -49,9 +49,8 @@ def options_info(parser: argparse.ArgumentParser) -> None:
         "items in CSV and JSON, with examples of which of several:\n" + textwrap.indent(ITEMS, "  ")
     )
     input_options(parser)
-    parser.add_argument(
-        "--rbds", action="store_true", help="RBDS: its names of programme types, and call letters by the PI"
-    )
+    of_rbds = "RBDS: its names of programme types, and call letters by the PI"
+    parser.add_argument("--rbds", action="store_true", help=of_rbds)
     form = parser.add_mutually_exclusive_group()
     form.add_argument("--csv", action="store_true", help="a row per change")
     form.add_argument("--json", action="store_true", help="a line of JSON per change")
@@ -61,15 +60,14 @@ def options_info(parser: argparse.ArgumentParser) -> None:
 def run_info(arguments: argparse.Namespace) -> int:
     set_utf8()
     source, decoder = open_input(arguments), Decoder(rbds=arguments.rbds)
-    summary = Summary()
-    writer = csv.writer(sys.stdout, lineterminator="\n")
-    begun = False
+    summary, writer = Summary(), csv.writer(sys.stdout, lineterminator="\n")
+    names = ["time_s", "pi", "item", "value", "place"]
     for rows in chunks_with_end(source):
         events, clock = decoder.feed(rows), clock_of(arguments, source)
         if arguments.csv:
-            if not begun:
-                writer.writerow(["time_s", "pi", "item", "value", "place", *clock.names("time")])
-            begun = True
+            if names:
+                writer.writerow([*names, *clock.names("time")])
+                names = []
             writer.writerows(row_of(event, clock) for event in events)
         elif arguments.json:
             sys.stdout.writelines(content_line(event, clock) for event in events)
@@ -90,14 +88,8 @@ def chunks_with_end(source: Source) -> Iterator[Rows]:
 
 def row_of(event: Event, clock: Clock) -> List[str]:
     """The fields of a change, in which nothing can move a terminal's cursor."""
-    return [
-        f"{clock.seconds(event.place):.3f}",
-        f"{event.pi:04X}",
-        event.item,
-        printable(event.text),
-        str(event.place),
-        *clock.utc(event.place),
-    ]
+    shown = f"{clock.seconds(event.place):.3f}", f"{event.pi:04X}", event.item, printable(event.text)
+    return [*shown, str(event.place), *clock.utc(event.place)]
 
 
 class Last(NamedTuple):
@@ -118,12 +110,9 @@ class Summary:
         for event in events:
             items = self._programmes.setdefault(event.pi, {})
             before = items.get(event.item)
-            same = before is not None and before.text == event.text
-            items[event.item] = (
-                before
-                if before and same
-                else Last(event.text, event.place, before.changes + 1 if before else 0)
-            )
+            if not before or before.text != event.text:
+                changes = before.changes + 1 if before else 0
+                items[event.item] = Last(event.text, event.place, changes)
 
     def text(self, clock: Clock) -> str:
         if not self._programmes:
@@ -136,11 +125,8 @@ class Summary:
         lines = [f"{pi:04X} {printable(items['ps'].text) if 'ps' in items else ''}".rstrip()]
         for item, last in items.items():
             if item != "pi":
-                since = (
-                    clock.utc(last.place)[0]
-                    if clock.start is not None
-                    else f"{clock.seconds(last.place):.3f} s"
-                )
+                utc = clock.utc(last.place)
+                since = utc[0] if utc else f"{clock.seconds(last.place):.3f} s"
                 changed = f", {last.changes} change{'s' * (last.changes != 1)}" if last.changes else ""
                 lines.append(f"  {label(item):{width}}  {printable(last.text)}  (since {since}{changed})")
         return "\n".join(lines) + "\n"

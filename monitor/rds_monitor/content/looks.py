@@ -90,9 +90,8 @@ def _looks() -> Dict[Kind, List[Look]]:
 
 LOOKS = _looks()
 # Kinds that are each sifted by themselves, and those of a part of the texts below.
-APART = {
-    Kind[name] for name in "TP_PTY ODA ODA_MESSAGE EON_TA TDC_DATA IH_DATA AF EON_AF CT TAGS ERT_TAGS".split()
-}
+_APART = "TP_PTY ODA ODA_MESSAGE EON_TA TDC_DATA IH_DATA AF EON_AF CT TAGS ERT_TAGS"
+APART = {Kind[name] for name in _APART.split()}
 FLAGS = (Kind.RT_FLAG, Kind.PTYN_FLAG, Kind.ERT_CODING)
 
 
@@ -125,24 +124,16 @@ class TextLook(NamedTuple):
 
 _TWO_OF_RT = ("rt.first", "rt.second")
 _ERT = ("ert.segment", ("ert.first", "ert.second"), 0, "", Kind.ERT_CODING)
+_PTYN = ("ptyn.segment", ("ptyn.first", "ptyn.second"))
+_TMC_NAME = ("tmc.variant", ("tmc.first", "tmc.second"), 0x14)
 TEXTS = (
     TextLook(Kind.PS, "0A 0B", Shape(4, 1), "ps.segment", ("ps.pair",)),
     TextLook(Kind.RT, "2A", Shape(16, 2, True), "rt.segment", _TWO_OF_RT, flag=Kind.RT_FLAG),
     TextLook(Kind.RT, "2B", Shape(16, 1, True), "rt.segment", _TWO_OF_RT[1:], flag=Kind.RT_FLAG),
-    TextLook(
-        Kind.PTYN, "10A", Shape(2, 2), "ptyn.segment", ("ptyn.first", "ptyn.second"), flag=Kind.PTYN_FLAG
-    ),
+    TextLook(Kind.PTYN, "10A", Shape(2, 2), *_PTYN, flag=Kind.PTYN_FLAG),
     TextLook(Kind.EON_PS, "14A", Shape(4, 1), "eon.variant", ("eon.data",), message="eon.pi"),
     TextLook(Kind.LPS, "15A", Shape(8, 2, True), "lps.segment", ("lps.first", "lps.second")),
-    TextLook(
-        Kind.TMC_NAME,
-        "8A",
-        Shape(2, 2),
-        "tmc.variant",
-        ("tmc.first", "tmc.second"),
-        0x14,
-        applications=(-1, *TMC),
-    ),
+    TextLook(Kind.TMC_NAME, "8A", Shape(2, 2), *_TMC_NAME, applications=(-1, *TMC)),
     TextLook(Kind.ERT, "ODA", Shape(32, 2, True), *_ERT, coding=1, applications=(ENHANCED_RT,)),
     TextLook(Kind.ERT, "ODA", Shape(32, 2, True, wide=True), *_ERT, coding=0, applications=(ENHANCED_RT,)),
 )

@@ -80,9 +80,8 @@ class Messages:
             rows = index[chosen]
             segments = _segments(groups, look, rows, heard.run[rows], generation[chosen])
             for row, codes in self._message(look, one).take(segments):
-                yield TextChange(
-                    int(rows[row]), look.kind, one if look.coding is None else look.coding, codes
-                )
+                coding = one if look.coding is None else look.coding
+                yield TextChange(int(rows[row]), look.kind, coding, codes)
 
     def _message(self, look: TextLook, message: int) -> Message:
         if (look, message) not in self._messages:
@@ -105,22 +104,14 @@ def _flag_of(groups: Groups, look: TextLook, index: Array) -> Array:
 
 def _segments(groups: Groups, look: TextLook, index: Array, run: Array, generation: Array) -> Segments:
     """The segments in these groups."""
-    values, valid = [], []
+    values, valid, own = [], [], {2, *(FIELDS[look.message].blocks if look.message else ())}
     for pair in look.pairs:
         blocks = FIELDS[pair].blocks
         known = groups.columns.known[blocks[0] - 1][index]
         values.append(numpy.where(known, groups.values(pair, index), UNKNOWN))
-        valid.append(
-            groups.are_valid(index, {2, *blocks, *(FIELDS[look.message].blocks if look.message else ())})
-        )
-    return Segments(
-        groups.columns.place[index],
-        groups.values(look.segment, index) - look.first,
-        numpy.stack(values, axis=1),
-        numpy.stack(valid, axis=1),
-        run,
-        generation,
-    )
+        valid.append(groups.are_valid(index, {*own, *blocks}))
+    place, segment = groups.columns.place[index], groups.values(look.segment, index) - look.first
+    return Segments(place, segment, numpy.stack(values, axis=1), numpy.stack(valid, axis=1), run, generation)
 
 
 def _changed(counted: News, before: int) -> News:

@@ -64,16 +64,10 @@ class FrequencyList:
 
     def _belongs(self, pair: int) -> bool:
         """Whether a pair has a frequency, and by method B that of the transmitter."""
-        high, low = pair >> 8, pair & 0xFF
-        if self._is_beside(high, low):
-            return True
-        if any(self._is_beside(pair >> 8, pair & 0xFF) for pair in self._pairs):
-            return False
-        return (
-            any(kilohertz(code) for code in (high, low))
-            or high == LOW_FOLLOWS
-            and kilohertz(low, True) is not None
-        )
+        high, low = divmod(pair, 256)
+        if self._is_beside(high, low) or any(self._is_beside(*divmod(known, 256)) for known in self._pairs):
+            return self._is_beside(high, low)
+        return bool(kilohertz(high) or kilohertz(low) or high == LOW_FOLLOWS and kilohertz(low, True))
 
     def _is_beside(self, high: int, low: int) -> bool:
         """Whether a pair is of method B: it has the first frequency, and is none of long or medium wave."""
@@ -81,8 +75,7 @@ class FrequencyList:
 
     def found(self) -> Any:
         """The frequencies, or by method B those of one transmitter, or None while the list is not complete."""
-        first = kilohertz(self.first)
-        heard = [(pair >> 8, pair & 0xFF) for pair in self._pairs]
+        first, heard = kilohertz(self.first), [divmod(pair, 256) for pair in self._pairs]
         pairs = heard[self._before_head :] + heard[: self._before_head]
         beside = [pair for pair in pairs if self._is_beside(*pair)]
         if self.count == 0:
@@ -190,8 +183,5 @@ class OtherNetworks(Taker):
         linked, extended, international = (bool(value & bit) for bit in (0x8000, 0x4000, 0x1000))
         number = value & 0xFFF
         found = dict(linked=linked, extended_generic=extended, international=international, set=number)
-        self._tell(
-            f"{of}.linkage",
-            found,
-            f"{'linked' if linked else 'not linked'}, set {number:03X}{', international' * international}",
-        )
+        shown = f"{'linked' if linked else 'not linked'}, set {number:03X}{', international' * international}"
+        self._tell(f"{of}.linkage", found, shown)

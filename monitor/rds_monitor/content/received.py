@@ -6,7 +6,7 @@ from typing import Dict, Iterator, List, Sequence, Tuple
 import numpy
 
 from .columns import Columns, Groups, among, fields_of
-from .evidence import NONE_SEEN, NOTHING, Array, Evidence, News, Observations, key_of, latest
+from .evidence import NONE_SEEN, Array, Evidence, News, Observations, key_of, latest
 from .looks import APART, FLAGS, GROUP_CODES, LOOKS, PRESENT, TMC, Kind, code_of, may_carry_application
 from .messages import Messages, TextChange
 
@@ -89,10 +89,7 @@ class Received:
         groups = Groups(columns)
         found = list(self._all_news(groups))
         flags, texts = self._messages.changes(groups, self._evidence)
-        found = [news for news in (*found, flags) if news.key.size]
-        if not found:
-            return NOTHING, texts
-        news = News(*(numpy.concatenate(parts) for parts in zip(*found)))
+        news = News(*(numpy.concatenate(parts) for parts in zip(*found, flags)))
         order = numpy.lexsort((news.key, news.at))
         return News(*(part[order] for part in news)), texts
 

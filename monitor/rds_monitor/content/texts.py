@@ -128,3 +128,7 @@ class EnhancedText(TaggedText):
 
     def _split(self, message: int, codes: bytes) -> List[str]:
         return list(codes.decode("utf-8" if message else "utf-16-be", "replace"))
+
+
+# Those that need only the teller.
+PLAIN = (Name, RadioText, LongName, EnhancedText)

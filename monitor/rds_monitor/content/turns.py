@@ -319,9 +319,8 @@ class Message:
         self._next_turn()
 
     def _is_fresh(self, pair: Pair, place: int) -> bool:
-        return (
-            place - pair.place <= TEXT_BITS if self._shape.is_text else self._turn - pair.turn <= NAME_TURNS
-        )
+        is_near = place - pair.place <= TEXT_BITS
+        return is_near if self._shape.is_text else self._turn - pair.turn <= NAME_TURNS
 
     def _fresh(self, place: int) -> Dict[int, Pair]:
         """The pairs of earlier turns that are not too old."""

@@ -4,7 +4,6 @@ from __future__ import annotations
 
 import argparse
 import statistics
-import sys
 from typing import Iterator, List, NamedTuple, Tuple
 
 from ..rows.clock import DAY, EPOCH_MJD, RATE, Clock, utc_text
@@ -100,19 +99,15 @@ def slope_of(stretches: List[List[Tick]]) -> Tuple[float, float]:
 def fit(ticks: List[Tick]) -> Fit:
     """Fails if no stretch has three ticks over ten minutes."""
     # The first guess is rough, since two ticks in a row are a minute apart.
-    slopes = [
-        (late.place - early.place) / (late.time - early.time)
-        for early, late in zip(ticks, ticks[1:])
-        if late.time > early.time
-    ]
+    pairs = [(after.place - tick.place, after.time - tick.time) for tick, after in zip(ticks, ticks[1:])]
+    slopes = [bits / seconds for bits, seconds in pairs if seconds > 0]
     rate, error = statistics.median(slopes) if slopes else RATE, 0.0
     for slack in 1e-3, 1e-4:
         stretches = stretches_of(ticks, rate, slack)
         longest: List[Tick] = max(stretches, key=len, default=[])
         if len(longest) < 3 or longest[-1].time - longest[0].time < 600:
-            raise Fault(
-                f"no three of the {len(ticks)} valid groups of clock time go together over ten minutes"
-            )
+            among = f"{len(ticks)} valid groups of clock time"
+            raise Fault(f"no three of the {among} go together over ten minutes")
         rate, error = slope_of(stretches)
     start = statistics.median(tick.time - tick.place / rate for tick in longest)
     return Fit(ticks, stretches, Clock(start, rate), 2 * error / RATE * 1e6)
@@ -131,37 +126,23 @@ def options_clock(parser: argparse.ArgumentParser) -> None:
     )
     input_options(parser)
     form = parser.add_mutually_exclusive_group()
-    form.add_argument(
-        "--options", action="store_true", help="print --start TIME --rate BITS for the other commands"
-    )
-    form.add_argument(
-        "--steps",
-        action="store_true",
-        help="list the steps: dropped samples, or a station's clock that was set",
-    )
+    of_options = "print --start TIME --rate BITS for the other commands"
+    of_steps = "list the steps: dropped samples, or a station's clock that was set"
+    form.add_argument("--options", action="store_true", help=of_options)
+    form.add_argument("--steps", action="store_true", help=of_steps)
 
 
 def run_clock(arguments: argparse.Namespace) -> int:
-    ticks: List[Tick] = []
-    for rows in open_input(arguments).chunks():
-        ticks += ticks_of(rows)
+    ticks = [tick for rows in open_input(arguments).chunks() for tick in ticks_of(rows)]
     found = fit(ticks)
-    start = utc_text(found.clock.start or 0)
+    start, rate = utc_text(found.clock.start or 0), f"{found.clock.rate:.6f}"
     if arguments.options:
-        print(f"--start {start} --rate {found.clock.rate:.6f}")
+        print(f"--start {start} --rate {rate}")
     elif arguments.steps:
-        _print_steps(found)
+        steps = (f"{tick.place},{utc_text(tick.time)},{step:+.3f}" for tick, step in found.steps())
+        print("place,utc,step_s", *steps, sep="\n")
     else:
-        hours = (ticks[-1].time - ticks[0].time) / 3600
+        counts = f"{len(ticks)},{len(found.stretches)},{(ticks[-1].time - ticks[0].time) / 3600:.2f}"
         print("groups,stretches,hours,rate,ppm,within_ppm,start_utc")
-        print(
-            f"{len(ticks)},{len(found.stretches)},{hours:.2f},{found.clock.rate:.6f},"
-            f"{found.ppm:.1f},{found.within_ppm:.1f},{start}"
-        )
+        print(f"{counts},{rate},{found.ppm:.1f},{found.within_ppm:.1f},{start}")
     return 0
-
-
-def _print_steps(found: Fit) -> None:
-    print("place,utc,step_s")
-    for tick, step in found.steps():
-        sys.stdout.write(f"{tick.place},{utc_text(tick.time)},{step:+.3f}\n")

@@ -131,9 +131,8 @@ def options_errors(parser: argparse.ArgumentParser) -> None:
         "rds-monitor errors --every 60 --start 2026-03-29T00:30:00Z monday.bin > errors.csv",
     )
     input_options(parser)
-    parser.add_argument(
-        "--every", type=interval_of, default=60.0, metavar="SECONDS", help="the length of an interval (60)"
-    )
+    text = "the length of an interval (60)"
+    parser.add_argument("--every", type=interval_of, default=60.0, metavar="SECONDS", help=text)
     clock_options(parser)
 
 
@@ -143,9 +142,8 @@ def run_errors(arguments: argparse.Namespace) -> int:
     for rows in extent.chunks():
         errors.add(rows)
     names = "begin_s end_s sent valid corrected lost missing bad_percent".split()
-    found = ((one, one[:2]) for one in errors.intervals(extent.begin, extent.end))
     lines = (
-        [*clock.texts(*ends, digits=0), *one[2:], f"{one.bad_percent:.2f}", *clock.utc(*ends)]
-        for one, ends in found
+        [*clock.texts(*one[:2], digits=0), *one[2:], f"{one.bad_percent:.2f}", *clock.utc(*one[:2])]
+        for one in errors.intervals(extent.begin, extent.end)
     )
     return write_table([*names, *clock.names("begin", "end")], lines)

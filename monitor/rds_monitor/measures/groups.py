@@ -71,13 +71,9 @@ def run_groups(arguments: argparse.Namespace) -> int:
 def _with_times(text: bytes, groups: Rows, clock: Clock, spy: bool) -> bytes:
     """The lines with the times of their groups: for RDS Spy, or in UTC if it is known, or in seconds."""
     seconds = groups["place"] / clock.rate
-    if spy:
-        times = spy_times((clock.start or 0.0) + seconds)
+    if clock.start is None:
+        times = [f"{second:.3f}" for second in seconds.tolist()]
     else:
-        times = (
-            utc_texts(clock.start + seconds)
-            if clock.start is not None
-            else [f"{second:.3f}" for second in seconds.tolist()]
-        )
+        times = (spy_times if spy else utc_texts)(clock.start + seconds)
     lines = text.decode("ascii").splitlines()
     return "".join([f"{line} {time}\n" for line, time in zip(lines, times)]).encode("ascii")

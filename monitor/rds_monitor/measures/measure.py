@@ -78,20 +78,12 @@ def options_programmes(parser: argparse.ArgumentParser) -> None:
         "rds-monitor programmes --least 10 monday.bin",
     )
     input_options(parser)
-    parser.add_argument(
-        "--least",
-        type=count_of,
-        default=3,
-        metavar="GROUPS",
-        help="the shortest stretch told (3): noise gives some of 1",
+    of_least, of_pause = (
+        "the shortest stretch told (3): noise gives some of 1",
+        "a longer one without the PI ends a stretch (10)",
     )
-    parser.add_argument(
-        "--pause",
-        type=number_of,
-        default=10.0,
-        metavar="SECONDS",
-        help="a longer one without the PI ends a stretch (10)",
-    )
+    parser.add_argument("--least", type=count_of, default=3, metavar="GROUPS", help=of_least)
+    parser.add_argument("--pause", type=number_of, default=10.0, metavar="SECONDS", help=of_pause)
     clock_options(parser)
 
 
@@ -99,9 +91,7 @@ def run_programmes(arguments: argparse.Namespace) -> int:
     clock, extent = clock_of_options(arguments), Extent(open_input(arguments))
     names = "begin_s end_s programme groups begin_place end_place".split()
     found = programmes_in(extent, Programmes(arguments.least, arguments.pause * clock.rate))
-    rows = (
-        [*clock.texts(*ends), f"{pi:04X}", groups, *ends, *clock.utc(*ends)] for pi, groups, *ends in found
-    )
+    rows = ([*clock.texts(*ends), f"{pi:04X}", count, *ends, *clock.utc(*ends)] for pi, count, *ends in found)
     return write_table([*names, *clock.names("begin", "end")], rows)
 
 

@@ -79,16 +79,9 @@ def options_outages(parser: argparse.ArgumentParser) -> None:
         "rds-monitor outages --shortest 2 monday.bin",
     )
     input_options(parser)
-    parser.add_argument(
-        "--density",
-        type=share_of,
-        default=10.0,
-        metavar="PERCENT",
-        help="of the blocks sent in a second (10)",
-    )
-    parser.add_argument(
-        "--shortest", type=number_of, default=1.0, metavar="SECONDS", help="the shortest outage told (1)"
-    )
+    of_density, of_shortest = "of the blocks sent in a second (10)", "the shortest outage told (1)"
+    parser.add_argument("--density", type=share_of, default=10.0, metavar="PERCENT", help=of_density)
+    parser.add_argument("--shortest", type=number_of, default=1.0, metavar="SECONDS", help=of_shortest)
     clock_options(parser)
 
 

@@ -26,9 +26,8 @@ def options_table(parser: argparse.ArgumentParser) -> None:
         "rds-monitor table --parquet monday.parquet monday.bin",
     )
     input_options(parser)
-    parser.add_argument(
-        "--parquet", metavar="FILE", help="write a Parquet file of numbers, named as in librds.ITEM"
-    )
+    text = "write a Parquet file of numbers, named as in librds.ITEM"
+    parser.add_argument("--parquet", metavar="FILE", help=text)
     clock_options(parser)
 
 

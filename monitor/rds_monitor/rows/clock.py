@@ -40,9 +40,7 @@ class Clock(NamedTuple):
 
     def utc(self, *places: float) -> List[str]:
         """UTC columns."""
-        return (
-            [utc_text(self.start + place / self.rate) for place in places] if self.start is not None else []
-        )
+        return [] if self.start is None else [utc_text(self.start + place / self.rate) for place in places]
 
 
 def utc_text(seconds: float) -> str:
@@ -86,16 +84,10 @@ def number_of(text: str) -> float:
 
 def clock_options(parser: argparse.ArgumentParser) -> None:
     group = parser.add_argument_group("for times")
-    group.add_argument(
-        "--start", type=start_of, metavar="TIME", help="UTC of the first bit, such as 2026-03-29T00:30:00Z"
-    )
-    group.add_argument(
-        "--rate",
-        type=rate_of,
-        default=RATE,
-        metavar="BITS",
-        help="bits per second of the sampler's clock (%(default)s); the command clock finds both",
-    )
+    of_start = "UTC of the first bit, such as 2026-03-29T00:30:00Z"
+    of_rate = "bits per second of the sampler's clock (%(default)s); the command clock finds both"
+    group.add_argument("--start", type=start_of, metavar="TIME", help=of_start)
+    group.add_argument("--rate", type=rate_of, default=RATE, metavar="BITS", help=of_rate)
 
 
 def clock_of_options(arguments: argparse.Namespace) -> Clock:

@@ -47,25 +47,24 @@ class Decompressed:
     def read(self, size: int = CHUNK) -> bytes:
         """Up to `size` bytes; none at the end. A stream that is cut off or damaged is an error."""
         while not self._ready:
-            data = self._head or self._stream.read(CHUNK)
-            self._head = b""
-            if not data:
-                if self._decoder:
-                    raise Fault(f"the {self._name} data ends early: the file was cut off")
+            data, self._head = self._head or self._stream.read(CHUNK), b""
+            if data:
+                self._ready = self._decode(data)
+            elif self._decoder:
+                raise Fault(f"the {self._name} data ends early: the file was cut off")
+            else:
                 return b""
-            self._ready = self._decode(data)
         found, self._ready = self._ready[:size], self._ready[size:]
         return found
 
     def _decode(self, data: bytes) -> bytes:
-        if not self._decoder:
-            self._decoder = self._start()
+        self._decoder = self._decoder or self._start()
         try:
             found: bytes = self._decoder.decompress(data)
         except Exception as error:  # each library has its own, and zstandard is optional
-            if isinstance(error, _ERRORS) or type(error).__name__ == "ZstdError":
-                raise Fault(f"the {self._name} data is damaged: {error}") from None
-            raise
+            if not isinstance(error, _ERRORS) and type(error).__name__ != "ZstdError":
+                raise
+            raise Fault(f"the {self._name} data is damaged: {error}") from None
         if self._decoder.eof:
             # Another stream may follow.
             self._head, self._decoder = self._decoder.unused_data, None

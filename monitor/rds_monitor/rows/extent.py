@@ -4,7 +4,7 @@ from __future__ import annotations
 
 import sys
 import time
-from itertools import chain
+from itertools import chain, islice
 from typing import Any, Iterable, Iterator, Optional, Sequence
 
 from .items import Rows, Source
@@ -38,8 +38,7 @@ class Extent:
     """A listing without --length ends with its last row, and a part of one begins with its first."""
 
     def __init__(self, source: Source):
-        self._source, self._first, self._last = source, 0, 0
-        self._seen = False
+        self._source, self._first, self._last, self._seen = source, 0, 0, False
 
     def chunks(self) -> Iterator[Rows]:
         progress = Progress(self._source.length)
@@ -66,7 +65,6 @@ class Extent:
 def write_table(names: Sequence[str], rows: Iterable[Sequence[Any]]) -> int:
     """Names of columns and rows as CSV, once the first row is certain; the exit status. No cell has a comma in it."""
     written = iter(rows)
-    first = next(written, None)
-    for row in chain([names], () if first is None else [first], written):
+    for row in chain([names], [*islice(written, 1)], written):
         sys.stdout.write(",".join(map(str, row)) + "\n")
     return 0

@@ -10,6 +10,7 @@ from __future__ import annotations
 
 import datetime
 import re
+from itertools import chain
 from typing import Iterator, List, NamedTuple, Optional, Sequence, Tuple
 
 import numpy
@@ -96,8 +97,7 @@ class GroupLines:
             if place > self._place + self.SLACK * RATE:
                 if self._synchronised:
                     found.append((self._place - 1, *_NO_BLOCKS, LOSS, 0, 0, 0))
-                self._synchronised = False
-                self._place = place
+                self._synchronised, self._place = False, place
         if not self._synchronised:
             found.append((self._place + 25, *_NO_BLOCKS, ACQUIRED, 1, 0, 0))
         self._synchronised = True
@@ -112,8 +112,7 @@ def _group_row(place: int, words: Sequence[int]) -> Tuple[int, ...]:
     """A group whose blocks are valid, or lost. Without block 2, block 3 has the offset C' if it repeats block 1."""
     first, second, third, _ = words
     is_b = second >> 11 & 1 if second >= 0 else third >= 0 and third == first
-    version = (VERSION_B if is_b else VERSION_A) if second >= 0 or third >= 0 else VERSION_UNKNOWN
-    blocks: Tuple[int, ...] = ()
-    for word, offset in zip(words, (1, 2, 4 if is_b else 3, 5)):
-        blocks += (0, word, VALID, offset) if word >= 0 else (0, 0, LOST, 0)
-    return (place, *blocks, GROUP, second >> 12 if second >= 0 else UNKNOWN_TYPE, version, 0)
+    version = (VERSION_B if is_b else VERSION_A) if max(second, third) >= 0 else VERSION_UNKNOWN
+    offsets = (1, 2, 4 if is_b else 3, 5)
+    found = ((0, word, VALID, own) if word >= 0 else (0, 0, LOST, 0) for word, own in zip(words, offsets))
+    return (place, *chain(*found), GROUP, second >> 12 if second >= 0 else UNKNOWN_TYPE, version, 0)

@@ -41,12 +41,9 @@ def is_listing(head: bytes) -> bool:
         return True
     if len(head) >= 16 and not head.translate(None, _TEXT):
         line = head.splitlines()[0][:60].decode("ascii")
-        digits = not head.translate(None, b"0123456789abcdefABCDEF \t\r\n")
-        raise Fault(
-            "the input is hexadecimal text: use --hex"
-            if digits
-            else f"row 1: {line!r} is no row of a listing, and text is no recording of packed bits"
-        )
+        if not head.translate(None, b"0123456789abcdefABCDEF \t\r\n"):
+            raise Fault("the input is hexadecimal text: use --hex")
+        raise Fault(f"row 1: {line!r} is no row of a listing, and text is no recording of packed bits")
     return False
 
 
@@ -58,6 +55,5 @@ def is_groups(head: bytes) -> bool:
         return False
     whole = head.split(b"\n")
     lines = [line for line in whole[: max(1, len(whole) - 1)] if not re.fullmatch(NO_GROUP, line)][:3]
-    return bool(lines) and all(
-        re.fullmatch(GROUP_LINE, line) and re.search(_IN_FOURS, line) for line in lines
-    )
+    fit = (re.fullmatch(GROUP_LINE, line) and re.search(_IN_FOURS, line) for line in lines)
+    return bool(lines) and all(fit)

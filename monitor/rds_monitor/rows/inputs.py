@@ -34,26 +34,19 @@ def describe(parser: argparse.ArgumentParser, description: str, *examples: str) 
 
 def input_options(parser: argparse.ArgumentParser, several: bool = False) -> None:
     """INPUT, or with `several` any number of them, and the options of a recording and of a listing."""
-    parser.add_argument(
-        "input",
-        nargs="*" if several else "?",
-        default=["-"] if several else "-",
-        metavar="INPUT",
-        help="a recording or a listing (default: - for standard input)",
-    )
-    recording = recording_options(parser)
+    how = ("*", ["-"]) if several else ("?", "-")
+    text = "a recording or a listing (default: - for standard input)"
+    parser.add_argument("input", nargs=how[0], default=how[1], metavar="INPUT", help=text)
+    recording, of_gaps = recording_options(parser), "bits at these positions mean nothing"
     recording.add_argument("--hex", action="store_true", help="it is hexadecimal text")
     recording.add_argument("--bits", type=bits_of, metavar="N", help="it has N bits (default: all)")
-    recording.add_argument(
-        "--gaps", type=gaps_of, default=(), metavar="FROM-TO,..", help="bits at these positions mean nothing"
-    )
+    recording.add_argument("--gaps", type=gaps_of, default=(), metavar="FROM-TO,..", help=of_gaps)
     listing = parser.add_argument_group("for a listing")
     listing.add_argument("--length", metavar="FILE|BITS", help="its recording, or how many bits that has")
     trust, part = "believe a --length far past the last row", "without totals, such as an hour of a stream"
     listing.add_argument("--trust-length", action="store_true", help=trust)
-    listing.add_argument(
-        "--unfinished", action="store_true", help=f"accept a part: {part}, or with rows missing"
-    )
+    part = f"accept a part: {part}, or with rows missing"
+    listing.add_argument("--unfinished", action="store_true", help=part)
 
 
 # The options of a decoder's rules, with their defaults.
@@ -77,10 +70,10 @@ def rules_of(arguments: argparse.Namespace) -> Rules:
     burst, reach, loss, share, of = (getattr(arguments, name[2:]) for name in RULES)
     if loss is not None and share is not None:
         raise Misuse("--loss and --share contradict each other")
-    if of is not None and share is None:
-        raise Misuse("--of needs --share")
     if share is not None:
         return Rules(burst, reach, share, 64 if of is None else of)
+    if of is not None:
+        raise Misuse("--of needs --share")
     return Rules(burst, reach, 10 if loss is None else loss)
 
 
@@ -98,7 +91,5 @@ def open_input(arguments: argparse.Namespace, path: Optional[str] = None, sessio
     """The source that the options name: of `path`, by default of INPUT."""
     named = {name: getattr(arguments, name) for name in ("gaps", "bits", "hex", "trust_length")}
     length = None if arguments.length is None else length_of(arguments.length)
-    how = Reading(
-        rules_of(arguments), unfinished_ok=arguments.unfinished, length=length, sessions=sessions, **named
-    )
-    return open_source(arguments.input if path is None else path, how)
+    named.update(unfinished_ok=arguments.unfinished, length=length, sessions=sessions)
+    return open_source(arguments.input if path is None else path, Reading(rules_of(arguments), **named))

@@ -90,16 +90,11 @@ def totals_of(rows: Rows) -> Totals:
     what = numpy.bincount(rows["what"], minlength=4)
     # Of the outcomes only valid and corrected have the bit of 2.
     complete = (kinds[0] & kinds[1] & kinds[2] & kinds[3] & VALID) > 0
-    return Totals(
-        int(outcomes[VALID]),
-        tuple(lengths[1:6].tolist()),
-        int(outcomes[LOST]),
-        int(numpy.unpackbits(bursts.view("u1")).sum()),
-        int(what[GROUP]),
-        int(complete.sum()),
-        int(what[ACQUIRED]),
-        int(what[LOSS]),
-    )
+    counts = outcomes[LOST], numpy.unpackbits(bursts.view("u1")).sum(), what[GROUP], complete.sum()
+    lost, bits, groups, whole = map(int, counts)
+    gains, losses = int(what[ACQUIRED]), int(what[LOSS])
+    of_bursts = tuple(lengths[1:6].tolist())
+    return Totals(int(outcomes[VALID]), of_bursts, lost, bits, groups, whole, gains, losses)
 
 
 def burst_lengths(masks: Rows) -> Rows:
@@ -112,12 +107,8 @@ def burst_lengths(masks: Rows) -> Rows:
 
 
 def add_totals(one: Totals, other: Totals) -> Totals:
-    pairs = zip(one[2:], other[2:])
-    return Totals(
-        one.valid + other.valid,
-        tuple(map(sum, zip(one.bursts, other.bursts))),
-        *(int(a) + int(b) for a, b in pairs),
-    )
+    bursts = tuple(a + b for a, b in zip(one.bursts, other.bursts))
+    return Totals(one.valid + other.valid, bursts, *(int(a) + int(b) for a, b in zip(one[2:], other[2:])))
 
 
 class Source(Protocol):

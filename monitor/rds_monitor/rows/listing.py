@@ -35,11 +35,13 @@ class Listing:
 
     def __init__(self, stream: Readable, head: bytes, how: Reading = Reading()):
         self.length, self.session = how.length, 0
+        # A part tells nothing of what was before its first row.
+        self.is_part = how.unfinished_ok
         # Of the session before, and of this one once they were read.
         self.totals_before: Optional[Totals] = None
         self.totals: Optional[Totals] = None
         self._stream, self._head = stream, head
-        self._part, self._trusted, self._sessions = how.unfinished_ok, how.trust_length, how.sessions
+        self._trusted, self._sessions = how.trust_length, how.sessions
         self._begin_session()
 
     def _next_session(self) -> None:
@@ -50,20 +52,10 @@ class Listing:
 
     def _begin_session(self) -> None:
         self._last: Optional[Rows] = None
-        self._end = 0
+        self.end = 0  # the position after the last bit that a row tells of, so far
         self._counted = totals_of(numpy.zeros(0, ITEM))
         self._found: List[int] = []
         self.totals = None
-
-    @property
-    def is_part(self) -> bool:
-        """Whether it is read as a part, which tells nothing of what was before its first row."""
-        return self._part
-
-    @property
-    def end(self) -> int:
-        """The position after the last bit that a row tells of, so far."""
-        return self._end
 
     def chunks(self) -> Iterator[Rows]:
         number = 1
@@ -108,7 +100,7 @@ class Listing:
         if TOTAL_ROW.fullmatch(rest):
             # Its last field cannot go on, so the line is whole, though it lacks its end.
             yield rest + b"\n"
-        elif rest and not self._part:
+        elif rest and not self.is_part:
             raise Fault(CUT)
 
     # ---- what follows what
@@ -131,13 +123,13 @@ class Listing:
             raise Bad(row, "it is no row of a total")
         if len(self._found) == len(TOTAL_NAMES) and self._sessions:
             self._next_session()
-        if len(self._found) == len(TOTAL_NAMES):
+        found = self._found
+        if len(found) == len(TOTAL_NAMES):
             raise Bad(row, "a second listing begins here, or is that of a stream that was restarted")
-        if match[1].decode() != TOTAL_NAMES[len(self._found)]:
-            raise Bad(row, f"the total {TOTAL_NAMES[len(self._found)]!r} is missing before it")
-        self._found.append(int(match[2]))
-        if len(self._found) == len(TOTAL_NAMES):
-            found = self._found
+        if match[1].decode() != TOTAL_NAMES[len(found)]:
+            raise Bad(row, f"the total {TOTAL_NAMES[len(found)]!r} is missing before it")
+        found.append(int(match[2]))
+        if len(found) == len(TOTAL_NAMES):
             self.totals = Totals(found[0], tuple(found[1:6]), *found[6:])
 
     def _of_session(self, rows: Rows, at: int) -> Iterator[Rows]:
@@ -145,11 +137,10 @@ class Listing:
         while len(rows):
             if self._found:
                 second = rows["what"][0] == ACQUIRED
-                bad: Optional[Bad] = Bad(
-                    0, "a second listing begins here" if second else "it comes after the totals"
-                )
+                why = "a second listing begins here" if second else "it comes after the totals"
+                bad: Optional[Bad] = Bad(0, why)
             else:
-                bad = first_misfit(self._last, rows, self._part)
+                bad = first_misfit(self._last, rows, self.is_part)
             fits = bad.row if bad else len(rows)
             if fits:
                 yield self._taken(rows[:fits])
@@ -163,21 +154,21 @@ class Listing:
     def _taken(self, rows: Rows) -> Rows:
         self._last = rows[-1:].copy()
         self._counted = add_totals(self._counted, totals_of(rows))
-        self._end = max(self._end, int(ends_of(self._last)[0]))
+        self.end = max(self.end, int(ends_of(self._last)[0]))
         of = f"{self.length} bits of the recording: it is of another one, or the length is wrong"
         for most, text in ((LONGEST, "2^36 bits that a listing may have"), (self.length, of)):
-            if most is not None and self._end > most:
-                raise Fault(f"a row is of bit {self._end - 1}, past the {text}")
+            if most is not None and self.end > most:
+                raise Fault(f"a row is of bit {self.end - 1}, past the {text}")
         return rows
 
     def _close(self, final: bool = True) -> None:
         """Judges a session that ended. One before the last may have been killed."""
         if self.totals is None:
-            if self._part or not final:
+            if self.is_part or not final:
                 return
             raise Fault(CUT)
         pairs = list(zip(TOTAL_NAMES, flat(self.totals), flat(self._counted)))
-        wrong = [pair for pair in pairs if pair[1] < pair[2] or pair[1] > pair[2] and not self._part]
+        wrong = [pair for pair in pairs if pair[1] < pair[2] or pair[1] > pair[2] and not self.is_part]
         if wrong:
             name, told, counted = wrong[0]
             raise Fault(
@@ -186,9 +177,9 @@ class Listing:
             )
         # Noise gives rows too, every minute or so; if there are none for a tenth of the time, the length is likely a
         # wrong one.
-        if self.length is not None and not self._trusted and 0 < self._end < (self.length - 71250) / 1.1:
+        if self.length is not None and not self._trusted and 0 < self.end < (self.length - 71250) / 1.1:
             raise Fault(
-                f"the recording has {self.length} bits, but the last row is of bit {self._end - 1}, more than a tenth before: "
+                f"the recording has {self.length} bits, but the last row is of bit {self.end - 1}, more than a tenth before: "
                 "the length is wrong, or nothing was received for long (--trust-length)"
             )
 
@@ -220,8 +211,7 @@ def groups_in(rows: Rows) -> Rows:
 
 def kinds_of(groups: Rows) -> Rows:
     """The outcomes of the blocks, a row of four per group."""
-    kinds: Rows = numpy.stack([groups[f"kind{block}"] for block in BLOCKS], axis=1)
-    return kinds
+    return numpy.stack([groups[f"kind{block}"] for block in BLOCKS], axis=1)
 
 
 def places_of(groups: Rows) -> Rows:

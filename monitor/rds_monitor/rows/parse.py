@@ -197,17 +197,12 @@ def _parse_blocks(lines: _Lines, rows: Rows) -> Bools:
     masks, at = numpy.zeros(starts.shape, "i8"), numpy.nonzero(has_mask)
     masks[at] = _masks(lines.words(starts[at] + 6))
     known &= masks >= 0
-    kinds = (
-        known * numpy.uint8(VALID) + (masks > 0) * numpy.uint8(CORRECTED - VALID) + lost * numpy.uint8(LOST)
-    )
+    kinds = known * numpy.uint8(VALID) + lost * numpy.uint8(LOST)
+    kinds += (masks > 0) * numpy.uint8(CORRECTED - VALID)
     offsets = known * numpy.array([[1], [2], [3], [5]], "u1")
     offsets[2] += known[2] & prime
-    for name, columns in (
-        ("info", infos * known),
-        ("burst", masks * known),
-        ("kind", kinds),
-        ("offset", offsets),
-    ):
+    found = {"info": infos * known, "burst": masks * known, "kind": kinds, "offset": offsets}
+    for name, columns in found.items():
         for block, column in zip(BLOCKS, columns):
             rows[f"{name}{block}"] = column
     fine: Bools = known | none | lost
@@ -220,15 +215,9 @@ def _masks(words: Array) -> Array:
     pairs = HEX[(words - tilde + zero).view("<u2").reshape(-1, 4)].astype("i8")
     masks = pairs[:, 0] << 24 | pairs[:, 1] << 16 | pairs[:, 2] << 8 | pairs[:, 3]
     lengths = burst_lengths(masks)
-    fine = (
-        (words & numpy.uint64(0xFF) == tilde)
-        & (pairs.max(axis=1, initial=0) < NO_HEX)
-        & (masks < 2**26)
-        & (lengths >= 1)
-        & (lengths <= 5)
-    )
-    found: Array = numpy.where(fine, masks, -1)
-    return found
+    fine = (words & numpy.uint64(0xFF) == tilde) & (pairs.max(axis=1, initial=0) < NO_HEX)
+    fine &= (masks < 2**26) & (lengths >= 1) & (lengths <= 5)
+    return numpy.where(fine, masks, -1)
 
 
 def _set_types(groups: Rows) -> Array:
@@ -251,11 +240,7 @@ def _parse_others(lines: _Lines, rows: Rows) -> None:
     lines.check(lines.has(lines.ends[losses, 1], b",-,-,-,-,-,-\n"), "it is no row of a loss", losses)
     gains = numpy.flatnonzero(rows["what"] == ACQUIRED)
     number = lines.data[lines.starts[gains, 2]] - numpy.uint8(48)
-    fine = (
-        (number >= 1)
-        & (number <= 4)
-        & lines.has(lines.starts[gains, 2] + 1, b",-,-,-,-,-\n")
-        & (rows["place"][gains] >= 25)
-    )
+    fine = (number >= 1) & (number <= 4) & (rows["place"][gains] >= 25)
+    fine &= lines.has(lines.starts[gains, 2] + 1, b",-,-,-,-,-\n")
     lines.check(fine, "it is no row of an acquisition", gains)
     rows["number"][gains] = number

@@ -3,6 +3,7 @@
 from __future__ import annotations
 
 import importlib
+from itertools import chain
 from typing import Any, Iterator, Optional
 
 from .items import Fault, Readable, Reading, Rows, Totals
@@ -15,16 +16,10 @@ def library() -> Any:
     try:
         return importlib.import_module("librds")
     except ImportError:
-        raise Fault(
-            "a recording needs the module librds: install python3-librds, or give a listing of rds list"
-        ) from None
+        cure = "install python3-librds, or give a listing of rds list"
+        raise Fault(f"a recording needs the module librds: {cure}") from None
     except OSError as error:
         raise Fault(str(error)) from None
-
-
-def totals_of_librds(found: Any) -> Totals:
-    """The totals of the module librds."""
-    return Totals(*(getattr(found, name) for name in Totals._fields))
 
 
 class Recording:
@@ -54,36 +49,23 @@ class Recording:
             yield follower.push_array(data)
             left = None if left is None else left - 8 * len(data)
         if left:
-            raise Fault(
-                f"refused 4 BitsPastBytes: the input has {follower.place} bits, fewer than the {self._bits} of --bits"
-            )
+            held = f"the input has {follower.place} bits, fewer than the {self._bits} of --bits"
+            raise Fault(f"refused 4 BitsPastBytes: {held}")
         yield self._finish(follower, b"", 0)
 
     def _finish(self, follower: Any, data: bytes, bits: int) -> Rows:
         rows: Rows
         rows, totals = follower.finish_array(data, bits)
-        self.totals = totals_of_librds(totals)
+        self.totals = Totals(*(getattr(totals, name) for name in Totals._fields))
         self.length = length = int(follower.place) + bits
         if self._gaps and self._gaps[-1][1] > length:
-            raise Fault(
-                f"refused 16 BadGaps: a gap ends at {self._gaps[-1][1]}, past the {length} bits of the recording"
-            )
+            end = f"a gap ends at {self._gaps[-1][1]}, past the {length} bits of the recording"
+            raise Fault(f"refused 16 BadGaps: {end}")
         return rows
 
     def _bytes(self) -> Iterator[bytes]:
-        if self._hex:
-            yield from _unhexed(self._read())
-        else:
-            yield from self._read()
-
-    def _read(self) -> Iterator[bytes]:
-        if self._head:
-            yield self._head
-        while True:
-            data = self._stream.read(CHUNK)
-            if not data:
-                return
-            yield data
+        read = chain([self._head], iter(lambda: self._stream.read(CHUNK), b""))
+        return _unhexed(read) if self._hex else read
 
 
 def _unhexed(chunks: Iterator[bytes]) -> Iterator[bytes]:

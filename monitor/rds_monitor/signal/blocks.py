@@ -2,7 +2,8 @@
 
 from __future__ import annotations
 
-from typing import List, Optional
+from itertools import accumulate
+from typing import Optional
 
 import numpy
 from numpy.lib.stride_tricks import sliding_window_view
@@ -17,13 +18,9 @@ NUMBERS = numpy.full(1024, -1)
 NUMBERS[[0x0FC, 0x198, 0x168, 0x350, 0x1B4]] = 0, 1, 2, 2, 3
 
 
-def _remainders() -> List[int]:
-    """That of each bit of a block, the first bit first."""
-    found = [1]
-    while len(found) < BLOCK_BITS:
-        doubled = found[-1] << 1
-        found.append(doubled ^ GENERATOR if doubled >> 10 else doubled)
-    return found[::-1]
+# That of each bit of a block, the first bit first.
+_DOUBLED = accumulate([1] * BLOCK_BITS, lambda rest, _: rest << 1 ^ (GENERATOR if rest >> 9 else 0))
+REMAINDERS = [*_DOUBLED][::-1]
 
 
 class BlockCounter:
@@ -32,7 +29,7 @@ class BlockCounter:
     KEPT = 3 * BLOCK_BITS - 1  # a block with those before and after it, less one bit
 
     def __init__(self) -> None:
-        self._columns = numpy.array(_remainders(), "u2")
+        self._columns = numpy.array(REMAINDERS, "u2")
         self._rest: Bits = numpy.zeros(0, "u1")
         self.bits = self.blocks = self._last = 0
         # The remainder of the places of groups, as most of the last blocks tell: none without blocks for two groups.

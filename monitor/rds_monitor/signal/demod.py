@@ -6,7 +6,7 @@ import argparse
 import json
 import sys
 import time
-from typing import Any, Dict, List, TextIO
+from typing import Any, Dict, List, TextIO, Tuple
 
 import numpy
 
@@ -36,46 +36,33 @@ examples:
   rtl_sdr -f 98.1M -s 240k - | rds-monitor demod --iq --raw u8 --rate 240000 > recording.bin"""
 
 
+NUMBER, FLAG = {"type": int, "metavar": "N"}, {"action": "store_true"}
+FILE = {"default": "-", "metavar": "FILE"}
+OPTIONS: Dict[str, Tuple[Dict[str, Any], str]] = {
+    "input": ({"nargs": "?", **FILE}, "the signal (default: - for standard input)"),
+    "--raw": (
+        {"choices": RAW_FORMS},
+        "raw samples, low byte first: f32 floating point, s16 integers, u8 around 127.5",
+    ),
+    "--rate": (NUMBER, "samples per second: of raw samples, or in place of the header's"),
+    "--iq": (FLAG, "the samples are IQ, I first"),
+    "--offset": (
+        {"type": float, "default": 0.0, "metavar": "HZ"},
+        "the station's offset from the centre of IQ (0)",
+    ),
+    "--no-equaliser": (FLAG, "IQ: do not equalise multipath"),
+    "--channel": (NUMBER, "the channel with MPX, if the file has several; 1 is the first"),
+    "--unpacked": (FLAG, "write one byte per bit, 0 or 1"),
+    "--output": (FILE, "write to FILE (default: standard output)"),
+    "--json": (FLAG, "report in JSON, one line"),
+    "--every": ({"type": float, "metavar": "SECONDS"}, "also report every SECONDS of the signal"),
+}
+
+
 def options_demod(parser: argparse.ArgumentParser) -> None:
-    parser.description = DESCRIPTION
-    parser.epilog = EXAMPLES
-    parser.add_argument(
-        "input", nargs="?", default="-", metavar="FILE", help="the signal (default: - for standard input)"
-    )
-    parser.add_argument(
-        "--raw",
-        choices=RAW_FORMS,
-        help="raw samples, low byte first: f32 floating point, s16 integers, u8 around 127.5",
-    )
-    parser.add_argument(
-        "--rate",
-        type=int,
-        metavar="N",
-        help="samples per second: of raw samples, or in place of the header's",
-    )
-    parser.add_argument("--iq", action="store_true", help="the samples are IQ, I first")
-    parser.add_argument(
-        "--offset",
-        type=float,
-        default=0.0,
-        metavar="HZ",
-        help="the station's offset from the centre of IQ (0)",
-    )
-    parser.add_argument("--no-equaliser", action="store_true", help="IQ: do not equalise multipath")
-    parser.add_argument(
-        "--channel",
-        type=int,
-        metavar="N",
-        help="the channel with MPX, if the file has several; 1 is the first",
-    )
-    parser.add_argument("--unpacked", action="store_true", help="write one byte per bit, 0 or 1")
-    parser.add_argument(
-        "--output", default="-", metavar="FILE", help="write to FILE (default: standard output)"
-    )
-    parser.add_argument("--json", action="store_true", help="report in JSON, one line")
-    parser.add_argument(
-        "--every", type=float, metavar="SECONDS", help="also report every SECONDS of the signal"
-    )
+    parser.description, parser.epilog = DESCRIPTION, EXAMPLES
+    for name, (how, text) in OPTIONS.items():
+        parser.add_argument(name, help=text, **how)
 
 
 def judge_options(arguments: argparse.Namespace) -> None:
@@ -161,10 +148,8 @@ def no_rds(source: SampleSource, beginning: Signal, offset: float) -> Fault:
     rate = likely_rate(beginning, source.rate, offset)
     if rate:
         return Fault(f"no RDS at {source.rate} samples per second, but at {rate}: use --rate {rate}")
-    return Fault(
-        "no RDS was found: nothing was received, or the samples are in another format (rds-monitor form "
-        "identifies it)"
-    )
+    text = "nothing was received, or the samples are in another format (rds-monitor form identifies it)"
+    return Fault(f"no RDS was found: {text}")
 
 
 def receive(source: SampleSource, receiver: Receiver, writer: BitWriter, teller: QualityLine) -> Signal:

@@ -59,14 +59,12 @@ class Passband:
         self.rate_out = rate * self.kept / block
         self.hz_per_bin = float(rate) / block
         middle = round(centre / self.hz_per_bin)
-        bins = middle + numpy.arange(
-            -math.ceil(reach / self.hz_per_bin), math.ceil(reach / self.hz_per_bin) + 1
-        )
+        reached = math.ceil(reach / self.hz_per_bin)
+        bins = middle + numpy.arange(-reached, reached + 1)
         self._bins = bins if is_real else bins % block
         self._kept_bins = (bins - middle) % self.kept
-        self._response = (
-            response(bins * self.hz_per_bin - centre) * (self.kept / block) * (2 if is_real else 1)
-        )
+        gain = self.kept / block * (2 if is_real else 1)
+        self._response = response(bins * self.hz_per_bin - centre) * gain
         # The centre is beside the middle bin by a part of a bin's width.
         beside = centre / float(rate) - middle / block
         self._turn = numpy.exp(-2j * math.pi * beside * block / self.kept * numpy.arange(self.kept))

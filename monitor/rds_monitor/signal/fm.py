@@ -97,9 +97,8 @@ class FmReceiver:
         self.rate = Fraction(rate)
         if offset or rate > 2 * (CHANNEL_HZ + EDGE_HZ):
             block = at_least(rate / 60)
-            self._channel = Passband(
-                self.rate, offset, CHANNEL_HZ + EDGE_HZ, channel_filter, LEAST_RATE, block, False
-            )
+            reach = CHANNEL_HZ + EDGE_HZ
+            self._channel = Passband(self.rate, offset, reach, channel_filter, LEAST_RATE, block, False)
             self.rate = self._channel.rate_out
         self._equaliser = Equaliser() if equalise else None
         self._last: Complexes = numpy.zeros((2 if equalise else 1, 1), complex)
@@ -123,7 +122,6 @@ class FmReceiver:
     def _discriminated(self, signal: Complexes) -> Reals:
         signal = numpy.concatenate([self._last, signal], axis=1)
         self._last = signal[:, -1:]
-        mpx: Reals = numpy.angle(signal[:, 1:] * signal[:, :-1].conj()) * (
+        return numpy.angle(signal[:, 1:] * signal[:, :-1].conj()) * (
             float(self.rate) / (2 * numpy.pi * DEVIATION_HZ)
         )
-        return mpx

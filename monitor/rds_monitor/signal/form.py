@@ -7,6 +7,7 @@ import io
 import os
 import re
 import shlex
+from contextlib import suppress
 from typing import Iterator, List, NamedTuple, Tuple
 
 import numpy
@@ -93,10 +94,8 @@ def as_lines(path: str, data: bytes) -> List[Found]:
     lines = [text for text in texts if GROUP_LINE.fullmatch(text)]
     if 2 * len(lines) < len(texts):
         return []
-    command = (
-        f"sed 's/@.*//' {shlex.quote(path)} | tr -d '\\r' | "
-        "grep -E '^([[:blank:]]*[[:xdigit:]]){16}[[:blank:]]*$' | rds encode"
-    )
+    keep = "tr -d '\\r' | grep -E '^([[:blank:]]*[[:xdigit:]]){16}[[:blank:]]*$' | rds encode"
+    command = f"sed 's/@.*//' {shlex.quote(path)} | {keep}"
     return [Found(len(lines), "lines of hexadecimal words", command)]
 
 
@@ -123,14 +122,12 @@ def as_raw_signal(path: str) -> List[Found]:
     """Raw samples of MPX or IQ, by the rate at which there is RDS."""
     for options in RAW_SIGNALS:
         raw = options.split()[0]
-        try:
+        with suppress(Fault):
             samples = signal_of(path, raw, "--iq" in options)
-        except Fault:
-            continue
-        rate = likely_rate(samples)
-        if rate:
-            name, bits = f"{raw} samples, {rate} a second", locked(samples, rate)[1]
-            return [found_signal(bits, samples, name, f" --raw {options} --rate {rate}", path)]
+            rate = likely_rate(samples)
+            if rate:
+                name, bits = f"{raw} samples, {rate} a second", locked(samples, rate)[1]
+                return [found_signal(bits, samples, name, f" --raw {options} --rate {rate}", path)]
     return []
 
 
@@ -159,11 +156,10 @@ def channels_of(path: str) -> int:
 
 
 def first_of(blocks: Iterator[Signal], wanted: int) -> Signal:
-    parts, size = [numpy.zeros(0)], 0
+    parts = [numpy.zeros(0)]
     for samples in blocks:
         parts.append(samples)
-        size += samples.size
-        if size >= wanted:
+        if sum(map(len, parts)) >= wanted:
             break
     return numpy.concatenate(parts)
 
@@ -186,9 +182,7 @@ def options_form(parser: argparse.ArgumentParser) -> None:
     parser.add_argument("input", metavar="FILE")
 
 
-def forms_of(path: str) -> List[Found]:
-    with open(path, "rb") as file:
-        head = file.read(4096)
+def forms_of(path: str, head: bytes) -> List[Found]:
     if head[:4] == b"fLaC":
         return as_file_signal(path)
     if head[:4] in (b"RIFF", b"RF64"):
@@ -200,9 +194,7 @@ def forms_of(path: str) -> List[Found]:
     return found if any(entry.groups >= LEAST for entry in found) else found + as_raw_signal(path)
 
 
-def claims_listing(path: str) -> bool:
-    with open(path, "rb") as file:
-        head = file.read(4096)
+def claims_listing(head: bytes) -> bool:
     try:
         return is_listing(head)
     except Fault as error:
@@ -216,19 +208,18 @@ def run_form(arguments: argparse.Namespace) -> int:
     path = arguments.input
     if not os.path.isfile(path):
         raise Fault(f"{path!r} is no file")
-    if not os.path.getsize(path):
+    with open(path, "rb") as file:
+        head = file.read(4096)
+    if not head:
         raise Fault(f"{path!r} is empty")
-    if claims_listing(path):
+    if claims_listing(head):
         print(f"a listing of rds list or rds follow, not a recording: rds-monitor info {shlex.quote(path)}")
         return 0
-    found = sorted(forms_of(path), reverse=True)
+    found = sorted(forms_of(path, head), reverse=True)
     if not found or found[0].groups < LEAST:
-        raise Fault(
-            f"no known format gives two complete groups of {path!r}: nothing was received, or it is in another "
-            "format"
-        )
+        why = "nothing was received, or it is in another format"
+        raise Fault(f"no known format gives two complete groups of {path!r}: {why}")
     width = max(len(entry.name) for entry in found)
-    print("complete groups, form, command")
-    for entry in found:
-        print(f"{entry.groups:6}  {entry.name:{width}}  {entry.command}")
+    rows = (f"{entry.groups:6}  {entry.name:{width}}  {entry.command}" for entry in found)
+    print("complete groups, form, command", *rows, sep="\n")
     return 0

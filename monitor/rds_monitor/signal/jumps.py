@@ -158,7 +158,6 @@ class Jumps:
         segments = numpy.arange(first, last) / self._length - boundary + self._needed + at - 0.5
         turned = [numpy.interp(segments, numpy.arange(own.size), own) for own in sides.turned]
         apart = sides.before[:, index - 2, None] - sides.after[:, index + 2, None]
-        gain = (
-            self._phasors(first, last) * numpy.exp(-1j * numpy.array(turned)) * apart.conj() / self.VARIANCE
-        )
+        back = numpy.exp(-1j * numpy.array(turned))
+        gain = self._phasors(first, last) * back * apart.conj() / self.VARIANCE
         return first + int(numpy.cumsum(numpy.append(0, gain.real.sum(axis=0))).argmax())

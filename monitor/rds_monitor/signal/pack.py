@@ -4,7 +4,8 @@ from __future__ import annotations
 
 import argparse
 import sys
-from typing import BinaryIO, Callable, Dict, Iterator, NamedTuple, Tuple
+from functools import partial
+from typing import Any, BinaryIO, Callable, Dict, Iterator, NamedTuple, Tuple
 
 import numpy
 
@@ -39,19 +40,28 @@ class Conversion(NamedTuple):
 
 def _chunks(stream: BinaryIO) -> Iterator[bytes]:
     """All of the input in chunks of full length but for the last one."""
-    while True:
-        data = stream.read(CHUNK)
-        if not data:
-            return
-        while len(data) < CHUNK:
-            more = stream.read(CHUNK - len(data))
-            if not more:
-                break
-            data += more
+    data = b""
+    for more in iter(lambda: stream.read(CHUNK - len(data)), b""):
+        data += more
+        if len(data) == CHUNK:
+            yield data
+            data = b""
+    if data:
         yield data
 
 
 # ---- bits of each form
+
+
+def _checked(stream: BinaryIO, allowed: bytes, fault: str) -> Iterator[bytes]:
+    """Chunks of bytes that are all allowed; the fault names the place and the value of the first other one."""
+    read = 0
+    for data in _chunks(stream):
+        strange = data.translate(None, allowed)
+        if strange:
+            raise Fault(fault.format(read + data.index(strange[:1]) + 1, strange[0]))
+        read += len(data)
+        yield data
 
 
 def _packed(stream: BinaryIO) -> Iterator[Bits]:
@@ -60,15 +70,8 @@ def _packed(stream: BinaryIO) -> Iterator[Bits]:
 
 
 def _hex(stream: BinaryIO) -> Iterator[Bits]:
-    rest, read = b"", 0
-    for data in _chunks(stream):
-        strange = data.translate(None, b"0123456789abcdefABCDEF" + BLANKS)
-        if strange:
-            place = data.index(strange[:1])
-            raise Fault(
-                f"byte {read + place + 1} is 0x{data[place]:02X}, neither a hexadecimal digit nor blank"
-            )
-        read += len(data)
+    rest, fault = b"", "byte {} is 0x{:02X}, neither a hexadecimal digit nor blank"
+    for data in _checked(stream, b"0123456789abcdefABCDEF" + BLANKS, fault):
         rest += data.translate(None, BLANKS)
         even = len(rest) // 2 * 2
         yield numpy.unpackbits(numpy.frombuffer(bytes.fromhex(rest[:even].decode("ascii")), "u1"))
@@ -78,24 +81,12 @@ def _hex(stream: BinaryIO) -> Iterator[Bits]:
 
 
 def _bytes(stream: BinaryIO, one: int) -> Iterator[Bits]:
-    read = 0
-    for data in _chunks(stream):
-        values = numpy.frombuffer(data, "u1")
-        strange = numpy.flatnonzero((values != 0) & (values != one))
-        if strange.size:
-            place = int(strange[0])
-            raise Fault(f"byte {read + place + 1} is 0x{values[place]:02X}, neither 0x00 nor 0x{one:02X}")
-        read += len(data)
-        yield (values != 0).astype("u1")
+    for data in _checked(stream, bytes([0, one]), f"byte {{}} is 0x{{:02X}}, neither 0x00 nor 0x{one:02X}"):
+        yield (numpy.frombuffer(data, "u1") != 0).astype("u1")
 
 
 def _text(stream: BinaryIO) -> Iterator[Bits]:
-    read = 0
-    for data in _chunks(stream):
-        strange = data.translate(None, b"01" + BLANKS)
-        if strange:
-            raise Fault(f"character {read + data.index(strange[:1]) + 1} is neither 0 nor 1")
-        read += len(data)
+    for data in _checked(stream, b"01" + BLANKS, "character {} is neither 0 nor 1"):
         yield numpy.frombuffer(data.translate(None, BLANKS), "u1") - numpy.uint8(48)
 
 
@@ -115,6 +106,10 @@ def _samples(chunks: Iterator[bytes], form: str) -> Iterator[Bits]:
         raise Fault(f"no sample is {'below' if above else 'above'} zero")
 
 
+def _stored(stream: BinaryIO, form: str) -> Iterator[Bits]:
+    return _samples(_chunks(stream), form)
+
+
 def _wav(stream: BinaryIO) -> Iterator[Bits]:
     layout = wav_layout(stream)
     if layout.channels != 1:
@@ -125,10 +120,7 @@ def _wav(stream: BinaryIO) -> Iterator[Bits]:
 def _up_to(stream: BinaryIO, length: "int | None") -> Iterator[bytes]:
     """The samples of a WAV file; 24-bit samples need chunks that they divide."""
     left = sys.maxsize if length is None else length
-    while left:
-        data = stream.read(min(left, 3 * CHUNK))
-        if not data:
-            return
+    for data in iter(lambda: stream.read(min(left, 3 * CHUNK)), b""):
         left -= len(data)
         yield data
 
@@ -138,11 +130,9 @@ READERS: Dict[str, Callable[[BinaryIO], Iterator[Bits]]] = {
     "hex": _hex,
     "text": _text,
     "wav": _wav,
-    "bytes": lambda stream: _bytes(stream, 1),
-    "bytes255": lambda stream: _bytes(stream, 255),
-    "s8": lambda stream: _samples(_chunks(stream), "s8"),
-    "s16": lambda stream: _samples(_chunks(stream), "s16"),
-    "f32": lambda stream: _samples(_chunks(stream), "f32"),
+    "bytes": partial(_bytes, one=1),
+    "bytes255": partial(_bytes, one=255),
+    **{form: partial(_stored, form=form) for form in ("s8", "s16", "f32")},
 }
 
 
@@ -185,23 +175,21 @@ def options_pack(parser: argparse.ArgumentParser) -> None:
         "examples:\n  rds-monitor pack --from bytes bits.dat > recording.bin\n"
         "  rds-monitor pack --from f32 --invert soft.f32 | rds list"
     )
-    parser.add_argument(
-        "input", nargs="?", default="-", metavar="INPUT", help="the bits (default: - for standard input)"
-    )
-    parser.add_argument(
-        "--from",
-        dest="form",
-        required=True,
-        choices=sorted(NAMES),
-        metavar="FORM",
-        help="; ".join(f"{name}: {text}" for name, text in NAMES.items()),
-    )
-    parser.add_argument("--lsb-first", action="store_true", help="the bytes are LSB first (packed and hex)")
-    parser.add_argument("--invert", action="store_true", help="invert the bits")
-    parser.add_argument("--differential", action="store_true", help="decode the bits differentially")
-    parser.add_argument(
-        "--output", default="-", metavar="FILE", help="write to FILE (default: standard output)"
-    )
+    file, flag = {"default": "-", "metavar": "FILE"}, {"action": "store_true"}
+    forms = {"dest": "form", "required": True, "choices": sorted(NAMES), "metavar": "FORM"}
+    options: Dict[str, Tuple[Dict[str, Any], str]] = {
+        "input": (
+            {"nargs": "?", "default": "-", "metavar": "INPUT"},
+            "the bits (default: - for standard input)",
+        ),
+        "--from": (forms, "; ".join(f"{name}: {text}" for name, text in NAMES.items())),
+        "--lsb-first": (flag, "the bytes are LSB first (packed and hex)"),
+        "--invert": (flag, "invert the bits"),
+        "--differential": (flag, "decode the bits differentially"),
+        "--output": (file, "write to FILE (default: standard output)"),
+    }
+    for name, (how, text) in options.items():
+        parser.add_argument(name, help=text, **how)
 
 
 def open_binary(path: str, mode: str) -> BinaryIO:
@@ -215,9 +203,8 @@ def run_pack(arguments: argparse.Namespace) -> int:
     if arguments.lsb_first and arguments.form not in ("packed", "hex"):
         raise Misuse("--lsb-first is for packed bits and hexadecimal digits")
     change = Conversion(arguments.lsb_first, arguments.invert, arguments.differential)
+    stream, output = open_binary(arguments.input, "rb"), open_binary(arguments.output, "wb")
     bits = 0
-    stream = open_binary(arguments.input, "rb")
-    output = open_binary(arguments.output, "wb")
     for data, count in packed_of(bits_of(stream, arguments.form, change)):
         output.write(data)
         bits += count

@@ -22,8 +22,7 @@ class Phases(NamedTuple):
 
 def bell(reach: int) -> Reals:
     """Weights of the steps up to `reach` on both sides."""
-    weights: Reals = numpy.hanning(2 * reach + 3)[1:-1]
-    return weights
+    return numpy.hanning(2 * reach + 3)[1:-1]
 
 
 class PhaseTrack:

@@ -40,9 +40,8 @@ def _prominence(power: Reals, rate: float) -> float:
 
 def _by_pilot(power: Reals) -> List[int]:
     """Rates at which one of the strongest lines would be the pilot."""
-    low, high = max(40, int(PILOT_HZ / RATES[-1] * BLOCK)), min(
-        power.size - 40, int(PILOT_HZ / RATES[0] * BLOCK)
-    )
+    slowest, fastest = (int(PILOT_HZ / rate * BLOCK) for rate in (RATES[-1], RATES[0]))
+    low, high = max(40, slowest), min(power.size - 40, fastest)
     window = power[low:high].copy()
     found = []
     for _ in range(2):

@@ -28,8 +28,7 @@ EARLY = 0.25  # of a bit, by which the clock may be early after a jump
 def matched_filter(frequencies: Reals) -> Reals:
     """Of a chip: the receiver filters as the standard shapes the spectrum (IEC 62106, modulation of the subcarrier)."""
     near = numpy.abs(frequencies) < CHIP_RATE
-    gain: Reals = numpy.where(near, numpy.cos(math.pi * frequencies / (2 * CHIP_RATE)), 0)
-    return gain
+    return numpy.where(near, numpy.cos(math.pi * frequencies / (2 * CHIP_RATE)), 0)
 
 
 @dataclass
@@ -81,10 +80,8 @@ class Quality:
     def report(self) -> Dict[str, Any]:
         """What is said of the signal; None for what is not known."""
         per_second = BIT_RATE / Carrier.SYMBOLS_PER_SEGMENT
-        told: Dict[str, Any] = {
-            "seconds": round(self.seconds, 1),
-            "locked": round(self.locked / self.segments, 4) if self.segments else 0.0,
-        }
+        locked = round(self.locked / self.segments, 4) if self.segments else 0.0
+        told: Dict[str, Any] = {"seconds": round(self.seconds, 1), "locked": locked}
         told["received"] = round(self.received.share, 4)
         told["first_lock_s"] = None if self.first is None else round(self.first / per_second, 1)
         offset, fast, signal, imaginary = (self.sums / max(1, self.locked)).tolist()
@@ -122,16 +119,8 @@ class Receiver:
         mpx_rate = self._fm.rate if self._fm else Fraction(rate)
         # Decisions are made after the equaliser, levels are measured before it.
         rows = 2 if equalise else 1
-        self._band = Passband(
-            mpx_rate,
-            CARRIER_HZ,
-            CHIP_RATE,
-            matched_filter,
-            SAMPLES_PER_CHIP * CHIP_RATE,
-            at_least(mpx_rate / 4),
-            True,
-            rows,
-        )
+        shape = (CARRIER_HZ, CHIP_RATE, matched_filter, SAMPLES_PER_CHIP * CHIP_RATE)
+        self._band = Passband(mpx_rate, *shape, at_least(mpx_rate / 4), True, rows)
         self.quality = Quality(1.0, True, self._fm.response) if self._fm else Quality(full_scale)
         self._band.watch = self.quality.watch
         self._rate = float(self._band.rate_out)

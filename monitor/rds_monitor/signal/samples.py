@@ -94,8 +94,8 @@ def wav_layout(stream: BinaryIO) -> Layout:
         code = struct.unpack_from("<H", described, 24)[0]
     if (code, width) not in WAV_FORMS:
         raise Fault(
-            f"WAV samples of format {code} with {width} bits are not read: integers of 8 to 32 bits are, and "
-            "floating point of 32 or 64"
+            f"WAV samples of format {code} with {width} bits are not read: integers of 8 to 32 bits are, and floating "
+            "point of 32 or 64"
         )
     if channels == 0:
         raise Fault("the WAV file has no channel")
@@ -184,14 +184,11 @@ class StoredSamples:
         if not read:
             raise Fault("there is no sample in the input")
         if layout.length is not None and read < layout.length:
-            raise Fault(
-                f"the file is cut off: it has {read} of the {layout.length} bytes of samples that its header "
-                "says"
-            )
+            known = f"{read} of the {layout.length} bytes of samples that its header says"
+            raise Fault(f"the file is cut off: it has {known}")
         if read % layout.frame:
-            raise Fault(
-                f"the input ends within a sample, {read % layout.frame} bytes after the last whole one"
-            )
+            rest = read % layout.frame
+            raise Fault(f"the input ends within a sample, {rest} bytes after the last whole one")
 
 
 class Flac:
@@ -203,9 +200,8 @@ class Flac:
         try:
             soundfile: Any = importlib.import_module("soundfile")
         except ImportError:
-            raise Fault(
-                "FLAC needs the Python module soundfile: install Debian's package python3-soundfile"
-            ) from None
+            cure = "install Debian's package python3-soundfile"
+            raise Fault(f"FLAC needs the Python module soundfile: {cure}") from None
         try:
             self._file: Any = soundfile.SoundFile(path)
         except soundfile.SoundFileError as error:
@@ -214,10 +210,7 @@ class Flac:
         self._channels = chosen_channels(self._file.channels, channel, is_iq)
 
     def blocks(self) -> Iterator[Signal]:
-        while True:
-            frames = self._file.read(FRAMES_PER_BLOCK, dtype="float64", always_2d=True)
-            if not len(frames):
-                return
+        for frames in self._file.blocks(FRAMES_PER_BLOCK, always_2d=True):
             yield channels_of(len(frames), frames, self._channels)
 
 
@@ -229,10 +222,8 @@ def chosen_channels(count: int, channel: Optional[int], is_iq: bool) -> Tuple[in
         return 0, 1
     if channel is None:
         if count > 1:
-            raise Fault(
-                f"the input has {count} channels: name the one with MPX by --channel, or use --iq if they are "
-                "I and Q"
-            )
+            cure = "name the one with MPX by --channel, or use --iq if they are I and Q"
+            raise Fault(f"the input has {count} channels: {cure}")
         return (0,)
     if not 1 <= channel <= count:
         raise Fault(f"there is no channel {channel} of {count}")

@@ -23,8 +23,7 @@ Bits = NDArray[numpy.uint8]
 
 
 def powers(values: Complexes) -> Reals:
-    result: Reals = values.real * values.real + values.imag * values.imag
-    return result
+    return values.real * values.real + values.imag * values.imag
 
 
 class Clocked(NamedTuple):
@@ -120,9 +119,8 @@ def interpolated(samples: Complexes, places: Reals) -> Complexes:
     k = places.astype(int)
     x = places - k
     a, b, c, d = (samples[k + beside] for beside in (-1, 0, 1, 2))
-    result: Complexes = b + x * (
-        (c - a / 3 - b / 2 - d / 6) + x * ((a + c) / 2 - b + x * ((d - a) / 6 + (b - c) / 2))
-    )
+    second, third = (a + c) / 2 - b, (d - a) / 6 + (b - c) / 2
+    result: Complexes = b + x * ((c - a / 3 - b / 2 - d / 6) + x * (second + x * third))
     return result
 
 
@@ -148,9 +146,8 @@ class Pairing:
         length = 2 * self.SYMBOLS_PER_SEGMENT
         count = max(0, chips.size - 1) // length
         self._rest = chips[count * length :]
-        both = (chips[: count * length] - chips[1 : count * length + 1]).reshape(
-            count, self.SYMBOLS_PER_SEGMENT, 2
-        )
+        both = chips[: count * length] - chips[1 : count * length + 1]
+        both = both.reshape(count, self.SYMBOLS_PER_SEGMENT, 2)
         strengths = powers(both).sum(axis=1)
         balance = (strengths[:, 1] - strengths[:, 0]) / numpy.maximum(strengths.sum(axis=1), TINY)
         self._waiting = numpy.concatenate([self._waiting, both])
@@ -161,9 +158,8 @@ class Pairing:
 
     def _chosen(self, ready: int) -> Complexes:
         balance = numpy.convolve(self._balance, self._weights, "valid")
-        sure = numpy.maximum.accumulate(
-            numpy.where(numpy.abs(balance) > self.MARGIN, numpy.arange(ready), -1)
-        )
+        is_sure = numpy.abs(balance) > self.MARGIN
+        sure = numpy.maximum.accumulate(numpy.where(is_sure, numpy.arange(ready), -1))
         ways = numpy.where(sure < 0, self.way, balance[sure] > 0)
         self.way = int(ways[-1])
         self.first_way = int(ways[0]) if self.first_way is None else self.first_way
