@@ -7,7 +7,7 @@ import os
 import pty
 import subprocess
 import sys
-from typing import Any, Dict, Iterable, List, NamedTuple, Optional, Sequence
+from typing import Any, Iterable, List, NamedTuple, Optional, Sequence
 from unittest import mock
 
 import numpy
@@ -144,9 +144,3 @@ def peak_memory(*words: str, data: bytes) -> int:
     )
     done = subprocess.run([sys.executable, "-c", code, *words], input=data, capture_output=True)
     return int(done.stderr.splitlines()[-1])
-
-
-def session_of(**changes: Any) -> Dict[str, Any]:
-    """A session of a hundred seconds as the page of `report` has it."""
-    known = dict(start=None, begin=0, end=100, step=1, counts=[[45, 40, 3, 1, 1]] * 100, outages=[[1, 2]])
-    return {**known, **dict(mix=[], clock=[], events=[], carried=[], more=0, held={}, silent=0), **changes}
