@@ -63,6 +63,11 @@ class Air:
         first, after = self.at(begin), self.at(end)
         self._data[first:after] = numpy.random.default_rng(seed).integers(0, 256, after - first, "u1")
 
+    def change(self, programme: Programme, begin: float, end: float) -> None:
+        """Another programme from second to second."""
+        first, after = (self.at(moment) // 13 * 13 for moment in (begin, end))
+        self._data[first:after] = Air(programme, self.begin, end)._data[first:after]
+
     def bytes(self, first: int, after: int) -> bytes:
         return bytes(self._data[first:after].tobytes())
 
@@ -189,6 +194,12 @@ class Network:
             each()
             self.watch.poll()
             self.watch.tick()
+
+    def restart(self, seconds: float, kill: bool = False) -> None:
+        """The watch is away for a while."""
+        (self.kill if kill else self.end)()
+        self.times.pass_by(seconds)
+        self.begin()
 
     def kill(self) -> None:
         """What SIGKILL leaves: nothing is closed in order, and the part of a batch that was not written is gone."""

@@ -472,13 +472,6 @@ def test_a_table_that_is_read_again(tmp_path: Path) -> None:
 # ---- the truth after restarts, and of downtime
 
 
-def restarted(net: Network, seconds: float, kill: bool = False) -> None:
-    """The watch is away for a while."""
-    (net.kill if kill else net.end)()
-    net.times.pass_by(seconds)
-    net.begin()
-
-
 @pytest.mark.parametrize("kill", [False, True])
 def test_alarms_over_restarts_of_the_watch(tmp_path: Path, kill: bool) -> None:
     """The PS and the RT are others than expected, and the RT the same: each alarm begins once, and lasts."""
@@ -488,7 +481,7 @@ def test_alarms_over_restarts_of_the_watch(tmp_path: Path, kill: bool) -> None:
     net = network(tmp_path, Air(ALPHA, START, 400), table=table)
     for _ in range(4):
         net.run(70)
-        restarted(net, 5, kill)
+        net.restart(5, kill)
     net.run(20)
     told = {name: (begin, end) for name, begin, end in alarms(net)}
     assert len(alarms(net)) == 3 and all(end is None for _, end in told.values())
@@ -528,7 +521,7 @@ def test_each_second_has_its_state(tmp_path: Path) -> None:
     assert abs(start_of(first) - START - 40) < 1 and last is None and length > 4
     net.run(35)
     assert net.watch.stations["Alpha"].state(0.0)["session_utc"] is None
-    restarted(net, 50)
+    net.restart(50)
     net.run(60)
     net.end()
     outages = net.asked("SELECT begin_utc, end_utc, length_s, kind FROM station_outages")

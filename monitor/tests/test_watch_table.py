@@ -25,13 +25,14 @@ def test_defaults() -> None:
     (one,) = found.stations
     assert found.folder is None and found.keep == Keep() and one.command == ("receiver", "-f", "98.1M")
     assert one == StationTable(
-        "Alpha", one.command, "bits", patience=10, alarms=AlarmLimits(), pi=None, ps=()
+        "Alpha", one.command, "bits", patience=10, alarms=AlarmLimits(), pi=(), ps=(), af=()
     )
 
 
 def test_all_of_it() -> None:
     alpha = (
-        'pi = "d318"',
+        'pi = ["d318", "D218"]',
+        "af = [98.1, 104]",
         'ps = ["ALPHA*", "NEWS"]',
         'rt = "*"',
         "frequency = 98.1",
@@ -44,7 +45,8 @@ def test_all_of_it() -> None:
         "[defaults.alarms]\nsilent = 20\nta = false\n" + stations(*ALPHA, *alpha, *limits, *beta)
     )
     one, other = found.stations
-    assert found.keep == Keep(60, 0.5, 0) and one.pi == "D318" and one.ps == ("ALPHA*", "NEWS")
+    assert found.keep == Keep(60, 0.5, 0) and one.pi == ("D318", "D218") and one.ps == ("ALPHA*", "NEWS")
+    assert one.af == (98100, 104000)
     assert one.alarms == AlarmLimits(silent=30, ta=None, errors_percent=5) and other.alarms.silent == 20
     assert other.form == "iq" and other.rate == 171000 and other.offset == -1e5 and one.rt == ("*",)
     assert one.same_receiver(one) and not one.same_receiver(other)
@@ -64,7 +66,8 @@ def test_all_of_it() -> None:
         (stations('name = "a\\nb"', 'command = ["a"]'), "cannot be the name of a folder"),
         (stations(*ALPHA, "--", 'name = "ALPHA"', 'command = ["a"]'), "there are two stations"),
         (stations(*ALPHA, 'pi = "D31"'), "four hexadecimal digits"),
-        (stations(*ALPHA, "pi = 0xD318"), "four hexadecimal digits"),
+        (stations(*ALPHA, 'pi = ["D318", ""]'), "four hexadecimal digits in quotes, or a list of such"),
+        (stations(*ALPHA, "af = [981]"), "a list of frequencies in MHz"),
         (stations(*ALPHA, 'form = "wav"'), "one of bits, mpx, iq"),
         (stations(*ALPHA, 'form = "mpx"'), "needs 'raw' and 'rate'"),
         (stations(*ALPHA, "rate = 171000"), "are for the forms mpx and iq"),

@@ -89,10 +89,9 @@ class Watch:
         self._pages_at = self._tidy_at = 0.0
         self._disk = Alarm(0.0, 0.0)
         for station in table.stations:
-            alarms = self._add(station).alarms
-            alarms.resume(
-                self._lasting(records, station.name), records.state(station.name).get("counted", {})
-            )
+            state, lasting = records.state(station.name), self._lasting(records, station.name)
+            away = max(0.0, self.utc - state.get("utc", self.utc))
+            self._add(station).resume(lasting, state.get("counted", {}), away)
         for text, seconds in self._lasting(records, WATCH).values():
             self._disk.text, self._disk_since = text, self._now.steady - seconds
 
