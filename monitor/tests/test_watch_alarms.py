@@ -138,7 +138,9 @@ def test_alternative_frequencies() -> None:
 
 
 def test_no_clock_time() -> None:
-    judged = Judged("[station.alarms]", "no_rds = false", "ct_absent = 150").seconds(100).ticks(0).seconds(140)
+    judged = (
+        Judged("[station.alarms]", "no_rds = false", "ct_absent = 150").seconds(100).ticks(0).seconds(140)
+    )
     # Time without contents does not count.
     judged.seconds(50, age=3).seconds(20).ticks(0).seconds(100)
     assert judged.found == [("ct_absent", True, 300.0), ("ct_absent", False, 312.0)]

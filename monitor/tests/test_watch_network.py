@@ -454,8 +454,12 @@ def test_a_table_that_is_read_again(tmp_path: Path) -> None:
     net.run(20)
     net.reload(stations(*alpha, 'pi = "D318"', *beta, 'command = ["b", "again"]'))
     net.run(20)
+    net.run(1)
+    page = tmp_path / "pages" / "Beta.html"
+    assert page.exists()
     net.reload(stations(*alpha))
-    net.run(20)
+    net.run(19)
+    assert not page.exists() and (tmp_path / "pages" / "Alpha.html").exists()
     net.end()
     assert [name for name, _ in net.runs] == ["a", "b", "b"]
     assert len(net.texts("Alpha")) == 1 and len(net.texts("Beta")) == 2

@@ -3,6 +3,7 @@
 from __future__ import annotations
 
 import importlib
+import math
 import re
 from dataclasses import dataclass, field, fields, replace
 from typing import Any, Callable, Dict, NamedTuple, Optional, Set, Tuple
@@ -63,6 +64,11 @@ class StationTable:
         names = ("name", "command", "form", "raw", "rate", "offset")
         return all(getattr(self, name) == getattr(other, name) for name in names)
 
+    @property
+    def shortest_pause(self) -> float:
+        """Seconds without a byte after which it is restarted, or an alarm comes."""
+        return min(self.patience, math.inf if self.alarms.silent is None else self.alarms.silent)
+
 
 class Keep(NamedTuple):
     """For how long listings and the rows of the database are kept, and up to which size the listings; 0 keeps all."""
@@ -115,8 +121,14 @@ def _one_of(choices: Tuple[str, ...]) -> Judge:
 def _name(value: Any, of: str) -> str:
     """The name of a station, which is that of its folder too."""
     text: str = _text(value, of)
-    if "/" in text or text[0] in ".-" or len(text.encode("utf-8", "replace")) > 100 or not text.isprintable():
-        needed = "no '/', at most 100 bytes, and no '.' or '-' first"
+    if (
+        "/" in text
+        or text[0] in ".-"
+        or text == "index"
+        or len(text.encode("utf-8", "replace")) > 100
+        or not text.isprintable()
+    ):
+        needed = "no '/', at most 100 bytes, no '.' or '-' first, and not 'index'"
         raise Fault(f"{of}: {text!r} cannot be the name of a folder: {needed}")
     return text
 
