@@ -9,6 +9,7 @@ from pathlib import Path
 from typing import Any, Callable, Dict, List, NamedTuple, Optional, Sequence, Tuple
 
 import numpy
+import zstandard
 
 from conftest import TOP, encode
 from rds_monitor.rows.hours import Hour, hour_of
@@ -230,7 +231,10 @@ class Network:
             f"SELECT name, path {HOURS} WHERE station = ? ORDER BY recordings.id, number", station
         ):
             whole = self.folder / path
-            found[name] = found.get(name, b"") + (whole.read_bytes() if whole.exists() else b"")
+            text = whole.read_bytes() if whole.exists() else b""
+            if whole.suffix == ".zst":
+                text = zstandard.ZstdDecompressor().decompress(text)
+            found[name] = found.get(name, b"") + text
         return list(found.values())
 
     def hours(self, station: str) -> "List[Tuple[Hour, Rows]]":

@@ -138,11 +138,18 @@ def test_a_session_over_an_hour(tmp_path: Path) -> None:
         assert sum(int(line[3]) for line in lines) == valid
 
 
-def test_every_command_takes_an_hour(tmp_path: Path) -> None:
-    net = network(tmp_path, Air(ALPHA, START, 80))
+COMPRESSED = "[keep]\ncompress = true\n"
+
+
+@pytest.mark.parametrize("keep", ["", COMPRESSED])
+def test_every_command_takes_an_hour(tmp_path: Path, keep: str) -> None:
+    """Compressed or not, since it is closed."""
+    net = network(tmp_path, Air(ALPHA, START, 80), table=keep + TABLE)
     net.run(70)
+    net.restart(1)
+    net.run(3)
+    path = str(tmp_path / "listings" / "Alpha" / net.hours("Alpha")[1][0].name) + (".zst" if keep else "")
     net.end()
-    path = str(tmp_path / "listings" / "Alpha" / net.hours("Alpha")[1][0].name)
     commands = "errors outages programmes types corrected info json groups table".split()
     for words in (*([name] for name in commands), ["check", "-W", "100"], ["db", tmp_path / "other.db"]):
         done = run(*words, path)
@@ -245,13 +252,16 @@ class Disk:
     """Operations on the disk, before one of which the power fails. It keeps all synchronised bytes, and perhaps more."""
 
     def __init__(self, monkeypatch: pytest.MonkeyPatch, folder: Path):
-        self.folder, self.left = folder, 0
+        self.folder, self.left, self.replace = folder, 0, os.replace
         self.kept: Dict[str, int] = {}
         for of, name in (
             (writer.HourWriter, "append"),
             (records.Records, "write"),
+            (records.Records, "rename"),
             (os, "fsync"),
             (os, "fdatasync"),
+            (os, "replace"),
+            (os, "unlink"),
         ):
             monkeypatch.setattr(of, name, self._counted(getattr(of, name), "sync" in name))
 
@@ -263,23 +273,26 @@ class Disk:
             done = real(*words)
             if syncs:
                 self.kept[os.readlink(f"/proc/self/fd/{words[0]}")] = os.fstat(words[0]).st_size
+            if real is self.replace:
+                self.kept[words[1]] = self.kept.pop(words[0], 0)
             return done
 
         return work
 
     def lose(self, chance: random.Random) -> None:
         """The power failed. What is there afterwards is on the disk."""
-        for path in (self.folder / "listings").rglob("*.csv"):
+        for path in (self.folder / "listings").rglob("*.csv*"):
             size, kept = path.stat().st_size, self.kept.get(str(path), 0)
             self.kept[str(path)] = chance.choice([kept, chance.randint(kept, size)])
             os.truncate(path, self.kept[str(path)])
 
 
-@pytest.mark.parametrize("seed", range(3))
-def test_power_failures(tmp_path: Path, seed: int, monkeypatch: pytest.MonkeyPatch) -> None:
-    """Twelve times, a third of them just after a SIGKILL. The database tells only of rows that are on the disk, so nothing is there twice."""
+@pytest.mark.parametrize(("seed", "keep"), enumerate(["", COMPRESSED, COMPRESSED]))
+def test_power_failures(tmp_path: Path, seed: int, keep: str, monkeypatch: pytest.MonkeyPatch) -> None:
+    """Twelve times, a third of them just after a SIGKILL. The database tells only of rows that are on the disk, so nothing is there twice.
+    Nor is anything lost where hours are compressed."""
     chance, disk = random.Random(seed), Disk(monkeypatch, tmp_path)
-    net = network(tmp_path, Air(ALPHA, START, 300))
+    net = network(tmp_path, Air(ALPHA, START, 300), table=keep + TABLE)
     for turn in range(12):
         disk.left = chance.randint(4, 90)
         with pytest.raises(PowerFailure):
@@ -300,6 +313,63 @@ def test_power_failures(tmp_path: Path, seed: int, monkeypatch: pytest.MonkeyPat
     assert found == sorted(set(found)) and len(found) > 30
     nothing_lost(net, found)
     told_once(tmp_path)
+
+
+STEPS = {
+    "synchronised": (os, "fsync"),
+    "renamed": (os, "replace"),
+    "told": (records.Records, "rename"),
+    "removed": (os, "unlink"),
+}
+
+
+@pytest.mark.parametrize("step", STEPS)
+def test_killed_while_an_hour_is_compressed(
+    tmp_path: Path, step: str, monkeypatch: pytest.MonkeyPatch
+) -> None:
+    """Before each step: the next watch does the rest, and its rows are those of the plain file, once."""
+    net = network(tmp_path, Air(ALPHA, START, 80), table=COMPRESSED + TABLE)
+    net.run(20)
+    net.kill()
+    net.begin()
+    plain = b"".join(net.texts("Alpha"))
+    with monkeypatch.context() as patch:
+        real = getattr(*STEPS[step])
+
+        def killed(*words: Any, **more: Any) -> Any:
+            of = os.readlink(f"/proc/self/fd/{words[0]}") if step == "synchronised" else str(words[0:2])
+            if "listings" in of:
+                raise PowerFailure
+            return real(*words, **more)
+
+        patch.setattr(*STEPS[step], killed)
+        with pytest.raises(PowerFailure):
+            net.run(3)
+    net.kill()
+    net.begin()
+    net.run(3)
+    closed = sorted(path.suffix for path in (tmp_path / "listings" / "Alpha").iterdir())
+    assert plain and net.texts("Alpha")[0] == plain and closed[-1] == ".zst" and closed.count(".csv") == 1
+    net.end()
+    told_once(tmp_path)
+
+
+def test_hours_that_cannot_be_compressed(tmp_path: Path, monkeypatch: pytest.MonkeyPatch) -> None:
+    """The disk is full: the plain file stays, and is compressed an hour later. A deleted one is no error."""
+    net = network(tmp_path, Air(ALPHA, START, 80), Plan(dies=10), table=COMPRESSED + TABLE)
+    with monkeypatch.context() as patch:
+        patch.setattr(os, "utime", lambda *words, **more: no_space(None, "", memoryview(b"")))
+        net.run(13)
+    (first, *_) = sorted((tmp_path / "listings" / "Alpha").iterdir())
+    assert first.suffix == ".csv" and any("cannot be compressed" in line for line in net.said)
+    net.watch._tidy_at = 0.0
+    net.run(3)
+    assert not first.exists() and first.with_suffix(".csv.zst").exists()
+    first.with_suffix(".csv.zst").unlink()
+    net.watch._closed.append("listings/Alpha/none.csv")
+    net.run(3)
+    assert [line for line in net.said if "compressed" in line and "No space" not in line] == []
+    net.end()
 
 
 def test_killed_in_the_middle_of_an_hour(tmp_path: Path) -> None:

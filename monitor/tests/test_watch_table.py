@@ -4,6 +4,7 @@ from __future__ import annotations
 
 import importlib
 import re
+import sys
 import syslog
 from pathlib import Path
 from typing import Any, List
@@ -80,6 +81,7 @@ def test_all_of_it() -> None:
         (stations(*ALPHA, "[station.alarms]", 'silent = "15"'), "alarm silent of station 'Alpha'"),
         (stations(*ALPHA, "[station.alarms]", "errors_percent = false"), "a number that is not below 0"),
         (stations(*ALPHA, 'ps = ""'), "a pattern or a list of patterns"),
+        ("[keep]\ncompress = 1\n" + stations(*ALPHA), "keep.compress: true or false is needed"),
         ('[keep]\nlistings_days = "60"\n' + stations(*ALPHA), "keep.listings_days"),
         ('[defaults]\nname = "a"\n' + stations(*ALPHA), "[defaults]"),
     ],
@@ -88,6 +90,14 @@ def test_errors(text: str, fault: str) -> None:
     with pytest.raises(Fault) as caught:
         table_of(text)
     assert fault in str(caught.value)
+
+
+def test_no_compressor(monkeypatch: pytest.MonkeyPatch) -> None:
+    text = "[keep]\ncompress = true\n" + stations(*ALPHA)
+    assert table_of(text).keep.compress
+    monkeypatch.setitem(sys.modules, "zstandard", None)
+    with pytest.raises(Fault, match="python3-zstandard"):
+        table_of(text)
 
 
 def test_no_reader_of_toml(monkeypatch: pytest.MonkeyPatch) -> None:

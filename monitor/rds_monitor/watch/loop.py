@@ -6,12 +6,14 @@ import math
 import os
 import sqlite3
 import subprocess
+from collections import deque
 from functools import partial
-from typing import Callable, Dict, Iterable, List, Optional, Tuple
+from typing import Callable, Deque, Dict, Iterable, List, Optional, Tuple
 
 from ..db.standing import availability
 from ..rows.clock import DAY
 from .alarms import Alarm, Change, Trouble, words_for
+from .compress import compress
 from .decoders import NewDecoder
 from .live import Append
 from .metrics import metrics_text
@@ -81,6 +83,8 @@ class Watch:
         self._leaving: List[Station] = []
         self._appends: List[Append] = []
         self._records: List[Record] = []
+        # Hours' files that are closed, to be compressed one at a time.
+        self._closed: Deque[str] = deque()
         self._hooks = Hooks(say)
         self._busy_since: Optional[float] = None
         self._unwritten_since: Optional[float] = None
@@ -137,6 +141,8 @@ class Watch:
 
     def _gather(self, station: Station) -> None:
         self._appends += station.appends
+        if self._keep.compress:
+            self._closed.extend(append.path for append in station.appends if append.closes)
         self._records += station.records
         for change in station.changes:
             self._tell(station.name, change, {station.table.alarm_command})
@@ -208,6 +214,8 @@ class Watch:
         if steady >= self._tidy_at:
             self._tidy_at = steady + TIDY_EVERY
             after.append(partial(self._tidy, utc))
+        if self._closed:
+            after.append(partial(self._compress, self._closed.popleft()))
         if self._appends or self._records or after:
             self._writer.give(Batch(self._appends, self._records, after))
             self._appends, self._records = [], []
@@ -223,12 +231,21 @@ class Watch:
 
     def _tidy(self, utc: float, records: Records) -> None:
         try:
-            removed = tidy(self._folder, self._keep, utc, records)
+            removed, plain = tidy(self._folder, self._keep, utc, records)
         except (OSError, sqlite3.Error) as error:
             self._say("error", f"old hours cannot be removed: {error}")
             return
         if removed:
             self._say("info", f"{len(removed)} hours are removed, up to {removed[-1]}")
+        if self._keep.compress:
+            self._closed.extend(plain)
+
+    def _compress(self, path: str, records: Records) -> None:
+        """What fails is tried again once all is tidied."""
+        try:
+            compress(self._folder, path, records)
+        except (OSError, sqlite3.Error) as error:
+            self._say("error", f"{path} cannot be compressed: {error}")
 
     # ---- changes of the table, and the end
 

@@ -8,6 +8,7 @@ import re
 from dataclasses import dataclass, field, fields, replace
 from typing import Any, Callable, Dict, NamedTuple, Optional, Set, Tuple
 
+from ..rows.compressed import zstandard
 from ..rows.items import Fault
 
 SAMPLE_RATES = range(128000, 3200001)
@@ -71,11 +72,13 @@ class StationTable:
 
 
 class Keep(NamedTuple):
-    """For how long listings and the rows of the database are kept, and up to which size the listings; 0 keeps all."""
+    """For how long listings and the rows of the database are kept, up to which size the listings, and whether closed hours are compressed;
+    0 keeps all."""
 
     listings_days: float = 0
     listings_gb: float = 0
     database_days: float = 0
+    compress: bool = False
 
 
 class Table(NamedTuple):
@@ -185,6 +188,7 @@ JUDGES: Dict[str, Judge] = {
     "patience": _number,
     "alarm_command": _words,
 }
+KEPT = {"compress": _rule(lambda value: isinstance(value, bool), "true or false is", bool)}
 
 
 # ---- reading
@@ -231,7 +235,9 @@ def table_of(text: str) -> Table:
         if names.count(station.name.casefold()) > 1:
             raise Fault(f"there are two stations {station.name!r}")
     keep = _known(given.get("keep", {}), set(Keep._fields), "[keep]")
-    kept = Keep(**{name: _number(value, f"keep.{name}") for name, value in keep.items()})
+    kept = Keep(**{name: KEPT.get(name, _number)(value, f"keep.{name}") for name, value in keep.items()})
+    if kept.compress:
+        zstandard("keep.compress needs zstd: install python3-zstandard")
     return Table(folder, kept, stations, program)
 
 

@@ -53,8 +53,8 @@ class HourWriter:
             self._open[path] = os.open(whole, os.O_WRONLY | os.O_APPEND | os.O_CREAT | os.O_CLOEXEC, 0o644)
             if is_new:
                 # The names last through a power failure, too.
-                _sync_folder(parent)
-                _sync_folder(os.path.dirname(parent))
+                sync_folder(parent)
+                sync_folder(os.path.dirname(parent))
         return self._open[path]
 
     def close(self, path: str) -> None:
@@ -66,7 +66,7 @@ class HourWriter:
             self.close(path)
 
 
-def _sync_folder(path: str) -> None:
+def sync_folder(path: str) -> None:
     file = os.open(path, os.O_RDONLY | os.O_DIRECTORY)
     try:
         os.fsync(file)
