@@ -96,6 +96,8 @@ class Simulated(Process):
         self._at = air.at(times.steady - true_begin)
         self._killed = False
         self.given = b""
+        # When bytes came, and from which one on to which one.
+        self.reads: List[Tuple[float, int, int]] = []
 
     def _lasted(self) -> float:
         lasted = self._times.steady - self._began
@@ -113,6 +115,7 @@ class Simulated(Process):
         data, self._at = b"".join(self._air.bytes(*part) for part in kept), max(self._at, upto)
         if self.keeps:
             self.given += data
+            self.reads += [(self._times.utc, *part) for part in kept if part[0] < part[1]]
         if not data and self._plan.dies is not None and self._lasted() >= self._plan.dies:
             return None
         return data
@@ -299,3 +302,7 @@ def decoders_of(pid: int) -> List[int]:
 def stations(*lines: str) -> str:
     """A table of a station, from its lines, or of several, parted by '--'."""
     return "[[station]]\n" + "\n".join("[[station]]" if line == "--" else line for line in lines) + "\n"
+
+
+def no_space(self: Any, path: str, data: memoryview) -> int:
+    raise OSError(28, "No space left on device")

@@ -26,6 +26,7 @@ from network import (
     Network,
     Plan,
     Programme,
+    no_space,
     numbers_in,
     stations,
     told_once,
@@ -718,10 +719,6 @@ def test_a_full_disk_is_one_alarm(tmp_path: Path, monkeypatch: pytest.MonkeyPatc
     net.end()
     ((begin, end),) = net.asked("SELECT begin_at, end_at FROM alarm_rows")
     assert 15 < begin - START < 17 and 29 < end - START < 32
-
-
-def no_space(self: Any, path: str, data: memoryview) -> int:
-    raise OSError(28, "No space left on device")
 
 
 def test_a_database_that_nothing_is_written_to(tmp_path: Path) -> None:

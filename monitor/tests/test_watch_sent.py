@@ -2,13 +2,20 @@
 
 from __future__ import annotations
 
+import json
+import random
+import sqlite3
+import sys
+from functools import partial
 from pathlib import Path
 from typing import Callable, List, NamedTuple, Tuple
 
 import numpy
 import pytest
 
-from network import START, Air, Network, Plan, Programme, stations
+from conftest import ran
+from network import START, Air, Network, Plan, Programme, no_space, stations
+from rds_monitor.watch import writer
 
 ALPHA = Programme(0xD318, "ALPHA", "Now: nothing much", af=0xE16A)
 TABLE = stations(
@@ -146,3 +153,126 @@ def test_a_pi_that_changes_by_region(tmp_path: Path, pi: int, found: List[Tuple[
     told = lasting(net, "pi")
     assert numpy.shape(told) == numpy.shape(found) and numpy.allclose(told, found, atol=2)
     assert net.asked("SELECT COUNT(*) FROM alarm_rows WHERE alarm != 'pi'") == [(0,)]
+
+
+# ---- the accountant
+
+
+class Books:
+    """A simulated network, and what was sent in it."""
+
+    LONG = 1500
+
+    def __init__(self, folder: Path, seed: int, burst: float):
+        self.folder, self.burst, self.chance = folder, burst, random.Random(seed)
+        self.patience = 20.0 if burst > 10 else 10.0
+        self.noise = [self._some(150, 30), self._some(700, 60)]
+        self.other_pi = [self._some(400, 60), self._some(1000, 60)]
+        self.full = self._some(1250, 20)
+        air = Air(ALPHA, START, self.LONG + 10)
+        for spans, change in (
+            (self.noise, air.noise),
+            (self.other_pi, partial(air.change, ALPHA._replace(pi=0xD319))),
+        ):
+            for span in spans:
+                change(*span)
+        table = stations('name = "Alpha"', 'command = ["a"]', 'pi = "D318"', f"patience = {self.patience}")
+        # A receiver dies each 200 s, and drops three seconds of its second minute; two cannot be started for a while.
+        plans = [Plan(dies=200, burst=burst, drops=(80, 3)) for _ in range(30)]
+        plans[3:3] = [Plan(dies=0)] * 5
+        self.net = Network(folder, "[keep]\ncompress = true\n" + table, {"a": air}, {"a": plans})
+        self.watched: List[Tuple[float, float, bool]] = []
+
+    def _some(self, begin: float, seconds: float) -> Tuple[float, float]:
+        """About then, for about as long."""
+        first = begin + self.chance.uniform(0, 40)
+        return first, first + seconds + self.chance.uniform(0, 20)
+
+    def run(self, moment: float) -> None:
+        self.net.run(round(moment - (self.net.times.steady - self.net.zero)))
+
+    def restart(self, moment: float, kill: bool) -> None:
+        self.run(moment)
+        self._close(kill)
+        self.net.restart(self.chance.randint(3, 30), kill)
+        self.begun = self.net.times.utc
+
+    def _close(self, kill: bool) -> None:
+        self.watched.append((self.begun, self.net.times.utc, kill))
+
+    def all(self, monkeypatch: pytest.MonkeyPatch) -> None:
+        """The watch is restarted while alarms last, the disk is full for a while, and a listing is deleted."""
+        self.begun = START
+        for n, (begin, end) in enumerate([self.noise[0], self.other_pi[0], self.noise[1], self.other_pi[1]]):
+            self.restart(end - 8, n % 2 == 0)
+        self.run(self.full[0] - 60)
+        newest = max(
+            (self.folder / "listings" / "Alpha").glob("*.csv"), key=lambda path: path.stat().st_mtime_ns
+        )
+        newest.unlink()
+        self.run(self.full[0])
+        with monkeypatch.context() as patch:
+            patch.setattr(writer.HourWriter, "append", no_space)
+            self.run(self.full[1])
+        self.run(self.LONG)
+        self.net.end()
+        self._close(False)
+
+    def write(self, path: Path) -> None:
+        """What was sent, as the accountant reads it."""
+        air = self.net.airs["a"]
+        runs = [
+            [
+                (utc, *(START + (byte - air.at(0)) * 8 / 1187.5 for byte in bytes_))
+                for utc, *bytes_ in run.reads
+            ]
+            for _, run in self.net.given
+        ]
+        spans = {"noise": self.noise, "other_pi": self.other_pi, "full_disk": [self.full]}
+        sent = {name: [(START + begin, START + end) for begin, end in of] for name, of in spans.items()}
+        path.write_text(
+            json.dumps(
+                {
+                    **sent,
+                    "watched": self.watched,
+                    "runs": runs,
+                    "patience": self.patience,
+                    "burst": self.burst,
+                }
+            )
+        )
+
+
+@pytest.mark.parametrize(("seed", "burst"), enumerate([0.0, 2.0, 12.0]))
+def test_every_second_is_accounted_for(
+    tmp_path: Path, seed: int, burst: float, monkeypatch: pytest.MonkeyPatch
+) -> None:
+    books = Books(tmp_path, seed, burst)
+    books.all(monkeypatch)
+    books.write(tmp_path / "sent.json")
+    words = [
+        sys.executable,
+        Path(__file__).with_name("accountant.py"),
+        tmp_path / "sent.json",
+        tmp_path / "watch.db",
+    ]
+    done = ran(words)
+    assert done.returncode == 0, done.stdout + done.stderr
+    if seed:
+        return
+    for query, text in (
+        ("UPDATE alarm_rows SET begin_at = begin_at - 3 WHERE alarm = 'pi'", "pi: "),
+        ("DELETE FROM alarm_rows WHERE alarm = 'no_rds'", "no_rds: "),
+        (
+            "UPDATE outage_rows SET end_place = end_place - 3600 WHERE end_place > begin_place + 7200",
+            "outages: ",
+        ),
+        ("UPDATE minute_rows SET valid = valid - 150 WHERE minute = 1", " valid blocks in place of "),
+        ("UPDATE watched_rows SET end_at = begin_at", " is unknown in place of down"),
+    ):
+        data = sqlite3.connect(tmp_path / "watch.db")
+        data.execute(query)
+        data.commit()
+        data.close()
+        done = ran(words)
+        assert done.returncode == 1 and text in done.stdout

@@ -93,8 +93,9 @@ class Alarms:
         self._seen = Watched(now, 0.0, {}, None)
         self._minutes: Deque[float] = deque(maxlen=60)
         self._offsets: Deque[float] = deque(maxlen=60)
-        # When each of the last hour began.
+        # When each of the last hour began; and the seconds of this one in which no byte came yet, which a burst may bring.
         self._sessions: Deque[float] = deque()
+        self._unheard = 0.0
         # Since when an expected value was not there, a text is the same, or a flag is set.
         self._since: Dict[str, float] = {}
         self._texts: Dict[str, Optional[str]] = {}
@@ -154,6 +155,7 @@ class Alarms:
 
     def begin_session(self, now: float) -> None:
         self._sessions.append(now)
+        self._unheard = 0.0
 
     def take(
         self, changes: Sequence[Event], minutes: Iterable[float], ticks: Sequence[Tick], timing: Timing
@@ -180,9 +182,11 @@ class Alarms:
         self._judge_pace(passed, None if silent else watched.pace)
         self._judge_sessions()
         self._judge_minutes()
+        unheard, self._unheard = self._unheard, self._unheard + passed if silent else 0.0
         if silent or dead or "pi" not in watched.held:
             self._hold(passed, *CONTENTS)
         else:
+            self._hold(-unheard, *CONTENTS)
             self._judge_contents(watched.held)
         found, self._found = self._found, []
         return found
