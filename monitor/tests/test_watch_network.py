@@ -434,12 +434,15 @@ def test_a_full_disk(tmp_path: Path, monkeypatch: pytest.MonkeyPatch) -> None:
 
 def test_a_database_that_is_locked_delays_no_row(tmp_path: Path, monkeypatch: pytest.MonkeyPatch) -> None:
     monkeypatch.setattr(records, "WAIT", 0.0)
-    net = network(tmp_path, Air(ALPHA, START, 100))
+    net = network(tmp_path, Air(ALPHA, START, 200))
     net.run(10)
     other = sqlite3.connect(tmp_path / "watch.db", isolation_level=None)
     other.execute("BEGIN IMMEDIATE")
-    net.run(20)
-    assert len(numbers_in(net.hours("Alpha"))) > 50
+    net.run(150)
+    assert len(numbers_in(net.hours("Alpha"))) > 250
+    # Of what is said again and again only the last waits.
+    waiting = net.writer.writer._waiting
+    assert sum(isinstance(one, records.StateSeen) for one in waiting) == 1 and not net.writer.writer._after
     other.execute("ROLLBACK")
     net.run(10)
     net.end()
@@ -495,6 +498,7 @@ def test_a_disk_that_hangs(tmp_path: Path, monkeypatch: pytest.MonkeyPatch) -> N
     with monkeypatch.context() as patch:
         patch.setattr(InTurn, "is_idle", property(lambda self: False))
         net.run(20, tick=0.5)
+        assert sum(isinstance(one, records.StateSeen) for one in net.watch._records) == 1
     net.run(10, tick=0.5)
     net.end()
     same_as_sent(net, tmp_path)

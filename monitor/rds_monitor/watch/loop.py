@@ -24,7 +24,7 @@ from .retention import tidy
 from .station import Station
 from .table import StationTable, Table
 from .times import Now, SteadyUtc, Times
-from .writer import Batch, Say, WriterThread
+from .writer import Batch, Say, WriterThread, last_states
 
 PAGES_EVERY, TIDY_EVERY = 60.0, 3600.0
 # Rows of a station that wait for the disk, in bytes; the oldest are given up first.
@@ -204,17 +204,20 @@ class Watch:
                 self._records = [
                     one for one in self._records if not isinstance(one, (AlarmChanged, StateSeen))
                 ]
+            self._records = last_states(self._records)
             return
         after: List[Callable[[Records], None]] = []
         utc, steady = self.utc, self._now.steady
-        if steady >= self._pages_at:
+        # While the database cannot be written, they would only wait.
+        is_well = self._writer.fault is None
+        if is_well and steady >= self._pages_at:
             self._pages_at = steady + PAGES_EVERY
             states = {name: station.state(utc) for name, station in self.stations.items()}
             after.append(partial(self._write_pages, states, utc))
-        if steady >= self._tidy_at:
+        if is_well and steady >= self._tidy_at:
             self._tidy_at = steady + TIDY_EVERY
             after.append(partial(self._tidy, utc))
-        if self._closed:
+        if is_well and self._closed:
             after.append(partial(self._compress, self._closed.popleft()))
         if self._appends or self._records or after:
             self._writer.give(Batch(self._appends, self._records, after))
