@@ -189,16 +189,6 @@ def test_outages_a_wrong_pi_and_restarts(tmp_path: Path) -> None:
     assert all(end is not None for _, _, end in silent)
 
 
-def test_another_pi(tmp_path: Path) -> None:
-    """For a minute: the alarm begins ten seconds after the PI, and ends ten seconds after the expected one is there."""
-    net = network(tmp_path, Air(ALPHA._replace(wrong_pi=Periodic(500, 60)), START, 160))
-    begin = 440 - START % 500
-    net.run(begin + 80, tick=1)
-    net.end()
-    ((name, since, until),) = alarms(net)
-    assert name == "pi" and begin + 9 < since < begin + 13 and begin + 69 < until < begin + 74
-
-
 # ---- killed
 
 

@@ -8,7 +8,7 @@ import sqlite3
 import sys
 from functools import partial
 from pathlib import Path
-from typing import Callable, List, NamedTuple, Tuple
+from typing import Any, Callable, List, NamedTuple, Tuple
 
 import numpy
 import pytest
@@ -20,64 +20,18 @@ from rds_monitor.watch import writer
 ALPHA = Programme(0xD318, "ALPHA", "Now: nothing much", af=0xE16A)
 TABLE = stations(
     *('name = "Alpha"', 'command = ["a"]', 'pi = ["D318", "D218"]', 'ps = "ALPHA*"', 'rt = "Now: *"'),
-    *("af = [98.1]", "patience = 200", "[station.alarms]", "no_rds = 10"),
+    *("af = [98.1]", "patience = 200", "[station.alarms]"),
 )
 # The fault, in seconds; the watch is killed and ended while the alarm lasts.
 FAULT, RESTARTS = (40.0, 200.0), ((130, True), (155, False))
 
 
-class Case(NamedTuple):
-    """An alarm, its limit, what is sent in place of ALPHA, and when it has to begin and to end."""
-
-    alarm: str
-    limit: float
-    sent: Programme
-    begins: float
-    ends: float
-    # Seconds that it takes until the contents are sent.
-    slack: float = 0.0
+Spoil = Callable[[Network], None]
 
 
-CASES = [
-    Case("pi", 10, ALPHA._replace(pi=0xD319), 50, 210),
-    Case("ps", 20, ALPHA._replace(ps="NEWS"), 60, 210, 1.5),
-    Case("rt", 20, ALPHA._replace(rt="Then: another"), 60, 210, 2.5),
-    Case("af", 20, ALPHA._replace(af=0xE16B), 60, 210),
-    Case("ps_stuck", 45, ALPHA._replace(ps="ALPHA 2"), 85, 200, 1.5),
-    Case("rt_stuck", 45, ALPHA._replace(rt="Now: another"), 85, 200, 2.5),
-    Case("ta", 20, ALPHA._replace(ta=True), 60, 205),
-    Case("pty31", 1, ALPHA._replace(pty=31), 41, 210),
-    # CT is sent at second 30 and then each minute.
-    Case("ct", 1, ALPHA._replace(clock=1), 90, 270),
-    Case("ct_absent", 40, ALPHA._replace(clock=None), 70, 210),
-]
-
-
-def lasting(net: Network, alarm: str) -> List[Tuple[float, float]]:
-    """When an alarm began and ended."""
-    query = "SELECT begin_at - ?, end_at - ? FROM alarm_rows WHERE station = 'Alpha' AND alarm = ?"
-    return net.asked(query, START, START, alarm)  # type: ignore[return-value]
-
-
-def judged(net: Network, alarm: str, begins: float, ends: float, slack: float = 0.0) -> None:
-    """It begins, outlasts the restarts, and ends when it should."""
-    for moment, kill in RESTARTS:
-        net.run(moment - (net.times.steady - net.zero))
-        ((begin, end),) = lasting(net, alarm)
-        assert -2 <= begin - begins <= 2 + slack and end is None
-        net.restart(5, kill)
-    net.run(ends + slack + 5 - (net.times.steady - net.zero))
-    ((begin, end),) = lasting(net, alarm)
-    assert -2 <= end - ends <= 2 + slack
-    net.end()
-
-
-@pytest.mark.parametrize("case", CASES, ids=[case.alarm for case in CASES])
-def test_restarts_while_an_alarm_of_contents_lasts(tmp_path: Path, case: Case) -> None:
-    air = Air(ALPHA, START, 300)
-    air.change(case.sent, *FAULT)
-    net = Network(tmp_path, f"{TABLE}{case.alarm} = {case.limit}\n", {"a": air})
-    judged(net, case.alarm, case.begins, case.ends, case.slack)
+def sends(**changes: Any) -> Spoil:
+    """Other contents for a while."""
+    return lambda net: net.airs["a"].change(ALPHA._replace(**changes), *FAULT)
 
 
 def noise(net: Network) -> None:
@@ -99,30 +53,61 @@ def slow(net: Network) -> None:
     net.plans["a"] = [Plan(pace=0.97), Plan(pace=0.97)]
 
 
-@pytest.mark.parametrize(
-    ("alarm", "limit", "spoil", "begins", "ends", "slack"),
-    [
-        ("silent", 15, gaps, 55, 205, 0),
-        ("no_rds", 10, noise, 50, 205, 0),
-        # The first whole minute is the second one, since an hour begins in the first one. Its row comes a second after it.
-        ("errors", 1, halves, 121, 221, 0),
-        # The rate is measured over ten seconds.
-        ("slow", 60, slow, 60, 220, 12),
-    ],
-)
-def test_restarts_while_an_alarm_of_reception_lasts(
-    tmp_path: Path,
-    alarm: str,
-    limit: float,
-    spoil: Callable[[Network], None],
-    begins: float,
-    ends: float,
-    slack: float,
-) -> None:
-    net = Network(tmp_path, f"{TABLE}{alarm} = {limit}\n".replace("no_rds = 10\n", "", alarm == "no_rds"), {})
-    net.airs["a"] = Air(ALPHA, START, 300)
-    spoil(net)
-    judged(net, alarm, begins, ends, slack)
+class Case(NamedTuple):
+    """An alarm, its limit, its fault, when it has to begin and to end, and by how many seconds it may be later than two."""
+
+    alarm: str
+    limit: float
+    spoil: Spoil
+    begins: float
+    ends: float
+    slack: float = 0.0
+
+
+CASES = [
+    Case("silent", 15, gaps, 55, 205),
+    Case("no_rds", 10, noise, 50, 205),
+    # The first whole minute is the second one, since an hour begins in the first one. Its row comes a second after it.
+    Case("errors", 1, halves, 121, 221),
+    # The rate is measured over ten seconds.
+    Case("slow", 60, slow, 60, 220, 12),
+    Case("pi", 10, sends(pi=0xD319), 50, 210),
+    # A text takes some seconds.
+    Case("ps", 20, sends(ps="NEWS"), 60, 210, 1.5),
+    Case("rt", 20, sends(rt="Then: another"), 60, 210, 2.5),
+    Case("af", 20, sends(af=0xE16B), 60, 210),
+    Case("ps_stuck", 45, sends(ps="ALPHA 2"), 85, 200, 1.5),
+    Case("rt_stuck", 45, sends(rt="Now: another"), 85, 200, 2.5),
+    Case("ta", 20, sends(ta=True), 60, 205),
+    Case("pty31", 1, sends(pty=31), 41, 210),
+    # CT is sent at second 30 and then each minute.
+    Case("ct", 1, sends(clock=1), 90, 270),
+    Case("ct_absent", 40, sends(clock=None), 70, 210),
+]
+
+
+def lasting(net: Network, alarm: str) -> List[Tuple[float, float]]:
+    """When an alarm began and ended."""
+    query = "SELECT begin_at - ?, end_at - ? FROM alarm_rows WHERE station = 'Alpha' AND alarm = ?"
+    return net.asked(query, START, START, alarm)  # type: ignore[return-value]
+
+
+@pytest.mark.parametrize("case", CASES, ids=[case.alarm for case in CASES])
+def test_restarts_while_an_alarm_lasts(tmp_path: Path, case: Case) -> None:
+    """It begins, outlasts the restarts, and ends when it should."""
+    limits = {"no_rds": 10.0, case.alarm: case.limit}
+    table = TABLE + "".join(f"{alarm} = {limit}\n" for alarm, limit in limits.items())
+    net = Network(tmp_path, table, {"a": Air(ALPHA, START, 300)})
+    case.spoil(net)
+    for moment, kill in RESTARTS:
+        net.run(moment - (net.times.steady - net.zero))
+        ((begin, end),) = lasting(net, case.alarm)
+        assert -2 <= begin - case.begins <= 2 + case.slack and end is None
+        net.restart(5, kill)
+    net.run(case.ends + case.slack + 5 - (net.times.steady - net.zero))
+    ((begin, end),) = lasting(net, case.alarm)
+    assert -2 <= end - case.ends <= 2 + case.slack
+    net.end()
 
 
 def test_restarts_while_a_receiver_flaps(tmp_path: Path) -> None:

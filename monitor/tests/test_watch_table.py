@@ -141,7 +141,7 @@ def test_commands_that_are_tried(tmp_path: Path) -> None:
     assert "Alpha: there is no program 'receiver'\n" in done.err
     assert f"Alpha: '{plain}' may not be run\n" in done.err and "Beta: there" not in done.err
     plain.chmod(0o755)
-    path.write_text(f'program = "none/rds"\n' + stations('name = "Alpha"', f'command = ["{plain}"]', alarm))
+    path.write_text('program = "none/rds"\n' + stations('name = "Alpha"', f'command = ["{plain}"]', alarm))
     done = run("watch", "--check", path)
     assert done.status == 1 and "program: there is no program 'none/rds'\n" in done.err
 
