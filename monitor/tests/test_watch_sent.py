@@ -15,6 +15,7 @@ import pytest
 
 from conftest import ran
 from network import START, Air, Network, Plan, Programme, no_space, stations
+from rds_monitor.db.standing import availability
 from rds_monitor.watch import writer
 
 ALPHA = Programme(0xD318, "ALPHA", "Now: nothing much", af=0xE16A)
@@ -49,8 +50,9 @@ def gaps(net: Network) -> None:
     net.plans["a"] = [Plan(drops=(40, 160)), Plan(drops=(0, 64)), Plan(drops=(0, 39))]
 
 
-def slow(net: Network) -> None:
-    net.plans["a"] = [Plan(pace=0.97), Plan(pace=0.97)]
+def paced(pace: float) -> Spoil:
+    """Bits come faster, or more slowly, in the first two runs."""
+    return lambda net: net.plans.update(a=[Plan(pace=pace)] * 2)
 
 
 class Case(NamedTuple):
@@ -70,7 +72,8 @@ CASES = [
     # The first whole minute is the second one, since an hour begins in the first one. Its row comes a second after it.
     Case("errors", 1, halves, 121, 221),
     # The rate is measured over ten seconds.
-    Case("slow", 60, slow, 60, 220, 12),
+    Case("slow", 60, paced(0.97), 60, 220, 12),
+    Case("fast", 60, paced(1.02), 60, 220, 12),
     Case("pi", 10, sends(pi=0xD319), 50, 210),
     # A text takes some seconds.
     Case("ps", 20, sends(ps="NEWS"), 60, 210, 1.5),
@@ -94,7 +97,7 @@ def lasting(net: Network, alarm: str) -> List[Tuple[float, float]]:
 
 @pytest.mark.parametrize("case", CASES, ids=[case.alarm for case in CASES])
 def test_restarts_while_an_alarm_lasts(tmp_path: Path, case: Case) -> None:
-    """It begins, outlasts the restarts, and ends when it should."""
+    """It begins, outlasts the restarts, ends when it should, and says how long it lasted."""
     limits = {"no_rds": 10.0, case.alarm: case.limit}
     table = TABLE + "".join(f"{alarm} = {limit}\n" for alarm, limit in limits.items())
     net = Network(tmp_path, table, {"a": Air(ALPHA, START, 300)})
@@ -107,6 +110,8 @@ def test_restarts_while_an_alarm_lasts(tmp_path: Path, case: Case) -> None:
     net.run(case.ends + case.slack + 5 - (net.times.steady - net.zero))
     ((begin, end),) = lasting(net, case.alarm)
     assert -2 <= end - case.ends <= 2 + case.slack
+    (line,) = [line for line in net.said if f"alarm {case.alarm} ends" in line]
+    assert line.endswith(f"; it lasted {end - begin:.0f} s")
     net.end()
 
 
@@ -243,6 +248,15 @@ def test_every_second_is_accounted_for(
     ]
     done = ran(words)
     assert done.returncode == 0, done.stdout + done.stderr
+    data, end = sqlite3.connect(tmp_path / "watch.db"), books.net.times.utc
+    seconds = availability(data, "Alpha", START, end)
+    ((received, noise, down),) = data.execute("SELECT received_s, noise_s, down_s FROM days").fetchall()
+    data.close()
+    # Rows of days are rounded.
+    assert (
+        numpy.allclose(seconds[:3], (received, noise, down), atol=0.1)
+        and round(sum(seconds) - end + START, 6) == 0
+    )
     if seed:
         return
     for query, text in (
