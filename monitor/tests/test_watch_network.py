@@ -156,6 +156,8 @@ def test_every_command_takes_an_hour(tmp_path: Path, keep: str) -> None:
     assert "2026-11-27T03:00" in run("json", path).out and "2026-11-27T03:00" in run("table", path).out
     data = sqlite3.connect(tmp_path / "other.db")
     assert data.execute("SELECT DISTINCT station, begin_utc FROM minutes").fetchone()[0] == "Alpha"
+    (name,) = data.execute("SELECT name FROM recordings").fetchone()
+    assert name == "Alpha/" + Path(path).name.replace(".zst", "")
 
 
 def test_outages_a_wrong_pi_and_restarts(tmp_path: Path) -> None:

@@ -115,6 +115,19 @@ def test_restarts_while_an_alarm_lasts(tmp_path: Path, case: Case) -> None:
     net.end()
 
 
+@pytest.mark.parametrize(("alarm", "spoil", "seconds"), [("silent", gaps, 15), ("no_rds", noise, 10)])
+def test_a_restart_before_an_alarm(tmp_path: Path, alarm: str, spoil: Spoil, seconds: float) -> None:
+    """What was counted before it counts after it, but not the five seconds between."""
+    net = Network(tmp_path, TABLE, {"a": Air(ALPHA, START, 300)})
+    spoil(net)
+    net.run(47)
+    net.restart(5)
+    net.run(30)
+    ((begin, end),) = lasting(net, alarm)
+    assert abs(begin - FAULT[0] - 5 - seconds) <= 2 and end is None
+    net.end()
+
+
 def test_restarts_while_a_receiver_flaps(tmp_path: Path) -> None:
     """More than three sessions an hour: the alarm begins with the fourth one, and ends once two of them are an hour old."""
     plans = {"a": [Plan(dies=9)] * 5}

@@ -240,7 +240,7 @@ class Watch:
             return
         if removed:
             self._say("info", f"{len(removed)} hours are removed, up to {removed[-1]}")
-        if self._keep.compress:
+        if self._keep.compress and not self._closed:
             self._closed.extend(plain)
 
     def _compress(self, path: str, records: Records) -> None:

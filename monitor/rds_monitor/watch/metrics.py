@@ -31,7 +31,7 @@ METRICS = (
     ),
     Metric("rds_last_group_timestamp_seconds", "gauge", "When the last whole group ended."),
     Metric("rds_clock_offset_seconds", "gauge", "The station's clock time (CT) less that of this machine."),
-    Metric("rds_pi_as_expected", "gauge", "Whether the PI is the expected one."),
+    Metric("rds_pi_as_expected", "gauge", "Whether the PI is an expected one."),
     Metric("rds_snr_db", "gauge", "Signal-to-noise ratio of RDS, of MPX and IQ."),
     Metric("rds_alarm", "gauge", "Whether the alarm lasts."),
     Metric("rds_watch_timestamp_seconds", "gauge", "When this file was written."),

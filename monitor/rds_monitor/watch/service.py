@@ -70,10 +70,11 @@ def check_table(table: Table) -> int:
     for station in table.stations:
         print(f"{station.name}: {station.form}, {' '.join(station.command)}")
         commands += [(station.name, words[0]) for words in (station.command, station.alarm_command) if words]
-        if station.form == "bits" and station.shortest_pause < BURST and "stdbuf" not in station.command:
+        allowed = min(pause for pause in (station.patience, station.alarms.silent) if pause is not None)
+        if station.form == "bits" and allowed < BURST and "stdbuf" not in station.command:
             text = f"a receiver with an output buffer of 4 KiB writes each {BURST:.1f} s"
             cure = "begin its command with stdbuf -o0, or raise patience and silent"
-            say("warning", f"{station.name}: {text}, and {station.shortest_pause:g} s are allowed: {cure}")
+            say("warning", f"{station.name}: {text}, and {allowed:g} s are allowed: {cure}")
     missing = [(of, word) for of, word in commands if shutil.which(word) is None]
     for of, word in missing:
         there = os.path.exists(word)

@@ -65,8 +65,10 @@ class Station:
     def resume(self, lasting: Dict[str, Tuple[str, float]], counted: Dict[str, Any], away: float) -> None:
         """Goes on with what the last watch knew, which ended `away` seconds ago."""
         self.alarms.resume(lasting, counted, away)
-        self.keeper.last_byte -= counted.get("quiet", 0.0)
-        self._last_valid -= counted.get("age", 0.0)
+        quiet, age = counted.get("quiet", 0.0), counted.get("age", 0.0)
+        self.keeper.last_byte -= quiet
+        # So that `_age` is the same again.
+        self._last_valid -= age + (quiet if quiet <= self.keeper.patience else 0.0)
 
     def set_table(self, table: StationTable) -> None:
         """Of the same receiver, with other limits."""

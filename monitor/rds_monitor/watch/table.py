@@ -3,7 +3,6 @@
 from __future__ import annotations
 
 import importlib
-import math
 import re
 from dataclasses import dataclass, field, fields, replace
 from typing import Any, Callable, Dict, NamedTuple, Optional, Set, Tuple
@@ -64,11 +63,6 @@ class StationTable:
         """Whether the command and the form of its output are the same, so that it need not be restarted."""
         names = ("name", "command", "form", "raw", "rate", "offset")
         return all(getattr(self, name) == getattr(other, name) for name in names)
-
-    @property
-    def shortest_pause(self) -> float:
-        """Seconds without a byte after which it is restarted, or an alarm comes."""
-        return min(self.patience, math.inf if self.alarms.silent is None else self.alarms.silent)
 
 
 class Keep(NamedTuple):
