@@ -34,6 +34,16 @@ def overlap(spans: List[Span], begin: float, end: float) -> float:
     return sum(max(0.0, min(end, after) - max(begin, first)) for first, after in spans)
 
 
+def joined(spans: List[Span]) -> List[Span]:
+    """Those that touch each other as one."""
+    found: List[Span] = []
+    for begin, end in sorted(spans):
+        if found and begin - found[-1][1] < 0.01:
+            begin, end = found[-1][0], max(found.pop()[1], end)
+        found.append((begin, end))
+    return found
+
+
 class Sent:
     """What was sent, and which bits of it were received."""
 
@@ -43,7 +53,7 @@ class Sent:
         self.noise, self.other_pi, self.full_disk = told["noise"], told["other_pi"], told["full_disk"]
         self.patience, self.burst = told["patience"], told["burst"]
         self.begin, self.end = self.watched[0][0], self.watched[-1][1]
-        self.heard = [(first, after) for run in self.runs for _, first, after in run]
+        self.heard = joined([(first, after) for run in self.runs for _, first, after in run])
         self.sound = [part for span in self.heard for part in self._without_noise(*span)]
         # Where a state changes; dropped bits are noticed some seconds later, by when those after them come.
         self.edges = [edge for begin, end, _ in self.watched for edge in (begin, end)]

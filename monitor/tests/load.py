@@ -182,6 +182,9 @@ def week(folder: Path) -> int:
         begin, seen = cpu_seconds(), []
         for _ in range(24):
             network.run(3600, 600)
+            # Notes of the simulation itself.
+            for notes in (network.said, network.runs, network.given):
+                notes.clear()
             seen.append(memory_mb())
         most.append(max(seen))
         size = sum(path.stat().st_size for path in folder.rglob("*") if path.is_file()) / 1e6
