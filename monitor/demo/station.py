@@ -32,7 +32,8 @@ class Periodic(NamedTuple):
 
 
 class Programme(NamedTuple):
-    """What a station sends."""
+    """What a station sends: `af` are two codes of alternative frequencies, `clock` by how many minutes the clock time is off; None sends
+    none."""
 
     pi: int
     ps: str
@@ -40,20 +41,23 @@ class Programme(NamedTuple):
     pty: int = 10
     tp: bool = True
     wrong_pi: Optional[Periodic] = None
+    ta: bool = False
+    af: int = 0xE0CD
+    clock: Optional[int] = 0
 
     def group(self, number: int) -> Words:
         begin, end = number / GROUPS_PER_SECOND, (number + 1) / GROUPS_PER_SECOND
         pi = self.pi ^ 0x0101 if self.wrong_pi and self.wrong_pi.holds(begin) else self.pi
         common = self.tp << 10 | self.pty << 5
-        if int(end / 60) > int(begin / 60):
-            return (pi, *clock_words(int(end / 60), common))
+        if self.clock is not None and int(end / 60) > int(begin / 60):
+            return (pi, *clock_words(int(end / 60) + self.clock, common))
         turn = number % 6
         if turn == 5:
             return pi, 6 << 12 | common, number >> 16 & 0xFFFF, number & 0xFFFF
         if turn % 2:
             return (pi, *text_words(self.rt, number // 2, common))
         segment = number // 2 % 4
-        return pi, common | 8 | segment, 0xE0CD, pair(self.ps.ljust(8), segment)
+        return pi, common | self.ta << 4 | 8 | segment, self.af, pair(self.ps.ljust(8), segment)
 
 
 def pair(text: str, at: int) -> int:

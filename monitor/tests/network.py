@@ -9,6 +9,7 @@ from pathlib import Path
 from typing import Any, Callable, Dict, List, NamedTuple, Optional, Sequence, Tuple
 
 import numpy
+import zstandard
 
 from conftest import TOP, encode
 from rds_monitor.rows.hours import Hour, hour_of
@@ -63,6 +64,11 @@ class Air:
         first, after = self.at(begin), self.at(end)
         self._data[first:after] = numpy.random.default_rng(seed).integers(0, 256, after - first, "u1")
 
+    def change(self, programme: Programme, begin: float, end: float) -> None:
+        """Another programme from second to second."""
+        first, after = (self.at(moment) // 13 * 13 for moment in (begin, end))
+        self._data[first:after] = Air(programme, self.begin, end)._data[first:after]
+
     def bytes(self, first: int, after: int) -> bytes:
         return bytes(self._data[first:after].tobytes())
 
@@ -90,6 +96,8 @@ class Simulated(Process):
         self._at = air.at(times.steady - true_begin)
         self._killed = False
         self.given = b""
+        # When bytes came, and from which one on to which one.
+        self.reads: List[Tuple[float, int, int]] = []
 
     def _lasted(self) -> float:
         lasted = self._times.steady - self._began
@@ -107,6 +115,7 @@ class Simulated(Process):
         data, self._at = b"".join(self._air.bytes(*part) for part in kept), max(self._at, upto)
         if self.keeps:
             self.given += data
+            self.reads += [(self._times.utc, *part) for part in kept if part[0] < part[1]]
         if not data and self._plan.dies is not None and self._lasted() >= self._plan.dies:
             return None
         return data
@@ -190,6 +199,12 @@ class Network:
             self.watch.poll()
             self.watch.tick()
 
+    def restart(self, seconds: float, kill: bool = False) -> None:
+        """The watch is away for a while."""
+        (self.kill if kill else self.end)()
+        self.times.pass_by(seconds)
+        self.begin()
+
     def kill(self) -> None:
         """What SIGKILL leaves: nothing is closed in order, and the part of a batch that was not written is gone."""
         self.writer.writer.close()
@@ -219,7 +234,10 @@ class Network:
             f"SELECT name, path {HOURS} WHERE station = ? ORDER BY recordings.id, number", station
         ):
             whole = self.folder / path
-            found[name] = found.get(name, b"") + (whole.read_bytes() if whole.exists() else b"")
+            text = whole.read_bytes() if whole.exists() else b""
+            if whole.suffix == ".zst":
+                text = zstandard.ZstdDecompressor().decompress(text)
+            found[name] = found.get(name, b"") + text
         return list(found.values())
 
     def hours(self, station: str) -> "List[Tuple[Hour, Rows]]":
@@ -284,3 +302,7 @@ def decoders_of(pid: int) -> List[int]:
 def stations(*lines: str) -> str:
     """A table of a station, from its lines, or of several, parted by '--'."""
     return "[[station]]\n" + "\n".join("[[station]]" if line == "--" else line for line in lines) + "\n"
+
+
+def no_space(self: Any, path: str, data: memoryview) -> int:
+    raise OSError(28, "No space left on device")

@@ -3,6 +3,8 @@
 from __future__ import annotations
 
 import fnmatch
+import gzip
+import lzma
 import os
 import subprocess
 import time
@@ -10,6 +12,7 @@ from typing import Any, List
 
 import numpy
 import pytest
+import zstandard
 
 from conftest import COMMAND, encode, monitor, ran, rds
 from made import group_row, listing, lock, run, split
@@ -61,6 +64,24 @@ def test_a_good_reception(sample, listed) -> None:
         listed,
     )
     judged(0, "RDS OK - 99.98 % *", "-", data=sample.read_bytes())
+
+
+@pytest.mark.parametrize("suffix", ["gz", "xz", "zst"])
+def test_compressed_files(suffix: str, sample, listed) -> None:
+    """As they are without it, whole or their ends, alone or before a plain one."""
+    compress = {"gz": gzip.compress, "xz": lzma.compress, "zst": zstandard.ZstdCompressor().compress}[suffix]
+    packed = [path.with_suffix(f"{path.suffix}.{suffix}") for path in (sample, listed)]
+    for path, plain in zip(packed, (sample, listed)):
+        path.write_bytes(compress(plain.read_bytes()))
+        told = run("check", plain).out
+        judged(0, told[:-1], path)
+        judged(0, told[:-1], "-", data=path.read_bytes())
+        part = run("check", "--last", 60, plain).out
+        judged(0, part[: part.index("last valid")] + "*", "--last", 60, path)
+    half = listed.read_bytes().splitlines(True)
+    packed[1].write_bytes(compress(b"".join(half[:900])))
+    listed.write_bytes(b"".join(half[900:]))
+    judged(0, "RDS OK - 100.00 % *", "--last", 100, packed[1], listed)
 
 
 def test_the_process_ends_in_the_status(sample) -> None:

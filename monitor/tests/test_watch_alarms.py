@@ -118,9 +118,44 @@ def test_another_pi() -> None:
     judged.seconds(20, pi="D318")
     assert judged.found == [("pi", True, 54.0), ("pi", False, 69.0)]
     assert Judged().seconds(50, pi="D319").found == []
+    assert Judged('pi = ["D318", "D319"]').seconds(50, pi="D319").found == []
     unknown = Judged('pi = "D318"', 'ps = "ALPHA"')
     unknown.held.clear()
     assert unknown.seconds(100).found == []
+
+
+def test_alternative_frequencies() -> None:
+    """Of either method, in any order, in kHz. None at all are others, too."""
+    both = Judged("af = [98.1, 89.3]", "[station.alarms]", "af = 30").seconds(40, af=[89300, 98100])
+    assert both.found == []
+    both.seconds(40, af=[89300]).seconds(20, af=[98100, 89300])
+    assert both.found == [("af", True, 71.0), ("af", False, 91.0)]
+    assert both.texts[0] == "AF 89.3 in place of 89.3 98.1"
+    lists = Judged("af = [98.1, 89.3]", "[station.alarms]", "af = 30").seconds(10)
+    lists.held["af:98.1"] = {"tuned": 98100, "same": [89300], "regional": []}
+    assert lists.seconds(60).found == []
+    assert [text for text in Judged("af = [98.1]").seconds(302).texts] == ["AF none in place of 98.1"]
+
+
+def test_no_clock_time() -> None:
+    judged = (
+        Judged("[station.alarms]", "no_rds = false", "ct_absent = 150").seconds(100).ticks(0).seconds(140)
+    )
+    # Time without contents does not count.
+    judged.seconds(50, age=3).seconds(20).ticks(0).seconds(100)
+    assert judged.found == [("ct_absent", True, 300.0), ("ct_absent", False, 312.0)]
+    assert Judged().seconds(4000).found == []
+
+
+def test_a_receiver_that_flaps() -> None:
+    """More than four sessions an hour, until only two of the last hour are left."""
+    judged = Judged("[station.alarms]", "flapping = 4")
+    for _ in range(6):
+        judged.alarms.begin_session(judged.now)
+        judged.seconds(600)
+    assert judged.found == [("flapping", True, 2401.0)] and judged.texts == ["5 sessions in an hour"]
+    judged.seconds(3600)
+    assert judged.found[1:] == [("flapping", False, 5400.0)]
 
 
 def test_no_contents_hold_their_alarms() -> None:
@@ -204,7 +239,7 @@ def test_the_pace_of_bits() -> None:
 def test_an_alarm_outlasts_the_watch() -> None:
     judged = Judged('pi = "D318"')
     lasting = {"pi": ("PI D319", 100.0), "unknown": ("of a later version", 1.0)}
-    judged.alarms.resume(lasting, {})
+    judged.alarms.resume(lasting, {}, 0.0)
     judged.seconds(5, pi="D319").seconds(15, pi="D318")
     assert judged.found == [("pi", False, 16.0)] and judged.alarms.lasting == {}
     assert judged.texts == ["PI D319; it lasted 116 s"]
@@ -219,7 +254,7 @@ def test_what_is_counted_outlasts_the_watch() -> None:
     assert first.found == []
     counted = json.loads(json.dumps(first.alarms.counted()))
     second = Judged('ps = "ALPHA"', *limits)
-    second.alarms.resume({}, counted)
+    second.alarms.resume({}, counted, 0.0)
     second.held.clear()
     second.seconds(20).ticks(7)
     second.held["pi"] = "D318"

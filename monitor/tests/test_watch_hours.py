@@ -95,7 +95,7 @@ def kept(folder: Path, keep: Keep, *sizes: int, busy: int = -1) -> "list[int]":
     if busy >= 0:
         name = os.path.join("listings", "Alpha", paths[busy].name)
         records.write([PartOpened(PartKey("Alpha 1", 0), "Alpha", Timing(HOUR), 0, name)])
-    removed = tidy(str(folder), keep, HOUR + 60, records)
+    removed = tidy(str(folder), keep, HOUR + 60, records).removed
     records.close()
     assert (top / "notes.txt").exists()
     assert removed == [os.path.join("listings", "Alpha", one.name) for one in paths if not one.exists()]

@@ -26,12 +26,11 @@ from network import (
     Network,
     Plan,
     Programme,
+    no_space,
     numbers_in,
     stations,
     told_once,
 )
-from station import Periodic
-from rds_monitor.db.standing import availability
 from rds_monitor.page.report import stations_of
 from rds_monitor.rows.clock import RATE, Clock, start_of
 from rds_monitor.watch import records, writer
@@ -138,11 +137,18 @@ def test_a_session_over_an_hour(tmp_path: Path) -> None:
         assert sum(int(line[3]) for line in lines) == valid
 
 
-def test_every_command_takes_an_hour(tmp_path: Path) -> None:
-    net = network(tmp_path, Air(ALPHA, START, 80))
+COMPRESSED = "[keep]\ncompress = true\n"
+
+
+@pytest.mark.parametrize("keep", ["", COMPRESSED])
+def test_every_command_takes_an_hour(tmp_path: Path, keep: str) -> None:
+    """Compressed or not, since it is closed."""
+    net = network(tmp_path, Air(ALPHA, START, 80), table=keep + TABLE)
     net.run(70)
+    net.restart(1)
+    net.run(3)
+    path = str(tmp_path / "listings" / "Alpha" / net.hours("Alpha")[1][0].name) + (".zst" if keep else "")
     net.end()
-    path = str(tmp_path / "listings" / "Alpha" / net.hours("Alpha")[1][0].name)
     commands = "errors outages programmes types corrected info json groups table".split()
     for words in (*([name] for name in commands), ["check", "-W", "100"], ["db", tmp_path / "other.db"]):
         done = run(*words, path)
@@ -150,6 +156,8 @@ def test_every_command_takes_an_hour(tmp_path: Path) -> None:
     assert "2026-11-27T03:00" in run("json", path).out and "2026-11-27T03:00" in run("table", path).out
     data = sqlite3.connect(tmp_path / "other.db")
     assert data.execute("SELECT DISTINCT station, begin_utc FROM minutes").fetchone()[0] == "Alpha"
+    (name,) = data.execute("SELECT name FROM recordings").fetchone()
+    assert name == "Alpha/" + Path(path).name.replace(".zst", "")
 
 
 def test_outages_a_wrong_pi_and_restarts(tmp_path: Path) -> None:
@@ -179,16 +187,6 @@ def test_outages_a_wrong_pi_and_restarts(tmp_path: Path) -> None:
     assert len(no_rds) >= 1 and 88 < no_rds[0][1] < 92 and 113 < no_rds[0][2] < 118
     silent = [alarm for alarm in told if alarm[0] == "silent"]
     assert all(end is not None for _, _, end in silent)
-
-
-def test_another_pi(tmp_path: Path) -> None:
-    """For a minute: the alarm begins ten seconds after the PI, and ends ten seconds after the expected one is there."""
-    net = network(tmp_path, Air(ALPHA._replace(wrong_pi=Periodic(500, 60)), START, 160))
-    begin = 440 - START % 500
-    net.run(begin + 80, tick=1)
-    net.end()
-    ((name, since, until),) = alarms(net)
-    assert name == "pi" and begin + 9 < since < begin + 13 and begin + 69 < until < begin + 74
 
 
 # ---- killed
@@ -245,13 +243,16 @@ class Disk:
     """Operations on the disk, before one of which the power fails. It keeps all synchronised bytes, and perhaps more."""
 
     def __init__(self, monkeypatch: pytest.MonkeyPatch, folder: Path):
-        self.folder, self.left = folder, 0
+        self.folder, self.left, self.replace = folder, 0, os.replace
         self.kept: Dict[str, int] = {}
         for of, name in (
             (writer.HourWriter, "append"),
             (records.Records, "write"),
+            (records.Records, "rename"),
             (os, "fsync"),
             (os, "fdatasync"),
+            (os, "replace"),
+            (os, "unlink"),
         ):
             monkeypatch.setattr(of, name, self._counted(getattr(of, name), "sync" in name))
 
@@ -263,23 +264,26 @@ class Disk:
             done = real(*words)
             if syncs:
                 self.kept[os.readlink(f"/proc/self/fd/{words[0]}")] = os.fstat(words[0]).st_size
+            if real is self.replace:
+                self.kept[words[1]] = self.kept.pop(words[0], 0)
             return done
 
         return work
 
     def lose(self, chance: random.Random) -> None:
         """The power failed. What is there afterwards is on the disk."""
-        for path in (self.folder / "listings").rglob("*.csv"):
+        for path in (self.folder / "listings").rglob("*.csv*"):
             size, kept = path.stat().st_size, self.kept.get(str(path), 0)
             self.kept[str(path)] = chance.choice([kept, chance.randint(kept, size)])
             os.truncate(path, self.kept[str(path)])
 
 
-@pytest.mark.parametrize("seed", range(3))
-def test_power_failures(tmp_path: Path, seed: int, monkeypatch: pytest.MonkeyPatch) -> None:
-    """Twelve times, a third of them just after a SIGKILL. The database tells only of rows that are on the disk, so nothing is there twice."""
+@pytest.mark.parametrize(("seed", "keep"), enumerate(["", COMPRESSED, COMPRESSED]))
+def test_power_failures(tmp_path: Path, seed: int, keep: str, monkeypatch: pytest.MonkeyPatch) -> None:
+    """Twelve times, a third of them just after a SIGKILL. The database tells only of rows that are on the disk, so nothing is there twice.
+    Nor is anything lost where hours are compressed."""
     chance, disk = random.Random(seed), Disk(monkeypatch, tmp_path)
-    net = network(tmp_path, Air(ALPHA, START, 300))
+    net = network(tmp_path, Air(ALPHA, START, 300), table=keep + TABLE)
     for turn in range(12):
         disk.left = chance.randint(4, 90)
         with pytest.raises(PowerFailure):
@@ -300,6 +304,63 @@ def test_power_failures(tmp_path: Path, seed: int, monkeypatch: pytest.MonkeyPat
     assert found == sorted(set(found)) and len(found) > 30
     nothing_lost(net, found)
     told_once(tmp_path)
+
+
+STEPS = {
+    "synchronised": (os, "fsync"),
+    "renamed": (os, "replace"),
+    "told": (records.Records, "rename"),
+    "removed": (os, "unlink"),
+}
+
+
+@pytest.mark.parametrize("step", STEPS)
+def test_killed_while_an_hour_is_compressed(
+    tmp_path: Path, step: str, monkeypatch: pytest.MonkeyPatch
+) -> None:
+    """Before each step: the next watch does the rest, and its rows are those of the plain file, once."""
+    net = network(tmp_path, Air(ALPHA, START, 80), table=COMPRESSED + TABLE)
+    net.run(20)
+    net.kill()
+    net.begin()
+    plain = b"".join(net.texts("Alpha"))
+    with monkeypatch.context() as patch:
+        real = getattr(*STEPS[step])
+
+        def killed(*words: Any, **more: Any) -> Any:
+            of = os.readlink(f"/proc/self/fd/{words[0]}") if step == "synchronised" else str(words[0:2])
+            if "listings" in of:
+                raise PowerFailure
+            return real(*words, **more)
+
+        patch.setattr(*STEPS[step], killed)
+        with pytest.raises(PowerFailure):
+            net.run(3)
+    net.kill()
+    net.begin()
+    net.run(3)
+    closed = sorted(path.suffix for path in (tmp_path / "listings" / "Alpha").iterdir())
+    assert plain and net.texts("Alpha")[0] == plain and closed[-1] == ".zst" and closed.count(".csv") == 1
+    net.end()
+    told_once(tmp_path)
+
+
+def test_hours_that_cannot_be_compressed(tmp_path: Path, monkeypatch: pytest.MonkeyPatch) -> None:
+    """The disk is full: the plain file stays, and is compressed an hour later. A deleted one is no error."""
+    net = network(tmp_path, Air(ALPHA, START, 80), Plan(dies=10), table=COMPRESSED + TABLE)
+    with monkeypatch.context() as patch:
+        patch.setattr(os, "utime", lambda *words, **more: no_space(None, "", memoryview(b"")))
+        net.run(13)
+    (first, *_) = sorted((tmp_path / "listings" / "Alpha").iterdir())
+    assert first.suffix == ".csv" and any("cannot be compressed" in line for line in net.said)
+    net.watch._tidy_at = 0.0
+    net.run(3)
+    assert not first.exists() and first.with_suffix(".csv.zst").exists()
+    first.with_suffix(".csv.zst").unlink()
+    net.watch._closed.append("listings/Alpha/none.csv")
+    net.run(3)
+    assert [line for line in net.said if "compressed" in line and "No space" not in line] == []
+    net.end()
 
 
 def test_killed_in_the_middle_of_an_hour(tmp_path: Path) -> None:
@@ -363,12 +424,15 @@ def test_a_full_disk(tmp_path: Path, monkeypatch: pytest.MonkeyPatch) -> None:
 
 def test_a_database_that_is_locked_delays_no_row(tmp_path: Path, monkeypatch: pytest.MonkeyPatch) -> None:
     monkeypatch.setattr(records, "WAIT", 0.0)
-    net = network(tmp_path, Air(ALPHA, START, 100))
+    net = network(tmp_path, Air(ALPHA, START, 200))
     net.run(10)
     other = sqlite3.connect(tmp_path / "watch.db", isolation_level=None)
     other.execute("BEGIN IMMEDIATE")
-    net.run(20)
-    assert len(numbers_in(net.hours("Alpha"))) > 50
+    net.run(150)
+    assert len(numbers_in(net.hours("Alpha"))) > 250
+    # Of what is said again and again only the last waits.
+    waiting = net.writer.writer._waiting
+    assert sum(isinstance(one, records.StateSeen) for one in waiting) == 1 and not net.writer.writer._after
     other.execute("ROLLBACK")
     net.run(10)
     net.end()
@@ -424,6 +488,7 @@ def test_a_disk_that_hangs(tmp_path: Path, monkeypatch: pytest.MonkeyPatch) -> N
     with monkeypatch.context() as patch:
         patch.setattr(InTurn, "is_idle", property(lambda self: False))
         net.run(20, tick=0.5)
+        assert sum(isinstance(one, records.StateSeen) for one in net.watch._records) == 1
     net.run(10, tick=0.5)
     net.end()
     same_as_sent(net, tmp_path)
@@ -453,9 +518,12 @@ def test_a_table_that_is_read_again(tmp_path: Path) -> None:
     net = Network(tmp_path, stations(*alpha, *beta, 'command = ["b"]'), airs)
     net.run(20)
     net.reload(stations(*alpha, 'pi = "D318"', *beta, 'command = ["b", "again"]'))
-    net.run(20)
+    net.run(21)
+    page = tmp_path / "pages" / "Beta.html"
+    assert page.exists()
     net.reload(stations(*alpha))
-    net.run(20)
+    net.run(19)
+    assert not page.exists() and (tmp_path / "pages" / "Alpha.html").exists()
     net.end()
     assert [name for name, _ in net.runs] == ["a", "b", "b"]
     assert len(net.texts("Alpha")) == 1 and len(net.texts("Beta")) == 2
@@ -472,29 +540,17 @@ def test_a_table_that_is_read_again(tmp_path: Path) -> None:
 # ---- the truth after restarts, and of downtime
 
 
-def restarted(net: Network, seconds: float, kill: bool = False) -> None:
-    """The watch is away for a while."""
-    (net.kill if kill else net.end)()
-    net.times.pass_by(seconds)
-    net.begin()
-
-
 @pytest.mark.parametrize("kill", [False, True])
-def test_alarms_over_restarts_of_the_watch(tmp_path: Path, kill: bool) -> None:
-    """The PS and the RT are others than expected, and the RT the same: each alarm begins once, and lasts."""
-    table = (
-        TABLE.replace("ALPHA*", "BETA").replace("Now: *", "Then: *") + "[station.alarms]\nrt_stuck = 150\n"
-    )
-    net = network(tmp_path, Air(ALPHA, START, 400), table=table)
+def test_an_rt_that_is_stuck_over_restarts_of_the_watch(tmp_path: Path, kill: bool) -> None:
+    """The alarm begins once, and lasts."""
+    net = network(tmp_path, Air(ALPHA, START, 400), table=TABLE + "[station.alarms]\nrt_stuck = 150\n")
     for _ in range(4):
         net.run(70)
-        restarted(net, 5, kill)
+        net.restart(5, kill)
     net.run(20)
-    told = {name: (begin, end) for name, begin, end in alarms(net)}
-    assert len(alarms(net)) == 3 and all(end is None for _, end in told.values())
-    assert 60 < told["ps"][0] < 66 and 60 < told["rt"][0] < 66
+    ((name, begin, end),) = alarms(net)
     # Without the 5 s of each pause, in which nobody knew, and the seconds after it until the RT is there. A kill costs up to ten more.
-    assert 150 + 2 * 5 < told["rt_stuck"][0] < 150 + 2 * 5 + (40 if kill else 20)
+    assert name == "rt_stuck" and 0 < begin - 150 - 2 * 5 < (40 if kill else 20) and end is None
     net.end()
 
 
@@ -507,52 +563,22 @@ def test_an_rt_that_is_stuck_on_a_receiver_that_dies_often(tmp_path: Path) -> No
     net.end()
 
 
-def test_the_end_of_an_alarm_says_how_long_it_lasted(tmp_path: Path) -> None:
-    net = network(tmp_path, Air(ALPHA._replace(wrong_pi=Periodic(500, 60)), START, 160))
-    net.run(440 - START % 500 + 80)
-    net.end()
-    ((_, begin, end),) = alarms(net)
-    (line,) = [line for line in net.said if "alarm pi ends" in line]
-    assert line.endswith(f"; it lasted {end - begin:.0f} s")
-
-
-def test_each_second_has_its_state(tmp_path: Path) -> None:
-    """Received for 40 s, then noise for 20, an unplugged receiver for 30, and no watch for 50: in all views."""
+def test_outages_that_last_and_that_are_over(tmp_path: Path) -> None:
+    """Noise for 20 s, which lasts at first, and an unplugged receiver until its next run."""
     air = Air(ALPHA, START, 400)
     air.noise(40, 60)
     net = network(tmp_path, air, Plan(dies=60), *[Plan(dies=0)] * 4)
     net.run(55)
-    ((first, last, length),) = net.asked(
-        "SELECT begin_utc, end_utc, length_s FROM station_outages WHERE length_s > 2"
-    )
+    query = "SELECT begin_utc, end_utc, length_s, kind FROM station_outages WHERE length_s > 2"
+    ((first, last, length, _),) = net.asked(query)
     assert abs(start_of(first) - START - 40) < 1 and last is None and length > 4
     net.run(35)
     assert net.watch.stations["Alpha"].state(0.0)["session_utc"] is None
-    restarted(net, 50)
     net.run(60)
     net.end()
-    outages = net.asked("SELECT begin_utc, end_utc, length_s, kind FROM station_outages")
-    found = [
-        (round(start_of(begin) - START), round(length), kind)
-        for begin, _, length, kind in outages
-        if length > 2
-    ]
-    assert [kind for _, _, kind in found] == ["noise", "down"]
-    for (begin, length, _), (wanted, lasted) in zip(found, ((40, 20), (60, 30))):
-        assert abs(begin - wanted) <= 2 and abs(length - lasted) <= 3, found
-    days = net.asked("SELECT received_s, noise_s, down_s, unknown_s FROM days")
-    assert len(days) == 1 and round(sum(days[0]), 1) == 86400
-    received, noise, down, unknown = available(net, 0, 200)
-    assert abs(received - 97) < 5 and abs(noise - 20) < 2 and abs(down - 33) < 5 and abs(unknown - 50) < 3
-    assert round(received + noise + down + unknown, 3) == 200
-    assert tuple(round(seconds, 3) for seconds in available(net, -100, 0)) == (0, 0, 0, 100)
-
-
-def available(net: Network, begin: float, end: float) -> Tuple[float, ...]:
-    data = sqlite3.connect(net.folder / "watch.db")
-    found = availability(data, "Alpha", START + begin, START + end)
-    data.close()
-    return found
+    noise, down = ((start_of(begin) - START, length, kind) for begin, _, length, kind in net.asked(query))
+    assert noise[2] == "noise" and numpy.allclose(noise[:2], (40, 20), atol=2)
+    assert down[2] == "down" and numpy.allclose(down[:2], (60, net.runs[-1][1] - 60), atol=2)
 
 
 def test_a_page_of_the_database_of_a_watch(tmp_path: Path) -> None:
@@ -604,15 +630,6 @@ def test_bits_that_a_receiver_drops(tmp_path: Path, burst: float) -> None:
     assert [one for one, at in zip(off, times) if 41 < at < 50 and abs(one + 3) < 0.6]
 
 
-@pytest.mark.parametrize("pace, name", [(0.97, "slow"), (1.03, "fast")])
-def test_bits_at_another_pace(tmp_path: Path, pace: float, name: str) -> None:
-    net = network(tmp_path, Air(ALPHA, START, 300), *[Plan(pace=pace)] * 3)
-    net.run(140)
-    told = [alarm for alarm in alarms(net) if alarm[0] in ("fast", "slow")]
-    assert [alarm[0] for alarm in told] == [name] and 68 < told[0][1] < 90
-    net.end()
-
-
 @pytest.mark.parametrize("pace", [50, 5000])
 def test_bits_faster_than_real_time(tmp_path: Path, pace: float) -> None:
     """No time is ahead, the alarm begins at once, and `check` says no age of nothing."""
@@ -654,10 +671,6 @@ def test_a_full_disk_is_one_alarm(tmp_path: Path, monkeypatch: pytest.MonkeyPatc
     assert 15 < begin - START < 17 and 29 < end - START < 32
 
 
-def no_space(self: Any, path: str, data: memoryview) -> int:
-    raise OSError(28, "No space left on device")
-
-
 def test_a_database_that_nothing_is_written_to(tmp_path: Path) -> None:
     """The watch holds its lock and writes no more: it is not said that it doesn't run."""
     net = network(tmp_path, Air(ALPHA, START, 100))
@@ -689,10 +702,8 @@ def test_a_listing_that_is_deleted(tmp_path: Path) -> None:
 
 def test_check_of_a_dynamic_ps(tmp_path: Path) -> None:
     """A PS of the last minute fits, though the last one is another; a minute later it does not."""
-    net = network(tmp_path, Air(ALPHA, START, 30), Plan(dies=300))
-    news = Air(ALPHA._replace(ps="NEWS"), START, 200)
-    air = net.airs["a"]
-    air._data = numpy.concatenate([air._data[: air.at(15)], news._data[air.at(15) :]])
+    net = network(tmp_path, Air(ALPHA, START, 200))
+    net.airs["a"].change(ALPHA._replace(ps="NEWS"), 15, 200)
     net.run(40)
     for seconds, fits in ((0, True), (70, False)):
         net.run(seconds)

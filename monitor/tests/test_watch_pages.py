@@ -29,7 +29,7 @@ def state(**changes: Any) -> Dict[str, Any]:
     known: Dict[str, Any] = {
         "utc": UTC,
         "frequency": 98.1,
-        "expected_pi": "D318",
+        "expected_pi": ["D318"],
         "running": True,
         "starts": 3,
         "reason": "",

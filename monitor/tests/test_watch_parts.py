@@ -2,13 +2,17 @@
 
 from __future__ import annotations
 
+import gc
 import time
+from collections import deque
 from pathlib import Path
-from typing import List, Optional
+from types import BuiltinFunctionType, FunctionType, ModuleType
+from typing import Any, List, Optional
 
 import pytest
 
-from network import START, Air
+from load import Endless
+from network import START, Air, Plan, Simulated
 from rds_monitor.content.decoder import Event
 from rds_monitor.db.parts import Contents, Part
 from rds_monitor.rows.clock import Clock
@@ -18,7 +22,7 @@ from rds_monitor.watch.loop import Hooks
 from rds_monitor.watch.receiver import Keeper, Process
 from rds_monitor.watch.records import Records, RunBegan
 from rds_monitor.watch.writer import Batch, Writer, WriterThread
-from test_watch_network import ALPHA, network
+from test_watch_network import ALPHA, TABLE, network
 
 
 class Leaving(Process):
@@ -98,6 +102,36 @@ def test_the_last_minute_of_a_station(tmp_path: Path) -> None:
     ((sent, valid, corrected, lost),) = one.asked(query)
     assert (state["sent"], state["valid"], state["corrected"]) == (sent, valid, corrected)
     assert 0 < corrected != lost
+    one.end()
+
+
+def entries(root: Any, outside: Any) -> int:
+    """How many entries all containers have that can be reached, but not those of the test."""
+    seen, left, count = {id(outside)}, [root], 0
+    while left:
+        one = left.pop()
+        if id(one) not in seen and not isinstance(one, (type, ModuleType, FunctionType, BuiltinFunctionType)):
+            seen.add(id(one))
+            count += len(one) if isinstance(one, (list, deque, dict, set)) else 0
+            left += gc.get_referents(one)
+    return count
+
+
+@pytest.mark.parametrize("grows", [False, True])
+def test_nothing_grows(tmp_path: Path, grows: bool, monkeypatch: pytest.MonkeyPatch) -> None:
+    """Once two hours have passed, with sessions of 25 minutes, RDS for a quarter of each hour, and rows that are kept for one. A list that
+    grew by an entry per tick is seen."""
+    keep = "[keep]\nlistings_days = 0.04\ndatabase_days = 0.04\ncompress = true\n"
+    monkeypatch.setattr(Simulated, "keeps", False)
+    air: Any = Endless()
+    one = network(tmp_path, air, *[Plan(dies=1500.0)] * 20, table=keep + TABLE)
+    one.watch.grown = []  # type: ignore[attr-defined]
+    grow = one.watch.grown.append if grows else lambda entry: None  # type: ignore[attr-defined]
+    most = []
+    for _ in range(24):
+        one.run(600, 50, lambda: grow(0))
+        most.append(entries(one.watch, one))
+    assert 200 < max(most) < 2000 and (max(most[12:]) > max(most[:12]) + 100) == grows
     one.end()
 
 

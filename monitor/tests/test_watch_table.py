@@ -4,9 +4,10 @@ from __future__ import annotations
 
 import importlib
 import re
+import sys
 import syslog
 from pathlib import Path
-from typing import Any
+from typing import Any, List
 
 import pytest
 
@@ -25,13 +26,14 @@ def test_defaults() -> None:
     (one,) = found.stations
     assert found.folder is None and found.keep == Keep() and one.command == ("receiver", "-f", "98.1M")
     assert one == StationTable(
-        "Alpha", one.command, "bits", patience=10, alarms=AlarmLimits(), pi=None, ps=()
+        "Alpha", one.command, "bits", patience=10, alarms=AlarmLimits(), pi=(), ps=(), af=()
     )
 
 
 def test_all_of_it() -> None:
     alpha = (
-        'pi = "d318"',
+        'pi = ["d318", "D218"]',
+        "af = [98.1, 104]",
         'ps = ["ALPHA*", "NEWS"]',
         'rt = "*"',
         "frequency = 98.1",
@@ -44,7 +46,8 @@ def test_all_of_it() -> None:
         "[defaults.alarms]\nsilent = 20\nta = false\n" + stations(*ALPHA, *alpha, *limits, *beta)
     )
     one, other = found.stations
-    assert found.keep == Keep(60, 0.5, 0) and one.pi == "D318" and one.ps == ("ALPHA*", "NEWS")
+    assert found.keep == Keep(60, 0.5, 0) and one.pi == ("D318", "D218") and one.ps == ("ALPHA*", "NEWS")
+    assert one.af == (98100, 104000)
     assert one.alarms == AlarmLimits(silent=30, ta=None, errors_percent=5) and other.alarms.silent == 20
     assert other.form == "iq" and other.rate == 171000 and other.offset == -1e5 and one.rt == ("*",)
     assert one.same_receiver(one) and not one.same_receiver(other)
@@ -60,11 +63,14 @@ def test_all_of_it() -> None:
         (stations('command = ["a"]'), "the station number 1 has no 'name'"),
         (stations('name = "Alpha"', 'command = "rtl_fm -f 98.1M"'), "a list of words is needed"),
         (stations('name = "../etc"', 'command = ["a"]'), "cannot be the name of a folder"),
+        (stations('name = "index"', 'command = ["a"]'), "cannot be the name of a folder"),
         (stations('name = "a/b"', 'command = ["a"]'), "cannot be the name of a folder"),
         (stations('name = "a\\nb"', 'command = ["a"]'), "cannot be the name of a folder"),
         (stations(*ALPHA, "--", 'name = "ALPHA"', 'command = ["a"]'), "there are two stations"),
         (stations(*ALPHA, 'pi = "D31"'), "four hexadecimal digits"),
         (stations(*ALPHA, "pi = 0xD318"), "four hexadecimal digits"),
+        (stations(*ALPHA, 'pi = ["D318", ""]'), "four hexadecimal digits in quotes, or a list of such"),
+        (stations(*ALPHA, "af = [981]"), "a list of frequencies in MHz"),
         (stations(*ALPHA, 'form = "wav"'), "one of bits, mpx, iq"),
         (stations(*ALPHA, 'form = "mpx"'), "needs 'raw' and 'rate'"),
         (stations(*ALPHA, "rate = 171000"), "are for the forms mpx and iq"),
@@ -75,6 +81,7 @@ def test_all_of_it() -> None:
         (stations(*ALPHA, "[station.alarms]", 'silent = "15"'), "alarm silent of station 'Alpha'"),
         (stations(*ALPHA, "[station.alarms]", "errors_percent = false"), "a number that is not below 0"),
         (stations(*ALPHA, 'ps = ""'), "a pattern or a list of patterns"),
+        ("[keep]\ncompress = 1\n" + stations(*ALPHA), "keep.compress: true or false is needed"),
         ('[keep]\nlistings_days = "60"\n' + stations(*ALPHA), "keep.listings_days"),
         ('[defaults]\nname = "a"\n' + stations(*ALPHA), "[defaults]"),
     ],
@@ -83,6 +90,14 @@ def test_errors(text: str, fault: str) -> None:
     with pytest.raises(Fault) as caught:
         table_of(text)
     assert fault in str(caught.value)
+
+
+def test_no_compressor(monkeypatch: pytest.MonkeyPatch) -> None:
+    text = "[keep]\ncompress = true\n" + stations(*ALPHA)
+    assert table_of(text).keep.compress
+    monkeypatch.setitem(sys.modules, "zstandard", None)
+    with pytest.raises(Fault, match="python3-zstandard"):
+        table_of(text)
 
 
 def test_no_reader_of_toml(monkeypatch: pytest.MonkeyPatch) -> None:
@@ -104,7 +119,6 @@ def test_no_reader_of_toml(monkeypatch: pytest.MonkeyPatch) -> None:
 def test_the_command_line(tmp_path: Path) -> None:
     path = tmp_path / "stations.toml"
     path.write_text(stations(*ALPHA))
-    assert run("watch", "--check", path).out == "Alpha: bits, receiver -f 98.1M\n"
     done = run("watch", path)
     assert done.status == 1 and "there is no folder to write to" in done.err
     done = run("watch", tmp_path / "none.toml")
@@ -112,6 +126,46 @@ def test_the_command_line(tmp_path: Path) -> None:
     path.write_bytes(b"\xff")
     assert "not in UTF-8" in run("watch", path).err
     assert run("watch").status == 2
+
+
+def test_commands_that_are_tried(tmp_path: Path) -> None:
+    """Those of receivers and of alarms have to be there, and programs; each that is not is told."""
+    path, plain = tmp_path / "stations.toml", tmp_path / "plain"
+    plain.write_text("")
+    alarm = f'alarm_command = ["{plain}", "x"]'
+    path.write_text(
+        stations(*ALPHA, alarm, "--", 'name = "Beta"', 'command = ["sh", "-c", "cat"]', "patience = 30")
+    )
+    done = run("watch", "--check", path)
+    assert done.status == 1 and done.out == "Alpha: bits, receiver -f 98.1M\nBeta: bits, sh -c cat\n"
+    assert "Alpha: there is no program 'receiver'\n" in done.err
+    assert f"Alpha: '{plain}' may not be run\n" in done.err and "Beta: there" not in done.err
+    plain.chmod(0o755)
+    path.write_text('program = "none/rds"\n' + stations('name = "Alpha"', f'command = ["{plain}"]', alarm))
+    done = run("watch", "--check", path)
+    assert done.status == 1 and "program: there is no program 'none/rds'\n" in done.err
+
+
+@pytest.mark.parametrize(
+    ("lines", "warns"),
+    [
+        ([], True),
+        (["patience = 27"], True),
+        # The alarm `silent` would come.
+        (["patience = 30"], True),
+        (["patience = 30", "[station.alarms]", "silent = 30"], False),
+        (["patience = 30", "[station.alarms]", "silent = false"], False),
+        (['form = "mpx"', 'raw = "u8"', "rate = 128000"], False),
+    ],
+)
+def test_a_burst_that_is_longer_than_patience(tmp_path: Path, lines: List[str], warns: bool) -> None:
+    """A buffer of 4,096 bytes is full after 4096 * 8 / 1187.5 s. That is a warning."""
+    path = tmp_path / "stations.toml"
+    path.write_text(stations('name = "Alpha"', 'command = ["cat"]', *lines))
+    done = run("watch", "--check", path)
+    assert done.status == 0 and ("4 KiB writes each 27.6 s" in done.err and "stdbuf -o0" in done.err) == warns
+    path.write_text(path.read_text().replace('"cat"', '"stdbuf", "-o0", "cat"'))
+    assert run("watch", "--check", path).err == ""
 
 
 def test_the_tables_that_are_shown() -> None:

@@ -286,10 +286,11 @@ def run_db(arguments: argparse.Namespace) -> int:
         store = store or Store(arguments.database)
         name = os.path.basename(path) if arguments.name is None else arguments.name
         station = arguments.station
-        if hour_of(path):
-            # Hours of several stations have the same names, in a folder of the station's name.
+        hour = hour_of(path)
+        if hour:
+            # Hours of several stations have the same names, in a folder of the station's name. Compressed they are the same ones.
             folder = os.path.basename(os.path.dirname(os.path.abspath(path)))
-            name, station = name if arguments.name else f"{folder}/{name}", station or folder
+            name, station = arguments.name or f"{folder}/{hour.name}", station or folder
         store.add(name, station, source, clock_of_hour(arguments, path), arguments.groups)
     if store:
         store.close()

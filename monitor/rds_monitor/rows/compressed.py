@@ -9,14 +9,21 @@ from typing import Any, Callable, Dict, Optional
 from .items import Fault, Readable
 
 CHUNK = 1 << 16
+# Bytes that say how an input is compressed.
+HEAD = 6
+
+
+def zstandard(else_fault: str) -> Any:
+    """The module, or an error."""
+    try:
+        return importlib.import_module("zstandard")
+    except ImportError:
+        raise Fault(else_fault) from None
 
 
 def _zstd() -> Any:
-    try:
-        zstandard = importlib.import_module("zstandard")
-    except ImportError:
-        raise Fault("the input is compressed with zstd: install python3-zstandard, or use zstd -dc") from None
-    return zstandard.ZstdDecompressor().decompressobj()
+    fault = "the input is compressed with zstd: install python3-zstandard, or use zstd -dc"
+    return zstandard(fault).ZstdDecompressor().decompressobj()
 
 
 # By the first bytes: the name, and what decompresses one stream.

@@ -1,4 +1,4 @@
-"""Names of the files of a watch: an hour of a session, in the form of a listing. They give the times of the rows."""
+"""Names of the files of a watch: an hour of a session, in the form of a listing, compressed or not. They give the times of the rows."""
 
 from __future__ import annotations
 
@@ -10,7 +10,9 @@ from typing import List, NamedTuple, Optional
 
 from .clock import RATE, Clock
 
-NAME = re.compile(r"(\d{4}-\d\d-\d\dT\d\d)Z_(\d{8}T\d{6}\.\d{3})Z(?:_(\d{4}\.\d{4}))?\.csv")
+NAME = re.compile(
+    r"(\d{4}-\d\d-\d\dT\d\d)Z_(\d{8}T\d{6}\.\d{3})Z(?:_(\d{4}\.\d{4}))?\.csv(?:\.(?:gz|xz|zst))?"
+)
 HOUR = 3600
 EPOCH = datetime.datetime(1970, 1, 1)
 

@@ -5,7 +5,7 @@ from __future__ import annotations
 import math
 import re
 from collections import deque
-from typing import Any, Deque, Dict, Iterable, List, NamedTuple, Optional, Sequence, Tuple
+from typing import Any, Deque, Dict, Iterable, List, NamedTuple, Optional, Sequence, Set, Tuple
 
 from ..content.charset import printable
 from ..content.decoder import Event
@@ -14,31 +14,24 @@ from .table import StationTable
 from .times import Timing
 from .verdict import pattern_of
 
-NAMES = (
-    *("silent", "no_rds", "fast", "slow", "errors", "pi", "ps", "rt", "ps_stuck", "rt_stuck", "ta", "pty31"),
-    *("ct", "disk"),
-)
+# Of the contents: without them nothing can be said of these.
+CONTENTS = ("pi", "ps", "rt", "af", "ps_stuck", "rt_stuck", "ta", "pty31", "ct_absent")
+NAMES = ("silent", "no_rds", "fast", "slow", "flapping", "errors", *CONTENTS[:-1], "ct", "ct_absent", "disk")
 # How many seconds the fault has to be gone before an alarm ends.
 CLEAR = {
-    "silent": 5.0,
-    "no_rds": 5.0,
-    "fast": 60.0,
-    "slow": 60.0,
-    "pi": 10.0,
-    "ps": 10.0,
-    "rt": 10.0,
-    "ta": 5.0,
-    "pty31": 10.0,
+    **dict.fromkeys(("silent", "no_rds", "ta"), 5.0),
+    **dict.fromkeys(("pi", "ps", "rt", "af", "pty31"), 10.0),
+    **dict.fromkeys(("fast", "slow"), 60.0),
 }
-# A block error rate ends an alarm below this part of the limit.
-RECOVERED = 0.8
+# The limits of these are no seconds, and those of the others need an expected value.
+COUNTS, EXPECTED = ("errors", "ct", "flapping"), ("pi", "ps", "rt", "af")
+# A block error rate ends an alarm below this part of the limit, and a number of sessions at this one.
+RECOVERED, CALM = 0.8, 0.5
+HOUR = 3600.0
 # Reads come each second, so a pause of bytes or of valid blocks is one only if it is longer.
 PAUSE = 2.0
 # By this part the bits of a receiver are faster or slower than those of a station.
 OFF_PACE = 0.01
-
-
-CONTENTS = ("pi", "ps", "rt", "ps_stuck", "rt_stuck", "ta", "pty31")
 
 
 class Change(NamedTuple):
@@ -63,27 +56,23 @@ class Alarm:
     def __init__(self, after: float, clear: float):
         self.after, self._clear = after, clear
         self.text: Optional[str] = None
-        self._gone: Optional[float] = None
+        # Since when the fault is gone.
+        self.gone: Optional[float] = None
 
     def judge(self, fault: Optional[Trouble], now: float) -> Optional[bool]:
         """Whether the alarm begins or ends now."""
         if fault:
-            self._gone = None
+            self.gone = None
             if self.text is None and now - fault.since >= self.after:
                 self.text = fault.text
                 return True
             return None
-        if self._gone is None:
-            self._gone = now
-        if self.text is not None and now - self._gone >= self._clear:
+        if self.gone is None:
+            self.gone = now
+        if self.text is not None and now - self.gone >= self._clear:
             self.text = None
             return False
         return None
-
-    def hold(self, seconds: float) -> None:
-        """Nothing can be said of these seconds."""
-        if self._gone is not None:
-            self._gone += seconds
 
 
 class Watched(NamedTuple):
@@ -101,14 +90,18 @@ class Alarms:
 
     def __init__(self, table: StationTable, now: float, speed: float = 1.0):
         self._now, self._speed = now, speed
-        self._values: Dict[str, Any] = {}
+        self._seen = Watched(now, 0.0, {}, None)
         self._minutes: Deque[float] = deque(maxlen=60)
         self._offsets: Deque[float] = deque(maxlen=60)
-        # Since when an expected text was not there, a text is the same, or a flag is set.
+        # When each of the last hour began; and the seconds of this one in which no byte came yet, which a burst may bring.
+        self._sessions: Deque[float] = deque()
+        self._unheard = 0.0
+        # Since when an expected value was not there, a text is the same, or a flag is set.
         self._since: Dict[str, float] = {}
         self._texts: Dict[str, Optional[str]] = {}
         self.lasting: Dict[str, str] = {}
         self._begins: Dict[str, float] = {}
+        self._found: List[Change] = []
         self.set_table(table)
 
     def set_table(self, table: StationTable) -> None:
@@ -117,32 +110,55 @@ class Alarms:
         self._alarms: Dict[str, Alarm] = {}
         for name in NAMES[:-1]:
             after = getattr(table.alarms, name)
-            if after is not None and (name not in ("pi", "ps", "rt") or getattr(table, name)):
-                self._alarms[name] = Alarm(0 if name in ("errors", "ct") else after, CLEAR.get(name, 0.0))
+            if after is not None and (name not in EXPECTED or getattr(table, name)):
+                self._alarms[name] = Alarm(0 if name in COUNTS else after, CLEAR.get(name, 0.0))
                 self._alarms[name].text = self.lasting.get(name)
-        texts = ("ps", "rt")
-        self._fits = {name: [pattern_of(text) for text in getattr(table, name)] for name in texts}
+        self._fits = {name: [pattern_of(text) for text in getattr(table, name)] for name in ("ps", "rt")}
 
     def counted(self) -> Dict[str, Any]:
         """All that is counted, for the next watch: for how many seconds, and the last values."""
-        ago = {name: round(self._now - since, 3) for name, since in self._since.items()}
-        return {"ago": ago, "texts": self._texts, "minutes": [*self._minutes], "offsets": [*self._offsets]}
 
-    def resume(self, lasting: Dict[str, Tuple[str, float]], counted: Dict[str, Any]) -> None:
-        """Alarms that lasted when the last watch ended, with their seconds, and all that it counted."""
+        def ago(times: Dict[str, float]) -> Dict[str, float]:
+            return {name: round(self._now - time, 3) for name, time in times.items()}
+
+        gone = {
+            name: alarm.gone for name, alarm in self._alarms.items() if alarm.text and alarm.gone is not None
+        }
+        return {
+            "ago": ago(self._since),
+            "gone": ago(gone),
+            "quiet": round(self._now - self._seen.last_byte, 3),
+            "age": round(self._seen.valid_age, 3),
+            "sessions": [round(self._now - begin, 3) for begin in self._sessions],
+            "texts": self._texts,
+            "minutes": [*self._minutes],
+            "offsets": [*self._offsets],
+        }
+
+    def resume(self, lasting: Dict[str, Tuple[str, float]], counted: Dict[str, Any], away: float) -> None:
+        """Alarms that lasted when the last watch ended, with their seconds, and all that it counted. No watch was there for `away`
+        seconds."""
         for name, (text, seconds) in lasting.items():
             if name in self._alarms:
                 self._alarms[name].text = self.lasting[name] = text
                 self._begins[name] = self._now - seconds
         self._since = {name: self._now - seconds for name, seconds in counted.get("ago", {}).items()}
+        for name, seconds in counted.get("gone", {}).items():
+            if name in self._alarms:
+                self._alarms[name].gone = self._now - seconds
+        self._sessions.extend(self._now - away - seconds for seconds in counted.get("sessions", ()))
         self._texts = dict(counted.get("texts", {}))
         self._minutes.extend(counted.get("minutes", ()))
         self._offsets.extend(counted.get("offsets", ()))
 
     # ---- observations
 
+    def begin_session(self, now: float) -> None:
+        self._sessions.append(now)
+        self._unheard = 0.0
+
     def take(
-        self, changes: Sequence[Event], minutes: Iterable[float], ticks: Iterable[Tick], timing: Timing
+        self, changes: Sequence[Event], minutes: Iterable[float], ticks: Sequence[Tick], timing: Timing
     ) -> None:
         """Changes of the contents, per cent of bad blocks by minute, and clock times."""
         for event in changes:
@@ -153,126 +169,143 @@ class Alarms:
                 self._since[f"{event.item}_stuck"], self._texts[event.item] = self._now, text
         self._minutes.extend(minutes)
         self._offsets.extend(tick.time - timing.utc(tick.place) for tick in ticks)
+        if ticks:
+            self._since["ct_absent"] = self._now
 
     def judge(self, watched: Watched, now: float) -> List[Change]:
         """The alarms that begin or end."""
-        passed, self._now, self._values = now - self._now, now, watched.held
-        age = watched.valid_age
-        pause = PAUSE * self._speed
-        silent, dead = now - watched.last_byte > pause, age > pause
-        found: List[Change] = []
-        quiet = now - watched.last_byte
-        self._judge(
-            found, "silent", Trouble(watched.last_byte, f"no byte for {quiet:.0f} s") if silent else None
-        )
-        self._judge(found, "no_rds", Trouble(now - age, f"no valid block for {age:.0f} s") if dead else None)
-        self._judge_pace(found, passed, None if silent else watched.pace)
-        self._judge_minutes(found)
-        if silent or dead or "pi" not in self._values:
+        passed, self._now, self._seen = now - self._now, now, watched
+        age, quiet, pause = watched.valid_age, now - watched.last_byte, PAUSE * self._speed
+        silent, dead = quiet > pause, age > pause
+        self._judge("silent", Trouble(watched.last_byte, f"no byte for {quiet:.0f} s") if silent else None)
+        self._judge("no_rds", Trouble(now - age, f"no valid block for {age:.0f} s") if dead else None)
+        self._judge_pace(passed, None if silent else watched.pace)
+        self._judge_sessions()
+        self._judge_minutes()
+        unheard, self._unheard = self._unheard, self._unheard + passed if silent else 0.0
+        if silent or dead or "pi" not in watched.held:
             self._hold(passed, *CONTENTS)
         else:
-            self._judge_contents(found)
+            self._hold(-unheard, *CONTENTS)
+            self._judge_contents(watched.held)
+        found, self._found = self._found, []
         return found
 
-    def _judge(self, found: List[Change], name: str, fault: Optional[Trouble]) -> None:
+    def _judge(self, name: str, fault: Optional[Trouble]) -> None:
         alarm = self._alarms.get(name)
         begins = alarm.judge(fault, self._now) if alarm else None
         if begins is None:
             return
         if begins and fault:
             self.lasting[name], self._begins[name] = fault.text, self._now
-            found.append(Change(name, True, fault.text))
+            self._found.append(Change(name, True, fault.text))
         else:
             lasted = self._now - self._begins.pop(name, self._now)
-            found.append(Change(name, False, f"{self.lasting.pop(name, '')}; it lasted {lasted:.0f} s"))
+            self._found.append(Change(name, False, f"{self.lasting.pop(name, '')}; it lasted {lasted:.0f} s"))
 
-    def _judge_pace(self, found: List[Change], passed: float, pace: Optional[float]) -> None:
+    def _judge_pace(self, passed: float, pace: Optional[float]) -> None:
         if pace is None:
             self._hold(passed, "fast", "slow")
             return
         if pace == math.inf:
             self._since["fast"] = self._now - (self._table.alarms.fast or 0)
         percent = "" if pace == math.inf else f" by {100 * abs(pace - 1):.1f} %"
-        self._flag(found, "fast", pace > 1 + OFF_PACE, f"bits come too fast{percent}")
-        self._flag(found, "slow", pace < 1 - OFF_PACE, f"bits come too slowly{percent}")
+        self._flag("fast", pace > 1 + OFF_PACE, f"bits come too fast{percent}")
+        self._flag("slow", pace < 1 - OFF_PACE, f"bits come too slowly{percent}")
 
-    def _judge_minutes(self, found: List[Change]) -> None:
+    def _judge_sessions(self) -> None:
+        while self._sessions and self._sessions[0] <= self._now - HOUR:
+            self._sessions.popleft()
+        limit, count = self._table.alarms.flapping or 0, len(self._sessions)
+        if count > limit or count <= CALM * limit:
+            text = f"{count} sessions in an hour"
+            self._judge("flapping", Trouble(self._now, text) if count > limit else None)
+
+    def _judge_minutes(self) -> None:
         limits = self._table.alarms
         count = max(1, int(limits.errors or 1))
         last = list(self._minutes)[-count:]
-        if limits.errors is None or len(last) < count:
+        if len(last) < count:
             return
         begins = all(value > limits.errors_percent for value in last)
-        ends = all(value < RECOVERED * limits.errors_percent for value in last)
-        if begins or ends:
+        if begins or all(value < RECOVERED * limits.errors_percent for value in last):
             text = f"{sum(last) / count:.1f} % of the blocks bad in {count} min"
-            self._judge(found, "errors", Trouble(self._now, text) if begins else None)
+            self._judge("errors", Trouble(self._now, text) if begins else None)
 
     # ---- contents
 
     def _hold(self, passed: float, *names: str) -> None:
+        """Nothing can be said of the seconds that passed."""
         for name in names:
-            if name in self._alarms:
-                self._alarms[name].hold(passed)
+            alarm = self._alarms.get(name)
+            if alarm and alarm.gone is not None:
+                alarm.gone += passed
             if name in self._since:
                 self._since[name] += passed
 
-    def _judge_contents(self, found: List[Change]) -> None:
-        pi, expected = self._values["pi"], self._table.pi
-        if expected is not None:
-            self._flag(found, "pi", pi != expected, f"PI {pi} in place of {expected}")
+    def _judge_contents(self, held: Dict[str, Any]) -> None:
+        table, pi = self._table, held["pi"]
+        if table.pi:
+            self._flag("pi", pi not in table.pi, f"PI {pi} in place of {' or '.join(table.pi)}")
         for name in ("ps", "rt"):
             if self._fits[name]:
-                self._text(found, name)
-            self._stuck(found, name)
-        ta = self._values.get("ta") is True and self._values.get("tp") is not False
-        self._flag(found, "ta", ta, "TA is on")
-        self._flag(found, "pty31", self._values.get("pty") == 31, "PTY 31: alarm")
-        self._judge_clock(found)
+                self._judge_text(name, held.get(name))
+            self._lasts(f"{name}_stuck", f"{name.upper()} is the same")
+        if table.af:
+            heard = _frequencies(held)
+            text = f"AF {_megahertz(heard)} in place of {_megahertz(table.af)}"
+            self._flag("af", heard != set(table.af), text)
+        self._flag("ta", held.get("ta") is True and held.get("tp") is not False, "TA is on")
+        self._flag("pty31", held.get("pty") == 31, "PTY 31: alarm")
+        self._lasts("ct_absent", "no clock time (CT)")
+        self._judge_clock()
 
-    def _flag(self, found: List[Change], name: str, is_set: bool, text: str) -> None:
+    def _flag(self, name: str, is_set: bool, text: str) -> None:
         if not is_set:
             self._since.pop(name, None)
-            self._judge(found, name, None)
+            self._judge(name, None)
             return
-        since = self._since.setdefault(name, self._now)
-        self._judge(found, name, Trouble(since, text))
+        self._judge(name, Trouble(self._since.setdefault(name, self._now), text))
 
-    def _text(self, found: List[Change], name: str) -> None:
-        """A text that fits now, or did within the time: a dynamic PS shows its parts in turn."""
-        text = self._values.get(name)
-        if text is not None and self._fitting(name, str(text)):
-            self._since[name] = self._now
+    def _lasts(self, name: str, text: str) -> None:
+        """A fault only if it lasted for the whole limit."""
         since = self._since.setdefault(name, self._now)
-        shown = "none" if text is None else printable(str(text).strip())
-        expected = " or ".join(getattr(self._table, name))
         late = since < self._now and self._now - since >= (getattr(self._table.alarms, name) or 0)
-        text = f"{name.upper()} {shown} in place of {expected}"
-        self._judge(found, name, Trouble(since, text) if late else None)
+        self._judge(name, Trouble(since, text) if late else None)
+
+    def _judge_text(self, name: str, text: Optional[str]) -> None:
+        """A text that fits now, or did within the time: a dynamic PS shows its parts in turn."""
+        if text is not None and self._fitting(name, text):
+            self._since[name] = self._now
+        shown = "none" if text is None else printable(text.strip())
+        self._lasts(name, f"{name.upper()} {shown} in place of {' or '.join(getattr(self._table, name))}")
 
     def _fitting(self, name: str, text: str) -> bool:
         return any(fit.fullmatch(text.strip()) for fit in self._fits[name])
 
-    def _stuck(self, found: List[Change], name: str) -> None:
-        since = self._since.setdefault(f"{name}_stuck", self._now)
-        after = getattr(self._table.alarms, f"{name}_stuck")
-        if after is not None:
-            fault = Trouble(since, f"{name.upper()} is the same") if self._now - since >= after else None
-            self._judge(found, f"{name}_stuck", fault)
-
-    def _judge_clock(self, found: List[Change]) -> None:
+    def _judge_clock(self) -> None:
         limits = self._table.alarms
-        if limits.ct is None:
-            return
-        count = max(1, int(limits.ct))
+        count, most = max(1, int(limits.ct or 1)), limits.ct_offset * self._speed
         offsets = list(self._offsets)
-        most = limits.ct_offset * self._speed
         off = [abs(offset) > most for offset in offsets[-count:]]
         fine = [abs(offset) <= most / 2 for offset in offsets[-2:]]
         if len(off) == count and all(off):
-            self._judge(found, "ct", Trouble(self._now, f"CT is off by {offsets[-1]:+.1f} s"))
+            self._judge("ct", Trouble(self._now, f"CT is off by {offsets[-1]:+.1f} s"))
         elif len(fine) == 2 and all(fine):
-            self._judge(found, "ct", None)
+            self._judge("ct", None)
+
+
+def _frequencies(held: Dict[str, Any]) -> Set[int]:
+    """In kHz: of the list of method A, or of those of method B, which have one per transmitter."""
+    found = set(held.get("af", ()))
+    for item, value in held.items():
+        if item.startswith("af:"):
+            found |= {value["tuned"], *value["same"], *value["regional"]}
+    return found
+
+
+def _megahertz(frequencies: Iterable[int]) -> str:
+    return " ".join(f"{one / 1000:g}" for one in sorted(frequencies)) or "none"
 
 
 def words_for(words: Sequence[str], station: str, change: Change) -> Tuple[str, ...]:

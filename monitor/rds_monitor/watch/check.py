@@ -12,13 +12,15 @@ import os
 import re
 import sys
 import time
-from typing import BinaryIO, List, NoReturn, Optional, Sequence, Tuple
+from collections import deque
+from typing import List, NoReturn, Optional, Sequence, Tuple
 
 import numpy
 
 from ..content.decoder import Decoder
 from ..measures.measure import Programmes
 from ..rows.clock import RATE, number_of, rate_of
+from ..rows.compressed import decompressed
 from ..rows.heads import is_listing
 from ..rows.hours import hour_of
 from ..rows.inputs import length_of, recording_options, rules_of
@@ -134,73 +136,91 @@ def _add_last(reception: Reception, kept: List[Rows], source: Source, last: floa
 
 def open_end(paths: Sequence[str], last: Optional[float], arguments: argparse.Namespace) -> Source:
     """The source of files that follow one another: of their ends, if only the last seconds are judged."""
-    files = [_file(path) for path in paths]
-    regular = all(path != "-" and os.path.isfile(path) for path in paths)
-    head = b""
-    for file in files:
-        head = head or file.read(4096)
+    parts = [_open(path) for path in paths]
+    head = next((head for head, _ in parts if head), b"")
     if not head:
         raise Fault(f"there is nothing in {paths[-1]}")
     listed = is_listing(head)
     if not listed and arguments.length is not None:
         raise Fault("--length is for a listing")
-    data: Readable
-    if regular:
-        most = None if last is None else int(last * (LISTING_BYTES if listed else arguments.rate / 8) + 1)
-        data, head = _Chain(files, most, cut_line=listed), b""
-    elif len(files) == 1:
-        data = files[0]
-    else:
+    if all(path != "-" and os.path.isfile(path) for path in paths):
+        if last is not None:
+            parts = _ends(parts, int(last * (LISTING_BYTES if listed else arguments.rate / 8) + 1), listed)
+    elif len(parts) > 1:
         raise Fault("of several inputs each must be a file")
+    data = _Chain([stream for head, stream in parts for stream in (io.BytesIO(head), stream)])
     if listed:
         length = None if arguments.length is None else length_of(arguments.length)
         part = last is not None or all(map(hour_of, paths))
         how = Reading(unfinished_ok=part, length=length, trust_length=True, sessions=True)
-        return Listing(data, head, how)
+        return Listing(data, b"", how)
     library()
-    return Recording(data, head, Reading(rules_of(arguments)))
+    return Recording(data, b"", Reading(rules_of(arguments)))
 
 
-def _file(path: str) -> BinaryIO:
+# The first bytes of an input, and the rest.
+Opened = Tuple[bytes, Readable]
+
+
+def _open(path: str) -> Opened:
     try:
-        return sys.stdin.buffer if path == "-" else open(path, "rb")
+        file = sys.stdin.buffer if path == "-" else open(path, "rb")
+    except FileNotFoundError:
+        raise Fault(f"there is no file {path} to read") from None
     except OSError as error:
-        is_missing = isinstance(error, FileNotFoundError)
-        text = (
-            f"there is no file {path} to read" if is_missing else f"{path} cannot be read: {error.strerror}"
-        )
-        raise Fault(text) from None
+        raise Fault(f"{path} cannot be read: {error.strerror}") from None
+    head = file.read(4096)
+    unpacked = decompressed(file, head)
+    if unpacked:
+        return unpacked.read(4096), unpacked
+    return head, file
 
 
-class _Chain(io.RawIOBase):
-    """Files one after the other: the last `most` bytes of them, from the beginning of a line if they are listings."""
+def _ends(parts: Sequence[Opened], most: int, cut_line: bool) -> List[Opened]:
+    """The last `most` bytes of files, from the beginning of a line if they are listings."""
+    found: List[Opened] = []
+    for head, stream in reversed(parts):
+        file = stream if isinstance(stream, io.BufferedIOBase) else _tail(head, stream, most)
+        size = file.seek(0, os.SEEK_END)
+        begin = max(0, size - most)
+        # From the byte before, so that a line that begins there is kept.
+        file.seek(max(0, begin - 1) if cut_line else begin)
+        if begin and cut_line:
+            file.readline()
+        found.insert(0, (b"", file))
+        most -= size - begin
+        if most <= 0:
+            break
+    return found
 
-    def __init__(self, files: Sequence[BinaryIO], most: Optional[int], cut_line: bool):
-        super().__init__()
-        left, kept = most, []
-        for file in reversed(files):
-            size = os.fstat(file.fileno()).st_size
-            begin = 0 if left is None else max(0, size - left)
-            left = None if left is None else left - (size - begin)
-            # From the byte before, so that a line that begins there is kept.
-            file.seek(max(0, begin - 1) if cut_line else begin)
-            if begin and cut_line:
-                file.readline()
-            kept.append(file)
-            if left is not None and left <= 0:
-                break
-        self._files = kept[::-1]
 
-    def readable(self) -> bool:
-        return True
+def _tail(head: bytes, stream: Readable, most: int) -> io.BytesIO:
+    """At least the last `most` bytes of a compressed file, and one more if it has it."""
+    kept, size = deque([head]), len(head)
+    while True:
+        data = stream.read(1 << 16)
+        if not data:
+            return io.BytesIO(b"".join(kept))
+        kept.append(data)
+        size += len(data)
+        while size - len(kept[0]) > most:
+            size -= len(kept.popleft())
 
-    def read(self, size: int = -1) -> bytes:
-        while self._files:
-            data = self._files[0].read(size)
-            if data:
-                return data
-            del self._files[0]
-        return b""
+
+class _Chain:
+    """Streams one after the other."""
+
+    def __init__(self, streams: List[Readable]):
+        self._streams = streams
+
+    def read(self, size: int, /) -> bytes:
+        data = b""
+        while self._streams and len(data) < size:
+            more = self._streams[0].read(size - len(data))
+            data += more
+            if not more:
+                del self._streams[0]
+        return data
 
 
 # ---- judging

@@ -6,12 +6,14 @@ import math
 import os
 import sqlite3
 import subprocess
+from collections import deque
 from functools import partial
-from typing import Callable, Dict, Iterable, List, Optional, Tuple
+from typing import Callable, Deque, Dict, Iterable, List, Optional, Tuple
 
 from ..db.standing import availability
 from ..rows.clock import DAY
 from .alarms import Alarm, Change, Trouble, words_for
+from .compress import compress
 from .decoders import NewDecoder
 from .live import Append
 from .metrics import metrics_text
@@ -22,7 +24,7 @@ from .retention import tidy
 from .station import Station
 from .table import StationTable, Table
 from .times import Now, SteadyUtc, Times
-from .writer import Batch, Say, WriterThread
+from .writer import Batch, Say, WriterThread, last_states
 
 PAGES_EVERY, TIDY_EVERY = 60.0, 3600.0
 # Rows of a station that wait for the disk, in bytes; the oldest are given up first.
@@ -81,6 +83,8 @@ class Watch:
         self._leaving: List[Station] = []
         self._appends: List[Append] = []
         self._records: List[Record] = []
+        # Hours' files that are closed, to be compressed one at a time.
+        self._closed: Deque[str] = deque()
         self._hooks = Hooks(say)
         self._busy_since: Optional[float] = None
         self._unwritten_since: Optional[float] = None
@@ -89,10 +93,9 @@ class Watch:
         self._pages_at = self._tidy_at = 0.0
         self._disk = Alarm(0.0, 0.0)
         for station in table.stations:
-            alarms = self._add(station).alarms
-            alarms.resume(
-                self._lasting(records, station.name), records.state(station.name).get("counted", {})
-            )
+            state, lasting = records.state(station.name), self._lasting(records, station.name)
+            away = max(0.0, self.utc - state.get("utc", self.utc))
+            self._add(station).resume(lasting, state.get("counted", {}), away)
         for text, seconds in self._lasting(records, WATCH).values():
             self._disk.text, self._disk_since = text, self._now.steady - seconds
 
@@ -138,6 +141,8 @@ class Watch:
 
     def _gather(self, station: Station) -> None:
         self._appends += station.appends
+        if self._keep.compress:
+            self._closed.extend(append.path for append in station.appends if append.closes)
         self._records += station.records
         for change in station.changes:
             self._tell(station.name, change, {station.table.alarm_command})
@@ -199,16 +204,21 @@ class Watch:
                 self._records = [
                     one for one in self._records if not isinstance(one, (AlarmChanged, StateSeen))
                 ]
+            self._records = last_states(self._records)
             return
         after: List[Callable[[Records], None]] = []
         utc, steady = self.utc, self._now.steady
-        if steady >= self._pages_at:
+        # While the database cannot be written, they would only wait.
+        is_well = self._writer.fault is None
+        if is_well and steady >= self._pages_at:
             self._pages_at = steady + PAGES_EVERY
             states = {name: station.state(utc) for name, station in self.stations.items()}
             after.append(partial(self._write_pages, states, utc))
-        if steady >= self._tidy_at:
+        if is_well and steady >= self._tidy_at:
             self._tidy_at = steady + TIDY_EVERY
             after.append(partial(self._tidy, utc))
+        if is_well and self._closed:
+            after.append(partial(self._compress, self._closed.popleft()))
         if self._appends or self._records or after:
             self._writer.give(Batch(self._appends, self._records, after))
             self._appends, self._records = [], []
@@ -224,12 +234,21 @@ class Watch:
 
     def _tidy(self, utc: float, records: Records) -> None:
         try:
-            removed = tidy(self._folder, self._keep, utc, records)
+            removed, plain = tidy(self._folder, self._keep, utc, records)
         except (OSError, sqlite3.Error) as error:
             self._say("error", f"old hours cannot be removed: {error}")
             return
         if removed:
             self._say("info", f"{len(removed)} hours are removed, up to {removed[-1]}")
+        if self._keep.compress and not self._closed:
+            self._closed.extend(plain)
+
+    def _compress(self, path: str, records: Records) -> None:
+        """What fails is tried again once all is tidied."""
+        try:
+            compress(self._folder, path, records)
+        except (OSError, sqlite3.Error) as error:
+            self._say("error", f"{path} cannot be compressed: {error}")
 
     # ---- changes of the table, and the end
 

@@ -31,7 +31,7 @@ METRICS = (
     ),
     Metric("rds_last_group_timestamp_seconds", "gauge", "When the last whole group ended."),
     Metric("rds_clock_offset_seconds", "gauge", "The station's clock time (CT) less that of this machine."),
-    Metric("rds_pi_as_expected", "gauge", "Whether the PI is the expected one."),
+    Metric("rds_pi_as_expected", "gauge", "Whether the PI is an expected one."),
     Metric("rds_snr_db", "gauge", "Signal-to-noise ratio of RDS, of MPX and IQ."),
     Metric("rds_alarm", "gauge", "Whether the alarm lasts."),
     Metric("rds_watch_timestamp_seconds", "gauge", "When this file was written."),
@@ -87,7 +87,7 @@ def _samples(name: str, state: Dict[str, Any], day: Availability) -> Iterator[Sa
         ("rds_bad_blocks_ratio", None if bad is None else bad / 100),
         ("rds_last_group_timestamp_seconds", state["last_group_utc"]),
         ("rds_clock_offset_seconds", state["clock_s"]),
-        ("rds_pi_as_expected", float(pi == expected) if pi and expected else None),
+        ("rds_pi_as_expected", float(pi in expected) if pi and expected else None),
         ("rds_snr_db", state["signal"].get("snr_db")),
     )
     for metric, value in known:

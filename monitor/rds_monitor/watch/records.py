@@ -223,9 +223,13 @@ class Records:
         row = self.database.execute(f"SELECT path {PARTS} WHERE name = ? AND number = ?", key).fetchone()
         return None if row is None else str(row[0])
 
-    def knows(self, path: str) -> bool:
-        query = "SELECT 1 FROM hour_files WHERE path = ?"
-        return self.database.execute(query, (path,)).fetchone() is not None
+    def knows(self, *paths: str) -> bool:
+        """Whether one of them is an hour of the database."""
+        query = f"SELECT 1 FROM hour_files WHERE path IN ({', '.join('?' * len(paths))})"
+        return self.database.execute(query, paths).fetchone() is not None
+
+    def rename(self, path: str, new: str) -> None:
+        self.database.execute("UPDATE hour_files SET path = ? WHERE path = ?", (new, path))
 
 
 class OpenPart(NamedTuple):

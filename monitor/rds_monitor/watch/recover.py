@@ -10,9 +10,11 @@ import numpy
 
 from ..db.parts import Contents, Part
 from ..rows.clock import Clock
+from ..rows.compressed import HEAD, decompressed
 from ..rows.hours import hour_of
 from ..rows.items import BLOCK_BITS, ITEM, Fault, Reading, Rows
 from ..rows.listing import Listing, ends_of
+from .compress import SUFFIX
 from .records import OpenPart, PartGrew, PartKey, PartOpened, PartTold, Records
 from .repair import make_whole
 from .times import Timing
@@ -32,11 +34,12 @@ def adopt(folder: str, stations: List[str], records: Records) -> None:
     for station in stations:
         path = os.path.join("listings", station)
         whole = os.path.join(folder, path)
-        names = sorted(entry for entry in os.listdir(whole) if hour_of(entry)) if os.path.isdir(whole) else []
+        entries = os.listdir(whole) if os.path.isdir(whole) else []
+        names = sorted(entry for entry in entries if hour_of(entry) and entry.endswith(".csv"))
         newest = sorted(names, key=lambda name: os.stat(os.path.join(whole, name)).st_mtime)[-2:]
         for name in newest:
             known = os.path.join(path, name)
-            if not records.knows(known):
+            if not records.knows(known, known + SUFFIX):
                 _open(folder, station, known, records)
 
 
@@ -57,6 +60,8 @@ def rows_of(path: str) -> Tuple[Rows, List[int]]:
     """The rows of an hour's file, and the number of bytes up to the end of each."""
     with open(path, "rb") as file:
         data = file.read()
+    unpacked = decompressed(io.BytesIO(data[HEAD:]), data[:HEAD])
+    data = b"".join(iter(unpacked.read, b"")) if unpacked else data
     source = Listing(io.BytesIO(data), b"", Reading(unfinished_ok=True))
     rows: Rows = numpy.concatenate([numpy.zeros(0, ITEM), *source.chunks()])
     return rows, (numpy.flatnonzero(numpy.frombuffer(data, "u1") == 10)[: len(rows)] + 1).tolist()

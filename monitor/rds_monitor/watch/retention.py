@@ -20,16 +20,24 @@ class Listed(NamedTuple):
     size: int
 
 
-def tidy(folder: str, keep: Keep, utc: float, records: Records) -> List[str]:
-    """Removes old hours' files and old rows of the database, and gives the paths of the files. Hours that are being written,
-    and all of the last hour, are kept."""
+class Tidied(NamedTuple):
+    """Paths of hours' files that were removed, and that may be compressed."""
+
+    removed: List[str]
+    plain: List[str]
+
+
+def tidy(folder: str, keep: Keep, utc: float, records: Records) -> Tidied:
+    """Removes old hours' files and old rows of the database. Hours that are being written, and all of the last hour, are kept."""
     busy = {part.path for part in records.open_parts()}
-    removed = [hour.path for hour in _too_old(sorted(_hours(folder)), keep, utc, busy)]
+    hours = sorted(_hours(folder))
+    removed = [hour.path for hour in _too_old(hours, keep, utc, busy)]
     for path in removed:
         os.unlink(os.path.join(folder, path))
     if keep.database_days:
         _forget(records, utc - keep.database_days * DAY)
-    return removed
+    left = {hour.path for hour in hours if hour.path.endswith(".csv")} - busy - set(removed)
+    return Tidied(removed, sorted(left))
 
 
 def _hours(folder: str) -> Iterator[Listed]:

@@ -5,11 +5,12 @@ from __future__ import annotations
 import argparse
 import fcntl
 import os
+import shutil
 import signal
 import time
 from typing import Any, Tuple
 
-from ..rows.clock import number_of
+from ..rows.clock import RATE, number_of
 from ..rows.items import Fault
 from .decoders import NewDecoder, decoder_of
 from .journal import notify, say
@@ -25,6 +26,8 @@ from .writer import Writer, WriterThread
 POLL, TICK = 0.1, 0.5
 # At the end, for the receivers and for the disk.
 LEAVING = 5.0
+# Seconds of packed bits in the output buffer of a program, if that is a pipe.
+BURST = 4096 * 8 / RATE
 
 
 def options_watch(parser: argparse.ArgumentParser) -> None:
@@ -41,7 +44,9 @@ def options_watch(parser: argparse.ArgumentParser) -> None:
     parser.add_argument("--folder", metavar="FOLDER", help=text)
     text = "decode by processes of this program rds (default: by librds, or by rds if that is missing)"
     parser.add_argument("--program", metavar="PROGRAM", help=text)
-    parser.add_argument("--check", action="store_true", help="check the table, list its stations, and end")
+    parser.add_argument(
+        "--check", action="store_true", help="check the table and that its commands exist, and end"
+    )
     text = "let the clock go N times as fast, for tests and demonstrations"
     parser.add_argument("--speed", type=number_of, default=1.0, metavar="N", help=text)
 
@@ -49,9 +54,7 @@ def options_watch(parser: argparse.ArgumentParser) -> None:
 def run_watch(arguments: argparse.Namespace) -> int:
     table = read_table(arguments.table)
     if arguments.check:
-        for station in table.stations:
-            print(f"{station.name}: {station.form}, {' '.join(station.command)}")
-        return 0
+        return check_table(table)
     if arguments.speed < 0.01:
         raise Fault("--speed is a number above 0")
     folder = arguments.folder or table.folder or os.environ.get("STATE_DIRECTORY", "").split(":")[0]
@@ -59,6 +62,24 @@ def run_watch(arguments: argparse.Namespace) -> int:
         raise Fault("there is no folder to write to: name it by --folder, or 'folder' in the table")
     decoder = decoder_of(arguments.program or table.program)
     return Service(arguments.table, table, os.path.abspath(folder), arguments.speed, decoder).run()
+
+
+def check_table(table: Table) -> int:
+    """Lists the stations, and says which commands cannot be run, and which receivers may seem to be silent."""
+    commands = [("program", table.program or "sh")]
+    for station in table.stations:
+        print(f"{station.name}: {station.form}, {' '.join(station.command)}")
+        commands += [(station.name, words[0]) for words in (station.command, station.alarm_command) if words]
+        allowed = min(pause for pause in (station.patience, station.alarms.silent) if pause is not None)
+        if station.form == "bits" and allowed < BURST and "stdbuf" not in station.command:
+            text = f"a receiver with an output buffer of 4 KiB writes each {BURST:.1f} s"
+            cure = "begin its command with stdbuf -o0, or raise patience and silent"
+            say("warning", f"{station.name}: {text}, and {allowed:g} s are allowed: {cure}")
+    missing = [(of, word) for of, word in commands if shutil.which(word) is None]
+    for of, word in missing:
+        there = os.path.exists(word)
+        say("error", f"{of}: {word!r} may not be run" if there else f"{of}: there is no program {word!r}")
+    return 1 if missing else 0
 
 
 class Service:

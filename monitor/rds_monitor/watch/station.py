@@ -7,7 +7,7 @@ from collections import deque
 from typing import Any, Deque, Dict, List, Optional, Tuple
 
 from ..content.charset import printable
-from ..db.parts import Told
+from ..db.parts import MINUTE_BITS, Told
 from ..db.schema import HELD
 from ..rows.items import Fault
 from .alarms import Alarms, Change, Watched
@@ -62,6 +62,14 @@ class Station:
     def name(self) -> str:
         return self.table.name
 
+    def resume(self, lasting: Dict[str, Tuple[str, float]], counted: Dict[str, Any], away: float) -> None:
+        """Goes on with what the last watch knew, which ended `away` seconds ago."""
+        self.alarms.resume(lasting, counted, away)
+        quiet, age = counted.get("quiet", 0.0), counted.get("age", 0.0)
+        self.keeper.last_byte -= quiet
+        # So that `_age` is the same again.
+        self._last_valid -= age + (quiet if quiet <= self.keeper.patience else 0.0)
+
     def set_table(self, table: StationTable) -> None:
         """Of the same receiver, with other limits."""
         self.table, self.keeper.patience = table, table.patience * self._speed
@@ -81,6 +89,7 @@ class Station:
         elif data and (self._session or not self.keeper.is_stopping):
             if self._session is None:
                 self._session = LiveSession(self.name, self._speed, self._decoder(), self._began)
+                self.alarms.begin_session(steady)
                 self._bits = self._bits or bit_source(self.table)
                 self._counted = 0
             self._waiting.append(data)
@@ -172,14 +181,18 @@ class Station:
         self._see_valid(steady)
         held = {} if self._session is None else self._session.contents.decoder.held()
         values = {item: value.value for item, value in held.items()}
-        age = steady - self._last_valid
-        seen = Watched(self.keeper.last_byte, age, values, self._pace())
+        seen = Watched(self.keeper.last_byte, self._age(steady), values, self._pace())
         for change in self.alarms.judge(seen, steady):
             self.changes.append(change)
             self.records.append(AlarmChanged(self.name, change.alarm, change.begins, utc, change.text))
         if steady >= self._news or self.changes:
             self._news = steady + NEWS * self._speed
             self.records.append(StateSeen(self.name, utc, self.state(utc)))
+
+    def _age(self, steady: float) -> float:
+        """Of the last valid block that counts. While `patience` lasts, bits of a burst may still come."""
+        quiet = steady - self.keeper.last_byte
+        return steady - self._last_valid - (quiet if quiet <= self.keeper.patience else 0.0)
 
     def _pace(self) -> Optional[float]:
         pace = self._session.arrivals.pace() if self._session else None
@@ -208,7 +221,8 @@ class Station:
             self._whole_utc = min(session.timing.utc(session.whole_end), self._last_read)
 
     def _take(self, told: Told, timing: Timing) -> None:
-        percents = [minute.blocks.bad_percent for minute in told.minutes if minute.blocks.sent]
+        blocks = [minute.blocks for minute in told.minutes]
+        percents = [one.bad_percent for one in blocks if one.end - one.begin >= int(MINUTE_BITS)]
         self.alarms.take(told.changes, percents, told.ticks, timing)
         for event in told.changes:
             if event.item == "ps" and event.value is not None:

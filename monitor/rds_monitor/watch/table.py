@@ -7,6 +7,7 @@ import re
 from dataclasses import dataclass, field, fields, replace
 from typing import Any, Callable, Dict, NamedTuple, Optional, Set, Tuple
 
+from ..rows.compressed import zstandard
 from ..rows.items import Fault
 
 SAMPLE_RATES = range(128000, 3200001)
@@ -14,23 +15,27 @@ SAMPLE_RATES = range(128000, 3200001)
 
 @dataclass(frozen=True)
 class AlarmLimits:
-    """When alarms begin: seconds, but minutes for `errors` and a number of groups for `ct`. None turns one off."""
+    """When alarms begin: seconds, but sessions an hour for `flapping`, minutes for `errors`, and a number of groups for `ct`. None turns
+    one off."""
 
     silent: Optional[float] = 15
     no_rds: Optional[float] = 10
     fast: Optional[float] = 60
     slow: Optional[float] = 60
+    flapping: Optional[float] = 10
     errors: Optional[float] = 3
     errors_percent: float = 30
     pi: Optional[float] = 10
     ps: Optional[float] = 60
     rt: Optional[float] = 60
+    af: Optional[float] = 300
     ps_stuck: Optional[float] = None
     rt_stuck: Optional[float] = 86400
     ta: Optional[float] = 600
     pty31: Optional[float] = 1
     ct: Optional[float] = 2
     ct_offset: float = 5
+    ct_absent: Optional[float] = None
     disk: Optional[float] = 5
 
 
@@ -45,9 +50,11 @@ class StationTable:
     rate: Optional[int] = None
     offset: float = 0
     frequency: Optional[float] = None
-    pi: Optional[str] = None
+    pi: Tuple[str, ...] = ()
     ps: Tuple[str, ...] = ()
     rt: Tuple[str, ...] = ()
+    # In kHz.
+    af: Tuple[int, ...] = ()
     patience: float = 10
     alarm_command: Tuple[str, ...] = ()
     alarms: AlarmLimits = field(default_factory=AlarmLimits)
@@ -59,11 +66,13 @@ class StationTable:
 
 
 class Keep(NamedTuple):
-    """For how long listings and the rows of the database are kept, and up to which size the listings; 0 keeps all."""
+    """For how long listings and the rows of the database are kept, up to which size the listings, and whether closed hours are compressed;
+    0 keeps all."""
 
     listings_days: float = 0
     listings_gb: float = 0
     database_days: float = 0
+    compress: bool = False
 
 
 class Table(NamedTuple):
@@ -109,8 +118,14 @@ def _one_of(choices: Tuple[str, ...]) -> Judge:
 def _name(value: Any, of: str) -> str:
     """The name of a station, which is that of its folder too."""
     text: str = _text(value, of)
-    if "/" in text or text[0] in ".-" or len(text.encode("utf-8", "replace")) > 100 or not text.isprintable():
-        needed = "no '/', at most 100 bytes, and no '.' or '-' first"
+    if (
+        "/" in text
+        or text[0] in ".-"
+        or text == "index"
+        or len(text.encode("utf-8", "replace")) > 100
+        or not text.isprintable()
+    ):
+        needed = "no '/', at most 100 bytes, no '.' or '-' first, and not 'index'"
         raise Fault(f"{of}: {text!r} cannot be the name of a folder: {needed}")
     return text
 
@@ -134,6 +149,12 @@ _patterns = _rule(
     "a pattern or a list of patterns is",
     _texts,
 )
+
+
+def _is_pi(value: Any) -> bool:
+    return isinstance(value, str) and re.fullmatch("[0-9A-Fa-f]{4}", value) is not None
+
+
 JUDGES: Dict[str, Judge] = {
     "name": _name,
     "command": _words,
@@ -147,15 +168,21 @@ JUDGES: Dict[str, Judge] = {
     "offset": _rule(lambda value: _is_number(value) and -3e6 < value < 3e6, "a number of Hz is", float),
     "frequency": _number,
     "pi": _rule(
-        lambda value: isinstance(value, str) and re.fullmatch("[0-9A-Fa-f]{4}", value) is not None,
-        "four hexadecimal digits in quotes are",
-        str.upper,
+        lambda value: value != [] and all(map(_is_pi, _texts(value))),
+        "four hexadecimal digits in quotes, or a list of such, are",
+        lambda value: tuple(map(str.upper, _texts(value))),
     ),
     "ps": _patterns,
     "rt": _patterns,
+    "af": _rule(
+        lambda value: value != [] and all(_is_number(one) and 0.1 < one < 108 for one in _texts(value)),
+        "a list of frequencies in MHz is",
+        lambda value: tuple(round(1000 * one) for one in _texts(value)),
+    ),
     "patience": _number,
     "alarm_command": _words,
 }
+KEPT = {"compress": _rule(lambda value: isinstance(value, bool), "true or false is", bool)}
 
 
 # ---- reading
@@ -202,7 +229,9 @@ def table_of(text: str) -> Table:
         if names.count(station.name.casefold()) > 1:
             raise Fault(f"there are two stations {station.name!r}")
     keep = _known(given.get("keep", {}), set(Keep._fields), "[keep]")
-    kept = Keep(**{name: _number(value, f"keep.{name}") for name, value in keep.items()})
+    kept = Keep(**{name: KEPT.get(name, _number)(value, f"keep.{name}") for name, value in keep.items()})
+    if kept.compress:
+        zstandard("keep.compress needs zstd: install python3-zstandard")
     return Table(folder, kept, stations, program)
 
 

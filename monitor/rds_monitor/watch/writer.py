@@ -7,7 +7,7 @@ import sqlite3
 import threading
 import traceback
 from collections import deque
-from typing import Callable, Deque, Dict, Iterable, List, NamedTuple, Optional, Sequence
+from typing import Callable, Deque, Dict, Iterable, Iterator, List, NamedTuple, Optional, Sequence
 
 from .live import Append
 from .records import AlarmChanged, Record, Records, StateSeen
@@ -53,8 +53,8 @@ class HourWriter:
             self._open[path] = os.open(whole, os.O_WRONLY | os.O_APPEND | os.O_CREAT | os.O_CLOEXEC, 0o644)
             if is_new:
                 # The names last through a power failure, too.
-                _sync_folder(parent)
-                _sync_folder(os.path.dirname(parent))
+                sync_folder(parent)
+                sync_folder(os.path.dirname(parent))
         return self._open[path]
 
     def close(self, path: str) -> None:
@@ -66,7 +66,7 @@ class HourWriter:
             self.close(path)
 
 
-def _sync_folder(path: str) -> None:
+def sync_folder(path: str) -> None:
     file = os.open(path, os.O_RDONLY | os.O_DIRECTORY)
     try:
         os.fsync(file)
@@ -95,14 +95,14 @@ class Writer:
 
     def give(self, batch: Batch) -> None:
         self._rows += batch.appends
-        self._waiting += batch.records
+        self._waiting = last_states([*self._waiting, *batch.records])
         self._after += batch.after
         if len(self._waiting) > MOST_RECORDS:
             del self._waiting[: len(self._waiting) - MOST_RECORDS]
 
     def work(self) -> bool:
-        while self.news:
-            self._waiting.append(self.news.popleft())
+        if self.news:
+            self._waiting = last_states([*self._waiting, *self._taken_news()])
         try:
             self._write_rows()
             self._write_records()
@@ -118,6 +118,10 @@ class Writer:
             self._say("notice", "rows are written again")
             self.fault = None
         return True
+
+    def _taken_news(self) -> Iterator[Record]:
+        while self.news:
+            yield self.news.popleft()
 
     def _write_rows(self) -> None:
         while self._rows:
@@ -137,9 +141,7 @@ class Writer:
 
     def _write_news(self) -> None:
         """Alarms and states, which tell of no row, if at least the database can be written."""
-        known = [
-            (isinstance(record, (AlarmChanged, StateSeen)), record) for record in _last_states(self._waiting)
-        ]
+        known = [(isinstance(record, (AlarmChanged, StateSeen)), record) for record in self._waiting]
         try:
             self._records.write([record for is_news, record in known if is_news])
             self._waiting = [record for is_news, record in known if not is_news]
@@ -153,7 +155,7 @@ class Writer:
 
     def _write_records(self) -> None:
         if self._waiting:
-            self._records.write(_last_states(self._waiting))
+            self._records.write(self._waiting)
             self._waiting = []
         while self._after:
             self._after[0](self._records)
@@ -163,7 +165,7 @@ class Writer:
         self._hours.close_all()
 
 
-def _last_states(records: Sequence[Record]) -> List[Record]:
+def last_states(records: Sequence[Record]) -> List[Record]:
     """Without the states of stations that a later one replaces."""
     last = {record.station: record for record in records if isinstance(record, StateSeen)}
     return [
