@@ -83,8 +83,9 @@ def test_no_library_for_a_recording(station: bytes, station_listing: bytes) -> N
     environment = {**os.environ, "RDS_LIBRARY": "/none"}
     assert monitor("errors", data=station_listing, env=environment).returncode == 0
     for more, fault in (({}, b"RDS_LIBRARY"), ({"PYTHONPATH": str(MONITOR)}, b"python3-librds")):
-        done = monitor("errors", data=station, env={**environment, **more})
-        assert done.returncode == 1 and fault in done.stderr and b"Traceback" not in done.stderr
+        for words in (["errors"], ["form", str(STATION)]):
+            done = monitor(*words, data=station, env={**environment, **more})
+            assert done.returncode == 1 and fault in done.stderr and b"Traceback" not in done.stderr
 
 
 def test_no_numpy() -> None:

@@ -215,6 +215,8 @@ def run_form(arguments: argparse.Namespace) -> int:
     if claims_listing(head):
         print(f"a listing of rds list or rds follow, not a recording: rds-monitor info {shlex.quote(path)}")
         return 0
+    # Without librds no form gives a group.
+    library()
     found = sorted(forms_of(path, head), reverse=True)
     if not found or found[0].groups < LEAST:
         why = "nothing was received, or it is in another format"

@@ -20,8 +20,7 @@ from .table import StationTable
 from .times import Timing
 from .writer import Say
 
-# Of the last minutes, for the line of a tile.
-MINUTES_KEPT = 1440
+# Seconds between two lines of news of a station.
 NEWS = 10.0
 # Seconds by which bits may be ahead of time; then the receiver is restarted.
 AHEAD = 5.0
