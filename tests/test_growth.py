@@ -268,13 +268,13 @@ def timed(librds: str, inputs: Inputs) -> str:
 # The input, at most how many percent of the second's instructions the first takes, and both: of timed or of the program.
 COUNTED = """
 sample.1 : 70 : push 65536 0 : list --workers 1
-sample.1 : 167 : push 1024 0 : list --workers 1
-sample.1 : 137 : push 1024 2000 : list --workers 1 --gaps NEAR
+sample.1 : 118 : push 1024 0 : list --workers 1
+sample.1 : 115 : push 1024 2000 : list --workers 1 --gaps NEAR
 sample.1 : 152 : run 0 0 : list --workers 1
-sample.1 : 313 : run 4096 0 : list --workers 1
-sample.1 : 276 : run 4096 2000 : list --workers 1 --gaps NEAR
+sample.1 : 220 : run 4096 0 : list --workers 1
+sample.1 : 236 : run 4096 2000 : list --workers 1 --gaps NEAR
 sample.8 : 71 : push 65536 10000 : list --workers 1 --gaps MANY
-sample.8 : 209 : run 16384 0 : list --workers 1
+sample.8 : 175 : run 16384 0 : list --workers 1
 sample.fewer : 125 : push 64 100000 : look 64 100000
 """
 known: dict[str, int] = {}
