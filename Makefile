@@ -114,7 +114,8 @@ install-program: $(PROGRAM)
 	install -m 644 completions/_rds "$(DESTDIR)$(ZSH_COMPLETIONS)/_rds"
 
 # `rds-monitor` finds its package, and librds if no system package has it, in share/rds-monitor. Its manual page and completions are made
-# here, by argparse-manpage and shtab. Without these the rest is installed, unless PAGES_NEEDED is set, as for a package.
+# here, by argparse-manpage and shtab, in a folder of this installation alone. Without these the rest is installed, unless PAGES_NEEDED is
+# set, as for a package.
 MONITOR_DIR := $(PREFIX)/share/rds-monitor
 ROOMS       := rows content measures signal db page watch
 PYTHON_TOO  ?= install-python
@@ -125,11 +126,12 @@ install-monitor: $(PYTHON_TOO)
 	for room in $(ROOMS); do install -d "$(DESTDIR)$(MONITOR_DIR)/rds_monitor/$$room" || exit 1; \
 	  install -m 644 monitor/rds_monitor/$$room/*.* "$(DESTDIR)$(MONITOR_DIR)/rds_monitor/$$room" || exit 1; done
 	install -m 755 monitor/rds-monitor "$(DESTDIR)$(PREFIX)/bin/rds-monitor"
-	$(PYTHON) packaging/make_pages.py build/pages && \
-	  install -m 644 build/pages/rds-monitor.1 "$(SHARE)/man/man1/rds-monitor.1" && \
-	  install -m 644 build/pages/rds-monitor.bash "$(SHARE)/bash-completion/completions/rds-monitor" && \
-	  install -m 644 build/pages/_rds-monitor "$(DESTDIR)$(ZSH_COMPLETIONS)/_rds-monitor" || \
-	  { [ -z "$(PAGES_NEEDED)" ] && echo 'rds-monitor is installed without its manual page and completions' >&2; }
+	pages=$$(mktemp -d) && $(PYTHON) packaging/make_pages.py $$pages && \
+	  install -m 644 $$pages/rds-monitor.1 "$(SHARE)/man/man1/rds-monitor.1" && \
+	  install -m 644 $$pages/rds-monitor.bash "$(SHARE)/bash-completion/completions/rds-monitor" && \
+	  install -m 644 $$pages/_rds-monitor "$(DESTDIR)$(ZSH_COMPLETIONS)/_rds-monitor" || \
+	  { [ -z "$(PAGES_NEEDED)" ] && echo 'rds-monitor is installed without its manual page and completions' >&2; }; \
+	  status=$$?; rm -rf $$pages; exit $$status
 
 # The Python module, which loads librds.so.0.
 PYTHON_DIR ?= $(MONITOR_DIR)

@@ -11,6 +11,7 @@ import gzip
 import os
 import re
 import sys
+from hashlib import sha256
 from pathlib import Path
 from typing import Any, Callable
 
@@ -85,10 +86,14 @@ AS_ROOT = [] if os.getuid() == 0 else ["fakeroot"]
 of_packages = pytest.mark.xdist_group("packages")
 
 
+def dated() -> dict[str, str]:
+    return {**os.environ, "SOURCE_DATE_EPOCH": "1700000000"}
+
+
 def made(rds: str, librds: str, folder: Path, arm64: str | None) -> list[Path]:
     """Builds the packages into the folder."""
     words = [TOP / "packaging/make_deb.sh", rds, librds, folder, *([arm64] if arm64 else [])]
-    text = said(*words, cwd=TOP, timeout=300, env={**os.environ, "SOURCE_DATE_EPOCH": "1700000000"})
+    text = said(*words, cwd=TOP, timeout=300, env=dated())
     return [Path(line) for line in text.splitlines()]
 
 
@@ -195,7 +200,11 @@ def test_fields_of_packages(packages: Packages, cases: Cases) -> None:
 @of_packages
 def test_packages_are_the_same_again(packages: Packages, tmp_path: Path) -> None:
     again = made(packages.rds, packages.librds, tmp_path, packages.arm64)
-    assert [path.read_bytes() for path in again] == [path.read_bytes() for path in packages.files]
+    sums = [
+        {path.name: sha256(path.read_bytes()).hexdigest() for path in files}
+        for files in (again, packages.files)
+    ]
+    assert sums[0] == sums[1]
 
 
 @of_packages
@@ -225,16 +234,18 @@ def test_installed_files(packages: Packages, cases: Cases) -> None:
     assert owned == ["/usr/include/rds.h", *(f"{libdir}/{name}" for name in library)]
 
 
-INSTALLED = """packaging/* bindings/c/* examples/* completions/* docs/*.md rds.1 README.md CHANGELOG.md lib/rds.h monitor/WATCHING.md build/pages/*
+INSTALLED = """packaging/* bindings/c/* examples/* completions/* docs/*.md rds.1 README.md CHANGELOG.md lib/rds.h monitor/WATCHING.md
     monitor/rds-monitor monitor/rds_monitor/*.py monitor/rds_monitor/*/*.* bindings/python/librds/*.py bindings/python/librds/py.typed"""
 
 
 @of_packages
-def test_files_that_no_package_has(packages: Packages) -> None:
+def test_files_that_no_package_has(packages: Packages, tmp_path: Path) -> None:
+    said("/usr/bin/python3", TOP / "packaging/make_pages.py", tmp_path, env=dated())
     small = (path for path in packages.root.rglob("*") if path.is_file() and path.stat().st_size < 2**20)
     read = {".gz": lambda path: gzip.decompress(path.read_bytes())}
     held = {read.get(path.suffix, Path.read_bytes)(path) for path in small}
     files = {Path(path) for pattern in INSTALLED.split() for path in glob.glob(f"{TOP}/{pattern}")}
+    files.update(tmp_path.iterdir())
     missing = {path for path in files if path.is_file() and path.read_bytes() not in held}
     pages = {f"docs/{name}.md" for name in "ARCHITECTURE CHANGING DECISIONS MODEL PROOFS TESTING".split()}
     others = {"packaging/make_deb.sh", "packaging/make_pages.py"}

@@ -220,7 +220,8 @@ def test_rows_come_before_more_of_the_stream(rds: str, station: bytes) -> None:
 
 @pytest.mark.parametrize("number", [signal.SIGINT, signal.SIGTERM])
 def test_rows_stay_if_a_stream_is_ended(rds: str, station: bytes, number: signal.Signals) -> None:
-    child, _ = follow_begun(rds, station[:1305])
+    # A shell's background job ignores SIGINT.
+    child, _ = follow_begun(rds, station[:1305], ["env", "--default-signal", rds, "follow"])
     child.send_signal(number)
     assert child.communicate(timeout=60)[0] == b"" and child.returncode == -number
 
