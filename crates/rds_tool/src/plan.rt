@@ -98,6 +98,16 @@ impl<'a> Plan<'a> {
         }
     }
 
+    /// Whether one worker is asked for, and no cut by its place.
+    pub fn is_by_one(&self) -> bool
+        ensures { result ≡ true → cuts_any self.now.cuts ≡ true }
+    {
+        match self.cuts {
+            Cuts::Even(_) => self.workers == 1,
+            Cuts::At(_) => false,
+        }
+    }
+
     /// Whether one worker goes over a whole recording of `len` bits by itself: there is no work for more, and no cut is
     /// asked for by its place.
     pub fn is_for_one(&self, len: u64) -> bool
