@@ -1,12 +1,11 @@
 //! Totals that are counted while the bytes of a recording come.
-ghost use Rattle.std.specs.Prelude.{◌+◌, ◌++◌, ◌*◌, ◌^◌, ◌≡◌, ◌≤◌, [], IfErr, IfOk, IsOkUnless, length};
-ghost use Rattle.rds_live.specs.StreamDecoder.{Terms};
+ghost use Rattle.std.specs.Prelude.{◌++◌, ◌-◌, ◌<◌, ◌^◌, ◌≡◌, ◌≤◌, [], IfErr, IfOk, IsOkUnless, length, slice_index};
 ghost use Rattle.rds_stream.specs.Recording.{AreGaps, Signal};
 ghost use Rattle.rds_sync.specs.Report.{report_items};
 ghost use Rattle.rds_sync.specs.Totals.{totals_of};
 ghost use Rattle.rds_tool.specs.Input.{claimed, first_bits, recording_of};
 ghost use Rattle.rds_tool.specs.Refusals.{IsMemoryOrErrOf};
-ghost use Rattle.rds_tool.specs.Inside.Counters.{whole};
+ghost use Rattle.rds_tool.specs.Inside.Counters.{claimed_by, whole};
 
 use crate::input::decode_digits;
 use crate::taker::Taker;
@@ -69,15 +68,12 @@ impl<'a> Counter<'a> {
         ensures { self.new ≡ record self.old { bytes = self.old.bytes ++ bytes.now } }
     {
         let whole = whole_bytes(self.bits);
-        let room = whole.saturating_sub(self.count) as usize;
-        let (front, rest) = bytes.split_at(room.min(bytes.len()));
-        match self.live.count(front) {
+        let room = whole.saturating_sub(self.count).min(bytes.len() as u64);
+        match self.live.count(&bytes[..room as usize]) {
             Ok(()) => {}
             Err(_) => unreachable!(),
         }
-        if self.count <= whole && !rest.is_empty() {
-            self.last = rest[0];
-        }
+        self.last = byte_at(whole, self.count, self.last, bytes);
         self.count = self.count.saturating_add(bytes.len() as u64);
         self.bytes.note(bytes);
     }
@@ -90,7 +86,7 @@ impl<'a> Counter<'a> {
         ensures refused { IfErr result (IsMemoryOrErrOf
             (first_bits (claimed self.bits self.bytes) self.terms.gaps self.bytes)) }
     {
-        let bits = self.bits.unwrap_or(self.count.saturating_mul(8));
+        let bits = claimed_bits(self.bits, self.count);
         if bits > MOST_BITS {
             return Err(ToolError::TooLong);
         }
@@ -102,15 +98,39 @@ impl<'a> Counter<'a> {
             return Err(ToolError::BadGaps);
         }
         let mut items = Vec::with_capacity(alloc, 2 * left as usize)?;
-        Ok(self.live.finish_with(&[self.last], left, &mut items)?.totals)
+        match self.live.finish_with(&[self.last], left, &mut items) {
+            Ok(end) => Ok(end.totals),
+            Err(_) => unreachable!(),
+        }
     }
 }
 
 /// How many whole bytes the bits have that are counted.
 fn whole_bytes(bits: Option<u64>) -> u64
-    ensures { result ≡ whole bits }
+    ensures value { result ≡ whole bits }
+    ensures few { result ≤ 2 ^ 33 }
 {
     bits.unwrap_or(MOST_BITS).min(MOST_BITS) / 8
+}
+
+/// How many bits are claimed of this number of bytes.
+fn claimed_bits(bits: Option<u64>, count: u64) -> u64
+    ensures { result ≡ claimed_by bits count }
+{
+    bits.unwrap_or(count.saturating_mul(8))
+}
+
+/// The byte at a place, when these bytes came after `count` others, of which `last` is it if the place is below `count`.
+fn byte_at(place: u64, count: u64, last: u8, bytes: &[u8]) -> u8
+    ensures kept { place < count → result ≡ last }
+    ensures new { count ≤ place → place - count < length bytes.now
+        → result ≡ slice_index bytes.now (place - count) }
+{
+    if count <= place && place - count < bytes.len() as u64 {
+        bytes[(place - count) as usize]
+    } else {
+        last
+    }
 }
 
 /// A counter of the recording that an input denotes, whose text or bytes come chunk by chunk.
@@ -177,14 +197,17 @@ impl<'a> Taker for InputCounter<'a> {
         self.text.note(bytes);
         if !self.hex {
             self.counter.hear(bytes);
-        } else if !self.strange {
-            match decode_digits(bytes, self.half) {
-                Ok((count, half)) => {
-                    self.counter.hear(&bytes[..count]);
-                    self.half = half;
-                }
-                Err(_) => self.strange = true,
+            return Ok(());
+        }
+        if self.strange {
+            return Ok(());
+        }
+        match decode_digits(bytes, self.half) {
+            Ok((count, half)) => {
+                self.counter.hear(&bytes[..count]);
+                self.half = half;
             }
+            Err(_) => self.strange = true,
         }
         Ok(())
     }

@@ -102,10 +102,7 @@ impl<'a> Plan<'a> {
     pub fn is_by_one(&self) -> bool
         ensures { result ≡ true → cuts_any self.now.cuts ≡ true }
     {
-        match self.cuts {
-            Cuts::Even(_) => self.workers == 1,
-            Cuts::At(_) => false,
-        }
+        self.workers == 1 && matches!(self.cuts, Cuts::Even(_))
     }
 
     /// Whether one worker goes over a whole recording of `len` bits by itself: there is no work for more, and no cut is

@@ -1,6 +1,5 @@
 -- What a counter of a recording knows while its bytes come. Cited by `Counter` and `InputCounter`, and by no public call.
-use Rattle.std.specs.Prelude.{◌*◌, ◌-◌, ◌/◌, ◌<◌, ◌^◌, ◌≡◌, ℕ, Bool, List, None, Option, Some, false, length, min, slice_index, take, true}
-use Rattle.std.specs.Prelude.{IfSome}
+use Rattle.std.specs.Prelude.{◌*◌, ◌-◌, ◌/◌, ◌<◌, ◌^◌, ◌≡◌, ℕ, Bool, List, None, IfSome, Option, Some, false, length, min, slice_index, take, true}
 use Rattle.rds_live.specs.StreamDecoder.{HasHeard, LiveOf, Terms}
 use Rattle.rds_sync.specs.Rules.{RuleNumbers}
 use Rattle.rds_tool.specs.Inside.HexText.{IsDecodedBy, IsStrangeAfter}
@@ -10,6 +9,11 @@ use Rattle.rds_tool.specs.declared.job.Input.{Input}
 abbrev pub whole : Option ℕ → ℕ
 whole None = 2 ^ 33
 whole (Some bits) = min bits (2 ^ 36) / 8
+
+-- how many bits are claimed of this number of bytes, which stops at the greatest word
+abbrev pub claimed_by : Option ℕ → ℕ → ℕ
+claimed_by None count = min (8 * count) (2 ^ 64 - 1)
+claimed_by (Some bits) count = bits
 
 -- the terms, how many bits are claimed, and the bytes that came
 pub record CounterOf : Type 0 where
