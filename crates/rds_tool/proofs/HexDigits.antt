@@ -1,6 +1,6 @@
 -- The bytes of hexadecimal text, digit by digit.
 use Rattle.std.proofs.Common.{◌%◌, ◌*◌, ◌+◌, ◌++◌, ◌<◌, ◌==◌, ◌∙◌, ◌∷◌, ◌≡◌, ◌≤◌, Bool, Err, List, None, Ok, Option, Result, Some, [], ap, append_assoc, arith, cond, drop, false, if◌then◌else◌, length, not, refl, set, slice_index, suc, sym, take, true, zero, ℕ}
-use Rattle.std.specs.Prelude.{IfSome}
+use Rattle.std.specs.Prelude.{IfSome, is_some}
 use Rattle.std.specs.List.{filter}
 use Rattle.std.proofs.Math.Seq.{drop-cons}
 use Rattle.std.proofs.lemmas.Bool.{eqb-true}
@@ -71,11 +71,19 @@ not_blank b = not (is_blank b)
 decoded_is : (text : List ℕ) → decoded text ≡ bytes_after_of None (text ++ [])
 decoded_is text = whole_is (filter not_blank text) ∙ ap (bytes_after_of None) (sym (append-nil text))
 
-pub whole_text : (text bytes : List ℕ) → IsDecodedBy None text bytes None → decoded text ≡ Ok bytes
+whole_text : (text bytes : List ℕ) → IsDecodedBy None text bytes None → decoded text ≡ Ok bytes
 whole_text text bytes by = decoded_is text ∙ by [] ∙ ap (λ t. Ok t) (append-nil bytes)
 
-pub half_text : (text bytes : List ℕ) (digit : ℕ) → IsDecodedBy None text bytes (Some digit) → decoded text ≡ Err HexText
+half_text : (text bytes : List ℕ) (digit : ℕ) → IsDecodedBy None text bytes (Some digit) → decoded text ≡ Err HexText
 half_text text bytes digit by = decoded_is text ∙ by []
+
+pub odd_text : (text bytes : List ℕ) (half : Option ℕ) → is_some half ≡ true → IsDecodedBy None text bytes half → decoded text ≡ Err HexText
+odd_text text bytes None some by = cc some
+odd_text text bytes (Some digit) some by = half_text text bytes digit by
+
+pub even_text : (text bytes : List ℕ) (half : Option ℕ) → is_some half ≡ false → IsDecodedBy None text bytes half → decoded text ≡ Ok bytes
+even_text text bytes None none by = whole_text text bytes by
+even_text text bytes (Some digit) none by = cc none
 
 pub strange_text : (text : List ℕ) → IsStrangeAfter None text → decoded text ≡ Err HexText
 strange_text text strange = decoded_is text ∙ strange []
@@ -95,8 +103,8 @@ module _ (text part : List ℕ) where
     strange_on strange more = first more ∙ ap (λ r. and_then r (λ rest. Ok (bytes ++ rest))) (strange more)
 
     pub decoded_on : (next : List ℕ) (left : Option ℕ) → IsDecodedBy half part next left → IsDecodedBy None (text ++ part) (bytes ++ next) left
-    decoded_on next left then more =
-        first more ∙ ap (λ r. and_then r (λ rest. Ok (bytes ++ rest))) (then more) ∙ both (bytes_after_of left more) where
+    decoded_on next left also more =
+        first more ∙ ap (λ r. and_then r (λ rest. Ok (bytes ++ rest))) (also more) ∙ both (bytes_after_of left more) where
           both : (r : Result (List ℕ) ToolError) → and_then (and_then r (λ rest. Ok (next ++ rest))) (λ rest. Ok (bytes ++ rest)) ≡ and_then r (λ rest. Ok ((bytes ++ next) ++ rest))
           both (Ok rest) = ap (λ t. Ok t) (sym (append_assoc bytes next rest))
           both (Err e) = refl

@@ -1,5 +1,5 @@
 //! Totals that are counted while the bytes of a recording come.
-ghost use Rattle.std.specs.Prelude.{◌++◌, ◌-◌, ◌<◌, ◌^◌, ◌≡◌, ◌≤◌, [], IfErr, IfOk, IsOkUnless, length, slice_index};
+ghost use Rattle.std.specs.Prelude.{◌++◌, ◌-◌, ◌<◌, ◌^◌, ◌≡◌, ◌≤◌, [], IfErr, IfOk, IsOkUnless, Some, length, slice_index};
 ghost use Rattle.rds_stream.specs.Recording.{AreGaps, Signal};
 ghost use Rattle.rds_sync.specs.Report.{report_items};
 ghost use Rattle.rds_sync.specs.Totals.{totals_of};
@@ -81,10 +81,10 @@ impl<'a> Counter<'a> {
     /// The totals of the recording, whose bytes have all come.
     fn finish(self, alloc: Global) -> Result<Totals, ToolError>
         ensures totals { IfOk result (λ totals. (recording : Signal)
-            × (first_bits (claimed self.bits self.bytes) self.terms.gaps self.bytes ≡ Ok recording)
-            × (totals ≡ totals_of (report_items recording self.terms.rules))) }
+            × (first_bits (claimed self.entry.bits self.entry.bytes) self.entry.terms.gaps self.entry.bytes ≡ Ok recording)
+            × (totals ≡ totals_of (report_items recording self.entry.terms.rules))) }
         ensures refused { IfErr result (IsMemoryOrErrOf
-            (first_bits (claimed self.bits self.bytes) self.terms.gaps self.bytes)) }
+            (first_bits (claimed self.entry.bits self.entry.bytes) self.entry.terms.gaps self.entry.bytes)) }
     {
         let bits = claimed_bits(self.bits, self.count);
         if bits > MOST_BITS {
@@ -161,7 +161,11 @@ impl<'a> Model for InputCounter<'a> {
 
 impl<'a> InputCounter<'a> {
     /// Nothing came yet.
-    pub fn new(alloc: Global, input: &'a Input, rules: &'a Rules) -> Result<InputCounter<'a>, ToolError>
+    pub fn new(
+        alloc: Global,
+        input: &'a Input,
+        rules: &'a Rules,
+    ) -> Result<InputCounter<'a>, ToolError>
         requires { AreGaps (2 ^ 36) input.now.gaps }
         ensures new { IfOk result (λ counter. counter
             ≡ record { input = input.now; rules = rules.now; text = [] }) }
@@ -179,9 +183,9 @@ impl<'a> InputCounter<'a> {
     /// The totals of the recording, all of which has come.
     pub fn finish(self, alloc: Global) -> Result<Totals, ToolError>
         ensures totals { IfOk result (λ totals. (recording : Signal)
-            × (recording_of self.input self.text ≡ Ok recording)
-            × (totals ≡ totals_of (report_items recording self.rules))) }
-        ensures refused { IfErr result (IsMemoryOrErrOf (recording_of self.input self.text)) }
+            × (recording_of self.entry.input self.entry.text ≡ Ok recording)
+            × (totals ≡ totals_of (report_items recording self.entry.rules))) }
+        ensures refused { IfErr result (IsMemoryOrErrOf (recording_of self.entry.input self.entry.text)) }
     {
         if self.strange || self.half.is_some() {
             return Err(ToolError::HexText);
@@ -192,6 +196,8 @@ impl<'a> InputCounter<'a> {
 
 impl<'a> Taker for InputCounter<'a> {
     ghost taken = { λ counter. counter.text };
+
+    ghost terms = { λ counter. Some (counter.input, counter.rules) };
 
     fn take(&mut self, bytes: &mut [u8]) -> Result<(), AllocError> {
         self.text.note(bytes);

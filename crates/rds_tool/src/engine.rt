@@ -129,10 +129,10 @@ fn transcribe_totals<R: Threads + Sync, S: Source, K: Sink>(
 
 /// The rows of the totals that were counted.
 fn rows_of_counter(alloc: Global, counter: InputCounter<'_>) -> Result<Vec<u8>, ToolError>
-    ensures ok { IfOk result (λ rows. (plan : PlanOf) → plan.rules ≡ counter.rules → cuts_any plan.cuts ≡ true
-        → text_of_task (task.Totals counter.input plan) counter.text ≡ Ok rows.items) }
+    ensures ok { IfOk result (λ rows. (plan : PlanOf) → plan.rules ≡ counter.entry.rules → cuts_any plan.cuts ≡ true
+        → text_of_task (task.Totals counter.entry.input plan) counter.entry.text ≡ Ok rows.items) }
     ensures refused { IfErr result (λ error. (plan : PlanOf)
-        → IsMemoryOrErrOf (text_of_task (task.Totals counter.input plan) counter.text) error) }
+        → IsMemoryOrErrOf (text_of_task (task.Totals counter.entry.input plan) counter.entry.text) error) }
 {
     let totals = counter.finish(alloc)?;
     totals_rows(alloc, &totals)
@@ -166,6 +166,7 @@ fn read_all<S: Source, T: Taker>(
 ) -> Result<(), ToolError>
     requires failed { S.failed reader.old < 2 ^ 63 }
     requires empty { T.taken taker.old ≡ [] }
+    ensures terms { OnOk result (T.terms taker.new ≡ T.terms taker.old) }
     ensures ok { OnOk result (IfSome (S.remaining reader.old) (λ held. T.taken taker.new ≡ held)) }
     ensures end { OnOk result (IsAtEnd (S.remaining reader.new)) }
     ensures given { OnOk result (S.given reader.new ≡ S.given reader.old ++ T.taken taker.new) }
@@ -196,6 +197,7 @@ fn read_some<S: Source, T: Taker>(
 ) -> Result<bool, ToolError>
     requires count { S.failed reader.old < 2 ^ 63 }
     requires room { 0 < length buf.old }
+    ensures terms { OnOk result (T.terms taker.new ≡ T.terms taker.old) }
     ensures taken { OnOk result ((more : List ℕ)
         × Consumes (S.remaining reader.old) (S.remaining reader.new) more
         × (T.taken taker.new ≡ T.taken taker.old ++ more)) }

@@ -68,12 +68,21 @@ fn hex_bytes(text: Vec<u8>) -> Result<Vec<u8>, ToolError>
     ensures refused { IfErr result (λ error. decoded text.items ≡ Err error) }
 {
     let mut bytes = text;
-    let (count, half) = decode_digits(bytes.as_mut_slice(), None)?;
+    let count = decode_in_place(bytes.as_mut_slice())?;
+    bytes.truncate(count);
+    Ok(bytes)
+}
+
+/// Writes the bytes of hexadecimal text over its front. Answers how many bytes these are.
+fn decode_in_place(text: &mut [u8]) -> Result<usize, ToolError>
+    ensures ok { IfOk result (λ count. decoded text.old ≡ Ok (take count text.new)) }
+    ensures refused { IfErr result (λ error. decoded text.old ≡ Err error) }
+{
+    let (count, half) = decode_digits(text, None)?;
     if half.is_some() {
         return Err(ToolError::HexText);
     }
-    bytes.truncate(count);
-    Ok(bytes)
+    Ok(count)
 }
 
 /// Writes the bytes of a part of hexadecimal text over its front, given the first digit of a byte that the text before it began.

@@ -1,5 +1,7 @@
 //! Where the bytes of a reader go.
-ghost use Rattle.std.specs.Prelude.{◌≡◌, ◌++◌, List, ℕ, OnOk, length};
+ghost use Rattle.std.specs.Prelude.{◌++◌, ◌≡◌, List, None, OnOk, Option, ℕ};
+ghost use Rattle.rds_sync.specs.Rules.{RuleNumbers};
+ghost use Rattle.rds_tool.specs.InputOf.{InputOf};
 
 use std::alloc::AllocError;
 
@@ -8,13 +10,19 @@ pub trait Taker {
     /// The bytes that were taken.
     ghost taken: { Self → List ℕ };
 
+    /// The input and the rules by which they are counted, if they are.
+    ghost terms: { Self → Option (InputOf × RuleNumbers) };
+
     /// Takes these bytes, whose room it may write over.
     fn take(&mut self, bytes: &mut [u8]) -> Result<(), AllocError>
-        ensures { OnOk result (taken self.new ≡ taken self.old ++ bytes.old) };
+        ensures taken { OnOk result (taken self.new ≡ taken self.old ++ bytes.old) }
+        ensures terms { OnOk result (terms self.new ≡ terms self.old) };
 }
 
 impl Taker for Vec<u8> {
     ghost taken = { λ bytes. bytes.items };
+
+    ghost terms = { λ bytes. None };
 
     fn take(&mut self, bytes: &mut [u8]) -> Result<(), AllocError> {
         self.extend_from_slice(bytes)

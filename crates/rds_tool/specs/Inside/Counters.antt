@@ -3,7 +3,7 @@ use Rattle.std.specs.Prelude.{◌*◌, ◌-◌, ◌/◌, ◌<◌, ◌^◌, ◌�
 use Rattle.rds_live.specs.StreamDecoder.{HasHeard, LiveOf, Terms}
 use Rattle.rds_sync.specs.Rules.{RuleNumbers}
 use Rattle.rds_tool.specs.Inside.HexText.{IsDecodedBy, IsStrangeAfter}
-use Rattle.rds_tool.specs.declared.job.Input.{Input}
+use Rattle.rds_tool.specs.InputOf.{InputOf}
 
 -- how many whole bytes the bits have that are counted: those that are claimed, and no more than a recording may have
 abbrev pub whole : Option ℕ → ℕ
@@ -29,7 +29,7 @@ pub record IsCounter (live : LiveOf) (bits : Option ℕ) (count last : ℕ) (byt
 
 -- the input, the rules, and the text or the bytes that came
 pub record InputCounterOf : Type 0 where
-  pub input : Input
+  pub input : InputOf
   pub rules : RuleNumbers
   pub text : List ℕ
 

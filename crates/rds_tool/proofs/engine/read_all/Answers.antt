@@ -20,6 +20,7 @@ turns-init g c = record {
   count = refl;
   taken = rw c.requires.empty (Consumes-nil _);
   given = rw c.requires.empty (sym (append-nil _));
+  terms = refl;
   turns = omega arith;
   room = c.in_ok-buf.ensures;
 }
@@ -31,6 +32,7 @@ turns-preserved g c =
       count = read.count ∙ c.turns.invariant.count;
       taken = read_more _ _ _ _ _ _ c.turns.invariant.taken read.taken.1 read.taken.2;
       given = given_more _ _ _ _ _ _ c.turns.invariant.given read.given.1 read.given.2;
+      terms = read.terms ∙ c.turns.invariant.terms;
       turns = omega (arith, read.grows c.if-is_at_end.false);
       room = grind (arith, common_steps);
     }

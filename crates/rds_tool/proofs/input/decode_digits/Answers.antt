@@ -1,5 +1,5 @@
 use Rattle.std.proofs.Common.{◌≡◌, ◌∙◌, List, Option, arith, ℕ, refl, sym}
-use Rattle.rds_tool.proofs.HexDigits.{HasDecoded, all_decoded, begun, decoded_none, ended, few_decoded, not_decoded, skipped}
+use Rattle.rds_tool.proofs.HexDigits.{HasDecoded, all_decoded, begun, decoded_none, ended, few_decoded, not_decoded}
 use Rattle.rds_tool.proofs.input.decode_digits.Goals.{in-None, in-Some-high}
 use Rattle.rds_tool.proofs.input.decode_digits.Goals as goal
 
@@ -18,3 +18,7 @@ loop-at-preserved c =
       | in-None w ↦ moved _ _ _ _ _ _ _ _ _ w.text-is w.count-is w.high-is (begun _ _ _ _ _ _ c.loop-at.invariant (omega arith) c.in-Some.digit w.in-None.is blank some c.in-Some.ensures.small)
       | in-Some-high w ↦ moved _ _ _ _ _ _ _ _ _ w.text-is w.count-is w.high-is (ended _ _ _ _ _ _ c.loop-at.invariant (omega arith) w.in-Some-high.first c.in-Some.digit w.in-Some-high.is blank some)
     ]
+
+pub returns-clause-ok : goal.returns-clause-ok
+returns-clause-ok c =
+    let has = c.loop-at.invariant in (few_decoded _ _ _ _ _ _ has (omega arith), has.small, all_decoded _ _ _ _ _ _ has (omega arith))

@@ -1,4 +1,4 @@
-use Rattle.std.proofs.Common.{◌≡◌, ◌+◌, ◌*◌, ◌++◌, ◌∙◌, List, ap, arith, length, refl, subst, sym, ℕ}
+use Rattle.std.proofs.Common.{◌≡◌, ◌++◌, ◌∙◌, List, ap, arith, length, subst, sym, ℕ}
 use Rattle.std.proofs.lemmas.List.{length-append}
 use Rattle.rds_live.specs.StreamDecoder.{HasHeard, LiveOf}
 use Rattle.rds_live.specs.Next.{live_next}

@@ -9,7 +9,7 @@ use Rattle.rds_sync.specs.Lawful.{IsLawful}
 use Rattle.rds_sync.specs.Step.{run}
 use Rattle.rds_sync.specs.Totals.{totals_of}
 use Rattle.rds_live.specs.Gaps.{gaps_within}
-use Rattle.rds_live.specs.StreamDecoder.{LiveOf, Terms, last_bytes, most_kept, signal_of}
+use Rattle.rds_live.specs.StreamDecoder.{LiveOf, last_bytes, most_kept, signal_of}
 use Rattle.rds_live.specs.Moving.{moved_state}
 use Rattle.rds_live.specs.Next.{before_tail, live_next, run_next}
 use Rattle.rds_live.proofs.Following.{at-most-more, lawful-on, state-in-part}

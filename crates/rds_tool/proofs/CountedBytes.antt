@@ -1,5 +1,6 @@
 -- A recording that is counted while its bytes come.
 use Rattle.std.proofs.Common.{◌≡◌, ◌<◌, ◌≤◌, ◌+◌, ◌-◌, ◌*◌, ◌/◌, ◌^◌, ◌++◌, ◌∷◌, ◌∙◌, ◌×◌, ℕ, Bool, Err, List, [], None, Ok, Option, Result, Some, ap, arith, drop, false, if◌then◌else◌, inl, inr, length, length-append, min, refl, slice_index, sym, subst, take, true}
+use Rattle.std.specs.Prelude.{is_some}
 use Rattle.std.proofs.Math.Seq.{take-append-add}
 use Rattle.std.proofs.lemmas.Bool.{cases_lt, false≢true, le-ltb, lt-ltb}
 use Rattle.std.proofs.lemmas.List.{append-nil, get_or_append_left, get_or-append_right, length-take, take-append-drop, take-append-le, take_all, take_more}
@@ -12,7 +13,7 @@ use Rattle.rds_tool.specs.declared.error.ToolError.{ToolError}
 use Rattle.rds_tool.specs.declared.error.ToolError.TheVariants.{BadGaps, BitsPastBytes, HexText, TooLong}
 use Rattle.rds_tool.proofs.Followed.{front_bits}
 use Rattle.rds_tool.proofs.GapLists.{are_gaps, pass_as_gaps}
-use Rattle.rds_tool.proofs.HexDigits.{half_text, strange_text, whole_text}
+use Rattle.rds_tool.proofs.HexDigits.{even_text, odd_text, strange_text}
 
 -- ---- its bytes
 
@@ -141,12 +142,12 @@ module _ (half : Option ℕ) (text bytes : List ℕ) where
 
   pub refused_strange : (hex : Bool) → IsTextOf hex half true text bytes → decoded_as hex ≡ Err HexText
   refused_strange true is = strange_text text is
-  refused_strange false is = cc is.1.1
+  refused_strange false is = cc is.2
 
-  pub refused_half : (hex : Bool) (digit : ℕ) → half ≡ Some digit → IsTextOf hex half false text bytes → decoded_as hex ≡ Err HexText
-  refused_half true digit some is = half_text text bytes digit (subst (λ h. IsDecodedBy None text bytes h) some is.1)
-  refused_half false digit some is = let bad : None ≡ Some digit = sym is.1.0 ∙ some in cc bad
+  pub refused_half : (hex : Bool) → is_some half ≡ true → IsTextOf hex half false text bytes → decoded_as hex ≡ Err HexText
+  refused_half true some is = odd_text text bytes half some is.1
+  refused_half false some is = let bad : false ≡ true = sym (ap is_some is.1) ∙ some in cc bad
 
-  pub decoded_whole : (hex : Bool) → half ≡ None → IsTextOf hex half false text bytes → decoded_as hex ≡ Ok bytes
-  decoded_whole true none is = whole_text text bytes (subst (λ h. IsDecodedBy None text bytes h) none is.1)
+  pub decoded_whole : (hex : Bool) → is_some half ≡ false → IsTextOf hex half false text bytes → decoded_as hex ≡ Ok bytes
+  decoded_whole true none is = even_text text bytes half none is.1
   decoded_whole false none is = ap (λ t. Ok t) (sym is.0)
