@@ -1,5 +1,5 @@
 -- A recording that is counted while its bytes come.
-use Rattle.std.proofs.Common.{◌≡◌, ◌<◌, ◌≤◌, ◌+◌, ◌-◌, ◌*◌, ◌/◌, ◌^◌, ◌++◌, ◌∷◌, ◌∙◌, ◌×◌, ℕ, Bool, Err, List, [], None, Ok, Option, Result, Some, ap, arith, drop, false, if◌then◌else◌, inl, inr, length, length-append, min, refl, slice_index, sym, subst, take, true}
+use Rattle.std.proofs.Common.{◌≡◌, ◌<◌, ◌≤◌, ◌+◌, ◌-◌, ◌*◌, ◌/◌, ◌^◌, ◌++◌, ◌∷◌, ◌∙◌, ℕ, Bool, Err, List, [], None, Ok, Option, Result, Some, ap, arith, drop, false, if◌then◌else◌, inl, inr, length, length-append, min, refl, slice_index, sym, subst, take, true}
 use Rattle.std.specs.Prelude.{is_some}
 use Rattle.std.proofs.Math.Seq.{take-append-add}
 use Rattle.std.proofs.lemmas.Bool.{cases_lt, false≢true, le-ltb, lt-ltb}

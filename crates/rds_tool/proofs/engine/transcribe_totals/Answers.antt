@@ -1,4 +1,4 @@
-use Rattle.std.proofs.Common.{◌≡◌, ◌∙◌, ◌×◌, Err, List, Ok, Some, ap, refl, subst, sym, ℕ}
+use Rattle.std.proofs.Common.{◌≡◌, ◌∙◌, Err, List, Ok, Some, ap, refl, subst, sym, ℕ}
 use Rattle.rds_sync.specs.Rules.{RuleNumbers}
 use Rattle.rds_tool.specs.InputOf.{InputOf}
 use Rattle.rds_tool.specs.Inside.Counters.{InputCounterOf}

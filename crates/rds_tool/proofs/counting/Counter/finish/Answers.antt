@@ -1,4 +1,4 @@
-use Rattle.std.proofs.Common.{◌≡◌, ◌+◌, ◌-◌, ◌*◌, ◌^◌, ◌≤◌, ◌++◌, ◌∷◌, ◌∙◌, Bool, List, Ok, [], ap, arith, false, inr, length, not, refl, subst, sym, take, true, ℕ}
+use Rattle.std.proofs.Common.{◌≡◌, ◌+◌, ◌-◌, ◌*◌, ◌^◌, ◌≤◌, ◌++◌, ◌∷◌, ◌∙◌, Bool, List, Ok, [], ap, arith, false, inr, length, subst, sym, take, true, ℕ}
 use Rattle.rds_stream.specs.Recording.{AreGaps, Signal, bits_of}
 use Rattle.rds_sync.specs.Report.{report_items}
 use Rattle.rds_sync.specs.Totals.{totals_of}
@@ -11,13 +11,8 @@ use Rattle.rds_tool.proofs.CountedBytes.{bad_gaps, ends_alike, near_end, recorde
 use Rattle.rds_tool.proofs.counting.Counter.finish.Goals.{After-may_end_after}
 use Rattle.rds_tool.proofs.counting.Counter.finish.Goals as goal
 
-no_more : {X : Type 0} (b : Bool) → not b ≡ true → b ≡ true → X
-no_more true p q = cc p
-no_more false p q = cc q
-
-so_it_is : (b : Bool) → not b ≡ false → b ≡ true
-so_it_is true p = refl
-so_it_is false p = cc p
+no_more : {X : Type 0} (b : Bool) → b ≡ false → b ≡ true → X
+no_more b p q = let bad : false ≡ true = sym p ∙ q in cc bad
 
 -- the facts once the number of bits is known
 module _ (c : After-may_end_after) where
@@ -52,7 +47,7 @@ returns-clause-totals c =
     let terms = s.live.terms in
     let front = take (whole s.bits) s.bytes.bytes in
     let are : AreGaps (n d) terms.gaps =
-    subst (λ (m : ℕ). AreGaps m terms.gaps) (sum d) (c.may_end_after.ensures.0 (so_it_is c.may_end_after.result c.if-not-may_end_after.false)) in
+    subst (λ (m : ℕ). AreGaps m terms.gaps) (sum d) (c.may_end_after.ensures.0 c.if-not-may_end_after.false) in
     let long : 8 * length front + (c.claimed_bits-bits.result - c.place.result) ≡ n d =
     omega (arith, sum d, ap (λ (l : LiveOf). l.place) c.self.invariant.heard) in
     subst (λ (m : CounterOf). (x : Signal) × (first_bits (claimed m.bits m.bytes) m.terms.gaps m.bytes ≡ Ok x) × (c.in-Ok.end.totals ≡ totals_of (report_items x m.terms.rules))) c.self.view_is (
