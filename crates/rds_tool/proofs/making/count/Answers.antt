@@ -1,4 +1,4 @@
-use Rattle.std.proofs.Common.{◌≡◌, ℕ, ◌-◌, ◌^◌, ◌++◌, ◌∙◌, List, ap, ap₂, arith, sym}
+use Rattle.std.proofs.Common.{◌≡◌, ℕ, ◌-◌, ◌*◌, ◌^◌, ◌++◌, ◌∙◌, List, ap, ap₂, arith, sym}
 use Rattle.rds_stream.specs.Recording.{Signal, length_of}
 use Rattle.rds_stream.specs.Tape.{TapeState}
 use Rattle.rds_sync.specs.Counting.{TotalsJoin, plus}
