@@ -154,7 +154,7 @@ module _ {R W : Type 0} (source : Source R) (sink : Sink W) (job : Job) (reader 
 
   -- memory is refused before anything is read
   pub at_memory : (task : Task) → task_of job ≡ Ok task → r ≡ Err OutOfMemory → IsTranscribed source sink job reader reader writer writer r
-  at_memory task is same = at_read {Unit {0}} reader task OutOfMemory is same (inl refl) ((λ p. cc p), not_called _) (λ p. cc p) (λ p. cc p)
+  at_memory task is same = at_read {T = Unit {0}} reader task OutOfMemory is same (inl refl) (λ p. absurd (cc p), not_called _) (λ p. absurd (cc p)) (λ p. absurd (cc p))
 
   -- all was read
   module _ (reader' : R) (task : Task) (held : List ℕ) (is : task_of job ≡ Ok task) (all : IfSome (source.remaining reader) (λ bytes. held ≡ bytes))

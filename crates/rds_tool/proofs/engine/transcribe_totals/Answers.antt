@@ -4,6 +4,7 @@ use Rattle.rds_tool.specs.InputOf.{InputOf}
 use Rattle.rds_tool.specs.Inside.Counters.{InputCounterOf}
 use Rattle.rds_tool.specs.Outcome.{text_of_task}
 use Rattle.rds_tool.specs.Refusals.{IsMemoryOrErrOf}
+use Rattle.rds_tool.specs.declared.error.ToolError.{ToolError}
 use Rattle.rds_tool.specs.declared.task.Task.{Task}
 use Rattle.rds_tool.specs.declared.task.Task.TheVariants as task
 use Rattle.rds_tool.proofs.Passing.{passed}
@@ -16,7 +17,8 @@ same_terms a b p = cc
 
 pub returns-in_err-counter : goal.returns-in_err-counter
 returns-in_err-counter g c = λ job is.
-    at_memory g.S.Source g.K.Sink job _ _ _ (task.Totals c.args.input.now c.args.plan.now) is (passed _ _ c.from_residual.ensures)
+    at_memory g.S.Source g.K.Sink job _ _ _ (task.Totals c.args.input.now c.args.plan.now) is
+    (subst (λ (e : ToolError). c.from_residual.result ≡ Err e) c.in_err-counter.ensures.refused (passed _ _ c.from_residual.ensures))
 
 pub returns-in_err-read_all : goal.returns-in_err-read_all
 returns-in_err-read_all g c = λ job is.
