@@ -20,7 +20,7 @@ import sys
 from typing import Any, Dict, Iterator, List, Optional, Tuple
 
 Span = Tuple[float, float]
-# Seconds by which anything may be off, and that a kill may cost of what is counted.
+# Seconds by which anything may be off, and that a kill may cost of a count.
 OFF, KILL = 2.0, 10.0
 BLOCKS_PER_SECOND = 1187.5 / 26
 SILENT, NO_RDS, PI, DISK, CLEAR, PI_CLEAR = 15.0, 10.0, 10.0, 5.0, 5.0, 10.0

@@ -42,7 +42,7 @@ def outages() -> bytes:
 # ---- tables with their times
 
 CLOCK_OFF = "--rate 1200 --start 2026-03-29T00:30:00.5Z"
-# What is asked of the two groups, and the rows after the names of the columns.
+# The words of a command over the two groups, and the rows after the names of the columns.
 TABLES = {
     f"errors {AT} --every 1 --length 2375": """
 begin_s,end_s,sent,valid,corrected,lost,missing,bad_percent,begin_utc,end_utc

@@ -117,7 +117,7 @@ def test_restarts_while_an_alarm_lasts(tmp_path: Path, case: Case) -> None:
 
 @pytest.mark.parametrize(("alarm", "spoil", "seconds"), [("silent", gaps, 15), ("no_rds", noise, 10)])
 def test_a_restart_before_an_alarm(tmp_path: Path, alarm: str, spoil: Spoil, seconds: float) -> None:
-    """What was counted before it counts after it, but not the five seconds between."""
+    """Counts go on after it, but for the five seconds between."""
     net = Network(tmp_path, TABLE, {"a": Air(ALPHA, START, 300)})
     spoil(net)
     net.run(47)
