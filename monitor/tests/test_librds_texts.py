@@ -16,15 +16,11 @@ import pytest
 from conftest import TOP, ran
 
 librds = pytest.importorskip("librds")
-sys.path.insert(0, str(TOP / "tests" / "library"))
-
-from layout import names_of_header, without_comments  # noqa: E402
 
 LIBRARY = Path(os.path.realpath(os.environ["RDS_LIBRARY"])).parent
 HEADER = (TOP / "lib" / "rds.h").read_text(encoding="utf-8")
-NUMBER_OF = {
-    name: int(number) for name, number in re.findall(r"\b(RDS_\w+) = (\d+)\b", without_comments(HEADER))
-}
+DECLARED = re.sub(r"/\*.*?\*/|//[^\n]*", "", HEADER, flags=re.S)
+NUMBER_OF = {name: int(number) for name, number in re.findall(r"\b(RDS_\w+) = (\d+)\b", DECLARED)}
 
 
 def docs_of(documented: Any) -> Iterator[str]:
@@ -151,7 +147,7 @@ def test_programs_of_the_page(made: Callable[[Path], List[object]], tool: str, t
 
 def test_names_of_errors() -> None:
     errors = {f"RDS_{name}": number for name, number in librds.Error.__members__.items()}
-    enums = re.findall(r"enum \{(.*?)\};", without_comments(HEADER), re.S)
+    enums = re.findall(r"enum \{(.*?)\};", DECLARED, re.S)
     (body,) = (body for body in enums if "RDS_TOO_LONG" in body)
     assert errors == {name: int(number) for name, number in re.findall(r"(\w+) = (\d+)", body)}
 
@@ -159,6 +155,10 @@ def test_names_of_errors() -> None:
 def test_names_of_parameters_in_rust() -> None:
     ffi = (TOP / "bindings" / "rust" / "src" / "ffi.rs").read_text(encoding="utf-8")
     declared = dict(re.findall(r"pub fn (rds_\w+)\((.*?)\)", ffi))
-    names = names_of_header(HEADER)
+    functions = re.findall(r"^\w+ (rds_\w+)\(([^;]*?)\);", DECLARED, re.S | re.M)
+    names = {
+        name: [part.split()[-1].lstrip("*") for part in given.split(",") if part.strip() != "void"]
+        for name, given in functions
+    }
     wrong = [name for name, given in declared.items() if re.findall(r"(\w+): ", given) != names[name]]
     assert declared and wrong == []
