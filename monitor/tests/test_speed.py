@@ -11,8 +11,8 @@ from conftest import COMMAND, PROGRAM, STATION
 from speed import make_day, measured
 
 COMMANDS = ("errors", "outages", "groups")
-# Times the processor seconds of the list, beside those of a second of a recording, which are for the imports.
-MOST = 1.75
+# Times the processor seconds of the list, and the seconds for imports: on a slow machine, those of a second of a recording.
+MOST, IMPORTS = 1.75, 0.2
 ROUNDS = 20
 
 
@@ -33,6 +33,7 @@ def test_a_day_takes_little_longer_than_its_list(tmp_path: Path, monkeypatch: py
         for name, (words, given) in asked.items():
             seconds, _ = measured(words, tmp_path / given, tmp_path / "out", 1)
             least[name] = min(seconds, least.get(name, 1e9))
-        if all(least[command] <= MOST * least["list"] + least["imports"] for command in COMMANDS):
+        limit = MOST * least["list"] + max(IMPORTS, least["imports"])
+        if all(least[command] <= limit for command in COMMANDS):
             return
     raise AssertionError(least)
