@@ -27,7 +27,7 @@ from running import LIMIT, Ran, run
 
 Cases = Callable[[int], None]
 # How many seeds there are, and how many runs each seed of a recording has.
-SEEDS, STREAMS, RUNS = 120, 2000, 13
+SEEDS, STREAMS, RUNS = 120, 2000, 17
 
 
 @lru_cache(4)
@@ -60,11 +60,11 @@ def hand_on(pipe: int, held: bytes, most: int, pause: float, chance: random.Rand
         os.close(pipe)
 
 
-def followed(rds: str, words: list[str], held: bytes, most: int, pause: float, chance: random.Random) -> Ran:
-    """How a stream of these bytes ends, and what it gives."""
+def streamed(rds: str, words: list[str], held: bytes, most: int, pause: float, chance: random.Random) -> Ran:
+    """How a job ends whose input comes through a pipe, and what it gives."""
     read_end, write_end = os.pipe()
     with subprocess.Popen(
-        [rds, "follow", *words], stdin=read_end, stdout=subprocess.PIPE, stderr=subprocess.PIPE
+        [rds, *words], stdin=read_end, stdout=subprocess.PIPE, stderr=subprocess.PIPE
     ) as child:
         os.close(read_end)
         with ThreadPoolExecutor(1) as hand:
@@ -105,7 +105,7 @@ class Trial:
         return self
 
     def try_recording(self, held: bytes) -> None:
-        """A scan, two lists and the totals, each of the latter by two crews; some from digits."""
+        """A scan, two lists and the totals, each of the latter by two crews, and streams; some from digits."""
         chance = self.chance
         bits = max(0, 8 * len(held) - chance.choice([0, 0, chance.randint(0, 40)]))
         source = (["--bits", str(bits)] if bits < 8 * len(held) else []) + making.gaps(chance, bits)
@@ -117,15 +117,18 @@ class Trial:
                 is_hex = chance.random() < 0.2
                 text = making.as_digits(chance, held) if is_hex else held
                 self.compare_run([*words, *crew, *(["--hex"] if is_hex else [])], text, right)
-        self.try_follow(held, source, chance.randint(2, 10_000))
-        self.try_follow(held[:2000], making.gaps(chance, 8 * len(held[:2000])), 1)
+        for job, is_hex in (("follow", False), ("totals", False), ("totals", True)):
+            self.try_stream(job, held, source, chance.randint(2, 10_000), is_hex)
+            self.try_stream(job, held[:2000], making.gaps(chance, 8 * len(held[:2000])), 1, is_hex)
 
-    def try_follow(self, held: bytes, source: list[str], most: int) -> None:
-        """A stream in chunks of limited size."""
+    def try_stream(self, job: str, held: bytes, source: list[str], most: int, is_hex: bool) -> None:
+        """A job by one worker, whose input comes in chunks of limited size."""
         words = source + making.rules(self.chance)
-        given = followed(self.rds, words, held, most, 0, self.chance)
-        right = Ran(0, wanted(["list", *words], held) or b"", b"")
-        self.compare(given, right, f"follow {' '.join(words)}, chunks of up to {most} bytes")
+        right = Ran(0, wanted(["list" if job == "follow" else job, *words], held) or b"", b"")
+        own = [job, *([] if job == "follow" else ["--workers", "1"]), *(["--hex"] if is_hex else []), *words]
+        text = making.as_digits(self.chance, held) if is_hex else held
+        given = streamed(self.rds, own, text, most, 0, self.chance)
+        self.compare(given, right, f"{' '.join(own)}, chunks of up to {most} bytes")
 
 
 @pytest.mark.parametrize("first", range(1, SEEDS + 1, 10))
@@ -219,7 +222,7 @@ def difference(rds: str, seed: int) -> str:
     words = making.rules(chance) + some_gaps(chance, bits)
     words += ["--bits", str(bits)] if bits < 8 * len(held) else []
     most = 1 if len(held) < 300 and chance.random() < 0.5 else chance.randint(2, 10_000)
-    given = followed(rds, words, held, most, 0.001 if seed % 10 == 0 else 0, chance)
+    given = streamed(rds, ["follow", *words], held, most, 0.001 if seed % 10 == 0 else 0, chance)
     is_right = given == (0, wanted(["list", *words], held), b"")
     return "" if is_right else f"seed {seed}: rds follow {' '.join(words)}, chunks of up to {most} bytes"
 

@@ -44,6 +44,9 @@ JOBS = [
     Job("list --hex --pieces 1 --workers 1", ZERO),
     Job("list --hex --pieces 2 --workers 2", ZERO + b"00003f000019800025a00001b4"),
     Job("totals --hex --pieces 16 --workers 4", ZERO + b"00003f000019800025a00001b4"),
+    # totals that one worker counts over three reads and the end, and over digits
+    Job("totals --workers 1", 9 * STATION),
+    Job("totals --hex --bits 101 --gaps 1-2,99-101 --workers 1", ZERO),
     # a group of version B, and a burst of five bits
     Job("list --hex", b"00003f02002c10000d400001b4"),
     Job("list --hex --burst 5 --pieces 1", b"00003f000019800005a00001a5"),

@@ -1,7 +1,19 @@
 -- Bytes that are taken piece by piece.
-use Rattle.std.proofs.Common.{◌≡◌, ◌+◌, ◌-◌, ◌≤◌, ◌++◌, ◌∙◌, ℕ, List, ap, ap₂, arith, append_assoc, drop, length, sym, take}
+use Rattle.std.proofs.Common.{◌≡◌, ◌+◌, ◌-◌, ◌≤◌, ◌++◌, ◌∙◌, ◌∷◌, ℕ, List, [], ap, ap₂, arith, append_assoc, drop, eqb, inl, inr, length, refl, sym, take, true}
 use Rattle.std.proofs.Math.Seq.{take-append-add}
+use Rattle.std.proofs.lemmas.Bool.{cases_eq, false≢true, ne_eqb}
 use Rattle.std.proofs.lemmas.List.{append-nil, drop-drop, length-drop, length-take, take-append-drop, take_all}
+
+none-left : (n : ℕ) → eqb n 0 ≡ true → n ≡ 0
+none-left n e = elim (cases_eq n 0) [
+  | inl none ↦ none
+  | inr some ↦ absurd (false≢true (sym (ne_eqb n 0 some) ∙ e))
+]
+
+-- nothing is left
+pub no-rest : (xs : List ℕ) → eqb (length xs) 0 ≡ true → xs ≡ []
+no-rest [] none = refl
+no-rest (x ∷ xs) none = absurd (omega (arith, none-left (length (x ∷ xs)) none))
 
 -- nothing was taken yet
 pub none_taken : (before bytes : List ℕ) → before ≡ before ++ take (length bytes - length bytes) bytes

@@ -36,6 +36,7 @@
 //!   them, and the totals of the items that are complete.
 //! - [`StreamDecoder::take`]: the next bytes, as many as are decoded at once, and the items that they complete, in room that the caller
 //!   keeps; [`MOST_ITEMS`] is as much of it as is ever of use. [`StreamDecoder::take_all`]: a chunk of any length, and its items in a list.
+//!   [`StreamDecoder::count`]: a chunk of any length, whose items are only counted.
 //! - [`StreamEnd`]: the result of the end of a stream, by [`StreamDecoder::finish`] after a whole byte, or by
 //!   [`StreamDecoder::finish_with`] at any bit.
 //! - [`StreamDecoder::tail`] and [`StreamDecoder::resume`]: the bytes that a decoder has to keep beside its place, state and
@@ -51,9 +52,10 @@
 //!   the end they are the report's, and so are the totals.
 //! - Each call promises its results for numbers that are lawful and of no stream, too: those of the run over
 //!   the tail and the further bytes (`live_next`, `completed`, `group_next`).
-//! - A refused call has heard nothing: the same bytes can be offered again. `take` refuses only `TooLong`
-//!   (5), past 2^36 bits in all, and `take_all` `OutOfMemory` (8) too.
-//! - All memory that a stream needs is taken at its beginning: `take`, `finish` and `finish_with` take none.
+//! - A refused call has heard nothing: the same bytes can be offered again. `take` and `count` refuse only
+//!   `TooLong` (5), past 2^36 bits in all, and `take_all` `OutOfMemory` (8) too.
+//! - All memory that a stream needs is taken at its beginning: `take`, `count`, `finish` and `finish_with`
+//!   take none.
 //! - It follows both rules of loss, and gaps that are known beforehand ([`StreamDecoder::with_gaps`]).
 //! - A decoder that is made of the numbers of another is equal to that one, and so has heard the same bytes.
 //!   It is refused if no stream may have its gaps, if no decoder has its numbers, or if memory is refused.

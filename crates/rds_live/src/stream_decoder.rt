@@ -18,11 +18,11 @@ ghost use Rattle.rds_live.specs.Keeping.{IsKept, live_kept};
 use crate::error::ResumeError;
 use crate::gaps::may_have_gaps;
 use crate::kept::{Kept, MOST_KEPT, can_be_live};
-use crate::laws::{ends_move, pieces_join, runs_move};
+use crate::laws::{ends_move, next_is_heard, pieces_join, runs_move};
 use crate::moved::{move_on, moved_back, moved_group, moved_on};
 use crate::room::{AT_ONCE, Room};
 use rds_stream::{Counted, MOST_BITS, Recording, StreamError, are_gaps};
-use rds_sync::{Decoder, Group, Item, Rules, State, Totals, finish, laws};
+use rds_sync::{Decoder, Group, Item, Rules, State, Totals, finish, laws, run_totals};
 use std::alloc::{AllocError, Global};
 use std::marker::Model;
 
@@ -333,6 +333,60 @@ impl<'r> StreamDecoder<'r> {
                 Err(StreamError::OutOfMemory)
             }
         }
+    }
+
+    /// Takes all of these bytes and only counts the items that they complete: [`totals`](StreamDecoder::totals) has them.
+    ///
+    /// Refuses more than 2^36 bits in all, and has then heard nothing. It takes no memory.
+    pub fn count(&mut self, bytes: &[u8]) -> Result<(), StreamError>
+        ensures heard { OnOk result ((before : List ℕ) → HasHeard self.old before
+            → HasHeard self.new (before ++ bytes.now)) }
+        ensures terms { self.new.terms ≡ self.old.terms }
+        ensures refused { OnErr result (self.new ≡ self.old) }
+        ensures too_long { IsErrOf result StreamError.TooLong
+            ↔ (2 ^ 36 < self.old.place + 8 * length bytes.now) }
+
+        // The same of numbers that are lawful and of no stream.
+        ensures next { OnOk result (self.new ≡ live_next self.old bytes.now) }
+        ensures only { IsOkUnless result StreamError.TooLong }
+    {
+        if bytes.len() as u64 > (MOST_BITS - self.place) / 8 {
+            return Err(StreamError::TooLong);
+        }
+        pieces_join();
+        next_is_heard();
+        self.is_known();
+        let mut rest = bytes;
+        while !rest.is_empty() {
+            let (part, others) = rest.split_at(rest.len().min(AT_ONCE));
+            self.is_known();
+            self.count_part(part);
+            rest = others;
+        }
+        self.is_still();
+        Ok(())
+    }
+
+    /// The same of as many bytes as are decoded at once.
+    fn count_part(&mut self, bytes: &[u8])
+        requires few { length bytes.now ≤ 960 }
+        requires fits { self.old.place + 8 * length bytes.now ≤ 2 ^ 36 }
+        ensures { self.new ≡ live_next self.old bytes.now }
+    {
+        prove!(1 <= self.rules.reach());
+        laws::totals_join();
+        runs_move();
+        let from = 8 * self.room.bytes().len() as u64;
+        let before = self.place - from;
+        let to = from + 8 * bytes.len() as u64;
+        self.room.push(bytes);
+        self.room.listen(self.gaps, before);
+        let state = moved_back(self.state, before);
+        let (end, totals) = run_totals(self.room.recording(), self.rules, state, from, to);
+        self.totals = self.totals.plus(totals);
+        self.room.keep_last();
+        self.place = before + to;
+        self.state = moved_on(end, before);
     }
 
     /// Its numbers are lawful, and its rules in their range.

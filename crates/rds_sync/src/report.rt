@@ -1,6 +1,6 @@
 //! The report of a recording, by one thread.
 
-ghost use Rattle.std.specs.Prelude.{◌≡◌, ◌≤◌, ◌-◌, ◌^◌, IfOk, IsOkUnless};
+ghost use Rattle.std.specs.Prelude.{◌≡◌, ◌≤◌, ◌-◌, ◌*◌, ◌^◌, IfOk, IsOkUnless};
 ghost use Rattle.rds_stream.specs.Recording.{length_of};
 ghost use Rattle.rds_sync.specs.Counting.{IsAtMost};
 ghost use Rattle.rds_sync.specs.Decoding.{listed};
@@ -9,12 +9,14 @@ ghost use Rattle.rds_sync.specs.Report.{report_items};
 ghost use Rattle.rds_sync.specs.Step.{run};
 ghost use Rattle.rds_sync.specs.Totals.{totals_of};
 
+use crate::count_run::count_stretch;
+use crate::counts::Counts;
 use crate::error::SyncError;
 use crate::items::{Items, Spans};
 use crate::rules::Rules;
 use crate::state::State;
 use crate::steps::finish;
-use crate::tally::Tally;
+use crate::tally::{MOST_COUNTED, Tally, settle};
 use crate::totals::Totals;
 use rds_stream::{Counted, Reader, Recording};
 use std::alloc::Global;
@@ -66,6 +68,34 @@ pub fn run_report(
     }
     let end = tally.state();
     Ok((end, tally.report()?))
+}
+
+/// The state after the run of [`run_report`] and the totals of its items, of which none is made. Takes no memory.
+pub fn run_totals(
+    rec: &Recording,
+    rules: &Rules,
+    state: State,
+    from: u64,
+    to: u64,
+) -> (State, Totals)
+    requires lawful { IsLawful rules.now from state }
+    requires order { from ≤ to }
+    requires within { to ≤ length_of rec.now }
+    ensures state { result.0 ≡ (run rec.now rules.now state from (to - from)).0 }
+    ensures totals { result.1 ≡ totals_of (run rec.now rules.now state from (to - from)).1 }
+    ensures small { IsAtMost (2 ^ 11 * (to - from)) result.1 }
+    ensures lawful { IsLawful rules.now to result.0 }
+{
+    prove!(to <= rec.len());
+    let mut reader = Reader::new(rec);
+    let (mut place, mut now) = (from, state);
+    let (mut totals, mut added, mut counts) = (Totals::NONE, 0, Counts::none());
+    'stretches: while place < to {
+        let most = MOST_COUNTED;
+        (place, now) = count_stretch(&mut reader, rules, now, place, to, most, &mut counts);
+        settle(&mut totals, &mut added, &mut counts, most);
+    }
+    (now, totals.plus(counts.totals()))
 }
 
 /// The report of a recording, this project's rule: the items of its locks, in order, with that of its end,

@@ -25,7 +25,7 @@ use std::marker::Model;
 use std::snapshot::Snapshot;
 
 /// How many items are counted at most before they are added to the totals.
-const MOST_COUNTED: u64 = 3000;
+pub(crate) const MOST_COUNTED: u64 = 3000;
 
 /// A run over a recording that continues part by part: where it is, and its items. It makes none of its
 /// items: it counts them, and keeps the spans that give them, of some hundred items each unless it was told
@@ -233,7 +233,7 @@ impl Tally {
 }
 
 /// Adds the counts to totals of `added` items, if they count `most` items or more.
-fn settle(totals: &mut Totals, added: &mut u64, counts: &mut Counts, most: u64)
+pub(crate) fn settle(totals: &mut Totals, added: &mut u64, counts: &mut Counts, most: u64)
     requires small { IsAtMost (2 ^ 10 * added.old) totals.old }
     requires few { added.old ≤ 2 ^ 40 }
     requires most { most ≤ 3000 }

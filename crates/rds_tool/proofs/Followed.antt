@@ -293,7 +293,7 @@ claimed_is (Some n) a (Some b) xs read far held = let e : n ≡ min n (8 * lengt
 front_bit : (xs ys : List ℕ) (i : ℕ) → i < 8 * length xs → packed_bit (xs ++ ys) i ≡ packed_bit xs i
 front_bit xs ys i early = ap (λ (b : ℕ). bit_at b (7 - i % 8)) (get_or-append xs ys 0 (i / 8) (omega arith))
 
-front_bits : (xs ys : List ℕ) (a n : ℕ) → a + n ≤ 8 * length xs → map (packed_bit (xs ++ ys)) (range_with_len a n) ≡ map (packed_bit xs) (range_with_len a n)
+pub front_bits : (xs ys : List ℕ) (a n : ℕ) → a + n ≤ 8 * length xs → map (packed_bit (xs ++ ys)) (range_with_len a n) ≡ map (packed_bit xs) (range_with_len a n)
 front_bits xs ys a zero held = refl
 front_bits xs ys a (suc n) held = ap₂ (λ (b : ℕ) (bs : List ℕ). b ∷ bs) (front_bit xs ys a (omega arith)) (front_bits xs ys (a + 1) n (omega arith))
 

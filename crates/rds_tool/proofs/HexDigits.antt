@@ -1,6 +1,6 @@
 -- The bytes of hexadecimal text, digit by digit.
 use Rattle.std.proofs.Common.{◌%◌, ◌*◌, ◌+◌, ◌++◌, ◌<◌, ◌==◌, ◌∙◌, ◌∷◌, ◌≡◌, ◌≤◌, Bool, Err, List, None, Ok, Option, Result, Some, [], ap, append_assoc, arith, cond, drop, false, if◌then◌else◌, length, not, refl, set, slice_index, suc, sym, take, true, zero, ℕ}
-use Rattle.std.specs.Prelude.{IfSome}
+use Rattle.std.specs.Prelude.{IfSome, is_some}
 use Rattle.std.specs.List.{filter}
 use Rattle.std.proofs.Math.Seq.{drop-cons}
 use Rattle.std.proofs.lemmas.Bool.{eqb-true}
@@ -10,27 +10,11 @@ use Rattle.hex.specs.Hex.{decode_of, decode_pairs, digit_or_error, hex_digit_val
 use Rattle.hex.specs.declared.error.FromHexError.{FromHexError}
 use Rattle.hex.specs.declared.error.FromHexError.TheVariants.{OddLength}
 use Rattle.rds_tool.specs.Input.{and_then, decoded, is_blank, or_hex_text}
+use Rattle.rds_tool.specs.Inside.HexText.{IsDecodedBy, IsStrangeAfter, bytes_after, bytes_after_of, bytes_of, with_byte}
 use Rattle.rds_tool.specs.declared.error.ToolError.{ToolError}
 use Rattle.rds_tool.specs.declared.error.ToolError.TheVariants.{HexText}
 
 -- ---- pairs of digits
-
--- the byte of two digits and the bytes after it
-abbrev with_byte : Option ℕ → Option ℕ → Result (List ℕ) ToolError → Result (List ℕ) ToolError
-with_byte None low more = Err HexText
-with_byte (Some high) None more = Err HexText
-with_byte (Some high) (Some low) more = and_then more (λ bytes. Ok ((high * 16 + low) ∷ bytes))
-
-abbrev bytes_of : List ℕ → Result (List ℕ) ToolError
-bytes_of [] = Ok []
-bytes_of (high ∷ []) = Err HexText
-bytes_of (high ∷ low ∷ digits) = with_byte (hex_digit_value high) (hex_digit_value low) (bytes_of digits)
-
--- the bytes of digits after a first one, if there is one
-abbrev bytes_after : Option ℕ → List ℕ → Result (List ℕ) ToolError
-bytes_after None digits = bytes_of digits
-bytes_after (Some high) [] = Err HexText
-bytes_after (Some high) (low ∷ digits) = with_byte (Some high) (hex_digit_value low) (bytes_of digits)
 
 module _ (h l i : ℕ) where
   pair_is : (high low : Option ℕ) (more : Result (List ℕ) FromHexError)
@@ -75,34 +59,85 @@ no_digit None digit [] is = refl
 no_digit None digit (low ∷ digits) is = ap (λ v. with_byte v (hex_digit_value low) (bytes_of digits)) is
 no_digit (Some high) digit digits is = ap (λ v. with_byte (Some high) v (bytes_of digits)) is
 
+then_same : (r : Result (List ℕ) ToolError) → r ≡ and_then r (λ more. Ok ([] ++ more))
+then_same (Ok bytes) = refl
+then_same (Err e) = refl
+
+-- ---- text that comes in parts
+
+abbrev not_blank : ℕ → Bool
+not_blank b = not (is_blank b)
+
+decoded_is : (text : List ℕ) → decoded text ≡ bytes_after_of None (text ++ [])
+decoded_is text = whole_is (filter not_blank text) ∙ ap (bytes_after_of None) (sym (append-nil text))
+
+whole_text : (text bytes : List ℕ) → IsDecodedBy None text bytes None → decoded text ≡ Ok bytes
+whole_text text bytes by = decoded_is text ∙ by [] ∙ ap (λ t. Ok t) (append-nil bytes)
+
+half_text : (text bytes : List ℕ) (digit : ℕ) → IsDecodedBy None text bytes (Some digit) → decoded text ≡ Err HexText
+half_text text bytes digit by = decoded_is text ∙ by []
+
+pub odd_text : (text bytes : List ℕ) (half : Option ℕ) → is_some half ≡ true → IsDecodedBy None text bytes half → decoded text ≡ Err HexText
+odd_text text bytes None some by = cc some
+odd_text text bytes (Some digit) some by = half_text text bytes digit by
+
+pub even_text : (text bytes : List ℕ) (half : Option ℕ) → is_some half ≡ false → IsDecodedBy None text bytes half → decoded text ≡ Ok bytes
+even_text text bytes None none by = whole_text text bytes by
+even_text text bytes (Some digit) none by = cc none
+
+pub strange_text : (text : List ℕ) → IsStrangeAfter None text → decoded text ≡ Err HexText
+strange_text text strange = decoded_is text ∙ strange []
+
+pub nothing_decoded : IsDecodedBy None [] [] None
+nothing_decoded more = then_same (bytes_after_of None more)
+
+module _ (text part : List ℕ) where
+  pub still_strange : IsStrangeAfter None text → IsStrangeAfter None (text ++ part)
+  still_strange strange more = ap (bytes_after_of None) (append_assoc text part more) ∙ strange (part ++ more)
+
+  module _ (bytes : List ℕ) (half : Option ℕ) (by : IsDecodedBy None text bytes half) where
+    first : (more : List ℕ) → bytes_after_of None ((text ++ part) ++ more) ≡ and_then (bytes_after_of half (part ++ more)) (λ rest. Ok (bytes ++ rest))
+    first more = ap (bytes_after_of None) (append_assoc text part more) ∙ by (part ++ more)
+
+    pub strange_on : IsStrangeAfter half part → IsStrangeAfter None (text ++ part)
+    strange_on strange more = first more ∙ ap (λ r. and_then r (λ rest. Ok (bytes ++ rest))) (strange more)
+
+    pub decoded_on : (next : List ℕ) (left : Option ℕ) → IsDecodedBy half part next left → IsDecodedBy None (text ++ part) (bytes ++ next) left
+    decoded_on next left also more =
+        first more ∙ ap (λ r. and_then r (λ rest. Ok (bytes ++ rest))) (also more) ∙ both (bytes_after_of left more) where
+          both : (r : Result (List ℕ) ToolError) → and_then (and_then r (λ rest. Ok (next ++ rest))) (λ rest. Ok (bytes ++ rest)) ≡ and_then r (λ rest. Ok ((bytes ++ next) ++ rest))
+          both (Ok rest) = ap (λ t. Ok t) (sym (append_assoc bytes next rest))
+          both (Err e) = refl
+
 -- ---- text that is decoded in place
 
 abbrev counted : Option ℕ → ℕ
 counted None = 0
 counted (Some high) = 1
 
--- up to a place the digits are decoded to the first bytes, except a first digit of a pair, if there is one
-pub record HasDecoded (text now : List ℕ) (at count : ℕ) (high : Option ℕ) : Type 0 where
+at_most_one : (high : Option ℕ) → counted high ≤ 1
+at_most_one None = omega arith
+at_most_one (Some high) = omega arith
+
+-- up to a place the digits, after a first one if there is one, are decoded to the first bytes, except a first digit of a pair, if
+-- there is one
+pub record HasDecoded (start : Option ℕ) (text now : List ℕ) (at count : ℕ) (high : Option ℕ) : Type 0 where
   pub left : drop at now ≡ drop at text
   pub long : length now ≡ length text
-  pub order : 2 * count + counted high ≤ at
+  pub order : 2 * count + counted high ≤ at + counted start
   pub small : IfSome high (λ value. value < 16)
-  pub rest : decoded text ≡ and_then (bytes_after high (filter (λ b. not (is_blank b)) (drop at text))) (λ more. Ok (take count now ++ more))
+  pub rest : (more : List ℕ) → bytes_after_of start (text ++ more) ≡ and_then (bytes_after_of high (drop at text ++ more)) (λ rest. Ok (take count now ++ rest))
 
-then_same : (r : Result (List ℕ) ToolError) → r ≡ and_then r (λ more. Ok ([] ++ more))
-then_same (Ok bytes) = refl
-then_same (Err e) = refl
-
-pub decoded_none : (text : List ℕ) → HasDecoded text text 0 0 None
-decoded_none text = record {
+pub decoded_none : (start : Option ℕ) (text : List ℕ) → IfSome start (λ value. value < 16) → HasDecoded start text text 0 0 start
+decoded_none start text small = record {
   left = refl;
   long = refl;
   order = omega arith;
-  small = tt;
-  rest = whole_is (filter (λ b. not (is_blank b)) text) ∙ then_same (bytes_of (filter (λ b. not (is_blank b)) text));
+  small = small;
+  rest = λ more. then_same (bytes_after_of start (text ++ more));
 }
 
-module _ (text now : List ℕ) (at count : ℕ) (high : Option ℕ) (has : HasDecoded text now at count high) (inside : at < length now) where
+module _ (start : Option ℕ) (text now : List ℕ) (at count : ℕ) (high : Option ℕ) (has : HasDecoded start text now at count high) (inside : at < length now) where
   here : drop at text ≡ slice_index now at ∷ drop (at + 1) text
   here =
       let next : suc at ≡ at + 1 = omega arith in
@@ -122,76 +157,77 @@ module _ (text now : List ℕ) (at count : ℕ) (high : Option ℕ) (has : HasDe
         tails : (a b : ℕ) (xs ys : List ℕ) → a ∷ xs ≡ b ∷ ys → xs ≡ ys
         tails a b xs ys p = cc
 
-  left_after : (blank : Bool) → is_blank (slice_index now at) ≡ blank → filter (λ b. not (is_blank b)) (drop at text)
-      ≡ cond (not blank) (slice_index now at ∷ filter (λ b. not (is_blank b)) (drop (at + 1) text)) (filter (λ b. not (is_blank b)) (drop (at + 1) text))
-  left_after blank is =
-      let digits = filter (λ b. not (is_blank b)) (drop (at + 1) text) in
-      ap (filter (λ b. not (is_blank b))) here ∙ ap (λ t. cond (not t) (slice_index now at ∷ digits) digits) is
+  module _ (more : List ℕ) where
+    -- the digits after this one
+    abbrev later : List ℕ
+    later = filter not_blank (drop (at + 1) text ++ more)
 
-  pub skipped : is_blank (slice_index now at) ≡ true → HasDecoded text now (at + 1) count high
+    abbrev to_all : Result (List ℕ) ToolError → Result (List ℕ) ToolError
+    to_all r = and_then r (λ rest. Ok (take count now ++ rest))
+
+    left_after : (blank : Bool) → is_blank (slice_index now at) ≡ blank → filter not_blank (drop at text ++ more) ≡ cond (not blank) (slice_index now at ∷ later) later
+    left_after blank is = ap (λ xs. filter not_blank (xs ++ more)) here ∙ ap (λ t. cond (not t) (slice_index now at ∷ later) later) is
+
+    rest_after : (blank : Bool) → is_blank (slice_index now at) ≡ blank
+        → bytes_after_of start (text ++ more) ≡ to_all (bytes_after high (cond (not blank) (slice_index now at ∷ later) later))
+    rest_after blank is = has.rest more ∙ ap (λ digits. to_all (bytes_after high digits)) (left_after blank is)
+
+  pub skipped : is_blank (slice_index now at) ≡ true → HasDecoded start text now (at + 1) count high
   skipped blank = record {
     left = after;
     long = has.long;
     order = omega (arith, has.order);
     small = has.small;
-    rest = has.rest ∙ ap (λ digits. and_then (bytes_after high digits) (λ more. Ok (take count now ++ more))) (left_after true blank);
+    rest = λ more. rest_after more true blank;
   }
 
-  pub not_decoded : is_blank (slice_index now at) ≡ false → hex_digit_value (slice_index now at) ≡ None → decoded text ≡ Err HexText
-  not_decoded blank none =
-      has.rest ∙ ap (λ digits. and_then (bytes_after high digits) (λ more. Ok (take count now ++ more))) (left_after false blank)
-      ∙ ap (λ r. and_then r (λ more. Ok (take count now ++ more))) (no_digit high (slice_index now at) _ none)
+  pub not_decoded : is_blank (slice_index now at) ≡ false → hex_digit_value (slice_index now at) ≡ None → IsStrangeAfter start text
+  not_decoded blank none more = rest_after more false blank ∙ ap (to_all more) (no_digit high (slice_index now at) _ none)
 
   pub begun : (value : ℕ) → high ≡ None → is_blank (slice_index now at) ≡ false → hex_digit_value (slice_index now at) ≡ Some value → value < 16
-      → HasDecoded text now (at + 1) count (Some value)
+      → HasDecoded start text now (at + 1) count (Some value)
   begun value none blank some small = record {
     left = after;
     long = has.long;
     order = omega (arith, has.order, ap counted none);
     small = small;
-    rest = has.rest ∙ ap (λ digits. and_then (bytes_after high digits) (λ more. Ok (take count now ++ more))) (left_after false blank)
-        ∙ ap (λ h. and_then (bytes_after h (slice_index now at ∷ filter (λ b. not (is_blank b)) (drop (at + 1) text))) (λ more. Ok (take count now ++ more))) none
-        ∙ ap (λ r. and_then r (λ more. Ok (take count now ++ more))) (first_digit (slice_index now at) value _ some);
+    rest = λ more. rest_after more false blank
+        ∙ ap (λ h. to_all more (bytes_after h (slice_index now at ∷ later more))) none
+        ∙ ap (to_all more) (first_digit (slice_index now at) value _ some);
   }
 
   pub ended : (first value : ℕ) → high ≡ Some first → is_blank (slice_index now at) ≡ false → hex_digit_value (slice_index now at) ≡ Some value
-      → HasDecoded text (set now count (16 * first + value)) (at + 1) (count + 1) None
+      → HasDecoded start text (set now count (16 * first + value)) (at + 1) (count + 1) None
   ended first value is blank some =
-      let one : 2 * count + 1 ≤ at = omega (arith, has.order, ap counted is) in
+      let one : 2 * count + 1 ≤ at + counted start = omega (arith, has.order, ap counted is) in
+      let near : count ≤ at = omega (arith, one, at_most_one start) in
       let sum : first * 16 + value ≡ 16 * first + value = omega arith in
       let byte : ℕ = 16 * first + value in
       record {
-        left = drop-set-lt (at + 1) now count byte (omega (arith, one)) ∙ after;
+        left = drop-set-lt (at + 1) now count byte (omega (arith, near)) ∙ after;
         long = length-set now count byte ∙ has.long;
         order = omega (arith, one);
         small = tt;
-        rest = has.rest ∙ ap (λ digits. and_then (bytes_after high digits) (λ more. Ok (take count now ++ more))) (left_after false blank)
-            ∙ ap (λ h. and_then (bytes_after h (slice_index now at ∷ filter (λ b. not (is_blank b)) (drop (at + 1) text))) (λ more. Ok (take count now ++ more))) is
-            ∙ ap (λ v. and_then (with_byte (Some first) v (bytes_of (filter (λ b. not (is_blank b)) (drop (at + 1) text)))) (λ more. Ok (take count now ++ more))) some
-            ∙ one_more (bytes_of (filter (λ b. not (is_blank b)) (drop (at + 1) text))) first value (take count now)
-            ∙ ap (λ front. and_then (bytes_of (filter (λ b. not (is_blank b)) (drop (at + 1) text))) (λ more. Ok (front ++ more)))
-            (ap (λ b. take count now ++ b ∷ []) sum ∙ sym (take_more_set now count byte (omega (arith, one, inside))));
+        rest = λ more. rest_after more false blank
+            ∙ ap (λ h. to_all more (bytes_after h (slice_index now at ∷ later more))) is
+            ∙ ap (λ v. to_all more (with_byte (Some first) v (bytes_of (later more)))) some
+            ∙ one_more (bytes_of (later more)) first value (take count now)
+            ∙ ap (λ front. and_then (bytes_of (later more)) (λ rest. Ok (front ++ rest)))
+            (ap (λ b. take count now ++ b ∷ []) sum ∙ sym (take_more_set now count byte (omega (arith, near, inside))));
       } where
         one_more : (r : Result (List ℕ) ToolError) (a b : ℕ) (front : List ℕ)
-            → and_then (with_byte (Some a) (Some b) r) (λ more. Ok (front ++ more)) ≡ and_then r (λ more. Ok ((front ++ (a * 16 + b) ∷ []) ++ more))
+            → and_then (with_byte (Some a) (Some b) r) (λ rest. Ok (front ++ rest)) ≡ and_then r (λ rest. Ok ((front ++ (a * 16 + b) ∷ []) ++ rest))
         one_more (Ok bytes) a b front = ap (λ t. Ok t) (sym (append_assoc front ((a * 16 + b) ∷ []) bytes))
         one_more (Err e) a b front = refl
 
-module _ (text now : List ℕ) (at count : ℕ) (high : Option ℕ) (has : HasDecoded text now at count high) (end : length now ≤ at) where
-  none_left : filter (λ b. not (is_blank b)) (drop at text) ≡ []
-  none_left = ap (filter (λ b. not (is_blank b))) (drop_all text at (omega (arith, end, has.long))) where
-    drop_all : (xs : List ℕ) (n : ℕ) → length xs ≤ n → drop n xs ≡ []
-    drop_all xs n h = grind (arith, common_steps)
+module _ (start : Option ℕ) (text now : List ℕ) (at count : ℕ) (high : Option ℕ) (has : HasDecoded start text now at count high) where
+  pub few_decoded : at ≤ length now → count ≤ length now
+  few_decoded within = omega (arith, has.order, at_most_one start, within)
 
-  pub all_decoded : high ≡ None → decoded text ≡ Ok (take count now)
-  all_decoded none =
-      has.rest ∙ ap (λ digits. and_then (bytes_after high digits) (λ more. Ok (take count now ++ more))) none_left
-      ∙ ap (λ h. and_then (bytes_after h []) (λ more. Ok (take count now ++ more))) none
-      ∙ ap (λ t. Ok t) (append-nil (take count now))
-
-  pub half_decoded : (first : ℕ) → high ≡ Some first → decoded text ≡ Err HexText
-  half_decoded first is =
-      has.rest ∙ ap (λ digits. and_then (bytes_after high digits) (λ more. Ok (take count now ++ more))) none_left
-      ∙ ap (λ h. and_then (bytes_after h []) (λ more. Ok (take count now ++ more))) is
+  pub all_decoded : length now ≤ at → IsDecodedBy start text (take count now) high
+  all_decoded end more =
+      has.rest more ∙ ap (λ xs. and_then (bytes_after_of high (xs ++ more)) (λ rest. Ok (take count now ++ rest))) (drop_all text at (omega (arith, end, has.long))) where
+        drop_all : (xs : List ℕ) (n : ℕ) → length xs ≤ n → drop n xs ≡ []
+        drop_all xs n h = grind (arith, common_steps)
 
 -- (an edit of must-fail/ makes a comment of this file up to here)

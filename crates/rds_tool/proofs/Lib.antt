@@ -7,6 +7,7 @@ pub mod GroupRow
 pub mod RowText
 pub mod Encoding
 pub mod Texts
+pub mod CountedBytes
 pub mod Cuttings
 pub mod Passing
 pub mod Reading

@@ -152,6 +152,10 @@ module _ {R W : Type 0} (source : Source R) (sink : Sink W) (job : Job) (reader 
           broke_off = no_such r e same Write no_write;
         }
 
+  -- memory is refused before anything is read
+  pub at_memory : (task : Task) → task_of job ≡ Ok task → r ≡ Err OutOfMemory → IsTranscribed source sink job reader reader writer writer r
+  at_memory task is same = at_read {T = Unit {0}} reader task OutOfMemory is same (inl refl) (λ p. absurd (cc p), not_called _) (λ p. absurd (cc p)) (λ p. absurd (cc p))
+
   -- all was read
   module _ (reader' : R) (task : Task) (held : List ℕ) (is : task_of job ≡ Ok task) (all : IfSome (source.remaining reader) (λ bytes. held ≡ bytes))
       (gave : source.given reader' ≡ source.given reader ++ held) (done : source.has_ended reader' ≡ true)

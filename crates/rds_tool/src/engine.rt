@@ -1,13 +1,23 @@
 //! From a reader to a writer.
-ghost use Rattle.std.specs.Prelude.{◌+◌, ◌++◌, ◌<◌, ◌^◌, ◌≡◌, ◌≤◌, ◌⊎◌, ◌↔◌, IfErr, IfOk, IfSome, IsErrOf, List, Ok, OnOk, Option, false, length, true, ℕ};
+ghost use Rattle.std.specs.Prelude.{◌+◌, ◌++◌, ◌<◌, ◌^◌, ◌≡◌, ◌≤◌, ◌⊎◌, ◌↔◌, IfErr, IfOk, IfSome, IsErrOf, List, [], Ok, OnOk, Option, false, length, true, ℕ};
 ghost use Rattle.std.specs.Io.KnownBytes.{Consumes, IsAtEnd};
+ghost use Rattle.rds_stream.specs.Recording.{AreGaps};
+ghost use Rattle.rds_tool.specs.Cuts.{cuts_any};
 ghost use Rattle.rds_tool.specs.History.{Gave};
+ghost use Rattle.rds_tool.specs.Outcome.{text_of_task};
+ghost use Rattle.rds_tool.specs.Plans.{PlanOf};
+ghost use Rattle.rds_tool.specs.Refusals.{IsMemoryOrErrOf};
 ghost use Rattle.rds_tool.specs.Tasks.{task_of};
 ghost use Rattle.rds_tool.specs.Transcribed.{IsTranscribed};
+ghost use Rattle.rds_tool.specs.declared.task.Task.TheVariants as task;
 
-use crate::task::Task;
-use crate::{Failed, Job, Sink, Source, ToolError};
+use crate::counting::InputCounter;
+use crate::listing::totals_rows;
+use crate::taker::Taker;
+use crate::task::{Plan, Task, Text};
+use crate::{Failed, Input, Job, Sink, Source, ToolError};
 use rds_crew::{Gate, OpenGate};
+use rds_live::may_have_gaps;
 use std::alloc::{AllocError, Global};
 use std::thread::Threads;
 
@@ -83,17 +93,83 @@ fn transcribe_task<R: Threads + Sync, S: Source, K: Sink, G: Gate + Sync>(
     ensures { (job : Job) → task_of job ≡ Ok task.entry
         → IsTranscribed S.Source K.Sink job reader.old reader.new writer.old writer.new result }
 {
-    let held = read_all(alloc, reader)?;
+    match task {
+        Task::Totals(input, plan) => {
+            if plan.is_by_one() && !gate.wants_calls() && may_have_gaps(input.gaps.as_slice()) {
+                transcribe_totals(rt, alloc, reader, writer, &input, &plan)
+            } else {
+                transcribe_held(rt, alloc, reader, writer, Task::Totals(input, plan), gate)
+            }
+        }
+        held => transcribe_held(rt, alloc, reader, writer, held, gate),
+    }
+}
+
+/// Counts the totals by one worker while the bytes come, of which none are kept.
+fn transcribe_totals<R: Threads + Sync, S: Source, K: Sink>(
+    rt: &R,
+    alloc: Global,
+    reader: &mut S,
+    writer: &mut K,
+    input: &Input,
+    plan: &Plan<'_>,
+) -> Result<(), ToolError>
+    requires reads { S.failed reader.old < 2 ^ 63 }
+    requires writes { K.failed writer.old < 2 ^ 63 }
+    requires gaps { AreGaps (2 ^ 36) input.now.gaps }
+    requires whole { cuts_any plan.now.cuts ≡ true }
+    ensures { (job : Job) → task_of job ≡ Ok (task.Totals input.now plan.now)
+        → IsTranscribed S.Source K.Sink job reader.old reader.new writer.old writer.new result }
+{
+    let mut counter = InputCounter::new(alloc, input, plan.rules())?;
+    read_all(alloc, reader, &mut counter)?;
+    let rows = rows_of_counter(alloc, counter)?;
+    Text::Whole(rows).write_to(rt, alloc, writer)
+}
+
+/// The rows of the totals that were counted.
+fn rows_of_counter(alloc: Global, counter: InputCounter<'_>) -> Result<Vec<u8>, ToolError>
+    ensures ok { IfOk result (λ rows. (plan : PlanOf) → plan.rules ≡ counter.entry.rules → cuts_any plan.cuts ≡ true
+        → text_of_task (task.Totals counter.entry.input plan) counter.entry.text ≡ Ok rows.items) }
+    ensures refused { IfErr result (λ error. (plan : PlanOf)
+        → IsMemoryOrErrOf (text_of_task (task.Totals counter.entry.input plan) counter.entry.text) error) }
+{
+    let totals = counter.finish(alloc)?;
+    totals_rows(alloc, &totals)
+}
+
+/// Holds all bytes of the reader, and writes the text of the task.
+fn transcribe_held<R: Threads + Sync, S: Source, K: Sink, G: Gate + Sync>(
+    rt: &R,
+    alloc: Global,
+    reader: &mut S,
+    writer: &mut K,
+    task: Task<'_>,
+    gate: &G,
+) -> Result<(), ToolError>
+    requires reads { S.failed reader.old < 2 ^ 63 }
+    requires writes { K.failed writer.old < 2 ^ 63 }
+    ensures { (job : Job) → task_of job ≡ Ok task.entry
+        → IsTranscribed S.Source K.Sink job reader.old reader.new writer.old writer.new result }
+{
+    let mut held = Vec::new(alloc);
+    read_all(alloc, reader, &mut held)?;
     let text = task.text(rt, alloc, held, gate)?;
     text.write_to(rt, alloc, writer)
 }
 
-/// All bytes of the reader, to its end.
-pub fn read_all<S: Source>(alloc: Global, reader: &mut S) -> Result<Vec<u8>, ToolError>
-    requires { S.failed reader.old < 2 ^ 63 }
-    ensures ok { IfOk result (λ bytes. IfSome (S.remaining reader.old) (λ held. bytes.items ≡ held)) }
+/// Has all bytes of the reader taken, to its end.
+fn read_all<S: Source, T: Taker>(
+    alloc: Global,
+    reader: &mut S,
+    taker: &mut T,
+) -> Result<(), ToolError>
+    requires failed { S.failed reader.old < 2 ^ 63 }
+    requires empty { T.taken taker.old ≡ [] }
+    ensures terms { OnOk result (T.terms taker.new ≡ T.terms taker.old) }
+    ensures ok { OnOk result (IfSome (S.remaining reader.old) (λ held. T.taken taker.new ≡ held)) }
     ensures end { OnOk result (IsAtEnd (S.remaining reader.new)) }
-    ensures given { IfOk result (λ bytes. S.given reader.new ≡ S.given reader.old ++ bytes.items) }
+    ensures given { OnOk result (S.given reader.new ≡ S.given reader.old ++ T.taken taker.new) }
     ensures ended { OnOk result (S.has_ended reader.new ≡ true) }
     ensures read { IsErrOf result ToolError.Read ↔ (S.failed reader.old < S.failed reader.new) }
     ensures kinds { IfErr result (λ error. (error ≡ ToolError.OutOfMemory)
@@ -103,34 +179,34 @@ pub fn read_all<S: Source>(alloc: Global, reader: &mut S) -> Result<Vec<u8>, Too
     ensures turned { IsErrOf result ToolError.TooManyTurns
         → Gave (S.given reader.old) (S.given reader.new) (λ bytes. 16777216 ≤ length bytes) }
 {
-    let mut bytes = Vec::new(alloc);
     let mut buf = zeros(alloc, CHUNK)?;
     'turns: for _ in 0..MOST_READS {
-        let is_at_end = read_some(reader, buf.as_mut_slice(), &mut bytes)?;
+        let is_at_end = read_some(reader, buf.as_mut_slice(), taker)?;
         if is_at_end {
-            return Ok(bytes);
+            return Ok(());
         }
     }
     Err(ToolError::TooManyTurns)
 }
 
-/// One read, whose bytes are added. Answers whether the reader was at its end.
-fn read_some<S: Source>(
+/// One read, whose bytes are taken. Answers whether the reader was at its end.
+fn read_some<S: Source, T: Taker>(
     reader: &mut S,
     buf: &mut [u8],
-    bytes: &mut Vec<u8>,
+    taker: &mut T,
 ) -> Result<bool, ToolError>
     requires count { S.failed reader.old < 2 ^ 63 }
     requires room { 0 < length buf.old }
+    ensures terms { OnOk result (T.terms taker.new ≡ T.terms taker.old) }
     ensures taken { OnOk result ((more : List ℕ)
         × Consumes (S.remaining reader.old) (S.remaining reader.new) more
-        × (bytes.new.items ≡ bytes.old.items ++ more)) }
-    ensures given { OnOk result (Gave (S.given reader.old) (S.given reader.new) (λ more. bytes.new.items
-        ≡ bytes.old.items ++ more)) }
+        × (T.taken taker.new ≡ T.taken taker.old ++ more)) }
+    ensures given { OnOk result (Gave (S.given reader.old) (S.given reader.new) (λ more. T.taken taker.new
+        ≡ T.taken taker.old ++ more)) }
     ensures end { IfOk result (λ is_at_end. is_at_end ≡ true → IsAtEnd (S.remaining reader.new)) }
     ensures ended { IfOk result (λ is_at_end. is_at_end ≡ true → S.has_ended reader.new ≡ true) }
     ensures grows { IfOk result (λ is_at_end. is_at_end ≡ false
-        → length bytes.old.items < length bytes.new.items) }
+        → length (T.taken taker.old) < length (T.taken taker.new)) }
     ensures count { OnOk result (S.failed reader.new ≡ S.failed reader.old) }
     ensures refused { IfErr result (λ error. ((error ≡ ToolError.OutOfMemory)
         × (S.failed reader.new ≡ S.failed reader.old))
@@ -139,7 +215,7 @@ fn read_some<S: Source>(
     match reader.read(buf) {
         Ok(0) => Ok(true),
         Ok(count) => {
-            bytes.extend_from_slice(&buf[..count])?;
+            taker.take(&mut buf[..count])?;
             Ok(false)
         }
         Err(Failed) => Err(ToolError::Read),

@@ -1,7 +1,8 @@
 //! From the bytes that a reader held to the recording that they denote.
-ghost use Rattle.std.specs.Prelude.{◌<◌, ◌≡◌, Err, IfErr, IfOk, IfSome, Ok, take};
+ghost use Rattle.std.specs.Prelude.{◌<◌, ◌≡◌, ◌≤◌, Err, IfErr, IfOk, IfSome, Ok, length, take};
 ghost use Rattle.hex.specs.Hex.{hex_digit_value};
 ghost use Rattle.rds_tool.specs.Input.{decoded, first_bits as the_first_bits, is_blank as blank, recording_of as the_recording_of};
+ghost use Rattle.rds_tool.specs.Inside.HexText.{IsDecodedBy, IsStrangeAfter};
 
 use crate::{Input, ToolError};
 use rds_stream::Recording;
@@ -77,7 +78,23 @@ fn decode_in_place(text: &mut [u8]) -> Result<usize, ToolError>
     ensures ok { IfOk result (λ count. decoded text.old ≡ Ok (take count text.new)) }
     ensures refused { IfErr result (λ error. decoded text.old ≡ Err error) }
 {
-    let mut high = None;
+    let (count, half) = decode_digits(text, None)?;
+    if half.is_some() {
+        return Err(ToolError::HexText);
+    }
+    Ok(count)
+}
+
+/// Writes the bytes of a part of hexadecimal text over its front, given the first digit of a byte that the text before it began.
+/// Answers how many bytes these are, and the digit of a byte that the part begins and does not end.
+pub fn decode_digits(text: &mut [u8], half: Option<u8>) -> Result<(usize, Option<u8>), ToolError>
+    requires { IfSome half (λ digit. digit < 16) }
+    ensures ok { IfOk result (λ done. (done.0 ≤ length text.new)
+        × IfSome done.1 (λ digit. digit < 16)
+        × IsDecodedBy half text.old (take done.0 text.new) done.1) }
+    ensures refused { IfErr result (λ error. (error ≡ ToolError.HexText) × IsStrangeAfter half text.old) }
+{
+    let mut high = half;
     let mut count = 0;
     for at in 0..text.len() {
         let byte = text[at];
@@ -96,8 +113,5 @@ fn decode_in_place(text: &mut [u8]) -> Result<usize, ToolError>
             }
         }
     }
-    match high {
-        None => Ok(count),
-        Some(_) => Err(ToolError::HexText),
-    }
+    Ok((count, high))
 }

@@ -1,21 +1,10 @@
-use Rattle.std.proofs.Common.{◌≡◌, ◌-◌, ◌++◌, ◌∷◌, ◌∙◌, List, [], ap, arith, eqb, inl, inr, length, true, refl, subst, sym, take, ℕ}
-use Rattle.std.proofs.lemmas.Bool.{cases_eq, false≢true, ne_eqb}
+use Rattle.std.proofs.Common.{◌≡◌, ◌-◌, ◌++◌, ◌∙◌, List, ap, arith, length, refl, subst, sym, take, ℕ}
 use Rattle.std.proofs.lemmas.List.{append-nil, take_rest}
 use Rattle.rds_sync.specs.declared.item.Item.{Item}
 use Rattle.rds_live.specs.StreamDecoder.{HasHeard, Terms, complete}
 use Rattle.rds_live.specs.Next.{completed, live_next}
-use Rattle.rds_live.proofs.Taking.{all_left, all_taken, left_on, none_taken, still_few, taken_on}
+use Rattle.rds_live.proofs.Taking.{all_left, all_taken, left_on, no-rest, none_taken, still_few, taken_on}
 use Rattle.rds_live.proofs.stream_decoder.decode_bytes.Goals as goal
-
-none-left : (n : ℕ) → eqb n 0 ≡ true → n ≡ 0
-none-left n e = elim (cases_eq n 0) [
-  | inl none ↦ none
-  | inr some ↦ absurd (false≢true (sym (ne_eqb n 0 some) ∙ e))
-]
-
-no-rest : (xs : List ℕ) → length xs ≡ 0 → xs ≡ []
-no-rest [] none = refl
-no-rest (x ∷ xs) none = absurd (omega (arith, none))
 
 pub loop-rest-init : goal.loop-rest-init
 loop-rest-init c =
@@ -63,17 +52,17 @@ loop-rest-preserved c =
 
 pub returns-clause-heard : goal.returns-clause-heard
 returns-clause-heard c before h =
-    subst (λ (xs : List ℕ). HasHeard c.loop-rest.live xs) (all_taken before c.args.bytes.now c.loop-rest.rest.now (none-left (length c.loop-rest.rest.now) (sym c.is_empty.ensures ∙ c.loop-rest-test.false))) (c.loop-rest.invariant.heard before h)
+    subst (λ (xs : List ℕ). HasHeard c.loop-rest.live xs) (all_taken before c.args.bytes.now c.loop-rest.rest.now (ap length (no-rest c.loop-rest.rest.now (sym c.is_empty.ensures ∙ c.loop-rest-test.false)))) (c.loop-rest.invariant.heard before h)
 
 pub returns-clause-items : goal.returns-clause-items
 returns-clause-items c before h =
-    sym (ap (λ (xs : List ℕ). complete c.args.live.now.terms xs) (all_taken before c.args.bytes.now c.loop-rest.rest.now (none-left (length c.loop-rest.rest.now) (sym c.is_empty.ensures ∙ c.loop-rest-test.false)))) ∙ c.loop-rest.invariant.items before h
+    sym (ap (λ (xs : List ℕ). complete c.args.live.now.terms xs) (all_taken before c.args.bytes.now c.loop-rest.rest.now (ap length (no-rest c.loop-rest.rest.now (sym c.is_empty.ensures ∙ c.loop-rest-test.false))))) ∙ c.loop-rest.invariant.items before h
 
 pub returns-clause-next : goal.returns-clause-next
 returns-clause-next c =
     let rest = c.loop-rest.rest.now in
     let live = c.loop-rest.live in
-    let none = no-rest rest (none-left (length rest) (sym c.is_empty.ensures ∙ c.loop-rest-test.false)) in
+    let none = no-rest rest (sym c.is_empty.ensures ∙ c.loop-rest-test.false) in
     sym c.is_still.ensures.known ∙ ap (λ (xs : List ℕ). live_next live xs) (sym none) ∙ c.loop-rest.invariant.next
 
 pub returns-clause-completed : goal.returns-clause-completed
@@ -81,6 +70,6 @@ returns-clause-completed c =
     let rest = c.loop-rest.rest.now in
     let live = c.loop-rest.live in
     let items = c.loop-rest.items.items in
-    let none = no-rest rest (none-left (length rest) (sym c.is_empty.ensures ∙ c.loop-rest-test.false)) in
+    let none = no-rest rest (sym c.is_empty.ensures ∙ c.loop-rest-test.false) in
     sym (append-nil items) ∙ ap (λ (xs : List Item). items ++ xs) (sym c.is_still.ensures.none) ∙ ap (λ (xs : List ℕ). items ++ completed live xs) (sym none)
     ∙ c.loop-rest.invariant.completed

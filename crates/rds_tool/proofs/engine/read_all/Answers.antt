@@ -18,8 +18,9 @@ returns-then-is_at_end-clause-given g c =
 pub turns-init : goal.turns-init
 turns-init g c = record {
   count = refl;
-  taken = rw c.new-bytes.ensures.items (Consumes-nil _);
-  given = rw c.new-bytes.ensures.items (sym (append-nil _));
+  taken = rw c.requires.empty (Consumes-nil _);
+  given = rw c.requires.empty (sym (append-nil _));
+  terms = refl;
   turns = omega arith;
   room = c.in_ok-buf.ensures;
 }
@@ -31,15 +32,16 @@ turns-preserved g c =
       count = read.count ∙ c.turns.invariant.count;
       taken = read_more _ _ _ _ _ _ c.turns.invariant.taken read.taken.1 read.taken.2;
       given = given_more _ _ _ _ _ _ c.turns.invariant.given read.given.1 read.given.2;
+      terms = read.terms ∙ c.turns.invariant.terms;
       turns = omega (arith, read.grows c.if-is_at_end.false);
       room = grind (arith, common_steps);
     }
 
 pub returns-clause-turns : goal.returns-clause-turns
-returns-clause-turns g c = λ _. (c.turns.bytes.items, c.turns.invariant.taken, omega arith)
+returns-clause-turns g c = λ _. (g.T.Taker.taken c.turns.taker, c.turns.invariant.taken, omega arith)
 
 pub returns-clause-turned : goal.returns-clause-turned
-returns-clause-turned g c = λ _. (c.turns.bytes.items, c.turns.invariant.given, omega arith)
+returns-clause-turned g c = λ _. (g.T.Taker.taken c.turns.taker, c.turns.invariant.given, omega arith)
 
 pub returns-in_err-is_at_end-clause-turned : goal.returns-in_err-is_at_end-clause-turned
 returns-in_err-is_at_end-clause-turned g c = turns_not_told _ _ (passed _ _ c.from_residual-in_err-is_at_end.ensures) _ _ c.in_err-is_at_end.ensures.refused

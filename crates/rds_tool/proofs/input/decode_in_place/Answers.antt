@@ -1,20 +1,15 @@
-use Rattle.std.proofs.Common.{◌≡◌, ◌∙◌, List, Option, arith, ℕ, sym}
-use Rattle.rds_tool.proofs.HexDigits.{HasDecoded, all_decoded, begun, decoded_none, ended, half_decoded, not_decoded}
-use Rattle.rds_tool.proofs.input.decode_in_place.Goals.{in-None, in-Some-high}
+use Rattle.std.proofs.Common.{◌≡◌, ◌∙◌, Err, ap, sym}
+use Rattle.rds_tool.proofs.HexDigits.{even_text, odd_text, strange_text}
+use Rattle.rds_tool.proofs.Passing.{passes}
 use Rattle.rds_tool.proofs.input.decode_in_place.Goals as goal
 
-moved : (text now now' : List ℕ) (at count count' : ℕ) (high high' : Option ℕ) → now' ≡ now → count' ≡ count → high' ≡ high → HasDecoded text now at count high
-    → HasDecoded text now' at count' high'
-moved text now now' at count count' high high' p q r h = rw (p, q, r) h
+pub returns-in_err-count-clause-refused : goal.returns-in_err-count-clause-refused
+returns-in_err-count-clause-refused c =
+    let refused = c.in_err-count.ensures.refused in
+    passes _ _ _ c.from_residual.ensures (strange_text c.args.text.now refused.1 ∙ ap (λ e. Err e) (sym refused.0))
 
-pub loop-at-init : goal.loop-at-init
-loop-at-init c = decoded_none c.args.text.now
+pub returns-then-is_some-clause-refused : goal.returns-then-is_some-clause-refused
+returns-then-is_some-clause-refused c = odd_text c.args.text.now _ _ (sym c.is_some.ensures ∙ c.if-is_some.true) c.in_ok-count.ensures.ok.2
 
-pub loop-at-preserved : goal.loop-at-preserved
-loop-at-preserved c =
-    let blank = sym c.is_blank.ensures ∙ c.if-is_blank.false in
-    let some = sym c.digit_value.ensures.value ∙ c.in-Some.is in
-    elim c.match-high.branch [
-      | in-None w ↦ moved _ _ _ _ _ _ _ _ w.text-is w.count-is w.high-is (begun _ _ _ _ _ c.loop-at.invariant (omega arith) c.in-Some.digit w.in-None.is blank some c.in-Some.ensures.small)
-      | in-Some-high w ↦ moved _ _ _ _ _ _ _ _ w.text-is w.count-is w.high-is (ended _ _ _ _ _ c.loop-at.invariant (omega arith) w.in-Some-high.first c.in-Some.digit w.in-Some-high.is blank some)
-    ]
+pub returns-clause-ok : goal.returns-clause-ok
+returns-clause-ok c = even_text c.args.text.now _ _ (sym c.is_some.ensures ∙ c.if-is_some.false) c.in_ok-count.ensures.ok.2

@@ -1,4 +1,4 @@
-use Rattle.std.proofs.Common.{◌≡◌, ℕ, ◌-◌, ◌^◌, ◌++◌, ◌∙◌, List, ap, ap₂, arith, sym}
+use Rattle.std.proofs.Common.{◌≡◌, ℕ, ◌-◌, ◌*◌, ◌^◌, ◌++◌, ◌∙◌, List, ap, ap₂, arith, sym}
 use Rattle.rds_stream.specs.Recording.{Signal, length_of}
 use Rattle.rds_stream.specs.Tape.{TapeState}
 use Rattle.rds_sync.specs.Counting.{TotalsJoin, plus}
@@ -28,11 +28,11 @@ all b rules n join reports loss long end end_is t u ended t_is u_is ended_is =
     ∙ ap (λ (is : List Item). totals_of is) whole
 
 pub plus-requires : goal.plus-requires
-plus-requires c = (2 ^ 47, 2 ^ 10, omega arith, c.in_ok-end.ensures.small, c.of_end.ensures.small)
+plus-requires c = (2 ^ 11 * (c.len-len.result - 0), 2 ^ 10, omega (arith, c.len-len.ensures.limit), c.run_totals-end.ensures.small, c.of_end.ensures.small)
 
-pub returns-clause-totals : goal.returns-clause-totals
-returns-clause-totals c =
+pub returns : goal.returns
+returns c =
     c.plus.ensures.value
     ∙ all c.args.recording.now c.args.rules.now c.len-len.result c.totals_join.ensures c.runs_are_reports.ensures c.reach.ensures.range.loss.0 c.len-len.ensures.value
-    c.in_ok-end.end c.in_ok-end.ensures.state _ _ _ c.in_ok-end.ensures.totals c.of_end.ensures.value
-    (c.finish-group.ensures.group ∙ ap (λ (t : TapeState). items_of_end t.signal c.args.rules.now c.in_ok-end.end) c.new.ensures)
+    c.run_totals-end.result.0 c.run_totals-end.ensures.state _ _ _ c.run_totals-end.ensures.totals c.of_end.ensures.value
+    (c.finish-group.ensures.group ∙ ap (λ (t : TapeState). items_of_end t.signal c.args.rules.now c.run_totals-end.result.0) c.new.ensures)

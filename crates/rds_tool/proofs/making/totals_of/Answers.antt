@@ -1,5 +1,4 @@
 use Rattle.std.proofs.Common.{◌≡◌, ◌∙◌, Ok, ap, rules}
-use Rattle.std.proofs.lemmas.Result.{IfOk-weaker}
 use Rattle.rds_sync.specs.Report.{report_items}
 use Rattle.rds_sync.specs.Totals.{totals_of}
 use Rattle.rds_sync.specs.declared.totals.Totals.{Totals}
@@ -16,10 +15,8 @@ returns-then-not-wants_calls-clause-totals g c =
     let bits = c.in_ok-recording.recording in
     let plan = c.args.plan.now in
     let any : cuts_any plan.cuts ≡ true = search rules in
-    IfOk-weaker c.count.result (λ (totals : Totals). totals ≡ totals_of (report_items bits c.rules.result.now))
-    (λ (totals : Totals). text_of_task (task.Totals c.args.input plan) c.args.held.items ≡ Ok (totals_text totals))
-    (λ totals counted. totals_made c.args.input plan c.args.held.items bits totals c.in_ok-recording.ensures.ok (any_cut plan.cuts any bits)
-    (counted ∙ ap (λ rules. totals_of (report_items bits rules)) c.rules.ensures)) c.count.ensures.totals
+    totals_made c.args.input plan c.args.held.items bits _ c.in_ok-recording.ensures.ok (any_cut plan.cuts any bits)
+    (c.count.ensures ∙ ap (λ rules. totals_of (report_items bits rules)) c.rules.ensures)
 
 pub returns-clause-totals : goal.returns-clause-totals
 returns-clause-totals g c =

@@ -1,0 +1,13 @@
+use Rattle.std.proofs.Common.{◌≡◌, ◌+◌, ◌*◌, length}
+use Rattle.rds_live.specs.Next.{live_next}
+use Rattle.rds_live.proofs.stream_decoder.StreamDecoder.count.Given as goal
+
+abbrev pub invariant-loop-rest : goal.invariant-loop-rest
+invariant-loop-rest l = record {
+  terms : l.self.terms ≡ l.fn.self.terms;
+  next : live_next l.self l.rest ≡ live_next l.fn.self l.bytes;
+  place : l.self.place + 8 * length l.rest ≡ l.fn.self.place + 8 * length l.bytes;
+}
+
+abbrev pub decreases-loop-rest : goal.decreases-loop-rest
+decreases-loop-rest l = length l.rest

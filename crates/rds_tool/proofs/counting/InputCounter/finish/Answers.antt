@@ -1,0 +1,54 @@
+use Rattle.std.proofs.Common.{◌≡◌, ◌∙◌, Bool, Err, List, Ok, Result, ap, false, if◌then◌else◌, inl, inr, subst, sym, true, ℕ}
+use Rattle.std.specs.Prelude.{IfErr, IfOk}
+use Rattle.std.proofs.lemmas.Result.{IfErr-weaker, IfOk-weaker}
+use Rattle.rds_stream.specs.Recording.{Signal}
+use Rattle.rds_sync.specs.Report.{report_items}
+use Rattle.rds_sync.specs.Totals.{totals_of}
+use Rattle.rds_tool.specs.Input.{and_then, claimed, first_bits, recording_of}
+use Rattle.rds_tool.specs.Inside.Counters.{CounterOf, InputCounterOf, IsTextOf}
+use Rattle.rds_tool.specs.Refusals.{IsMemoryOrErrOf}
+use Rattle.rds_tool.specs.declared.error.ToolError.{ToolError}
+use Rattle.rds_tool.specs.declared.error.ToolError.TheVariants.{HexText}
+use Rattle.rds_tool.proofs.CountedBytes.{decoded_whole, refused_half, refused_strange}
+use Rattle.rds_tool.proofs.counting.InputCounter.finish.Goals.{After-finish, then-self-via-then-self, then-self-via-else-self+then-is_some}
+use Rattle.rds_tool.proofs.counting.InputCounter.finish.Goals as goal
+
+pub returns-then-self-clause-refused : goal.returns-then-self-clause-refused
+returns-then-self-clause-refused c =
+    let s = c.self.inside in
+    let k = s.counter in
+    let known : Bool → Type 0 = λ strange. IsTextOf s.hex s.half strange s.text.bytes k.bytes in
+    let step : List ℕ → Result Signal ToolError = λ bytes. first_bits (claimed k.bits bytes) k.terms.gaps bytes in
+    subst (λ (m : InputCounterOf). IsMemoryOrErrOf (recording_of m.input m.text) HexText) c.self.view_is
+    (elim c.then-self.branch [
+      | then-self-via-then-self w ↦ inr (ap (λ r. and_then r step) (refused_strange s.half s.text.bytes k.bytes s.hex (subst known w.if-self.true c.self.invariant)))
+      | then-self-via-else-self+then-is_some w ↦
+          inr (ap (λ r. and_then r step) (refused_half s.half s.text.bytes k.bytes s.hex (sym w.is_some.ensures ∙ w.if-is_some.true) (subst known w.if-self.false c.self.invariant)))
+    ])
+
+module _ (c : After-finish) where
+  abbrev k : CounterOf
+  k = c.self.inside.counter
+
+  recorded_as : recording_of (record { hex = c.self.inside.hex; bits = k.bits; gaps = k.terms.gaps }) c.self.inside.text.bytes ≡ first_bits (claimed k.bits k.bytes) k.terms.gaps k.bytes
+  recorded_as =
+      let s = c.self.inside in
+      let known : Bool → Type 0 = λ strange. IsTextOf s.hex s.half strange s.text.bytes k.bytes in
+      ap (λ r. and_then r (λ bytes. first_bits (claimed k.bits bytes) k.terms.gaps bytes))
+      (decoded_whole s.half s.text.bytes k.bytes s.hex (sym c.is_some.ensures ∙ c.if-is_some.false) (subst known c.if-self.false c.self.invariant))
+
+pub returns-clause-totals : goal.returns-clause-totals
+returns-clause-totals c =
+    let d = (goal.at.returns-clause-totals c).After-finish in
+    subst (λ (m : InputCounterOf). IfOk c.finish.result (λ totals. (x : Signal) × (recording_of m.input m.text ≡ Ok x) × (totals ≡ totals_of (report_items x m.rules)))) c.self.view_is
+    (IfOk-weaker c.finish.result _ _ (λ totals made. (made.0, recorded_as d ∙ made.1, made.2)) c.finish.ensures.totals)
+
+told : (made wanted : Result Signal ToolError) → wanted ≡ made → (e : ToolError) → IsMemoryOrErrOf made e → IsMemoryOrErrOf wanted e
+told made wanted same e (inl memory) = inl memory
+told made wanted same e (inr refused) = inr (same ∙ refused)
+
+pub returns-clause-refused : goal.returns-clause-refused
+returns-clause-refused c =
+    let d = (goal.at.returns-clause-refused c).After-finish in
+    subst (λ (m : InputCounterOf). IfErr c.finish.result (IsMemoryOrErrOf (recording_of m.input m.text))) c.self.view_is
+    (IfErr-weaker c.finish.result _ _ (told _ _ (recorded_as d)) c.finish.ensures.refused)

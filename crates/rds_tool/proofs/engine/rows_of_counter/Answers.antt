@@ -1,0 +1,42 @@
+use Rattle.std.proofs.Common.{◌≡◌, ◌∙◌, Err, List, Ok, ap, inl, inr, sym, true, ℕ}
+use Rattle.std.specs.Global.{Vec}
+use Rattle.std.proofs.lemmas.Result.{IfOk-weaker}
+use Rattle.rds_sync.specs.Report.{report_items}
+use Rattle.rds_sync.specs.Rules.{RuleNumbers}
+use Rattle.rds_sync.specs.Totals.{totals_of}
+use Rattle.rds_tool.specs.Cuts.{cuts_any}
+use Rattle.rds_tool.specs.Input.{and_then, recording_of}
+use Rattle.rds_tool.specs.InputOf.{InputOf}
+use Rattle.rds_tool.specs.Inside.Counters.{InputCounterOf}
+use Rattle.rds_tool.specs.Listing.{totals_text}
+use Rattle.rds_tool.specs.Outcome.{text_of_task, totals_list}
+use Rattle.rds_tool.specs.Plans.{PlanOf, cut_by}
+use Rattle.rds_tool.specs.Refusals.{IsMemoryOrErrOf}
+use Rattle.rds_tool.specs.declared.error.ToolError.{ToolError}
+use Rattle.rds_tool.specs.declared.task.Task.TheVariants as task
+use Rattle.rds_tool.proofs.Passing.{passes}
+use Rattle.rds_tool.proofs.Texts.{any_cut, totals_made}
+use Rattle.rds_tool.proofs.engine.rows_of_counter.Goals as goal
+
+refused : (input : InputOf) (text : List ℕ) (e : ToolError) → IsMemoryOrErrOf (recording_of input text) e → (plan : PlanOf)
+    → IsMemoryOrErrOf (text_of_task (task.Totals input plan) text) e
+refused input text e (inl memory) plan = inl memory
+refused input text e (inr is) plan = inr (ap (λ r. and_then (and_then r (cut_by plan.cuts)) (λ recording. Ok (totals_list plan.rules recording))) is)
+
+pub returns-in_err-totals-clause-refused : goal.returns-in_err-totals-clause-refused
+returns-in_err-totals-clause-refused c =
+    passes _ _ _ c.from_residual.ensures (refused c.args.counter.input c.args.counter.text c.in_err-totals.field-0.0 c.in_err-totals.ensures.refused)
+
+abbrev Made : InputCounterOf → Vec ℕ → Type 0
+Made k rows = (plan : PlanOf) → plan.rules ≡ k.rules → cuts_any plan.cuts ≡ true → text_of_task (task.Totals k.input plan) k.text ≡ Ok rows.items
+
+pub returns-clause-ok : goal.returns-clause-ok
+returns-clause-ok c =
+    let k = c.args.counter in
+    let (recording, is, sum) = c.in_ok-totals.ensures.totals in
+    let made : (rows : Vec ℕ) → rows.items ≡ totals_text c.in_ok-totals.totals → Made k rows =
+    λ rows rows_are plan same whole.
+    totals_made k.input plan k.text recording c.in_ok-totals.totals is (any_cut plan.cuts whole recording)
+    (sum ∙ ap (λ (rules : RuleNumbers). totals_of (report_items recording rules)) (sym same))
+    ∙ ap (λ t. Ok t) (sym rows_are) in
+    IfOk-weaker c.totals_rows.result (λ rows. rows.items ≡ totals_text c.in_ok-totals.totals) (Made k) made c.totals_rows.ensures.rows

@@ -1,5 +1,0 @@
-use Rattle.rds_tool.proofs.HexDigits.{HasDecoded}
-use Rattle.rds_tool.proofs.input.decode_in_place.Given as goal
-
-abbrev pub invariant-loop-at : goal.invariant-loop-at
-invariant-loop-at l = HasDecoded l.fn.text l.text l.at l.count l.high

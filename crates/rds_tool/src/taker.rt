@@ -1,0 +1,30 @@
+//! Where the bytes of a reader go.
+ghost use Rattle.std.specs.Prelude.{◌++◌, ◌≡◌, List, None, OnOk, Option, ℕ};
+ghost use Rattle.rds_sync.specs.Rules.{RuleNumbers};
+ghost use Rattle.rds_tool.specs.InputOf.{InputOf};
+
+use std::alloc::AllocError;
+
+/// What takes the bytes of a reader, one read after another.
+pub trait Taker {
+    /// The bytes that were taken.
+    ghost taken: { Self → List ℕ };
+
+    /// The input and the rules by which they are counted, if they are.
+    ghost terms: { Self → Option (InputOf × RuleNumbers) };
+
+    /// Takes these bytes, whose room it may write over.
+    fn take(&mut self, bytes: &mut [u8]) -> Result<(), AllocError>
+        ensures taken { OnOk result (taken self.new ≡ taken self.old ++ bytes.old) }
+        ensures terms { OnOk result (terms self.new ≡ terms self.old) };
+}
+
+impl Taker for Vec<u8> {
+    ghost taken = { λ bytes. bytes.items };
+
+    ghost terms = { λ bytes. None };
+
+    fn take(&mut self, bytes: &mut [u8]) -> Result<(), AllocError> {
+        self.extend_from_slice(bytes)
+    }
+}
