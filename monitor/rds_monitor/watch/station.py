@@ -17,7 +17,7 @@ from .live import Append, LiveSession
 from .receiver import Keeper, Launch
 from .records import AlarmChanged, Record, RunBegan, RunEnded, StateSeen, WatchBegan
 from .table import StationTable
-from .times import Timing
+from .times import Pace, Timing
 from .writer import Say
 
 # Seconds between two lines of news of a station.
@@ -45,6 +45,8 @@ class Station:
         self._last_read = 0.0
         self._last_valid = now
         self._whole_utc: Optional[float] = None
+        # By how much UTC is ahead of the monotonic clock.
+        self._ahead = 0.0
         # Since when the receiver gives the bits of the next session, and whether those of the last one were ahead of time.
         self._began, self._was_ahead = 0.0, False
         self._names: Deque[Tuple[float, str]] = deque()
@@ -78,7 +80,7 @@ class Station:
 
     def poll(self, steady: float, utc: float) -> None:
         """Reads the bytes that came."""
-        data = self.keeper.read(steady)
+        data, self._ahead = self.keeper.read(steady), utc - steady
         if self.keeper.starts != self._starts:
             self._starts = self.keeper.starts
             self._began = utc
@@ -193,10 +195,13 @@ class Station:
         quiet = steady - self.keeper.last_byte
         return steady - self._last_valid - (quiet if quiet <= self.keeper.patience else 0.0)
 
-    def _pace(self) -> Optional[float]:
+    def _pace(self) -> Optional[Pace]:
+        """On the monotonic clock."""
         pace = self._session.arrivals.pace() if self._session else None
         self._was_ahead &= pace is None
-        return math.inf if self._was_ahead else pace
+        if self._was_ahead:
+            return Pace(math.inf, math.inf)
+        return pace and pace._replace(since=pace.since - self._ahead)
 
     def _see_valid(self, steady: float) -> None:
         """When the last valid block came that counts, by its position."""
@@ -222,7 +227,7 @@ class Station:
     def _take(self, told: Told, timing: Timing) -> None:
         blocks = [minute.blocks for minute in told.minutes]
         percents = [one.bad_percent for one in blocks if one.end - one.begin >= int(MINUTE_BITS)]
-        self.alarms.take(told.changes, percents, told.ticks, timing)
+        self.alarms.take(told.changes, percents, told.ticks, timing, self._ahead)
         for event in told.changes:
             if event.item == "ps" and event.value is not None:
                 self._names.append((timing.utc(event.place), printable(event.text.strip())))
