@@ -31,8 +31,6 @@ OUTAGE_BITS = 10 * 1187.5
 UNKNOWN = -1
 # How far a pair can be trusted.
 SINGLE, CONFIRMED, VALID = 0, 1, 2
-# Rows after which no pair joins any more: more turns than NAME_TURNS, and at 11.4 groups per second more than TEXT_BITS.
-MEMORY = 768
 # The least number of rows that are read one by one after a change.
 LEAST_READ = 2 * RECENT
 
@@ -74,8 +72,10 @@ class Segments(NamedTuple):
     valid: Any
     run: Any
     generation: Any
+    # Whether a turn can have been missed before each row, once that is known.
+    missed: Any = numpy.zeros(0, bool)
 
-    def where(self, chosen: Any) -> "Segments":
+    def where(self, chosen: slice) -> "Segments":
         return Segments(*(column[chosen] for column in self))
 
     def as_lists(self) -> "Segments":
@@ -97,51 +97,52 @@ class Pace:
         self._is_text = shape.is_text
         self._segments = self.LEAST_SEGMENTS if shape.is_text else shape.segments
         self._place, self._segment = UNKNOWN, UNKNOWN
-        # The bits and steps between the last segments, and their sums.
-        self._recent: Deque[Tuple[int, int]] = deque()
-        self._of_bits = self._of_steps = 0
+        # The bits and steps between the last segments.
+        self._bits = self._steps = numpy.zeros(0, "i8")
 
-    def has_missed_turn(self, place: int, segment: int) -> bool:
-        """Whether as much time went by before a segment as a turn more takes."""
-        steps = segment - self._segment
-        turn = self._segments if steps > 0 else 2 * self._segments
-        return bool(self._recent) and (place - self._place) * self._of_steps >= (steps + turn) * self._of_bits
-
-    def note(self, place: int, segment: int) -> None:
-        if self._place != UNKNOWN:
-            bits, steps = place - self._place, segment - self._segment
-            if steps <= 0:
-                steps += self._segments
-            self._recent.append((bits, steps))
-            if len(self._recent) > RECENT:
-                oldest = self._recent.popleft()
-                bits, steps = bits - oldest[0], steps - oldest[1]
-            self._of_bits += bits
-            self._of_steps += steps
-        self._place, self._segment = place, segment
-        if segment >= self._segments:
-            self._segments = segment + 1
-
-    def skip(self, place: int, segment: int, highest: int) -> None:
-        """Takes the last of some segments, whose times do not count, and the highest of them."""
-        self._place, self._segment = place, segment
-        self._segments = max(self._segments, highest + 1)
+    def missed(self, place: Array, segment: Array) -> Array:
+        """Whether as much time went by before each of the next segments as a turn more takes."""
+        turns = numpy.full(segment.size + 1, self._segments)
+        if self._is_text:
+            turns = numpy.maximum.accumulate(numpy.append(self._segments, segment + 1))
+        bits, steps = numpy.diff(place, prepend=self._place), numpy.diff(segment, prepend=self._segment)
+        steps += (steps <= 0) * turns[:-1]
+        # The first segment of all has none before it.
+        first = int(self._place == UNKNOWN)
+        self._bits, self._steps = numpy.append(self._bits, bits[first:]), numpy.append(self._steps, steps[first:])
+        of_bits, of_steps = (numpy.append([0] * first, _sums_before(one))[-place.size :] for one in (self._bits, self._steps))
+        self._bits, self._steps = self._bits[-RECENT:], self._steps[-RECENT:]
+        self._place, self._segment, self._segments = int(place[-1]), int(segment[-1]), int(turns[-1])
+        missed: Array = (bits * of_steps >= (steps + turns[:-1]) * of_bits) & (of_steps > 0)
+        return missed
 
 
-class Told:
-    """The text that was told and holds: its pairs, and what each of its segments says."""
+def _sums_before(values: Array) -> Array:
+    """The sum of the last ones before each value."""
+    sums = numpy.append(0, numpy.cumsum(values))
+    before = numpy.arange(values.size)
+    found: Array = sums[before] - sums[numpy.maximum(before - RECENT, 0)]
+    return found
 
-    def __init__(self, pairs: List[int], shape: Shape) -> None:
-        self.size = len(pairs)
-        self.pairs = pairs + [UNKNOWN] * (shape.size - self.size)
-        self.said = [tuple(self.pairs[at : at + shape.pairs]) for at in range(0, shape.size, shape.pairs)]
+
+class WholeText:
+    """A text that was told: its pairs, its characters, and what each of its segments says."""
+
+    def __init__(self, pairs: List[int], last: int, shape: Shape) -> None:
+        """`last` tells how many bytes of the last pair are before the end of the text, or UNKNOWN."""
+        self.pairs, self.size = pairs, len(pairs)
+        text = b"".join([value.to_bytes(2, "big") for value in pairs])
+        self.text = text if last == UNKNOWN else text[: 2 * self.size - 2 + last]
+        self.has_end = last != UNKNOWN
+        known = pairs + [UNKNOWN] * (shape.size - self.size)
+        self.said = [tuple(known[at : at + shape.pairs]) for at in range(0, shape.size, shape.pairs)]
 
     def differs(self, segment: int, values: Tuple[int, ...], is_length: bool) -> bool:
         """Whether a segment has another pair, or one after the end, if the text is known to have this length."""
-        return any(
-            value not in (UNKNOWN, own) and (own != UNKNOWN or is_length)
-            for value, own in zip(values, self.said[segment])
-        )
+        for value, own in zip(values, self.said[segment]):
+            if value != own and value != UNKNOWN and (own != UNKNOWN or is_length):
+                return True
+        return False
 
 
 class Message:
@@ -152,6 +153,7 @@ class Message:
         self._generation = self._run = UNKNOWN
         self._recent: Deque[bool] = deque(maxlen=RECENT)
         self._pace = Pace(shape)
+        self._latest: Optional[WholeText] = None
         self._clear()
 
     @property
@@ -167,7 +169,7 @@ class Message:
         self._doubted: Dict[int, Pair] = {}
         self._last_segment = UNKNOWN
         self._length = 0  # in pairs, where no end of text says it
-        self._told: Optional[Told] = None  # the text that holds
+        self._told: Optional[WholeText] = None  # the text that holds
 
     def take(self, groups: Segments) -> Iterator[Tuple[int, Optional[bytes]]]:
         """The changes, each with its row: the characters of a text that is whole, or None if another text begins or the
@@ -175,24 +177,37 @@ class Message:
         """
         changes = numpy.flatnonzero(numpy.diff(groups.generation, prepend=self._generation)).tolist()
         for begin, end in zip([0, *changes], [*changes, groups.place.size]):
-            if begin in changes and begin < end:
+            if begin == end:
+                continue
+            if begin in changes:
                 self._generation = int(groups.generation[begin])
                 self._pace = Pace(self._shape)
                 self._clear()
                 yield begin, None
-            length = LEAST_READ
-            while begin < end:
-                passed = self._pass(groups.where(slice(begin, end)))
-                begin += passed
-                # Where texts change often, more rows are read one by one before others are passed at once.
-                length = LEAST_READ if passed >= length else 2 * length
-                rows = groups.where(slice(begin, min(end, begin + length))).as_lists()
-                for row, text in self._read(rows):
-                    yield begin + row, text
-                begin += len(rows.place)
+            rows = groups.where(slice(begin, end))
+            rows = rows._replace(missed=self._pace.missed(rows.place, rows.segment))
+            for row, text in self._take(rows):
+                yield begin + row, text
+
+    def _take(self, groups: Segments) -> Iterator[Tuple[int, Optional[bytes]]]:
+        """The changes within a generation. Where texts change often, more rows are read one by one before others are
+        passed at once."""
+        begin, length = 0, LEAST_READ
+        while begin < groups.place.size:
+            rest, passed = groups.where(slice(begin, None)), 0
+            if self._told and rest.place.size > LEAST_READ:
+                passed, cuts = self._pass(rest, self._told)
+                for row in cuts:
+                    yield begin + row, None
+                    yield begin + row, self._told.text
+            begin += passed
+            length = LEAST_READ if passed >= length else 2 * length
+            rows = groups.where(slice(begin, begin + length)).as_lists()
+            for row, text in self._read(rows):
+                yield begin + row, text
+            begin += len(rows.place)
 
     def _read(self, rows: Segments) -> Iterator[Tuple[int, Optional[bytes]]]:
-        """The changes in rows of one generation."""
         row = 0
         while row < len(rows.place):
             if self._told:
@@ -201,13 +216,13 @@ class Message:
                     return
                 self._told, self._may_end = None, True
                 yield row, None
-            place, segment = rows.place[row], rows.segment[row]
-            if self._pace.has_missed_turn(place, segment):
+            if rows.missed[row]:
                 self._clear()
                 yield row, None
+            segment = rows.segment[row]
             if segment <= self._segment:
                 self._end_turn(segment == 0 and rows.run[row] == self._run)
-                text = self._whole(self._fresh(place))
+                text = self._whole(self._fresh(rows.place[row]))
                 if text is not None:
                     yield row, text
                     continue
@@ -221,71 +236,89 @@ class Message:
 
     # ---- while the text that was told holds
 
-    def _pass(self, groups: Segments) -> int:
-        """Passes the first rows if they say the told text again, and returns how many they are. Of many such rows
-        those that no longer count are skipped."""
-        if not self._told:
-            return 0
-        passed = self._agreeing(groups, self._told)
-        first = self._skip(groups.where(slice(passed)), self._told)
-        if first < passed:
-            self._follow(groups.where(slice(first, passed)).as_lists(), 0, self._told)
-        return passed
-
-    def _agreeing(self, groups: Segments, told: Told) -> int:
-        """How many of these rows, from the first on, say the told text again."""
+    def _pass(self, groups: Segments, told: WholeText) -> Tuple[int, List[int]]:
+        """Passes the first rows if they say the told text again: how many they are, and in which of them it ended
+        early, and was whole again at once."""
         size, segment, value = self._shape.pairs, groups.segment, groups.value
+        before = numpy.append(self._segment, segment[:-1])
         expected = numpy.array(told.said)[segment]
         differs = (value != expected) & (value != UNKNOWN)
         if self._length != told.size:
             differs &= expected != UNKNOWN
         other = differs.any(axis=1)
+        end = int(other.argmax()) if other.any() else other.size
+        cuts = numpy.zeros(0, "i8")
         if self._shape.is_text:
-            before, run = numpy.append(self._segment, segment[:-1]), numpy.append(self._run, groups.run[:-1])
-            other |= (segment == 0) & (before >= 0) & (groups.run == run) & ((before + 1) * size < told.size)
-        return int(other.argmax()) if other.any() else other.size
+            is_read = groups.run == numpy.append(self._run, groups.run[:-1])
+            is_cut = (segment == 0) & (before >= 0) & is_read & ((before + 1) * size < told.size)
+            cuts = numpy.flatnonzero(is_cut[:end])
+            kept = self._are_kept(groups, cuts, told) if cuts.size and told.has_end else numpy.zeros(cuts.size, bool)
+            if not kept.all():
+                count = int(kept.argmin())
+                end, cuts = int(cuts[count]), cuts[:count]
+        if end:
+            self._note(groups.where(slice(end)), before[:end])
+        if cuts.size:
+            last, earlier = int(before[cuts[-1]]), int(before[cuts[-2]]) if cuts.size > 1 else self._last_segment
+            self._length, self._last_segment = (last + 1) * size if last == earlier else 0, last
+            # Pairs after the end of the text are forgotten whenever it is whole.
+            pairs, place = {**self._earlier, **self._now}, groups.place[cuts[-1]]
+            self._part({at: pair for at, pair in pairs.items() if at < told.size or pair[3] >= place})
+        return end, cuts.tolist()
 
-    def _skip(self, groups: Segments, told: Told) -> int:
-        """The row from which on these rows, which say the told text again, have all of its pairs and tell its pace.
-        Those before it no longer count, and are skipped."""
-        end = groups.place.size
-        if end <= 2 * RECENT:
-            return 0
+    def _are_kept(self, groups: Segments, cuts: Array, told: WholeText) -> Array:
+        """Whether before each of these rows no turn was missed, and all pairs of the told text came lately, in segments
+        that were received."""
+        pairs, size = {**self._earlier, **self._now}, self._shape.pairs
+        kept = ~groups.missed[cuts]
+        is_known = (groups.value != UNKNOWN).all(axis=1)
+        for segment in range(-(-told.size // size)):
+            at = numpy.flatnonzero((groups.segment == segment) & is_known)
+            first = min(pairs[one][3] for one in range(segment * size, min(told.size, (segment + 1) * size)))
+            places = numpy.append(first, groups.place[at])
+            kept &= places[numpy.searchsorted(at, cuts)] >= groups.place[cuts] - TEXT_BITS
+        return kept
+
+    def _note(self, groups: Segments, before: Array) -> None:
+        """Notes when each pair came last in rows that say the told text again, after these segments."""
+        turns = self._turn + numpy.cumsum(groups.missed | (groups.segment <= before))
         rows, columns = numpy.nonzero(groups.value != UNKNOWN)
-        latest = numpy.full(self._shape.size, UNKNOWN)
-        latest[groups.segment[rows] * self._shape.pairs + columns] = rows
-        first = max(0, end - MEMORY, int(latest[: told.size].min()) - RECENT)
-        if first:
-            self._next_turn()
-            self._turn += NAME_TURNS
-            self._segment = int(groups.segment[first - 1])
-            highest = int(groups.segment[:first].max())
-            self._pace.skip(int(groups.place[first - 1]), self._segment, highest)
-        return first
+        latest = numpy.full((self._shape.size, 2), UNKNOWN)
+        latest[groups.segment[rows] * self._shape.pairs + columns] = numpy.stack([rows, columns], axis=1)
+        pairs = {**self._earlier, **self._now}
+        for position in numpy.flatnonzero(latest[:, 0] >= 0).tolist():
+            row, column = latest[position]
+            told = groups.value[row, column], VALID, turns[row], groups.place[row]
+            pairs[position] = int(told[0]), VALID, int(told[2]), int(told[3])
+        self._turn, self._segment, self._run = int(turns[-1]), int(groups.segment[-1]), int(groups.run[-1])
+        self._part(pairs)
+        self._recent.extend(groups.valid[groups.value != UNKNOWN][-RECENT:].tolist())
 
-    def _follow(self, rows: Segments, row: int, told: Told) -> int:
+    def _part(self, pairs: Dict[int, Pair]) -> None:
+        """Sets the pairs of this turn, and those of earlier ones."""
+        self._now = {position: pair for position, pair in pairs.items() if pair[2] == self._turn}
+        self._earlier = {position: pair for position, pair in pairs.items() if pair[2] != self._turn}
+
+    def _follow(self, rows: Segments, row: int, told: WholeText) -> int:
         """Notes when each pair came last in the rows that say the told text again, and returns the first that does
         not, or the end."""
-        size, pace, recent = self._shape.pairs, self._pace, self._recent
+        size, now, before = self._shape.pairs, self._now, self._segment
         for row in range(row, len(rows.place)):
-            segment, values, place = rows.segment[row], rows.value[row], rows.place[row]
+            segment, values = rows.segment[row], rows.value[row]
             if values != told.said[segment] and told.differs(segment, values, self._length == told.size):
                 return row
-            if segment <= self._segment:
-                is_cut = segment == 0 and self._shape.is_text and (self._segment + 1) * size < told.size
+            if segment <= before or rows.missed[row]:
+                is_cut = segment == 0 <= before and self._shape.is_text and (before + 1) * size < told.size
                 if is_cut and rows.run[row] == self._run:
                     return row
                 self._next_turn()
-            elif pace.has_missed_turn(place, segment):
-                self._next_turn()
-            self._segment, self._run = segment, rows.run[row]
-            pace.note(place, segment)
-            position = segment * size
-            for value, valid in zip(values, rows.valid[row]):
+                now = self._now
+            self._segment = before = segment
+            self._run = rows.run[row]
+            for position, (value, valid) in enumerate(zip(values, rows.valid[row]), segment * size):
                 if value != UNKNOWN:
-                    self._now[position] = value, VALID, self._turn, place
-                    recent.append(valid)
-                position += 1
+                    now[position] = value, VALID, self._turn, rows.place[row]
+                    self._recent.append(valid)
         return len(rows.place)
 
     def _next_turn(self) -> None:
@@ -300,7 +333,6 @@ class Message:
         """Takes the pairs of a group, and tells whether another text has begun."""
         has_begun, place = False, rows.place[row]
         self._segment, self._run = rows.segment[row], rows.run[row]
-        self._pace.note(place, self._segment)
         position = self._segment * self._shape.pairs
         for value, valid in zip(rows.value[row], rows.valid[row]):
             if value != UNKNOWN:
@@ -368,21 +400,21 @@ class Message:
                 return None
             count = wanted
         found = [pairs[position] for position in range(count)]
-        if sum(grade == SINGLE for _, grade, _, _ in found) > self._most_singles():
+        if sum([grade == SINGLE for _, grade, _, _ in found]) > self._most_singles():
             return None
-        self._tell(found)
-        text = b"".join([value.to_bytes(2, "big") for value, *_ in found])
-        return text if last == UNKNOWN else text[: 2 * count - 2 + last]
+        return self._tell(found, last)
 
     def _most_singles(self) -> int:
         """How many pairs may be single, by the share of valid ones among those received lately."""
         share = sum(self._recent) * RECENT
         return next((most for valid, most in SINGLES if share >= valid * len(self._recent)), 0)
 
-    def _tell(self, found: List[Pair]) -> None:
+    def _tell(self, found: List[Pair], last: int) -> bytes:
         """Notes the pairs of the text that is told, all of which are trusted from now on."""
-        self._told, self._may_end = Told([value for value, *_ in found], self._shape), True
-        self._doubted, self._now, self._earlier = {}, {}, {}
-        for position, (value, _, turn, place) in enumerate(found):
-            pairs = self._now if turn == self._turn else self._earlier
-            pairs[position] = value, VALID, turn, place
+        values = [value for value, _, _, _ in found]
+        if not self._latest or self._latest.pairs != values:
+            self._latest = WholeText(values, last, self._shape)
+        self._told, self._may_end = self._latest, True
+        self._doubted = {}
+        self._part({at: (value, VALID, turn, place) for at, (value, _, turn, place) in enumerate(found)})
+        return self._latest.text
