@@ -17,7 +17,7 @@ from conftest import COMMAND, encode, rds
 from made import peak_memory
 from modulator import Array, dropped, iq, mpx, stored, wav, words
 
-from rds_monitor.signal.receiver import Receiver
+from rds_monitor.signal.receiver import Capture
 
 Words = Tuple[int, ...]
 RATE = 192000
@@ -33,17 +33,20 @@ def whole_groups(bits: bytes) -> List[Words]:
     return found
 
 
-def bits_of(receiver: Receiver, signal: Array, block: int = 65536) -> Array:
-    """The bits of a signal that is handed over a block at a time."""
-    parts = [receiver.push(signal[at : at + block]) for at in range(0, signal.size, block)]
-    return numpy.concatenate([*parts, receiver.finish()])
+def bits_of(capture: Capture, signal: Array, block: int = 65536) -> List[Array]:
+    """The bits of each station of a signal that is handed over a block at a time."""
+    parts = [capture.push(signal[at : at + block]) for at in range(0, signal.size, block)]
+    return [numpy.concatenate(bits) for bits in zip(*parts, capture.finish())]
 
 
-def received(signal: Array, rate: int, block: int = 65536, **options: Any) -> Tuple[List[Words], Any]:
+def received(
+    signal: Array, rate: int, block: int = 65536, offset: float = 0.0, equalise: bool = False
+) -> Tuple[List[Words], Any]:
     """The groups of a signal, and the report."""
-    receiver = Receiver(rate, numpy.iscomplexobj(signal), **options)
-    groups = whole_groups(numpy.packbits(bits_of(receiver, signal, block)).tobytes())
-    return groups, receiver.quality.report()
+    offsets = [offset]
+    capture = Capture(rate, numpy.iscomplexobj(signal), 1.0, offsets, offsets if equalise else ())
+    (bits,) = bits_of(capture, signal, block)
+    return whole_groups(numpy.packbits(bits).tobytes()), capture.receivers[0].quality.report()
 
 
 def right(groups: Sequence[Words], signal: Array, rate: int = RATE, **options: Any) -> int:

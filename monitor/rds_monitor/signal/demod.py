@@ -13,7 +13,7 @@ import numpy
 from ..rows.items import Fault, Misuse
 from .pack import open_binary
 from .rates import likely_rate
-from .receiver import RATES, Receiver
+from .receiver import RATES, Capture, Receiver
 from .samples import RAW_FORMS, SampleSource, Signal, open_samples
 from .symbols import Bits
 
@@ -152,18 +152,19 @@ def no_rds(source: SampleSource, beginning: Signal, offset: float) -> Fault:
     return Fault(f"no RDS was found: {text}")
 
 
-def receive(source: SampleSource, receiver: Receiver, writer: BitWriter, teller: QualityLine) -> Signal:
+def receive(source: SampleSource, capture: Capture, writer: BitWriter, teller: QualityLine) -> Signal:
     """Writes the bits of the signal, and gives its first seconds if there was no RDS in them. After a fault, or when
     interrupted, the bits up to there are written too."""
     beginning: List[Signal] = [numpy.zeros(0)]
+    (receiver,) = capture.receivers
     try:
         for samples in source.blocks():
             if not receiver.quality.locked and sum(map(len, beginning)) < SECONDS_KEPT * source.rate:
                 beginning.append(samples)
-            writer.push(receiver.push(samples))
+            writer.push(capture.push(samples)[0])
             teller.tell(receiver, writer.written)
     finally:
-        writer.push(receiver.finish(), last=True)
+        writer.push(capture.finish()[0], last=True)
         if writer.written:
             teller.end(report_of(receiver, writer.written))
     return numpy.concatenate(beginning)
@@ -176,12 +177,13 @@ def run_demod(arguments: argparse.Namespace) -> int:
     )
     if source.rate not in RATES:
         raise Fault(f"a sample rate of {source.rate} is not {RATES[0]} to {RATES[-1]}")
-    equalise = source.is_iq and not arguments.no_equaliser
-    receiver = Receiver(source.rate, source.is_iq, source.full_scale, arguments.offset, equalise)
+    offsets = [arguments.offset]
+    equalised = offsets if source.is_iq and not arguments.no_equaliser else []
+    capture = Capture(source.rate, source.is_iq, source.full_scale, offsets, equalised)
     writer = BitWriter(arguments.output, arguments.unpacked)
-    beginning = receive(source, receiver, writer, QualityLine(arguments, sys.stderr))
+    beginning = receive(source, capture, writer, QualityLine(arguments, sys.stderr))
     if not writer.written:
         raise Fault("the input is too short for a bit")
-    if not receiver.quality.locked:
+    if not capture.receivers[0].quality.locked:
         raise no_rds(source, beginning, arguments.offset)
     return 0

@@ -118,18 +118,18 @@ def _exactly(stream: BinaryIO, length: int) -> bytes:
 # ---- samples as numbers
 
 
-def numbers(data: bytes, form: str) -> Reals:
-    """The samples of some bytes, around 0; 24 bits are the upper ones of 32."""
+def numbers(data: bytes, form: str, kind: str = "f8") -> Reals:
+    """The samples of some bytes, around 0; 24 bits are the upper ones of 32. `kind` is the numpy type of the numbers."""
     if form == "u8":
-        return numpy.frombuffer(data, "u1") - 127.5
+        return numpy.subtract(numpy.frombuffer(data, "u1"), 127.5, dtype=kind)
     if form == "s24":
         wide = numpy.zeros((len(data) // 3, 4), "u1")
         wide[:, 1:] = numpy.frombuffer(data, "u1").reshape(-1, 3)
-        return wide.view("<i4").ravel().astype("f8")
+        return wide.view("<i4").ravel().astype(kind)
     stored = {"s8": "i1", "s16": "<i2", "s32": "<i4", "f32": "<f4", "f64": "<f8"}[form]
     with numpy.errstate(invalid="ignore"):
         # A signalling NaN among the samples is refused where they are judged.
-        return numpy.frombuffer(data, stored).astype("f8")
+        return numpy.frombuffer(data, stored).astype(kind)
 
 
 def channels_of(frames: int, values: Reals, channels: Tuple[int, ...]) -> Signal:
@@ -138,13 +138,13 @@ def channels_of(frames: int, values: Reals, channels: Tuple[int, ...]) -> Signal
     if len(channels) == 1:
         return numpy.ascontiguousarray(table[:, channels[0]])
     if channels == (0, 1) and table.shape[1] == 2:
-        return table.view("c16").ravel()
+        return table.view("c8" if table.dtype == numpy.float32 else "c16").ravel()
     return table[:, channels[0]] + 1j * table[:, channels[1]]
 
 
 def checked(samples: Signal, first: int) -> Iterator[Signal]:
     """The samples, up to one that is no number of a signal; `first` is the number of those before."""
-    parts = samples.view("f8") if samples.dtype == numpy.complex128 else samples
+    parts = samples.view(samples.real.dtype) if numpy.iscomplexobj(samples) else samples
     strange = numpy.flatnonzero(~(numpy.abs(parts) < LARGEST_SAMPLE))
     if not strange.size:
         yield samples
@@ -171,7 +171,8 @@ class StoredSamples:
             if not data:
                 break
             frames = len(data) // layout.frame
-            samples = channels_of(frames, numbers(data[: frames * layout.frame], layout.form), self._channels)
+            values = numbers(data[: frames * layout.frame], layout.form, "f4" if self.is_iq else "f8")
+            samples = channels_of(frames, values, self._channels)
             if layout.form[0] == "f" and frames:
                 yield from checked(samples, read // layout.frame)
             else:

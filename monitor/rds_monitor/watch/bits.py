@@ -7,7 +7,7 @@ from typing import Any, Dict
 import numpy
 
 from ..rows.clock import RATE
-from ..signal.receiver import Receiver
+from ..signal.receiver import Capture
 from ..signal.samples import FORMS, channels_of, checked, numbers
 from ..signal.symbols import Bits
 from .table import StationTable
@@ -37,8 +37,8 @@ class Demodulated(Packed):
         self._form, self._channels = table.raw, (0, 1) if table.form == "iq" else (0,)
         self._frame = len(self._channels) * FORMS[table.raw][0]
         self._rate = table.rate
-        is_iq = table.form == "iq"
-        self._receiver = Receiver(table.rate, is_iq, FORMS[table.raw][1], table.offset, is_iq)
+        is_iq, offsets = table.form == "iq", [table.offset]
+        self._capture = Capture(table.rate, is_iq, FORMS[table.raw][1], offsets, offsets if is_iq else ())
         self._odd = b""
         self._bits: Bits = numpy.zeros(0, "u1")
         self._samples = 0
@@ -49,8 +49,9 @@ class Demodulated(Packed):
         self._odd = data[frames * self._frame :]
         if not frames:
             return b""
-        samples = channels_of(frames, numbers(data[: frames * self._frame], self._form), self._channels)
-        bits = [self._receiver.push(block) for block in checked(samples, self._samples)]
+        kind = "f8" if len(self._channels) == 1 else "f4"
+        samples = channels_of(frames, numbers(data[: frames * self._frame], self._form, kind), self._channels)
+        bits = [self._capture.push(block)[0] for block in checked(samples, self._samples)]
         self._samples += frames
         packed = self._packed(numpy.concatenate(bits))
         if packed and not self.delay:
@@ -65,10 +66,10 @@ class Demodulated(Packed):
         return numpy.packbits(bits[:whole]).tobytes()
 
     def finish(self) -> bytes:
-        return self._packed(self._receiver.finish()) if self._samples else b""
+        return self._packed(self._capture.finish()[0]) if self._samples else b""
 
     def report(self) -> Dict[str, Any]:
-        return self._receiver.quality.report()
+        return self._capture.receivers[0].quality.report()
 
 
 def bit_source(table: StationTable) -> Packed:
