@@ -36,6 +36,7 @@ def alone(station: Sent, seconds: float, seed: int) -> Array:
         level = 0.0 if not station.data else 0.03
         data = station.data or bytes(int(seconds * 1187.5 / 8) + 2)
         signal = iq(mpx(data, NARROW, snr=60, seed=seed, level=level)[:size], NARROW, station.paths)
+        assert signal.size == size, "it sends too few bits"
     return 10 ** (station.level / 20) * signal
 
 

@@ -18,7 +18,7 @@ from made import on_a_terminal, peak_memory
 from measure_demod import TABLES, Words, bits_of, right, whole_groups
 from modulator import Array, dropped, iq, mpx, stored, wav, words
 
-from rds_monitor.signal.demod import sentence
+from rds_monitor.signal.outputs import sentence
 from rds_monitor.signal.receiver import Capture
 
 GROUPS = words(3, 24)  # 2.1 seconds
@@ -357,8 +357,8 @@ def test_the_level_is_that_of_the_form(form: str, level: float) -> None:
 def test_a_terminal_has_one_line_that_is_overwritten(signal: Array, tmp_path: Any) -> None:
     (tmp_path / "it").write_bytes(stored(signal, "s16") * 3)
     code = (
-        "import itertools, sys; from rds_monitor import cli; from rds_monitor.signal import demod\n"
-        "clock = itertools.count(1)\ndemod.time.monotonic = lambda: next(clock)\nsys.exit(cli.main(sys.argv[1:]))"
+        "import itertools, sys; from rds_monitor import cli; from rds_monitor.signal import outputs\n"
+        "clock = itertools.count(1)\noutputs.time.monotonic = lambda: next(clock)\nsys.exit(cli.main(sys.argv[1:]))"
     )
     options = ("--raw", "s16", "--rate", "192000", "--output", "/dev/null")
     said = on_a_terminal("-c", code, "demod", *options, str(tmp_path / "it"))

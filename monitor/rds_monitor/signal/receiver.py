@@ -5,7 +5,7 @@ from __future__ import annotations
 import math
 from dataclasses import dataclass, field
 from fractions import Fraction
-from typing import Any, Collection, Dict, List, Optional, Sequence, Union
+from typing import Any, Collection, Dict, List, NamedTuple, Optional, Sequence, Union
 
 import numpy
 
@@ -31,6 +31,13 @@ def matched_filter(frequencies: Reals) -> Reals:
     return numpy.where(near, numpy.cos(math.pi * frequencies / (2 * CHIP_RATE)), 0)
 
 
+class Heard(NamedTuple):
+    """How strong a signal was: the power of the station's channel, of IQ, and the signal-to-noise ratio of RDS, if there was any."""
+
+    level_dbfs: Optional[float]
+    snr_db: Optional[float]
+
+
 @dataclass
 class Quality:
     """Sums over segments of 8 bits, of the locked ones."""
@@ -45,6 +52,7 @@ class Quality:
     received: BlockCounter = field(default_factory=BlockCounter)
     pilot: List[float] = field(default_factory=list)
     blocks: int = 0
+    _told: Reals = field(default_factory=lambda: numpy.zeros(5))
 
     def add(self, found: Symbols, plain: Symbols) -> None:
         """The symbols as decided, and the signal as it came."""
@@ -102,6 +110,17 @@ class Quality:
     def _full_scale(self, frequency: float) -> float:
         """Of MPX at this frequency: a discriminator has 1, and a response."""
         return self.fm.response(frequency) if self.fm else self.full_scale
+
+    def recent(self) -> Heard:
+        """The signal since the last call."""
+        power, count = self.fm.level if self.fm else (0.0, 0)
+        now = numpy.array([*self.sums[2:], self.locked, power, count])
+        signal, noise, locked, power, count = (now - self._told).tolist()
+        self._told = now
+        channel = _decibels(power / count / self.full_scale**2) if count else None
+        return Heard(
+            channel, _decibels(signal / (2 * noise * CHANNEL_HZ / BIT_RATE)) if locked and noise else None
+        )
 
     @property
     def channel_dbfs(self) -> Optional[float]:

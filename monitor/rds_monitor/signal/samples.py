@@ -13,6 +13,7 @@ import numpy
 from numpy.typing import NDArray
 
 from ..rows.items import Fault
+from .centre import centre_in_auxi, centre_in_name, sigmf_of
 
 Reals = NDArray[numpy.float64]
 Complexes = NDArray[numpy.complex128]
@@ -41,11 +42,13 @@ UNKNOWN_LENGTH = (0, 0xFFFFFFFF)
 
 
 class SampleSource(Protocol):
-    """A signal: its sample rate, whether it is IQ, the sample of full scale, and its samples a block at a time."""
+    """A signal: its sample rate, whether it is IQ, the sample of full scale, the frequency of the centre of IQ if it is known, and
+    its samples a block at a time."""
 
     rate: int
     is_iq: bool
     full_scale: float
+    centre: Optional[float]
 
     def blocks(self) -> Iterator[Signal]:
         ...
@@ -59,6 +62,7 @@ class Layout:
     channels: int
     form: str
     length: Optional[int] = None
+    centre: Optional[float] = None
 
     @property
     def frame(self) -> int:
@@ -76,7 +80,7 @@ def wav_layout(stream: BinaryIO) -> Layout:
         raise Fault("FLAC is read from a file only, not from a pipe")
     if kind not in (b"RIFF", b"RF64") or wave != b"WAVE":
         raise Fault("the input is neither WAV nor FLAC: name its samples with --raw and --rate")
-    described, long_length = b"", None
+    described, long_length, centre = b"", None, None
     while True:
         name, length = struct.unpack("<4sI", _exactly(stream, 8))
         if name == b"data":
@@ -87,6 +91,8 @@ def wav_layout(stream: BinaryIO) -> Layout:
             described = body
         elif name == b"ds64" and length >= 16:
             long_length = struct.unpack_from("<Q", body, 8)[0]
+        elif name == b"auxi":
+            centre = centre_in_auxi(body)
     if len(described) < 16:
         raise Fault("the WAV file does not say what its samples are")
     code, channels, rate, _, _, width = struct.unpack_from("<HHIIHH", described)
@@ -100,7 +106,7 @@ def wav_layout(stream: BinaryIO) -> Layout:
     if channels == 0:
         raise Fault("the WAV file has no channel")
     known = None if length in UNKNOWN_LENGTH else length
-    return Layout(rate, channels, WAV_FORMS[code, width], long_length or known)
+    return Layout(rate, channels, WAV_FORMS[code, width], long_length or known, centre)
 
 
 def _skip(stream: BinaryIO, length: int) -> None:
@@ -159,6 +165,7 @@ class StoredSamples:
 
     def __init__(self, stream: BinaryIO, layout: Layout, channels: Tuple[int, ...]):
         self.rate, self.is_iq, self.full_scale = layout.rate, len(channels) == 2, FORMS[layout.form][1]
+        self.centre = layout.centre
         self._stream, self._layout, self._channels = stream, layout, channels
         self._frames = FRAMES_OF_FILE if stream.seekable() else FRAMES_PER_BLOCK
 
@@ -207,7 +214,7 @@ class Flac:
             self._file: Any = soundfile.SoundFile(path)
         except soundfile.SoundFileError as error:
             raise Fault(f"{path!r} cannot be read: {error}") from None
-        self.rate, self.is_iq = int(self._file.samplerate), is_iq
+        self.rate, self.is_iq, self.centre = int(self._file.samplerate), is_iq, centre_in_name(path)
         self._channels = chosen_channels(self._file.channels, channel, is_iq)
 
     def blocks(self) -> Iterator[Signal]:
@@ -235,15 +242,21 @@ def open_samples(
     path: str, *, raw: Optional[str], rate: Optional[int], channel: Optional[int], is_iq: bool
 ) -> SampleSource:
     """The signal in a file, or on standard input if the path is -. A rate overrides that of a header."""
+    sigmf = sigmf_of(path)
+    path, named = sigmf.data if sigmf else path, None if path == "-" else centre_in_name(path)
     stream: BinaryIO = sys.stdin.buffer
     if path != "-":
         try:
             stream = open(path, "rb")
         except OSError as error:
             raise Fault(f"{path!r} cannot be read: {error.strerror}") from None
+    if sigmf and raw is None:
+        raw, rate, is_iq = sigmf.raw, rate or sigmf.rate, True
     if raw is not None:
         assert rate is not None
-        return StoredSamples(stream, Layout(rate, 2 if is_iq else 1, raw), (0, 1) if is_iq else (0,))
+        centre = sigmf.centre if sigmf else named
+        layout = Layout(rate, 2 if is_iq else 1, raw, centre=centre)
+        return StoredSamples(stream, layout, (0, 1) if is_iq else (0,))
     if path != "-" and os.path.isfile(path):
         is_flac = stream.read(4) == b"fLaC"
         stream.seek(0)
@@ -254,5 +267,5 @@ def open_samples(
             return flac
     layout = wav_layout(stream)
     channels = chosen_channels(layout.channels, channel, is_iq)
-    layout.rate = rate or layout.rate
+    layout.rate, layout.centre = rate or layout.rate, named if layout.centre is None else layout.centre
     return StoredSamples(stream, layout, channels)
