@@ -3,6 +3,7 @@
 from __future__ import annotations
 
 import json
+import re
 import struct
 from pathlib import Path
 from typing import Any, Dict, List
@@ -12,15 +13,17 @@ from captures import Sent, captured
 from conftest import encode, monitor
 from made import peak_memory, run
 from measure_demod import whole_groups
-from modulator import stored, wav, words
+from modulator import stored, wav
+from network import Programme
 
 from rds_monitor.rows.items import Fault
 from rds_monitor.signal.centre import centre_in_name, frequency_of, frequency_text, sigmf_of
 
 pytestmark = pytest.mark.xdist_group("stations")
 RATE, SECONDS = 600000, 1.9
-# By file. Those of one seed each; between them is one that sends no RDS.
-GROUPS = {"98.1M.bin": words(1, 23), "97.8M.bin": words(2, 23)}
+# By file. Between them is one that sends no RDS.
+PROGRAMMES = {"98.1M.bin": Programme(0xD318, "ALPHA", "Now"), "97.8M.bin": Programme(0xD319, "<B> & C", "")}
+GROUPS = {name: [one.group(number) for number in range(23)] for name, one in PROGRAMMES.items()}
 RAW = ("--stations", "--raw", "s16", "--rate", RATE)
 
 
@@ -35,10 +38,15 @@ def told(error: bytes) -> Dict[str, Any]:
     return {line["frequency"]: line for line in map(json.loads, error.decode().splitlines())}
 
 
+def right(name: str, bits: bytes) -> int:
+    """How many of the groups were sent."""
+    return sum(group in GROUPS[name] for group in whole_groups(bits))
+
+
 def received_in(folder: Path) -> Dict[str, int]:
-    """How many of the groups that were sent each file has."""
+    """By file."""
     names = sorted(path.name for path in folder.iterdir())
-    return {name: len(set(whole_groups((folder / name).read_bytes())) & set(GROUPS[name])) for name in names}
+    return {name: right(name, (folder / name).read_bytes()) for name in names}
 
 
 AUXI = b"auxi" + struct.pack("<I", 68) + bytes(32) + struct.pack("<I", 97950000) + bytes(32)
@@ -68,7 +76,7 @@ def test_named_stations_from_a_pipe(capture: bytes) -> None:
     for name, frequency in (("98.1M.bin", 98100000), ("97.8M.bin", 97800000)):
         own = [line for line in lines if line["frequency"] == frequency]
         bits = bytes.fromhex("".join(line["bits"] for line in own))
-        assert len(set(whole_groups(bits)) & set(GROUPS[name])) >= 18
+        assert right(name, bits) >= 36
         assert own[-1]["seconds"] == 2 * SECONDS and len(own) >= 4
         assert all(line["level_dbfs"] is not None for line in own[:-1])
     assert b"98.1M: 3.8 s, " in done.stderr
@@ -94,6 +102,52 @@ def test_memory_and_an_input_without_end(capture: bytes, tmp_path: Path) -> None
     before, after = (peak_memory("demod", *options, data=capture * times) for times in (4, 9))
     assert after < before + 4000 and after < 150000
     assert sorted(path.name for path in tmp_path.iterdir()) == ["97.8M.bin", "98.1M.bin"]
+
+
+# ---- the command `stations`
+
+
+SHOWN = ("--raw", "s16", "--rate", RATE, "--centre", "97.95M")
+
+
+def test_the_table(capture: bytes) -> None:
+    done = monitor("stations", *SHOWN, data=capture)
+    assert done.returncode == 0, done.stderr
+    head, *rows = (line.split(maxsplit=4) for line in done.stdout.decode().splitlines())
+    assert head[0] == "frequency" and [row[:1] + row[3:] for row in rows] == [
+        ["97.8M", "D319", "<B> & C"],
+        ["98.1M", "D318", "ALPHA"],
+    ]
+
+
+def test_json_without_a_centre(capture: bytes) -> None:
+    """Frequencies are offsets. Of an input that is cut off what was found is told, and the fault."""
+    data = wav(capture, "s16", RATE, channels=2)[:-1000]
+    done = monitor("stations", "--json", data=data)
+    found = [json.loads(line) for line in done.stdout.splitlines()]
+    assert [(one["frequency"], one["pi"]) for one in found] == [(-150000, "D319"), (150000, "D318")]
+    assert done.returncode == 1 and b"the file is cut off" in done.stderr
+
+
+def test_the_picture(capture: bytes) -> None:
+    """The marks are where the spectrum has its humps; what stations say is text, and no script may run."""
+    page = monitor("stations", *SHOWN, "--html", data=capture).stdout.decode()
+    assert "default-src 'none'; style-src 'sha256-" in page and "<script" not in page
+    assert "2 stations in 0.6 MHz around 97.95M" in page and "&lt;B&gt; &amp; C" in page and "<B>" not in page
+    (line,) = re.findall(r'<polyline points="([^"]+)"', page)
+    points = [tuple(map(float, point.split(","))) for point in line.split()]
+    marks = [float(at) for at in re.findall(r'class="mark" x1="([\d.]+)"', page)]
+    assert marks == [pytest.approx(1200 * (300 + at) / 600, abs=5) for at in (-150, 150)]
+    for mark in marks:
+        near = [y for x, y in points if abs(x - mark) < 100]
+        beside = [y for x, y in points if 150 < abs(x - mark) < 250]
+        assert min(near) < min(beside)
+
+
+def test_no_station() -> None:
+    done = monitor("stations", *SHOWN, data=bytes(4 * RATE // 8))
+    assert done.returncode == 1 and done.stdout == b"" and b"no station was found" in done.stderr
+    assert b"--raw needs --rate" in monitor("stations", "--raw", "u8").stderr
 
 
 # ---- errors

@@ -31,7 +31,7 @@ def matched_filter(frequencies: Reals) -> Reals:
     return numpy.where(near, numpy.cos(math.pi * frequencies / (2 * CHIP_RATE)), 0)
 
 
-class Heard(NamedTuple):
+class Strength(NamedTuple):
     """How strong a signal was: the power of the station's channel, of IQ, and the signal-to-noise ratio of RDS, if there was any."""
 
     level_dbfs: Optional[float]
@@ -111,14 +111,14 @@ class Quality:
         """Of MPX at this frequency: a discriminator has 1, and a response."""
         return self.fm.response(frequency) if self.fm else self.full_scale
 
-    def recent(self) -> Heard:
+    def recent(self) -> Strength:
         """The signal since the last call."""
         power, count = self.fm.level if self.fm else (0.0, 0)
         now = numpy.array([*self.sums[2:], self.locked, power, count])
         signal, noise, locked, power, count = (now - self._told).tolist()
         self._told = now
         channel = _decibels(power / count / self.full_scale**2) if count else None
-        return Heard(
+        return Strength(
             channel, _decibels(signal / (2 * noise * CHANNEL_HZ / BIT_RATE)) if locked and noise else None
         )
 
