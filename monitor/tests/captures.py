@@ -2,10 +2,18 @@
 
 from __future__ import annotations
 
+import sys
+from functools import lru_cache
 from typing import List, NamedTuple, Sequence, Tuple
 
 import numpy
-from modulator import Array, Path, iq, mpx
+from conftest import TOP, encode
+from modulator import Array, Path, iq, mpx, stored
+
+
+sys.path.insert(0, str(TOP / "monitor" / "demo"))
+
+from station import Programme  # noqa: E402
 
 NARROW = 480000  # samples per second of a station by itself: all of its spectrum
 
@@ -59,3 +67,22 @@ def captured(
         bins = numpy.fft.fftfreq(own.size, 1 / own.size).astype(int) + round(station.offset * seconds)
         numpy.add.at(spectrum, bins % size, own)
     return numpy.fft.ifft(spectrum) * (rate / NARROW) + noise(size, rate, noise_level)
+
+
+# A small capture for tests of commands: two stations by their frequencies, and one at the centre that sends no RDS.
+SMALL_RATE, SMALL_SECONDS, SMALL_CENTRE = 600000, 1.9, 97950000
+PROGRAMMES = {
+    hertz: [programme.group(number) for number in range(23)]
+    for hertz, programme in (
+        (98100000, Programme(0xD318, "ALPHA", "Now")),
+        (97800000, Programme(0xD319, "<B> & C", "")),
+    )
+}
+
+
+@lru_cache(None)
+def small_capture() -> bytes:
+    """As integers of 16 bits. The second station is 15 dB weaker."""
+    levels = dict(zip(PROGRAMMES, (0.0, -15.0)))
+    sent = [Sent(hertz - SMALL_CENTRE, encode(PROGRAMMES[hertz]), levels[hertz]) for hertz in PROGRAMMES]
+    return stored(captured([*sent, Sent(0.0, b"", -12.0)], SMALL_RATE, SMALL_SECONDS, -60), "s16")

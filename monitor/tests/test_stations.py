@@ -9,29 +9,24 @@ from pathlib import Path
 from typing import Any, Dict, List
 
 import pytest
-from captures import Sent, captured
-from conftest import encode, monitor
+from captures import PROGRAMMES, SMALL_RATE, SMALL_SECONDS, small_capture
+from conftest import monitor
 from made import peak_memory, run
 from measure_demod import whole_groups
-from modulator import stored, wav
-from network import Programme
+from modulator import wav
 
 from rds_monitor.rows.items import Fault
 from rds_monitor.signal.centre import centre_in_name, frequency_of, frequency_text, sigmf_of
 
 pytestmark = pytest.mark.xdist_group("stations")
-RATE, SECONDS = 600000, 1.9
-# By file. Between them is one that sends no RDS.
-PROGRAMMES = {"98.1M.bin": Programme(0xD318, "ALPHA", "Now"), "97.8M.bin": Programme(0xD319, "<B> & C", "")}
-GROUPS = {name: [one.group(number) for number in range(23)] for name, one in PROGRAMMES.items()}
+RATE, SECONDS = SMALL_RATE, SMALL_SECONDS
 RAW = ("--stations", "--raw", "s16", "--rate", RATE)
+GROUPS = {f"{frequency / 1e6:g}M.bin": groups for frequency, groups in PROGRAMMES.items()}
 
 
-@pytest.fixture(scope="session")
+@pytest.fixture(scope="module")
 def capture() -> bytes:
-    """Stations at 97.8 and 98.1 MHz, and without RDS at 97.95 MHz, around 97.95 MHz."""
-    stations = [Sent(150e3, encode(GROUPS["98.1M.bin"])), Sent(-150e3, encode(GROUPS["97.8M.bin"]), -15.0)]
-    return stored(captured([*stations, Sent(0.0, b"", -12.0)], RATE, SECONDS, -60), "s16")
+    return small_capture()
 
 
 def told(error: bytes) -> Dict[str, Any]:

@@ -15,7 +15,7 @@ from .symbols import BIT_RATE
 HZ_PER_BIN = 2500.0  # of a spectrum, at most
 RASTER_HZ = 50e3  # of stations' frequencies
 HALF_CHANNEL_HZ = 100e3  # of a station, which has to be in the band
-WIDTH_HZ = 80e3  # on both sides, of what is summed for a station
+WIDTH_HZ = 80e3  # on both sides of a station, for its sum
 HUMP = 1.02  # by how much its sum is above those beside it: noise varies by less
 APART_HZ = 150e3  # two stations are farther apart
 SETTLED = 3 * BIT_RATE  # bits after which stations without RDS are left out

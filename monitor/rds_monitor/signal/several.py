@@ -137,7 +137,7 @@ class TunedStations:
     def run(
         self, most: float = math.inf, each: Callable[[TunedStation], None] = lambda station: None
     ) -> None:
-        """Up to so many seconds. After a fault, or when interrupted, the bits up to there are written too."""
+        """Up to `most` seconds. After a fault, or when interrupted, the bits up to there are written too."""
         blocks = self._source.blocks()
         first = [] if self._named else beginning_of(blocks, self._source.rate)
         self._begin(self._named or self._candidates(first))
