@@ -117,7 +117,7 @@ install-program: $(PROGRAM)
 # here, by argparse-manpage and shtab, in a folder of this installation alone. Without these the rest is installed, unless PAGES_NEEDED is
 # set, as for a package.
 MONITOR_DIR := $(PREFIX)/share/rds-monitor
-ROOMS       := rows content measures signal db page watch
+ROOMS       := rows content measures signal db page capture watch
 PYTHON_TOO  ?= install-python
 install-monitor: $(PYTHON_TOO)
 	install -d "$(DESTDIR)$(PREFIX)/bin" "$(DESTDIR)$(MONITOR_DIR)/rds_monitor" "$(SHARE)/man/man1" "$(SHARE)/bash-completion/completions"

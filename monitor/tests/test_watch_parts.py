@@ -46,7 +46,7 @@ class Leaving(Process):
 
 
 def test_the_last_bytes_of_a_receiver() -> None:
-    keeper = Keeper(["it"], 10.0, lambda words: Leaving(), 0.0)
+    keeper = Keeper(["it"], 10.0, lambda words, through: Leaving(), 0.0)
     assert [keeper.read(now) for now in (0.0, 0.1, 0.2, 0.3)] == [b"", b"first", b"last", None]
     assert keeper.reason == "ended with status 0" and not keeper.is_running
 

@@ -4,7 +4,7 @@ from __future__ import annotations
 
 import math
 from collections import deque
-from typing import Any, Deque, Dict, List, Optional, Tuple
+from typing import Any, Deque, Dict, List, Optional, Tuple, Union
 
 from ..content.charset import printable
 from ..db.parts import MINUTE_BITS, Told
@@ -14,8 +14,9 @@ from .alarms import Alarms, Change, Watched
 from .bits import Packed, bit_source
 from .decoders import NewDecoder
 from .live import Append, LiveSession
-from .receiver import Keeper, Launch
+from .receiver import Keeper
 from .records import AlarmChanged, Record, RunBegan, RunEnded, StateSeen, WatchBegan
+from .shared import Tap
 from .table import StationTable
 from .times import Pace, Timing
 from .writer import Say
@@ -32,10 +33,16 @@ class Station:
     """All times are pairs of the monotonic clock and UTC."""
 
     def __init__(
-        self, table: StationTable, launch: Launch, decoder: NewDecoder, speed: float, now: float, say: Say
+        self,
+        table: StationTable,
+        keeper: Union[Keeper, Tap],
+        decoder: NewDecoder,
+        speed: float,
+        now: float,
+        say: Say,
     ):
         self.table, self._decoder, self._speed, self._say = table, decoder, speed, say
-        self.keeper = Keeper(table.command, table.patience * speed, launch, now)
+        self.keeper = keeper
         self.alarms = Alarms(table, now, speed)
         self._session: Optional[LiveSession] = None
         self._bits: Optional[Packed] = None
@@ -129,7 +136,7 @@ class Station:
                 self._was_ahead = True
                 raise Fault("gave bits faster than real time")
         if bits:
-            self._session.take(bits)
+            self._session.take(bits, self._bits.strength)
 
     def end_session(self, utc: float, goes_on: bool = False) -> None:
         """The session ends here. If the receiver goes on, what it gives from now on is of the next one."""
@@ -267,7 +274,7 @@ class Station:
             "minute": self._last_minute,
             "clock_s": self._clock_s,
             "blocks": dict(self._blocks),
-            "signal": self._bits.report() if self._bits else {},
+            "signal": self._session.strength()._asdict() if self._session else {},
             "alarms": dict(self.alarms.lasting),
             "names": [name for _, name in self._names if name] if self._session else [],
             "counted": self.alarms.counted(),
@@ -276,8 +283,9 @@ class Station:
     def stop(self, steady: float, utc: float, reason: str) -> None:
         """Ends the session; the receiver is asked to end."""
         self.end_session(utc)
+        runs = self.keeper.is_running
         self.keeper.stop(steady, reason)
-        if self.keeper.is_running:
+        if runs:
             self.keeper.reason = reason
             self.records.append(RunEnded(self.name, utc, reason))
         self.records.append(StateSeen(self.name, utc, self.state(utc)))
