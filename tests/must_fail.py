@@ -23,6 +23,8 @@ TABLE = Path(__file__).with_suffix(".edits")
 ITEM = re.compile(r'( *)(?:pub(?:\(crate\))? )?(?:const |extern "C" )*(fn|struct|enum|trait|impl)\b([^({;]*)')
 # An import from a crate of this repository, with its names, unless one is an operator.
 IMPORT = re.compile(r"\s*(?:ghost )?use (?!std::|Rattle\.std\.)[\w.:]*?(\w+|\{[^{}◌]*\});")
+# Derives that stay.
+VALUES = {"Clone", "Copy", "Drop"}
 # Brackets that may follow the last line of a comment, and the first lines of the file that they then close.
 ENDS = {
     "": [""],
@@ -102,14 +104,28 @@ class Edit:
         return "".join(f"file: {file}\nold: {old}\nnew: {new}\n" for file, old, new in self.pairs)
 
     def kept_of_module(self, file: str) -> str:
-        """Leaves out the other items of the module, and imports that only these need. The text that is left."""
+        """Leaves out the other items of the module, and derives and imports that only these need. The text that is left."""
         lines = self.read(file).splitlines()
-        kept = [lines[at] for at in self.places_kept(file, lines)]
+        kept = [
+            lines[at] for at in self.places_kept(file, lines) if not self.leave_out_attribute(file, lines, at)
+        ]
         code = words("\n".join(line for line in kept if not re.match(r"\s*(//|(ghost )?use )", line)))
         unused = [line for line in kept if (found := IMPORT.match(line)) and not words(found[1]) & code]
         for line in unused:
             self.mark(file, line, "// ")
         return "\n".join(line for line in kept if line not in unused)
+
+    def leave_out_attribute(self, file: str, lines: list[str], at: int) -> bool:
+        """Leaves out a text of an error, and each derive but those by which values are copied and let go."""
+        if lines[at].strip().startswith("#[error("):
+            self.mark(file, lines[at], "// ")
+        elif lines[at].startswith("#[derive(") and (other := words(lines[at]) - {"derive"}) - VALUES:
+            # the line may not be the only one of its kind, but those around it are
+            self.mark(file, lines[at - 1], "/* ")
+            self.mark(file, lines[at + 1], f"*/ #[derive({', '.join(sorted(other & VALUES))})] ")
+        else:
+            return False
+        return True
 
     def places_kept(self, file: str, lines: list[str]) -> Iterator[int]:
         """Leaves out the items that do not stay. The numbers of the lines that are left."""
@@ -123,8 +139,20 @@ class Edit:
             if stays:
                 yield from range(at, end + 1)
             else:
-                self.mark(file, lines[at], "#[cfg(test)] ")
+                self.leave_out_item(file, lines[at], lines[end + 1 :])
             at = end + 1
+
+    def leave_out_item(self, file: str, head: str, rest: list[str]) -> None:
+        """Leaves out an item that begins with this line. Of a method with a proof the head, a test, stays: each proof has a function."""
+        name = re.search(r" fn (\w+)", head)
+        proofs = list((self.crate / "proofs" / self.module).glob(f"*/{name[1]}/*.antt")) if name else []
+        if not proofs:
+            return self.mark(file, head, "#[cfg(test)] ")
+        self.replace(file, head, f"{head} {{ false }} /*")
+        self.mark(file, next(filter(None, rest)), "*/ ")
+        for proof in (str(path.relative_to(self.crate)) for path in proofs):
+            for old, new in comment(self.read(proof)):
+                self.replace(proof, old, new)
 
     def needed(self, texts: list[str]) -> set[str]:
         """The specs and lemmas that these texts and the proofs of functions that stay import, and those that these import."""

@@ -1,7 +1,6 @@
 pub mod Meetings
 pub mod Outcomes
 pub mod CommandLines
-pub mod TwoParts
 pub mod Rests
 pub mod SoundSignal
 pub mod GapFacts

@@ -126,33 +126,6 @@ fn push_all(
     Ok(())
 }
 
-/// Bytes are offered to a stream, and those that had no room once more, in the same room: once both calls have taken all of
-/// them, the stream has heard all of them. Answers how many they left.
-pub fn offered_again(
-    alloc: Global,
-    bytes: &[u8],
-    gaps: &[RdsGap],
-    rules: RdsRules,
-    stream: &mut RdsStream,
-    room: &mut [RdsItem],
-) -> Result<u64, Refusal>
-    ensures { IfOk result
-        (λ left. left ≡ 0 → (before : List ℕ)
-        → HasHeard (stream_of (terms_of rules gaps.now) stream.old) before
-        → HasHeard (stream_of (terms_of rules gaps.now) stream.new) (before ++ bytes.now)) }
-{
-    let mut taken = 0;
-    let mut count = 0;
-    push(
-        alloc, bytes, gaps, rules, stream, room, &mut taken, &mut count,
-    )?;
-    let rest = &bytes[taken as usize..];
-    push(
-        alloc, rest, gaps, rules, stream, room, &mut taken, &mut count,
-    )?;
-    Ok(rest.len() as u64 - taken)
-}
-
 /// Room for sixteen items is enough to go on, whatever the bytes are.
 pub fn goes_on_in_little_room(
     alloc: Global,

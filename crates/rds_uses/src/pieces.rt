@@ -14,7 +14,7 @@ ghost use Rattle.rds_pieces.specs.Cutting.{IsCutting, pieces_of};
 ghost use Rattle.rds_pieces.specs.Guess.{guess};
 ghost use Rattle.rds_pieces.specs.Marks.{marks_of};
 ghost use Rattle.rds_pieces.specs.Joining.{AreNeighbours};
-ghost use Rattle.rds_pieces.specs.RunOf.{FollowEachOther, end_of, run_at, run_over, runs_of};
+ghost use Rattle.rds_pieces.specs.RunOf.{FollowEachOther, run_at, run_over, runs_of};
 ghost use Rattle.rds_pieces.specs.declared.error.PieceError.TheVariants.{BadCutting, OutOfMemory};
 
 use rds_pieces::{
@@ -23,8 +23,7 @@ use rds_pieces::{
 };
 use rds_stream::{Counted, Recording, Tape};
 use rds_sync::{
-    Decoder, ItemIter, Items, Loss, Report, Rules, State, SyncError, Totals, laws as laws_of_runs,
-    run,
+    Decoder, ItemIter, Items, Loss, Report, Rules, State, Totals, laws as laws_of_runs, run,
 };
 use std::alloc::{AllocError, Global};
 use std::slice;
@@ -113,23 +112,6 @@ pub fn guessed_as_run(recording: &Recording, rules: &Rules, run: &PieceRun) -> b
     decoder.end_state() == run.end_state()
 }
 
-/// It gives as many items.
-pub fn guess_as_long_as_run(
-    alloc: Global,
-    recording: &Recording,
-    rules: &Rules,
-    guess: &PieceRun,
-) -> Result<bool, SyncError>
-    requires source { guess.now.source ≡ recording.now }
-    requires rules { guess.now.rules ≡ rules.now }
-    ensures { IfOk result (λ same. same ≡ true) }
-{
-    let (from, to) = (guess.from(), guess.to());
-    let _len = recording.len();
-    let (_end, items) = run(alloc, recording, rules, State::Searching, from, to)?;
-    Ok(items.len() == guess.list().len())
-}
-
 /// The items of a guess, one after the other, are those of a run from Searching over its range.
 pub fn items_of_guess<'a>(
     recording: &'a Recording,
@@ -149,15 +131,6 @@ pub fn list_of_guess(run: &PieceRun) -> &Items
         (run_of run.now.source run.now.rules Searching run.now.from (run.now.to - run.now.from)).1 }
 {
     run.list()
-}
-
-/// The first mark of a guess is its first place, before which it searches.
-pub fn first_mark(recording: &Recording, rules: &Rules, run: &PieceRun) -> Option<Mark>
-    requires source { run.now.source ≡ recording.now }
-    requires rules { run.now.rules ≡ rules.now }
-    ensures { result ≡ Some (record { place = run.now.from; state = Searching; items = 0 }) }
-{
-    run.marks(recording, rules).next()
 }
 
 /// All marks of a guess: its first place, and the place after each bit that gave an item.
@@ -274,25 +247,8 @@ pub fn met_on_sound_signal(
 
 // ---- joins
 
-/// The guesses of two pieces joined are the guess of the whole recording.
-pub fn joined_guesses(
-    alloc: Global,
-    recording: &Recording,
-    rules: &Rules,
-    cutting: &Cutting,
-) -> Result<PieceRun, PieceError>
-    requires fits { IsCutting (length_of recording.now) cutting.now }
-    requires two { pieces_of cutting.now ≡ 2 }
-    ensures run { IfOk result (λ run. run ≡ run_over recording.now rules.now 0 (length_of recording.now)) }
-    ensures refused { IsOkUnless result OutOfMemory }
-{
-    let work = RecordingWork::new(recording, rules, cutting);
-    let (left, right) = two_guesses(alloc, &work)?;
-    join_guesses(alloc, recording, rules, &left, &right)
-}
-
 /// Two neighbours joined are the guess of both ranges.
-fn join_guesses(
+pub fn join_guesses(
     alloc: Global,
     recording: &Recording,
     rules: &Rules,
@@ -304,47 +260,6 @@ fn join_guesses(
     ensures refused { IsOkUnless result OutOfMemory }
 {
     join_runs(alloc, &mut Counted::new(recording), rules, left, right)
-}
-
-/// A join leaves both runs as they are, so that one can be joined to another neighbour, too.
-pub fn joined_on_both_sides(
-    alloc: Global,
-    recording: &Recording,
-    rules: &Rules,
-    one: &PieceRun,
-    two: &PieceRun,
-    three: &PieceRun,
-) -> Result<(PieceRun, PieceRun), PieceError>
-    requires before { AreNeighbours recording.now rules.now one.now two.now }
-    requires after { AreNeighbours recording.now rules.now two.now three.now }
-    ensures before { IfOk result (λ runs. runs.0 ≡ run_over recording.now rules.now one.now.from two.now.to) }
-    ensures after { IfOk result
-        (λ runs. runs.1 ≡ run_over recording.now rules.now two.now.from three.now.to) }
-{
-    match (
-        join_guesses(alloc, recording, rules, one, two),
-        join_guesses(alloc, recording, rules, two, three),
-    ) {
-        (Ok(before), Ok(after)) => Ok((before, after)),
-        _ => Err(PieceError::OutOfMemory),
-    }
-}
-
-/// A join whose left run ends in a search costs the reach and two windows at most, refused memory or not.
-pub fn join_after_a_search<T: Tape>(
-    alloc: Global,
-    tape: &mut T,
-    rules: &Rules,
-    left: &PieceRun,
-    right: &PieceRun,
-) -> Result<PieceRun, PieceError>
-    requires neighbours { AreNeighbours (T.signal tape.old) rules.now left.now right.now }
-    requires room { T.reads_made tape.old ≤ 2 ^ 62 }
-    requires search { end_of left.now ≡ Searching }
-    ensures { T.reads_made tape.new ≤ T.reads_made tape.old + (rules.now.reach + 2) }
-{
-    right.from();
-    join_runs(alloc, tape, rules, left, right)
 }
 
 /// On sound signal from the cut on, a join costs the windows of 416 bits at most by a loss of ten blocks.
@@ -384,24 +299,6 @@ pub fn cost_of_join<T: Tape>(
 }
 
 // ---- reports
-
-/// The report of a recording in two pieces is that of one decoder.
-pub fn decoded_in_two_pieces(
-    alloc: Global,
-    recording: &Recording,
-    rules: &Rules,
-    cutting: &Cutting,
-) -> Result<Report, PieceError>
-    requires fits { IsCutting (length_of recording.now) cutting.now }
-    requires two { pieces_of cutting.now ≡ 2 }
-    ensures items { IfOk result (λ report. report.items
-        ≡ listed recording.now rules.now (report_items recording.now rules.now)) }
-    ensures totals { IfOk result
-        (λ report. report.totals ≡ totals_of (report_items recording.now rules.now)) }
-    ensures refused { IsOkUnless result OutOfMemory }
-{
-    stitch_pieces(alloc, recording, rules, cutting)
-}
 
 /// The report of a recording in the pieces of a cutting.
 pub(crate) fn stitch_pieces(
