@@ -1,4 +1,3 @@
-pub mod Meetings
 pub mod Outcomes
 pub mod CommandLines
 pub mod Rests

@@ -1,5 +1,5 @@
 //! Facts that a user of lists of items, and of their totals, relies on.
-ghost use Rattle.std.specs.Prelude.{◌≡◌, ◌-◌, ◌+◌, ◌≤◌, ◌^◌, ◌++◌, ◌∷◌, [], IfOk, IfSome, None, Some, drop, false, length, slice_get, slice_range, take, true, vec_capacity};
+ghost use Rattle.std.specs.Prelude.{◌≡◌, ◌-◌, ◌+◌, ◌*◌, ◌≤◌, ◌^◌, ◌++◌, ◌∷◌, [], IfOk, IfSome, None, Some, drop, false, length, slice_get, slice_range, true, vec_capacity};
 ghost use Rattle.rds_stream.specs.Recording.{length_of};
 ghost use Rattle.rds_sync.specs.Advance.{group_item};
 ghost use Rattle.rds_sync.specs.Counting.{IsAtMost, IsRest, plus};
@@ -174,7 +174,8 @@ pub fn list_in_a_part(items: ItemIter<'_>, part: &mut Vec<Item>) -> bool
 /// The totals of two parts, which are small enough to be added up.
 pub fn totals_of_parts(one: &[Item], other: &[Item]) -> Totals
     requires { length one.now + length other.now ≤ 2 ^ 37 }
-    ensures { result ≡ plus (totals_of one.now) (totals_of other.now) }
+    ensures value { result ≡ plus (totals_of one.now) (totals_of other.now) }
+    ensures small { IsAtMost (2 ^ 10 * length one.now + 2 ^ 10 * length other.now) result }
 {
     Totals::of(one).plus(Totals::of(other))
 }
@@ -214,16 +215,4 @@ pub fn rest_and_all(all: Totals, part: Totals) -> Totals
     ensures { (rest : TheTotals) → IsRest part all rest → result ≡ plus rest all }
 {
     all.less(part).plus(all)
-}
-
-/// Three lists are not too long for the sum of their totals.
-pub fn totals_of_three(items: &[Item], first: usize) -> Totals
-    requires within { first ≤ length items.now }
-    requires few { length items.now ≤ 2 ^ 37 }
-    ensures { result ≡ plus (plus (totals_of items.now) (totals_of items.now))
-        (totals_of (take first items.now)) }
-{
-    Totals::of(items)
-        .plus(Totals::of(items))
-        .plus(Totals::of(&items[..first]))
 }

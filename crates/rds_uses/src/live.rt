@@ -3,6 +3,7 @@ ghost use Rattle.std.specs.Prelude.{◌≡◌, ◌<◌, ◌↔◌, ◌+◌, ◌*
 ghost use Rattle.rds_stream.specs.Recording.{AreGaps};
 ghost use Rattle.rds_sync.specs.Advance.{group_item};
 ghost use Rattle.rds_sync.specs.Totals.{totals_of};
+ghost use Rattle.rds_live.specs.Next.{completed, live_next};
 ghost use Rattle.rds_live.specs.StreamDecoder.{HasHeard, by_rules, complete, live_of, report_of};
 
 use rds_live::{ResumeError, StreamDecoder, StreamEnd};
@@ -57,7 +58,7 @@ pub fn anew<'r>(
 }
 
 /// As many bytes are taken as the vector has room for, and heard; it then has the items that they complete. A chunk that goes past
-/// 2^36 bits is refused, and was not heard.
+/// 2^36 bits is refused, and was not heard. Of any lawful numbers, even those of no stream, the next ones and the items are told too.
 pub fn taken(
     live: &mut StreamDecoder<'_>,
     bytes: &[u8],
@@ -73,6 +74,8 @@ pub fn taken(
     ensures refused { OnErr result ((live.new ≡ live.old) × (items.new ≡ items.old)) }
     ensures too_long { IsErrOf result StreamError.TooLong
         ↔ (2 ^ 36 < live.old.place + 8 * length bytes.now) }
+    ensures next { IfOk result (λ count. live.new ≡ live_next live.old (take count bytes.now)) }
+    ensures completed { IfOk result (λ count. items.new.items ≡ completed live.old (take count bytes.now)) }
 {
     live.take(bytes, items)
 }

@@ -1,6 +1,6 @@
 //! Facts that a user of `rds_pieces` relies on: cuttings, guesses, seams, joins, and the report that is
 //! stitched of them.
-ghost use Rattle.std.specs.Prelude.{◌≡◌, ℕ, ◌+◌, ◌-◌, ◌*◌, ◌<◌, ◌≤◌, ◌^◌, ◌++◌, ◌∷◌, [], IfOk, IsOkUnless, OnErr, OnOk, Some, length, slice_index, true};
+ghost use Rattle.std.specs.Prelude.{◌≡◌, ℕ, ◌+◌, ◌-◌, ◌*◌, ◌<◌, ◌≤◌, ◌^◌, ◌++◌, ◌∷◌, [], IfOk, IsOkUnless, OnOk, Option, Some, slice_index, true};
 ghost use Rattle.rds_stream.specs.Recording.{length_of};
 ghost use Rattle.rds_sync.specs.declared.state.State.TheVariants.{Searching};
 ghost use Rattle.rds_sync.specs.declared.loss.Loss.TheVariants.{Run};
@@ -14,7 +14,9 @@ ghost use Rattle.rds_pieces.specs.Cutting.{IsCutting, pieces_of};
 ghost use Rattle.rds_pieces.specs.Guess.{guess};
 ghost use Rattle.rds_pieces.specs.Marks.{marks_of};
 ghost use Rattle.rds_pieces.specs.Joining.{AreNeighbours};
+ghost use Rattle.rds_pieces.specs.Meeting.{IsMeeting, distance};
 ghost use Rattle.rds_pieces.specs.RunOf.{FollowEachOther, run_at, run_over, runs_of};
+ghost use Rattle.rds_pieces.specs.Seams.{IsSumOfReads};
 ghost use Rattle.rds_pieces.specs.declared.error.PieceError.TheVariants.{BadCutting, OutOfMemory};
 
 use rds_pieces::{
@@ -185,27 +187,8 @@ pub fn carried_on<'a>(
     Ok((before, seam))
 }
 
-/// A seam that comes from a search meets the guess at once, and costs the reach and two windows more at most, refused
-/// memory or not.
-pub fn met_at_once<T: Tape>(
-    alloc: Global,
-    tape: &mut T,
-    rules: &Rules,
-    run: &PieceRun,
-) -> Result<Seam, PieceError>
-    requires source { run.now.source ≡ T.signal tape.old }
-    requires rules { run.now.rules ≡ rules.now }
-    requires room { T.reads_made tape.old ≤ 2 ^ 62 }
-    ensures met { IfOk result (λ seam. seam.met_at ≡ Some run.now.from) }
-    ensures reads { OnOk result (T.reads_made tape.new ≤ T.reads_made tape.old + (rules.now.reach + 2)) }
-    ensures refused { OnErr result (T.reads_made tape.new ≤ T.reads_made tape.old + (rules.now.reach + 2)) }
-{
-    run.from();
-    seam(alloc, tape, rules, State::Searching, run)
-}
-
-/// The cost of any seam, refused memory or not: no more windows than its piece has places for; the tape is of
-/// the same bits.
+/// A seam tells the least place where it meets the guess, or that there is none. It reads as many windows as the bits to there cost, without
+/// memory too, and no more than its piece has places for. The tape is of the same bits.
 pub fn cost_of_seam<T: Tape>(
     alloc: Global,
     tape: &mut T,
@@ -217,8 +200,16 @@ pub fn cost_of_seam<T: Tape>(
     requires source { run.now.source ≡ T.signal tape.old }
     requires rules { run.now.rules ≡ rules.now }
     requires room { T.reads_made tape.old ≤ 2 ^ 62 }
+    ensures met { IfOk result (λ seam. IsMeeting (T.signal tape.old) rules.now state Searching run.now.from
+        run.now.to seam.met_at) }
+    ensures reads { IfOk result (λ seam. T.reads_made tape.new
+        ≤ T.reads_made tape.old + (rules.now.reach + 2) * (distance run.now.from run.now.to seam.met_at + 1)) }
     ensures refused { IsOkUnless result OutOfMemory }
-    ensures reads { T.reads_made tape.new
+    ensures reads_way { (met : Option ℕ) → IsMeeting (T.signal tape.old) rules.now state Searching run.now.from
+        run.now.to met
+        → T.reads_made tape.new
+        ≤ T.reads_made tape.old + (rules.now.reach + 2) * (distance run.now.from run.now.to met + 1) }
+    ensures reads_most { T.reads_made tape.new
         ≤ T.reads_made tape.old + (rules.now.reach + 2) * (run.now.to - run.now.from + 1) }
     ensures same { T.signal tape.new ≡ T.signal tape.old }
 {
@@ -337,9 +328,8 @@ fn guesses(
     Ok(runs)
 }
 
-/// A recording in one piece is stitched at the cost of one seam that meets at once, and of its end; it costs
-/// no more if it is refused memory.
-pub fn cost_of_one_piece<T: Tape>(
+/// To stitch runs in a row costs the windows of their seams and three more, without memory too; the tape is of the same bits.
+pub fn cost_of_report<T: Tape>(
     alloc: Global,
     tape: &mut T,
     rules: &Rules,
@@ -347,11 +337,11 @@ pub fn cost_of_one_piece<T: Tape>(
 ) -> Result<Report, PieceError>
     requires in_a_row { FollowEachOther (T.signal tape.old) rules.now 0 (length_of (T.signal tape.old))
         runs.now }
-    requires one { length runs.now ≡ 1 }
     requires room { T.reads_made tape.old ≤ 2 ^ 61 }
-    ensures reads { OnOk result (T.reads_made tape.new ≤ T.reads_made tape.old + (rules.now.reach + 2) + 3) }
-    ensures refused { OnErr result
-        (T.reads_made tape.new ≤ T.reads_made tape.old + (rules.now.reach + 2) + 3) }
+    ensures reads { IfOk result (λ _. (n : ℕ) × IsSumOfReads (T.signal tape.old) rules.now Searching runs.now n
+        × (T.reads_made tape.new ≤ T.reads_made tape.old + n + 3)) }
+    ensures reads_way { (n : ℕ) → IsSumOfReads (T.signal tape.old) rules.now Searching runs.now n
+        → T.reads_made tape.new ≤ T.reads_made tape.old + n + 3 }
     ensures same { T.signal tape.new ≡ T.signal tape.old }
 {
     stitch(alloc, tape, rules, runs)
