@@ -1,6 +1,6 @@
 //! Facts that a user of `rds_pieces` relies on: cuttings, guesses, seams, joins, and the report that is
 //! stitched of them.
-ghost use Rattle.std.specs.Prelude.{◌≡◌, ℕ, ◌+◌, ◌-◌, ◌*◌, ◌<◌, ◌≤◌, ◌^◌, ◌++◌, ◌∷◌, [], IfOk, IsOkUnless, OnOk, Option, Some, slice_index, true};
+ghost use Rattle.std.specs.Prelude.{◌≡◌, ℕ, ◌+◌, ◌-◌, ◌*◌, ◌<◌, ◌≤◌, ◌^◌, ◌++◌, ◌∷◌, [], IfOk, IsOkUnless, OnOk, Option, Some, true};
 ghost use Rattle.rds_stream.specs.Recording.{length_of};
 ghost use Rattle.rds_sync.specs.declared.state.State.TheVariants.{Searching};
 ghost use Rattle.rds_sync.specs.declared.loss.Loss.TheVariants.{Run};
@@ -24,9 +24,7 @@ use rds_pieces::{
     speculate, stitch,
 };
 use rds_stream::{Counted, Recording, Tape};
-use rds_sync::{
-    Decoder, ItemIter, Items, Loss, Report, Rules, State, Totals, laws as laws_of_runs, run,
-};
+use rds_sync::{Decoder, ItemIter, Items, Loss, Report, Rules, State, Totals, run};
 use std::alloc::{AllocError, Global};
 use std::slice;
 use std::snapshot::Snapshot;
@@ -87,22 +85,6 @@ pub fn bits_beyond_pieces(recording: &Recording, cutting: &Cutting) -> u64
 
 // ---- guesses
 
-/// The guess of the second of two pieces: its range, and a mark at its first place.
-pub fn second_guess(
-    alloc: Global,
-    recording: &Recording,
-    rules: &Rules,
-    cutting: &Cutting,
-) -> Result<PieceRun, PieceError>
-    requires fits { IsCutting (length_of recording.now) cutting.now }
-    requires two { pieces_of cutting.now ≡ 2 }
-    ensures run { IfOk result (λ run. run
-        ≡ run_over recording.now rules.now (slice_index cutting.now 1) (slice_index cutting.now 2)) }
-    ensures refused { IsOkUnless result OutOfMemory }
-{
-    speculate(alloc, recording, rules, cutting, 1)
-}
-
 /// A guess ends as a run from Searching over its range does.
 pub fn guessed_as_run(recording: &Recording, rules: &Rules, run: &PieceRun) -> bool
     requires source { run.now.source ≡ recording.now }
@@ -160,36 +142,9 @@ pub fn totals_of_guess(run: &PieceRun) -> Totals
 
 // ---- seams
 
-/// A seam goes on where the run before it stopped: both together are one run, from the first bit to the
-/// piece's end.
-pub fn carried_on<'a>(
-    alloc: Global,
-    recording: &'a Recording,
-    rules: &'a Rules,
-    run: &PieceRun,
-) -> Result<(Decoder<'a>, Seam), PieceError>
-    requires source { run.now.source ≡ recording.now }
-    requires rules { run.now.rules ≡ rules.now }
-    ensures source { IfOk result (λ both. both.1.items ≡ listed recording.now rules.now both.1.items.list) }
-    ensures items { IfOk result (λ both. both.0.items ++ both.1.items.list
-        ≡ (run_of recording.now rules.now Searching 0 run.now.to).1) }
-    ensures end { IfOk result
-        (λ both. both.1.end_state ≡ (run_of recording.now rules.now Searching 0 run.now.to).0) }
-    ensures totals { IfOk result (λ both. both.1.totals ≡ totals_of both.1.items.list) }
-{
-    let _loss = rules.loss();
-    laws_of_runs::runs_join();
-    laws_of_runs::runs_are_lawful();
-    let from = run.from();
-    let before = Decoder::new(recording, rules, State::Searching, 0, from);
-    let state = Decoder::new(recording, rules, State::Searching, 0, from).end_state();
-    let seam = seam(alloc, &mut Counted::new(recording), rules, state, run)?;
-    Ok((before, seam))
-}
-
-/// A seam tells the least place where it meets the guess, or that there is none. It reads as many windows as the bits to there cost, without
+/// A seam is the run from the state handed in, and tells the least place where it meets the guess, or that there is none. It reads as many windows as the bits to there cost, without
 /// memory too, and no more than its piece has places for. The tape is of the same bits.
-pub fn cost_of_seam<T: Tape>(
+pub fn run_and_cost_of_seam<T: Tape>(
     alloc: Global,
     tape: &mut T,
     rules: &Rules,
@@ -200,6 +155,12 @@ pub fn cost_of_seam<T: Tape>(
     requires source { run.now.source ≡ T.signal tape.old }
     requires rules { run.now.rules ≡ rules.now }
     requires room { T.reads_made tape.old ≤ 2 ^ 62 }
+    ensures items { IfOk result (λ seam. seam.items ≡ listed (T.signal tape.old) rules.now
+        (run_of (T.signal tape.old) rules.now state run.now.from (run.now.to - run.now.from)).1) }
+    ensures totals { IfOk result (λ seam. seam.totals
+        ≡ totals_of (run_of (T.signal tape.old) rules.now state run.now.from (run.now.to - run.now.from)).1) }
+    ensures end { IfOk result (λ seam. seam.end_state
+        ≡ (run_of (T.signal tape.old) rules.now state run.now.from (run.now.to - run.now.from)).0) }
     ensures met { IfOk result (λ seam. IsMeeting (T.signal tape.old) rules.now state Searching run.now.from
         run.now.to seam.met_at) }
     ensures reads { IfOk result (λ seam. T.reads_made tape.new
@@ -238,21 +199,6 @@ pub fn met_on_sound_signal(
 
 // ---- joins
 
-/// Two neighbours joined are the guess of both ranges.
-pub fn join_guesses(
-    alloc: Global,
-    recording: &Recording,
-    rules: &Rules,
-    left: &PieceRun,
-    right: &PieceRun,
-) -> Result<PieceRun, PieceError>
-    requires { AreNeighbours recording.now rules.now left.now right.now }
-    ensures run { IfOk result (λ run. run ≡ run_over recording.now rules.now left.now.from right.now.to) }
-    ensures refused { IsOkUnless result OutOfMemory }
-{
-    join_runs(alloc, &mut Counted::new(recording), rules, left, right)
-}
-
 /// On sound signal from the cut on, a join costs the windows of 416 bits at most by a loss of ten blocks.
 pub fn join_on_sound_signal<T: Tape>(
     alloc: Global,
@@ -271,7 +217,7 @@ pub fn join_on_sound_signal<T: Tape>(
     join_runs(alloc, tape, rules, left, right)
 }
 
-/// The cost of any join, refused memory or not: no more windows than the right run has places for.
+/// Two neighbours joined are the guess of both ranges. That costs, refused memory or not, no more windows than the right run has places for.
 pub fn cost_of_join<T: Tape>(
     alloc: Global,
     tape: &mut T,
@@ -281,6 +227,7 @@ pub fn cost_of_join<T: Tape>(
 ) -> Result<PieceRun, PieceError>
     requires neighbours { AreNeighbours (T.signal tape.old) rules.now left.now right.now }
     requires room { T.reads_made tape.old ≤ 2 ^ 62 }
+    ensures run { IfOk result (λ run. run ≡ run_over (T.signal tape.old) rules.now left.now.from right.now.to) }
     ensures refused { IsOkUnless result OutOfMemory }
     ensures reads { T.reads_made tape.new
         ≤ T.reads_made tape.old + (rules.now.reach + 2) * (right.now.to - right.now.from + 1) }

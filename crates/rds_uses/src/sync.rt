@@ -295,30 +295,19 @@ pub fn decoded_in_two<'a>(
     (first, second, group)
 }
 
-/// Runs that once are in one state end in one state.
-pub fn merged_ends(
-    recording: &Recording,
-    rules: &Rules,
-    states: (State, State),
-    from: u64,
-    middle: u64,
-) -> (State, State)
-    requires one { IsLawful rules.now from states.0 }
-    requires other { IsLawful rules.now from states.1 }
-    requires order { from ≤ middle }
-    requires within { middle ≤ length_of recording.now }
-    requires met { (run_of recording.now rules.now states.0 from (middle - from)).0
-        ≡ (run_of recording.now rules.now states.1 from (middle - from)).0 }
-    ensures { result.0 ≡ result.1 }
+/// Runs that once are in one state stay so.
+pub fn merged_ends(recording: &Recording, rules: &Rules, from: u64, middle: u64, to: u64)
+    requires before { from ≤ middle }
+    requires after { middle ≤ to }
+    ensures { (s t : AState) → (run_of recording.now rules.now s from (middle - from)).0
+        ≡ (run_of recording.now rules.now t from (middle - from)).0
+        → (run_of recording.now rules.now s from (to - from)).0
+        ≡ (run_of recording.now rules.now t from (to - from)).0 }
 {
     laws::runs_merge();
-    let len = recording.len();
-    let one = Decoder::new(recording, rules, states.0, from, len);
-    let other = Decoder::new(recording, rules, states.1, from, len);
-    (one.end_state(), other.end_state())
 }
 
-/// There is such an end within a sound range, whoever runs.
+/// Over a sound range the runs from all lawful states come into one state, at a place within it.
 pub fn has_one_end(recording: &Recording, rules: &Rules, from: u64)
     ensures { (j p c : ℕ) → IsSound recording.now rules.now j from p c
         → (to : ℕ) × (to ≤ from + sound_bits rules.now.loss j)
