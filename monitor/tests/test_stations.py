@@ -140,8 +140,10 @@ def test_the_picture(capture: bytes) -> None:
 
 
 def test_no_station() -> None:
-    done = monitor("stations", *SHOWN, data=bytes(4 * RATE // 8))
-    assert done.returncode == 1 and done.stdout == b"" and b"no station was found" in done.stderr
+    silence = bytes(4 * RATE // 8)
+    for more, shown in (([], b""), (["--html"], b"0 stations in 0.6 MHz")):
+        done = monitor("stations", *SHOWN, *more, data=silence)
+        assert done.returncode == 1 and shown in done.stdout and b"no station was found" in done.stderr
     assert b"--raw needs --rate" in monitor("stations", "--raw", "u8").stderr
 
 
