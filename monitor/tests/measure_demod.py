@@ -1,7 +1,7 @@
 #!/usr/bin/env python3
 """Measures the demodulator, and prints the tables of docs/ACCURACY.md and docs/PERFORMANCE.md. It takes minutes.
 
-    RDS=build/rds monitor/tests/measure_demod.py [--only noise levels jumps multipath time stations] [--seed 1]
+    RDS=build/rds monitor/tests/measure_demod.py [--only noise levels jumps neighbour multipath time stations] [--seed 1]
 """
 
 from __future__ import annotations
@@ -13,7 +13,7 @@ import tempfile
 from typing import Any, Callable, Dict, List, NamedTuple, Sequence, Tuple
 
 import numpy
-from captures import Sent, alone, captured
+from captures import NARROW, Sent, alone, captured
 from conftest import COMMAND, encode, rds
 from made import peak_memory
 from modulator import Array, dropped, iq, mpx, stored, wav, words
@@ -85,6 +85,17 @@ def multipath(seed: int, paths: List[Tuple[float, float, float, float]], cnr: fl
     return [right(groups, signal, rate, equalise=value) for value in (False, True)]
 
 
+def neighbour(seed: int, level: float) -> List[Any]:
+    """Without it, with one 200 kHz away and 20 dB stronger, and without it by 1 dB more noise."""
+    groups, rate, seconds = words(seed, 48), 2 * NARROW, 4.0
+    sent = [Sent(0.0, encode(groups)), Sent(200e3, encode(words(seed + 1, 48)), 20.0)]
+    signals = [alone(one, seconds, seed + number) for number, one in enumerate(sent)]
+    return [
+        right(groups, captured(sent[:count], rate, seconds, noise_level, signals[:count]), rate)
+        for count, noise_level in ((1, level), (2, level), (1, level + 1))
+    ]
+
+
 class Table(NamedTuple):
     columns: Sequence[str]
     row: Callable[..., List[Any]]
@@ -120,6 +131,11 @@ TABLES = {
             )
             for cnr in ratios
         },
+    ),
+    "neighbour": Table(
+        ("carrier to noise", "alone", "beside the neighbour", "alone, 1 dB more noise"),
+        neighbour,
+        {f"{-level} dB": (level,) for level in (-14, -12, -11)},
     ),
     "multipath": Table(
         ("second path | carrier to noise", "without equaliser", "with it"),

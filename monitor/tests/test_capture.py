@@ -2,6 +2,7 @@
 
 from __future__ import annotations
 
+import importlib
 from typing import List, Set, Tuple
 
 import numpy
@@ -11,7 +12,7 @@ from conftest import encode
 from measure_demod import Words, bits_of, received, whole_groups
 from modulator import Array, words
 
-from rds_monitor.signal import filters
+from rds_monitor.signal import filters, transforms
 from rds_monitor.signal.receiver import Capture
 
 RATE, SECONDS, NOISE = 2400000, 1.9, -60.0
@@ -76,14 +77,39 @@ def two() -> Array:
     return captured(stations, 600000, SECONDS, NOISE)
 
 
-@pytest.mark.xdist_group("capture")
-def test_numpy_without_scipy(two: Array, monkeypatch: pytest.MonkeyPatch) -> None:
-    def found() -> List[Set[Words]]:
+@pytest.fixture(scope="module")
+def by_numpy(two: Array) -> List[Set[Words]]:
+    with pytest.MonkeyPatch.context() as patch:
+        patch.setattr(filters, "transforms", lambda: numpy.fft)
         return groups_in(Capture(600000, True, 1.0, [-150e3, 170e3]), two)
 
-    usual = found()
-    monkeypatch.setattr(filters, "transforms", lambda: numpy.fft)
-    assert found() == usual and min(map(len, usual)) >= 18
+
+@pytest.mark.xdist_group("capture")
+@pytest.mark.parametrize("module", ["pyfftw", "scipy.fft"])
+def test_the_same_groups_by_each_module(
+    two: Array, by_numpy: List[Set[Words]], module: str, monkeypatch: pytest.MonkeyPatch
+) -> None:
+    pytest.importorskip(module)
+    known = transforms.Fftw() if module == "pyfftw" else importlib.import_module(module)
+    monkeypatch.setattr(filters, "transforms", lambda: known)
+    assert groups_in(Capture(600000, True, 1.0, [-150e3, 170e3]), two) == by_numpy
+    assert min(map(len, by_numpy)) >= 18
+
+
+def test_the_first_module_that_is_installed(monkeypatch: pytest.MonkeyPatch) -> None:
+    there = ["numpy.fft", "scipy.fft", "pyfftw"]
+
+    def found(name: str) -> str:
+        if name not in there:
+            raise ImportError(name)
+        return name
+
+    monkeypatch.setattr(transforms.importlib, "import_module", found)
+    chosen = transforms.transforms.__wrapped__
+    assert isinstance(chosen(), transforms.Fftw)
+    for name in ("scipy.fft", "numpy.fft"):
+        there.pop()
+        assert chosen() == name
 
 
 @pytest.mark.xdist_group("capture")

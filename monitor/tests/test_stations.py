@@ -9,11 +9,11 @@ from pathlib import Path
 from typing import Any, Dict, List
 
 import pytest
-from captures import PROGRAMMES, SMALL_RATE, SMALL_SECONDS, small_capture
+from captures import PROGRAMMES, SMALL_RATE, SMALL_SECONDS, Sent, captured, small_capture
 from conftest import monitor
 from made import peak_memory, run
 from measure_demod import whole_groups
-from modulator import wav
+from modulator import stored, wav
 
 from rds_monitor.rows.items import Fault
 from rds_monitor.signal.centre import centre_in_name, frequency_of, frequency_text, sigmf_of
@@ -140,12 +140,24 @@ def test_the_picture(capture: bytes) -> None:
 
 
 def test_no_station() -> None:
-    done = monitor("stations", *SHOWN, data=bytes(4 * RATE // 8))
-    assert done.returncode == 1 and done.stdout == b"" and b"no station was found" in done.stderr
+    silence = bytes(4 * RATE // 8)
+    for more, shown in (([], b""), (["--html"], b"0 stations in 0.6 MHz")):
+        done = monitor("stations", *SHOWN, *more, data=silence)
+        assert done.returncode == 1 and shown in done.stdout and b"no station was found" in done.stderr
     assert b"--raw needs --rate" in monitor("stations", "--raw", "u8").stderr
 
 
 # ---- errors
+
+
+def test_stations_without_rds() -> None:
+    """An input without end is not read on after the seconds in which none was found."""
+    quiet = stored(captured([Sent(50e3, b"")], RATE, SECONDS, -60), "s16")
+    for times in (1, 4):
+        done = monitor("demod", *RAW, data=times * quiet)
+        assert done.returncode == 1 and done.stdout == b""
+        assert done.stderr == b"rds-monitor demod: no station with RDS was found\n"
+
 
 FAULTS = [
     (["--at", "98.1M"], "the centre of the capture is not known: name it by --centre"),

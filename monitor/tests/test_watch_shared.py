@@ -109,7 +109,7 @@ def test_thirty_stations_of_two_receivers(tmp_path: Path) -> None:
 
 
 def few(count: int, more: str = "") -> str:
-    """A table of a receiver with so many stations."""
+    """A table of a receiver with this number of stations."""
     lines = (
         stations(f'name = "A{n}"', 'receiver = "north"', f"frequency = {96.5 + 0.4 * n}")
         for n in range(count)

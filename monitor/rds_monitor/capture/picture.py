@@ -2,8 +2,9 @@
 
 from __future__ import annotations
 
+import math
 from html import escape
-from typing import List, Sequence
+from typing import Iterator, Sequence
 
 import numpy
 
@@ -12,7 +13,8 @@ from ..signal.found import Spectrum
 from ..signal.samples import Reals
 from ..signal.several import Tuning
 
-WIDTH, HEIGHT, FOOT = 1200, 320, 24
+WIDTH, HEIGHT, LINE = 1200, 320, 12
+LINES = 3  # of names beside each other, since stations may be near
 RANGE_DB = 10.0  # between two lines
 STYLE = """
 .spectrum polyline { fill: none; stroke: var(--missing); stroke-width: 1; vector-effect: non-scaling-stroke; }
@@ -37,41 +39,52 @@ def picture_of(
         f'<!DOCTYPE html>\n<html lang="en"><head><meta charset="utf-8"><title>{escape(title)}</title>\n'
         f'<meta http-equiv="Content-Security-Policy" content="{policy}">\n'
         f'<meta name="viewport" content="width=device-width, initial-scale=1">\n<style>{css}</style></head>\n'
-        f'<body><h1>{escape(title)}</h1>\n<div class="chart spectrum">{_drawn(spectrum, tuning, marks, rows)}</div>\n'
+        f'<body><h1>{escape(title)}</h1>\n<div class="chart spectrum">{_drawn(spectrum, marks, rows)}</div>\n'
         f'<div class="wide">{_table(head, rows)}</div></body></html>\n'
     )
 
 
-def _drawn(spectrum: Spectrum, tuning: Tuning, marks: Sequence[float], rows: Sequence[Sequence[str]]) -> str:
-    power = 10 * numpy.log10(numpy.maximum(_fewer(spectrum.power), 1e-20))
-    top, bottom = (
-        RANGE_DB * float(numpy.ceil(power.max() / RANGE_DB)),
-        RANGE_DB * float(numpy.floor(power.min() / RANGE_DB)),
-    )
-    span = float(spectrum.offsets[-1] - spectrum.offsets[0])
+class Drawing:
+    """The parts of the picture, in its own units."""
 
-    def x(offset: float) -> float:
-        return WIDTH * (offset - float(spectrum.offsets[0])) / span
+    def __init__(self, spectrum: Spectrum):
+        self._decibels = 10 * numpy.log10(numpy.maximum(_fewer(spectrum.power), 1e-20))
+        self._first, last = float(spectrum.offsets[0]), float(spectrum.offsets[-1])
+        self._span = last - self._first
+        self._bottom = RANGE_DB * math.floor(float(self._decibels.min()) / RANGE_DB)
+        top = RANGE_DB * math.ceil(float(self._decibels.max()) / RANGE_DB)
+        self._top = max(top, self._bottom + RANGE_DB)
 
-    def y(decibels: float) -> float:
-        return HEIGHT * (top - decibels) / (top - bottom)
+    def _y(self, decibels: float) -> float:
+        return HEIGHT * (self._top - decibels) / (self._top - self._bottom)
 
-    parts: List[str] = []
-    for level in numpy.arange(bottom, top + 1, RANGE_DB):
-        parts.append(f'<line x1="0" x2="{WIDTH}" y1="{y(level):.1f}" y2="{y(level):.1f}"/>')
-        parts.append(f'<text x="2" y="{max(11.0, y(level) - 2):.1f}">{level:g} dB</text>')
-    for offset, row in zip(marks, rows):
-        at = x(offset)
-        parts.append(f'<line class="mark" x1="{at:.1f}" x2="{at:.1f}" y1="0" y2="{HEIGHT}"/>')
-        parts.append(f'<text x="{at:.1f}" y="{HEIGHT + 14}" text-anchor="middle">{escape(row[0])}</text>')
-        name = row[-1].strip() if row[-1] != "-" else row[-2]
-        parts.append(f'<text x="{at + 3:.1f}" y="11">{escape(name)}</text>')
-    points = " ".join(
-        f"{WIDTH * n / (power.size - 1):.1f},{y(level):.1f}" for n, level in enumerate(power.tolist())
-    )
+    def grid(self) -> Iterator[str]:
+        for level in numpy.arange(self._bottom, self._top + 1, RANGE_DB).tolist():
+            y = self._y(level)
+            yield f'<line x1="0" x2="{WIDTH}" y1="{y:.1f}" y2="{y:.1f}"/>'
+            yield f'<text x="2" y="{max(11.0, y - 2):.1f}">{level:g} dB</text>'
+
+    def marks(self, offsets: Sequence[float], rows: Sequence[Sequence[str]]) -> Iterator[str]:
+        """A line per station, with the frequency, and the PS or else the PI."""
+        for number, (offset, row) in enumerate(zip(offsets, rows)):
+            x, below = WIDTH * (offset - self._first) / self._span, LINE * (1 + number % LINES)
+            name = row[-1].strip() if row[-1] != "-" else row[-2]
+            yield f'<line class="mark" x1="{x:.1f}" x2="{x:.1f}" y1="0" y2="{HEIGHT}"/>'
+            yield f'<text x="{x:.1f}" y="{HEIGHT + below}" text-anchor="middle">{escape(row[0])}</text>'
+            yield f'<text x="{x + 3:.1f}" y="{below}">{escape(name)}</text>'
+
+    def line(self) -> str:
+        step, levels = WIDTH / (self._decibels.size - 1), self._decibels.tolist()
+        points = " ".join(f"{step * n:.1f},{self._y(level):.1f}" for n, level in enumerate(levels))
+        return f'<polyline points="{points}"/>'
+
+
+def _drawn(spectrum: Spectrum, marks: Sequence[float], rows: Sequence[Sequence[str]]) -> str:
+    drawing = Drawing(spectrum)
+    parts = "".join([*drawing.grid(), *drawing.marks(marks, rows), drawing.line()])
     label = f"the mean power by frequency, in dB of full scale, with {len(rows)} stations"
-    shape = f'viewBox="0 0 {WIDTH} {HEIGHT + FOOT}" role="img" aria-label="{escape(label)}"'
-    return f'<svg {shape}>{"".join(parts)}<polyline points="{points}"/></svg>'
+    shape = f'viewBox="0 0 {WIDTH} {HEIGHT + LINE * LINES + 4}" role="img" aria-label="{escape(label)}"'
+    return f"<svg {shape}>{parts}</svg>"
 
 
 def _fewer(power: Reals) -> Reals:

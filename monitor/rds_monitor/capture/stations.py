@@ -73,7 +73,7 @@ def options_stations(parser: argparse.ArgumentParser) -> None:
     text = "samples per second: of raw samples, or in place of the header's"
     parser.add_argument("--rate", type=int, metavar="N", help=text)
     parser.add_argument("--centre", type=hertz, metavar="HZ", help="the frequency of the centre, such as 98M")
-    text = "look at so many seconds (%(default)g)"
+    text = "look at this many seconds (%(default)g)"
     parser.add_argument("--seconds", type=number_of, default=SECONDS, metavar="N", help=text)
     form = parser.add_mutually_exclusive_group()
     form.add_argument("--json", action="store_true", help="a line of JSON per station")

@@ -2,29 +2,19 @@
 
 from __future__ import annotations
 
-import importlib
 import math
 from fractions import Fraction
-from functools import lru_cache
-from typing import Any, Callable, Iterator, List, Optional, Sequence, Union
+from typing import Callable, Iterator, List, Optional, Sequence, Union
 
 import numpy
 
 from .samples import Complexes, Reals, Signal
+from .transforms import transforms
 
 OVERLAPS = 32  # of which a block has the length
 
 # Told the spectrum of each block.
 Watcher = Callable[[Signal], None]
-
-
-@lru_cache(None)
-def transforms() -> Any:
-    """The module with `fft` and `ifft`: scipy's has single precision and several rows at once, which takes half the time."""
-    try:
-        return importlib.import_module("scipy.fft")
-    except ImportError:
-        return numpy.fft
 
 
 def at_least(number: Union[float, Fraction]) -> int:

@@ -254,4 +254,6 @@ class Capture:
             self._channels.bands = [self._channels.bands[number] for number in numbers]
 
     def _bits(self, signals: Sequence[Signal]) -> List[Bits]:
+        if not signals[0].size:
+            return [numpy.zeros(0, "u1")] * len(self.receivers)
         return [receiver.push(signal[0]) for receiver, signal in zip(self.receivers, signals)]

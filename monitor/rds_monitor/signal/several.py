@@ -184,6 +184,8 @@ class TunedStations:
         self._waits = False
         kept = with_rds(self._capture, self._offsets)
         self.stations = [self.stations[number] for number in kept]
+        if not kept:
+            raise Fault("no station with RDS was found")
         self._capture.keep(kept)
         self._open()
 
@@ -241,5 +243,5 @@ def run_stations(source: SampleSource, arguments: argparse.Namespace) -> int:
             if station.name in tellers:
                 tellers[station.name].end(station.report())
     if not any(station.has_rds for station in stations.stations):
-        raise Fault("no RDS was found at any frequency" if arguments.at else "no station with RDS was found")
+        raise Fault("no RDS was found at any frequency")
     return 0

@@ -112,7 +112,8 @@ class Tap:
     @property
     def is_running(self) -> bool:
         """For a station that left while others go on, it does not."""
-        return self._shared.keeper.is_running and self._shared.is_stopped >= self.is_stopped
+        goes_on_without = self.is_stopped and not self._shared.is_stopped
+        return self._shared.keeper.is_running and not goes_on_without
 
     @property
     def is_stopping(self) -> bool:
