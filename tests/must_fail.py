@@ -148,6 +148,10 @@ class Edit:
         proofs = list((self.crate / "proofs" / self.module).glob(f"*/{name[1]}/*.antt")) if name else []
         if not proofs:
             return self.mark(file, head, "#[cfg(test)] ")
+        if not head.endswith("-> bool"):
+            sys.exit(
+                f"{self.path}: only a method that tests can be left out while its proof is there: {head}"
+            )
         self.replace(file, head, f"{head} {{ false }} /*")
         self.mark(file, next(filter(None, rest)), "*/ ")
         for proof in (str(path.relative_to(self.crate)) for path in proofs):
@@ -171,7 +175,11 @@ class Edit:
 def edits() -> Iterator[Edit]:
     """The edits of the table."""
     row = r"^edit: (\w+)/(\w+)\nfile: (.*)\nold: (.*)\nnew: (.*)\nstay: (\w+) (.*)$"
-    for crate, name, file, old, new, module, stay in re.findall(row, TABLE.read_text(), re.M):
+    text = TABLE.read_text()
+    rows = re.findall(row, text, re.M)
+    if len(rows) != len(re.findall("^edit:", text, re.M)) or not rows:
+        sys.exit(f"{TABLE}: an edit has the five lines edit, file, old, new and stay")
+    for crate, name, file, old, new, module, stay in rows:
         yield Edit(CRATES / crate / "must-fail" / f"{name}.edit", (file, old, new), module, set(stay.split()))
 
 

@@ -557,6 +557,9 @@ def test_edit_that_cannot_be_made(crates: Path) -> None:
     table.write_text(table.read_text().replace("old: if bits", "old: a text that is nowhere"))
     ended = must_fail(crates)
     assert ended.status == 1 and b"the text occurs 0 times" in ended.err
+    table.write_text(table.read_text().replace("stay: ", "stays: "))
+    ended = must_fail(crates)
+    assert ended.status == 1 and b"an edit has the five lines" in ended.err
 
 
 def test_edit_that_was_not_tried(crates: Path, tmp_path: Path) -> None:

@@ -3,7 +3,7 @@ use Rattle.std.proofs.Common.{◌≡◌, ◌∙◌, ◌+◌, ◌++◌, ℕ, List
 use Rattle.std.proofs.lemmas.List.{length-map, map-append}
 use Rattle.rds_sync.specs.declared.item.Item.{Item}
 use Rattle.rds_live.specs.StreamDecoder.{HasHeard, Terms, report_of}
-use Rattle.rds_abi.specs.Stream.{AreClosed, AreCompleted, AreWritten, stream_in_c, stream_of, unheard}
+use Rattle.rds_abi.specs.Stream.{AreClosed, AreCompleted, AreWritten, stream_of, unheard}
 use Rattle.rds_abi.specs.Layout.{item_in_c}
 use Rattle.rds_abi.specs.declared.layout.RdsStream.{RdsStream}
 use Rattle.rds_abi.specs.declared.layout.RdsItem.{RdsItem}
@@ -28,10 +28,3 @@ in_chunks terms middle end first second a a1 b b1 e e1 i j k one two three heard
     (sym (append_assoc one.0 two.0 three.0)
     ∙ ap (λ items. items ++ three.0) (sym (two.1 first heard ∙ ap (λ items. items ++ two.0) (one.1 [] refl)))
     ∙ three.1.1 (first ++ second) all))
-
--- streams that have heard the same are the same numbers
-pub alike : (terms : Terms) (one other : RdsStream) (bytes : List ℕ)
-    → one ≡ stream_in_c (stream_of terms one) → other ≡ stream_in_c (stream_of terms other)
-    → HasHeard (stream_of terms one) bytes → HasHeard (stream_of terms other) bytes → one ≡ other
-alike terms one other bytes one_laid other_laid one_heard other_heard =
-    one_laid ∙ ap stream_in_c (one_heard ∙ sym other_heard) ∙ sym other_laid

@@ -63,25 +63,14 @@ pub fn draw_and_finish(dealer: &Dealer, seat: Seat) -> (bool, Seat)
     }
 }
 
-/// The view of a seat that has not ended, after a draw: its own event, and no more.
+/// The view of a seat after a draw: its own event, and no more. A seat that has ended gets no number, and takes no step.
 pub fn seat_after_draw(dealer: &Dealer, seat: Seat) -> (Option<u64>, Seat)
     requires own { IsOf dealer.now seat }
     requires empty { seat.view.held ≡ None }
-    requires going { seat.view.ended ≡ 0 }
-    ensures { result.1 ≡ seat_after seat (Draw result.0) }
+    ensures going { seat.view.ended ≡ 0 → result.1 ≡ seat_after seat (Draw result.0) }
+    ensures ended { seat.view.ended ≡ 1 → result ≡ (None, seat) }
 {
     dealer.draw(seat)
-}
-
-/// A seat that has ended gets no number, and takes no step.
-pub fn still_ended(dealer: &Dealer, seat: Seat) -> (bool, Seat)
-    requires own { IsOf dealer.now seat }
-    requires empty { seat.view.held ≡ None }
-    requires ended { seat.view.ended ≡ 1 }
-    ensures { result ≡ (true, seat) }
-{
-    let (number, seat) = dealer.draw(seat);
-    (number.is_none(), seat)
 }
 
 // ---- progress

@@ -232,28 +232,6 @@ pub fn ended_inside_a_byte(
     finish_with(alloc, last, bits, gaps, rules, stream, room, count, totals)
 }
 
-/// The numbers that are kept of a stream are the same, whether it came in two chunks or in one.
-pub fn kept_alike(
-    alloc: Global,
-    early: &[u8],
-    late: &[u8],
-    all: &[u8],
-    gaps: &[RdsGap],
-    rules: RdsRules,
-    room: &mut [RdsItem],
-) -> Result<(RdsStream, RdsStream), Refusal>
-    requires { all.now ≡ early.now ++ late.now }
-    ensures { IfOk result (λ kept. kept.0 ≡ kept.1) }
-{
-    let mut cut = RdsStream::UNHEARD;
-    let mut whole = RdsStream::UNHEARD;
-    let mut count = 0;
-    push_all(alloc, early, gaps, rules, &mut cut, room, &mut count)?;
-    push_all(alloc, late, gaps, rules, &mut cut, room, &mut count)?;
-    push_all(alloc, all, gaps, rules, &mut whole, room, &mut count)?;
-    Ok((cut, whole))
-}
-
 /// A list that fits is written, and the room after it is as it was.
 pub fn last_is_kept(
     alloc: Global,
