@@ -80,7 +80,10 @@ class Groups:
     def values(self, name: str, index: Array) -> Array:
         """A field in these groups."""
         field = FIELDS[name]
-        words = (word[index] if number in field.blocks else word for number, word in zip(BLOCKS, self.columns.words))
+        words = (
+            word[index] if number in field.blocks else word
+            for number, word in zip(BLOCKS, self.columns.words)
+        )
         value: Array = field.of(list(words))
         return value
 

@@ -18,7 +18,7 @@ from typing import Any, Dict, List, Optional, Tuple
 
 import numpy
 
-from ..rows.items import ACQUIRED, GROUP, Rows
+from ..rows.items import ACQUIRED, GROUP, Rows, chosen
 from . import features, names, networks, texts
 from .columns import Columns, columns_of
 from .events import ITEMS, Event, Held, Taker, Teller
@@ -99,7 +99,9 @@ class Decoder:
     def _feed(self, rows: Rows) -> None:
         is_group = rows["what"] == GROUP
         acquired = numpy.concatenate([[0], numpy.cumsum(rows["what"] == ACQUIRED)])
-        groups, at = (rows, acquired[1:]) if is_group.all() else (rows[is_group], acquired[1:][is_group])
+        groups, at = (
+            (rows, acquired[1:]) if is_group.all() else (chosen(rows, is_group), acquired[1:][is_group])
+        )
         fresh = at != numpy.concatenate([[0], at])[:-1]
         if not fresh.size:
             self._fresh |= bool(acquired[-1])

@@ -2,7 +2,7 @@
 from __future__ import annotations
 
 import datetime
-from typing import Any, Dict, Optional
+from typing import Any, Dict, Optional, Tuple
 
 from ..rows.clock import DAY, EPOCH_MJD
 from . import names
@@ -143,7 +143,7 @@ class Features(Taker):
     """Groups 5A to 9A and 13A that no application has: which features are there, and the data of EWS; with `data` those
     of transparent channels and of the operator's own."""
 
-    kinds = (Kind.CHANNEL, Kind.EWS, Kind.ODA)
+    kinds: Tuple[Kind, ...] = (Kind.CHANNEL, Kind.EWS, Kind.ODA)
     features = {"6A": "ih", "6B": "ih", "7A": "rp", "8A": "tmc", "13A": "erp"}
 
     def __init__(self, teller: Teller, data: bool) -> None:

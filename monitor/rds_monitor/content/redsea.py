@@ -12,7 +12,7 @@ from typing import Any, Callable, Dict, Iterable, List, Tuple
 import numpy
 
 from ..rows.clock import Clock, utc_texts
-from ..rows.items import BLOCKS, GROUP, VALID, Rows
+from ..rows.items import BLOCKS, GROUP, VALID, Rows, chosen
 from ..rows.listing import kinds_of
 from .charset import safe_json
 from .decoder import Decoder, Event
@@ -99,11 +99,11 @@ class Redsea:
     def lines(self, rows: Rows, clock: Clock) -> List[str]:
         """A line per group whose second block is known, from the first group on whose PI counts."""
         events, before = self._decoder.feed(rows), self._pi
-        groups = rows[(rows["what"] == GROUP) & (rows["kind2"] >= VALID)]
+        groups = chosen(rows, (rows["what"] == GROUP) & (rows["kind2"] >= VALID))
         begins = [(event.place, event.pi) for event in events if event.item == "pi"]
         own = numpy.array([before, *(pi for _, pi in begins)])
         own = own[numpy.searchsorted([place for place, _ in begins], groups["place"], side="right")]
-        groups = groups[(own >= 0) & ((groups["kind1"] < VALID) | (groups["info1"] == own))]
+        groups = chosen(groups, (own >= 0) & ((groups["kind1"] < VALID) | (groups["info1"] == own)))
         keys = _keys_of(groups)
         if self._time != TIME * (clock.start is not None):
             self._time = TIME * (clock.start is not None)

@@ -101,7 +101,7 @@ class TaggedText(Taker):
 
     def _tell_tags(self) -> None:
         """Tells the pending tags that are inside the text."""
-        characters = self._characters or []
+        characters = self._characters or ()
         for item, start, end in self._pending.values():
             text = "".join(characters[start:end]).strip(" \0")
             if end <= len(characters) and text:

@@ -107,10 +107,11 @@ class Pace:
             turns = numpy.maximum.accumulate(numpy.append(self._segments, segment + 1))
         bits, steps = numpy.diff(place, prepend=self._place), numpy.diff(segment, prepend=self._segment)
         steps += (steps <= 0) * turns[:-1]
-        # The first segment of all has none before it.
-        first = int(self._place == UNKNOWN)
-        self._bits, self._steps = numpy.append(self._bits, bits[first:]), numpy.append(self._steps, steps[first:])
-        of_bits, of_steps = (numpy.append([0] * first, _sums_before(one))[-place.size :] for one in (self._bits, self._steps))
+        if self._place == UNKNOWN:
+            bits[0] = steps[0] = 0
+        known = self._bits.size
+        self._bits, self._steps = numpy.append(self._bits, bits), numpy.append(self._steps, steps)
+        of_bits, of_steps = (_sums_before(one)[known:] for one in (self._bits, self._steps))
         self._bits, self._steps = self._bits[-RECENT:], self._steps[-RECENT:]
         self._place, self._segment, self._segments = int(place[-1]), int(segment[-1]), int(turns[-1])
         missed: Array = (bits * of_steps >= (steps + turns[:-1]) * of_bits) & (of_steps > 0)
@@ -118,10 +119,9 @@ class Pace:
 
 
 def _sums_before(values: Array) -> Array:
-    """The sum of the last ones before each value."""
-    sums = numpy.append(0, numpy.cumsum(values))
-    before = numpy.arange(values.size)
-    found: Array = sums[before] - sums[numpy.maximum(before - RECENT, 0)]
+    """The sum of the last values before each."""
+    sums, at = numpy.append(0, numpy.cumsum(values)), numpy.arange(values.size)
+    found: Array = sums[at] - sums[numpy.maximum(at - RECENT, 0)]
     return found
 
 
@@ -192,16 +192,19 @@ class Message:
     def _take(self, groups: Segments) -> Iterator[Tuple[int, Optional[bytes]]]:
         """The changes within a generation. Where texts change often, more rows are read one by one before others are
         passed at once."""
-        begin, length = 0, LEAST_READ
+        begin, length, most = 0, LEAST_READ, 16 * LEAST_READ
         while begin < groups.place.size:
-            rest, passed = groups.where(slice(begin, None)), 0
+            rest, passed = groups.where(slice(begin, begin + most)), 0
             if self._told and rest.place.size > LEAST_READ:
                 passed, cuts = self._pass(rest, self._told)
                 for row in cuts:
                     yield begin + row, None
                     yield begin + row, self._told.text
             begin += passed
-            length = LEAST_READ if passed >= length else 2 * length
+            if passed == rest.place.size:
+                most *= 8
+                continue
+            length, most = LEAST_READ if passed >= length else 2 * length, 16 * LEAST_READ
             rows = groups.where(slice(begin, begin + length)).as_lists()
             for row, text in self._read(rows):
                 yield begin + row, text
@@ -239,38 +242,41 @@ class Message:
     def _pass(self, groups: Segments, told: WholeText) -> Tuple[int, List[int]]:
         """Passes the first rows if they say the told text again: how many they are, and in which of them it ended
         early, and was whole again at once."""
-        size, segment, value = self._shape.pairs, groups.segment, groups.value
-        before = numpy.append(self._segment, segment[:-1])
-        expected = numpy.array(told.said)[segment]
-        differs = (value != expected) & (value != UNKNOWN)
+        before = numpy.append(self._segment, groups.segment[:-1])
+        expected = numpy.array(told.said)[groups.segment]
+        differs = (groups.value != expected) & (groups.value != UNKNOWN)
         if self._length != told.size:
             differs &= expected != UNKNOWN
-        other = differs.any(axis=1)
+        other, cuts = differs.any(axis=1), numpy.flatnonzero(self._is_cut(groups, before, told))
+        if cuts.size:
+            other[cuts[~self._are_kept(groups, cuts, told)]] = True
         end = int(other.argmax()) if other.any() else other.size
-        cuts = numpy.zeros(0, "i8")
-        if self._shape.is_text:
-            is_read = groups.run == numpy.append(self._run, groups.run[:-1])
-            is_cut = (segment == 0) & (before >= 0) & is_read & ((before + 1) * size < told.size)
-            cuts = numpy.flatnonzero(is_cut[:end])
-            kept = self._are_kept(groups, cuts, told) if cuts.size and told.has_end else numpy.zeros(cuts.size, bool)
-            if not kept.all():
-                count = int(kept.argmin())
-                end, cuts = int(cuts[count]), cuts[:count]
+        cuts = cuts[cuts < end]
         if end:
             self._note(groups.where(slice(end)), before[:end])
         if cuts.size:
-            last, earlier = int(before[cuts[-1]]), int(before[cuts[-2]]) if cuts.size > 1 else self._last_segment
-            self._length, self._last_segment = (last + 1) * size if last == earlier else 0, last
+            last, ending = [self._last_segment, *before[cuts].tolist()][-2:]
+            self._length = (ending + 1) * self._shape.pairs if last == ending else 0
+            self._last_segment = ending
             # Pairs after the end of the text are forgotten whenever it is whole.
             pairs, place = {**self._earlier, **self._now}, groups.place[cuts[-1]]
             self._part({at: pair for at, pair in pairs.items() if at < told.size or pair[3] >= place})
         return end, cuts.tolist()
 
+    def _is_cut(self, groups: Segments, before: Array, told: WholeText) -> Array:
+        """In which rows the text begins anew before its end."""
+        if not self._shape.is_text:
+            return numpy.zeros(before.size, bool)
+        is_read = groups.run == numpy.append(self._run, groups.run[:-1])
+        is_early = (before >= 0) & ((before + 1) * self._shape.pairs < told.size)
+        cut: Array = (groups.segment == 0) & is_read & is_early
+        return cut
+
     def _are_kept(self, groups: Segments, cuts: Array, told: WholeText) -> Array:
-        """Whether before each of these rows no turn was missed, and all pairs of the told text came lately, in segments
-        that were received."""
+        """Whether the told text has an end, and before each of these rows no turn was missed, and all of its pairs
+        came lately, in segments that were received."""
         pairs, size = {**self._earlier, **self._now}, self._shape.pairs
-        kept = ~groups.missed[cuts]
+        kept: Array = ~groups.missed[cuts] & told.has_end
         is_known = (groups.value != UNKNOWN).all(axis=1)
         for segment in range(-(-told.size // size)):
             at = numpy.flatnonzero((groups.segment == segment) & is_known)
@@ -286,10 +292,11 @@ class Message:
         latest = numpy.full((self._shape.size, 2), UNKNOWN)
         latest[groups.segment[rows] * self._shape.pairs + columns] = numpy.stack([rows, columns], axis=1)
         pairs = {**self._earlier, **self._now}
-        for position in numpy.flatnonzero(latest[:, 0] >= 0).tolist():
-            row, column = latest[position]
-            told = groups.value[row, column], VALID, turns[row], groups.place[row]
-            pairs[position] = int(told[0]), VALID, int(told[2]), int(told[3])
+        heard = numpy.flatnonzero(latest[:, 0] >= 0)
+        rows, columns = latest[heard].T
+        found = (groups.value[rows, columns], turns[rows], groups.place[rows])
+        for position, value, turn, place in zip(heard.tolist(), *(column.tolist() for column in found)):
+            pairs[position] = value, VALID, turn, place
         self._turn, self._segment, self._run = int(turns[-1]), int(groups.segment[-1]), int(groups.run[-1])
         self._part(pairs)
         self._recent.extend(groups.valid[groups.value != UNKNOWN][-RECENT:].tolist())
