@@ -209,7 +209,7 @@ SEEN: list[tuple[str, str, Callable[[str, Path], object]]] = [
     ("silent", "is not done", lambda rds, at: ways(rds, at, "lines.1", "encode", "encode --hex")),
     ("squared slow_second slow_third", "CPU-milliseconds", lambda rds, at: growth(rds, at)),
     (f"{DIFFERING} {OF_LINES}", "seed", lambda rds, _: differ(rds)),
-    ("noisy other_status hanging", "'13 of 13'", lambda rds, _: differ(rds)),
+    ("noisy other_status hanging", "'17 of 17'", lambda rds, _: differ(rds)),
     (DIFFERING, "seed", lambda rds, _: stream(rds)),
     ("noisy other_status hanging", "seed 1:", lambda rds, _: stream(rds)),
     ("later beyond ahead progress_short no_progress silent hanging", "", lambda rds, _: progress(rds)),

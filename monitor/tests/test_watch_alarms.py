@@ -13,7 +13,7 @@ from rds_monitor.content.decoder import Event
 from rds_monitor.measures.clock import Tick
 from rds_monitor.watch.alarms import Alarm, Alarms, Change, Trouble, Watched, words_for
 from rds_monitor.watch.table import table_of
-from rds_monitor.watch.times import Pace, Timing
+from rds_monitor.watch.times import BitPace, Timing
 
 # Whole seconds are at whole positions.
 TIMING = Timing(0.0, 1200.0)
@@ -44,7 +44,7 @@ class Judged:
             self.now += 1
             self.alarms.take(told if n == 0 else [], [], [], TIMING, 0.0)
             byte = self.now - (quiet + n if quiet else 0)
-            paced = None if pace is None else Pace(pace, since)
+            paced = None if pace is None else BitPace(pace, since)
             seen = Watched(byte, age + n if age > 2 else age, self.held, paced)
             changes = self.alarms.judge(seen, self.now)
             self.texts += [change.text for change in changes]

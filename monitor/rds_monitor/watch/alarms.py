@@ -11,7 +11,7 @@ from ..content.charset import printable
 from ..content.decoder import Event
 from ..measures.clock import Tick
 from .table import StationTable
-from .times import Pace, Timing
+from .times import BitPace, Timing
 from .verdict import pattern_of
 
 # Of the contents: without them nothing can be said of these.
@@ -82,7 +82,7 @@ class Watched(NamedTuple):
     last_byte: float
     valid_age: float
     held: Dict[str, Any]
-    pace: Optional[Pace]
+    pace: Optional[BitPace]
 
 
 class Alarms:
@@ -221,7 +221,7 @@ class Alarms:
             lasted = self._now - self._begins.pop(name, self._now)
             self._found.append(Change(name, False, f"{self.lasting.pop(name, '')}; it lasted {lasted:.0f} s"))
 
-    def _judge_pace(self, passed: float, pace: Optional[Pace]) -> None:
+    def _judge_pace(self, passed: float, pace: Optional[BitPace]) -> None:
         if pace is None:
             self._hold(passed, "fast", "slow")
             self._unpaced += passed

@@ -18,7 +18,7 @@ from .receiver import Keeper
 from .records import AlarmChanged, Record, RunBegan, RunEnded, StateSeen, WatchBegan
 from .shared import Tap
 from .table import StationTable
-from .times import Pace, Timing
+from .times import BitPace, Timing
 from .writer import Say
 
 # Seconds between two lines of news of a station.
@@ -202,12 +202,12 @@ class Station:
         quiet = steady - self.keeper.last_byte
         return steady - self._last_valid - (quiet if quiet <= self.keeper.patience else 0.0)
 
-    def _pace(self) -> Optional[Pace]:
+    def _pace(self) -> Optional[BitPace]:
         """On the monotonic clock."""
         pace = self._session.arrivals.pace() if self._session else None
         self._was_ahead &= pace is None
         if self._was_ahead:
-            return Pace(math.inf, math.inf)
+            return BitPace(math.inf, math.inf)
         return pace and pace._replace(since=pace.since - self._ahead)
 
     def _see_valid(self, steady: float) -> None:

@@ -64,7 +64,7 @@ class Timing(NamedTuple):
         return math.ceil((utc - self.start) * self.rate)
 
 
-class Pace(NamedTuple):
+class BitPace(NamedTuple):
     """How many times as fast as 1187.5 per second bits come, and since when."""
 
     factor: float
@@ -133,7 +133,7 @@ class Arrivals:
         """By how many seconds the last bits came before they can have been sent."""
         return max(0.0, -self._delays[-1][1]) if self._delays else 0.0
 
-    def pace(self) -> Optional[Pace]:
+    def pace(self) -> Optional[BitPace]:
         """That of the last bits, if they tell. It changed at the read that is furthest from the line through the first and the last
         one."""
         if len(self.reads) < 2 or self.reads[-1][0] - self.reads[0][0] < self.PACE_LEAST * self._speed:
@@ -141,7 +141,7 @@ class Arrivals:
         (first, begin), (last, end) = self.reads[0], self.reads[-1]
         rate = (end - begin) / (last - first)
         off, knee = max((abs(place - begin - rate * (utc - first)), utc) for utc, place in self.reads)
-        return Pace(rate / RATE, knee if off > self.KNEE * self._speed * RATE else first)
+        return BitPace(rate / RATE, knee if off > self.KNEE * self._speed * RATE else first)
 
     def is_late(self) -> bool:
         return self.delay() > self.LATE * self._speed
