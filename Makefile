@@ -12,7 +12,7 @@ PYTHON ?= /usr/bin/python3
 
 SOURCES := crates.txt $(shell find crates -name out -prune -o \( -name '*.rt' -o -name '*.antt' \) -print)
 
-.PHONY: all run quick lib test proofs built tried archives wrong-bodies install install-program install-monitor install-python \
+.PHONY: all run quick lib test edits proofs built tried archives wrong-bodies install install-program install-monitor install-python \
   install-lib uninstall deb wheel monitor-demo clean toolchain
 all: build/rds
 
@@ -75,14 +75,19 @@ TESTS ?= tests monitor/tests
 # the output of `rt ci`, for which the wrong bodies wait
 LOG := build/proofs.log
 
+# The edits that `rt ci` tries: it tries none where they are not made.
+edits:
+	tests/must_fail.py
+
 # `rt ci` gives a single proof all processors, and then it takes a fifth more CPU time. If there are only two, the wrong bodies use
 # the second better, so each proof gets one.
-proofs:
+proofs: edits
 	@mkdir -p build
 	@echo $(RT) ci
 	@[ $$(nproc) -gt 2 ] || export RT_JOBS=$$(nproc); \
 	  { $(RT) ci; echo $$? > build/proofs.status; echo "proofs: ended"; } 2>&1 | tee $(LOG)
 	@exit $$(cat build/proofs.status)
+	tests/must_fail.py --tried $(LOG)
 
 # The library for C over the crates that `proofs` has just built: `lib` would prove all of them once more. The one for arm64 is made if
 # there is a compiler for it, over the proof of rds_c that the first one keeps.
@@ -117,7 +122,7 @@ install-program: $(PROGRAM)
 # here, by argparse-manpage and shtab, in a folder of this installation alone. Without these the rest is installed, unless PAGES_NEEDED is
 # set, as for a package.
 MONITOR_DIR := $(PREFIX)/share/rds-monitor
-ROOMS       := rows content measures signal db page watch
+ROOMS       := rows content measures signal db page capture watch
 PYTHON_TOO  ?= install-python
 install-monitor: $(PYTHON_TOO)
 	install -d "$(DESTDIR)$(PREFIX)/bin" "$(DESTDIR)$(MONITOR_DIR)/rds_monitor" "$(SHARE)/man/man1" "$(SHARE)/bash-completion/completions"

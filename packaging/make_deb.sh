@@ -146,7 +146,7 @@ gzip -9n < monitor/WATCHING.md > "$work/rds-monitor/usr/share/doc/rds-monitor/WA
 for it in postinst prerm; do install -D -m 755 "packaging/rds-monitor.$it" "$work/rds-monitor/DEBIAN/$it"; done
 package rds-monitor all hamradio "Depends: python3 (>= 3.9), python3-numpy, python3-librds (= $version)
 Recommends: rds, libjs-d3, python3-jinja2
-Suggests: parallel, python3-pandas, python3-soundfile, python3-tomli, python3-zstandard, rtl-sdr" "tables, databases and alarms from $about
+Suggests: parallel, python3-pandas, python3-pyfftw, python3-scipy, python3-soundfile, python3-tomli, python3-zstandard, rtl-sdr" "tables, databases and alarms from $about
  Says what a station sent and how well it was received: block errors,
  outages, contents, SQLite, JSON, a check for monitoring systems. It turns an
  FM multiplex or IQ samples into RDS bits."

@@ -249,10 +249,9 @@ def test_crates_and_edits(faults: Faults) -> None:
     )
     faults.same("docs/ARCHITECTURE.md, crates", crates, named & crates)
     for crate, count in re.findall(r"^\| `?(rds(?:_\w+)?)`? \|.*\| (\d+) edits", read(TESTING), re.M):
-        edits = [
-            path for kind in ("wrong", "must-fail") for path in (TOP / "crates" / crate / kind).glob("*")
-        ]
-        faults.same(f"{TESTING}, edits of {crate}", len(edits), int(count))
+        wrong = len(list((TOP / "crates" / crate / "wrong").iterdir()))
+        edits = wrong + read("tests/must_fail.edits").count(f"edit: {crate}/")
+        faults.same(f"{TESTING}, edits of {crate}", edits, int(count))
 
 
 # ---- files and functions

@@ -487,6 +487,8 @@ def crates(copy: Path) -> Path:
         (copy / "crates" / folder.name / "src").mkdir(parents=True, exist_ok=True)
         for root in folder.glob("src/lib.rt"):
             shutil.copy2(root, copy / "crates" / folder.name / "src")
+    table = copy / "tests" / "must_fail.edits"
+    table.write_text(table.read_text().split("\n\n")[1] + "\n")
     return copy
 
 
@@ -527,11 +529,48 @@ def test_edit_that_changes_nothing(crates: Path) -> None:
     answers.write_text(re.sub("^rds_code.*\n", "", answers.read_text(), flags=re.M))
     status, text = wrong_bodies(crates, "rds_code", rt="")
     assert status == 1 and "1 as they must be, 1 not: rds_code/nothing_is_changed" in text
-    (folder / "must-fail").mkdir()
-    nowhere = "file: src/remainder.rt\nold: a text that is nowhere\nnew: another\n"
-    (folder / "must-fail" / "none.edit").write_text(nowhere)
-    status, text = wrong_bodies(crates, "none", rt="")
-    assert status == 1 and "the text occurs 0 times" in text
+
+
+def must_fail(top: Path, *words: object) -> Ran:
+    """The run of the script that makes the edits of must-fail/."""
+    return run(sys.executable, top / "tests" / "must_fail.py", *words)
+
+
+def test_edits_of_must_fail(crates: Path) -> None:
+    folder = crates / "crates" / "rds_code"
+    script(folder / "must-fail" / "of_another_table.edit", "")
+    assert must_fail(crates).status == 0
+    assert [path.name for path in (folder / "must-fail").iterdir()] == ["limit_of_six_bits.edit"]
+    edit = (folder / "must-fail" / "limit_of_six_bits.edit").read_text()
+    pairs = re.findall(r"^file: (.*)\nold: (.*)\nnew: (.*)$", edit, re.M)
+    assert edit.startswith("file: src/burst_limit.rt\nold: if bits <=") and edit.count("\n") == 3 * len(pairs)
+    texts = {file: (folder / file).read_text() for file, _, _ in pairs}
+    for file, old, new in pairs:
+        assert texts[file].count(old) == 1, (file, old)
+        texts[file] = texts[file].replace(old, new)
+    left = re.findall(r"^(?:pub )?(?:mod|use) .*;", texts["src/lib.rt"], re.M)
+    assert left == ["mod burst_limit;"] and "proofs/ThirdLemmas.antt" in texts
+
+
+def test_edit_that_cannot_be_made(crates: Path) -> None:
+    table = crates / "tests" / "must_fail.edits"
+    table.write_text(table.read_text().replace("old: if bits", "old: a text that is nowhere"))
+    ended = must_fail(crates)
+    assert ended.status == 1 and b"the text occurs 0 times" in ended.err
+    table.write_text(table.read_text().replace("stay: ", "stays: "))
+    ended = must_fail(crates)
+    assert ended.status == 1 and b"an edit has the five lines" in ended.err
+
+
+def test_edit_that_was_not_tried(crates: Path, tmp_path: Path) -> None:
+    log = tmp_path / "proofs.log"
+    log.write_text("rt: must-fail rds_code/limit_of_six_bits.edit: BAD EDIT: it changes nothing\n")
+    ended = must_fail(crates, "--tried", log)
+    assert ended.status == 1 and b"rds_code/limit_of_six_bits" in ended.err
+    log.write_text(
+        "rt: must-fail rds_code/limit_of_six_bits.edit: refused, as it must be: note: src/burst_limit.rt:36:13: a goal\n"
+    )
+    assert must_fail(crates, "--tried", log).status == 0
 
 
 def test_proofs_that_fail(crates: Path, tmp_path: Path) -> None:
@@ -550,8 +589,10 @@ CALLED = {
     "archive.py arm64 build/librds-arm64.a": "archive.py arm64",
     "make_library.sh build/librds-amd64.a build/lib": "make_library.sh",
     "rt ci": "rt",
+    "must_fail.py": "must_fail.py",
+    "must_fail.py --tried build/proofs.log": "must_fail.py --tried",
 }
-STUBS = "tests/wrong_bodies.py lib/archive.py lib/make_library.sh few/make few/apt-get"
+STUBS = "tests/must_fail.py tests/wrong_bodies.py lib/archive.py lib/make_library.sh few/make few/apt-get"
 TOOLS = "tools/rt tools/git tools/python3 tools/aarch64-linux-gnu-gcc"
 
 

@@ -4,7 +4,7 @@
     tests/wrong_bodies.py [--right] [--beside LOG] [CRATE..]
     tests/wrong_bodies.py --cut [CRATE..]
 
-A wrong body is an edit, in the form of those in must-fail/. If it makes a function wrong from outside its body, for example by a
+A wrong body is an edit: a file, and pairs of a text and its replacement. If it makes a function wrong from outside its body, for example by a
 constant, a line `fails: FUNCTION` names that function. The edits are made in a copy of the crate. There each other function has a
 hole for its proof and a body that calls nothing, so an edited function is checked against the contracts of its callees. A second edit
 of a function is made in a twin: a copy of the function that follows it, with another name and the same contract and proof.
@@ -17,8 +17,6 @@ A wrong body is refused
   tests/wrong_bodies.answers states the false claim of the edit, in a line 'CRATE/EDIT: CLAIM'.
 
 An edit with a line `equal: WHY` keeps the meaning: lines may refuse it, goals may not.
-
-The script also fails if an edit of must-fail/ cannot be made: `rt ci` only warns of that.
 
 --right tries the right bodies in the same way, and none may be refused. --cut checks each crate as the edits of must-fail/ cut it,
 without their errors: it must be proved. With --beside, `rt ci` runs meanwhile and its output goes to LOG, ended by the line
@@ -38,6 +36,7 @@ from dataclasses import dataclass, replace
 from threading import Condition
 from typing import Sequence
 
+import must_fail
 from holes import (
     CALLERS,
     EXPORTED,
@@ -298,36 +297,11 @@ def build(crates):
             sys.exit(f"{it} is not proved: no wrong body is tried above it")
 
 
-def pairs_of(crate, file):
-    """The pairs of an edit of must-fail/: a file of the crate, the old text, and the new text."""
-    path, old = "", ""
-    for it in read(f"{CRATES}/{crate}/must-fail/{file}").splitlines():
-        key, _, said = it.partition(": ")
-        if key == "new":
-            yield path, old, said
-        path = said if key == "file" else path
-        old = said
-
-
-def check_pairs(crate):
-    """Fails if an edit of must-fail/ cannot be made: `rt ci` only warns of that."""
-    for file in sorted(os.listdir(f"{CRATES}/{crate}/must-fail")):
-        texts = {}
-        for path, old, new in pairs_of(crate, file):
-            text = texts.get(path) or read(f"{CRATES}/{crate}/{path}")
-            if text.count(old) != 1:
-                sys.exit(
-                    f"{crate}/must-fail/{file}: the text occurs {text.count(old)} times in {path}, and not once: {old}"
-                )
-            texts[path] = text.replace(old, new)
-        if not texts:
-            sys.exit(f"{crate}/must-fail/{file}: it changes nothing")
-
-
 def cut(folder, crate):
-    """Makes the pairs of each edit of must-fail/ in a copy, except the first pair, which is the error."""
-    for file in sorted(os.listdir(f"{CRATES}/{crate}/must-fail")):
-        for path, old, new in [*pairs_of(crate, file)][1:]:
+    """Leaves out in a copy what the edits of must-fail/ leave out, without their errors."""
+    for edit in (it for it in must_fail.edits() if it.crate.name == crate):
+        edit.make()
+        for path, old, new in edit.pairs[1:]:
             write(f"{folder}/{crate}/{path}", read(f"{folder}/{crate}/{path}").replace(old, new))
 
 
@@ -448,8 +422,6 @@ def tried(crates, are_right, log):
 
 def main(names, are_right, log):
     told = told_of()
-    for it in (it for it in os.listdir(CRATES) if os.path.isdir(f"{CRATES}/{it}/must-fail")):
-        check_pairs(it)
     crates = [it for it in [*LIBRARIES, EXPORTED, CALLERS, PROGRAM] if os.path.isdir(f"{CRATES}/{it}/wrong")]
     if unknown := [it for it in names if it not in crates]:
         sys.exit(f"there are no wrong bodies of {', '.join(unknown)}")

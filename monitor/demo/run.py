@@ -1,9 +1,11 @@
 #!/usr/bin/python3
-"""Three simulated stations, watched at 200 times real time: monitor/demo/run.py [--seconds N] [--folder FOLDER]
+"""Three simulated stations, watched at 200 times real time, and four of one simulated capture, in real time:
+monitor/demo/run.py [--seconds N] [--folder FOLDER]
 
 Beta has noise for a quarter of each second hour, and one wrong bit in 200. Gamma's receiver dies after an hour and a half, and another PI
-comes for half an hour of each three. The address of the page is printed once it shows all three; the page goes on until this
-is interrupted, or for N seconds.
+comes for half an hour of each three. The other four are in the band of one receiver of IQ (capture.py), which is demodulated as it comes.
+The addresses are printed: of a page of the three once it shows them, of a page of the four, and, if librds is there, of a picture of the
+capture's spectrum. The pages go on until this is interrupted, or for N seconds.
 
 It decodes by the library of `make lib`, or else by build/rds, or else by the system's library. If none is there, it builds rds without
 proof, in a minute or so.
@@ -21,6 +23,7 @@ import tempfile
 import time
 from pathlib import Path
 
+import capture
 from unproved import build, is_new
 
 HERE = Path(__file__).resolve().parent
@@ -34,6 +37,21 @@ STATIONS = (
     ("Beta", 100.3, "D319", "BETA FM", "Traffic: all roads are clear", "--errors 0.005 --outage 7200:900"),
     ("Gamma", 103.7, "D31A", "GAMMA", "News at the hour", "--dies 5400 --wrong-pi 10800:1800"),
 )
+
+
+# What the receiver of several stations plays.
+PLAYED = "capture_98MHz.u8"
+SAMPLES = ["--raw", "u8", "--rate", str(capture.WIDE)]
+
+
+def table_of_capture(folder: Path) -> str:
+    command = json.dumps([sys.executable, str(HERE / "capture.py"), "--keep", str(folder / PLAYED)])
+    found = f"folder = {json.dumps(str(folder / 'capture'))}\n"
+    found += f'[[receiver]]\nname = "band"\ncommand = {command}\nraw = "u8"\nrate = {capture.WIDE}\ncentre = {capture.CENTRE}\n'
+    for station in capture.STATIONS:
+        found += f'[[station]]\nname = "{station.programme.ps}"\nreceiver = "band"\nfrequency = {station.frequency}\n'
+        found += f'pi = "{station.programme.pi:04X}"\n'
+    return found
 
 
 def table(folder: Path) -> str:
@@ -82,9 +100,49 @@ def told(name: str, speed: int, *words: str) -> "list[str]":
     return ["--speed", str(speed), *words]
 
 
-def shows_all(page: Path) -> bool:
-    text = page.read_text() if page.exists() else ""
-    return all(f">{ps}<" in text for _, _, _, ps, _, _ in STATIONS)
+class Watch:
+    """A watch as a process, and the page of its stations."""
+
+    def __init__(
+        self, folder: Path, text: str, names: "list[str]", options: "list[str]", known: "dict[str, str]"
+    ):
+        folder.mkdir(parents=True, exist_ok=True)
+        path, self.page, self._names = folder / "stations.toml", folder / "pages" / "index.html", names
+        path.write_text(text)
+        words = [sys.executable, "-m", "rds_monitor", "watch", *options, str(path)]
+        self.process = subprocess.Popen(words, env=known)
+
+    def shows_all(self) -> bool:
+        text = self.page.read_text() if self.page.exists() else ""
+        return all(f">{ps}<" in text for ps in self._names)
+
+    def tell(self) -> None:
+        """Prints the address once all stations are shown."""
+        end = time.monotonic() + LONGEST_START
+        while not self.shows_all():
+            if self.process.poll() is not None or time.monotonic() > end:
+                sys.exit("the watch did not begin")
+            time.sleep(0.2)
+        print(self.page.as_uri(), flush=True)
+
+    def end(self) -> None:
+        self.process.send_signal(signal.SIGTERM)
+        try:
+            self.process.wait(30)
+        except subprocess.TimeoutExpired:
+            self.process.kill()
+
+
+def picture(folder: Path, known: "dict[str, str]") -> None:
+    """Of the capture, which it makes; without librds there is none."""
+    subprocess.run(
+        [sys.executable, str(HERE / "capture.py"), "--keep", str(folder / PLAYED), "--make"], check=True
+    )
+    if has("librds", known):
+        words = [sys.executable, "-m", "rds_monitor", "stations", "--html", *SAMPLES, str(folder / PLAYED)]
+        page = folder / "capture.html"
+        page.write_bytes(subprocess.run(words, env=known, stdout=subprocess.PIPE, check=True).stdout)
+        print(page.as_uri(), flush=True)
 
 
 def main() -> int:
@@ -99,26 +157,21 @@ def main() -> int:
     options = decoder(known)
     folder = Path(arguments.folder or tempfile.mkdtemp(prefix="rds-monitor-demo-")).resolve()
     folder.mkdir(parents=True, exist_ok=True)
-    (folder / "stations.toml").write_text(table(folder))
-    page = folder / "pages" / "index.html"
-    words = [sys.executable, "-m", "rds_monitor", "watch", *options, str(folder / "stations.toml")]
-    watch = subprocess.Popen(words, env=known)
+    at_once = [options[at : at + 2] for at in range(0, len(options), 2) if options[at] != "--speed"]
+    watches = [Watch(folder, table(folder), [station[3] for station in STATIONS], options, known)]
     try:
-        end = time.monotonic() + LONGEST_START
-        while not shows_all(page):
-            if watch.poll() is not None or time.monotonic() > end:
-                sys.exit("the watch did not begin")
-            time.sleep(0.2)
-        print(f"{page.as_uri()}", flush=True)
-        watch.wait(arguments.seconds or None)
+        watches[0].tell()
+        picture(folder, known)
+        names = [station.programme.ps for station in capture.STATIONS]
+        words = [word for pair in at_once for word in pair]
+        watches.append(Watch(folder / "capture", table_of_capture(folder), names, words, known))
+        watches[1].tell()
+        watches[0].process.wait(arguments.seconds or None)
     except (KeyboardInterrupt, subprocess.TimeoutExpired):
         pass
     finally:
-        watch.send_signal(signal.SIGTERM)
-        try:
-            watch.wait(30)
-        except subprocess.TimeoutExpired:
-            watch.kill()
+        for watch in watches:
+            watch.end()
     return 0
 
 

@@ -53,6 +53,7 @@ COMMANDS = (
     Command("form", "signal.form", "identify the format of a file, and how to convert it to packed bits"),
     Command("pack", "signal.pack", "convert bits and samples to packed bits"),
     Command("demod", "signal.demod", "demodulate MPX or IQ to packed bits"),
+    Command("stations", "capture.stations", "which FM stations a capture of IQ has"),
     Command("batch", "batch", "decode a folder of recordings"),
     Command("watch", "watch.service", "watch stations day and night: listings, database, pages, alarms"),
 )

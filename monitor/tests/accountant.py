@@ -104,6 +104,8 @@ class Sent:
         quiet = deaf = wrong = 0.0
         sounds = {name: 0.0 for name in found}
         at = 0
+        # Rows wait from the first read on.
+        full = [(min(read[0] for read in reads if read[0] > first), after) for first, after in self.full_disk]
         for moment in self._seconds():
             quiet += 1
             while at < len(reads) and reads[at][0] <= moment:
@@ -115,13 +117,18 @@ class Sent:
                 # Without RDS nothing is known of the PI.
                 wrong = wrong + other if other > 0 else wrong if sound < 0.5 * (after - first) else 0.0
                 quiet, at = 0.0, at + 1
-                sounds["pi"] = 0.0 if other or not sound else sounds["pi"] + sound
+                last = max(
+                    (min(end, after) for begin, end in self.other_pi if begin < after and end > first),
+                    default=first,
+                )
+                since_then = overlap(self.sound, max(first, last), after)
+                sounds["pi"] = since_then + (0.0 if other or not sound else sounds["pi"])
             age = deaf + (quiet if quiet > self.patience else 0.0)
             faults = {"silent": quiet > 2, "no_rds": age > 2, "disk": holds(self.full_disk, moment)}
             for name, fault in faults.items():
                 sounds[name] = 0.0 if fault else sounds[name] + 1
             due = {"silent": quiet >= SILENT, "no_rds": age >= NO_RDS, "pi": wrong >= PI}
-            due["disk"] = holds([(first + DISK, after) for first, after in self.full_disk], moment)
+            due["disk"] = holds([(first + DISK, after) for first, after in full], moment)
             clear = {"silent": CLEAR, "no_rds": CLEAR, "pi": PI_CLEAR, "disk": 1.0}
             for name, spans in found.items():
                 lasts = bool(spans) and spans[-1][1] is None
@@ -236,8 +243,7 @@ def alarms(data: sqlite3.Connection, sent: Sent) -> Iterator[str]:
     for name, wanted in sent.alarms().items():
         query = "SELECT begin_at, end_at FROM alarm_rows WHERE alarm = ? ORDER BY begin_at"
         found = data.execute(query, (name,)).fetchall()
-        off = OFF + (sent.burst if name in ("pi", "disk") else 0)
-        yield from pairs(name, found, wanted, off, sent.begin)
+        yield from pairs(name, found, wanted, OFF, sent.begin)
 
 
 def main(words: List[str]) -> int:

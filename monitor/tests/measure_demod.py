@@ -1,7 +1,7 @@
 #!/usr/bin/env python3
 """Measures the demodulator, and prints the tables of docs/ACCURACY.md and docs/PERFORMANCE.md. It takes minutes.
 
-    RDS=build/rds monitor/tests/measure_demod.py [--only noise levels jumps multipath time] [--seed 1]
+    RDS=build/rds monitor/tests/measure_demod.py [--only noise levels jumps neighbour multipath time stations] [--seed 1]
 """
 
 from __future__ import annotations
@@ -13,11 +13,12 @@ import tempfile
 from typing import Any, Callable, Dict, List, NamedTuple, Sequence, Tuple
 
 import numpy
+from captures import NARROW, Sent, alone, captured
 from conftest import COMMAND, encode, rds
 from made import peak_memory
 from modulator import Array, dropped, iq, mpx, stored, wav, words
 
-from rds_monitor.signal.receiver import Receiver
+from rds_monitor.signal.receiver import Capture
 
 Words = Tuple[int, ...]
 RATE = 192000
@@ -33,17 +34,20 @@ def whole_groups(bits: bytes) -> List[Words]:
     return found
 
 
-def bits_of(receiver: Receiver, signal: Array, block: int = 65536) -> Array:
-    """The bits of a signal that is handed over a block at a time."""
-    parts = [receiver.push(signal[at : at + block]) for at in range(0, signal.size, block)]
-    return numpy.concatenate([*parts, receiver.finish()])
+def bits_of(capture: Capture, signal: Array, block: int = 65536) -> List[Array]:
+    """The bits of each station of a signal that is handed over a block at a time."""
+    parts = [capture.push(signal[at : at + block]) for at in range(0, signal.size, block)]
+    return [numpy.concatenate(bits) for bits in zip(*parts, capture.finish())]
 
 
-def received(signal: Array, rate: int, block: int = 65536, **options: Any) -> Tuple[List[Words], Any]:
+def received(
+    signal: Array, rate: int, block: int = 65536, offset: float = 0.0, equalise: bool = False
+) -> Tuple[List[Words], Any]:
     """The groups of a signal, and the report."""
-    receiver = Receiver(rate, numpy.iscomplexobj(signal), **options)
-    groups = whole_groups(numpy.packbits(bits_of(receiver, signal, block)).tobytes())
-    return groups, receiver.quality.report()
+    offsets = [offset]
+    capture = Capture(rate, numpy.iscomplexobj(signal), 1.0, offsets, offsets if equalise else ())
+    (bits,) = bits_of(capture, signal, block)
+    return whole_groups(numpy.packbits(bits).tobytes()), capture.receivers[0].quality.report()
 
 
 def right(groups: Sequence[Words], signal: Array, rate: int = RATE, **options: Any) -> int:
@@ -81,6 +85,17 @@ def multipath(seed: int, paths: List[Tuple[float, float, float, float]], cnr: fl
     return [right(groups, signal, rate, equalise=value) for value in (False, True)]
 
 
+def neighbour(seed: int, level: float) -> List[Any]:
+    """Without it, with one 200 kHz away and 20 dB stronger, and without it by 1 dB more noise."""
+    groups, rate, seconds = words(seed, 48), 2 * NARROW, 4.0
+    sent = [Sent(0.0, encode(groups)), Sent(200e3, encode(words(seed + 1, 48)), 20.0)]
+    signals = [alone(one, seconds, seed + number) for number, one in enumerate(sent)]
+    return [
+        right(groups, captured(sent[:count], rate, seconds, noise_level, signals[:count]), rate)
+        for count, noise_level in ((1, level), (2, level), (1, level + 1))
+    ]
+
+
 class Table(NamedTuple):
     columns: Sequence[str]
     row: Callable[..., List[Any]]
@@ -116,6 +131,11 @@ TABLES = {
             )
             for cnr in ratios
         },
+    ),
+    "neighbour": Table(
+        ("carrier to noise", "alone", "beside the neighbour", "alone, 1 dB more noise"),
+        neighbour,
+        {f"{-level} dB": (level,) for level in (-14, -12, -11)},
     ),
     "multipath": Table(
         ("second path | carrier to noise", "without equaliser", "with it"),
@@ -166,16 +186,72 @@ def print_times() -> None:
             print(f"| {name} | {cpu_seconds(*command):.2f} | {peak_memory(*command, data=b'') // 1024} |")
 
 
+def spread(count: int, rate: int) -> List[float]:
+    """Offsets of stations all over a band."""
+    apart = (rate - 200e3) / max(1, count - 1) // 50e3 * 50e3
+    return [apart * (number - (count - 1) / 2) // 50e3 * 50e3 for number in range(count)]
+
+
+def per_second(folder: str, part: bytes, seconds: float, *options: str) -> Tuple[float, int]:
+    """Processor seconds per second of a raw capture, without those of the start, and the peak of memory in MB."""
+    used, path = [], f"{folder}/capture"
+    for times in (1, 4):
+        with open(path, "wb") as file:
+            for _ in range(times):
+                file.write(part)
+        used.append(cpu_seconds("demod", "--raw", "u8", *options, path))
+    return (used[1] - used[0]) / (3 * seconds), peak_memory(
+        "demod", "--raw", "u8", *options, path, data=b""
+    ) // 1024
+
+
+def print_stations() -> None:
+    """Of stations of one capture, beside as many runs of `demod --offset`."""
+    print(
+        "\n| samples per second | stations | processor | each more | peak MB | most on one processor |\n|---|---|---|---|---|---|"
+    )
+    for rate, seconds, counts in ((2400000, 3.0, (1, 8)), (10000000, 1.5, (1, 24))):
+        offsets = spread(counts[1], rate)
+        sent = [Sent(offset, encode(words(1, int(12 * seconds)))) for offset in offsets]
+        signal = captured(sent, rate, seconds, -40, [alone(sent[0], seconds, 1)] * len(sent))
+        part = stored(signal, "u8", float(numpy.abs(signal).max()))
+        common = ("--rate", str(rate))
+        with tempfile.TemporaryDirectory() as folder:
+            found = []
+            for count in counts:
+                at = ",".join(f"{offset:.0f}" for offset in offsets[:count])
+                options = (*common, "--stations", "--centre", "0", f"--at={at}", "--output", f"{folder}/bits")
+                found.append((count, *per_second(folder, part, seconds, *options)))
+            each = (found[1][1] - found[0][1]) / (counts[1] - 1)
+            most = int(1 + (1 - found[0][1]) / each)
+            for count, used, memory in found:
+                print(f"| {rate:,} | {count} | {used:.2f} | {each:.3f} | {memory} | {most} |", flush=True)
+            if rate == 2400000:
+                options = ("--iq", *common, "--output", "/dev/null")
+                alone_ = [
+                    per_second(folder, part, seconds, *options, "--offset", f"{offsets[0]}", *more)[0]
+                    for more in (["--no-equaliser"], [])
+                ]
+                told = " and ".join(f"{8 * one:.2f}" for one in alone_)
+                print(
+                    f"eight `demod --offset`, without and with the equaliser: {told} of a processor",
+                    flush=True,
+                )
+
+
+PRINTED = {"time": print_times, "stations": print_stations}
+
+
 def main() -> None:
     parser = argparse.ArgumentParser(
         description=__doc__, formatter_class=argparse.RawDescriptionHelpFormatter
     )
-    parser.add_argument("--only", nargs="+", choices=[*TABLES, "time"], default=[*TABLES, "time"])
+    parser.add_argument("--only", nargs="+", choices=[*TABLES, *PRINTED], default=[*TABLES, *PRINTED])
     parser.add_argument("--seed", type=int, default=1)
     options = parser.parse_args()
     for name in options.only:
-        if name == "time":
-            print_times()
+        if name in PRINTED:
+            PRINTED[name]()
         else:
             print_table(TABLES[name], options.seed)
 

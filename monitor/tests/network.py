@@ -2,11 +2,12 @@
 
 from __future__ import annotations
 
+import json
 import os
 import sqlite3
 import sys
 from pathlib import Path
-from typing import Any, Callable, Dict, List, NamedTuple, Optional, Sequence, Tuple
+from typing import Any, Callable, Dict, List, Mapping, NamedTuple, Optional, Sequence, Tuple, Union
 
 import numpy
 import zstandard
@@ -73,6 +74,31 @@ class Air:
         return bytes(self._data[first:after].tobytes())
 
 
+class SharedAir:
+    """Stations that one receiver gives, as lines of `demod --stations`: by frequency in Hz. Each has a level of its own."""
+
+    def __init__(self, airs: Dict[int, Air]):
+        self._airs = airs
+        self.at = next(iter(airs.values())).at
+
+    def bytes(self, first: int, after: int) -> bytes:
+        if first >= after:
+            return b""
+        found = []
+        for number, (hertz, air) in enumerate(self._airs.items()):
+            line = {
+                "frequency": hertz,
+                "seconds": 8 * (after - first) / RATE,
+                "bits": air.bytes(first, after).hex(),
+            }
+            found.append(
+                json.dumps(
+                    {**line, "level_dbfs": -20.0 - number, "snr_db": 30.0 - number}, separators=(",", ":")
+                )
+            )
+        return "".join(f"{line}\n" for line in found).encode()
+
+
 class Plan(NamedTuple):
     """What a run of a receiver does, in seconds of the run: it dies or hangs, is so slow to tell that bytes come late, gives them in
     bursts, drops some from a moment on, or is that many times too fast."""
@@ -90,7 +116,7 @@ class Simulated(Process):
 
     keeps = True
 
-    def __init__(self, air: Air, times: SimulatedTimes, true_begin: float, plan: Plan):
+    def __init__(self, air: Union[Air, SharedAir], times: SimulatedTimes, true_begin: float, plan: Plan):
         self._air, self._times, self._plan, self._zero = air, times, plan, true_begin
         self._began = times.steady
         self._at = air.at(times.steady - true_begin)
@@ -159,7 +185,7 @@ class Network:
         self,
         folder: Path,
         table: str,
-        airs: Dict[str, Air],
+        airs: Mapping[str, Union[Air, SharedAir]],
         plans: Optional[Dict[str, List[Plan]]] = None,
         decoder: NewDecoder = ByLibrary,
     ):
@@ -184,7 +210,7 @@ class Network:
     def _say(self, priority: str, text: str) -> None:
         self.said.append(text)
 
-    def _launch(self, words: Sequence[str]) -> Simulated:
+    def _launch(self, words: Sequence[str], through: Sequence[str] = ()) -> Simulated:
         plans = self.plans.get(words[0], [])
         plan = plans.pop(0) if plans else Plan()
         self.runs.append((words[0], self.times.steady - self.zero))

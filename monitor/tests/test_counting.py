@@ -2,12 +2,14 @@
 
 from __future__ import annotations
 
+import random
 from typing import Any, Dict, Iterable, List, Optional, Sequence, Tuple
 
 
 import pytest
 from hypothesis import given, settings, strategies as st
 
+from network import Programme
 from rds_monitor.content.decoder import Decoder, Event
 from rds_monitor.rows.items import CORRECTED, LOST
 from sent import PI, Damage, Words, clock, events_of, group, name, oda, rows_of, text, told
@@ -228,6 +230,17 @@ def test_news_are_all_that_matters(seed: int) -> None:
 def test_chunks_of_a_station_make_no_difference(seed: int, size: int) -> None:
     rows = sample(seed, 500)
     assert fed(Decoder(), rows, size) == fed(Decoder(), rows)
+
+
+@pytest.mark.parametrize("bad", [0.0, 0.02])
+def test_a_text_that_begins_anew_early_is_the_same_in_chunks(bad: float) -> None:
+    """The simulated station sends its segments out of order: read one by one or passed at once, the changes are the same."""
+    words = [Programme(PI, "ALPHA", "Now: nothing much").group(n) for n in range(6000)]
+    chance = random.Random(1)
+    damage = [(n, Damage(4, LOST)) for n in range(6000) if chance.random() < bad]
+    rows = rows_of(words, damage)
+    whole = Decoder(lapses=True).feed(rows)
+    assert fed(Decoder(lapses=True), rows, 100) == whole and len(told(whole, "rt")) > 100
 
 
 @settings(max_examples=100, deadline=None)

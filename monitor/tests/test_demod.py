@@ -18,8 +18,8 @@ from made import on_a_terminal, peak_memory
 from measure_demod import TABLES, Words, bits_of, right, whole_groups
 from modulator import Array, dropped, iq, mpx, stored, wav, words
 
-from rds_monitor.signal.demod import sentence
-from rds_monitor.signal.receiver import Receiver
+from rds_monitor.signal.outputs import sentence
+from rds_monitor.signal.receiver import Capture
 
 GROUPS = words(3, 24)  # 2.1 seconds
 SENT = encode(GROUPS)
@@ -58,7 +58,7 @@ def test_rates(rate: int) -> None:
 @pytest.mark.parametrize("rate", [171000, 192000, 250001])
 def test_no_bit_is_wrong_without_noise(rate: int) -> None:
     sent = numpy.unpackbits(numpy.frombuffer(SENT, "u1"))
-    bits = bits_of(Receiver(rate), mpx(SENT, rate, snr=40))
+    bits = bits_of(Capture(rate), mpx(SENT, rate, snr=40))[0]
     # The first bit has none before it; the last ones may be cut.
     assert min(int((bits[at : at + 2400] != sent[10:2410]).sum()) for at in range(4, 16)) == 0
 
@@ -82,7 +82,7 @@ def test_nearly_as_many_bits_as_were_sent_and_they_keep_time() -> None:
     signal = mpx(SENT, RATE)
     for gap in (numpy.zeros(10 * RATE), numpy.random.default_rng(2).standard_normal(10 * RATE)):
         whole = numpy.concatenate([signal, gap, signal])
-        bits, sent = bits_of(Receiver(RATE), whole), whole.size / RATE * 1187.5
+        (bits,), sent = bits_of(Capture(RATE), whole), whole.size / RATE * 1187.5
         assert abs(bits.size - sent) < 5
         lines = rds("list", data=numpy.packbits(bits).tobytes()).decode().splitlines()
         places = [int(line.split(",")[1]) for line in lines if line.startswith("group,")]
@@ -249,7 +249,7 @@ def test_any_samples_give_bits_in_time(kind: str, is_iq: bool, seconds: float, b
         "steps": numpy.arange(size) % 1000.0,
     }[kind]
     given_ = signal + 1j * signal[::-1] if is_iq else signal
-    bits = bits_of(Receiver(RATE, is_iq, equalise=is_iq), given_, max(block, 1000))
+    bits = bits_of(Capture(RATE, is_iq, equalised=[0.0] if is_iq else ()), given_, max(block, 1000))[0]
     assert set(bits.tolist()) <= {0, 1}
     if block >= 1000:
         assert abs(bits.size - seconds * 1187.5) < 8
@@ -357,8 +357,8 @@ def test_the_level_is_that_of_the_form(form: str, level: float) -> None:
 def test_a_terminal_has_one_line_that_is_overwritten(signal: Array, tmp_path: Any) -> None:
     (tmp_path / "it").write_bytes(stored(signal, "s16") * 3)
     code = (
-        "import itertools, sys; from rds_monitor import cli; from rds_monitor.signal import demod\n"
-        "clock = itertools.count(1)\ndemod.time.monotonic = lambda: next(clock)\nsys.exit(cli.main(sys.argv[1:]))"
+        "import itertools, sys; from rds_monitor import cli; from rds_monitor.signal import outputs\n"
+        "clock = itertools.count(1)\noutputs.time.monotonic = lambda: next(clock)\nsys.exit(cli.main(sys.argv[1:]))"
     )
     options = ("--raw", "s16", "--rate", "192000", "--output", "/dev/null")
     said = on_a_terminal("-c", code, "demod", *options, str(tmp_path / "it"))
@@ -453,7 +453,7 @@ NO_INPUTS = [
     (RAW, bytes(1001), "ends within a sample, 1 bytes after the last whole one"),
     (RAW, b"", "there is no sample in the input"),
     (RAW, bytes(100), "the input is too short for a bit"),
-    ("--raw s16 --rate 127999", bytes(100), "a sample rate of 127999 is not 128000 to 3200000"),
+    ("--raw s16 --rate 127999", bytes(100), "a sample rate of 127999 is not 128000 to 20000000"),
     ("--raw f32 --rate 171000", bytes(400) + b"\0\0\xc0\x7f", "sample 101 is nan: no signal has it"),
     ("", bytes(100), "the input is neither WAV nor FLAC: name its samples with --raw and --rate"),
     ("", b"fLaC" + bytes(100), "FLAC is read from a file only"),

@@ -16,8 +16,9 @@ from typing import Callable, Dict, List
 
 import pytest
 
+from captures import Sent, captured
 from conftest import PROGRAM, STATION, TOP, rds
-from modulator import mpx, stored
+from modulator import mpx, stored, wav
 
 TEXT = (TOP / "README.md").read_text(encoding="utf-8")
 PATIENCE = 60.0
@@ -43,6 +44,7 @@ TASKS: Dict[str, str] = {
     "rds-monitor json bits.bin": '"value":"D393"',
     "rds-monitor groups bits.bin": "D393 0549 E100 584F",
     "rds encode < groups.txt > bits.bin": "",
+    "rds-monitor stations capture.wav": "D393",
 }
 WATCH = "rds-monitor watch stations.toml"
 
@@ -98,6 +100,9 @@ def test_a_task(command: str, folder: Path, done: Callable[[str], str]) -> None:
         pytest.importorskip("jinja2")
         if not os.path.exists(D3):
             pytest.skip("needs libjs-d3")
+    if "capture.wav" in command:
+        signal = captured([Sent(100e3, STATION.read_bytes()[:300])], 480000, 1.9, -50)
+        (folder / "capture.wav").write_bytes(wav(stored(signal, "s16"), "s16", 480000, channels=2))
     groups, file = (folder / "groups.txt").read_bytes(), command.partition("> ")[2]
     out = done(command).encode()
     written = (folder / file).read_bytes() if file else out

@@ -54,7 +54,7 @@ def test_chunks_change_nothing(rows: Rows) -> None:
 def test_the_text_of_a_group_is_made_once(rows: Rows, monkeypatch: Any) -> None:
     """While the items hold that it tells: a new RT has no effect on the segments that do not write it."""
     made: List[int] = []
-    texts = Redsea._texts
-    monkeypatch.setattr(Redsea, "_texts", lambda self, group: made.append(group) or texts(self, group))
+    text_of = Redsea._text_of
+    monkeypatch.setattr(Redsea, "_text_of", lambda self, group: made.append(group) or text_of(self, group))
     changes = len(Decoder(lapses=True).feed(rows))
     assert len(list(lines(rows, []))) > len(made) and len(made) <= len(set(made)) + 2 * changes

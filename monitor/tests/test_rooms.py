@@ -19,6 +19,7 @@ MAY_IMPORT = {
     "signal": {"rows"},
     "db": {"rows", "content", "measures"},
     "page": {"rows", "content", "measures", "db"},
+    "capture": {"rows", "content", "signal", "page"},
     "watch": {"rows", "content", "measures", "db", "signal"},
     "": {"rows"},
 }

@@ -13,9 +13,10 @@ from rds_monitor.content.decoder import Event
 from rds_monitor.measures.clock import Tick
 from rds_monitor.watch.alarms import Alarm, Alarms, Change, Trouble, Watched, words_for
 from rds_monitor.watch.table import table_of
-from rds_monitor.watch.times import Timing
+from rds_monitor.watch.times import Pace, Timing
 
-TIMING = Timing(0.0, 1187.5)
+# Whole seconds are at whole positions.
+TIMING = Timing(0.0, 1200.0)
 
 
 class Judged:
@@ -32,17 +33,19 @@ class Judged:
         self, count: int, *, age: float = 0.1, quiet: float = 0.0, pace: Optional[float] = 1.0, **held: Any
     ) -> "Judged":
         """`count` seconds in which this holds; `age` and `quiet` grow if they are above 2."""
+        since = self.now + 1
         told = [
-            Event(0, 0xD318, item, value, None, str(value))
+            Event(TIMING.place(since), 0xD318, item, value, None, str(value))
             for item, value in held.items()
             if self.held.get(item) != value
         ]
         self.held.update(held)
         for n in range(count):
             self.now += 1
-            self.alarms.take(told if n == 0 else [], [], [], TIMING)
+            self.alarms.take(told if n == 0 else [], [], [], TIMING, 0.0)
             byte = self.now - (quiet + n if quiet else 0)
-            seen = Watched(byte, age + n if age > 2 else age, self.held, pace)
+            paced = None if pace is None else Pace(pace, since)
+            seen = Watched(byte, age + n if age > 2 else age, self.held, paced)
             changes = self.alarms.judge(seen, self.now)
             self.texts += [change.text for change in changes]
             self.found += [(change.alarm, change.begins, self.now) for change in changes]
@@ -50,13 +53,14 @@ class Judged:
 
     def minutes(self, *percents: float) -> "Judged":
         for percent in percents:
-            self.alarms.take([], [percent], [], TIMING)
+            self.alarms.take([], [percent], [], TIMING, 0.0)
             self.seconds(1)
         return self
 
     def ticks(self, *offsets: float) -> "Judged":
         for offset in offsets:
-            self.alarms.take([], [], [Tick(0, int(offset))], TIMING)
+            place = TIMING.place(self.now)
+            self.alarms.take([], [], [Tick(place, int(TIMING.utc(place) + offset))], TIMING, 0.0)
             self.seconds(1)
         return self
 
@@ -171,7 +175,7 @@ def test_a_dynamic_ps() -> None:
         judged.seconds(10, ps="ALPHA   ").seconds(15, ps="TRAFFIC ").seconds(10, ps="NEWS AT ")
     assert judged.found == []
     judged.seconds(80, ps="BETA    ")
-    assert judged.found == [("ps", True, 410.0)]
+    assert judged.found == [("ps", True, 411.0)]
     for _ in range(2):
         judged.seconds(2, ps="ALPHA   ").seconds(20, ps="TRAFFIC ")
     assert [begins for _, begins, _ in judged.found] == [True, False]
@@ -192,8 +196,8 @@ def test_texts_that_are_stuck() -> None:
     judged = Judged("[station.alarms]", "rt_stuck = 100", "ps_stuck = 50")
     judged.seconds(90, rt="One", ps="A").seconds(120, rt="Two").seconds(5, rt="Three", ps="B")
     assert judged.found == [
-        ("ps_stuck", True, 50.0),
-        ("rt_stuck", True, 190.0),
+        ("ps_stuck", True, 51.0),
+        ("rt_stuck", True, 191.0),
         ("ps_stuck", False, 211.0),
         ("rt_stuck", False, 211.0),
     ]
@@ -260,8 +264,8 @@ def test_what_is_counted_outlasts_the_watch() -> None:
     second.held["pi"] = "D318"
     second.seconds(60, ps="BETA", rt="One")
     assert [found[0] for found in second.found] == ["ct", "rt_stuck", "ps"]
-    # 70 s were counted before, of which the PS was another one for 28.
-    assert [at for _, _, at in second.found] == [22.0, 51.0, 53.0]
+    # 69 s were counted before, of which the PS was another one for 27.
+    assert [at for _, _, at in second.found] == [22.0, 52.0, 54.0]
 
 
 @pytest.mark.parametrize("text", ["{station}", "; rm -rf /", "$(id)", "a\nb", "{state}{text}"])

@@ -37,7 +37,7 @@ def test_packed_bits_are_left_alone() -> None:
     assert source.take(b"\x01\x02") == b"\x01\x02"
     assert source.finish() == b""
     assert source.delay == 0
-    assert source.report() == {}
+    assert source.strength is None
 
 
 FORMS: Dict[str, Tuple[str, ...]] = {
@@ -62,7 +62,8 @@ def test_a_signal(name: str) -> None:
     rows = library().items_array(bits)
     found = [tuple(int(row[f"info{block}"]) for block in (1, 2, 3, 4)) for row in rows[rows["what"] == 2]]
     assert len([group for group in found if group in GROUPS]) >= 50
-    assert 0.5 < source.delay < 3 and source.report()["snr_db"] > 15
+    assert 0.5 < source.delay < 3 and source.strength is not None
+    assert source.strength.snr_db is not None and source.strength.snr_db > 15
 
 
 def test_what_is_no_signal() -> None:

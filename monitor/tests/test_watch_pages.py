@@ -38,7 +38,7 @@ def state(**changes: Any) -> Dict[str, Any]:
         "last_group_utc": UTC - 0.5,
         "minute": {"sent": 2740, "valid": 2466, "corrected": 100},
         "clock_s": -0.25,
-        "signal": {"snr_db": 21.5},
+        "signal": {"snr_db": 21.5, "level_dbfs": -31.0},
         "blocks": {"valid": 10, "corrected": 2, "lost": 3, "missing": 4},
         "alarms": {},
     }
@@ -93,7 +93,7 @@ def test_a_tile() -> None:
     shown = "1 stations, 1 with an alarm/98.1 MHz/ALPHA/Now: nothing/PI D318/ta: TA is on/10.0 % of the last minute bad"
     assert all(one in text for one in [*shown.split("/"), "group 0 s ago"])
     text = Tags(overview({"A": state(minute=None, last_group_utc=None)}, {"A": []}, UTC, 60)).text
-    assert "no minute yet; no whole group yet" in text
+    assert "no minute yet; no whole group yet; RDS SNR 21.5 dB, level -31.0 dBFS" in text
 
 
 def test_a_picture_is_in_proportion() -> None:
@@ -221,6 +221,7 @@ def test_metrics() -> None:
         "clock_offset_seconds": "-0.25",
         "pi_as_expected": "0",
         "snr_db": "21.5",
+        "level_dbfs": "-31",
     }
     for line in ('day_seconds{station="B",state="down"} 3000', 'station_state{station="B",state="good"} 1'):
         assert f"rds_{line}" in other.splitlines()

@@ -3,6 +3,7 @@
 from __future__ import annotations
 
 import gc
+import sqlite3
 import time
 from collections import deque
 from pathlib import Path
@@ -11,12 +12,13 @@ from typing import Any, List, Optional
 
 import pytest
 
+from conftest import rds
 from load import Endless
 from network import START, Air, Plan, Simulated
 from rds_monitor.content.decoder import Event
 from rds_monitor.db.parts import Contents, Part
 from rds_monitor.rows.clock import Clock
-from rds_monitor.watch import loop
+from rds_monitor.watch import loop, records, writer
 from rds_monitor.watch.live import Append
 from rds_monitor.watch.loop import Hooks
 from rds_monitor.watch.receiver import Keeper, Process
@@ -44,7 +46,7 @@ class Leaving(Process):
 
 
 def test_the_last_bytes_of_a_receiver() -> None:
-    keeper = Keeper(["it"], 10.0, lambda words: Leaving(), 0.0)
+    keeper = Keeper(["it"], 10.0, lambda words, through: Leaving(), 0.0)
     assert [keeper.read(now) for now in (0.0, 0.1, 0.2, 0.3)] == [b"", b"first", b"last", None]
     assert keeper.reason == "ended with status 0" and not keeper.is_running
 
@@ -133,6 +135,25 @@ def test_nothing_grows(tmp_path: Path, grows: bool, monkeypatch: pytest.MonkeyPa
         most.append(entries(one.watch, one))
     assert 200 < max(most) < 2000 and (max(most[12:]) > max(most[:12]) + 100) == grows
     one.end()
+
+
+def test_records_that_are_too_many(tmp_path: Path, monkeypatch: pytest.MonkeyPatch) -> None:
+    """The database cannot be written while a session begins: the oldest are given up, but its part is known, and no row of its file
+    is lost."""
+    one = network(tmp_path, Air(ALPHA, START, 100))
+    with monkeypatch.context() as patch:
+        patch.setattr(writer, "MOST_RECORDS", 3)
+        patch.setattr(records.Records, "write", locked)
+        one.run(20)
+    one.run(10)
+    one.end()
+    (text,) = one.texts("Alpha")
+    assert text == rds("list", data=one.given[0][1].given)
+    assert one.asked("SELECT COUNT(*), SUM(finished) FROM sessions") == [(1, 1)]
+
+
+def locked(self: Any, records: Any) -> None:
+    raise sqlite3.OperationalError("database is locked")
 
 
 def test_changes_that_are_too_many() -> None:

@@ -367,7 +367,7 @@ def test_it_opens_no_socket(tmp_path: Path) -> None:
 
 
 def test_the_demonstration(tmp_path: Path) -> None:
-    """Three simulated stations are on a page, whose address is printed."""
+    """Three simulated stations are on a page, and four of one capture on another, beside a picture of it. The addresses are printed."""
     words = [
         sys.executable,
         str(STATION.parent / "run.py"),
@@ -377,8 +377,14 @@ def test_the_demonstration(tmp_path: Path) -> None:
         "2",
     ]
     done = subprocess.run(words, stdout=subprocess.PIPE, stderr=subprocess.DEVNULL, timeout=3 * PATIENCE)
-    page = tmp_path / "demo" / "pages" / "index.html"
-    assert done.returncode == 0 and done.stdout.decode() == f"{page.as_uri()}\n"
+    pages = [
+        tmp_path / "demo" / name for name in ("pages/index.html", "capture.html", "capture/pages/index.html")
+    ]
+    assert done.returncode == 0 and done.stdout.decode() == "".join(f"{page.as_uri()}\n" for page in pages)
+    assert all(
+        text in page.read_text() for page in pages[1:] for text in ("DELTA", "EPSILON", "ZETA", "ETA FM")
+    )
+    page = pages[0]
     assert all(f">{ps}<" in page.read_text() for ps in ("ALPHA", "BETA FM", "GAMMA"))
 
 

@@ -71,9 +71,8 @@ CASES = [
     Case("no_rds", 10, noise, 50, 205),
     # The first whole minute is the second one, since an hour begins in the first one. Its row comes a second after it.
     Case("errors", 1, halves, 121, 221),
-    # The rate is measured over ten seconds.
-    Case("slow", 60, paced(0.97), 60, 220, 12),
-    Case("fast", 60, paced(1.02), 60, 220, 12),
+    Case("slow", 60, paced(0.97), 60, 220),
+    Case("fast", 60, paced(1.02), 60, 220),
     Case("pi", 10, sends(pi=0xD319), 50, 210),
     # A text takes some seconds.
     Case("ps", 20, sends(ps="NEWS"), 60, 210, 1.5),

@@ -74,7 +74,7 @@ def test_all_of_it() -> None:
         (stations(*ALPHA, 'form = "wav"'), "one of bits, mpx, iq"),
         (stations(*ALPHA, 'form = "mpx"'), "needs 'raw' and 'rate'"),
         (stations(*ALPHA, "rate = 171000"), "are for the forms mpx and iq"),
-        (stations(*ALPHA, 'form = "mpx"', 'raw = "s16"', "rate = 48000"), "128000 to 3200000 samples"),
+        (stations(*ALPHA, 'form = "mpx"', 'raw = "s16"', "rate = 48000"), "128000 to 20000000 samples"),
         (stations(*ALPHA, "patience = -1"), "a number that is not below 0"),
         (stations(*ALPHA, "patience = true"), "a number that is not below 0"),
         (stations(*ALPHA, "[station.alarms]", "loud = 3"), "unknown key 'loud'"),
@@ -170,9 +170,11 @@ def test_a_burst_that_is_longer_than_patience(tmp_path: Path, lines: List[str], 
 
 def test_the_tables_that_are_shown() -> None:
     """The example of the package, and that of the page, are tables."""
-    text = (TOP / "monitor" / "WATCHING.md").read_text().split("## The table of stations")[1].split("##")[0]
-    shown = "\n".join(line[4:] for line in text.splitlines() if line.startswith("    "))
-    assert table_of(shown).stations[0].name == "Alpha"
+    page = (TOP / "monitor" / "WATCHING.md").read_text()
+    for title in ("The table of stations", "A receiver of several stations"):
+        text = page.split(f"## {title}\n")[1].split("##")[0]
+        shown = "\n".join(line[4:] for line in text.splitlines() if line.startswith("    "))
+        assert table_of(shown).stations[0].name == "Alpha"
     assert len(table_of((TOP / "packaging" / "stations.toml").read_text()).stations) >= 1
 
 

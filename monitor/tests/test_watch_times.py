@@ -5,6 +5,7 @@ from __future__ import annotations
 import random
 from typing import Iterator, List, Tuple
 
+import numpy
 import pytest
 from hypothesis import given
 from hypothesis import strategies as st
@@ -69,6 +70,20 @@ def test_dropped_samples_make_the_time_jump_forward() -> None:
     # The last read in time came after 91 s.
     assert seen.index(True) in range(98, 102) and seen.count(True) == 1
     assert arrivals.timing is not None and abs(arrivals.timing.start - BEGIN - 2.05) < 0.02
+
+
+@pytest.mark.parametrize("factor", [0.97, 1.02, 1.3])
+def test_when_the_pace_changes(factor: float) -> None:
+    """It is another one from second 60 to 100. The first look that tells so says when that began."""
+    arrivals, place, found = Arrivals(), 0.0, []
+    for second in range(1, 150):
+        place += RATE * (factor if 60 < second <= 100 else 1)
+        arrivals.take(int(place), BEGIN + second)
+        pace = arrivals.pace()
+        is_off = pace is not None and abs(pace.factor - 1) > 0.01
+        if pace and is_off != (len(found) % 2 == 1):
+            found.append(pace.since - BEGIN)
+    assert len(found) == 2 and numpy.allclose(found, (60, 100), atol=1.5)
 
 
 @given(st.lists(st.floats(0, 5), min_size=30, max_size=200), st.floats(-200, 200))

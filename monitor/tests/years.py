@@ -74,10 +74,26 @@ def add_day(data: sqlite3.Connection, name: str, day: int, facts: List[int]) -> 
         minutes = range(60 * hour, 60 * hour + 60)
         rts = {minute: texts[minute // 3] for minute in minutes}
         rows: List[Tuple[Any, ...]] = [
-            (session, minute, *MINUTES[minute & 1], MIX, pi, ps, rts[minute], pty, tp, ta, ms, 0.25, 0)
+            (
+                session,
+                minute,
+                *MINUTES[minute & 1],
+                MIX,
+                pi,
+                ps,
+                rts[minute],
+                pty,
+                tp,
+                ta,
+                ms,
+                0.25,
+                0,
+                None,
+                None,
+            )
             for minute in minutes
         ]
-        data.executemany(f"INSERT INTO minute_rows VALUES({', '.join('?' * 17)})", rows)
+        data.executemany(f"INSERT INTO minute_rows VALUES({', '.join('?' * 19)})", rows)
         events = [(session, int(60 * RATE * minute) + 208, 0, rts[minute]) for minute in minutes[::3]]
         if not hour:
             events += [(session, 104, at, fact) for at, fact in enumerate(facts[:7])]

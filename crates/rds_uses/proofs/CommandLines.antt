@@ -1,10 +1,10 @@
 -- Command lines as `clap` reads them.
-use Rattle.std.proofs.Common.{◌≡◌, ◌⊎◌, ◌∙◌, sym, List, [], ◌∷◌, OnOk, IfErr, IfOk, IsErrAnd, Option, Result, Ok, Err, Some, None, codes, true, false, refl, ap, inl, inr}
+use Rattle.std.proofs.Common.{◌≡◌, ◌⊎◌, ◌∙◌, sym, List, [], ◌∷◌, OnOk, IfErr, IfOk, IsErrAnd, Result, Ok, Err, Some, None, codes, false, refl, ap, inl, inr}
 use Rattle.std.specs.Result.{result_ok}
 use Rattle.clap.specs.Faults.{defaults_fault, flags_fault, walk_fault}
 use Rattle.clap.specs.Takes.{flags_pass, walk_passes}
 use Rattle.clap.specs.Walk.{bundle_met, walked}
-use Rattle.clap.specs.Words.{Kinds, Text}
+use Rattle.clap.specs.Words.{Text}
 use Rattle.clap.specs.declared.error.kind.ErrorKind.{ErrorKind}
 use Rattle.clap.specs.declared.error.kind.ErrorKind.TheVariants as kind
 use Rattle.rds_sync.specs.declared.loss.Loss.TheVariants.{Share}
@@ -21,47 +21,6 @@ use Rattle.rds_tool.specs.declared.job.Request.TheVariants as request
 -- two answers that are computed are the same
 same : {T E : Type 0} (computed : Result T E) (x y : T) → computed ≡ Ok x → computed ≡ Ok y → y ≡ x
 same computed x y is given = let both : Ok x ≡ Ok y = sym is ∙ given in cc
-
-same_job : (computed : Option Job) (x y : Job) → computed ≡ Some x → computed ≡ Some y → y ≡ x
-same_job computed x y is given = let both : Some x ≡ Some y = sym is ∙ given in cc
-
--- words without a fault that ask for something are refused only for memory
-only_memory : {T : Type 0} (faults : Kinds) (asked : Option T) (x : T) (answer : FaultKind) → faults ≡ [] → asked ≡ Some x → MayAnswer faults asked answer → answer ≡ Memory
-only_memory faults asked x Memory none some may = refl
-only_memory faults asked x Help none some may = absurd (rw none at may)
-only_memory faults asked x Version none some may = absurd (rw none at may)
-only_memory faults asked x Words none some (inl other) = let among = other.2 in absurd (rw none at among)
-only_memory faults asked x Words none some (inr without) = let no : None ≡ Some x = sym without.1 ∙ some in cc
-
--- ---- a scan of digits
-
-abbrev pub scan_of_digits : List Text
-scan_of_digits = codes "rds" ∷ codes "scan" ∷ codes "--hex" ∷ []
-
-abbrev digits_job : Job
-digits_job = job.Scan (record { hex = true; bits = None; gaps = [] }) 4
-
-abbrev digits_asked : Asked
-digits_asked = record { request = request.Job digits_job false; ignored = None }
-
-no_faults : faults_of scan_of_digits ≡ []
-unfolding walked bundle_met flags_pass walk_passes flags_fault walk_fault defaults_fault
-no_faults = refl
-
-asks_for_digits : asked_by (entries_of scan_of_digits) ≡ Ok digits_asked
-unfolding walked
-asks_for_digits = refl
-
-pub is_scan : (asked : Asked) → asked_by (entries_of scan_of_digits) ≡ Ok asked → asked.request ≡ request.Job digits_job false
-is_scan asked is = ap (λ (a : Asked). a.request) (same (asked_by (entries_of scan_of_digits)) digits_asked asked asks_for_digits is)
-
-pub is_job_of_digits : (given : Job) → job_by (entries_of scan_of_digits) ≡ Some given → given ≡ digits_job
-unfolding walked
-is_job_of_digits given is = same_job (job_by (entries_of scan_of_digits)) digits_job given refl is
-
-pub refused_for_memory : (answer : FaultKind) → MayAnswer (faults_of scan_of_digits) (result_ok (asked_by (entries_of scan_of_digits))) answer → answer ≡ Memory
-refused_for_memory answer =
-    only_memory (faults_of scan_of_digits) (result_ok (asked_by (entries_of scan_of_digits))) digits_asked answer no_faults (ap result_ok asks_for_digits)
 
 -- ---- gaps
 
@@ -166,22 +125,3 @@ help_or_memory Words (inl other) =
     let among = other.2 in
     elim (rw asks_for_help at among) [ inl same ↦ absurd (other.1.0 same) | inr none ↦ absurd none ]
 help_or_memory Words (inr none) = let faults = none.0 in let no = rw asks_for_help at faults in cc
-
--- ---- the version
-
-abbrev pub version : List Text
-version = codes "rds" ∷ codes "--version" ∷ []
-
-pub asks_for_version : faults_of version ≡ kind.DisplayVersion ∷ []
-unfolding walked bundle_met flags_pass walk_passes flags_fault walk_fault defaults_fault
-asks_for_version = refl
-
-pub version_or_memory : (answer : FaultKind) → MayAnswer (faults_of version) (result_ok (asked_by (entries_of version))) answer → (answer ≡ Version) ⊎ (answer ≡ Memory)
-version_or_memory Version may = inl refl
-version_or_memory Memory may = inr refl
-version_or_memory Help may =
-    elim (rw asks_for_version at may) [ inl same ↦ let no : kind.DisplayHelp ≡ kind.DisplayVersion = same in cc | inr none ↦ absurd none ]
-version_or_memory Words (inl other) =
-    let among = other.2 in
-    elim (rw asks_for_version at among) [ inl same ↦ absurd (other.1.1 same) | inr none ↦ absurd none ]
-version_or_memory Words (inr none) = let faults = none.0 in let no = rw asks_for_version at faults in cc

@@ -1,7 +1,5 @@
-pub mod Meetings
 pub mod Outcomes
 pub mod CommandLines
-pub mod TwoParts
 pub mod Rests
 pub mod SoundSignal
 pub mod GapFacts

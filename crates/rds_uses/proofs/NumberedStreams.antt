@@ -1,9 +1,9 @@
 -- The chunks of a stream and its end give its report.
-use Rattle.std.proofs.Common.{◌≡◌, ◌∙◌, ◌+◌, ◌*◌, ◌++◌, ℕ, List, [], ap, append_assoc, drop, length, map, refl, sym, take}
+use Rattle.std.proofs.Common.{◌≡◌, ◌∙◌, ◌+◌, ◌++◌, ℕ, List, [], ap, append_assoc, drop, length, map, refl, sym, take}
 use Rattle.std.proofs.lemmas.List.{length-map, map-append}
 use Rattle.rds_sync.specs.declared.item.Item.{Item}
-use Rattle.rds_live.specs.StreamDecoder.{HasHeard, Terms, report_at, report_of}
-use Rattle.rds_abi.specs.Stream.{AreClosed, AreCompleted, AreLeft, AreWritten, stream_in_c, stream_of, unheard}
+use Rattle.rds_live.specs.StreamDecoder.{HasHeard, Terms, report_of}
+use Rattle.rds_abi.specs.Stream.{AreClosed, AreCompleted, AreWritten, stream_of, unheard}
 use Rattle.rds_abi.specs.Layout.{item_in_c}
 use Rattle.rds_abi.specs.declared.layout.RdsStream.{RdsStream}
 use Rattle.rds_abi.specs.declared.layout.RdsItem.{RdsItem}
@@ -28,20 +28,3 @@ in_chunks terms middle end first second a a1 b b1 e e1 i j k one two three heard
     (sym (append_assoc one.0 two.0 three.0)
     ∙ ap (λ items. items ++ three.0) (sym (two.1 first heard ∙ ap (λ items. items ++ two.0) (one.1 [] refl)))
     ∙ three.1.1 (first ++ second) all))
-
-pub to_an_end : (terms : Terms) (middle : RdsStream) (early late : List ℕ) (bits : ℕ) (a a1 e e1 : List RdsItem) (i k : ℕ)
-    → AreWritten (AreCompleted terms unheard early) a a1 i
-    → AreWritten (AreLeft terms middle late bits) e e1 k
-    → HasHeard (stream_of terms middle) early
-    → take i a1 ++ take k e1 ≡ map item_in_c (report_at terms (early ++ late) (8 * length early + bits))
-to_an_end terms middle early late bits a a1 e e1 i k one last heard =
-    rw (found _ a a1 i one, found _ e e1 k last)
-    (sym (map-append item_in_c one.0 last.0)
-    ∙ ap (λ items. map item_in_c items) (ap (λ items. items ++ last.0) (sym (one.1 [] refl)) ∙ last.1 early heard))
-
--- streams that have heard the same are the same numbers
-pub alike : (terms : Terms) (one other : RdsStream) (bytes : List ℕ)
-    → one ≡ stream_in_c (stream_of terms one) → other ≡ stream_in_c (stream_of terms other)
-    → HasHeard (stream_of terms one) bytes → HasHeard (stream_of terms other) bytes → one ≡ other
-alike terms one other bytes one_laid other_laid one_heard other_heard =
-    one_laid ∙ ap stream_in_c (one_heard ∙ sym other_heard) ∙ sym other_laid

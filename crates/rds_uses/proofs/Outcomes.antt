@@ -1,27 +1,25 @@
 -- The outcomes of jobs over the bits of bytes.
-use Rattle.std.proofs.Common.{◌≡◌, ℕ, ◌*◌, ◌^◌, ◌≤◌, List, [], Bool, true, false, Option, IfOk, IfSome, OnOk, None, Some, Result, Ok, Err, cond, length, refl, sym, ap, ap₂, arith, subst, ◌++◌, ◌∷◌, ◌∙◌}
+use Rattle.std.proofs.Common.{◌≡◌, ℕ, ◌*◌, ◌^◌, ◌≤◌, List, [], Bool, true, false, Option, IfSome, OnOk, None, Some, Result, Ok, Err, cond, length, refl, sym, ap, ap₂, arith, subst, ◌++◌, ◌∷◌, ◌∙◌}
 use Rattle.std.proofs.lemmas.Bool.Decides.{nat_tests}
 use Rattle.std.proofs.lemmas.List.{append-nil}
-use Rattle.std.specs.Result.{result_err, result_unwrap_or}
-use Rattle.rds_stream.specs.Recording.{Signal, bits_of, length_of}
+use Rattle.std.specs.Result.{result_unwrap_or}
+use Rattle.rds_stream.specs.Recording.{Signal, length_of}
 use Rattle.rds_sync.specs.Rules.{RuleNumbers}
-use Rattle.rds_tool.specs.Cuts.{cuts_any, cuts_bits}
-use Rattle.rds_tool.specs.Input.{and_then, may_be_gaps, recording_of}
+use Rattle.rds_tool.specs.Cuts.{cuts_bits}
+use Rattle.rds_tool.specs.Input.{and_then, recording_of}
 use Rattle.rds_tool.specs.Laws.{EncodedGroupsAreListed, ListsEndWithTotals, groups_in, sent_listing, whole_input}
 use Rattle.rds_tool.specs.Listing.{scan_text}
-use Rattle.rds_tool.specs.Outcome.{result_of_job, list_text, totals_list, text_of_task, Writes, WritesPrefix}
+use Rattle.rds_tool.specs.Outcome.{result_of_job, list_text, text_of_task, Writes, WritesPrefix}
 use Rattle.rds_tool.specs.Plans.{crew_of, workers_of}
 use Rattle.rds_tool.specs.Rules.{rules_of}
 use Rattle.rds_tool.specs.declared.error.ToolError.{ToolError}
 use Rattle.rds_tool.specs.declared.error.ToolError.TheVariants.{BadCutting}
-use Rattle.rds_tool.specs.declared.job.Cuts.{Cuts}
-use Rattle.rds_tool.specs.declared.job.Cuts.TheVariants.{At, Even}
 use Rattle.rds_tool.specs.declared.job.Input.{Input}
 use Rattle.rds_tool.specs.declared.job.Job.{Job}
 use Rattle.rds_tool.specs.declared.job.Job.TheVariants as job
 use Rattle.rds_tool.specs.declared.job.Settings.{Settings}
 use Rattle.rds_tool.specs.declared.task.Task.TheVariants as task
-use Rattle.rds_uses.specs.Jobs.{all_bits, plain, IsListBy, IsScan, IsTotalsBy}
+use Rattle.rds_uses.specs.Jobs.{all_bits, plain, IsListBy, IsScan}
 
 abbrev is_text : List ℕ → Result (List ℕ) ToolError
 is_text text = Ok text
@@ -89,16 +87,6 @@ module _ (bytes text : List ℕ) (few : 8 * length bytes ≤ 2 ^ 36) (rules : Ru
   pub list-text : rules_of settings ≡ Ok rules → result_of_job (job.List plain settings) bytes ≡ Ok text → text ≡ list_text rules (all_bits bytes)
   list-text by is = list_if_crew (crew_of settings) (rw by at is)
 
-  totals_if_crew : (crew : Result (Unit {0}) ToolError)
-      → and_then (and_then (and_then crew (λ _. Ok (record { rules = rules; workers = settings.workers; cuts = settings.cuts }))) (λ plan. Ok (task.Totals plain plan)))
-      (λ task. text_of_task task bytes) ≡ Ok text
-      → text ≡ totals_list rules (all_bits bytes)
-  totals_if_crew (Ok done) is = if_cut (totals_list rules) (all_bits bytes) text (cuts_bits settings.cuts (length_of (all_bits bytes))) (rw (all_bits-few bytes few) at is)
-  totals_if_crew (Err e) is = let none : Err e ≡ Ok text = is in cc
-
-  pub totals-text : rules_of settings ≡ Ok rules → result_of_job (job.Totals plain settings) bytes ≡ Ok text → text ≡ totals_list rules (all_bits bytes)
-  totals-text by is = totals_if_crew (crew_of settings) (rw by at is)
-
 module _ (bytes new : List ℕ) (few : 8 * length bytes ≤ 2 ^ 36) (rules : RuleNumbers) where
   -- what a listing writes into an empty writer
   pub listed : (job : Job) → IsListBy job rules → result_of_job job bytes ≡ Ok new → new ≡ list_text rules (all_bits bytes)
@@ -108,15 +96,6 @@ module _ (bytes new : List ℕ) (few : 8 * length bytes ≤ 2 ^ 36) (rules : Rul
   listed (job.Scan input workers) by is = absurd by
   listed (job.Totals input settings) by is = absurd by
   listed (job.Encode hex) by is = absurd by
-
-  -- what totals write into one
-  pub totalled : (job : Job) → IsTotalsBy job rules → result_of_job job bytes ≡ Ok new → new ≡ totals_list rules (all_bits bytes)
-  totalled (job.Totals input settings) by is =
-      let same = by.0 in
-      totals-text bytes new few rules settings by.1 (rw same at is)
-  totalled (job.Scan input workers) by is = absurd by
-  totalled (job.List input settings) by is = absurd by
-  totalled (job.Encode hex) by is = absurd by
 
 module _ (input : Input) (recorded : Signal) (bytes text : List ℕ) (is_recording : recording_of input bytes ≡ Ok recorded) where
   -- the text of a scan, if there are workers
@@ -134,46 +113,10 @@ module _ (bytes new : List ℕ) (few : 8 * length bytes ≤ 2 ^ 36) where
   scanned (job.Totals input settings) by is = absurd by
   scanned (job.Encode hex) by is = absurd by
 
-module _ (bytes : List ℕ) (few : 8 * length bytes ≤ 2 ^ 36) (gaps : List (ℕ × ℕ)) where
-  -- the bytes themselves with gaps, and the recording that they denote
-  abbrev pub gapped : Input
-  gapped = record { hex = false; bits = None; gaps = gaps }
-
-  abbrev pub recorded : Signal
-  recorded = record { bits = bits_of bytes (8 * length bytes); gaps = gaps }
-
-  few_with_gaps : may_be_gaps 0 gaps (8 * length bytes) ≡ true → recording_of gapped bytes ≡ Ok recorded
-  few_with_gaps lawful = grind (arith, nat_tests)
-
-  -- what a scan of them writes
-  pub scanned_with_gaps : (new : List ℕ) → may_be_gaps 0 gaps (8 * length bytes) ≡ true
-      → result_of_job (job.Scan gapped 4) bytes ≡ Ok new → new ≡ scan_text recorded
-  scanned_with_gaps new lawful is =
-      scan-text gapped recorded bytes new (few_with_gaps lawful) (workers_of 4) is
-
--- if something was written there is a text
-pub has_text : (out : Result (List ℕ) ToolError) (old new : Option (List ℕ)) → Writes old new out → (text : List ℕ) × (out ≡ Ok text)
-has_text (Ok text) old new is = (text, refl)
-has_text (Err e) old new is = absurd is
-
--- if nothing was refused, what follows from that is so
-pub unless_refused : {P : Type 0} (result : Result (Unit {0}) ToolError) → result_err result ≡ None → OnOk result P → P
-unless_refused (Ok done) none is = is
-unless_refused (Err e) none is = cc none
-
 -- ---- laws of jobs
 
 pub same-text : (text other : List ℕ) → is_text text ≡ is_text other → text ≡ other
 same-text text other same = ap (λ (r : Result (List ℕ) ToolError). result_unwrap_or r text) same
-
--- pieces of one length can cut any recording
-any-fits : (cuts : Cuts) → cuts_any cuts ≡ true → (bits : ℕ) → cuts_bits cuts bits ≡ true
-any-fits (Even pieces) any bits = refl
-any-fits (At cuts) any bits = cc any
-
-pub all-fit : (cuts : Cuts) → cuts_any cuts ≡ true → (read : Result Signal ToolError) → IfOk read (λ recording. cuts_bits cuts (length_of recording) ≡ true)
-all-fit cuts any (Ok recording) = any-fits cuts any (length_of recording)
-all-fit cuts any (Err e) = tt
 
 -- a list of what was encoded
 pub sent-text : EncodedGroupsAreListed → (hex : Bool) (settings : Settings) (encode list : Job) (lines bytes held listing : List ℕ)

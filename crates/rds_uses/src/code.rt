@@ -1,6 +1,6 @@
 //! Facts that a user of `rds_code` relies on: remainders, offsets, bursts, and blocks as they are sent and
 //! read.
-ghost use Rattle.std.specs.Prelude.{◌≡◌, ◌≢◌, ℕ, ◌+◌, ◌<◌, ◌≤◌, ◌^◌, ◌↔◌, ◌∷◌, [], IsTrue, IfOk, IfSome, None, Some, Contains, bit_xor, codes, slice_index, true};
+ghost use Rattle.std.specs.Prelude.{◌≡◌, ◌≢◌, ℕ, ◌+◌, ◌<◌, ◌≤◌, ◌^◌, ◌↔◌, ◌∷◌, [], IsTrue, IfOk, None, Some, Contains, bit_xor, codes, slice_index, true};
 ghost use Rattle.std.specs.Int.{bit_at};
 ghost use Rattle.std.specs.Int.Count.{ones};
 ghost use Rattle.rds_code.specs.declared.offset.Offset.{Offset as AnOffset};
@@ -12,25 +12,17 @@ ghost use Rattle.rds_code.specs.Remainder.{IsRemainder, generator, rem};
 ghost use Rattle.rds_code.specs.Generator.{HasPeriod, IsCandidate, TellsApart, parity_rows, remainder_by, syndrome, times_power};
 ghost use Rattle.rds_code.specs.Offsets.{number};
 ghost use Rattle.rds_code.specs.Bursts.{IsBurst, bursts, burst_length};
-ghost use Rattle.rds_code.specs.Reading.{FitsAlone, IsReading, reading};
+ghost use Rattle.rds_code.specs.Reading.{FitsAlone, IsReading};
 ghost use Rattle.rds_code.specs.Encoding.{IsBlockOf, third_offset};
-ghost use Rattle.rds_code.specs.Correction.{ReadsAsSent, version_burst};
+ghost use Rattle.rds_code.specs.Correction.{version_burst};
 
 use rds_code::{
     BlockNumber, Burst, BurstLimit, BurstTable, CodeError, Offset, Outcomes, Reading, Wanted,
-    encode_block, encode_group, is_block, laws, offset_of, plain, read_block, rem26,
+    encode_block, encode_group, laws, offset_of, plain, read_block, rem26,
 };
 use std::alloc::Global;
 
 // ---- remainders
-
-/// The remainder of a number, if that is a word of 26 bits.
-pub fn remainder_of_word(w: u32) -> Option<u16>
-    ensures some { IfSome result (λ r. rem w ≡ r) }
-    ensures none { result ≡ None → 2 ^ 26 ≤ w }
-{
-    if is_block(w) { Some(rem26(w)) } else { None }
-}
 
 /// The ten bits that differ from a block by a multiple of the generator are its remainder: no others do.
 pub fn only_remainder(w: u32, remainder: u16) -> u16
@@ -67,15 +59,6 @@ pub fn is_one_of_two(polynomial: u16) -> bool
 {
     laws::generator_is_one_of_two();
     polynomial == 0x5B9 || polynomial == 0x4ED
-}
-
-/// The power of x that is 1 again, and the remainders that tell bursts apart.
-pub fn period_of_generator() -> u16
-    ensures period { HasPeriod generator result }
-    ensures told { TellsApart generator }
-{
-    laws::generator_is_one_of_two();
-    341
 }
 
 /// A receiver that divides as a shift register does, bit by bit, has the same remainder.
@@ -301,13 +284,6 @@ pub fn sent_and_read(
     read_block(table, block, offset.number(), wanted, limit)
 }
 
-/// A block as it was sent is read as it was sent, whoever sends and reads it.
-pub fn read_as_sent()
-    ensures { ReadsAsSent }
-{
-    laws::blocks_are_read_as_sent();
-}
-
 /// Block 1, 2 or 4 that is sent, damaged by one burst within the limit, and read: the word that was sent, and
 /// the burst.
 pub fn damaged_and_read(
@@ -366,14 +342,6 @@ pub fn corrected_by_one_pair(
         → FitsAlone w number wanted limit o e }
 {
     read_block(table, w, number, wanted, limit)
-}
-
-/// The rule of reading gives each window a reading, whoever reads.
-pub fn has_reading(w: u32, number: BlockNumber, wanted: Wanted, limit: BurstLimit)
-    ensures { IsReading w number wanted limit (reading w number wanted limit) }
-{
-    prove!(number.get() <= 4 && limit.bits() <= 5);
-    laws::readings_follow_the_rule();
 }
 
 /// Who reads by the rule reads this.

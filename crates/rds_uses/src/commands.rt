@@ -6,8 +6,6 @@ ghost use Rattle.rds_tool.specs.declared.job.Job.TheVariants as AJob;
 use rds_tool::{Asked, CliFault, FaultKind, Ignored, Job, Request, asked_of, job_of};
 use std::alloc::Global;
 
-static SCAN_OF_DIGITS: [&str; 3] = ["rds", "scan", "--hex"];
-
 static SCAN_WITH_A_GAP: [&str; 4] = ["rds", "scan", "--gaps", "104-105"];
 
 static SCAN_WITH_BAD_GAPS: [&str; 4] = ["rds", "scan", "--gaps", "5"];
@@ -17,25 +15,6 @@ static LIST_BY_TWO_LOSSES: [&str; 6] = ["rds", "list", "--share", "2", "--loss",
 static FOLLOW_BY_A_SHARE: [&str; 6] = ["rds", "follow", "--of", "3", "--share", "2"];
 
 static HELP_OF_LIST: [&str; 3] = ["rds", "list", "--help"];
-
-static VERSION: [&str; 2] = ["rds", "--version"];
-
-/// `rds scan --hex` asks for a scan of digits by four workers, whose progress is not told: if memory is not
-/// refused it is that, and nothing else.
-pub fn scan_of_digits(alloc: Global) -> Result<Asked, CliFault>
-    ensures job { IfOk result (λ asked. asked.request
-        ≡ Request.Job (AJob.Scan (record { hex = true; bits = None; gaps = [] }) 4) false) }
-    ensures fault { IfErr result (λ fault. fault.kind ≡ FaultKind.Memory) }
-{
-    asked_of(alloc, SCAN_OF_DIGITS.as_slice())
-}
-
-/// The same words give the same job.
-pub fn job_of_digits(alloc: Global) -> Result<Job, CliFault>
-    ensures { IfOk result (λ job. job ≡ AJob.Scan (record { hex = true; bits = None; gaps = [] }) 4) }
-{
-    job_of(alloc, SCAN_OF_DIGITS.as_slice())
-}
 
 /// `rds scan --gaps 104-105` asks for a scan with this gap.
 pub fn scan_with_a_gap(alloc: Global) -> Result<Asked, CliFault>
@@ -84,15 +63,6 @@ pub fn help_of_list(alloc: Global) -> Result<Asked, CliFault>
     ensures help { IfErr result (λ fault. (fault.kind ≡ FaultKind.Help) ⊎ (fault.kind ≡ FaultKind.Memory)) }
 {
     asked_of(alloc, HELP_OF_LIST.as_slice())
-}
-
-/// `rds --version` asks for nothing else: the version is shown, or memory was refused.
-pub fn version(alloc: Global) -> Result<Asked, CliFault>
-    ensures no_job { OnOk result ⊥ }
-    ensures version { IfErr result (λ fault.
-        (fault.kind ≡ FaultKind.Version) ⊎ (fault.kind ≡ FaultKind.Memory)) }
-{
-    asked_of(alloc, VERSION.as_slice())
 }
 
 /// If memory was refused there is nothing to be shown but that.

@@ -1,10 +1,9 @@
 //! Callers of the counter of a stream, which several workers share.
-ghost use Rattle.std.specs.Prelude.{◌≡◌, ◌<◌, ◌+◌, ◌*◌, ◌^◌, ◌++◌, IfOk, OnErr, OnOk, length};
-ghost use Rattle.rds_live.specs.Next.{live_next};
+ghost use Rattle.std.specs.Prelude.{◌≡◌, ◌<◌, ◌+◌, ◌*◌, ◌^◌, ◌++◌, Err, IfOk, length};
 ghost use Rattle.rds_live.specs.StreamDecoder.{report_of};
 ghost use Rattle.rds_sync.specs.Totals.{totals_of};
 
-use rds_live::{StreamCounter, StreamDecoder, laws};
+use rds_live::{StreamCounter, StreamDecoder};
 use rds_stream::StreamError;
 use rds_sync::{Rules, Totals};
 use std::alloc::Global;

@@ -1,6 +1,6 @@
 //! Facts that a user of a dealer relies on: each number is drawn once, by whichever seat, and all are
 //! finished in the end.
-ghost use Rattle.std.specs.Prelude.{◌≡◌, ◌+◌, ◌<◌, ◌≤◌, ◌^◌, All, IfErr, IfSome, IsErrOf, None, Some, false, length, true};
+ghost use Rattle.std.specs.Prelude.{◌≡◌, ◌+◌, ◌<◌, ◌≤◌, ◌^◌, All, IfSome, IsErrOf, None, Some, false, length, true};
 ghost use Rattle.rds_crew.specs.declared.deal.Event.TheVariants.{Draw, Progress};
 ghost use Rattle.rds_crew.specs.declared.error.CrewError.TheVariants.{CrewRange, OutOfMemory};
 ghost use Rattle.rds_crew.specs.Seats.{DidWholeRun, DrewAllOnce, HasRested, IsFresh, IsOf, seat_after};
@@ -36,13 +36,6 @@ pub fn without_seats(alloc: Global) -> Result<(Dealer, Vec<Seat>), CrewError>
     Dealer::new(alloc, 100, 0)
 }
 
-/// So is one with more than 256.
-pub fn with_too_many_seats(alloc: Global) -> Result<(Dealer, Vec<Seat>), CrewError>
-    ensures { IsErrOf result CrewRange }
-{
-    Dealer::new(alloc, 100, 257)
-}
-
 // ---- draws
 
 /// A number that is drawn has a place in a table of as many.
@@ -70,25 +63,14 @@ pub fn draw_and_finish(dealer: &Dealer, seat: Seat) -> (bool, Seat)
     }
 }
 
-/// The view of a seat that has not ended, after a draw: its own event, and no more.
+/// The view of a seat after a draw: its own event, and no more. A seat that has ended gets no number, and takes no step.
 pub fn seat_after_draw(dealer: &Dealer, seat: Seat) -> (Option<u64>, Seat)
     requires own { IsOf dealer.now seat }
     requires empty { seat.view.held ≡ None }
-    requires going { seat.view.ended ≡ 0 }
-    ensures { result.1 ≡ seat_after seat (Draw result.0) }
+    ensures going { seat.view.ended ≡ 0 → result.1 ≡ seat_after seat (Draw result.0) }
+    ensures ended { seat.view.ended ≡ 1 → result ≡ (None, seat) }
 {
     dealer.draw(seat)
-}
-
-/// A seat that has ended gets no number, and takes no step.
-pub fn still_ended(dealer: &Dealer, seat: Seat) -> (bool, Seat)
-    requires own { IsOf dealer.now seat }
-    requires empty { seat.view.held ≡ None }
-    requires ended { seat.view.ended ≡ 1 }
-    ensures { result ≡ (true, seat) }
-{
-    let (number, seat) = dealer.draw(seat);
-    (number.is_none(), seat)
 }
 
 // ---- progress
@@ -169,31 +151,4 @@ pub fn closed(dealer: Dealer, seats: Vec<Seat>) -> bool
 {
     let closed = dealer.close(seats);
     closed.drawn == closed.finished
-}
-
-/// A dealer that is drawn up by one seat has dealt all numbers.
-pub fn dealt_alone(alloc: Global, pieces: u64) -> Option<u64>
-    requires { pieces < 2 ^ 63 }
-    ensures { IfSome result (λ drawn. drawn ≡ pieces) }
-{
-    let (dealer, seat) = with_one_seat(alloc, pieces)?;
-    let mut seats = Vec::new(alloc);
-    seats.push(drawn_up(&dealer, seat)).ok()?;
-    Some(dealer.close(seats).drawn)
-}
-
-/// Draws and finishes until none is left.
-fn drawn_up(dealer: &Dealer, seat: Seat) -> Seat
-    requires { IsFresh dealer.now seat }
-    ensures own { IsOf dealer.now result }
-    ensures rested { HasRested result }
-{
-    let mut seat = seat;
-    loop {
-        let (number, holder) = dealer.draw(seat);
-        let Some(j) = number else {
-            return holder;
-        };
-        seat = dealer.finish(holder, j);
-    }
 }

@@ -1,5 +1,5 @@
 //! A decoder as a user of the libraries writes it: from bytes to a report, piece by piece.
-ghost use Rattle.std.specs.Prelude.{◌≡◌, ◌*◌, ◌≤◌, ◌^◌, IfOk, IfSome, length, vec_len};
+ghost use Rattle.std.specs.Prelude.{◌≡◌, ◌*◌, ◌≤◌, ◌^◌, IfOk, IfSome, vec_len};
 ghost use Rattle.rds_sync.specs.Report.{report_items};
 ghost use Rattle.rds_sync.specs.declared.loss.Loss.TheVariants.{Run};
 ghost use Rattle.rds_uses.specs.Jobs.{all_bits};

@@ -5,12 +5,11 @@ ghost use Rattle.rds_code.specs.declared.reading.Reading.TheVariants.{Lost};
 ghost use Rattle.rds_stream.specs.Recording.{AreGaps, bits_of, length_of, offset_at, touched, window};
 ghost use Rattle.rds_stream.specs.declared.error.StreamError.TheVariants.{BadGaps, BitsPastBytes, TooLong};
 ghost use Rattle.rds_sync.specs.Advance.{items_in};
-ghost use Rattle.rds_sync.specs.Groups.{group as group_at};
 ghost use Rattle.rds_sync.specs.declared.state.State.TheVariants.{Searching};
 
 use rds_code::{BlockNumber, BurstLimit, BurstTable, Offset, Reading, Wanted};
 use rds_stream::{Counted, Reader, Recording, StreamError, Tape, offset_heard, read_heard};
-use rds_sync::{Group, Rules, State, Step, advance, laws};
+use rds_sync::{Rules, State, Step, advance};
 
 // ---- which gaps are taken
 
@@ -43,16 +42,6 @@ pub fn refused_in_order(
 }
 
 // ---- reading where a gap is touched, and where none is
-
-/// A window that touches a gap has no offset.
-pub fn offset_in_gap(recording: &Recording, place: u64) -> Option<Offset>
-    requires first { 25 ≤ place }
-    requires last { place < length_of recording.now }
-    requires touched { touched recording.now place ≡ true }
-    ensures { result ≡ None }
-{
-    recording.offset(place)
-}
 
 /// A window that touches a gap is known, and is not heard. Any other is heard as it is stored.
 pub fn heard_or_touched(recording: &Recording, place: u64) -> bool
@@ -87,18 +76,6 @@ pub fn block_with_gaps(
     read_heard(table, heard, number, wanted, BurstLimit::LONGEST)
 }
 
-/// A reader gives the same whichever places it was asked for before.
-pub fn read_back_and_forth(reader: &mut Reader<'_>, place: u64, before: u64) -> bool
-    requires first { (25 ≤ place) × (25 ≤ before) }
-    requires last { (place < length_of reader.old) × (before < length_of reader.old) }
-    ensures result { result ≡ true }
-    ensures same { reader.new ≡ reader.old }
-{
-    let one = reader.window(place);
-    let _before = reader.window(before);
-    reader.window(place) == one
-}
-
 /// The offset of the window that a tape hears is that of the place, in a gap and outside; a window is counted
 /// either way.
 pub fn offset_on_tape(recording: &Recording, place: u64) -> (Option<Offset>, u64)
@@ -124,15 +101,4 @@ pub fn nothing_acquired_in_gap<T: Tape>(tape: &mut T, rules: &Rules, place: u64,
     ensures items { items_in result.items ≡ [] }
 {
     advance(tape, rules, State::Searching, place, to)
-}
-
-/// A group whose block 4 touches a gap is not complete, whatever the bits of that block are.
-pub fn incomplete_in_gap(recording: &Recording, rules: &Rules, place: u64, group: &Group) -> bool
-    requires place { 103 ≤ place }
-    requires group { group.now ≡ group_at recording.now rules.now 1 4 place }
-    requires touched { touched recording.now place ≡ true }
-    ensures { result ≡ false }
-{
-    laws::groups_are_read();
-    group.is_complete()
 }

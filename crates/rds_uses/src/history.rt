@@ -1,13 +1,13 @@
 //! Facts that a user of `rds_tool` relies on at every device: the bytes that a reader gave and those that a
 //! writer took, standard input and output too, of which no contract names the bytes to come.
-ghost use Rattle.std.specs.Prelude.{◌++◌, ◌<◌, ◌^◌, ◌≡◌, ◌≢◌, ◌⊎◌, [], IfErr, IsErrOf, List, Ok, OnOk, true, ℕ};
+ghost use Rattle.std.specs.Prelude.{◌<◌, ◌^◌, ◌≡◌, ◌⊎◌, [], IfErr, IsErrOf, Ok, OnOk, true};
 ghost use Rattle.std.specs.Io.KnownBytes.{Appends};
 ghost use Rattle.rds_tool.specs.Ends.{given_by, has_ended, is_flushed, taken_by};
 ghost use Rattle.rds_tool.specs.Following.{IsFlushedAfter, IsHeardOut, listed, rows_so_far};
 ghost use Rattle.rds_tool.specs.History.{Gave};
 ghost use Rattle.rds_tool.specs.Outcome.{IsOutside, Writes, result_of_job};
 ghost use Rattle.rds_tool.specs.Tasks.{task_of};
-ghost use Rattle.rds_tool.specs.declared.error.ToolError.TheVariants.{Read, Write};
+ghost use Rattle.rds_tool.specs.declared.error.ToolError.TheVariants.{Read};
 
 use rds_sync::Rules;
 use rds_tool::{FromRead, Job, Sink, Source, ToWrite, ToolError, follow, transcribe};

@@ -1,21 +1,17 @@
 //! Facts that a user of lists of items, and of their totals, relies on.
-ghost use Rattle.std.specs.Prelude.{◌≡◌, ◌-◌, ◌+◌, ◌≤◌, ◌^◌, ◌++◌, [], IsOkUnless, IfOk, IfSome, None, OnOk, Some, drop, false, length, slice_get, slice_range, take, true, vec_capacity};
+ghost use Rattle.std.specs.Prelude.{◌≡◌, ◌-◌, ◌+◌, ◌*◌, ◌≤◌, ◌^◌, ◌++◌, ◌∷◌, [], IfOk, IfSome, None, Some, drop, false, length, slice_get, slice_range, true, vec_capacity};
 ghost use Rattle.rds_stream.specs.Recording.{length_of};
+ghost use Rattle.rds_sync.specs.Advance.{group_item};
 ghost use Rattle.rds_sync.specs.Counting.{IsAtMost, IsRest, plus};
 ghost use Rattle.rds_sync.specs.Decoding.{listed};
 ghost use Rattle.rds_sync.specs.Lawful.{IsLawful};
-ghost use Rattle.rds_sync.specs.Report.{report_items};
-ghost use Rattle.rds_sync.specs.Step.{run as run_of};
+ghost use Rattle.rds_sync.specs.Step.{items_of_end, run as run_of};
 ghost use Rattle.rds_sync.specs.Totals.{totals_of};
-ghost use Rattle.rds_sync.specs.declared.error.SyncError.TheVariants.{OutOfMemory};
 ghost use Rattle.rds_sync.specs.declared.state.State.TheVariants.{Searching};
 ghost use Rattle.rds_sync.specs.declared.totals.Totals.{Totals as TheTotals};
 
-use rds_stream::{Counted, Recording};
-use rds_sync::{
-    Decoder, Item, ItemIter, Items, Rules, Spans, State, SyncError, Totals, finish, laws,
-    run_report,
-};
+use rds_stream::Recording;
+use rds_sync::{Decoder, Group, Item, ItemIter, Items, Rules, State, SyncError, Totals, laws};
 use std::alloc::{AllocError, Global};
 use std::snapshot::Snapshot;
 
@@ -32,15 +28,6 @@ pub fn last_of(items: &Items, recording: &Recording, rules: &Rules) -> Option<It
         return None;
     }
     items.get(recording, rules, items.len() - 1)
-}
-
-/// After its last item a list has none.
-pub fn none_behind(items: &Items, recording: &Recording, rules: &Rules) -> Option<Item>
-    requires source { items.now.source ≡ recording.now }
-    requires rules { items.now.rules ≡ rules.now }
-    ensures { result ≡ None }
-{
-    items.get(recording, rules, items.len())
 }
 
 /// The first item, by going over them.
@@ -80,22 +67,20 @@ pub fn collected_at(
 
 // ---- lists that are made
 
-/// One list and another of the same recording by the same rules.
-pub fn join_lists(one: Items, other: Items) -> Result<Items, AllocError>
-    requires source { other.source ≡ one.source }
-    requires rules { other.rules ≡ one.rules }
-    ensures { IfOk result (λ items. items ≡ listed one.source one.rules (one.list ++ other.list)) }
+/// The list of a recording by rules, as long as it has no item.
+pub fn none_yet(alloc: Global, recording: &Recording, rules: &Rules) -> Items
+    ensures { result ≡ listed recording.now rules.now [] }
 {
-    let mut items = one;
-    items.append(other)?;
-    Ok(items)
+    Items::none(alloc, Snapshot::of(recording), rules)
 }
 
-/// If there was no memory for another list, the first stays as it was.
+/// One list and another of the same recording by the same rules. If there was no memory for that, the first stays as it was.
 pub fn appended_or_same(items: &mut Items, other: Items) -> bool
     requires source { other.source ≡ items.old.source }
     requires rules { other.rules ≡ items.old.rules }
-    ensures { result ≡ false → items.new ≡ items.old }
+    ensures appended { result ≡ true → items.new
+        ≡ listed items.old.source items.old.rules (items.old.list ++ other.list) }
+    ensures same { result ≡ false → items.new ≡ items.old }
 {
     items.append(other).is_ok()
 }
@@ -130,126 +115,25 @@ pub fn range_by_index<'a>(
     Ok(indexed.range(recording, rules, from, to))
 }
 
-/// The items of a report in one span and that of the recording's end.
-pub fn listed_in_one_span(
-    alloc: Global,
-    recording: &Recording,
-    rules: &Rules,
-) -> Result<Items, SyncError>
-    ensures items { IfOk result (λ items. items
-        ≡ listed recording.now rules.now (report_items recording.now rules.now)) }
-    ensures refused { IsOkUnless result OutOfMemory }
-{
-    let mut items = Items::none(alloc, Snapshot::of(recording), rules);
-    push_report(alloc, recording, rules, &mut items)?;
-    Ok(items)
-}
-
-/// Appends the items of a report to a list that has none.
-fn push_report(
-    alloc: Global,
-    recording: &Recording,
-    rules: &Rules,
-    items: &mut Items,
-) -> Result<(), SyncError>
-    requires { items.old ≡ listed recording.now rules.now [] }
-    ensures items { OnOk result (items.new
-        ≡ listed recording.now rules.now (report_items recording.now rules.now)) }
-    ensures refused { IsOkUnless result OutOfMemory }
-{
-    let (end, count) = counted_run(alloc, recording, rules)?;
-    items.push_span(State::Searching, 0, recording.len(), count)?;
-    items.close(end)?;
-    let _loss = rules.loss();
-    laws::runs_are_reports();
-    Ok(())
-}
-
-/// How many items the run over a recording gives, and the state that it ends in.
-fn counted_run(
-    alloc: Global,
-    recording: &Recording,
-    rules: &Rules,
-) -> Result<(State, usize), SyncError>
-    ensures state { IfOk result (λ end. end.0
-        ≡ (run_of recording.now rules.now Searching 0 (length_of recording.now)).0) }
-    ensures lawful { IfOk result (λ end. IsLawful rules.now (length_of recording.now) end.0) }
-    ensures count { IfOk result (λ end. end.1
-        ≡ length (run_of recording.now rules.now Searching 0 (length_of recording.now)).1) }
-    ensures refused { IsOkUnless result OutOfMemory }
-{
-    laws::runs_give_few_items();
-    let (end, items) = items_of_run(
-        alloc,
-        recording,
-        rules,
-        State::Searching,
-        (0, recording.len()),
-    )?;
-    Ok((end, items.len()))
-}
-
-/// The items of a run from a lawful state over a range, and the state that it ends in.
-fn items_of_run(
-    alloc: Global,
-    recording: &Recording,
-    rules: &Rules,
-    state: State,
-    range: (u64, u64),
-) -> Result<(State, Items), SyncError>
-    requires lawful { IsLawful rules.now range.0 state }
-    requires order { range.0 ≤ range.1 }
-    requires within { range.1 ≤ length_of recording.now }
-    ensures state { IfOk result (λ end. end.0
-        ≡ (run_of recording.now rules.now state range.0 (range.1 - range.0)).0) }
-    ensures lawful { IfOk result (λ end. IsLawful rules.now range.1 end.0) }
-    ensures items { IfOk result (λ end. end.1 ≡ listed recording.now rules.now
-        (run_of recording.now rules.now state range.0 (range.1 - range.0)).1) }
-    ensures refused { IsOkUnless result OutOfMemory }
-{
-    let (from, to) = range;
-    match run_report(alloc, recording, rules, state, from, to, Spans::Short) {
-        Ok((end, report)) => Ok((end, report.items)),
-        Err(error) => Err(error),
-    }
-}
-
-/// A run in two parts gives the items of the run over both.
-pub fn listed_in_two(
-    alloc: Global,
-    recording: &Recording,
-    rules: &Rules,
-    middle: u64,
-) -> Result<(State, Items), SyncError>
-    requires { middle ≤ length_of recording.now }
-    ensures state { IfOk result (λ end. end.0
-        ≡ (run_of recording.now rules.now Searching 0 (length_of recording.now)).0) }
-    ensures items { IfOk result (λ end. end.1 ≡ listed recording.now rules.now
-        (run_of recording.now rules.now Searching 0 (length_of recording.now)).1) }
-    ensures refused { IsOkUnless result OutOfMemory }
-{
-    laws::runs_join();
-    let len = recording.len();
-    let (state, first) = items_of_run(alloc, recording, rules, State::Searching, (0, middle))?;
-    let (end, second) = items_of_run(alloc, recording, rules, state, (middle, len))?;
-    Ok((end, join_lists(first, second)?))
-}
-
-/// If there is no memory for a span, the list stays as it was.
+/// A span of a run has its items; if there is no memory for the span, the list stays as it was.
 pub fn span_or_same(items: &mut Items, state: State, from: u64, to: u64, count: usize) -> bool
     requires lawful { IsLawful items.old.rules from state }
     requires order { from ≤ to }
     requires within { to ≤ length_of items.old.source }
     requires count { count ≡ length (run_of items.old.source items.old.rules state from (to - from)).1 }
-    ensures { result ≡ false → items.new ≡ items.old }
+    ensures pushed { result ≡ true → items.new ≡ listed items.old.source items.old.rules
+        (items.old.list ++ (run_of items.old.source items.old.rules state from (to - from)).1) }
+    ensures same { result ≡ false → items.new ≡ items.old }
 {
     items.push_span(state, from, to, count).is_ok()
 }
 
-/// So it does if there is none for the item of the recording's end.
+/// So too for the item of the recording's end.
 pub fn closed_or_same(items: &mut Items, state: State) -> bool
     requires { IsLawful items.old.rules (length_of items.old.source) state }
-    ensures { result ≡ false → items.new ≡ items.old }
+    ensures closed { result ≡ true → items.new ≡ listed items.old.source items.old.rules
+        (items.old.list ++ items_of_end items.old.source items.old.rules state) }
+    ensures same { result ≡ false → items.new ≡ items.old }
 {
     items.close(state).is_ok()
 }
@@ -290,61 +174,28 @@ pub fn list_in_a_part(items: ItemIter<'_>, part: &mut Vec<Item>) -> bool
 /// The totals of two parts, which are small enough to be added up.
 pub fn totals_of_parts(one: &[Item], other: &[Item]) -> Totals
     requires { length one.now + length other.now ≤ 2 ^ 37 }
-    ensures { result ≡ plus (totals_of one.now) (totals_of other.now) }
+    ensures value { result ≡ plus (totals_of one.now) (totals_of other.now) }
+    ensures small { IsAtMost (2 ^ 10 * length one.now + 2 ^ 10 * length other.now) result }
 {
     Totals::of(one).plus(Totals::of(other))
 }
 
 // ---- totals
 
-/// The totals of the items of a range of numbers, item by item.
-pub fn totals_of_range(
-    items: &Items,
-    recording: &Recording,
-    rules: &Rules,
-    from: usize,
-    to: usize,
-) -> Totals
-    requires source { items.now.source ≡ recording.now }
-    requires rules { items.now.rules ≡ rules.now }
-    requires order { from ≤ to }
-    requires within { to ≤ length items.now.list }
-    requires few { length items.now.list ≤ 2 ^ 40 }
-    ensures { result ≡ totals_of (slice_range items.now.list from to) }
+/// The totals of one item.
+pub fn totals_of_item(item: &Item) -> Totals
+    ensures value { result ≡ totals_of (item.now ∷ []) }
+    ensures small { IsAtMost (2 ^ 10) result }
 {
-    laws::totals_join();
-    let mut totals = Totals::NONE;
-    for item in items.range(recording, rules, from, to) {
-        totals = totals.plus(Totals::of_item(&item));
-    }
-    totals
+    Totals::of_item(item)
 }
 
-/// The totals of a report: those of a run, and of the group at the recording's end.
-pub fn totals_of_report(
-    alloc: Global,
-    recording: &Recording,
-    rules: &Rules,
-) -> Result<Totals, SyncError>
-    ensures { IfOk result (λ totals. totals ≡ totals_of (report_items recording.now rules.now)) }
+/// The totals of the group that the end closes, if there is one.
+pub fn totals_of_end(group: Option<Group>) -> Totals
+    ensures value { result ≡ totals_of (group_item group) }
+    ensures small { IsAtMost (2 ^ 10) result }
 {
-    laws::runs_give_few_items();
-    let len = recording.len();
-    let (end, run) = run_report(
-        alloc,
-        recording,
-        rules,
-        State::Searching,
-        0,
-        len,
-        Spans::Short,
-    )?;
-    let group = finish(&mut Counted::new(recording), rules, end);
-    let totals = run.totals.plus(Totals::of_end(group));
-    let _loss = rules.loss();
-    laws::runs_are_reports();
-    laws::totals_join();
-    Ok(totals)
+    Totals::of_end(group)
 }
 
 /// The totals of the rest of a list are those of all, less those of its first items.
@@ -364,16 +215,4 @@ pub fn rest_and_all(all: Totals, part: Totals) -> Totals
     ensures { (rest : TheTotals) → IsRest part all rest → result ≡ plus rest all }
 {
     all.less(part).plus(all)
-}
-
-/// Three lists are not too long for the sum of their totals.
-pub fn totals_of_three(items: &[Item], first: usize) -> Totals
-    requires within { first ≤ length items.now }
-    requires few { length items.now ≤ 2 ^ 37 }
-    ensures { result ≡ plus (plus (totals_of items.now) (totals_of items.now))
-        (totals_of (take first items.now)) }
-{
-    Totals::of(items)
-        .plus(Totals::of(items))
-        .plus(Totals::of(&items[..first]))
 }

@@ -16,7 +16,7 @@
 //! | `rds_sync` | [`loss`] | the effect of bad blocks on a lock, by either rule |
 //! | | [`sync`] | rules, lawful states, steps, runs, their items one after the other, and reports |
 //! | | [`items`] | lists of items of a recording, and their totals |
-//! | `rds_live` | [`live`] | streams, chunk by chunk, and the text that `follow` of `rds_tool` writes for one |
+//! | `rds_live` | [`live`] | streams, chunk by chunk |
 //! | | [`counters`] | streams that several workers count |
 //! | | [`live_numbers`] | decoders of streams that are made of any lawful numbers |
 //! | `rds_abi` | [`library`] | the calls for C |

@@ -6,7 +6,7 @@ ghost use Rattle.rds_sync.specs.Totals.{totals_of};
 ghost use Rattle.rds_live.specs.StreamDecoder.{HasHeard, report_at, report_of};
 ghost use Rattle.rds_abi.specs.Asked.{asked, items_asked, recording_of, rules_of};
 ghost use Rattle.rds_abi.specs.Blocks.{packed};
-ghost use Rattle.rds_abi.specs.Stream.{AreCompleted, AreWritten, stream_in_c, stream_of, terms_of};
+ghost use Rattle.rds_abi.specs.Stream.{AreCompleted, AreLeft, AreWritten, stream_in_c, stream_of, terms_of};
 ghost use Rattle.rds_abi.specs.Layout.{item_in_c, totals_in_c};
 
 use rds_abi::{
@@ -126,33 +126,6 @@ fn push_all(
     Ok(())
 }
 
-/// Bytes are offered to a stream, and those that had no room once more, in the same room: once both calls have taken all of
-/// them, the stream has heard all of them. Answers how many they left.
-pub fn offered_again(
-    alloc: Global,
-    bytes: &[u8],
-    gaps: &[RdsGap],
-    rules: RdsRules,
-    stream: &mut RdsStream,
-    room: &mut [RdsItem],
-) -> Result<u64, Refusal>
-    ensures { IfOk result
-        (λ left. left ≡ 0 → (before : List ℕ)
-        → HasHeard (stream_of (terms_of rules gaps.now) stream.old) before
-        → HasHeard (stream_of (terms_of rules gaps.now) stream.new) (before ++ bytes.now)) }
-{
-    let mut taken = 0;
-    let mut count = 0;
-    push(
-        alloc, bytes, gaps, rules, stream, room, &mut taken, &mut count,
-    )?;
-    let rest = &bytes[taken as usize..];
-    push(
-        alloc, rest, gaps, rules, stream, room, &mut taken, &mut count,
-    )?;
-    Ok(rest.len() as u64 - taken)
-}
-
 /// Room for sixteen items is enough to go on, whatever the bytes are.
 pub fn goes_on_in_little_room(
     alloc: Global,
@@ -236,76 +209,27 @@ pub fn in_two_chunks(
     Ok((counts, totals))
 }
 
-/// A stream that ends inside a byte: its first chunk, and the first `bits` bits of the bytes that follow.
-/// Together these give the items of the report of all these bits, and its totals.
+/// A stream that ends inside a byte, after the first `bits` bits of these bytes: the items that they complete are written, and the
+/// totals of the report of all its bits.
 pub fn ended_inside_a_byte(
     alloc: Global,
-    early: &[u8],
-    late: &[u8],
+    last: &[u8],
     bits: u64,
     gaps: &[RdsGap],
     rules: RdsRules,
-    first: &mut [RdsItem],
-    last: &mut [RdsItem],
-) -> Result<(Counts, RdsTotals), Refusal>
-    ensures items { IfOk result (λ r. take r.0.first first.new ++ take r.0.end last.new
-        ≡ map item_in_c
-        (report_at (terms_of rules gaps.now) (early.now ++ late.now) (8 * length early.now + bits))) }
-    ensures totals { IfOk result (λ r. r.1
-        ≡ totals_in_c
-        (totals_of
-        (report_at (terms_of rules gaps.now) (early.now ++ late.now) (8 * length early.now + bits)))) }
-{
-    let mut counts = Counts {
-        first: 0,
-        second: 0,
-        end: 0,
-    };
-    let mut totals = RdsTotals::NONE;
-    let mut stream = RdsStream::UNHEARD;
-    push_all(
-        alloc,
-        early,
-        gaps,
-        rules,
-        &mut stream,
-        first,
-        &mut counts.first,
-    )?;
-    finish_with(
-        alloc,
-        late,
-        bits,
-        gaps,
-        rules,
-        &stream,
-        last,
-        &mut counts.end,
-        &mut totals,
-    )?;
-    Ok((counts, totals))
-}
-
-/// The numbers that are kept of a stream are the same, whether it came in two chunks or in one.
-pub fn kept_alike(
-    alloc: Global,
-    early: &[u8],
-    late: &[u8],
-    all: &[u8],
-    gaps: &[RdsGap],
-    rules: RdsRules,
+    stream: &RdsStream,
     room: &mut [RdsItem],
-) -> Result<(RdsStream, RdsStream), Refusal>
-    requires { all.now ≡ early.now ++ late.now }
-    ensures { IfOk result (λ kept. kept.0 ≡ kept.1) }
+    count: &mut u64,
+    totals: &mut RdsTotals,
+) -> Result<(), Refusal>
+    ensures items { OnOk result (AreWritten (AreLeft (terms_of rules gaps.now) stream.now last.now bits)
+        room.old room.new count.new) }
+    ensures totals { OnOk result
+        ((before : List ℕ) → HasHeard (stream_of (terms_of rules gaps.now) stream.now) before
+        → totals.new ≡ totals_in_c (totals_of
+        (report_at (terms_of rules gaps.now) (before ++ last.now) (8 * length before + bits)))) }
 {
-    let mut cut = RdsStream::UNHEARD;
-    let mut whole = RdsStream::UNHEARD;
-    let mut count = 0;
-    push_all(alloc, early, gaps, rules, &mut cut, room, &mut count)?;
-    push_all(alloc, late, gaps, rules, &mut cut, room, &mut count)?;
-    push_all(alloc, all, gaps, rules, &mut whole, room, &mut count)?;
-    Ok((cut, whole))
+    finish_with(alloc, last, bits, gaps, rules, stream, room, count, totals)
 }
 
 /// A list that fits is written, and the room after it is as it was.

@@ -1,5 +1,5 @@
 //! A decoder of a stream that is made of lawful numbers, even of those that no stream has.
-ghost use Rattle.std.specs.Prelude.{◌≡◌, ◌≤◌, ◌*◌, ◌++◌, [], IfOk, OnOk, length, take, vec_capacity};
+ghost use Rattle.std.specs.Prelude.{◌≡◌, ◌≤◌, ◌*◌, ◌++◌, [], IfOk, OnOk, length, vec_capacity};
 ghost use Rattle.rds_sync.specs.Advance.{group_item};
 ghost use Rattle.rds_sync.specs.Counting.{plus};
 ghost use Rattle.rds_sync.specs.Ranges.{IsInRange};
@@ -10,24 +10,6 @@ use rds_live::{StreamDecoder, StreamEnd, laws};
 use rds_stream::StreamError;
 use rds_sync::Item;
 use std::alloc::Global;
-
-/// Two decoders of the same numbers stay the same and give the same items, even if no stream has these numbers.
-pub fn stay_alike(
-    one: &mut StreamDecoder<'_>,
-    other: &mut StreamDecoder<'_>,
-    bytes: &[u8],
-    items: &mut Vec<Item>,
-    others: &mut Vec<Item>,
-) -> Result<(), StreamError>
-    requires same { one.old ≡ other.old }
-    requires room { vec_capacity items.old ≡ vec_capacity others.old }
-    ensures known { OnOk result (one.new ≡ other.new) }
-    ensures items { OnOk result (items.new.items ≡ others.new.items) }
-{
-    one.take(bytes, items)?;
-    other.take(bytes, others)?;
-    Ok(())
-}
 
 /// Bytes in two chunks give the same as at once, whatever numbers the decoder is made of.
 pub fn in_two_chunks(
@@ -66,8 +48,10 @@ pub fn ended_inside(
     requires few { bits ≤ 7 }
     requires room { 14 ≤ vec_capacity items.old }
     ensures items { OnOk result (items.new.items ≡ items_next live.entry last.now bits) }
+    ensures group { IfOk result (λ end. group_item end.group ≡ group_next live.entry last.now bits) }
     ensures totals { IfOk result (λ end. end.totals
-        ≡ plus (plus live.entry.totals (totals_of items.new.items)) (totals_of (group_item end.group))) }
+        ≡ plus (plus live.entry.totals (totals_of (items_next live.entry last.now bits)))
+        (totals_of (group_next live.entry last.now bits))) }
 {
     live.finish_with(last, bits, items)
 }

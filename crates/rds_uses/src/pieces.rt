@@ -1,6 +1,6 @@
 //! Facts that a user of `rds_pieces` relies on: cuttings, guesses, seams, joins, and the report that is
 //! stitched of them.
-ghost use Rattle.std.specs.Prelude.{◌≡◌, ℕ, ◌+◌, ◌-◌, ◌*◌, ◌<◌, ◌≤◌, ◌^◌, ◌++◌, ◌∷◌, [], IfOk, IsOkUnless, OnErr, OnOk, Some, length, slice_index, true};
+ghost use Rattle.std.specs.Prelude.{◌≡◌, ℕ, ◌+◌, ◌-◌, ◌*◌, ◌<◌, ◌≤◌, ◌^◌, ◌++◌, ◌∷◌, [], IfOk, IsOkUnless, OnOk, Option, Some, true};
 ghost use Rattle.rds_stream.specs.Recording.{length_of};
 ghost use Rattle.rds_sync.specs.declared.state.State.TheVariants.{Searching};
 ghost use Rattle.rds_sync.specs.declared.loss.Loss.TheVariants.{Run};
@@ -14,7 +14,9 @@ ghost use Rattle.rds_pieces.specs.Cutting.{IsCutting, pieces_of};
 ghost use Rattle.rds_pieces.specs.Guess.{guess};
 ghost use Rattle.rds_pieces.specs.Marks.{marks_of};
 ghost use Rattle.rds_pieces.specs.Joining.{AreNeighbours};
-ghost use Rattle.rds_pieces.specs.RunOf.{FollowEachOther, end_of, run_at, run_over, runs_of};
+ghost use Rattle.rds_pieces.specs.Meeting.{IsMeeting, distance};
+ghost use Rattle.rds_pieces.specs.RunOf.{FollowEachOther, run_at, run_over, runs_of};
+ghost use Rattle.rds_pieces.specs.Seams.{IsSumOfReads};
 ghost use Rattle.rds_pieces.specs.declared.error.PieceError.TheVariants.{BadCutting, OutOfMemory};
 
 use rds_pieces::{
@@ -22,10 +24,7 @@ use rds_pieces::{
     speculate, stitch,
 };
 use rds_stream::{Counted, Recording, Tape};
-use rds_sync::{
-    Decoder, ItemIter, Items, Loss, Report, Rules, State, SyncError, Totals, laws as laws_of_runs,
-    run,
-};
+use rds_sync::{Decoder, ItemIter, Items, Loss, Report, Rules, State, Totals, run};
 use std::alloc::{AllocError, Global};
 use std::slice;
 use std::snapshot::Snapshot;
@@ -86,22 +85,6 @@ pub fn bits_beyond_pieces(recording: &Recording, cutting: &Cutting) -> u64
 
 // ---- guesses
 
-/// The guess of the second of two pieces: its range, and a mark at its first place.
-pub fn second_guess(
-    alloc: Global,
-    recording: &Recording,
-    rules: &Rules,
-    cutting: &Cutting,
-) -> Result<PieceRun, PieceError>
-    requires fits { IsCutting (length_of recording.now) cutting.now }
-    requires two { pieces_of cutting.now ≡ 2 }
-    ensures run { IfOk result (λ run. run
-        ≡ run_over recording.now rules.now (slice_index cutting.now 1) (slice_index cutting.now 2)) }
-    ensures refused { IsOkUnless result OutOfMemory }
-{
-    speculate(alloc, recording, rules, cutting, 1)
-}
-
 /// A guess ends as a run from Searching over its range does.
 pub fn guessed_as_run(recording: &Recording, rules: &Rules, run: &PieceRun) -> bool
     requires source { run.now.source ≡ recording.now }
@@ -111,23 +94,6 @@ pub fn guessed_as_run(recording: &Recording, rules: &Rules, run: &PieceRun) -> b
     let (from, to) = (run.from(), run.to());
     let decoder = Decoder::new(recording, rules, State::Searching, from, to);
     decoder.end_state() == run.end_state()
-}
-
-/// It gives as many items.
-pub fn guess_as_long_as_run(
-    alloc: Global,
-    recording: &Recording,
-    rules: &Rules,
-    guess: &PieceRun,
-) -> Result<bool, SyncError>
-    requires source { guess.now.source ≡ recording.now }
-    requires rules { guess.now.rules ≡ rules.now }
-    ensures { IfOk result (λ same. same ≡ true) }
-{
-    let (from, to) = (guess.from(), guess.to());
-    let _len = recording.len();
-    let (_end, items) = run(alloc, recording, rules, State::Searching, from, to)?;
-    Ok(items.len() == guess.list().len())
 }
 
 /// The items of a guess, one after the other, are those of a run from Searching over its range.
@@ -149,15 +115,6 @@ pub fn list_of_guess(run: &PieceRun) -> &Items
         (run_of run.now.source run.now.rules Searching run.now.from (run.now.to - run.now.from)).1 }
 {
     run.list()
-}
-
-/// The first mark of a guess is its first place, before which it searches.
-pub fn first_mark(recording: &Recording, rules: &Rules, run: &PieceRun) -> Option<Mark>
-    requires source { run.now.source ≡ recording.now }
-    requires rules { run.now.rules ≡ rules.now }
-    ensures { result ≡ Some (record { place = run.now.from; state = Searching; items = 0 }) }
-{
-    run.marks(recording, rules).next()
 }
 
 /// All marks of a guess: its first place, and the place after each bit that gave an item.
@@ -185,55 +142,9 @@ pub fn totals_of_guess(run: &PieceRun) -> Totals
 
 // ---- seams
 
-/// A seam goes on where the run before it stopped: both together are one run, from the first bit to the
-/// piece's end.
-pub fn carried_on<'a>(
-    alloc: Global,
-    recording: &'a Recording,
-    rules: &'a Rules,
-    run: &PieceRun,
-) -> Result<(Decoder<'a>, Seam), PieceError>
-    requires source { run.now.source ≡ recording.now }
-    requires rules { run.now.rules ≡ rules.now }
-    ensures source { IfOk result (λ both. both.1.items ≡ listed recording.now rules.now both.1.items.list) }
-    ensures items { IfOk result (λ both. both.0.items ++ both.1.items.list
-        ≡ (run_of recording.now rules.now Searching 0 run.now.to).1) }
-    ensures end { IfOk result
-        (λ both. both.1.end_state ≡ (run_of recording.now rules.now Searching 0 run.now.to).0) }
-    ensures totals { IfOk result (λ both. both.1.totals ≡ totals_of both.1.items.list) }
-{
-    let _loss = rules.loss();
-    laws_of_runs::runs_join();
-    laws_of_runs::runs_are_lawful();
-    let from = run.from();
-    let before = Decoder::new(recording, rules, State::Searching, 0, from);
-    let state = Decoder::new(recording, rules, State::Searching, 0, from).end_state();
-    let seam = seam(alloc, &mut Counted::new(recording), rules, state, run)?;
-    Ok((before, seam))
-}
-
-/// A seam that comes from a search meets the guess at once, and costs the reach and two windows more at most, refused
-/// memory or not.
-pub fn met_at_once<T: Tape>(
-    alloc: Global,
-    tape: &mut T,
-    rules: &Rules,
-    run: &PieceRun,
-) -> Result<Seam, PieceError>
-    requires source { run.now.source ≡ T.signal tape.old }
-    requires rules { run.now.rules ≡ rules.now }
-    requires room { T.reads_made tape.old ≤ 2 ^ 62 }
-    ensures met { IfOk result (λ seam. seam.met_at ≡ Some run.now.from) }
-    ensures reads { OnOk result (T.reads_made tape.new ≤ T.reads_made tape.old + (rules.now.reach + 2)) }
-    ensures refused { OnErr result (T.reads_made tape.new ≤ T.reads_made tape.old + (rules.now.reach + 2)) }
-{
-    run.from();
-    seam(alloc, tape, rules, State::Searching, run)
-}
-
-/// The cost of any seam, refused memory or not: no more windows than its piece has places for; the tape is of
-/// the same bits.
-pub fn cost_of_seam<T: Tape>(
+/// A seam is the run from the state handed in, and tells the least place where it meets the guess, or that there is none. It reads as many windows as the bits to there cost, without
+/// memory too, and no more than its piece has places for. The tape is of the same bits.
+pub fn run_and_cost_of_seam<T: Tape>(
     alloc: Global,
     tape: &mut T,
     rules: &Rules,
@@ -244,8 +155,22 @@ pub fn cost_of_seam<T: Tape>(
     requires source { run.now.source ≡ T.signal tape.old }
     requires rules { run.now.rules ≡ rules.now }
     requires room { T.reads_made tape.old ≤ 2 ^ 62 }
+    ensures items { IfOk result (λ seam. seam.items ≡ listed (T.signal tape.old) rules.now
+        (run_of (T.signal tape.old) rules.now state run.now.from (run.now.to - run.now.from)).1) }
+    ensures totals { IfOk result (λ seam. seam.totals
+        ≡ totals_of (run_of (T.signal tape.old) rules.now state run.now.from (run.now.to - run.now.from)).1) }
+    ensures end { IfOk result (λ seam. seam.end_state
+        ≡ (run_of (T.signal tape.old) rules.now state run.now.from (run.now.to - run.now.from)).0) }
+    ensures met { IfOk result (λ seam. IsMeeting (T.signal tape.old) rules.now state Searching run.now.from
+        run.now.to seam.met_at) }
+    ensures reads { IfOk result (λ seam. T.reads_made tape.new
+        ≤ T.reads_made tape.old + (rules.now.reach + 2) * (distance run.now.from run.now.to seam.met_at + 1)) }
     ensures refused { IsOkUnless result OutOfMemory }
-    ensures reads { T.reads_made tape.new
+    ensures reads_way { (met : Option ℕ) → IsMeeting (T.signal tape.old) rules.now state Searching run.now.from
+        run.now.to met
+        → T.reads_made tape.new
+        ≤ T.reads_made tape.old + (rules.now.reach + 2) * (distance run.now.from run.now.to met + 1) }
+    ensures reads_most { T.reads_made tape.new
         ≤ T.reads_made tape.old + (rules.now.reach + 2) * (run.now.to - run.now.from + 1) }
     ensures same { T.signal tape.new ≡ T.signal tape.old }
 {
@@ -274,79 +199,6 @@ pub fn met_on_sound_signal(
 
 // ---- joins
 
-/// The guesses of two pieces joined are the guess of the whole recording.
-pub fn joined_guesses(
-    alloc: Global,
-    recording: &Recording,
-    rules: &Rules,
-    cutting: &Cutting,
-) -> Result<PieceRun, PieceError>
-    requires fits { IsCutting (length_of recording.now) cutting.now }
-    requires two { pieces_of cutting.now ≡ 2 }
-    ensures run { IfOk result (λ run. run ≡ run_over recording.now rules.now 0 (length_of recording.now)) }
-    ensures refused { IsOkUnless result OutOfMemory }
-{
-    let work = RecordingWork::new(recording, rules, cutting);
-    let (left, right) = two_guesses(alloc, &work)?;
-    join_guesses(alloc, recording, rules, &left, &right)
-}
-
-/// Two neighbours joined are the guess of both ranges.
-fn join_guesses(
-    alloc: Global,
-    recording: &Recording,
-    rules: &Rules,
-    left: &PieceRun,
-    right: &PieceRun,
-) -> Result<PieceRun, PieceError>
-    requires { AreNeighbours recording.now rules.now left.now right.now }
-    ensures run { IfOk result (λ run. run ≡ run_over recording.now rules.now left.now.from right.now.to) }
-    ensures refused { IsOkUnless result OutOfMemory }
-{
-    join_runs(alloc, &mut Counted::new(recording), rules, left, right)
-}
-
-/// A join leaves both runs as they are, so that one can be joined to another neighbour, too.
-pub fn joined_on_both_sides(
-    alloc: Global,
-    recording: &Recording,
-    rules: &Rules,
-    one: &PieceRun,
-    two: &PieceRun,
-    three: &PieceRun,
-) -> Result<(PieceRun, PieceRun), PieceError>
-    requires before { AreNeighbours recording.now rules.now one.now two.now }
-    requires after { AreNeighbours recording.now rules.now two.now three.now }
-    ensures before { IfOk result (λ runs. runs.0 ≡ run_over recording.now rules.now one.now.from two.now.to) }
-    ensures after { IfOk result
-        (λ runs. runs.1 ≡ run_over recording.now rules.now two.now.from three.now.to) }
-{
-    match (
-        join_guesses(alloc, recording, rules, one, two),
-        join_guesses(alloc, recording, rules, two, three),
-    ) {
-        (Ok(before), Ok(after)) => Ok((before, after)),
-        _ => Err(PieceError::OutOfMemory),
-    }
-}
-
-/// A join whose left run ends in a search costs the reach and two windows at most, refused memory or not.
-pub fn join_after_a_search<T: Tape>(
-    alloc: Global,
-    tape: &mut T,
-    rules: &Rules,
-    left: &PieceRun,
-    right: &PieceRun,
-) -> Result<PieceRun, PieceError>
-    requires neighbours { AreNeighbours (T.signal tape.old) rules.now left.now right.now }
-    requires room { T.reads_made tape.old ≤ 2 ^ 62 }
-    requires search { end_of left.now ≡ Searching }
-    ensures { T.reads_made tape.new ≤ T.reads_made tape.old + (rules.now.reach + 2) }
-{
-    right.from();
-    join_runs(alloc, tape, rules, left, right)
-}
-
 /// On sound signal from the cut on, a join costs the windows of 416 bits at most by a loss of ten blocks.
 pub fn join_on_sound_signal<T: Tape>(
     alloc: Global,
@@ -365,7 +217,7 @@ pub fn join_on_sound_signal<T: Tape>(
     join_runs(alloc, tape, rules, left, right)
 }
 
-/// The cost of any join, refused memory or not: no more windows than the right run has places for.
+/// Two neighbours joined are the guess of both ranges. That costs, refused memory or not, no more windows than the right run has places for.
 pub fn cost_of_join<T: Tape>(
     alloc: Global,
     tape: &mut T,
@@ -375,6 +227,7 @@ pub fn cost_of_join<T: Tape>(
 ) -> Result<PieceRun, PieceError>
     requires neighbours { AreNeighbours (T.signal tape.old) rules.now left.now right.now }
     requires room { T.reads_made tape.old ≤ 2 ^ 62 }
+    ensures run { IfOk result (λ run. run ≡ run_over (T.signal tape.old) rules.now left.now.from right.now.to) }
     ensures refused { IsOkUnless result OutOfMemory }
     ensures reads { T.reads_made tape.new
         ≤ T.reads_made tape.old + (rules.now.reach + 2) * (right.now.to - right.now.from + 1) }
@@ -384,24 +237,6 @@ pub fn cost_of_join<T: Tape>(
 }
 
 // ---- reports
-
-/// The report of a recording in two pieces is that of one decoder.
-pub fn decoded_in_two_pieces(
-    alloc: Global,
-    recording: &Recording,
-    rules: &Rules,
-    cutting: &Cutting,
-) -> Result<Report, PieceError>
-    requires fits { IsCutting (length_of recording.now) cutting.now }
-    requires two { pieces_of cutting.now ≡ 2 }
-    ensures items { IfOk result (λ report. report.items
-        ≡ listed recording.now rules.now (report_items recording.now rules.now)) }
-    ensures totals { IfOk result
-        (λ report. report.totals ≡ totals_of (report_items recording.now rules.now)) }
-    ensures refused { IsOkUnless result OutOfMemory }
-{
-    stitch_pieces(alloc, recording, rules, cutting)
-}
 
 /// The report of a recording in the pieces of a cutting.
 pub(crate) fn stitch_pieces(
@@ -440,9 +275,8 @@ fn guesses(
     Ok(runs)
 }
 
-/// A recording in one piece is stitched at the cost of one seam that meets at once, and of its end; it costs
-/// no more if it is refused memory.
-pub fn cost_of_one_piece<T: Tape>(
+/// To stitch runs in a row costs the windows of their seams and three more, without memory too; the tape is of the same bits.
+pub fn cost_of_report<T: Tape>(
     alloc: Global,
     tape: &mut T,
     rules: &Rules,
@@ -450,11 +284,11 @@ pub fn cost_of_one_piece<T: Tape>(
 ) -> Result<Report, PieceError>
     requires in_a_row { FollowEachOther (T.signal tape.old) rules.now 0 (length_of (T.signal tape.old))
         runs.now }
-    requires one { length runs.now ≡ 1 }
     requires room { T.reads_made tape.old ≤ 2 ^ 61 }
-    ensures reads { OnOk result (T.reads_made tape.new ≤ T.reads_made tape.old + (rules.now.reach + 2) + 3) }
-    ensures refused { OnErr result
-        (T.reads_made tape.new ≤ T.reads_made tape.old + (rules.now.reach + 2) + 3) }
+    ensures reads { IfOk result (λ _. (n : ℕ) × IsSumOfReads (T.signal tape.old) rules.now Searching runs.now n
+        × (T.reads_made tape.new ≤ T.reads_made tape.old + n + 3)) }
+    ensures reads_way { (n : ℕ) → IsSumOfReads (T.signal tape.old) rules.now Searching runs.now n
+        → T.reads_made tape.new ≤ T.reads_made tape.old + n + 3 }
     ensures same { T.signal tape.new ≡ T.signal tape.old }
 {
     stitch(alloc, tape, rules, runs)

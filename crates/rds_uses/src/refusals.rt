@@ -30,31 +30,18 @@ pub fn name_in_code() -> &'static str
 }
 
 /// The program prints the numbers of the layers below: a refusal keeps its number on the way up.
-pub fn number_of_stream(error: StreamError) -> bool
+pub fn keep_numbers(
+    stream: StreamError,
+    sync: SyncError,
+    piece: PieceError,
+    crew: CrewError,
+) -> bool
     ensures { result ≡ true }
 {
-    ToolError::from(error).number() == error.number()
-}
-
-/// See [`number_of_stream`].
-pub fn number_of_sync(error: SyncError) -> bool
-    ensures { result ≡ true }
-{
-    ToolError::from(error).number() == error.number()
-}
-
-/// See [`number_of_stream`].
-pub fn number_of_piece(error: PieceError) -> bool
-    ensures { result ≡ true }
-{
-    ToolError::from(error).number() == error.number()
-}
-
-/// See [`number_of_stream`].
-pub fn number_of_crew(error: CrewError) -> bool
-    ensures { result ≡ true }
-{
-    ToolError::from(error).number() == error.number()
+    ToolError::from(stream).number() == stream.number()
+        && ToolError::from(sync).number() == sync.number()
+        && ToolError::from(piece).number() == piece.number()
+        && ToolError::from(crew).number() == crew.number()
 }
 
 /// A refusal keeps its name, too.

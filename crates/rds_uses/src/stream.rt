@@ -1,5 +1,5 @@
 //! Facts that a user of `rds_stream` relies on: bits from bytes, windows, scans, planes and tapes.
-ghost use Rattle.std.specs.Prelude.{◌≡◌, ℕ, ◌+◌, ◌-◌, ◌*◌, ◌<◌, ◌≤◌, ◌^◌, IfSome, None, Some, Err, if◌then◌else◌, slice_index, true, vec_len};
+ghost use Rattle.std.specs.Prelude.{◌≡◌, ℕ, ◌+◌, ◌-◌, ◌*◌, ◌<◌, ◌≤◌, ◌^◌, IfOk, IfSome, IsOkUnless, None, Some, Err, if◌then◌else◌, slice_index, true, vec_len};
 ghost use Rattle.std.specs.Int.{bit_at};
 ghost use Rattle.rds_code.specs.Remainder.{rem};
 ghost use Rattle.rds_stream.specs.Recording.{bits_of, heard, length_of, offset_at, ungapped, valid_windows, window};
@@ -7,10 +7,7 @@ ghost use Rattle.rds_stream.specs.ValidWindows.{NoneValid};
 ghost use Rattle.rds_stream.specs.declared.error.StreamError.TheVariants.{BitsPastBytes, OutOfMemory, TooLong};
 
 use rds_code::{Offset, rem26};
-use rds_stream::{
-    Counted, FIRST_WINDOW, Reader, Recording, StreamError, Tape, ValidWindows, offset_heard,
-    planes, scan,
-};
+use rds_stream::{Reader, Recording, StreamError, Tape, ValidWindows, offset_heard, planes, scan};
 use std::alloc::Global;
 use std::snapshot::Snapshot;
 
@@ -28,19 +25,10 @@ pub fn recording_from(bytes: Vec<u8>, bits: u64) -> Option<Recording>
     }
 }
 
-/// More bits than a recording may have are refused, and the bytes come back.
-pub fn too_long(bytes: Vec<u8>, bits: u64) -> Result<Recording, (StreamError, Vec<u8>)>
-    requires { 2 ^ 36 < bits }
-    ensures { result ≡ Err (TooLong, bytes) }
-{
-    Recording::from_bytes(bytes, bits)
-}
-
-/// More bits than the bytes hold are refused, and the bytes come back.
-pub fn past_the_bytes(bytes: Vec<u8>, bits: u64) -> Result<Recording, (StreamError, Vec<u8>)>
-    requires few { bits ≤ 2 ^ 36 }
-    requires more { 8 * vec_len bytes < bits }
-    ensures { result ≡ Err (BitsPastBytes, bytes) }
+/// More bits than a recording may have are refused as such, and then more than the bytes hold. The bytes come back.
+pub fn refused_in_order(bytes: Vec<u8>, bits: u64) -> Result<Recording, (StreamError, Vec<u8>)>
+    ensures too_long { 2 ^ 36 < bits → result ≡ Err (TooLong, bytes) }
+    ensures past { bits ≤ 2 ^ 36 → 8 * vec_len bytes < bits → result ≡ Err (BitsPastBytes, bytes) }
 {
     Recording::from_bytes(bytes, bits)
 }
@@ -60,15 +48,6 @@ pub fn len_with(recording: &Recording, more: u32) -> u64
     recording.len() + u64::from(more)
 }
 
-/// The offset of a place is that of the window heard there.
-pub fn offsets_agree(recording: &Recording, place: u64) -> bool
-    requires first { 25 ≤ place }
-    requires last { place < length_of recording.now }
-    ensures { result ≡ true }
-{
-    recording.offset(place) == offset_heard(Reader::new(recording).window(place))
-}
-
 /// A window as it is stored is a block, whose remainder can be taken.
 pub fn stored_remainder(recording: &Recording, place: u64) -> u16
     requires first { 25 ≤ place }
@@ -76,15 +55,6 @@ pub fn stored_remainder(recording: &Recording, place: u64) -> u16
     ensures { result ≡ rem (window recording.now.bits place) }
 {
     rem26(recording.window(place))
-}
-
-/// The window heard at the first place that has one, as it is read from a tape.
-pub fn windows_agree(recording: &Recording) -> bool
-    requires { 26 ≤ length_of recording.now }
-    ensures { result ≡ true }
-{
-    let mut tape = Counted::new(recording);
-    tape.window(FIRST_WINDOW) == Reader::new(recording).window(FIRST_WINDOW)
 }
 
 /// Four blocks in a row are heard as each of them is by itself, in whichever order.
@@ -129,18 +99,12 @@ pub fn last_remainder(reader: &mut Reader<'_>, place: u64) -> Option<u16>
 
 // ---- many places
 
-/// All valid windows of a recording, by rising place.
-pub fn all_valid(alloc: Global, recording: &Recording) -> Option<Vec<(u64, Offset)>>
-    ensures { IfSome result (λ found. found.items ≡ valid_windows recording.now 0 (length_of recording.now)) }
+/// All valid windows of a recording, by rising place. Only memory can be refused.
+pub fn all_valid(alloc: Global, recording: &Recording) -> Result<Vec<(u64, Offset)>, StreamError>
+    ensures found { IfOk result (λ found. found.items ≡ valid_windows recording.now 0 (length_of recording.now)) }
+    ensures refused { IsOkUnless result OutOfMemory }
 {
-    scan(alloc, recording, 0, recording.len()).ok()
-}
-
-/// A scan fails only if memory is refused.
-pub fn refusal_of_scan(alloc: Global, recording: &Recording) -> Option<StreamError>
-    ensures { IfSome result (λ error. error ≡ OutOfMemory) }
-{
-    scan(alloc, recording, 0, recording.len()).err()
+    scan(alloc, recording, 0, recording.len())
 }
 
 /// The first valid window of a recording, with its offset, if there is one.
@@ -175,13 +139,6 @@ pub fn last_of_planes(recording: &Recording, at: u64) -> [u64; 10]
 
 // ---- tapes
 
-/// A new tape has counted no window.
-pub fn reads_of_new(recording: &Recording) -> u64
-    ensures { result ≡ 0 }
-{
-    Counted::new(recording).reads()
-}
-
 /// The offset of a tape's last place: at most one window is counted, and the tape is of the same recording.
 pub fn last_offset<T: Tape>(tape: &mut T) -> Option<Offset>
     requires some { 26 ≤ length_of (T.signal tape.old) }
@@ -191,17 +148,6 @@ pub fn last_offset<T: Tape>(tape: &mut T) -> Option<Offset>
     ensures same { T.signal tape.new ≡ T.signal tape.old }
 {
     offset_heard(tape.window(tape.len() - 1))
-}
-
-/// The count of `Counted`, as a caller sees it: one more after a window.
-pub fn seen_to_count(tape: &mut Counted<'_>) -> bool
-    requires some { 26 ≤ length_of tape.old.signal }
-    requires room { tape.old.reads < 2 ^ 63 }
-    ensures { result ≡ true }
-{
-    let before = tape.reads();
-    let _window = tape.window(FIRST_WINDOW);
-    tape.reads() == before + 1
 }
 
 /// How many bits a tape would have with `more` bits added.
@@ -216,11 +162,4 @@ pub fn recording_of<T: Tape>(tape: &T) -> Snapshot<Recording>
     ensures { result.value ≡ T.signal tape.now }
 {
     tape.source()
-}
-
-/// How many bits the recording of a reader has.
-pub fn len_of_read(reader: &Reader<'_>) -> u64
-    ensures { result ≡ length_of reader.now }
-{
-    reader.recording().len()
 }

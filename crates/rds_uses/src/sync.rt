@@ -8,23 +8,23 @@ ghost use Rattle.rds_sync.specs.declared.loss.Loss.TheVariants.{Run, Share};
 ghost use Rattle.rds_sync.specs.declared.state.State.{State as AState};
 ghost use Rattle.rds_sync.specs.declared.state.State.TheVariants.{Searching};
 ghost use Rattle.rds_sync.specs.Advance.{group_item, items_in};
-ghost use Rattle.rds_sync.specs.Convergence.{IsLastFour, IsSound, sound_bits};
+ghost use Rattle.rds_sync.specs.Counting.{IsAtMost};
+ghost use Rattle.rds_sync.specs.Convergence.{IsSound, sound_bits};
 ghost use Rattle.rds_sync.specs.Decoding.{listed};
 ghost use Rattle.rds_sync.specs.GroupLaws.{IsBlock};
 ghost use Rattle.rds_sync.specs.Groups.{group as group_at, info_of};
 ghost use Rattle.rds_sync.specs.Hop.{IsHop};
 ghost use Rattle.rds_sync.specs.Lawful.{IsBetweenGroups, IsLawful};
-ghost use Rattle.rds_sync.specs.Laws.{OneBitRuns};
 ghost use Rattle.rds_sync.specs.Loss.{IsLawfulBad};
 ghost use Rattle.rds_sync.specs.Ranges.{blocks_seen};
 ghost use Rattle.rds_sync.specs.Report.{report_items};
-ghost use Rattle.rds_sync.specs.Step.{items_at, run as run_of, step};
+ghost use Rattle.rds_sync.specs.Step.{items_at, items_of_end, run as run_of, step};
 ghost use Rattle.rds_sync.specs.Totals.{totals_of};
 
 use rds_stream::{Counted, Reader, Recording, Tape};
 use rds_sync::{
-    Block, Decoder, Group, Item, Lock, Loss, Report, RuleNumbers, Rules, Spans, State, Step,
-    SyncError, Tally, Totals, advance, decode_plain, finish, laws, run, run_report, stretch,
+    Decoder, Group, Item, Lock, Loss, Report, RuleNumbers, Rules, Spans, State, Step, SyncError,
+    Tally, advance, decode_plain, finish, laws, run, run_report, stretch,
 };
 use std::alloc::{AllocError, Global};
 use std::snapshot::Snapshot;
@@ -91,45 +91,11 @@ pub fn late_loss(alloc: Global) -> Result<Rules, SyncError>
     Rules::new(alloc, 5, 8, 65)
 }
 
-/// With a share a burst of six bits is refused first too.
-pub fn long_burst_with_share(
-    alloc: Global,
-    reach: u32,
-    bad: u32,
-    of: u32,
-) -> Result<Rules, SyncError>
-    ensures { IsErrOf result BurstRange }
-{
-    Rules::with_share(alloc, 6, reach, bad, of)
-}
-
-/// So is a reach of nine blocks next.
-pub fn far_reach_with_share(alloc: Global, bad: u32, of: u32) -> Result<Rules, SyncError>
-    ensures { IsErrOf result ReachRange }
-{
-    Rules::with_share(alloc, 5, 9, bad, of)
-}
-
-/// A share of no block is refused last.
+/// A share of no block is refused last, too.
 pub fn share_of_none(alloc: Global, of: u32) -> Result<Rules, SyncError>
     ensures { IsErrOf result ShareRange }
 {
     Rules::with_share(alloc, 5, 8, 0, of)
-}
-
-/// So is one of more blocks than are looked at.
-pub fn share_of_too_many(alloc: Global, of: u32) -> Result<Rules, SyncError>
-    requires { of < 65 }
-    ensures { IsErrOf result ShareRange }
-{
-    Rules::with_share(alloc, 5, 8, 65, of)
-}
-
-/// So is one that looks at 65 blocks.
-pub fn share_of_long(alloc: Global) -> Result<Rules, SyncError>
-    ensures { IsErrOf result ShareRange }
-{
-    Rules::with_share(alloc, 5, 8, 1, 65)
 }
 
 /// The rules in bytes: each is small enough.
@@ -151,17 +117,6 @@ pub fn blocks_in_byte(rules: &Rules) -> u8
 }
 
 // ---- blocks and groups
-
-/// The information word of a block, or another.
-pub fn word_or(block: &Block, other: u16) -> u16
-    ensures some { (word : ℕ) → info_of block.now ≡ Some word → result ≡ word }
-    ensures none { info_of block.now ≡ None → result ≡ other }
-{
-    match block.info() {
-        Some(word) => word,
-        None => other,
-    }
-}
 
 /// Whether a group that was read from its block 1 to its block 4, which ends at `place`, has four information words.
 pub fn has_four_words(recording: &Recording, rules: &Rules, place: u64, group: &Group) -> bool
@@ -201,55 +156,23 @@ pub fn lawful_after_bit(recording: &Recording, rules: &Rules, state: State, plac
     laws::steps_are_lawful();
 }
 
-/// So there is after a whole run, whoever makes it.
-pub fn lawful_after_run(recording: &Recording, rules: &Rules, state: State, from: u64, to: u64)
-    requires lawful { IsLawful rules.now from state }
-    requires order { from ≤ to }
-    ensures { IsLawful rules.now to (run_of recording.now rules.now state from (to - from)).0 }
-{
-    let _loss = rules.loss();
-    laws::runs_are_lawful();
-}
-
 // ---- steps over a tape
 
-/// Two steps in a row are one run: they move on, stay in the range, and read eighteen windows at most.
-pub fn two_steps<T: Tape>(
-    tape: &mut T,
-    rules: &Rules,
-    state: State,
-    place: u64,
-    to: u64,
-) -> (u64, State)
+/// A step is the run over its bits: it moves on, stays in the range, and leaves the tape of the same bits.
+pub fn one_step<T: Tape>(tape: &mut T, rules: &Rules, state: State, place: u64, to: u64) -> Step
     requires lawful { IsLawful rules.now place state }
     requires before { place < to }
     requires within { to ≤ length_of (T.signal tape.old) }
-    requires counted { T.reads_made tape.old + 32 ≤ 2 ^ 63 }
-    ensures moved { (place < result.0) × (result.0 ≤ to) }
-    ensures state { result.1 ≡ (run_of (T.signal tape.old) rules.now state place (result.0 - place)).0 }
-    ensures lawful { IsLawful rules.now result.0 result.1 }
-    ensures same { T.signal tape.new ≡ T.signal tape.old }
-    ensures reads { T.reads_made tape.new ≤ T.reads_made tape.old + 18 }
-{
-    let _reach = rules.reach();
-    laws::runs_join();
-    let first = advance(tape, rules, state, place, to);
-    if first.place == to {
-        return (first.place, first.state);
-    }
-    let second = advance(tape, rules, first.state, first.place, to);
-    (second.place, second.state)
-}
-
-/// A step finds the items that the run over its bits gives.
-pub fn found_by_step<T: Tape>(tape: &mut T, rules: &Rules, place: u64, to: u64) -> Step
-    requires before { place < to }
-    requires within { to ≤ length_of (T.signal tape.old) }
     requires counted { T.reads_made tape.old + 16 ≤ 2 ^ 63 }
-    ensures { items_in result.items
-        ≡ (run_of (T.signal tape.old) rules.now Searching place (result.place - place)).1 }
+    ensures moved { (place < result.place) × (result.place ≤ to) }
+    ensures state { result.state
+        ≡ (run_of (T.signal tape.old) rules.now state place (result.place - place)).0 }
+    ensures items { items_in result.items
+        ≡ (run_of (T.signal tape.old) rules.now state place (result.place - place)).1 }
+    ensures lawful { IsLawful rules.now result.place result.state }
+    ensures same { T.signal tape.new ≡ T.signal tape.old }
 {
-    advance(tape, rules, State::Searching, place, to)
+    advance(tape, rules, state, place, to)
 }
 
 /// A search goes bit by bit, and reads no more than its own window and one for each block of its reach.
@@ -263,18 +186,11 @@ pub fn search_one_bit<T: Tape>(tape: &mut T, rules: &Rules, place: u64, to: u64)
     advance(tape, rules, State::Searching, place, to).place
 }
 
-/// If a search has come to the end there is no group in progress.
-pub fn no_group_after_search<T: Tape>(tape: &mut T, rules: &Rules) -> Option<Group>
-    requires { T.reads_made tape.old + 16 ≤ 2 ^ 63 }
-    ensures { result ≡ None }
-{
-    finish(tape, rules, State::Searching)
-}
-
-/// The end of a recording costs three windows at most, and the tape is of the same bits.
+/// The end of a recording closes the group in progress, for three windows at most, and the tape is of the same bits.
 pub fn cost_of_end<T: Tape>(tape: &mut T, rules: &Rules, state: State) -> Option<Group>
     requires lawful { IsLawful rules.now (length_of (T.signal tape.old)) state }
     requires counted { T.reads_made tape.old + 16 ≤ 2 ^ 63 }
+    ensures group { group_item result ≡ items_of_end (T.signal tape.old) rules.now state }
     ensures reads { T.reads_made tape.new ≤ T.reads_made tape.old + 3 }
     ensures same { T.signal tape.new ≡ T.signal tape.old }
 {
@@ -294,29 +210,6 @@ pub fn one_stretch(reader: &mut Reader<'_>, rules: &Rules, place: u64, to: u64) 
     ensures same { reader.new ≡ reader.old }
 {
     stretch(reader, rules, State::Searching, place, to)
-}
-
-/// Two stretches in a row are one run, from any lawful state to a lawful one.
-pub fn two_stretches(
-    reader: &mut Reader<'_>,
-    rules: &Rules,
-    state: State,
-    place: u64,
-    to: u64,
-) -> (u64, State)
-    requires lawful { IsLawful rules.now place state }
-    requires before { place < to }
-    requires within { to ≤ length_of reader.old }
-    ensures state { result.1 ≡ (run_of reader.old rules.now state place (result.0 - place)).0 }
-    ensures lawful { IsLawful rules.now result.0 result.1 }
-{
-    laws::runs_join();
-    let first = stretch(reader, rules, state, place, to);
-    if first.place == to {
-        return (first.place, first.state);
-    }
-    let second = stretch(reader, rules, first.state, first.place, to);
-    (second.place, second.state)
 }
 
 /// A step of `advance` goes no further than a stretch from the same place.
@@ -379,43 +272,6 @@ fn hopped(
     }
 }
 
-/// A stretch that finds nothing has come to its end.
-pub fn end_of_stretch(
-    reader: &mut Reader<'_>,
-    rules: &Rules,
-    state: State,
-    place: u64,
-    to: u64,
-) -> u64
-    requires lawful { IsLawful rules.now place state }
-    requires before { place < to }
-    requires within { to ≤ length_of reader.old }
-    requires nothing { (run_of reader.old rules.now state place (to - place)).1 ≡ [] }
-    ensures { result ≡ to }
-{
-    laws::runs_join();
-    stretch(reader, rules, state, place, to).place
-}
-
-/// Only the last bit of a stretch gives the items that the stretch finds.
-pub fn found_by_last_bit(
-    reader: &mut Reader<'_>,
-    rules: &Rules,
-    state: State,
-    place: u64,
-    to: u64,
-) -> Step
-    requires lawful { IsLawful rules.now place state }
-    requires before { place < to }
-    requires within { to ≤ length_of reader.old }
-    ensures { items_in result.items ≡ items_at reader.old rules.now (result.place - 1)
-        (run_of reader.old rules.now state place (result.place - 1 - place)).0 }
-{
-    laws::runs_join();
-    laws::one_bit_runs();
-    stretch(reader, rules, state, place, to)
-}
-
 /// The items of the run over a recording in two parts, with the group at its end, are the report's.
 pub fn decoded_in_two<'a>(
     recording: &'a Recording,
@@ -439,65 +295,19 @@ pub fn decoded_in_two<'a>(
     (first, second, group)
 }
 
-/// A decoder that was asked for an item ends in the state in which the run does.
-pub fn end_behind_first(recording: &Recording, rules: &Rules) -> (Option<Item>, State)
-    ensures item { result.0
-        ≡ slice_get (run_of recording.now rules.now Searching 0 (length_of recording.now)).1 0 }
-    ensures state { result.1 ≡ (run_of recording.now rules.now Searching 0 (length_of recording.now)).0 }
-{
-    let mut decoder = Decoder::new(recording, rules, State::Searching, 0, recording.len());
-    let item = decoder.next();
-    (item, decoder.end_state())
-}
-
-/// Runs that once are in one state end in one state.
-pub fn merged_ends(
-    recording: &Recording,
-    rules: &Rules,
-    states: (State, State),
-    from: u64,
-    middle: u64,
-) -> (State, State)
-    requires one { IsLawful rules.now from states.0 }
-    requires other { IsLawful rules.now from states.1 }
-    requires order { from ≤ middle }
-    requires within { middle ≤ length_of recording.now }
-    requires met { (run_of recording.now rules.now states.0 from (middle - from)).0
-        ≡ (run_of recording.now rules.now states.1 from (middle - from)).0 }
-    ensures { result.0 ≡ result.1 }
+/// Runs that once are in one state stay so.
+pub fn merged_ends(recording: &Recording, rules: &Rules, from: u64, middle: u64, to: u64)
+    requires before { from ≤ middle }
+    requires after { middle ≤ to }
+    ensures { (s t : AState) → (run_of recording.now rules.now s from (middle - from)).0
+        ≡ (run_of recording.now rules.now t from (middle - from)).0
+        → (run_of recording.now rules.now s from (to - from)).0
+        ≡ (run_of recording.now rules.now t from (to - from)).0 }
 {
     laws::runs_merge();
-    let len = recording.len();
-    let one = Decoder::new(recording, rules, states.0, from, len);
-    let other = Decoder::new(recording, rules, states.1, from, len);
-    (one.end_state(), other.end_state())
 }
 
-/// Over a sound range, up to its last block of number 4, runs from any two lawful states come into one state.
-pub fn converged_ends(
-    recording: &Recording,
-    rules: &Rules,
-    states: (State, State),
-    from: u64,
-    to: u64,
-) -> (State, State)
-    requires one { IsLawful rules.now from states.0 }
-    requires other { IsLawful rules.now from states.1 }
-    requires order { from ≤ to }
-    requires within { to ≤ length_of recording.now }
-    requires sound { (j : ℕ) × (p : ℕ) × (c : ℕ) × (last : ℕ) × IsSound recording.now rules.now j from p c
-        × IsLastFour recording.now from (from + sound_bits rules.now.loss j) p c last
-        × (to ≡ p + 26 * last + 1) }
-    ensures { result.0 ≡ result.1 }
-{
-    laws::runs_converge();
-    let _numbers = rules.numbers();
-    let one = Decoder::new(recording, rules, states.0, from, to);
-    let other = Decoder::new(recording, rules, states.1, from, to);
-    (one.end_state(), other.end_state())
-}
-
-/// There is such an end within a sound range, whoever runs.
+/// Over a sound range the runs from all lawful states come into one state, at a place within it.
 pub fn has_one_end(recording: &Recording, rules: &Rules, from: u64)
     ensures { (j p c : ℕ) → IsSound recording.now rules.now j from p c
         → (to : ℕ) × (to ≤ from + sound_bits rules.now.loss j)
@@ -517,13 +327,6 @@ pub fn run_of_one_bit(recording: &Recording, rules: &Rules, place: u64) -> State
     let _len = recording.len();
     laws::one_bit_runs();
     Decoder::new(recording, rules, State::Searching, place, place + 1).end_state()
-}
-
-/// So is each run over one bit, whoever makes it.
-pub fn runs_of_one_bit()
-    ensures { OneBitRuns }
-{
-    laws::one_bit_runs();
 }
 
 /// Up to the block that is due a lock gives nothing.
@@ -588,26 +391,28 @@ pub fn collected_items(
     Ok(items)
 }
 
-/// The totals of the items that a run from a state that a caller has tested gives, and the state that it ends
-/// in.
-pub fn totals_of_run(
+/// The items of a run from a lawful state, their totals, and the state that it ends in.
+pub fn report_of_run(
     alloc: Global,
     recording: &Recording,
     rules: &Rules,
     state: State,
     from: u64,
-) -> Result<(State, Totals), SyncError>
+    to: u64,
+) -> Result<(State, Report), SyncError>
     requires lawful { IsLawful rules.now from state }
-    requires within { from ≤ length_of recording.now }
-    ensures state { IfOk result (λ end. end.0
-        ≡ (run_of recording.now rules.now state from (length_of recording.now - from)).0) }
-    ensures totals { IfOk result (λ end. end.1
-        ≡ totals_of (run_of recording.now rules.now state from (length_of recording.now - from)).1) }
-    ensures lawful { IfOk result (λ end. IsLawful rules.now (length_of recording.now) end.0) }
+    requires order { from ≤ to }
+    requires within { to ≤ length_of recording.now }
+    ensures state { IfOk result (λ end. end.0 ≡ (run_of recording.now rules.now state from (to - from)).0) }
+    ensures items { IfOk result (λ end. end.1.items
+        ≡ listed recording.now rules.now (run_of recording.now rules.now state from (to - from)).1) }
+    ensures totals { IfOk result (λ end. end.1.totals
+        ≡ totals_of (run_of recording.now rules.now state from (to - from)).1) }
+    ensures small { IfOk result (λ end. IsAtMost (2 ^ 47) end.1.totals) }
+    ensures lawful { IfOk result (λ end. IsLawful rules.now to end.0) }
+    ensures refused { IsOkUnless result OutOfMemory }
 {
-    let to = recording.len();
-    let (end, report) = run_report(alloc, recording, rules, state, from, to, Spans::Whole)?;
-    Ok((end, report.totals))
+    run_report(alloc, recording, rules, state, from, to, Spans::Whole)
 }
 
 /// The items of a run need room for two a bit at most.

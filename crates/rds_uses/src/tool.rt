@@ -1,18 +1,14 @@
 //! Facts that a user of `rds_tool` relies on: the text that is written, the devices that stay as they were,
 //! and each refusal by its cause.
-ghost use Rattle.std.specs.Prelude.{◌≡◌, ◌≢◌, ℕ, ◌*◌, ◌<◌, ◌≤◌, ◌^◌, ◌++◌, ◌⊎◌, ◌↔◌, List, Err, IfErr, IfSome, IsErrOf, None, Ok, OnOk, false, length, true};
+ghost use Rattle.std.specs.Prelude.{◌≡◌, ◌≢◌, ℕ, ◌*◌, ◌<◌, ◌≤◌, ◌^◌, ◌++◌, ◌⊎◌, ◌↔◌, List, Err, IfErr, IfSome, IsErrOf, None, Ok, OnOk, length};
 ghost use Rattle.std.specs.Io.KnownBytes.{Consumes, IsAtEnd};
-ghost use Rattle.rds_stream.specs.Recording.{bits_of};
 ghost use Rattle.rds_sync.specs.Report.{report_items};
 ghost use Rattle.rds_sync.specs.Totals.{totals_of};
-ghost use Rattle.rds_tool.specs.GroupText.{encoded_text};
-ghost use Rattle.rds_tool.specs.Input.{may_be_gaps};
-ghost use Rattle.rds_tool.specs.Listing.{report_text, scan_text, totals_text};
+ghost use Rattle.rds_tool.specs.Listing.{report_text, scan_text};
 ghost use Rattle.rds_tool.specs.Outcome.{IsOutside, WritesPrefix, result_of_job};
 ghost use Rattle.rds_tool.specs.Tasks.{task_of};
-ghost use Rattle.rds_tool.specs.declared.error.ToolError.TheVariants.{BadGaps, BurstRange, NoWorker, OutOfMemory, Read, TooManyTurns, Write};
-ghost use Rattle.rds_tool.specs.declared.job.Input.{Input as AnInput};
-ghost use Rattle.rds_uses.specs.Jobs.{IsListBy, IsScan, IsTotalsBy, all_bits, plain};
+ghost use Rattle.rds_tool.specs.declared.error.ToolError.TheVariants.{BurstRange, NoWorker, Read, TooManyTurns, Write};
+ghost use Rattle.rds_uses.specs.Jobs.{IsListBy, IsScan, all_bits};
 
 use rds_crew::Gate;
 use rds_sync::Rules;
@@ -41,22 +37,6 @@ pub fn listing<R: Threads + Sync>(
     written(rt, alloc, bytes, job)
 }
 
-/// Only the totals of the bytes of a recording.
-pub fn totals<R: Threads + Sync>(
-    rt: &R,
-    alloc: Global,
-    bytes: &[u8],
-    rules: &Rules,
-    job: &Job,
-) -> Option<Vec<u8>>
-    requires few { 8 * length bytes.now ≤ 2 ^ 36 }
-    requires job { IsTotalsBy job.now rules.now }
-    ensures { IfSome result (λ text. text.items
-        ≡ totals_text (totals_of (report_items (all_bits bytes.now) rules.now))) }
-{
-    written(rt, alloc, bytes, job)
-}
-
 /// The rows of the valid windows of the bytes of a recording.
 pub fn windows<R: Threads + Sync>(rt: &R, alloc: Global, bytes: &[u8], job: &Job) -> Option<Vec<u8>>
     requires few { 8 * length bytes.now ≤ 2 ^ 36 }
@@ -64,40 +44,6 @@ pub fn windows<R: Threads + Sync>(rt: &R, alloc: Global, bytes: &[u8], job: &Job
     ensures { IfSome result (λ text. text.items ≡ scan_text (all_bits bytes.now)) }
 {
     written(rt, alloc, bytes, job)
-}
-
-/// The rows of the valid windows if there are gaps: of those that touch none.
-pub fn windows_with_gaps<R: Threads + Sync>(
-    rt: &R,
-    alloc: Global,
-    bytes: &[u8],
-    gaps: Vec<(u64, u64)>,
-) -> Option<Vec<u8>>
-    requires few { 8 * length bytes.now ≤ 2 ^ 36 }
-    requires gaps { may_be_gaps 0 gaps.items (8 * length bytes.now) ≡ true }
-    ensures { IfSome result (λ text. text.items
-        ≡ scan_text (record { bits = bits_of bytes.now (8 * length bytes.now); gaps = gaps.items })) }
-{
-    let input = Input {
-        hex: false,
-        bits: None,
-        gaps,
-    };
-    let job = Job::Scan(input, 4);
-    written(rt, alloc, bytes, &job)
-}
-
-/// The blocks of the groups that lines of digits spell, in digits.
-pub fn encode_lines<R: Threads + Sync>(
-    rt: &R,
-    alloc: Global,
-    lines: &[u8],
-    job: &Job,
-) -> Option<Vec<u8>>
-    requires { job.now ≡ Job.Encode true }
-    ensures { IfSome result (λ text. encoded_text true lines.now ≡ Ok text.items) }
-{
-    written(rt, alloc, lines, job)
 }
 
 /// The text that a job writes for bytes, if nothing is refused: its outcome.
@@ -116,30 +62,10 @@ pub(crate) fn written<R: Threads + Sync>(
     }
 }
 
-/// The listing if a gate hears of the workers: the same.
-pub fn gated_listing<R: Threads + Sync, G: Gate + Sync>(
-    rt: &R,
-    alloc: Global,
-    bytes: &[u8],
-    rules: &Rules,
-    job: &Job,
-    gate: &G,
-) -> Option<Vec<u8>>
-    requires few { 8 * length bytes.now ≤ 2 ^ 36 }
-    requires job { IsListBy job.now rules.now }
-    ensures { IfSome result (λ text. let items = report_items (all_bits bytes.now) rules.now in
-        text.items ≡ report_text items (totals_of items)) }
-{
-    let mut writer = ToWrite::new(Vec::new(alloc));
-    match transcribe_gated(rt, alloc, &mut FromRead::new(bytes), &mut writer, job, gate) {
-        Ok(()) => Some(writer.into_inner()),
-        Err(_) => None,
-    }
-}
-
 /// With a gate too: the reader is at its end after success; a failed call of either device is answered; 13
-/// comes only if 16,777,216 bytes or more were read; 14 never comes; any other refusal if
-/// the job and the bytes call for it.
+/// comes only if 16,777,216 bytes or more were read; 14 never comes; any other refusal if the job and the bytes call for it.
+/// Settings out of their range are refused before anything is read. Nothing was written after any refusal but that of the
+/// writer, and then a first part of the text.
 pub fn gated_causes<R: Threads + Sync, S: Source, K: Sink, G: Gate + Sync>(
     rt: &R,
     alloc: Global,
@@ -158,22 +84,6 @@ pub fn gated_causes<R: Threads + Sync, S: Source, K: Sink, G: Gate + Sync>(
     ensures no_worker { IsErrOf result NoWorker → ⊥ }
     ensures refused { IfErr result (λ error. IsOutside error
         ⊎ IfSome (S.remaining reader.old) (λ held. result_of_job job.now held ≡ Err error)) }
-{
-    transcribe_gated(rt, alloc, reader, writer, job, gate)
-}
-
-/// With a gate too: settings out of their range are refused before anything is read; nothing was written after any refusal
-/// but that of the writer, and then a first part of the text.
-pub fn gated_remains<R: Threads + Sync, S: Source, K: Sink, G: Gate + Sync>(
-    rt: &R,
-    alloc: Global,
-    reader: &mut S,
-    writer: &mut K,
-    job: &Job,
-    gate: &G,
-) -> Result<(), ToolError>
-    requires reads { S.failed reader.old < 2 ^ 63 }
-    requires writes { K.failed writer.old < 2 ^ 63 }
     ensures settings { IfErr (task_of job.now) (λ error. (result ≡ Err error) × (reader.new ≡ reader.old)) }
     ensures untouched { IfErr result (λ error. error ≢ Write → writer.new ≡ writer.old) }
     ensures prefix { IsErrOf result Write → IfSome (S.remaining reader.old)
@@ -202,113 +112,6 @@ pub fn append_listing<R: Threads + Sync>(
 }
 
 // ---- when the answer is a refusal
-
-/// If the answer is `Ok` nothing is left to be read.
-pub fn all_read<R: Threads + Sync, S: Source, K: Sink>(
-    rt: &R,
-    alloc: Global,
-    reader: &mut S,
-    writer: &mut K,
-    job: &Job,
-) -> bool
-    requires reads { S.failed reader.old < 2 ^ 63 }
-    requires writes { K.failed writer.old < 2 ^ 63 }
-    ensures { result ≡ true → IsAtEnd (S.remaining reader.new) }
-{
-    transcribe(rt, alloc, reader, writer, job).is_ok()
-}
-
-/// The reader is blamed exactly if it has counted a failure.
-pub fn reader_blamed<R: Threads + Sync, S: Source, K: Sink>(
-    rt: &R,
-    alloc: Global,
-    reader: &mut S,
-    writer: &mut K,
-    job: &Job,
-) -> bool
-    requires reads { S.failed reader.old < 2 ^ 63 }
-    requires writes { K.failed writer.old < 2 ^ 63 }
-    ensures { result ≡ true }
-{
-    let before = reader.failures();
-    match transcribe(rt, alloc, reader, writer, job) {
-        Err(ToolError::Read) => before < reader.failures(),
-        _ => reader.failures() <= before,
-    }
-}
-
-/// So is the writer.
-pub fn writer_blamed<R: Threads + Sync, S: Source, K: Sink>(
-    rt: &R,
-    alloc: Global,
-    reader: &mut S,
-    writer: &mut K,
-    job: &Job,
-) -> bool
-    requires reads { S.failed reader.old < 2 ^ 63 }
-    requires writes { K.failed writer.old < 2 ^ 63 }
-    ensures { result ≡ true }
-{
-    let before = writer.failures();
-    match transcribe(rt, alloc, reader, writer, job) {
-        Err(ToolError::Write) => before < writer.failures(),
-        _ => writer.failures() <= before,
-    }
-}
-
-/// A scan of fewer than 16,777,216 bytes fails only by refused memory or by a device: they have an end, they
-/// are a recording, and a scan by four goes on without a thread that is not started.
-pub fn few_causes<R: Threads + Sync>(
-    rt: &R,
-    alloc: Global,
-    bytes: &[u8],
-    job: &Job,
-) -> Option<ToolError>
-    requires few { length bytes.now < 16777216 }
-    requires job { job.now ≡ Job.Scan plain 4 }
-    ensures { IfSome result (λ error. (error ≡ OutOfMemory) ⊎ ((error ≡ Read) ⊎ (error ≡ Write))) }
-{
-    refusal_of_scan(rt, alloc, bytes, job)
-}
-
-/// The refusal of a scan of fewer than 16,777,216 bytes: refused memory, that of a device, or the outcome.
-fn refusal_of_scan<R: Threads + Sync>(
-    rt: &R,
-    alloc: Global,
-    bytes: &[u8],
-    job: &Job,
-) -> Option<ToolError>
-    requires few { length bytes.now < 16777216 }
-    requires job { (input : AnInput) × (job.now ≡ Job.Scan input 4) }
-    ensures none { result ≡ None → (text : List ℕ) × (result_of_job job.now bytes.now ≡ Ok text) }
-    ensures some { IfSome result (λ error. (result_of_job job.now bytes.now ≡ Err error)
-        ⊎ ((error ≡ OutOfMemory) ⊎ ((error ≡ Read) ⊎ (error ≡ Write)))) }
-{
-    let mut writer = ToWrite::new(Vec::new(alloc));
-    transcribe(rt, alloc, &mut FromRead::new(bytes), &mut writer, job).err()
-}
-
-/// Gaps that the recording can't have are refused, and as such, if memory and the devices do not fail.
-pub fn bad_gaps<R: Threads + Sync>(
-    rt: &R,
-    alloc: Global,
-    bytes: &[u8],
-    gaps: Vec<(u64, u64)>,
-) -> Option<ToolError>
-    requires few { length bytes.now < 16777216 }
-    requires gaps { may_be_gaps 0 gaps.items (8 * length bytes.now) ≡ false }
-    ensures refused { result ≢ None }
-    ensures cause { IfSome result
-        (λ error. (error ≡ BadGaps) ⊎ ((error ≡ OutOfMemory) ⊎ ((error ≡ Read) ⊎ (error ≡ Write)))) }
-{
-    let input = Input {
-        hex: false,
-        bits: None,
-        gaps,
-    };
-    let job = Job::Scan(input, 4);
-    refusal_of_scan(rt, alloc, bytes, &job)
-}
 
 /// Settings out of their range are refused as such, and nothing is read.
 pub fn refused_unread<R: Threads + Sync, S: Source, K: Sink>(

@@ -79,7 +79,12 @@ class Groups:
 
     def values(self, name: str, index: Array) -> Array:
         """A field in these groups."""
-        value: Array = FIELDS[name].of(self.columns.words[:, index])
+        field = FIELDS[name]
+        words = (
+            word[index] if number in field.blocks else word
+            for number, word in zip(BLOCKS, self.columns.words)
+        )
+        value: Array = field.of(list(words))
         return value
 
     def with_known(self, index: Array, blocks: Iterable[int]) -> Array:

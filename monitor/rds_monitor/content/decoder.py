@@ -13,15 +13,17 @@ yet. Names and texts are told by the rules of `turns`.
 """
 from __future__ import annotations
 
+from operator import itemgetter
 from typing import Any, Dict, List, Optional, Tuple
 
 import numpy
 
-from ..rows.items import ACQUIRED, GROUP, Rows
+from ..rows.items import ACQUIRED, GROUP, Rows, chosen
 from . import features, names, networks, texts
 from .columns import Columns, columns_of
 from .events import ITEMS, Event, Held, Taker, Teller
 from .evidence import KIND_SHIFT, POSITION_BITS, Array, Evidence, Observations, key_of, latest
+from .looks import Kind
 from .received import Received
 
 __all__ = ["ITEMS", "Decoder", "Event", "Held", "Programme"]
@@ -44,27 +46,29 @@ class Programme:
             features.Features(teller, data),
         ]
         takers.append(networks.OtherNetworks(teller, rbds))
-        self._takers: Dict[int, List[Taker]] = {}
-        for one in takers:
-            for kind in one.kinds:
-                self._takers.setdefault(int(kind), []).append(one)
+        self._takers = [[one for one in takers if kind in one.kinds] for kind in range(max(Kind) + 1)]
+        self._is_taken = numpy.array(list(map(bool, self._takers)))
 
     def feed(self, groups: Columns) -> None:
         news, changes = self._received.news(groups)
         kinds = news.key >> KIND_SHIFT
-        messages = news.key >> POSITION_BITS & (1 << KIND_SHIFT - POSITION_BITS) - 1
-        positions = news.key & (1 << POSITION_BITS) - 1
-        columns = (news.at, kinds, messages, positions, news.value)
+        taken = self._is_taken[kinds]
+        key, at, value = (column[taken] for column in news)
+        messages = key >> POSITION_BITS & (1 << KIND_SHIFT - POSITION_BITS) - 1
+        columns = (at, kinds[taken], messages, key & (1 << POSITION_BITS) - 1, value)
         found: List[Tuple[Any, ...]] = list(zip(*(column.tolist() for column in columns)))
         if changes:
-            found = sorted([*found, *changes], key=lambda change: change[:2])
-        for at, kind, message, *rest in found:
-            self._teller.place = int(groups.place[at])
+            # Texts have no position.
+            found += [(at, kind, message, None, codes) for at, kind, message, codes in changes]
+            found.sort(key=itemgetter(0, 1))
+        places = groups.place.tolist() if found else []
+        for number, kind, message, position, said in found:
+            self._teller.place = places[number]
             for taker in self._takers[kind]:
-                if len(rest) == 1:
-                    taker.hear(kind, message, rest[0])
+                if position is None:
+                    taker.hear(kind, message, said)
                 else:
-                    taker.take(kind, message, *rest)
+                    taker.take(kind, message, position, said)
 
 
 class Decoder:
@@ -95,7 +99,9 @@ class Decoder:
     def _feed(self, rows: Rows) -> None:
         is_group = rows["what"] == GROUP
         acquired = numpy.concatenate([[0], numpy.cumsum(rows["what"] == ACQUIRED)])
-        groups, at = (rows, acquired[1:]) if is_group.all() else (rows[is_group], acquired[1:][is_group])
+        groups, at = (
+            (rows, acquired[1:]) if is_group.all() else (chosen(rows, is_group), acquired[1:][is_group])
+        )
         fresh = at != numpy.concatenate([[0], at])[:-1]
         if not fresh.size:
             self._fresh |= bool(acquired[-1])

@@ -2,7 +2,7 @@
 from __future__ import annotations
 
 import datetime
-from typing import Any, Dict, Optional
+from typing import Any, Dict, Optional, Tuple
 
 from ..rows.clock import DAY, EPOCH_MJD
 from . import names
@@ -143,17 +143,16 @@ class Features(Taker):
     """Groups 5A to 9A and 13A that no application has: which features are there, and the data of EWS; with `data` those
     of transparent channels and of the operator's own."""
 
-    kinds = (Kind.CHANNEL, Kind.EWS, Kind.ODA, Kind.TDC_DATA, Kind.IH_DATA)
+    kinds: Tuple[Kind, ...] = (Kind.CHANNEL, Kind.EWS, Kind.ODA)
     features = {"6A": "ih", "6B": "ih", "7A": "rp", "8A": "tmc", "13A": "erp"}
 
     def __init__(self, teller: Teller, data: bool) -> None:
         super().__init__(teller)
-        self._data = data
+        self.kinds += (Kind.TDC_DATA, Kind.IH_DATA) * data
 
     def take(self, kind: int, message: int, position: int, value: int) -> None:
         if kind in (Kind.TDC_DATA, Kind.IH_DATA):
-            if self._data:
-                self._take_data(kind, position, value)
+            self._take_data(kind, position, value)
         elif kind == Kind.EWS:
             first, *rest = payload(value)[1:]
             self._tell("ews", f"{first:02X} {rest[0]:04X} {rest[1]:04X}")

@@ -113,8 +113,9 @@ class Field(NamedTuple):
 
     def of(self, words: Any) -> Any:
         """The value in the four information words of a group, or of many if the words are arrays."""
-        value: Any = 0
-        for block, shift, mask in self.parts:
+        (block, shift, mask), *others = self.parts
+        value: Any = words[block - 1] >> shift & mask
+        for block, shift, mask in others:
             value = value << mask.bit_length() | words[block - 1] >> shift & mask
         return value
 

@@ -51,7 +51,7 @@ def run_json(arguments: argparse.Namespace) -> int:
         if arguments.rows:
             sys.stdout.writelines(map(line, row_objects(rows, clock)))
         elif arguments.redsea:
-            sys.stdout.writelines(redsea.lines(rows, clock))
+            sys.stdout.write("".join(redsea.lines(rows, clock)))
         else:
             sys.stdout.writelines(event_lines(rows, decoder.feed(rows), clock))
         sys.stdout.flush()

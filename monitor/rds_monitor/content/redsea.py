@@ -6,13 +6,13 @@ text is written with the last group of its turn, as long as it holds.
 from __future__ import annotations
 
 from functools import lru_cache
-from itertools import repeat
-from typing import Any, Callable, Dict, List, Tuple
+from itertools import chain
+from typing import Any, Callable, Dict, Iterable, List, Tuple
 
 import numpy
 
 from ..rows.clock import Clock, utc_texts
-from ..rows.items import BLOCKS, GROUP, VALID, Rows
+from ..rows.items import BLOCKS, GROUP, VALID, Rows, chosen
 from ..rows.listing import kinds_of
 from .charset import safe_json
 from .decoder import Decoder, Event
@@ -23,8 +23,10 @@ from .networks import kilohertz
 
 Object = Dict[str, Any]
 Words = Tuple[int, int, int, int]
-# How many groups of a type are remembered: more than a station sends in turn.
-MOST_WRITTEN = 1 << 12
+# How many groups are remembered: more than a station sends in turn.
+MOST_WRITTEN = 1 << 14
+# The time's place in a line, in which no control is.
+TIME = "\0"
 # The segment in which a name or text is written, besides the group in which it changes: of these bits of block 2.
 WRITTEN_IN = {"ps": (3, 3), "rt": (0xF, 0)}
 # The group types that tell an item, but for the group in which it changes.
@@ -37,18 +39,47 @@ TOLD_IN = {
 _DI = ("dynamic_pty", "compressed", "artificial_head", "stereo")
 
 
+class Written(Dict[int, str]):
+    """Lines of groups, made when they are asked for first, while the items hold that they tell."""
+
+    def __init__(self, make: Callable[[int], str]) -> None:
+        super().__init__()
+        self._make = make
+        # By group type and low bits of block 2, the groups that have a line.
+        self._known: Dict[int, List[int]] = {}
+
+    def __missing__(self, group: int) -> str:
+        found = self._make(group)
+        if len(self) < MOST_WRITTEN:
+            self[group] = found
+            self._known.setdefault(group >> 32 & 0xF80F, []).append(group)
+        else:
+            self.clear()
+        return found
+
+    def clear(self) -> None:
+        super().clear()
+        self._known.clear()
+
+    def forget(self, code: int, bits: int, segment: int) -> None:
+        """The lines of groups of a type, of which some bits of block 2 say the segment."""
+        for low in range(16):
+            if low & bits == segment:
+                for group in self._known.pop(code << 11 | low, ()):
+                    del self[group]
+
+
 class Redsea:
     """Writes the groups of rows, chunk by chunk."""
 
     def __init__(self, decoder: Decoder) -> None:
         self._decoder = decoder
         self._held: Dict[str, Any] = {}
-        self._pi = -1
+        self._pi, self._time = -1, ""
         self._fresh: List[str] = []
         self._is_valid = False
         self._head = lru_cache(MOST_WRITTEN)(self._head_of)
-        # Of groups by their type: what is written before their time and after it, while the items hold that they tell.
-        self._written: Dict[int, Dict[int, Tuple[str, str]]] = {code: {} for code in range(32)}
+        self._written = Written(self._text_of)
         makers: Dict[str, Callable[[Object, Words], None]] = {
             "0A 0B 15B": self._tuning,
             "1A": self._labels,
@@ -63,73 +94,64 @@ class Redsea:
             "14A 14B": self._network,
             "15A": lambda found, _: self._put(found, long_ps="lps"),
         }
-        self._makers = {name: maker for names, maker in makers.items() for name in names.split()}
+        self._makers = {code: maker for names, maker in makers.items() for code in codes_of(names)}
 
     def lines(self, rows: Rows, clock: Clock) -> List[str]:
         """A line per group whose second block is known, from the first group on whose PI counts."""
-        events = self._decoder.feed(rows)
-        groups = rows[(rows["what"] == GROUP) & (rows["kind2"] >= VALID)]
-        kinds = kinds_of(groups)
-        first, second, third, fourth = (groups[f"info{block}"].astype("i8") for block in BLOCKS)
-        complete = (kinds[:, 2:] >= VALID).all(axis=1)
-        key = complete << 48 | second << 32 | numpy.where(complete, third << 16 | fourth, 0)
-        key |= (kinds == VALID).all(axis=1).astype("i8") << 49
-        pi = numpy.where(kinds[:, 0] >= VALID, first, -1)
-        times: Any = repeat("")
-        if clock.start is not None:
-            times = utc_texts(clock.start + groups["place"] / clock.rate)
-            times = [f',"rx_time":"{time}"' for time in times]
-        of_type = [self._written[code] for code in (second >> 11).tolist()]
-        columns = list(
-            zip(pi.tolist(), of_type, key.tolist(), times if clock.start is not None else repeat(""))
-        )
+        events, before = self._decoder.feed(rows), self._pi
+        groups = chosen(rows, (rows["what"] == GROUP) & (rows["kind2"] >= VALID))
+        begins = [(event.place, event.pi) for event in events if event.item == "pi"]
+        own = numpy.array([before, *(pi for _, pi in begins)])
+        own = own[numpy.searchsorted([place for place, _ in begins], groups["place"], side="right")]
+        groups = chosen(groups, (own >= 0) & ((groups["kind1"] < VALID) | (groups["info1"] == own)))
+        keys = _keys_of(groups)
+        if self._time != TIME * (clock.start is not None):
+            self._time = TIME * (clock.start is not None)
+            self._written.clear()
         lines: List[str] = []
         begin = 0
         ends = numpy.searchsorted(groups["place"], [event.place for event in events]).tolist()
         for event, end in zip(events, ends):
             # Events of one group change it together.
             if end > begin:
-                lines += self._lines_of(columns[begin:end])
+                lines += self._lines_of(keys[begin:end])
                 begin = end
             self._hold(event)
-        return lines + self._lines_of(columns[begin:])
+        lines += self._lines_of(keys[begin:])
+        if clock.start is None:
+            return lines
+        times = utc_texts(clock.start + groups["place"] / clock.rate)
+        return [line.replace(TIME, f',"rx_time":"{time}"', 1) for line, time in zip(lines, times)]
 
-    def _lines_of(self, groups: List[Tuple[int, Dict[int, Tuple[str, str]], int, str]]) -> List[str]:
+    def _lines_of(self, groups: List[int]) -> Iterable[str]:
         """The lines of groups in a row, in the first of which items may have changed."""
-        lines, own = [], self._pi
-        for pi, written, group, time in groups:
-            if own >= 0 and (pi == own or pi < 0):
-                found = written.get(group)
-                if found is None or self._fresh:
-                    found = self._texts(group)
-                    if not self._fresh and len(written) < MOST_WRITTEN:
-                        written[group] = found
-                lines.append(found[0] + time + found[1])
+        first = [self._text_of(group) for group in groups[:1] if self._fresh]
+        if first:
             self._fresh = []
-        return lines
+        return chain(first, map(self._written.__getitem__, groups[len(first) :]))
 
     def _hold(self, event: Event) -> None:
         name = event.item.partition(":")[0]
         if name == "pi":
             self._held, self._pi = {}, event.pi
-        for code in range(32) if name == "pi" else codes_of(TOLD_IN.get(name, "")):
-            known = self._written[code]
-            bits, segment = WRITTEN_IN.get(name, (0, 0))
-            for group in [group for group in known if group >> 32 & bits == segment]:
-                del known[group]
+            self._written.clear()
+        for code in codes_of(TOLD_IN.get(name, "")):
+            self._written.forget(code, *WRITTEN_IN.get(name, (0, 0)))
         self._held[event.item] = event.value
         self._fresh.append(event.item)
 
-    def _texts(self, group: int) -> Tuple[str, str]:
+    def _text_of(self, group: int) -> str:
         """What is written of a group: its blocks 2 to 4, whether these are complete, and whether all are valid."""
         second = group >> 32 & 0xFFFF
-        name = name_of(second >> 11)
         rest: Object = {}
         self._is_valid = bool(group >> 49)
-        if group >> 48 & 1 and name in self._makers:
-            self._makers[name](rest, (self._pi, second, group >> 16 & 0xFFFF, group & 0xFFFF))
-        self._applications(rest)
-        return self._head(self._pi, second & 0xFFE0), "," + safe_json(rest)[1:] + "\n" if rest else "}\n"
+        maker = self._makers.get(second >> 11)
+        if group >> 48 & 1 and maker:
+            maker(rest, (self._pi, second, group >> 16 & 0xFFFF, group & 0xFFFF))
+        if self._fresh:
+            self._applications(rest)
+        head = self._head(self._pi, second & 0xFFE0) + self._time
+        return f"{head},{safe_json(rest)[1:]}\n" if rest else head + "}\n"
 
     def _head_of(self, pi: int, second: int) -> str:
         head = {"pi": f"0x{pi:04X}", "group": name_of(second >> 11), "tp": bool(second & 0x400)}
@@ -277,6 +299,16 @@ class Redsea:
                 held = self._held[item]
                 found["dab"] = {"kilohertz": round(float(item[4:]) * 1000), "mode": held["mode"]}
                 found["dab"].update(channel=held["channel"], ensemble_id=f"0x{held['ensemble']}")
+
+
+def _keys_of(groups: Rows) -> List[int]:
+    """Blocks 2 to 4 of groups, whether these are complete, and whether all four are valid."""
+    kinds = kinds_of(groups)
+    second, third, fourth = (groups[f"info{block}"].astype("i8") for block in BLOCKS[1:])
+    complete = (kinds[:, 2:] >= VALID).all(axis=1)
+    key = complete << 48 | second << 32 | numpy.where(complete, third << 16 | fourth, 0)
+    keys: List[int] = (key | (kinds == VALID).all(axis=1).astype("i8") << 49).tolist()
+    return keys
 
 
 def _own(words: Words) -> Tuple[int, ...]:

@@ -1,7 +1,8 @@
 """Names and texts: PS, RadioText with RadioText Plus, programme type name, long PS, enhanced RadioText."""
 from __future__ import annotations
 
-from typing import Dict, List, NamedTuple, Optional
+from functools import lru_cache
+from typing import Dict, List, NamedTuple, Optional, Tuple
 
 from .charset import decode
 from .columns import fields_of
@@ -43,6 +44,19 @@ class Tag(NamedTuple):
     end: int
 
 
+@lru_cache(1 << 10)
+def tags_of(prefix: str, value: int) -> List[Tag]:
+    """The tags of a group. The second of two of one content type has the item's name and :2."""
+    found: List[Tag] = []
+    for number in "12":
+        content, start, more = fields_of("rtplus", value, f"class{number} start{number} more{number}")
+        if content:
+            item = f"{prefix}:{CONTENT_TYPES[content]}"
+            is_second = any(tag.item == item for tag in found)
+            found.append(Tag(item + ":2" * is_second, start, start + more + 1))
+    return found
+
+
 class TaggedText(Taker):
     """A text, and the tags of RadioText Plus that are parts of it."""
 
@@ -50,10 +64,13 @@ class TaggedText(Taker):
 
     def __init__(self, teller: Teller) -> None:
         super().__init__(teller)
-        self._characters: Optional[List[str]] = None
+        self._characters: Optional[Tuple[str, ...]] = None
         self._pending: Dict[str, Tag] = {}
+        # The tags that were taken last, if the text did not change since.
+        self._last_tags = -1
 
     def hear(self, kind: int, message: int, codes: Optional[bytes]) -> None:
+        self._last_tags = -1
         self._characters = self._split(message, codes) if codes is not None else None
         if self._characters is None:
             self._pending.clear()
@@ -62,36 +79,29 @@ class TaggedText(Taker):
         self._teller.tell_text(self.text, "".join(self._characters).rstrip(" \0"))
         self._tell_tags()
 
-    def _split(self, message: int, codes: bytes) -> List[str]:
+    @staticmethod
+    def _split(message: int, codes: bytes) -> Tuple[str, ...]:
         """The text of each character that a tag counts."""
         raise NotImplementedError
 
     def _take_tags(self, value: int) -> None:
-        """Tags are of the text that holds, or of the one that becomes whole next."""
+        """Tags are of the text that holds, or of the one that becomes whole next. The same ones again change nothing."""
+        if value == self._last_tags:
+            return
+        self._last_tags = value
         toggle, running = fields_of("rtplus", value, "toggle running")
         self._tell(f"{self.prefix}_toggle", toggle)
         self._tell(f"{self.prefix}_running", bool(running))
-        for tag in self._tags(value):
-            self._pending[tag.item] = tag
+        tags = tags_of(self.prefix, value)
+        if len(tags) == 1 and f"{tags[0].item}:2" in self._teller.held:
+            self._teller.drop([f"{tags[0].item}:2"])
+        self._pending.update((tag.item, tag) for tag in tags)
         if self._characters is not None:
             self._tell_tags()
 
-    def _tags(self, value: int) -> List[Tag]:
-        """The tags of a group. The second of two of one content type has the item's name and :2."""
-        found: List[Tag] = []
-        for number in "12":
-            content, start, more = fields_of("rtplus", value, f"class{number} start{number} more{number}")
-            if content:
-                item = f"{self.prefix}:{CONTENT_TYPES[content]}"
-                is_second = any(tag.item == item for tag in found)
-                found.append(Tag(item + ":2" * is_second, start, start + more + 1))
-        if len({tag.item for tag in found}) == 1 and f"{found[0].item}:2" in self._teller.held:
-            self._teller.drop([f"{found[0].item}:2"])
-        return found
-
     def _tell_tags(self) -> None:
         """Tells the pending tags that are inside the text."""
-        characters = self._characters or []
+        characters = self._characters or ()
         for item, start, end in self._pending.values():
             text = "".join(characters[start:end]).strip(" \0")
             if end <= len(characters) and text:
@@ -110,11 +120,13 @@ class RadioText(TaggedText):
             self._take_tags(value)
         else:
             self._tell("rt_ab", "AB"[value & 1])
-            self._characters = None
+            self._characters, self._last_tags = None, -1
             self._pending.clear()
 
-    def _split(self, message: int, codes: bytes) -> List[str]:
-        return [decode(bytes([code])) for code in codes]
+    @staticmethod
+    @lru_cache(1 << 8)
+    def _split(message: int, codes: bytes) -> Tuple[str, ...]:
+        return tuple(decode(bytes([code])) for code in codes)
 
 
 class EnhancedText(TaggedText):
@@ -126,8 +138,9 @@ class EnhancedText(TaggedText):
     def take(self, kind: int, message: int, position: int, value: int) -> None:
         self._take_tags(value)
 
-    def _split(self, message: int, codes: bytes) -> List[str]:
-        return list(codes.decode("utf-8" if message else "utf-16-be", "replace"))
+    @staticmethod
+    def _split(message: int, codes: bytes) -> Tuple[str, ...]:
+        return tuple(codes.decode("utf-8" if message else "utf-16-be", "replace"))
 
 
 # Those that need only the teller.

@@ -15,8 +15,7 @@ their constants:
 from __future__ import annotations
 
 from collections import deque
-from enum import IntEnum
-from typing import Deque, Dict, Iterator, List, NamedTuple, Optional, Tuple
+from typing import Any, Deque, Dict, Iterator, List, NamedTuple, Optional, Tuple
 
 import numpy
 
@@ -30,8 +29,10 @@ NAME_TURNS = 4
 TEXT_BITS = 60 * 1187.5
 OUTAGE_BITS = 10 * 1187.5
 UNKNOWN = -1
-# Rows after which no pair joins any more: more turns than NAME_TURNS, and at 11.4 groups per second more than TEXT_BITS.
-MEMORY = 768
+# How far a pair can be trusted.
+SINGLE, CONFIRMED, VALID = 0, 1, 2
+# The least number of rows that are read one by one after a change.
+LEAST_READ = 2 * RECENT
 
 
 class Shape(NamedTuple):
@@ -55,7 +56,7 @@ class Shape(NamedTuple):
         """How many bytes of a pair are before the end of the text, or UNKNOWN if it does not end there."""
         if not self.is_text or self.wide:
             return 0 if self.is_text and value == END_OF_TEXT else UNKNOWN
-        return value.to_bytes(2, "big").find(END_OF_TEXT)
+        return 0 if value >> 8 == END_OF_TEXT else 1 if value & 0xFF == END_OF_TEXT else UNKNOWN
 
 
 class Segments(NamedTuple):
@@ -65,29 +66,26 @@ class Segments(NamedTuple):
     if every group between them was read. The text is another one where `generation` changes.
     """
 
-    place: Array
-    segment: Array
-    value: Array
-    valid: Array
-    run: Array
-    generation: Array
+    place: Any
+    segment: Any
+    value: Any
+    valid: Any
+    run: Any
+    generation: Any
+    # Whether a turn can have been missed before each row, once that is known.
+    missed: Any = numpy.zeros(0, bool)
+
+    def where(self, chosen: slice) -> "Segments":
+        return Segments(*(column[chosen] for column in self))
+
+    def as_lists(self) -> "Segments":
+        """The same, to be read row by row."""
+        columns = (column.T.tolist() for column in self)
+        return Segments(*(list(zip(*one)) if of.ndim > 1 else one for of, one in zip(self, columns)))
 
 
-class Grade(IntEnum):
-    """How far a pair can be trusted."""
-
-    SINGLE = 0
-    CONFIRMED = 1
-    VALID = 2
-
-
-class Pair(NamedTuple):
-    """Two characters, with the turn and the bit position of their last reception."""
-
-    value: int
-    grade: Grade
-    turn: int
-    place: int
+# Two characters, how far they can be trusted, and the turn and the bit position of their last reception.
+Pair = Tuple[int, int, int, int]
 
 
 class Pace:
@@ -99,35 +97,52 @@ class Pace:
         self._is_text = shape.is_text
         self._segments = self.LEAST_SEGMENTS if shape.is_text else shape.segments
         self._place, self._segment = UNKNOWN, UNKNOWN
-        # The bits and steps between the last segments, and their sums.
-        self._recent: Deque[Tuple[int, int]] = deque()
-        self._of_bits = self._of_steps = 0
+        # The bits and steps between the last segments.
+        self._bits = self._steps = numpy.zeros(0, "i8")
 
-    def has_missed_turn(self, place: int, segment: int) -> bool:
-        """Whether as much time went by before a segment as a turn more takes."""
-        most = (self._steps(segment) + self._segments) * self._of_bits
-        return bool(self._recent) and (place - self._place) * self._of_steps >= most
+    def missed(self, place: Array, segment: Array) -> Array:
+        """Whether as much time went by before each of the next segments as a turn more takes."""
+        turns = numpy.full(segment.size + 1, self._segments)
+        if self._is_text:
+            turns = numpy.maximum.accumulate(numpy.append(self._segments, segment + 1))
+        bits, steps = numpy.diff(place, prepend=self._place), numpy.diff(segment, prepend=self._segment)
+        steps += (steps <= 0) * turns[:-1]
+        if self._place == UNKNOWN:
+            bits[0] = steps[0] = 0
+        known = self._bits.size
+        self._bits, self._steps = numpy.append(self._bits, bits), numpy.append(self._steps, steps)
+        of_bits, of_steps = (_sums_before(one)[known:] for one in (self._bits, self._steps))
+        self._bits, self._steps = self._bits[-RECENT:], self._steps[-RECENT:]
+        self._place, self._segment, self._segments = int(place[-1]), int(segment[-1]), int(turns[-1])
+        missed: Array = (bits * of_steps >= (steps + turns[:-1]) * of_bits) & (of_steps > 0)
+        return missed
 
-    def _steps(self, segment: int) -> int:
-        steps = segment - self._segment
-        return steps if steps > 0 else steps + self._segments
 
-    def note(self, place: int, segment: int) -> None:
-        if self._place != UNKNOWN:
-            bits, steps = place - self._place, self._steps(segment)
-            self._recent.append((bits, steps))
-            if len(self._recent) > RECENT:
-                oldest = self._recent.popleft()
-                bits, steps = bits - oldest[0], steps - oldest[1]
-            self._of_bits += bits
-            self._of_steps += steps
-        self.skip(place, segment, segment)
+def _sums_before(values: Array) -> Array:
+    """The sum of the last values before each."""
+    sums, at = numpy.append(0, numpy.cumsum(values)), numpy.arange(values.size)
+    found: Array = sums[at] - sums[numpy.maximum(at - RECENT, 0)]
+    return found
 
-    def skip(self, place: int, segment: int, highest: int) -> None:
-        """Takes the last of some segments, whose times do not count, and the highest of them."""
-        self._place, self._segment = place, segment
-        if self._is_text and highest >= self._segments:
-            self._segments = highest + 1
+
+class WholeText:
+    """A text that was told: its pairs, its characters, and what each of its segments says."""
+
+    def __init__(self, pairs: List[int], last: int, shape: Shape) -> None:
+        """`last` tells how many bytes of the last pair are before the end of the text, or UNKNOWN."""
+        self.pairs, self.size = pairs, len(pairs)
+        text = b"".join([value.to_bytes(2, "big") for value in pairs])
+        self.text = text if last == UNKNOWN else text[: 2 * self.size - 2 + last]
+        self.has_end = last != UNKNOWN
+        known = pairs + [UNKNOWN] * (shape.size - self.size)
+        self.said = [tuple(known[at : at + shape.pairs]) for at in range(0, shape.size, shape.pairs)]
+
+    def differs(self, segment: int, values: Tuple[int, ...], is_length: bool) -> bool:
+        """Whether a segment has another pair, or one after the end, if the text is known to have this length."""
+        for value, own in zip(values, self.said[segment]):
+            if value != own and value != UNKNOWN and (own != UNKNOWN or is_length):
+                return True
+        return False
 
 
 class Message:
@@ -138,6 +153,7 @@ class Message:
         self._generation = self._run = UNKNOWN
         self._recent: Deque[bool] = deque(maxlen=RECENT)
         self._pace = Pace(shape)
+        self._latest: Optional[WholeText] = None
         self._clear()
 
     @property
@@ -153,37 +169,67 @@ class Message:
         self._doubted: Dict[int, Pair] = {}
         self._last_segment = UNKNOWN
         self._length = 0  # in pairs, where no end of text says it
-        self._told: Optional[Array] = None  # the pairs of the text that holds
+        self._told: Optional[WholeText] = None  # the text that holds
 
     def take(self, groups: Segments) -> Iterator[Tuple[int, Optional[bytes]]]:
         """The changes, each with its row: the characters of a text that is whole, or None if another text begins or the
         one that was told does not hold any more. However the groups are cut into chunks, the changes are the same.
         """
-        row, end = 0, groups.place.size
-        while row < end:
-            if groups.generation[row] != self._generation:
-                self._generation = groups.generation[row]
+        changes = numpy.flatnonzero(numpy.diff(groups.generation, prepend=self._generation)).tolist()
+        for begin, end in zip([0, *changes], [*changes, groups.place.size]):
+            if begin == end:
+                continue
+            if begin in changes:
+                self._generation = int(groups.generation[begin])
                 self._pace = Pace(self._shape)
                 self._clear()
-                yield row, None
-            if self._told is not None:
-                row = self._pass(groups, row, self._told)
-                if row == end:
+                yield begin, None
+            rows = groups.where(slice(begin, end))
+            rows = rows._replace(missed=self._pace.missed(rows.place, rows.segment))
+            for row, text in self._take(rows):
+                yield begin + row, text
+
+    def _take(self, groups: Segments) -> Iterator[Tuple[int, Optional[bytes]]]:
+        """The changes within a generation. Where texts change often, more rows are read one by one before others are
+        passed at once."""
+        begin, length, most = 0, LEAST_READ, 16 * LEAST_READ
+        while begin < groups.place.size:
+            rest, passed = groups.where(slice(begin, begin + most)), 0
+            if self._told and rest.place.size > LEAST_READ:
+                passed, cuts = self._pass(rest, self._told)
+                for row in cuts:
+                    yield begin + row, None
+                    yield begin + row, self._told.text
+            begin += passed
+            if passed == rest.place.size:
+                most *= 8
+                continue
+            length, most = LEAST_READ if passed >= length else 2 * length, 16 * LEAST_READ
+            rows = groups.where(slice(begin, begin + length)).as_lists()
+            for row, text in self._read(rows):
+                yield begin + row, text
+            begin += len(rows.place)
+
+    def _read(self, rows: Segments) -> Iterator[Tuple[int, Optional[bytes]]]:
+        row = 0
+        while row < len(rows.place):
+            if self._told:
+                row = self._follow(rows, row, self._told)
+                if row == len(rows.place):
                     return
-                if groups.generation[row] != self._generation:
-                    continue
-                self._told = None
+                self._told, self._may_end = None, True
                 yield row, None
-            if self._pace.has_missed_turn(int(groups.place[row]), int(groups.segment[row])):
+            if rows.missed[row]:
                 self._clear()
                 yield row, None
-            if groups.segment[row] <= self._segment:
-                self._end_turn(bool(groups.segment[row] == 0 and groups.run[row] == self._run))
-                text = self._whole(self._fresh(int(groups.place[row])))
+            segment = rows.segment[row]
+            if segment <= self._segment:
+                self._end_turn(segment == 0 and rows.run[row] == self._run)
+                text = self._whole(self._fresh(rows.place[row]))
                 if text is not None:
                     yield row, text
                     continue
-            if self._hear(groups, row):
+            if self._hear(rows, row):
                 yield row, None
             may_be_whole = self._may_end or len(self._now) >= (self._length or self._shape.size)
             text = self._whole(self._now) if may_be_whole else None
@@ -193,71 +239,94 @@ class Message:
 
     # ---- while the text that was told holds
 
-    def _pass(self, groups: Segments, row: int, told: Array) -> int:
-        """Passes the rows that say the told text again, and returns the first that does not, or the end."""
-        window = 16 if row else groups.place.size
-        while row < groups.place.size:
-            end = min(row + window, groups.place.size)
-            passed = self._agreeing(groups, row, end, told)
-            first = self._first_that_counts(groups, row, row + passed, told)
-            if first > row:
-                self._skip(groups, row, first)
-            self._note(groups, first, row + passed)
-            row, window = row + passed, 16 * window
-            if row < end:
-                break
-        return row
-
-    def _first_that_counts(self, groups: Segments, begin: int, end: int, told: Array) -> int:
-        """The row from which on these rows, which say the told text again, have all of its pairs and tell its pace, if
-        not all of them are needed."""
-        if end - begin <= 2 * RECENT:
-            return begin
-        rows, columns = numpy.nonzero(groups.value[begin:end] != UNKNOWN)
-        latest = numpy.full(self._shape.size, UNKNOWN)
-        latest[groups.segment[begin + rows] * self._shape.pairs + columns] = rows
-        return max(begin, end - MEMORY, begin + int(latest[: told.size].min()) - RECENT)
-
-    def _agreeing(self, groups: Segments, begin: int, end: int, told: Array) -> int:
-        """How many of these rows, from the first on, say the told text again."""
-        size = self._shape.pairs
-        pairs = numpy.full(self._shape.size, UNKNOWN)
-        pairs[: told.size] = told
-        segment, value, run = groups.segment[begin:end], groups.value[begin:end], groups.run[begin:end]
-        expected = pairs[segment[:, None] * size + numpy.arange(size)]
-        differs = (value != expected) & (value != UNKNOWN)
+    def _pass(self, groups: Segments, told: WholeText) -> Tuple[int, List[int]]:
+        """Passes the first rows if they say the told text again: how many they are, and in which of them it ended
+        early, and was whole again at once."""
+        before = numpy.append(self._segment, groups.segment[:-1])
+        expected = numpy.array(told.said)[groups.segment]
+        differs = (groups.value != expected) & (groups.value != UNKNOWN)
         if self._length != told.size:
             differs &= expected != UNKNOWN
-        other = differs.any(axis=1) | (groups.generation[begin:end] != self._generation)
-        if self._shape.is_text:
-            before = numpy.append(self._segment, segment[:-1])
-            is_read = run == numpy.append(self._run, run[:-1])
-            other |= (segment <= before) & (segment == 0) & is_read & ((before + 1) * size < told.size)
-        found = numpy.flatnonzero(other)
-        return int(found[0]) if found.size else end - begin
+        other, cuts = differs.any(axis=1), numpy.flatnonzero(self._is_cut(groups, before, told))
+        if cuts.size:
+            other[cuts[~self._are_kept(groups, cuts, told)]] = True
+        end = int(other.argmax()) if other.any() else other.size
+        cuts = cuts[cuts < end]
+        if end:
+            self._note(groups.where(slice(end)), before[:end])
+        if cuts.size:
+            last, ending = [self._last_segment, *before[cuts].tolist()][-2:]
+            self._length = (ending + 1) * self._shape.pairs if last == ending else 0
+            self._last_segment = ending
+            # Pairs after the end of the text are forgotten whenever it is whole.
+            pairs, place = {**self._earlier, **self._now}, groups.place[cuts[-1]]
+            self._part({at: pair for at, pair in pairs.items() if at < told.size or pair[3] >= place})
+        return end, cuts.tolist()
 
-    def _skip(self, groups: Segments, begin: int, end: int) -> None:
-        """Passes rows that no longer count, since more than MEMORY others follow."""
-        self._next_turn()
-        self._turn += NAME_TURNS
-        self._segment = int(groups.segment[end - 1])
-        self._pace.skip(int(groups.place[end - 1]), self._segment, int(groups.segment[begin:end].max()))
+    def _is_cut(self, groups: Segments, before: Array, told: WholeText) -> Array:
+        """In which rows the text begins anew before its end."""
+        if not self._shape.is_text:
+            return numpy.zeros(before.size, bool)
+        is_read = groups.run == numpy.append(self._run, groups.run[:-1])
+        is_early = (before >= 0) & ((before + 1) * self._shape.pairs < told.size)
+        cut: Array = (groups.segment == 0) & is_read & is_early
+        return cut
 
-    def _note(self, groups: Segments, begin: int, end: int) -> None:
-        """Notes when each pair came last in these rows, which say the told text again."""
-        place, segment, value, valid = (column[begin:end] for column in groups[:4])
-        for at, number, values in zip(place.tolist(), segment.tolist(), value.tolist()):
-            if number <= self._segment or self._pace.has_missed_turn(at, number):
+    def _are_kept(self, groups: Segments, cuts: Array, told: WholeText) -> Array:
+        """Whether the told text has an end, and before each of these rows no turn was missed, and all of its pairs
+        came lately, in segments that were received."""
+        pairs, size = {**self._earlier, **self._now}, self._shape.pairs
+        kept: Array = ~groups.missed[cuts] & told.has_end
+        is_known = (groups.value != UNKNOWN).all(axis=1)
+        for segment in range(-(-told.size // size)):
+            at = numpy.flatnonzero((groups.segment == segment) & is_known)
+            first = min(pairs[one][3] for one in range(segment * size, min(told.size, (segment + 1) * size)))
+            places = numpy.append(first, groups.place[at])
+            kept &= places[numpy.searchsorted(at, cuts)] >= groups.place[cuts] - TEXT_BITS
+        return kept
+
+    def _note(self, groups: Segments, before: Array) -> None:
+        """Notes when each pair came last in rows that say the told text again, after these segments."""
+        turns = self._turn + numpy.cumsum(groups.missed | (groups.segment <= before))
+        rows, columns = numpy.nonzero(groups.value != UNKNOWN)
+        latest = numpy.full((self._shape.size, 2), UNKNOWN)
+        latest[groups.segment[rows] * self._shape.pairs + columns] = numpy.stack([rows, columns], axis=1)
+        pairs = {**self._earlier, **self._now}
+        heard = numpy.flatnonzero(latest[:, 0] >= 0)
+        rows, columns = latest[heard].T
+        found = (groups.value[rows, columns], turns[rows], groups.place[rows])
+        for position, value, turn, place in zip(heard.tolist(), *(column.tolist() for column in found)):
+            pairs[position] = value, VALID, turn, place
+        self._turn, self._segment, self._run = int(turns[-1]), int(groups.segment[-1]), int(groups.run[-1])
+        self._part(pairs)
+        self._recent.extend(groups.valid[groups.value != UNKNOWN][-RECENT:].tolist())
+
+    def _part(self, pairs: Dict[int, Pair]) -> None:
+        """Sets the pairs of this turn, and those of earlier ones."""
+        self._now = {position: pair for position, pair in pairs.items() if pair[2] == self._turn}
+        self._earlier = {position: pair for position, pair in pairs.items() if pair[2] != self._turn}
+
+    def _follow(self, rows: Segments, row: int, told: WholeText) -> int:
+        """Notes when each pair came last in the rows that say the told text again, and returns the first that does
+        not, or the end."""
+        size, now, before = self._shape.pairs, self._now, self._segment
+        for row in range(row, len(rows.place)):
+            segment, values = rows.segment[row], rows.value[row]
+            if values != told.said[segment] and told.differs(segment, values, self._length == told.size):
+                return row
+            if segment <= before or rows.missed[row]:
+                is_cut = segment == 0 <= before and self._shape.is_text and (before + 1) * size < told.size
+                if is_cut and rows.run[row] == self._run:
+                    return row
                 self._next_turn()
-            self._segment = number
-            self._pace.note(at, number)
-            for position, one in enumerate(values, number * self._shape.pairs):
-                if one != UNKNOWN:
-                    self._now[position] = Pair(one, Grade.VALID, self._turn, at)
-        self._recent.extend(valid[value != UNKNOWN][-RECENT:].tolist())
-        self._may_end = True
-        if end > begin:
-            self._run = int(groups.run[end - 1])
+                now = self._now
+            self._segment = before = segment
+            self._run = rows.run[row]
+            for position, (value, valid) in enumerate(zip(values, rows.valid[row]), segment * size):
+                if value != UNKNOWN:
+                    now[position] = value, VALID, self._turn, rows.place[row]
+                    self._recent.append(valid)
+        return len(rows.place)
 
     def _next_turn(self) -> None:
         self._earlier.update(self._now)
@@ -267,45 +336,43 @@ class Message:
 
     # ---- while none does
 
-    def _hear(self, groups: Segments, row: int) -> bool:
+    def _hear(self, rows: Segments, row: int) -> bool:
         """Takes the pairs of a group, and tells whether another text has begun."""
-        has_begun = False
-        self._segment, self._run = int(groups.segment[row]), int(groups.run[row])
-        self._pace.note(int(groups.place[row]), self._segment)
-        for column in range(self._shape.pairs):
-            value, valid = int(groups.value[row, column]), bool(groups.valid[row, column])
+        has_begun, place = False, rows.place[row]
+        self._segment, self._run = rows.segment[row], rows.run[row]
+        position = self._segment * self._shape.pairs
+        for value, valid in zip(rows.value[row], rows.valid[row]):
             if value != UNKNOWN:
                 self._recent.append(valid)
-                position = self._segment * self._shape.pairs + column
-                grade = Grade.VALID if valid else Grade.SINGLE
-                has_begun |= self._hear_pair(position, Pair(value, grade, self._turn, int(groups.place[row])))
+                grade = VALID if valid else SINGLE
+                has_begun |= self._hear_pair(position, value, grade, place)
+            position += 1
         return has_begun
 
-    def _hear_pair(self, position: int, pair: Pair) -> bool:
+    def _hear_pair(self, position: int, value: int, grade: int, place: int) -> bool:
         earlier, doubted = self._earlier.get(position), self._doubted.pop(position, None)
-        self._may_end |= self._shape.end_in(pair.value) != UNKNOWN
-        if earlier and not self._is_fresh(earlier, pair.place):
+        self._may_end |= self._shape.end_in(value) != UNKNOWN
+        if earlier and not self._is_fresh(earlier, place):
             earlier = None
-        is_other = earlier is not None and earlier.value != pair.value
-        if is_other and pair.grade != Grade.VALID:
+        is_other = earlier is not None and earlier[0] != value
+        if is_other and grade != VALID:
             del self._earlier[position]
-            self._doubted[position] = pair
+            self._doubted[position] = value, grade, self._turn, place
             return False
-        is_again = doubted is not None and doubted.value == pair.value
+        is_again = doubted is not None and doubted[0] == value
         if is_other or is_again:
-            self._begin_anew(doubted.turn if doubted and not is_other else self._turn)
-            earlier = None
-        known = [pair.grade, *([earlier.grade, Grade.CONFIRMED] if earlier else [])]
-        grade = max(known + [Grade.CONFIRMED] * is_again)
-        self._now[position] = pair if grade == pair.grade else pair._replace(grade=grade)
+            self._begin_anew(doubted[2] if doubted and not is_other else self._turn)
+        elif earlier:
+            grade = max(grade, earlier[1], CONFIRMED)
+        self._now[position] = value, max(grade, CONFIRMED) if is_again else grade, self._turn, place
         return is_other or is_again
 
     def _begin_anew(self, turn: int) -> None:
         """Another text, to which only the pairs of this turn and of later ones belong."""
         for position, pair in self._doubted.items():
-            if pair.turn == self._turn:
+            if pair[2] == self._turn:
                 self._now[position] = pair
-        self._earlier = {position: pair for position, pair in self._earlier.items() if pair.turn >= turn}
+        self._earlier = {position: pair for position, pair in self._earlier.items() if pair[2] >= turn}
         self._doubted = {}
         self._last_segment, self._length = UNKNOWN, 0
 
@@ -319,39 +386,42 @@ class Message:
         self._next_turn()
 
     def _is_fresh(self, pair: Pair, place: int) -> bool:
-        is_near = place - pair.place <= TEXT_BITS
-        return is_near if self._shape.is_text else self._turn - pair.turn <= NAME_TURNS
+        return place - pair[3] <= TEXT_BITS if self._shape.is_text else self._turn - pair[2] <= NAME_TURNS
 
     def _fresh(self, place: int) -> Dict[int, Pair]:
         """The pairs of earlier turns that are not too old."""
-        return {position: pair for position, pair in self._earlier.items() if self._is_fresh(pair, place)}
+        earlier, least = self._earlier.items(), place - TEXT_BITS
+        if self._shape.is_text:
+            return {position: pair for position, pair in earlier if pair[3] >= least}
+        return {position: pair for position, pair in earlier if self._turn - pair[2] <= NAME_TURNS}
 
     def _whole(self, pairs: Dict[int, Pair]) -> Optional[bytes]:
         """The characters of a text whose pairs are all known and trusted. It is told then."""
         count, last, wanted = 0, UNKNOWN, self._length or self._shape.size
+        end_in = self._shape.end_in
         while last == UNKNOWN and count in pairs:
-            last = self._shape.end_in(pairs[count].value)
+            last = end_in(pairs[count][0])
             count += 1
         if last == UNKNOWN:
-            if count < wanted or any(self._shape.end_in(pair.value) != UNKNOWN for pair in pairs.values()):
+            if count < wanted or any(end_in(pair[0]) != UNKNOWN for pair in pairs.values()):
                 return None
             count = wanted
         found = [pairs[position] for position in range(count)]
-        if sum(pair.grade == Grade.SINGLE for pair in found) > self._most_singles():
+        if sum([grade == SINGLE for _, grade, _, _ in found]) > self._most_singles():
             return None
-        self._tell(found)
-        text = b"".join(pair.value.to_bytes(2, "big") for pair in found)
-        return text if last == UNKNOWN else text[: 2 * count - 2 + last]
+        return self._tell(found, last)
 
     def _most_singles(self) -> int:
         """How many pairs may be single, by the share of valid ones among those received lately."""
         share = sum(self._recent) * RECENT
         return next((most for valid, most in SINGLES if share >= valid * len(self._recent)), 0)
 
-    def _tell(self, found: List[Pair]) -> None:
+    def _tell(self, found: List[Pair], last: int) -> bytes:
         """Notes the pairs of the text that is told, all of which are trusted from now on."""
-        self._told, self._may_end = numpy.array([pair.value for pair in found]), True
+        values = [value for value, _, _, _ in found]
+        if not self._latest or self._latest.pairs != values:
+            self._latest = WholeText(values, last, self._shape)
+        self._told, self._may_end = self._latest, True
         self._doubted = {}
-        trusted = {position: pair._replace(grade=Grade.VALID) for position, pair in enumerate(found)}
-        self._now = {position: pair for position, pair in trusted.items() if pair.turn == self._turn}
-        self._earlier = {position: pair for position, pair in trusted.items() if pair.turn != self._turn}
+        self._part({at: (value, VALID, turn, place) for at, (value, _, turn, place) in enumerate(found)})
+        return self._latest.text

@@ -29,7 +29,8 @@ EVENTS_PER_MINUTE = 6
 
 class MinuteRow(NamedTuple):
     """A minute, counted from the session's first bit: its blocks, its groups by type, the contents that held at its end, the
-    station's clock less that of the recording, in seconds, and how many events were left out."""
+    station's clock less that of the recording, in seconds, and how many events were left out. A watch knows how strong MPX and IQ were.
+    """
 
     number: int
     blocks: Interval
@@ -37,6 +38,8 @@ class MinuteRow(NamedTuple):
     held: Dict[str, str]
     clock_s: Optional[float]
     more: int
+    level_dbfs: Optional[float] = None
+    snr_db: Optional[float] = None
 
 
 class EventRow(NamedTuple):

@@ -53,12 +53,13 @@ JOIN = "JOIN sessions ON sessions.id = session JOIN recordings ON recordings.id 
 # The contents that a minute names; all others are found in the events.
 HELD = ("pi", "ps", "rt", "pty", "tp", "ta", "ms")
 
-VIEWS = f"""
+MINUTES = f"""
 CREATE VIEW minutes AS
   SELECT {OF}, minute, {_utc('start + minute * minute_bits / rate')} AS begin_utc,
     minute * minute_bits / rate AS begin_s, sent, valid, corrected, lost, missing,
     ROUND(100.0 * (sent - valid) / sent, 2) AS bad_percent, mix,
-    {', '.join(f'(SELECT value FROM facts WHERE facts.id = minute_rows.{item}) AS {item}' for item in HELD)}, clock_s, more
+    {', '.join(f'(SELECT value FROM facts WHERE facts.id = minute_rows.{item}) AS {item}' for item in HELD)}, clock_s, more"""
+VIEWS = f"""{MINUTES}
   FROM minute_rows {JOIN};
 CREATE VIEW events AS
   SELECT {OF}, place, {_utc('start + place / rate')} AS utc, place / rate AS time_s, item, value
@@ -195,5 +196,14 @@ CREATE VIEW station_outages AS
   FROM numbered GROUP BY station, kind, number ORDER BY MIN(begin_at);
 """
 
+# How strong the signal of a minute was, of a watch that demodulates: the power of the station's channel, of IQ, and the signal-to-noise
+# ratio of RDS.
+STRENGTHS = f"""
+ALTER TABLE minute_rows ADD COLUMN level_dbfs REAL;
+ALTER TABLE minute_rows ADD COLUMN snr_db REAL;
+DROP VIEW minutes;{MINUTES}, level_dbfs, snr_db
+  FROM minute_rows {JOIN};
+"""
+
 # The script of each version, which makes it of the one before: a database is brought up to date when it is opened.
-MIGRATIONS = (TABLES + VIEWS, WATCH, STANDING)
+MIGRATIONS = (TABLES + VIEWS, WATCH, STANDING, STRENGTHS)

@@ -43,7 +43,7 @@ class SessionRows:
 
     def tell(self, session: int, told: Told) -> None:
         minutes = (self._minute(session, minute) for minute in told.minutes)
-        self._insert("minute_rows", 10 + len(HELD), minutes)
+        self._insert("minute_rows", 12 + len(HELD), minutes)
         events = ((session, *event[:2], self._fact(*event[2:])) for event in told.events)
         self._insert("event_rows", 4, events)
         self._insert("outage_rows", 3, ((session, *pair) for pair in told.outages))
@@ -58,10 +58,10 @@ class SessionRows:
     def _minute(self, session: int, row: MinuteRow) -> Sequence[Any]:
         blocks = row.blocks[2:]
         if not row.mix and not self._idle_too:
-            return (session, row.number, *blocks, *[None] * (2 + len(HELD)), 0)
+            return (session, row.number, *blocks, *[None] * (2 + len(HELD)), 0, *row[-2:])
         held = [self._fact(item, row.held[item]) if item in row.held else None for item in HELD]
         mix = json.dumps(row.mix, separators=(",", ":"))
-        return (session, row.number, *blocks, mix, *held, row.clock_s, row.more)
+        return (session, row.number, *blocks, mix, *held, row.clock_s, *row[-3:])
 
     def _fact(self, item: str, value: Optional[str]) -> int:
         key = item, value

@@ -34,6 +34,22 @@ ITEM = numpy.dtype(
 )
 
 
+# numpy copies rows of many fields slowly, and those of bytes quickly.
+_BYTES = f"V{ITEM.itemsize}"
+
+
+def chosen(rows: Rows, which: Any) -> Rows:
+    """Some rows, by a mask or by their numbers."""
+    found: Rows = rows.view(_BYTES)[which].view(ITEM)
+    return found
+
+
+def joined(parts: Sequence[Rows]) -> Rows:
+    """Rows one after the other."""
+    found: Rows = numpy.concatenate([rows.view(_BYTES) for rows in parts]).view(ITEM)
+    return found
+
+
 class Fault(Exception):
     """An error that ends a command with status 1: an input that cannot be read, or is not what it should be."""
 

@@ -16,7 +16,7 @@ import numpy
 
 from .heads import HEADER
 from .items import ACQUIRED, BLOCKS, BLOCK_BITS, GROUP, GROUP_BITS, ITEM, LONGEST, LOSS, MISSING
-from .items import Fault, Readable, Reading, Rows, Totals, add_totals, totals_of
+from .items import Fault, Readable, Reading, Rows, Totals, add_totals, chosen, joined, totals_of
 from .parse import FIRST, LAST, TOTAL, Bad, parse, read_pattern
 
 TOTAL_NAMES = "valid burst1 burst2 burst3 burst4 burst5 lost bits groups complete acquired losses".split()
@@ -205,8 +205,7 @@ def begins_of(rows: Rows) -> Rows:
 
 def groups_in(rows: Rows) -> Rows:
     at = rows["what"] == GROUP
-    groups: Rows = rows if at.all() else rows[at]
-    return groups
+    return rows if at.all() else chosen(rows, at)
 
 
 def kinds_of(groups: Rows) -> Rows:
@@ -232,7 +231,7 @@ def first_misfit(last: Optional[Rows], rows: Rows, part: bool) -> Optional[Bad]:
     if last is None and not part and len(rows) and rows["what"][0] != ACQUIRED:
         missing = "rows are missing before it (--unfinished accepts a part)"
         return Bad(0, f"a listing begins with an acquisition: {missing}")
-    known = rows if last is None else numpy.concatenate([last, rows])
+    known = rows if last is None else joined([last, rows])
     pattern, what, place = read_pattern(known), known["what"], known["place"].astype("i8")
     if (what == GROUP).all() and (pattern == 15).all() and (numpy.diff(place) == GROUP_BITS).all():
         return None

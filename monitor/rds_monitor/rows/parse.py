@@ -194,9 +194,10 @@ def _parse_blocks(lines: _Lines, rows: Rows) -> Bools:
     known = is_own & (infos < NO_HEX)
     has_mask = known & (lengths == 14)
     known &= has_mask | (lengths == 6)
-    masks, at = numpy.zeros(starts.shape, "i8"), numpy.nonzero(has_mask)
-    masks[at] = _masks(lines.words(starts[at] + 6))
-    known &= masks >= 0
+    masks = numpy.zeros(starts.shape, "i4")
+    if has_mask.any():
+        masks[has_mask] = _masks(lines.words(starts[has_mask] + 6))
+        known &= masks >= 0
     kinds = known * numpy.uint8(VALID) + lost * numpy.uint8(LOST)
     kinds += (masks > 0) * numpy.uint8(CORRECTED - VALID)
     offsets = known * numpy.array([[1], [2], [3], [5]], "u1")

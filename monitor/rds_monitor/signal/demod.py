@@ -3,19 +3,19 @@
 from __future__ import annotations
 
 import argparse
-import json
 import sys
-import time
-from typing import Any, Dict, List, TextIO, Tuple
+from functools import partial
+from typing import Any, Dict, List, Tuple
 
 import numpy
 
 from ..rows.items import Fault, Misuse
-from .pack import open_binary
+from .centre import frequency_of
+from .outputs import BitWriter, QualityLine, report_of
 from .rates import likely_rate
-from .receiver import RATES, Receiver
+from .receiver import RATES, Capture
 from .samples import RAW_FORMS, SampleSource, Signal, open_samples
-from .symbols import Bits
+from .several import judge_stations, run_stations
 
 SECONDS_KEPT = 6  # of the signal, to find its rate if there is no RDS
 
@@ -26,6 +26,11 @@ The signal is MPX, which an FM demodulator gives before de-emphasis, or IQ with 
 8 to 32 bits or floating point), in a FLAC file (needs python3-soundfile), or raw, at 128,000 samples per second or
 more. Memory does not grow with its length.
 
+With --stations, IQ of a wide band has several stations, those of --at or those found in the first seconds by their RDS.
+Each gets a file in the folder of --output, named by its frequency. Without --output, standard output has lines of JSON,
+each with some bits of a station as hex digits. A capture's centre is read from its WAV header (chunk auxi), its name, or
+its .sigmf-meta; --centre names it.
+
 At the end, standard error reports which share of the bits is in valid blocks, for how much of the time carrier and bit
 clock were coherent, their offsets, the signal-to-noise ratio (in 4.8 kHz), and the level. The level of IQ is the
 deviation (rds_khz) that an unmodulated 57 kHz carrier of the same power has. The exit status is 1 if there was no RDS."""
@@ -33,7 +38,15 @@ EXAMPLES = """\
 examples:
   rds-monitor demod mpx.wav | rds list > listing.csv
   rtl_fm -M fm -l 0 -A std -p 0 -s 171k -F 9 -f 98.1M | rds-monitor demod --raw s16 --rate 171000 | rds follow
-  rtl_sdr -f 98.1M -s 240k - | rds-monitor demod --iq --raw u8 --rate 240000 > recording.bin"""
+  rtl_sdr -f 98.1M -s 240k - | rds-monitor demod --iq --raw u8 --rate 240000 > recording.bin
+  rds-monitor demod --stations --output bits SDRSharp_20261129_120000Z_98000000Hz_IQ.wav"""
+
+
+def hertz(text: str) -> float:
+    try:
+        return frequency_of(text)
+    except Fault as error:
+        raise argparse.ArgumentTypeError(str(error)) from None
 
 
 NUMBER, FLAG = {"type": int, "metavar": "N"}, {"action": "store_true"}
@@ -51,9 +64,19 @@ OPTIONS: Dict[str, Tuple[Dict[str, Any], str]] = {
         "the station's offset from the centre of IQ (0)",
     ),
     "--no-equaliser": (FLAG, "IQ: do not equalise multipath"),
+    "--stations": (FLAG, "IQ: demodulate several stations"),
+    "--centre": (
+        {"type": hertz, "metavar": "HZ"},
+        "--stations: the frequency of the centre of IQ, such as 98M",
+    ),
+    "--at": (
+        {"metavar": "LIST"},
+        "--stations: their frequencies, such as 98.1M,100.3M (default: those found)",
+    ),
+    "--equalise": ({"metavar": "LIST"}, "--stations: equalise multipath of these (default: of none)"),
     "--channel": (NUMBER, "the channel with MPX, if the file has several; 1 is the first"),
     "--unpacked": (FLAG, "write one byte per bit, 0 or 1"),
-    "--output": (FILE, "write to FILE (default: standard output)"),
+    "--output": (FILE, "write to FILE, or into this folder with --stations (default: standard output)"),
     "--json": (FLAG, "report in JSON, one line"),
     "--every": ({"type": float, "metavar": "SECONDS"}, "also report every SECONDS of the signal"),
 }
@@ -70,77 +93,15 @@ def judge_options(arguments: argparse.Namespace) -> None:
         raise Misuse("--raw needs --rate")
     if arguments.channel is not None and (arguments.raw or arguments.iq):
         raise Misuse("--channel is for MPX in a file with a header")
+    if arguments.stations:
+        judge_stations(arguments)
+        arguments.iq = True
+    elif arguments.at or arguments.equalise or arguments.centre is not None:
+        raise Misuse("--at, --equalise and --centre are for --stations")
     if not arguments.iq and (arguments.offset or arguments.no_equaliser):
         raise Misuse("--offset and --no-equaliser are for --iq")
     if arguments.every is not None and not arguments.every > 0:
         raise Misuse("--every is a number of seconds above 0")
-
-
-class BitWriter:
-    """Writes bits, a byte each or packed; those that do not fill a byte wait."""
-
-    def __init__(self, path: str, unpacked: bool):
-        self._stream, self._unpacked = open_binary(path, "wb"), unpacked
-        self._rest: Bits = numpy.zeros(0, "u1")
-        self.written = 0
-
-    def push(self, bits: Bits, last: bool = False) -> None:
-        self.written += bits.size
-        if not self._unpacked:
-            bits = numpy.concatenate([self._rest, bits])
-            whole = bits.size if last else bits.size // 8 * 8
-            self._rest, bits = bits[whole:], numpy.packbits(bits[:whole])
-        self._stream.write(bits.tobytes())
-        self._stream.flush()
-
-
-class QualityLine:
-    """Reports on standard error: at the end, at times if asked, and on a terminal in one line that is overwritten."""
-
-    def __init__(self, arguments: argparse.Namespace, stream: TextIO):
-        self._json, self._every, self._stream = arguments.json, arguments.every, stream
-        self._next = arguments.every or 0.0
-        self._shows = stream.isatty() and not arguments.json and not arguments.every
-        self._shown = 0.0
-
-    def tell(self, receiver: Receiver, bits: int) -> None:
-        seconds = receiver.quality.seconds
-        if self._every and seconds >= self._next:
-            self._next = seconds + self._every
-            self.end(report_of(receiver, bits))
-        elif self._shows and time.monotonic() - self._shown > 0.5:
-            self._shown = time.monotonic()
-            self._stream.write(f"\r{sentence(report_of(receiver, bits))}\x1b[K")
-            self._stream.flush()
-
-    def end(self, told: Dict[str, Any]) -> None:
-        clear = "\r\x1b[K" if self._shows else ""
-        text = json.dumps(told) if self._json else f"rds-monitor demod: {sentence(told)}"
-        self._stream.write(f"{clear}{text}\n")
-        self._stream.flush()
-
-
-def sentence(told: Dict[str, Any]) -> str:
-    if not told["locked"]:
-        return f"{told['seconds']} s, no RDS"
-    parts = [
-        f"{told['seconds']} s, {100 * told['received']:.1f} % of its bits in valid blocks",
-        f"coherent for {100 * told['locked']:.1f} % of it, from {told['first_lock_s']} s on",
-    ]
-    if told["snr_db"] is not None:
-        parts.append(f"signal to noise {told['snr_db']} dB")
-    parts.append(f"carrier {told['carrier_offset_hz']:+} Hz, clock {told['clock_offset_ppm']:+} ppm")
-    levels = {
-        "rds_khz": "deviation {} kHz",
-        "rds_to_pilot_db": "level {} dB relative to the pilot",
-        "rds_dbfs": "level {} dBFS",
-    }
-    parts += [text.format(told[name]) for name, text in levels.items() if told[name] is not None][:1]
-    return "; ".join(parts)
-
-
-def report_of(receiver: Receiver, bits: int) -> Dict[str, Any]:
-    return {**receiver.quality.report(), "bits": bits}
 
 
 def no_rds(source: SampleSource, beginning: Signal, offset: float) -> Fault:
@@ -152,18 +113,19 @@ def no_rds(source: SampleSource, beginning: Signal, offset: float) -> Fault:
     return Fault(f"no RDS was found: {text}")
 
 
-def receive(source: SampleSource, receiver: Receiver, writer: BitWriter, teller: QualityLine) -> Signal:
+def receive(source: SampleSource, capture: Capture, writer: BitWriter, teller: QualityLine) -> Signal:
     """Writes the bits of the signal, and gives its first seconds if there was no RDS in them. After a fault, or when
     interrupted, the bits up to there are written too."""
     beginning: List[Signal] = [numpy.zeros(0)]
+    (receiver,) = capture.receivers
     try:
         for samples in source.blocks():
             if not receiver.quality.locked and sum(map(len, beginning)) < SECONDS_KEPT * source.rate:
                 beginning.append(samples)
-            writer.push(receiver.push(samples))
-            teller.tell(receiver, writer.written)
+            writer.push(capture.push(samples)[0])
+            teller.tell(receiver.quality.seconds, partial(report_of, receiver, writer.written))
     finally:
-        writer.push(receiver.finish(), last=True)
+        writer.push(capture.finish()[0], last=True)
         if writer.written:
             teller.end(report_of(receiver, writer.written))
     return numpy.concatenate(beginning)
@@ -176,12 +138,15 @@ def run_demod(arguments: argparse.Namespace) -> int:
     )
     if source.rate not in RATES:
         raise Fault(f"a sample rate of {source.rate} is not {RATES[0]} to {RATES[-1]}")
-    equalise = source.is_iq and not arguments.no_equaliser
-    receiver = Receiver(source.rate, source.is_iq, source.full_scale, arguments.offset, equalise)
+    if arguments.stations:
+        return run_stations(source, arguments)
+    offsets = [arguments.offset]
+    equalised = offsets if source.is_iq and not arguments.no_equaliser else []
+    capture = Capture(source.rate, source.is_iq, source.full_scale, offsets, equalised)
     writer = BitWriter(arguments.output, arguments.unpacked)
-    beginning = receive(source, receiver, writer, QualityLine(arguments, sys.stderr))
+    beginning = receive(source, capture, writer, QualityLine(arguments, sys.stderr))
     if not writer.written:
         raise Fault("the input is too short for a bit")
-    if not receiver.quality.locked:
+    if not capture.receivers[0].quality.locked:
         raise no_rds(source, beginning, arguments.offset)
     return 0

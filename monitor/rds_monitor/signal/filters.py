@@ -1,19 +1,20 @@
-"""A band of a signal, shifted to 0 Hz and filtered, by Fourier transforms of overlapping blocks."""
+"""Bands of a signal, each shifted to 0 Hz and filtered, by Fourier transforms of overlapping blocks."""
 
 from __future__ import annotations
 
 import math
 from fractions import Fraction
-from typing import Callable, Union
+from typing import Callable, Iterator, List, Optional, Sequence, Union
 
 import numpy
 
 from .samples import Complexes, Reals, Signal
+from .transforms import transforms
 
 OVERLAPS = 32  # of which a block has the length
 
 # Told the spectrum of each block.
-Watcher = Callable[[Signal, "Passband"], None]
+Watcher = Callable[[Signal], None]
 
 
 def at_least(number: Union[float, Fraction]) -> int:
@@ -38,9 +39,8 @@ class Passband:
     """The part of a signal within `reach` Hz of `centre`, at `rate_out`, the least rate above `least_rate` that a
     block allows.
 
-    Of a block's Fourier transform this part is filtered and transformed back, which shifts it to 0 Hz and leaves
-    fewer samples. Blocks overlap, since the filter reads both ends of a block as neighbours; both are left out. A
-    real signal keeps its amplitude: cos(2 pi centre t) becomes 1. Each row is a signal.
+    Of a block's Fourier transform this part is filtered; transformed back, it is at 0 Hz and has fewer samples. A real
+    signal keeps its amplitude: cos(2 pi centre t) becomes 1.
     """
 
     def __init__(
@@ -52,52 +52,95 @@ class Passband:
         least_rate: float,
         block: int,
         is_real: bool,
-        rows: int = 1,
     ):
-        self.rate, self.centre, self.block, self.is_real = rate, centre, block, is_real
+        self.rate, self.block, self.is_real = rate, block, is_real
         self.kept = min(block, fast_size(Fraction(least_rate) * block / rate))
         self.rate_out = rate * self.kept / block
         self.hz_per_bin = float(rate) / block
         middle = round(centre / self.hz_per_bin)
-        reached = math.ceil(reach / self.hz_per_bin)
-        bins = middle + numpy.arange(-reached, reached + 1)
-        self._bins = bins if is_real else bins % block
-        self._kept_bins = (bins - middle) % self.kept
+        self._reached = min(math.ceil(reach / self.hz_per_bin), (self.kept - 1) // 2)
+        self._first = (middle - self._reached) % block
+        beside = numpy.arange(-self._reached, self._reached + 1) * self.hz_per_bin
+        # A station may be off by a part of a bin's width, but not the carrier of RDS.
+        self.centre = Fraction(centre) if is_real else middle * rate / block
         gain = self.kept / block * (2 if is_real else 1)
-        self._response = response(bins * self.hz_per_bin - centre) * gain
-        # The centre is beside the middle bin by a part of a bin's width.
-        beside = centre / float(rate) - middle / block
-        self._turn = numpy.exp(-2j * math.pi * beside * block / self.kept * numpy.arange(self.kept))
-        self.overlap = block // OVERLAPS
+        passed = response(beside + middle * self.hz_per_bin - float(self.centre)) * gain
+        self._response = passed.astype("f8" if is_real else "f4")
+        turns = float(self.centre / rate - Fraction(middle, block)) * block / self.kept
+        self._turn = numpy.exp(-2j * math.pi * turns * numpy.arange(self.kept)) if is_real else None
+
+    def fill(self, spectrum: Signal, transformed: Signal) -> None:
+        """Filters the band out of a block's transform, which goes on with its first bins, into a spectrum of zeros."""
+        reached, first = self._reached, self._first
+        part = transformed[:, first : first + 2 * reached + 1] * self._response
+        spectrum[:, : reached + 1], spectrum[:, self.kept - reached :] = part[:, reached:], part[:, :reached]
+
+    def turn(self, signal: Signal, place: int, inner: slice) -> None:
+        """Of the block that begins at this place: shifts its inner part from the bins to 0 Hz."""
+        turned = numpy.exp(-2j * math.pi * float(self.centre * place / self.rate % 1))
+        signal *= signal.dtype.type(turned)
+        if self._turn is not None:
+            signal *= self._turn[inner]
+
+
+class Bands:
+    """Passbands of one signal, by one Fourier transform per block for all of them. They have the same rates and block,
+    and each row is a signal. Real signals are in double precision, complex ones in single.
+
+    Blocks overlap, since the filter reads both ends of a block as neighbours; both are left out.
+    """
+
+    def __init__(self, bands: Sequence[Passband], rows: int = 1):
+        self.bands, self._rows = list(bands), rows
+        one = self.bands[0]
+        self.block, self.kept, self._is_real = one.block, one.kept, one.is_real
+        self.overlap = self.block // OVERLAPS
         self._place = 0  # of the block's first sample
-        self._rest: Signal = numpy.zeros((rows, self.overlap // 2), "f8" if is_real else "c16")
-        self.watch: Union[Watcher, None] = None
+        self._kind, self._kind_out = ("f8", "c16") if one.is_real else ("c8", "c8")
+        self._parts: List[Signal] = [numpy.zeros((rows, self.overlap // 2), self._kind)]
+        self._size = self.overlap // 2  # of all parts
+        self.watch: Optional[Watcher] = None
 
-    def push(self, samples: Signal) -> Complexes:
-        self._rest = numpy.concatenate([self._rest, samples], axis=1)
-        done = [numpy.zeros((len(self._rest), 0), complex)]
-        while self._rest.shape[1] >= self.block:
-            done.append(self._of_block(self._rest[:, : self.block]))
-            self._rest = self._rest[:, self.block - self.overlap :]
-            self._place += self.block - self.overlap
-        return numpy.concatenate(done, axis=1)
+    def push(self, samples: Signal) -> List[Complexes]:
+        """The signals of the bands, each with the rows of these samples."""
+        self._parts.append(samples)
+        self._size += samples.shape[1]
+        done = list(self._blocks()) if self._size >= self.block else []
+        empty = numpy.zeros((len(self.bands), self._rows, 0), self._kind_out)
+        return list(numpy.concatenate(done, axis=2) if done else empty)
 
-    def _of_block(self, samples: Signal) -> Complexes:
-        transformed = numpy.fft.rfft(samples) if self.is_real else numpy.fft.fft(samples)
+    def _blocks(self) -> Iterator[Signal]:
+        whole = numpy.concatenate(self._parts, axis=1, dtype=self._kind, casting="same_kind")
+        step, at = self.block - self.overlap, 0
+        while self._size - at >= self.block:
+            yield self._of_block(whole[:, at : at + self.block])
+            at += step
+            self._place += step
+        self._parts, self._size = [whole[:, at:]], self._size - at
+
+    def _of_block(self, samples: Signal) -> Signal:
+        transformed = numpy.fft.rfft(samples) if self._is_real else self._circular(transforms().fft(samples))
         if self.watch:
-            self.watch(transformed, self)
-        spectrum = numpy.zeros((len(samples), self.kept), complex)
-        spectrum[:, self._kept_bins] = transformed[:, self._bins] * self._response
-        turns = float(Fraction(self.centre) * self._place / self.rate % 1)
+            self.watch(transformed)
+        spectra = numpy.zeros((len(self.bands), self._rows, self.kept), self._kind_out)
+        for band, spectrum in zip(self.bands, spectra):
+            band.fill(spectrum, transformed)
         margin = self.kept // OVERLAPS // 2
         inner = slice(margin, self.kept - margin)
-        signal: Complexes = numpy.fft.ifft(spectrum)[:, inner]
-        signal *= self._turn[inner] * numpy.exp(-2j * math.pi * turns)
-        return signal
+        signals: Signal = (numpy.fft if self._is_real else transforms()).ifft(spectra)[:, :, inner]
+        for band, signal in zip(self.bands, signals):
+            band.turn(signal, self._place, inner)
+        return signals
 
-    def finish(self) -> Complexes:
-        """The signal up to the last sample."""
+    def _circular(self, transformed: Signal) -> Signal:
+        """A band may go on from the last bin to the first one."""
+        return numpy.concatenate(
+            [transformed, transformed[:, : self.kept]], axis=1, dtype="c8", casting="same_kind"
+        )
+
+    def finish(self) -> List[Complexes]:
+        """The signals up to the last sample."""
         self.watch = None  # the last block is silent at its end
-        rows, size = self._rest.shape
-        due = (size - self.overlap // 2) * self.kept / self.block
-        return self.push(numpy.zeros((rows, self.block)))[:, : math.ceil(due)]
+        due = (self._size - self.overlap // 2) * self.kept / self.block
+        last = self.push(numpy.zeros((self._rows, self.block), self._kind))
+        return [signal[:, : math.ceil(due)] for signal in last]

@@ -3,17 +3,18 @@
 from __future__ import annotations
 
 from fractions import Fraction
-from typing import Optional
+from typing import Optional, Sequence, Tuple
 
 import numpy
 
-from .filters import Passband, at_least
-from .samples import Complexes, Reals
+from .filters import Bands, Passband, at_least
+from .samples import Complexes, Reals, Signal
 
-# A stereo station with RDS needs some 264 kHz, and its neighbours are 100 kHz apart or more.
-CHANNEL_HZ = 100000.0  # on both sides, passed whole
-EDGE_HZ = 28000.0  # and from there to nothing
-LEAST_RATE = 250000.0
+# A stereo station with RDS fills some 264 kHz. Beyond 80 kHz is little of it, but more of a strong neighbour 200 kHz away.
+CHANNEL_HZ = 82000.0  # on both sides, passed whole
+EDGE_HZ = 34000.0  # and from there to nothing
+LEAST_RATE = 234000.0
+UNFILTERED_RATE = 256000  # IQ of this rate or less has no room for a neighbour
 DEVIATION_HZ = 75000.0  # of full scale
 SILENCE = 1e-9  # below the amplitude of any sample form
 
@@ -89,39 +90,40 @@ class Equaliser:
         self._taps = numpy.linalg.solve(squares + (steady + plain) * numpy.eye(self.TAPS), right)
 
 
-class FmReceiver:
-    """MPX by a discriminator, 75 kHz of deviation as 1."""
+def station_channels(rate: int, offsets: Sequence[float]) -> Optional[Bands]:
+    """The channels of stations at these offsets from the centre of IQ, in Hz; None if all of it is one channel."""
+    if rate <= UNFILTERED_RATE and not any(offsets):
+        return None
+    block = at_least(rate / 60)
+    shape = (CHANNEL_HZ + EDGE_HZ, channel_filter, LEAST_RATE, block, False)
+    return Bands([Passband(Fraction(rate), offset, *shape) for offset in offsets])
 
-    def __init__(self, rate: int, offset: float, equalise: bool):
-        self._channel: Optional[Passband] = None
-        self.rate = Fraction(rate)
-        if offset or rate > 2 * (CHANNEL_HZ + EDGE_HZ):
-            block = at_least(rate / 60)
-            reach = CHANNEL_HZ + EDGE_HZ
-            self._channel = Passband(self.rate, offset, reach, channel_filter, LEAST_RATE, block, False)
-            self.rate = self._channel.rate_out
+
+class FmReceiver:
+    """MPX of a station's channel by a discriminator, 75 kHz of deviation as 1."""
+
+    def __init__(self, rate: Fraction, equalise: bool):
+        self.rate = rate
         self._equaliser = Equaliser() if equalise else None
-        self._last: Complexes = numpy.zeros((2 if equalise else 1, 1), complex)
+        self._last: Signal = numpy.zeros((2 if equalise else 1, 1), "c8")
+        self.level: Tuple[float, int] = (0.0, 0)  # the sum of the channel's power, and over how many samples
 
     def response(self, frequency: float) -> float:
         """Of the discriminator, which gives the mean over a sample."""
         return float(numpy.sinc(frequency / float(self.rate)))
 
-    def push(self, samples: Complexes) -> Reals:
+    def push(self, channel: Signal) -> Reals:
         """A row, or with the equaliser two: equalised, and as it came."""
-        channel = self._channel.push(samples[None])[0] if self._channel else samples
+        power, count = self.level
+        self.level = power + float(numpy.vdot(channel, channel).real), count + channel.size
         return self._discriminated(self._equaliser.push(channel) if self._equaliser else channel[None])
 
     def finish(self) -> Reals:
-        channel = self._channel.finish()[0] if self._channel else numpy.zeros(0, complex)
-        if not self._equaliser:
-            return self._discriminated(channel[None])
-        parts = [self._equaliser.push(channel), self._equaliser.finish()]
-        return self._discriminated(numpy.concatenate(parts, axis=1))
+        last = self._equaliser.finish() if self._equaliser else numpy.zeros((1, 0), "c8")
+        return self._discriminated(last)
 
-    def _discriminated(self, signal: Complexes) -> Reals:
-        signal = numpy.concatenate([self._last, signal], axis=1)
+    def _discriminated(self, signal: Signal) -> Reals:
+        signal = numpy.concatenate([self._last.astype(signal.dtype), signal], axis=1)
         self._last = signal[:, -1:]
-        return numpy.angle(signal[:, 1:] * signal[:, :-1].conj()) * (
-            float(self.rate) / (2 * numpy.pi * DEVIATION_HZ)
-        )
+        steps: Reals = numpy.angle(signal[:, 1:] * signal[:, :-1].conj()).astype("f8")
+        return steps * (float(self.rate) / (2 * numpy.pi * DEVIATION_HZ))

@@ -114,7 +114,7 @@ def signal_of(path: str, raw: str, is_iq: bool) -> Signal:
 
 
 def found_signal(bits: Bits, samples: Signal, name: str, options: str, path: str) -> Found:
-    kind = "IQ" if samples.dtype == numpy.complex128 else "MPX"
+    kind = "IQ" if numpy.iscomplexobj(samples) else "MPX"
     return Found(complete(iter([bits])), f"{kind}, {name}", f"rds-monitor demod{options} {shlex.quote(path)}")
 
 

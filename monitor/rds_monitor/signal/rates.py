@@ -6,7 +6,7 @@ from typing import List, Optional, Tuple
 
 import numpy
 
-from .receiver import PILOT_HZ, RATES, Receiver
+from .receiver import PILOT_HZ, Capture
 from .samples import Reals, Signal
 from .symbols import Bits
 
@@ -15,13 +15,14 @@ _COMMON = """
 500000 768000 900001 912000 960000 1000000 1024000 1152000 1200000 1440000 1536000 1800000 1920000 2000000 2048000
 2400000 2500000 2560000 2800000 2880000 3000000 3200000"""
 COMMON = tuple(map(int, _COMMON.split()))
+RATES = range(COMMON[0], COMMON[-1] + 1)
 BLOCK = 1 << 15
 TRIED = 6
 
 
 def _spectrum(samples: Signal) -> Reals:
     """The mean power of MPX by frequency, or of IQ's phase steps."""
-    if samples.dtype == numpy.complex128:
+    if numpy.iscomplexobj(samples):
         samples = numpy.angle(samples[1:] * samples[:-1].conj())
     count = min(16, samples.size // BLOCK)
     blocks = samples[: count * BLOCK].reshape(count, BLOCK) * numpy.hanning(BLOCK)
@@ -59,9 +60,9 @@ def _by_pilot(power: Reals) -> List[int]:
 
 def locked(samples: Signal, rate: int, offset: float = 0.0) -> Tuple[float, Bits]:
     """The part of the time with RDS, and the bits."""
-    receiver = Receiver(rate, samples.dtype == numpy.complex128, 1.0, offset)
-    bits = [receiver.push(samples), receiver.finish()]
-    quality = receiver.quality
+    capture = Capture(rate, numpy.iscomplexobj(samples), 1.0, [offset])
+    bits = [*capture.push(samples), *capture.finish()]
+    quality = capture.receivers[0].quality
     return quality.locked / max(1, quality.segments), numpy.concatenate(bits)
 
 

@@ -1,24 +1,24 @@
-"""The receiver of RDS: from samples of MPX or IQ to bits, and how well they were received."""
+"""The receiver of RDS: from MPX, or from IQ with one station or several, to bits, and how well they were received."""
 
 from __future__ import annotations
 
 import math
 from dataclasses import dataclass, field
 from fractions import Fraction
-from typing import Any, Callable, Dict, List, Optional
+from typing import Any, Collection, Dict, List, NamedTuple, Optional, Sequence, Union
 
 import numpy
 
 from .blocks import GROUP_BITS, BlockCounter
-from .filters import Passband, at_least
-from .fm import DEVIATION_HZ, FmReceiver
+from .filters import Bands, Passband, at_least
+from .fm import DEVIATION_HZ, FmReceiver, station_channels
 from .jumps import Jumps
 from .samples import Complexes, Reals, Signal
 from .symbols import BIT_RATE, CHIP_RATE, Bits, Carrier, DifferentialDecoder, Symbols, SymbolChain
 
 CARRIER_HZ = 57000
 PILOT_HZ = 19000
-RATES = range(128000, 3200001)
+RATES = range(128000, 20000001)
 SAMPLES_PER_CHIP = 6.0  # at least, of the signal that the clock is found in
 CHANNEL_HZ = 4800.0  # of RDS, for the ratio of signal to noise
 HELD = 2 * GROUP_BITS  # bits after a jump
@@ -31,13 +31,19 @@ def matched_filter(frequencies: Reals) -> Reals:
     return numpy.where(near, numpy.cos(math.pi * frequencies / (2 * CHIP_RATE)), 0)
 
 
+class Strength(NamedTuple):
+    """How strong a signal was: the power of the station's channel, of IQ, and the signal-to-noise ratio of RDS, if there was any."""
+
+    level_dbfs: Optional[float]
+    snr_db: Optional[float]
+
+
 @dataclass
 class Quality:
     """Sums over segments of 8 bits, of the locked ones."""
 
-    full_scale: float
-    is_iq: bool = False
-    response: Callable[[float], float] = lambda frequency: 1.0  # of the discriminator
+    full_scale: float  # of the samples
+    fm: Optional[FmReceiver] = None  # of IQ
     segments: int = 0
     locked: int = 0
     first: Optional[int] = None
@@ -46,6 +52,7 @@ class Quality:
     received: BlockCounter = field(default_factory=BlockCounter)
     pilot: List[float] = field(default_factory=list)
     blocks: int = 0
+    _told: Reals = field(default_factory=lambda: numpy.zeros(5))
 
     def add(self, found: Symbols, plain: Symbols) -> None:
         """The symbols as decided, and the signal as it came."""
@@ -61,17 +68,17 @@ class Quality:
         power = (plain.segments**2).real.mean(axis=1)[plain.locked]
         self.level += power.sum(), power.size
 
-    def watch(self, spectrum: Signal, band: Passband) -> None:
+    def watch(self, spectrum: Signal, hz_per_bin: float, block: int) -> None:
         """The power of the pilot in one of eight blocks' spectra, above that of its surroundings."""
         self.blocks += 1
         if self.blocks % 8 != 1:
             return
-        middle = round(PILOT_HZ / band.hz_per_bin)
+        middle = round(PILOT_HZ / hz_per_bin)
         power = numpy.abs(spectrum[-1, middle - 40 : middle + 41]) ** 2
         near, far = power[34:47], numpy.concatenate([power[:30], power[51:]])
         pilot = max(0.0, float(near.sum() - near.size * numpy.median(far)))
         if pilot > 20 * near.size * float(numpy.median(far)):
-            self.pilot = [*self.pilot[-63:], pilot * (2 / band.block) ** 2]
+            self.pilot = [*self.pilot[-63:], pilot * (2 / block) ** 2]
 
     @property
     def seconds(self) -> float:
@@ -91,13 +98,35 @@ class Quality:
         told["clock_offset_ppm"] = round(1e6 * fast, 1) if self.locked else None
         # A symbol is two chips, each with the amplitude of a carrier of the same power.
         power = max(0.0, self.level[0] / max(1, self.level[1]))
-        level = math.sqrt(power) / 2 / self.full_scale / self.response(CARRIER_HZ)
+        level = math.sqrt(power) / 2 / self._full_scale(CARRIER_HZ)
         pilot = math.sqrt(sum(self.pilot) / len(self.pilot)) if self.pilot else 0.0
-        pilot /= self.full_scale * self.response(PILOT_HZ)
-        told["rds_khz"] = round(level * DEVIATION_HZ / 1000, 2) if self.is_iq and level else None
-        told["rds_dbfs"] = None if self.is_iq else _decibels(level * level)
+        pilot /= self._full_scale(PILOT_HZ)
+        told["rds_khz"] = round(level * DEVIATION_HZ / 1000, 2) if self.fm and level else None
+        told["rds_dbfs"] = None if self.fm else _decibels(level * level)
         told["rds_to_pilot_db"] = _decibels((level / pilot) ** 2) if pilot else None
+        told["level_dbfs"] = self.channel_dbfs
         return told
+
+    def _full_scale(self, frequency: float) -> float:
+        """Of MPX at this frequency: a discriminator has 1, and a response."""
+        return self.fm.response(frequency) if self.fm else self.full_scale
+
+    def recent(self) -> Strength:
+        """The signal since the last call."""
+        power, count = self.fm.level if self.fm else (0.0, 0)
+        now = numpy.array([*self.sums[2:], self.locked, power, count])
+        signal, noise, locked, power, count = (now - self._told).tolist()
+        self._told = now
+        channel = _decibels(power / count / self.full_scale**2) if count else None
+        return Strength(
+            channel, _decibels(signal / (2 * noise * CHANNEL_HZ / BIT_RATE)) if locked and noise else None
+        )
+
+    @property
+    def channel_dbfs(self) -> Optional[float]:
+        """The mean power of the station's channel in IQ."""
+        power, count = self.fm.level if self.fm else (0.0, 0)
+        return _decibels(power / count / self.full_scale**2) if count else None
 
 
 def _decibels(ratio: float) -> Optional[float]:
@@ -105,25 +134,26 @@ def _decibels(ratio: float) -> Optional[float]:
 
 
 class Receiver:
-    """From samples to bits, decoded differentially; the bits wait for the signal of some 2 seconds after them."""
+    """From MPX, or the channel of one station around 0 Hz, to bits, decoded differentially; the bits wait for the signal
+    of some 2 seconds after them."""
 
     def __init__(
         self,
-        rate: int,
+        rate: Union[int, Fraction],
         is_iq: bool = False,
         full_scale: float = 1.0,
-        offset: float = 0.0,
         equalise: bool = False,
     ):
-        self._fm = FmReceiver(rate, offset, equalise) if is_iq else None
-        mpx_rate = self._fm.rate if self._fm else Fraction(rate)
+        self._fm = FmReceiver(Fraction(rate), equalise) if is_iq else None
+        mpx_rate = Fraction(rate)
         # Decisions are made after the equaliser, levels are measured before it.
         rows = 2 if equalise else 1
         shape = (CARRIER_HZ, CHIP_RATE, matched_filter, SAMPLES_PER_CHIP * CHIP_RATE)
-        self._band = Passband(mpx_rate, *shape, at_least(mpx_rate / 4), True, rows)
-        self.quality = Quality(1.0, True, self._fm.response) if self._fm else Quality(full_scale)
-        self._band.watch = self.quality.watch
-        self._rate = float(self._band.rate_out)
+        band = Passband(mpx_rate, *shape, at_least(mpx_rate / 4), True)
+        self._bands = Bands([band], rows)
+        self.quality = Quality(full_scale, self._fm)
+        self._bands.watch = lambda spectrum: self.quality.watch(spectrum, band.hz_per_bin, band.block)
+        self._rate = float(band.rate_out)
         self._jumps = Jumps(self._rate, rows)
         self._chains = [SymbolChain(self._rate) for _ in range(rows)]
         # The place and length of the signal since the last jump, and where the next symbol before that would begin, until
@@ -139,13 +169,14 @@ class Receiver:
     def finish(self) -> Bits:
         """The bits of the last samples, which waited for more."""
         parts = [self._of_mpx(self._fm.finish())] if self._fm else []
-        parts.append(self._of_parts(self._jumps.push(self._band.finish())))
+        parts.append(self._of_parts(self._jumps.push(self._bands.finish()[0])))
         parts.append(self._of_parts(self._jumps.finish()))
         parts.append(self._finished())
         return numpy.concatenate(parts)
 
     def _of_mpx(self, mpx: Reals) -> Bits:
-        return self._of_parts(self._jumps.push(self._band.push(mpx)))
+        (signal,) = self._bands.push(mpx)
+        return self._of_parts(self._jumps.push(signal)) if signal.size else numpy.zeros(0, "u1")
 
     def _of_parts(self, parts: List[Complexes]) -> Bits:
         """Of signals with a jump between each two."""
@@ -187,3 +218,42 @@ class Receiver:
             return (before.phase - before.bits - 1 - after.phase) % GROUP_BITS
         apart = (self._begin + self._chains[0].begin - end) / self._rate * BIT_RATE
         return max(0, math.ceil(apart - EARLY))
+
+
+class Capture:
+    """The receivers of stations in one signal: of one station in MPX, or of those at these offsets from the centre of
+    IQ, in Hz. `equalised` are the offsets of those whose multipath is undone."""
+
+    def __init__(
+        self,
+        rate: int,
+        is_iq: bool = False,
+        full_scale: float = 1.0,
+        offsets: Sequence[float] = (0.0,),
+        equalised: Collection[float] = (),
+    ):
+        self._channels = station_channels(rate, offsets) if is_iq else None
+        own = self._channels.bands[0].rate_out if self._channels else Fraction(rate)
+        self.receivers = [Receiver(own, is_iq, full_scale, offset in equalised) for offset in offsets]
+
+    def push(self, samples: Signal) -> List[Bits]:
+        """Of each station the bits."""
+        return self._bits(self._channels.push(samples[None]) if self._channels else [samples[None]])
+
+    def finish(self) -> List[Bits]:
+        """The bits of the last samples, which waited for more."""
+        rest = self._channels.finish() if self._channels else []
+        before = self._bits(rest) if rest else [numpy.zeros(0, "u1")] * len(self.receivers)
+        parts = zip(before, self.receivers)
+        return [numpy.concatenate([bits, receiver.finish()]) for bits, receiver in parts]
+
+    def keep(self, numbers: Sequence[int]) -> None:
+        """Goes on with these stations alone."""
+        self.receivers = [self.receivers[number] for number in numbers]
+        if self._channels:
+            self._channels.bands = [self._channels.bands[number] for number in numbers]
+
+    def _bits(self, signals: Sequence[Signal]) -> List[Bits]:
+        if not signals[0].size:
+            return [numpy.zeros(0, "u1")] * len(self.receivers)
+        return [receiver.push(signal[0]) for receiver, signal in zip(self.receivers, signals)]

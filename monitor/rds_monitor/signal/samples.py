@@ -13,6 +13,7 @@ import numpy
 from numpy.typing import NDArray
 
 from ..rows.items import Fault
+from .centre import centre_in_auxi, centre_in_name, sigmf_of
 
 Reals = NDArray[numpy.float64]
 Complexes = NDArray[numpy.complex128]
@@ -41,11 +42,13 @@ UNKNOWN_LENGTH = (0, 0xFFFFFFFF)
 
 
 class SampleSource(Protocol):
-    """A signal: its sample rate, whether it is IQ, the sample of full scale, and its samples a block at a time."""
+    """A signal: its sample rate, whether it is IQ, the sample of full scale, the frequency of the centre of IQ if it is known, and
+    its samples a block at a time."""
 
     rate: int
     is_iq: bool
     full_scale: float
+    centre: Optional[float]
 
     def blocks(self) -> Iterator[Signal]:
         ...
@@ -59,6 +62,7 @@ class Layout:
     channels: int
     form: str
     length: Optional[int] = None
+    centre: Optional[float] = None
 
     @property
     def frame(self) -> int:
@@ -76,7 +80,7 @@ def wav_layout(stream: BinaryIO) -> Layout:
         raise Fault("FLAC is read from a file only, not from a pipe")
     if kind not in (b"RIFF", b"RF64") or wave != b"WAVE":
         raise Fault("the input is neither WAV nor FLAC: name its samples with --raw and --rate")
-    described, long_length = b"", None
+    described, long_length, centre = b"", None, None
     while True:
         name, length = struct.unpack("<4sI", _exactly(stream, 8))
         if name == b"data":
@@ -87,6 +91,8 @@ def wav_layout(stream: BinaryIO) -> Layout:
             described = body
         elif name == b"ds64" and length >= 16:
             long_length = struct.unpack_from("<Q", body, 8)[0]
+        elif name == b"auxi":
+            centre = centre_in_auxi(body)
     if len(described) < 16:
         raise Fault("the WAV file does not say what its samples are")
     code, channels, rate, _, _, width = struct.unpack_from("<HHIIHH", described)
@@ -100,7 +106,7 @@ def wav_layout(stream: BinaryIO) -> Layout:
     if channels == 0:
         raise Fault("the WAV file has no channel")
     known = None if length in UNKNOWN_LENGTH else length
-    return Layout(rate, channels, WAV_FORMS[code, width], long_length or known)
+    return Layout(rate, channels, WAV_FORMS[code, width], long_length or known, centre)
 
 
 def _skip(stream: BinaryIO, length: int) -> None:
@@ -118,18 +124,18 @@ def _exactly(stream: BinaryIO, length: int) -> bytes:
 # ---- samples as numbers
 
 
-def numbers(data: bytes, form: str) -> Reals:
-    """The samples of some bytes, around 0; 24 bits are the upper ones of 32."""
+def numbers(data: bytes, form: str, kind: str = "f8") -> Reals:
+    """The samples of some bytes, around 0; 24 bits are the upper ones of 32. `kind` is the numpy type of the numbers."""
     if form == "u8":
-        return numpy.frombuffer(data, "u1") - 127.5
+        return numpy.subtract(numpy.frombuffer(data, "u1"), 127.5, dtype=kind)
     if form == "s24":
         wide = numpy.zeros((len(data) // 3, 4), "u1")
         wide[:, 1:] = numpy.frombuffer(data, "u1").reshape(-1, 3)
-        return wide.view("<i4").ravel().astype("f8")
+        return wide.view("<i4").ravel().astype(kind)
     stored = {"s8": "i1", "s16": "<i2", "s32": "<i4", "f32": "<f4", "f64": "<f8"}[form]
     with numpy.errstate(invalid="ignore"):
         # A signalling NaN among the samples is refused where they are judged.
-        return numpy.frombuffer(data, stored).astype("f8")
+        return numpy.frombuffer(data, stored).astype(kind)
 
 
 def channels_of(frames: int, values: Reals, channels: Tuple[int, ...]) -> Signal:
@@ -138,13 +144,13 @@ def channels_of(frames: int, values: Reals, channels: Tuple[int, ...]) -> Signal
     if len(channels) == 1:
         return numpy.ascontiguousarray(table[:, channels[0]])
     if channels == (0, 1) and table.shape[1] == 2:
-        return table.view("c16").ravel()
+        return table.view("c8" if table.dtype == numpy.float32 else "c16").ravel()
     return table[:, channels[0]] + 1j * table[:, channels[1]]
 
 
 def checked(samples: Signal, first: int) -> Iterator[Signal]:
     """The samples, up to one that is no number of a signal; `first` is the number of those before."""
-    parts = samples.view("f8") if samples.dtype == numpy.complex128 else samples
+    parts = samples.view(samples.real.dtype) if numpy.iscomplexobj(samples) else samples
     strange = numpy.flatnonzero(~(numpy.abs(parts) < LARGEST_SAMPLE))
     if not strange.size:
         yield samples
@@ -159,6 +165,7 @@ class StoredSamples:
 
     def __init__(self, stream: BinaryIO, layout: Layout, channels: Tuple[int, ...]):
         self.rate, self.is_iq, self.full_scale = layout.rate, len(channels) == 2, FORMS[layout.form][1]
+        self.centre = layout.centre
         self._stream, self._layout, self._channels = stream, layout, channels
         self._frames = FRAMES_OF_FILE if stream.seekable() else FRAMES_PER_BLOCK
 
@@ -171,7 +178,8 @@ class StoredSamples:
             if not data:
                 break
             frames = len(data) // layout.frame
-            samples = channels_of(frames, numbers(data[: frames * layout.frame], layout.form), self._channels)
+            values = numbers(data[: frames * layout.frame], layout.form, "f4" if self.is_iq else "f8")
+            samples = channels_of(frames, values, self._channels)
             if layout.form[0] == "f" and frames:
                 yield from checked(samples, read // layout.frame)
             else:
@@ -206,7 +214,7 @@ class Flac:
             self._file: Any = soundfile.SoundFile(path)
         except soundfile.SoundFileError as error:
             raise Fault(f"{path!r} cannot be read: {error}") from None
-        self.rate, self.is_iq = int(self._file.samplerate), is_iq
+        self.rate, self.is_iq, self.centre = int(self._file.samplerate), is_iq, centre_in_name(path)
         self._channels = chosen_channels(self._file.channels, channel, is_iq)
 
     def blocks(self) -> Iterator[Signal]:
@@ -234,15 +242,21 @@ def open_samples(
     path: str, *, raw: Optional[str], rate: Optional[int], channel: Optional[int], is_iq: bool
 ) -> SampleSource:
     """The signal in a file, or on standard input if the path is -. A rate overrides that of a header."""
+    sigmf = sigmf_of(path)
+    path, named = sigmf.data if sigmf else path, None if path == "-" else centre_in_name(path)
     stream: BinaryIO = sys.stdin.buffer
     if path != "-":
         try:
             stream = open(path, "rb")
         except OSError as error:
             raise Fault(f"{path!r} cannot be read: {error.strerror}") from None
+    if sigmf and raw is None:
+        raw, rate, is_iq = sigmf.raw, rate or sigmf.rate, True
     if raw is not None:
         assert rate is not None
-        return StoredSamples(stream, Layout(rate, 2 if is_iq else 1, raw), (0, 1) if is_iq else (0,))
+        centre = sigmf.centre if sigmf else named
+        layout = Layout(rate, 2 if is_iq else 1, raw, centre=centre)
+        return StoredSamples(stream, layout, (0, 1) if is_iq else (0,))
     if path != "-" and os.path.isfile(path):
         is_flac = stream.read(4) == b"fLaC"
         stream.seek(0)
@@ -253,5 +267,5 @@ def open_samples(
             return flac
     layout = wav_layout(stream)
     channels = chosen_channels(layout.channels, channel, is_iq)
-    layout.rate = rate or layout.rate
+    layout.rate, layout.centre = rate or layout.rate, named if layout.centre is None else layout.centre
     return StoredSamples(stream, layout, channels)

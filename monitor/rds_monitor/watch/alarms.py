@@ -11,7 +11,7 @@ from ..content.charset import printable
 from ..content.decoder import Event
 from ..measures.clock import Tick
 from .table import StationTable
-from .times import Timing
+from .times import Pace, Timing
 from .verdict import pattern_of
 
 # Of the contents: without them nothing can be said of these.
@@ -59,8 +59,8 @@ class Alarm:
         # Since when the fault is gone.
         self.gone: Optional[float] = None
 
-    def judge(self, fault: Optional[Trouble], now: float) -> Optional[bool]:
-        """Whether the alarm begins or ends now."""
+    def judge(self, fault: Optional[Trouble], now: float, gone: Optional[float] = None) -> Optional[bool]:
+        """Whether the alarm begins or ends now. A fault that is no more may be `gone` earlier."""
         if fault:
             self.gone = None
             if self.text is None and now - fault.since >= self.after:
@@ -68,7 +68,7 @@ class Alarm:
                 return True
             return None
         if self.gone is None:
-            self.gone = now
+            self.gone = now if gone is None else min(gone, now)
         if self.text is not None and now - self.gone >= self._clear:
             self.text = None
             return False
@@ -77,12 +77,12 @@ class Alarm:
 
 class Watched(NamedTuple):
     """A station as it is now, on the monotonic clock: when the last byte came, how old the last valid block is that counts, the
-    contents, and how many times too fast the bits come. Without a PI nothing is known of the contents."""
+    contents, and how fast the bits come. Without a PI nothing is known of the contents."""
 
     last_byte: float
     valid_age: float
     held: Dict[str, Any]
-    pace: Optional[float]
+    pace: Optional[Pace]
 
 
 class Alarms:
@@ -93,11 +93,15 @@ class Alarms:
         self._seen = Watched(now, 0.0, {}, None)
         self._minutes: Deque[float] = deque(maxlen=60)
         self._offsets: Deque[float] = deque(maxlen=60)
-        # When each of the last hour began; and the seconds of this one in which no byte came yet, which a burst may bring.
+        # When each of the last hour began; and the seconds of this one in which no byte came yet, which a burst may bring, or whose
+        # pace is not known yet.
         self._sessions: Deque[float] = deque()
-        self._unheard = 0.0
+        self._unheard = self._unpaced = 0.0
         # Since when an expected value was not there, a text is the same, or a flag is set.
         self._since: Dict[str, float] = {}
+        # When the last change of an item was sent, and whether a text of this session fits since then.
+        self._changed: Dict[str, float] = {}
+        self._fit: Dict[str, bool] = {}
         self._texts: Dict[str, Optional[str]] = {}
         self.lasting: Dict[str, str] = {}
         self._begins: Dict[str, float] = {}
@@ -155,26 +159,40 @@ class Alarms:
 
     def begin_session(self, now: float) -> None:
         self._sessions.append(now)
-        self._unheard = 0.0
+        self._unheard = self._unpaced = 0.0
+        self._fit.clear()
 
     def take(
-        self, changes: Sequence[Event], minutes: Iterable[float], ticks: Sequence[Tick], timing: Timing
+        self,
+        changes: Sequence[Event],
+        minutes: Iterable[float],
+        ticks: Sequence[Tick],
+        timing: Timing,
+        ahead: float,
     ) -> None:
-        """Changes of the contents, per cent of bad blocks by minute, and clock times."""
+        """Changes of the contents, per cent of bad blocks by minute, and clock times. UTC is `ahead` of the monotonic clock."""
         for event in changes:
-            if event.item == "ps" and event.value is not None and self._fitting("ps", event.text):
-                self._since["ps"] = self._now
-            text = None if event.value is None else event.text
-            if event.item in ("ps", "rt") and text != self._texts.get(event.item):
-                self._since[f"{event.item}_stuck"], self._texts[event.item] = self._now, text
+            item, changed = event.item.partition(":")[0], timing.utc(event.place) - ahead
+            self._changed[item] = changed
+            if item in ("ps", "rt"):
+                self._take_text(item, None if event.value is None else event.text, changed)
         self._minutes.extend(minutes)
         self._offsets.extend(tick.time - timing.utc(tick.place) for tick in ticks)
         if ticks:
-            self._since["ct_absent"] = self._now
+            self._since["ct_absent"] = timing.utc(ticks[-1].place) - ahead
+
+    def _take_text(self, name: str, text: Optional[str], changed: float) -> None:
+        """The text before it fitted until then: a dynamic PS shows its parts in turn."""
+        if self._fit.get(name):
+            self._since[name] = changed
+        self._fit[name] = text is not None and self._fitting(name, text)
+        if text != self._texts.get(name):
+            self._since[f"{name}_stuck"], self._texts[name] = changed, text
 
     def judge(self, watched: Watched, now: float) -> List[Change]:
         """The alarms that begin or end."""
-        passed, self._now, self._seen = now - self._now, now, watched
+        heard, passed = watched.last_byte > self._seen.last_byte, now - self._now
+        self._now, self._seen = now, watched
         age, quiet, pause = watched.valid_age, now - watched.last_byte, PAUSE * self._speed
         silent, dead = quiet > pause, age > pause
         self._judge("silent", Trouble(watched.last_byte, f"no byte for {quiet:.0f} s") if silent else None)
@@ -182,8 +200,8 @@ class Alarms:
         self._judge_pace(passed, None if silent else watched.pace)
         self._judge_sessions()
         self._judge_minutes()
-        unheard, self._unheard = self._unheard, self._unheard + passed if silent else 0.0
-        if silent or dead or "pi" not in watched.held:
+        unheard, self._unheard = self._unheard, 0.0 if heard else self._unheard + passed
+        if not heard or dead or "pi" not in watched.held:
             self._hold(passed, *CONTENTS)
         else:
             self._hold(-unheard, *CONTENTS)
@@ -191,9 +209,9 @@ class Alarms:
         found, self._found = self._found, []
         return found
 
-    def _judge(self, name: str, fault: Optional[Trouble]) -> None:
+    def _judge(self, name: str, fault: Optional[Trouble], gone: Optional[float] = None) -> None:
         alarm = self._alarms.get(name)
-        begins = alarm.judge(fault, self._now) if alarm else None
+        begins = alarm.judge(fault, self._now, gone) if alarm else None
         if begins is None:
             return
         if begins and fault:
@@ -203,15 +221,18 @@ class Alarms:
             lasted = self._now - self._begins.pop(name, self._now)
             self._found.append(Change(name, False, f"{self.lasting.pop(name, '')}; it lasted {lasted:.0f} s"))
 
-    def _judge_pace(self, passed: float, pace: Optional[float]) -> None:
+    def _judge_pace(self, passed: float, pace: Optional[Pace]) -> None:
         if pace is None:
             self._hold(passed, "fast", "slow")
+            self._unpaced += passed
             return
-        if pace == math.inf:
+        self._hold(-self._unpaced, "fast", "slow")
+        self._unpaced, (factor, since) = 0.0, pace
+        if factor == math.inf:
             self._since["fast"] = self._now - (self._table.alarms.fast or 0)
-        percent = "" if pace == math.inf else f" by {100 * abs(pace - 1):.1f} %"
-        self._flag("fast", pace > 1 + OFF_PACE, f"bits come too fast{percent}")
-        self._flag("slow", pace < 1 - OFF_PACE, f"bits come too slowly{percent}")
+        percent = "" if factor == math.inf else f" by {100 * abs(factor - 1):.1f} %"
+        self._flag("fast", factor > 1 + OFF_PACE, f"bits come too fast{percent}", since)
+        self._flag("slow", factor < 1 - OFF_PACE, f"bits come too slowly{percent}", since)
 
     def _judge_sessions(self) -> None:
         while self._sessions and self._sessions[0] <= self._now - HOUR:
@@ -246,7 +267,7 @@ class Alarms:
     def _judge_contents(self, held: Dict[str, Any]) -> None:
         table, pi = self._table, held["pi"]
         if table.pi:
-            self._flag("pi", pi not in table.pi, f"PI {pi} in place of {' or '.join(table.pi)}")
+            self._flag_by("pi", pi not in table.pi, f"PI {pi} in place of {' or '.join(table.pi)}", "pi")
         for name in ("ps", "rt"):
             if self._fits[name]:
                 self._judge_text(name, held.get(name))
@@ -254,28 +275,35 @@ class Alarms:
         if table.af:
             heard = _frequencies(held)
             text = f"AF {_megahertz(heard)} in place of {_megahertz(table.af)}"
-            self._flag("af", heard != set(table.af), text)
-        self._flag("ta", held.get("ta") is True and held.get("tp") is not False, "TA is on")
-        self._flag("pty31", held.get("pty") == 31, "PTY 31: alarm")
+            self._flag_by("af", heard != set(table.af), text, "af")
+        self._flag_by("ta", held.get("ta") is True and held.get("tp") is not False, "TA is on", "ta", "tp")
+        self._flag_by("pty31", held.get("pty") == 31, "PTY 31: alarm", "pty")
         self._lasts("ct_absent", "no clock time (CT)")
         self._judge_clock()
 
-    def _flag(self, name: str, is_set: bool, text: str) -> None:
+    def _flag_by(self, name: str, is_set: bool, text: str, *items: str) -> None:
+        """One that the last change of these items set or ended."""
+        changed = [self._changed[item] for item in items if item in self._changed]
+        self._flag(name, is_set, text, max(changed, default=self._now))
+
+    def _flag(self, name: str, is_set: bool, text: str, changed: float) -> None:
+        changed = min(changed, self._now)
         if not is_set:
             self._since.pop(name, None)
-            self._judge(name, None)
+            self._judge(name, None, changed)
             return
-        self._judge(name, Trouble(self._since.setdefault(name, self._now), text))
+        self._judge(name, Trouble(self._since.setdefault(name, changed), text))
 
     def _lasts(self, name: str, text: str) -> None:
         """A fault only if it lasted for the whole limit."""
         since = self._since.setdefault(name, self._now)
         late = since < self._now and self._now - since >= (getattr(self._table.alarms, name) or 0)
-        self._judge(name, Trouble(since, text) if late else None)
+        self._judge(name, Trouble(since, text) if late else None, self._changed.get(name))
 
     def _judge_text(self, name: str, text: Optional[str]) -> None:
-        """A text that fits now, or did within the time: a dynamic PS shows its parts in turn."""
-        if text is not None and self._fitting(name, text):
+        """A text that fits now, or did within the time."""
+        self._fit[name] = text is not None and self._fitting(name, text)
+        if self._fit[name]:
             self._since[name] = self._now
         shown = "none" if text is None else printable(text.strip())
         self._lasts(name, f"{name.upper()} {shown} in place of {' or '.join(getattr(self._table, name))}")

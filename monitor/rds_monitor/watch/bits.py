@@ -2,12 +2,14 @@
 
 from __future__ import annotations
 
-from typing import Any, Dict
+import json
+import math
+from typing import Optional, Sequence
 
 import numpy
 
 from ..rows.clock import RATE
-from ..signal.receiver import Receiver
+from ..signal.receiver import Capture, Strength
 from ..signal.samples import FORMS, channels_of, checked, numbers
 from ..signal.symbols import Bits
 from .table import StationTable
@@ -15,18 +17,16 @@ from .table import StationTable
 
 class Packed:
     """Takes bytes as they come and gives packed bits: here bits that are packed already. `delay` is by how many seconds the last
-    bit is older than the last byte; `report` says how well a signal was received."""
+    bit is older than the last byte; `strength` is that of the signal since the last call that gave bits."""
 
     delay = 0.0
+    strength: Optional[Strength] = None
 
     def take(self, data: bytes) -> bytes:
         return data
 
     def finish(self) -> bytes:
         return b""
-
-    def report(self) -> Dict[str, Any]:
-        return {}
 
 
 class Demodulated(Packed):
@@ -37,8 +37,10 @@ class Demodulated(Packed):
         self._form, self._channels = table.raw, (0, 1) if table.form == "iq" else (0,)
         self._frame = len(self._channels) * FORMS[table.raw][0]
         self._rate = table.rate
-        is_iq = table.form == "iq"
-        self._receiver = Receiver(table.rate, is_iq, FORMS[table.raw][1], table.offset, is_iq)
+        is_iq, offsets = table.form == "iq", [table.offset]
+        self._capture = Capture(
+            table.rate, is_iq, FORMS[table.raw][1], offsets, offsets if table.equaliser else ()
+        )
         self._odd = b""
         self._bits: Bits = numpy.zeros(0, "u1")
         self._samples = 0
@@ -49,10 +51,13 @@ class Demodulated(Packed):
         self._odd = data[frames * self._frame :]
         if not frames:
             return b""
-        samples = channels_of(frames, numbers(data[: frames * self._frame], self._form), self._channels)
-        bits = [self._receiver.push(block) for block in checked(samples, self._samples)]
+        kind = "f8" if len(self._channels) == 1 else "f4"
+        samples = channels_of(frames, numbers(data[: frames * self._frame], self._form, kind), self._channels)
+        bits = [self._capture.push(block)[0] for block in checked(samples, self._samples)]
         self._samples += frames
         packed = self._packed(numpy.concatenate(bits))
+        if packed:
+            self.strength = self._capture.receivers[0].quality.recent()
         if packed and not self.delay:
             # The receiver waits for later samples: the first bits that it gives tell for how many.
             self.delay = max(0.0, self._samples / self._rate - 8 * len(packed) / RATE)
@@ -65,11 +70,33 @@ class Demodulated(Packed):
         return numpy.packbits(bits[:whole]).tobytes()
 
     def finish(self) -> bytes:
-        return self._packed(self._receiver.finish()) if self._samples else b""
+        return self._packed(self._capture.finish()[0]) if self._samples else b""
 
-    def report(self) -> Dict[str, Any]:
-        return self._receiver.quality.report()
+
+class Lines(Packed):
+    """Whole lines of `demod --stations` of one station."""
+
+    def take(self, data: bytes) -> bytes:
+        told = [json.loads(line) for line in data.splitlines()]
+        packed = b"".join(bytes.fromhex(line["bits"]) for line in told)
+        if packed:
+            self.strength = mean_of([Strength(line["level_dbfs"], line["snr_db"]) for line in told])
+        if packed and not self.delay:
+            self.delay = max(0.0, told[-1]["seconds"] - 8 * len(packed) / RATE)
+        return packed
+
+
+def mean_of(parts: Sequence[Strength]) -> Strength:
+    """Of equal times, by power; of those that are known."""
+
+    def mean(values: Sequence[Optional[float]]) -> Optional[float]:
+        known = [10 ** (value / 10) for value in values if value is not None]
+        return round(10 * math.log10(sum(known) / len(known)), 1) if known else None
+
+    return Strength(*(mean(column) for column in zip(*parts)))
 
 
 def bit_source(table: StationTable) -> Packed:
+    if table.receiver:
+        return Lines()
     return Packed() if table.form == "bits" else Demodulated(table)

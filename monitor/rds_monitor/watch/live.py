@@ -3,15 +3,17 @@
 from __future__ import annotations
 
 import os
-from typing import List, NamedTuple, Optional, Tuple
+from typing import Dict, List, NamedTuple, Optional, Tuple
 
 import numpy
 
-from ..db.parts import OUTAGE_SECONDS, Contents, Part, Told
+from ..db.parts import MINUTE_BITS, OUTAGE_SECONDS, Contents, Part, Told
 from ..rows.clock import RATE, Clock, utc_text
 from ..rows.hours import HOUR, Hour
 from ..rows.items import ACQUIRED, BLOCK_BITS, GROUP, GROUP_BITS, ITEM, LOSS, VALID, Rows, Totals
 from ..rows.listing import ends_of, groups_in, kinds_of, text_of, totals_text
+from ..signal.receiver import Strength
+from .bits import mean_of
 from .decoders import StreamDecoder
 from .records import PartGrew, PartKey, PartOpened, PartTold, Record
 from .times import Arrivals, Timing
@@ -46,6 +48,8 @@ class LiveSession:
         # Where the last whole group ended.
         self.whole_end: Optional[int] = None
         self._news = 0.0
+        # Of the last minutes, by their numbers.
+        self._strengths: Dict[int, List[Strength]] = {}
         self.appends: List[Append] = []
         self.records: List[Record] = []
         self.told: List[Tuple[Told, Timing]] = []
@@ -59,9 +63,29 @@ class LiveSession:
     def timing(self) -> Optional[Timing]:
         return self._timing or self.arrivals.timing
 
-    def take(self, data: bytes) -> None:
-        """The next bits, of whose arrival `arrivals` was told."""
+    def take(self, data: bytes, strength: Optional[Strength] = None) -> None:
+        """The next bits, of whose arrival `arrivals` was told, and how strong their signal was."""
+        if strength:
+            minute = int(self.place // MINUTE_BITS)
+            self._strengths.setdefault(minute, []).append(strength)
+            for old in [number for number in self._strengths if number < minute - 2]:
+                del self._strengths[old]
         self._early.append(self._decoder.push(data))
+
+    def strength(self) -> Strength:
+        """Of the last minute or two."""
+        parts = [one for strengths in list(self._strengths.values())[-2:] for one in strengths]
+        return mean_of(parts) if parts else Strength(None, None)
+
+    def _heard(self, told: Told) -> Told:
+        """With the strengths of the minutes."""
+        minutes = [
+            minute._replace(**mean_of(self._strengths[minute.number])._asdict())
+            if minute.number in self._strengths
+            else minute
+            for minute in told.minutes
+        ]
+        return told._replace(minutes=minutes)
 
     def tick(self, utc: float) -> None:
         """Makes rows and records of the bits so far."""
@@ -162,7 +186,7 @@ class LiveSession:
     def _collect(self) -> bool:
         """Hands over what the part completed, and says whether the database gets any of it."""
         assert self.part and self._timing
-        told = self.part.taken()
+        told = self._heard(self.part.taken())
         if told.changes or told.minutes or told.ticks:
             self.told.append((told, self._timing))
         if told.minutes or told.events or told.outages:

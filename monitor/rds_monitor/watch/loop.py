@@ -8,7 +8,7 @@ import sqlite3
 import subprocess
 from collections import deque
 from functools import partial
-from typing import Callable, Deque, Dict, Iterable, List, Optional, Tuple
+from typing import Callable, Deque, Dict, Iterable, List, Optional, Tuple, Union
 
 from ..db.standing import availability
 from ..rows.clock import DAY
@@ -18,9 +18,10 @@ from .decoders import NewDecoder
 from .live import Append
 from .metrics import metrics_text
 from .pages import replace, write_pages
-from .receiver import Launch
+from .receiver import Keeper, Launch
 from .records import WATCH, AlarmChanged, Record, Records, StateSeen, WatchBegan
 from .retention import tidy
+from .shared import SharedReceiver, Tap
 from .station import Station
 from .table import StationTable, Table
 from .times import Now, SteadyUtc, Times
@@ -80,6 +81,8 @@ class Watch:
         self._clock = SteadyUtc(self._now, times.speed)
         self._keep = table.keep
         self.stations: Dict[str, Station] = {}
+        # By the receiver's name.
+        self._shared: Dict[str, SharedReceiver] = {}
         self._leaving: List[Station] = []
         self._appends: List[Append] = []
         self._records: List[Record] = []
@@ -104,10 +107,21 @@ class Watch:
         return {name: (text, max(0.0, self.utc - begin)) for name, (text, begin) in lasting}
 
     def _add(self, table: StationTable) -> Station:
-        station = Station(table, self._launch, self._decoder, self._times.speed, self._now.steady, self._say)
+        given = self._decoder, self._times.speed, self._now.steady, self._say
+        station = Station(table, self._keeper(table), *given)
         station.records.append(WatchBegan(table.name, self.utc))
         self.stations[table.name] = station
         return station
+
+    def _keeper(self, table: StationTable) -> Union[Keeper, Tap]:
+        """Of a command of its own, or of one that it shares."""
+        speed, now, receiver = self._times.speed, self._now.steady, table.receiver
+        if receiver is None:
+            return Keeper(table.command, table.patience * speed, self._launch, now)
+        shared = self._shared.get(receiver.name)
+        if shared is None or shared.table != receiver:
+            shared = self._shared[receiver.name] = SharedReceiver(receiver, speed, self._launch, now)
+        return shared.tap(table.hertz, now)
 
     @property
     def utc(self) -> float:
@@ -270,6 +284,8 @@ class Watch:
                 new.alarms.set_table(station)
         for old in before.values():
             self._stop(old, "it is no longer in the table")
+        names = {receiver.name for receiver in table.receivers}
+        self._shared = {name: shared for name, shared in self._shared.items() if name in names}
         self._pages_at = 0.0
 
     def _stop(self, station: Station, reason: str) -> None:

@@ -32,7 +32,8 @@ METRICS = (
     Metric("rds_last_group_timestamp_seconds", "gauge", "When the last whole group ended."),
     Metric("rds_clock_offset_seconds", "gauge", "The station's clock time (CT) less that of this machine."),
     Metric("rds_pi_as_expected", "gauge", "Whether the PI is an expected one."),
-    Metric("rds_snr_db", "gauge", "Signal-to-noise ratio of RDS, of MPX and IQ."),
+    Metric("rds_snr_db", "gauge", "Signal-to-noise ratio of RDS in the last minute or two, of MPX and IQ."),
+    Metric("rds_level_dbfs", "gauge", "Power of the station's channel in the last minute or two, of IQ."),
     Metric("rds_alarm", "gauge", "Whether the alarm lasts."),
     Metric("rds_watch_timestamp_seconds", "gauge", "When this file was written."),
 )
@@ -89,6 +90,7 @@ def _samples(name: str, state: Dict[str, Any], day: Availability) -> Iterator[Sa
         ("rds_clock_offset_seconds", state["clock_s"]),
         ("rds_pi_as_expected", float(pi in expected) if pi and expected else None),
         ("rds_snr_db", state["signal"].get("snr_db")),
+        ("rds_level_dbfs", state["signal"].get("level_dbfs")),
     )
     for metric, value in known:
         if value is not None:

@@ -174,6 +174,14 @@ def _percent(state: Dict[str, Any]) -> str:
     return "no minute yet" if bad is None else f"{bad:.1f} % of the last minute bad"
 
 
+def _signal(state: Dict[str, Any]) -> str:
+    """How strong it is, if that is known."""
+    units = {"snr_db": "RDS SNR {:.1f} dB", "level_dbfs": "level {:.1f} dBFS"}
+    values = ((text, state["signal"].get(name)) for name, text in units.items())
+    told = ", ".join(text.format(value) for text, value in values if value is not None)
+    return f"; {told}" if told else ""
+
+
 def overview(
     states: Dict[str, Dict[str, Any]],
     bars: Dict[str, List[Bar]],
@@ -196,7 +204,7 @@ def _tile(name: str, state: Dict[str, Any], bars: Sequence[Bar], utc: float) -> 
         + (f' <span class="soft">{frequency:g} MHz</span>' if frequency else "")
         + f'</h2><p class="ps">{_text(held.get("ps", ""))}&#8203;</p><p>{_text(held.get("rt", "no RT"))}</p>'
         f'<p class="soft">PI {_text(held.get("pi", "none"))}, PTY {_text(held.get("pty", "none"))}</p>'
-        f"{_alarms(state['alarms'])}<p>{standing_of(state).state}; {_percent(state)}; {age}</p>{picture(bars, 40, name)}</li>"
+        f"{_alarms(state['alarms'])}<p>{standing_of(state).state}; {_percent(state)}; {age}{_signal(state)}</p>{picture(bars, 40, name)}</li>"
     )
 
 
@@ -228,7 +236,7 @@ def station_page(
     changes = [(_at(at), label(item), "none" if value is None else value) for at, item, value in events]
     parts = [
         f'<p><a href="index.html">RDS network</a></p><h1>{escape(name)}</h1>',
-        f"<p>{standing_of(state).state}; {_percent(state)}; {session}; {state['starts']} starts of the receiver. {_time(utc)}</p>",
+        f"<p>{standing_of(state).state}; {_percent(state)}{_signal(state)}; {session}; {state['starts']} starts of the receiver. {_time(utc)}</p>",
         f"{_alarms(state['alarms'])}\n<h2>The last 24 hours</h2>{picture(bars, 60, name)}",
         _day(day) if day else "",
         f"<h2>Contents</h2>{_table(('Item', 'Value'), contents)}",

@@ -6,36 +6,38 @@ import fcntl
 import os
 import signal
 import subprocess
-from typing import Callable, List, Optional, Sequence
+from typing import Any, Callable, Dict, List, Optional, Sequence, Set
 
 # Linux: a pipe of a megabyte holds a second of any signal while the disk is busy.
 F_SETPIPE_SZ, PIPE_BYTES = 1031, 1 << 20
 # Bytes that are read at once, so that one receiver cannot hold up the others.
 MOST = 1 << 22
 FIRST_PAUSE, LONGEST_PAUSE, GOOD_RUN = 1.0, 60.0, 60.0
+# The status of a command that writes to a program that has left, also by way of a shell.
+BROKEN_PIPE = (-signal.SIGPIPE, 128 + signal.SIGPIPE)
 # Between SIGTERM and SIGKILL.
 GRACE = 2.0
 
 
 class Process:
-    """A command in a process group of its own. `read` gives what is there, and None after the end of the output; `ended` says how
-    the process ended, or None while it runs."""
+    """A command in a process group of its own; its output goes through another program, if one is named. `read` gives what is there, and
+    None after the end of the output; `ended` says how the command ended, or None while it or the program runs.
+    """
 
-    def __init__(self, words: Sequence[str]):
-        pipe = subprocess.PIPE
-        self._it = subprocess.Popen(
-            list(words), stdin=subprocess.DEVNULL, stdout=pipe, stderr=pipe, start_new_session=True, bufsize=0
-        )
-        assert self._it.stdout and self._it.stderr
-        self._out, self._error = self._it.stdout, self._it.stderr
-        self._said = b""
-        for stream in (self._out, self._error):
-            os.set_blocking(stream.fileno(), False)
-        try:
-            fcntl.fcntl(self._out.fileno(), F_SETPIPE_SZ, PIPE_BYTES)
-        except OSError:
-            # Over the limit of a user, or another system.
-            pass
+    def __init__(self, words: Sequence[str], through: Sequence[str] = ()):
+        self._it = self._last = _started(words, subprocess.DEVNULL)
+        if through:
+            assert self._it.stdout
+            try:
+                self._last = _started(through, self._it.stdout)
+            except OSError:
+                self.kill()
+                raise
+            self._it.stdout.close()
+        assert self._last.stdout
+        self._out = self._last.stdout
+        self._said: Dict[int, bytes] = {}
+        os.set_blocking(self._out.fileno(), False)
 
     def read(self) -> Optional[bytes]:
         self._listen()
@@ -52,34 +54,63 @@ class Process:
         return b"".join(parts)
 
     def _listen(self) -> None:
-        """Keeps the end of what it says on standard error."""
-        for _ in range(16):
-            part = self._error.read(1 << 14)
-            if not part:
-                return
-            self._said = (self._said + part)[-400:]
+        """Keeps the end of what they say on standard error."""
+        for process in self._all:
+            assert process.stderr
+            for _ in range(16):
+                part = process.stderr.read(1 << 14)
+                if not part:
+                    break
+                self._said[process.pid] = (self._said.get(process.pid, b"") + part)[-400:]
+
+    @property
+    def _all(self) -> "Set[subprocess.Popen[bytes]]":
+        return {self._it, self._last}
 
     def ended(self) -> Optional[str]:
-        status = self._it.poll()
-        return None if status is None else how_ended(status, self._said)
+        """The program may end the command by leaving: then it is the program that ended."""
+        if any(process.poll() is None for process in self._all):
+            return None
+        first = self._last if self._it.returncode in BROKEN_PIPE and self._last.returncode else self._it
+        return how_ended(first.returncode, self._said.get(first.pid, b""))
 
     def terminate(self) -> None:
-        self._signal(signal.SIGTERM)
+        """The program goes on until its input ends."""
+        self._signal(self._it, signal.SIGTERM)
 
     def kill(self) -> None:
-        self._signal(signal.SIGKILL)
+        for process in self._all:
+            self._signal(process, signal.SIGKILL)
 
-    def _signal(self, number: int) -> None:
+    @staticmethod
+    def _signal(process: "subprocess.Popen[bytes]", number: int) -> None:
         """To the whole group, also if the process that began it has ended."""
         try:
-            os.killpg(self._it.pid, number)
+            os.killpg(process.pid, number)
         except (ProcessLookupError, PermissionError):
             pass
 
     def close(self) -> None:
-        self._out.close()
-        self._error.close()
-        self._it.poll()
+        for process in self._all:
+            for stream in (process.stdout, process.stderr):
+                assert stream
+                stream.close()
+            process.poll()
+
+
+def _started(words: Sequence[str], given: Any) -> "subprocess.Popen[bytes]":
+    pipe = subprocess.PIPE
+    process = subprocess.Popen(
+        list(words), stdin=given, stdout=pipe, stderr=pipe, start_new_session=True, bufsize=0
+    )
+    assert process.stdout and process.stderr
+    os.set_blocking(process.stderr.fileno(), False)
+    try:
+        fcntl.fcntl(process.stdout.fileno(), F_SETPIPE_SZ, PIPE_BYTES)
+    except OSError:
+        # Over the limit of a user, or another system.
+        pass
+    return process
 
 
 def how_ended(status: int, said: bytes) -> str:
@@ -97,14 +128,17 @@ def _signal_name(number: int) -> str:
         return f"signal {number}"
 
 
-Launch = Callable[[Sequence[str]], Process]
+# By the words of a command, and those of a program that its output goes through.
+Launch = Callable[[Sequence[str], Sequence[str]], Process]
 
 
 class Keeper:
     """Keeps a command running. Times are of the monotonic clock."""
 
-    def __init__(self, words: Sequence[str], patience: float, launch: Launch, now: float):
-        self._words, self.patience, self._launch = words, patience, launch
+    def __init__(
+        self, words: Sequence[str], patience: float, launch: Launch, now: float, through: Sequence[str] = ()
+    ):
+        self._words, self._through, self.patience, self._launch = words, through, patience, launch
         self._it: Optional[Process] = None
         self._pause, self._again = FIRST_PAUSE, now
         self._began = self.last_byte = now
@@ -138,7 +172,7 @@ class Keeper:
         self.starts += 1
         self._began, self._killing, self.reason = now, None, ""
         try:
-            self._it = self._launch(self._words)
+            self._it = self._launch(self._words, self._through)
         except OSError as error:
             self._end(now, f"cannot be started: {error.strerror or error}")
             return None

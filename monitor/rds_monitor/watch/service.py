@@ -12,13 +12,14 @@ from typing import Any, Tuple
 
 from ..rows.clock import RATE, number_of
 from ..rows.items import Fault
+from ..signal.found import HALF_CHANNEL_HZ
 from .decoders import NewDecoder, decoder_of
 from .journal import notify, say
 from .loop import Watch
 from .receiver import Process
 from .records import Records
 from .recover import recover
-from .table import Table, read_table
+from .table import StationTable, Table, read_table
 from .times import Times
 from .writer import Writer, WriterThread
 
@@ -67,9 +68,14 @@ def run_watch(arguments: argparse.Namespace) -> int:
 def check_table(table: Table) -> int:
     """Lists the stations, and says which commands cannot be run, and which receivers may seem to be silent."""
     commands = [("program", table.program or "sh")]
+    for receiver in table.receivers:
+        print(f"receiver {receiver.name}: {receiver.centre:g} MHz, {' '.join(receiver.command)}")
+        commands.append((f"receiver {receiver.name}", receiver.command[0]))
     for station in table.stations:
-        print(f"{station.name}: {station.form}, {' '.join(station.command)}")
-        commands += [(station.name, words[0]) for words in (station.command, station.alarm_command) if words]
+        shared, own = station.receiver, () if station.receiver else station.command
+        print(f"{station.name}: {station.form}, {f'receiver {shared.name}' if shared else ' '.join(own)}")
+        commands += [(station.name, words[0]) for words in (own, station.alarm_command) if words]
+        warn_of_the_centre(station)
         allowed = min(pause for pause in (station.patience, station.alarms.silent) if pause is not None)
         if station.form == "bits" and allowed < BURST and "stdbuf" not in station.command:
             text = f"a receiver with an output buffer of 4 KiB writes each {BURST:.1f} s"
@@ -80,6 +86,15 @@ def check_table(table: Table) -> int:
         there = os.path.exists(word)
         say("error", f"{of}: {word!r} may not be run" if there else f"{of}: there is no program {word!r}")
     return 1 if missing else 0
+
+
+def warn_of_the_centre(station: StationTable) -> None:
+    """Many receivers have a spike at 0 Hz."""
+    shared = station.receiver
+    if shared and abs(shared.offset(station.frequency or 0)) < HALF_CHANNEL_HZ:
+        text = f"the centre of receiver {shared.name}, {shared.centre:g} MHz, is in its channel"
+        cure = f"if there is a spike at 0 Hz, choose a centre {HALF_CHANNEL_HZ / 1000:g} kHz or more from each station"
+        say("warning", f"{station.name}: {text}: {cure}")
 
 
 class Service:

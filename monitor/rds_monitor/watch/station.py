@@ -4,7 +4,7 @@ from __future__ import annotations
 
 import math
 from collections import deque
-from typing import Any, Deque, Dict, List, Optional, Tuple
+from typing import Any, Deque, Dict, List, Optional, Tuple, Union
 
 from ..content.charset import printable
 from ..db.parts import MINUTE_BITS, Told
@@ -14,10 +14,11 @@ from .alarms import Alarms, Change, Watched
 from .bits import Packed, bit_source
 from .decoders import NewDecoder
 from .live import Append, LiveSession
-from .receiver import Keeper, Launch
+from .receiver import Keeper
 from .records import AlarmChanged, Record, RunBegan, RunEnded, StateSeen, WatchBegan
+from .shared import Tap
 from .table import StationTable
-from .times import Timing
+from .times import Pace, Timing
 from .writer import Say
 
 # Seconds between two lines of news of a station.
@@ -32,10 +33,16 @@ class Station:
     """All times are pairs of the monotonic clock and UTC."""
 
     def __init__(
-        self, table: StationTable, launch: Launch, decoder: NewDecoder, speed: float, now: float, say: Say
+        self,
+        table: StationTable,
+        keeper: Union[Keeper, Tap],
+        decoder: NewDecoder,
+        speed: float,
+        now: float,
+        say: Say,
     ):
         self.table, self._decoder, self._speed, self._say = table, decoder, speed, say
-        self.keeper = Keeper(table.command, table.patience * speed, launch, now)
+        self.keeper = keeper
         self.alarms = Alarms(table, now, speed)
         self._session: Optional[LiveSession] = None
         self._bits: Optional[Packed] = None
@@ -45,6 +52,8 @@ class Station:
         self._last_read = 0.0
         self._last_valid = now
         self._whole_utc: Optional[float] = None
+        # By how much UTC is ahead of the monotonic clock.
+        self._ahead = 0.0
         # Since when the receiver gives the bits of the next session, and whether those of the last one were ahead of time.
         self._began, self._was_ahead = 0.0, False
         self._names: Deque[Tuple[float, str]] = deque()
@@ -78,7 +87,7 @@ class Station:
 
     def poll(self, steady: float, utc: float) -> None:
         """Reads the bytes that came."""
-        data = self.keeper.read(steady)
+        data, self._ahead = self.keeper.read(steady), utc - steady
         if self.keeper.starts != self._starts:
             self._starts = self.keeper.starts
             self._began = utc
@@ -127,7 +136,7 @@ class Station:
                 self._was_ahead = True
                 raise Fault("gave bits faster than real time")
         if bits:
-            self._session.take(bits)
+            self._session.take(bits, self._bits.strength)
 
     def end_session(self, utc: float, goes_on: bool = False) -> None:
         """The session ends here. If the receiver goes on, what it gives from now on is of the next one."""
@@ -193,10 +202,13 @@ class Station:
         quiet = steady - self.keeper.last_byte
         return steady - self._last_valid - (quiet if quiet <= self.keeper.patience else 0.0)
 
-    def _pace(self) -> Optional[float]:
+    def _pace(self) -> Optional[Pace]:
+        """On the monotonic clock."""
         pace = self._session.arrivals.pace() if self._session else None
         self._was_ahead &= pace is None
-        return math.inf if self._was_ahead else pace
+        if self._was_ahead:
+            return Pace(math.inf, math.inf)
+        return pace and pace._replace(since=pace.since - self._ahead)
 
     def _see_valid(self, steady: float) -> None:
         """When the last valid block came that counts, by its position."""
@@ -222,7 +234,7 @@ class Station:
     def _take(self, told: Told, timing: Timing) -> None:
         blocks = [minute.blocks for minute in told.minutes]
         percents = [one.bad_percent for one in blocks if one.end - one.begin >= int(MINUTE_BITS)]
-        self.alarms.take(told.changes, percents, told.ticks, timing)
+        self.alarms.take(told.changes, percents, told.ticks, timing, self._ahead)
         for event in told.changes:
             if event.item == "ps" and event.value is not None:
                 self._names.append((timing.utc(event.place), printable(event.text.strip())))
@@ -262,7 +274,7 @@ class Station:
             "minute": self._last_minute,
             "clock_s": self._clock_s,
             "blocks": dict(self._blocks),
-            "signal": self._bits.report() if self._bits else {},
+            "signal": self._session.strength()._asdict() if self._session else {},
             "alarms": dict(self.alarms.lasting),
             "names": [name for _, name in self._names if name] if self._session else [],
             "counted": self.alarms.counted(),
@@ -271,8 +283,9 @@ class Station:
     def stop(self, steady: float, utc: float, reason: str) -> None:
         """Ends the session; the receiver is asked to end."""
         self.end_session(utc)
+        runs = self.keeper.is_running
         self.keeper.stop(steady, reason)
-        if self.keeper.is_running:
+        if runs:
             self.keeper.reason = reason
             self.records.append(RunEnded(self.name, utc, reason))
         self.records.append(StateSeen(self.name, utc, self.state(utc)))

@@ -9,8 +9,8 @@ from typing import Any, Callable, Dict, NamedTuple, Optional, Set, Tuple
 
 from ..rows.compressed import zstandard
 from ..rows.items import Fault
-
-SAMPLE_RATES = range(128000, 3200001)
+from ..signal.found import HALF_CHANNEL_HZ, is_inside
+from ..signal.receiver import RATES
 
 
 @dataclass(frozen=True)
@@ -39,6 +39,31 @@ class AlarmLimits:
     disk: Optional[float] = 5
 
 
+class Tuned(NamedTuple):
+    """A station of a shared receiver: its frequency in Hz, and whether multipath is undone."""
+
+    hertz: int
+    equaliser: bool
+
+
+@dataclass(frozen=True)
+class ReceiverTable:
+    """A receiver of IQ that several stations share: the command, its raw samples, the centre in MHz, and all of its stations."""
+
+    name: str
+    command: Tuple[str, ...]
+    raw: str
+    rate: int
+    centre: float
+    form: str = "iq"
+    patience: float = 10
+    tuned: Tuple[Tuned, ...] = ()
+
+    def offset(self, frequency: float) -> int:
+        """From the centre in Hz, of a frequency in MHz."""
+        return round(1e6 * (frequency - self.centre))
+
+
 @dataclass(frozen=True)
 class StationTable:
     """A station: its receiver's command, the format of its output, and the expected contents."""
@@ -49,6 +74,8 @@ class StationTable:
     raw: Optional[str] = None
     rate: Optional[int] = None
     offset: float = 0
+    receiver: Optional[ReceiverTable] = None
+    equaliser: bool = False
     frequency: Optional[float] = None
     pi: Tuple[str, ...] = ()
     ps: Tuple[str, ...] = ()
@@ -61,8 +88,13 @@ class StationTable:
 
     def same_receiver(self, other: "StationTable") -> bool:
         """Whether the command and the form of its output are the same, so that it need not be restarted."""
-        names = ("name", "command", "form", "raw", "rate", "offset")
+        names = ("name", "command", "form", "raw", "rate", "offset", "receiver", "equaliser", "hertz")
         return all(getattr(self, name) == getattr(other, name) for name in names)
+
+    @property
+    def hertz(self) -> int:
+        """The frequency in a shared receiver's band."""
+        return round(1e6 * (self.frequency or 0)) if self.receiver else 0
 
 
 class Keep(NamedTuple):
@@ -81,6 +113,7 @@ class Table(NamedTuple):
     stations: Tuple[StationTable, ...]
     # that decodes, in place of librds
     program: Optional[str] = None
+    receivers: Tuple[ReceiverTable, ...] = ()
 
 
 # ---- values
@@ -161,10 +194,12 @@ JUDGES: Dict[str, Judge] = {
     "form": _one_of(("bits", "mpx", "iq")),
     "raw": _one_of(("s16", "f32", "u8")),
     "rate": _rule(
-        lambda value: _is_number(value, int) and value in SAMPLE_RATES,
-        f"{SAMPLE_RATES[0]} to {SAMPLE_RATES[-1]} samples per second are",
+        lambda value: _is_number(value, int) and value in RATES,
+        f"{RATES[0]} to {RATES[-1]} samples per second are",
         int,
     ),
+    "receiver": _rule(_is_text, "a text is", str),
+    "equaliser": _rule(lambda value: isinstance(value, bool), "true or false is", bool),
     "offset": _rule(lambda value: _is_number(value) and -3e6 < value < 3e6, "a number of Hz is", float),
     "frequency": _number,
     "pi": _rule(
@@ -181,6 +216,14 @@ JUDGES: Dict[str, Judge] = {
     ),
     "patience": _number,
     "alarm_command": _words,
+}
+# Keys of a receiver's own that a station of it does not have.
+OF_RECEIVER = ("command", "form", "raw", "rate", "offset", "patience")
+RECEIVER_JUDGES: Dict[str, Judge] = {
+    **{name: JUDGES[name] for name in ("command", "raw", "rate", "patience")},
+    "name": _text,
+    "form": _one_of(("iq",)),
+    "centre": _number,
 }
 KEPT = {"compress": _rule(lambda value: isinstance(value, bool), "true or false is", bool)}
 
@@ -216,23 +259,26 @@ def table_of(text: str) -> Table:
         given: Dict[str, Any] = toml.loads(text)
     except toml.TOMLDecodeError as error:
         raise Fault(f"this is no TOML: {error}") from None
-    _known(given, {"folder", "program", "keep", "defaults", "station"}, "the table")
+    _known(given, {"folder", "program", "keep", "defaults", "receiver", "station"}, "the table")
     folder, program = (_text(given[name], name) if name in given else None for name in ("folder", "program"))
     listed, defaults = given.get("station", []), given.get("defaults", {})
     if not isinstance(listed, list) or not listed:
         raise Fault("there is no [[station]]")
     if not isinstance(defaults, dict) or "name" in defaults:
         raise Fault("[defaults] has the keys of a station but its name")
-    stations = tuple(_station(entry, defaults, number) for number, entry in enumerate(listed, 1))
+    receivers = _receivers(given.get("receiver", []))
+    stations = tuple(_station(entry, defaults, number, receivers) for number, entry in enumerate(listed, 1))
     names = [station.name.casefold() for station in stations]
     for station in stations:
         if names.count(station.name.casefold()) > 1:
             raise Fault(f"there are two stations {station.name!r}")
+    stations = _tuned(stations, receivers)
     keep = _known(given.get("keep", {}), set(Keep._fields), "[keep]")
     kept = Keep(**{name: KEPT.get(name, _number)(value, f"keep.{name}") for name, value in keep.items()})
     if kept.compress:
         zstandard("keep.compress needs zstd: install python3-zstandard")
-    return Table(folder, kept, stations, program)
+    found = {station.receiver.name: station.receiver for station in stations if station.receiver}
+    return Table(folder, kept, stations, program, tuple(found.values()))
 
 
 def _known(given: Any, names: Set[str], of: str) -> Dict[str, Any]:
@@ -245,23 +291,99 @@ def _known(given: Any, names: Set[str], of: str) -> Dict[str, Any]:
     return given
 
 
-def _station(given: Any, defaults: Dict[str, Any], number: int) -> StationTable:
+def _receivers(listed: Any) -> Dict[str, ReceiverTable]:
+    """By name, without their stations."""
+    found: Dict[str, ReceiverTable] = {}
+    if not isinstance(listed, list):
+        raise Fault("receivers are tables [[receiver]]")
+    for number, given in enumerate(listed, 1):
+        name = given.get("name") if isinstance(given, dict) else None
+        of = f"receiver {name!r}" if isinstance(name, str) else f"the receiver number {number}"
+        values = _known(given, {*RECEIVER_JUDGES}, of)
+        for key in ("name", "command", "raw", "rate", "centre"):
+            if key not in values:
+                raise Fault(f"{of} has no {key!r}")
+        receiver = ReceiverTable(
+            **{key: RECEIVER_JUDGES[key](value, f"{key} of {of}") for key, value in values.items()}
+        )
+        if receiver.name in found:
+            raise Fault(f"there are two receivers {receiver.name!r}")
+        found[receiver.name] = receiver
+    return found
+
+
+def _tuned(
+    stations: Tuple[StationTable, ...], receivers: Dict[str, ReceiverTable]
+) -> Tuple[StationTable, ...]:
+    """The stations, whose receivers know all of theirs."""
+    whole: Dict[str, ReceiverTable] = {}
+    for name, receiver in receivers.items():
+        own = [station for station in stations if station.receiver and station.receiver.name == name]
+        if not own:
+            raise Fault(f"receiver {name!r} has no station")
+        tuned = tuple(sorted(Tuned(station.hertz, station.equaliser) for station in own))
+        for one, other in zip(tuned, tuned[1:]):
+            if one.hertz == other.hertz:
+                raise Fault(f"receiver {name!r} has two stations at {one.hertz / 1e6:g} MHz")
+        whole[name] = replace(receiver, tuned=tuned)
+    return tuple(
+        replace(station, receiver=whole[station.receiver.name]) if station.receiver else station
+        for station in stations
+    )
+
+
+def _station(
+    given: Any, defaults: Dict[str, Any], number: int, receivers: Dict[str, ReceiverTable]
+) -> StationTable:
     if not isinstance(given, dict):
         raise Fault("a [[station]] is a table")
     name = given.get("name")
     of = f"station {name!r}" if isinstance(name, str) else f"the station number {number}"
     merged = _known({**defaults, **given}, {*JUDGES, "alarms"}, of)
+    if "receiver" in merged:
+        merged = _of_receiver(given, merged, of, receivers)
     for key in ("name", "command"):
         if key not in merged:
             raise Fault(f"{of} has no {key!r}")
     limits = {**_alarms(defaults.get("alarms", {}), "[defaults]"), **_alarms(merged.pop("alarms", {}), of)}
     found = {key: JUDGES[key](value, f"{key} of {of}") for key, value in merged.items()}
+    if "receiver" in found:
+        found["receiver"] = receivers[found["receiver"]]
+    elif "equaliser" not in found:
+        # Of a receiver's only station.
+        found["equaliser"] = found.get("form") == "iq"
     station = StationTable(**found, alarms=replace(AlarmLimits(), **limits))
     _judge_form(station, of)
     return station
 
 
+def _of_receiver(
+    given: Dict[str, Any], merged: Dict[str, Any], of: str, receivers: Dict[str, ReceiverTable]
+) -> Dict[str, Any]:
+    """The keys of a station of a shared receiver, which has the rest of them, whatever the defaults are."""
+    receiver = receivers.get(merged["receiver"]) if isinstance(merged["receiver"], str) else None
+    if receiver is None:
+        raise Fault(f"{of}: there is no receiver {merged['receiver']!r}")
+    for key in OF_RECEIVER:
+        if key in given:
+            raise Fault(f"{of}: {key!r} is a key of its receiver")
+    if "frequency" not in merged:
+        raise Fault(f"{of} has no 'frequency', which its receiver needs")
+    frequency = _number(merged["frequency"], f"frequency of {of}")
+    if not is_inside(receiver.offset(frequency), receiver.rate):
+        reach = (receiver.rate / 2 - HALF_CHANNEL_HZ) / 1e6
+        band = f"{receiver.centre - reach:.10g} to {receiver.centre + reach:.10g} MHz"
+        raise Fault(
+            f"{of}: {frequency:g} MHz is not in the band of receiver {receiver.name!r}: that has {band}"
+        )
+    common = {"command": list(receiver.command), "form": receiver.form, "patience": receiver.patience}
+    common.update(raw=receiver.raw, rate=receiver.rate)
+    return {**{key: value for key, value in merged.items() if key not in OF_RECEIVER}, **common}
+
+
 def _judge_form(table: StationTable, of: str) -> None:
+    if table.form != "iq" and table.equaliser:
+        raise Fault(f"{of}: 'equaliser' is for the form iq")
     if table.form == "bits" and (table.raw is not None or table.rate is not None or table.offset):
         raise Fault(f"{of}: 'raw', 'rate' and 'offset' are for the forms mpx and iq")
     if table.form != "bits" and (table.raw is None or table.rate is None):

@@ -64,6 +64,13 @@ class Timing(NamedTuple):
         return math.ceil((utc - self.start) * self.rate)
 
 
+class Pace(NamedTuple):
+    """How many times as fast as 1187.5 per second bits come, and since when."""
+
+    factor: float
+    since: float
+
+
 class Arrivals:
     """The timing of a session by when its bits come.
 
@@ -76,6 +83,8 @@ class Arrivals:
     MOST = 1e-3  # by which a rate is off
     # Seconds of bits that a receiver may have had before it was started, and over which their pace is measured.
     BACKLOG, PACE, PACE_LEAST = 60.0, 30.0, 10.0
+    # By how many seconds of bits a read is off a straight line if the pace changed at it.
+    KNEE = 0.02
 
     def __init__(self, speed: float = 1.0, began: float = -math.inf):
         self.timing: Optional[Timing] = None
@@ -124,12 +133,15 @@ class Arrivals:
         """By how many seconds the last bits came before they can have been sent."""
         return max(0.0, -self._delays[-1][1]) if self._delays else 0.0
 
-    def pace(self) -> Optional[float]:
-        """How many times as fast as 1187.5 per second the last bits came, if they tell."""
+    def pace(self) -> Optional[Pace]:
+        """That of the last bits, if they tell. It changed at the read that is furthest from the line through the first and the last
+        one."""
         if len(self.reads) < 2 or self.reads[-1][0] - self.reads[0][0] < self.PACE_LEAST * self._speed:
             return None
         (first, begin), (last, end) = self.reads[0], self.reads[-1]
-        return (end - begin) / (last - first) / RATE
+        rate = (end - begin) / (last - first)
+        off, knee = max((abs(place - begin - rate * (utc - first)), utc) for utc, place in self.reads)
+        return Pace(rate / RATE, knee if off > self.KNEE * self._speed * RATE else first)
 
     def is_late(self) -> bool:
         return self.delay() > self.LATE * self._speed

@@ -10,7 +10,7 @@ from collections import deque
 from typing import Callable, Deque, Dict, Iterable, Iterator, List, NamedTuple, Optional, Sequence
 
 from .live import Append
-from .records import AlarmChanged, Record, Records, StateSeen
+from .records import AlarmChanged, PartOpened, Record, Records, StateSeen
 
 RETRY = 1.0
 # Of records that wait for the database; the oldest are given up first.
@@ -95,10 +95,8 @@ class Writer:
 
     def give(self, batch: Batch) -> None:
         self._rows += batch.appends
-        self._waiting = last_states([*self._waiting, *batch.records])
+        self._waiting = newest(last_states([*self._waiting, *batch.records]))
         self._after += batch.after
-        if len(self._waiting) > MOST_RECORDS:
-            del self._waiting[: len(self._waiting) - MOST_RECORDS]
 
     def work(self) -> bool:
         if self.news:
@@ -171,6 +169,12 @@ def last_states(records: Sequence[Record]) -> List[Record]:
     return [
         record for record in records if not isinstance(record, StateSeen) or last[record.station] is record
     ]
+
+
+def newest(records: List[Record]) -> List[Record]:
+    """At most MOST_RECORDS, and before them each part that opened, which later records name."""
+    over = max(0, len(records) - MOST_RECORDS)
+    return [record for record in records[:over] if isinstance(record, PartOpened)] + records[over:]
 
 
 class WriterThread(threading.Thread):

@@ -8,7 +8,8 @@ use Rattle.rds_live.specs.StreamDecoder.{HasHeard, LiveOf, report_at}
 use Rattle.rds_tool.specs.Refusals.{IsMemoryOrErrOf}
 use Rattle.rds_tool.specs.declared.error.ToolError.TheVariants.{BadGaps}
 use Rattle.rds_tool.proofs.CountedBytes.{bad_gaps, ends_alike, near_end, recorded}
-use Rattle.rds_tool.proofs.counting.Counter.finish.Goals.{After-may_end_after, Over}
+use Rattle.rds_tool.proofs.counting.Counter.finish.Given.{Over}
+use Rattle.rds_tool.proofs.counting.Counter.finish.Goals.{After-may_end_after}
 use Rattle.rds_tool.proofs.counting.Counter.finish.Goals as goal
 
 no_more : {X : Type 0} (b : Bool) → b ≡ false → b ≡ true → X
@@ -36,6 +37,18 @@ module _ (g : Over) (c : After-may_end_after g) where
       let s = c.self.inside in
       let near = near_end s.bits s.live s.count s.last s.bytes.bytes c.self.invariant short enough in
       omega (arith, near.0, place_is, c.claimed_bits-bits.ensures)
+
+  few : c.claimed_bits-bits.result - c.place.result ≤ 7
+  few =
+      let s = c.self.inside in
+      let near = near_end s.bits s.live s.count s.last s.bytes.bytes c.self.invariant short enough in
+      omega (arith, near.1, place_is, c.claimed_bits-bits.ensures)
+
+pub finish_with-requires-clause-held : goal.finish_with-requires-clause-held
+finish_with-requires-clause-held g c = omega (arith, few g (goal.at.finish_with-requires-clause-held g c).After-may_end_after)
+
+pub finish_with-requires-clause-few : goal.finish_with-requires-clause-few
+finish_with-requires-clause-few g c = omega (arith, few g (goal.at.finish_with-requires-clause-few g c).After-may_end_after)
 
 pub returns-then-not-may_end_after-clause-refused : goal.returns-then-not-may_end_after-clause-refused
 returns-then-not-may_end_after-clause-refused g c =

@@ -10,7 +10,8 @@ use Rattle.rds_tool.specs.Refusals.{IsMemoryOrErrOf}
 use Rattle.rds_tool.specs.declared.error.ToolError.{ToolError}
 use Rattle.rds_tool.specs.declared.error.ToolError.TheVariants.{HexText}
 use Rattle.rds_tool.proofs.CountedBytes.{decoded_whole, refused_half, refused_strange}
-use Rattle.rds_tool.proofs.counting.InputCounter.finish.Goals.{After-finish, Over, then-self-via-then-self, then-self-via-else-self+then-is_some}
+use Rattle.rds_tool.proofs.counting.InputCounter.finish.Given.{Over}
+use Rattle.rds_tool.proofs.counting.InputCounter.finish.Goals.{After-finish, then-self-via-then-self, then-self-via-else-self+then-is_some}
 use Rattle.rds_tool.proofs.counting.InputCounter.finish.Goals as goal
 
 pub returns-then-self-clause-refused : goal.returns-then-self-clause-refused

@@ -1,0 +1,1 @@
+"""Which stations a capture of IQ has, as a table and as a picture."""

@@ -1,0 +1,81 @@
+"""What `demod` writes: bits, and how well they were received."""
+
+from __future__ import annotations
+
+import argparse
+import json
+import time
+from typing import Any, Callable, Dict, TextIO
+
+import numpy
+
+from .pack import open_binary
+from .receiver import Receiver
+from .symbols import Bits
+
+
+class BitWriter:
+    """Writes bits, a byte each or packed; those that do not fill a byte wait."""
+
+    def __init__(self, path: str, unpacked: bool):
+        self._stream, self._unpacked = open_binary(path, "wb"), unpacked
+        self._rest: Bits = numpy.zeros(0, "u1")
+        self.written = 0
+
+    def push(self, bits: Bits, last: bool = False) -> None:
+        self.written += bits.size
+        if not self._unpacked:
+            bits = numpy.concatenate([self._rest, bits])
+            whole = bits.size if last else bits.size // 8 * 8
+            self._rest, bits = bits[whole:], numpy.packbits(bits[:whole])
+        self._stream.write(bits.tobytes())
+        self._stream.flush()
+
+
+class QualityLine:
+    """Reports on standard error: at the end, at times if asked, and on a terminal in one line that is overwritten."""
+
+    def __init__(self, arguments: argparse.Namespace, stream: TextIO, station: str = ""):
+        self._json, self._every, self._stream = arguments.json, arguments.every, stream
+        self._next = arguments.every or 0.0
+        # Several stations have no line of their own.
+        self._shows = stream.isatty() and not arguments.json and not arguments.every and not station
+        self._shown, self._prefix = 0.0, f"{station}: " if station else ""
+
+    def tell(self, seconds: float, report: Callable[[], Dict[str, Any]]) -> None:
+        if self._every and seconds >= self._next:
+            self._next = seconds + self._every
+            self.end(report())
+        elif self._shows and time.monotonic() - self._shown > 0.5:
+            self._shown = time.monotonic()
+            self._stream.write(f"\r{sentence(report())}\x1b[K")
+            self._stream.flush()
+
+    def end(self, told: Dict[str, Any]) -> None:
+        clear = "\r\x1b[K" if self._shows else ""
+        text = json.dumps(told) if self._json else f"rds-monitor demod: {self._prefix}{sentence(told)}"
+        self._stream.write(f"{clear}{text}\n")
+        self._stream.flush()
+
+
+def sentence(told: Dict[str, Any]) -> str:
+    if not told["locked"]:
+        return f"{told['seconds']} s, no RDS"
+    parts = [
+        f"{told['seconds']} s, {100 * told['received']:.1f} % of its bits in valid blocks",
+        f"coherent for {100 * told['locked']:.1f} % of it, from {told['first_lock_s']} s on",
+    ]
+    if told["snr_db"] is not None:
+        parts.append(f"signal to noise {told['snr_db']} dB")
+    parts.append(f"carrier {told['carrier_offset_hz']:+} Hz, clock {told['clock_offset_ppm']:+} ppm")
+    levels = {
+        "rds_khz": "deviation {} kHz",
+        "rds_to_pilot_db": "level {} dB relative to the pilot",
+        "rds_dbfs": "level {} dBFS",
+    }
+    parts += [text.format(told[name]) for name, text in levels.items() if told[name] is not None][:1]
+    return "; ".join(parts)
+
+
+def report_of(receiver: Receiver, bits: int) -> Dict[str, Any]:
+    return {**receiver.quality.report(), "bits": bits}

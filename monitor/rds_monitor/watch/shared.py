@@ -1,0 +1,131 @@
+"""A receiver that several stations share: one process of its command, and one that demodulates all of them."""
+
+from __future__ import annotations
+
+import os
+import re
+import sys
+from collections import deque
+from typing import Deque, Dict, List, Optional, Tuple
+
+from .receiver import Keeper, Launch
+from .table import ReceiverTable
+
+# Runs rds-monitor from the folder that is named first, whatever the paths of this process are.
+PROGRAM = "import sys; sys.path.insert(0, sys.argv.pop(1)); from rds_monitor.__main__ import run; run()"
+FREQUENCY = re.compile(rb'\{"frequency":(\d+),')
+
+
+def demodulator(table: ReceiverTable) -> Tuple[str, ...]:
+    """The command that gives lines with the bits of all stations."""
+    folder = os.path.dirname(os.path.dirname(os.path.dirname(os.path.abspath(__file__))))
+    words = [sys.executable, "-c", PROGRAM, folder, "demod", "--stations", "--raw", table.raw]
+    words += ["--rate", str(table.rate), "--centre", str(round(1e6 * table.centre))]
+    words += ["--at", ",".join(str(station.hertz) for station in table.tuned)]
+    equalised = ",".join(str(station.hertz) for station in table.tuned if station.equaliser)
+    return (*words, *(["--equalise", equalised] if equalised else []))
+
+
+class SharedReceiver:
+    """Keeps the command running. At each look it is read once, and the lines wait for their stations."""
+
+    def __init__(self, table: ReceiverTable, speed: float, launch: Launch, now: float):
+        self.table = table
+        through = demodulator(table)
+        self.keeper = Keeper(table.command, table.patience * speed, launch, now, through)
+        self._taps: Dict[int, Tap] = {}
+        self._rest = b""
+        self._read_at: Optional[float] = None
+        self.is_stopped = False
+
+    def tap(self, hertz: int, now: float) -> Tap:
+        self._taps[hertz] = Tap(self, now)
+        return self._taps[hertz]
+
+    def read(self, now: float) -> None:
+        if now == self._read_at:
+            return
+        self._read_at = now
+        data = self.keeper.read(now)
+        if data is None:
+            self._rest = b""
+            for tap in self._taps.values():
+                tap.waiting.append(None)
+        elif data:
+            self._share(self._rest + data)
+
+    def _share(self, data: bytes) -> None:
+        *lines, self._rest = data.split(b"\n")
+        found: Dict[int, List[bytes]] = {}
+        for line in lines:
+            of = FREQUENCY.match(line)
+            if of:
+                found.setdefault(int(of[1]), []).append(line + b"\n")
+        for hertz, own in found.items():
+            if hertz in self._taps:
+                self._taps[hertz].waiting.append(b"".join(own))
+
+    def stop(self, now: float, reason: str) -> None:
+        """For good, once no station takes part."""
+        if all(tap.is_stopped for tap in self._taps.values()):
+            self.is_stopped = True
+            self.keeper.stop(now, reason)
+
+
+class Tap:
+    """A station's part of a shared receiver, as if that were the keeper of a command of its own."""
+
+    def __init__(self, shared: SharedReceiver, now: float):
+        self._shared, self.last_byte = shared, now
+        self.waiting: Deque[Optional[bytes]] = deque()
+        self.is_stopped = False
+
+    def read(self, now: float) -> Optional[bytes]:
+        self._shared.read(now)
+        if not self.waiting:
+            return b""
+        data = self.waiting.popleft()
+        if data:
+            self.last_byte = now
+        return data
+
+    @property
+    def patience(self) -> float:
+        return self._shared.keeper.patience
+
+    @patience.setter
+    def patience(self, seconds: float) -> None:
+        self._shared.keeper.patience = seconds
+
+    @property
+    def starts(self) -> int:
+        return self._shared.keeper.starts
+
+    @property
+    def reason(self) -> str:
+        return self._shared.keeper.reason
+
+    @reason.setter
+    def reason(self, text: str) -> None:
+        self._shared.keeper.reason = text
+
+    @property
+    def is_running(self) -> bool:
+        """For a station that left while others go on, it does not."""
+        goes_on_without = self.is_stopped and not self._shared.is_stopped
+        return self._shared.keeper.is_running and not goes_on_without
+
+    @property
+    def is_stopping(self) -> bool:
+        return self._shared.keeper.is_stopping
+
+    def stop_run(self, now: float, reason: str) -> None:
+        """The run of all stations ends."""
+        self._shared.keeper.stop_run(now, reason)
+
+    def stop(self, now: float, reason: str) -> None:
+        self.is_stopped = True
+        self._shared.stop(now, reason)
+
+    def kill(self) -> None:
+        self._shared.keeper.kill()

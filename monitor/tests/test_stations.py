@@ -1,0 +1,253 @@
+"""The stations of a capture by command: `demod --stations`, and how its centre is known."""
+
+from __future__ import annotations
+
+import json
+import re
+import struct
+from pathlib import Path
+from typing import Any, Dict, List
+
+import pytest
+from captures import PROGRAMMES, SMALL_RATE, SMALL_SECONDS, Sent, captured, small_capture
+from conftest import monitor
+from made import peak_memory, run
+from measure_demod import whole_groups
+from modulator import stored, wav
+
+from rds_monitor.rows.items import Fault
+from rds_monitor.signal.centre import centre_in_name, frequency_of, frequency_text, sigmf_of
+
+pytestmark = pytest.mark.xdist_group("stations")
+RATE, SECONDS = SMALL_RATE, SMALL_SECONDS
+RAW = ("--stations", "--raw", "s16", "--rate", RATE)
+GROUPS = {f"{frequency / 1e6:g}M.bin": groups for frequency, groups in PROGRAMMES.items()}
+
+
+@pytest.fixture(scope="module")
+def capture() -> bytes:
+    return small_capture()
+
+
+def told(error: bytes) -> Dict[str, Any]:
+    return {line["frequency"]: line for line in map(json.loads, error.decode().splitlines())}
+
+
+def right(name: str, bits: bytes) -> int:
+    """How many of the groups were sent."""
+    return sum(group in GROUPS[name] for group in whole_groups(bits))
+
+
+def received_in(folder: Path) -> Dict[str, int]:
+    """By file."""
+    names = sorted(path.name for path in folder.iterdir())
+    return {name: right(name, (folder / name).read_bytes()) for name in names}
+
+
+AUXI = b"auxi" + struct.pack("<I", 68) + bytes(32) + struct.pack("<I", 97950000) + bytes(32)
+
+
+def test_stations_that_are_found(capture: bytes, tmp_path: Path) -> None:
+    """The centre is in the header. Each has a file, and a line of the report."""
+    path = tmp_path / "capture.wav"
+    path.write_bytes(wav(capture, "s16", RATE, channels=2, more=AUXI))
+    done = monitor("demod", "--stations", "--json", "--output", tmp_path / "bits", path)
+    assert done.returncode == 0, done.stderr
+    found = received_in(tmp_path / "bits")
+    assert list(found) == ["97.8M.bin", "98.1M.bin"] and min(found.values()) >= 18
+    report = told(done.stderr)
+    levels = {frequency: line["level_dbfs"] for frequency, line in report.items()}
+    # In integers a third of an amplitude of 1.
+    assert levels == {97800000: pytest.approx(-24.5, abs=1), 98100000: pytest.approx(-9.5, abs=1)}
+    assert all(line["bits"] >= 23 * 104 - 200 and line["snr_db"] > 15 for line in report.values())
+
+
+def test_named_stations_from_a_pipe(capture: bytes) -> None:
+    """Without a folder, lines have the bits as they come."""
+    words_ = (*RAW, "--centre", "97.95M", "--at", "98.1M,97.8M", "--equalise", "97.8M")
+    done = monitor("demod", *words_, data=2 * capture)
+    assert done.returncode == 0, done.stderr
+    lines = [json.loads(line) for line in done.stdout.decode().splitlines()]
+    for name, frequency in (("98.1M.bin", 98100000), ("97.8M.bin", 97800000)):
+        own = [line for line in lines if line["frequency"] == frequency]
+        bits = bytes.fromhex("".join(line["bits"] for line in own))
+        assert right(name, bits) >= 36
+        assert own[-1]["seconds"] == 2 * SECONDS and len(own) >= 4
+        assert all(line["level_dbfs"] is not None for line in own[:-1])
+    assert b"98.1M: 3.8 s, " in done.stderr
+
+
+def test_a_station_alone_is_the_same(capture: bytes) -> None:
+    """As `demod --offset` gives it."""
+    (one,) = (
+        json.loads(line)["bits"]
+        for line in [
+            monitor("demod", *RAW, "--centre", 0, "--at", "150k", data=capture).stdout.splitlines()[0]
+        ]
+    )
+    plain = monitor(
+        "demod", "--iq", *RAW[1:], "--offset", 150000, "--no-equaliser", "--output", "-", data=capture
+    )
+    assert plain.stdout.startswith(bytes.fromhex(one)) and len(one) > 100
+
+
+def test_memory_and_an_input_without_end(capture: bytes, tmp_path: Path) -> None:
+    """Stations without RDS are left out after some seconds, and memory does not grow."""
+    options = (*map(str, RAW), "--centre", "97.95M", "--output", str(tmp_path))
+    before, after = (peak_memory("demod", *options, data=capture * times) for times in (4, 9))
+    assert after < before + 4000 and after < 150000
+    assert sorted(path.name for path in tmp_path.iterdir()) == ["97.8M.bin", "98.1M.bin"]
+
+
+# ---- the command `stations`
+
+
+SHOWN = ("--raw", "s16", "--rate", RATE, "--centre", "97.95M")
+
+
+def test_the_table(capture: bytes) -> None:
+    done = monitor("stations", *SHOWN, data=capture)
+    assert done.returncode == 0, done.stderr
+    head, *rows = (line.split(maxsplit=4) for line in done.stdout.decode().splitlines())
+    assert head[0] == "frequency" and [row[:1] + row[3:] for row in rows] == [
+        ["97.8M", "D319", "<B> & C"],
+        ["98.1M", "D318", "ALPHA"],
+    ]
+
+
+def test_json_without_a_centre(capture: bytes) -> None:
+    """Frequencies are offsets. Of an input that is cut off what was found is told, and the fault."""
+    data = wav(capture, "s16", RATE, channels=2)[:-1000]
+    done = monitor("stations", "--json", data=data)
+    found = [json.loads(line) for line in done.stdout.splitlines()]
+    assert [(one["frequency"], one["pi"]) for one in found] == [(-150000, "D319"), (150000, "D318")]
+    assert done.returncode == 1 and b"the file is cut off" in done.stderr
+
+
+def test_the_picture(capture: bytes) -> None:
+    """The marks are where the spectrum has its humps; what stations say is text, and no script may run."""
+    page = monitor("stations", *SHOWN, "--html", data=capture).stdout.decode()
+    assert "default-src 'none'; style-src 'sha256-" in page and "<script" not in page
+    assert "2 stations in 0.6 MHz around 97.95M" in page and "&lt;B&gt; &amp; C" in page and "<B>" not in page
+    (line,) = re.findall(r'<polyline points="([^"]+)"', page)
+    points = [tuple(map(float, point.split(","))) for point in line.split()]
+    marks = [float(at) for at in re.findall(r'class="mark" x1="([\d.]+)"', page)]
+    assert marks == [pytest.approx(1200 * (300 + at) / 600, abs=5) for at in (-150, 150)]
+    for mark in marks:
+        near = [y for x, y in points if abs(x - mark) < 100]
+        beside = [y for x, y in points if 150 < abs(x - mark) < 250]
+        assert min(near) < min(beside)
+
+
+def test_no_station() -> None:
+    silence = bytes(4 * RATE // 8)
+    for more, shown in (([], b""), (["--html"], b"0 stations in 0.6 MHz")):
+        done = monitor("stations", *SHOWN, *more, data=silence)
+        assert done.returncode == 1 and shown in done.stdout and b"no station was found" in done.stderr
+    assert b"--raw needs --rate" in monitor("stations", "--raw", "u8").stderr
+
+
+# ---- errors
+
+
+def test_stations_without_rds() -> None:
+    """An input without end is not read on after the seconds in which none was found."""
+    quiet = stored(captured([Sent(50e3, b"")], RATE, SECONDS, -60), "s16")
+    for times in (1, 4):
+        done = monitor("demod", *RAW, data=times * quiet)
+        assert done.returncode == 1 and done.stdout == b""
+        assert done.stderr == b"rds-monitor demod: no station with RDS was found\n"
+
+
+FAULTS = [
+    (["--at", "98.1M"], "the centre of the capture is not known: name it by --centre"),
+    (
+        ["--centre", "97.95M", "--at", "98.2M"],
+        "98.2M is not in the band: it has stations from 97.75M to 98.15M",
+    ),
+    (["--centre", "0", "--at", "10k,10k"], "0.01M is named twice"),
+    (["--centre", "0", "--at", "10k,x"], "'x' is no frequency such as 98.1M"),
+    (["--centre", "0", "--at", "10k", "--equalise", "20k"], "0.02M is equalised, but is no station"),
+    (["--centre", "0", "--at", "10k"], "no RDS was found at any frequency"),
+    ([], "no station was found"),
+]
+
+
+@pytest.mark.parametrize(("more", "fault"), FAULTS, ids=range(len(FAULTS)))
+def test_faults(more: List[str], fault: str) -> None:
+    done = monitor("demod", *RAW, *more, data=bytes(4 * RATE // 8))
+    assert done.returncode == 1 and fault in done.stderr.decode()
+
+
+@pytest.mark.parametrize(
+    "words_",
+    [
+        ["--at", "98.1M", "--iq"],
+        ["--stations", "--offset", "3"],
+        ["--stations", "--unpacked"],
+        ["--stations", "--centre", "98X"],
+    ],
+)
+def test_misuse(words_: List[str]) -> None:
+    assert run("demod", "--raw", "u8", "--rate", "600000", *words_).status == 2
+
+
+# ---- the centre
+
+
+@pytest.mark.parametrize(
+    ("name", "centre"),
+    [
+        ("SDRSharp_20261129_120000Z_98100000Hz_IQ.wav", 98100000),
+        ("HDSDR_20261129_120000Z_98100kHz_RF.wav", 98100000),
+        ("29-Nov-2026 120000.123 98.100MHz 000.wav", 98100000),
+        ("gqrx_20261129_120000_98100000_2400000_fc.raw", 98100000),
+        ("monday_2400000.u8", None),
+    ],
+)
+def test_names(name: str, centre: Any) -> None:
+    assert centre_in_name(f"/somewhere/10MHz/{name}") == centre
+
+
+def test_the_chunk_of_sdr_console(capture: bytes, tmp_path: Path) -> None:
+    text = '<SDR-XML-Root><Definition RadioCenterFreq="97950000"/></SDR-XML-Root>'.encode("utf-16-le")
+    path = tmp_path / "capture.wav"
+    chunk = b"auxi" + struct.pack("<I", len(text)) + text
+    path.write_bytes(wav(capture[: RATE * 2], "s16", RATE, channels=2, more=chunk))
+    done = monitor("demod", "--stations", "--at", "98.1M", "--json", path)
+    assert list(told(done.stderr)) == [98100000]
+
+
+def test_sigmf(capture: bytes, tmp_path: Path) -> None:
+    """It tells the form and the rate too. Either file may be named."""
+    told_ = {
+        "global": {"core:datatype": "ci16_le", "core:sample_rate": 600e3},
+        "captures": [{"core:frequency": 97.95e6}],
+    }
+    data, meta = (tmp_path / f"capture.sigmf-{name}" for name in ("data", "meta"))
+    data.write_bytes(capture[: RATE * 2])
+    meta.write_text(json.dumps(told_))
+    for path in (data, meta):
+        done = monitor("demod", "--stations", "--at", "98.1M", "--json", path)
+        assert list(told(done.stderr)) == [98100000], done.stderr
+    meta.write_text(json.dumps({**told_, "global": {"core:datatype": "rf32_le", "core:sample_rate": 1}}))
+    with pytest.raises(Fault, match="samples rf32_le are not read"):
+        sigmf_of(str(data))
+    meta.write_text("{}")
+    with pytest.raises(Fault, match="is no description of a recording"):
+        sigmf_of(str(data))
+    meta.unlink()
+    assert sigmf_of(str(data)) is None
+
+
+def test_frequencies() -> None:
+    for text, hertz in (("98.1M", 98.1e6), ("98100k", 98.1e6), ("98100000", 98.1e6), ("-0.2M", -2e5)):
+        assert frequency_of(text) == hertz
+    assert [frequency_text(98.05e6), frequency_text(1e8), frequency_text(3e5, False)] == [
+        "98.05M",
+        "100M",
+        "+0.3M",
+    ]
+    for text in ("", "98.1 MHz", "nan", "1e99"):
+        with pytest.raises(Fault):
+            frequency_of(text)
