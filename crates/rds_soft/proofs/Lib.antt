@@ -1,0 +1,2 @@
+pub mod LightestLemmas
+pub mod SecondLemmas
