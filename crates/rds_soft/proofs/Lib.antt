@@ -1,2 +1,4 @@
 pub mod LightestLemmas
 pub mod SecondLemmas
+pub mod FlipLemmas
+pub mod RowLemmas

@@ -3,5 +3,6 @@
 
 mod correction; // A block that was turned.
 mod lightest; // The rows of least weights.
+mod look_back; // The lightest flips, from these rows.
 
 pub use correction::Correction;

@@ -1,13 +1,22 @@
 -- The rows of least weights.
-use Rattle.std.specs.Prelude.{◌≡◌, ℕ, ◌+◌, ◌<◌, ◌≤◌, length, slice_index, List, bit_xor, min}
-use Rattle.rds_soft.specs.Inside.Lightest.{least}
+use Rattle.std.specs.Prelude.{◌≡◌, ℕ, zero, suc, ◌+◌, ◌<◌, ◌≤◌, length, slice_index, get_or, List, [], bit_xor, min}
+use Rattle.rds_soft.specs.Inside.Lightest.{least, of_none, lightest, second}
+
+-- the row of no symbols
+pub record IsFirst (row : List ℕ) : Type 0 where
+  pub long : length row ≡ 1024
+  pub each : (s : ℕ) → s < 1024 → slice_index row s ≡ of_none s
 
 -- each of the next row is the lesser of the two ways to its sum
 abbrev pub Follows : List ℕ → ℕ → ℕ → List ℕ → Type 0
-Follows row e c next = (s : ℕ) → s < length next
+Follows row e c next = (s : ℕ) → s < 1024
     → slice_index next s ≡ min (slice_index row s) (slice_index row (bit_xor s e) + c)
 
 -- a row has the least weights of the flips of the last n symbols, by their sum
 pub record AreLeast (e c : ℕ → ℕ) (n : ℕ) (row : List ℕ) : Type 0 where
   pub long : length row ≡ 1024
   pub each : (s : ℕ) → s < 1024 → slice_index row s ≡ least e c n s
+
+-- row n has those of the last n symbols, for each n below 27
+abbrev pub AreRows : (ℕ → ℕ) → (ℕ → ℕ) → List (List ℕ) → Type 0
+AreRows e c rows = (n : ℕ) → n < 27 → AreLeast e c n (get_or rows n [])
