@@ -2,3 +2,5 @@ pub mod LightestLemmas
 pub mod SecondLemmas
 pub mod FlipLemmas
 pub mod RowLemmas
+pub mod WalkLemmas
+pub mod StepLemmas

@@ -1,53 +1,68 @@
 //! The lightest flips, from the rows of least weights.
-ghost use Rattle.std.specs.Prelude.{◌≡◌, ◌<◌, length};
+ghost use Rattle.std.specs.Prelude.{◌≡◌, ◌<◌, ◌+◌, length};
 ghost use Rattle.rds_soft.specs.Inside.Lightest.{effect as the_effect, confidence, least, lightest, second};
-ghost use Rattle.rds_soft.specs.Inside.Rows.{AreRows};
+ghost use Rattle.rds_soft.specs.Inside.Rows.{AreRows, IsWalk};
 
 use crate::lightest::{Row, SYMBOLS, effect};
 
-/// The lightest flips with a sum.
+/// A look back from the first symbol, as far as it has come; at the end, the lightest flips.
 #[derive(Clone, Copy)]
-pub(crate) struct Lightest {
-    /// The flips, the first symbol highest.
+pub(crate) struct Walk {
+    /// The sum that the flips of the symbols from here on must have.
+    pub(crate) left: u16,
+    /// The flips of the symbols before, the first symbol highest.
     pub(crate) flips: u32,
-    /// Their weight; 255 if it is more, or if there are none.
+    /// Their weight. At the end 255 if it is more, or if no flips have the sum.
     pub(crate) weight: u16,
-    /// The least weight of any other flips with this sum, or 255 in the same way.
+    /// The least weight of other flips, which differ at a symbol before; 255 in the same way.
     pub(crate) others: u16,
 }
 
 /// The lightest flips of 27 symbols whose effects have this sum.
-pub(crate) fn look_back(rows: &[Row], confidences: &[u8], sum: u16) -> Lightest
+pub(crate) fn look_back(rows: &[Row], confidences: &[u8], sum: u16) -> Walk
     requires rows { length rows.now ≡ 27 }
     requires symbols { length confidences.now ≡ 27 }
     requires sum { sum < 1024 }
     requires least { AreRows the_effect (confidence confidences.now) rows.now }
-    ensures weight { result.weight ≡ least the_effect (confidence confidences.now) 27 sum }
-    ensures flips { result.flips ≡ lightest the_effect (confidence confidences.now) 27 sum }
-    ensures others { result.others ≡ second the_effect (confidence confidences.now) 27 sum }
+    ensures { IsWalk the_effect (confidence confidences.now) sum 0 result.left result.flips result.weight result.others }
 {
-    let mut sum = sum;
-    let mut flips = 0u32;
-    let mut weight = 0u16;
-    let mut others = 255u16;
+    let mut walk = Walk {
+        left: sum,
+        flips: 0,
+        weight: 0,
+        others: 255,
+    };
     for back in 0..SYMBOLS {
-        let n = SYMBOLS - 1 - back;
-        let turned = sum ^ effect(n);
-        let kept_weight = u16::from(rows[n][sum as usize]);
-        let confidence = u16::from(confidences[back]);
-        let turned_weight = u16::from(rows[n][turned as usize]) + confidence;
-        if turned_weight < kept_weight {
-            others = others.min(weight + kept_weight);
-            sum = turned;
-            flips += 1 << n;
-            weight += confidence;
-        } else {
-            others = others.min(weight + turned_weight);
-        }
+        walk = one_back(rows, confidences, sum, walk, SYMBOLS - 1 - back);
     }
-    Lightest {
-        flips,
-        weight,
-        others,
+    walk
+}
+
+/// The walk past symbol `n` by its place from the last.
+#[inline(always)]
+fn one_back(rows: &[Row], confidences: &[u8], sum: u16, walk: Walk, n: usize) -> Walk
+    requires rows { length rows.now ≡ 27 }
+    requires symbols { length confidences.now ≡ 27 }
+    requires least { AreRows the_effect (confidence confidences.now) rows.now }
+    requires place { n < 27 }
+    requires walk { IsWalk the_effect (confidence confidences.now) sum (n + 1) walk.left walk.flips walk.weight walk.others }
+    ensures { IsWalk the_effect (confidence confidences.now) sum n result.left result.flips result.weight result.others }
+{
+    let turned = walk.left ^ effect(n);
+    let confidence = u16::from(confidences[SYMBOLS - 1 - n]);
+    let kept_weight = u16::from(rows[n][walk.left as usize]);
+    let turned_weight = u16::from(rows[n][turned as usize]) + confidence;
+    if turned_weight < kept_weight {
+        Walk {
+            left: turned,
+            flips: walk.flips + (1 << n),
+            weight: walk.weight + confidence,
+            others: walk.others.min(walk.weight + kept_weight),
+        }
+    } else {
+        Walk {
+            others: walk.others.min(walk.weight + turned_weight),
+            ..walk
+        }
     }
 }

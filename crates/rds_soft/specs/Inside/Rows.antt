@@ -20,3 +20,12 @@ pub record AreLeast (e c : ℕ → ℕ) (n : ℕ) (row : List ℕ) : Type 0 wher
 -- row n has those of the last n symbols, for each n below 27
 abbrev pub AreRows : (ℕ → ℕ) → (ℕ → ℕ) → List (List ℕ) → Type 0
 AreRows e c rows = (n : ℕ) → n < 27 → AreLeast e c n (get_or rows n [])
+
+-- the look back from the sum s at symbol m - 1: flips of the symbols before it, their weight, the sum that is left, and the
+-- least weight of others that differ at a symbol before it
+pub record IsWalk (e c : ℕ → ℕ) (s m left flips spent others : ℕ) : Type 0 where
+  pub left_small : left < 1024
+  pub flips_are : lightest e c 27 s ≡ flips + lightest e c m left
+  pub weight_is : least e c 27 s ≡ spent + least e c m left
+  pub others_are : second e c 27 s ≡ min others (spent + second e c m left)
+  pub most : others ≤ 255
