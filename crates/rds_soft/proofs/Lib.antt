@@ -4,3 +4,4 @@ pub mod FlipLemmas
 pub mod RowLemmas
 pub mod WalkLemmas
 pub mod StepLemmas
+pub mod NearestLemmas
