@@ -215,3 +215,67 @@ C_or_Cx B own = absurd (omega (arith, own))
 C_or_Cx C own = inl refl
 C_or_Cx Cx own = inr refl
 C_or_Cx D own = absurd (omega (arith, own))
+
+pub word_small : (o : Offset) → word o < 1024
+word_small A = omega arith
+word_small B = omega arith
+word_small C = omega arith
+word_small Cx = omega arith
+word_small D = omega arith
+
+-- ---- block 3 of either version
+
+pub nearer_C : IsLinear → (w : ℕ) (confidences : List ℕ) (f g a b m n : ℕ) → TurnTo w confidences C f a m
+    → TurnTo w confidences Cx g b n → a ≤ b → AreNearest w 3 Either confidences C f a (min m b)
+nearer_C linear w confidences f g a b m n h k le =
+    nearer_of_two linear w 3 Either confidences C Cx f g a b m n refl refl refl refl (λ same. absurd (omega (arith, same))) C_or_Cx h k le
+
+pub nearer_Cx : IsLinear → (w : ℕ) (confidences : List ℕ) (f g a b m n : ℕ) → TurnTo w confidences C f a m
+    → TurnTo w confidences Cx g b n → b ≤ a → AreNearest w 3 Either confidences Cx g b (min n a)
+nearer_Cx linear w confidences f g a b m n h k le =
+    nearer_of_two linear w 3 Either confidences Cx C g f b a n m refl refl refl refl (λ same. absurd (omega (arith, same)))
+    (λ p own. elim (C_or_Cx p own) [ inl same ↦ inr same | inr same ↦ inl same ]) k h le
+
+-- the same by other names
+pub renamed : (w x : ℕ) (wanted : Wanted) (confidences : List ℕ) (o p : Offset) (f g a b m n : ℕ) → o ≡ p → f ≡ g → a ≡ b → m ≡ n
+    → AreNearest w x wanted confidences p g b n → AreNearest w x wanted confidences o f a m
+renamed w x wanted confidences o p f g a b m n same_o same_f same_a same_m h =
+    subst (λ (k : Offset). AreNearest w x wanted confidences k f a m) (sym same_o)
+    (subst (λ (k : ℕ). AreNearest w x wanted confidences p k a m) (sym same_f)
+    (subst (λ (k : ℕ). AreNearest w x wanted confidences p g k m) (sym same_a)
+    (subst (λ (k : ℕ). AreNearest w x wanted confidences p g b k) (sym same_m) h)))
+
+-- ---- a block with one wanted offset, by the offset of the turn
+
+pub at_one : IsLinear → (w x : ℕ) (wanted : Wanted) (confidences : List ℕ) (o p : Offset) (flips least others : ℕ) → p ≡ o
+    → number o ≡ x → IsTrue (allows wanted o) → ((p : Offset) → number p ≡ x → IsTrue (allows wanted p) → p ≡ o)
+    → TurnTo w confidences o flips least others → AreNearest w x wanted confidences p flips least others
+at_one linear w x wanted confidences o p flips least others same own allowed alone h =
+    subst (λ (k : Offset). AreNearest w x wanted confidences k flips least others) (sym same)
+    (only_one linear w x wanted confidences o flips least others own allowed alone h)
+
+pub A_allowed : (wanted : Wanted) → IsTrue (allows wanted A)
+A_allowed OnlyC = refl
+A_allowed OnlyCx = refl
+A_allowed Either = refl
+
+pub B_allowed : (wanted : Wanted) → IsTrue (allows wanted B)
+B_allowed OnlyC = refl
+B_allowed OnlyCx = refl
+B_allowed Either = refl
+
+pub D_allowed : (wanted : Wanted) → IsTrue (allows wanted D)
+D_allowed OnlyC = refl
+D_allowed OnlyCx = refl
+D_allowed Either = refl
+
+-- a block that is not 1, 2 or 4
+pub is_third : (n m : ℕ) → m ≡ n → 1 ≤ m → m ≤ 4 → (m ≢ 1) → (m ≢ 2) → (m ≢ 4) → n ≡ 3
+is_third n m same low high one two four = omega (arith, same, low, high, one, two, four)
+
+-- block 3, by its number and what is wanted
+pub of_third : (w n : ℕ) (wanted given : Wanted) (confidences : List ℕ) (o : Offset) (flips least others : ℕ) → n ≡ 3 → given ≡ wanted
+    → AreNearest w 3 wanted confidences o flips least others → AreNearest w n given confidences o flips least others
+of_third w n wanted given confidences o flips least others is same h =
+    subst (λ (x : ℕ). AreNearest w x given confidences o flips least others) (sym is)
+    (subst (λ (k : Wanted). AreNearest w 3 k confidences o flips least others) (sym same) h)
