@@ -1,5 +1,5 @@
 -- Flips of symbols, by the remainder of their mask: the sum of the effects.
-use Rattle.std.proofs.Common.{◌≡◌, ℕ, zero, suc, ◌+◌, ◌*◌, ◌/◌, ◌%◌, ◌^◌, ◌<◌, List, refl, sym, ap, ap₂, ◌∙◌, arith, bit_xor, inl, inr, subst}
+use Rattle.std.proofs.Common.{◌≡◌, ℕ, zero, suc, ◌+◌, ◌*◌, ◌/◌, ◌%◌, ◌^◌, ◌<◌, List, sym, ap, ◌∙◌, arith, bit_xor, inl, inr}
 use Rattle.std.specs.Int.Bits.{xor_self, xor_assoc, xor_shifted}
 use Rattle.std.proofs.lemmas.Nat.{xor_comm, xor_shr, xor_mod}
 use Rattle.rds_code.specs.Remainder.{rem}
@@ -72,13 +72,13 @@ are_lightest linear confidences s =
     let c : ℕ → ℕ = confidence confidences in
     record {
       found = λ near.
-        let h : Weighs effect c 27 s (lightest effect c 27 s) (least effect c 27 s) = lightest_reached effect c 27 s near in
-        (reach_leads linear s (lightest effect c 27 s) h.reach, weight_is confidences (lightest effect c 27 s) ∙ h.weight);
+          let h : Weighs effect c 27 s (lightest effect c 27 s) (least effect c 27 s) = lightest_reached effect c 27 s near in
+          (reach_leads linear s (lightest effect c 27 s) h.reach, weight_is confidences (lightest effect c 27 s) ∙ h.weight);
       none_lighter = λ any leads.
-        omega (arith, weight_is confidences any, least_below effect c 27 s any (leads_reach linear s any leads));
+          omega (arith, weight_is confidences any, least_below effect c 27 s any (leads_reach linear s any leads));
       others_weigh = λ any leads apart.
-        omega (arith, weight_is confidences any, others_weigh effect c 27 s any (leads_reach linear s any leads) apart);
+          omega (arith, weight_is confidences any, others_weigh effect c 27 s any (leads_reach linear s any leads) apart);
       other = λ near.
-        let h = second_reached effect c 27 s near in
-        (h.0, reach_leads linear s h.0 h.1.reach, h.2, weight_is confidences h.0 ∙ h.1.weight);
+          let h = second_reached effect c 27 s near in
+          (h.0, reach_leads linear s h.0 h.1.reach, h.2, weight_is confidences h.0 ∙ h.1.weight);
     }

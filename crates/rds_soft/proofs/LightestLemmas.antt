@@ -1,13 +1,12 @@
 -- The least weight is below that of any flips, the lightest flips have it, and all others weigh at least the second.
-use Rattle.std.proofs.Common.{◌≡◌, ◌≢◌, ℕ, zero, suc, ◌+◌, ◌-◌, ◌*◌, ◌^◌, ◌<◌, ◌≤◌, Bool, true, false, refl, sym, ap, ap₂, ◌∙◌, arith, bit_xor, subst, min, ◌⊎◌, inl, inr, nat_lt, lit<}
+use Rattle.std.proofs.Common.{◌≡◌, ℕ, zero, suc, ◌+◌, ◌-◌, ◌*◌, ◌^◌, ◌<◌, ◌≤◌, Bool, true, false, refl, sym, ap, ap₂, ◌∙◌, arith, bit_xor, subst, min, ◌⊎◌, inl, inr, lit<}
 use Rattle.std.specs.Int.{bit_at}
-use Rattle.std.specs.Int.Bits.{xor_self, xor_zero_r, xor_zero_l, xor_assoc}
-use Rattle.std.proofs.Math.Pow.{pow_pos}
+use Rattle.std.specs.Int.Bits.{xor_self, xor_zero_r, xor_assoc}
 use Rattle.std.proofs.Math.Nat.{pow-suc, zero-mul, one-mul, min-le_left, min-le_right}
-use Rattle.std.proofs.lemmas.Bool.{cases_lt, cases_eq}
+use Rattle.std.proofs.lemmas.Bool.{cases_lt}
 use Rattle.std.proofs.lemmas.Nat.{xor_comm}
-use Rattle.std.proofs.lemmas.Nat.Bits.{bit_at-lt, bit_at_cat_low, bit_at_cat_high, bit_at_lowest}
-use Rattle.rds_soft.specs.Inside.Lightest.{sum_of, weigh, of_none, least, is_flipped, lightest, second}
+use Rattle.std.proofs.lemmas.Nat.Bits.{bit_at_cat_low, bit_at_cat_high, bit_at_lowest}
+use Rattle.rds_soft.specs.Inside.Lightest.{sum_of, weigh, of_none, least, is_flipped, second}
 
 -- to take away what was added
 pub undone : (a b : ℕ) → bit_xor (bit_xor a b) b ≡ a
@@ -25,11 +24,15 @@ pub record IsSplit (n flips bit rest : ℕ) : Type 0 where
 pub split_word : (n flips : ℕ) → flips < 2 ^ suc n → (bit : ℕ) × (rest : ℕ) × IsSplit n flips bit rest
 split_word n flips small = elim (cases_lt flips (2 ^ n)) [
   | inl low ↦ (0, flips, record { bit_is = inl refl; rest_small = low; whole = omega arith })
-  | inr high ↦ (1, flips - 2 ^ n, record {
+  | inr high ↦ (
+    1,
+    flips - 2 ^ n,
+    record {
       bit_is = inr refl;
       rest_small = omega (arith, high, small, pow-suc 2 n);
       whole = omega (arith, high);
-    })
+    },
+  )
 ]
 
 -- the lower bits alone count for the lower symbols
@@ -139,20 +142,23 @@ pub record Turned (e c : ℕ → ℕ) (n s flips rest : ℕ) : Type 0 where
 pub ways : (e c : ℕ → ℕ) (n s flips : ℕ) → Reach e (suc n) s flips → Kept e c n s flips ⊎ ((rest : ℕ) × Turned e c n s flips rest)
 ways e c n s flips h = elim (cases_lt flips (2 ^ n)) [
   | inl low ↦ inl (record {
-      reach = record { small = low; sum = sym (ap (sum_of e (suc n)) (omega (arith)) ∙ sum_without e n flips low) ∙ h.sum };
-      weight = kept_weighs c n flips flips low refl;
-    })
+    reach = record { small = low; sum = sym (ap (sum_of e (suc n)) (omega (arith)) ∙ sum_without e n flips low) ∙ h.sum };
+    weight = kept_weighs c n flips flips low refl;
+  })
   | inr high ↦
       let rest : ℕ = flips - 2 ^ n in
       let whole : flips ≡ 2 ^ n + rest = omega (arith, high) in
       let product : flips ≡ 1 * 2 ^ n + rest = omega (arith, whole) in
       let small : rest < 2 ^ n = omega (arith, h.small, pow-suc 2 n, whole) in
       let sum : bit_xor (sum_of e n rest) (e n) ≡ s = sym (ap (sum_of e (suc n)) product ∙ sum_with e n rest small) ∙ h.sum in
-      inr (rest, record {
-        whole = whole;
-        reach = record { small = small; sum = sym (undone (sum_of e n rest) (e n)) ∙ ap (λ (x : ℕ). bit_xor x (e n)) sum };
-        weight = turned_weighs c n rest flips small whole;
-      })
+      inr (
+        rest,
+        record {
+          whole = whole;
+          reach = record { small = small; sum = sym (undone (sum_of e n rest) (e n)) ∙ ap (λ (x : ℕ). bit_xor x (e n)) sum };
+          weight = turned_weighs c n rest flips small whole;
+        },
+      )
 ]
 
 -- no flips weigh less than the least weight
@@ -160,8 +166,16 @@ pub least_below : (e c : ℕ → ℕ) (n s flips : ℕ) → Reach e n s flips �
 unfolding least weigh sum_of
 least_below e c zero s flips h = subst (λ (x : ℕ). of_none x ≤ 0) h.sum (omega arith)
 least_below e c (suc n) s flips h = elim (ways e c n s flips h) [
-  | inl way ↦ omega (arith, way.weight, least_below e c n s flips way.reach,
-      min-le_left (least e c n s) (least e c n (bit_xor s (e n)) + c n))
-  | inr way ↦ omega (arith, way.1.weight, least_below e c n (bit_xor s (e n)) way.0 way.1.reach,
-      min-le_right (least e c n s) (least e c n (bit_xor s (e n)) + c n))
+  | inl way ↦ omega (
+    arith,
+    way.weight,
+    least_below e c n s flips way.reach,
+    min-le_left (least e c n s) (least e c n (bit_xor s (e n)) + c n),
+  )
+  | inr way ↦ omega (
+    arith,
+    way.1.weight,
+    least_below e c n (bit_xor s (e n)) way.0 way.1.reach,
+    min-le_right (least e c n s) (least e c n (bit_xor s (e n)) + c n),
+  )
 ]

@@ -1,5 +1,5 @@
 -- From the lightest flips of each offset to the nearest block.
-use Rattle.std.proofs.Common.{◌≡◌, ◌≢◌, ℕ, zero, suc, ◌+◌, ◌<◌, ◌≤◌, List, refl, sym, ap, ◌∙◌, arith, rules, bit_xor, min, subst, ◌⊎◌, inl, inr, IsTrue}
+use Rattle.std.proofs.Common.{◌≡◌, ◌≢◌, ℕ, zero, suc, ◌+◌, ◌<◌, ◌≤◌, List, refl, sym, ap, ◌∙◌, arith, bit_xor, min, subst, ◌⊎◌, inl, inr, IsTrue}
 use Rattle.std.specs.Int.Bits.{xor_self, xor_assoc, xor_zero_l}
 use Rattle.std.proofs.Math.Nat.{min-le_left, min-le_right, min-eq_left, min-eq_right}
 use Rattle.std.proofs.lemmas.Bool.{cases_lt, cases_eq, false≢true}
@@ -92,7 +92,7 @@ pub only_one : IsLinear → (w x : ℕ) (wanted : Wanted) (confidences : List �
     → TurnTo w confidences o flips least others → AreNearest w x wanted confidences o flips least others
 only_one linear w x wanted confidences o flips least others own allowed alone h =
     let at_o : (p : Offset) (any : ℕ) → Turns w x wanted p any → Leads (bit_xor (rem w) (word o)) any =
-        λ p any t. subst (λ (q : Offset). Leads (bit_xor (rem w) (word q)) any) (alone p t.own t.allowed) (leads linear w x wanted p any t) in
+    λ p any t. subst (λ (q : Offset). Leads (bit_xor (rem w) (word q)) any) (alone p t.own t.allowed) (leads linear w x wanted p any t) in
     record {
       found = λ near. let f = h.found near in (turns linear w x wanted o flips own allowed f.0, f.1);
       none_lighter = λ p any t. h.none_lighter any (at_o p any t);
@@ -108,7 +108,7 @@ pub nearer_of_two : IsLinear → (w x : ℕ) (wanted : Wanted) (confidences : Li
     → TurnTo w confidences o f a m → TurnTo w confidences q g b n → a ≤ b → AreNearest w x wanted confidences o f a (min m b)
 nearer_of_two linear w x wanted confidences o q f g a b m n own allowed own_q allowed_q differ both h k le =
     let at : (p r : Offset) (any : ℕ) → Turns w x wanted p any → p ≡ r → Leads (bit_xor (rem w) (word r)) any =
-        λ p r any t same. subst (λ (s : Offset). Leads (bit_xor (rem w) (word s)) any) same (leads linear w x wanted p any t) in
+    λ p r any t same. subst (λ (s : Offset). Leads (bit_xor (rem w) (word s)) any) same (leads linear w x wanted p any t) in
     record {
       found = λ near. let it = h.found near in (turns linear w x wanted o f own allowed it.0, it.1);
       none_lighter = λ p any t. elim (both p t.own) [
@@ -124,11 +124,14 @@ nearer_of_two linear w x wanted confidences o q f g a b m n own allowed own_q al
             let is : min m b ≡ b = min-eq_right (omega (arith, less)) in
             let b_near : b < 255 = omega (arith, near, is) in
             let it = k.found b_near in
-            let mine = h.found (omega (arith, le, b_near)) in
-            (q, g, turns linear w x wanted q g own_q allowed_q it.0,
+            let mine = h.found (omega (arith, le, b_near)) in (
+              q,
+              g,
+              turns linear w x wanted q g own_q allowed_q it.0,
               λ same. differ (sym (twice (rem w) (word o)) ∙ ap (bit_xor (rem w)) (sym mine.0.sum ∙ ap (λ (y : ℕ). rem (mask_of y)) (sym same) ∙ it.0.sum)
-                ∙ twice (rem w) (word q)),
-              it.1 ∙ sym is)
+                  ∙ twice (rem w) (word q)),
+              it.1 ∙ sym is,
+            )
         | inr more ↦
             let is : min m b ≡ m = min-eq_left more in
             let it = h.other (omega (arith, near, is)) in
@@ -165,11 +168,22 @@ none_beside w x wanted confidences margin o flips least others h few near close 
     elim (cases_eq any flips) [
       | inl same ↦
           let weighs : weight confidences any ≡ least = ap (weight confidences) same ∙ it.1 in
-          omega (arith, weighs, close, rival.4,
-            nearest.alone rival.0 rival.1 rival.2 (λ is. rival.3 (is ∙ same)))
+          omega (
+            arith,
+            weighs,
+            close,
+            rival.4,
+            nearest.alone rival.0 rival.1 rival.2 (λ is. rival.3 (is ∙ same)),
+          )
       | inr apart ↦
-          omega (arith, close, rival_least, it.1, h.others_weigh p any nearest.turns apart,
-            nearest.alone o flips it.0 (λ is. apart (sym is)))
+          omega (
+            arith,
+            close,
+            rival_least,
+            it.1,
+            h.others_weigh p any nearest.turns apart,
+            nearest.alone o flips it.0 (λ is. apart (sym is)),
+          )
     ]
 
 -- ---- which offsets are wanted

@@ -1,9 +1,9 @@
 -- The lightest flips have the least weight, and all others weigh at least the second.
-use Rattle.std.proofs.Common.{◌≡◌, ◌≢◌, ℕ, zero, suc, ◌+◌, ◌-◌, ◌*◌, ◌^◌, ◌<◌, ◌≤◌, Bool, true, false, refl, sym, ap, ◌∙◌, arith, bit_xor, subst, min, rules, ◌⊎◌, inl, inr, nat_lt, lit<}
+use Rattle.std.proofs.Common.{◌≡◌, ◌≢◌, ℕ, zero, suc, ◌+◌, ◌^◌, ◌<◌, ◌≤◌, Bool, true, false, refl, sym, ap, ◌∙◌, arith, bit_xor, subst, min, rules, ◌⊎◌, inl, inr, nat_lt, lit<}
 use Rattle.std.proofs.Math.Nat.{pow-suc, min-le_left, min-le_right, min-eq_left, min-eq_right}
 use Rattle.std.proofs.lemmas.Bool.{cases_lt}
 use Rattle.rds_soft.specs.Inside.Lightest.{sum_of, weigh, of_none, least, is_flipped, lightest, second}
-use Rattle.rds_soft.proofs.LightestLemmas.{Reach, Kept, Turned, kept, turned, kept_weighs, turned_weighs, ways, least_below, least_small}
+use Rattle.rds_soft.proofs.LightestLemmas.{Reach, kept, turned, kept_weighs, turned_weighs, ways, least_below}
 
 -- flips of this weight
 pub record Weighs (e c : ℕ → ℕ) (n s flips w : ℕ) : Type 0 where
@@ -78,14 +78,20 @@ others_weigh e c zero s flips h other = absurd (other (omega (arith, h.small)))
 others_weigh e c (suc n) s flips h other =
     let t : ℕ = bit_xor s (e n) in
     let by_way : ((least e c n s ≤ weigh c (suc n) flips) × (flips ≢ lightest e c n s → second e c n s ≤ weigh c (suc n) flips))
-        ⊎ ((rest : ℕ) × (flips ≡ 2 ^ n + rest) × (least e c n t + c n ≤ weigh c (suc n) flips)
-            × (rest ≢ lightest e c n t → second e c n t + c n ≤ weigh c (suc n) flips)) =
-        elim (ways e c n s flips h) [
-          | inl way ↦ inl (omega (arith, way.weight, least_below e c n s flips way.reach),
-              λ apart. omega (arith, way.weight, others_weigh e c n s flips way.reach apart))
-          | inr way ↦ inr (way.0, way.1.whole, omega (arith, way.1.weight, least_below e c n t way.0 way.1.reach),
-              λ apart. omega (arith, way.1.weight, others_weigh e c n t way.0 way.1.reach apart))
-        ] in
+    ⊎ ((rest : ℕ) × (flips ≡ 2 ^ n + rest) × (least e c n t + c n ≤ weigh c (suc n) flips)
+    × (rest ≢ lightest e c n t → second e c n t + c n ≤ weigh c (suc n) flips)) =
+    elim (ways e c n s flips h) [
+      | inl way ↦ inl (
+        omega (arith, way.weight, least_below e c n s flips way.reach),
+        λ apart. omega (arith, way.weight, others_weigh e c n s flips way.reach apart),
+      )
+      | inr way ↦ inr (
+        way.0,
+        way.1.whole,
+        omega (arith, way.1.weight, least_below e c n t way.0 way.1.reach),
+        λ apart. omega (arith, way.1.weight, others_weigh e c n t way.0 way.1.reach apart),
+      )
+    ] in
     others_by n (weigh c (suc n) flips) (least e c n t) (second e c n t) (c n) 0 0 flips (least e c n s) (second e c n s)
     (lightest e c n s) (lightest e c n t) (is_flipped e c n s) by_way other
 
@@ -111,9 +117,11 @@ other_by e c n s a b x y f g false f_small g_small left right more_left more_rig
 other_by e c n s a b x y f g true f_small g_small left right more_left more_right near = elim (cases_lt (y + c n) a) [
   | inl less ↦
       let le : y + c n ≤ a = omega (arith, less) in
-      let more = more_right (omega (arith, near, min-eq_right le)) in
-      (2 ^ n + more.0, subst (Weighs e c (suc n) s (2 ^ n + more.0)) (sym (min-eq_right le)) (weighs_turned e c n s more.0 y more.1),
-        λ same. more.2 (omega (arith, same)))
+      let more = more_right (omega (arith, near, min-eq_right le)) in (
+        2 ^ n + more.0,
+        subst (Weighs e c (suc n) s (2 ^ n + more.0)) (sym (min-eq_right le)) (weighs_turned e c n s more.0 y more.1),
+        λ same. more.2 (omega (arith, same)),
+      )
   | inr le ↦
       let stay = weighs_kept e c n s f a (left (omega (arith, near, min-eq_left le))) in
       (f, subst (Weighs e c (suc n) s f) (sym (min-eq_left le)) stay, λ same. absurd (omega (arith, same, f_small)))

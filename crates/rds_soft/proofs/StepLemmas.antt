@@ -1,5 +1,5 @@
 -- One symbol of the look back, by what is read of the rows.
-use Rattle.std.proofs.Common.{◌≡◌, ℕ, suc, ◌+◌, ◌-◌, ◌*◌, ◌%◌, ◌^◌, ◌<◌, ◌≤◌, List, [], sym, ap, ap₂, ◌∙◌, arith, bit_xor, min, slice_index, get_or, subst}
+use Rattle.std.proofs.Common.{◌≡◌, ℕ, ◌+◌, ◌-◌, ◌*◌, ◌%◌, ◌^◌, ◌<◌, ◌≤◌, List, [], sym, ap, ◌∙◌, arith, bit_xor, min, slice_index, get_or, subst}
 use Rattle.std.proofs.lemmas.Nat.{xor_lt}
 use Rattle.rds_soft.specs.Inside.Lightest.{effect, confidence, least}
 use Rattle.rds_soft.specs.Inside.Rows.{AreRows, IsWalk}
@@ -30,12 +30,12 @@ step_turned rows confidences s n left flips spent others e kept base c h less =
     let kept_least : kept ≡ least effect cs n left = h.kept_is ∙ (h.rows_are n h.place).each left h.walk.left_small in
     let base_least : base ≡ least effect cs n (bit_xor left e) = h.base_is ∙ (h.rows_are n h.place).each (bit_xor left e) small in
     let lighter : least effect cs n (bit_xor left e) + cs n < least effect cs n left =
-        omega (arith, less, kept_least, base_least, h.confidence_is) in
+    omega (arith, less, kept_least, base_least, h.confidence_is) in
     let next = walk_turned effect cs s (n + 1) n left flips spent others (bit_xor left e) h.walk (omega arith)
-        (ap (bit_xor left) h.effect_is) small lighter in
+    (ap (bit_xor left) h.effect_is) small lighter in
     subst (λ (k : ℕ). IsWalk effect cs s n (bit_xor left e) (flips + 2 ^ n) (spent + c) (min others (spent + k))) (sym kept_least)
     (subst (λ (k : ℕ). IsWalk effect cs s n (bit_xor left e) (flips + 2 ^ n) (spent + k) (min others (spent + least effect cs n left)))
-        (sym h.confidence_is) next)
+    (sym h.confidence_is) next)
 
 pub step_kept : (rows : List (List ℕ)) (confidences : List ℕ) (s n left flips spent others e kept base c : ℕ)
     → IsRead rows confidences s n left flips spent others e kept base c → kept ≤ base + c
@@ -46,9 +46,9 @@ step_kept rows confidences s n left flips spent others e kept base c h le =
     let kept_least : kept ≡ least effect cs n left = h.kept_is ∙ (h.rows_are n h.place).each left h.walk.left_small in
     let base_least : base ≡ least effect cs n (bit_xor left e) = h.base_is ∙ (h.rows_are n h.place).each (bit_xor left e) small in
     let heavier : least effect cs n left ≤ least effect cs n (bit_xor left e) + cs n =
-        omega (arith, le, kept_least, base_least, h.confidence_is) in
+    omega (arith, le, kept_least, base_least, h.confidence_is) in
     let next = walk_kept effect cs s (n + 1) n left flips spent others (bit_xor left e) h.walk (omega arith)
-        (ap (bit_xor left) h.effect_is) heavier in
+    (ap (bit_xor left) h.effect_is) heavier in
     let same : least effect cs n (bit_xor left e) + cs n ≡ base + c = omega (arith, base_least, h.confidence_is) in
     subst (λ (k : ℕ). IsWalk effect cs s n left flips spent (min others (spent + k))) same next
 
@@ -71,8 +71,11 @@ kept_small rows confidences s n left flips spent others e kept base c h =
 pub base_small : (rows : List (List ℕ)) (confidences : List ℕ) (s n left flips spent others e kept base c : ℕ)
     → IsRead rows confidences s n left flips spent others e kept base c → base ≤ 255
 base_small rows confidences s n left flips spent others e kept base c h =
-    omega (arith, h.base_is ∙ (h.rows_are n h.place).each (bit_xor left e) (turned_small left e h.walk.left_small h.effect_small),
-        least_small effect (confidence confidences) n (bit_xor left e))
+    omega (
+      arith,
+      h.base_is ∙ (h.rows_are n h.place).each (bit_xor left e) (turned_small left e h.walk.left_small h.effect_small),
+      least_small effect (confidence confidences) n (bit_xor left e),
+    )
 
 -- a power as the code computes it
 pub power_is : (flips n : ℕ) → flips + 2 ^ n < 2 ^ 27 → 1 * 2 ^ n % 4294967296 ≡ 2 ^ n

@@ -1,5 +1,5 @@
 -- One symbol of the look back.
-use Rattle.std.proofs.Common.{◌≡◌, ℕ, zero, suc, ◌+◌, ◌*◌, ◌^◌, ◌<◌, ◌≤◌, Bool, true, false, refl, sym, ap, ◌∙◌, arith, rules, bit_xor, min, nat_lt}
+use Rattle.std.proofs.Common.{◌≡◌, ℕ, suc, ◌+◌, ◌^◌, ◌<◌, ◌≤◌, Bool, true, false, refl, sym, ap, ◌∙◌, arith, rules, bit_xor, min, nat_lt}
 use Rattle.std.proofs.Math.Nat.{min-le_left}
 use Rattle.rds_soft.specs.Inside.Lightest.{least, is_flipped, lightest, second}
 use Rattle.rds_soft.specs.Inside.Rows.{IsWalk}
@@ -65,17 +65,17 @@ walk_turned e c s m n left flips spent others turned h is turned_is small less =
     let a : ℕ = least e c n left in
     let b : ℕ = least e c n turned in
     let lighter : is_flipped e c n left ≡ true =
-        ap (λ (x : ℕ). nat_lt (least e c n x + c n) a) (sym turned_is) ∙ is_less (b + c n) a less in
+    ap (λ (x : ℕ). nat_lt (least e c n x + c n) a) (sym turned_is) ∙ is_less (b + c n) a less in
     let flips_here : lightest e c m left ≡ 2 ^ n + lightest e c n turned =
-        ap (λ (k : ℕ). lightest e c k left) is
-        ∙ lightest_turned e c n left lighter
-        ∙ ap (λ (x : ℕ). 2 ^ n + lightest e c n x) (sym turned_is) in
+    ap (λ (k : ℕ). lightest e c k left) is
+    ∙ lightest_turned e c n left lighter
+    ∙ ap (λ (x : ℕ). 2 ^ n + lightest e c n x) (sym turned_is) in
     let least_here : least e c m left ≡ min a (b + c n) =
-        ap (λ (k : ℕ). least e c k left) is ∙ least_more e c n left ∙ ap (λ (x : ℕ). min a (least e c n x + c n)) (sym turned_is) in
+    ap (λ (k : ℕ). least e c k left) is ∙ least_more e c n left ∙ ap (λ (x : ℕ). min a (least e c n x + c n)) (sym turned_is) in
     let second_here : second e c m left ≡ min a (second e c n turned + c n) =
-        ap (λ (k : ℕ). second e c k left) is
-        ∙ second_turned e c n left lighter
-        ∙ ap (λ (x : ℕ). min a (second e c n x + c n)) (sym turned_is) in
+    ap (λ (k : ℕ). second e c k left) is
+    ∙ second_turned e c n left lighter
+    ∙ ap (λ (x : ℕ). min a (second e c n x + c n)) (sym turned_is) in
     record {
       left_small = small;
       flips_are = omega (arith, h.flips_are, flips_here);
@@ -92,16 +92,16 @@ walk_kept e c s m n left flips spent others turned h is turned_is le =
     let a : ℕ = least e c n left in
     let b : ℕ = least e c n turned in
     let heavier : is_flipped e c n left ≡ false =
-        ap (λ (x : ℕ). nat_lt (least e c n x + c n) a) (sym turned_is) ∙ is_more (b + c n) a le in
+    ap (λ (x : ℕ). nat_lt (least e c n x + c n) a) (sym turned_is) ∙ is_more (b + c n) a le in
     let flips_here : lightest e c m left ≡ lightest e c n left =
-        ap (λ (k : ℕ). lightest e c k left) is
-        ∙ lightest_kept e c n left heavier in
+    ap (λ (k : ℕ). lightest e c k left) is
+    ∙ lightest_kept e c n left heavier in
     let least_here : least e c m left ≡ min a (b + c n) =
-        ap (λ (k : ℕ). least e c k left) is ∙ least_more e c n left ∙ ap (λ (x : ℕ). min a (least e c n x + c n)) (sym turned_is) in
+    ap (λ (k : ℕ). least e c k left) is ∙ least_more e c n left ∙ ap (λ (x : ℕ). min a (least e c n x + c n)) (sym turned_is) in
     let second_here : second e c m left ≡ min (b + c n) (second e c n left) =
-        ap (λ (k : ℕ). second e c k left) is
-        ∙ second_kept e c n left heavier
-        ∙ ap (λ (x : ℕ). min (least e c n x + c n) (second e c n left)) (sym turned_is) in
+    ap (λ (k : ℕ). second e c k left) is
+    ∙ second_kept e c n left heavier
+    ∙ ap (λ (x : ℕ). min (least e c n x + c n) (second e c n left)) (sym turned_is) in
     record {
       left_small = h.left_small;
       flips_are = omega (arith, h.flips_are, flips_here);

@@ -1,5 +1,5 @@
 -- The rows of least weights.
-use Rattle.std.specs.Prelude.{◌≡◌, ℕ, zero, suc, ◌+◌, ◌<◌, ◌≤◌, length, slice_index, get_or, List, [], bit_xor, min}
+use Rattle.std.specs.Prelude.{◌≡◌, ℕ, ◌+◌, ◌<◌, ◌≤◌, length, slice_index, get_or, List, [], bit_xor, min}
 use Rattle.rds_soft.specs.Inside.Lightest.{least, of_none, lightest, second}
 
 -- the row of no symbols

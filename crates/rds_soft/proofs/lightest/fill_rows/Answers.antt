@@ -1,4 +1,4 @@
-use Rattle.std.proofs.Common.{◌≡◌, ℕ, suc, ◌+◌, ◌<◌, ◌≤◌, List, [], length, get_or, set, sym, subst, ap, ◌∙◌, arith, rules}
+use Rattle.std.proofs.Common.{◌≡◌, ℕ, suc, ◌+◌, ◌<◌, List, [], length, get_or, set, sym, subst, ◌∙◌, arith}
 use Rattle.std.proofs.lemmas.List.{get_or-set_same, length-set}
 use Rattle.rds_soft.specs.Inside.Lightest.{effect as the_effect, confidence}
 use Rattle.rds_soft.specs.Inside.Rows.{Follows, AreLeast}
@@ -15,9 +15,9 @@ loop-n-init c =
     record {
       long = length-set rows 0 row ∙ c.requires.rows;
       done = λ k le.
-        let none : 0 ≡ k = omega (arith, le) in
-        subst (λ (j : ℕ). AreLeast the_effect (confidence confidences) j (get_or (set rows 0 row) j [])) none
-        (subst (AreLeast the_effect (confidence confidences) 0) (sym (get_or-set_same rows 0 row [] here)) first);
+          let none : 0 ≡ k = omega (arith, le) in
+          subst (λ (j : ℕ). AreLeast the_effect (confidence confidences) j (get_or (set rows 0 row) j [])) none
+          (subst (AreLeast the_effect (confidence confidences) 0) (sym (get_or-set_same rows 0 row [] here)) first);
     }
 
 pub loop-n-preserved : goal.loop-n-preserved
@@ -28,7 +28,7 @@ loop-n-preserved c =
     let next : List ℕ = c.fill_next.new.next in
     let small : the_effect n < 1024 = subst (λ (e : ℕ). e < 1024) c.effect.ensures.value c.effect.ensures.small in
     let follow : Follows (get_or rows n []) (the_effect n) (confidence confidences n) next =
-        subst (λ (e : ℕ). Follows (get_or rows n []) e (confidence confidences n) next) c.effect.ensures.value c.fill_next.ensures.first in
+    subst (λ (e : ℕ). Follows (get_or rows n []) e (confidence confidences n) next) c.effect.ensures.value c.fill_next.ensures.first in
     let more : n + 1 ≡ suc n = omega arith in
     record {
       long = length-set rows (n + 1) next ∙ c.loop-n.invariant.long;

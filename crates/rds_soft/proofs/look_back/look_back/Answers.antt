@@ -1,4 +1,3 @@
-use Rattle.std.proofs.Common.{◌≡◌, ◌≢◌, ℕ, arith}
 use Rattle.rds_soft.proofs.NearestLemmas.{walk_ends, walk_fails}
 use Rattle.rds_soft.proofs.look_back.look_back.Goals as goal
 

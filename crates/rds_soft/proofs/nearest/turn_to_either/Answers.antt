@@ -1,8 +1,5 @@
-use Rattle.std.proofs.Common.{◌≡◌, ◌≢◌, ℕ, ◌<◌, ◌≤◌, refl, sym, subst, arith, rules, min, ◌∙◌}
-use Rattle.rds_code.specs.declared.offset.Offset.{Offset}
-use Rattle.rds_code.specs.declared.offset.Offset.TheVariants.{C, Cx}
+use Rattle.std.proofs.Common.{◌<◌, arith, ◌∙◌}
 use Rattle.rds_code.specs.declared.reading.Wanted.TheVariants.{Either}
-use Rattle.rds_soft.specs.Inside.Nearer.{AreNearest}
 use Rattle.rds_soft.proofs.NearestLemmas.{nearer_C, nearer_Cx, renamed}
 use Rattle.rds_soft.proofs.nearest.turn_to_either.Goals as goal
 
