@@ -16,7 +16,7 @@ swap_inner a b c d =
     ∙ ap (λ (n : ℕ). bit_xor a n) (sym (xor_assoc b c d) ∙ ap (λ (n : ℕ). bit_xor n d) (xor_comm b c) ∙ xor_assoc c b d)
     ∙ sym (xor_assoc a c (bit_xor b d))
 
-mask_xor : (a b : ℕ) → mask_of (bit_xor a b) ≡ bit_xor (mask_of a) (mask_of b)
+pub mask_xor : (a b : ℕ) → mask_of (bit_xor a b) ≡ bit_xor (mask_of a) (mask_of b)
 mask_xor a b =
     ap (λ (half : ℕ). bit_xor (bit_xor a b) half % 2 ^ 26) (xor_shr a b 1)
     ∙ ap (λ (n : ℕ). n % 2 ^ 26) (swap_inner a b (a / 2) (b / 2))

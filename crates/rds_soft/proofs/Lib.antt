@@ -5,3 +5,4 @@ pub mod RowLemmas
 pub mod WalkLemmas
 pub mod StepLemmas
 pub mod NearestLemmas
+pub mod NearestLaws

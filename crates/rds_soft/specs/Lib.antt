@@ -1,3 +1,4 @@
 pub mod Nearest
+pub mod Laws
 pub mod Inside
 pub mod Examples

@@ -7,6 +7,7 @@ mod margin; // How much more others must weigh.
 mod lightest; // The rows of least weights.
 mod look_back; // The lightest flips, from these rows.
 mod nearest; // The nearest block.
+pub mod laws; // The laws of the nearest block.
 
 pub use correction::Correction;
 pub use margin::Margin;
