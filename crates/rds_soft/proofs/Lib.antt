@@ -6,3 +6,4 @@ pub mod WalkLemmas
 pub mod StepLemmas
 pub mod NearestLemmas
 pub mod NearestLaws
+pub mod LaneLemmas
