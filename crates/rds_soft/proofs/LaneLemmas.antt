@@ -40,7 +40,7 @@ sum_turned block j e less =
     let whole : (e / 16) * 2 ^ 4 + e % 16 ≡ e = omega arith in
     let here : block * 2 ^ 4 + j ≡ 16 * block + j = omega arith in
     let split : bit_xor (block * 2 ^ 4 + j) ((e / 16) * 2 ^ 4 + e % 16) ≡ bit_xor block (e / 16) * 2 ^ 4 + bit_xor j (e % 16) =
-        xor_block 4 block (e / 16) j (e % 16) less (omega arith) in
+    xor_block 4 block (e / 16) j (e % 16) less (omega arith) in
     let first : 16 * bit_xor block (e / 16) + bit_xor j (e % 16) ≡ bit_xor (block * 2 ^ 4 + j) ((e / 16) * 2 ^ 4 + e % 16) = omega (arith, split) in
     first ∙ ap (λ (x : ℕ). bit_xor x ((e / 16) * 2 ^ 4 + e % 16)) here ∙ ap (bit_xor (16 * block + j)) whole
 

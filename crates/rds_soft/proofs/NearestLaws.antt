@@ -1,18 +1,16 @@
 -- The laws of the nearest block.
-use Rattle.std.proofs.Common.{◌≡◌, ◌≢◌, ℕ, zero, suc, ◌+◌, ◌-◌, ◌*◌, ◌%◌, ◌^◌, ◌<◌, ◌≤◌, List, refl, sym, ap, ◌∙◌, arith, bit_xor, slice_index, subst, ◌⊎◌, inl, inr, IsTrue, lit<}
+use Rattle.std.proofs.Common.{◌≡◌, ◌≢◌, ℕ, zero, suc, ◌+◌, ◌-◌, ◌*◌, ◌%◌, ◌^◌, ◌<◌, ◌≤◌, List, refl, sym, ap, ◌∙◌, arith, bit_xor, subst, ◌⊎◌, inl, inr, lit<}
 use Rattle.std.specs.Int.{bit_at}
-use Rattle.std.specs.Int.Bits.{xor_self, xor_assoc, xor_zero_l, xor_zero_r}
-use Rattle.std.proofs.Math.Nat.{zero-mul, one-mul}
+use Rattle.std.specs.Int.Bits.{xor_assoc, xor_zero_l, xor_zero_r}
 use Rattle.std.proofs.lemmas.Bool.{cases_eq}
-use Rattle.std.proofs.lemmas.Nat.{xor_comm, xor_lt}
+use Rattle.std.proofs.lemmas.Nat.{xor_lt}
 use Rattle.std.proofs.lemmas.Nat.Bits.{bit_at-lt, bit_at_xor}
 use Rattle.rds_code.specs.declared.offset.Offset.{Offset}
 use Rattle.rds_code.specs.declared.offset.Offset.TheVariants.{A, B, C, Cx, D}
 use Rattle.rds_code.specs.declared.reading.Wanted.{Wanted}
 use Rattle.rds_code.specs.Remainder.{rem}
 use Rattle.rds_code.specs.Offsets.{word}
-use Rattle.rds_code.specs.Laws.{IsLinear}
-use Rattle.rds_soft.specs.Nearest.{mask_of, weight, top, Turns, IsNearest}
+use Rattle.rds_soft.specs.Nearest.{mask_of, weight, Turns}
 use Rattle.rds_soft.specs.Laws.{NoneTurnsValid, HasOneNearest, SureSymbolsStay, CorrectsSent}
 use Rattle.rds_soft.specs.Inside.Lightest.{confidence, weigh}
 use Rattle.rds_soft.proofs.LightestLemmas.{undone, split_word, IsSplit, weigh_without, weigh_with}
@@ -89,7 +87,7 @@ sure_symbols_stay w x wanted confidences margin o flips sure h = elim (cases_eq 
   | inl none ↦ none
   | inr some ↦
       let more : 127 < weigh (confidence confidences) 27 flips =
-          heavy (confidence confidences) 27 flips (λ k less. sure (26 - k) (omega (arith, less))) h.turns.symbols some in
+      heavy (confidence confidences) 27 flips (λ k less. sure (26 - k) (omega (arith, less))) h.turns.symbols some in
       absurd (omega (arith, more, weight_is confidences flips, h.near))
 ]
 
@@ -117,14 +115,19 @@ unfolding weigh
 together c zero f g = omega arith
 together c (suc n) f g =
     let here : bit_at (bit_xor f g) n * c n ≤ bit_at f n * c n + bit_at g n * c n =
-        subst (λ (t : ℕ). t * c n ≤ bit_at f n * c n + bit_at g n * c n) (sym (bit_at_xor f g n))
-        (one_symbol (bit_at f n) (bit_at g n) (c n) (bit_at-lt f n) (bit_at-lt g n)) in
+    subst (λ (t : ℕ). t * c n ≤ bit_at f n * c n + bit_at g n * c n) (sym (bit_at_xor f g n))
+    (one_symbol (bit_at f n) (bit_at g n) (c n) (bit_at-lt f n) (bit_at-lt g n)) in
     omega (arith, here, together c n f g)
 
 weight_together : (confidences : List ℕ) (f g : ℕ) → weight confidences (bit_xor f g) ≤ weight confidences f + weight confidences g
 weight_together confidences f g =
-    omega (arith, weight_is confidences (bit_xor f g), weight_is confidences f, weight_is confidences g,
-        together (confidence confidences) 27 f g)
+    omega (
+      arith,
+      weight_is confidences (bit_xor f g),
+      weight_is confidences f,
+      weight_is confidences g,
+      together (confidence confidences) 27 f g,
+    )
 
 -- flips that turn the received window turn the sent one, together with the wrong symbols
 both_turn : (b x : ℕ) (wanted : Wanted) (p : Offset) (wrong any : ℕ) → wrong < 2 ^ 27
@@ -138,19 +141,21 @@ both_turn b x wanted p wrong any small h = record {
 
 pub corrects_sent : CorrectsSent
 corrects_sent b x wanted confidences margin o wrong lightest sent small near far few =
-    let back : bit_xor (bit_xor b (mask_of wrong)) (mask_of wrong) ≡ b = undone b (mask_of wrong) in
-    (record {
-      turns = record {
-        symbols = small;
-        own = sent.own;
-        allowed = sent.allowed;
-        due = ap rem back ∙ ap rem (sym (xor_zero_r b)) ∙ sent.due;
-      };
-      near = near;
-      alone = λ p any h apart.
-        let differ : bit_xor wrong any ≢ 0 = λ none.
+    let back : bit_xor (bit_xor b (mask_of wrong)) (mask_of wrong) ≡ b = undone b (mask_of wrong) in (
+      record {
+        turns = record {
+          symbols = small;
+          own = sent.own;
+          allowed = sent.allowed;
+          due = ap rem back ∙ ap rem (sym (xor_zero_r b)) ∙ sent.due;
+        };
+        near = near;
+        alone = λ p any h apart.
+            let differ : bit_xor wrong any ≢ 0 = λ none.
             apart (sym (xor_zero_l any) ∙ ap (λ (y : ℕ). bit_xor y any) (sym none) ∙ undone wrong any) in
-        let other : lightest ≤ weight confidences (bit_xor wrong any) =
+            let other : lightest ≤ weight confidences (bit_xor wrong any) =
             far p (bit_xor wrong any) (both_turn b x wanted p wrong any small h) differ in
-        omega (arith, few, other, weight_together confidences wrong any);
-    }, back)
+            omega (arith, few, other, weight_together confidences wrong any);
+      },
+      back,
+    )

@@ -31,4 +31,4 @@ CorrectsSent = (b x : ℕ) (wanted : Wanted) (confidences : List ℕ) (margin : 
     → ((p : Offset) (any : ℕ) → Turns b x wanted p any → any ≢ 0 → lightest ≤ weight confidences any)
     → 2 * weight confidences wrong + margin ≤ lightest
     → IsNearest (bit_xor b (mask_of wrong)) x wanted confidences margin o wrong
-      × (bit_xor (bit_xor b (mask_of wrong)) (mask_of wrong) ≡ b)
+    × (bit_xor (bit_xor b (mask_of wrong)) (mask_of wrong) ≡ b)

@@ -1,5 +1,5 @@
 -- Worked examples: flips, and which of them are nearest.
-use Rattle.std.specs.Prelude.{◌≡◌, ◌≢◌, ℕ, ◌+◌, ◌^◌, ◌<◌, ◌≤◌, List, [], ◌∷◌, refl, bit_xor}
+use Rattle.std.specs.Prelude.{◌≡◌, ◌≢◌, ℕ, ◌+◌, ◌≤◌, List, [], ◌∷◌, refl, bit_xor}
 use Rattle.std.proofs.Common.{arith, lit<}
 use Rattle.std.proofs.lemmas.Bool.{false≢true}
 use Rattle.rds_code.specs.declared.offset.Offset.TheVariants.{C, Cx, D}

@@ -1,4 +1,4 @@
-use Rattle.std.proofs.Common.{◌≡◌, ℕ, ◌<◌, ◌≤◌, ◌+◌, ◌*◌, ◌/◌, ◌%◌, List, slice_index, bit_xor, min, ap, ◌∙◌, arith}
+use Rattle.std.proofs.Common.{◌≡◌, ℕ, ◌<◌, ◌+◌, ◌*◌, ◌/◌, ◌%◌, List, slice_index, bit_xor, ap, ◌∙◌, arith}
 use Rattle.std.proofs.lemmas.Nat.{xor_lt}
 use Rattle.rds_soft.proofs.LaneLemmas.{sum_turned, turned_within, capped}
 use Rattle.rds_soft.proofs.lightest.next_block.Goals as goal
@@ -16,8 +16,8 @@ returns-clause-first c j less =
     let at : ℕ = bit_xor j (e % 16) in
     let within : at < 16 = turned_within j e less in
     let flipped : slice_index c.turned-flipped.result j ≡ slice_index row (bit_xor (16 * c.args.block + j) e) =
-        c.turned-flipped.ensures.each j less ∙ c.block_of.ensures.each at within
-        ∙ ap (slice_index row) (sum_turned c.args.block j e less) in
+    c.turned-flipped.ensures.each j less ∙ c.block_of.ensures.each at within
+    ∙ ap (slice_index row) (sum_turned c.args.block j e less) in
     c.smaller.ensures.each j less
     ∙ capped (slice_index c.block_of-kept.result j) (slice_index c.heavier.result j) (slice_index row (16 * c.args.block + j))
     (slice_index row (bit_xor (16 * c.args.block + j) e)) (slice_index c.turned-flipped.result j) c.args.confidence

@@ -1,4 +1,4 @@
-use Rattle.std.proofs.Common.{◌≡◌, ℕ, ◌<◌, false, true, Bool, cond, ltb, length, get_or, ap, ◌∙◌, arith, rules, w8, min}
+use Rattle.std.proofs.Common.{false, cond, ltb, length, get_or, ap, ◌∙◌, arith, w8}
 use lib.Lanes.{zip2, sel_l}
 use Rattle.std.proofs.lemmas.Simd.{tops_compared, length-zip2, length-sel_l, get_or-sel_l, get_or-zip2}
 use Rattle.rds_soft.proofs.LaneLemmas.{lesser_is}
@@ -10,8 +10,13 @@ returns-clause-long c =
     let b = c.args.b in
     let long = length-zip2 ltb a b (omega (arith, c.requires.a, c.requires.b)) in
     let is = ap (λ ms. sel_l ms a b) (tops_compared w8 ltb a b) in
-    ap length is ∙ omega (arith, c.requires.a, c.requires.b, long,
-        length-sel_l (zip2 ltb a b) a b (omega (arith, c.requires.a, c.requires.b, long)) (omega (arith, c.requires.a, c.requires.b, long)))
+    ap length is ∙ omega (
+      arith,
+      c.requires.a,
+      c.requires.b,
+      long,
+      length-sel_l (zip2 ltb a b) a b (omega (arith, c.requires.a, c.requires.b, long)) (omega (arith, c.requires.a, c.requires.b, long)),
+    )
 
 pub returns-clause-each : goal.returns-clause-each
 returns-clause-each c i lt =
