@@ -1,11 +1,13 @@
 -- Lanes of sixteen weights.
-use Rattle.std.proofs.Common.{◌≡◌, ℕ, zero, suc, ◌+◌, ◌*◌, ◌/◌, ◌%◌, ◌^◌, ◌<◌, ◌≤◌, List, [], ◌∷◌, false, true, Bool, cond, ltb, get_or, replicate, sym, ap, subst, ◌∙◌, arith, rules, bit_xor, min, refl, ◌-◌, inl, inr}
+use Rattle.std.specs.Int.Bits.{xor_assoc}
+use Rattle.std.proofs.Common.{◌++◌, length, ◌≡◌, ℕ, zero, suc, ◌+◌, ◌*◌, ◌/◌, ◌%◌, ◌^◌, ◌<◌, ◌≤◌, List, [], ◌∷◌, false, true, Bool, cond, ltb, get_or, replicate, sym, ap, subst, ◌∙◌, arith, rules, bit_xor, min, refl, ◌-◌, inl, inr}
 use Rattle.std.proofs.Math.Nat.{min-eq_left, min-eq_right}
 use Rattle.std.proofs.lemmas.Bool.{cases_lt}
-use lib.Lanes.{zip2}
+use lib.Dec.{T}
+use lib.Lanes.{all_below, pick_l, zip2}
 use Rattle.std.specs.List.{range_with_len}
 use Rattle.std.proofs.lemmas.Nat.{xor_lt, xor_block}
-use Rattle.std.proofs.lemmas.Simd.{get_or-zip2, get_or-replicate}
+use Rattle.std.proofs.lemmas.Simd.{pick_l_left, get_or-zip2, get_or-replicate}
 
 by_test : (t : Bool) (a b : ℕ) → t ≡ ltb a b → cond t a b ≡ min a b
 by_test true a b is = let less : a < b = search (rules, is) in sym (min-eq_left (omega (arith, less)))
@@ -13,26 +15,6 @@ by_test false a b is = let le : b ≤ a = search (rules, is) in sym (min-eq_righ
 
 pub lesser_is : (a b : ℕ) → cond (ltb a b) a b ≡ min a b
 lesser_is a b = by_test (ltb a b) a b refl
-
-abbrev pub places : List ℕ
-places = 0 ∷ 1 ∷ 2 ∷ 3 ∷ 4 ∷ 5 ∷ 6 ∷ 7 ∷ 8 ∷ 9 ∷ 10 ∷ 11 ∷ 12 ∷ 13 ∷ 14 ∷ 15 ∷ []
-
-numbered : (a n i d : ℕ) → i < n → get_or (range_with_len a n) i d ≡ a + i
-numbered a zero i d less = absurd (omega (arith, less))
-numbered a (suc n) zero d less = omega arith
-numbered a (suc n) (suc i) d less = numbered (a + 1) n i d (omega (arith, less)) ∙ omega arith
-
-own_place : (i : ℕ) → i < 16 → get_or places i 0 ≡ i
-own_place i less = numbered 0 16 i 0 less ∙ omega arith
-
-pub place_is : (e i : ℕ) → i < 16 → get_or (zip2 bit_xor places (replicate 16 (e % 16))) i 0 ≡ bit_xor i (e % 16)
-place_is e i less =
-    get_or-zip2 bit_xor places (replicate 16 (e % 16)) i 0 0 0 less less
-    ∙ ap (λ (k : ℕ). bit_xor k (get_or (replicate 16 (e % 16)) i 0)) (own_place i less)
-    ∙ ap (bit_xor i) (get_or-replicate 16 i (e % 16) 0 less)
-
-pub turned_place : (e i : ℕ) → i < 16 → get_or (zip2 bit_xor places (replicate 16 (e % 16))) i 0 < 16
-turned_place e i less = subst (λ (k : ℕ). k < 16) (sym (place_is e i less)) (xor_lt 4 i (e % 16) less (omega arith))
 
 -- an effect permutes blocks of sixteen, and the places in each
 pub sum_turned : (block j e : ℕ) → j < 16 → 16 * bit_xor block (e / 16) + bit_xor j (e % 16) ≡ bit_xor (16 * block + j) e
@@ -63,3 +45,47 @@ block_more P n before here s less = elim (cases_lt s (16 * n)) [
 -- a sum that is capped first does not wrap
 pub capped_sum : (a weight c : ℕ) → c ≤ 255 → a ≡ min weight (255 - c) → (a + c) % 256 ≡ min (weight + c) 255
 capped_sum a weight c small is = omega (arith, small, is)
+
+-- a fact of each place
+pub at_place : (P : ℕ → Type 0) → P 0 → P 1 → P 2 → P 3 → P 4 → P 5 → P 6 → P 7 → P 8 → P 9 → P 10 → P 11 → P 12 → P 13 → P 14 → P 15
+    → (j : ℕ) → j < 16 → P j
+at_place P p0 p1 p2 p3 p4 p5 p6 p7 p8 p9 p10 p11 p12 p13 p14 p15 zero less = p0
+at_place P p0 p1 p2 p3 p4 p5 p6 p7 p8 p9 p10 p11 p12 p13 p14 p15 (suc zero) less = p1
+at_place P p0 p1 p2 p3 p4 p5 p6 p7 p8 p9 p10 p11 p12 p13 p14 p15 (suc (suc zero)) less = p2
+at_place P p0 p1 p2 p3 p4 p5 p6 p7 p8 p9 p10 p11 p12 p13 p14 p15 (suc (suc (suc zero))) less = p3
+at_place P p0 p1 p2 p3 p4 p5 p6 p7 p8 p9 p10 p11 p12 p13 p14 p15 (suc (suc (suc (suc zero)))) less = p4
+at_place P p0 p1 p2 p3 p4 p5 p6 p7 p8 p9 p10 p11 p12 p13 p14 p15 (suc (suc (suc (suc (suc zero))))) less = p5
+at_place P p0 p1 p2 p3 p4 p5 p6 p7 p8 p9 p10 p11 p12 p13 p14 p15 (suc (suc (suc (suc (suc (suc zero)))))) less = p6
+at_place P p0 p1 p2 p3 p4 p5 p6 p7 p8 p9 p10 p11 p12 p13 p14 p15 (suc (suc (suc (suc (suc (suc (suc zero))))))) less = p7
+at_place P p0 p1 p2 p3 p4 p5 p6 p7 p8 p9 p10 p11 p12 p13 p14 p15 (suc (suc (suc (suc (suc (suc (suc (suc zero)))))))) less = p8
+at_place P p0 p1 p2 p3 p4 p5 p6 p7 p8 p9 p10 p11 p12 p13 p14 p15 (suc (suc (suc (suc (suc (suc (suc (suc (suc zero))))))))) less = p9
+at_place P p0 p1 p2 p3 p4 p5 p6 p7 p8 p9 p10 p11 p12 p13 p14 p15 (suc (suc (suc (suc (suc (suc (suc (suc (suc (suc zero)))))))))) less = p10
+at_place P p0 p1 p2 p3 p4 p5 p6 p7 p8 p9 p10 p11 p12 p13 p14 p15 (suc (suc (suc (suc (suc (suc (suc (suc (suc (suc (suc zero))))))))))) less = p11
+at_place P p0 p1 p2 p3 p4 p5 p6 p7 p8 p9 p10 p11 p12 p13 p14 p15 (suc (suc (suc (suc (suc (suc (suc (suc (suc (suc (suc (suc zero)))))))))))) less = p12
+at_place P p0 p1 p2 p3 p4 p5 p6 p7 p8 p9 p10 p11 p12 p13 p14 p15 (suc (suc (suc (suc (suc (suc (suc (suc (suc (suc (suc (suc (suc zero))))))))))))) less = p13
+at_place P p0 p1 p2 p3 p4 p5 p6 p7 p8 p9 p10 p11 p12 p13 p14 p15 (suc (suc (suc (suc (suc (suc (suc (suc (suc (suc (suc (suc (suc (suc zero)))))))))))))) less = p14
+at_place P p0 p1 p2 p3 p4 p5 p6 p7 p8 p9 p10 p11 p12 p13 p14 p15 (suc (suc (suc (suc (suc (suc (suc (suc (suc (suc (suc (suc (suc (suc (suc zero))))))))))))))) less = p15
+at_place P p0 p1 p2 p3 p4 p5 p6 p7 p8 p9 p10 p11 p12 p13 p14 p15 (suc (suc (suc (suc (suc (suc (suc (suc (suc (suc (suc (suc (suc (suc (suc (suc j)))))))))))))))) less = absurd (omega (arith, less))
+
+-- a block with its places exchanged
+pub swapped : (xs ks : List ℕ) (m : ℕ) → length xs ≡ 16 → T (all_below 16 ks)
+    → ((j : ℕ) → j < 16 → get_or (pick_l 0 xs ks) j 0 ≡ get_or xs (bit_xor j m) 0)
+    → (j : ℕ) → j < 16 → get_or (pick_l 0 (xs ++ xs) ks) j 0 ≡ get_or xs (bit_xor j m) 0
+swapped xs ks m long below at j less = ap (λ (l : List ℕ). get_or l j 0) (pick_l_left 0 xs xs 16 ks long below) ∙ at j less
+
+-- the lowest four bits, each turned by itself
+bits_together : (k : ℕ) → k < 16 → bit_xor (k / 8 % 2 * 8) (bit_xor (k / 4 % 2 * 4) (bit_xor (k / 2 % 2 * 2) (k % 2))) ≡ k
+bits_together =
+    at_place (λ (k : ℕ). bit_xor (k / 8 % 2 * 8) (bit_xor (k / 4 % 2 * 4) (bit_xor (k / 2 % 2 * 2) (k % 2))) ≡ k) refl refl refl refl refl refl refl refl refl refl refl refl refl refl refl refl
+
+pub parts_turn : (e j : ℕ) → bit_xor (bit_xor (bit_xor (bit_xor j (e / 8 % 2 * 8)) (e / 4 % 2 * 4)) (e / 2 % 2 * 2)) (e % 2) ≡ bit_xor j (e % 16)
+parts_turn e j =
+    let k : ℕ = e % 16 in
+    let eight : e / 8 % 2 * 8 ≡ k / 8 % 2 * 8 = omega arith in
+    let four : e / 4 % 2 * 4 ≡ k / 4 % 2 * 4 = omega arith in
+    let two : e / 2 % 2 * 2 ≡ k / 2 % 2 * 2 = omega arith in
+    let one : e % 2 ≡ k % 2 = omega arith in
+    xor_assoc (bit_xor (bit_xor j (e / 8 % 2 * 8)) (e / 4 % 2 * 4)) (e / 2 % 2 * 2) (e % 2)
+    ∙ xor_assoc (bit_xor j (e / 8 % 2 * 8)) (e / 4 % 2 * 4) (bit_xor (e / 2 % 2 * 2) (e % 2))
+    ∙ xor_assoc j (e / 8 % 2 * 8) (bit_xor (e / 4 % 2 * 4) (bit_xor (e / 2 % 2 * 2) (e % 2)))
+    ∙ ap (bit_xor j) (rw (eight, four, two, one) (bits_together k (omega arith)))
