@@ -14,7 +14,7 @@ from speed import make_day, measured
 
 # Times the processor seconds of the list, besides the seconds for imports: on a slow machine, those of a second of a recording.
 DAY = {"errors": 1.75, "outages": 1.75, "groups": 1.75}
-CONTENTS = {"json --redsea": 40, "json": 30, "db --name day {folder}/day.db": 25}
+CONTENTS = {"json --redsea": 60, "json": 45, "db --name day {folder}/day.db": 30}
 # How many times a recording's seconds its listing takes.
 LISTING = 3
 LIST = [PROGRAM, "list", "--workers", "1"]
