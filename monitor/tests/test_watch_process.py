@@ -227,8 +227,10 @@ class Forker:
         STARTED.remove(self._it.pid)
 
 
+@pytest.mark.alone
 def test_killed_fifty_times(tmp_path: Path) -> None:
-    """At random moments: nothing is lost but the last second, nothing is there twice, and the database agrees."""
+    """At random moments: nothing is lost but the last second, nothing is there twice, and the database agrees. It runs alone: on a loaded
+    machine a second may take longer."""
     chance = random.Random(7)
     path, forker = table(tmp_path), Forker(tmp_path)
     kills: List[float] = []
@@ -256,10 +258,9 @@ def test_killed_fifty_times(tmp_path: Path) -> None:
 
 
 def nothing_lost(found: "set[int]", sent: List[Tuple[int, int, float]], kills: List[float]) -> None:
-    """Between the first group of a session that is there and the last second before a kill, each is there. A machine that is loaded may
-    take two seconds more."""
+    """Between the first group of a session that is there and the last second before a kill, each is there."""
     for begin, end in zip([0.0, *kills], [*kills, 1e12]):
-        mine = [one for one in sent if begin < one[2] <= end - 3]
+        mine = [one for one in sent if begin < one[2] <= end - 2]
         numbers = numbered(n for first, after, _ in mine for n in range(first, after))
         there = [n for n in numbers if n in found]
         if there:
