@@ -45,6 +45,7 @@ class Function:
     place: tuple  # from its attributes to the end of its body
     body: str
     clauses: list
+    is_in_cycle: bool  # of calls: such functions are proved together, in a folder of the cycle's name
 
     def proof(self, folder):
         """The folder of its proof below the crates in `folder`."""
@@ -55,8 +56,8 @@ class Function:
         return bool(self.body) and self.path.replace(".", "").isidentifier()
 
     def put_hole(self, folder):
-        """Replaces its proof by a hole."""
-        if self.has_room_for_hole():
+        """Replaces its proof by a hole. Functions of a cycle keep theirs."""
+        if self.has_room_for_hole() and not self.is_in_cycle:
             shutil.rmtree(self.proof(folder), ignore_errors=True)
             os.makedirs(self.proof(folder))
             text = HOLE.format(crate=self.crate, path=self.path, name=self.path.rpartition(".")[2])
@@ -137,9 +138,8 @@ def functions_of(folder):
             is_open = it[1] == "pub " or not it[1] and (owner != kind or end == at)
             path = ".".join(filter(None, [home.get(kind, module if module != root else None), owner, it[2]]))
             is_public = is_open and bool({module, kind or it[2]} & exported)
-            yield Function(
-                crate, f"{crate}/src/{module}.rt", path, is_public, (it.start(), end), text[at:end], clauses
-            )
+            file, place, is_in_cycle = f"{crate}/src/{module}.rt", (it.start(), end), "#[cycle(" in it[0]
+            yield Function(crate, file, path, is_public, place, text[at:end], clauses, is_in_cycle)
 
 
 def copied(folder, crates, with_holes=(*LIBRARIES, EXPORTED)):

@@ -232,3 +232,37 @@ def test_streams(rds: str, first: int, cases: Cases) -> None:
     seeds = range(first, first + 100)
     assert [text for text in (difference(rds, seed) for seed in seeds) if text] == []
     cases(len(seeds))
+
+
+# ---- totals by several workers, who have 64 KiB each at least
+
+
+def long_recording(chance: random.Random) -> bytes:
+    """Parts of a station, the zero group in any phase, and noise, of 128 KiB or more together."""
+    held = bytearray()
+    while len(held) < chance.choice([140_000, 300_000, 700_000]):
+        length, kind = chance.randint(1, 50_000), chance.random()
+        if kind < 0.6:
+            start = chance.randint(0, len(station()) - length)
+            part = bytearray(station()[start : start + length])
+            for _ in range(chance.choice([0, length // 200, length // 20])):
+                place = chance.randrange(8 * length)
+                part[place // 8] ^= 0x80 >> place % 8
+        elif kind < 0.8:
+            part = bytearray((plain.packed([0, 0, 0, 0]) * (length // 13 + 1))[chance.randrange(13) :])
+        else:
+            part = bytearray(chance.randbytes(length))
+        held += part
+    return bytes(held)
+
+
+@pytest.mark.parametrize("seed", range(1, 13))
+def test_long_totals(rds: str, seed: int, cases: Cases) -> None:
+    chance = random.Random(seed)
+    held = long_recording(chance)
+    words = ["totals", *making.rules(chance), *some_gaps(chance, 8 * len(held))]
+    right = wanted(words, held)
+    for workers in {2, 3, 4, chance.randint(5, 256)}:
+        pipe = streamed(rds, [*words, "--workers", str(workers)], held, 100_000, 0, chance)
+        assert pipe == (0, right, b""), f"{' '.join(words)} --workers {workers}"
+    cases(4)

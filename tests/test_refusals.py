@@ -46,6 +46,8 @@ JOBS = [
     Job("totals --hex --pieces 16 --workers 4", ZERO + b"00003f000019800025a00001b4"),
     # totals that one worker counts over three reads and the end, and over digits
     Job("totals --workers 1", 9 * STATION),
+    # and by three workers, two of which begin with a guess
+    Job("totals --workers 3 --gaps 1000000-1000001", 16 * STATION, 2),
     Job("totals --hex --bits 101 --gaps 1-2,99-101 --workers 1", ZERO),
     # a group of version B, and a burst of five bits
     Job("list --hex", b"00003f02002c10000d400001b4"),

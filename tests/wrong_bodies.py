@@ -63,6 +63,8 @@ TOLD = "tests/wrong_bodies.answers"
 LIMIT = 1800
 # The line that ends the log of `rt ci`.
 ENDED = re.compile(r"^proofs: ended$", re.M)
+# A body that calls nothing is in no cycle of calls.
+CYCLE = r"(?m)^ *#\[cycle\(\w+\)\]\n"
 # The heads of functions whose bodies say more than their contracts: a constant or a type follows from the body.
 KEEPS_BODY = r"\bconst fn\b|->\s*impl\b"
 # Errors of an answer that names something that the edit removed, and of NO_GOAL.
@@ -191,13 +193,16 @@ def put_loops(folder, crate, edited):
     functions = [
         f for f in functions_of(f"{folder}/{crate}") if f.has_room_for_hole() and f.path not in edited
     ]
+    for f in (it for it in functions if it.is_in_cycle):
+        replace(f, is_in_cycle=False).put_hole(folder)
     for file in {f.file for f in functions}:
         text = read(f"{folder}/{file}")
         for start, end, size in sorted(
             (f.place[0], f.place[1], len(f.body)) for f in functions if f.file == file
         )[::-1]:
-            if not re.search(KEEPS_BODY, text[start : end - size]):
-                text = f"{text[:end - size]}{{ loop {{}} }}{text[end:]}"
+            head = text[start : end - size]
+            if not re.search(KEEPS_BODY, head):
+                text = f"{text[:start]}{re.sub(CYCLE, '', head)}{{ loop {{}} }}{text[end:]}"
         write(f"{folder}/{file}", text)
 
 

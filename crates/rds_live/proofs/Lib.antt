@@ -13,3 +13,4 @@ pub mod SpareGaps
 pub mod Rooms
 pub mod Moves
 pub mod Taking
+pub mod Sewing

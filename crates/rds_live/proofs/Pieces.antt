@@ -62,7 +62,7 @@ within-touched d e m n gaps are fits i late early =
     ∙ ap (λ (p : ℕ). list_any (is_touched_by p) gaps) there
     ∙ sym (part-touched (2 ^ 36) d n gaps are (i + e) (omega (arith, late)) (omega (arith, early, fits)))
 
-plus-assoc : (t a b : Totals) → plus (plus t a) b ≡ plus t (plus a b)
+pub plus-assoc : (t a b : Totals) → plus (plus t a) b ≡ plus t (plus a b)
 plus-assoc t a b =
     let at : (n : ℕ) → slice_index t.bursts n + slice_index a.bursts n + slice_index b.bursts n ≡ slice_index t.bursts n + (slice_index a.bursts n + slice_index b.bursts n) = λ n. omega arith in
     let valid : t.valid + a.valid + b.valid ≡ t.valid + (a.valid + b.valid) = omega arith in

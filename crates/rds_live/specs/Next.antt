@@ -1,17 +1,18 @@
 -- The next items and the next state of a decoder of a stream, only by its numbers: by those that a decoder
 -- was left with, and by others that are lawful and of no stream. `take`, `take_all`, `finish` and
 -- `finish_with` of `StreamDecoder` cite it. This project's rule.
-use Rattle.std.specs.Prelude.{◌≡◌, ℕ, ◌+◌, ◌-◌, ◌*◌, List, ◌++◌, length}
+use Rattle.std.specs.Prelude.{◌≡◌, ℕ, ◌+◌, ◌-◌, ◌*◌, List, [], ◌++◌, length}
 use Rattle.rds_stream.specs.Recording.{Signal}
 use Rattle.rds_sync.specs.declared.state.State.{State}
 use Rattle.rds_sync.specs.declared.state.State.TheVariants.{Searching, Locked}
 use Rattle.rds_sync.specs.declared.item.Item.{Item}
-use Rattle.rds_sync.specs.Counting.{plus}
+use Rattle.rds_sync.specs.declared.totals.Totals.{Totals}
+use Rattle.rds_sync.specs.Counting.{IsAtMost, plus}
 use Rattle.rds_sync.specs.Ranges.{IsInRange}
 use Rattle.rds_sync.specs.Step.{run, items_of_end}
 use Rattle.rds_sync.specs.Totals.{totals_of}
 use Rattle.rds_live.specs.Gaps.{gaps_within}
-use Rattle.rds_live.specs.StreamDecoder.{HasHeard, IsStreamDecoder, LiveOf, complete, last_bytes, signal_at}
+use Rattle.rds_live.specs.StreamDecoder.{HasHeard, IsStreamDecoder, LiveOf, complete, last_bytes, most_counted, signal_at}
 use Rattle.rds_live.specs.Moving.{moved_items, moved_state}
 
 -- the state, with all places moved back by d
@@ -58,6 +59,14 @@ live_next live bytes = record {
   state = moved_state (before_tail live) (run_next live bytes (8 * length bytes)).0;
   totals = plus live.totals (totals_of (completed live bytes));
 }
+
+-- the decoder if it were in this state there, and had counted nothing
+abbrev pub guessed : LiveOf → State → LiveOf
+guessed live state = record live { state = state; totals = totals_of [] }
+
+-- no count grew by more than so many bits may give
+pub record IsWithin (bits : ℕ) (before after : Totals) : Type 0 where
+  pub within : (n : ℕ) → IsAtMost n before → IsAtMost (n + most_counted bits) after
 
 -- ---- laws
 

@@ -36,11 +36,12 @@
 //!   them, and the totals of the items that are complete.
 //! - [`StreamDecoder::take`]: the next bytes, as many as are decoded at once, and the items that they complete, in room that the caller
 //!   keeps; [`MOST_ITEMS`] is as much of it as is ever of use. [`StreamDecoder::take_all`]: a chunk of any length, and its items in a list.
-//!   [`StreamDecoder::count`]: a chunk of any length, whose items are only counted.
 //! - [`StreamEnd`]: the result of the end of a stream, by [`StreamDecoder::finish`] after a whole byte, or by
 //!   [`StreamDecoder::finish_with`] at any bit.
 //! - [`StreamDecoder::tail`] and [`StreamDecoder::resume`]: the bytes that a decoder has to keep beside its place, state and
 //!   totals, and a decoder that is made of these. [`ResumeError`] says why it refuses.
+//! - [`StreamCounter`]: a decoder whose items are only counted, by several workers. [`StreamCounter::count`] takes a chunk of any
+//!   length, and [`StreamCounter::into_decoder`] is the decoder that has heard them all.
 //! - [`may_have_gaps`]: the test of gaps that these make.
 //! - [`laws`]: a run depends only on the bits heard, and bytes in two pieces give the same as at once.
 //!
@@ -52,10 +53,10 @@
 //!   the end they are the report's, and so are the totals.
 //! - Each call promises its results for numbers that are lawful and of no stream, too: those of the run over
 //!   the tail and the further bytes (`live_next`, `completed`, `group_next`).
-//! - A refused call has heard nothing: the same bytes can be offered again. `take` and `count` refuse only
-//!   `TooLong` (5), past 2^36 bits in all, and `take_all` `OutOfMemory` (8) too.
-//! - All memory that a stream needs is taken at its beginning: `take`, `count`, `finish` and `finish_with`
-//!   take none.
+//! - A refused call has heard nothing: the same bytes can be offered again. `take` and `StreamCounter::count`
+//!   refuse only `TooLong` (5), past 2^36 bits in all, and `take_all` `OutOfMemory` (8) too.
+//! - All memory that a stream needs is taken at its beginning: `take`, `finish` and `finish_with` take
+//!   none. A counter takes room for 2 MiB, and memory for its threads, without which it goes on.
 //! - It follows both rules of loss, and gaps that are known beforehand ([`StreamDecoder::with_gaps`]).
 //! - A decoder that is made of the numbers of another is equal to that one, and so has heard the same bytes.
 //!   It is refused if no stream may have its gaps, if no decoder has its numbers, or if memory is refused.
@@ -67,11 +68,13 @@
 //!
 //! Windows are read from a recording. So the next bytes are copied after those that are kept, 960 at a time,
 //! into a recording that was made with the decoder. The gaps of such a part are found by two binary searches
-//! among those of the stream.
+//! among those of the stream. A counter starts a thread for each 64 KiB of 2 MiB, as far as there are workers.
 #![tactic(auto)]
 
 // In the order of reading: the decoder, what it keeps, and how a part of a stream becomes a recording.
 mod stream_decoder; // The decoder of a stream.
+mod stream_counter; // A stream that is counted by several workers.
+mod halves; // Bytes that are counted by halves.
 mod room; // The last bytes, and those that come after them.
 mod gaps; // The gaps of a stream, and those of a part of it.
 mod moved; // States and items whose places are counted from elsewhere.
@@ -81,4 +84,5 @@ mod error; // Why a decoder that was kept as numbers is refused.
 
 pub use error::ResumeError;
 pub use gaps::may_have_gaps;
+pub use stream_counter::StreamCounter;
 pub use stream_decoder::{MOST_ITEMS, StreamDecoder, StreamEnd};

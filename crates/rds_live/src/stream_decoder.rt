@@ -10,7 +10,7 @@ ghost use Rattle.rds_sync.specs.Step.{run, items_of_end};
 ghost use Rattle.rds_sync.specs.Totals.{totals_of};
 ghost use Rattle.rds_live.specs.Moving.{moved_items};
 ghost use Rattle.rds_live.specs.StreamDecoder.{HasHeard, IsStreamDecoder, Terms, by_rules, complete, last_bytes, live_of, live_with, most_counted, most_kept, report_at, report_of, signal_of};
-ghost use Rattle.rds_live.specs.Next.{completed, group_next, items_next, live_next};
+ghost use Rattle.rds_live.specs.Next.{IsWithin, completed, group_next, guessed, items_next, live_next};
 ghost use Rattle.rds_live.specs.Places.{place_of};
 ghost use Rattle.rds_live.specs.Room.{slots_of};
 ghost use Rattle.rds_live.specs.Keeping.{IsKept, live_kept};
@@ -18,7 +18,7 @@ ghost use Rattle.rds_live.specs.Keeping.{IsKept, live_kept};
 use crate::error::ResumeError;
 use crate::gaps::may_have_gaps;
 use crate::kept::{Kept, MOST_KEPT, can_be_live};
-use crate::laws::{ends_move, next_is_heard, pieces_join, runs_move};
+use crate::laws::{ends_move, pieces_join, runs_move};
 use crate::moved::{move_on, moved_back, moved_group, moved_on};
 use crate::room::{AT_ONCE, Room};
 use rds_stream::{Counted, MOST_BITS, Recording, StreamError, are_gaps};
@@ -335,27 +335,13 @@ impl<'r> StreamDecoder<'r> {
         }
     }
 
-    /// Takes all of these bytes and only counts the items that they complete: [`totals`](StreamDecoder::totals) has them.
-    ///
-    /// Refuses more than 2^36 bits in all, and has then heard nothing. It takes no memory.
-    pub fn count(&mut self, bytes: &[u8]) -> Result<(), StreamError>
-        ensures heard { OnOk result ((before : List ℕ) → HasHeard self.old before
-            → HasHeard self.new (before ++ bytes.now)) }
-        ensures terms { self.new.terms ≡ self.old.terms }
-        ensures refused { OnErr result (self.new ≡ self.old) }
-        ensures too_long { IsErrOf result StreamError.TooLong
-            ↔ (2 ^ 36 < self.old.place + 8 * length bytes.now) }
-
-        // The same of numbers that are lawful and of no stream.
-        ensures next { OnOk result (self.new ≡ live_next self.old bytes.now) }
-        ensures only { IsOkUnless result StreamError.TooLong }
+    /// Takes all of these bytes and only counts the items that they complete. Takes no memory.
+    pub(crate) fn count(&mut self, bytes: &[u8])
+        requires fits { self.old.place + 8 * length bytes.now ≤ 2 ^ 36 }
+        ensures next { self.new ≡ live_next self.old bytes.now }
+        ensures small { IsWithin (8 * length bytes.now) self.old.totals self.new.totals }
     {
-        if bytes.len() as u64 > (MOST_BITS - self.place) / 8 {
-            return Err(StreamError::TooLong);
-        }
         pieces_join();
-        next_is_heard();
-        self.is_known();
         let mut rest = bytes;
         while !rest.is_empty() {
             let (part, others) = rest.split_at(rest.len().min(AT_ONCE));
@@ -364,14 +350,14 @@ impl<'r> StreamDecoder<'r> {
             rest = others;
         }
         self.is_still();
-        Ok(())
     }
 
     /// The same of as many bytes as are decoded at once.
     fn count_part(&mut self, bytes: &[u8])
         requires few { length bytes.now ≤ 960 }
         requires fits { self.old.place + 8 * length bytes.now ≤ 2 ^ 36 }
-        ensures { self.new ≡ live_next self.old bytes.now }
+        ensures next { self.new ≡ live_next self.old bytes.now }
+        ensures small { IsWithin (8 * length bytes.now) self.old.totals self.new.totals }
     {
         prove!(1 <= self.rules.reach());
         laws::totals_join();
@@ -389,8 +375,58 @@ impl<'r> StreamDecoder<'r> {
         self.state = moved_on(end, before);
     }
 
+    /// A decoder that searched after the bytes of `front`, and then heard the seam, in which it has counted nothing: its state is a
+    /// guess. Takes memory for its room.
+    pub(crate) fn guess_after(
+        &self,
+        alloc: Global,
+        front: &[u8],
+        seam: &[u8],
+    ) -> Result<StreamDecoder<'r>, AllocError>
+        requires long { 30 ≤ length front.now }
+        requires fits { self.now.place + 8 * length front.now + 8 * length seam.now ≤ 2 ^ 36 }
+        ensures { IfOk result (λ guess. guess
+            ≡ guessed (live_next (live_next self.now front.now) seam.now) guess.state) }
+    {
+        let tail = &front[front.len() - MOST_KEPT..];
+        let place = self.place + 8 * front.len() as u64;
+        let search = State::Searching;
+        let mut guess = StreamDecoder::of(
+            alloc,
+            self.rules,
+            self.gaps,
+            tail,
+            place,
+            search,
+            Totals::NONE,
+        )?;
+        guess.count(seam);
+        guess.totals = Totals::NONE;
+        Ok(guess)
+    }
+
+    /// Goes over the seam, and takes over the count of the rest from a guess, if that had this state after the seam. Else goes over
+    /// the rest itself.
+    pub(crate) fn sew(&mut self, seam: &[u8], rest: &[u8], mark: State, guess: StreamDecoder<'r>)
+        requires fits { self.old.place + 8 * length seam.now + 8 * length rest.now ≤ 2 ^ 36 }
+        requires guess { guess ≡ live_next (guessed (live_next self.old seam.now) mark) rest.now }
+        requires few { IsAtMost (most_counted (8 * length rest.now)) guess.totals }
+        ensures next { self.new ≡ live_next (live_next self.old seam.now) rest.now }
+        ensures small { IsWithin (8 * length seam.now + 8 * length rest.now) self.old.totals self.new.totals }
+    {
+        self.count(seam);
+        if are_same(&self.state, &mark) {
+            self.totals = self.totals.plus(guess.totals);
+            self.room = guess.room;
+            self.place = guess.place;
+            self.state = guess.state;
+            return;
+        }
+        self.count(rest);
+    }
+
     /// Its numbers are lawful, and its rules in their range.
-    fn is_known(&self)
+    pub(crate) fn is_known(&self)
         ensures live { IsStreamDecoder self.now }
         ensures range { IsInRange self.now.terms.rules }
     {
@@ -398,7 +434,7 @@ impl<'r> StreamDecoder<'r> {
     }
 
     /// No byte changes nothing.
-    fn is_still(&self)
+    pub(crate) fn is_still(&self)
         ensures known { live_next self.now [] ≡ self.now }
         ensures none { completed self.now [] ≡ [] }
     {
@@ -520,6 +556,13 @@ impl<'r> StreamDecoder<'r> {
         let group = moved_end(&part, rules, end, before);
         Ok(stream_end_of(totals, group))
     }
+}
+
+/// Whether two states are the same.
+fn are_same(one: &State, other: &State) -> bool
+    ensures { result ≡ true → one.now ≡ other.now }
+{
+    one == other
 }
 
 /// Has the decoder take all of these bytes, and gives the items that they complete.

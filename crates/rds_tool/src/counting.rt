@@ -10,16 +10,17 @@ ghost use Rattle.rds_tool.specs.Inside.Counters.{claimed_by, whole};
 use crate::input::decode_digits;
 use crate::taker::Taker;
 use crate::{Input, ToolError, Trace};
-use rds_live::StreamDecoder;
+use rds_live::{StreamCounter, StreamDecoder};
 use rds_stream::MOST_BITS;
 use rds_sync::{Rules, Totals};
 use std::alloc::{AllocError, Global};
 use std::marker::Model;
+use std::thread::Threads;
 
 /// A decoder that counts over the first bits of a recording, whose bytes come chunk by chunk: `bits` of them, or all.
 #[derive(Drop)]
 struct Counter<'a> {
-    live: StreamDecoder<'a>,
+    live: StreamCounter<'a>,
     bits: Option<u64>,
     /// How many bytes came.
     count: u64,
@@ -39,37 +40,38 @@ impl<'a> Model for Counter<'a> {
 }
 
 impl<'a> Counter<'a> {
-    /// Nothing was heard yet.
+    /// Nothing was heard yet. Up to this number of workers count.
     fn new(
         alloc: Global,
         rules: &'a Rules,
         gaps: &'a [(u64, u64)],
         bits: Option<u64>,
+        workers: u32,
     ) -> Result<Counter<'a>, ToolError>
         requires { AreGaps (2 ^ 36) gaps.now }
         ensures new { IfOk result (λ counter. counter
             ≡ record { terms = record { rules = rules.now; gaps = gaps.now }; bits = bits; bytes = [] }) }
         ensures refused { IsOkUnless result ToolError.OutOfMemory }
     {
-        match StreamDecoder::with_gaps(alloc, rules, gaps) {
-            Ok(live) => Ok(Counter {
-                live,
-                bits,
-                count: 0,
-                last: 0,
-                bytes: Trace::new(),
-            }),
-            Err(_) => Err(ToolError::OutOfMemory),
-        }
+        let Ok(live) = StreamDecoder::with_gaps(alloc, rules, gaps) else {
+            return Err(ToolError::OutOfMemory);
+        };
+        Ok(Counter {
+            live: StreamCounter::new(alloc, live, workers)?,
+            bits,
+            count: 0,
+            last: 0,
+            bytes: Trace::new(),
+        })
     }
 
     /// Hears these bytes too.
-    fn hear(&mut self, bytes: &[u8])
+    fn hear<R: Threads + Sync>(&mut self, rt: &R, alloc: Global, bytes: &[u8])
         ensures { self.new ≡ record self.old { bytes = self.old.bytes ++ bytes.now } }
     {
         let whole = whole_bytes(self.bits);
         let room = whole.saturating_sub(self.count).min(bytes.len() as u64);
-        match self.live.count(&bytes[..room as usize]) {
+        match self.live.count(rt, alloc, &bytes[..room as usize]) {
             Ok(()) => {}
             Err(_) => unreachable!(),
         }
@@ -79,7 +81,7 @@ impl<'a> Counter<'a> {
     }
 
     /// The totals of the recording, whose bytes have all come.
-    fn finish(self, alloc: Global) -> Result<Totals, ToolError>
+    fn finish<R: Threads + Sync>(self, rt: &R, alloc: Global) -> Result<Totals, ToolError>
         ensures totals { IfOk result (λ totals. (recording : Signal)
             × (first_bits (claimed self.entry.bits self.entry.bytes) self.entry.terms.gaps self.entry.bytes ≡ Ok recording)
             × (totals ≡ totals_of (report_items recording self.entry.terms.rules))) }
@@ -93,12 +95,13 @@ impl<'a> Counter<'a> {
         if self.count < bits.div_ceil(8) {
             return Err(ToolError::BitsPastBytes);
         }
-        let left = bits - self.live.place();
-        if !self.live.may_end_after(left) {
+        let live = self.live.into_decoder(rt, alloc);
+        let left = bits - live.place();
+        if !live.may_end_after(left) {
             return Err(ToolError::BadGaps);
         }
         let mut items = Vec::with_capacity(alloc, 2 * left as usize)?;
-        match self.live.finish_with(&[self.last], left, &mut items) {
+        match live.finish_with(&[self.last], left, &mut items) {
             Ok(end) => Ok(end.totals),
             Err(_) => unreachable!(),
         }
@@ -160,11 +163,12 @@ impl<'a> Model for InputCounter<'a> {
 }
 
 impl<'a> InputCounter<'a> {
-    /// Nothing came yet.
+    /// Nothing came yet. Up to this number of workers count.
     pub fn new(
         alloc: Global,
         input: &'a Input,
         rules: &'a Rules,
+        workers: u32,
     ) -> Result<InputCounter<'a>, ToolError>
         requires { AreGaps (2 ^ 36) input.now.gaps }
         ensures new { IfOk result (λ counter. counter
@@ -172,7 +176,7 @@ impl<'a> InputCounter<'a> {
         ensures refused { IsOkUnless result ToolError.OutOfMemory }
     {
         Ok(InputCounter {
-            counter: Counter::new(alloc, rules, input.gaps.as_slice(), input.bits)?,
+            counter: Counter::new(alloc, rules, input.gaps.as_slice(), input.bits, workers)?,
             hex: input.hex,
             half: None,
             strange: false,
@@ -181,7 +185,7 @@ impl<'a> InputCounter<'a> {
     }
 
     /// The totals of the recording, all of which has come.
-    pub fn finish(self, alloc: Global) -> Result<Totals, ToolError>
+    pub fn finish<R: Threads + Sync>(self, rt: &R, alloc: Global) -> Result<Totals, ToolError>
         ensures totals { IfOk result (λ totals. (recording : Signal)
             × (recording_of self.entry.input self.entry.text ≡ Ok recording)
             × (totals ≡ totals_of (report_items recording self.entry.rules))) }
@@ -190,7 +194,7 @@ impl<'a> InputCounter<'a> {
         if self.strange || self.half.is_some() {
             return Err(ToolError::HexText);
         }
-        self.counter.finish(alloc)
+        self.counter.finish(rt, alloc)
     }
 }
 
@@ -199,10 +203,15 @@ impl<'a> Taker for InputCounter<'a> {
 
     ghost terms = { λ counter. Some (counter.input, counter.rules) };
 
-    fn take(&mut self, bytes: &mut [u8]) -> Result<(), AllocError> {
+    fn take<R: Threads + Sync>(
+        &mut self,
+        rt: &R,
+        alloc: Global,
+        bytes: &mut [u8],
+    ) -> Result<(), AllocError> {
         self.text.note(bytes);
         if !self.hex {
-            self.counter.hear(bytes);
+            self.counter.hear(rt, alloc, bytes);
             return Ok(());
         }
         if self.strange {
@@ -210,7 +219,7 @@ impl<'a> Taker for InputCounter<'a> {
         }
         match decode_digits(bytes, self.half) {
             Ok((count, half)) => {
-                self.counter.hear(&bytes[..count]);
+                self.counter.hear(rt, alloc, &bytes[..count]);
                 self.half = half;
             }
             Err(_) => self.strange = true,

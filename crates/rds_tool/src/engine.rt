@@ -61,8 +61,9 @@ pub fn transcribe<R: Threads + Sync, S: Source, K: Sink>(
 
 /// [`transcribe`] with a gate, which the crew of a list or of totals calls round each piece and each join, also
 /// if there is one worker. If the gate wants no calls, a small recording has work for fewer workers than are
-/// asked for. If that is one and no cut is asked for by its place, there is no crew: the recording is decoded
-/// in one piece, and the rows of a list are written meanwhile.
+/// asked for. If no cut is asked for by its place either, totals are counted while the bytes come, of which at
+/// most 2 MiB are held. A list for which one worker is enough has no crew then: its rows are written while it is
+/// decoded.
 pub fn transcribe_gated<R: Threads + Sync, S: Source, K: Sink, G: Gate + Sync>(
     rt: &R,
     alloc: Global,
@@ -95,7 +96,7 @@ fn transcribe_task<R: Threads + Sync, S: Source, K: Sink, G: Gate + Sync>(
 {
     match task {
         Task::Totals(input, plan) => {
-            if plan.is_by_one() && !gate.wants_calls() && may_have_gaps(input.gaps.as_slice()) {
+            if plan.is_cut_evenly() && !gate.wants_calls() && may_have_gaps(input.gaps.as_slice()) {
                 transcribe_totals(rt, alloc, reader, writer, &input, &plan)
             } else {
                 transcribe_held(rt, alloc, reader, writer, Task::Totals(input, plan), gate)
@@ -105,7 +106,7 @@ fn transcribe_task<R: Threads + Sync, S: Source, K: Sink, G: Gate + Sync>(
     }
 }
 
-/// Counts the totals by one worker while the bytes come, of which none are kept.
+/// Counts the totals while the bytes come, of which only those are kept that the workers count next.
 fn transcribe_totals<R: Threads + Sync, S: Source, K: Sink>(
     rt: &R,
     alloc: Global,
@@ -121,20 +122,24 @@ fn transcribe_totals<R: Threads + Sync, S: Source, K: Sink>(
     ensures { (job : Job) → task_of job ≡ Ok (task.Totals input.now plan.now)
         → IsTranscribed S.Source K.Sink job reader.old reader.new writer.old writer.new result }
 {
-    let mut counter = InputCounter::new(alloc, input, plan.rules())?;
-    read_all(alloc, reader, &mut counter)?;
-    let rows = rows_of_counter(alloc, counter)?;
+    let mut counter = InputCounter::new(alloc, input, plan.rules(), plan.workers())?;
+    read_all(rt, alloc, reader, &mut counter)?;
+    let rows = rows_of_counter(rt, alloc, counter)?;
     Text::Whole(rows).write_to(rt, alloc, writer)
 }
 
 /// The rows of the totals that were counted.
-fn rows_of_counter(alloc: Global, counter: InputCounter<'_>) -> Result<Vec<u8>, ToolError>
+fn rows_of_counter<R: Threads + Sync>(
+    rt: &R,
+    alloc: Global,
+    counter: InputCounter<'_>,
+) -> Result<Vec<u8>, ToolError>
     ensures ok { IfOk result (λ rows. (plan : PlanOf) → plan.rules ≡ counter.entry.rules → cuts_any plan.cuts ≡ true
         → text_of_task (task.Totals counter.entry.input plan) counter.entry.text ≡ Ok rows.items) }
     ensures refused { IfErr result (λ error. (plan : PlanOf)
         → IsMemoryOrErrOf (text_of_task (task.Totals counter.entry.input plan) counter.entry.text) error) }
 {
-    let totals = counter.finish(alloc)?;
+    let totals = counter.finish(rt, alloc)?;
     totals_rows(alloc, &totals)
 }
 
@@ -153,13 +158,14 @@ fn transcribe_held<R: Threads + Sync, S: Source, K: Sink, G: Gate + Sync>(
         → IsTranscribed S.Source K.Sink job reader.old reader.new writer.old writer.new result }
 {
     let mut held = Vec::new(alloc);
-    read_all(alloc, reader, &mut held)?;
+    read_all(rt, alloc, reader, &mut held)?;
     let text = task.text(rt, alloc, held, gate)?;
     text.write_to(rt, alloc, writer)
 }
 
 /// Has all bytes of the reader taken, to its end.
-fn read_all<S: Source, T: Taker>(
+fn read_all<R: Threads + Sync, S: Source, T: Taker>(
+    rt: &R,
     alloc: Global,
     reader: &mut S,
     taker: &mut T,
@@ -181,7 +187,7 @@ fn read_all<S: Source, T: Taker>(
 {
     let mut buf = zeros(alloc, CHUNK)?;
     'turns: for _ in 0..MOST_READS {
-        let is_at_end = read_some(reader, buf.as_mut_slice(), taker)?;
+        let is_at_end = read_some(rt, alloc, reader, buf.as_mut_slice(), taker)?;
         if is_at_end {
             return Ok(());
         }
@@ -190,7 +196,9 @@ fn read_all<S: Source, T: Taker>(
 }
 
 /// One read, whose bytes are taken. Answers whether the reader was at its end.
-fn read_some<S: Source, T: Taker>(
+fn read_some<R: Threads + Sync, S: Source, T: Taker>(
+    rt: &R,
+    alloc: Global,
     reader: &mut S,
     buf: &mut [u8],
     taker: &mut T,
@@ -215,7 +223,7 @@ fn read_some<S: Source, T: Taker>(
     match reader.read(buf) {
         Ok(0) => Ok(true),
         Ok(count) => {
-            taker.take(&mut buf[..count])?;
+            taker.take(rt, alloc, &mut buf[..count])?;
             Ok(false)
         }
         Err(Failed) => Err(ToolError::Read),

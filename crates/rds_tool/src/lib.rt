@@ -74,7 +74,7 @@ mod making; // From a job to its task, and on to its text.
 mod plan; // Rules, workers and pieces.
 mod input; // From bytes to a recording.
 mod taker; // Where the bytes of a reader go.
-mod counting; // Totals by one worker, counted as the bytes come.
+mod counting; // Totals that are counted as the bytes come.
 mod one_pass; // A list by one worker, written while it is decoded.
 mod text; // The text that a task writes.
 mod listing_rows; // The rows of a report, from any on.

@@ -1,7 +1,5 @@
 //! From a job to its task, and on to the text that it makes of the bytes that a reader held.
 ghost use Rattle.std.specs.Prelude.{◌≡◌, Err, IfErr, IfOk, Ok};
-ghost use Rattle.rds_sync.specs.Report.{report_items};
-ghost use Rattle.rds_sync.specs.Totals.{totals_of as totals_of_items};
 ghost use Rattle.rds_tool.specs.Listing.{totals_text};
 ghost use Rattle.rds_tool.specs.Outcome.{cut_recording, text_of_task};
 ghost use Rattle.rds_tool.specs.Plans.{plan_of};
@@ -16,8 +14,7 @@ use crate::plan::report_by;
 use crate::task::{Listing, Plan, Task, Text, Workers};
 use crate::{Input, Job, Settings, ToolError};
 use rds_crew::Gate;
-use rds_stream::{Counted, Recording};
-use rds_sync::{Rules, Spans, State, Totals, finish, laws, run_totals};
+use rds_sync::{Spans, Totals};
 use std::alloc::Global;
 use std::thread::Threads;
 
@@ -155,24 +152,8 @@ fn totals_of<R: Threads + Sync, G: Gate + Sync>(
     ensures refused { IfErr result (IsMemoryOrErrOf (cut_recording input plan.now.cuts held.items)) }
 {
     let recording = recording_of(input, held)?;
-    if plan.is_for_one(recording.len()) && !gate.wants_calls() {
-        return Ok(count(&recording, plan.rules()));
-    }
     let report = report_by(rt, alloc, plan, &recording, Spans::Whole, gate)?;
     Ok(report.totals)
-}
-
-/// The totals of the report of a recording, which takes no memory.
-fn count(recording: &Recording, rules: &Rules) -> Totals
-    ensures { result ≡ totals_of_items (report_items recording.now rules.now) }
-{
-    prove!(1 <= rules.reach());
-    laws::runs_are_reports();
-    laws::totals_join();
-    let len = recording.len();
-    let (end, totals) = run_totals(recording, rules, State::Searching, 0, len);
-    let group = finish(&mut Counted::new(recording), rules, end);
-    totals.plus(Totals::of_end(group))
 }
 
 /// The blocks of the groups that the lines spell.

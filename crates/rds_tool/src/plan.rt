@@ -98,11 +98,11 @@ impl<'a> Plan<'a> {
         }
     }
 
-    /// Whether one worker is asked for, and no cut by its place.
-    pub fn is_by_one(&self) -> bool
+    /// Whether no cut is asked for by its place.
+    pub fn is_cut_evenly(&self) -> bool
         ensures { result ≡ true → cuts_any self.now.cuts ≡ true }
     {
-        self.workers == 1 && matches!(self.cuts, Cuts::Even(_))
+        matches!(self.cuts, Cuts::Even(_))
     }
 
     /// Whether one worker goes over a whole recording of `len` bits by itself: there is no work for more, and no cut is

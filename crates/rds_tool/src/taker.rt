@@ -1,9 +1,11 @@
 //! Where the bytes of a reader go.
 ghost use Rattle.std.specs.Prelude.{◌++◌, ◌≡◌, List, None, OnOk, Option, ℕ};
+ghost use Rattle.std.specs.Thread.{IsSync};
 ghost use Rattle.rds_sync.specs.Rules.{RuleNumbers};
 ghost use Rattle.rds_tool.specs.InputOf.{InputOf};
 
-use std::alloc::AllocError;
+use std::alloc::{AllocError, Global};
+use std::thread::Threads;
 
 /// What takes the bytes of a reader, one read after another.
 pub trait Taker {
@@ -14,7 +16,13 @@ pub trait Taker {
     ghost terms: { Self → Option (InputOf × RuleNumbers) };
 
     /// Takes these bytes, whose room it may write over.
-    fn take(&mut self, bytes: &mut [u8]) -> Result<(), AllocError>
+    fn take<R: Threads + Sync>(
+        &mut self,
+        rt: &R,
+        alloc: Global,
+        bytes: &mut [u8],
+    ) -> Result<(), AllocError>
+        requires { IsSync R.row }
         ensures taken { OnOk result (taken self.new ≡ taken self.old ++ bytes.old) }
         ensures terms { OnOk result (terms self.new ≡ terms self.old) };
 }
@@ -24,7 +32,14 @@ impl Taker for Vec<u8> {
 
     ghost terms = { λ bytes. None };
 
-    fn take(&mut self, bytes: &mut [u8]) -> Result<(), AllocError> {
+    fn take<R: Threads + Sync>(
+        &mut self,
+        rt: &R,
+        alloc: Global,
+        bytes: &mut [u8],
+    ) -> Result<(), AllocError> {
+        let _ = rt;
+        let _ = alloc;
         self.extend_from_slice(bytes)
     }
 }

@@ -17,6 +17,7 @@
 //! | | [`sync`] | rules, lawful states, steps, runs, their items one after the other, and reports |
 //! | | [`items`] | lists of items of a recording, and their totals |
 //! | `rds_live` | [`live`] | streams, chunk by chunk |
+//! | | [`counters`] | streams that several workers count |
 //! | | [`live_numbers`] | decoders of streams that are made of any lawful numbers |
 //! | `rds_abi` | [`library`] | the calls for C |
 //! | | [`kept`] | numbers that C keeps between calls |
@@ -37,6 +38,7 @@
 
 pub mod code;
 pub mod commands;
+pub mod counters;
 pub mod crew;
 pub mod dealer;
 pub mod decoder;

@@ -24,14 +24,14 @@ refused input text e (inl memory) plan = inl memory
 refused input text e (inr is) plan = inr (ap (λ r. and_then (and_then r (cut_by plan.cuts)) (λ recording. Ok (totals_list plan.rules recording))) is)
 
 pub returns-in_err-totals-clause-refused : goal.returns-in_err-totals-clause-refused
-returns-in_err-totals-clause-refused c =
+returns-in_err-totals-clause-refused g c =
     passes _ _ _ c.from_residual.ensures (refused c.args.counter.input c.args.counter.text c.in_err-totals.field-0.0 c.in_err-totals.ensures.refused)
 
 abbrev Made : InputCounterOf → Vec ℕ → Type 0
 Made k rows = (plan : PlanOf) → plan.rules ≡ k.rules → cuts_any plan.cuts ≡ true → text_of_task (task.Totals k.input plan) k.text ≡ Ok rows.items
 
 pub returns-clause-ok : goal.returns-clause-ok
-returns-clause-ok c =
+returns-clause-ok g c =
     let k = c.args.counter in
     let (recording, is, sum) = c.in_ok-totals.ensures.totals in
     let made : (rows : Vec ℕ) → rows.items ≡ totals_text c.in_ok-totals.totals → Made k rows =

@@ -1,10 +1,18 @@
-use Rattle.std.proofs.Common.{◌≡◌, ◌++◌, ◌∙◌, List, ap, arith, length, subst, sym, ℕ}
+use Rattle.std.proofs.Common.{◌≡◌, ◌+◌, ◌-◌, ◌*◌, ◌++◌, ◌∙◌, List, ap, arith, length, refl, sym, ℕ}
 use Rattle.std.proofs.lemmas.List.{length-append}
-use Rattle.rds_live.specs.StreamDecoder.{HasHeard, LiveOf}
+use Rattle.rds_live.specs.StreamDecoder.{LiveOf, most_counted}
 use Rattle.rds_live.specs.Next.{live_next}
+use Rattle.rds_live.proofs.Following.{at-most-more}
 use Rattle.rds_live.proofs.Taking.{no-rest}
-use Rattle.rds_live.proofs.stream_decoder.StreamDecoder.count.Goals.{After-is_still}
 use Rattle.rds_live.proofs.stream_decoder.StreamDecoder.count.Goals as goal
+
+pub loop-rest-init : goal.loop-rest-init
+loop-rest-init c = record {
+  next = refl;
+  place = refl;
+  few = omega arith;
+  small = record { within = λ n few. at-most-more n (n + most_counted (8 * (length c.args.bytes.now - length c.args.bytes.now))) c.args.self.now.totals (omega arith) few };
+}
 
 pub loop-rest-preserved : goal.loop-rest-preserved
 loop-rest-preserved c =
@@ -12,24 +20,29 @@ loop-rest-preserved c =
     let part = c.split_at.result.0.now in
     let others = c.split_at.result.1.now in
     let parted : loop.rest.now ≡ part ++ others = c.split_at.ensures.by_index.0 in
-    let gone = c.count_part.ensures in
+    let long = ap length parted ∙ length-append part others in
+    let gone = c.count_part.ensures.next in
     record {
-      terms = ap (λ (l : LiveOf). l.terms) gone ∙ loop.invariant.terms;
-      next = ap (λ (l : LiveOf). live_next l others) gone ∙ (c.pieces_join.ensures loop.self part others c.is_known-in-loop-rest.ensures.range c.is_known-in-loop-rest.ensures.live).0
+      next = ap (λ (l : LiveOf). live_next l others) gone ∙ (c.pieces_join.ensures loop.self part others c.is_known.ensures.range c.is_known.ensures.live).0
           ∙ ap (λ (xs : List ℕ). live_next loop.self xs) (sym parted) ∙ loop.invariant.next;
-      place = omega (arith, ap (λ (l : LiveOf). l.place) gone, ap length parted, length-append part others, loop.invariant.place);
+      place = omega (arith, ap (λ (l : LiveOf). l.place) gone, long, loop.invariant.place);
+      few = omega (arith, long, loop.invariant.few);
+      small = record {
+        within = λ n few.
+            let before : ℕ = n + most_counted (8 * (length c.args.bytes.now - length loop.rest.now)) in
+            at-most-more (before + most_counted (8 * length part)) (n + most_counted (8 * (length c.args.bytes.now - length others))) c.count_part.new.self.totals
+            (omega (arith, long, loop.invariant.few)) (c.count_part.ensures.small.within before (loop.invariant.small.within n few));
+      };
     }
 
-module _ (c : After-is_still) where
-  next_is : c.loop-rest.self ≡ live_next c.args.self.now c.args.bytes.now
-  next_is =
-      let none = no-rest c.loop-rest.rest.now (sym c.is_empty.ensures ∙ c.loop-rest-test.false) in
-      sym c.is_still.ensures.known ∙ ap (λ (xs : List ℕ). live_next c.loop-rest.self xs) (sym none) ∙ c.loop-rest.invariant.next
-
 pub returns-clause-next : goal.returns-clause-next
-returns-clause-next c = next_is (goal.at.returns-clause-next c).After-is_still
+returns-clause-next c =
+    let none = no-rest c.loop-rest.rest.now (sym c.is_empty.ensures ∙ c.loop-rest-test.false) in
+    sym c.is_still.ensures.known ∙ ap (λ (xs : List ℕ). live_next c.loop-rest.self xs) (sym none) ∙ c.loop-rest.invariant.next
 
-pub returns-clause-heard : goal.returns-clause-heard
-returns-clause-heard c before h =
-    let heard = c.next_is_heard.ensures c.args.self.now before c.args.bytes.now c.is_known.ensures.range c.is_known.ensures.live h in
-    subst (λ (l : LiveOf). HasHeard l (before ++ c.args.bytes.now)) (sym (next_is (goal.at.returns-clause-heard c).After-is_still)) heard.0
+pub returns-clause-small : goal.returns-clause-small
+returns-clause-small c = record {
+  within = λ n few.
+      at-most-more (n + most_counted (8 * (length c.args.bytes.now - length c.loop-rest.rest.now))) (n + most_counted (8 * length c.args.bytes.now)) c.loop-rest.self.totals
+      (omega arith) (c.loop-rest.invariant.small.within n few);
+}

@@ -102,9 +102,9 @@ module _ (c : After-moved_on-self-inside) where
       (c.plus-self-inside.ensures.value ∙ ap (λ (t : Totals). plus c.self.inside.totals t)
       (c.run_totals-end.ensures.totals ∙ ap (λ (r : State × List Item). totals_of r.1) run_is ∙ count-next live more (8 * length more) c.totals_join.ensures))
 
-pub returns : goal.returns
-returns c =
-    let c = (goal.at.returns c).After-moved_on-self-inside in
+pub returns-clause-next : goal.returns-clause-next
+returns-clause-next c =
+    let c = (goal.at.returns-clause-next c).After-moved_on-self-inside in
     next_is c ∙ ap (λ (l : LiveOf). live_next l (more c)) c.self.view_is
 
 pub invariant_of-self : goal.invariant_of-self

@@ -4,7 +4,7 @@ use Rattle.rds_tool.proofs.CountedBytes.{counted_on}
 use Rattle.rds_tool.proofs.counting.Counter.hear.Goals as goal
 
 pub invariant_of-self : goal.invariant_of-self
-invariant_of-self c =
+invariant_of-self g c =
     let s = c.self.inside in
     let ys = c.args.bytes.now in
     let w = c.whole_bytes-whole.ensures.value in

@@ -10,11 +10,12 @@ use Rattle.rds_tool.specs.Refusals.{IsMemoryOrErrOf}
 use Rattle.rds_tool.specs.declared.error.ToolError.{ToolError}
 use Rattle.rds_tool.specs.declared.error.ToolError.TheVariants.{HexText}
 use Rattle.rds_tool.proofs.CountedBytes.{decoded_whole, refused_half, refused_strange}
+use Rattle.rds_tool.proofs.counting.InputCounter.finish.Given.{Over}
 use Rattle.rds_tool.proofs.counting.InputCounter.finish.Goals.{After-finish, then-self-via-then-self, then-self-via-else-self+then-is_some}
 use Rattle.rds_tool.proofs.counting.InputCounter.finish.Goals as goal
 
 pub returns-then-self-clause-refused : goal.returns-then-self-clause-refused
-returns-then-self-clause-refused c =
+returns-then-self-clause-refused g c =
     let s = c.self.inside in
     let k = s.counter in
     let known : Bool → Type 0 = λ strange. IsTextOf s.hex s.half strange s.text.bytes k.bytes in
@@ -26,7 +27,7 @@ returns-then-self-clause-refused c =
           inr (ap (λ r. and_then r step) (refused_half s.half s.text.bytes k.bytes s.hex (sym w.is_some.ensures ∙ w.if-is_some.true) (subst known w.if-self.false c.self.invariant)))
     ])
 
-module _ (c : After-finish) where
+module _ (g : Over) (c : After-finish g) where
   abbrev k : CounterOf
   k = c.self.inside.counter
 
@@ -38,17 +39,17 @@ module _ (c : After-finish) where
       (decoded_whole s.half s.text.bytes k.bytes s.hex (sym c.is_some.ensures ∙ c.if-is_some.false) (subst known c.if-self.false c.self.invariant))
 
 pub returns-clause-totals : goal.returns-clause-totals
-returns-clause-totals c =
-    let d = (goal.at.returns-clause-totals c).After-finish in
+returns-clause-totals g c =
+    let d = (goal.at.returns-clause-totals g c).After-finish in
     subst (λ (m : InputCounterOf). IfOk c.finish.result (λ totals. (x : Signal) × (recording_of m.input m.text ≡ Ok x) × (totals ≡ totals_of (report_items x m.rules)))) c.self.view_is
-    (IfOk-weaker c.finish.result _ _ (λ totals made. (made.0, recorded_as d ∙ made.1, made.2)) c.finish.ensures.totals)
+    (IfOk-weaker c.finish.result _ _ (λ totals made. (made.0, recorded_as g d ∙ made.1, made.2)) c.finish.ensures.totals)
 
 told : (made wanted : Result Signal ToolError) → wanted ≡ made → (e : ToolError) → IsMemoryOrErrOf made e → IsMemoryOrErrOf wanted e
 told made wanted same e (inl memory) = inl memory
 told made wanted same e (inr refused) = inr (same ∙ refused)
 
 pub returns-clause-refused : goal.returns-clause-refused
-returns-clause-refused c =
-    let d = (goal.at.returns-clause-refused c).After-finish in
+returns-clause-refused g c =
+    let d = (goal.at.returns-clause-refused g c).After-finish in
     subst (λ (m : InputCounterOf). IfErr c.finish.result (IsMemoryOrErrOf (recording_of m.input m.text))) c.self.view_is
-    (IfErr-weaker c.finish.result _ _ (told _ _ (recorded_as d)) c.finish.ensures.refused)
+    (IfErr-weaker c.finish.result _ _ (told _ _ (recorded_as g d)) c.finish.ensures.refused)

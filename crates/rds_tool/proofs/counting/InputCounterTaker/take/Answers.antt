@@ -4,7 +4,7 @@ use Rattle.rds_tool.proofs.HexDigits.{decoded_on}
 use Rattle.rds_tool.proofs.counting.InputCounterTaker.take.Goals as goal
 
 pub invariant_of-self-in-Ok : goal.invariant_of-self-in-Ok
-invariant_of-self-in-Ok c =
+invariant_of-self-in-Ok g c =
     let s = c.self.inside in
     let part = c.args.bytes.now in
     let next = take c.in-Ok.count c.decode_digits.new.text in

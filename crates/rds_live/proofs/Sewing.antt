@@ -1,0 +1,99 @@
+-- A decoder that takes over the count of a guess.
+use Rattle.std.proofs.Common.{◌≡◌, ◌+◌, ◌-◌, ◌*◌, ◌^◌, ◌≤◌, ◌++◌, ◌∙◌, List, [], ap, arith, drop, length, refl, subst, sym, take, ℕ}
+use Rattle.std.specs.Prelude.{slice_index}
+use Rattle.std.proofs.lemmas.List.{drop-drop, drop_at, length-append, take_rest}
+use Rattle.rds_stream.specs.Recording.{AreGaps}
+use Rattle.rds_sync.specs.Counting.{IsAtMost, plus}
+use Rattle.rds_sync.specs.Ranges.{IsInRange}
+use Rattle.rds_sync.specs.Totals.{totals_of}
+use Rattle.rds_sync.specs.declared.state.State.{State}
+use Rattle.rds_sync.specs.declared.totals.Totals.{Totals}
+use Rattle.rds_live.specs.Next.{IsWithin, NextIsHeard, PiecesJoin, completed, guessed, live_next}
+use Rattle.rds_live.specs.StreamDecoder.{HasHeard, IsStreamDecoder, LiveOf, Terms, last_bytes, live_of, most_counted, most_kept}
+use Rattle.rds_live.proofs.Following.{at-most-more}
+
+-- the last bytes of a stream are those of its end, if that is long enough
+pub end-kept : (tail front : List ℕ) → most_kept ≤ length front → take (length front - (length front - most_kept)) (drop (length front - most_kept) front) ≡ last_bytes (tail ++ front)
+end-kept tail front long =
+    let k : ℕ = length front - most_kept in
+    let there : length tail + k ≡ length (tail ++ front) - most_kept = omega (arith, length-append tail front, long) in
+    take_rest front k ∙ sym (ap (λ (n : ℕ). drop n (tail ++ front)) (sym there) ∙ sym (drop-drop k (length tail) (tail ++ front)) ∙ ap (drop k) (drop_at tail front (length tail) refl))
+
+-- nothing more was counted before
+pub plus-none : (t u : Totals) → plus t (plus (totals_of []) u) ≡ plus t u
+plus-none t u =
+    let at : (n : ℕ) → slice_index t.bursts n + (0 + slice_index u.bursts n) ≡ slice_index t.bursts n + slice_index u.bursts n = λ n. omega arith in
+    let valid : t.valid + (0 + u.valid) ≡ t.valid + u.valid = omega arith in
+    let lost : t.lost + (0 + u.lost) ≡ t.lost + u.lost = omega arith in
+    let bits : t.bits + (0 + u.bits) ≡ t.bits + u.bits = omega arith in
+    let groups : t.groups + (0 + u.groups) ≡ t.groups + u.groups = omega arith in
+    let complete : t.complete + (0 + u.complete) ≡ t.complete + u.complete = omega arith in
+    let acquired : t.acquired + (0 + u.acquired) ≡ t.acquired + u.acquired = omega arith in
+    let losses : t.losses + (0 + u.losses) ≡ t.losses + u.losses = omega arith in
+    rw (valid, at 0, at 1, at 2, at 3, at 4, lost, bits, groups, complete, acquired, losses) refl
+
+-- the decoder after more bytes than a seam, from a guess that was in its state there
+pub sewn : (live guess : LiveOf) (rest : List ℕ) (mark : State) (totals : Totals) → guess ≡ live_next (guessed live mark) rest → mark ≡ live.state → totals ≡ plus live.totals guess.totals
+    → record { terms = live.terms; tail = guess.tail; place = guess.place; state = guess.state; totals = totals } ≡ live_next live rest
+sewn live guess rest mark totals is met sum =
+    let same : guess ≡ live_next (guessed live live.state) rest = is ∙ ap (λ (s : State). live_next (guessed live s) rest) met in
+    let all : totals ≡ plus live.totals (totals_of (completed live rest)) =
+    sum ∙ ap (λ (g : LiveOf). plus live.totals g.totals) same ∙ plus-none live.totals (totals_of (completed live rest)) in
+    ap (λ (t : Totals). record { terms = live.terms; tail = guess.tail; place = guess.place; state = guess.state; totals = t }) all
+    ∙ ap (λ (g : LiveOf). record { terms = live.terms; tail = g.tail; place = g.place; state = g.state; totals = plus live.totals (totals_of (completed live rest)) }) same
+
+-- the numbers of a guess, which begins with a search at the same place
+pub guess-is : (live : LiveOf) (front seam tail : List ℕ) (place : ℕ) (search : State) (none : Totals) (guess : LiveOf) → tail ≡ last_bytes (live.tail ++ front) → place ≡ live.place + 8 * length front
+    → guess ≡ live_next (record { terms = live.terms; tail = tail; place = place; state = search; totals = none }) seam
+    → record guess { totals = totals_of [] } ≡ guessed (live_next (live_next live front) seam) guess.state
+guess-is live front seam tail place search none guess tail_is place_is is =
+    let next : LiveOf = live_next (live_next live front) seam in
+    let terms : guess.terms ≡ next.terms = ap (λ (l : LiveOf). l.terms) is in
+    let kept : guess.tail ≡ next.tail = ap (λ (l : LiveOf). l.tail) is ∙ ap (λ (xs : List ℕ). last_bytes (xs ++ seam)) tail_is in
+    let there : guess.place ≡ next.place = ap (λ (l : LiveOf). l.place) is ∙ ap (λ (n : ℕ). n + 8 * length seam) place_is in
+    rw (terms, kept, there) refl
+
+-- what grew twice
+pub both-within : (m k : ℕ) (first next last : Totals) → IsWithin m first next → IsWithin k next last → IsWithin (m + k) first last
+both-within m k first next last one two = record {
+  within = λ n few. at-most-more (n + most_counted m + most_counted k) (n + most_counted (m + k)) last (omega arith) (two.within (n + most_counted m) (one.within n few));
+}
+
+none-counted : IsAtMost 0 (totals_of [])
+none-counted = record {
+  valid = omega arith;
+  burst1 = omega arith;
+  burst2 = omega arith;
+  burst3 = omega arith;
+  burst4 = omega arith;
+  burst5 = omega arith;
+  lost = omega arith;
+  bits = omega arith;
+  groups = omega arith;
+  complete = omega arith;
+  acquired = omega arith;
+  losses = omega arith;
+}
+
+-- all that was counted
+pub from-none : (bits : ℕ) (first last : Totals) → first ≡ totals_of [] → IsWithin bits first last → IsAtMost (most_counted bits) last
+from-none bits first last none within =
+    at-most-more (0 + most_counted bits) (most_counted bits) last (omega arith) (within.within 0 (subst (λ (t : Totals). IsAtMost 0 t) (sym none) none-counted))
+
+pub within-all : (m k : ℕ) (first last : Totals) → m ≡ k → IsWithin m first last → IsWithin k first last
+within-all m k first last same is = subst (λ (n : ℕ). IsWithin n first last) same is
+
+-- ---- a stream that is heard on
+
+-- the decoder that has heard nothing
+first-is : (terms : Terms) → AreGaps (2 ^ 36) terms.gaps → IsStreamDecoder (live_of terms [])
+first-is terms gaps = record { whole = refl; limit = omega arith; kept = refl; lawful = tt; small = none-counted; gaps = gaps }
+
+-- whether or not these are numbers of a decoder
+pub heard-on : NextIsHeard → PiecesJoin → (live : LiveOf) (before bytes : List ℕ) → IsInRange live.terms.rules → AreGaps (2 ^ 36) live.terms.gaps → HasHeard live before
+    → HasHeard (live_next live bytes) (before ++ bytes)
+heard-on next join live before bytes range gaps heard =
+    let first : LiveOf = live_of live.terms [] in
+    let known : IsStreamDecoder first = first-is live.terms gaps in
+    let all : (xs : List ℕ) → live_next first xs ≡ live_of live.terms xs = λ xs. (next first [] xs range known refl).0 in
+    ap (λ (l : LiveOf). live_next l bytes) (heard ∙ sym (all before)) ∙ (join first before bytes range known).0 ∙ all (before ++ bytes)
