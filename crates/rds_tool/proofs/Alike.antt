@@ -8,7 +8,7 @@ use Rattle.std.proofs.Math.ListN.{get_or-append}
 use Rattle.std.specs.Int.{bit_at}
 use Rattle.std.specs.Int.Digits.{number_from_digits}
 use Rattle.std.specs.List.{list_any, range_with_len}
-use Rattle.std.specs.Prelude.{nat_le, nat_lt, ◌&&◌, ◌||◌}
+use Rattle.std.specs.Prelude.{nat_le, nat_lt, ◌&&◌}
 use Rattle.rds_live.specs.Moving.{EndsMove, IsPartHeard, RunsMove, moved_item, moved_items, moved_state}
 use Rattle.rds_live.specs.StreamDecoder.{Terms, complete, run_of, signal_at, signal_of}
 use Rattle.rds_stream.specs.Recording.{Signal, bits_of, heard, is_touched_by, length_of, packed_bit, touched, window}

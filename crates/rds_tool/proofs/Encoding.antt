@@ -1,19 +1,44 @@
--- Lines encoded one after the other.
-use Rattle.std.proofs.Common.{◌+◌, ◌++◌, ◌<◌, ◌∙◌, ◌∷◌, ◌≡◌, ◌≢◌, Bool, Bor, Err, List, Ok, Result, [], add-one, ap, append_assoc, drop, false, get_or, length, map, refl, inl, inr, sym, true, ℕ}
-use Rattle.std.proofs.Math.Seq.{drop-cons}
-use Rattle.rds_tool.specs.GroupText.{group_bytes, group_text, line_text, lines_text, words_of}
-use Rattle.hex.specs.Hex.{encode_lower}
+-- Groups of lines whose text goes on.
+use Rattle.std.proofs.Common.{◌+◌, ◌++◌, ◌<◌, ◌≤◌, ◌==◌, ◌%◌, ◌/◌, ◌∙◌, ◌∷◌, ◌≡◌, ◌≢◌, Bool, Err, List, Ok, Result, [], ap, ap₂, append-nil, append_assoc, arith, drop, false, get_or, if◌then◌else◌, length, length-append, map, length-take, not, refl, set, subst, sym, take, true, ◌||◌, ℕ}
+use Rattle.std.specs.List.{concat, filter, flat_map, onto_first, slice_split}
+use Rattle.std.proofs.lemmas.Bool.{eqb-false, ne_eqb}
+use Rattle.std.proofs.lemmas.Grind.{flat_map-append, take-set_at}
+use Rattle.std.proofs.lemmas.List.{drop-map, length-set, take-map, take_all, take_more}
+use Rattle.std.proofs.lemmas.List.Splits.{length-slice_split}
+use Rattle.hex.specs.Hex.{decode_pairs}
+use Rattle.hex.specs.declared.error.FromHexError.{FromHexError}
+use Rattle.hex.specs.declared.error.FromHexError.TheVariants.{InvalidStringLength, OddLength}
+use Rattle.rds_tool.specs.GroupText.{encoded_text, group_text, is_space, line_text, lines_of, lines_text, words_of, words_or_refusal}
 use Rattle.rds_tool.specs.Input.{and_then}
-use Rattle.rds_tool.specs.Refusals.{IsMemoryOrErrOf}
+use Rattle.rds_tool.specs.Inside.GroupLines.{AddsLine, HasGroups, IsGroupLines, begun, text_of_groups, with_lines}
 use Rattle.rds_tool.specs.declared.error.ToolError.{ToolError}
+use Rattle.rds_tool.specs.declared.error.ToolError.TheVariants.{GroupText}
 
--- the text so far, and then what is made of the lines that are left
-abbrev pub with_rest : Bool → List ℕ → List (List ℕ) → Result (List ℕ) ToolError
-with_rest hex text lines = and_then (lines_text hex lines) (λ others. Ok (text ++ others))
+-- ---- the lines of a text with one byte before it
 
--- a line that is fine adds its text
-pub line_taken : (hex : Bool) (text : List ℕ) (line : List ℕ) (lines : List (List ℕ)) (more : List ℕ) → line_text hex line ≡ Ok more
-    → with_rest hex text (line ∷ lines) ≡ with_rest hex (text ++ more) lines
+blank_before : (b : ℕ) (rest : List ℕ) → is_space b ≡ true → lines_of (b ∷ rest) ≡ lines_of rest
+blank_before b rest h = ap (λ t. slice_split (λ x. x == 10) (if not t then b ∷ filter (λ x. not (is_space x)) rest else filter (λ x. not (is_space x)) rest)) h
+
+digit_before : (b : ℕ) (rest : List ℕ) → is_space b ≡ false → b == 10 ≡ false → lines_of (b ∷ rest) ≡ onto_first b (lines_of rest)
+digit_before b rest h d =
+    ap (λ t. slice_split (λ x. x == 10) (if not t then b ∷ filter (λ x. not (is_space x)) rest else filter (λ x. not (is_space x)) rest)) h
+    ∙ ap (λ t. if t then [] ∷ lines_of rest else onto_first b (lines_of rest)) d
+
+some_lines : (rest : List ℕ) → 0 < length (lines_of rest)
+some_lines rest = omega (arith, length-slice_split (λ b. b == 10) (filter (λ b. not (is_space b)) rest))
+
+begun_more : (line : List ℕ) (b : ℕ) (lines : List (List ℕ)) → 0 < length lines → begun line (onto_first b lines) ≡ begun (line ++ b ∷ []) lines
+begun_more line b [] h = absurd (omega (arith, h))
+begun_more line b (rest ∷ lines) h = ap (λ l. l ∷ lines) (sym (append_assoc line (b ∷ []) rest))
+
+none_begun : (lines : List (List ℕ)) → begun [] lines ≡ lines
+none_begun [] = refl
+none_begun (rest ∷ lines) = refl
+
+-- ---- the first of some lines
+
+line_taken : (hex : Bool) (text : List ℕ) (line : List ℕ) (lines : List (List ℕ)) (more : List ℕ) → line_text hex line ≡ Ok more
+    → with_lines hex text (line ∷ lines) ≡ with_lines hex (text ++ more) lines
 line_taken hex text line lines more e = rw e (regroup (lines_text hex lines))
   where
     regroup : (r : Result (List ℕ) ToolError)
@@ -21,50 +46,180 @@ line_taken hex text line lines more e = rw e (regroup (lines_text hex lines))
     regroup (Ok others) = ap (λ (t : List ℕ). Ok t) (sym (append_assoc text more others))
     regroup (Err error) = refl
 
--- the first faulty line decides
-pub line_refused : (hex : Bool) (text : List ℕ) (line : List ℕ) (lines : List (List ℕ)) (error : ToolError) → line_text hex line ≡ Err error
-    → with_rest hex text (line ∷ lines) ≡ Err error
-line_refused hex text line lines error e = rw e refl
-
--- nothing taken yet
-pub nothing_taken : (hex : Bool) (lines : List (List ℕ)) → lines_text hex lines ≡ with_rest hex [] lines
-nothing_taken hex lines = same (lines_text hex lines)
-  where
-    same : (r : Result (List ℕ) ToolError) → r ≡ and_then r (λ others. Ok ([] ++ others))
-    same (Ok others) = refl
-    same (Err error) = refl
+line_refused : (hex : Bool) (text : List ℕ) (line : List ℕ) (lines : List (List ℕ)) → line_text hex line ≡ Err GroupText
+    → with_lines hex text (line ∷ lines) ≡ Err GroupText
+line_refused hex text line lines e = rw e refl
 
 -- a line with digits
 pub line_of_digits : (hex : Bool) (line : List ℕ) → length line ≢ 0 → line_text hex line ≡ and_then (words_of line) (λ words. Ok (group_text hex words))
 line_of_digits hex [] h = absurd (h refl)
 line_of_digits hex (digit ∷ digits) h = refl
 
--- a line more is taken, or decides
-module _ (hex : Bool) (lines : List (Bor (List ℕ))) (i : ℕ) (none : Bor (List ℕ)) (text : List ℕ) (whole : Result (List ℕ) ToolError)
-    (so_far : whole ≡ with_rest hex text (map (λ l. l.now) (drop i lines))) (within : i < length lines) where
-  next : drop i lines ≡ get_or lines i none ∷ drop (i + 1) lines
-  next = rw add-one (drop-cons lines i none within)
+-- a line of more than sixteen digits is refused
+long_line : (hex : Bool) (line : List ℕ) → 16 < length line → line_text hex line ≡ Err GroupText
+long_line hex line h =
+    line_of_digits hex line (λ z. omega (arith, z, h))
+    ∙ ap (λ r. and_then r (λ words. Ok (group_text hex words)))
+    (refused (length line % 2 == 1) (length line / 2 == 8) (decode_pairs 0 line) (λ even. ne_eqb (length line / 2) 8 (λ z. omega (arith, z, h, eqb-false (length line % 2) 1 even))))
+  where
+    refused : (odd fits : Bool) (decoded : Result (List ℕ) FromHexError) → (odd ≡ false → fits ≡ false)
+        → words_or_refusal (if odd then Err OddLength else if fits then decoded else Err InvalidStringLength) ≡ Err GroupText
+    refused true fits decoded e = refl
+    refused false false decoded e = refl
+    refused false true decoded e = absurd (no (e refl))
+      where
+        no : true ≡ false → ⊥
+        no p = cc p
 
-  here : whole ≡ with_rest hex text ((get_or lines i none).now ∷ map (λ l. l.now) (drop (i + 1) lines))
-  here = so_far ∙ ap (λ ls. with_rest hex text (map (λ l. l.now) ls)) next
+-- ---- one byte more
 
-  pub one_more : (more new : List ℕ) → line_text hex (get_or lines i none).now ≡ Ok more → new ≡ text ++ more
-      → whole ≡ with_rest hex new (map (λ l. l.now) (drop (i + 1) lines))
-  one_more more new taken is_new =
-      let rest = map (λ (l : Bor (List ℕ)). l.now) (drop (i + 1) lines) in
-      here ∙ line_taken hex text (get_or lines i none).now rest more taken ∙ ap (λ t. with_rest hex t rest) (sym is_new)
+module _ (groups : List (List ℕ)) (line text : List ℕ) (b : ℕ) where
+  -- a refused text stays so
+  pub stays_refused : (more : List (List ℕ)) (next : List ℕ) → HasGroups groups line true text → HasGroups more next true (text ++ b ∷ [])
+  stays_refused more next has hex rest = ap (encoded_text hex) (append_assoc text (b ∷ []) rest) ∙ has hex (b ∷ rest)
 
-  pub one_refused : (error : ToolError) → IsMemoryOrErrOf (line_text hex (get_or lines i none).now) error → IsMemoryOrErrOf whole error
-  one_refused error (inl memory) = inl memory
-  one_refused error (inr refused) = inr (here ∙ line_refused hex text (get_or lines i none).now (map (λ (l : Bor (List ℕ)). l.now) (drop (i + 1) lines)) error refused)
+  module _ (has : HasGroups groups line false text) where
+    goes_on : (hex : Bool) (rest : List ℕ) → encoded_text hex ((text ++ b ∷ []) ++ rest) ≡ with_lines hex (text_of_groups hex groups) (begun line (lines_of (b ∷ rest)))
+    goes_on hex rest = ap (encoded_text hex) (append_assoc text (b ∷ []) rest) ∙ has hex (b ∷ rest)
 
--- a group as a line of digits
-pub group_as_digits : (old digits bytes middle new : List ℕ) (hex : Bool) (words : List ℕ) → hex ≡ true → bytes ≡ group_bytes words → digits ≡ encode_lower bytes
-    → middle ≡ old ++ digits → new ≡ middle ++ 10 ∷ [] → new ≡ old ++ group_text hex words
-group_as_digits old digits bytes middle new hex words h b d m n =
-    n ∙ ap (λ t. t ++ 10 ∷ []) m ∙ append_assoc old digits (10 ∷ [])
-    ∙ ap (λ t. old ++ t) (ap (λ t. t ++ 10 ∷ []) (d ∙ ap encode_lower b) ∙ sym (ap (λ x. group_text x words) h))
+    pub blank_taken : is_space b ≡ true → HasGroups groups line false (text ++ b ∷ [])
+    blank_taken h hex rest = goes_on hex rest ∙ ap (λ lines. with_lines hex (text_of_groups hex groups) (begun line lines)) (blank_before b rest h)
 
--- a group as bytes
-pub group_as_bytes : (old bytes new : List ℕ) (hex : Bool) (words : List ℕ) → hex ≡ false → bytes ≡ group_bytes words → new ≡ old ++ bytes → new ≡ old ++ group_text hex words
-group_as_bytes old bytes new hex words h b n = n ∙ ap (λ t. old ++ t) (b ∙ sym (ap (λ x. group_text x words) h))
+    -- a digit goes to the line
+    pub digit_taken : is_space b ≡ false → b == 10 ≡ false → HasGroups groups (line ++ b ∷ []) false (text ++ b ∷ [])
+    digit_taken h d hex rest =
+        goes_on hex rest
+        ∙ ap (λ lines. with_lines hex (text_of_groups hex groups) lines) (ap (begun line) (digit_before b rest h d) ∙ begun_more line b (lines_of rest) (some_lines rest))
+
+    -- one digit too many
+    pub digit_refused : (more : List (List ℕ)) (next : List ℕ) → is_space b ≡ false → b == 10 ≡ false → length line ≡ 16 → HasGroups more next true (text ++ b ∷ [])
+    digit_refused more next h d full hex rest = digit_taken h d hex rest ∙ first (lines_of rest) (some_lines rest)
+      where
+        first : (lines : List (List ℕ)) → 0 < length lines → with_lines hex (text_of_groups hex groups) (begun (line ++ b ∷ []) lines) ≡ Err GroupText
+        first [] some = absurd (omega (arith, some))
+        first (end ∷ lines) some =
+            line_refused hex (text_of_groups hex groups) ((line ++ b ∷ []) ++ end) lines
+            (long_line hex ((line ++ b ∷ []) ++ end) (omega (arith, full, length-append line (b ∷ []), length-append (line ++ b ∷ []) end)))
+
+    module _ (feed : b ≡ 10) where
+      fed : (hex : Bool) (rest : List ℕ) → encoded_text hex ((text ++ b ∷ []) ++ rest) ≡ with_lines hex (text_of_groups hex groups) (line ∷ lines_of rest)
+      fed hex rest =
+          goes_on hex rest ∙ ap (λ x. with_lines hex (text_of_groups hex groups) (begun line (lines_of (x ∷ rest)))) feed
+          ∙ ap (λ l. with_lines hex (text_of_groups hex groups) (l ∷ lines_of rest)) (append-nil line)
+
+      -- a line ends
+      pub line_ends : (more : List (List ℕ)) → AddsLine line groups more → HasGroups more [] false (text ++ b ∷ [])
+      line_ends more (added, is, says) hex rest =
+          fed hex rest ∙ line_taken hex (text_of_groups hex groups) line (lines_of rest) (text_of_groups hex added) (says hex)
+          ∙ ap₂ (λ t lines. with_lines hex t lines) (sym (ap (text_of_groups hex) is ∙ flat_map-append (group_text hex) groups added)) (sym (none_begun (lines_of rest)))
+
+      pub line_is_refused : (more : List (List ℕ)) (next : List ℕ) → ((hex : Bool) → line_text hex line ≡ Err GroupText) → HasGroups more next true (text ++ b ∷ [])
+      line_is_refused more next says hex rest = fed hex rest ∙ line_refused hex (text_of_groups hex groups) line (lines_of rest) (says hex)
+
+-- ---- the same of a line that is kept in sixteen bytes
+
+module _ (groups : List (List ℕ)) (line : List ℕ) (len : ℕ) (text : List ℕ) (b : ℕ) (more : List ℕ) (is : more ≡ text ++ b ∷ []) where
+  module _ (faulty : Bool) (has : IsGroupLines groups line len faulty text) where
+    pub after_blank : is_space b ≡ true → IsGroupLines groups line len faulty more
+    after_blank h = record { room = has.room; fits = has.fits; has = subst (HasGroups groups (take len line) faulty) (sym is) (next faulty has.has) }
+      where
+        next : (f : Bool) → HasGroups groups (take len line) f text → HasGroups groups (take len line) f (text ++ b ∷ [])
+        next true refused = stays_refused groups (take len line) text b groups (take len line) refused
+        next false taken = blank_taken groups (take len line) text b taken h
+
+    pub after_digit : is_space b ≡ false → b == 10 ≡ false → len < 16 → IsGroupLines groups (set line len b) (len + 1) faulty more
+    after_digit h d free = record {
+      room = length-set line len b ∙ has.room;
+      fits = omega (arith, free);
+      has = subst (HasGroups groups (take (len + 1) (set line len b)) faulty) (sym is)
+          (subst (λ l. HasGroups groups l faulty (text ++ b ∷ [])) (sym (take-set_at line len (len + 1) b refl (omega (arith, free, has.room)))) (next faulty has.has));
+    }
+      where
+        next : (f : Bool) → HasGroups groups (take len line) f text → HasGroups groups (take len line ++ b ∷ []) f (text ++ b ∷ [])
+        next true refused = stays_refused groups (take len line) text b groups (take len line ++ b ∷ []) refused
+        next false taken = digit_taken groups (take len line) text b taken h d
+
+    pub after_long : is_space b ≡ false → b == 10 ≡ false → len ≡ 16 → IsGroupLines groups line len true more
+    after_long h d full = record { room = has.room; fits = has.fits; has = subst (HasGroups groups (take len line) true) (sym is) (next faulty has.has) }
+      where
+        next : (f : Bool) → HasGroups groups (take len line) f text → HasGroups groups (take len line) true (text ++ b ∷ [])
+        next true refused = stays_refused groups (take len line) text b groups (take len line) refused
+        next false taken = digit_refused groups (take len line) text b taken groups (take len line) h d (omega (arith, length-take len line, full, has.room))
+
+    pub after_feed : b ≡ 10 → (fine : Bool) (new : List (List ℕ)) → (fine ≡ true → AddsLine (take len line) groups new)
+        → (fine ≡ false → (hex : Bool) → line_text hex (take len line) ≡ Err GroupText) → IsGroupLines new line 0 (faulty || not fine) more
+    after_feed feed fine new adds refuses =
+        record { room = has.room; fits = omega arith; has = subst (HasGroups new [] (faulty || not fine)) (sym is) (next faulty fine has.has adds refuses) }
+      where
+        next : (f fine : Bool) → HasGroups groups (take len line) f text → (fine ≡ true → AddsLine (take len line) groups new)
+            → (fine ≡ false → (hex : Bool) → line_text hex (take len line) ≡ Err GroupText) → HasGroups new [] (f || not fine) (text ++ b ∷ [])
+        next true fine refused adds refuses = stays_refused groups (take len line) text b new [] refused
+        next false true taken adds refuses = line_ends groups (take len line) text b taken feed new (adds refl)
+        next false false taken adds refuses = line_is_refused groups (take len line) text b taken feed new [] (refuses refl)
+
+-- ---- the whole text
+
+module _ (groups : List (List ℕ)) (line text : List ℕ) (hex : Bool) where
+  pub all_refused : HasGroups groups line true text → encoded_text hex text ≡ Err GroupText
+  all_refused has = ap (encoded_text hex) (sym (append-nil text)) ∙ has hex []
+
+  module _ (has : HasGroups groups line false text) where
+    ended : encoded_text hex text ≡ with_lines hex (text_of_groups hex groups) (line ∷ [])
+    ended = ap (encoded_text hex) (sym (append-nil text)) ∙ has hex [] ∙ ap (λ l. with_lines hex (text_of_groups hex groups) (l ∷ [])) (append-nil line)
+
+    pub last_line : (more : List (List ℕ)) → AddsLine line groups more → encoded_text hex text ≡ Ok (text_of_groups hex more)
+    last_line more (added, is, says) =
+        ended ∙ line_taken hex (text_of_groups hex groups) line [] (text_of_groups hex added) (says hex)
+        ∙ ap (λ (t : List ℕ). Ok t) (append-nil (text_of_groups hex groups ++ text_of_groups hex added) ∙ sym (ap (text_of_groups hex) is ∙ flat_map-append (group_text hex) groups added))
+
+    pub last_is_refused : line_text hex line ≡ Err GroupText → encoded_text hex text ≡ Err GroupText
+    last_is_refused says = ended ∙ line_refused hex (text_of_groups hex groups) line [] says
+
+-- the text of which a line was kept in sixteen bytes
+module _ (groups : List (List ℕ)) (line : List ℕ) (len : ℕ) (text : List ℕ) (hex : Bool) where
+  pub fine_text : (faulty : Bool) → IsGroupLines groups line len faulty text → faulty ≡ false → (more : List (List ℕ)) → AddsLine (take len line) groups more
+      → encoded_text hex text ≡ Ok (text_of_groups hex more)
+  fine_text true has fine more adds = absurd (no fine)
+    where
+      no : true ≡ false → ⊥
+      no p = cc p
+  fine_text false has fine more adds = last_line groups (take len line) text hex has.has more adds
+
+  pub faulty_text : (faulty : Bool) → IsGroupLines groups line len faulty text → faulty ≡ true → encoded_text hex text ≡ Err GroupText
+  faulty_text true has faulty = all_refused groups (take len line) text hex has.has
+  faulty_text false has faulty = absurd (no faulty)
+    where
+      no : false ≡ true → ⊥
+      no p = cc p
+
+  pub faulty_line : (faulty : Bool) → IsGroupLines groups line len faulty text → line_text hex (take len line) ≡ Err GroupText → encoded_text hex text ≡ Err GroupText
+  faulty_line true has says = all_refused groups (take len line) text hex has.has
+  faulty_line false has says = last_is_refused groups (take len line) text hex has.has says
+
+-- no text yet
+pub no_text : HasGroups [] [] false []
+no_text hex rest = taken (lines_text hex (lines_of rest)) ∙ ap (λ lines. with_lines hex [] lines) (sym (none_begun (lines_of rest)))
+  where
+    taken : (r : Result (List ℕ) ToolError) → r ≡ and_then r (λ others. Ok ([] ++ others))
+    taken (Ok others) = refl
+    taken (Err error) = refl
+
+-- ---- the text of groups, row by row
+
+module _ (hex : Bool) where
+  pub one_row : (groups : List (List ℕ)) (i : ℕ) → i < length groups
+      → flat_map (group_text hex) (take (i + 1) groups) ≡ flat_map (group_text hex) (take i groups) ++ group_text hex (get_or groups i [])
+  one_row groups i within =
+      ap (flat_map (group_text hex)) (take_more groups i [] within) ∙ flat_map-append (group_text hex) (take i groups) (get_or groups i [] ∷ [])
+      ∙ ap (λ text. flat_map (group_text hex) (take i groups) ++ text) (append-nil (group_text hex (get_or groups i [])))
+
+  pub as_rows : (groups : List (List ℕ)) → flat_map (group_text hex) groups ≡ concat (map (group_text hex) groups)
+  as_rows [] = refl
+  as_rows (words ∷ groups) = ap (λ text. group_text hex words ++ text) (as_rows groups)
+
+  -- those of a part of the groups
+  pub all_rows : (groups : List (List ℕ)) (from n i : ℕ) → length (take n (drop from groups)) ≤ i
+      → flat_map (group_text hex) (take i (take n (drop from groups))) ≡ concat (take n (drop from (map (group_text hex) groups)))
+  all_rows groups from n i past =
+      ap (flat_map (group_text hex)) (take_all i (take n (drop from groups)) past) ∙ as_rows (take n (drop from groups))
+      ∙ ap concat (sym (ap (take n) (drop-map (group_text hex) from groups) ∙ take-map (group_text hex) n (drop from groups)))

@@ -1,6 +1,7 @@
 -- Specs that only the bodies of this crate cite, and no contract of a public function.
 pub mod Counters
 pub mod Digits
+pub mod GroupLines
 pub mod HexText
 pub mod RowWriter
 pub mod Rows

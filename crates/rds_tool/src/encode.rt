@@ -1,97 +1,67 @@
-//! Groups from lines of digits to packed blocks.
-ghost use Rattle.std.specs.Prelude.{◌*◌, ◌+◌, ◌++◌, ◌==◌, ◌≡◌, IfErr, IfOk, List, Ok, OnOk, map, ℕ};
-ghost use Rattle.std.specs.List.{slice_split};
-ghost use Rattle.rds_tool.specs.GroupText.{encoded_text, group_bytes, group_text, line_text, lines_text, words_of as the_words_of};
-ghost use Rattle.rds_tool.specs.Refusals.{IsMemoryOrErrOf};
+//! Groups as their blocks, packed or as lines of digits.
+ghost use Rattle.std.specs.Prelude.{◌+◌, ◌++◌, ◌<◌, ◌≡◌, ◌∷◌, [], map};
+ghost use Rattle.hex.specs.Hex.{encode_lower};
+ghost use Rattle.rds_rows.specs.Sheets.{left_of, size_of, text_of};
+ghost use Rattle.rds_tool.specs.GroupText.{group_bytes, group_text};
 
-use crate::ToolError;
 use rds_code::encode_group;
-use std::alloc::{AllocError, Global};
+use rds_rows::{Rows, Sheet};
 
-/// The text of the groups that lines of digits spell, 13 bytes per group, or with `hex` a line of 26
-/// digits. The first faulty line is refused.
-pub fn encode_lines(alloc: Global, hex: bool, held: &[u8]) -> Result<Vec<u8>, ToolError>
-    ensures ok { IfOk result (λ text. encoded_text hex held.now ≡ Ok text.items) }
-    ensures refused { IfErr result (IsMemoryOrErrOf (encoded_text hex held.now)) }
-{
-    let digits: Vec<u8> = held
-        .iter()
-        .copied()
-        .filter(|b| !matches!(*b, b' ' | b'\t' | b'\r'))
-        .collect(alloc)?;
-    let lines = lines_of(alloc, digits.as_slice())?;
-    text_of_lines(alloc, hex, lines.as_slice())
+/// How many bytes the text of a group has at most: 26 digits and a line feed.
+const LONGEST_GROUP: usize = 27;
+
+/// The text of groups, of which each is a row: 13 bytes, or with `hex` a line of 26 digits.
+#[derive(Drop)]
+pub struct GroupRows<'a> {
+    pub groups: &'a [[u16; 4]],
+    pub hex: bool,
 }
 
-fn lines_of(alloc: Global, digits: &[u8]) -> Result<Vec<&[u8]>, AllocError>
-    ensures { IfOk result (λ lines. map (λ line. line.now) lines.items
-        ≡ slice_split (λ b. b == 10) digits.now) }
-{
-    digits.split(|b| *b == b'\n').collect(alloc)
-}
+impl Rows for GroupRows<'_> {
+    ghost rows = { λ rows. map (group_text rows.hex) rows.groups.now };
 
-fn text_of_lines(alloc: Global, hex: bool, lines: &[&[u8]]) -> Result<Vec<u8>, ToolError>
-    ensures ok { IfOk result (λ text. lines_text hex (map (λ line. line.now) lines.now) ≡ Ok text.items) }
-    ensures refused { IfErr result (IsMemoryOrErrOf (lines_text hex (map (λ line. line.now) lines.now))) }
-{
-    let mut text = Vec::new(alloc);
-    for line in lines {
-        push_line(&mut text, hex, line)?;
+    ghost longest = { λ rows. 27 };
+
+    fn len(&self) -> usize {
+        self.groups.len()
     }
-    Ok(text)
-}
 
-/// Writes the text for one line.
-fn push_line(text: &mut Vec<u8>, hex: bool, line: &[u8]) -> Result<(), ToolError>
-    ensures ok { OnOk result ((more : List ℕ) × (line_text hex line.now ≡ Ok more)
-        × (text.new.items ≡ text.old.items ++ more)) }
-    ensures refused { IfErr result (IsMemoryOrErrOf (line_text hex line.now)) }
-{
-    if line.is_empty() {
-        return Ok(());
+    fn longest_row(&self) -> usize {
+        LONGEST_GROUP
     }
-    let words = words_of(line)?;
-    push_group(text, hex, words)?;
-    Ok(())
+
+    fn fill(&self, from: usize, to: usize, sheet: &mut Sheet) {
+        for words in &self.groups[from..to] {
+            push_group(sheet, self.hex, *words);
+        }
+    }
 }
 
-fn push_group(text: &mut Vec<u8>, hex: bool, words: [u16; 4]) -> Result<(), AllocError>
-    ensures { OnOk result (text.new.items ≡ text.old.items ++ group_text hex words) }
+/// Adds the text of a group to a sheet.
+fn push_group(sheet: &mut Sheet, hex: bool, words: [u16; 4])
+    requires room { 0 < left_of sheet.old }
+    requires longest { (size_of sheet.old).1 ≡ 27 }
+    ensures text { text_of sheet.new ≡ text_of sheet.old ++ group_text hex words }
+    ensures left { left_of sheet.new + 1 ≡ left_of sheet.old }
+    ensures size { size_of sheet.new ≡ size_of sheet.old }
 {
     let bytes = bytes_of_group(words);
     if hex {
-        let mut digits = [0; 26];
-        let Ok(()) = hex::encode_to_slice(&bytes, &mut digits) else {
-            unreachable!()
-        };
-        text.extend_from_slice(&digits)?;
-        text.push(b'\n')?;
+        sheet.push(&line_of(&bytes));
     } else {
-        text.extend_from_slice(&bytes)?;
-    }
-    Ok(())
-}
-
-/// The words of sixteen digits.
-fn words_of(digits: &[u8]) -> Result<[u16; 4], ToolError>
-    ensures { result ≡ the_words_of digits.now }
-{
-    let mut bytes = [0; 8];
-    match hex::decode_to_slice(digits, &mut bytes) {
-        Ok(()) => Ok([
-            word(bytes[0], bytes[1]),
-            word(bytes[2], bytes[3]),
-            word(bytes[4], bytes[5]),
-            word(bytes[6], bytes[7]),
-        ]),
-        Err(_) => Err(ToolError::GroupText),
+        sheet.push(&bytes);
     }
 }
 
-fn word(high: u8, low: u8) -> u16
-    ensures { result ≡ 256 * high + low }
+/// The digits of 13 bytes on a line of their own.
+fn line_of(bytes: &[u8; 13]) -> [u8; 27]
+    ensures { result ≡ encode_lower bytes.now ++ 10 ∷ [] }
 {
-    256 * u16::from(high) + u16::from(low)
+    let mut line = [b'\n'; 27];
+    let Ok(()) = hex::encode_to_slice(bytes, &mut line[..26]) else {
+        unreachable!()
+    };
+    line
 }
 
 /// The bytes of a group, the first bit highest.

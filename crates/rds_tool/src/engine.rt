@@ -12,6 +12,7 @@ ghost use Rattle.rds_tool.specs.Transcribed.{IsTranscribed};
 ghost use Rattle.rds_tool.specs.declared.task.Task.TheVariants as task;
 
 use crate::counting::InputCounter;
+use crate::group_lines::GroupLines;
 use crate::listing::totals_rows;
 use crate::taker::Taker;
 use crate::task::{Plan, Task, Text};
@@ -102,8 +103,28 @@ fn transcribe_task<R: Threads + Sync, S: Source, K: Sink, G: Gate + Sync>(
                 transcribe_held(rt, alloc, reader, writer, Task::Totals(input, plan), gate)
             }
         }
+        Task::Encode { hex } => transcribe_groups(rt, alloc, reader, writer, hex),
         held => transcribe_held(rt, alloc, reader, writer, held, gate),
     }
+}
+
+/// Keeps the groups that the lines of the reader spell, and writes their text.
+fn transcribe_groups<R: Threads + Sync, S: Source, K: Sink>(
+    rt: &R,
+    alloc: Global,
+    reader: &mut S,
+    writer: &mut K,
+    hex: bool,
+) -> Result<(), ToolError>
+    requires reads { S.failed reader.old < 2 ^ 63 }
+    requires writes { K.failed writer.old < 2 ^ 63 }
+    ensures { (job : Job) → task_of job ≡ Ok (task.Encode hex)
+        → IsTranscribed S.Source K.Sink job reader.old reader.new writer.old writer.new result }
+{
+    let mut lines = GroupLines::new(alloc);
+    read_all(rt, alloc, reader, &mut lines)?;
+    let groups = lines.finish()?;
+    Text::Groups(groups, hex).write_to(rt, alloc, writer)
 }
 
 /// Counts the totals while the bytes come, of which only those are kept that the workers count next.

@@ -85,7 +85,8 @@ mod totals; // The totals by name.
 mod pen; // The row of a group, stored eight bytes at a time.
 mod page; // Room for rows, on the stack.
 mod digits; // Digits of numbers.
-mod encode; // Groups from lines of digits.
+mod group_lines; // Groups from lines of digits.
+mod encode; // Groups as blocks.
 mod following; // From a reader to a writer, as the bytes come.
 mod error; // Why a transcription is refused.
 pub mod laws; // The laws of jobs and their texts.

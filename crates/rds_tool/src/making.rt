@@ -7,7 +7,7 @@ ghost use Rattle.rds_tool.specs.Refusals.{IsMemoryOrErrOf};
 ghost use Rattle.rds_tool.specs.Inside.Texts.{bytes_of};
 ghost use Rattle.rds_tool.specs.declared.task.Task.TheVariants as task;
 
-use crate::encode::encode_lines;
+use crate::group_lines::GroupLines;
 use crate::input::recording_of;
 use crate::listing::totals_rows;
 use crate::plan::report_by;
@@ -59,7 +59,7 @@ impl<'a> Task<'a> {
             Task::Scan(input, workers) => windows_of(alloc, input, workers, held),
             Task::List(input, plan) => list_of(rt, alloc, input, plan, held, gate),
             Task::Totals(input, plan) => rows_of_totals(rt, alloc, input, &plan, held, gate),
-            Task::Encode { hex } => blocks_of(alloc, hex, held.as_slice()),
+            Task::Encode { hex } => groups_of(alloc, hex, held.as_slice()),
         }
     }
 }
@@ -156,11 +156,12 @@ fn totals_of<R: Threads + Sync, G: Gate + Sync>(
     Ok(report.totals)
 }
 
-/// The blocks of the groups that the lines spell.
-fn blocks_of<'a>(alloc: Global, hex: bool, lines: &[u8]) -> Result<Text<'a>, ToolError>
+/// The groups that the lines spell.
+fn groups_of<'a>(alloc: Global, hex: bool, lines: &[u8]) -> Result<Text<'a>, ToolError>
     ensures ok { IfOk result (λ text. text_of_task (task.Encode hex) lines.now ≡ Ok (bytes_of text)) }
     ensures refused { IfErr result (IsMemoryOrErrOf (text_of_task (task.Encode hex) lines.now)) }
 {
-    let blocks = encode_lines(alloc, hex, lines)?;
-    Ok(Text::Whole(blocks))
+    let mut reader = GroupLines::new(alloc);
+    reader.push(lines)?;
+    Ok(Text::Groups(reader.finish()?, hex))
 }

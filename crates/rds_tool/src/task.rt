@@ -57,6 +57,8 @@ pub enum Text<'a> {
     OnePass(Recording, Plan<'a>),
     /// A recording that is scanned, and by how many workers.
     Windows(Recording, Workers),
+    /// Groups that are encoded while they are written, with `hex` as lines of digits.
+    Groups(Vec<[u16; 4]>, bool),
 }
 
 /// A report and the source of its items.

@@ -2,11 +2,13 @@
 ghost use Rattle.std.specs.Prelude.{◌<◌, ◌≤◌, ◌^◌, ◌≡◌, ◌≢◌, ◌↔◌, ◌⊎◌, IfErr, IsErrOf, IsOkUnless, Ok, OnErr, OnOk, true};
 ghost use Rattle.std.specs.Io.KnownBytes.{Appends, Keeps};
 ghost use Rattle.rds_rows.specs.Writes.{AppendsPrefix};
+ghost use Rattle.rds_tool.specs.Inside.GroupLines.{text_of_groups};
 ghost use Rattle.rds_tool.specs.Inside.Texts.{bytes_of};
 ghost use Rattle.rds_tool.specs.Listing.{report_text, scan_text};
 ghost use Rattle.rds_tool.specs.Outcome.{WritesPrefix, list_text};
 
 use crate::ToolError;
+use crate::encode::GroupRows;
 use crate::listing::Heard;
 use crate::listing_rows::ListingRows;
 use crate::one_pass::write_in_one_pass;
@@ -23,6 +25,9 @@ const PART: usize = 1024;
 
 /// How many places are scanned at once: each has room for a row.
 const PLACES: usize = 16_384;
+
+/// How many groups are encoded at once.
+const GROUPS: usize = 4096;
 
 /// How many workers make rows at most: the caller writes all of them, and more would wait for it.
 const MAKERS: u32 = 8;
@@ -74,6 +79,7 @@ fn write_bytes<R: Threads + Sync, K: Sink>(
         Text::Windows(recording, workers) => {
             write_windows(rt, alloc, recording, workers.count(), writer)
         }
+        Text::Groups(groups, hex) => write_groups(rt, alloc, groups.as_slice(), *hex, writer),
     }
 }
 
@@ -160,6 +166,27 @@ fn write_windows<R: Threads + Sync, K: Sink>(
 {
     let rows = WindowRows { recording };
     write_rows(rt, alloc, &rows, makers(workers, recording), PLACES, writer)
+}
+
+/// Encodes groups and writes them, by the caller alone.
+fn write_groups<R: Threads + Sync, K: Sink>(
+    rt: &R,
+    alloc: Global,
+    groups: &[[u16; 4]],
+    hex: bool,
+    writer: &mut K,
+) -> Result<(), RowsError>
+    requires count { K.failed writer.old < 2 ^ 63 }
+    ensures ok { OnOk result (Appends (K.contents writer.old) (K.contents writer.new)
+        (text_of_groups hex groups.now)) }
+    ensures count { OnOk result (K.failed writer.new ≡ K.failed writer.old) }
+    ensures write { IsErrOf result RowsError.Write ↔ (K.failed writer.old < K.failed writer.new) }
+    ensures untouched { IsErrOf result RowsError.OutOfMemory → writer.new ≡ writer.old }
+    ensures prefix { IsErrOf result RowsError.Write
+        → AppendsPrefix (K.contents writer.old) (K.contents writer.new) (text_of_groups hex groups.now) }
+{
+    let rows = GroupRows { groups, hex };
+    write_rows(rt, alloc, &rows, 1, GROUPS, writer)
 }
 
 /// How many of the workers make rows of a recording.

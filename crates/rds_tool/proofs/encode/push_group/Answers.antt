@@ -1,10 +1,15 @@
-use Rattle.rds_tool.proofs.Encoding.{group_as_bytes, group_as_digits}
+use Rattle.std.proofs.Common.{◌++◌, ◌∙◌, ◌∷◌, [], ap, sym}
+use Rattle.hex.specs.Hex.{encode_lower}
+use Rattle.rds_rows.specs.Sheets.{text_of}
+use Rattle.rds_tool.specs.GroupText.{group_text}
 use Rattle.rds_tool.proofs.encode.push_group.Goals as goal
 
-pub returns-in_ok-push : goal.returns-in_ok-push
-returns-in_ok-push c =
-    group_as_digits _ _ _ _ _ c.args.hex c.args.words c.if-hex.true c.bytes_of_group-bytes.ensures c.in-Ok.ensures.written c.in_ok-extend_from_slice.ensures.items c.in_ok-push.ensures.items
+pub returns-then-hex-clause-text : goal.returns-then-hex-clause-text
+returns-then-hex-clause-text c =
+    c.push.ensures.text ∙ ap (λ t. text_of c.args.sheet.now ++ t)
+    (c.line_of.ensures ∙ ap (λ bytes. encode_lower bytes ++ 10 ∷ []) c.bytes_of_group-bytes.ensures ∙ sym (ap (λ hex. group_text hex c.args.words) c.if-hex.true))
 
-pub returns-in_ok-extend_from_slice-2 : goal.returns-in_ok-extend_from_slice-2
-returns-in_ok-extend_from_slice-2 c =
-    group_as_bytes _ _ _ c.args.hex c.args.words c.if-hex.false c.bytes_of_group-bytes.ensures c.in_ok-extend_from_slice-2.ensures.items
+pub returns-else-hex-clause-text : goal.returns-else-hex-clause-text
+returns-else-hex-clause-text c =
+    c.push-else-hex.ensures.text
+    ∙ ap (λ t. text_of c.args.sheet.now ++ t) (c.bytes_of_group-bytes.ensures ∙ sym (ap (λ hex. group_text hex c.args.words) c.if-hex.false))

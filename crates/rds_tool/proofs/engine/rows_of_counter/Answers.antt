@@ -1,4 +1,4 @@
-use Rattle.std.proofs.Common.{◌≡◌, ◌∙◌, Err, List, Ok, ap, inl, inr, sym, true, ℕ}
+use Rattle.std.proofs.Common.{◌≡◌, ◌∙◌, List, Ok, ap, inl, inr, sym, true, ℕ}
 use Rattle.std.specs.Global.{Vec}
 use Rattle.std.proofs.lemmas.Result.{IfOk-weaker}
 use Rattle.rds_sync.specs.Report.{report_items}

@@ -1,5 +1,5 @@
-use Rattle.std.proofs.Common.{◌≡◌, ◌∙◌, List, Option, arith, ℕ, refl, sym}
-use Rattle.rds_tool.proofs.HexDigits.{HasDecoded, all_decoded, begun, decoded_none, ended, few_decoded, not_decoded}
+use Rattle.std.proofs.Common.{◌≡◌, ◌∙◌, List, Option, arith, ℕ, sym}
+use Rattle.rds_tool.proofs.HexDigits.{HasDecoded, all_decoded, begun, decoded_none, ended, few_decoded}
 use Rattle.rds_tool.proofs.input.decode_digits.Goals.{in-None, in-Some-high}
 use Rattle.rds_tool.proofs.input.decode_digits.Goals as goal
 
