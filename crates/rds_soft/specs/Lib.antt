@@ -1,0 +1,4 @@
+pub mod Nearest
+pub mod Laws
+pub mod Inside
+pub mod Examples
