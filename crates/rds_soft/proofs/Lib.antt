@@ -7,3 +7,6 @@ pub mod StepLemmas
 pub mod NearestLemmas
 pub mod NearestLaws
 pub mod LaneLemmas
+pub mod SymbolLemmas
+pub mod AgainLaws
+pub mod AgainLemmas

@@ -37,8 +37,14 @@ mod margin; // How much more others must weigh.
 mod lightest; // The rows of least weights.
 mod look_back; // The lightest flips, from these rows.
 mod nearest; // The nearest block.
+mod soft_reading; // What symbols may say.
+mod symbols; // How symbols are read.
+mod soft_item; // Items as symbols tell them.
+mod again; // Items read again.
 pub mod laws; // The laws of the nearest block.
 
 pub use correction::Correction;
 pub use margin::Margin;
 pub use nearest::Search;
+pub use soft_item::{SoftBlock, SoftGroup, SoftItem};
+pub use soft_reading::{SoftReading, mask_of};
