@@ -28,54 +28,77 @@ impl Search {
         match *item {
             Item::Acquired { place, number } => SoftItem::Acquired { place, number },
             Item::LostLock { place } => SoftItem::LostLock { place },
-            Item::Group(group) => SoftItem::Group(group_again(
-                self,
-                recording,
-                symbols,
-                margin,
-                group.place,
-                &group.blocks,
-            )),
+            Item::Group(group) => {
+                let source = Source {
+                    recording,
+                    symbols,
+                    place: group.place,
+                };
+                SoftItem::Group(group_again(self, &source, margin, &group.blocks))
+            }
         }
     }
 }
 
-/// The group, read again.
+/// Where the blocks of a group are read again from.
+#[derive(Clone, Copy)]
+struct Source<'a> {
+    recording: &'a Recording,
+    symbols: &'a [i8],
+    /// The place of the first bit of the first block that was read.
+    place: u64,
+}
+
+/// The group of these blocks, read again.
 fn group_again(
     search: &mut Search,
-    recording: &Recording,
-    symbols: &[i8],
+    source: &Source<'_>,
     margin: Margin,
-    place: u64,
     blocks: &[Block; 4],
 ) -> SoftGroup
-    ensures { IsGroupAgain recording.now symbols.now margin place blocks.now result }
+    ensures { IsGroupAgain source.now.recording.now source.now.symbols.now margin source.now.place blocks.now result }
 {
     let [one, two, three, four] = blocks;
     let before_three = was_read(one) + was_read(two);
-    let heard = symbols_heard(recording, symbols, place, 0);
-    let first = block_again(search, heard, margin, one, BlockNumber::ONE, Wanted::Either);
-    let heard = symbols_heard(recording, symbols, place, was_read(one));
-    let second = block_again(search, heard, margin, two, BlockNumber::TWO, Wanted::Either);
-    let heard = symbols_heard(recording, symbols, place, before_three);
+    let before_four = before_three + was_read(three);
+    let first = block_again(
+        search,
+        source,
+        margin,
+        one,
+        0,
+        BlockNumber::ONE,
+        Wanted::Either,
+    );
+    let second = block_again(
+        search,
+        source,
+        margin,
+        two,
+        was_read(one),
+        BlockNumber::TWO,
+        Wanted::Either,
+    );
+    let wanted = second.wanted_beside();
     let third = block_again(
         search,
-        heard,
+        source,
         margin,
         three,
+        before_three,
         BlockNumber::THREE,
-        second.wanted_beside(),
+        wanted,
     );
-    let heard = symbols_heard(recording, symbols, place, before_three + was_read(three));
     let fourth = block_again(
         search,
-        heard,
+        source,
         margin,
         four,
+        before_four,
         BlockNumber::FOUR,
         Wanted::Either,
     );
-    SoftGroup::of_blocks(place, [first, second, third, fourth])
+    SoftGroup::of_blocks(source.place, [first, second, third, fourth])
 }
 
 /// 1 if the block was read.
@@ -90,16 +113,19 @@ fn was_read(block: &Block) -> u64
     }
 }
 
-/// A block of a group, read again from its symbols, if these were heard.
+/// A block of a group, read again. `before` blocks of the group were read before it.
 fn block_again(
     search: &mut Search,
-    heard: Option<[i8; 27]>,
+    source: &Source<'_>,
     margin: Margin,
     block: &Block,
+    before: u64,
     number: BlockNumber,
     wanted: Wanted,
 ) -> SoftBlock
-    ensures { IsBlockAgain heard number wanted margin block.now result }
+    requires { before ≤ 3 }
+    ensures { let heard = the_symbols_heard source.now.recording.now source.now.symbols.now (source.now.place + 26 * before) in
+        IsBlockAgain heard number wanted margin block.now result }
 {
     match *block {
         Block::Missing => SoftBlock::Missing,
@@ -107,29 +133,28 @@ fn block_again(
             offset,
             info,
         }),
-        Block::Read(_) => SoftBlock::Read(match heard {
+        Block::Read(_) => SoftBlock::Read(match symbols_heard(source, before) {
             Some(symbols) => search.read(&symbols, number, wanted, margin),
             None => SoftReading::Lost,
         }),
     }
 }
 
-/// The symbols of a block of a group whose first read bit is at `place`, if all are there and none of its bits is in a gap. `before`
-/// blocks of the group were read before it.
-fn symbols_heard(recording: &Recording, symbols: &[i8], place: u64, before: u64) -> Option<[i8; 27]>
+/// The symbols of a block, if all are there and none of its bits is in a gap.
+fn symbols_heard(source: &Source<'_>, before: u64) -> Option<[i8; 27]>
     requires { before ≤ 3 }
-    ensures { result ≡ the_symbols_heard recording.now symbols.now (place + 26 * before) }
+    ensures { result ≡ the_symbols_heard source.now.recording.now source.now.symbols.now (source.now.place + 26 * before) }
 {
-    let bits = recording.len();
-    if place >= bits {
+    let bits = source.recording.len();
+    if source.place >= bits {
         return None;
     }
-    let first = place + 26 * before;
+    let first = source.place + 26 * before;
     let last = first + FIRST_WINDOW;
-    if last >= bits || recording.touches(last) {
+    if last >= bits || source.recording.touches(last) {
         return None;
     }
-    chunk_at(symbols, first as usize)
+    chunk_at(source.symbols, first as usize)
 }
 
 /// The 27 symbols from a place on, if they are there.
