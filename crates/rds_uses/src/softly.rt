@@ -1,15 +1,21 @@
 //! Facts about soft decisions that a user of `rds_soft` relies on: which block is nearest, how symbols are read, and what a
 //! report read again keeps.
-ghost use Rattle.std.specs.Prelude.{◌≡◌, ◌≢◌, ℕ, ◌+◌, ◌*◌, ◌<◌, ◌≤◌, ◌^◌, None, Some, IfSome, slice_index, bit_xor, true};
+ghost use Rattle.std.specs.Prelude.{◌≡◌, ◌≢◌, ℕ, ◌+◌, ◌*◌, ◌<◌, ◌≤◌, ◌^◌, None, Some, IfSome, slice_index, bit_xor, true, ◌∷◌, [], drop, length, take};
 ghost use Rattle.rds_code.specs.declared.offset.Offset.{Offset as AnOffset};
 ghost use Rattle.rds_code.specs.Reading.{IsValid, information};
 ghost use Rattle.rds_soft.specs.Nearest.{IsNearest, Turns, mask_of as the_mask_of, top, weight};
-ghost use Rattle.rds_soft.specs.Symbols.{hard_window};
+ghost use Rattle.rds_soft.specs.Symbols.{hard_bits, hard_window};
+ghost use Rattle.rds_code.specs.declared.reading.Wanted.{Wanted as WantedHard};
+ghost use Rattle.rds_stream.specs.Recording.{length_of, reading_at, touched};
+ghost use Rattle.rds_sync.specs.declared.item.Block.TheVariants.{Read};
+ghost use Rattle.rds_soft.specs.declared.soft_item.SoftBlock.TheVariants.{Missing as SoftMissing, Read as SoftRead};
+ghost use Rattle.rds_soft.specs.SoftGroups.{group_of};
+ghost use Rattle.rds_soft.specs.Again.{IsBlockAgain, IsReadingHeard, symbols_heard};
 
-use rds_code::{BlockNumber, Offset, Wanted};
-use rds_soft::{Correction, Margin, Search, SoftItem, SoftReading, laws, mask_of};
+use rds_code::{BlockNumber, BurstLimit, Offset, Reading, Wanted};
+use rds_soft::{Correction, Margin, Search, SoftBlock, SoftItem, SoftReading, laws, mask_of};
 use rds_stream::Recording;
-use rds_sync::Item;
+use rds_sync::{Block, Group, Item, Version};
 
 // ---- the nearest block
 
@@ -137,7 +143,12 @@ pub fn acquisition_stays(
 ) -> SoftItem
     ensures { result ≡ SoftItem.Acquired place number }
 {
-    search.read_again(recording, symbols, margin, &Item::Acquired { place, number })
+    search.read_again(
+        recording,
+        symbols,
+        margin,
+        &Item::Acquired { place, number },
+    )
 }
 
 /// So does a loss.
@@ -161,11 +172,81 @@ pub fn again_alike(
     symbols: &[i8],
     margin: Margin,
     item: &Item,
-) -> bool
-    ensures { result ≡ true }
+) -> (SoftItem, SoftItem)
+    ensures { result.0 ≡ result.1 }
 {
     laws::items_are_read_again_alike();
     let _some = margin.weight();
     let first = one.read_again(recording, symbols, margin, item);
-    first == other.read_again(recording, symbols, margin, item)
+    let second = other.read_again(recording, symbols, margin, item);
+    (first, second)
+}
+
+/// The windows of a recording of symbols' bits are those of 27 symbols.
+pub fn window_of_symbols(recording: &Recording, symbols: &[i8], first: u64) -> u32
+    requires bits { recording.now.bits ≡ hard_bits symbols.now }
+    requires within { first + 26 < length symbols.now }
+    requires short { first + 25 < length_of recording.now }
+    ensures { result ≡ hard_window (take 27 (drop first symbols.now)) }
+{
+    laws::blocks_are_read_from_symbols();
+    let _bits = recording.len();
+    recording.window(first + 25)
+}
+
+/// A block that such a recording reads is read again as its symbols are, also if its bits make it valid.
+pub fn read_from_symbols(
+    recording: &Recording,
+    symbols: &[i8],
+    first: u64,
+    number: BlockNumber,
+    limit: BurstLimit,
+    wanted: Wanted,
+    margin: Margin,
+    again: SoftReading,
+)
+    ghost hard: { WantedHard }
+    requires bits { recording.now.bits ≡ hard_bits symbols.now }
+    requires within { first + 26 < length symbols.now }
+    requires again { IsBlockAgain (symbols_heard recording.now symbols.now first) number wanted margin
+        (Read (reading_at recording.now (first + 25) number hard limit)) (SoftRead again) }
+    ensures { IsReadingHeard (symbols_heard recording.now symbols.now first) number wanted margin again }
+{
+    laws::blocks_are_read_from_symbols();
+    let _number = number.get();
+    let _limit = limit.bits();
+}
+
+/// A block that touches a gap is lost, whatever its symbols are.
+pub fn lost_in_gap(
+    search: &mut Search,
+    recording: &Recording,
+    symbols: &[i8],
+    margin: Margin,
+    place: u64,
+) -> SoftItem
+    requires { touched recording.now (place + 25) ≡ true }
+    ensures { result ≡ SoftItem.Group (group_of place (SoftRead SoftReading.Lost ∷ SoftMissing ∷ SoftMissing ∷ SoftMissing ∷ [])) }
+{
+    let lost = Block::Read(Reading::Lost);
+    let group = Group {
+        place,
+        blocks: [lost, Block::Missing, Block::Missing, Block::Missing],
+        kind: None,
+        version: Version::Unknown,
+        conflict: false,
+    };
+    search.read_again(recording, symbols, margin, &Item::Group(group))
+}
+
+/// The information word of a corrected block is known.
+pub fn word_of_corrected(offset: Offset, info: u16, flips: u32) -> Option<u16>
+    ensures { result ≡ Some info }
+{
+    SoftBlock::Read(SoftReading::Corrected {
+        offset,
+        info,
+        flips,
+    })
+    .info()
 }
