@@ -1,5 +1,5 @@
 -- A report read again from the symbols of its recording: this project's rule of soft decisions. `Search::read_again` returns an item.
-use Rattle.std.specs.Prelude.{◌≡◌, ℕ, ◌+◌, ◌-◌, ◌*◌, List, [], ◌∷◌, length, take, drop, sum_by, ℤ, Option, Some, None, Bool, nat_lt, not, ◌&&◌, if◌then◌else◌}
+use Rattle.std.specs.Prelude.{◌≡◌, ℕ, ◌+◌, ◌-◌, ◌*◌, List, [], ◌∷◌, length, take, drop, sum_by, ℤ, Option, Some, None, nat_lt, not, ◌&&◌, if◌then◌else◌}
 use Rattle.rds_code.specs.declared.reading.Wanted.{Wanted}
 use Rattle.rds_code.specs.declared.reading.Wanted.TheVariants.{Either}
 use Rattle.rds_code.specs.declared.reading.Reading.TheVariants.{Valid, Corrected, Lost}

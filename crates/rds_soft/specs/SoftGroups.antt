@@ -1,6 +1,6 @@
 -- A group whose blocks are read from symbols: its type, version and conflict, as those of a group of hard bits (`Groups` of
 -- rds_sync). `SoftBlock::info` and `Search::read_again` cite it.
-use Rattle.std.specs.Prelude.{ℕ, ◌-◌, List, Option, Some, None, Bool, true, false, option_map, slice_index_or}
+use Rattle.std.specs.Prelude.{ℕ, ◌-◌, List, Option, Some, None, Bool, false, option_map, slice_index_or}
 use Rattle.rds_code.specs.declared.reading.Wanted.{Wanted}
 use Rattle.rds_code.specs.declared.reading.Wanted.TheVariants.{OnlyC, OnlyCx, Either}
 use Rattle.rds_sync.specs.declared.item.Version.{Version}

@@ -1,5 +1,5 @@
 -- How the 27 symbols of a window are read as a block: this project's rule. `Search::read` returns the reading.
-use Rattle.std.specs.Prelude.{◌≡◌, ℕ, ◌+◌, ◌-◌, ◌^◌, List, map, length, slice_index_or, bit_xor, min, ℤ, pos, unsigned_abs, if◌then◌else◌}
+use Rattle.std.specs.Prelude.{◌≡◌, ℕ, ◌+◌, ◌-◌, List, map, length, slice_index_or, bit_xor, min, ℤ, pos, unsigned_abs, if◌then◌else◌}
 use Rattle.std.specs.List.{range_with_len}
 use Rattle.std.specs.Int.{is_positive}
 use Rattle.std.specs.Int.Digits.{number_from_digits}

@@ -1,34 +1,39 @@
 //! Soft decisions: blocks that are corrected by how sure each symbol is.
 //!
-//! A bit of RDS is the difference of two symbols in a row, and a demodulator knows how sure it is of each symbol. A block of 26
-//! bits has 27 symbols. The nearest block is found by the flips of symbols that weigh least, where a symbol weighs as much as it
-//! is sure: a log-likelihood ratio in units of 1/16 nat. It is taken only if the flips weigh at most 127, and all other flips
-//! that make a block weigh more by a margin. This is this project's rule, not the standard's.
+//! A bit of RDS tells whether two symbols in a row differ in sign, and a demodulator knows how sure it is of each symbol. A block
+//! of 26 bits has 27 symbols. The nearest block is found by the flips of symbols that weigh least, where a symbol weighs as much
+//! as it is sure: a log-likelihood ratio in units of 1/16 nat. It is taken only if the flips weigh at most 127, and all other
+//! flips that make a block weigh more by a margin. This is this project's rule, not the standard's.
 //!
 //! # Example
 //!
 //! ```text
 //! let mut search = Search::new(alloc)?;
-//! let found = search.nearest(window, &confidences, BlockNumber::FOUR, Wanted::Either, Margin::DEFAULT);
-//! // Some(Correction { offset: Offset::D, flips }), where the flips' bits inverted in the window give the block
+//! let reading = search.read(&symbols, BlockNumber::FOUR, Wanted::Either, Margin::DEFAULT);
+//! // Corrected { offset: D, info: 0x5320, flips: 0x100 }: one wrong symbol, whose flip inverts the bits of mask_of(0x100), 0x180
 //! ```
 //!
 //! # What there is
 //!
-//! - [`Search`]: room for searches, and [`Search::nearest`]: the nearest block of a window, or none.
-//! - [`Correction`]: the offset of the nearest block, and the flips of symbols that make it.
+//! - [`Search`]: room for searches.
+//! - [`Search::nearest`]: the nearest block of a window, or none. [`Correction`]: its offset, and the flips that make it.
 //! - [`Margin`]: how much more all other flips must weigh.
-//! - [`laws`]: at most one block is nearest, and which blocks are corrected to what was sent.
+//! - [`Search::read`]: 27 symbols, read as a block, a [`SoftReading`]: valid, corrected or lost. [`mask_of`]: the bits that flips
+//!   invert.
+//! - [`Search::read_again`]: an item of a report, read again from the symbols of its recording, a [`SoftItem`].
+//! - [`laws`]: at most one block is nearest, which blocks are corrected to what was sent, and that items are read again in one way.
 //!
 //! # What callers may rely on
 //!
-//! The result is the definition's, exactly (`IsCorrection` in `specs/Nearest.antt`): if there is a nearest block it is found, and
-//! nothing else is. A search takes no memory. [`Search::new`] takes 27,648 bytes once, and fails only with `OutOfMemory` (8).
+//! The result is the definition's, exactly (`specs/Nearest.antt`, `specs/Symbols.antt`, `specs/Again.antt`): if there is a nearest
+//! block it is found, and nothing else is. A valid block stays as it is, and so do acquisitions and losses. Each item is read again
+//! by itself, so any part of a report may be read again by any worker. A search takes no memory. [`Search::new`] takes 27,648 bytes
+//! once, and fails only with `OutOfMemory` (8).
 //!
 //! # What it leaves to others
 //!
-//! Whether a window is valid already, which is asked first. Where blocks begin, and when a receiver is in step with them: both
-//! follow from the hard bits alone. What the confidence of a symbol is.
+//! The bits of symbols as a recording, and its report: when a receiver is in sync follows from the hard bits alone. What the
+//! confidence of a symbol is.
 #![tactic(auto)]
 
 // In the order of reading: the result, the search by rows of least weights, the nearest block, and its laws.

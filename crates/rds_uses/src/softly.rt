@@ -1,8 +1,10 @@
 //! Facts about soft decisions that a user of `rds_soft` relies on: which block is nearest, how symbols are read, and what a
 //! report read again keeps.
-ghost use Rattle.std.specs.Prelude.{◌≡◌, ◌≢◌, ℕ, ◌+◌, ◌*◌, ◌<◌, ◌≤◌, ◌^◌, None, Some, IfSome, slice_index, bit_xor, true, ◌∷◌, [], drop, length, take};
+ghost use Rattle.std.specs.Prelude.{◌≡◌, ◌≢◌, ℕ, ◌+◌, ◌*◌, ◌<◌, ◌≤◌, ◌^◌, None, Some, IfSome, slice_index, bit_xor, true, IsTrue, List, ◌∷◌, [], drop, length, take};
 ghost use Rattle.rds_code.specs.declared.offset.Offset.{Offset as AnOffset};
-ghost use Rattle.rds_code.specs.Reading.{IsValid, information};
+ghost use Rattle.rds_code.specs.Offsets.{number as number_of, word};
+ghost use Rattle.rds_code.specs.Remainder.{rem};
+ghost use Rattle.rds_code.specs.Reading.{IsValid, allows, information};
 ghost use Rattle.rds_soft.specs.Nearest.{IsNearest, Turns, mask_of as the_mask_of, top, weight};
 ghost use Rattle.rds_soft.specs.Symbols.{hard_bits, hard_window};
 ghost use Rattle.rds_code.specs.declared.reading.Wanted.{Wanted as WantedHard};
@@ -249,4 +251,16 @@ pub fn word_of_corrected(offset: Offset, info: u16, flips: u32) -> Option<u16>
         flips,
     })
     .info()
+}
+
+/// A block as it was sent is turned by no flips, which weigh nothing.
+pub fn sent_is_a_block(sent: u32, number: BlockNumber, wanted: Wanted, offset: Offset)
+    ghost confidences: { List ℕ }
+    requires own { number_of offset ≡ number }
+    requires allowed { IsTrue (allows wanted offset) }
+    requires due { rem sent ≡ word offset }
+    ensures turns { Turns sent number wanted offset 0 }
+    ensures weightless { weight confidences 0 ≡ 0 }
+{
+    laws::valid_blocks_need_no_flips();
 }

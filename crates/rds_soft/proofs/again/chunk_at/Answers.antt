@@ -1,5 +1,5 @@
-use Rattle.std.proofs.Common.{◌≡◌, ◌+◌, ◌<◌, ◌∙◌, List, Bool, true, ap, sym, subst, arith, length, take, drop}
-use Rattle.std.specs.Prelude.{ℤ, Option, Some, None, nat_lt, if◌then◌else◌}
+use Rattle.std.proofs.Common.{◌≡◌, ◌+◌, ◌∙◌, List, Bool, true, ap, sym, arith, length, take, drop}
+use Rattle.std.specs.Prelude.{ℤ, Some, None, nat_lt, if◌then◌else◌}
 use Rattle.std.proofs.lemmas.Bool.{lt-ltb}
 use Rattle.std.proofs.lemmas.List.{take_rest}
 use Rattle.rds_soft.proofs.again.chunk_at.Goals as goal

@@ -1,10 +1,10 @@
-use Rattle.std.proofs.Common.{◌≡◌, ℕ, List, sym, ap, ◌∙◌, subst, arith, bit_xor}
+use Rattle.std.proofs.Common.{◌≡◌, ℕ, List, sym, subst, arith, bit_xor}
 use mathlib.Core.Path.{ap₂}
 use Rattle.std.proofs.lemmas.Nat.{xor_lt}
 use Rattle.rds_code.specs.declared.offset.Offset.{Offset}
 use Rattle.rds_code.specs.declared.reading.Wanted.{Wanted}
 use Rattle.rds_code.specs.Reading.{IsValid, information}
-use Rattle.rds_soft.specs.Nearest.{mask_of, IsNearest}
+use Rattle.rds_soft.specs.Nearest.{IsNearest}
 use Rattle.rds_soft.specs.Symbols.{hard_window, confidences}
 use Rattle.rds_soft.proofs.nearest.Search.read.Goals as goal
 
