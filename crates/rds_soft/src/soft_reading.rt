@@ -22,9 +22,9 @@ pub enum SoftReading {
     Lost,
 }
 
-/// The bits of a window that flips of its symbols invert, a word of 26 bits. `flips` is a word of 27 bits, the first symbol highest.
+/// The bits of a window that flips of its symbols invert, a word of 26 bits. `flips` is a word of 27 bits, the first symbol highest;
+/// higher bits are passed over.
 pub fn mask_of(flips: u32) -> u32
-    requires { flips < 2 ^ 27 }
     ensures value { result ≡ the_mask_of flips }
     ensures block { result < 2 ^ 26 }
 {
