@@ -13,6 +13,7 @@ LIBRARIES = [
     "rds_code",
     "rds_stream",
     "rds_sync",
+    "rds_soft",
     "rds_live",
     "rds_abi",
     "rds_pieces",

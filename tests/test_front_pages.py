@@ -52,6 +52,7 @@ use rds_rows::{Rows, Sheet, Sink, write_rows};"""
 READ_BLOCK = f"{CODE}\nuse rds_code::{{Offset, encode_block, read_block}};"
 READ_HEARD = f"{CODE}\nuse rds_stream::{{Reader, Recording, read_heard, scan}};"
 DECODE_PLAIN = "use rds_stream::Recording;\nuse rds_sync::{Item, Rules, decode_plain};"
+SOFT = "use rds_code::{BlockNumber, Wanted};\nuse rds_soft::{Margin, Search};"
 LIVE = "use rds_live::{MOST_ITEMS, StreamDecoder};\nuse rds_sync::Rules;"
 TRANSCRIBE = "use rds_tool::{FromRead, Input, Job, ToWrite, transcribe};"
 BYTES = "bytes: Vec<u8>, gaps: Vec<(u64, u64)>, table: BurstTable"
@@ -59,6 +60,7 @@ EXAMPLES = [
     Example("rds_code", "read_block", "alloc: Global", READ_BLOCK),
     Example("rds_stream", "read_heard", f"alloc: Global, {BYTES}", READ_HEARD),
     Example("rds_sync", "decode_plain", "alloc: Global, recording: Recording", DECODE_PLAIN),
+    Example("rds_soft", "read", "alloc: Global, symbols: [i8; 27]", SOFT),
     Example("rds_live", "MOST_ITEMS", "alloc: Global, rules: Rules, chunks: Vec<&[u8]>", LIVE),
     Example("rds_live", "resume", f"alloc: Global, rules: Rules, gaps: Vec<(u64, u64)>, {STATE}", KEEP),
     Example("rds_pieces", "stitch", RECORDING, PIECES),

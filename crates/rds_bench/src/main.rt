@@ -5,6 +5,7 @@
 
 mod calls;
 mod forms;
+mod soft;
 mod timing;
 mod two_guesses;
 
@@ -15,6 +16,7 @@ use std::env;
 const USAGE: &str =
     "usage: rds_bench FORM [LOSS]  prints the nanoseconds of a form over the packed bits on standard input, and its count
        rds_bench --calls      calls that a crew is made of, each by itself, and once more if it is refused
+       rds_bench --soft       the blocks of windows of 27 symbols on standard input
 Forms that find valid windows: scan, windows, places, divided. Forms that find valid blocks: report, guess, items.
 LOSS: how many bad blocks in a row lose sync [default: 10]
 ";
@@ -29,8 +31,10 @@ fn main(rt: HostRuntime) -> Result<()> {
 
 /// Does as these words ask.
 fn run(rt: &HostRuntime, words: &[String]) -> Result<()> {
-    if words.first().map(String::as_str) == Some("--calls") {
-        return calls::show(rt);
+    match words.first().map(String::as_str) {
+        Some("--calls") => return calls::show(rt),
+        Some("--soft") => return soft::show(rt),
+        _ => {}
     }
     match measurement(words) {
         Some((form, loss)) => timing::show(rt, form, loss),

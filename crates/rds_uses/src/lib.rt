@@ -16,6 +16,7 @@
 //! | `rds_sync` | [`loss`] | the effect of bad blocks on a lock, by either rule |
 //! | | [`sync`] | rules, lawful states, steps, runs, their items one after the other, and reports |
 //! | | [`items`] | lists of items of a recording, and their totals |
+//! | `rds_soft` | [`softly`] | nearest blocks, symbols read as blocks, and reports read again from symbols |
 //! | `rds_live` | [`live`] | streams, chunk by chunk |
 //! | | [`counters`] | streams that several workers count |
 //! | | [`live_numbers`] | decoders of streams that are made of any lawful numbers |
@@ -55,6 +56,7 @@ pub mod loss;
 pub mod pieces;
 pub mod refusals;
 pub mod sent;
+pub mod softly;
 pub mod stream;
 pub mod sync;
 pub mod tool;

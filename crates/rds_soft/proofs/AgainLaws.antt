@@ -1,0 +1,186 @@
+-- The laws of symbols read as blocks, and of items read again.
+use Rattle.std.proofs.Common.{◌≡◌, ℕ, ◌+◌, ◌-◌, ◌<◌, ◌≤◌, Bool, true, false, List, [], ◌∷◌, length, get_or, take, drop, refl, sym, ap, ◌∙◌, subst, arith, bit_xor, length-take, length-drop, Option, Some, None}
+use mathlib.Core.Path.{ap₂}
+use Rattle.std.specs.Prelude.{ℤ, pos, nat_lt, not, ◌&&◌, if◌then◌else◌}
+use Rattle.std.specs.Int.Digits.{number_from_digits}
+use Rattle.std.proofs.lemmas.Bool.{lt-ltb}
+use Rattle.std.proofs.lemmas.List.{ext_get_or, get_or-take, get_or-drop}
+use Rattle.rds_code.specs.declared.offset.Offset.{Offset}
+use Rattle.rds_code.specs.declared.reading.Wanted.{Wanted}
+use Rattle.rds_code.specs.declared.reading.Wanted.TheVariants.{Either}
+use Rattle.rds_code.specs.declared.reading.Reading.{Reading}
+use Rattle.rds_code.specs.declared.reading.Reading.TheVariants.{Valid as HardValid, Corrected as HardCorrected, Lost as HardLost}
+use Rattle.rds_code.specs.Reading.{IsValid, IsReading, information, reading}
+use Rattle.rds_code.specs.Laws.{ReadsByRule}
+use Rattle.rds_stream.specs.Recording.{Signal, reading_at, reading_heard, window, heard, touched, length_of}
+use Rattle.rds_sync.specs.declared.item.Block.{Block}
+use Rattle.rds_sync.specs.declared.item.Block.TheVariants.{Missing, Read}
+use Rattle.rds_sync.specs.declared.item.Item.TheVariants.{Acquired, Group, LostLock}
+use Rattle.rds_sync.specs.Groups.{block_in}
+use Rattle.rds_soft.specs.declared.soft_reading.SoftReading.{SoftReading}
+use Rattle.rds_soft.specs.declared.soft_reading.SoftReading.TheVariants.{Valid, Corrected, Lost}
+use Rattle.rds_soft.specs.declared.soft_item.SoftBlock.{SoftBlock}
+use Rattle.rds_soft.specs.declared.soft_item.SoftBlock.TheVariants.{Missing as SoftMissing, Read as SoftRead}
+use Rattle.rds_soft.specs.declared.soft_item.SoftGroup.{SoftGroup}
+use Rattle.rds_soft.specs.declared.soft_item.SoftItem.TheVariants.{Acquired as SoftAcquired, Group as InSoft, LostLock as SoftLostLock}
+use Rattle.rds_soft.specs.Nearest.{mask_of}
+use Rattle.rds_soft.specs.SoftGroups.{group_of, wanted_beside}
+use Rattle.rds_soft.specs.Symbols.{sign, hard_bit, hard_bits, hard_window, confidences, IsSoftReading}
+use Rattle.rds_soft.specs.Again.{symbols_heard, IsReadingHeard, IsBlockAgain, IsGroupAgain, first_bit}
+use Rattle.rds_soft.specs.Laws.{HasOneSoftReading, HasOneItemAgain, SymbolsHaveWindows, ReadsFromSymbols}
+use Rattle.rds_soft.proofs.NearestLaws.{has_one_nearest}
+use Rattle.rds_soft.proofs.SymbolLemmas.{bit_of, bit_count}
+
+-- ---- one reading
+
+some_is : (o p : Offset) → Some o ≡ Some p → o ≡ p
+some_is o p same = cc
+
+pub has_one_soft_reading : HasOneSoftReading
+has_one_soft_reading symbols x wanted margin (Valid o i) (Valid p j) some one other =
+    let offset : p ≡ o = some_is p o (sym other.0.offset ∙ one.0.offset) in
+    ap₂ (λ q k. Valid q k) offset (other.1 ∙ sym one.1)
+has_one_soft_reading symbols x wanted margin (Valid o i) (Corrected p j g) some one other = absurd (other.0 o one.0)
+has_one_soft_reading symbols x wanted margin (Valid o i) Lost some one other = absurd (other.0 o one.0)
+has_one_soft_reading symbols x wanted margin (Corrected o i f) (Valid p j) some one other = absurd (one.0 p other.0)
+has_one_soft_reading symbols x wanted margin (Corrected o i f) (Corrected p j g) some one other =
+    let same = has_one_nearest (hard_window symbols) x wanted (confidences symbols) margin o p f g some one.1 other.1 in
+    let info : j ≡ i = other.2 ∙ ap (λ (h : ℕ). information (bit_xor (hard_window symbols) (mask_of h))) same.1 ∙ sym one.2 in
+    ap (λ q. Corrected q j g) same.0 ∙ ap₂ (λ k h. Corrected o k h) info same.1
+has_one_soft_reading symbols x wanted margin (Corrected o i f) Lost some one other = absurd (other.1 o f one.1)
+has_one_soft_reading symbols x wanted margin Lost (Valid p j) some one other = absurd (one.0 p other.0)
+has_one_soft_reading symbols x wanted margin Lost (Corrected p j g) some one other = absurd (one.1 p g other.1)
+has_one_soft_reading symbols x wanted margin Lost Lost some one other = refl
+
+one_heard : (heard : Option (List ℤ)) (x : ℕ) (wanted : Wanted) (margin : ℕ) (one other : SoftReading) → 1 ≤ margin
+    → IsReadingHeard heard x wanted margin one → IsReadingHeard heard x wanted margin other → other ≡ one
+one_heard None x wanted margin one other some h k = k ∙ sym h
+one_heard (Some symbols) x wanted margin one other some h k = has_one_soft_reading symbols x wanted margin one other some h k
+
+one_block : (heard : Option (List ℤ)) (x : ℕ) (wanted : Wanted) (margin : ℕ) (block : Block) (one other : SoftBlock) → 1 ≤ margin
+    → IsBlockAgain heard x wanted margin block one → IsBlockAgain heard x wanted margin block other → other ≡ one
+one_block heard x wanted margin Missing one other some h k = k ∙ sym h
+one_block heard x wanted margin (Read (HardValid o i)) one other some h k = k ∙ sym h
+one_block heard x wanted margin (Read (HardCorrected o i e)) SoftMissing other some h k = absurd h
+one_block heard x wanted margin (Read (HardCorrected o i e)) (SoftRead r) SoftMissing some h k = absurd k
+one_block heard x wanted margin (Read (HardCorrected o i e)) (SoftRead r) (SoftRead q) some h k =
+    ap (λ y. SoftRead y) (one_heard heard x wanted margin r q some h k)
+one_block heard x wanted margin (Read HardLost) SoftMissing other some h k = absurd h
+one_block heard x wanted margin (Read HardLost) (SoftRead r) SoftMissing some h k = absurd k
+one_block heard x wanted margin (Read HardLost) (SoftRead r) (SoftRead q) some h k =
+    ap (λ y. SoftRead y) (one_heard heard x wanted margin r q some h k)
+
+one_group : (b : Signal) (symbols : List ℤ) (margin place : ℕ) (blocks : List Block) (one other : SoftGroup) → 1 ≤ margin
+    → IsGroupAgain b symbols margin place blocks one → IsGroupAgain b symbols margin place blocks other → other ≡ one
+one_group b symbols margin place blocks one other some h k =
+    let first : k.one ≡ h.one = one_block (symbols_heard b symbols (first_bit place blocks 1)) 1 Either margin (block_in blocks 1) h.one k.one some h.first k.first in
+    let second : k.two ≡ h.two = one_block (symbols_heard b symbols (first_bit place blocks 2)) 2 Either margin (block_in blocks 2) h.two k.two some h.second k.second in
+    let beside : IsBlockAgain (symbols_heard b symbols (first_bit place blocks 3)) 3 (wanted_beside h.two) margin (block_in blocks 3) k.three =
+    subst (λ (t : SoftBlock). IsBlockAgain (symbols_heard b symbols (first_bit place blocks 3)) 3 (wanted_beside t) margin (block_in blocks 3) k.three) second k.third in
+    let third : k.three ≡ h.three = one_block (symbols_heard b symbols (first_bit place blocks 3)) 3 (wanted_beside h.two) margin (block_in blocks 3) h.three k.three some h.third beside in
+    let fourth : k.four ≡ h.four = one_block (symbols_heard b symbols (first_bit place blocks 4)) 4 Either margin (block_in blocks 4) h.four k.four some h.fourth k.fourth in
+    k.told
+    ∙ ap (λ (t : SoftBlock). group_of place (t ∷ k.two ∷ k.three ∷ k.four ∷ [])) first
+    ∙ ap (λ (t : SoftBlock). group_of place (h.one ∷ t ∷ k.three ∷ k.four ∷ [])) second
+    ∙ ap (λ (t : SoftBlock). group_of place (h.one ∷ h.two ∷ t ∷ k.four ∷ [])) third
+    ∙ ap (λ (t : SoftBlock). group_of place (h.one ∷ h.two ∷ h.three ∷ t ∷ [])) fourth
+    ∙ sym h.told
+
+pub has_one_item_again : HasOneItemAgain
+has_one_item_again b symbols margin (Acquired place number) one other some h k = k ∙ sym h
+has_one_item_again b symbols margin (LostLock place) one other some h k = k ∙ sym h
+has_one_item_again b symbols margin (Group g) (InSoft one) (InSoft other) some h k =
+    ap (λ x. InSoft x) (one_group b symbols margin g.place g.blocks one other some h k)
+has_one_item_again b symbols margin (Group g) (InSoft one) (SoftAcquired p n) some h k = absurd k
+has_one_item_again b symbols margin (Group g) (InSoft one) (SoftLostLock p) some h k = absurd k
+has_one_item_again b symbols margin (Group g) (SoftAcquired p n) other some h k = absurd h
+has_one_item_again b symbols margin (Group g) (SoftLostLock p) other some h k = absurd h
+
+-- ---- windows
+
+-- the 27 symbols from this place on
+module _ (symbols : List ℤ) (first : ℕ) (within : first + 26 < length symbols) where
+  part : List ℤ
+  part = take 27 (drop first symbols)
+
+  part_long : length part ≡ 27
+  unfolding part
+  part_long = omega (arith, length-take 27 (drop first symbols), length-drop first symbols)
+
+  symbol_in : (i : ℕ) → i < 27 → get_or part i (pos 0) ≡ get_or symbols (first + i) (pos 0)
+  unfolding part
+  symbol_in i inside = get_or-take 27 (drop first symbols) i (pos 0) inside ∙ get_or-drop first symbols i (pos 0)
+
+  bit_in : (i : ℕ) → i < 26 → hard_bit part i ≡ hard_bit symbols (first + i)
+  bit_in i inside =
+      let next : first + (i + 1) ≡ first + i + 1 = omega arith in
+      ap₂ (λ (r q : ℤ). bit_xor (sign r) (sign q)) (symbol_in i (omega arith))
+      (symbol_in (i + 1) (omega arith) ∙ ap (λ j. get_or symbols j (pos 0)) next)
+
+  bits_in : take 26 (drop first (hard_bits symbols)) ≡ hard_bits part
+  bits_in =
+      let left : length (take 26 (drop first (hard_bits symbols))) ≡ 26 =
+      omega (arith, length-take 26 (drop first (hard_bits symbols)), length-drop first (hard_bits symbols), bit_count symbols) in
+      let right : length (hard_bits part) ≡ 26 = omega (arith, bit_count part, part_long) in
+      ext_get_or 0 (take 26 (drop first (hard_bits symbols))) (hard_bits part) (left ∙ sym right) (λ i inside.
+      let low : i < 26 = omega (arith, left, inside) in
+      get_or-take 26 (drop first (hard_bits symbols)) i 0 low ∙ get_or-drop first (hard_bits symbols) i 0
+      ∙ bit_of symbols (first + i) (omega arith) ∙ sym (bit_in i low) ∙ sym (bit_of part i (omega (arith, part_long, low))))
+
+pub symbols_have_windows : SymbolsHaveWindows
+unfolding window part
+symbols_have_windows symbols first within =
+    let from : first + 25 - 25 ≡ first = omega arith in
+    let count : first + 25 + 1 - (first + 25 - 25) ≡ 26 = omega arith in
+    ap₂ (λ (n a : ℕ). number_from_digits 2 (take n (drop a (hard_bits symbols)))) count from
+    ∙ ap (number_from_digits 2) (bits_in symbols first within)
+
+-- ---- blocks
+
+read_is : (r q : SoftReading) → SoftRead q ≡ SoftRead r → q ≡ r
+read_is r q same = cc
+
+-- a block as hard bits read it, and the symbols of the same window
+from_reading : (w x : ℕ) (hard wanted : Wanted) (limit margin : ℕ) (symbols : List ℤ) (r : Reading) (again : SoftReading)
+    → hard_window symbols ≡ w → IsReading w x hard limit r → IsBlockAgain (Some symbols) x wanted margin (Read r) (SoftRead again)
+    → IsSoftReading symbols x wanted margin again
+from_reading w x hard wanted limit margin symbols (HardValid o i) again same h k =
+    let valid : IsValid (hard_window symbols) x o = subst (λ (v : ℕ). IsValid v x o) (sym same) h.0 in
+    let info : i ≡ information (hard_window symbols) = h.1 ∙ sym (ap information same) in
+    subst (λ (y : SoftReading). IsSoftReading symbols x wanted margin y) (sym (read_is (Valid o i) again k)) (valid, info)
+from_reading w x hard wanted limit margin symbols (HardCorrected o i e) again same h k = k
+from_reading w x hard wanted limit margin symbols HardLost again same h k = k
+
+from_heard : ReadsByRule → (w x : ℕ) (hard wanted : Wanted) (limit margin : ℕ) (symbols : List ℤ) (again : SoftReading) → 1 ≤ x → x ≤ 4 → limit ≤ 5
+    → hard_window symbols ≡ w → IsBlockAgain (Some symbols) x wanted margin (Read (reading w x hard limit)) (SoftRead again)
+    → IsSoftReading symbols x wanted margin again
+from_heard law w x hard wanted limit margin symbols again low high few same h =
+    from_reading w x hard wanted limit margin symbols (reading w x hard limit) again same
+    ((law w x hard limit (reading w x hard limit) low high few).1 refl) h
+
+-- by whether the window touches a gap
+by_touch : ReadsByRule → (t : Bool) (w x : ℕ) (hard wanted : Wanted) (limit margin : ℕ) (symbols : List ℤ) (again : SoftReading) → 1 ≤ x → x ≤ 4 → limit ≤ 5
+    → hard_window symbols ≡ w
+    → IsBlockAgain (if true && not t && true then Some symbols else None) x wanted margin
+    (Read (reading_heard (elim t [ true ↦ None | false ↦ Some w ]) x hard limit)) (SoftRead again)
+    → IsReadingHeard (if true && not t && true then Some symbols else None) x wanted margin again
+by_touch law true w x hard wanted limit margin symbols again low high few same h = h
+by_touch law false w x hard wanted limit margin symbols again low high few same h =
+    from_heard law w x hard wanted limit margin symbols again low high few same h
+
+pub reads_from_symbols : ReadsByRule → ReadsFromSymbols
+unfolding heard
+reads_from_symbols law b symbols first x hard wanted limit margin again low high few bits within h =
+    let ends : nat_lt (first + 25) (length_of b) ≡ true =
+    lt-ltb (first + 25) (length_of b) (omega (arith, within, ap length bits, bit_count symbols)) in
+    let there : nat_lt (first + 26) (length symbols) ≡ true = lt-ltb (first + 26) (length symbols) within in
+    let part : List ℤ = take 27 (drop first symbols) in
+    let same : hard_window part ≡ window b.bits (first + 25) =
+    sym (ap (λ (bs : List ℕ). window bs (first + 25)) bits ∙ symbols_have_windows symbols first within) in
+    let Goal : Bool → Bool → Type 0 = λ e t. IsBlockAgain (if e && not (touched b (first + 25)) && t then Some part else None) x wanted margin
+    (Read (reading_at b (first + 25) x hard limit)) (SoftRead again)
+    → IsReadingHeard (if e && not (touched b (first + 25)) && t then Some part else None) x wanted margin again in
+    let plain : Goal true true =
+    by_touch law (touched b (first + 25)) (window b.bits (first + 25)) x hard wanted limit margin part again low high few same in
+    let one : Goal (nat_lt (first + 25) (length_of b)) true = subst (λ (e : Bool). Goal e true) (sym ends) plain in
+    subst (λ (t : Bool). Goal (nat_lt (first + 25) (length_of b)) t) (sym there) one h

@@ -1,0 +1,90 @@
+-- Lanes of sixteen weights.
+use Rattle.std.specs.Int.Bits.{xor_assoc}
+use Rattle.std.proofs.Common.{◌++◌, length, ◌≡◌, ℕ, zero, suc, ◌+◌, ◌*◌, ◌/◌, ◌%◌, ◌^◌, ◌<◌, ◌≤◌, List, false, true, Bool, cond, ltb, get_or, sym, ap, subst, ◌∙◌, arith, rules, bit_xor, min, refl, ◌-◌, inl, inr}
+use Rattle.std.proofs.Math.Nat.{min-eq_left, min-eq_right}
+use Rattle.std.proofs.lemmas.Bool.{cases_lt}
+use lib.Dec.{T}
+use lib.Lanes.{all_below, pick_l}
+use Rattle.std.proofs.lemmas.Nat.{xor_lt, xor_block}
+use Rattle.std.proofs.lemmas.Simd.{pick_l_left}
+
+by_test : (t : Bool) (a b : ℕ) → t ≡ ltb a b → cond t a b ≡ min a b
+by_test true a b is = let less : a < b = search (rules, is) in sym (min-eq_left (omega (arith, less)))
+by_test false a b is = let le : b ≤ a = search (rules, is) in sym (min-eq_right le)
+
+pub lesser_is : (a b : ℕ) → cond (ltb a b) a b ≡ min a b
+lesser_is a b = by_test (ltb a b) a b refl
+
+-- an effect permutes blocks of sixteen, and the places in each
+pub sum_turned : (block j e : ℕ) → j < 16 → 16 * bit_xor block (e / 16) + bit_xor j (e % 16) ≡ bit_xor (16 * block + j) e
+sum_turned block j e less =
+    let whole : (e / 16) * 2 ^ 4 + e % 16 ≡ e = omega arith in
+    let here : block * 2 ^ 4 + j ≡ 16 * block + j = omega arith in
+    let split : bit_xor (block * 2 ^ 4 + j) ((e / 16) * 2 ^ 4 + e % 16) ≡ bit_xor block (e / 16) * 2 ^ 4 + bit_xor j (e % 16) =
+    xor_block 4 block (e / 16) j (e % 16) less (omega arith) in
+    let first : 16 * bit_xor block (e / 16) + bit_xor j (e % 16) ≡ bit_xor (block * 2 ^ 4 + j) ((e / 16) * 2 ^ 4 + e % 16) = omega (arith, split) in
+    first ∙ ap (λ (x : ℕ). bit_xor x ((e / 16) * 2 ^ 4 + e % 16)) here ∙ ap (bit_xor (16 * block + j)) whole
+
+pub turned_within : (j e : ℕ) → j < 16 → bit_xor j (e % 16) < 16
+turned_within j e less = xor_lt 4 j (e % 16) less (omega arith)
+
+-- the cap does not count beside a byte
+pub capped : (kept heavy a b flipped c : ℕ) → kept ≡ a → kept < 256 → flipped ≡ b → heavy ≡ min (flipped + c) 255
+    → min kept heavy ≡ min a (b + c)
+capped kept heavy a b flipped c same byte turn cap = omega (arith, same, byte, turn, cap)
+
+-- one block more
+pub block_more : (P : ℕ → Type 0) (n : ℕ) → ((s : ℕ) → s < 16 * n → P s) → ((j : ℕ) → j < 16 → P (16 * n + j))
+    → (s : ℕ) → s < 16 * (n + 1) → P s
+block_more P n before here s less = elim (cases_lt s (16 * n)) [
+  | inl low ↦ before s low
+  | inr high ↦ subst P (omega (arith, high)) (here (s - 16 * n) (omega (arith, less, high)))
+]
+
+-- a sum that is capped first does not wrap
+pub capped_sum : (a weight c : ℕ) → c ≤ 255 → a ≡ min weight (255 - c) → (a + c) % 256 ≡ min (weight + c) 255
+capped_sum a weight c small is = omega (arith, small, is)
+
+-- a fact of each place
+pub at_place : (P : ℕ → Type 0) → P 0 → P 1 → P 2 → P 3 → P 4 → P 5 → P 6 → P 7 → P 8 → P 9 → P 10 → P 11 → P 12 → P 13 → P 14 → P 15
+    → (j : ℕ) → j < 16 → P j
+at_place P p0 p1 p2 p3 p4 p5 p6 p7 p8 p9 p10 p11 p12 p13 p14 p15 zero less = p0
+at_place P p0 p1 p2 p3 p4 p5 p6 p7 p8 p9 p10 p11 p12 p13 p14 p15 (suc zero) less = p1
+at_place P p0 p1 p2 p3 p4 p5 p6 p7 p8 p9 p10 p11 p12 p13 p14 p15 (suc (suc zero)) less = p2
+at_place P p0 p1 p2 p3 p4 p5 p6 p7 p8 p9 p10 p11 p12 p13 p14 p15 (suc (suc (suc zero))) less = p3
+at_place P p0 p1 p2 p3 p4 p5 p6 p7 p8 p9 p10 p11 p12 p13 p14 p15 (suc (suc (suc (suc zero)))) less = p4
+at_place P p0 p1 p2 p3 p4 p5 p6 p7 p8 p9 p10 p11 p12 p13 p14 p15 (suc (suc (suc (suc (suc zero))))) less = p5
+at_place P p0 p1 p2 p3 p4 p5 p6 p7 p8 p9 p10 p11 p12 p13 p14 p15 (suc (suc (suc (suc (suc (suc zero)))))) less = p6
+at_place P p0 p1 p2 p3 p4 p5 p6 p7 p8 p9 p10 p11 p12 p13 p14 p15 (suc (suc (suc (suc (suc (suc (suc zero))))))) less = p7
+at_place P p0 p1 p2 p3 p4 p5 p6 p7 p8 p9 p10 p11 p12 p13 p14 p15 (suc (suc (suc (suc (suc (suc (suc (suc zero)))))))) less = p8
+at_place P p0 p1 p2 p3 p4 p5 p6 p7 p8 p9 p10 p11 p12 p13 p14 p15 (suc (suc (suc (suc (suc (suc (suc (suc (suc zero))))))))) less = p9
+at_place P p0 p1 p2 p3 p4 p5 p6 p7 p8 p9 p10 p11 p12 p13 p14 p15 (suc (suc (suc (suc (suc (suc (suc (suc (suc (suc zero)))))))))) less = p10
+at_place P p0 p1 p2 p3 p4 p5 p6 p7 p8 p9 p10 p11 p12 p13 p14 p15 (suc (suc (suc (suc (suc (suc (suc (suc (suc (suc (suc zero))))))))))) less = p11
+at_place P p0 p1 p2 p3 p4 p5 p6 p7 p8 p9 p10 p11 p12 p13 p14 p15 (suc (suc (suc (suc (suc (suc (suc (suc (suc (suc (suc (suc zero)))))))))))) less = p12
+at_place P p0 p1 p2 p3 p4 p5 p6 p7 p8 p9 p10 p11 p12 p13 p14 p15 (suc (suc (suc (suc (suc (suc (suc (suc (suc (suc (suc (suc (suc zero))))))))))))) less = p13
+at_place P p0 p1 p2 p3 p4 p5 p6 p7 p8 p9 p10 p11 p12 p13 p14 p15 (suc (suc (suc (suc (suc (suc (suc (suc (suc (suc (suc (suc (suc (suc zero)))))))))))))) less = p14
+at_place P p0 p1 p2 p3 p4 p5 p6 p7 p8 p9 p10 p11 p12 p13 p14 p15 (suc (suc (suc (suc (suc (suc (suc (suc (suc (suc (suc (suc (suc (suc (suc zero))))))))))))))) less = p15
+at_place P p0 p1 p2 p3 p4 p5 p6 p7 p8 p9 p10 p11 p12 p13 p14 p15 (suc (suc (suc (suc (suc (suc (suc (suc (suc (suc (suc (suc (suc (suc (suc (suc j)))))))))))))))) less = absurd (omega (arith, less))
+
+-- a block with its places exchanged
+pub swapped : (xs ks : List ℕ) (m : ℕ) → length xs ≡ 16 → T (all_below 16 ks)
+    → ((j : ℕ) → j < 16 → get_or (pick_l 0 xs ks) j 0 ≡ get_or xs (bit_xor j m) 0)
+    → (j : ℕ) → j < 16 → get_or (pick_l 0 (xs ++ xs) ks) j 0 ≡ get_or xs (bit_xor j m) 0
+swapped xs ks m long below at j less = ap (λ (l : List ℕ). get_or l j 0) (pick_l_left 0 xs xs 16 ks long below) ∙ at j less
+
+-- the lowest four bits, each turned by itself
+bits_together : (k : ℕ) → k < 16 → bit_xor (k / 8 % 2 * 8) (bit_xor (k / 4 % 2 * 4) (bit_xor (k / 2 % 2 * 2) (k % 2))) ≡ k
+bits_together =
+    at_place (λ (k : ℕ). bit_xor (k / 8 % 2 * 8) (bit_xor (k / 4 % 2 * 4) (bit_xor (k / 2 % 2 * 2) (k % 2))) ≡ k) refl refl refl refl refl refl refl refl refl refl refl refl refl refl refl refl
+
+pub parts_turn : (e j : ℕ) → bit_xor (bit_xor (bit_xor (bit_xor j (e / 8 % 2 * 8)) (e / 4 % 2 * 4)) (e / 2 % 2 * 2)) (e % 2) ≡ bit_xor j (e % 16)
+parts_turn e j =
+    let k : ℕ = e % 16 in
+    let eight : e / 8 % 2 * 8 ≡ k / 8 % 2 * 8 = omega arith in
+    let four : e / 4 % 2 * 4 ≡ k / 4 % 2 * 4 = omega arith in
+    let two : e / 2 % 2 * 2 ≡ k / 2 % 2 * 2 = omega arith in
+    let one : e % 2 ≡ k % 2 = omega arith in
+    xor_assoc (bit_xor (bit_xor j (e / 8 % 2 * 8)) (e / 4 % 2 * 4)) (e / 2 % 2 * 2) (e % 2)
+    ∙ xor_assoc (bit_xor j (e / 8 % 2 * 8)) (e / 4 % 2 * 4) (bit_xor (e / 2 % 2 * 2) (e % 2))
+    ∙ xor_assoc j (e / 8 % 2 * 8) (bit_xor (e / 4 % 2 * 4) (bit_xor (e / 2 % 2 * 2) (e % 2)))
+    ∙ ap (bit_xor j) (rw (eight, four, two, one) (bits_together k (omega arith)))

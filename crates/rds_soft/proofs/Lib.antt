@@ -1,0 +1,12 @@
+pub mod LightestLemmas
+pub mod SecondLemmas
+pub mod FlipLemmas
+pub mod RowLemmas
+pub mod WalkLemmas
+pub mod StepLemmas
+pub mod NearestLemmas
+pub mod NearestLaws
+pub mod LaneLemmas
+pub mod SymbolLemmas
+pub mod AgainLaws
+pub mod AgainLemmas

@@ -1,0 +1,161 @@
+-- The laws of the nearest block.
+use Rattle.std.proofs.Common.{◌≡◌, ◌≢◌, ℕ, zero, suc, ◌+◌, ◌-◌, ◌*◌, ◌%◌, ◌^◌, ◌<◌, ◌≤◌, List, refl, sym, ap, ◌∙◌, arith, bit_xor, subst, ◌⊎◌, inl, inr, lit<}
+use Rattle.std.specs.Int.{bit_at}
+use Rattle.std.specs.Int.Bits.{xor_assoc, xor_zero_l, xor_zero_r}
+use Rattle.std.proofs.lemmas.Bool.{cases_eq}
+use Rattle.std.proofs.lemmas.Nat.{xor_lt}
+use Rattle.std.proofs.lemmas.Nat.Bits.{bit_at-lt, bit_at_xor}
+use Rattle.rds_code.specs.declared.offset.Offset.{Offset}
+use Rattle.rds_code.specs.declared.offset.Offset.TheVariants.{A, B, C, Cx, D}
+use Rattle.rds_code.specs.declared.reading.Wanted.{Wanted}
+use Rattle.rds_code.specs.Remainder.{rem}
+use Rattle.rds_code.specs.Offsets.{word}
+use Rattle.rds_soft.specs.Nearest.{mask_of, weight, Turns}
+use Rattle.rds_soft.specs.Laws.{NoneTurnsValid, HasOneNearest, SureSymbolsStay, CorrectsSent}
+use Rattle.rds_soft.specs.Inside.Lightest.{confidence, weigh}
+use Rattle.rds_soft.proofs.LightestLemmas.{undone, split_word, IsSplit, weigh_without, weigh_with}
+use Rattle.rds_soft.proofs.FlipLemmas.{mask_xor, weight_is}
+
+-- ---- valid windows
+
+pub none_turns_valid : NoneTurnsValid
+none_turns_valid w x wanted o confidences own allowed valid =
+    (record { symbols = lit< tt; own = own; allowed = allowed; due = ap rem (xor_zero_r w) ∙ valid }, omega (arith))
+
+-- ---- one nearest
+
+word_one : (o p : Offset) → word o ≡ word p → p ≡ o
+word_one A A same = refl
+word_one A B same = absurd (omega (arith, same))
+word_one A C same = absurd (omega (arith, same))
+word_one A Cx same = absurd (omega (arith, same))
+word_one A D same = absurd (omega (arith, same))
+word_one B A same = absurd (omega (arith, same))
+word_one B B same = refl
+word_one B C same = absurd (omega (arith, same))
+word_one B Cx same = absurd (omega (arith, same))
+word_one B D same = absurd (omega (arith, same))
+word_one C A same = absurd (omega (arith, same))
+word_one C B same = absurd (omega (arith, same))
+word_one C C same = refl
+word_one C Cx same = absurd (omega (arith, same))
+word_one C D same = absurd (omega (arith, same))
+word_one Cx A same = absurd (omega (arith, same))
+word_one Cx B same = absurd (omega (arith, same))
+word_one Cx C same = absurd (omega (arith, same))
+word_one Cx Cx same = refl
+word_one Cx D same = absurd (omega (arith, same))
+word_one D A same = absurd (omega (arith, same))
+word_one D B same = absurd (omega (arith, same))
+word_one D C same = absurd (omega (arith, same))
+word_one D Cx same = absurd (omega (arith, same))
+word_one D D same = refl
+
+pub has_one_nearest : HasOneNearest
+has_one_nearest w x wanted confidences margin o p f g some h k = elim (cases_eq g f) [
+  | inl same ↦
+      (word_one o p (sym h.turns.due ∙ ap (λ (y : ℕ). rem (bit_xor w (mask_of y))) (sym same) ∙ k.turns.due), same)
+  | inr apart ↦
+      let one : weight confidences f + margin ≤ weight confidences g = h.alone p g k.turns apart in
+      let other : weight confidences g + margin ≤ weight confidences f = k.alone o f h.turns (λ is. apart (sym is)) in
+      absurd (omega (arith, some, one, other))
+]
+
+-- ---- sure symbols
+
+heavy : (c : ℕ → ℕ) (n flips : ℕ) → ((k : ℕ) → k < n → 127 < c k) → flips < 2 ^ n → flips ≢ 0 → 127 < weigh c n flips
+heavy c zero flips sure small some = absurd (some (omega (arith, small)))
+heavy c (suc n) flips sure small some =
+    let split = split_word n flips small in
+    by_bit split.0 split.1 split.2 (λ more. heavy c n split.1 (λ k less. sure k (omega (arith, less))) split.2.rest_small more)
+  where
+    by_bit : (bit rest : ℕ) → IsSplit n flips bit rest → (rest ≢ 0 → 127 < weigh c n rest) → 127 < weigh c (suc n) flips
+    by_bit bit rest split below = elim split.bit_is [
+      | inl none ↦
+          let whole : flips ≡ 0 * 2 ^ n + rest = split.whole ∙ ap (λ (b : ℕ). b * 2 ^ n + rest) none in
+          let same : flips ≡ rest = omega (arith, whole) in
+          let weighs : weigh c (suc n) flips ≡ weigh c n rest = ap (weigh c (suc n)) whole ∙ weigh_without c n rest split.rest_small in
+          omega (arith, weighs, below (λ is. some (same ∙ is)))
+      | inr one ↦
+          let whole : flips ≡ 1 * 2 ^ n + rest = split.whole ∙ ap (λ (b : ℕ). b * 2 ^ n + rest) one in
+          let weighs : weigh c (suc n) flips ≡ c n + weigh c n rest = ap (weigh c (suc n)) whole ∙ weigh_with c n rest split.rest_small in
+          omega (arith, weighs, sure n (omega arith))
+    ]
+
+pub sure_symbols_stay : SureSymbolsStay
+sure_symbols_stay w x wanted confidences margin o flips sure h = elim (cases_eq flips 0) [
+  | inl none ↦ none
+  | inr some ↦
+      let more : 127 < weigh (confidence confidences) 27 flips =
+      heavy (confidence confidences) 27 flips (λ k less. sure (26 - k) (omega (arith, less))) h.turns.symbols some in
+      absurd (omega (arith, more, weight_is confidences flips, h.near))
+]
+
+-- ---- a block that was sent
+
+bit_cases : (t : ℕ) → t < 2 → (t ≡ 0) ⊎ (t ≡ 1)
+bit_cases t h = elim (cases_eq t 0) [ inl e ↦ inl e | inr n ↦ inr (omega (arith, h, n)) ]
+
+-- a symbol in both is in neither
+one_symbol : (a b c : ℕ) → a < 2 → b < 2 → (a + b) % 2 * c ≤ a * c + b * c
+one_symbol a b c h k = elim (bit_cases a h) [
+  | inl a0 ↦ elim (bit_cases b k) [
+    | inl b0 ↦ rw (a0, b0) (omega (arith))
+    | inr b1 ↦ rw (a0, b1) (omega (arith))
+  ]
+  | inr a1 ↦ elim (bit_cases b k) [
+    | inl b0 ↦ rw (a1, b0) (omega (arith))
+    | inr b1 ↦ rw (a1, b1) (omega (arith))
+  ]
+]
+
+-- flips together weigh at most as much as both
+together : (c : ℕ → ℕ) (n f g : ℕ) → weigh c n (bit_xor f g) ≤ weigh c n f + weigh c n g
+unfolding weigh
+together c zero f g = omega arith
+together c (suc n) f g =
+    let here : bit_at (bit_xor f g) n * c n ≤ bit_at f n * c n + bit_at g n * c n =
+    subst (λ (t : ℕ). t * c n ≤ bit_at f n * c n + bit_at g n * c n) (sym (bit_at_xor f g n))
+    (one_symbol (bit_at f n) (bit_at g n) (c n) (bit_at-lt f n) (bit_at-lt g n)) in
+    omega (arith, here, together c n f g)
+
+weight_together : (confidences : List ℕ) (f g : ℕ) → weight confidences (bit_xor f g) ≤ weight confidences f + weight confidences g
+weight_together confidences f g =
+    omega (
+      arith,
+      weight_is confidences (bit_xor f g),
+      weight_is confidences f,
+      weight_is confidences g,
+      together (confidence confidences) 27 f g,
+    )
+
+-- flips that turn the received window turn the sent one, together with the wrong symbols
+both_turn : (b x : ℕ) (wanted : Wanted) (p : Offset) (wrong any : ℕ) → wrong < 2 ^ 27
+    → Turns (bit_xor b (mask_of wrong)) x wanted p any → Turns b x wanted p (bit_xor wrong any)
+both_turn b x wanted p wrong any small h = record {
+  symbols = xor_lt 27 wrong any small h.symbols;
+  own = h.own;
+  allowed = h.allowed;
+  due = ap (λ (m : ℕ). rem (bit_xor b m)) (mask_xor wrong any) ∙ ap rem (sym (xor_assoc b (mask_of wrong) (mask_of any))) ∙ h.due;
+}
+
+pub corrects_sent : CorrectsSent
+corrects_sent b x wanted confidences margin o wrong lightest sent small near far few =
+    let back : bit_xor (bit_xor b (mask_of wrong)) (mask_of wrong) ≡ b = undone b (mask_of wrong) in (
+      record {
+        turns = record {
+          symbols = small;
+          own = sent.own;
+          allowed = sent.allowed;
+          due = ap rem back ∙ ap rem (sym (xor_zero_r b)) ∙ sent.due;
+        };
+        near = near;
+        alone = λ p any h apart.
+            let differ : bit_xor wrong any ≢ 0 = λ none.
+            apart (sym (xor_zero_l any) ∙ ap (λ (y : ℕ). bit_xor y any) (sym none) ∙ undone wrong any) in
+            let other : lightest ≤ weight confidences (bit_xor wrong any) =
+            far p (bit_xor wrong any) (both_turn b x wanted p wrong any small h) differ in
+            omega (arith, few, other, weight_together confidences wrong any);
+      },
+      back,
+    )

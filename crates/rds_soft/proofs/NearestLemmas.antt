@@ -1,0 +1,295 @@
+-- From the lightest flips of each offset to the nearest block.
+use Rattle.std.proofs.Common.{◌≡◌, ◌≢◌, ℕ, zero, suc, ◌+◌, ◌<◌, ◌≤◌, List, refl, sym, ap, ◌∙◌, arith, bit_xor, min, subst, ◌⊎◌, inl, inr, IsTrue}
+use Rattle.std.specs.Int.Bits.{xor_self, xor_assoc, xor_zero_l}
+use Rattle.std.proofs.Math.Nat.{min-le_left, min-le_right, min-eq_left, min-eq_right}
+use Rattle.std.proofs.lemmas.Bool.{cases_lt, cases_eq, false≢true}
+use Rattle.rds_code.specs.declared.offset.Offset.{Offset}
+use Rattle.rds_code.specs.declared.offset.Offset.TheVariants.{A, B, C, Cx, D}
+use Rattle.rds_code.specs.declared.reading.Wanted.{Wanted}
+use Rattle.rds_code.specs.declared.reading.Wanted.TheVariants.{OnlyC, OnlyCx, Either}
+use Rattle.rds_code.specs.Remainder.{rem}
+use Rattle.rds_code.specs.Offsets.{word, number}
+use Rattle.rds_code.specs.Reading.{allows}
+use Rattle.rds_code.specs.Laws.{IsLinear}
+use Rattle.rds_soft.specs.Nearest.{mask_of, weight, Turns, IsNearest}
+use Rattle.rds_soft.specs.Inside.Lightest.{effect, confidence, Leads, AreLightest, of_none, least, lightest, second}
+use Rattle.rds_soft.specs.Inside.Rows.{IsWalk}
+use Rattle.rds_soft.specs.Inside.Nearer.{TurnTo, AreNearest}
+use Rattle.rds_soft.proofs.FlipLemmas.{are_lightest}
+use Rattle.rds_soft.proofs.LightestLemmas.{least_small}
+
+-- a xor (a xor b) is b
+twice : (a b : ℕ) → bit_xor a (bit_xor a b) ≡ b
+twice a b = sym (xor_assoc a a b) ∙ ap (λ (n : ℕ). bit_xor n b) (xor_self a) ∙ xor_zero_l b
+
+-- ---- flips that turn a window have the sum of its remainder and the offset word
+
+pub leads : IsLinear → (w x : ℕ) (wanted : Wanted) (o : Offset) (flips : ℕ) → Turns w x wanted o flips → Leads (bit_xor (rem w) (word o)) flips
+leads linear w x wanted o flips h = record {
+  symbols = h.symbols;
+  sum = sym (twice (rem w) (rem (mask_of flips))) ∙ ap (bit_xor (rem w)) (sym (linear w (mask_of flips)) ∙ h.due);
+}
+
+pub turns : IsLinear → (w x : ℕ) (wanted : Wanted) (o : Offset) (flips : ℕ) → number o ≡ x → IsTrue (allows wanted o)
+    → Leads (bit_xor (rem w) (word o)) flips → Turns w x wanted o flips
+turns linear w x wanted o flips own allowed h = record {
+  symbols = h.symbols;
+  own = own;
+  allowed = allowed;
+  due = linear w (mask_of flips) ∙ ap (bit_xor (rem w)) h.sum ∙ twice (rem w) (word o);
+}
+
+-- ---- the end of the look back
+
+none_least : (e c : ℕ → ℕ) (s : ℕ) → least e c 0 s ≡ of_none s
+unfolding least
+none_least e c s = refl
+
+none_lightest : (e c : ℕ → ℕ) (s : ℕ) → lightest e c 0 s ≡ 0
+unfolding lightest
+none_lightest e c s = refl
+
+none_second : (e c : ℕ → ℕ) (s : ℕ) → second e c 0 s ≡ 255
+unfolding second
+none_second e c s = refl
+
+walk_ends_at : IsLinear → (confidences : List ℕ) (s left flips spent others weight : ℕ)
+    → IsWalk effect (confidence confidences) s 0 left flips spent others → weight ≡ spent + of_none left
+    → AreLightest confidences s weight flips others
+walk_ends_at linear confidences s left flips spent others weight h is =
+    let c : ℕ → ℕ = confidence confidences in
+    let least_is : least effect c 27 s ≡ weight = h.weight_is ∙ ap (λ (k : ℕ). spent + k) (none_least effect c left) ∙ sym is in
+    let flips_are : lightest effect c 27 s ≡ flips = omega (arith, h.flips_are, none_lightest effect c left) in
+    let second_is : second effect c 27 s ≡ others = omega (arith, h.others_are, h.most, none_second effect c left) in
+    subst (λ (k : ℕ). AreLightest confidences s weight flips k) second_is
+    (subst (λ (k : ℕ). AreLightest confidences s weight k (second effect c 27 s)) flips_are
+    (subst (λ (k : ℕ). AreLightest confidences s k (lightest effect c 27 s) (second effect c 27 s)) least_is
+    (are_lightest linear confidences s)))
+
+-- no sum is left
+pub walk_ends : IsLinear → (confidences : List ℕ) (s left flips spent others : ℕ)
+    → IsWalk effect (confidence confidences) s 0 left flips spent others → left ≡ 0 → AreLightest confidences s spent flips others
+walk_ends linear confidences s left flips spent others h none =
+    walk_ends_at linear confidences s left flips spent others spent h (omega (arith, ap of_none none))
+
+far_is : (left : ℕ) → left ≢ 0 → of_none left ≡ 255
+far_is zero some = absurd (some refl)
+far_is (suc left) some = refl
+
+-- a sum is left: no flips known below 255 have it
+pub walk_fails : IsLinear → (confidences : List ℕ) (s left flips spent others : ℕ)
+    → IsWalk effect (confidence confidences) s 0 left flips spent others → left ≢ 0 → AreLightest confidences s 255 flips others
+walk_fails linear confidences s left flips spent others h some =
+    let c : ℕ → ℕ = confidence confidences in
+    let far : least effect c 0 left ≡ 255 = none_least effect c left ∙ far_is left some in
+    let all : spent ≡ 0 = omega (arith, h.weight_is, far, least_small effect c 27 s) in
+    walk_ends_at linear confidences s left flips spent others 255 h (omega (arith, all, far_is left some))
+
+-- ---- one offset is wanted
+
+pub only_one : IsLinear → (w x : ℕ) (wanted : Wanted) (confidences : List ℕ) (o : Offset) (flips least others : ℕ)
+    → number o ≡ x → IsTrue (allows wanted o) → ((p : Offset) → number p ≡ x → IsTrue (allows wanted p) → p ≡ o)
+    → TurnTo w confidences o flips least others → AreNearest w x wanted confidences o flips least others
+only_one linear w x wanted confidences o flips least others own allowed alone h =
+    let at_o : (p : Offset) (any : ℕ) → Turns w x wanted p any → Leads (bit_xor (rem w) (word o)) any =
+    λ p any t. subst (λ (q : Offset). Leads (bit_xor (rem w) (word q)) any) (alone p t.own t.allowed) (leads linear w x wanted p any t) in
+    record {
+      found = λ near. let f = h.found near in (turns linear w x wanted o flips own allowed f.0, f.1);
+      none_lighter = λ p any t. h.none_lighter any (at_o p any t);
+      others_weigh = λ p any t apart. h.others_weigh any (at_o p any t) apart;
+      other = λ near. let f = h.other near in (o, f.0, turns linear w x wanted o f.0 own allowed f.1, f.2, f.3);
+    }
+
+-- ---- two are wanted: the lesser, and the other's best is a rival
+
+pub nearer_of_two : IsLinear → (w x : ℕ) (wanted : Wanted) (confidences : List ℕ) (o q : Offset) (f g a b m n : ℕ)
+    → number o ≡ x → IsTrue (allows wanted o) → number q ≡ x → IsTrue (allows wanted q) → word o ≢ word q
+    → ((p : Offset) → number p ≡ x → (p ≡ o) ⊎ (p ≡ q))
+    → TurnTo w confidences o f a m → TurnTo w confidences q g b n → a ≤ b → AreNearest w x wanted confidences o f a (min m b)
+nearer_of_two linear w x wanted confidences o q f g a b m n own allowed own_q allowed_q differ both h k le =
+    let at : (p r : Offset) (any : ℕ) → Turns w x wanted p any → p ≡ r → Leads (bit_xor (rem w) (word r)) any =
+    λ p r any t same. subst (λ (s : Offset). Leads (bit_xor (rem w) (word s)) any) same (leads linear w x wanted p any t) in
+    record {
+      found = λ near. let it = h.found near in (turns linear w x wanted o f own allowed it.0, it.1);
+      none_lighter = λ p any t. elim (both p t.own) [
+        | inl same ↦ h.none_lighter any (at p o any t same)
+        | inr same ↦ omega (arith, le, k.none_lighter any (at p q any t same))
+      ];
+      others_weigh = λ p any t apart. elim (both p t.own) [
+        | inl same ↦ omega (arith, min-le_left m b, h.others_weigh any (at p o any t same) apart)
+        | inr same ↦ omega (arith, min-le_right m b, k.none_lighter any (at p q any t same))
+      ];
+      other = λ near. elim (cases_lt b m) [
+        | inl less ↦
+            let is : min m b ≡ b = min-eq_right (omega (arith, less)) in
+            let b_near : b < 255 = omega (arith, near, is) in
+            let it = k.found b_near in
+            let mine = h.found (omega (arith, le, b_near)) in (
+              q,
+              g,
+              turns linear w x wanted q g own_q allowed_q it.0,
+              λ same. differ (sym (twice (rem w) (word o)) ∙ ap (bit_xor (rem w)) (sym mine.0.sum ∙ ap (λ (y : ℕ). rem (mask_of y)) (sym same) ∙ it.0.sum)
+                  ∙ twice (rem w) (word q)),
+              it.1 ∙ sym is,
+            )
+        | inr more ↦
+            let is : min m b ≡ m = min-eq_left more in
+            let it = h.other (omega (arith, near, is)) in
+            (o, it.0, turns linear w x wanted o it.0 own allowed it.1, it.2, it.3 ∙ sym is)
+      ];
+    }
+
+-- ---- within the top and the margin
+
+pub is_nearest : (w x : ℕ) (wanted : Wanted) (confidences : List ℕ) (margin : ℕ) (o : Offset) (flips least others : ℕ)
+    → AreNearest w x wanted confidences o flips least others → least ≤ 127 → least + margin ≤ others
+    → IsNearest w x wanted confidences margin o flips
+is_nearest w x wanted confidences margin o flips least others h near far =
+    let it = h.found (omega (arith, near)) in
+    record {
+      turns = it.0;
+      near = omega (arith, it.1, near);
+      alone = λ p any t apart. omega (arith, it.1, far, h.others_weigh p any t apart);
+    }
+
+pub none_past_top : (w x : ℕ) (wanted : Wanted) (confidences : List ℕ) (margin : ℕ) (o : Offset) (flips least others : ℕ)
+    → AreNearest w x wanted confidences o flips least others → 127 < least
+    → (p : Offset) (any : ℕ) → IsNearest w x wanted confidences margin p any → ⊥
+none_past_top w x wanted confidences margin o flips least others h far p any nearest =
+    omega (arith, far, nearest.near, h.none_lighter p any nearest.turns)
+
+pub none_beside : (w x : ℕ) (wanted : Wanted) (confidences : List ℕ) (margin : ℕ) (o : Offset) (flips least others : ℕ)
+    → AreNearest w x wanted confidences o flips least others → margin ≤ 127 → least ≤ 127 → others < least + margin
+    → (p : Offset) (any : ℕ) → IsNearest w x wanted confidences margin p any → ⊥
+none_beside w x wanted confidences margin o flips least others h few near close p any nearest =
+    let rival = h.other (omega (arith, few, near, close)) in
+    let it = h.found (omega (arith, near)) in
+    let rival_least : least ≤ others = omega (arith, h.none_lighter rival.0 rival.1 rival.2, rival.4) in
+    elim (cases_eq any flips) [
+      | inl same ↦
+          let weighs : weight confidences any ≡ least = ap (weight confidences) same ∙ it.1 in
+          omega (
+            arith,
+            weighs,
+            close,
+            rival.4,
+            nearest.alone rival.0 rival.1 rival.2 (λ is. rival.3 (is ∙ same)),
+          )
+      | inr apart ↦
+          omega (
+            arith,
+            close,
+            rival_least,
+            it.1,
+            h.others_weigh p any nearest.turns apart,
+            nearest.alone o flips it.0 (λ is. apart (sym is)),
+          )
+    ]
+
+-- ---- which offsets are wanted
+
+pub only_A : (wanted : Wanted) (p : Offset) → number p ≡ 1 → IsTrue (allows wanted p) → p ≡ A
+only_A wanted A own allowed = refl
+only_A wanted B own allowed = absurd (omega (arith, own))
+only_A wanted C own allowed = absurd (omega (arith, own))
+only_A wanted Cx own allowed = absurd (omega (arith, own))
+only_A wanted D own allowed = absurd (omega (arith, own))
+
+pub only_B : (wanted : Wanted) (p : Offset) → number p ≡ 2 → IsTrue (allows wanted p) → p ≡ B
+only_B wanted A own allowed = absurd (omega (arith, own))
+only_B wanted B own allowed = refl
+only_B wanted C own allowed = absurd (omega (arith, own))
+only_B wanted Cx own allowed = absurd (omega (arith, own))
+only_B wanted D own allowed = absurd (omega (arith, own))
+
+pub only_D : (wanted : Wanted) (p : Offset) → number p ≡ 4 → IsTrue (allows wanted p) → p ≡ D
+only_D wanted A own allowed = absurd (omega (arith, own))
+only_D wanted B own allowed = absurd (omega (arith, own))
+only_D wanted C own allowed = absurd (omega (arith, own))
+only_D wanted Cx own allowed = absurd (omega (arith, own))
+only_D wanted D own allowed = refl
+
+pub only_C : (p : Offset) → number p ≡ 3 → IsTrue (allows OnlyC p) → p ≡ C
+only_C A own allowed = absurd (omega (arith, own))
+only_C B own allowed = absurd (omega (arith, own))
+only_C C own allowed = refl
+only_C Cx own allowed = absurd (false≢true allowed)
+only_C D own allowed = absurd (omega (arith, own))
+
+pub only_Cx : (p : Offset) → number p ≡ 3 → IsTrue (allows OnlyCx p) → p ≡ Cx
+only_Cx A own allowed = absurd (omega (arith, own))
+only_Cx B own allowed = absurd (omega (arith, own))
+only_Cx C own allowed = absurd (false≢true allowed)
+only_Cx Cx own allowed = refl
+only_Cx D own allowed = absurd (omega (arith, own))
+
+pub C_or_Cx : (p : Offset) → number p ≡ 3 → (p ≡ C) ⊎ (p ≡ Cx)
+C_or_Cx A own = absurd (omega (arith, own))
+C_or_Cx B own = absurd (omega (arith, own))
+C_or_Cx C own = inl refl
+C_or_Cx Cx own = inr refl
+C_or_Cx D own = absurd (omega (arith, own))
+
+pub word_small : (o : Offset) → word o < 1024
+word_small A = omega arith
+word_small B = omega arith
+word_small C = omega arith
+word_small Cx = omega arith
+word_small D = omega arith
+
+-- ---- block 3 of either version
+
+pub nearer_C : IsLinear → (w : ℕ) (confidences : List ℕ) (f g a b m n : ℕ) → TurnTo w confidences C f a m
+    → TurnTo w confidences Cx g b n → a ≤ b → AreNearest w 3 Either confidences C f a (min m b)
+nearer_C linear w confidences f g a b m n h k le =
+    nearer_of_two linear w 3 Either confidences C Cx f g a b m n refl refl refl refl (λ same. absurd (omega (arith, same))) C_or_Cx h k le
+
+pub nearer_Cx : IsLinear → (w : ℕ) (confidences : List ℕ) (f g a b m n : ℕ) → TurnTo w confidences C f a m
+    → TurnTo w confidences Cx g b n → b ≤ a → AreNearest w 3 Either confidences Cx g b (min n a)
+nearer_Cx linear w confidences f g a b m n h k le =
+    nearer_of_two linear w 3 Either confidences Cx C g f b a n m refl refl refl refl (λ same. absurd (omega (arith, same)))
+    (λ p own. elim (C_or_Cx p own) [ inl same ↦ inr same | inr same ↦ inl same ]) k h le
+
+-- the same by other names
+pub renamed : (w x : ℕ) (wanted : Wanted) (confidences : List ℕ) (o p : Offset) (f g a b m n : ℕ) → o ≡ p → f ≡ g → a ≡ b → m ≡ n
+    → AreNearest w x wanted confidences p g b n → AreNearest w x wanted confidences o f a m
+renamed w x wanted confidences o p f g a b m n same_o same_f same_a same_m h =
+    subst (λ (k : Offset). AreNearest w x wanted confidences k f a m) (sym same_o)
+    (subst (λ (k : ℕ). AreNearest w x wanted confidences p k a m) (sym same_f)
+    (subst (λ (k : ℕ). AreNearest w x wanted confidences p g k m) (sym same_a)
+    (subst (λ (k : ℕ). AreNearest w x wanted confidences p g b k) (sym same_m) h)))
+
+-- ---- a block with one wanted offset, by the offset of the turn
+
+pub at_one : IsLinear → (w x : ℕ) (wanted : Wanted) (confidences : List ℕ) (o p : Offset) (flips least others : ℕ) → p ≡ o
+    → number o ≡ x → IsTrue (allows wanted o) → ((p : Offset) → number p ≡ x → IsTrue (allows wanted p) → p ≡ o)
+    → TurnTo w confidences o flips least others → AreNearest w x wanted confidences p flips least others
+at_one linear w x wanted confidences o p flips least others same own allowed alone h =
+    subst (λ (k : Offset). AreNearest w x wanted confidences k flips least others) (sym same)
+    (only_one linear w x wanted confidences o flips least others own allowed alone h)
+
+pub A_allowed : (wanted : Wanted) → IsTrue (allows wanted A)
+A_allowed OnlyC = refl
+A_allowed OnlyCx = refl
+A_allowed Either = refl
+
+pub B_allowed : (wanted : Wanted) → IsTrue (allows wanted B)
+B_allowed OnlyC = refl
+B_allowed OnlyCx = refl
+B_allowed Either = refl
+
+pub D_allowed : (wanted : Wanted) → IsTrue (allows wanted D)
+D_allowed OnlyC = refl
+D_allowed OnlyCx = refl
+D_allowed Either = refl
+
+-- a block that is not 1, 2 or 4
+pub is_third : (n m : ℕ) → m ≡ n → 1 ≤ m → m ≤ 4 → (m ≢ 1) → (m ≢ 2) → (m ≢ 4) → n ≡ 3
+is_third n m same low high one two four = omega (arith, same, low, high, one, two, four)
+
+-- block 3, by its number and what is wanted
+pub of_third : (w n : ℕ) (wanted given : Wanted) (confidences : List ℕ) (o : Offset) (flips least others : ℕ) → n ≡ 3 → given ≡ wanted
+    → AreNearest w 3 wanted confidences o flips least others → AreNearest w n given confidences o flips least others
+of_third w n wanted given confidences o flips least others is same h =
+    subst (λ (x : ℕ). AreNearest w x given confidences o flips least others) (sym is)
+    (subst (λ (k : Wanted). AreNearest w 3 k confidences o flips least others) (sym same) h)

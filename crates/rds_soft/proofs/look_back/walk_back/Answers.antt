@@ -1,0 +1,6 @@
+use Rattle.rds_soft.specs.Inside.Lightest.{effect as the_effect, confidence}
+use Rattle.rds_soft.proofs.WalkLemmas.{walk_begins}
+use Rattle.rds_soft.proofs.look_back.walk_back.Goals as goal
+
+pub loop-back-init : goal.loop-back-init
+loop-back-init c = walk_begins the_effect (confidence c.args.confidences.now) c.args.sum c.requires.sum

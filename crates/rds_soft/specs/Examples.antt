@@ -1,0 +1,3 @@
+pub mod Flips
+pub mod Symbols
+pub mod Again

@@ -1,0 +1,4 @@
+-- Definitions that the bodies of this crate cite, and no contract of a public function.
+pub mod Lightest
+pub mod Rows
+pub mod Nearer

@@ -1,0 +1,168 @@
+//! Items of a report, read again from the symbols of its recording.
+ghost use Rattle.std.specs.Prelude.{◌≡◌, ◌+◌, ◌*◌, ◌≤◌, Some, None, drop, length, nat_lt, take, if◌then◌else◌};
+ghost use Rattle.rds_soft.specs.Again.{IsBlockAgain, IsGroupAgain, symbols_heard as the_symbols_heard, was_read as the_was_read};
+
+use crate::margin::Margin;
+use crate::nearest::Search;
+use crate::soft_item::{SoftBlock, SoftGroup, SoftItem};
+use crate::soft_reading::SoftReading;
+use rds_code::{BlockNumber, Reading, Wanted};
+use rds_stream::{FIRST_WINDOW, Recording};
+use rds_sync::{Block, Item};
+
+impl Search {
+    ghost use Rattle.rds_soft.specs.Again.{IsItemAgain};
+
+    /// An item of a report, read again from the symbols of its recording: `symbols` are signed bytes, and bit i of the recording
+    /// is that between symbols i and i + 1. In a group each block that was read is read again, unless it is valid. A block that
+    /// touches a gap, or ends past the symbols, is lost. Acquisitions and losses stay as they are.
+    pub fn read_again(
+        &mut self,
+        recording: &Recording,
+        symbols: &[i8],
+        margin: Margin,
+        item: &Item,
+    ) -> SoftItem
+        ensures { IsItemAgain recording.now symbols.now margin item.now result }
+    {
+        match *item {
+            Item::Acquired { place, number } => SoftItem::Acquired { place, number },
+            Item::LostLock { place } => SoftItem::LostLock { place },
+            Item::Group(group) => {
+                let source = Source {
+                    recording,
+                    symbols,
+                    place: group.place,
+                };
+                SoftItem::Group(group_again(self, &source, margin, &group.blocks))
+            }
+        }
+    }
+}
+
+/// Where the blocks of a group are read again from.
+#[derive(Clone, Copy)]
+struct Source<'a> {
+    recording: &'a Recording,
+    symbols: &'a [i8],
+    /// The place of the first bit of the first block that was read.
+    place: u64,
+}
+
+/// The group of these blocks, read again.
+fn group_again(
+    search: &mut Search,
+    source: &Source<'_>,
+    margin: Margin,
+    blocks: &[Block; 4],
+) -> SoftGroup
+    ensures { IsGroupAgain source.now.recording.now source.now.symbols.now margin source.now.place blocks.now result }
+{
+    let [one, two, three, four] = blocks;
+    let before_three = was_read(one) + was_read(two);
+    let before_four = before_three + was_read(three);
+    let first = block_again(
+        search,
+        source,
+        margin,
+        one,
+        0,
+        BlockNumber::ONE,
+        Wanted::Either,
+    );
+    let second = block_again(
+        search,
+        source,
+        margin,
+        two,
+        was_read(one),
+        BlockNumber::TWO,
+        Wanted::Either,
+    );
+    let wanted = second.wanted_beside();
+    let third = block_again(
+        search,
+        source,
+        margin,
+        three,
+        before_three,
+        BlockNumber::THREE,
+        wanted,
+    );
+    let fourth = block_again(
+        search,
+        source,
+        margin,
+        four,
+        before_four,
+        BlockNumber::FOUR,
+        Wanted::Either,
+    );
+    SoftGroup::of_blocks(source.place, [first, second, third, fourth])
+}
+
+/// 1 if the block was read.
+#[inline(always)]
+fn was_read(block: &Block) -> u64
+    ensures value { result ≡ the_was_read block.now }
+    ensures most { result ≤ 1 }
+{
+    match *block {
+        Block::Missing => 0,
+        Block::Read(_) => 1,
+    }
+}
+
+/// A block of a group, read again. `before` blocks of the group were read before it.
+fn block_again(
+    search: &mut Search,
+    source: &Source<'_>,
+    margin: Margin,
+    block: &Block,
+    before: u64,
+    number: BlockNumber,
+    wanted: Wanted,
+) -> SoftBlock
+    requires { before ≤ 3 }
+    ensures { let heard = the_symbols_heard source.now.recording.now source.now.symbols.now (source.now.place + 26 * before) in
+        IsBlockAgain heard number wanted margin block.now result }
+{
+    match *block {
+        Block::Missing => SoftBlock::Missing,
+        Block::Read(Reading::Valid { offset, info }) => SoftBlock::Read(SoftReading::Valid {
+            offset,
+            info,
+        }),
+        Block::Read(_) => SoftBlock::Read(match symbols_heard(source, before) {
+            Some(symbols) => search.read(&symbols, number, wanted, margin),
+            None => SoftReading::Lost,
+        }),
+    }
+}
+
+/// The symbols of a block, if all are there and none of its bits is in a gap.
+fn symbols_heard(source: &Source<'_>, before: u64) -> Option<[i8; 27]>
+    requires { before ≤ 3 }
+    ensures { result ≡ the_symbols_heard source.now.recording.now source.now.symbols.now (source.now.place + 26 * before) }
+{
+    let bits = source.recording.len();
+    if source.place >= bits {
+        return None;
+    }
+    let first = source.place + 26 * before;
+    let last = first + FIRST_WINDOW;
+    if last >= bits || source.recording.touches(last) {
+        return None;
+    }
+    chunk_at(source.symbols, first as usize)
+}
+
+/// The 27 symbols from a place on, if they are there.
+fn chunk_at(symbols: &[i8], first: usize) -> Option<[i8; 27]>
+    ensures { result ≡ (if nat_lt (first + 26) (length symbols.now) then Some (take 27 (drop first symbols.now)) else None) }
+{
+    match symbols.get(first..)?.first_chunk() {
+        Some(chunk) => Some(*chunk),
+        None => None,
+    }
+}

@@ -1,0 +1,39 @@
+//! Laws of the nearest block. Each call does nothing: its contract is a law of the definitions.
+ghost use Rattle.rds_soft.specs.Laws.{NoneTurnsValid, HasOneNearest, SureSymbolsStay, CorrectsSent, HasOneSoftReading, HasOneItemAgain, SymbolsHaveWindows, ReadsFromSymbols};
+
+use rds_code::laws::readings_follow_the_rule;
+
+/// A window that is valid needs no flips, which weigh nothing.
+pub fn valid_blocks_need_no_flips()
+    ensures { NoneTurnsValid }
+{}
+
+/// At most one block is nearest, by one word of flips.
+pub fn nearest_blocks_are_alone()
+    ensures { HasOneNearest }
+{}
+
+/// If each symbol weighs more than the top, no window that is not valid is corrected.
+pub fn sure_symbols_stay()
+    ensures { SureSymbolsStay }
+{}
+
+/// A block whose wrong symbols weigh little is corrected to what was sent: less than half of the lightest other turn less the margin.
+pub fn sent_blocks_are_corrected()
+    ensures { CorrectsSent }
+{}
+
+/// Symbols have one reading, and an item is read again in one way: whoever reads it, and whatever was read before.
+pub fn items_are_read_again_alike()
+    ensures readings { HasOneSoftReading }
+    ensures items { HasOneItemAgain }
+{}
+
+/// If a recording's bits are those of symbols, its windows are those of 27 symbols, and each block that it reads is read again as
+/// its symbols are.
+pub fn blocks_are_read_from_symbols()
+    ensures windows { SymbolsHaveWindows }
+    ensures blocks { ReadsFromSymbols }
+{
+    readings_follow_the_rule();
+}

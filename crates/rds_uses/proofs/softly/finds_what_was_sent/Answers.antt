@@ -1,0 +1,29 @@
+use Rattle.std.proofs.Common.{◌≡◌, ℕ, ◌≤◌, List, Option, None, Some, sym, subst, arith, bit_xor}
+use mathlib.Core.Path.{ap₂}
+use Rattle.std.proofs.lemmas.Nat.{xor_lt}
+use Rattle.rds_code.specs.declared.offset.Offset.{Offset}
+use Rattle.rds_code.specs.declared.reading.Wanted.{Wanted}
+use Rattle.rds_soft.specs.declared.correction.Correction.{Correction}
+use Rattle.rds_soft.specs.Laws.{HasOneNearest}
+use Rattle.rds_soft.specs.Nearest.{IsNearest, IsCorrection}
+use Rattle.rds_uses.proofs.softly.finds_what_was_sent.Goals as goal
+
+found_is : HasOneNearest → (w x : ℕ) (wanted : Wanted) (confidences : List ℕ) (margin : ℕ) (o : Offset) (wrong : ℕ) (found : Option Correction) → 1 ≤ margin
+    → IsNearest w x wanted confidences margin o wrong → IsCorrection w x wanted confidences margin found
+    → found ≡ Some (record { offset = o; flips = wrong })
+found_is law w x wanted confidences margin o wrong None some near h = absurd (h o wrong near)
+found_is law w x wanted confidences margin o wrong (Some found) some near h =
+    let same = law w x wanted confidences margin o found.offset wrong found.flips some near h in
+    ap₂ (λ (p : Offset) (f : ℕ). Some (record { offset = p; flips = f })) same.0 same.1
+
+pub nearest-requires : goal.nearest-requires
+nearest-requires g c = xor_lt 26 c.args.sent c.mask_of.result c.requires.0 c.mask_of.ensures.block
+
+pub returns : goal.returns
+returns g c =
+    let near = c.sent_blocks_are_corrected.ensures c.args.sent c.args.number c.args.wanted c.args.confidences.now c.args.margin c.args.offset c.args.wrong
+    g.lightest c.requires.1.0 c.requires.1.1.0 c.requires.1.1.1.0 c.requires.1.1.1.1.0 c.requires.1.1.1.1.1 in
+    let here = subst (λ (m : ℕ). IsNearest (bit_xor c.args.sent m) c.args.number c.args.wanted c.args.confidences.now c.args.margin c.args.offset c.args.wrong)
+    (sym c.mask_of.ensures.value) near.0 in
+    found_is c.nearest_blocks_are_alone.ensures (bit_xor c.args.sent c.mask_of.result) c.args.number c.args.wanted c.args.confidences.now c.args.margin
+    c.args.offset c.args.wrong c.nearest.result (omega (arith, c.weight-some.ensures.value, c.weight-some.ensures.least)) here c.nearest.ensures

@@ -1,0 +1,266 @@
+//! Facts about soft decisions that a user of `rds_soft` relies on: which block is nearest, how symbols are read, and what a
+//! report read again keeps.
+ghost use Rattle.std.specs.Prelude.{◌≡◌, ◌≢◌, ℕ, ◌+◌, ◌*◌, ◌<◌, ◌≤◌, ◌^◌, None, Some, IfSome, slice_index, bit_xor, true, IsTrue, List, ◌∷◌, [], drop, length, take};
+ghost use Rattle.rds_code.specs.declared.offset.Offset.{Offset as AnOffset};
+ghost use Rattle.rds_code.specs.Offsets.{number as number_of, word};
+ghost use Rattle.rds_code.specs.Remainder.{rem};
+ghost use Rattle.rds_code.specs.Reading.{IsValid, allows, information};
+ghost use Rattle.rds_soft.specs.Nearest.{IsNearest, Turns, mask_of as the_mask_of, top, weight};
+ghost use Rattle.rds_soft.specs.Symbols.{hard_bits, hard_window};
+ghost use Rattle.rds_code.specs.declared.reading.Wanted.{Wanted as WantedHard};
+ghost use Rattle.rds_stream.specs.Recording.{length_of, reading_at, touched};
+ghost use Rattle.rds_sync.specs.declared.item.Block.TheVariants.{Read};
+ghost use Rattle.rds_soft.specs.declared.soft_item.SoftBlock.TheVariants.{Missing as SoftMissing, Read as SoftRead};
+ghost use Rattle.rds_soft.specs.SoftGroups.{group_of};
+ghost use Rattle.rds_soft.specs.Again.{IsBlockAgain, IsReadingHeard, symbols_heard};
+
+use rds_code::{BlockNumber, BurstLimit, Offset, Reading, Wanted};
+use rds_soft::{Correction, Margin, Search, SoftBlock, SoftItem, SoftReading, laws, mask_of};
+use rds_stream::Recording;
+use rds_sync::{Block, Group, Item, Version};
+
+// ---- the nearest block
+
+/// The margins are the numbers 1 to 127.
+pub fn margin_of(weight: u8) -> u8
+    requires least { 1 ≤ weight }
+    requires most { weight ≤ 127 }
+    ensures { result ≡ weight }
+{
+    match Margin::new(weight) {
+        Some(margin) => margin.weight(),
+        None => 0,
+    }
+}
+
+/// A window that no flips turn by the rule is not corrected.
+pub fn nothing_near(
+    search: &mut Search,
+    w: u32,
+    confidences: &[u8; 27],
+    number: BlockNumber,
+    wanted: Wanted,
+    margin: Margin,
+) -> Option<Correction>
+    requires window { w < 2 ^ 26 }
+    requires none { (o : AnOffset) (flips : ℕ) → IsNearest w number wanted confidences.now margin o flips → ⊥ }
+    ensures { result ≡ None }
+{
+    search.nearest(w, confidences, number, wanted, margin)
+}
+
+/// A block whose wrong symbols weigh little is corrected to what was sent, by just these symbols.
+pub fn finds_what_was_sent(
+    search: &mut Search,
+    sent: u32,
+    wrong: u32,
+    confidences: &[u8; 27],
+    number: BlockNumber,
+    wanted: Wanted,
+    margin: Margin,
+    offset: Offset,
+) -> Option<Correction>
+    ghost lightest: { ℕ }
+    requires block { sent < 2 ^ 26 }
+    requires sent { Turns sent number wanted offset 0 }
+    requires wrong { wrong < 2 ^ 27 }
+    requires top { weight confidences.now wrong ≤ top }
+    requires others { (p : AnOffset) (any : ℕ) → Turns sent number wanted p any → any ≢ 0 → lightest ≤ weight confidences.now any }
+    requires apart { 2 * weight confidences.now wrong + margin ≤ lightest }
+    ensures { result ≡ Some (record { offset = offset; flips = wrong }) }
+{
+    laws::sent_blocks_are_corrected();
+    laws::nearest_blocks_are_alone();
+    let _some = margin.weight();
+    search.nearest(sent ^ mask_of(wrong), confidences, number, wanted, margin)
+}
+
+/// If each symbol weighs more than the top, only a window that is valid already is found, by no flips.
+pub fn nothing_is_flipped(
+    search: &mut Search,
+    w: u32,
+    confidences: &[u8; 27],
+    number: BlockNumber,
+    wanted: Wanted,
+    margin: Margin,
+) -> Option<Correction>
+    requires window { w < 2 ^ 26 }
+    requires sure { (k : ℕ) → k < 27 → top < slice_index confidences.now k }
+    ensures { IfSome result (λ found. found.flips ≡ 0) }
+{
+    laws::sure_symbols_stay();
+    search.nearest(w, confidences, number, wanted, margin)
+}
+
+/// The mask of the last flip but four.
+pub fn mask_of_one_flip() -> u32
+    ensures { result ≡ 0x18 }
+{
+    mask_of(0x10)
+}
+
+// ---- readings
+
+/// Symbols whose window is valid are read as it is.
+pub fn valid_stays(
+    search: &mut Search,
+    symbols: &[i8; 27],
+    number: BlockNumber,
+    wanted: Wanted,
+    margin: Margin,
+    offset: Offset,
+) -> SoftReading
+    requires { IsValid (hard_window symbols.now) number offset }
+    ensures { result ≡ SoftReading.Valid offset (information (hard_window symbols.now)) }
+{
+    search.read(symbols, number, wanted, margin)
+}
+
+/// Two searches read symbols alike.
+pub fn read_alike(
+    one: &mut Search,
+    other: &mut Search,
+    symbols: &[i8; 27],
+    number: BlockNumber,
+    wanted: Wanted,
+    margin: Margin,
+) -> bool
+    ensures { result ≡ true }
+{
+    laws::items_are_read_again_alike();
+    let _some = margin.weight();
+    one.read(symbols, number, wanted, margin) == other.read(symbols, number, wanted, margin)
+}
+
+// ---- reports read again
+
+/// An acquisition stays as it is.
+pub fn acquisition_stays(
+    search: &mut Search,
+    recording: &Recording,
+    symbols: &[i8],
+    margin: Margin,
+    place: u64,
+    number: u8,
+) -> SoftItem
+    ensures { result ≡ SoftItem.Acquired place number }
+{
+    search.read_again(
+        recording,
+        symbols,
+        margin,
+        &Item::Acquired { place, number },
+    )
+}
+
+/// So does a loss.
+pub fn loss_stays(
+    search: &mut Search,
+    recording: &Recording,
+    symbols: &[i8],
+    margin: Margin,
+    place: u64,
+) -> SoftItem
+    ensures { result ≡ SoftItem.LostLock place }
+{
+    search.read_again(recording, symbols, margin, &Item::LostLock { place })
+}
+
+/// Two workers read an item again alike, whatever each read before.
+pub fn again_alike(
+    one: &mut Search,
+    other: &mut Search,
+    recording: &Recording,
+    symbols: &[i8],
+    margin: Margin,
+    item: &Item,
+) -> (SoftItem, SoftItem)
+    ensures { result.0 ≡ result.1 }
+{
+    laws::items_are_read_again_alike();
+    let _some = margin.weight();
+    let first = one.read_again(recording, symbols, margin, item);
+    let second = other.read_again(recording, symbols, margin, item);
+    (first, second)
+}
+
+/// The windows of a recording of symbols' bits are those of 27 symbols.
+pub fn window_of_symbols(recording: &Recording, symbols: &[i8], first: u64) -> u32
+    requires bits { recording.now.bits ≡ hard_bits symbols.now }
+    requires within { first + 26 < length symbols.now }
+    requires short { first + 25 < length_of recording.now }
+    ensures { result ≡ hard_window (take 27 (drop first symbols.now)) }
+{
+    laws::blocks_are_read_from_symbols();
+    let _bits = recording.len();
+    recording.window(first + 25)
+}
+
+/// A block that such a recording reads is read again as its symbols are, also if its bits make it valid.
+pub fn read_from_symbols(
+    recording: &Recording,
+    symbols: &[i8],
+    first: u64,
+    number: BlockNumber,
+    limit: BurstLimit,
+    wanted: Wanted,
+    margin: Margin,
+    again: SoftReading,
+)
+    ghost hard: { WantedHard }
+    requires bits { recording.now.bits ≡ hard_bits symbols.now }
+    requires within { first + 26 < length symbols.now }
+    requires again { IsBlockAgain (symbols_heard recording.now symbols.now first) number wanted margin
+        (Read (reading_at recording.now (first + 25) number hard limit)) (SoftRead again) }
+    ensures { IsReadingHeard (symbols_heard recording.now symbols.now first) number wanted margin again }
+{
+    laws::blocks_are_read_from_symbols();
+    let _number = number.get();
+    let _limit = limit.bits();
+}
+
+/// A block that touches a gap is lost, whatever its symbols are.
+pub fn lost_in_gap(
+    search: &mut Search,
+    recording: &Recording,
+    symbols: &[i8],
+    margin: Margin,
+    place: u64,
+) -> SoftItem
+    requires { touched recording.now (place + 25) ≡ true }
+    ensures { result ≡ SoftItem.Group (group_of place (SoftRead SoftReading.Lost ∷ SoftMissing ∷ SoftMissing ∷ SoftMissing ∷ [])) }
+{
+    let lost = Block::Read(Reading::Lost);
+    let group = Group {
+        place,
+        blocks: [lost, Block::Missing, Block::Missing, Block::Missing],
+        kind: None,
+        version: Version::Unknown,
+        conflict: false,
+    };
+    search.read_again(recording, symbols, margin, &Item::Group(group))
+}
+
+/// The information word of a corrected block is known.
+pub fn word_of_corrected(offset: Offset, info: u16, flips: u32) -> Option<u16>
+    ensures { result ≡ Some info }
+{
+    SoftBlock::Read(SoftReading::Corrected {
+        offset,
+        info,
+        flips,
+    })
+    .info()
+}
+
+/// A block as it was sent is turned by no flips, which weigh nothing.
+pub fn sent_is_a_block(sent: u32, number: BlockNumber, wanted: Wanted, offset: Offset)
+    ghost confidences: { List ℕ }
+    requires own { number_of offset ≡ number }
+    requires allowed { IsTrue (allows wanted offset) }
+    requires due { rem sent ≡ word offset }
+    ensures turns { Turns sent number wanted offset 0 }
+    ensures weightless { weight confidences 0 ≡ 0 }
+{
+    laws::valid_blocks_need_no_flips();
+}
