@@ -158,8 +158,8 @@ strip -o "$work/bin/rds" "$program"
 installed install-program rds PROGRAM="$work/bin/rds" ZSH_COMPLETIONS=/usr/share/zsh/vendor-completions
 gzip -9n "$work/rds/usr/share/man/man1/rds.1"
 documents rds README.md
-install -D -m 644 -t "$work/rds/usr/share/doc/rds/docs" docs/{START,INPUT,OUTPUT,USING,RECIPES}.md \
-  docs/{LIBRARY,ACCURACY,PERFORMANCE,GLOSSARY}.md
+install -D -m 644 -t "$work/rds/usr/share/doc/rds/docs" docs/{FORMATS,USING,RECIPES,TROUBLES}.md \
+  docs/{LIBRARY,ACCURACY,COMPARISON,PERFORMANCE,GLOSSARY}.md
 package rds amd64 hamradio "Depends: $(needed "$program")
 Recommends: rds-monitor" "decoder of $about
  Decodes demodulated RDS bits into a listing: sync acquisitions, groups with

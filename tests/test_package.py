@@ -1,7 +1,7 @@
 """Completion and the Debian packages.
 
 Completion is compared with the program's help. The packages are built, checked by lintian, installed in a root folder of their own, tried and
-removed. README.md's program in C is linked with both forms of the installed library, by pkg-config and by CMake, and run.
+removed. docs/LIBRARY.md's first program in C is linked with both forms of the installed library, by pkg-config and by CMake, and run.
 """
 
 from __future__ import annotations
@@ -16,7 +16,7 @@ from pathlib import Path
 from typing import Any, Callable
 
 import pytest
-from running import TOP, needs, readme_program, run, said, wrote
+from running import TOP, first_program, needs, run, said, wrote
 
 SAMPLE = (TOP / "examples" / "station.bin").read_bytes()
 COUNTS = "7691 valid, 1923 groups"
@@ -136,9 +136,9 @@ class Packages:
         return said(*words, data=SAMPLE, env={**os.environ, **python, **library})
 
     def program(self, folder: Path, *options: str) -> Path:
-        """README.md's program in C, with these options."""
-        (folder / "readme.c").write_text(readme_program("c"))
-        wrote(CC, "-o", folder / "program", folder / "readme.c", *options)
+        """docs/LIBRARY.md's first program in C, with these options."""
+        (folder / "first.c").write_text(first_program("c"))
+        wrote(CC, "-o", folder / "program", folder / "first.c", *options)
         return folder / "program"
 
 
@@ -192,7 +192,7 @@ def test_fields_of_packages(packages: Packages, cases: Cases) -> None:
         f"rds, hamradio, no: libc6 (>= {newest_libc(packages.rds)}); rds-monitor",
         f"rds-monitor, hamradio, no: python3 (>= {python}), python3-numpy, python3-librds (= {version}); rds, libjs-d3, python3-jinja2",
     }
-    pages = (TOP / "README.md").read_text() + (TOP / "docs/START.md").read_text()
+    pages = (TOP / "README.md").read_text()
     described = said("dpkg-deb", "--field", packages.files[-1], "Description")
     assert {*re.findall("x86-64-v[0-9]", described)} == {*re.findall("x86-64-v[0-9]", pages)} != set()
 
@@ -317,8 +317,8 @@ def test_program_by_pkg_config(packages: Packages, tmp_path: Path, cases: Cases)
 @of_packages
 def test_python_of_the_packages(packages: Packages, tmp_path: Path, cases: Cases) -> None:
     cases(2)
-    (tmp_path / "readme.py").write_text(readme_program("python"))
-    assert packages.run_program(sys.executable, tmp_path / "readme.py") == COUNTS
+    (tmp_path / "first.py").write_text(first_program("python"))
+    assert packages.run_program(sys.executable, tmp_path / "first.py") == COUNTS
     packages.run_program(packages.root / "usr/bin/rds-monitor", "errors", TOP / "examples/station.bin")
 
 
@@ -342,7 +342,7 @@ if(NOT rds_VERSION VERSION_EQUAL 0.2)
   message(FATAL_ERROR "version ${rds_VERSION}")
 endif()
 foreach(kind static rds)
-  add_executable(${kind} readme.c)
+  add_executable(${kind} first.c)
   target_link_libraries(${kind} rds::${kind})
 endforeach()
 """
@@ -352,7 +352,7 @@ endforeach()
 def test_programs_by_cmake(packages: Packages, tmp_path: Path, cases: Cases) -> None:
     cases(2)
     needs("cmake")
-    (tmp_path / "readme.c").write_text(readme_program("c"))
+    (tmp_path / "first.c").write_text(first_program("c"))
     (tmp_path / "CMakeLists.txt").write_text(CMAKE)
     # the folders of the packages are not where they were made for
     folder = f"{packages.root}{packages.libdir}/cmake/rds"

@@ -115,7 +115,7 @@ class Manual:
 
 
 class Using:
-    """What docs/USING.md and docs/OUTPUT.md say."""
+    """What docs/USING.md and docs/FORMATS.md say."""
 
     def __init__(self) -> None:
         text = read("docs/USING.md")
@@ -124,7 +124,7 @@ class Using:
         self.commands = set(re.findall(r"^\| `([a-z]+)` \|", text.split("\n## Options")[0], re.M))
         self.refusals = set(re.findall(r"^\| (\d+) \| (\w+) \|", text.split("## Exit status")[1], re.M))
         self.named = set(re.findall(r"`refused (\d+) (\w+)`", text))
-        text = read("docs/OUTPUT.md")
+        text = read("docs/FORMATS.md")
         rows = between(text, "| Row | Fields |", "\n\n")
         self.rows = set(re.findall(r"^\| `([a-z]+)` \|", rows, re.M))
         totals = between(text, "| Total | Counts |", "\n\n").splitlines()[2:]
@@ -167,7 +167,7 @@ def test_values_of_options(program: Program, faults: Faults) -> None:
 
 def test_errors_and_rows(program: Program, faults: Faults) -> None:
     manual, using = Manual(), Using()
-    for refusals, rows, page in (("docs/USING.md", "docs/OUTPUT.md", using), ("rds.1", "rds.1", manual)):
+    for refusals, rows, page in (("docs/USING.md", "docs/FORMATS.md", using), ("rds.1", "rds.1", manual)):
         faults.same(f"{refusals}, refusals", program.refusals, page.refusals)  # type: ignore[attr-defined]
         faults.same(f"{rows}, rows", program.rows, page.rows)  # type: ignore[attr-defined]
         faults.same(f"{rows}, totals", program.totals, page.totals)  # type: ignore[attr-defined]
