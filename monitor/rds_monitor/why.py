@@ -3,7 +3,6 @@
 from __future__ import annotations
 
 import argparse
-import os
 import re
 import signal
 import subprocess
@@ -12,6 +11,7 @@ from typing import Any, Callable, Dict, List, Optional, Sequence
 
 import numpy
 
+from .rows.decoders import rds_program
 from .rows.items import Fault
 
 HEX_TEXT = re.compile(rb"[0-9A-Fa-f \t\r\n]*")
@@ -35,7 +35,7 @@ def options_why(parser: argparse.ArgumentParser) -> None:
 
 def run_why(arguments: argparse.Namespace) -> int:
     words, held = [*arguments.words], sys.stdin.buffer.read()
-    program = os.environ.get("RDS", "rds")
+    program = rds_program()
     # rds may refuse before it has read all: then the pipe is closed, which is no end of this command.
     signal.signal(signal.SIGPIPE, signal.SIG_IGN)
     try:
