@@ -85,6 +85,7 @@ FORMS = [
 ]
 
 
+@pytest.mark.usefixtures("decoder")
 @pytest.mark.parametrize("name,data,options", FORMS, ids=[f"{at}-{one[0]}" for at, one in enumerate(FORMS)])
 def test_the_form_and_its_cure(name: str, data: bytes, options: Optional[str], tmp_path: Path) -> None:
     path = tmp_path / "it's a $(file)"

@@ -73,7 +73,6 @@ def run_info(arguments: argparse.Namespace) -> int:
             sys.stdout.writelines(content_line(event, clock) for event in events)
         else:
             summary.take(events)
-        sys.stdout.flush()
     if not (arguments.csv or arguments.json):
         sys.stdout.write(summary.text(clock_of(arguments, source)))
     return 0

@@ -54,7 +54,6 @@ def run_json(arguments: argparse.Namespace) -> int:
             sys.stdout.write("".join(redsea.lines(rows, clock)))
         else:
             sys.stdout.writelines(event_lines(rows, decoder.feed(rows), clock))
-        sys.stdout.flush()
     if arguments.rows:
         sys.stdout.writelines(map(line, total_objects(source.totals)))
     return 0

@@ -7,11 +7,11 @@ from typing import Optional
 
 import numpy
 from numpy.lib.stride_tricks import sliding_window_view
+from numpy.typing import NDArray
 
-from .symbols import Bits
+from .items import BLOCK_BITS, GROUP_BITS
 
-BLOCK_BITS = 26
-GROUP_BITS = 4 * BLOCK_BITS
+Bits = NDArray[numpy.uint8]
 GENERATOR = 0x5B9  # of degree 10
 # The number of the block by its offset word: A, B, C and C', D. Of other remainders -1.
 NUMBERS = numpy.full(1024, -1)
