@@ -224,16 +224,6 @@ def test_numbers(faults: Faults, page: str, told: str, path: str, source: str) -
     faults.same(f"{page}, '{told}' as in {path}", numbers or {"a number"}, numbers_in(told, text))
 
 
-def test_table_of_the_gate(faults: Faults) -> None:
-    """Each file of tests has a row, and each row is one."""
-    page = between(read(TESTING), "## The gate", "## Wrong bodies")
-    named = {
-        name for row in re.findall(r"^\| `([^|]*)` \|", page, re.M) for name in re.findall(r"[\w.]+", row)
-    }
-    tests = {path.name for path in (TOP / "tests").glob("test_*.py")}
-    faults.same(f"{TESTING}, tests of the gate", tests, {name for name in named if "." in name})
-
-
 def test_seconds_that_a_call_may_take(faults: Faults) -> None:
     limited = r'environ.get\("LIMIT", (\d+)|atoi\(limit\) : (\d+)'
     texts = [path.read_text() for path in (TOP / "tests").iterdir() if path.suffix in (".sh", ".py", ".c")]
@@ -241,17 +231,13 @@ def test_seconds_that_a_call_may_take(faults: Faults) -> None:
     faults.same("tests, the seconds that a call may take", {"60"}, limits)
 
 
-def test_crates_and_edits(faults: Faults) -> None:
+def test_crates(faults: Faults) -> None:
     rows = [line for line in read("crates.txt").splitlines() if not line.startswith("#")]
     crates = {row.split(":")[0].split()[0] for row in rows}
     named = set(
         re.findall(r"`(rds(?:_\w+)?)`", between(read("docs/ARCHITECTURE.md"), "## The crates", "\n## "))
     )
     faults.same("docs/ARCHITECTURE.md, crates", crates, named & crates)
-    for crate, count in re.findall(r"^\| `?(rds(?:_\w+)?)`? \|.*\| (\d+) edits", read(TESTING), re.M):
-        wrong = len(list((TOP / "crates" / crate / "wrong").iterdir()))
-        edits = wrong + read("tests/must_fail.edits").count(f"edit: {crate}/")
-        faults.same(f"{TESTING}, edits of {crate}", edits, int(count))
 
 
 # ---- files and functions
