@@ -124,6 +124,7 @@ class Using:
         self.commands = set(re.findall(r"^\| `([a-z]+)` \|", text.split("\n## Options")[0], re.M))
         self.refusals = set(re.findall(r"^\| (\d+) \| (\w+) \|", text.split("## Exit status")[1], re.M))
         self.named = set(re.findall(r"`refused (\d+) (\w+)`", text))
+        self.statuses = re.findall(r"^\| (\d) \|", between(text, "| Status | Means |", "\n\n"), re.M)
         text = read("docs/FORMATS.md")
         rows = between(text, "| Row | Fields |", "\n\n")
         self.rows = set(re.findall(r"^\| `([a-z]+)` \|", rows, re.M))
@@ -172,6 +173,16 @@ def test_errors_and_rows(program: Program, faults: Faults) -> None:
         faults.same(f"{rows}, rows", program.rows, page.rows)  # type: ignore[attr-defined]
         faults.same(f"{rows}, totals", program.totals, page.totals)  # type: ignore[attr-defined]
     faults.same("docs/USING.md, refusals in the text", set(), using.named - program.refusals)
+
+
+def test_errors_of_scripts(program: Program, faults: Faults) -> None:
+    """The errors that docs/TROUBLES.md names, and the exit statuses that it tells apart."""
+    part = between(read("docs/TROUBLES.md"), "| Ended | Do |", "\n\n")
+    named = {pair for pair in re.findall(r"`(?:refused )?(\d+) ([A-Z]\w+)`", part)}
+    faults.same("docs/TROUBLES.md, errors", set(), named - program.refusals)
+    faults.same("docs/TROUBLES.md, number of errors", 5, len(named))
+    statuses = set(re.findall(r"^\| (\d)[ ,]", part, re.M))
+    faults.same("docs/TROUBLES.md, exit statuses", set(Using().statuses), statuses)
 
 
 # ---- numbers
