@@ -115,7 +115,7 @@ def row_objects(rows: Rows, clock: Clock) -> Iterator[Dict[str, Any]]:
 
 
 def _block_object(burst: int, info: int, kind: int, offset: int) -> Optional[Dict[str, Union[str, bool]]]:
-    """A block: null if it was not read."""
+    """A block: null if it is none, as before the block that acquired sync."""
     if kind == MISSING:
         return None
     if kind == LOST:

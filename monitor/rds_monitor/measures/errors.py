@@ -126,7 +126,7 @@ def options_errors(parser: argparse.ArgumentParser) -> None:
     describe(
         parser,
         "Block errors over time, as CSV: per interval the blocks sent by the clock, those valid, "
-        "corrected, uncorrectable (lost) and not read for want of sync (missing), and how many per cent"
+        "corrected, uncorrectable (lost) and sent while there was no sync (missing), and how many per cent"
         " of those sent are not valid.",
         "rds-monitor errors --every 60 --start 2026-03-29T00:30:00Z monday.bin > errors.csv",
     )
