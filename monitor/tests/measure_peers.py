@@ -14,8 +14,9 @@ from typing import Any, Dict, List, Sequence, Tuple
 
 import numpy
 from conftest import encode, rds
+from made import damaged
 from measure_demod import RATE, Table, Words, bits_of, print_table
-from modulator import Array, mpx, words
+from modulator import mpx, words
 
 from rds_monitor.signal.receiver import Capture
 
@@ -58,13 +59,6 @@ def signal(seed: int, snr: float) -> List[Any]:
         by_gnuradio("mpx", sent.astype("f4").tobytes(), str(RATE)),
     )
     return [told(found, groups) for found in readings]
-
-
-def damaged(bits: bytes, rate: float, seed: int) -> bytes:
-    """Each bit is inverted at this rate, whatever the others are."""
-    every: Array = numpy.unpackbits(numpy.frombuffer(bits, "u1"))
-    wrong = numpy.random.default_rng(seed).random(every.size) < rate
-    return numpy.packbits(every ^ wrong).tobytes()
 
 
 def bits(seed: int, rate: float) -> List[Any]:
