@@ -258,6 +258,14 @@ def test_each_option_is_on_each_page(pages: dict) -> None:
             assert not wanted or sorted(completed(command, action.option_strings[0], "", file=bash)) == wanted
 
 
+def test_common_options_are_told_once(pages: dict) -> None:
+    text = pages["rds-monitor.1"].read_text().replace("\\-", "-")
+    told = re.findall(
+        r"^\.TP\n\\fB(--burst|--start|--unfinished)\\fR .*\n|^\.TP\n\\fB(--unfinished)\\fR\n", text, re.M
+    )
+    assert sorted(first or second for first, second in told) == ["--burst", "--start", "--unfinished"]
+
+
 def test_defaults_are_those_of_the_help() -> None:
     """A number in brackets at the end of an option's help is its default."""
     told = 0
