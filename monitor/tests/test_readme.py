@@ -33,6 +33,7 @@ def section(title: str) -> str:
 # The command of each task, with a text that its output or its file has.
 TASKS: Dict[str, str] = {
     "rds-monitor info bits.bin": "PAXOLIDU",
+    "rds-monitor info --csv bits.bin": ",D393,rt,",
     "rds-monitor errors bits.bin": "begin_s,end_s,sent,valid,",
     "rds-monitor report bits.bin > page.html": "</html>",
     "rds-monitor outages bits.bin": "begin_s,end_s,length_s,",
