@@ -4,14 +4,15 @@
 LIBRARY is the folder that `make lib` fills, TOOLCHAIN the line of `rt version` by which both were built. FOLDER gets
 rds-VERSION-x86_64.tar.zst, whose name is printed: the files that `make install install-lib` installs, rds-monitor as a wheel with
 librds in it, the pages, what is in it by SPDX 2.3, and the sums of all files. The date is SOURCE_DATE_EPOCH, or else that of the last
-commit, so that the same tree, program and library make the same tarball. Needs Python 3.11, make, binutils, git, zstd, and what
-packaging/make_pages.py needs.
+commit, so that the same tree, program and library make the same tarball. Needs make, binutils, git, Debian's python3-zstandard, and
+what packaging/make_pages.py needs.
 """
 
 from __future__ import annotations
 
 import datetime
 import hashlib
+import io
 import json
 import os
 import re
@@ -22,6 +23,11 @@ import tarfile
 import tempfile
 from pathlib import Path
 from typing import Any, Dict, List
+
+try:
+    import zstandard
+except ImportError:
+    sys.exit("make_dist: install python3-zstandard")
 
 TOP = Path(__file__).resolve().parents[1]
 SUMS, SBOM = "SHA256SUMS", "sbom.spdx.json"
@@ -156,12 +162,12 @@ def pack(folder: Path, path: Path, epoch: str) -> None:
         entry.mode = 0o755 if entry.isdir() or entry.mode & 0o100 else 0o644
         return entry
 
-    packed = path.with_suffix("")
-    with tarfile.open(packed, "w", format=tarfile.GNU_FORMAT) as tar:
+    packed = io.BytesIO()
+    with tarfile.open(fileobj=packed, mode="w", format=tarfile.GNU_FORMAT) as tar:
         tar.add(folder, folder.name, recursive=False, filter=plain)
         for one in sorted(folder.rglob("*")):
             tar.add(one, f"{folder.name}/{one.relative_to(folder)}", recursive=False, filter=plain)
-    said("zstd", "-q", "-f", "-19", "-T1", "--rm", packed, "-o", path)
+    path.write_bytes(zstandard.ZstdCompressor(level=19).compress(packed.getvalue()))
 
 
 def main(words: List[str]) -> None:
