@@ -69,7 +69,7 @@ RDS_LIBRARY
 The path of librds.so.0, by default the system's.
 .TP
 RDS
-The program rds that decodes if there is no librds, by default that of the PATH.
+The path of the program rds, by default that of the PATH. It decodes recordings if there is no librds.
 .SH SEE ALSO
 .BR rds (1)
 """
@@ -117,7 +117,7 @@ def page() -> str:
 def whole_parser() -> Parser:
     """All commands in one parser, as shtab needs it. A value that is none of a few is completed as a file's name."""
     whole = Parser(prog="rds-monitor", description=summary)
-    whole.add_argument("-V", "--version", action="version", version="", help="print the name and version")
+    whole.add_argument("-V", "--version", action="version", version="", help="print the version, and the decoder that is used")
     commands = whole.add_subparsers(metavar="COMMAND")
     for command in COMMANDS:
         parser = commands.add_parser(command.name, help=command.summary)

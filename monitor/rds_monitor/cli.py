@@ -115,7 +115,7 @@ def chosen(words: Sequence[str]) -> Optional[Command]:
 
 def decoder_in_use() -> str:
     try:
-        return importlib.import_module("rds_monitor.rows.decoders").decoder_of()[1]
+        return str(importlib.import_module("rds_monitor.rows.decoders").decoder_of()[1])
     except Fault as error:
         return f"none: {error}"
 

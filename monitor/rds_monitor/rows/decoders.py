@@ -157,10 +157,10 @@ class ByProgram:
             return said.decode().splitlines()[0]
         return f"{self._program} {how_ended(status, said)}"
 
-    def _end(self, process: "subprocess.Popen[bytes]", data: memoryview) -> None:
+    def _end(self, process: "subprocess.Popen[bytes]", last: memoryview) -> None:
         """Ends its input with these bytes, and takes the rest of what it writes."""
         assert process.stdin and process.stdout
-        self._write(process, data)
+        self._write(process, last)
         process.stdin.close()
         end = time.monotonic() + PATIENCE
         while time.monotonic() < end:

@@ -28,7 +28,9 @@ def open_source(path: str, how: Reading = Reading()) -> Source:
     if not how.hex and (is_groups(head) or is_listing(head) or not head and how.unfinished_ok):
         if pipe and head and not head.startswith(b"total,"):
             pipe.decode(b"", synced=True)
-        return GroupLines(stream, head) if is_groups(head) else Listing(stream, head, how)
+        if is_groups(head):
+            return GroupLines(stream, head)
+        return Listing(stream, head, how)
     if not head:
         raise Fault("the input is empty")
     if how.length is not None:

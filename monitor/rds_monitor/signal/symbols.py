@@ -12,13 +12,13 @@ from typing import NamedTuple, Optional
 import numpy
 from numpy.typing import NDArray
 
-from ..rows.blocks import Bits
 from .phase import PhaseTrack, Phases, bell
 from .samples import Complexes, Reals
 
 BIT_RATE = 1187.5
 CHIP_RATE = 2 * BIT_RATE
 TINY = float(numpy.finfo(float).tiny)
+Bits = NDArray[numpy.uint8]
 
 
 def powers(values: Complexes) -> Reals:
