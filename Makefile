@@ -16,7 +16,7 @@ SOURCES := crates.txt $(shell find crates -name out -prune -o \( -name '*.rt' -o
 all: build/rds lib
 
 toolchain:
-	@command -v $(RT) >/dev/null || { echo "rds: the Rattle toolchain is missing: there is no '$(RT)' on the PATH (README.md, 'Try it');" \
+	@command -v $(RT) >/dev/null || { echo "rds: the Rattle toolchain is missing: there is no '$(RT)' on the PATH (README.md, 'Install');" \
 	  "PROGRAM=FILE and LIBRARY=FOLDER name what was built elsewhere" >&2; exit 1; }
 
 # What was built is installed and packed as it is, though sources may be newer: the toolchain is asked for only if nothing was built.
