@@ -466,10 +466,10 @@ def test_an_unpacked_release(release: Path, tmp_path: Path, cases: Cases) -> Non
     path = {**os.environ, "PATH": "/usr/bin:/bin", "RDS_LIBRARY": "", "RDS": "/none", "PKG_CONFIG_LIBDIR": ""}
     assert wrote(release / "bin/rds", "totals", data=SAMPLE).startswith(b"total,valid,7691,")
     path["PKG_CONFIG_PATH"] = f"{release}/lib/pkgconfig"
-    (tmp_path / "readme.c").write_text(readme_program("c"))
+    (tmp_path / "first.c").write_text(first_program("c"))
     for kind in ("--libs", "--static"):
         found = said("pkg-config", "--cflags", "--libs", kind, "rds", env=path).split()
-        wrote(CC, "-o", tmp_path / "program", tmp_path / "readme.c", *found)
+        wrote(CC, "-o", tmp_path / "program", tmp_path / "first.c", *found)
         assert said(tmp_path / "program", data=SAMPLE, env={"LD_LIBRARY_PATH": f"{release}/lib"}) == COUNTS
     (wheel,) = release.glob("rds_monitor-*.whl")
     words = [
