@@ -117,7 +117,13 @@ def page() -> str:
 def whole_parser() -> Parser:
     """All commands in one parser, as shtab needs it. A value that is none of a few is completed as a file's name."""
     whole = Parser(prog="rds-monitor", description=summary)
-    whole.add_argument("-V", "--version", action="version", version="", help="print the version, and the decoder that is used")
+    whole.add_argument(
+        "-V",
+        "--version",
+        action="version",
+        version="",
+        help="print the version, and the decoder that is used",
+    )
     commands = whole.add_subparsers(metavar="COMMAND")
     for command in COMMANDS:
         parser = commands.add_parser(command.name, help=command.summary)
