@@ -13,7 +13,8 @@ from ..rows.items import Fault, Misuse
 from .samples import FORMS, numbers, wav_layout
 from .symbols import Bits
 
-CHUNK = 1 << 20  # a multiple of every sample's bytes
+CHUNK = 1 << 20
+WHOLE = 8  # a multiple of every sample's bytes
 
 # What each form is, as help and the command form name it.
 NAMES = {
@@ -39,13 +40,13 @@ class Conversion(NamedTuple):
 
 
 def _chunks(stream: BinaryIO) -> Iterator[bytes]:
-    """All of the input in chunks of full length but for the last one."""
-    data = b""
-    for more in iter(lambda: stream.read(CHUNK - len(data)), b""):
+    """All of the input as it comes, in whole samples."""
+    read, data = getattr(stream, "read1", stream.read), b""
+    for more in iter(lambda: read(CHUNK), b""):
         data += more
-        if len(data) == CHUNK:
-            yield data
-            data = b""
+        whole = len(data) // WHOLE * WHOLE
+        yield data[:whole]
+        data = data[whole:]
     if data:
         yield data
 
@@ -207,8 +208,8 @@ def run_pack(arguments: argparse.Namespace) -> int:
     bits = 0
     for data, count in packed_of(bits_of(stream, arguments.form, change)):
         output.write(data)
+        output.flush()
         bits += count
-    output.flush()
     if not bits:
         raise Fault("there is no bit in the input")
     if bits % 8:
