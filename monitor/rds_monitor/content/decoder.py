@@ -37,7 +37,6 @@ class Programme:
 
     def __init__(self, pi: int, teller: Teller, rbds: bool, everything: bool, data: bool) -> None:
         self.pi, self._teller = pi, teller
-        self._received = Received(everything)
         plain = (*features.PLAIN, networks.Frequencies, *texts.PLAIN)
         takers: List[Taker] = [taker(teller) for taker in plain]
         takers += [
@@ -47,23 +46,21 @@ class Programme:
         ]
         takers.append(networks.OtherNetworks(teller, rbds))
         self._takers = [[one for one in takers if kind in one.kinds] for kind in range(max(Kind) + 1)]
-        self._is_taken = numpy.array(list(map(bool, self._takers)))
+        kinds = [kind for kind in Kind if self._takers[kind]]
+        self._received = Received(everything, kinds, teller.lapses)
 
     def feed(self, groups: Columns) -> None:
         news, changes = self._received.news(groups)
-        kinds = news.key >> KIND_SHIFT
-        taken = self._is_taken[kinds]
-        key, at, value = (column[taken] for column in news)
-        messages = key >> POSITION_BITS & (1 << KIND_SHIFT - POSITION_BITS) - 1
-        columns = (at, kinds[taken], messages, key & (1 << POSITION_BITS) - 1, value)
+        messages = news.key >> POSITION_BITS & (1 << KIND_SHIFT - POSITION_BITS) - 1
+        columns = (news.at, news.key >> KIND_SHIFT, messages, news.key & (1 << POSITION_BITS) - 1, news.value)
         found: List[Tuple[Any, ...]] = list(zip(*(column.tolist() for column in columns)))
         if changes:
             # Texts have no position.
             found += [(at, kind, message, None, codes) for at, kind, message, codes in changes]
             found.sort(key=itemgetter(0, 1))
-        places = groups.place.tolist() if found else []
-        for number, kind, message, position, said in found:
-            self._teller.place = places[number]
+        places = groups.place[[at for at, *_ in found]].tolist() if found else []
+        for place, (_, kind, message, position, said) in zip(places, found):
+            self._teller.place = place
             for taker in self._takers[kind]:
                 if position is None:
                     taker.hear(kind, message, said)
@@ -121,7 +118,7 @@ class Decoder:
                 self._begin(int(programme[begin]), int(groups.place[begin]))
             chosen = begin + numpy.flatnonzero(readable[begin:end])
             if self.programme and chosen.size:
-                self.programme.feed(groups.where(chosen))
+                self.programme.feed(groups if chosen.size == len(rows) else groups.where(chosen))
 
     def _begin(self, pi: int, place: int) -> None:
         self._teller.begin(pi, place)
@@ -144,7 +141,7 @@ class Decoder:
         index = numpy.flatnonzero(has)
         key = numpy.zeros(index.size, "i8") + key_of(0)
         seen = Observations(key, index, value[index], groups.whole[index], sound[index])
-        counted = self._identifications.news(seen, True)
+        counted = self._identifications.counted(seen)
         now = self.programme.pi if self.programme else -1
         counts = numpy.zeros(has.size, bool)
         counts[counted.at] = True

@@ -26,7 +26,7 @@ def key_of(kind: int, message: Any = 0, position: Any = 0) -> Any:
 
 
 class Observations(NamedTuple):
-    """Received values, in the order of time within a key: `at` is the number of the group."""
+    """Received values: `at` is the number of the group, or of one of several that are alike."""
 
     key: Array
     at: Array
@@ -36,6 +36,25 @@ class Observations(NamedTuple):
 
     def where(self, chosen: Array) -> "Observations":
         return Observations(*(column[chosen] for column in self))
+
+    def by_key(self) -> "Observations":
+        return self.where(numpy.argsort(self.key, kind="stable"))
+
+    def spread(self, of: Array) -> "Observations":
+        """Those of all groups, in the order of time; `of` tells for each which of the groups it is alike to."""
+        count = numpy.bincount(self.at, minlength=int(of.max()) + 1)
+        by_row = numpy.argsort(self.at, kind="stable")
+        at = numpy.flatnonzero((count > 0)[of])
+        row = of[at]
+        if count.max() > 1:
+            times = count[row]
+            before = numpy.cumsum(times) - times
+            number = numpy.arange(before[-1] + times[-1]) - numpy.repeat(before, times)
+            at, row = numpy.repeat(at, times), numpy.repeat(row, times)
+        else:
+            number = 0
+        found = self.where(by_row[(numpy.cumsum(count) - count)[row] + number])
+        return found._replace(at=at)
 
 
 class News(NamedTuple):
@@ -78,27 +97,64 @@ class Evidence:
         self.parts: Dict[int, PartState] = {}
         self.states: Dict[int, int] = {}
 
-    def news(self, seen: Observations, everything: bool = False) -> News:
-        """What counts of these observations and is news; with `everything`, all that counts."""
+    def news(self, seen: Observations, of: Array, everything: bool = False) -> News:
+        """What counts of these observations and is news, or with `everything` all that counts. They are of groups that are
+        unlike each other; `of` tells for each group which of these it is alike to."""
         if not seen.key.size:
             return NOTHING
-        if (seen.key[1:] < seen.key[:-1]).any():
-            seen = seen.where(numpy.argsort(seen.key, kind="stable"))
-        counts = self._counts(seen)
-        counted = News(*(column[counts] for column in seen[:3]))
-        news = counted if everything or not counted.key.size else self._news(counted)
+        seen = seen.by_key()
+        starts = numpy.flatnonzero(_firsts(seen.key))
+        states = [self.parts.get(name) for name in seen.key[starts].tolist()]
+        is_same = numpy.minimum.reduceat(seen.value, starts) == numpy.maximum.reduceat(seen.value, starts)
+        values = numpy.where(is_same, seen.value[starts], -1).tolist()
+        if everything:
+            if all(part and part.trusted and part.last == value for part, value in zip(states, values)):
+                # Each value is that of its part again.
+                return News(*seen.spread(of)[:3])
+            news = self.counted(seen.spread(of))
+        else:
+            unsettled = self._are_unsettled(seen, starts, states, values)
+            if not unsettled.any():
+                return NOTHING
+            news = self._news(self.counted(seen.where(unsettled).spread(of)))
         if len(self.parts) > MOST_PARTS:
             # Noise gives parts that never count: they are forgotten when there are too many.
             self.parts = {name: part for name, part in self.parts.items() if part.counted is not None}
         return news
 
+    def _are_unsettled(
+        self, seen: Observations, starts: Array, states: List[Optional[PartState]], values: List[int]
+    ) -> Array:
+        """Which observations are of messages that may have news: all others have nothing but values that counted last."""
+        names, sound = seen.key[starts], numpy.logical_or.reduceat(seen.sound, starts).tolist()
+        of = names >> POSITION_BITS
+        bounds = numpy.flatnonzero(_firsts(of))
+        may_change = [
+            part is None or not part.last == value == part.counted or part.state != self.states.get(message, 0)
+            for part, value, message in zip(states, values, of.tolist())
+        ]
+        changes = numpy.repeat(
+            numpy.logical_or.reduceat(may_change, bounds), numpy.diff([*bounds.tolist(), of.size])
+        )
+        for name, part, is_sound, is_open in zip(names.tolist(), states, sound, changes.tolist()):
+            if part and is_sound and not (is_open or part.trusted):
+                self.parts[name] = part._replace(trusted=True)
+        return numpy.repeat(changes, numpy.diff([*starts.tolist(), seen.key.size]))
+
+    def counted(self, seen: Observations) -> News:
+        """What counts of these observations, which are in the order of time."""
+        if (seen.key[1:] < seen.key[:-1]).any():
+            seen = seen.by_key()
+        counts = self._counts(seen)
+        return News(*(column[counts] for column in seen[:3]))
+
     def _news(self, counted: News) -> News:
         """Which of the values that count are news."""
+        names = counted.key[_firsts(counted.key)].tolist()
         changed = self._changed(counted)
-        active = self._active(counted, changed)
-        counted, changed = News(*(column[active] for column in counted)), changed[active]
-        if not counted.key.size:
-            return counted
+        is_stale = any(self.parts[name].state != self.states.get(name >> POSITION_BITS, 0) for name in names)
+        if not (is_stale or changed.any()):
+            return NOTHING
         chosen = self._fresh(counted, self._states_of(counted, changed))
         return News(*(column[chosen] for column in counted))
 
@@ -133,20 +189,6 @@ class Evidence:
             for name, value in zip(counted.key[starts].tolist(), counted.value[starts].tolist())
         ]
         return changed
-
-    def _active(self, counted: News, changed: Array) -> Array:
-        """Which values are of messages that have news: a part changed, or one has not counted since another did."""
-        starts = numpy.flatnonzero(_firsts(counted.key))
-        message = counted.key[starts] >> POSITION_BITS
-        stale = [
-            self.parts[name].state != self.states.get(of, 0)
-            for name, of in zip(counted.key[starts].tolist(), message.tolist())
-        ]
-        active = numpy.logical_or.reduceat(changed, starts) | numpy.array(stale, bool)
-        bounds = numpy.flatnonzero(_firsts(message))
-        sizes = numpy.diff([*bounds, message.size])
-        of_message = numpy.repeat(numpy.logical_or.reduceat(active, bounds), sizes)
-        return numpy.repeat(of_message, numpy.diff([*starts, counted.key.size]))
 
     def _states_of(self, counted: News, changed: Array) -> Array:
         """The state of the message after each value that counts: how often parts of it changed."""
