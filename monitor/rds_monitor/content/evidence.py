@@ -19,6 +19,8 @@ Array = NDArray[Any]
 # A key is a kind, the message among those of its kind, and the part's position in the message.
 POSITION_BITS, KIND_SHIFT = 16, 40
 MOST_PARTS = 20000
+# In place of a value that no part has.
+UNKNOWN = -1
 
 
 def key_of(kind: int, message: Any = 0, position: Any = 0) -> Any:
@@ -44,7 +46,7 @@ class Observations(NamedTuple):
         """Those of all groups, in the order of time; `of` tells for each which of the groups it is alike to."""
         count = numpy.bincount(self.at, minlength=int(of.max()) + 1)
         by_row = numpy.argsort(self.at, kind="stable")
-        at = numpy.flatnonzero((count > 0)[of])
+        at = (count > 0)[of].nonzero()[0]
         row = of[at]
         if count.max() > 1:
             times = count[row]
@@ -103,43 +105,83 @@ class Evidence:
         if not seen.key.size:
             return NOTHING
         seen = seen.by_key()
-        starts = numpy.flatnonzero(_firsts(seen.key))
-        states = [self.parts.get(name) for name in seen.key[starts].tolist()]
-        is_same = numpy.minimum.reduceat(seen.value, starts) == numpy.maximum.reduceat(seen.value, starts)
-        values = numpy.where(is_same, seen.value[starts], -1).tolist()
+        starts = _firsts(seen.key).nonzero()[0]
+        parts = [self.parts.get(name) for name in seen.key[starts].tolist()]
         if everything:
-            if all(part and part.trusted and part.last == value for part, value in zip(states, values)):
-                # Each value is that of its part again.
-                return News(*seen.spread(of)[:3])
-            news = self.counted(seen.spread(of))
+            news = self._all_counted(seen, starts, parts, of)
         else:
-            unsettled = self._are_unsettled(seen, starts, states, values)
-            if not unsettled.any():
-                return NOTHING
-            news = self._news(self.counted(seen.where(unsettled).spread(of)))
+            seen = seen.where(self._are_open(seen, starts, parts, of))
+            news = self._news(self.counted(seen.spread(of))) if seen.key.size else NOTHING
         if len(self.parts) > MOST_PARTS:
             # Noise gives parts that never count: they are forgotten when there are too many.
             self.parts = {name: part for name, part in self.parts.items() if part.counted is not None}
         return news
 
-    def _are_unsettled(
-        self, seen: Observations, starts: Array, states: List[Optional[PartState]], values: List[int]
+    def _all_counted(
+        self, seen: Observations, starts: Array, parts: List[Optional[PartState]], of: Array
+    ) -> News:
+        """All that counts, in any order. All values count that are the trusted ones of their parts again, and none of a
+        part that has no valid block."""
+        value = seen.value[starts]
+        is_same = numpy.maximum.reduceat(seen.value, starts) == numpy.minimum.reduceat(seen.value, starts)
+        is_firm = numpy.logical_or.reduceat(seen.sound | seen.whole, starts)
+        again, open_ = numpy.zeros(starts.size, bool), numpy.zeros(starts.size, bool)
+        columns = (seen.key[starts], value, is_same, is_firm)
+        for at, (name, own, same, firm) in enumerate(zip(*(column.tolist() for column in columns))):
+            part = parts[at] or PartState(own, False)
+            if same and part.last == own and (part.trusted or not firm):
+                again[at] = part.trusted
+                self.parts[name] = part
+            else:
+                open_[at] = True
+        sizes = numpy.diff(starts, append=seen.key.size)
+        known, rest = (seen.where(numpy.repeat(chosen, sizes)) for chosen in (again, open_))
+        found = [News(*known.spread(of)[:3])] if known.key.size else []
+        found += [self.counted(rest.spread(of))] if rest.key.size else []
+        return News(*map(numpy.concatenate, zip(*found))) if found else NOTHING
+
+    def _are_open(
+        self, seen: Observations, starts: Array, parts: List[Optional[PartState]], of: Array
     ) -> Array:
-        """Which observations are of messages that may have news: all others have nothing but values that counted last."""
-        names, sound = seen.key[starts], numpy.logical_or.reduceat(seen.sound, starts).tolist()
-        of = names >> POSITION_BITS
-        bounds = numpy.flatnonzero(_firsts(of))
-        may_change = [
-            part is None or not part.last == value == part.counted or part.state != self.states.get(message, 0)
-            for part, value, message in zip(states, values, of.tolist())
+        """Which observations are of messages that may have news. All others have the values that counted last, or wrong
+        corrections: their parts are noted."""
+        sizes = numpy.diff(starts, append=seen.key.size)
+        message = seen.key[starts] >> POSITION_BITS
+        states = [self.states.get(one, 0) for one in message.tolist()]
+        held = [
+            part.counted if part and part.last == part.counted and part.state == state else None
+            for part, state in zip(parts, states)
         ]
-        changes = numpy.repeat(
-            numpy.logical_or.reduceat(may_change, bounds), numpy.diff([*bounds.tolist(), of.size])
+        other = seen.value != numpy.repeat([UNKNOWN if one is None else one for one in held], sizes)
+        may_change = numpy.logical_or.reduceat(other & (seen.whole | seen.sound), starts)
+        may_change |= numpy.array([one is None for one in held])
+        bounds = _firsts(message).nonzero()[0]
+        is_open = numpy.repeat(
+            numpy.logical_or.reduceat(may_change, bounds), numpy.diff(bounds, append=message.size)
         )
-        for name, part, is_sound, is_open in zip(names.tolist(), states, sound, changes.tolist()):
-            if part and is_sound and not (is_open or part.trusted):
-                self.parts[name] = part._replace(trusted=True)
-        return numpy.repeat(changes, numpy.diff([*starts.tolist(), seen.key.size]))
+        has_other = numpy.logical_or.reduceat(other, starts)
+        is_sound = numpy.logical_or.reduceat(seen.sound, starts)
+        last: Array = numpy.zeros(0, "i8")
+        if (has_other & ~is_open).any():
+            last = numpy.zeros(int(of.max()) + 1, "i8")
+            last[of] = numpy.arange(of.size)
+        for at in (~is_open & (has_other | is_sound)).nonzero()[0].tolist():
+            part = parts[at]
+            if part and has_other[at]:
+                rows = slice(starts[at], starts[at] + sizes[at])
+                self._note(seen, rows, other[rows], last[seen.at[rows]], part)
+            elif part and not part.trusted:
+                self.parts[int(seen.key[starts[at]])] = part._replace(trusted=True)
+        return numpy.repeat(is_open, sizes)
+
+    def _note(self, seen: Observations, rows: slice, other: Array, last: Array, part: PartState) -> None:
+        """Notes the value received last of a part that had no news, and whether it is trusted: by the last group that has
+        each value."""
+        latest = int(last.argmax())
+        is_trusted = bool((last[seen.sound[rows] & ~other] > last[other].max()).any())
+        value = int(seen.value[rows][latest])
+        trusted = is_trusted and not other[latest]
+        self.parts[int(seen.key[rows.start])] = part._replace(last=value, trusted=trusted)
 
     def counted(self, seen: Observations) -> News:
         """What counts of these observations, which are in the order of time."""

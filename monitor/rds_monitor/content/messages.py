@@ -9,7 +9,7 @@ from .columns import Groups
 from .evidence import Array, Epochs, Evidence, News
 from .fields import FIELDS
 from .looks import FLAGS, LOOKS, TEXTS, Kind, TextLook
-from .turns import OUTAGE_BITS, UNKNOWN, Message, Said, Segments
+from .turns import OUTAGE_BITS, UNKNOWN, Message, Said, Segments, steps_of
 
 GROUP_BITS = 104
 # How many names of other networks are remembered, of those that were never whole.
@@ -63,7 +63,7 @@ class Messages:
         return changed[Kind.RT_FLAG], found
 
     def _heard(self, place: Array) -> Heard:
-        step = numpy.diff(place, prepend=self._place)
+        step = steps_of(place, self._place)
         outage = self._outage + numpy.cumsum(step > OUTAGE_BITS)
         run = self._run + numpy.cumsum(step != GROUP_BITS)
         self._place, self._outage, self._run = int(place[-1]), int(outage[-1]), int(run[-1])

@@ -55,11 +55,13 @@ class Shape(NamedTuple):
         """How many pairs there are."""
         return self.segments * self.pairs
 
-    def end_in(self, value: int) -> int:
-        """How many bytes of a pair are before the end of the text, or UNKNOWN if it does not end there."""
+    @property
+    def ends(self) -> Dict[int, int]:
+        """The pairs that have the end of a text, and how many of their bytes are before it."""
         if not self.is_text or self.wide:
-            return 0 if self.is_text and value == END_OF_TEXT else UNKNOWN
-        return 0 if value >> 8 == END_OF_TEXT else 1 if value & 0xFF == END_OF_TEXT else UNKNOWN
+            return {END_OF_TEXT: 0} if self.is_text else {}
+        lower = {byte << 8 | END_OF_TEXT: 1 for byte in range(256)}
+        return {**lower, **{END_OF_TEXT << 8 | byte: 0 for byte in range(256)}}
 
 
 class Said:
@@ -144,7 +146,7 @@ class Pace:
         if self._is_text and segment.max() >= turns:
             turns = numpy.maximum.accumulate(numpy.append(turns, segment[:-1] + 1))
             self._segments = max(int(turns[-1]), int(segment[-1]) + 1)
-        bits, steps = numpy.diff(place, prepend=self._place), numpy.diff(segment, prepend=self._segment)
+        bits, steps = steps_of(place, self._place), steps_of(segment, self._segment)
         steps += (steps <= 0) * turns
         if self._place == UNKNOWN:
             bits[0] = steps[0] = 0
@@ -154,6 +156,14 @@ class Pace:
         self._place, self._segment = int(place[-1]), int(segment[-1])
         missed: Array = (bits * of_steps >= (steps + turns) * of_bits) & (of_steps > 0)
         return missed
+
+
+def steps_of(values: Array, before: int) -> Array:
+    """How much each value is above the one before it."""
+    steps = numpy.empty(values.size, "i8")
+    steps[0] = values[0] - before
+    numpy.subtract(values[1:], values[:-1], out=steps[1:])
+    return steps
 
 
 def _sums_before(values: Array) -> Array:
@@ -188,7 +198,7 @@ class Message:
 
     def __init__(self, shape: Shape, lapses: bool) -> None:
         """With `lapses` a text that ends, and is whole again in the same group, is told again."""
-        self._shape, self._lapses = shape, lapses
+        self._shape, self._lapses, self._ends = shape, lapses, shape.ends
         self._generation = self._run = UNKNOWN
         self._recent: Deque[bool] = deque(maxlen=RECENT)
         self._pace = Pace(shape)
@@ -214,7 +224,9 @@ class Message:
         """The changes, each with its row: the characters of a text that is whole, or None if another text begins or the
         one that was told does not hold any more. However the groups are cut into chunks, the changes are the same.
         """
-        changes = numpy.flatnonzero(numpy.diff(groups.generation, prepend=self._generation)).tolist()
+        if not groups.place.size:
+            return
+        changes = steps_of(groups.generation, self._generation).nonzero()[0].tolist()
         for begin, end in zip([0, *changes], [*changes, groups.place.size]):
             if begin == end:
                 continue
@@ -309,6 +321,8 @@ class Message:
         came lately, in segments that were received."""
         pairs, size = {**self._earlier, **self._now}, self._shape.pairs
         kept: Array = ~turns.missed[cuts] & told.has_end
+        if not kept.any():
+            return kept
         is_known = (turns.said.value != UNKNOWN).all(axis=1)
         known = numpy.where(is_known, turns.said.segment, UNKNOWN)[turns.number[rows]]
         for segment in range(-(-told.size // size)):
@@ -320,17 +334,24 @@ class Message:
 
     def _note(self, turns: Turns, begin: int, end: int) -> None:
         """Notes when each pair came last in rows that say the told text again."""
-        latest = numpy.full(turns.said.segment.size, UNKNOWN)
-        latest[turns.number[begin:end]] = numpy.arange(begin, end)
-        rows = numpy.sort(latest[latest >= 0])
+        said, size = turns.said, self._shape.pairs
+        row_of = numpy.full(said.segment.size, UNKNOWN)
+        row_of[turns.number[begin:end]] = numpy.arange(begin, end)
+        rows = numpy.sort(row_of[row_of >= 0])
+        number = turns.number[rows]
+        segment, value = said.segment[number] * size, said.value[number]
+        latest = numpy.full(self._shape.size, UNKNOWN)
+        for column in range(size):
+            known = value[:, column] != UNKNOWN
+            latest[segment[known] + column] = rows[known]
+        heard = (latest >= 0).nonzero()[0]
+        rows = latest[heard]
         first = self._turn - (int(turns.turn[begin - 1]) if begin else 0)
-        pairs, size = {**self._earlier, **self._now}, self._shape.pairs
-        columns = (turns.number[rows], turns.turn[rows] + first, turns.place[rows])
-        for number, turn, place in zip(*(column.tolist() for column in columns)):
-            segment, values, _ = turns.said.rows[number]
-            for position, value in enumerate(values, segment * size):
-                if value != UNKNOWN:
-                    pairs[position] = value, VALID, turn, place
+        value = said.value[turns.number[rows], heard % size]
+        pairs = {**self._earlier, **self._now}
+        columns = (heard, value, turns.turn[rows] + first, turns.place[rows])
+        for position, one, turn, place in zip(*(column.tolist() for column in columns)):
+            pairs[position] = one, VALID, turn, place
         last = end - 1
         self._turn, self._segment = first + int(turns.turn[last]), int(turns.segment[last])
         self._run = int(turns.run[last])
@@ -395,7 +416,7 @@ class Message:
 
     def _hear_pair(self, position: int, value: int, grade: int, place: int) -> bool:
         earlier, doubted = self._earlier.get(position), self._doubted.pop(position, None)
-        self._may_end |= self._shape.end_in(value) != UNKNOWN
+        self._may_end |= value in self._ends
         if earlier and not self._is_fresh(earlier, place):
             earlier = None
         is_other = earlier is not None and earlier[0] != value
@@ -441,19 +462,16 @@ class Message:
 
     def _whole(self, pairs: Dict[int, Pair]) -> Optional[bytes]:
         """The characters of a text whose pairs are all known and trusted. It is told then."""
-        count, last, wanted = 0, UNKNOWN, self._length or self._shape.size
-        end_in = self._shape.end_in
-        while last == UNKNOWN and count in pairs:
-            last = end_in(pairs[count][0])
-            count += 1
-        if last == UNKNOWN:
-            if count < wanted or any(end_in(pair[0]) != UNKNOWN for pair in pairs.values()):
+        ends = [position for position, pair in pairs.items() if pair[0] in self._ends]
+        found = []
+        for position in range(min(ends) + 1 if ends else self._length or self._shape.size):
+            pair = pairs.get(position)
+            if pair is None:
                 return None
-            count = wanted
-        found = [pairs[position] for position in range(count)]
+            found.append(pair)
         if sum([grade == SINGLE for _, grade, _, _ in found]) > self._most_singles():
             return None
-        return self._tell(found, last)
+        return self._tell(found, self._ends[found[-1][0]] if ends else UNKNOWN)
 
     def _most_singles(self) -> int:
         """How many pairs may be single, by the share of valid ones among those received lately."""
