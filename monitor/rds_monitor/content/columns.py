@@ -64,6 +64,22 @@ def _keys_of(columns: Columns) -> Array:
     return found
 
 
+def _alike(keys: Array) -> Tuple[Array, Array]:
+    """One group of those that have the same key, for each key, and for each group the number of its key."""
+    # A hash finds nearly all of them, several times as fast as sorting.
+    place = keys.view("u8") * numpy.uint64(0x9E3779B97F4A7C15) >> numpy.uint64(48)
+    table = numpy.empty(1 << 16, "i8")
+    table[place] = numpy.arange(keys.size)
+    one = table[place]
+    missed = (keys[one] != keys).nonzero()[0]
+    if missed.size:
+        _, first, number = numpy.unique(keys[missed], return_index=True, return_inverse=True)
+        one[missed] = missed[first[number]]
+    is_one = numpy.zeros(keys.size, bool)
+    is_one[one] = True
+    return is_one.nonzero()[0], (numpy.cumsum(is_one) - 1)[one]
+
+
 class Groups:
     """Some groups of one programme, whose second blocks are known.
 
@@ -71,10 +87,10 @@ class Groups:
     of its row for each group. Methods take and give numbers of such rows.
     """
 
-    def __init__(self, columns: Columns) -> None:
-        self.place = columns.place
-        _, first, self.of = numpy.unique(_keys_of(columns), return_index=True, return_inverse=True)
-        alike = columns.where(first)
+    def __init__(self, columns: Columns, chosen: Array) -> None:
+        self.place = columns.place[chosen]
+        first, self.of = _alike(_keys_of(columns)[chosen])
+        alike = columns.where(chosen[first])
         self._set(alike._replace(words=alike.words.astype("i8")), numpy.full(first.size, -1))
 
     def _set(self, alike: Columns, application: Array) -> None:

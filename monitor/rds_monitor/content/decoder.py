@@ -49,8 +49,8 @@ class Programme:
         kinds = [kind for kind in Kind if self._takers[kind]]
         self._received = Received(everything, kinds, teller.lapses)
 
-    def feed(self, groups: Columns) -> None:
-        news, changes = self._received.news(groups)
+    def feed(self, groups: Columns, chosen: Array) -> None:
+        news, changes = self._received.news(groups, chosen)
         messages = news.key >> POSITION_BITS & (1 << KIND_SHIFT - POSITION_BITS) - 1
         columns = (news.at, news.key >> KIND_SHIFT, messages, news.key & (1 << POSITION_BITS) - 1, news.value)
         found: List[Tuple[Any, ...]] = list(zip(*(column.tolist() for column in columns)))
@@ -58,7 +58,7 @@ class Programme:
             # Texts have no position.
             found += [(at, kind, message, None, codes) for at, kind, message, codes in changes]
             found.sort(key=itemgetter(0, 1))
-        places = groups.place[[at for at, *_ in found]].tolist() if found else []
+        places = groups.place[chosen[[at for at, *_ in found]]].tolist() if found else []
         for place, (_, kind, message, position, said) in zip(places, found):
             self._teller.place = place
             for taker in self._takers[kind]:
@@ -95,16 +95,17 @@ class Decoder:
 
     def _feed(self, rows: Rows) -> None:
         is_group = rows["what"] == GROUP
-        acquired = numpy.concatenate([[0], numpy.cumsum(rows["what"] == ACQUIRED)])
-        groups, at = (
-            (rows, acquired[1:]) if is_group.all() else (chosen(rows, is_group), acquired[1:][is_group])
-        )
-        fresh = at != numpy.concatenate([[0], at])[:-1]
+        if is_group.all():
+            groups, fresh, is_fresh = rows, numpy.zeros(len(rows), bool), False
+        else:
+            acquired = numpy.cumsum(rows["what"] == ACQUIRED)
+            groups, at = chosen(rows, is_group), acquired[is_group]
+            fresh, is_fresh = numpy.diff(at, prepend=0) > 0, bool(acquired[-1] != numpy.append(0, at)[-1])
         if not fresh.size:
-            self._fresh |= bool(acquired[-1])
+            self._fresh |= is_fresh
             return
         fresh[0] |= self._fresh
-        self._fresh = bool(acquired[-1] != at[-1])
+        self._fresh = is_fresh
         self._feed_groups(groups, fresh)
 
     def _feed_groups(self, rows: Rows, fresh: Array) -> None:
@@ -116,9 +117,9 @@ class Decoder:
         for begin, end in zip(bounds, bounds[1:]):
             if begins[begin]:
                 self._begin(int(programme[begin]), int(groups.place[begin]))
-            chosen = begin + numpy.flatnonzero(readable[begin:end])
+            chosen = readable[begin:end].nonzero()[0]
             if self.programme and chosen.size:
-                self.programme.feed(groups if chosen.size == len(rows) else groups.where(chosen))
+                self.programme.feed(groups.where(slice(begin, end)), chosen)
 
     def _begin(self, pi: int, place: int) -> None:
         self._teller.begin(pi, place)
@@ -138,17 +139,27 @@ class Decoder:
         has = (first | third) & ~contradicts
         value = numpy.where(first, groups.words[0], groups.words[2])
         sound = (~first | groups.valid[0]) & (~third | groups.valid[2])
-        index = numpy.flatnonzero(has)
+        now = self.programme.pi if self.programme else -1
+        index = has.nonzero()[0]
+        is_same = not (has & (value != now)).any()
+        if is_same and index.size:
+            # One of them says what all do.
+            sound[index[0]] = sound[index].any()
+            index = index[:1]
         key = numpy.zeros(index.size, "i8") + key_of(0)
         seen = Observations(key, index, value[index], groups.whole[index], sound[index])
         counted = self._identifications.counted(seen)
-        now = self.programme.pi if self.programme else -1
-        counts = numpy.zeros(has.size, bool)
-        counts[counted.at] = True
-        recent = latest(counts)
-        programme = numpy.where(recent >= 0, value[recent], now)
-        begins = programme != numpy.concatenate([[now], programme])[:-1]
-        belongs = has & (value == programme)
+        programme, begins, belongs = numpy.full(has.size, now), numpy.zeros(has.size, bool), has
+        if not is_same:
+            counts = numpy.zeros(has.size, bool)
+            counts[counted.at] = True
+            recent = latest(counts)
+            programme = numpy.where(recent >= 0, value[recent], now)
+            begins = programme != numpy.append(now, programme[:-1])
+            belongs = has & (value == programme)
+        if has.all():
+            self._tuned = bool(belongs[-1])
+            return programme, begins, belongs
         told = latest(has | fresh)
         tuned = numpy.where(told >= 0, belongs[told], self._tuned)
         self._tuned = bool(tuned[-1])

@@ -9,6 +9,7 @@ from .columns import Columns, Groups, among, fields_of
 from .evidence import NONE_SEEN, Array, Evidence, News, Observations, key_of, latest
 from .looks import APART, FLAGS, GROUP_CODES, LOOKS, PRESENT, TMC, Kind, code_of, may_carry_application
 from .messages import Messages, TextChange
+from .turns import steps_of
 
 
 def joined(seen: Sequence[Observations]) -> Observations:
@@ -43,10 +44,10 @@ class FrequencyNews:
         is_head = (counted.value >> 8 >= 224) & (counted.value >> 8 <= 249)
         recent = latest(is_head)
         head = numpy.where(recent >= 0, counted.value[recent], self.head)
-        if head.size:
-            self.head = int(head[-1])
+        self.head = int(head[-1])
         chosen = numpy.zeros(head.size, bool)
-        for one in numpy.unique(head[head >= 0]).tolist():
+        heads = head[steps_of(head, -1) != 0]
+        for one in numpy.unique(heads[heads >= 0]).tolist():
             index = numpy.flatnonzero(head == one)
             chosen[index] = self._news_of(one, counted.value[index]) | everything
         key = key_of(Kind.AF, head, counted.value)
@@ -88,12 +89,11 @@ class Received:
         self._messages = Messages(lapses)
         self._sifted = [kind for kind in LOOKS if kind in kinds and kind not in {*APART, *FLAGS}]
 
-    def news(self, columns: Columns) -> Tuple[News, List[TextChange]]:
-        """The news of these groups, in the order of the groups and of the kinds within each, and the changes of texts
+    def news(self, columns: Columns, chosen: Array) -> Tuple[News, List[TextChange]]:
+        """The news of the chosen groups, in the order of the groups and of the kinds within each, and the changes of texts
         in any order."""
-        groups = Groups(columns)
-        assignments = self._sift(groups, self._seen(groups, Kind.ODA))
-        self._assign(groups, columns.code, assignments)
+        groups = Groups(columns, chosen)
+        self._assign(groups, assignments := self._sift(groups, self._seen(groups, Kind.ODA)))
         flags, texts = self._messages.changes(groups, self._evidence)
         found = [assignments, flags, *self._all_news(groups)]
         for kind, text in ((Kind.TAGS, Kind.RT), (Kind.ERT_TAGS, Kind.ERT)):
@@ -121,12 +121,13 @@ class Received:
     def _sift(self, groups: Groups, seen: Observations) -> News:
         return self._evidence.news(seen, groups.of, self._everything)
 
-    def _assign(self, groups: Groups, code: Array, assignments: News) -> None:
+    def _assign(self, groups: Groups, assignments: News) -> None:
         """Notes for each group the application that its type is assigned to, or -1."""
         assigned = numpy.array([self._assigned.get(one, -1) for one in range(32)])
         if not assignments.key.size:
             groups.application = assigned[groups.alike.code]
             return
+        code = groups.alike.code[groups.of]
         application = assigned[code]
         for key, at, of in zip(*(column.tolist() for column in in_time(assignments))):
             self._move(application[at:], code[at:], key & 0xFFFF, of)

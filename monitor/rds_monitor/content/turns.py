@@ -70,7 +70,7 @@ class Said:
 
     def __init__(self, segment: Array, value: Array, valid: Array) -> None:
         self.segment, self.value, self.valid = segment, value, valid
-        self._others: Tuple[Any, bool, Array] = (None, False, segment)
+        self._others: Tuple[Any, bool, Array, int] = (None, False, segment, 0)
 
     def where(self, chosen: Any) -> "Said":
         return Said(self.segment[chosen], self.value[chosen], self.valid[chosen])
@@ -80,13 +80,18 @@ class Said:
         """The same, to be read one by one."""
         return list(zip(self.segment.tolist(), map(tuple, self.value.tolist()), self.valid.tolist()))
 
-    def others(self, told: "WholeText", is_length: bool) -> Array:
-        """Which have another pair than this text, or one after its end, if it is known to have this length."""
+    def others(self, told: "WholeText", is_length: bool) -> Tuple[Array, int]:
+        """Which have another pair than this text, or one after its end if it is known to have this length, and how many pairs
+        the rest have in all."""
         if self._others[:2] != (told, is_length):
             expected = numpy.array(told.said)[self.segment]
-            differs = (self.value != expected) & (self.value != UNKNOWN)
-            self._others = told, is_length, (differs & ((expected != UNKNOWN) | is_length)).any(axis=1)
-        return self._others[2]
+            known = self.value != UNKNOWN
+            other = (known & (self.value != expected) & ((expected != UNKNOWN) | is_length)).any(axis=1)
+            has_pair = numpy.zeros(numpy.shape(told.said), bool)
+            for column in range(known.shape[1]):
+                has_pair[self.segment[known[:, column] & ~other], column] = True
+            self._others = told, is_length, other, int(has_pair.sum())
+        return self._others[2:]
 
 
 class Segments(NamedTuple):
@@ -107,7 +112,7 @@ class Segments(NamedTuple):
 class Turns:
     """Segments of one generation, and where turns begin among them."""
 
-    def __init__(self, groups: Segments, pace: "Pace", last: int, run: int) -> None:
+    def __init__(self, groups: Segments, pace: "Pace", last: int, run: int, is_text: bool) -> None:
         """After the segment `last` of this run."""
         self.place, self.number, self.run, _, self.said = groups
         self.size, self.segment = self.place.size, self.said.segment[self.number]
@@ -115,9 +120,9 @@ class Turns:
         self.missed = pace.missed(self.place, self.segment)
         self.before = numpy.append(last, self.segment[:-1])
         self.turn = numpy.cumsum(self.missed | (self.segment <= self.before))
-        # Where a turn begins anew, and the group before was read.
+        # Where a turn of a text begins anew, and the group before was read.
         is_read = self.run == numpy.append(run, self.run[:-1])
-        self.restarts = numpy.flatnonzero((self.segment == 0) & is_read & (self.before >= 0))
+        self.restarts = ((self.segment == 0) & is_read & (self.before >= 0) & is_text).nonzero()[0]
 
     def rows(self, begin: int, end: int) -> List[Row]:
         columns = (self.place, self.number, self.run, self.missed)
@@ -236,7 +241,8 @@ class Message:
                 self._clear()
                 yield begin, None
             rows = groups.where(slice(begin, end)) if changes else groups
-            for row, text in self._take(Turns(rows, self._pace, self._segment, self._run)):
+            turns = Turns(rows, self._pace, self._segment, self._run, self._shape.is_text)
+            for row, text in self._take(turns):
                 yield begin + row, text
 
     def _take(self, turns: Turns) -> Iterator[Tuple[int, Optional[bytes]]]:
@@ -297,16 +303,17 @@ class Message:
     def _pass(self, turns: Turns, begin: int, end: int, told: WholeText) -> Tuple[int, List[int]]:
         """Passes the first of these rows if they say the told text again: where it ends, and in which of them the text ended
         early, and was whole again at once."""
-        other = turns.said.others(told, self._length == told.size)[turns.number[begin:end]]
-        cuts = turns.restarts[slice(*numpy.searchsorted(turns.restarts, (begin, end)))]
-        cuts = cuts[(turns.before[cuts] + 1) * self._shape.pairs < told.size] if self._shape.is_text else cuts[:0]
+        others, count = turns.said.others(told, self._length == told.size)
+        other, cuts = others[turns.number[begin:end]], turns.restarts
+        if cuts.size:
+            cuts = cuts[(cuts >= begin) & (cuts < end) & ((turns.before[cuts] + 1) * self._shape.pairs < told.size)]
         if cuts.size:
             other[cuts[~self._are_kept(turns, slice(begin, end), cuts, told)] - begin] = True
         first = int(other.argmax())
         end = begin + first if other[first] else end
         cuts = cuts[cuts < end]
         if end > begin:
-            self._note(turns, begin, end)
+            self._note(turns, begin, end, count)
         if cuts.size:
             last, ending = [self._last_segment, *turns.before[cuts].tolist()][-2:]
             self._length = (ending + 1) * self._shape.pairs if last == ending else 0
@@ -332,41 +339,28 @@ class Message:
             kept &= places[numpy.searchsorted(at, cuts)] >= turns.place[cuts] - TEXT_BITS
         return kept
 
-    def _note(self, turns: Turns, begin: int, end: int) -> None:
-        """Notes when each pair came last in rows that say the told text again."""
-        said, size = turns.said, self._shape.pairs
-        row_of = numpy.full(said.segment.size, UNKNOWN)
-        row_of[turns.number[begin:end]] = numpy.arange(begin, end)
-        rows = numpy.sort(row_of[row_of >= 0])
-        number = turns.number[rows]
-        segment, value = said.segment[number] * size, said.value[number]
-        latest = numpy.full(self._shape.size, UNKNOWN)
-        for column in range(size):
-            known = value[:, column] != UNKNOWN
-            latest[segment[known] + column] = rows[known]
-        heard = (latest >= 0).nonzero()[0]
-        rows = latest[heard]
-        first = self._turn - (int(turns.turn[begin - 1]) if begin else 0)
-        value = said.value[turns.number[rows], heard % size]
-        pairs = {**self._earlier, **self._now}
-        columns = (heard, value, turns.turn[rows] + first, turns.place[rows])
-        for position, one, turn, place in zip(*(column.tolist() for column in columns)):
-            pairs[position] = one, VALID, turn, place
+    def _note(self, turns: Turns, begin: int, end: int, count: int) -> None:
+        """Notes when each pair came last in rows that say the told text again, and which of the last ones are valid. In all
+        they have `count` pairs at most."""
+        size, first = self._shape.pairs, self._turn - (int(turns.turn[begin - 1]) if begin else 0)
+        found: Dict[int, Pair] = {}
+        flags: List[bool] = []
+        start = end
+        while start > begin and (len(found) < count or len(flags) < RECENT):
+            rows = slice(max(begin, start - RECENT), start)
+            columns = (turns.number[rows], turns.turn[rows] + first, turns.place[rows])
+            for number, turn, place in zip(*(column[::-1].tolist() for column in columns)):
+                segment, values, valid = turns.said.rows[number]
+                for column in range(size - 1, -1, -1):
+                    if values[column] != UNKNOWN:
+                        flags.append(valid[column])
+                        found.setdefault(segment * size + column, (values[column], VALID, turn, place))
+            start = rows.start
         last = end - 1
         self._turn, self._segment = first + int(turns.turn[last]), int(turns.segment[last])
         self._run = int(turns.run[last])
-        self._part(pairs)
-        self._note_recent(turns, begin, end)
-
-    def _note_recent(self, turns: Turns, begin: int, end: int) -> None:
-        """Notes which of the pairs of these rows that were received last are valid."""
-        start, flags = end, []
-        while start > begin and len(flags) < RECENT:
-            before, start = start, max(begin, start - RECENT)
-            rows = [turns.said.rows[number] for number in turns.number[start:before].tolist()]
-            pairs = [pair for _, values, valid in rows for pair in zip(values, valid)]
-            flags = [is_valid for value, is_valid in pairs if value != UNKNOWN] + flags
-        self._recent.extend(flags)
+        self._part({**self._earlier, **self._now, **found})
+        self._recent.extend(flags[::-1])
 
     def _part(self, pairs: Dict[int, Pair]) -> None:
         """Sets the pairs of this turn, and those of earlier ones."""
