@@ -70,7 +70,7 @@ class Said:
 
     def __init__(self, segment: Array, value: Array, valid: Array) -> None:
         self.segment, self.value, self.valid = segment, value, valid
-        self._others: Tuple[Any, bool, Array, int] = (None, False, segment, 0)
+        self._others: Tuple[Any, bool, Array] = (None, False, segment)
 
     def where(self, chosen: Any) -> "Said":
         return Said(self.segment[chosen], self.value[chosen], self.valid[chosen])
@@ -80,18 +80,21 @@ class Said:
         """The same, to be read one by one."""
         return list(zip(self.segment.tolist(), map(tuple, self.value.tolist()), self.valid.tolist()))
 
-    def others(self, told: "WholeText", is_length: bool) -> Tuple[Array, int]:
-        """Which have another pair than this text, or one after its end if it is known to have this length, and how many pairs
-        the rest have in all."""
+    @cached_property
+    def pairs(self) -> Array:
+        """A bit for each pair that was received."""
+        size = self.value.shape[1]
+        bits = numpy.uint64(1) << (self.segment[:, None] * size + numpy.arange(size)).astype("u8")
+        found: Array = numpy.bitwise_or.reduce(bits * (self.value != UNKNOWN), axis=1)
+        return found
+
+    def others(self, told: "WholeText", is_length: bool) -> Array:
+        """Which have another pair than this text, or one after its end if it is known to have this length."""
         if self._others[:2] != (told, is_length):
             expected = numpy.array(told.said)[self.segment]
-            known = self.value != UNKNOWN
-            other = (known & (self.value != expected) & ((expected != UNKNOWN) | is_length)).any(axis=1)
-            has_pair = numpy.zeros(numpy.shape(told.said), bool)
-            for column in range(known.shape[1]):
-                has_pair[self.segment[known[:, column] & ~other], column] = True
-            self._others = told, is_length, other, int(has_pair.sum())
-        return self._others[2:]
+            differs = (self.value != expected) & (self.value != UNKNOWN)
+            self._others = told, is_length, (differs & ((expected != UNKNOWN) | is_length)).any(axis=1)
+        return self._others[2]
 
 
 class Segments(NamedTuple):
@@ -303,8 +306,8 @@ class Message:
     def _pass(self, turns: Turns, begin: int, end: int, told: WholeText) -> Tuple[int, List[int]]:
         """Passes the first of these rows if they say the told text again: where it ends, and in which of them the text ended
         early, and was whole again at once."""
-        others, count = turns.said.others(told, self._length == told.size)
-        other, cuts = others[turns.number[begin:end]], turns.restarts
+        other = turns.said.others(told, self._length == told.size)[turns.number[begin:end]]
+        cuts = turns.restarts
         if cuts.size:
             cuts = cuts[(cuts >= begin) & (cuts < end) & ((turns.before[cuts] + 1) * self._shape.pairs < told.size)]
         if cuts.size:
@@ -313,7 +316,7 @@ class Message:
         end = begin + first if other[first] else end
         cuts = cuts[cuts < end]
         if end > begin:
-            self._note(turns, begin, end, count)
+            self._note(turns, begin, end)
         if cuts.size:
             last, ending = [self._last_segment, *turns.before[cuts].tolist()][-2:]
             self._length = (ending + 1) * self._shape.pairs if last == ending else 0
@@ -339,10 +342,11 @@ class Message:
             kept &= places[numpy.searchsorted(at, cuts)] >= turns.place[cuts] - TEXT_BITS
         return kept
 
-    def _note(self, turns: Turns, begin: int, end: int, count: int) -> None:
-        """Notes when each pair came last in rows that say the told text again, and which of the last ones are valid. In all
-        they have `count` pairs at most."""
+    def _note(self, turns: Turns, begin: int, end: int) -> None:
+        """Notes when each pair came last in rows that say the told text again, and which of the last ones are valid."""
         size, first = self._shape.pairs, self._turn - (int(turns.turn[begin - 1]) if begin else 0)
+        heard = numpy.bitwise_or.reduce(turns.said.pairs[turns.number[begin:end]])
+        count = bin(int(heard)).count("1")
         found: Dict[int, Pair] = {}
         flags: List[bool] = []
         start = end
