@@ -122,7 +122,7 @@ def whole_parser() -> Parser:
         "--version",
         action="version",
         version="",
-        help="print the version, and the decoder that is used",
+        help="print the version and the decoder",
     )
     commands = whole.add_subparsers(metavar="COMMAND")
     for command in COMMANDS:

@@ -19,7 +19,7 @@ import pytest
 import zstandard
 
 from conftest import COMMAND, PROGRAM, STATION, TOP, monitor, ran, rds
-from made import on_a_terminal, peak_memory, run, said
+from made import damaged, on_a_terminal, peak_memory, run, said
 from rds_monitor import cli
 from rds_monitor.rows import extent
 from rds_monitor.watch import verdict
@@ -108,6 +108,22 @@ def test_no_decoder_for_a_recording(command: str, station: bytes, station_listin
 def written_below(folder: Path, command: str, data: bytes) -> List[str]:
     (folder / "IN").write_bytes(data)
     return [str(folder / word) if word in ("FILE", "IN") else word for word in command.split()]
+
+
+@pytest.mark.parametrize(
+    "command", [command for command in DECODING if not re.search("FILE|stations", command)]
+)
+def test_both_decoders_write_the_same(command: str, station: bytes, tmp_path) -> None:
+    """In each command, of a station with wrong bits and without sync for a while."""
+    noise = bytes(range(256)) * 20
+    words = written_below(tmp_path, command, data := damaged(station, 0.01, 1) + noise + station)
+    more = ["--bits", "300001", "--gaps", "104-130,5000-7000", "--burst", "5"] * (
+        command[:4] not in ("chec", "form")
+    )
+    by_rds = {**os.environ, "RDS_LIBRARY": "/none"}
+    done, other = (monitor(*words, *more, data=data, env=env) for env in (dict(os.environ), by_rds))
+    assert done.stdout == other.stdout and done.stderr == other.stderr and done.returncode == other.returncode
+    assert done.stdout or command == "clock"
 
 
 def test_which_decoder_is_told(decoder: str) -> None:

@@ -9,6 +9,7 @@ import subprocess
 import time
 from typing import Any, List
 
+import numpy
 import pytest
 
 from conftest import COMMAND, PROGRAM
@@ -35,12 +36,11 @@ class Chain:
         self._into.write(data)
         self._into.flush()
 
-    def lines(self, seconds: float) -> int:
-        """How many lines come within this time, which ends with the first of them."""
-        if not select.select([self._last.stdout], [], [], seconds)[0]:
-            return 0
+    def reads(self, seconds: float) -> bytes:
+        """What comes on standard output within this time, which ends with the first of it."""
         assert self._last.stdout
-        return os.read(self._last.stdout.fileno(), 1 << 16).count(b"\n")
+        ready = select.select([self._last.stdout], [], [], seconds)[0]
+        return os.read(self._last.stdout.fileno(), 1 << 16) if ready else b""
 
     def says(self, seconds: float) -> str:
         """What comes on standard error within this time."""
@@ -62,15 +62,15 @@ def delays(chain: Chain, station: bytes) -> List[float]:
     chain.send(station[: FIRST * GROUP])
     got, found = 0, []
     while got < FIRST - 1:
-        more = chain.lines(20)
+        more = chain.reads(20).count(b"\n")
         assert more, got
         got += more
-    while chain.lines(0.3):
+    while chain.reads(0.3):
         pass
     for number in range(FIRST, FIRST + TIMED):
         chain.send(station[number * GROUP : (number + 1) * GROUP])
         began = time.monotonic()
-        assert chain.lines(20)
+        assert chain.reads(20)
         found.append(time.monotonic() - began)
     return found
 
@@ -79,6 +79,15 @@ def delays(chain: Chain, station: bytes) -> List[float]:
 def test_rows_through_rds_follow(words: str, station: bytes) -> None:
     chain = Chain(f"{words} --unfinished", follows=True)
     assert statistics.median(delays(chain, station)) < 0.2
+    assert chain.end() == ""
+
+
+def test_bits_of_pack(station: bytes) -> None:
+    chain = Chain("pack --from bytes", follows=False)
+    for number in range(20):
+        packed = station[number * GROUP : (number + 1) * GROUP]
+        chain.send(numpy.unpackbits(numpy.frombuffer(packed, "u1")).tobytes())
+        assert chain.reads(20 if not number else 1) == packed
     assert chain.end() == ""
 
 
