@@ -1,17 +1,26 @@
-"""The columns and keys that docs/FORMATS.md names, against those that rds-monitor writes."""
+"""The columns and keys that docs/FORMATS.md names, against those that rds-monitor writes; the commands of
+docs/TROUBLES.md and the picture of docs/COMPARISON.md."""
 
 from __future__ import annotations
 
 import json
+import os
 import re
 import sqlite3
+import sys
 from pathlib import Path
-from typing import Dict, List, Set
+from typing import Callable, Dict, List, Set
 
 import pytest
 
+import measure_peers
+import test_readme
 from conftest import TOP, rds
 from made import output as said
+
+# The fixtures of README.md's commands.
+folder, done = test_readme.folder, test_readme.done
+PROGRAM = os.path.realpath(test_readme.PROGRAM)
 
 PAGE = (TOP / "docs" / "FORMATS.md").read_text(encoding="utf-8")
 START = ("--start", "2026-03-29T00:30:00Z")
@@ -81,3 +90,36 @@ def test_size_of_a_listing(station: bytes) -> None:
     least, most = map(float, re.findall(r"A listing has ([\d.]+) to ([\d.]+) times", page)[0])
     day = station * 513
     assert all(least < len(rds("list", data=data)) / len(data) <= most for data in (station, day))
+
+
+def test_the_picture_of_the_comparison() -> None:
+    docs = TOP / "docs"
+    drawn = measure_peers.picture((docs / "COMPARISON.md").read_text(encoding="utf-8"))
+    assert drawn == (docs / "noise.svg").read_text(encoding="utf-8") and drawn.count("<polyline") == 3
+
+
+TROUBLES = (TOP / "docs" / "TROUBLES.md").read_text(encoding="utf-8")
+BLOCKS = [re.sub("^    ", "", one, flags=re.M) for one in re.findall(r"(?:^    .*\n)+", TROUBLES, re.M)]
+LOOP, COMPARED = (next(one for one in BLOCKS if word in one) for word in ("until rds list", "tests/plain.py"))
+
+
+@pytest.mark.parametrize("refused", ["", "8 OutOfMemory", "14 NoWorker", "5 TooLong", "9 Read"])
+def test_what_a_script_does(refused: str, folder: Path, done: Callable[[str], str]) -> None:
+    """It tries again after the errors that may pass, and not after the others."""
+    (folder / "day.bin").write_bytes((folder / "bits.bin").read_bytes())
+    (folder / "bin" / "rds").unlink()
+    again = f"[ -e tried ] || {{ touch tried; echo 'refused {refused}' >&2; exit 1; }}" if refused else ""
+    for name, text in (("rds", f'{again}\nexec {PROGRAM} "$@"'), ("sleep", "exit 0")):
+        (folder / "bin" / name).write_text(f"#!/bin/sh\n{text}\n")
+        (folder / "bin" / name).chmod(0o755)
+    goes_on = refused.split()[:1] in ([], ["8"], ["14"])
+    done(LOOP if goes_on else f"! (\n{LOOP})")
+    assert (folder / "day.csv").exists() == goes_on
+
+
+def test_how_a_bug_is_looked_at(folder: Path, done: Callable[[str], str]) -> None:
+    done("rds list < bits.bin > listing.csv")
+    commands = COMPARED.replace("FILE", "bits.bin").replace(
+        "tests/plain.py", f"{sys.executable} {TOP}/tests/plain.py"
+    )
+    assert done(f"set -e\n{commands}") == ""
