@@ -171,7 +171,7 @@ def test_a_reader_that_leaves(station_listing: bytes, tmp_path) -> None:
     (tmp_path / "it").write_bytes(station_listing)
     command = f"'{sys.executable}' -m rds_monitor table it | head -n 1"
     done = subprocess.run(command, shell=True, cwd=tmp_path, capture_output=True)
-    assert done.stdout.startswith(b"kind,") and done.stderr == b""
+    assert done.stdout.startswith(b"event,bit,") and done.stderr == b""
 
 
 def test_a_pipe_that_gives_little_at_a_time(station: bytes) -> None:

@@ -140,7 +140,7 @@ acquired,26,1,-,-,-,-,x                               no row of an acquisition
 lost,26,-,-,-,-,-,1                                   no row of a loss
 total,valid,07,-,-,-,-,-                              no row of a total
 total,groups,0,-,-,-,-,-                              the total 'valid' is missing before it
-begin_s,end_s,sent,valid,corrected,lost,missing,bad_percent begins with none
+begin_s,end_s,sent,valid,corrected,lost,no_sync,bad_percent begins with none
 acquired,51,1,-,-,-,-,-\r\r                           no row of an acquisition
 """
 ROWS = [line.split(maxsplit=1) for line in BAD_ROWS.strip().splitlines()] + [["", "it has 1 fields"]]

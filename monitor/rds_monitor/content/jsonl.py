@@ -59,11 +59,11 @@ def run_json(arguments: argparse.Namespace) -> int:
     return 0
 
 
-def placed(kind: str, place: int, clock: Clock) -> Dict[str, Any]:
-    """An object's beginning: its kind, place and time."""
-    found = {"kind": kind, "place": place, "time_s": round(clock.seconds(place), 3)}
+def placed(event: str, bit: int, clock: Clock) -> Dict[str, Any]:
+    """An object's beginning: its event, bit position and time."""
+    found = {"event": event, "bit": bit, "time_s": round(clock.seconds(bit), 3)}
     if clock.start is not None:
-        found["time_utc"] = clock.utc(place)[0]
+        found["time_utc"] = clock.utc(bit)[0]
     return found
 
 
@@ -128,4 +128,4 @@ def _block_object(burst: int, info: int, kind: int, offset: int) -> Optional[Dic
 
 def total_objects(totals: Optional[Totals]) -> Iterator[Dict[str, Any]]:
     for name, value in zip(TOTAL_NAMES, flat(totals) if totals else ()):
-        yield {"kind": "total", "name": name, "value": value}
+        yield {"event": "total", "name": name, "value": value}
