@@ -193,7 +193,7 @@ def test_fields_of_packages(packages: Packages, cases: Cases) -> None:
         f"librds0-dbgsym, debug, no: librds0 (= {version})",
         f"python3-librds, python, no: python3 (>= {python}), librds0 (>= {version}); python3-numpy",
         f"rds, hamradio, no: libc6 (>= {newest_libc(packages.rds)}); rds-monitor",
-        f"rds-monitor, hamradio, no: python3 (>= {python}), python3-numpy, python3-librds (= {version}); rds, libjs-d3, python3-jinja2",
+        f"rds-monitor, hamradio, no: python3 (>= {python}), python3-numpy, python3-librds (= {version}) | rds (= {version}); rds, libjs-d3, python3-jinja2",
     }
     pages = (TOP / "README.md").read_text()
     described = said("dpkg-deb", "--field", packages.files[-1], "Description")

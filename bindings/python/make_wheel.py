@@ -1,9 +1,9 @@
 #!/usr/bin/env python3
 """A wheel of librds with the library in it: bindings/python/make_wheel.py LIBRARY FOLDER [--monitor]
 
-With --monitor it is a wheel of rds-monitor, which has librds in it too. Prints its path. The rules are those of auditwheel: the library may need only the C library, and by the newest of its
-symbol versions the wheel says on which systems it runs. The same library gives the same bytes. Needs Python 3.11 or
-later, and objdump.
+With --monitor it is a wheel of rds-monitor, which has librds in it too. Prints its path. The rules are those of
+auditwheel: the library may need only the C library, and by the newest of its symbol versions the wheel says on which
+systems it runs. The same library gives the same bytes. Needs Python 3.11 or later, and objdump.
 """
 
 from __future__ import annotations
@@ -44,7 +44,8 @@ def platform_of(library: Path) -> str:
 def metadata_of(project: Dict[str, Any]) -> str:
     """What pyproject.toml says, with its page, if there is one, as the long description."""
     lines = ["Metadata-Version: 2.1", f"Name: {project['name']}", f"Version: {project['version']}"]
-    lines += [f"Summary: {project['description']}", f"Keywords: {','.join(project.get('keywords', ()))}"]
+    lines += [f"Summary: {project['description']}"]
+    lines += [f"Keywords: {','.join(project['keywords'])}"] if "keywords" in project else []
     lines += [f"Classifier: {name}" for name in project.get("classifiers", ())]
     lines += [f"Requires-Python: {project['requires-python']}"]
     lines += [f"Requires-Dist: {need}" for need in project.get("dependencies", ())]
@@ -70,9 +71,10 @@ def files_of(library: Path, project: Dict[str, Any], tag: str) -> Dict[str, byte
     files["librds/librds.so.0"] = library.read_bytes()
     name = project["name"].replace("-", "_")
     info = f"{name}-{project['version']}.dist-info"
-    for command, function in project.get("scripts", {}).items():
+    if "scripts" in project:
         files.update(sources_of(MONITOR / name))
-        files[f"{info}/entry_points.txt"] = f"[console_scripts]\n{command} = {function}\n".encode()
+        commands = "".join(f"{command} = {function}\n" for command, function in project["scripts"].items())
+        files[f"{info}/entry_points.txt"] = f"[console_scripts]\n{commands}".encode()
     files[f"{info}/METADATA"] = metadata_of(project).encode()
     files[
         f"{info}/WHEEL"
