@@ -2,8 +2,8 @@
 """How many groups GNU Radio with gr-rds 3.10 receives: gnuradio_receiver.py bits FILE, or gnuradio_receiver.py mpx FILE RATE
 
 FILE has packed bits, or MPX as 32-bit floats. Prints a line of sixteen hex digits per group that gr-rds' decoder hands on. MPX goes through
-the blocks of gr-rds' example receiver: a channel filter at 57 kHz, a matched filter for biphase symbols, gain control, symbol
-synchronisation, and a constellation receiver.
+blocks of GNU Radio: a channel filter at 57 kHz, a matched filter for biphase symbols, gain control, symbol synchronisation, and a
+constellation receiver. The package gr-rds has no receiver of its own to compare with.
 """
 import math
 import sys
