@@ -8,25 +8,33 @@ PROGRAM ?= build/rds
 ZSH_COMPLETIONS ?= $(PREFIX)/share/zsh/site-functions
 # tests/*.py ask for it by this name
 export RT
-PYTHON ?= /usr/bin/python3
 
 SOURCES := crates.txt $(shell find crates -name out -prune -o \( -name '*.rt' -o -name '*.antt' \) -print)
 
 .PHONY: all run quick lib test edits proofs built tried archives wrong-bodies install install-program install-monitor install-python \
-  install-lib uninstall deb wheel monitor-demo clean toolchain
-all: build/rds
+  install-lib uninstall deb dist wheel monitor-demo clean toolchain program
+all: build/rds lib
 
 toolchain:
-	@command -v $(RT) >/dev/null || { \
-	  echo "rds: the Rattle toolchain is missing: there is no '$(RT)' on the PATH (README.md, 'Try it')" >&2; exit 1; }
+	@command -v $(RT) >/dev/null || { echo "rds: the Rattle toolchain is missing: there is no '$(RT)' on the PATH (README.md, 'Install');" \
+	  "PROGRAM=FILE and LIBRARY=FOLDER name what was built elsewhere" >&2; exit 1; }
 
-# `rt run` proves and builds what is missing, keeps the program, and runs it: here for its help alone. The toolchain is asked
-# for only if there is something to build, so that a built program can be installed without it.
+# What was built is installed and packed as it is, though sources may be newer: the toolchain is asked for only if nothing was built.
+# Without the toolchain it stays, too.
+older = echo "$(1) is older than the sources, and is used as it is" >&2
+stays = [ -e $@ ] && ! command -v $(RT) >/dev/null && $(call older,$@)
+unbuilt = $(if $(wildcard $(1)),,$(1))
+tell_if_older = @[ -z "$$(find $(SOURCES) -newer '$(1)' -print -quit)" ] || $(call older,$(1))
+
 build/rds: $(SOURCES)
-	@$(MAKE) --no-print-directory toolchain
+	@$(stays) || $(MAKE) --no-print-directory program
+
+# `rt run` proves and builds what is missing, keeps the program, and runs it: here for its help alone.
+program: toolchain
 	cd crates/rds && $(RT) run -- --help >/dev/null
 	@mkdir -p build
-	cp crates/rds/out/rds $@
+	cp crates/rds/out/rds build/rds
+	@$(RT) version > build/toolchain
 
 # The library for C: librds.a, librds.so.0 and rds.h, of what the toolchain proves and builds of crates/rds_c. `make lib` makes
 # them in build/lib, for any x86-64; `make lib ARCH=arm64` in build/lib-arm64, by Debian's gcc-aarch64-linux-gnu.
@@ -37,12 +45,12 @@ TOOLS_arm64  := aarch64-linux-gnu-
 lib: $(FOLDER_$(ARCH))/librds.so.0
 
 $(FOLDER_amd64)/librds.so.0 $(FOLDER_arm64)/librds.so.0: $(SOURCES) $(wildcard lib/*)
-	@$(MAKE) --no-print-directory toolchain
-	@$(MAKE) --no-print-directory archive-$(if $(filter $(FOLDER_arm64)/%,$@),arm64,amd64)
+	@$(stays) || $(MAKE) --no-print-directory archive-$(if $(filter $(FOLDER_arm64)/%,$@),arm64,amd64)
 
 # over the crates that are proved already, as in the gate
-archive-%:
+archive-%: toolchain
 	lib/archive.py $* build/librds-$*.a
+	@$(RT) version > build/toolchain
 	lib/make_library.sh build/librds-$*.a $(FOLDER_$*) $(TOOLS_$*)
 
 # The sample alone may go by an unproved build, which is slow, but there in a minute.
@@ -108,7 +116,8 @@ endif
 SHARE = $(DESTDIR)$(PREFIX)/share
 install: install-program install-monitor
 
-install-program: $(PROGRAM)
+install-program: $(call unbuilt,$(PROGRAM))
+	$(call tell_if_older,$(PROGRAM))
 	install -d "$(DESTDIR)$(PREFIX)/bin" "$(SHARE)/man/man1" "$(SHARE)/rds/examples" "$(SHARE)/bash-completion/completions"
 	install -d "$(DESTDIR)$(ZSH_COMPLETIONS)"
 	install -m 755 $(PROGRAM) "$(DESTDIR)$(PREFIX)/bin/rds"
@@ -148,7 +157,8 @@ install-python:
 LIBDIR ?= $(PREFIX)/lib
 # the folder of the library that is installed
 LIBRARY ?= build/lib
-install-lib: $(LIBRARY)/librds.so.0
+install-lib: $(call unbuilt,$(LIBRARY)/librds.so.0)
+	$(call tell_if_older,$(LIBRARY)/librds.so.0)
 	install -d "$(DESTDIR)$(LIBDIR)/pkgconfig" "$(DESTDIR)$(LIBDIR)/cmake/rds" "$(DESTDIR)$(PREFIX)/include" "$(SHARE)/man/man3"
 	install -m 644 $(LIBRARY)/librds.a "$(DESTDIR)$(LIBDIR)/librds.a"
 	install -m 755 $(LIBRARY)/librds.so.0 "$(DESTDIR)$(LIBDIR)/librds.so.0"
@@ -174,12 +184,21 @@ uninstall:
 	@rm -rf $(STAGE)
 
 # All of that as Debian packages below build, and those for arm64 if `make lib ARCH=arm64` was run.
-deb: $(PROGRAM) $(LIBRARY)/librds.so.0
+deb: $(call unbuilt,$(PROGRAM)) $(call unbuilt,$(LIBRARY)/librds.so.0)
 	@mkdir -p build
 	@packaging/make_deb.sh $(PROGRAM) $(LIBRARY) build $(patsubst %/librds.so.0,%,$(wildcard $(FOLDER_arm64)/librds.so.0))
 
+# A release below build/dist, which needs no toolchain: the packages, and a tarball with the same and the wheel of rds-monitor.
+dist: $(call unbuilt,$(PROGRAM)) $(call unbuilt,$(LIBRARY)/librds.so.0)
+	$(call tell_if_older,$(PROGRAM))
+	@mkdir -p build/dist
+	@packaging/make_dist.py $(PROGRAM) $(LIBRARY) build/dist "$(TOOLCHAIN)"
+	@packaging/make_deb.sh $(PROGRAM) $(LIBRARY) build/dist
+# the line of `rt version` by which it was built
+TOOLCHAIN ?= $(shell cat build/toolchain 2>/dev/null || $(RT) version 2>/dev/null)
+
 # A wheel of the Python module with the library in it, below build.
-wheel: $(FOLDER_$(ARCH))/librds.so.0
+wheel: $(call unbuilt,$(FOLDER_$(ARCH))/librds.so.0)
 	bindings/python/make_wheel.py $(FOLDER_$(ARCH))/librds.so.0 build
 
 # Three simulated stations on a page, by the library of `make lib`, by build/rds, by the system's library, or else by a program that is

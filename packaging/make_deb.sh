@@ -144,7 +144,7 @@ install -D -m 644 packaging/rds-monitor.sysusers "$work/rds-monitor/usr/lib/sysu
 install -D -m 644 -t "$work/rds-monitor/usr/share/doc/rds-monitor/examples" packaging/stations.toml packaging/alerts.yml
 gzip -9n < monitor/WATCHING.md > "$work/rds-monitor/usr/share/doc/rds-monitor/WATCHING.md.gz"
 for it in postinst prerm; do install -D -m 755 "packaging/rds-monitor.$it" "$work/rds-monitor/DEBIAN/$it"; done
-package rds-monitor all hamradio "Depends: python3 (>= 3.9), python3-numpy, python3-librds (= $version)
+package rds-monitor all hamradio "Depends: python3 (>= 3.9), python3-numpy, python3-librds (= $version) | rds (= $version)
 Recommends: rds, libjs-d3, python3-jinja2
 Suggests: parallel, python3-pandas, python3-pyfftw, python3-scipy, python3-soundfile, python3-tomli, python3-zstandard, rtl-sdr" "tables, databases and alarms from $about
  Says what a station sent and how well it was received: block errors,
@@ -158,8 +158,8 @@ strip -o "$work/bin/rds" "$program"
 installed install-program rds PROGRAM="$work/bin/rds" ZSH_COMPLETIONS=/usr/share/zsh/vendor-completions
 gzip -9n "$work/rds/usr/share/man/man1/rds.1"
 documents rds README.md
-install -D -m 644 -t "$work/rds/usr/share/doc/rds/docs" docs/{START,INPUT,OUTPUT,USING,RECIPES}.md \
-  docs/{LIBRARY,ACCURACY,PERFORMANCE,GLOSSARY}.md
+install -D -m 644 -t "$work/rds/usr/share/doc/rds/docs" docs/{FORMATS,USING,RECIPES,TROUBLES}.md \
+  docs/{LIBRARY,ACCURACY,COMPARISON,PERFORMANCE,GLOSSARY}.md
 package rds amd64 hamradio "Depends: $(needed "$program")
 Recommends: rds-monitor" "decoder of $about
  Decodes demodulated RDS bits into a listing: sync acquisitions, groups with

@@ -67,6 +67,9 @@ The command check ends in the statuses of a plugin: 0 OK, 1 WARNING, 2 CRITICAL,
 .TP
 RDS_LIBRARY
 The path of librds.so.0, by default the system's.
+.TP
+RDS
+The path of the program rds, by default that of the PATH. It decodes recordings if there is no librds.
 .SH SEE ALSO
 .BR rds (1)
 """
@@ -77,15 +80,27 @@ def roff(text: str) -> str:
     return re.sub(r"^([.'])", r"\\&\1", text.replace("\\", "\\e").replace("-", "\\-"), flags=re.M)
 
 
-def section_of(command: Command) -> str:
-    """The command's section of the page: what it does, its options by argparse-manpage, and its example."""
-    parser = parser_of(command)
-    options = str(Manpage(parser)).partition(".SH OPTIONS\n")[2]
-    lines = [
-        f".SS {command.name}",
-        roff(parser.description or ""),
-        re.sub(r"\n\n+", "\n", options).strip("\n"),
-    ]
+def entries_of(command: Command) -> List[str]:
+    """The options of a command, by argparse-manpage, an entry each."""
+    options = str(Manpage(parser_of(command))).partition(".SH OPTIONS\n")[2]
+    text = re.sub(r"\n\n+", "\n", options).strip("\n")
+    return re.split(r"\n(?=\.TP\n)", text) if text else []
+
+
+def common_entries() -> List[str]:
+    """Those of half of the commands or more, in the order of the first one that has them."""
+    every = [entry for command in COMMANDS for entry in entries_of(command)]
+    return [entry for entry in dict.fromkeys(every) if every.count(entry) >= len(COMMANDS) / 2]
+
+
+def section_of(command: Command, common: List[str]) -> str:
+    """The command's section of the page: what it does, its own options, the names of common ones, and its example."""
+    parser, entries = parser_of(command), entries_of(command)
+    lines = [f".SS {command.name}", roff(parser.description or "")]
+    lines += [entry for entry in entries if entry not in common]
+    shared = [entry.split("\n")[1].split(" ")[0] for entry in entries if entry in common]
+    if shared:
+        lines += [".PP", "Common: " + ", ".join(shared) + "."]
     if parser.epilog:
         lines += [".PP", ".nf", roff(parser.epilog), ".fi"]
     return "\n".join(line for line in lines if line)
@@ -94,13 +109,21 @@ def section_of(command: Command) -> str:
 def page() -> str:
     date = time.strftime("%Y-%m-%d", time.gmtime(int(os.environ.get("SOURCE_DATE_EPOCH", time.time()))))
     head = f'.TH RDS-MONITOR 1 {date} "rds-monitor {__version__}"' + HEAD.format(summary=roff(summary or ""))
-    return head + "\n".join(map(section_of, COMMANDS)) + TAIL
+    common = common_entries()
+    sections = "\n".join(section_of(command, common) for command in COMMANDS)
+    return head + sections + "\n.SH COMMON OPTIONS\n" + "\n".join(common) + TAIL
 
 
 def whole_parser() -> Parser:
     """All commands in one parser, as shtab needs it. A value that is none of a few is completed as a file's name."""
     whole = Parser(prog="rds-monitor", description=summary)
-    whole.add_argument("-V", "--version", action="version", version="", help="print the name and version")
+    whole.add_argument(
+        "-V",
+        "--version",
+        action="version",
+        version="",
+        help="print the version and the decoder",
+    )
     commands = whole.add_subparsers(metavar="COMMAND")
     for command in COMMANDS:
         parser = commands.add_parser(command.name, help=command.summary)

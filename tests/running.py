@@ -65,9 +65,9 @@ def instructions(command: list[str], path: Path) -> int:
     return int(counted[1].replace(",", ""))
 
 
-def readme_program(language: str) -> str:
-    """README.md's program of that language, in its section on the library."""
-    part = (TOP / "README.md").read_text().split("\n## From C, Rust and Python", 1)[1].split("\n## ")[0]
+def first_program(language: str) -> str:
+    """The first program in that language of docs/LIBRARY.md."""
+    part = (TOP / "docs" / "LIBRARY.md").read_text().split("\n## A first program", 1)[1].split("\n## ")[0]
     found = re.search(rf"^```{language}\n(.*?)^```$", part, re.M | re.S)
-    assert found, f"README.md has no program in {language}"
+    assert found, f"docs/LIBRARY.md has no first program in {language}"
     return found[1]

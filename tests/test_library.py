@@ -28,7 +28,7 @@ import pytest
 import worst_inputs
 from library import border, calls, table
 from library.calls import Answer, Call, ask, drawn
-from running import LIMIT, TOP, Ran, needs, readme_program, run, said, wrote
+from running import LIMIT, TOP, Ran, first_program, needs, run, said, wrote
 
 pytestmark = pytest.mark.xdist_group("library")
 
@@ -617,7 +617,7 @@ def test_programs_of_the_readme_in_rust(cargo: Cargo, installed: Path, tmp_path:
     """By the folder of the archive, and by pkg-config."""
     cases(2)
     (tmp_path / "src").mkdir()
-    (tmp_path / "src/main.rs").write_text(readme_program("rust"))
+    (tmp_path / "src/main.rs").write_text(first_program("rust"))
     package = f'name = "readme"\nversion = "0.1.0"\nedition = "2021"\n[dependencies]\nrds = {{ path = "{TOP}/bindings/rust" }}'
     (tmp_path / "Cargo.toml").write_text(f"[package]\n{package}\n")
     words = ["run", "--quiet", "--manifest-path", tmp_path / "Cargo.toml"]

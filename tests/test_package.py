@@ -1,22 +1,25 @@
 """Completion and the Debian packages.
 
 Completion is compared with the program's help. The packages are built, checked by lintian, installed in a root folder of their own, tried and
-removed. README.md's program in C is linked with both forms of the installed library, by pkg-config and by CMake, and run.
+removed. docs/LIBRARY.md's first program in C is linked with both forms of the installed library, by pkg-config and by CMake, and run.
 """
 
 from __future__ import annotations
 
+import fnmatch
 import glob
 import gzip
+import json
 import os
 import re
+import shutil
 import sys
 from hashlib import sha256
 from pathlib import Path
 from typing import Any, Callable
 
 import pytest
-from running import TOP, needs, readme_program, run, said, wrote
+from running import TOP, first_program, needs, run, said, wrote
 
 SAMPLE = (TOP / "examples" / "station.bin").read_bytes()
 COUNTS = "7691 valid, 1923 groups"
@@ -136,9 +139,9 @@ class Packages:
         return said(*words, data=SAMPLE, env={**os.environ, **python, **library})
 
     def program(self, folder: Path, *options: str) -> Path:
-        """README.md's program in C, with these options."""
-        (folder / "readme.c").write_text(readme_program("c"))
-        wrote(CC, "-o", folder / "program", folder / "readme.c", *options)
+        """docs/LIBRARY.md's first program in C, with these options."""
+        (folder / "first.c").write_text(first_program("c"))
+        wrote(CC, "-o", folder / "program", folder / "first.c", *options)
         return folder / "program"
 
 
@@ -190,9 +193,9 @@ def test_fields_of_packages(packages: Packages, cases: Cases) -> None:
         f"librds0-dbgsym, debug, no: librds0 (= {version})",
         f"python3-librds, python, no: python3 (>= {python}), librds0 (>= {version}); python3-numpy",
         f"rds, hamradio, no: libc6 (>= {newest_libc(packages.rds)}); rds-monitor",
-        f"rds-monitor, hamradio, no: python3 (>= {python}), python3-numpy, python3-librds (= {version}); rds, libjs-d3, python3-jinja2",
+        f"rds-monitor, hamradio, no: python3 (>= {python}), python3-numpy, python3-librds (= {version}) | rds (= {version}); rds, libjs-d3, python3-jinja2",
     }
-    pages = (TOP / "README.md").read_text() + (TOP / "docs/START.md").read_text()
+    pages = (TOP / "README.md").read_text()
     described = said("dpkg-deb", "--field", packages.files[-1], "Description")
     assert {*re.findall("x86-64-v[0-9]", described)} == {*re.findall("x86-64-v[0-9]", pages)} != set()
 
@@ -248,7 +251,7 @@ def test_files_that_no_package_has(packages: Packages, tmp_path: Path) -> None:
     files.update(tmp_path.iterdir())
     missing = {path for path in files if path.is_file() and path.read_bytes() not in held}
     pages = {f"docs/{name}.md" for name in "ARCHITECTURE CHANGING DECISIONS MODEL PROOFS TESTING".split()}
-    others = {"packaging/make_deb.sh", "packaging/make_pages.py"}
+    others = {f"packaging/{name}" for name in "Containerfile make_deb.sh make_dist.py make_pages.py".split()}
     assert {str(path.relative_to(TOP)) for path in missing} == pages | others
 
 
@@ -317,8 +320,8 @@ def test_program_by_pkg_config(packages: Packages, tmp_path: Path, cases: Cases)
 @of_packages
 def test_python_of_the_packages(packages: Packages, tmp_path: Path, cases: Cases) -> None:
     cases(2)
-    (tmp_path / "readme.py").write_text(readme_program("python"))
-    assert packages.run_program(sys.executable, tmp_path / "readme.py") == COUNTS
+    (tmp_path / "first.py").write_text(first_program("python"))
+    assert packages.run_program(sys.executable, tmp_path / "first.py") == COUNTS
     packages.run_program(packages.root / "usr/bin/rds-monitor", "errors", TOP / "examples/station.bin")
 
 
@@ -342,7 +345,7 @@ if(NOT rds_VERSION VERSION_EQUAL 0.2)
   message(FATAL_ERROR "version ${rds_VERSION}")
 endif()
 foreach(kind static rds)
-  add_executable(${kind} readme.c)
+  add_executable(${kind} first.c)
   target_link_libraries(${kind} rds::${kind})
 endforeach()
 """
@@ -352,7 +355,7 @@ endforeach()
 def test_programs_by_cmake(packages: Packages, tmp_path: Path, cases: Cases) -> None:
     cases(2)
     needs("cmake")
-    (tmp_path / "readme.c").write_text(readme_program("c"))
+    (tmp_path / "first.c").write_text(first_program("c"))
     (tmp_path / "CMakeLists.txt").write_text(CMAKE)
     # the folders of the packages are not where they were made for
     folder = f"{packages.root}{packages.libdir}/cmake/rds"
@@ -393,6 +396,150 @@ def test_make_deb(rds: str, librds: str) -> None:
     words = ["make", "--no-print-directory", "-n", "-o", f"{librds}/librds.so.0", "deb", *names]
     text = said(*words, cwd=TOP, env={**os.environ, "MAKEFLAGS": ""})
     assert text.splitlines()[-1] == f"packaging/make_deb.sh {rds} {librds} build {librds}"
+
+
+# ---- a release
+
+LINE = "rattle-kit-13f logic dac8208d650f15bf"
+WITHOUT_RT = {**os.environ, "RT": "/none/rt", "MAKEFLAGS": "", "SOURCE_DATE_EPOCH": "1700000000"}
+
+
+@pytest.fixture(scope="session")
+def copied(tmp_path_factory: Any) -> Path:
+    """The tree in another folder, in which nothing is built."""
+    to = tmp_path_factory.mktemp("copied") / "rds"
+    names = ["build", ".git", "out", "__pycache__", "must-fail", "target"]
+    return Path(shutil.copytree(TOP, to, ignore=shutil.ignore_patterns(*names)))
+
+
+def distributed(top: Path, rds: str, librds: str, folder: Path) -> Path:
+    folder.mkdir()
+    words = [top / "packaging/make_dist.py", rds, librds, folder, LINE]
+    return Path(said(*words, cwd=folder, env=WITHOUT_RT, timeout=300))
+
+
+@pytest.fixture(scope="session")
+def release(rds: str, librds: str, copied: Path, tmp_path_factory: Any) -> Path:
+    """The unpacked tarball, which is the same made of the tree in another folder."""
+    zstandard = pytest.importorskip("zstandard")
+    folder = tmp_path_factory.mktemp("release")
+    made_here = distributed(TOP, rds, librds, folder / "one")
+    again = distributed(copied, rds, librds, folder / "other")
+    assert made_here.read_bytes() == again.read_bytes() and made_here.name == again.name
+    wrote("tar", "-x", "-C", folder, data=zstandard.decompress(made_here.read_bytes()))
+    return folder / made_here.name.removesuffix(".tar.zst")
+
+
+of_release = pytest.mark.xdist_group("release")
+
+
+@of_release
+def test_files_of_a_release(release: Path, rds: str, cases: Cases) -> None:
+    cases(5)
+    version = said(rds, "--version").removeprefix("rds ")
+    assert release.name == f"rds-{version}-x86_64" and (release / "TOOLCHAIN").read_text() == f"{LINE}\n"
+    there = files_below(release)
+    wrote("sha256sum", "--check", "--strict", "SHA256SUMS", cwd=release)
+    sums = (line.split("  ") for line in (release / "SHA256SUMS").read_text().splitlines())
+    summed = {name: value for value, name in sums}
+    assert {*summed} == there - {"SHA256SUMS", "lib/librds.so"}
+    bill = json.loads((release / "sbom.spdx.json").read_text())
+    told = {entry["fileName"][2:]: entry["checksums"] for entry in bill["files"]}
+    assert {*told} == {*summed} - {"sbom.spdx.json"}
+    assert all({"algorithm": "SHA256", "checksumValue": summed[name]} in told[name] for name in told)
+    ids = ["SPDXRef-DOCUMENT", *(entry["SPDXID"] for entry in bill["packages"] + bill["files"])]
+    assert len({*ids}) == len(ids) and bill["spdxVersion"] == "SPDX-2.3"
+    ends = {row[end] for row in bill["relationships"] for end in ("spdxElementId", "relatedSpdxElement")}
+    assert ends == {*ids}
+    linked = {
+        row["relatedSpdxElement"] for row in bill["relationships"] if row["relationshipType"] == "STATIC_LINK"
+    }
+    assert linked == {f"SPDXRef-{name}" for name in "atomic_table clap csv hex itoa thiserror".split()}
+
+
+@of_release
+def test_an_unpacked_release(release: Path, tmp_path: Path, cases: Cases) -> None:
+    """Its program, both libraries and the wheel work where they were unpacked, with neither toolchain nor packages."""
+    cases(4)
+    needs("pkg-config")
+    pytest.importorskip("pip")
+    path = {**os.environ, "PATH": "/usr/bin:/bin", "RDS_LIBRARY": "", "RDS": "/none", "PKG_CONFIG_LIBDIR": ""}
+    assert wrote(release / "bin/rds", "totals", data=SAMPLE).startswith(b"total,valid,7691,")
+    path["PKG_CONFIG_PATH"] = f"{release}/lib/pkgconfig"
+    (tmp_path / "first.c").write_text(first_program("c"))
+    for kind in ("--libs", "--static"):
+        found = said("pkg-config", "--cflags", "--libs", kind, "rds", env=path).split()
+        wrote(CC, "-o", tmp_path / "program", tmp_path / "first.c", *found)
+        assert said(tmp_path / "program", data=SAMPLE, env={"LD_LIBRARY_PATH": f"{release}/lib"}) == COUNTS
+    (wheel,) = release.glob("rds_monitor-*.whl")
+    words = [
+        "--no-index",
+        "--no-deps",
+        "--quiet",
+        "--disable-pip-version-check",
+        "--target",
+        tmp_path / "python",
+        wheel,
+    ]
+    wrote(sys.executable, "-m", "pip", "install", *words)
+    path["PYTHONPATH"] = str(tmp_path / "python")
+    monitor = [sys.executable, tmp_path / "python/bin/rds-monitor"]
+    assert "\ndecoder: librds 0.2.0" in said(*monitor, "--version", env=path)
+    assert "7691" in said(*monitor, "errors", "--every", 1000, data=SAMPLE, env=path)
+
+
+@of_release
+def test_containerfile(release: Path, packages: Packages, cases: Cases) -> None:
+    """It is built and run where podman is. Its words are looked at in any case: each package that it names is one of `make dist`."""
+    cases(2)
+    text = (TOP / "packaging/Containerfile").read_text()
+    names = [path.name for path in packages.files]
+    copied = re.findall(r"^COPY (.*) /packages/$", text, re.M)[0].split()
+    found = [fnmatch.filter(names, pattern) for pattern in copied]
+    kinds = "librds0 python3-librds rds rds-monitor".split()
+    assert [[name.split("_")[0] for name in one] for one in found] == [[kind] for kind in kinds]
+    assert re.findall("^FROM (.*)$", text, re.M) == ["debian:bookworm-slim"]
+    if shutil.which("podman"):
+        words = ["podman", "build", "-q", "-f", TOP / "packaging/Containerfile", packages.folder]
+        image = said(*words, timeout=600)
+        assert said("podman", "run", "--rm", "-i", image, "rds", "totals", data=SAMPLE).startswith(
+            "valid,7691\n"
+        )
+        assert "decoder: librds" in said("podman", "run", "--rm", image, "rds-monitor", "--version")
+
+
+def test_what_was_built_is_used_without_the_toolchain(
+    rds: str, librds: str, copied: Path, cases: Cases
+) -> None:
+    """Nothing is built anew; that it is older than the sources is said in one line."""
+    cases(5)
+    words = [
+        "make",
+        "-s",
+        "--no-print-directory",
+        f"DESTDIR={copied}/root",
+        "PREFIX=/usr",
+        "ZSH_COMPLETIONS=/usr/zsh",
+    ]
+    for target in ("all", "install", "install-lib", "deb", "dist"):
+        refused = run(*words, target, cwd=copied, env=WITHOUT_RT)
+        assert (
+            refused.status == 2
+            and b"toolchain is missing" in refused.err
+            and b"LIBRARY=FOLDER" in refused.err
+        )
+    (copied / "build").mkdir()
+    shutil.copy2(rds, copied / "build/rds")
+    shutil.copytree(librds, copied / "build/lib", symlinks=True)
+    for path in (copied / "build/rds", *(copied / "build/lib").iterdir()):
+        os.utime(path, (0, 0), follow_symlinks=False)
+    said_once = "build/{} is older than the sources, and is used as it is\n"
+    both = [said_once.format("rds"), said_once.format("lib/librds.so.0")]
+    for target, lines in {"install": both[:1], "install-lib": both[1:], "all": both, "lib": both[1:]}.items():
+        done = run(*words, target, cwd=copied, env=WITHOUT_RT)
+        assert (done.status, done.err.decode()) == (0, "".join(lines)), target
+    assert (copied / "root/usr/bin/rds").read_bytes() == Path(rds).read_bytes()
+    shutil.rmtree(copied / "build")
 
 
 def test_packages_that_cannot_be_made(rds: str, librds: str, tmp_path: Path, cases: Cases) -> None:

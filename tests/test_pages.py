@@ -115,7 +115,7 @@ class Manual:
 
 
 class Using:
-    """What docs/USING.md and docs/OUTPUT.md say."""
+    """What docs/USING.md and docs/FORMATS.md say."""
 
     def __init__(self) -> None:
         text = read("docs/USING.md")
@@ -124,7 +124,8 @@ class Using:
         self.commands = set(re.findall(r"^\| `([a-z]+)` \|", text.split("\n## Options")[0], re.M))
         self.refusals = set(re.findall(r"^\| (\d+) \| (\w+) \|", text.split("## Exit status")[1], re.M))
         self.named = set(re.findall(r"`refused (\d+) (\w+)`", text))
-        text = read("docs/OUTPUT.md")
+        self.statuses = re.findall(r"^\| (\d) \|", between(text, "| Status | Means |", "\n\n"), re.M)
+        text = read("docs/FORMATS.md")
         rows = between(text, "| Row | Fields |", "\n\n")
         self.rows = set(re.findall(r"^\| `([a-z]+)` \|", rows, re.M))
         totals = between(text, "| Total | Counts |", "\n\n").splitlines()[2:]
@@ -167,11 +168,21 @@ def test_values_of_options(program: Program, faults: Faults) -> None:
 
 def test_errors_and_rows(program: Program, faults: Faults) -> None:
     manual, using = Manual(), Using()
-    for refusals, rows, page in (("docs/USING.md", "docs/OUTPUT.md", using), ("rds.1", "rds.1", manual)):
+    for refusals, rows, page in (("docs/USING.md", "docs/FORMATS.md", using), ("rds.1", "rds.1", manual)):
         faults.same(f"{refusals}, refusals", program.refusals, page.refusals)  # type: ignore[attr-defined]
         faults.same(f"{rows}, rows", program.rows, page.rows)  # type: ignore[attr-defined]
         faults.same(f"{rows}, totals", program.totals, page.totals)  # type: ignore[attr-defined]
     faults.same("docs/USING.md, refusals in the text", set(), using.named - program.refusals)
+
+
+def test_errors_of_scripts(program: Program, faults: Faults) -> None:
+    """The errors that docs/TROUBLES.md names, and the exit statuses that it tells apart."""
+    part = between(read("docs/TROUBLES.md"), "| Ended | Do |", "\n\n")
+    named = {pair for pair in re.findall(r"`(?:refused )?(\d+) ([A-Z]\w+)`", part)}
+    faults.same("docs/TROUBLES.md, errors", set(), named - program.refusals)
+    faults.same("docs/TROUBLES.md, number of errors", 5, len(named))
+    statuses = set(re.findall(r"^\| (\d)[ ,]", part, re.M))
+    faults.same("docs/TROUBLES.md, exit statuses", set(Using().statuses), statuses)
 
 
 # ---- numbers
@@ -224,16 +235,6 @@ def test_numbers(faults: Faults, page: str, told: str, path: str, source: str) -
     faults.same(f"{page}, '{told}' as in {path}", numbers or {"a number"}, numbers_in(told, text))
 
 
-def test_table_of_the_gate(faults: Faults) -> None:
-    """Each file of tests has a row, and each row is one."""
-    page = between(read(TESTING), "## The gate", "## Wrong bodies")
-    named = {
-        name for row in re.findall(r"^\| `([^|]*)` \|", page, re.M) for name in re.findall(r"[\w.]+", row)
-    }
-    tests = {path.name for path in (TOP / "tests").glob("test_*.py")}
-    faults.same(f"{TESTING}, tests of the gate", tests, {name for name in named if "." in name})
-
-
 def test_seconds_that_a_call_may_take(faults: Faults) -> None:
     limited = r'environ.get\("LIMIT", (\d+)|atoi\(limit\) : (\d+)'
     texts = [path.read_text() for path in (TOP / "tests").iterdir() if path.suffix in (".sh", ".py", ".c")]
@@ -241,17 +242,13 @@ def test_seconds_that_a_call_may_take(faults: Faults) -> None:
     faults.same("tests, the seconds that a call may take", {"60"}, limits)
 
 
-def test_crates_and_edits(faults: Faults) -> None:
+def test_crates(faults: Faults) -> None:
     rows = [line for line in read("crates.txt").splitlines() if not line.startswith("#")]
     crates = {row.split(":")[0].split()[0] for row in rows}
     named = set(
         re.findall(r"`(rds(?:_\w+)?)`", between(read("docs/ARCHITECTURE.md"), "## The crates", "\n## "))
     )
     faults.same("docs/ARCHITECTURE.md, crates", crates, named & crates)
-    for crate, count in re.findall(r"^\| `?(rds(?:_\w+)?)`? \|.*\| (\d+) edits", read(TESTING), re.M):
-        wrong = len(list((TOP / "crates" / crate / "wrong").iterdir()))
-        edits = wrong + read("tests/must_fail.edits").count(f"edit: {crate}/")
-        faults.same(f"{TESTING}, edits of {crate}", edits, int(count))
 
 
 # ---- files and functions

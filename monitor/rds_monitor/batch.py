@@ -19,6 +19,7 @@ import sys
 import tempfile
 from typing import IO, Iterator, List, NamedTuple, Optional, Tuple
 
+from .rows.decoders import rds_program
 from .rows.items import Fault, Misuse
 from .rows.listing import CUT
 
@@ -143,8 +144,7 @@ def run_jobs(
     arguments: argparse.Namespace, work: str, count: int, lock: IO[bytes]
 ) -> Iterator[Tuple[int, int, str]]:
     """The number, the status and the words of each job as it ends."""
-    program = os.environ.get("RDS", "rds")
-    words = parallel_words(arguments, job_text(arguments, program))
+    words = parallel_words(arguments, job_text(arguments, rds_program()))
     signal.signal(signal.SIGPIPE, signal.SIG_IGN)
     # rsync follows the links to the recordings.
     environment = {**os.environ, "PARALLEL_RSYNC_OPTS": "-rLDzR", "PARALLEL_SHELL": "/bin/sh"}

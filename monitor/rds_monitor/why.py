@@ -3,7 +3,6 @@
 from __future__ import annotations
 
 import argparse
-import os
 import re
 import signal
 import subprocess
@@ -12,6 +11,8 @@ from typing import Any, Callable, Dict, List, Optional, Sequence
 
 import numpy
 
+from .rows.blocks import REMAINDERS
+from .rows.decoders import rds_program
 from .rows.items import Fault
 
 HEX_TEXT = re.compile(rb"[0-9A-Fa-f \t\r\n]*")
@@ -35,7 +36,7 @@ def options_why(parser: argparse.ArgumentParser) -> None:
 
 def run_why(arguments: argparse.Namespace) -> int:
     words, held = [*arguments.words], sys.stdin.buffer.read()
-    program = os.environ.get("RDS", "rds")
+    program = rds_program()
     # rds may refuse before it has read all: then the pipe is closed, which is no end of this command.
     signal.signal(signal.SIGPIPE, signal.SIG_IGN)
     try:
@@ -125,11 +126,9 @@ def blocks_e(words: Sequence[str], held: bytes) -> List[str]:
     if count < 26 * LEAST_E:
         return []
     remainders, ones = numpy.zeros(count, "u2"), numpy.zeros(count, "u1")
-    check = 1
-    for begin in range(25, -1, -1):
-        remainders ^= bits[begin : begin + count] * numpy.uint16(check)
+    for begin, remainder in enumerate(REMAINDERS):
+        remainders ^= bits[begin : begin + count] * numpy.uint16(remainder)
         ones |= bits[begin : begin + count]
-        check = check << 1 ^ (0x5B9 if check >> 9 else 0)
     is_e = (remainders == 0) & (ones > 0)
     last, is_told = count - 26 * (LEAST_E - 1), numpy.zeros(count, bool)
     runs = numpy.logical_and.reduce([is_e[26 * k : last + 26 * k] for k in range(LEAST_E)])

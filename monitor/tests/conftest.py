@@ -56,6 +56,20 @@ def monitor(*words: Any, data: bytes = b"", **options: Any) -> "subprocess.Compl
     return subprocess.run([*COMMAND, *map(str, words)], input=data, capture_output=True, **options)
 
 
+def no_librds() -> Any:
+    raise ImportError("No module named 'librds'")
+
+
+@pytest.fixture(params=["librds", "rds"])
+def decoder(request: pytest.FixtureRequest, monkeypatch: pytest.MonkeyPatch) -> str:
+    """Recordings are decoded by librds, and then by the program, in this process and in those that it starts."""
+    monkeypatch.setenv("RDS", PROGRAM if request.param == "rds" else "/none")
+    if request.param == "rds":
+        monkeypatch.setenv("RDS_LIBRARY", "/none")
+        monkeypatch.setattr("rds_monitor.rows.decoders.library", no_librds)
+    return str(request.param)
+
+
 @pytest.fixture(scope="session")
 def station() -> bytes:
     return STATION.read_bytes()

@@ -13,9 +13,9 @@ import numpy
 import zstandard
 
 from conftest import TOP, encode
+from rds_monitor.rows.decoders import ByLibrary, NewDecoder
 from rds_monitor.rows.hours import Hour, hour_of
 from rds_monitor.rows.items import Rows
-from rds_monitor.watch.decoders import ByLibrary, NewDecoder
 from rds_monitor.watch.loop import Watch
 from rds_monitor.watch.receiver import Process
 from rds_monitor.watch.records import Records

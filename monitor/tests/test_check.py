@@ -315,7 +315,10 @@ def test_limits_of_which_one_is_given(sample) -> None:
 
 
 def test_no_library_is_unknown(sample, tmp_path) -> None:
-    done = ran([*COMMAND, "check", str(sample)], env={**os.environ, "RDS_LIBRARY": str(tmp_path / "none")})
+    done = ran(
+        [*COMMAND, "check", str(sample)],
+        env={**os.environ, "RDS_LIBRARY": str(tmp_path / "none"), "RDS": "/none"},
+    )
     assert done.returncode == 3 and done.stdout.startswith("RDS UNKNOWN - ")
     done = subprocess.run(
         [*COMMAND, "check", str(sample)], stdout=open("/dev/full", "w"), stderr=subprocess.PIPE

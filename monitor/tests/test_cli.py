@@ -11,13 +11,15 @@ import shutil
 import subprocess
 import sys
 from itertools import chain
+from pathlib import Path
+from typing import List
 from unittest import mock
 
 import pytest
 import zstandard
 
 from conftest import COMMAND, PROGRAM, STATION, TOP, monitor, ran, rds
-from made import on_a_terminal, peak_memory, run, said
+from made import damaged, on_a_terminal, peak_memory, run, said
 from rds_monitor import cli
 from rds_monitor.rows import extent
 from rds_monitor.watch import verdict
@@ -31,7 +33,7 @@ def test_help_has_an_example() -> None:
         assert f"  {command.name} " in text and command.summary in text
         shown = run(command.name, "--help")
         assert shown.status == 0 and "example" in shown.out and f"rds-monitor {command.name}" in shown.out
-    assert run().out == text and run("--version").out == f"rds-monitor {cli.__version__}\n"
+    assert run().out == text and run("--version").out.startswith(f"rds-monitor {cli.__version__}\n")
 
 
 # Command lines, with the fault of each.
@@ -71,6 +73,7 @@ def test_command_lines_that_are_none(row: str) -> None:
 RULES = "burst 6: 1 BurstRange; reach 0: 2; loss 65: 3; share 5 --of 4: 15; bits 300000: 4; gaps 9-9: 16"
 
 
+@pytest.mark.usefixtures("decoder")
 @pytest.mark.parametrize("rule", RULES.split("; "))
 def test_rules_are_those_of_rds(rule: str, station: bytes) -> None:
     words, fault = f"--{rule}".split(": ")
@@ -78,14 +81,55 @@ def test_rules_are_those_of_rds(rule: str, station: bytes) -> None:
     assert done.status == 1 and f"refused {fault}" in done.err and done.out == ""
 
 
-def test_no_library_for_a_recording(station: bytes, station_listing: bytes) -> None:
-    """A listing needs none."""
-    environment = {**os.environ, "RDS_LIBRARY": "/none"}
-    assert monitor("errors", data=station_listing, env=environment).returncode == 0
-    for more, fault in (({}, b"RDS_LIBRARY"), ({"PYTHONPATH": str(MONITOR)}, b"python3-librds")):
-        for words in (["errors"], ["form", str(STATION)]):
-            done = monitor(*words, data=station, env={**environment, **more})
-            assert done.returncode == 1 and fault in done.stderr and b"Traceback" not in done.stderr
+NO_DECODER = {**os.environ, "RDS_LIBRARY": "/none/librds.so.0", "RDS": "/none/rds"}
+# Commands that decode. FILE would be written, and IN is a file of the input.
+DECODING = """errors|outages|programmes|types|corrected|clock|info|info --csv|json|json --rows|json --redsea|groups|table|report|check -
+    |table --parquet FILE|db --name x FILE|form IN|stations IN""".replace(
+    "\n    ", ""
+).split(
+    "|"
+)
+
+
+@pytest.mark.parametrize("command", DECODING)
+def test_no_decoder_for_a_recording(command: str, station: bytes, station_listing: bytes, tmp_path) -> None:
+    """The error names both, and nothing is written. A listing needs none."""
+    words = written_below(tmp_path, command, station)
+    for more in ({}, {"PYTHONPATH": str(MONITOR)}):
+        done = monitor(*words, data=station, env={**NO_DECODER, **more})
+        said = done.stderr if words[0] != "check" else done.stdout
+        assert all(name in said for name in (b"librds", b"'/none/rds'", b"install python3-librds or rds"))
+        assert done.returncode == (3 if words[0] == "check" else 1) and b"Traceback" not in done.stderr
+        assert (done.stdout == b"" or words[0] == "check") and os.listdir(tmp_path) == ["IN"]
+    if command in ("errors", "json"):
+        assert monitor(command, data=station_listing, env=NO_DECODER).returncode == 0
+
+
+def written_below(folder: Path, command: str, data: bytes) -> List[str]:
+    (folder / "IN").write_bytes(data)
+    return [str(folder / word) if word in ("FILE", "IN") else word for word in command.split()]
+
+
+@pytest.mark.parametrize(
+    "command", [command for command in DECODING if not re.search("FILE|stations", command)]
+)
+def test_both_decoders_write_the_same(command: str, station: bytes, tmp_path) -> None:
+    """In each command, of a station with wrong bits and without sync for a while."""
+    noise = bytes(range(256)) * 20
+    words = written_below(tmp_path, command, data := damaged(station, 0.01, 1) + noise + station)
+    more = ["--bits", "300001", "--gaps", "104-130,5000-7000", "--burst", "5"] * (
+        command[:4] not in ("chec", "form")
+    )
+    by_rds = {**os.environ, "RDS_LIBRARY": "/none"}
+    done, other = (monitor(*words, *more, data=data, env=env) for env in (dict(os.environ), by_rds))
+    assert done.stdout == other.stdout and done.stderr == other.stderr and done.returncode == other.returncode
+    assert done.stdout or command == "clock"
+
+
+def test_which_decoder_is_told(decoder: str) -> None:
+    done = monitor("--version")
+    wanted = "librds 0.2.0" if decoder == "librds" else os.path.abspath(PROGRAM)
+    assert done.stdout.decode() == f"rds-monitor {cli.__version__}\ndecoder: {wanted}\n"
 
 
 def test_no_numpy() -> None:
@@ -94,16 +138,21 @@ def test_no_numpy() -> None:
     assert (done.returncode, done.stdout, done.stderr) == (1, "", fault)
 
 
-COMMANDS = ["outages", "programmes", "corrected", "table", "types", "errors", "info --csv"]
+COMMANDS = [command for command in DECODING if not command.startswith(("check", "form", "stations"))]
 
 
 @pytest.mark.parametrize("command", COMMANDS)
-def test_an_output_that_fails_is_not_begun(command: str, station: bytes) -> None:
-    """Without the library, and for a listing whose first row is none: no row, and no names of columns."""
-    row, environment = b"acquired,51,9,-,-,-,-,-\n", {**os.environ, "RDS_LIBRARY": "/none"}
-    for data, fault, options in ((station, b"install librds", {"env": environment}), (row, b"row 1", {})):
-        done = monitor(*command.split(), data=data, **options)
+def test_an_output_that_fails_is_not_begun(command: str, station: bytes, tmp_path) -> None:
+    """By rules that the program refuses, and for a listing whose first row is none: no row, no names of columns and no file."""
+    row, by_rds = b"acquired,51,9,-,-,-,-,-\n", {**os.environ, "RDS_LIBRARY": "/none"}
+    words = written_below(tmp_path, command, station)
+    for more, data, fault in (
+        (["--burst", "6"], station, b"refused 1 BurstRange\n"),
+        ([], row, b": row 1: "),
+    ):
+        done = monitor(*words, *more, data=data, env=by_rds)
         assert (done.returncode, done.stdout) == (1, b"") and fault in done.stderr
+        assert os.listdir(tmp_path) == ["IN"]
 
 
 # ---- streams
@@ -122,7 +171,7 @@ def test_a_reader_that_leaves(station_listing: bytes, tmp_path) -> None:
     (tmp_path / "it").write_bytes(station_listing)
     command = f"'{sys.executable}' -m rds_monitor table it | head -n 1"
     done = subprocess.run(command, shell=True, cwd=tmp_path, capture_output=True)
-    assert done.stdout.startswith(b"kind,") and done.stderr == b""
+    assert done.stdout.startswith(b"event,bit,") and done.stderr == b""
 
 
 def test_a_pipe_that_gives_little_at_a_time(station: bytes) -> None:
@@ -223,6 +272,14 @@ def test_each_option_is_on_each_page(pages: dict) -> None:
         for action in found:
             wanted = sorted(map(str, action.choices or ()))
             assert not wanted or sorted(completed(command, action.option_strings[0], "", file=bash)) == wanted
+
+
+def test_common_options_are_told_once(pages: dict) -> None:
+    text = pages["rds-monitor.1"].read_text().replace("\\-", "-")
+    told = re.findall(
+        r"^\.TP\n\\fB(--burst|--start|--unfinished)\\fR .*\n|^\.TP\n\\fB(--unfinished)\\fR\n", text, re.M
+    )
+    assert sorted(first or second for first, second in told) == ["--burst", "--start", "--unfinished"]
 
 
 def test_defaults_are_those_of_the_help() -> None:

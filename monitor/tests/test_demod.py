@@ -6,6 +6,7 @@ import json
 import os
 import re
 import struct
+from pathlib import Path
 from typing import Any, Dict, List, Tuple
 
 import measure_demod
@@ -466,9 +467,11 @@ NO_INPUTS = [
 
 
 @pytest.mark.parametrize("command,data,said", NO_INPUTS)
-def test_inputs_that_cannot_be_read(command: str, data: bytes, said: str) -> None:
-    done = monitor("demod", *command.split(), data=data)
+def test_inputs_that_cannot_be_read(command: str, data: bytes, said: str, tmp_path: Path) -> None:
+    done = monitor("demod", "--output", tmp_path / "out", *command.split(), data=data)
     assert done.returncode == 1 and said in done.stderr.decode()
+    # The output is begun with its first bits.
+    assert [*tmp_path.iterdir()] == [] or b"s, no RDS\n" in done.stderr
 
 
 @pytest.mark.skipif(not os.path.exists("/dev/full"), reason="there is no /dev/full")

@@ -85,6 +85,7 @@ FORMS = [
 ]
 
 
+@pytest.mark.usefixtures("decoder")
 @pytest.mark.parametrize("name,data,options", FORMS, ids=[f"{at}-{one[0]}" for at, one in enumerate(FORMS)])
 def test_the_form_and_its_cure(name: str, data: bytes, options: Optional[str], tmp_path: Path) -> None:
     path = tmp_path / "it's a $(file)"
@@ -193,9 +194,11 @@ NO_BITS = [
 
 
 @pytest.mark.parametrize("words_,data,said", NO_BITS)
-def test_inputs_that_are_no_bits(words_: str, data: bytes, said: str) -> None:
-    done = monitor("pack", "--from", *words_.split(), data=data)
+def test_inputs_that_are_no_bits(words_: str, data: bytes, said: str, tmp_path: Path) -> None:
+    done = monitor("pack", "--output", tmp_path / "out", "--from", *words_.split(), data=data)
     assert done.returncode == 1 and said in done.stderr.decode()
+    # The output is begun with its first byte.
+    assert [path.read_bytes() for path in tmp_path.iterdir()] == [b"\x12"] * ("odd number" in said)
 
 
 def test_the_number_of_bits_is_told_if_the_last_byte_is_not_full() -> None:

@@ -12,8 +12,9 @@ from typing import Dict, List
 
 import pytest
 
-from conftest import STATION, encode
+from conftest import STATION, TOP, encode
 from made import output as said
+from measure_peers import TABLES
 from sent import Words, clock, group, name, text
 
 READER = Path(__file__).with_name("gnuradio_reader.py")
@@ -77,3 +78,15 @@ def test_a_reading_by_gnuradio_agrees(which: str, tmp_path: Path) -> None:
     if "af" in read and "af" in held:
         found = {f"{float(one):.1f}" for one in re.findall(r"[\d.]+(?=MHz)", read["af"])}
         assert found <= {*held["af"].split()}
+
+
+@pytest.mark.parametrize("name, case", [("signal", "0 dB"), ("bits", "1 %")])
+def test_a_row_of_the_comparison(name: str, case: str) -> None:
+    """The tables of docs/COMPARISON.md are those that measure_peers.py prints, but for what other sums may change."""
+    lines = (TOP / "docs" / "COMPARISON.md").read_text().splitlines()
+    (row,) = (line for line in lines if line.startswith(f"| {case} |"))
+    measured = " ".join(TABLES[name].row(1, *TABLES[name].cases[case]))
+    stated, found = (
+        [int(number) for number in re.findall(r"\d+", text)] for text in (row[len(case) + 4 :], measured)
+    )
+    assert stated == pytest.approx(found, rel=0.02, abs=3) and len(stated) == len(found)

@@ -162,7 +162,7 @@ def test_every_command_reads_lines() -> None:
 
     def contents(data: bytes) -> List[Any]:
         entries = map(json.loads, said("json", data=data).splitlines())
-        told = [(entry["item"], entry["value"]) for entry in entries if entry["kind"] == "content"]
+        told = [(entry["item"], entry["value"]) for entry in entries if entry["event"] == "content"]
         return [pair for pair in told if pair[0] != "ih"]
 
     assert contents(encode([group("6A", 0), *groups])) == contents(lines)

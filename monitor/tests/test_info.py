@@ -60,7 +60,7 @@ def test_changes_as_csv() -> None:
 def test_times_and_places() -> None:
     clock_of = ("--start", "2026-03-29T00:30:00Z", "--rate", "1190")
     assert said("info", "--csv", *clock_of, data=bits(*STATION_GROUPS)).splitlines()[:2] == [
-        "time_s,pi,item,value,place,time_utc",
+        "time_s,pi,item,value,bit,time_utc",
         "0.087,D318,pi,D318,104,2026-03-29T00:30:00.087Z",
     ]
 
@@ -69,8 +69,8 @@ def test_csv_and_json_and_listing_agree() -> None:
     data = bits(*STATION_GROUPS)
     table = rows(said("info", "--csv", data=data))
     objects = lines(said("info", "--json", data=data))
-    assert [(entry["pi"], entry["item"], entry["text"], entry["place"]) for entry in objects] == [
-        (row["pi"], row["item"], row["value"], int(row["place"])) for row in table
+    assert [(entry["pi"], entry["item"], entry["text"], entry["bit"]) for entry in objects] == [
+        (row["pi"], row["item"], row["value"], int(row["bit"])) for row in table
     ]
     assert said("info", "--json", data=rds("list", data=data)) == said("info", "--json", data=data)
 
@@ -93,7 +93,7 @@ def test_the_summary() -> None:
 def test_no_station() -> None:
     listing = b"".join(b"total,%s,0,-,-,-,-,-\n" % name.encode() for name in TOTAL_NAMES)
     assert said("info", data=listing) == "no station: no PI was received in valid blocks\n"
-    assert said("info", "--csv", data=listing) == "time_s,pi,item,value,place\n"
+    assert said("info", "--csv", data=listing) == "time_s,pi,item,value,bit\n"
 
 
 def test_the_sample() -> None:
@@ -193,7 +193,7 @@ def test_a_row_comes_with_the_last_bit_of_its_group(first: List[str], station: b
                 sent_at = time.monotonic()
                 found = [json.loads(process.stdout.readline()) for _ in range(rows_at_once)]
                 delays.append(time.monotonic() - sent_at)
-                assert found[-1]["kind"] == "group" and found[-1]["place"] == (104 * number or 26)
+                assert found[-1]["event"] == "group" and found[-1]["bit"] == (104 * number or 26)
                 rows_at_once = 1
             source.stdin.close()
             assert min(delays[1:]) < 0.2 and process.wait() == 0
@@ -201,10 +201,10 @@ def test_a_row_comes_with_the_last_bit_of_its_group(first: List[str], station: b
 
 def test_events_in_order() -> None:
     found = lines(said("json", STATION))
-    assert found[0] == {"kind": "acquired", "place": 51, "time_s": 0.043, "number": 2}
-    first = dict(kind="content", place=104, time_s=0.088, pi="D393", item="pi", before=None)
+    assert found[0] == {"event": "acquired", "bit": 51, "time_s": 0.043, "number": 2}
+    first = dict(event="content", bit=104, time_s=0.088, pi="D393", item="pi", before=None)
     assert found[1] == {**first, "value": "D393", "text": "D393"}
-    assert [entry["place"] for entry in found] == sorted(entry["place"] for entry in found)
+    assert [entry["bit"] for entry in found] == sorted(entry["bit"] for entry in found)
 
 
 def block_text(block: Any) -> str:
@@ -219,10 +219,10 @@ def test_rows_are_those_of_the_listing() -> None:
     assert len(found) == len(listing)
     for row, one in zip(listing, found):
         fields = row.split(",")
-        assert one["kind"] == fields[0]
+        assert one["event"] == fields[0]
         if fields[0] == "group":
             blocks = map(block_text, one["blocks"])
-            assert [str(one["place"]), str(one["type"]), one["version"], *blocks] == fields[1:]
+            assert [str(one["bit"]), str(one["type"]), one["version"], *blocks] == fields[1:]
         elif fields[0] == "total":
             assert [one["name"], str(one["value"])] == fields[1:3]
 
@@ -235,12 +235,12 @@ def test_rows_of_damaged_groups() -> None:
     )
     found = lines(said("json", "--rows", "--unfinished", data=listing.encode()))
     lost, first, last = {"lost": True}, {"offset": "A", "word": "D318"}, {"offset": "D", "word": "5041"}
-    group_0 = dict(kind="group", place=0, time_s=0.0, type=None, version=None, conflict=False)
+    group_0 = dict(event="group", bit=0, time_s=0.0, type=None, version=None, conflict=False)
     assert found[1] == {**group_0, "blocks": [first, lost, lost, last]}
     assert found[2]["conflict"] and found[2]["version"] == "A"
     assert found[2]["blocks"][:2] == [{**first, "burst": "0000001"}, {"offset": "B", "word": "0D49"}]
     assert found[3]["blocks"][1:] == [None, None, None]
-    assert found[4] == {"kind": "lost", "place": 233, "time_s": 0.196}
+    assert found[4] == {"event": "lost", "bit": 233, "time_s": 0.196}
 
 
 PIN = 15 << 11 | 20 << 6 | 30

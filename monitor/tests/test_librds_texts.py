@@ -104,7 +104,7 @@ def test_errors_in_words(call: Callable[[], object], claim: str) -> None:
 
 
 def program_of(language: str) -> str:
-    page = (TOP / "docs" / "LIBRARY.md").read_text()
+    page = (TOP / "docs" / "LIBRARY.md").read_text().split("\n## C and C++\n", 1)[1]
     (program,) = re.findall(rf"^```{language}\n(.*?)^```$", page, re.M | re.S)
     return program
 

@@ -56,6 +56,7 @@ def test_a_listing_is_read_and_written_again(noisy: bytes, options: str) -> None
     assert written(source_of(text)) == text
 
 
+@pytest.mark.usefixtures("decoder")
 def test_a_recording_and_its_listing_are_the_same_rows(noisy: bytes, tmp_path) -> None:
     path = tmp_path / "noisy.bin"
     path.write_bytes(noisy)
@@ -75,12 +76,16 @@ def test_the_cut_of_reads_changes_nothing(station_listing: bytes, size: int, mon
     assert (whole == read(text, unfinished_ok=True)).all()
 
 
+@pytest.mark.usefixtures("decoder")
 def test_bits_gaps_and_hexadecimal_text(station: bytes, tmp_path) -> None:
     path = tmp_path / "it.hex"
     path.write_text(station.hex(" ", 7) + "\n")
     gaps = [(104, 105), (50000, 50300)]
-    wanted = rds("list", "--bits", 100003, "--gaps", "104-105,50000-50300", data=station)
-    assert written(open_source(str(path), Reading(hex=True, bits=100003, gaps=gaps))) == wanted
+    # The last bit is inside a byte, its last one, or the last of all.
+    for bits in (100003, 100000, 8 * len(station), 50400):
+        wanted = rds("list", "--bits", bits, "--gaps", "104-105,50000-50300", data=station)
+        assert written(open_source(str(path), Reading(hex=True, bits=bits, gaps=gaps))) == wanted
+    assert written(open_source(str(path), Reading(hex=True, bits=0))) == rds("list")
     for text, options, fault in (
         (station.hex(), {"bits": 300000}, "BitsPastBytes"),
         (station.hex(), {"gaps": [(0, 300000)]}, "BadGaps"),
@@ -135,7 +140,7 @@ acquired,26,1,-,-,-,-,x                               no row of an acquisition
 lost,26,-,-,-,-,-,1                                   no row of a loss
 total,valid,07,-,-,-,-,-                              no row of a total
 total,groups,0,-,-,-,-,-                              the total 'valid' is missing before it
-begin_s,end_s,sent,valid,corrected,lost,missing,bad_percent begins with none
+begin_s,end_s,sent,valid,corrected,lost,no_sync,bad_percent begins with none
 acquired,51,1,-,-,-,-,-\r\r                           no row of an acquisition
 """
 ROWS = [line.split(maxsplit=1) for line in BAD_ROWS.strip().splitlines()] + [["", "it has 1 fields"]]

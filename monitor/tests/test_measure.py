@@ -45,17 +45,17 @@ CLOCK_OFF = "--rate 1200 --start 2026-03-29T00:30:00.5Z"
 # The words of a command over the two groups, and the rows after the names of the columns.
 TABLES = {
     f"errors {AT} --every 1 --length 2375": """
-begin_s,end_s,sent,valid,corrected,lost,missing,bad_percent,begin_utc,end_utc
+begin_s,end_s,sent,valid,corrected,lost,no_sync,bad_percent,begin_utc,end_utc
 0,1,41,7,1,0,33,82.93,2026-03-29T00:30:00.088Z,2026-03-29T00:30:01.000Z
 1,2,46,0,0,0,46,100.00,2026-03-29T00:30:01.000Z,2026-03-29T00:30:02.000Z""",
     f"corrected {AT} --rate 1187.5": """
-place,type,version,block,offset,word,burst,span,time_s,time_utc
+bit,type,version,block,offset,word,burst,burst_length,time_s,time_utc
 104,0,A,4,D,5041,0000001,1,0.153,2026-03-29T00:30:00.153Z""",
     f"programmes {CLOCK_OFF} --least 2": """
-begin_s,end_s,programme,groups,begin_place,end_place,begin_utc,end_utc
+begin_s,end_s,pi,groups,begin_bit,end_bit,begin_utc,end_utc
 0.087,0.260,D393,2,104,312,2026-03-29T00:30:00.587Z,2026-03-29T00:30:00.760Z""",
     f"outages {AT} --rate 1200 --shortest 0.5 --length 1200": """
-begin_s,end_s,length_s,begin_place,end_place,begin_utc,end_utc
+begin_s,end_s,length_s,begin_bit,end_bit,begin_utc,end_utc
 0.260,1.000,0.740,312,1200,2026-03-29T00:30:00.260Z,2026-03-29T00:30:01.000Z""",
 }
 
@@ -66,7 +66,7 @@ def test_tables_with_their_times(asked: str, two: bytes) -> None:
 
 
 def test_block_errors_of_the_sample(station: bytes, station_listing: bytes, tmp_path) -> None:
-    names = "begin_s,end_s,sent,valid,corrected,lost,missing,bad_percent"
+    names = "begin_s,end_s,sent,valid,corrected,lost,no_sync,bad_percent"
     rows = "0,60,2741,2740,0,0,1,0.04 60,120,2740,2740,0,0,0,0.00 120,168,2211,2211,0,0,0,0.00"
     assert said("errors", data=station) == [names, *rows.split()]
     (tmp_path / "-a station's.bin").write_bytes(station)
@@ -77,7 +77,7 @@ def test_block_errors_of_the_sample(station: bytes, station_listing: bytes, tmp_
 def test_outages_by_their_places(outages: bytes) -> None:
     ask = ("outages", "--unfinished", "--length", 208000)
     assert said(*ask, data=outages) == [
-        "begin_s,end_s,length_s,begin_place,end_place",
+        "begin_s,end_s,length_s,begin_bit,end_bit",
         "26.274,28.025,1.752,31200,33280",
         "78.821,131.368,52.547,93600,156000",
     ]
@@ -100,7 +100,7 @@ def test_the_end_of_a_part(two: bytes) -> None:
     assert said("errors", "--unfinished", *START, data=two)[-1].endswith(",2026-03-29T00:30:00.263Z")
     assert said("programmes", "--unfinished", data=two)[1:] == []
     # An outage of just the shortest length is told: 0.08 s are 95 bits.
-    for shortest, length, end in ((0, 312, "182"), (0.08, 406, "begin_place"), (0.08, 407, "312")):
+    for shortest, length, end in ((0, 312, "182"), (0.08, 406, "begin_bit"), (0.08, 407, "312")):
         asked = ("outages", "--unfinished", "--shortest", shortest, "--length", length)
         assert said(*asked, data=two)[-1].split(",")[3] == end
     assert [run("errors", "--rate", value, data=two).status for value in (1068, 1307)] == [2, 2]
@@ -175,7 +175,7 @@ def test_types_of_corrected_blocks_by_themselves() -> None:
 def test_the_rows_as_a_table(station: bytes, station_listing: bytes) -> None:
     table = said("table", *START, data=station)
     assert table[:2] == [
-        "kind,place,type,version,block1,block2,block3,block4,time_s,time_utc",
+        "event,bit,type,version,block1,block2,block3,block4,time_s,time_utc",
         "acquired,51,2,-,-,-,-,-,0.043,2026-03-29T00:30:00.043Z",
     ]
     plain = [row.rsplit(",", 2)[0] for row in table[1:]]

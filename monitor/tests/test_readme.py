@@ -1,4 +1,4 @@
-"""The commands of README.md, as they are printed there: the session, each task of the table, and the live pipe.
+"""The commands of README.md, as they are printed there: its sessions, each task of the table, and the live pipe.
 
 The `make` commands and the programs of the library have tests of their own (tests/test_package.py, tests/test_library.py).
 """
@@ -10,6 +10,7 @@ import os
 import re
 import signal
 import subprocess
+import sys
 import time
 from pathlib import Path
 from typing import Callable, Dict, List
@@ -29,14 +30,10 @@ def section(title: str) -> str:
     return TEXT.split(f"\n## {title}\n", 1)[1].split("\n## ", 1)[0]
 
 
-def block(text: str) -> List[str]:
-    """The lines of the first indented block."""
-    return [line[4:] for line in re.search(r"(?:^    .*\n)+", text, re.M)[0].splitlines()]
-
-
 # The command of each task, with a text that its output or its file has.
 TASKS: Dict[str, str] = {
     "rds-monitor info bits.bin": "PAXOLIDU",
+    "rds-monitor info --csv bits.bin": ",D393,rt,",
     "rds-monitor errors bits.bin": "begin_s,end_s,sent,valid,",
     "rds-monitor report bits.bin > page.html": "</html>",
     "rds-monitor outages bits.bin": "begin_s,end_s,length_s,",
@@ -127,17 +124,37 @@ def test_a_watch(folder: Path) -> None:
                 os.killpg(process.pid, signal.SIGKILL)
 
 
-def test_the_session(folder: Path, done: Callable[[str], str]) -> None:
+SESSIONS = [text for text in re.findall(r"(?:^    .*\n)+", TEXT, re.M) if text.startswith("    $ ")]
+
+
+def outputs(text: str) -> List[List[str]]:
+    """Each command of a session, with the lines that it writes."""
+    lines = re.sub(r"\n    > ", "\n", text).replace("\n    ", "\n").strip()
+    return [part.rstrip("\n").split("\n") for part in re.split(r"^(?:    )?\$ ", lines, flags=re.M)[1:]]
+
+
+def test_each_session_is_tried() -> None:
+    assert [text.split()[1] for text in SESSIONS] == ["rtl_fm", "rds-monitor", "rds-monitor", "rds"]
+
+
+@pytest.mark.parametrize("number", [1, 2, 3])
+def test_a_session(number: int, folder: Path, done: Callable[[str], str]) -> None:
     """The lines after a `$` are its output."""
+    if "pandas" in SESSIONS[number]:
+        pytest.importorskip("pandas")
     (folder / "examples").symlink_to(TOP / "examples")
-    prompt, *rows = block(section("Try it").split("first:\n", 1)[1])
-    assert prompt.startswith("$ ") and len(rows) == 4
-    assert done(prompt[2:]).splitlines() == rows
+    (folder / "bin" / "python3").write_text(f'#!/bin/sh\nexec {sys.executable} "$@"\n')
+    (folder / "bin" / "python3").chmod(0o755)
+    for maker in re.findall(r"`(examples/make_day.sh [^`]+)`", TEXT) if "day.bin" in SESSIONS[number] else ():
+        done(maker)
+    for command, *rows in outputs(SESSIONS[number]):
+        assert done(command).splitlines() == rows
 
 
 def test_the_live_pipe(folder: Path, done: Callable[[str], str]) -> None:
-    """Ten seconds of the station as a receiver's MPX, given by a program of the receiver's name."""
-    command = "\n".join(block(section("Live, from an RTL-SDR")))
+    """Ten seconds of the station as a receiver's MPX, given by a program of the receiver's name. The page has some of the lines."""
+    ((first, *rest),) = outputs(SESSIONS[0])
+    command, rows = "\n".join([first, *rest[:1]]), rest[1:]
     rate = int(re.search(r"--rate (\d+)", command)[1])
     assert command.startswith(f"rtl_fm -M fm -l 0 -A std -p 0 -s {rate // 1000}k ")
     assert " --raw s16 " in command
@@ -145,6 +162,8 @@ def test_the_live_pipe(folder: Path, done: Callable[[str], str]) -> None:
     receiver = folder / "bin" / "rtl_fm"
     receiver.write_text(f"#!/bin/sh\nexec cat '{folder / 'mpx.s16'}'\n")
     receiver.chmod(0o755)
-    told = [json.loads(line) for line in done(command).splitlines()]
+    lines = done(command).splitlines()
+    told = [json.loads(line) for line in lines]
     assert [entry["value"] for entry in told if entry.get("item") == "pi"] == ["D393"]
     assert any(entry.get("item") == "ps" and entry["value"] == "PAXOLIDU" for entry in told)
+    assert rows and [line for line in lines if line in rows] == rows

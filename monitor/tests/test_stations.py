@@ -105,6 +105,7 @@ def test_memory_and_an_input_without_end(capture: bytes, tmp_path: Path) -> None
 SHOWN = ("--raw", "s16", "--rate", RATE, "--centre", "97.95M")
 
 
+@pytest.mark.usefixtures("decoder")
 def test_the_table(capture: bytes) -> None:
     done = monitor("stations", *SHOWN, data=capture)
     assert done.returncode == 0, done.stderr

@@ -11,7 +11,7 @@ from conftest import encode
 from modulator import iq, mpx, stored, words
 from network import stations
 from rds_monitor.rows.items import Fault
-from rds_monitor.rows.recording import library
+from rds_monitor.rows.decoders import decode
 from rds_monitor.watch.bits import bit_source
 from rds_monitor.watch.table import StationTable, table_of
 
@@ -59,7 +59,7 @@ def test_a_signal(name: str) -> None:
         data = stored(signal, one.raw)
     source = bit_source(one)
     bits = b"".join([source.take(piece) for piece in cut(data, 3)]) + source.finish()
-    rows = library().items_array(bits)
+    rows = decode(bits)[0]
     found = [tuple(int(row[f"info{block}"]) for block in (1, 2, 3, 4)) for row in rows[rows["what"] == 2]]
     assert len([group for group in found if group in GROUPS]) >= 50
     assert 0.5 < source.delay < 3 and source.strength is not None

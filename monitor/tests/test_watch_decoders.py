@@ -11,12 +11,12 @@ from typing import Any, Dict, List, Tuple
 import numpy
 import pytest
 
-from conftest import PROGRAM, TOP, encode, monitor, rds
+from conftest import PROGRAM, TOP, encode, monitor, no_librds, rds
 from network import START, Air, Network, Plan, Programme, asked, decoders_of, hours_in, numbers_in, stations
+from rds_monitor.rows import decoders
+from rds_monitor.rows.decoders import ByLibrary, ByProgram, NewDecoder, by_program, decoder_of
 from rds_monitor.rows.items import Fault
 from rds_monitor.rows.listing import text_of, totals_text
-from rds_monitor.watch import decoders
-from rds_monitor.watch.decoders import ByLibrary, ByProgram, NewDecoder, by_program, decoder_of
 from station import Periodic, encoded
 from test_watch_process import STARTED, Process, all_received, nothing_is_left, receiver, table
 
@@ -82,8 +82,8 @@ def test_a_program_that_dies() -> None:
     os.kill(program._it.pid, signal.SIGKILL)
     with pytest.raises(Fault, match=" was ended by SIGKILL"):
         program.push(b"more")
-    rows, totals = program.finish()
-    assert not len(rows) and totals is None
+    with pytest.raises(Fault, match=" was ended by SIGKILL"):
+        program.finish()
 
 
 def script(folder: Path, text: str) -> str:
@@ -109,26 +109,28 @@ def test_a_program_that_is_none(
     program = ByProgram(script(tmp_path, text))
     with pytest.raises(Fault, match=reason):
         program.push(b"some bytes\n")
-    assert program.finish()[1] is None
+    with pytest.raises(Fault):
+        program.finish()
 
 
 def test_which_decoder(tmp_path: Path, monkeypatch: pytest.MonkeyPatch) -> None:
-    assert decoder_of(None) == (ByLibrary, "librds")
-    assert isinstance(by_program(PROGRAM)(), ByProgram)
+    assert decoder_of() == (ByLibrary, "librds 0.2.0")
+    assert isinstance(by_program(PROGRAM)[0](), ByProgram)
     with pytest.raises(Fault, match="no program '/none/rds'"):
         by_program("/none/rds")
     with pytest.raises(Fault, match="is not the program rds"):
         by_program("/bin/echo")
-
-    def none() -> Any:
-        raise Fault("there is no librds")
-
-    monkeypatch.setattr(decoders, "library", none)
+    monkeypatch.setattr(decoders, "library", no_librds)
+    monkeypatch.delenv("RDS", raising=False)
     monkeypatch.setenv("PATH", str(tmp_path))
-    with pytest.raises(Fault, match="there is no librds; or install the program rds"):
-        decoder_of(None)
+    with pytest.raises(
+        Fault, match="neither librds nor rds .*No module named 'librds'; there is no program 'rds'"
+    ):
+        decoder_of()
     found = script(tmp_path, 'exec rds "$@"')
-    assert decoder_of(None)[1] == found
+    assert decoder_of()[1] == found
+    monkeypatch.setenv("RDS", PROGRAM)
+    assert decoder_of()[1] == os.path.abspath(PROGRAM)
 
 
 # ---- the network
@@ -161,7 +163,7 @@ def simulated(folder: Path, decoder: NewDecoder) -> Network:
 
 
 def test_the_same_files(tmp_path: Path) -> None:
-    by = {"library": ByLibrary, "program": by_program(PROGRAM)}
+    by = {"library": ByLibrary, "program": by_program(PROGRAM)[0]}
     one, other = (simulated(tmp_path / name, decoder) for name, decoder in by.items())
     found = [contents(value.folder) for value in (one, other)]
     assert found[0].keys() == found[1].keys() and len(found[0]) >= 8
@@ -239,7 +241,7 @@ def test_without_the_library(tmp_path: Path) -> None:
     command = ["sh", "-c", f"cat {tmp_path}/bits; sleep 60"]
     known = dict(PYTHONPATH=str(TOP / "monitor"), RDS_LIBRARY="/none/librds.so.0")
     path = f"{tmp_path}/bin:{os.environ['PATH']}"
-    process = Process(tmp_path, table(tmp_path, command=command), PATH=path, **known)
+    process = Process(tmp_path, table(tmp_path, command=command), PATH=path, RDS="", **known)
     (tmp_path / "bits").write_bytes(received(20))
     process.says(f"decoded by {tmp_path}/bin/rds")
     process.receives()

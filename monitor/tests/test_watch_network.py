@@ -100,9 +100,9 @@ def same_events(net: Network, session: int, path: str) -> None:
         " WHERE recording = ? ORDER BY place, event_rows.number"
     )
     lines = [json.loads(line) for line in said("json", path)]
-    told = [line for line in lines if line["kind"] == "content" and line["item"] not in NOT_STORED]
+    told = [line for line in lines if line["event"] == "content" and line["item"] not in NOT_STORED]
     wanted = [
-        (line["place"], line["item"], line["text"] if line["value"] is not None else None) for line in told
+        (line["bit"], line["item"], line["text"] if line["value"] is not None else None) for line in told
     ]
     assert net.asked(query, session) == wanted
 
@@ -383,9 +383,9 @@ def same_events_as_text(net: Network, text: bytes, folder: Path) -> None:
     whole.write_bytes(text)
     told = [json.loads(line) for line in said("json", "--unfinished", str(whole))]
     wanted = [
-        (line["place"], line["item"])
+        (line["bit"], line["item"])
         for line in told
-        if line["kind"] == "content" and line["item"] not in NOT_STORED
+        if line["event"] == "content" and line["item"] not in NOT_STORED
     ]
     query = "SELECT place, item FROM event_rows JOIN facts ON facts.id = fact JOIN sessions ON sessions.id = session ORDER BY place, event_rows.number"
     assert net.asked(query) == wanted

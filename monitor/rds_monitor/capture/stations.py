@@ -13,8 +13,8 @@ from ..content.charset import printable
 from ..content.decoder import Decoder
 from ..content.jsonl import set_utf8
 from ..rows.clock import number_of
+from ..rows.decoders import decode, decoder_of
 from ..rows.items import Fault, Misuse
-from ..rows.recording import library
 from ..signal.demod import hertz
 from ..signal.found import Spectrum
 from ..signal.receiver import RATES
@@ -83,7 +83,7 @@ def options_stations(parser: argparse.ArgumentParser) -> None:
 def run_stations(arguments: argparse.Namespace) -> int:
     if arguments.raw and arguments.rate is None:
         raise Misuse("--raw needs --rate")
-    library()
+    decoder_of()
     source = open_samples(arguments.input, raw=arguments.raw, rate=arguments.rate, channel=None, is_iq=True)
     if source.rate not in RATES:
         raise Fault(f"a sample rate of {source.rate} is not {RATES[0]} to {RATES[-1]}")
@@ -127,7 +127,7 @@ def stations_in(
 
 def seen(station: TunedStation, bits: KeptBits) -> StationSeen:
     decoder = Decoder()
-    decoder.feed(library().items_array(bits.packed()))
+    decoder.feed(decode(bits.packed())[0])
     held, report = decoder.held(), station.receiver.quality.report()
     texts = [held[item].text if item in held else None for item in ("pi", "ps")]
     return StationSeen(station.frequency, report["level_dbfs"], report["snr_db"], *texts)

@@ -19,6 +19,8 @@ Array = NDArray[Any]
 # A key is a kind, the message among those of its kind, and the part's position in the message.
 POSITION_BITS, KIND_SHIFT = 16, 40
 MOST_PARTS = 20000
+# In place of a value that no part has.
+UNKNOWN = -1
 
 
 def key_of(kind: int, message: Any = 0, position: Any = 0) -> Any:
@@ -26,7 +28,7 @@ def key_of(kind: int, message: Any = 0, position: Any = 0) -> Any:
 
 
 class Observations(NamedTuple):
-    """Received values, in the order of time within a key: `at` is the number of the group."""
+    """Received values: `at` is the number of the group, or of one of several that are alike."""
 
     key: Array
     at: Array
@@ -36,6 +38,25 @@ class Observations(NamedTuple):
 
     def where(self, chosen: Array) -> "Observations":
         return Observations(*(column[chosen] for column in self))
+
+    def by_key(self) -> "Observations":
+        return self.where(numpy.argsort(self.key, kind="stable"))
+
+    def spread(self, of: Array) -> "Observations":
+        """Those of all groups, in the order of time; `of` tells for each which of the groups it is alike to."""
+        count = numpy.bincount(self.at, minlength=int(of.max()) + 1)
+        by_row = numpy.argsort(self.at, kind="stable")
+        at = (count > 0)[of].nonzero()[0]
+        row = of[at]
+        if count.max() > 1:
+            times = count[row]
+            before = numpy.cumsum(times) - times
+            number = numpy.arange(before[-1] + times[-1]) - numpy.repeat(before, times)
+            at, row = numpy.repeat(at, times), numpy.repeat(row, times)
+        else:
+            number = 0
+        found = self.where(by_row[(numpy.cumsum(count) - count)[row] + number])
+        return found._replace(at=at)
 
 
 class News(NamedTuple):
@@ -78,27 +99,104 @@ class Evidence:
         self.parts: Dict[int, PartState] = {}
         self.states: Dict[int, int] = {}
 
-    def news(self, seen: Observations, everything: bool = False) -> News:
-        """What counts of these observations and is news; with `everything`, all that counts."""
+    def news(self, seen: Observations, of: Array, everything: bool = False) -> News:
+        """What counts of these observations and is news, or with `everything` all that counts. They are of groups that are
+        unlike each other; `of` tells for each group which of these it is alike to."""
         if not seen.key.size:
             return NOTHING
-        if (seen.key[1:] < seen.key[:-1]).any():
-            seen = seen.where(numpy.argsort(seen.key, kind="stable"))
-        counts = self._counts(seen)
-        counted = News(*(column[counts] for column in seen[:3]))
-        news = counted if everything or not counted.key.size else self._news(counted)
+        seen = seen.by_key()
+        starts = _firsts(seen.key).nonzero()[0]
+        parts = [self.parts.get(name) for name in seen.key[starts].tolist()]
+        if everything:
+            news = self._all_counted(seen, starts, parts, of)
+        else:
+            seen = seen.where(self._are_open(seen, starts, parts, of))
+            news = self._news(self.counted(seen.spread(of))) if seen.key.size else NOTHING
         if len(self.parts) > MOST_PARTS:
             # Noise gives parts that never count: they are forgotten when there are too many.
             self.parts = {name: part for name, part in self.parts.items() if part.counted is not None}
         return news
 
+    def _all_counted(
+        self, seen: Observations, starts: Array, parts: List[Optional[PartState]], of: Array
+    ) -> News:
+        """All that counts, in any order. All values count that are the trusted ones of their parts again, and none of a
+        part that has no valid block."""
+        value = seen.value[starts]
+        is_same = numpy.maximum.reduceat(seen.value, starts) == numpy.minimum.reduceat(seen.value, starts)
+        is_firm = numpy.logical_or.reduceat(seen.sound | seen.whole, starts)
+        again, open_ = numpy.zeros(starts.size, bool), numpy.zeros(starts.size, bool)
+        columns = (seen.key[starts], value, is_same, is_firm)
+        for at, (name, own, same, firm) in enumerate(zip(*(column.tolist() for column in columns))):
+            part = parts[at] or PartState(own, False)
+            if same and part.last == own and (part.trusted or not firm):
+                again[at] = part.trusted
+                self.parts[name] = part
+            else:
+                open_[at] = True
+        sizes = numpy.diff(starts, append=seen.key.size)
+        known, rest = (seen.where(numpy.repeat(chosen, sizes)) for chosen in (again, open_))
+        found = [News(*known.spread(of)[:3])] if known.key.size else []
+        found += [self.counted(rest.spread(of))] if rest.key.size else []
+        return News(*map(numpy.concatenate, zip(*found))) if found else NOTHING
+
+    def _are_open(
+        self, seen: Observations, starts: Array, parts: List[Optional[PartState]], of: Array
+    ) -> Array:
+        """Which observations are of messages that may have news. All others have the values that counted last, or wrong
+        corrections: their parts are noted."""
+        sizes = numpy.diff(starts, append=seen.key.size)
+        message = seen.key[starts] >> POSITION_BITS
+        states = [self.states.get(one, 0) for one in message.tolist()]
+        held = [
+            part.counted if part and part.last == part.counted and part.state == state else None
+            for part, state in zip(parts, states)
+        ]
+        other = seen.value != numpy.repeat([UNKNOWN if one is None else one for one in held], sizes)
+        may_change = numpy.logical_or.reduceat(other & (seen.whole | seen.sound), starts)
+        may_change |= numpy.array([one is None for one in held])
+        bounds = _firsts(message).nonzero()[0]
+        is_open = numpy.repeat(
+            numpy.logical_or.reduceat(may_change, bounds), numpy.diff(bounds, append=message.size)
+        )
+        has_other = numpy.logical_or.reduceat(other, starts)
+        is_sound = numpy.logical_or.reduceat(seen.sound, starts)
+        last: Array = numpy.zeros(0, "i8")
+        if (has_other & ~is_open).any():
+            last = numpy.zeros(int(of.max()) + 1, "i8")
+            last[of] = numpy.arange(of.size)
+        for at in (~is_open & (has_other | is_sound)).nonzero()[0].tolist():
+            part = parts[at]
+            if part and has_other[at]:
+                rows = slice(starts[at], starts[at] + sizes[at])
+                self._note(seen, rows, other[rows], last[seen.at[rows]], part)
+            elif part and not part.trusted:
+                self.parts[int(seen.key[starts[at]])] = part._replace(trusted=True)
+        return numpy.repeat(is_open, sizes)
+
+    def _note(self, seen: Observations, rows: slice, other: Array, last: Array, part: PartState) -> None:
+        """Notes the value received last of a part that had no news, and whether it is trusted: by the last group that has
+        each value."""
+        latest = int(last.argmax())
+        is_trusted = bool((last[seen.sound[rows] & ~other] > last[other].max()).any())
+        value = int(seen.value[rows][latest])
+        trusted = is_trusted and not other[latest]
+        self.parts[int(seen.key[rows.start])] = part._replace(last=value, trusted=trusted)
+
+    def counted(self, seen: Observations) -> News:
+        """What counts of these observations, which are in the order of time."""
+        if (seen.key[1:] < seen.key[:-1]).any():
+            seen = seen.by_key()
+        counts = self._counts(seen)
+        return News(*(column[counts] for column in seen[:3]))
+
     def _news(self, counted: News) -> News:
         """Which of the values that count are news."""
+        names = counted.key[_firsts(counted.key)].tolist()
         changed = self._changed(counted)
-        active = self._active(counted, changed)
-        counted, changed = News(*(column[active] for column in counted)), changed[active]
-        if not counted.key.size:
-            return counted
+        is_stale = any(self.parts[name].state != self.states.get(name >> POSITION_BITS, 0) for name in names)
+        if not (is_stale or changed.any()):
+            return NOTHING
         chosen = self._fresh(counted, self._states_of(counted, changed))
         return News(*(column[chosen] for column in counted))
 
@@ -133,20 +231,6 @@ class Evidence:
             for name, value in zip(counted.key[starts].tolist(), counted.value[starts].tolist())
         ]
         return changed
-
-    def _active(self, counted: News, changed: Array) -> Array:
-        """Which values are of messages that have news: a part changed, or one has not counted since another did."""
-        starts = numpy.flatnonzero(_firsts(counted.key))
-        message = counted.key[starts] >> POSITION_BITS
-        stale = [
-            self.parts[name].state != self.states.get(of, 0)
-            for name, of in zip(counted.key[starts].tolist(), message.tolist())
-        ]
-        active = numpy.logical_or.reduceat(changed, starts) | numpy.array(stale, bool)
-        bounds = numpy.flatnonzero(_firsts(message))
-        sizes = numpy.diff([*bounds, message.size])
-        of_message = numpy.repeat(numpy.logical_or.reduceat(active, bounds), sizes)
-        return numpy.repeat(of_message, numpy.diff([*starts, counted.key.size]))
 
     def _states_of(self, counted: News, changed: Array) -> Array:
         """The state of the message after each value that counts: how often parts of it changed."""

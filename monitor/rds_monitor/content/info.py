@@ -61,7 +61,7 @@ def run_info(arguments: argparse.Namespace) -> int:
     set_utf8()
     source, decoder = open_input(arguments), Decoder(rbds=arguments.rbds)
     summary, writer = Summary(), csv.writer(sys.stdout, lineterminator="\n")
-    names = ["time_s", "pi", "item", "value", "place"]
+    names = ["time_s", "pi", "item", "value", "bit"]
     for rows in chunks_with_end(source):
         events, clock = decoder.feed(rows), clock_of(arguments, source)
         if arguments.csv:
@@ -73,7 +73,6 @@ def run_info(arguments: argparse.Namespace) -> int:
             sys.stdout.writelines(content_line(event, clock) for event in events)
         else:
             summary.take(events)
-        sys.stdout.flush()
     if not (arguments.csv or arguments.json):
         sys.stdout.write(summary.text(clock_of(arguments, source)))
     return 0

@@ -54,17 +54,16 @@ def run_json(arguments: argparse.Namespace) -> int:
             sys.stdout.write("".join(redsea.lines(rows, clock)))
         else:
             sys.stdout.writelines(event_lines(rows, decoder.feed(rows), clock))
-        sys.stdout.flush()
     if arguments.rows:
         sys.stdout.writelines(map(line, total_objects(source.totals)))
     return 0
 
 
-def placed(kind: str, place: int, clock: Clock) -> Dict[str, Any]:
-    """An object's beginning: its kind, place and time."""
-    found = {"kind": kind, "place": place, "time_s": round(clock.seconds(place), 3)}
+def placed(event: str, bit: int, clock: Clock) -> Dict[str, Any]:
+    """An object's beginning: its event, bit position and time."""
+    found = {"event": event, "bit": bit, "time_s": round(clock.seconds(bit), 3)}
     if clock.start is not None:
-        found["time_utc"] = clock.utc(place)[0]
+        found["time_utc"] = clock.utc(bit)[0]
     return found
 
 
@@ -116,7 +115,7 @@ def row_objects(rows: Rows, clock: Clock) -> Iterator[Dict[str, Any]]:
 
 
 def _block_object(burst: int, info: int, kind: int, offset: int) -> Optional[Dict[str, Union[str, bool]]]:
-    """A block: null if it was not read."""
+    """A block: null if it is none, as before the block that acquired sync."""
     if kind == MISSING:
         return None
     if kind == LOST:
@@ -129,4 +128,4 @@ def _block_object(burst: int, info: int, kind: int, offset: int) -> Optional[Dic
 
 def total_objects(totals: Optional[Totals]) -> Iterator[Dict[str, Any]]:
     for name, value in zip(TOTAL_NAMES, flat(totals) if totals else ()):
-        yield {"kind": "total", "name": name, "value": value}
+        yield {"event": "total", "name": name, "value": value}

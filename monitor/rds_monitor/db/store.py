@@ -11,12 +11,13 @@ import json
 import os
 import sqlite3
 import time
+from itertools import chain
 from typing import Any, Dict, Iterable, List, NamedTuple, Optional, Sequence, Tuple
 
-from ..rows.clock import Clock, clock_options
+from ..rows.clock import clock_options
 from ..rows.hours import clock_of_hour, hour_of
 from ..rows.inputs import input_options, open_input
-from ..rows.items import BLOCKS, VALID, Fault, Misuse, Rows, Source, Totals
+from ..rows.items import BLOCKS, VALID, Fault, Misuse, Rows, Totals
 from ..rows.listing import TOTAL_NAMES, VERSION_NAMES, block_texts, flat, groups_in, kinds_of
 from .merge import merge
 from .parts import MinuteRow, Session, Told, sessions_of
@@ -156,10 +157,12 @@ class Store:
     def close(self) -> None:
         self._database.close()
 
-    def add(self, name: str, station: Optional[str], source: Source, clock: Clock, groups: bool) -> None:
-        """A recording under this name, in place of the one that had it."""
+    def add(
+        self, name: str, station: Optional[str], chunks: Iterable[Tuple[Session, Rows]], groups: bool
+    ) -> None:
+        """A recording, given as by `sessions_of`, under this name, in place of the one that had it."""
         try:
-            sessions = self._read(source, clock, groups)
+            sessions = self._read(chunks, groups)
             self._database.execute("BEGIN IMMEDIATE")
             try:
                 self._write(name, station, sessions)
@@ -184,12 +187,12 @@ class Store:
         except sqlite3.Error as error:
             raise Fault(f"the database: {error}") from None
 
-    def _read(self, source: Source, clock: Clock, groups: bool) -> List[Recorded]:
+    def _read(self, chunks: Iterable[Tuple[Session, Rows]], groups: bool) -> List[Recorded]:
         self._database.execute("DELETE FROM temp.groups")
         found: Dict[int, Recorded] = {}
         self._database.execute("BEGIN")
         insert = f"INSERT INTO temp.groups VALUES({', '.join('?' * 9)})"
-        for session, rows in sessions_of(source, clock):
+        for session, rows in chunks:
             if groups:
                 self._database.executemany(insert, group_rows(session.number, rows))
             kept = found.setdefault(session.number, Recorded(session, Told([], [], [], [], []))).told
@@ -281,8 +284,10 @@ def run_db(arguments: argparse.Namespace) -> int:
         raise Misuse("standard input needs a --name")
     store: Optional[Store] = None
     for path in paths:
-        # An input that is none makes no database.
         source = open_input(arguments, path, sessions=True)
+        sessions = sessions_of(source, clock_of_hour(arguments, path))
+        # An input that cannot be read makes no database.
+        first = next(sessions)
         store = store or Store(arguments.database)
         name = os.path.basename(path) if arguments.name is None else arguments.name
         station = arguments.station
@@ -291,7 +296,7 @@ def run_db(arguments: argparse.Namespace) -> int:
             # Hours of several stations have the same names, in a folder of the station's name. Compressed they are the same ones.
             folder = os.path.basename(os.path.dirname(os.path.abspath(path)))
             name, station = arguments.name or f"{folder}/{hour.name}", station or folder
-        store.add(name, station, source, clock_of_hour(arguments, path), arguments.groups)
+        store.add(name, station, chain([first], sessions), arguments.groups)
     if store:
         store.close()
     return 0

@@ -140,7 +140,7 @@ def run_clock(arguments: argparse.Namespace) -> int:
         print(f"--start {start} --rate {rate}")
     elif arguments.steps:
         steps = (f"{tick.place},{utc_text(tick.time)},{step:+.3f}" for tick, step in found.steps())
-        print("place,utc,step_s", *steps, sep="\n")
+        print("bit,utc,step_s", *steps, sep="\n")
     else:
         counts = f"{len(ticks)},{len(found.stretches)},{(ticks[-1].time - ticks[0].time) / 3600:.2f}"
         print("groups,stretches,hours,rate,ppm,within_ppm,start_utc")

@@ -126,7 +126,7 @@ def options_errors(parser: argparse.ArgumentParser) -> None:
     describe(
         parser,
         "Block errors over time, as CSV: per interval the blocks sent by the clock, those valid, "
-        "corrected, uncorrectable (lost) and not read for want of sync (missing), and how many per cent"
+        "corrected, uncorrectable (lost) and sent while there was no sync (no_sync), and how many per cent"
         " of those sent are not valid.",
         "rds-monitor errors --every 60 --start 2026-03-29T00:30:00Z monday.bin > errors.csv",
     )
@@ -141,7 +141,7 @@ def run_errors(arguments: argparse.Namespace) -> int:
     errors, extent = Errors(arguments.every * clock.rate), Extent(open_input(arguments))
     for rows in extent.chunks():
         errors.add(rows)
-    names = "begin_s end_s sent valid corrected lost missing bad_percent".split()
+    names = "begin_s end_s sent valid corrected lost no_sync bad_percent".split()
     lines = (
         [*clock.texts(*one[:2], digits=0), *one[2:], f"{one.bad_percent:.2f}", *clock.utc(*one[:2])]
         for one in errors.intervals(extent.begin, extent.end)

@@ -64,7 +64,6 @@ def run_groups(arguments: argparse.Namespace) -> int:
         if arguments.whole:
             text = b"".join(line for line in text.splitlines(keepends=True) if b"-" not in line[:19])
         sys.stdout.buffer.write(text)
-        sys.stdout.flush()
     return 0
 
 

@@ -89,7 +89,7 @@ def options_programmes(parser: argparse.ArgumentParser) -> None:
 
 def run_programmes(arguments: argparse.Namespace) -> int:
     clock, extent = clock_of_options(arguments), Extent(open_input(arguments))
-    names = "begin_s end_s programme groups begin_place end_place".split()
+    names = "begin_s end_s pi groups begin_bit end_bit".split()
     found = programmes_in(extent, Programmes(arguments.least, arguments.pause * clock.rate))
     rows = ([*clock.texts(*ends), f"{pi:04X}", count, *ends, *clock.utc(*ends)] for pi, count, *ends in found)
     return write_table([*names, *clock.names("begin", "end")], rows)
@@ -199,7 +199,7 @@ def options_corrected(parser: argparse.ArgumentParser) -> None:
     describe(
         parser,
         "Which blocks were corrected and how, as CSV: the group's position, type and version; the "
-        "number, offset and word of the block; the error mask, its length in bits (span), and when the "
+        "number, offset and word of the block; the error mask, its length in bits, and when the "
         "block began.",
         "rds-monitor corrected --burst 5 monday.bin | cut -d, -f8 | sort | uniq -c",
     )
@@ -209,7 +209,7 @@ def options_corrected(parser: argparse.ArgumentParser) -> None:
 
 def run_corrected(arguments: argparse.Namespace) -> int:
     clock, extent = clock_of_options(arguments), Extent(open_input(arguments))
-    names = "place type version block offset word burst span time_s".split()
+    names = "bit type version block offset word burst burst_length time_s".split()
     rows = (row for chunk in extent.chunks() for row in corrected_in(groups_in(chunk), clock))
     return write_table([*names, *clock.names("time")], rows)
 

@@ -87,7 +87,7 @@ def options_outages(parser: argparse.ArgumentParser) -> None:
 
 def run_outages(arguments: argparse.Namespace) -> int:
     clock, extent = clock_of_options(arguments), Extent(open_input(arguments))
-    names = "begin_s end_s length_s begin_place end_place".split()
+    names = "begin_s end_s length_s begin_bit end_bit".split()
     found = outages_in(extent, Outages(clock.rate, arguments.density, arguments.shortest))
     rows = ([*clock.texts(*ends, ends[1] - ends[0]), *ends, *clock.utc(*ends)] for ends in found)
     return write_table([*names, *clock.names("begin", "end")], rows)

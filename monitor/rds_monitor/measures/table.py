@@ -35,7 +35,7 @@ def run_table(arguments: argparse.Namespace) -> int:
     clock, extent = clock_of_options(arguments), Extent(open_input(arguments))
     if arguments.parquet is not None:
         return _write_parquet(arguments.parquet, extent, clock)
-    names = [*HEADER.decode("ascii").split(","), "time_s", *clock.names("time")]
+    names = ["event", "bit", *HEADER.decode("ascii").split(",")[2:], "time_s", *clock.names("time")]
     return write_table(names, (line for rows in extent.chunks() for line in csv_lines(rows, clock)))
 
 

@@ -12,9 +12,9 @@ from typing import Iterator, List, NamedTuple, Tuple
 
 import numpy
 
+from ..rows.decoders import decode, decoder_of
 from ..rows.heads import is_listing
 from ..rows.items import Fault
-from ..rows.recording import library
 from .pack import NAMES, Conversion, bits_of, packed_of
 from .rates import likely_rate, locked
 from .samples import Layout, Signal, StoredSamples, open_samples, wav_layout
@@ -47,7 +47,7 @@ class Found(NamedTuple):
 def complete(parts: Iterator[Bits]) -> int:
     """The complete groups of bits."""
     data = b"".join(packed for packed, _ in packed_of(parts))
-    return int(library().totals(data).complete)
+    return decode(data)[1].complete
 
 
 # ---- bits
@@ -215,8 +215,8 @@ def run_form(arguments: argparse.Namespace) -> int:
     if claims_listing(head):
         print(f"a listing of rds list or rds follow, not a recording: rds-monitor info {shlex.quote(path)}")
         return 0
-    # Without librds no form gives a group.
-    library()
+    # Without a decoder no form gives a group.
+    decoder_of()
     found = sorted(forms_of(path, head), reverse=True)
     if not found or found[0].groups < LEAST:
         why = "nothing was received, or it is in another format"

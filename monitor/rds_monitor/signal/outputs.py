@@ -9,7 +9,7 @@ from typing import Any, Callable, Dict, TextIO
 
 import numpy
 
-from .pack import open_binary
+from .pack import BinaryOutput
 from .receiver import Receiver
 from .symbols import Bits
 
@@ -18,7 +18,7 @@ class BitWriter:
     """Writes bits, a byte each or packed; those that do not fill a byte wait."""
 
     def __init__(self, path: str, unpacked: bool):
-        self._stream, self._unpacked = open_binary(path, "wb"), unpacked
+        self._output, self._unpacked = BinaryOutput(path), unpacked
         self._rest: Bits = numpy.zeros(0, "u1")
         self.written = 0
 
@@ -28,8 +28,7 @@ class BitWriter:
             bits = numpy.concatenate([self._rest, bits])
             whole = bits.size if last else bits.size // 8 * 8
             self._rest, bits = bits[whole:], numpy.packbits(bits[:whole])
-        self._stream.write(bits.tobytes())
-        self._stream.flush()
+        self._output.write(bits.tobytes())
 
 
 class QualityLine:

@@ -5,7 +5,7 @@ from __future__ import annotations
 import argparse
 import sys
 from functools import partial
-from typing import Any, BinaryIO, Callable, Dict, Iterator, NamedTuple, Tuple
+from typing import Any, BinaryIO, Callable, Dict, Iterator, NamedTuple, Optional, Tuple
 
 import numpy
 
@@ -13,7 +13,8 @@ from ..rows.items import Fault, Misuse
 from .samples import FORMS, numbers, wav_layout
 from .symbols import Bits
 
-CHUNK = 1 << 20  # a multiple of every sample's bytes
+CHUNK = 1 << 20
+WHOLE = 8  # a multiple of every sample's bytes
 
 # What each form is, as help and the command form name it.
 NAMES = {
@@ -39,13 +40,13 @@ class Conversion(NamedTuple):
 
 
 def _chunks(stream: BinaryIO) -> Iterator[bytes]:
-    """All of the input in chunks of full length but for the last one."""
-    data = b""
-    for more in iter(lambda: stream.read(CHUNK - len(data)), b""):
+    """All of the input as it comes, in whole samples."""
+    read, data = getattr(stream, "read1", stream.read), b""
+    for more in iter(lambda: read(CHUNK), b""):
         data += more
-        if len(data) == CHUNK:
-            yield data
-            data = b""
+        whole = len(data) // WHOLE * WHOLE
+        yield data[:whole]
+        data = data[whole:]
     if data:
         yield data
 
@@ -192,23 +193,29 @@ def options_pack(parser: argparse.ArgumentParser) -> None:
         parser.add_argument(name, help=text, **how)
 
 
-def open_binary(path: str, mode: str) -> BinaryIO:
-    if path == "-":
-        return sys.stdin.buffer if mode == "rb" else sys.stdout.buffer
-    stream: BinaryIO = open(path, mode)  # type: ignore[assignment]
-    return stream
+class BinaryOutput:
+    """A file, or standard output. It is begun with its first byte, and has all bytes at once."""
+
+    def __init__(self, path: str):
+        self._path = path
+        self._stream: Optional[BinaryIO] = sys.stdout.buffer if path == "-" else None
+
+    def write(self, data: bytes) -> None:
+        if data:
+            self._stream = self._stream or open(self._path, "wb")
+            self._stream.write(data)
+            self._stream.flush()
 
 
 def run_pack(arguments: argparse.Namespace) -> int:
     if arguments.lsb_first and arguments.form not in ("packed", "hex"):
         raise Misuse("--lsb-first is for packed bits and hexadecimal digits")
     change = Conversion(arguments.lsb_first, arguments.invert, arguments.differential)
-    stream, output = open_binary(arguments.input, "rb"), open_binary(arguments.output, "wb")
-    bits = 0
+    stream = sys.stdin.buffer if arguments.input == "-" else open(arguments.input, "rb")
+    output, bits = BinaryOutput(arguments.output), 0
     for data, count in packed_of(bits_of(stream, arguments.form, change)):
         output.write(data)
         bits += count
-    output.flush()
     if not bits:
         raise Fault("there is no bit in the input")
     if bits % 8:

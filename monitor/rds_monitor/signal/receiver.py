@@ -9,7 +9,8 @@ from typing import Any, Collection, Dict, List, NamedTuple, Optional, Sequence, 
 
 import numpy
 
-from .blocks import GROUP_BITS, BlockCounter
+from ..rows.blocks import BlockCounter
+from ..rows.items import GROUP_BITS
 from .filters import Bands, Passband, at_least
 from .fm import DEVIATION_HZ, FmReceiver, station_channels
 from .jumps import Jumps

@@ -18,7 +18,6 @@ from .samples import Complexes, Reals
 BIT_RATE = 1187.5
 CHIP_RATE = 2 * BIT_RATE
 TINY = float(numpy.finfo(float).tiny)
-
 Bits = NDArray[numpy.uint8]
 
 

@@ -26,7 +26,7 @@ from ..rows.hours import hour_of
 from ..rows.inputs import length_of, recording_options, rules_of
 from ..rows.items import CORRECTED, GROUP_BITS, VALID, Fault, Readable, Reading, Rows, Source
 from ..rows.listing import Listing, begins_of, ends_of, groups_in, kinds_of
-from ..rows.recording import Recording, library
+from ..rows.recording import Recording
 from .asked import judge_station
 from .verdict import UNKNOWN, WORDS, Limits, Seen, Verdict
 
@@ -154,7 +154,6 @@ def open_end(paths: Sequence[str], last: Optional[float], arguments: argparse.Na
         part = last is not None or all(map(hour_of, paths))
         how = Reading(unfinished_ok=part, length=length, trust_length=True, sessions=True)
         return Listing(data, b"", how)
-    library()
     return Recording(data, b"", Reading(rules_of(arguments)))
 
 

@@ -3,18 +3,19 @@
 from __future__ import annotations
 
 import os
+from contextlib import suppress
 from typing import Dict, List, NamedTuple, Optional, Tuple
 
 import numpy
 
 from ..db.parts import MINUTE_BITS, OUTAGE_SECONDS, Contents, Part, Told
 from ..rows.clock import RATE, Clock, utc_text
+from ..rows.decoders import StreamDecoder
 from ..rows.hours import HOUR, Hour
-from ..rows.items import ACQUIRED, BLOCK_BITS, GROUP, GROUP_BITS, ITEM, LOSS, VALID, Rows, Totals
+from ..rows.items import ACQUIRED, BLOCK_BITS, GROUP, GROUP_BITS, ITEM, LOSS, VALID, Fault, Rows, Totals
 from ..rows.listing import ends_of, groups_in, kinds_of, text_of, totals_text
 from ..signal.receiver import Strength
 from .bits import mean_of
-from .decoders import StreamDecoder
 from .records import PartGrew, PartKey, PartOpened, PartTold, Record
 from .times import Arrivals, Timing
 
@@ -206,8 +207,10 @@ class LiveSession:
         """The session has ended: the group in progress and the totals. Whether there are totals: a decoder may die."""
         if self.arrivals.timing is None:
             return True
-        rows, totals = self._decoder.finish()
-        self._early.append(rows)
+        totals = None
+        with suppress(Fault):
+            rows, totals = self._decoder.finish()
+            self._early.append(rows)
         if self.part is None:
             self._key = PartKey(f"{self._station} {utc_text(self.arrivals.timing.start)}", 0)
             self._open(0, 0)

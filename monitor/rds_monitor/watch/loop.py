@@ -12,9 +12,9 @@ from typing import Callable, Deque, Dict, Iterable, List, Optional, Tuple, Union
 
 from ..db.standing import availability
 from ..rows.clock import DAY
+from ..rows.decoders import NewDecoder
 from .alarms import Alarm, Change, Trouble, words_for
 from .compress import compress
-from .decoders import NewDecoder
 from .live import Append
 from .metrics import metrics_text
 from .pages import replace, write_pages

@@ -20,7 +20,7 @@ METRICS = (
     Metric(
         "rds_blocks_total",
         "counter",
-        "Blocks by outcome since the watch began: valid, corrected, uncorrectable (lost), not read (missing).",
+        "Blocks by outcome since the watch began: valid, corrected, uncorrectable (lost), sent without sync (missing).",
     ),
     Metric("rds_bad_blocks_ratio", "gauge", "Of the blocks of the last minute, the part that was not valid."),
     Metric("rds_station_state", "gauge", "Whether the station is in this state."),

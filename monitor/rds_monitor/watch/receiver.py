@@ -8,6 +8,8 @@ import signal
 import subprocess
 from typing import Any, Callable, Dict, List, Optional, Sequence, Set
 
+from ..rows.decoders import how_ended
+
 # Linux: a pipe of a megabyte holds a second of any signal while the disk is busy.
 F_SETPIPE_SZ, PIPE_BYTES = 1031, 1 << 20
 # Bytes that are read at once, so that one receiver cannot hold up the others.
@@ -111,21 +113,6 @@ def _started(words: Sequence[str], given: Any) -> "subprocess.Popen[bytes]":
         # Over the limit of a user, or another system.
         pass
     return process
-
-
-def how_ended(status: int, said: bytes) -> str:
-    """In words, by the status of a process and what it said on standard error."""
-    how = f"ended with status {status}" if status >= 0 else f"was ended by {_signal_name(-status)}"
-    lines = said.decode("utf-8", "backslashreplace").split("\n")
-    last = next((line.strip() for line in reversed(lines) if line.strip()), "")
-    return how + (f": {last}" if last else "")
-
-
-def _signal_name(number: int) -> str:
-    try:
-        return signal.Signals(number).name
-    except ValueError:
-        return f"signal {number}"
 
 
 # By the words of a command, and those of a program that its output goes through.

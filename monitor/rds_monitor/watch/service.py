@@ -11,9 +11,9 @@ import time
 from typing import Any, Tuple
 
 from ..rows.clock import RATE, number_of
+from ..rows.decoders import NewDecoder, decoder_of
 from ..rows.items import Fault
 from ..signal.found import HALF_CHANNEL_HZ
-from .decoders import NewDecoder, decoder_of
 from .journal import notify, say
 from .loop import Watch
 from .receiver import Process

@@ -9,10 +9,10 @@ from typing import Any, Deque, Dict, List, Optional, Tuple, Union
 from ..content.charset import printable
 from ..db.parts import MINUTE_BITS, Told
 from ..db.schema import HELD
+from ..rows.decoders import NewDecoder
 from ..rows.items import Fault
 from .alarms import Alarms, Change, Watched
 from .bits import Packed, bit_source
-from .decoders import NewDecoder
 from .live import Append, LiveSession
 from .receiver import Keeper
 from .records import AlarmChanged, Record, RunBegan, RunEnded, StateSeen, WatchBegan

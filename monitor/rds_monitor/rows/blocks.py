@@ -7,11 +7,10 @@ from typing import Optional
 
 import numpy
 from numpy.lib.stride_tricks import sliding_window_view
+from numpy.typing import NDArray
 
-from .symbols import Bits
+from .items import BLOCK_BITS, GROUP_BITS
 
-BLOCK_BITS = 26
-GROUP_BITS = 4 * BLOCK_BITS
 GENERATOR = 0x5B9  # of degree 10
 # The number of the block by its offset word: A, B, C and C', D. Of other remainders -1.
 NUMBERS = numpy.full(1024, -1)
@@ -30,19 +29,19 @@ class BlockCounter:
 
     def __init__(self) -> None:
         self._columns = numpy.array(REMAINDERS, "u2")
-        self._rest: Bits = numpy.zeros(0, "u1")
+        self._rest: NDArray[numpy.uint8] = numpy.zeros(0, "u1")
         self.bits = self.blocks = self._last = 0
         # The remainder of the places of groups, as most of the last blocks tell: none without blocks for two groups.
         self.phase: Optional[int] = None
 
-    def push(self, bits: Bits) -> None:
+    def push(self, bits: NDArray[numpy.uint8]) -> None:
         self.bits += bits.size
         bits = numpy.concatenate([self._rest, bits])
         self._rest = bits[-self.KEPT :]
         if bits.size > self.KEPT:
             self._count(bits)
 
-    def _count(self, bits: Bits) -> None:
+    def _count(self, bits: NDArray[numpy.uint8]) -> None:
         """The windows, but for those too near to either end, that are such blocks."""
         windows = sliding_window_view(bits, BLOCK_BITS)
         numbers = NUMBERS[numpy.bitwise_xor.reduce(windows * self._columns, axis=1)]

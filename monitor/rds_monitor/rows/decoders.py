@@ -1,59 +1,70 @@
-"""The decoder of a session: librds, or a process of the program rds.
+"""The decoder: librds, or a process of the program rds.
 
-Both give the same rows at the same time. `place` is how many bits were pushed. `push` gives all rows that the bits so far complete,
-or raises a `Fault`. `finish` gives the last row and the totals, or None for these if the decoder died.
+Both give the same rows at the same time, and raise the same `Fault`. A decoder is made of rules, gaps and the number of bits to
+decode, if that is known. `place` is how many bits were pushed. `push` gives all rows that the bits so far complete. `finish` takes
+the first `bits` of the last bytes, and gives the last rows and the totals.
 """
 
 from __future__ import annotations
 
 import array
 import fcntl
+import importlib
 import os
 import shutil
+import signal
 import subprocess
 import termios
 import time
-from typing import Any, Callable, Optional, Tuple, Union
+from functools import partial
+from typing import Any, Callable, List, Optional, Sequence, Tuple, Union
 
-from ..rows.items import Fault, Rows, Totals, totals_of
-from ..rows.listing import TOTAL_NAMES, TOTAL_ROW
-from ..rows.parse import parse
-from ..rows.recording import library
-from .receiver import how_ended
+from .items import Fault, Rows, Rules, Totals, joined
+from .listing import TOTAL_NAMES, TOTAL_ROW
+from .parse import parse
 
 # systemd and a terminal signal all processes of a watch at once. The decoder ends when its input does, and not before.
-SHIELD = 'trap "" TERM INT HUP QUIT; exec "$0" follow'
+SHIELD = 'trap "" TERM INT HUP QUIT; exec "$0" follow "$@"'
 # Seconds without any progress after which a program hangs. systemd's watchdog has twice as many.
 PATIENCE = 30.0
 FIRST_PAUSE, LONGEST_PAUSE = 0.0002, 0.01
+
+Gaps = Sequence[Tuple[int, int]]
 
 
 class ByLibrary:
     """By librds, in this process."""
 
-    def __init__(self) -> None:
-        self._follower: Any = library().Follower()
+    def __init__(self, rules: Rules = Rules(), gaps: Gaps = (), bits: Optional[int] = None) -> None:
+        self._librds = librds = library()
+        self._follower: Any = self._tried(lambda: librds.Follower(librds.Rules(*rules), list(gaps)))
+
+    def _tried(self, call: Callable[[], Any]) -> Any:
+        try:
+            return call()
+        except self._librds.Refused as error:
+            raise Fault(str(error)) from None
 
     @property
     def place(self) -> int:
         return int(self._follower.place)
 
     def push(self, data: bytes) -> Rows:
-        rows: Rows = self._follower.push_array(data)
+        rows: Rows = self._tried(lambda: self._follower.push_array(data))
         return rows
 
-    def finish(self) -> Tuple[Rows, Optional[Totals]]:
-        rows, found = self._follower.finish_array()
-        return rows, Totals(
-            found.valid, tuple(found.bursts), *(getattr(found, field) for field in Totals._fields[2:])
-        )
+    def finish(self, data: bytes = b"", bits: int = 0) -> Tuple[Rows, Totals]:
+        rows, found = self._tried(lambda: self._follower.finish_array(data, bits))
+        return rows, Totals(*(getattr(found, name) for name in Totals._fields))
 
 
 class ByProgram:
     """By a process `rds follow`, which starts with the first bits."""
 
-    def __init__(self, program: str):
-        self._program, self.place = program, 0
+    def __init__(
+        self, program: str, rules: Rules = Rules(), gaps: Gaps = (), bits: Optional[int] = None
+    ) -> None:
+        self._program, self._words, self.place = program, _words(rules, gaps, bits), 0
         self._it: Optional["subprocess.Popen[bytes]"] = None
         # What it wrote and was not taken yet.
         self._text = b""
@@ -66,22 +77,23 @@ class ByProgram:
         self._work(process, memoryview(data))
         return self._taken()
 
-    def finish(self) -> Tuple[Rows, Optional[Totals]]:
-        none = parse(b"")[0]
-        if self._it is None:
-            return none, totals_of(none)
-        rows = none
+    def finish(self, data: bytes = b"", bits: int = 0) -> Tuple[Rows, Totals]:
+        process = self._it or self._start()
         try:
-            self._end(self._it)
-            rows = self._taken()
-            return rows, self._totals()
-        except (Fault, OSError):
-            return rows, None
+            self._end(process, memoryview(data[: (bits + 7) // 8]))
+        except OSError as error:
+            raise Fault(f"{self._program}: {error.strerror or error}") from None
+        rows, totals = self._taken(), self._totals()
+        if totals is None:
+            raise Fault(self._why(process))
+        assert process.stderr
+        process.stderr.close()
+        return rows, totals
 
     # ---- the process
 
     def _start(self) -> "subprocess.Popen[bytes]":
-        pipe, words = subprocess.PIPE, ["/bin/sh", "-c", SHIELD, self._program]
+        pipe, words = subprocess.PIPE, ["/bin/sh", "-c", SHIELD, self._program, *self._words]
         try:
             process = subprocess.Popen(
                 words, stdin=pipe, stdout=pipe, stderr=pipe, start_new_session=True, bufsize=0
@@ -117,11 +129,16 @@ class ByProgram:
 
     def _write(self, process: "subprocess.Popen[bytes]", data: memoryview) -> int:
         assert process.stdin
+        # A program that has ended must not end this one.
+        blocked = signal.pthread_sigmask(signal.SIG_BLOCK, {signal.SIGPIPE})
         try:
             return process.stdin.write(data) or 0 if data else 0
         except BrokenPipeError:
+            signal.sigtimedwait({signal.SIGPIPE}, 0)
             self._read(process)
             raise Fault(self._why(process)) from None
+        finally:
+            signal.pthread_sigmask(signal.SIG_SETMASK, blocked)
 
     def _read(self, process: "subprocess.Popen[bytes]") -> bool:
         """Whether it had written something."""
@@ -133,14 +150,17 @@ class ByProgram:
         return bool(data)
 
     def _why(self, process: "subprocess.Popen[bytes]") -> str:
-        """How it ended before its input."""
+        """How it ended before its input. A refusal reads as that of librds."""
         assert process.stderr
         status, said = _status(process), process.stderr.read() or b""
+        if status == 1 and said.startswith(b"refused "):
+            return said.decode().splitlines()[0]
         return f"{self._program} {how_ended(status, said)}"
 
-    def _end(self, process: "subprocess.Popen[bytes]") -> None:
-        """Ends its input, and takes the rest of what it writes."""
-        assert process.stdin and process.stdout and process.stderr
+    def _end(self, process: "subprocess.Popen[bytes]", last: memoryview) -> None:
+        """Ends its input with these bytes, and takes the rest of what it writes."""
+        assert process.stdin and process.stdout
+        self._write(process, last)
         process.stdin.close()
         end = time.monotonic() + PATIENCE
         while time.monotonic() < end:
@@ -152,7 +172,6 @@ class ByProgram:
                 time.sleep(FIRST_PAUSE)
         _status(process)
         process.stdout.close()
-        process.stderr.close()
 
     # ---- its text
 
@@ -172,6 +191,15 @@ class ByProgram:
         if [entry[1].decode() if entry else "" for entry in found] != list(TOTAL_NAMES):
             return None
         return Totals(values[0], tuple(values[1:6]), *values[6:])
+
+
+def _words(rules: Rules, gaps: Gaps, bits: Optional[int]) -> List[str]:
+    """Options of rds."""
+    burst, reach, loss, of = rules
+    words = [f"--burst={burst}", f"--reach={reach}"]
+    words += [f"--share={loss}", f"--of={of}"] if of else [f"--loss={loss}"]
+    words += [f"--gaps={','.join(f'{begin}-{end}' for begin, end in gaps)}"] if gaps else []
+    return words + ([] if bits is None else [f"--bits={bits}"])
 
 
 def _unread(process: "subprocess.Popen[bytes]") -> int:
@@ -196,26 +224,53 @@ def _status(process: "subprocess.Popen[bytes]") -> int:
         return process.wait()
 
 
+def how_ended(status: int, said: bytes) -> str:
+    """In words, by the status of a process and what it said on standard error."""
+    how = f"ended with status {status}" if status >= 0 else f"was ended by {_signal_name(-status)}"
+    lines = said.decode("utf-8", "backslashreplace").split("\n")
+    last = next((line.strip() for line in reversed(lines) if line.strip()), "")
+    return how + (f": {last}" if last else "")
+
+
+def _signal_name(number: int) -> str:
+    try:
+        return signal.Signals(number).name
+    except ValueError:
+        return f"signal {number}"
+
+
 # ---- which one
 
 StreamDecoder = Union[ByLibrary, ByProgram]
-NewDecoder = Callable[[], StreamDecoder]
+NewDecoder = Callable[..., StreamDecoder]
+CURE = "install python3-librds or rds, or name librds.so.0 in RDS_LIBRARY or the program in RDS; a listing needs neither"
 
 
-def decoder_of(program: Optional[str]) -> Tuple[NewDecoder, str]:
-    """The decoder that a table or a command line asks for, and its name: without a program librds, or rds if that is missing."""
-    if program is None:
-        try:
-            library()
-            return ByLibrary, "librds"
-        except Fault as error:
-            program = shutil.which("rds")
-            if program is None:
-                raise Fault(f"{error}; or install the program rds, or name it by --program") from None
-    return by_program(program), program
+def library() -> Any:
+    """The module librds."""
+    return importlib.import_module("librds")
 
 
-def by_program(program: str) -> NewDecoder:
+def rds_program() -> str:
+    """The program rds, as the environment names it."""
+    return os.environ.get("RDS") or "rds"
+
+
+def decoder_of(program: Optional[str] = None) -> Tuple[NewDecoder, str]:
+    """The decoder and its name: the program that a table or a command line names, or else librds, or else rds."""
+    if program is not None:
+        return by_program(program)
+    try:
+        return ByLibrary, f"librds {'.'.join(map(str, library().version()))}"
+    except (ImportError, OSError) as error:
+        why = str(error).partition(": install")[0]
+    try:
+        return by_program(rds_program())
+    except Fault as error:
+        raise Fault(f"there is neither librds nor rds to decode by ({why}; {error}): {CURE}") from None
+
+
+def by_program(program: str) -> Tuple[NewDecoder, str]:
     """Of a program that answers."""
     path = shutil.which(program)
     if path is None:
@@ -228,4 +283,12 @@ def by_program(program: str) -> NewDecoder:
     if not said.startswith(b"rds "):
         raise Fault(f"{path} is not the program rds")
     whole = os.path.abspath(path)
-    return lambda: ByProgram(whole)
+    return partial(ByProgram, whole), whole
+
+
+def decode(data: bytes) -> Tuple[Rows, Totals]:
+    """The rows and the totals of packed bits."""
+    decoder = decoder_of()[0]()
+    rows = decoder.push(data)
+    last, totals = decoder.finish()
+    return joined([rows, last]), totals
