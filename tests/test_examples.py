@@ -153,14 +153,14 @@ def test_groups_of_the_sample(listing: bytes, cases: Cases) -> None:
 
 # ---- three hours of a station, with an outage, a slip, a change of programme and dropped samples
 
-ERRORS = """begin_s,end_s,sent,valid,corrected,lost,missing,bad_percent
+ERRORS = """begin_s,end_s,sent,valid,corrected,lost,no_sync,bad_percent
 0,1800,82212,80089,2103,19,1,2.58
 1800,3600,82212,80109,2078,25,0,2.56
 3600,5400,82211,40036,1077,187,40911,51.30
 5400,7200,82212,80123,2058,31,0,2.54
 7200,9000,82211,80091,2095,25,0,2.58
 9000,10800,82210,79965,2130,31,84,2.73"""
-OUTAGES = """begin_s,end_s,length_s,begin_place,end_place
+OUTAGES = """begin_s,end_s,length_s,begin_bit,end_bit
 3599.976,4500.025,900.049,4274972,5343780
 9179.959,9182.017,2.058,10901201,10903645"""
 PROGRAMMES = """begin_s,end_s,programme,groups,begin_place,end_place
