@@ -163,7 +163,7 @@ ERRORS = """begin_s,end_s,sent,valid,corrected,lost,no_sync,bad_percent
 OUTAGES = """begin_s,end_s,length_s,begin_bit,end_bit
 3599.976,4500.025,900.049,4274972,5343780
 9179.959,9182.017,2.058,10901201,10903645"""
-PROGRAMMES = """begin_s,end_s,programme,groups,begin_place,end_place
+PROGRAMMES = """begin_s,end_s,pi,groups,begin_bit,end_bit
 0.088,3600.020,D393,40055,104,4275024
 4500.069,7200.040,D393,30015,5343832,8550047
 7200.040,10799.972,D312,40004,8550047,12824967"""
