@@ -201,8 +201,8 @@ TOOLCHAIN ?= $(shell cat build/toolchain 2>/dev/null || $(RT) version 2>/dev/nul
 wheel: $(call unbuilt,$(FOLDER_$(ARCH))/librds.so.0)
 	bindings/python/make_wheel.py $(FOLDER_$(ARCH))/librds.so.0 build
 
-# Three simulated stations on a page, by the library of `make lib`, by build/rds, by the system's library, or else by a program that is
-# built without proof, in a minute or so.
+# Three simulated stations on a page, by the decoder that rds-monitor finds, or else by a program that is built without proof, in a minute
+# or so.
 monitor-demo:
 	$(PYTHON) monitor/demo/run.py $(DEMO)
 
