@@ -3,6 +3,7 @@ from __future__ import annotations
 
 import argparse
 import sys
+from functools import lru_cache
 from typing import Any, Dict, Iterator, List, Optional, Tuple, Union
 
 from ..rows.clock import Clock, clock_of, clock_options
@@ -75,9 +76,16 @@ def line(value: Dict[str, Any]) -> str:
     return safe_json(value) + "\n"
 
 
+# The text of a value comes up to four times: as value, as text, and in the next event.
+_quoted = lru_cache(1 << 10)(safe_json)
+
+
 def content_line(event: Event, clock: Clock) -> str:
-    own = {name: getattr(event, name) for name in ("item", "value", "before", "text")}
-    return line({**placed("content", event.place, clock), "pi": f"{event.pi:04X}", **own})
+    """Without a dictionary, since some stations send as many as groups."""
+    values = (event.item, event.value, event.before, event.text)
+    item, value, before, text = (_quoted(one) if type(one) is str else safe_json(one) for one in values)
+    where = safe_json(placed("content", event.place, clock))[:-1]
+    return f'{where},"pi":"{event.pi:04X}","item":{item},"value":{value},"before":{before},"text":{text}}}\n'
 
 
 def event_lines(rows: Rows, events: List[Event], clock: Clock) -> List[str]:
