@@ -84,8 +84,10 @@ def content_line(event: Event, clock: Clock) -> str:
     """Without a dictionary, since some stations send as many as groups."""
     values = (event.item, event.value, event.before, event.text)
     item, value, before, text = (_quoted(one) if type(one) is str else safe_json(one) for one in values)
-    where = safe_json(placed("content", event.place, clock))[:-1]
-    return f'{where},"pi":"{event.pi:04X}","item":{item},"value":{value},"before":{before},"text":{text}}}\n'
+    time = f'"time_s":{round(clock.seconds(event.place), 3)!r}'
+    time += f',"time_utc":"{clock.utc(event.place)[0]}"' if clock.start is not None else ""
+    where = f'"kind":"content","place":{event.place},{time},"pi":"{event.pi:04X}","item":{item}'
+    return f'{{{where},"value":{value},"before":{before},"text":{text}}}\n'
 
 
 def event_lines(rows: Rows, events: List[Event], clock: Clock) -> List[str]:
