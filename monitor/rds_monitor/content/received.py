@@ -153,7 +153,7 @@ class Received:
                 is_channel = name[:-1] == "5"
                 channel = groups.values("tdc.channel", rows) if is_channel else GROUP_CODES | code_of(name)
                 ones = numpy.ones(rows.size, bool)
-                key = numpy.broadcast_to(key_of(Kind.CHANNEL, 0, channel), rows.shape)
+                key = numpy.zeros(rows.size, "i8") + key_of(Kind.CHANNEL, 0, channel)
                 yield Observations(key, rows, ones.astype("i8"), groups.alike.whole[rows], ones)
 
     def _services(self, groups: Groups) -> Observations:

@@ -33,7 +33,8 @@ UNKNOWN = -1
 # How far a pair can be trusted.
 SINGLE, CONFIRMED, VALID = 0, 1, 2
 # How many rows that say a text again are read one by one, before others are passed at once.
-LEAST_READ = 2 * RECENT
+LEAST_READ = RECENT
+FIRST_PASSED = 64 * LEAST_READ
 # Place, the number of the segment among those that are unlike each other, run, and whether a turn can have been missed before.
 Row = Tuple[int, int, int, bool]
 
@@ -250,7 +251,7 @@ class Message:
 
     def _take(self, turns: Turns) -> Iterator[Tuple[int, Optional[bytes]]]:
         """The changes within a generation. While a text holds, rows are passed at once, but for the first ones."""
-        begin, length, most = 0, 2 * LEAST_READ, 8 * LEAST_READ
+        begin, length, most = 0, 4 * LEAST_READ, FIRST_PASSED
         while begin < turns.size:
             end = min(begin + most, turns.size)
             if self._told and end - begin > LEAST_READ:
@@ -261,10 +262,10 @@ class Message:
                 most *= 8
                 if begin == end:
                     continue
-            most = 8 * LEAST_READ
+            most = FIRST_PASSED
             rows = turns.rows(begin, begin + length)
             read = yield from self._read(rows, turns.said, begin)
-            length = 2 * length if read == len(rows) else 2 * LEAST_READ
+            length = 2 * length if read == len(rows) else 4 * LEAST_READ
             begin += read
 
     def _read(
