@@ -4,6 +4,7 @@ from __future__ import annotations
 import argparse
 import sys
 from functools import lru_cache
+from operator import itemgetter
 from typing import Any, Dict, Iterator, List, Optional, Tuple, Union
 
 from ..rows.clock import Clock, clock_of, clock_options
@@ -76,18 +77,21 @@ def line(value: Dict[str, Any]) -> str:
     return safe_json(value) + "\n"
 
 
-# The text of a value comes up to four times: as value, as text, and in the next event.
+# A text comes up to four times: as value, as text, and in the next event.
 _quoted = lru_cache(1 << 10)(safe_json)
 
 
 def content_line(event: Event, clock: Clock) -> str:
     """Without a dictionary, since some stations send as many as groups."""
-    values = (event.item, event.value, event.before, event.text)
-    item, value, before, text = (_quoted(one) if type(one) is str else safe_json(one) for one in values)
-    time = f'"time_s":{round(clock.seconds(event.place), 3)!r}'
-    time += f',"time_utc":"{clock.utc(event.place)[0]}"' if clock.start is not None else ""
-    where = f'"kind":"content","place":{event.place},{time},"pi":"{event.pi:04X}","item":{item}'
-    return f'{{{where},"value":{value},"before":{before},"text":{text}}}\n'
+    place, pi, item, value, before, text = event
+    shown = _quoted(text)
+    told = shown if text is value else safe_json(value)
+    was = _quoted(before) if isinstance(before, str) else safe_json(before)
+    time = f'"time_s":{round(clock.seconds(place), 3)!r}'
+    if clock.start is not None:
+        time += f',"time_utc":"{clock.utc(place)[0]}"'
+    where = f'"kind":"content","place":{place},{time},"pi":"{pi:04X}","item":{_quoted(item)}'
+    return f'{{{where},"value":{told},"before":{was},"text":{shown}}}\n'
 
 
 def event_lines(rows: Rows, events: List[Event], clock: Clock) -> List[str]:
@@ -97,8 +101,11 @@ def event_lines(rows: Rows, events: List[Event], clock: Clock) -> List[str]:
     found: List[Tuple[int, str]] = [
         (place, line(_sync_object(what, place, number, clock))) for what, place, number in zip(*columns)
     ]
-    found += [(event.place, content_line(event, clock)) for event in events]
-    return [text for _, text in sorted(found, key=lambda pair: pair[0])]
+    lines = [content_line(event, clock) for event in events]
+    if not found:
+        return lines
+    found += zip((event.place for event in events), lines)
+    return [text for _, text in sorted(found, key=itemgetter(0))]
 
 
 def _sync_object(what: int, place: int, number: int, clock: Clock) -> Dict[str, Any]:

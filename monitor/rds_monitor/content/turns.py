@@ -73,7 +73,7 @@ class Said:
         self.segment, self.value, self.valid = segment, value, valid
         self._others: Tuple[Any, bool, Array] = (None, False, segment)
 
-    def where(self, chosen: Any) -> "Said":
+    def __getitem__(self, chosen: slice) -> "Said":
         return Said(self.segment[chosen], self.value[chosen], self.valid[chosen])
 
     @cached_property
@@ -110,7 +110,8 @@ class Segments(NamedTuple):
     said: Said
 
     def where(self, chosen: Any) -> "Segments":
-        return Segments(*(column[chosen] for column in self[:4]), self.said)
+        place, number, run, generation, said = self
+        return Segments(place[chosen], number[chosen], run[chosen], generation[chosen], said)
 
 
 class Turns:
@@ -310,7 +311,9 @@ class Message:
         other = turns.said.others(told, self._length == told.size)[turns.number[begin:end]]
         cuts = turns.restarts
         if cuts.size:
-            cuts = cuts[(cuts >= begin) & (cuts < end) & ((turns.before[cuts] + 1) * self._shape.pairs < told.size)]
+            cuts = cuts[
+                (cuts >= begin) & (cuts < end) & ((turns.before[cuts] + 1) * self._shape.pairs < told.size)
+            ]
         if cuts.size:
             other[cuts[~self._are_kept(turns, slice(begin, end), cuts, told)] - begin] = True
         first = int(other.argmax())
