@@ -162,6 +162,8 @@ class Evidence:
 
     def counted(self, seen: Observations) -> News:
         """What counts of these observations, which are in the order of time."""
+        if not seen.key.size:
+            return NOTHING
         if (seen.key[1:] < seen.key[:-1]).any():
             seen = seen.by_key()
         counts = self._counts(seen)

@@ -9,7 +9,7 @@ from .columns import Groups
 from .evidence import Array, Epochs, Evidence, News
 from .fields import FIELDS
 from .looks import FLAGS, LOOKS, TEXTS, Kind, TextLook
-from .turns import OUTAGE_BITS, UNKNOWN, Message, Said, Segments, steps_of
+from .turns import OUTAGE_BITS, UNKNOWN, Message, Distinct, Segments, steps_of
 
 GROUP_BITS = 104
 # How many names of other networks are remembered, of those that were never whole.
@@ -111,7 +111,7 @@ def _flag_of(groups: Groups, look: TextLook, rows: Array) -> Array:
     return groups.values(LOOKS[look.flag][0].value, rows)
 
 
-def _said(groups: Groups, look: TextLook, rows: Array) -> Said:
+def _said(groups: Groups, look: TextLook, rows: Array) -> Distinct:
     """The segments in these groups."""
     values, valid, own = [], [], {2, *(FIELDS[look.message].blocks if look.message else ())}
     for pair in look.pairs:
@@ -120,4 +120,4 @@ def _said(groups: Groups, look: TextLook, rows: Array) -> Said:
         values.append(numpy.where(known, groups.values(pair, rows), UNKNOWN))
         valid.append(groups.are_valid(rows, {*own, *blocks}))
     segment = groups.values(look.segment, rows) - look.first
-    return Said(segment, numpy.stack(values, axis=1), numpy.stack(valid, axis=1))
+    return Distinct(segment, numpy.stack(values, axis=1), numpy.stack(valid, axis=1))

@@ -65,7 +65,7 @@ class Shape(NamedTuple):
         return {**lower, **{END_OF_TEXT << 8 | byte: 0 for byte in range(256)}}
 
 
-class Said:
+class Distinct:
     """Segments that are unlike each other: their numbers, and a column per pair of its value and whether it is valid, with
     UNKNOWN for one that was not received."""
 
@@ -73,8 +73,8 @@ class Said:
         self.segment, self.value, self.valid = segment, value, valid
         self._others: Tuple[Any, bool, Array] = (None, False, segment)
 
-    def __getitem__(self, chosen: slice) -> "Said":
-        return Said(self.segment[chosen], self.value[chosen], self.valid[chosen])
+    def __getitem__(self, chosen: slice) -> "Distinct":
+        return Distinct(self.segment[chosen], self.value[chosen], self.valid[chosen])
 
     @cached_property
     def rows(self) -> List[Tuple[int, Tuple[int, ...], List[bool]]]:
@@ -107,7 +107,7 @@ class Segments(NamedTuple):
     number: Array
     run: Array
     generation: Array
-    said: Said
+    said: Distinct
 
     def where(self, chosen: Any) -> "Segments":
         place, number, run, generation, said = self
@@ -270,7 +270,7 @@ class Message:
             begin += read
 
     def _read(
-        self, rows: List[Row], said: Said, begin: int
+        self, rows: List[Row], said: Distinct, begin: int
     ) -> Generator[Tuple[int, Optional[bytes]], None, int]:
         """Takes rows one by one until a text has held for some, and returns how many."""
         row = 0
@@ -375,7 +375,7 @@ class Message:
         self._now = {position: pair for position, pair in pairs.items() if pair[2] == self._turn}
         self._earlier = {position: pair for position, pair in pairs.items() if pair[2] != self._turn}
 
-    def _follow(self, rows: List[Row], row: int, end: int, said: Said, told: WholeText) -> int:
+    def _follow(self, rows: List[Row], row: int, end: int, said: Distinct, told: WholeText) -> int:
         """Notes when each pair came last in the rows that say the told text again, and returns the first that does
         not, or the end."""
         size, now, before, is_length = self._shape.pairs, self._now, self._segment, self._length == told.size

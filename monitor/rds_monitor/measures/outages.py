@@ -35,8 +35,8 @@ class Outages:
         # Of each `needed` in a row, whether they are within a second.
         first = places[: max(0, len(places) - self._needed + 1)]
         dense = places[self._needed - 1 :] - first <= self._second - BLOCK_BITS
-        if len(dense) and dense.all() and self._least >= self._second:
-            # All count, and none is far from the next.
+        if len(dense) and dense.all() and self._needed > 1 and self._least >= self._second:
+            # All count, and none is as far from the next.
             self._open, self._counts = places[len(first) :], numpy.ones(self._needed - 1, bool)
             found = self._between(first[:1])
             self.end = int(first[-1]) + BLOCK_BITS
