@@ -33,14 +33,14 @@ class Columns(NamedTuple):
     whole: Array
     code: Array
 
-    def where(self, chosen: Array) -> "Columns":
+    def where(self, chosen: Any) -> "Columns":
         return Columns(*(column[..., chosen] for column in self))
 
 
 def columns_of(rows: Rows) -> Columns:
     """The columns of rows that are groups."""
     words, kinds = (numpy.stack([rows[f"{name}{block}"] for block in BLOCKS]) for name in ("info", "kind"))
-    words, valid, known = words.astype("i8"), kinds == VALID, kinds >= VALID
+    valid, known = kinds == VALID, kinds >= VALID
     code = numpy.where(known[1], words[1] >> 11, -1)
     return Columns(rows["place"].astype("i8"), words, known, valid, valid.all(axis=0), code)
 
@@ -53,49 +53,98 @@ def among(values: Array, chosen: Sequence[int]) -> Array:
     return found
 
 
-class Groups:
-    """Some groups in a row of one programme, whose second blocks are known."""
+def _keys_of(columns: Columns) -> Array:
+    """Groups that are alike, but for their place and block 1, have the same number."""
+    words, known, valid = columns.words, columns.known, columns.valid
+    found: Array = columns.whole.astype("i8")
+    for column in (*valid[1:], *known[2:]):
+        found = found << 1 | column
+    for word in words[1:]:
+        found = found << 16 | word
+    return found
 
-    def __init__(self, columns: Columns) -> None:
-        self.columns = columns
-        present = numpy.flatnonzero(numpy.bincount(columns.code, minlength=32))
-        self.by_code = {code: numpy.flatnonzero(columns.code == code) for code in present.tolist()}
-        self.application = numpy.full(columns.code.size, -1)
+
+def _alike(keys: Array) -> Tuple[Array, Array]:
+    """One group of those that have the same key, for each key, and for each group the number of its key."""
+    # A hash finds nearly all of them, several times as fast as sorting.
+    place = keys.view("u8") * numpy.uint64(0x9E3779B97F4A7C15) >> numpy.uint64(48)
+    table = numpy.empty(1 << 16, "i8")
+    table[place] = numpy.arange(keys.size)
+    one = table[place]
+    missed = (keys[one] != keys).nonzero()[0]
+    if missed.size:
+        _, first, number = numpy.unique(keys[missed], return_index=True, return_inverse=True)
+        one[missed] = missed[first[number]]
+    is_one = numpy.zeros(keys.size, bool)
+    is_one[one] = True
+    return is_one.nonzero()[0], (numpy.cumsum(is_one) - 1)[one]
+
+
+class Groups:
+    """Some groups of one programme, whose second blocks are known.
+
+    A station sends the same few groups over and over: `alike` has a row for those that are alike, and `of` is the number
+    of its row for each group. Methods take and give numbers of such rows.
+    """
+
+    def __init__(self, columns: Columns, chosen: Array) -> None:
+        self.place = columns.place[chosen]
+        first, self.of = _alike(_keys_of(columns)[chosen])
+        alike = columns.where(chosen[first])
+        self._set(alike._replace(words=alike.words.astype("i8")), numpy.full(first.size, -1))
+
+    def _set(self, alike: Columns, application: Array) -> None:
+        self.alike, self.application = alike, application
+        present = numpy.flatnonzero(numpy.bincount(alike.code, minlength=32))
+        self._by_code = {code: numpy.flatnonzero(alike.code == code) for code in present.tolist()}
         self._carried: Dict[Tuple[Any, ...], Tuple[Array, Array]] = {}
 
-    def of(self, names: str) -> Array:
-        """The groups of these types, in order."""
+    def assign(self, application: Array) -> None:
+        """The application that each group's type is assigned to, or -1. Groups of two of them are not alike."""
+        different, number = numpy.unique(application, return_inverse=True)
+        both, self.of = numpy.unique(self.of * different.size + number, return_inverse=True)
+        self._set(self.alike.where(both // different.size), different[both % different.size])
+
+    def rows(self, names: str) -> Array:
+        """Those of these types, in order."""
         if names == "all":
-            return numpy.arange(self.columns.code.size)
-        found = [self.by_code[code] for code in codes_of(names) if code in self.by_code]
+            return numpy.arange(self.alike.code.size)
+        found = [self._by_code[code] for code in codes_of(names) if code in self._by_code]
         if not found:
             return numpy.empty(0, "i8")
         return found[0] if len(found) == 1 else numpy.sort(numpy.concatenate(found))
 
+    def places_of(self, rows: Array) -> Tuple[Array, Array]:
+        """The groups that are alike to one of these rows, in order, and for each the place of its row among them."""
+        table = numpy.full(self.alike.code.size, -1)
+        table[rows] = numpy.arange(rows.size)
+        number = table[self.of]
+        at = numpy.flatnonzero(number >= 0)
+        return at, number[at]
+
     def assigned(self, names: str, applications: Sequence[int]) -> Array:
         """Those of these types, or for ODA of any, that are assigned to one of the applications, if there are any."""
-        index = numpy.arange(self.columns.code.size) if names == "ODA" else self.of(names)
-        return index[among(self.application[index], applications)] if applications else index
+        rows = self.rows("all" if names == "ODA" else names)
+        return rows[among(self.application[rows], applications)] if applications else rows
 
-    def values(self, name: str, index: Array) -> Array:
+    def values(self, name: str, rows: Array) -> Array:
         """A field in these groups."""
         field = FIELDS[name]
-        words = (
-            word[index] if number in field.blocks else word
-            for number, word in zip(BLOCKS, self.columns.words)
-        )
-        value: Array = field.of(list(words))
+        words = [
+            word[rows] if number in field.blocks else word for number, word in zip(BLOCKS, self.alike.words)
+        ]
+        value: Array = field.of(words)
         return value
 
-    def with_known(self, index: Array, blocks: Iterable[int]) -> Array:
+    def with_known(self, rows: Array, blocks: Iterable[int]) -> Array:
         """Those of these groups whose blocks are known."""
         for block in blocks:
-            index = index[self.columns.known[block - 1][index]]
-        return index
+            rows = rows[self.alike.known[block - 1][rows]]
+        return rows
 
-    def are_valid(self, index: Array, blocks: Iterable[int]) -> Array:
+    def are_valid(self, rows: Array, blocks: Iterable[int]) -> Array:
         """Whether the blocks of these groups are valid."""
-        valid: Array = numpy.logical_and.reduce([self.columns.valid[block - 1][index] for block in blocks])
+        valid: Array = numpy.logical_and.reduce([self.alike.valid[block - 1][rows] for block in blocks])
         return valid
 
     def _carry(self, look: Look) -> Tuple[Array, Array]:
@@ -103,19 +152,19 @@ class Groups:
         blocks = carriers(look)
         key = look.groups, look.applications, blocks
         if key not in self._carried:
-            index = self.with_known(self.assigned(look.groups, look.applications), blocks)
-            self._carried[key] = index, self.are_valid(index, blocks)
+            rows = self.with_known(self.assigned(look.groups, look.applications), blocks)
+            self._carried[key] = rows, self.are_valid(rows, blocks)
         return self._carried[key]
 
     def observed(self, look: Look) -> Observations:
         """The field in the groups of its types whose blocks that carry it are known."""
-        index, sound = self._carry(look)
-        if not index.size:
+        rows, sound = self._carry(look)
+        if look.when and rows.size:
+            chosen = among(self.values(look.when, rows), tuple(look.values))
+            rows, sound = rows[chosen], sound[chosen]
+        if not rows.size:
             return NONE_SEEN
-        if look.when:
-            chosen = among(self.values(look.when, index), tuple(look.values))
-            index, sound = index[chosen], sound[chosen]
-        position: Any = self.values(look.position, index) if look.position else 0
-        message: Any = self.values(look.message, index) if look.message else 0
-        key = numpy.broadcast_to(key_of(look.kind, message, position + look.offset), index.shape)
-        return Observations(key, index, self.values(look.value, index), self.columns.whole[index], sound)
+        position: Any = self.values(look.position, rows) if look.position else 0
+        message: Any = self.values(look.message, rows) if look.message else 0
+        key = numpy.zeros(rows.size, "i8") + key_of(look.kind, message, position + look.offset)
+        return Observations(key, rows, self.values(look.value, rows), self.alike.whole[rows], sound)

@@ -37,7 +37,6 @@ class Programme:
 
     def __init__(self, pi: int, teller: Teller, rbds: bool, everything: bool, data: bool) -> None:
         self.pi, self._teller = pi, teller
-        self._received = Received(everything)
         plain = (*features.PLAIN, networks.Frequencies, *texts.PLAIN)
         takers: List[Taker] = [taker(teller) for taker in plain]
         takers += [
@@ -47,23 +46,21 @@ class Programme:
         ]
         takers.append(networks.OtherNetworks(teller, rbds))
         self._takers = [[one for one in takers if kind in one.kinds] for kind in range(max(Kind) + 1)]
-        self._is_taken = numpy.array(list(map(bool, self._takers)))
+        kinds = [kind for kind in Kind if self._takers[kind]]
+        self._received = Received(everything, kinds, teller.lapses)
 
-    def feed(self, groups: Columns) -> None:
-        news, changes = self._received.news(groups)
-        kinds = news.key >> KIND_SHIFT
-        taken = self._is_taken[kinds]
-        key, at, value = (column[taken] for column in news)
-        messages = key >> POSITION_BITS & (1 << KIND_SHIFT - POSITION_BITS) - 1
-        columns = (at, kinds[taken], messages, key & (1 << POSITION_BITS) - 1, value)
+    def feed(self, groups: Columns, chosen: Array) -> None:
+        news, changes = self._received.news(groups, chosen)
+        messages = news.key >> POSITION_BITS & (1 << KIND_SHIFT - POSITION_BITS) - 1
+        columns = (news.at, news.key >> KIND_SHIFT, messages, news.key & (1 << POSITION_BITS) - 1, news.value)
         found: List[Tuple[Any, ...]] = list(zip(*(column.tolist() for column in columns)))
         if changes:
             # Texts have no position.
             found += [(at, kind, message, None, codes) for at, kind, message, codes in changes]
             found.sort(key=itemgetter(0, 1))
-        places = groups.place.tolist() if found else []
-        for number, kind, message, position, said in found:
-            self._teller.place = places[number]
+        places = groups.place[chosen[[at for at, *_ in found]]].tolist() if found else []
+        for place, (_, kind, message, position, said) in zip(places, found):
+            self._teller.place = place
             for taker in self._takers[kind]:
                 if position is None:
                     taker.hear(kind, message, said)
@@ -98,16 +95,17 @@ class Decoder:
 
     def _feed(self, rows: Rows) -> None:
         is_group = rows["what"] == GROUP
-        acquired = numpy.concatenate([[0], numpy.cumsum(rows["what"] == ACQUIRED)])
-        groups, at = (
-            (rows, acquired[1:]) if is_group.all() else (chosen(rows, is_group), acquired[1:][is_group])
-        )
-        fresh = at != numpy.concatenate([[0], at])[:-1]
+        if is_group.all():
+            groups, fresh, is_fresh = rows, numpy.zeros(len(rows), bool), False
+        else:
+            acquired = numpy.cumsum(rows["what"] == ACQUIRED)
+            groups, at = chosen(rows, is_group), acquired[is_group]
+            fresh, is_fresh = numpy.diff(at, prepend=0) > 0, bool(acquired[-1] != numpy.append(0, at)[-1])
         if not fresh.size:
-            self._fresh |= bool(acquired[-1])
+            self._fresh |= is_fresh
             return
         fresh[0] |= self._fresh
-        self._fresh = bool(acquired[-1] != at[-1])
+        self._fresh = is_fresh
         self._feed_groups(groups, fresh)
 
     def _feed_groups(self, rows: Rows, fresh: Array) -> None:
@@ -119,9 +117,9 @@ class Decoder:
         for begin, end in zip(bounds, bounds[1:]):
             if begins[begin]:
                 self._begin(int(programme[begin]), int(groups.place[begin]))
-            chosen = begin + numpy.flatnonzero(readable[begin:end])
+            chosen = readable[begin:end].nonzero()[0]
             if self.programme and chosen.size:
-                self.programme.feed(groups.where(chosen))
+                self.programme.feed(groups.where(slice(begin, end)), chosen)
 
     def _begin(self, pi: int, place: int) -> None:
         self._teller.begin(pi, place)
@@ -141,17 +139,27 @@ class Decoder:
         has = (first | third) & ~contradicts
         value = numpy.where(first, groups.words[0], groups.words[2])
         sound = (~first | groups.valid[0]) & (~third | groups.valid[2])
-        index = numpy.flatnonzero(has)
+        now = self.programme.pi if self.programme else -1
+        index = has.nonzero()[0]
+        is_same = not (has & (value != now)).any()
+        if is_same and index.size:
+            # One of them says what all do.
+            sound[index[0]] = sound[index].any()
+            index = index[:1]
         key = numpy.zeros(index.size, "i8") + key_of(0)
         seen = Observations(key, index, value[index], groups.whole[index], sound[index])
-        counted = self._identifications.news(seen, True)
-        now = self.programme.pi if self.programme else -1
-        counts = numpy.zeros(has.size, bool)
-        counts[counted.at] = True
-        recent = latest(counts)
-        programme = numpy.where(recent >= 0, value[recent], now)
-        begins = programme != numpy.concatenate([[now], programme])[:-1]
-        belongs = has & (value == programme)
+        counted = self._identifications.counted(seen)
+        programme, begins, belongs = numpy.full(has.size, now), numpy.zeros(has.size, bool), has
+        if not is_same:
+            counts = numpy.zeros(has.size, bool)
+            counts[counted.at] = True
+            recent = latest(counts)
+            programme = numpy.where(recent >= 0, value[recent], now)
+            begins = programme != numpy.append(now, programme[:-1])
+            belongs = has & (value == programme)
+        if has.all():
+            self._tuned = bool(belongs[-1])
+            return programme, begins, belongs
         told = latest(has | fresh)
         tuned = numpy.where(told >= 0, belongs[told], self._tuned)
         self._tuned = bool(tuned[-1])

@@ -46,7 +46,7 @@ class Teller:
         """With `lapses`, a name or text that is in change is told as None, and told again even if it is the same."""
         self.pi, self.place = -1, 0
         self.held: Dict[str, Held] = {}
-        self._lapses = lapses
+        self.lapses = lapses
         self._events: List[Event] = []
 
     def begin(self, pi: int, place: int) -> None:
@@ -61,7 +61,8 @@ class Teller:
         before = self.held.get(item)
         if value == (before.value if before else None):
             return
-        shown = text if text is not None else _text(value)
+        # A text is its own, the same object.
+        shown = text if text is not None else value if isinstance(value, str) else _text(value)
         if value is None:
             del self.held[item]
         else:
@@ -71,7 +72,7 @@ class Teller:
     def tell_text(self, item: str, text: Optional[str]) -> None:
         """A name or text that is whole, or None while it is in change: the one before stays until another is known."""
         before = self.held.get(item)
-        if self._lapses and before and text in (None, before.value):
+        if self.lapses and before and text in (None, before.value):
             self._events.append(Event(self.place, self.pi, item, text, before.value, _text(text)))
         elif text is not None:
             self.tell(item, text)

@@ -19,6 +19,8 @@ Array = NDArray[Any]
 # A key is a kind, the message among those of its kind, and the part's position in the message.
 POSITION_BITS, KIND_SHIFT = 16, 40
 MOST_PARTS = 20000
+# In place of a value that no part has.
+UNKNOWN = -1
 
 
 def key_of(kind: int, message: Any = 0, position: Any = 0) -> Any:
@@ -26,7 +28,7 @@ def key_of(kind: int, message: Any = 0, position: Any = 0) -> Any:
 
 
 class Observations(NamedTuple):
-    """Received values, in the order of time within a key: `at` is the number of the group."""
+    """Received values: `at` is the number of the group, or of one of several that are alike."""
 
     key: Array
     at: Array
@@ -34,8 +36,27 @@ class Observations(NamedTuple):
     whole: Array
     sound: Array
 
-    def where(self, chosen: Array) -> "Observations":
+    def where(self, chosen: Any) -> "Observations":
         return Observations(*(column[chosen] for column in self))
+
+    def by_key(self) -> "Observations":
+        return self.where(numpy.argsort(self.key, kind="stable"))
+
+    def spread(self, of: Array) -> "Observations":
+        """Those of all groups, in the order of time; `of` tells for each which of the groups it is alike to."""
+        count = numpy.bincount(self.at, minlength=int(of.max()) + 1)
+        by_row = numpy.argsort(self.at, kind="stable")
+        at = (count > 0)[of].nonzero()[0]
+        row = of[at]
+        if count.max() > 1:
+            times = count[row]
+            before = numpy.cumsum(times) - times
+            number = numpy.arange(before[-1] + times[-1]) - numpy.repeat(before, times)
+            at, row = numpy.repeat(at, times), numpy.repeat(row, times)
+        else:
+            number = 0
+        found = self.where(by_row[(numpy.cumsum(count) - count)[row] + number])
+        return found._replace(at=at)
 
 
 class News(NamedTuple):
@@ -78,27 +99,83 @@ class Evidence:
         self.parts: Dict[int, PartState] = {}
         self.states: Dict[int, int] = {}
 
-    def news(self, seen: Observations, everything: bool = False) -> News:
-        """What counts of these observations and is news; with `everything`, all that counts."""
+    def news(self, seen: Observations, of: Array, everything: bool = False) -> News:
+        """What counts of these observations and is news, or with `everything` all that counts. They are of groups that are
+        unlike each other; `of` tells for each group which of these it is alike to."""
         if not seen.key.size:
             return NOTHING
-        if (seen.key[1:] < seen.key[:-1]).any():
-            seen = seen.where(numpy.argsort(seen.key, kind="stable"))
-        counts = self._counts(seen)
-        counted = News(*(column[counts] for column in seen[:3]))
-        news = counted if everything or not counted.key.size else self._news(counted)
+        seen = seen.by_key()
+        starts = _firsts(seen.key).nonzero()[0]
+        parts = [self.parts.get(name) for name in seen.key[starts].tolist()]
+        if not everything:
+            seen = seen.where(self._are_open(seen, starts, parts, of))
+            news = self._news(self.counted(seen.spread(of))) if seen.key.size else NOTHING
+        elif self._are_again(seen, starts, parts):
+            news = News(*seen.spread(of)[:3])
+        else:
+            news = self.counted(seen.spread(of))
         if len(self.parts) > MOST_PARTS:
             # Noise gives parts that never count: they are forgotten when there are too many.
             self.parts = {name: part for name, part in self.parts.items() if part.counted is not None}
         return news
 
+    @staticmethod
+    def _are_again(seen: Observations, starts: Array, parts: List[Optional[PartState]]) -> bool:
+        """Whether all are the trusted values of their parts again."""
+        last = [part.last if part and part.trusted else UNKNOWN for part in parts]
+        return bool((seen.value == numpy.repeat(last, numpy.diff(starts, append=seen.key.size))).all())
+
+    def _are_open(
+        self, seen: Observations, starts: Array, parts: List[Optional[PartState]], of: Array
+    ) -> Array:
+        """Which observations are of messages that may have news. All others have the values that counted last, or wrong
+        corrections: their parts are noted."""
+        sizes, message = numpy.diff(starts, append=seen.key.size), seen.key[starts] >> POSITION_BITS
+        states = [self.states.get(one, 0) for one in message.tolist()]
+        held = [
+            part.last if part and part.last == part.counted and part.state == state else UNKNOWN
+            for part, state in zip(parts, states)
+        ]
+        other = seen.value != numpy.repeat(held, sizes)
+        may_change = numpy.logical_or.reduceat(other & (seen.whole | seen.sound), starts)
+        may_change |= numpy.array(held) == UNKNOWN
+        bounds = _firsts(message).nonzero()[0]
+        is_open = numpy.logical_or.reduceat(may_change, bounds)
+        is_open = numpy.repeat(is_open, numpy.diff(bounds, append=message.size))
+        trusted = numpy.array([part is not None and part.trusted for part in parts])
+        is_noted = numpy.logical_or.reduceat(other | seen.sound & ~numpy.repeat(trusted, sizes), starts)
+        latest = numpy.zeros(int(of.max()) + 1, "i8")
+        latest[of] = numpy.arange(of.size)
+        for at in (is_noted & ~is_open).nonzero()[0].tolist():
+            rows = slice(starts[at], starts[at] + sizes[at])
+            self._note(seen.where(rows), other[rows], latest, bool(trusted[at]))
+        return numpy.repeat(is_open, sizes)
+
+    def _note(self, seen: Observations, other: Array, latest: Array, is_trusted: bool) -> None:
+        """Notes the value received last of a part that has no news, and whether it is trusted: by the latest group of each
+        that is unlike the others."""
+        name, at = int(seen.key[0]), latest[seen.at]
+        last_other = at[other].max(initial=-1)
+        trusted = (at[seen.sound & ~other] > last_other).any() or is_trusted and last_other < 0
+        value = int(seen.value[at.argmax()])
+        self.parts[name] = self.parts[name]._replace(last=value, trusted=bool(trusted))
+
+    def counted(self, seen: Observations) -> News:
+        """What counts of these observations, which are in the order of time."""
+        if not seen.key.size:
+            return NOTHING
+        if (seen.key[1:] < seen.key[:-1]).any():
+            seen = seen.by_key()
+        counts = self._counts(seen)
+        return News(*(column[counts] for column in seen[:3]))
+
     def _news(self, counted: News) -> News:
         """Which of the values that count are news."""
+        names = counted.key[_firsts(counted.key)].tolist()
         changed = self._changed(counted)
-        active = self._active(counted, changed)
-        counted, changed = News(*(column[active] for column in counted)), changed[active]
-        if not counted.key.size:
-            return counted
+        is_stale = any(self.parts[name].state != self.states.get(name >> POSITION_BITS, 0) for name in names)
+        if not (is_stale or changed.any()):
+            return NOTHING
         chosen = self._fresh(counted, self._states_of(counted, changed))
         return News(*(column[chosen] for column in counted))
 
@@ -133,20 +210,6 @@ class Evidence:
             for name, value in zip(counted.key[starts].tolist(), counted.value[starts].tolist())
         ]
         return changed
-
-    def _active(self, counted: News, changed: Array) -> Array:
-        """Which values are of messages that have news: a part changed, or one has not counted since another did."""
-        starts = numpy.flatnonzero(_firsts(counted.key))
-        message = counted.key[starts] >> POSITION_BITS
-        stale = [
-            self.parts[name].state != self.states.get(of, 0)
-            for name, of in zip(counted.key[starts].tolist(), message.tolist())
-        ]
-        active = numpy.logical_or.reduceat(changed, starts) | numpy.array(stale, bool)
-        bounds = numpy.flatnonzero(_firsts(message))
-        sizes = numpy.diff([*bounds, message.size])
-        of_message = numpy.repeat(numpy.logical_or.reduceat(active, bounds), sizes)
-        return numpy.repeat(of_message, numpy.diff([*starts, counted.key.size]))
 
     def _states_of(self, counted: News, changed: Array) -> Array:
         """The state of the message after each value that counts: how often parts of it changed."""

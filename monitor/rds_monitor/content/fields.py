@@ -99,17 +99,14 @@ dab               ODA           2:4-0 3:15-0 4:15-0 EN 301 700 all of these
 
 
 class Field(NamedTuple):
-    """A field: its parts as (block 1 to 4, shift, mask), and the groups that have it."""
+    """A field: its parts as (block 1 to 4, shift, mask), the blocks of these, and the groups that have it."""
 
     name: str
     groups: Tuple[str, ...]
     parts: Tuple[Tuple[int, int, int], ...]
+    blocks: Tuple[int, ...]
     clause: str
     meaning: str
-
-    @property
-    def blocks(self) -> Tuple[int, ...]:
-        return tuple(sorted({block for block, _, _ in self.parts}))
 
     def of(self, words: Any) -> Any:
         """The value in the four information words of a group, or of many if the words are arrays."""
@@ -135,7 +132,8 @@ def _field(line: str) -> Field:
         high, _, low = bits.partition("-")
         shift = int(low or high)
         parts.append((int(block), shift, (1 << int(high) - shift + 1) - 1))
-    return Field(match[1], tuple(match[2].split()), tuple(parts), match[4], match[5])
+    blocks = sorted({block for block, *_ in parts})
+    return Field(match[1], tuple(match[2].split()), tuple(parts), tuple(blocks), match[4], match[5])
 
 
 FIELDS = {field.name: field for field in map(_field, TABLE.strip().splitlines()[1:])}

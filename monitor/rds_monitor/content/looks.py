@@ -90,7 +90,7 @@ def _looks() -> Dict[Kind, List[Look]]:
 
 LOOKS = _looks()
 # Kinds that are each sifted by themselves, and those of a part of the texts below.
-_APART = "TP_PTY ODA ODA_MESSAGE EON_TA TDC_DATA IH_DATA AF EON_AF CT TAGS ERT_TAGS"
+_APART = "ODA ODA_MESSAGE AF EON_AF CT TAGS ERT_TAGS"
 APART = {Kind[name] for name in _APART.split()}
 FLAGS = (Kind.RT_FLAG, Kind.PTYN_FLAG, Kind.ERT_CODING)
 

@@ -9,7 +9,7 @@ from .columns import Groups
 from .evidence import Array, Epochs, Evidence, News
 from .fields import FIELDS
 from .looks import FLAGS, LOOKS, TEXTS, Kind, TextLook
-from .turns import OUTAGE_BITS, UNKNOWN, Message, Segments
+from .turns import OUTAGE_BITS, UNKNOWN, Message, Distinct, Segments, steps_of
 
 GROUP_BITS = 104
 # How many names of other networks are remembered, of those that were never whole.
@@ -38,56 +38,65 @@ class Heard(NamedTuple):
 class Messages:
     """The reception of all names and texts of one programme."""
 
-    def __init__(self) -> None:
+    def __init__(self, lapses: bool) -> None:
+        """With `lapses`, a text that ends and is whole again at once is told."""
         self._messages: Dict[Tuple[TextLook, int], Message] = {}
+        self._lapses = lapses
         self._place = self._outage = self._run = 0
         self._flags: Dict[Kind, Tuple[int, int]] = {kind: (UNKNOWN, 0) for kind in FLAGS}
 
     def changes(self, groups: Groups, evidence: Evidence) -> Tuple[News, List[TextChange]]:
         """The changes of the flag of RadioText, and those of all texts, in these groups."""
-        heard = self._heard(groups.columns.place)
-        counted = {kind: evidence.news(groups.observed(*LOOKS[kind]), True) for kind in FLAGS}
-        epochs = {kind: Epochs(counted[kind], *self._flags[kind]) for kind in FLAGS}
-        news = _changed(counted[Kind.RT_FLAG], self._flags[Kind.RT_FLAG][0])
+        heard = self._heard(groups.place)
+        changed = {kind: evidence.news(groups.observed(*LOOKS[kind]), groups.of) for kind in FLAGS}
+        epochs = {kind: Epochs(changed[kind], *self._flags[kind]) for kind in FLAGS}
         self._flags = {kind: epochs[kind].last for kind in FLAGS}
         found: List[TextChange] = []
         for look in TEXTS:
-            index = groups.assigned(look.groups, look.applications)
-            segment = groups.values(look.segment, index) - look.first
-            index = index[(segment >= 0) & (segment < look.shape.segments)]
-            if index.size:
-                found += self._texts(groups, look, index, heard, epochs[look.flag] if look.flag else None)
-        return news, found
+            rows = groups.assigned(look.groups, look.applications)
+            if look.message:
+                rows = groups.with_known(rows, FIELDS[look.message].blocks)
+            segment = groups.values(look.segment, rows) - look.first
+            rows = rows[(segment >= 0) & (segment < look.shape.segments)]
+            if rows.size:
+                found += self._texts(groups, look, rows, heard, epochs[look.flag] if look.flag else None)
+        return changed[Kind.RT_FLAG], found
 
     def _heard(self, place: Array) -> Heard:
-        step = numpy.diff(place, prepend=self._place)
+        step = steps_of(place, self._place)
         outage = self._outage + numpy.cumsum(step > OUTAGE_BITS)
         run = self._run + numpy.cumsum(step != GROUP_BITS)
         self._place, self._outage, self._run = int(place[-1]), int(outage[-1]), int(run[-1])
         return Heard(outage, run)
 
     def _texts(
-        self, groups: Groups, look: TextLook, index: Array, heard: Heard, epochs: Optional[Epochs]
+        self, groups: Groups, look: TextLook, rows: Array, heard: Heard, epochs: Optional[Epochs]
     ) -> Iterator[TextChange]:
-        if epochs:
-            index = index[epochs.flag(index) == _flag_of(groups, look, index)]
+        names, starts = numpy.zeros(1, "i8"), numpy.zeros(1, "i8")
         if look.message:
-            index = groups.with_known(index, FIELDS[look.message].blocks)
-        generation = heard.outage[index] << 32 | (epochs.number(index) if epochs else 0)
-        message = groups.values(look.message, index) if look.message else numpy.zeros(index.size, "i8")
-        for one in numpy.unique(message).tolist():
-            chosen = message == one
-            rows = index[chosen]
-            segments = _segments(groups, look, rows, heard.run[rows], generation[chosen])
-            for row, codes in self._message(look, one).take(segments):
-                coding = one if look.coding is None else look.coding
-                yield TextChange(int(rows[row]), look.kind, coding, codes)
+            message = groups.values(look.message, rows)
+            rows = rows[numpy.argsort(message, kind="stable")]
+            names, starts = numpy.unique(groups.values(look.message, rows), return_index=True)
+        at, number = groups.places_of(rows)
+        said, generation = _said(groups, look, rows), heard.outage[at] << 32
+        if epochs:
+            own = epochs.flag(at) == _flag_of(groups, look, rows)[number]
+            at, number, generation = at[own], number[own], (generation | epochs.number(at))[own]
+        for one, start, end in zip(names.tolist(), starts.tolist(), [*starts[1:].tolist(), rows.size]):
+            chosen = ((number >= start) & (number < end)).nonzero()[0] if look.message else slice(None)
+            of = at[chosen]
+            part = Segments(
+                groups.place[of], number[chosen] - start, heard.run[of], generation[chosen], said[start:end]
+            )
+            coding = one if look.coding is None else look.coding
+            for row, codes in self._message(look, one).take(part):
+                yield TextChange(int(of[row]), look.kind, coding, codes)
 
     def _message(self, look: TextLook, message: int) -> Message:
         if (look, message) not in self._messages:
             if len(self._messages) >= MOST_BEGUN:
                 self._forget()
-            self._messages[look, message] = Message(look.shape)
+            self._messages[look, message] = Message(look.shape, self._lapses)
         return self._messages[look, message]
 
     def _forget(self) -> None:
@@ -95,26 +104,20 @@ class Messages:
         self._messages = {key: message for key, message in self._messages.items() if message.was_told}
 
 
-def _flag_of(groups: Groups, look: TextLook, index: Array) -> Array:
+def _flag_of(groups: Groups, look: TextLook, rows: Array) -> Array:
     """The flag that counts has to be that of the group itself, or the one of this coding."""
     if look.coding is not None or look.flag is None:
-        return numpy.full(index.size, look.coding)
-    return groups.values(LOOKS[look.flag][0].value, index)
+        return numpy.full(rows.size, look.coding)
+    return groups.values(LOOKS[look.flag][0].value, rows)
 
 
-def _segments(groups: Groups, look: TextLook, index: Array, run: Array, generation: Array) -> Segments:
+def _said(groups: Groups, look: TextLook, rows: Array) -> Distinct:
     """The segments in these groups."""
     values, valid, own = [], [], {2, *(FIELDS[look.message].blocks if look.message else ())}
     for pair in look.pairs:
         blocks = FIELDS[pair].blocks
-        known = groups.columns.known[blocks[0] - 1][index]
-        values.append(numpy.where(known, groups.values(pair, index), UNKNOWN))
-        valid.append(groups.are_valid(index, {*own, *blocks}))
-    place, segment = groups.columns.place[index], groups.values(look.segment, index) - look.first
-    return Segments(place, segment, numpy.stack(values, axis=1), numpy.stack(valid, axis=1), run, generation)
-
-
-def _changed(counted: News, before: int) -> News:
-    """The flags that differ from the one before."""
-    changed = numpy.concatenate([[before], counted.value])[:-1] != counted.value
-    return News(*(column[changed] for column in counted))
+        known = groups.alike.known[blocks[0] - 1][rows]
+        values.append(numpy.where(known, groups.values(pair, rows), UNKNOWN))
+        valid.append(groups.are_valid(rows, {*own, *blocks}))
+    segment = groups.values(look.segment, rows) - look.first
+    return Distinct(segment, numpy.stack(values, axis=1), numpy.stack(valid, axis=1))

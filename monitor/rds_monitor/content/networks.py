@@ -45,22 +45,27 @@ class FrequencyList:
     def _begin(self) -> None:
         self._pairs: Dict[int, None] = {}
         self._turns = self._before_head = 0
+        self._list = self._found()
 
     def take(self, pair: int) -> Any:
-        """Takes a pair that counts. Returns the list if it became complete, as `found` does."""
+        """Takes a pair that counts. Returns the list if it became complete: the frequencies, or by method B those of one
+        transmitter."""
         if pair == self.head:
             self._turns += 1
             if self._turns == 1:
                 self._before_head = len(self._pairs)
-            if self._turns > self.TURNS and self.found() is None:
+                self._list = self._found()
+                return self._list
+            if self._turns > self.TURNS and self._list is None:
                 self._begin()
-            return self.found() if self._turns == 1 else None
+            return None
         if pair in self._pairs or not self._belongs(pair):
             return None
-        if self.found() is not None:
+        if self._list is not None:
             self._begin()
         self._pairs[pair] = None
-        return self.found()
+        self._list = self._found()
+        return self._list
 
     def _belongs(self, pair: int) -> bool:
         """Whether a pair has a frequency, and by method B that of the transmitter."""
@@ -73,8 +78,8 @@ class FrequencyList:
         """Whether a pair is of method B: it has the first frequency, and is none of long or medium wave."""
         return high != LOW_FOLLOWS and self.first in (high, low)
 
-    def found(self) -> Any:
-        """The frequencies, or by method B those of one transmitter, or None while the list is not complete."""
+    def _found(self) -> Any:
+        """The list, or None while it is not complete."""
         first, heard = kilohertz(self.first), [divmod(pair, 256) for pair in self._pairs]
         pairs = heard[self._before_head :] + heard[: self._before_head]
         beside = [pair for pair in pairs if self._is_beside(*pair)]

@@ -15,7 +15,8 @@ their constants:
 from __future__ import annotations
 
 from collections import deque
-from typing import Any, Deque, Dict, Iterator, List, NamedTuple, Optional, Tuple
+from functools import cached_property
+from typing import Any, Deque, Dict, Generator, Iterator, List, NamedTuple, Optional, Tuple
 
 import numpy
 
@@ -31,8 +32,11 @@ OUTAGE_BITS = 10 * 1187.5
 UNKNOWN = -1
 # How far a pair can be trusted.
 SINGLE, CONFIRMED, VALID = 0, 1, 2
-# The least number of rows that are read one by one after a change.
-LEAST_READ = 2 * RECENT
+# How many rows that say a text again are read one by one, before others are passed at once.
+LEAST_READ = RECENT
+FIRST_PASSED = 64 * LEAST_READ
+# Place, the number of the segment among those that are unlike each other, run, and whether a turn can have been missed before.
+Row = Tuple[int, int, int, bool]
 
 
 class Shape(NamedTuple):
@@ -52,36 +56,82 @@ class Shape(NamedTuple):
         """How many pairs there are."""
         return self.segments * self.pairs
 
-    def end_in(self, value: int) -> int:
-        """How many bytes of a pair are before the end of the text, or UNKNOWN if it does not end there."""
+    @property
+    def ends(self) -> Dict[int, int]:
+        """The pairs that have the end of a text, and how many of their bytes are before it."""
         if not self.is_text or self.wide:
-            return 0 if self.is_text and value == END_OF_TEXT else UNKNOWN
-        return 0 if value >> 8 == END_OF_TEXT else 1 if value & 0xFF == END_OF_TEXT else UNKNOWN
+            return {END_OF_TEXT: 0} if self.is_text else {}
+        lower = {byte << 8 | END_OF_TEXT: 1 for byte in range(256)}
+        return {**lower, **{END_OF_TEXT << 8 | byte: 0 for byte in range(256)}}
+
+
+class Distinct:
+    """Segments that are unlike each other: their numbers, and a column per pair of its value and whether it is valid, with
+    UNKNOWN for one that was not received."""
+
+    def __init__(self, segment: Array, value: Array, valid: Array) -> None:
+        self.segment, self.value, self.valid = segment, value, valid
+        self._others: Tuple[Any, bool, Array] = (None, False, segment)
+
+    def __getitem__(self, chosen: slice) -> "Distinct":
+        return Distinct(self.segment[chosen], self.value[chosen], self.valid[chosen])
+
+    @cached_property
+    def rows(self) -> List[Tuple[int, Tuple[int, ...], List[bool]]]:
+        """The same, to be read one by one."""
+        return list(zip(self.segment.tolist(), map(tuple, self.value.tolist()), self.valid.tolist()))
+
+    @cached_property
+    def pairs(self) -> Array:
+        """A bit for each pair that was received."""
+        size = self.value.shape[1]
+        bits = numpy.uint64(1) << (self.segment[:, None] * size + numpy.arange(size)).astype("u8")
+        found: Array = numpy.bitwise_or.reduce(bits * (self.value != UNKNOWN), axis=1)
+        return found
+
+    def others(self, told: "WholeText", is_length: bool) -> Array:
+        """Which have another pair than this text, or one after its end if it is known to have this length."""
+        if self._others[:2] != (told, is_length):
+            expected = numpy.array(told.said)[self.segment]
+            differs = (self.value != expected) & (self.value != UNKNOWN)
+            self._others = told, is_length, (differs & ((expected != UNKNOWN) | is_length)).any(axis=1)
+        return self._others[2]
 
 
 class Segments(NamedTuple):
-    """Groups that carry segments of one name or text, a row each, in the order of time.
-
-    `value` and `valid` have a column per pair, with UNKNOWN for one that was not received. Two rows have the same `run`
-    if every group between them was read. The text is another one where `generation` changes.
+    """Groups that carry segments of one name or text, a row each, in the order of time: `number` is the row in `said`. Two groups
+    have the same `run` if every group between them was read. The text is another one where `generation` changes.
     """
 
-    place: Any
-    segment: Any
-    value: Any
-    valid: Any
-    run: Any
-    generation: Any
-    # Whether a turn can have been missed before each row, once that is known.
-    missed: Any = numpy.zeros(0, bool)
+    place: Array
+    number: Array
+    run: Array
+    generation: Array
+    said: Distinct
 
-    def where(self, chosen: slice) -> "Segments":
-        return Segments(*(column[chosen] for column in self))
+    def where(self, chosen: Any) -> "Segments":
+        place, number, run, generation, said = self
+        return Segments(place[chosen], number[chosen], run[chosen], generation[chosen], said)
 
-    def as_lists(self) -> "Segments":
-        """The same, to be read row by row."""
-        columns = (column.T.tolist() for column in self)
-        return Segments(*(list(zip(*one)) if of.ndim > 1 else one for of, one in zip(self, columns)))
+
+class Turns:
+    """Segments of one generation, and where turns begin among them."""
+
+    def __init__(self, groups: Segments, pace: "Pace", last: int, run: int, is_text: bool) -> None:
+        """After the segment `last` of this run."""
+        self.place, self.number, self.run, _, self.said = groups
+        self.size, self.segment = self.place.size, self.said.segment[self.number]
+        # Whether a turn can have been missed before each.
+        self.missed = pace.missed(self.place, self.segment)
+        self.before = numpy.append(last, self.segment[:-1])
+        self.turn = numpy.cumsum(self.missed | (self.segment <= self.before))
+        # Where a turn of a text begins anew, and the group before was read.
+        is_read = self.run == numpy.append(run, self.run[:-1])
+        self.restarts = ((self.segment == 0) & is_read & (self.before >= 0) & is_text).nonzero()[0]
+
+    def rows(self, begin: int, end: int) -> List[Row]:
+        columns = (self.place, self.number, self.run, self.missed)
+        return list(zip(*(column[begin:end].tolist() for column in columns)))
 
 
 # Two characters, how far they can be trusted, and the turn and the bit position of their last reception.
@@ -98,31 +148,39 @@ class Pace:
         self._segments = self.LEAST_SEGMENTS if shape.is_text else shape.segments
         self._place, self._segment = UNKNOWN, UNKNOWN
         # The bits and steps between the last segments.
-        self._bits = self._steps = numpy.zeros(0, "i8")
+        self._bits = self._steps = numpy.zeros(RECENT, "i8")
 
     def missed(self, place: Array, segment: Array) -> Array:
         """Whether as much time went by before each of the next segments as a turn more takes."""
-        turns = numpy.full(segment.size + 1, self._segments)
-        if self._is_text:
-            turns = numpy.maximum.accumulate(numpy.append(self._segments, segment + 1))
-        bits, steps = numpy.diff(place, prepend=self._place), numpy.diff(segment, prepend=self._segment)
-        steps += (steps <= 0) * turns[:-1]
+        turns: Any = self._segments
+        if self._is_text and segment.max() >= turns:
+            turns = numpy.maximum.accumulate(numpy.append(turns, segment[:-1] + 1))
+            self._segments = max(int(turns[-1]), int(segment[-1]) + 1)
+        bits, steps = steps_of(place, self._place), steps_of(segment, self._segment)
+        steps += (steps <= 0) * turns
         if self._place == UNKNOWN:
             bits[0] = steps[0] = 0
-        known = self._bits.size
         self._bits, self._steps = numpy.append(self._bits, bits), numpy.append(self._steps, steps)
-        of_bits, of_steps = (_sums_before(one)[known:] for one in (self._bits, self._steps))
+        of_bits, of_steps = map(_sums_before, (self._bits, self._steps))
         self._bits, self._steps = self._bits[-RECENT:], self._steps[-RECENT:]
-        self._place, self._segment, self._segments = int(place[-1]), int(segment[-1]), int(turns[-1])
-        missed: Array = (bits * of_steps >= (steps + turns[:-1]) * of_bits) & (of_steps > 0)
+        self._place, self._segment = int(place[-1]), int(segment[-1])
+        missed: Array = (bits * of_steps >= (steps + turns) * of_bits) & (of_steps > 0)
         return missed
 
 
+def steps_of(values: Array, before: int) -> Array:
+    """How much each value is above the one before it."""
+    steps = numpy.empty(values.size, "i8")
+    steps[0] = values[0] - before
+    numpy.subtract(values[1:], values[:-1], out=steps[1:])
+    return steps
+
+
 def _sums_before(values: Array) -> Array:
-    """The sum of the last values before each."""
-    sums, at = numpy.append(0, numpy.cumsum(values)), numpy.arange(values.size)
-    found: Array = sums[at] - sums[numpy.maximum(at - RECENT, 0)]
-    return found
+    """The sum of the last values before each, but the first ones."""
+    sums = numpy.cumsum(values)
+    sums[RECENT:] -= sums[:-RECENT].copy()
+    return sums[RECENT - 1 : -1]
 
 
 class WholeText:
@@ -148,8 +206,9 @@ class WholeText:
 class Message:
     """One name or text, as it is received."""
 
-    def __init__(self, shape: Shape) -> None:
-        self._shape = shape
+    def __init__(self, shape: Shape, lapses: bool) -> None:
+        """With `lapses` a text that ends, and is whole again in the same group, is told again."""
+        self._shape, self._lapses, self._ends = shape, lapses, shape.ends
         self._generation = self._run = UNKNOWN
         self._recent: Deque[bool] = deque(maxlen=RECENT)
         self._pace = Pace(shape)
@@ -175,158 +234,169 @@ class Message:
         """The changes, each with its row: the characters of a text that is whole, or None if another text begins or the
         one that was told does not hold any more. However the groups are cut into chunks, the changes are the same.
         """
-        changes = numpy.flatnonzero(numpy.diff(groups.generation, prepend=self._generation)).tolist()
+        if not groups.place.size:
+            return
+        changes = steps_of(groups.generation, self._generation).nonzero()[0].tolist()
         for begin, end in zip([0, *changes], [*changes, groups.place.size]):
             if begin == end:
                 continue
-            if begin in changes:
+            if self._generation != groups.generation[begin]:
                 self._generation = int(groups.generation[begin])
                 self._pace = Pace(self._shape)
                 self._clear()
                 yield begin, None
-            rows = groups.where(slice(begin, end))
-            rows = rows._replace(missed=self._pace.missed(rows.place, rows.segment))
-            for row, text in self._take(rows):
+            rows = groups.where(slice(begin, end)) if changes else groups
+            turns = Turns(rows, self._pace, self._segment, self._run, self._shape.is_text)
+            for row, text in self._take(turns):
                 yield begin + row, text
 
-    def _take(self, groups: Segments) -> Iterator[Tuple[int, Optional[bytes]]]:
-        """The changes within a generation. Where texts change often, more rows are read one by one before others are
-        passed at once."""
-        begin, length, most = 0, LEAST_READ, 16 * LEAST_READ
-        while begin < groups.place.size:
-            rest, passed = groups.where(slice(begin, begin + most)), 0
-            if self._told and rest.place.size > LEAST_READ:
-                passed, cuts = self._pass(rest, self._told)
-                for row in cuts:
-                    yield begin + row, None
-                    yield begin + row, self._told.text
-            begin += passed
-            if passed == rest.place.size:
+    def _take(self, turns: Turns) -> Iterator[Tuple[int, Optional[bytes]]]:
+        """The changes within a generation. While a text holds, rows are passed at once, but for the first ones."""
+        begin, length, most = 0, 4 * LEAST_READ, FIRST_PASSED
+        while begin < turns.size:
+            end = min(begin + most, turns.size)
+            if self._told and end - begin > LEAST_READ:
+                begin, cuts = self._pass(turns, begin, end, self._told)
+                for row in cuts if self._lapses else ():
+                    yield row, None
+                    yield row, self._told.text
                 most *= 8
-                continue
-            length, most = LEAST_READ if passed >= length else 2 * length, 16 * LEAST_READ
-            rows = groups.where(slice(begin, begin + length)).as_lists()
-            for row, text in self._read(rows):
-                yield begin + row, text
-            begin += len(rows.place)
-
-    def _read(self, rows: Segments) -> Iterator[Tuple[int, Optional[bytes]]]:
-        row = 0
-        while row < len(rows.place):
-            if self._told:
-                row = self._follow(rows, row, self._told)
-                if row == len(rows.place):
-                    return
-                self._told, self._may_end = None, True
-                yield row, None
-            if rows.missed[row]:
-                self._clear()
-                yield row, None
-            segment = rows.segment[row]
-            if segment <= self._segment:
-                self._end_turn(segment == 0 and rows.run[row] == self._run)
-                text = self._whole(self._fresh(rows.place[row]))
-                if text is not None:
-                    yield row, text
+                if begin == end:
                     continue
-            if self._hear(rows, row):
-                yield row, None
+            most = FIRST_PASSED
+            rows = turns.rows(begin, begin + length)
+            read = yield from self._read(rows, turns.said, begin)
+            length = 2 * length if read == len(rows) else 4 * LEAST_READ
+            begin += read
+
+    def _read(
+        self, rows: List[Row], said: Distinct, begin: int
+    ) -> Generator[Tuple[int, Optional[bytes]], None, int]:
+        """Takes rows one by one until a text has held for some, and returns how many."""
+        row = 0
+        while row < len(rows):
+            if self._told:
+                end = min(row + LEAST_READ, len(rows))
+                row = self._follow(rows, row, end, said, self._told)
+                if row == end:
+                    return row
+                self._told, self._may_end = None, True
+                yield begin + row, None
+            place, number, run, is_missed = rows[row]
+            if is_missed:
+                self._clear()
+                yield begin + row, None
+            segment, values, valid = said.rows[number]
+            if segment <= self._segment:
+                self._end_turn(segment == 0 and run == self._run)
+                text = self._whole(self._fresh(place))
+                if text is not None:
+                    yield begin + row, text
+                    continue
+            self._segment, self._run = segment, run
+            if self._hear(values, valid, place):
+                yield begin + row, None
             may_be_whole = self._may_end or len(self._now) >= (self._length or self._shape.size)
             text = self._whole(self._now) if may_be_whole else None
             if text is not None:
-                yield row, text
+                yield begin + row, text
             row += 1
+        return row
 
     # ---- while the text that was told holds
 
-    def _pass(self, groups: Segments, told: WholeText) -> Tuple[int, List[int]]:
-        """Passes the first rows if they say the told text again: how many they are, and in which of them it ended
+    def _pass(self, turns: Turns, begin: int, end: int, told: WholeText) -> Tuple[int, List[int]]:
+        """Passes the first of these rows if they say the told text again: where it ends, and in which of them the text ended
         early, and was whole again at once."""
-        before = numpy.append(self._segment, groups.segment[:-1])
-        expected = numpy.array(told.said)[groups.segment]
-        differs = (groups.value != expected) & (groups.value != UNKNOWN)
-        if self._length != told.size:
-            differs &= expected != UNKNOWN
-        other, cuts = differs.any(axis=1), numpy.flatnonzero(self._is_cut(groups, before, told))
+        other = turns.said.others(told, self._length == told.size)[turns.number[begin:end]]
+        cuts = turns.restarts
         if cuts.size:
-            other[cuts[~self._are_kept(groups, cuts, told)]] = True
-        end = int(other.argmax()) if other.any() else other.size
+            cuts = cuts[
+                (cuts >= begin) & (cuts < end) & ((turns.before[cuts] + 1) * self._shape.pairs < told.size)
+            ]
+        if cuts.size:
+            other[cuts[~self._are_kept(turns, slice(begin, end), cuts, told)] - begin] = True
+        first = int(other.argmax())
+        end = begin + first if other[first] else end
         cuts = cuts[cuts < end]
-        if end:
-            self._note(groups.where(slice(end)), before[:end])
+        if end > begin:
+            self._note(turns, begin, end)
         if cuts.size:
-            last, ending = [self._last_segment, *before[cuts].tolist()][-2:]
+            last, ending = [self._last_segment, *turns.before[cuts].tolist()][-2:]
             self._length = (ending + 1) * self._shape.pairs if last == ending else 0
             self._last_segment = ending
             # Pairs after the end of the text are forgotten whenever it is whole.
-            pairs, place = {**self._earlier, **self._now}, groups.place[cuts[-1]]
+            pairs, place = {**self._earlier, **self._now}, turns.place[cuts[-1]]
             self._part({at: pair for at, pair in pairs.items() if at < told.size or pair[3] >= place})
         return end, cuts.tolist()
 
-    def _is_cut(self, groups: Segments, before: Array, told: WholeText) -> Array:
-        """In which rows the text begins anew before its end."""
-        if not self._shape.is_text:
-            return numpy.zeros(before.size, bool)
-        is_read = groups.run == numpy.append(self._run, groups.run[:-1])
-        is_early = (before >= 0) & ((before + 1) * self._shape.pairs < told.size)
-        cut: Array = (groups.segment == 0) & is_read & is_early
-        return cut
-
-    def _are_kept(self, groups: Segments, cuts: Array, told: WholeText) -> Array:
+    def _are_kept(self, turns: Turns, rows: slice, cuts: Array, told: WholeText) -> Array:
         """Whether the told text has an end, and before each of these rows no turn was missed, and all of its pairs
         came lately, in segments that were received."""
         pairs, size = {**self._earlier, **self._now}, self._shape.pairs
-        kept: Array = ~groups.missed[cuts] & told.has_end
-        is_known = (groups.value != UNKNOWN).all(axis=1)
+        kept: Array = ~turns.missed[cuts] & told.has_end
+        if not kept.any():
+            return kept
+        is_known = (turns.said.value != UNKNOWN).all(axis=1)
+        known = numpy.where(is_known, turns.said.segment, UNKNOWN)[turns.number[rows]]
         for segment in range(-(-told.size // size)):
-            at = numpy.flatnonzero((groups.segment == segment) & is_known)
+            at = rows.start + numpy.flatnonzero(known == segment)
             first = min(pairs[one][3] for one in range(segment * size, min(told.size, (segment + 1) * size)))
-            places = numpy.append(first, groups.place[at])
-            kept &= places[numpy.searchsorted(at, cuts)] >= groups.place[cuts] - TEXT_BITS
+            places = numpy.append(first, turns.place[at])
+            kept &= places[numpy.searchsorted(at, cuts)] >= turns.place[cuts] - TEXT_BITS
         return kept
 
-    def _note(self, groups: Segments, before: Array) -> None:
-        """Notes when each pair came last in rows that say the told text again, after these segments."""
-        turns = self._turn + numpy.cumsum(groups.missed | (groups.segment <= before))
-        rows, columns = numpy.nonzero(groups.value != UNKNOWN)
-        latest = numpy.full((self._shape.size, 2), UNKNOWN)
-        latest[groups.segment[rows] * self._shape.pairs + columns] = numpy.stack([rows, columns], axis=1)
-        pairs = {**self._earlier, **self._now}
-        heard = numpy.flatnonzero(latest[:, 0] >= 0)
-        rows, columns = latest[heard].T
-        found = (groups.value[rows, columns], turns[rows], groups.place[rows])
-        for position, value, turn, place in zip(heard.tolist(), *(column.tolist() for column in found)):
-            pairs[position] = value, VALID, turn, place
-        self._turn, self._segment, self._run = int(turns[-1]), int(groups.segment[-1]), int(groups.run[-1])
-        self._part(pairs)
-        self._recent.extend(groups.valid[groups.value != UNKNOWN][-RECENT:].tolist())
+    def _note(self, turns: Turns, begin: int, end: int) -> None:
+        """Notes when each pair came last in rows that say the told text again, and which of the last ones are valid."""
+        size, first = self._shape.pairs, self._turn - (int(turns.turn[begin - 1]) if begin else 0)
+        heard = numpy.bitwise_or.reduce(turns.said.pairs[turns.number[begin:end]])
+        count = bin(int(heard)).count("1")
+        found: Dict[int, Pair] = {}
+        flags: List[bool] = []
+        start = end
+        while start > begin and (len(found) < count or len(flags) < RECENT):
+            rows = slice(max(begin, start - RECENT), start)
+            columns = (turns.number[rows], turns.turn[rows] + first, turns.place[rows])
+            for number, turn, place in zip(*(column[::-1].tolist() for column in columns)):
+                segment, values, valid = turns.said.rows[number]
+                for column in range(size - 1, -1, -1):
+                    if values[column] != UNKNOWN:
+                        flags.append(valid[column])
+                        found.setdefault(segment * size + column, (values[column], VALID, turn, place))
+            start = rows.start
+        last = end - 1
+        self._turn, self._segment = first + int(turns.turn[last]), int(turns.segment[last])
+        self._run = int(turns.run[last])
+        self._part({**self._earlier, **self._now, **found})
+        self._recent.extend(flags[::-1])
 
     def _part(self, pairs: Dict[int, Pair]) -> None:
         """Sets the pairs of this turn, and those of earlier ones."""
         self._now = {position: pair for position, pair in pairs.items() if pair[2] == self._turn}
         self._earlier = {position: pair for position, pair in pairs.items() if pair[2] != self._turn}
 
-    def _follow(self, rows: Segments, row: int, told: WholeText) -> int:
+    def _follow(self, rows: List[Row], row: int, end: int, said: Distinct, told: WholeText) -> int:
         """Notes when each pair came last in the rows that say the told text again, and returns the first that does
         not, or the end."""
-        size, now, before = self._shape.pairs, self._now, self._segment
-        for row in range(row, len(rows.place)):
-            segment, values = rows.segment[row], rows.value[row]
-            if values != told.said[segment] and told.differs(segment, values, self._length == told.size):
+        size, now, before, is_length = self._shape.pairs, self._now, self._segment, self._length == told.size
+        for row in range(row, end):
+            place, number, run, is_missed = rows[row]
+            segment, values, valid = said.rows[number]
+            if values != told.said[segment] and told.differs(segment, values, is_length):
                 return row
-            if segment <= before or rows.missed[row]:
+            if segment <= before or is_missed:
                 is_cut = segment == 0 <= before and self._shape.is_text and (before + 1) * size < told.size
-                if is_cut and rows.run[row] == self._run:
+                if is_cut and run == self._run:
                     return row
                 self._next_turn()
                 now = self._now
             self._segment = before = segment
-            self._run = rows.run[row]
-            for position, (value, valid) in enumerate(zip(values, rows.valid[row]), segment * size):
+            self._run = run
+            for position, (value, is_valid) in enumerate(zip(values, valid), segment * size):
                 if value != UNKNOWN:
-                    now[position] = value, VALID, self._turn, rows.place[row]
-                    self._recent.append(valid)
-        return len(rows.place)
+                    now[position] = value, VALID, self._turn, place
+                    self._recent.append(is_valid)
+        return end
 
     def _next_turn(self) -> None:
         self._earlier.update(self._now)
@@ -336,22 +406,19 @@ class Message:
 
     # ---- while none does
 
-    def _hear(self, rows: Segments, row: int) -> bool:
+    def _hear(self, values: Tuple[int, ...], valid: List[bool], place: int) -> bool:
         """Takes the pairs of a group, and tells whether another text has begun."""
-        has_begun, place = False, rows.place[row]
-        self._segment, self._run = rows.segment[row], rows.run[row]
-        position = self._segment * self._shape.pairs
-        for value, valid in zip(rows.value[row], rows.valid[row]):
+        has_begun, position = False, self._segment * self._shape.pairs
+        for value, is_valid in zip(values, valid):
             if value != UNKNOWN:
-                self._recent.append(valid)
-                grade = VALID if valid else SINGLE
-                has_begun |= self._hear_pair(position, value, grade, place)
+                self._recent.append(is_valid)
+                has_begun |= self._hear_pair(position, value, VALID if is_valid else SINGLE, place)
             position += 1
         return has_begun
 
     def _hear_pair(self, position: int, value: int, grade: int, place: int) -> bool:
         earlier, doubted = self._earlier.get(position), self._doubted.pop(position, None)
-        self._may_end |= self._shape.end_in(value) != UNKNOWN
+        self._may_end |= value in self._ends
         if earlier and not self._is_fresh(earlier, place):
             earlier = None
         is_other = earlier is not None and earlier[0] != value
@@ -397,19 +464,16 @@ class Message:
 
     def _whole(self, pairs: Dict[int, Pair]) -> Optional[bytes]:
         """The characters of a text whose pairs are all known and trusted. It is told then."""
-        count, last, wanted = 0, UNKNOWN, self._length or self._shape.size
-        end_in = self._shape.end_in
-        while last == UNKNOWN and count in pairs:
-            last = end_in(pairs[count][0])
-            count += 1
-        if last == UNKNOWN:
-            if count < wanted or any(end_in(pair[0]) != UNKNOWN for pair in pairs.values()):
+        ends = [position for position, pair in pairs.items() if pair[0] in self._ends]
+        found = []
+        for position in range(min(ends) + 1 if ends else self._length or self._shape.size):
+            pair = pairs.get(position)
+            if pair is None:
                 return None
-            count = wanted
-        found = [pairs[position] for position in range(count)]
+            found.append(pair)
         if sum([grade == SINGLE for _, grade, _, _ in found]) > self._most_singles():
             return None
-        return self._tell(found, last)
+        return self._tell(found, self._ends[found[-1][0]] if ends else UNKNOWN)
 
     def _most_singles(self) -> int:
         """How many pairs may be single, by the share of valid ones among those received lately."""
