@@ -16,7 +16,7 @@ SOURCES := crates.txt $(shell find crates -name out -prune -o \( -name '*.rt' -o
 all: build/rds lib
 
 toolchain:
-	@command -v $(RT) >/dev/null || { echo "rds: the Rattle toolchain is missing: there is no '$(RT)' on the PATH (README.md, 'Install');" \
+	@command -v $(RT) >/dev/null || { echo "rds: $(FOR)the Rattle toolchain is missing: there is no '$(RT)' on the PATH (README.md, 'Install');" \
 	  "PROGRAM=FILE and LIBRARY=FOLDER name what was built elsewhere" >&2; exit 1; }
 
 # What was built is installed and packed as it is, though sources may be newer: the toolchain is asked for only if nothing was built.
@@ -27,7 +27,7 @@ unbuilt = $(if $(wildcard $(1)),,$(1))
 tell_if_older = @[ -z "$$(find $(SOURCES) -newer '$(1)' -print -quit)" ] || $(call older,$(1))
 
 build/rds: $(SOURCES)
-	@$(stays) || $(MAKE) --no-print-directory program
+	@$(stays) || $(MAKE) --no-print-directory program FOR='there is no $@ yet, and '
 
 # `rt run` proves and builds what is missing, keeps the program, and runs it: here for its help alone.
 program: toolchain
@@ -45,7 +45,7 @@ TOOLS_arm64  := aarch64-linux-gnu-
 lib: $(FOLDER_$(ARCH))/librds.so.0
 
 $(FOLDER_amd64)/librds.so.0 $(FOLDER_arm64)/librds.so.0: $(SOURCES) $(wildcard lib/*)
-	@$(stays) || $(MAKE) --no-print-directory archive-$(if $(filter $(FOLDER_arm64)/%,$@),arm64,amd64)
+	@$(stays) || $(MAKE) --no-print-directory archive-$(if $(filter $(FOLDER_arm64)/%,$@),arm64,amd64) FOR='there is no $@ yet, and '
 
 # over the crates that are proved already, as in the gate
 archive-%: toolchain
@@ -201,8 +201,8 @@ TOOLCHAIN ?= $(shell cat build/toolchain 2>/dev/null || $(RT) version 2>/dev/nul
 wheel: $(call unbuilt,$(FOLDER_$(ARCH))/librds.so.0)
 	bindings/python/make_wheel.py $(FOLDER_$(ARCH))/librds.so.0 build
 
-# Three simulated stations on a page, by the library of `make lib`, by build/rds, by the system's library, or else by a program that is
-# built without proof, in a minute or so.
+# Three simulated stations on a page, by the decoder that rds-monitor finds, or else by a program that is built without proof, in a minute
+# or so.
 monitor-demo:
 	$(PYTHON) monitor/demo/run.py $(DEMO)
 

@@ -4,11 +4,10 @@ monitor/demo/run.py [--seconds N] [--folder FOLDER]
 
 Beta has noise for a quarter of each second hour, and one wrong bit in 200. Gamma's receiver dies after an hour and a half, and another PI
 comes for half an hour of each three. The other four are in the band of one receiver of IQ (capture.py), which is demodulated as it comes.
-The addresses are printed: of a page of the three once it shows them, of a page of the four, and, if librds is there, of a picture of the
-capture's spectrum. The pages go on until this is interrupted, or for N seconds.
+The addresses are printed: of a page of the three once it shows them, of a picture of the capture's spectrum, and of a page of the four.
+The pages go on until this is interrupted, or for N seconds.
 
-It decodes by the library of `make lib`, or else by build/rds, or else by the system's library. If none is there, it builds rds without
-proof, in a minute or so.
+It decodes as rds-monitor does. If there is no decoder, it builds rds without proof, in a minute or so.
 """
 
 from __future__ import annotations
@@ -28,6 +27,7 @@ from unproved import build, is_new
 
 HERE = Path(__file__).resolve().parent
 TOP = HERE.parents[1]
+MONITOR = [sys.executable, str(TOP / "monitor" / "rds-monitor")]
 # An unproved program has enough to do with 60.
 SPEED, SLOW = 200, 60
 LONGEST_START = 100.0
@@ -64,53 +64,37 @@ def table(folder: Path) -> str:
     return found
 
 
-def environment() -> "dict[str, str]":
-    """The modules of this checkout, and its library if it is built."""
-    paths = [str(TOP / "monitor"), str(TOP / "bindings" / "python")]
-    found = {**os.environ, "PYTHONPATH": os.pathsep.join(paths)}
-    built = TOP / "build" / "lib" / "librds.so.0"
-    if built.exists():
-        found.setdefault("RDS_LIBRARY", str(built))
-    return found
+def decoder() -> str:
+    """The decoder that rds-monitor finds, as it names it."""
+    done = subprocess.run([*MONITOR, "--version"], stdout=subprocess.PIPE, text=True)
+    return done.stdout.partition("\ndecoder: ")[2].strip() or sys.exit(done.returncode)
 
 
-def has(module: str, known: "dict[str, str]") -> bool:
-    words = [sys.executable, "-c", f"import {module}"]
-    return not subprocess.call(words, env=known, stderr=subprocess.DEVNULL)
-
-
-def decoder(known: "dict[str, str]") -> "list[str]":
-    """The options for `watch` that choose the decoder and the speed."""
-    built, unproved = TOP / "build" / "rds", TOP / "build" / "unproved" / "rds"
-    if "RDS_LIBRARY" in known and has("librds", known):
-        return told(f"librds, {known['RDS_LIBRARY']}", SPEED)
-    if built.exists():
-        return told(str(built), SPEED, "--program", str(built))
-    if has("librds", known):
-        return told("the librds of this machine", SPEED)
-    if not is_new(unproved):
-        text = "there is no build/lib and no build/rds: rds is built without proof, in a minute or so"
-        print(text, file=sys.stderr, flush=True)
-        build(unproved)
-    return told(f"{unproved}, which is not proved", SLOW, "--program", str(unproved))
-
-
-def told(name: str, speed: int, *words: str) -> "list[str]":
-    print(f"decoded by {name}, at {speed} times real time", file=sys.stderr, flush=True)
-    return ["--speed", str(speed), *words]
+def speed_by(found: str) -> int:
+    """The speed for this decoder, or for a program that is built if there is none."""
+    program, speed = TOP / "build" / "unproved" / "rds", SPEED
+    if found.startswith("none: "):
+        if not is_new(program):
+            print(
+                "there is no decoder: rds is built without proof, in a minute or so",
+                file=sys.stderr,
+                flush=True,
+            )
+            build(program)
+        os.environ["RDS"] = str(program)
+        found, speed = f"{program}, which is not proved", SLOW
+    print(f"decoded by {found}, at {speed} times real time", file=sys.stderr, flush=True)
+    return speed
 
 
 class Watch:
     """A watch as a process, and the page of its stations."""
 
-    def __init__(
-        self, folder: Path, text: str, names: "list[str]", options: "list[str]", known: "dict[str, str]"
-    ):
+    def __init__(self, folder: Path, text: str, names: "list[str]", *options: str):
         folder.mkdir(parents=True, exist_ok=True)
         path, self.page, self._names = folder / "stations.toml", folder / "pages" / "index.html", names
         path.write_text(text)
-        words = [sys.executable, "-m", "rds_monitor", "watch", *options, str(path)]
-        self.process = subprocess.Popen(words, env=known)
+        self.process = subprocess.Popen([*MONITOR, "watch", *options, str(path)])
 
     def shows_all(self) -> bool:
         text = self.page.read_text() if self.page.exists() else ""
@@ -133,16 +117,16 @@ class Watch:
             self.process.kill()
 
 
-def picture(folder: Path, known: "dict[str, str]") -> None:
-    """Of the capture, which it makes; without librds there is none."""
-    subprocess.run(
-        [sys.executable, str(HERE / "capture.py"), "--keep", str(folder / PLAYED), "--make"], check=True
-    )
-    if has("librds", known):
-        words = [sys.executable, "-m", "rds_monitor", "stations", "--html", *SAMPLES, str(folder / PLAYED)]
-        page = folder / "capture.html"
-        page.write_bytes(subprocess.run(words, env=known, stdout=subprocess.PIPE, check=True).stdout)
-        print(page.as_uri(), flush=True)
+def picture(folder: Path) -> None:
+    """Of the capture, which it makes."""
+    make = [sys.executable, str(HERE / "capture.py"), "--keep", str(folder / PLAYED), "--make"]
+    subprocess.run(make, check=True)
+    page = folder / "capture.html"
+    with open(page, "wb") as file:
+        subprocess.run(
+            [*MONITOR, "stations", "--html", *SAMPLES, str(folder / PLAYED)], stdout=file, check=True
+        )
+    print(page.as_uri(), flush=True)
 
 
 def main() -> int:
@@ -151,20 +135,15 @@ def main() -> int:
     parser.add_argument("--seconds", type=float, default=0.0, help=text)
     parser.add_argument("--folder", help="where to write (default: a new folder)")
     arguments = parser.parse_args()
-    known = environment()
-    if not has("numpy", known):
-        sys.exit("the demonstration needs numpy: install python3-numpy")
-    options = decoder(known)
+    speed = speed_by(decoder())
     folder = Path(arguments.folder or tempfile.mkdtemp(prefix="rds-monitor-demo-")).resolve()
     folder.mkdir(parents=True, exist_ok=True)
-    at_once = [options[at : at + 2] for at in range(0, len(options), 2) if options[at] != "--speed"]
-    watches = [Watch(folder, table(folder), [station[3] for station in STATIONS], options, known)]
+    watches = [Watch(folder, table(folder), [station[3] for station in STATIONS], "--speed", str(speed))]
     try:
         watches[0].tell()
-        picture(folder, known)
+        picture(folder)
         names = [station.programme.ps for station in capture.STATIONS]
-        words = [word for pair in at_once for word in pair]
-        watches.append(Watch(folder / "capture", table_of_capture(folder), names, words, known))
+        watches.append(Watch(folder / "capture", table_of_capture(folder), names))
         watches[1].tell()
         watches[0].process.wait(arguments.seconds or None)
     except (KeyboardInterrupt, subprocess.TimeoutExpired):

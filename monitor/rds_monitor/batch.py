@@ -19,6 +19,7 @@ import sys
 import tempfile
 from typing import IO, Iterator, List, NamedTuple, Optional, Tuple
 
+from . import ITSELF
 from .rows.decoders import rds_program
 from .rows.items import Fault, Misuse
 from .rows.listing import CUT
@@ -114,9 +115,8 @@ def job_text(arguments: argparse.Namespace, program: str) -> str:
         work = f"{decode} < {{}}.in > {{}}.csv"
     else:
         demod = " ".join(map(shlex.quote, shlex.split(arguments.demod)))
-        python = f"{shlex.quote(sys.executable)} -m rds_monitor"
         work = (
-            f"{python} demod {demod} {{}}.in > {{}}.bits && {decode} < {{}}.bits > {{}}.csv; s=$?; "
+            f"{shlex.join(ITSELF)} demod {demod} {{}}.in > {{}}.bits && {decode} < {{}}.bits > {{}}.csv; s=$?; "
             "rm -f {}.bits; exit $s"
         )
     # rds says what is wrong in its first line, and the demodulator in its last one.

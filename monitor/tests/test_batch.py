@@ -9,13 +9,14 @@ import shutil
 import signal
 import socket
 import subprocess
+import sys
 import time
 from pathlib import Path
 from typing import Any, Iterator, List
 
 import numpy
 import pytest
-from conftest import COMMAND, PROGRAM, STATION, encode, monitor, rds
+from conftest import COMMAND, PROGRAM, STATION, TOP, encode, monitor, ran, rds
 from made import run
 from modulator import mpx, stored, wav, words
 
@@ -116,9 +117,12 @@ def test_signals_are_demodulated(folders: Any) -> None:
     groups = words(8, 24)
     (folders[0] / "mpx.wav").write_bytes(wav(stored(mpx(encode(groups), 171000), "s16"), "s16", 171000))
     (folders[0] / "cut.wav").write_bytes(b"RIFF")
-    done = monitor("batch", "--suffix", ".wav", "--demod", "", *folders)
+    # As it is installed: no path of the environment has the package.
+    known = {key: value for key, value in os.environ.items() if key != "PYTHONPATH"}
+    command = [sys.executable, TOP / "monitor" / "rds-monitor", "batch", "--suffix", ".wav", "--demod", ""]
+    done = ran([*command, *folders], env=known)
     assert done.returncode == 1
-    assert b"cut.wav: failed: rds-monitor demod: the WAV file ends within its header" in done.stderr
+    assert "cut.wav: failed: rds-monitor demod: the WAV file ends within its header" in done.stderr
     assert listings(folders[1])["mpx.csv"].count(b"\ngroup,") >= 23
 
 

@@ -166,5 +166,5 @@ class Groups:
             return NONE_SEEN
         position: Any = self.values(look.position, rows) if look.position else 0
         message: Any = self.values(look.message, rows) if look.message else 0
-        key = numpy.broadcast_to(key_of(look.kind, message, position + look.offset), rows.shape)
+        key = numpy.zeros(rows.size, "i8") + key_of(look.kind, message, position + look.offset)
         return Observations(key, rows, self.values(look.value, rows), self.alike.whole[rows], sound)

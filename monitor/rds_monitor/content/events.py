@@ -61,7 +61,8 @@ class Teller:
         before = self.held.get(item)
         if value == (before.value if before else None):
             return
-        shown = text if text is not None else _text(value)
+        # A text is its own, the same object.
+        shown = text if text is not None else value if isinstance(value, str) else _text(value)
         if value is None:
             del self.held[item]
         else:

@@ -36,7 +36,7 @@ class Observations(NamedTuple):
     whole: Array
     sound: Array
 
-    def where(self, chosen: Array) -> "Observations":
+    def where(self, chosen: Any) -> "Observations":
         return Observations(*(column[chosen] for column in self))
 
     def by_key(self) -> "Observations":
@@ -107,84 +107,63 @@ class Evidence:
         seen = seen.by_key()
         starts = _firsts(seen.key).nonzero()[0]
         parts = [self.parts.get(name) for name in seen.key[starts].tolist()]
-        if everything:
-            news = self._all_counted(seen, starts, parts, of)
-        else:
+        if not everything:
             seen = seen.where(self._are_open(seen, starts, parts, of))
             news = self._news(self.counted(seen.spread(of))) if seen.key.size else NOTHING
+        elif self._are_again(seen, starts, parts):
+            news = News(*seen.spread(of)[:3])
+        else:
+            news = self.counted(seen.spread(of))
         if len(self.parts) > MOST_PARTS:
             # Noise gives parts that never count: they are forgotten when there are too many.
             self.parts = {name: part for name, part in self.parts.items() if part.counted is not None}
         return news
 
-    def _all_counted(
-        self, seen: Observations, starts: Array, parts: List[Optional[PartState]], of: Array
-    ) -> News:
-        """All that counts, in any order. All values count that are the trusted ones of their parts again, and none of a
-        part that has no valid block."""
-        value = seen.value[starts]
-        is_same = numpy.maximum.reduceat(seen.value, starts) == numpy.minimum.reduceat(seen.value, starts)
-        is_firm = numpy.logical_or.reduceat(seen.sound | seen.whole, starts)
-        again, open_ = numpy.zeros(starts.size, bool), numpy.zeros(starts.size, bool)
-        columns = (seen.key[starts], value, is_same, is_firm)
-        for at, (name, own, same, firm) in enumerate(zip(*(column.tolist() for column in columns))):
-            part = parts[at] or PartState(own, False)
-            if same and part.last == own and (part.trusted or not firm):
-                again[at] = part.trusted
-                self.parts[name] = part
-            else:
-                open_[at] = True
-        sizes = numpy.diff(starts, append=seen.key.size)
-        known, rest = (seen.where(numpy.repeat(chosen, sizes)) for chosen in (again, open_))
-        found = [News(*known.spread(of)[:3])] if known.key.size else []
-        found += [self.counted(rest.spread(of))] if rest.key.size else []
-        return News(*map(numpy.concatenate, zip(*found))) if found else NOTHING
+    @staticmethod
+    def _are_again(seen: Observations, starts: Array, parts: List[Optional[PartState]]) -> bool:
+        """Whether all are the trusted values of their parts again."""
+        last = [part.last if part and part.trusted else UNKNOWN for part in parts]
+        return bool((seen.value == numpy.repeat(last, numpy.diff(starts, append=seen.key.size))).all())
 
     def _are_open(
         self, seen: Observations, starts: Array, parts: List[Optional[PartState]], of: Array
     ) -> Array:
         """Which observations are of messages that may have news. All others have the values that counted last, or wrong
         corrections: their parts are noted."""
-        sizes = numpy.diff(starts, append=seen.key.size)
-        message = seen.key[starts] >> POSITION_BITS
+        sizes, message = numpy.diff(starts, append=seen.key.size), seen.key[starts] >> POSITION_BITS
         states = [self.states.get(one, 0) for one in message.tolist()]
         held = [
-            part.counted if part and part.last == part.counted and part.state == state else None
+            part.last if part and part.last == part.counted and part.state == state else UNKNOWN
             for part, state in zip(parts, states)
         ]
-        other = seen.value != numpy.repeat([UNKNOWN if one is None else one for one in held], sizes)
+        other = seen.value != numpy.repeat(held, sizes)
         may_change = numpy.logical_or.reduceat(other & (seen.whole | seen.sound), starts)
-        may_change |= numpy.array([one is None for one in held])
+        may_change |= numpy.array(held) == UNKNOWN
         bounds = _firsts(message).nonzero()[0]
-        is_open = numpy.repeat(
-            numpy.logical_or.reduceat(may_change, bounds), numpy.diff(bounds, append=message.size)
-        )
-        has_other = numpy.logical_or.reduceat(other, starts)
-        is_sound = numpy.logical_or.reduceat(seen.sound, starts)
-        last: Array = numpy.zeros(0, "i8")
-        if (has_other & ~is_open).any():
-            last = numpy.zeros(int(of.max()) + 1, "i8")
-            last[of] = numpy.arange(of.size)
-        for at in (~is_open & (has_other | is_sound)).nonzero()[0].tolist():
-            part = parts[at]
-            if part and has_other[at]:
-                rows = slice(starts[at], starts[at] + sizes[at])
-                self._note(seen, rows, other[rows], last[seen.at[rows]], part)
-            elif part and not part.trusted:
-                self.parts[int(seen.key[starts[at]])] = part._replace(trusted=True)
+        is_open = numpy.logical_or.reduceat(may_change, bounds)
+        is_open = numpy.repeat(is_open, numpy.diff(bounds, append=message.size))
+        trusted = numpy.array([part is not None and part.trusted for part in parts])
+        is_noted = numpy.logical_or.reduceat(other | seen.sound & ~numpy.repeat(trusted, sizes), starts)
+        latest = numpy.zeros(int(of.max()) + 1, "i8")
+        latest[of] = numpy.arange(of.size)
+        for at in (is_noted & ~is_open).nonzero()[0].tolist():
+            rows = slice(starts[at], starts[at] + sizes[at])
+            self._note(seen.where(rows), other[rows], latest, bool(trusted[at]))
         return numpy.repeat(is_open, sizes)
 
-    def _note(self, seen: Observations, rows: slice, other: Array, last: Array, part: PartState) -> None:
-        """Notes the value received last of a part that had no news, and whether it is trusted: by the last group that has
-        each value."""
-        latest = int(last.argmax())
-        is_trusted = bool((last[seen.sound[rows] & ~other] > last[other].max()).any())
-        value = int(seen.value[rows][latest])
-        trusted = is_trusted and not other[latest]
-        self.parts[int(seen.key[rows.start])] = part._replace(last=value, trusted=trusted)
+    def _note(self, seen: Observations, other: Array, latest: Array, is_trusted: bool) -> None:
+        """Notes the value received last of a part that has no news, and whether it is trusted: by the latest group of each
+        that is unlike the others."""
+        name, at = int(seen.key[0]), latest[seen.at]
+        last_other = at[other].max(initial=-1)
+        trusted = (at[seen.sound & ~other] > last_other).any() or is_trusted and last_other < 0
+        value = int(seen.value[at.argmax()])
+        self.parts[name] = self.parts[name]._replace(last=value, trusted=bool(trusted))
 
     def counted(self, seen: Observations) -> News:
         """What counts of these observations, which are in the order of time."""
+        if not seen.key.size:
+            return NOTHING
         if (seen.key[1:] < seen.key[:-1]).any():
             seen = seen.by_key()
         counts = self._counts(seen)

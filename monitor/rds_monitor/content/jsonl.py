@@ -3,6 +3,8 @@ from __future__ import annotations
 
 import argparse
 import sys
+from functools import lru_cache
+from operator import itemgetter
 from typing import Any, Dict, Iterator, List, Optional, Tuple, Union
 
 from ..rows.clock import Clock, clock_of, clock_options
@@ -74,9 +76,21 @@ def line(value: Dict[str, Any]) -> str:
     return safe_json(value) + "\n"
 
 
+# A text comes up to four times: as value, as text, and in the next event.
+_quoted = lru_cache(1 << 10)(safe_json)
+
+
 def content_line(event: Event, clock: Clock) -> str:
-    own = {name: getattr(event, name) for name in ("item", "value", "before", "text")}
-    return line({**placed("content", event.place, clock), "pi": f"{event.pi:04X}", **own})
+    """Without a dictionary, since some stations send as many as groups."""
+    place, pi, item, value, before, text = event
+    shown = _quoted(text)
+    told = shown if text is value else safe_json(value)
+    was = _quoted(before) if isinstance(before, str) else safe_json(before)
+    time = f'"time_s":{round(clock.seconds(place), 3)!r}'
+    if clock.start is not None:
+        time += f',"time_utc":"{clock.utc(place)[0]}"'
+    where = f'"kind":"content","place":{place},{time},"pi":"{pi:04X}","item":{_quoted(item)}'
+    return f'{{{where},"value":{told},"before":{was},"text":{shown}}}\n'
 
 
 def event_lines(rows: Rows, events: List[Event], clock: Clock) -> List[str]:
@@ -86,8 +100,11 @@ def event_lines(rows: Rows, events: List[Event], clock: Clock) -> List[str]:
     found: List[Tuple[int, str]] = [
         (place, line(_sync_object(what, place, number, clock))) for what, place, number in zip(*columns)
     ]
-    found += [(event.place, content_line(event, clock)) for event in events]
-    return [text for _, text in sorted(found, key=lambda pair: pair[0])]
+    lines = [content_line(event, clock) for event in events]
+    if not found:
+        return lines
+    found += zip((event.place for event in events), lines)
+    return [text for _, text in sorted(found, key=itemgetter(0))]
 
 
 def _sync_object(what: int, place: int, number: int, clock: Clock) -> Dict[str, Any]:

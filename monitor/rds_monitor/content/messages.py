@@ -1,7 +1,7 @@
 """The names and texts in the groups of one programme, as they become whole and as they end."""
 from __future__ import annotations
 
-from typing import Any, Dict, Iterator, List, NamedTuple, Optional, Tuple
+from typing import Dict, Iterator, List, NamedTuple, Optional, Tuple
 
 import numpy
 
@@ -9,7 +9,7 @@ from .columns import Groups
 from .evidence import Array, Epochs, Evidence, News
 from .fields import FIELDS
 from .looks import FLAGS, LOOKS, TEXTS, Kind, TextLook
-from .turns import OUTAGE_BITS, UNKNOWN, Message, Said, Segments, steps_of
+from .turns import OUTAGE_BITS, UNKNOWN, Message, Distinct, Segments, steps_of
 
 GROUP_BITS = 104
 # How many names of other networks are remembered, of those that were never whole.
@@ -72,19 +72,25 @@ class Messages:
     def _texts(
         self, groups: Groups, look: TextLook, rows: Array, heard: Heard, epochs: Optional[Epochs]
     ) -> Iterator[TextChange]:
+        names, starts = numpy.zeros(1, "i8"), numpy.zeros(1, "i8")
+        if look.message:
+            message = groups.values(look.message, rows)
+            rows = rows[numpy.argsort(message, kind="stable")]
+            names, starts = numpy.unique(groups.values(look.message, rows), return_index=True)
         at, number = groups.places_of(rows)
+        said, generation = _said(groups, look, rows), heard.outage[at] << 32
         if epochs:
             own = epochs.flag(at) == _flag_of(groups, look, rows)[number]
-            at, number = at[own], number[own]
-        segments = Segments(
-            groups.place[at], number, heard.run[at], heard.outage[at] << 32, _said(groups, look, rows)
-        )
-        if epochs:
-            segments.generation[:] |= epochs.number(at)
-        for message, chosen, part in _by_message(groups, look, rows, segments):
-            coding = message if look.coding is None else look.coding
-            for row, codes in self._message(look, message).take(part):
-                yield TextChange(int(at[chosen][row]), look.kind, coding, codes)
+            at, number, generation = at[own], number[own], (generation | epochs.number(at))[own]
+        for one, start, end in zip(names.tolist(), starts.tolist(), [*starts[1:].tolist(), rows.size]):
+            chosen = ((number >= start) & (number < end)).nonzero()[0] if look.message else slice(None)
+            of = at[chosen]
+            part = Segments(
+                groups.place[of], number[chosen] - start, heard.run[of], generation[chosen], said[start:end]
+            )
+            coding = one if look.coding is None else look.coding
+            for row, codes in self._message(look, one).take(part):
+                yield TextChange(int(of[row]), look.kind, coding, codes)
 
     def _message(self, look: TextLook, message: int) -> Message:
         if (look, message) not in self._messages:
@@ -98,31 +104,6 @@ class Messages:
         self._messages = {key: message for key, message in self._messages.items() if message.was_told}
 
 
-def _by_message(
-    groups: Groups, look: TextLook, rows: Array, segments: Segments
-) -> Iterator[Tuple[int, Any, Segments]]:
-    """The segments of each message, and which of all they are."""
-    if not look.message:
-        yield 0, slice(None), segments
-        return
-    of = groups.values(look.message, rows)
-    by_name = numpy.argsort(of, kind="stable")
-    names, starts = numpy.unique(of[by_name], return_index=True)
-    # The numbers of the rows by message, and by these the segments.
-    place = numpy.empty(by_name.size, "i8")
-    place[by_name] = numpy.arange(by_name.size)
-    number = place[segments.number]
-    order = numpy.argsort(number, kind="stable")
-    ends = [*starts[1:].tolist(), by_name.size]
-    bounds = numpy.searchsorted(number[order], [0, *ends]).tolist()
-    for name, start, end, *of_groups in zip(names.tolist(), starts.tolist(), ends, bounds, bounds[1:]):
-        chosen = numpy.sort(order[slice(*of_groups)])
-        if chosen.size:
-            part = segments.where(chosen)
-            said = segments.said.where(by_name[start:end])
-            yield name, chosen, part._replace(number=number[chosen] - start, said=said)
-
-
 def _flag_of(groups: Groups, look: TextLook, rows: Array) -> Array:
     """The flag that counts has to be that of the group itself, or the one of this coding."""
     if look.coding is not None or look.flag is None:
@@ -130,7 +111,7 @@ def _flag_of(groups: Groups, look: TextLook, rows: Array) -> Array:
     return groups.values(LOOKS[look.flag][0].value, rows)
 
 
-def _said(groups: Groups, look: TextLook, rows: Array) -> Said:
+def _said(groups: Groups, look: TextLook, rows: Array) -> Distinct:
     """The segments in these groups."""
     values, valid, own = [], [], {2, *(FIELDS[look.message].blocks if look.message else ())}
     for pair in look.pairs:
@@ -139,4 +120,4 @@ def _said(groups: Groups, look: TextLook, rows: Array) -> Said:
         values.append(numpy.where(known, groups.values(pair, rows), UNKNOWN))
         valid.append(groups.are_valid(rows, {*own, *blocks}))
     segment = groups.values(look.segment, rows) - look.first
-    return Said(segment, numpy.stack(values, axis=1), numpy.stack(valid, axis=1))
+    return Distinct(segment, numpy.stack(values, axis=1), numpy.stack(valid, axis=1))

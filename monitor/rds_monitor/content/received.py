@@ -79,7 +79,9 @@ class FrequencyNews:
 class Received:
     """The reception of one programme. `news` takes the next groups of it."""
 
-    def __init__(self, everything: bool = False, kinds: Sequence[int] = tuple(Kind), lapses: bool = True) -> None:
+    def __init__(
+        self, everything: bool = False, kinds: Sequence[int] = tuple(Kind), lapses: bool = True
+    ) -> None:
         """News of these kinds are of use. With `everything`, all that counts is news: slow, and the measure that `news` is
         tested by."""
         self._everything = everything
@@ -97,8 +99,8 @@ class Received:
         flags, texts = self._messages.changes(groups, self._evidence)
         found = [assignments, flags, *self._all_news(groups)]
         for kind, text in ((Kind.TAGS, Kind.RT), (Kind.ERT_TAGS, Kind.ERT)):
-            others = [flags.at, [change.at for change in texts if change.kind == text]]
-            found.append(self._tags(groups, kind, numpy.sort(numpy.concatenate(others))))
+            changes = numpy.array([change.at for change in texts if change.kind == text], "i8")
+            found.append(self._tags(groups, kind, numpy.sort(numpy.concatenate([flags.at, changes]))))
         news = News(*map(numpy.concatenate, zip(*found)))
         order = numpy.lexsort((news.key, news.at))
         return News(*(part[order] for part in news)), texts
@@ -153,7 +155,7 @@ class Received:
                 is_channel = name[:-1] == "5"
                 channel = groups.values("tdc.channel", rows) if is_channel else GROUP_CODES | code_of(name)
                 ones = numpy.ones(rows.size, bool)
-                key = numpy.broadcast_to(key_of(Kind.CHANNEL, 0, channel), rows.shape)
+                key = numpy.zeros(rows.size, "i8") + key_of(Kind.CHANNEL, 0, channel)
                 yield Observations(key, rows, ones.astype("i8"), groups.alike.whole[rows], ones)
 
     def _services(self, groups: Groups) -> Observations:

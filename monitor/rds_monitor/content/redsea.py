@@ -6,7 +6,8 @@ text is written with the last group of its turn, as long as it holds.
 from __future__ import annotations
 
 from functools import lru_cache
-from itertools import chain
+from itertools import chain, groupby
+from operator import itemgetter
 from typing import Any, Callable, Dict, Iterable, List, Tuple
 
 import numpy
@@ -16,6 +17,7 @@ from ..rows.items import BLOCKS, GROUP, VALID, Rows, chosen
 from ..rows.listing import kinds_of
 from .charset import safe_json
 from .decoder import Decoder, Event
+from .evidence import Array
 from .features import clock_time, item_number
 from .looks import TMC, codes_of, name_of
 from .names import language, programme_type
@@ -36,6 +38,8 @@ TOLD_IN = {
     **{"rt": "2A 2B", "rt_ab": "2A 2B", "oda": "3A", "tmc_service": "3A", "ct": "4A", "tdc": "5A 5B"},
     **{"tmc_provider": "8A", "tmc_message": "8A", "ptyn": "10A", "eon": "14A 14B", "lps": "15A"},
 }
+# Items that are written with the group in which they are told, and a PI, by which nothing else holds.
+_TOLD_ONCE = ("pi", "rt_plus", "ert", "dab:")
 _DI = ("dynamic_pty", "compressed", "artificial_head", "stereo")
 
 
@@ -88,13 +92,16 @@ class Redsea:
             "3A": self._open_data,
             "4A": self._clock,
             "5A 5B": self._channel,
-            "6A 6B": self._in_house,
+            "6A 6B": lambda found, words: None,
             "8A": self._traffic,
             "10A": lambda found, _: self._put(found, pty_name="ptyn"),
             "14A 14B": self._network,
             "15A": lambda found, _: self._put(found, long_ps="lps"),
         }
         self._makers = {code: maker for names, maker in makers.items() for code in codes_of(names)}
+        # Of other types only these bits are told.
+        self._told = numpy.full(32, 0xFFE0 << 32)
+        self._told[list(self._makers)] = -1
 
     def lines(self, rows: Rows, clock: Clock) -> List[str]:
         """A line per group whose second block is known, from the first group on whose PI counts."""
@@ -104,24 +111,37 @@ class Redsea:
         own = numpy.array([before, *(pi for _, pi in begins)])
         own = own[numpy.searchsorted([place for place, _ in begins], groups["place"], side="right")]
         groups = chosen(groups, (own >= 0) & ((groups["kind1"] < VALID) | (groups["info1"] == own)))
-        keys = _keys_of(groups)
+        keys: List[int] = (_keys_of(groups) & self._told[groups["info2"] >> 11]).tolist()
         if self._time != TIME * (clock.start is not None):
             self._time = TIME * (clock.start is not None)
             self._written.clear()
         lines: List[str] = []
         begin = 0
         ends = numpy.searchsorted(groups["place"], [event.place for event in events]).tolist()
-        for event, end in zip(events, ends):
+        for end, pairs in groupby(zip(ends, events), itemgetter(0)):
             # Events of one group change it together.
-            if end > begin:
+            told = [event for _, event in pairs]
+            if begin == end or end == len(keys) or self._changes(told, keys[end] >> 32):
                 lines += self._lines_of(keys[begin:end])
                 begin = end
-            self._hold(event)
+                for event in told:
+                    self._hold(event)
         lines += self._lines_of(keys[begin:])
         if clock.start is None:
             return lines
         times = utc_texts(clock.start + groups["place"] / clock.rate)
         return [line.replace(TIME, f',"rx_time":"{time}"', 1) for line, time in zip(lines, times)]
+
+    def _changes(self, events: List[Event], second: int) -> bool:
+        """Whether the events of a group change lines, its own or those after it: others tell again what its block 2 asks for."""
+        values = {event.item: event.value for event in events}
+        return any(
+            item.startswith(_TOLD_ONCE)
+            or self._held.get(item, self) != value
+            or item in WRITTEN_IN
+            and second & WRITTEN_IN[item][0] != WRITTEN_IN[item][1]
+            for item, value in values.items()
+        )
 
     def _lines_of(self, groups: List[int]) -> Iterable[str]:
         """The lines of groups in a row, in the first of which items may have changed."""
@@ -145,13 +165,16 @@ class Redsea:
         second = group >> 32 & 0xFFFF
         rest: Object = {}
         self._is_valid = bool(group >> 49)
-        maker = self._makers.get(second >> 11)
-        if group >> 48 & 1 and maker:
-            maker(rest, (self._pi, second, group >> 16 & 0xFFFF, group & 0xFFFF))
+        code, text = second >> 11, self._head(self._pi, second & 0xFFE0) + self._time
+        if group >> 48 & 1 and code in self._makers:
+            self._makers[code](rest, (self._pi, second, group >> 16 & 0xFFFF, group & 0xFFFF))
+            if code >> 1 == 6:
+                # Few are alike, so that these lines are made without a dictionary.
+                third = "" if code & 1 else f"{group >> 16 & 0xFFFF},"
+                text += f',"in_house_data":[{second & 0x1F},{third}{group & 0xFFFF}]'
         if self._fresh:
             self._applications(rest)
-        head = self._head(self._pi, second & 0xFFE0) + self._time
-        return f"{head},{safe_json(rest)[1:]}\n" if rest else head + "}\n"
+        return f"{text},{safe_json(rest)[1:]}\n" if rest else text + "}\n"
 
     def _head_of(self, pi: int, second: int) -> str:
         head = {"pi": f"0x{pi:04X}", "group": name_of(second >> 11), "tp": bool(second & 0x400)}
@@ -236,9 +259,6 @@ class Redsea:
             raw = b"".join(word.to_bytes(2, "big") for word in _own(words))
             found["transparent_data"] = {"address": address, "raw": raw.hex(" ").upper()}
 
-    def _in_house(self, found: Object, words: Words) -> None:
-        found["in_house_data"] = [words[1] & 0x1F, *_own(words)]
-
     def _traffic(self, found: Object, words: Words) -> None:
         traffic: Object = {}
         if self._held.get("tmc_provider"):
@@ -301,13 +321,13 @@ class Redsea:
                 found["dab"].update(channel=held["channel"], ensemble_id=f"0x{held['ensemble']}")
 
 
-def _keys_of(groups: Rows) -> List[int]:
+def _keys_of(groups: Rows) -> Array:
     """Blocks 2 to 4 of groups, whether these are complete, and whether all four are valid."""
     kinds = kinds_of(groups)
     second, third, fourth = (groups[f"info{block}"].astype("i8") for block in BLOCKS[1:])
     complete = (kinds[:, 2:] >= VALID).all(axis=1)
     key = complete << 48 | second << 32 | numpy.where(complete, third << 16 | fourth, 0)
-    keys: List[int] = (key | (kinds == VALID).all(axis=1).astype("i8") << 49).tolist()
+    keys: Array = key | (kinds == VALID).all(axis=1).astype("i8") << 49
     return keys
 
 

@@ -33,7 +33,8 @@ UNKNOWN = -1
 # How far a pair can be trusted.
 SINGLE, CONFIRMED, VALID = 0, 1, 2
 # How many rows that say a text again are read one by one, before others are passed at once.
-LEAST_READ = 2 * RECENT
+LEAST_READ = RECENT
+FIRST_PASSED = 64 * LEAST_READ
 # Place, the number of the segment among those that are unlike each other, run, and whether a turn can have been missed before.
 Row = Tuple[int, int, int, bool]
 
@@ -64,7 +65,7 @@ class Shape(NamedTuple):
         return {**lower, **{END_OF_TEXT << 8 | byte: 0 for byte in range(256)}}
 
 
-class Said:
+class Distinct:
     """Segments that are unlike each other: their numbers, and a column per pair of its value and whether it is valid, with
     UNKNOWN for one that was not received."""
 
@@ -72,8 +73,8 @@ class Said:
         self.segment, self.value, self.valid = segment, value, valid
         self._others: Tuple[Any, bool, Array] = (None, False, segment)
 
-    def where(self, chosen: Any) -> "Said":
-        return Said(self.segment[chosen], self.value[chosen], self.valid[chosen])
+    def __getitem__(self, chosen: slice) -> "Distinct":
+        return Distinct(self.segment[chosen], self.value[chosen], self.valid[chosen])
 
     @cached_property
     def rows(self) -> List[Tuple[int, Tuple[int, ...], List[bool]]]:
@@ -106,10 +107,11 @@ class Segments(NamedTuple):
     number: Array
     run: Array
     generation: Array
-    said: Said
+    said: Distinct
 
     def where(self, chosen: Any) -> "Segments":
-        return Segments(*(column[chosen] for column in self[:4]), self.said)
+        place, number, run, generation, said = self
+        return Segments(place[chosen], number[chosen], run[chosen], generation[chosen], said)
 
 
 class Turns:
@@ -250,7 +252,7 @@ class Message:
 
     def _take(self, turns: Turns) -> Iterator[Tuple[int, Optional[bytes]]]:
         """The changes within a generation. While a text holds, rows are passed at once, but for the first ones."""
-        begin, length, most = 0, 2 * LEAST_READ, 8 * LEAST_READ
+        begin, length, most = 0, 4 * LEAST_READ, FIRST_PASSED
         while begin < turns.size:
             end = min(begin + most, turns.size)
             if self._told and end - begin > LEAST_READ:
@@ -261,14 +263,14 @@ class Message:
                 most *= 8
                 if begin == end:
                     continue
-            most = 8 * LEAST_READ
+            most = FIRST_PASSED
             rows = turns.rows(begin, begin + length)
             read = yield from self._read(rows, turns.said, begin)
-            length = 2 * length if read == len(rows) else 2 * LEAST_READ
+            length = 2 * length if read == len(rows) else 4 * LEAST_READ
             begin += read
 
     def _read(
-        self, rows: List[Row], said: Said, begin: int
+        self, rows: List[Row], said: Distinct, begin: int
     ) -> Generator[Tuple[int, Optional[bytes]], None, int]:
         """Takes rows one by one until a text has held for some, and returns how many."""
         row = 0
@@ -309,7 +311,9 @@ class Message:
         other = turns.said.others(told, self._length == told.size)[turns.number[begin:end]]
         cuts = turns.restarts
         if cuts.size:
-            cuts = cuts[(cuts >= begin) & (cuts < end) & ((turns.before[cuts] + 1) * self._shape.pairs < told.size)]
+            cuts = cuts[
+                (cuts >= begin) & (cuts < end) & ((turns.before[cuts] + 1) * self._shape.pairs < told.size)
+            ]
         if cuts.size:
             other[cuts[~self._are_kept(turns, slice(begin, end), cuts, told)] - begin] = True
         first = int(other.argmax())
@@ -371,7 +375,7 @@ class Message:
         self._now = {position: pair for position, pair in pairs.items() if pair[2] == self._turn}
         self._earlier = {position: pair for position, pair in pairs.items() if pair[2] != self._turn}
 
-    def _follow(self, rows: List[Row], row: int, end: int, said: Said, told: WholeText) -> int:
+    def _follow(self, rows: List[Row], row: int, end: int, said: Distinct, told: WholeText) -> int:
         """Notes when each pair came last in the rows that say the told text again, and returns the first that does
         not, or the end."""
         size, now, before, is_length = self._shape.pairs, self._now, self._segment, self._length == told.size

@@ -21,6 +21,7 @@ MINUTE_BITS = 71250.0
 # How many bits after a minute its last group may come.
 SLACK = 2 * GROUP_BITS
 OUTAGE_PERCENT, OUTAGE_SECONDS = 10, 1
+NAMES = ["".join(type_names(kind)) for kind in range(TYPES)]
 # The clock time changes each minute, and its offset is a column of the minutes.
 NOT_STORED = ("ct",)
 # A name that scrolls changes each few seconds: the rest of its changes are counted.
@@ -171,8 +172,7 @@ class Part:
 
 def mixes_of(rows: Rows, minutes: Rows) -> Rows:
     """Groups by type in each of some minutes, whose numbers from 0 on are those of the rows."""
-    is_group = rows["what"] == GROUP
-    index = minutes[is_group] * TYPES + type_index(rows[is_group])
+    index = (minutes * TYPES + type_index(rows))[rows["what"] == GROUP]
     count = int(minutes[-1]) + 1
     found: Rows = numpy.bincount(index, minlength=count * TYPES).reshape(count, TYPES)
     return found
@@ -180,7 +180,7 @@ def mixes_of(rows: Rows, minutes: Rows) -> Rows:
 
 def counts_of(mix: Rows) -> Dict[str, int]:
     """Groups by type, such as 0A: those with a corrected block 2 too."""
-    return {"".join(type_names(kind)): int(mix[kind]) for kind in numpy.flatnonzero(mix).tolist()}
+    return {name: count for name, count in zip(NAMES, mix.tolist()) if count}
 
 
 class Session:

@@ -30,10 +30,17 @@ class Outages:
     def add(self, rows: Rows) -> List[Tuple[int, int]]:
         """The outages that end within these rows, from position to position."""
         groups = groups_in(rows)
-        places = numpy.concatenate([self._open, places_of(groups)[kinds_of(groups) == VALID]])
+        valid, every = kinds_of(groups) == VALID, places_of(groups)
+        places = numpy.concatenate([self._open, every.reshape(-1) if valid.all() else every[valid]])
         # Of each `needed` in a row, whether they are within a second.
         first = places[: max(0, len(places) - self._needed + 1)]
         dense = places[self._needed - 1 :] - first <= self._second - BLOCK_BITS
+        if len(dense) and dense.all() and self._needed > 1 and self._least >= self._second:
+            # All count, and none is as far from the next.
+            self._open, self._counts = places[len(first) :], numpy.ones(self._needed - 1, bool)
+            found = self._between(first[:1])
+            self.end = int(first[-1]) + BLOCK_BITS
+            return found
         counts = numpy.zeros(len(places), bool)
         counts[: len(self._counts)] = self._counts
         for shift in range(self._needed):

@@ -2,24 +2,20 @@
 
 from __future__ import annotations
 
-import os
 import re
-import sys
 from collections import deque
 from typing import Deque, Dict, List, Optional, Tuple
 
+from .. import ITSELF
 from .receiver import Keeper, Launch
 from .table import ReceiverTable
 
-# Runs rds-monitor from the folder that is named first, whatever the paths of this process are.
-PROGRAM = "import sys; sys.path.insert(0, sys.argv.pop(1)); from rds_monitor.__main__ import run; run()"
 FREQUENCY = re.compile(rb'\{"frequency":(\d+),')
 
 
 def demodulator(table: ReceiverTable) -> Tuple[str, ...]:
     """The command that gives lines with the bits of all stations."""
-    folder = os.path.dirname(os.path.dirname(os.path.dirname(os.path.abspath(__file__))))
-    words = [sys.executable, "-c", PROGRAM, folder, "demod", "--stations", "--raw", table.raw]
+    words = [*ITSELF, "demod", "--stations", "--raw", table.raw]
     words += ["--rate", str(table.rate), "--centre", str(round(1e6 * table.centre))]
     words += ["--at", ",".join(str(station.hertz) for station in table.tuned)]
     equalised = ",".join(str(station.hertz) for station in table.tuned if station.equaliser)
