@@ -488,8 +488,8 @@ def test_an_unpacked_release(release: Path, tmp_path: Path, cases: Cases) -> Non
     assert "7691" in said(*monitor, "errors", "--every", 1000, data=SAMPLE, env=path)
 
 
-@of_release
-def test_containerfile(release: Path, packages: Packages, cases: Cases) -> None:
+@of_packages
+def test_containerfile(packages: Packages, cases: Cases) -> None:
     """It is built and run where podman is. Its words are looked at in any case: each package that it names is one of `make dist`."""
     cases(2)
     text = (TOP / "packaging/Containerfile").read_text()

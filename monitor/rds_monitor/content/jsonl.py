@@ -89,7 +89,7 @@ def content_line(event: Event, clock: Clock) -> str:
     time = f'"time_s":{round(clock.seconds(place), 3)!r}'
     if clock.start is not None:
         time += f',"time_utc":"{clock.utc(place)[0]}"'
-    where = f'"kind":"content","place":{place},{time},"pi":"{pi:04X}","item":{_quoted(item)}'
+    where = f'"event":"content","bit":{place},{time},"pi":"{pi:04X}","item":{_quoted(item)}'
     return f'{{{where},"value":{told},"before":{was},"text":{shown}}}\n'
 
 
