@@ -3,9 +3,9 @@
 
 LIBRARY is the folder that `make lib` fills, TOOLCHAIN the line of `rt version` by which both were built. FOLDER gets
 rds-VERSION-x86_64.tar.zst, whose name is printed: the files that `make install install-lib` installs, rds-monitor as a wheel with
-librds in it, the pages, what is in it by SPDX 2.3, and the sums of all files. The date is SOURCE_DATE_EPOCH, or else that of the last
-commit, so that the same tree, program and library make the same tarball. Needs make, binutils, git, Debian's python3-zstandard, and
-what packaging/make_pages.py needs.
+librds in it, the pages with the files that they link to, what is in it by SPDX 2.3, and the sums of all files. The date is
+SOURCE_DATE_EPOCH, or else that of the last commit, so that the same tree, program and library make the same tarball. Needs make,
+binutils, git, Debian's python3-zstandard, and what packaging/make_pages.py needs.
 """
 
 from __future__ import annotations
@@ -31,6 +31,8 @@ except ImportError:
 
 TOP = Path(__file__).resolve().parents[1]
 SUMS, SBOM = "SHA256SUMS", "sbom.spdx.json"
+# Where the tarball has files of the tree that pages link to.
+INSTALLED = {"lib/rds.h": "include/rds.h", "rds.1": "share/man/man1/rds.1"}
 # What the built files and rds-monitor need of others, and from where it comes.
 NEEDS = {"glibc": "the system's, at run time", "python3-numpy": "the system's, for rds-monitor"}
 
@@ -78,10 +80,27 @@ def fill(folder: Path, program: Path, library: Path, epoch: str) -> None:
     settings = folder / "lib" / "pkgconfig" / "rds.pc"
     text = re.sub(r"^libdir=.*$", "libdir=${prefix}/lib", settings.read_text(), flags=re.M)
     settings.write_text(re.sub(r"^prefix=.*$", "prefix=${pcfiledir}/../..", text, flags=re.M))
-    (folder / "docs").mkdir()
-    for path in (TOP / "README.md", TOP / "CHANGELOG.md", *(TOP / "docs").glob("*.md")):
-        shutil.copy(path, folder / path.relative_to(TOP))
+    copy_pages(folder)
     shutil.copy(TOP / "packaging" / "copyright", folder / "COPYRIGHT")
+
+
+def copy_pages(folder: Path) -> None:
+    """README.md, and all to which links lead from there. A link to an installed file leads to where that is."""
+    (folder / "examples").symlink_to("share/rds/examples")
+    pages = ["README.md"]
+    for page in pages:
+        (folder / page).parent.mkdir(parents=True, exist_ok=True)
+        if not page.endswith(".md"):
+            shutil.copy(TOP / page, folder / page)
+            continue
+        parts = re.split(r"(\]\((?!https?:)[^)#\s]+)", (TOP / page).read_text(encoding="utf-8"))
+        for number in range(1, len(parts), 2):
+            target = os.path.normpath(os.path.join(os.path.dirname(page), parts[number][2:]))
+            there = INSTALLED.get(target, target)
+            parts[number] = "](" + os.path.relpath(there, os.path.dirname(page) or ".")
+            if there not in pages and not (folder / there).exists():
+                pages.append(there)
+        (folder / page).write_text("".join(parts), encoding="utf-8")
 
 
 # ---- what is in it, by SPDX 2.3

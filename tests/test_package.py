@@ -431,6 +431,7 @@ def release(rds: str, librds: str, copied: Path, tmp_path_factory: Any) -> Path:
 
 
 of_release = pytest.mark.xdist_group("release")
+LINK = re.compile(r"\]\(([^)#\s]+)")
 
 
 @of_release
@@ -442,7 +443,7 @@ def test_files_of_a_release(release: Path, rds: str, cases: Cases) -> None:
     wrote("sha256sum", "--check", "--strict", "SHA256SUMS", cwd=release)
     sums = (line.split("  ") for line in (release / "SHA256SUMS").read_text().splitlines())
     summed = {name: value for value, name in sums}
-    assert {*summed} == there - {"SHA256SUMS", "lib/librds.so"}
+    assert {*summed} == there - {"SHA256SUMS", "lib/librds.so", "examples"}
     bill = json.loads((release / "sbom.spdx.json").read_text())
     told = {entry["fileName"][2:]: entry["checksums"] for entry in bill["files"]}
     assert {*told} == {*summed} - {"sbom.spdx.json"}
@@ -455,6 +456,21 @@ def test_files_of_a_release(release: Path, rds: str, cases: Cases) -> None:
         row["relatedSpdxElement"] for row in bill["relationships"] if row["relationshipType"] == "STATIC_LINK"
     }
     assert linked == {f"SPDXRef-{name}" for name in "atomic_table clap csv hex itoa thiserror".split()}
+
+
+@of_release
+def test_links_of_a_release(release: Path, cases: Cases) -> None:
+    """Each relative link of each page leads to a file of the tarball, and each page of docs is there."""
+    pages = sorted(release.rglob("*.md"))
+    links = [(page, link) for page in pages for link in LINK.findall(page.read_text()) if "://" not in link]
+    broken = [
+        f"{page.relative_to(release)}: {link}" for page, link in links if not (page.parent / link).is_file()
+    ]
+    assert broken == []
+    there = {path.name for path in (release / "docs").iterdir()}
+    assert there >= {path.name for path in (TOP / "docs").iterdir()}
+    assert {"README.md", "CHANGELOG.md"} <= {path.name for path in release.iterdir()}
+    cases(3)
 
 
 @of_release
@@ -503,7 +519,7 @@ def test_containerfile(packages: Packages, cases: Cases) -> None:
         words = ["podman", "build", "-q", "-f", TOP / "packaging/Containerfile", packages.folder]
         image = said(*words, timeout=600)
         assert said("podman", "run", "--rm", "-i", image, "rds", "totals", data=SAMPLE).startswith(
-            "valid,7691\n"
+            "total,valid,7691,"
         )
         assert "decoder: librds" in said("podman", "run", "--rm", image, "rds-monitor", "--version")
 
