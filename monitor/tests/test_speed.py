@@ -16,7 +16,7 @@ from speed import make_day, measured
 # Times the processor seconds of the list, besides the seconds for imports: on a slow machine, those of a second of a recording.
 DAY = {"errors": 1.75, "outages": 1.75, "groups": 1.75}
 # A third more than on a machine with no other work.
-CONTENTS = {"json --redsea": 20, "json": 20, "db --name day {folder}/day.db": 15}
+CONTENTS = {"json --redsea": 15, "json": 15, "db --name day {folder}/day.db": 12}
 # How many times a recording's seconds its listing takes.
 LISTING = 3
 LIST = [PROGRAM, "list", "--workers", "1"]
@@ -64,7 +64,7 @@ def simple(folder: Path) -> bytes:
 
 def full(folder: Path) -> bytes:
     """PS, AF, EON, TMC, RT+ and CT, with a new RT each three minutes."""
-    names = sent.name(b"ALPHA 77", [0xE90A, 0x0B1E, 0x2934, 0x3C47])
+    names = sent.name(b"ALPHA 77", [0xE70A, 0x0B1E, 0x2934, 0x3C47])
     other = [sent.eon_name(b"OTHER %d" % (pi & 7), pi) for pi in range(0xD312, 0xD316)]
     others = [one for words in other for one in (*words, sent.eon(4, 0xE214, words[0][3]))]
     others += [sent.eon(4, 0x1ECD, words[0][3]) for words in other]
@@ -78,7 +78,10 @@ def full(folder: Path) -> bytes:
             at = 5 * turn
             groups += [one for k in range(at, at + 5) for one in (names[k % 4], segments[k % len(segments)])]
             groups += [others[2 * turn % len(others)], others[(2 * turn + 1) % len(others)]]
-            groups.append(sent.group("8A", 8 | turn & 7, turn // 9 << 11 | song, song + turn // 9))
+            message = turn // 3
+            groups.append(
+                sent.group("8A", 8 | song // 20 & 7, message << 11 & 0x3800 | message, 99 * message)
+            )
             groups += [
                 tags,
                 sent.clock(61128, song // 20 % 24, song % 20 * 3, 2) if turn % 46 == 45 else rare[turn % 4],

@@ -53,6 +53,9 @@ class Written(Dict[int, str]):
 
     def __missing__(self, group: int) -> str:
         found = self._make(group)
+        if group >> 44 & 0xF == 6:
+            # In-house data are seldom alike.
+            return found
         if len(self) < MOST_WRITTEN:
             self[group] = found
             self._known.setdefault(group >> 32 & 0xF80F, []).append(group)
@@ -168,7 +171,7 @@ class Redsea:
         if group >> 48 & 1 and code in self._makers:
             self._makers[code](rest, (self._pi, second, group >> 16 & 0xFFFF, group & 0xFFFF))
             if code >> 1 == 6:
-                # Few are alike, so that these lines are made without a dictionary.
+                # Without a dictionary: the lines of some stations are mostly these.
                 third = "" if code & 1 else f"{group >> 16 & 0xFFFF},"
                 text += f',"in_house_data":[{second & 0x1F},{third}{group & 0xFFFF}]'
         if self._fresh:
