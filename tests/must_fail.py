@@ -29,7 +29,13 @@ VALUES = {"Clone", "Copy", "Drop"}
 ENDS = {
     "": [""],
     "}": ["use Rattle.std.specs.Prelude.{ℕ "],
+    ")": ["none : ⊥ → Type 1", "none x = (elim x [ ] "],
     "]": ["none : ⊥ → Type 1", "none x = elim x [ "],
+    ")]": [
+        "use Rattle.std.specs.Prelude.{true, false}",
+        "none : ⊥ → Type 1",
+        "none x = elim true [ | true ↦ elim x [ ] | false ↦ (elim x [ ] ",
+    ],
     "]]": [
         "use Rattle.std.specs.Prelude.{true, false}",
         "none : ⊥ → Type 1",

@@ -76,7 +76,8 @@ group. A field that says nothing is '-'.
 TYPE is 0 to 15, or '-' if block 2 is unknown. VERSION is A, B or ?, followed by
 '!' if the offset word of block 3 contradicts block 2. A block is one of
 
-  none            not read: sent before sync, after its loss, or past the end
+  none            sent before the block that acquired sync, after sync was lost,
+                  or past the end
   lost            uncorrectable, or it touches a gap
   B:2540          valid: offset (A, B, C, Cx or D) and information word in hex
   C:0000~0008000  corrected: '~' is followed by the 26-bit error mask in hex,

@@ -1,13 +1,14 @@
 """The groups of one programme as columns, and the values of fields in them."""
 from __future__ import annotations
 
+from functools import lru_cache
 from typing import Any, Dict, Iterable, List, NamedTuple, Sequence, Tuple
 
 import numpy
 
 from ..rows.items import BLOCKS, VALID, Rows
 from .evidence import NONE_SEEN, Array, Observations, key_of
-from .fields import FIELDS
+from .fields import FIELDS, Field
 from .looks import Look, carriers, codes_of
 
 
@@ -16,10 +17,15 @@ def payload(value: Any) -> Tuple[Any, ...]:
     return 0, value >> 32, value >> 16 & 0xFFFF, value & 0xFFFF
 
 
+@lru_cache(None)
+def _fields(prefix: str, names: str) -> List[Field]:
+    return [FIELDS[f"{prefix}.{name}"] for name in names.split()]
+
+
 def fields_of(prefix: str, value: Any, names: str) -> List[Any]:
     """The values of these fields in such a payload."""
     words = payload(value)
-    return [FIELDS[f"{prefix}.{name}"].of(words) for name in names.split()]
+    return [field.of(words) for field in _fields(prefix, names)]
 
 
 class Columns(NamedTuple):

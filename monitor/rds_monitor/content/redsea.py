@@ -14,7 +14,6 @@ import numpy
 
 from ..rows.clock import Clock, utc_texts
 from ..rows.items import BLOCKS, GROUP, VALID, Rows, chosen
-from ..rows.listing import kinds_of
 from .charset import safe_json
 from .decoder import Decoder, Event
 from .evidence import Array
@@ -54,6 +53,9 @@ class Written(Dict[int, str]):
 
     def __missing__(self, group: int) -> str:
         found = self._make(group)
+        if group >> 44 & 0xF == 6:
+            # In-house data are seldom alike.
+            return found
         if len(self) < MOST_WRITTEN:
             self[group] = found
             self._known.setdefault(group >> 32 & 0xF80F, []).append(group)
@@ -106,11 +108,11 @@ class Redsea:
     def lines(self, rows: Rows, clock: Clock) -> List[str]:
         """A line per group whose second block is known, from the first group on whose PI counts."""
         events, before = self._decoder.feed(rows), self._pi
-        groups = chosen(rows, (rows["what"] == GROUP) & (rows["kind2"] >= VALID))
+        groups = _those(rows, (rows["what"] == GROUP) & (rows["kind2"] >= VALID))
         begins = [(event.place, event.pi) for event in events if event.item == "pi"]
         own = numpy.array([before, *(pi for _, pi in begins)])
         own = own[numpy.searchsorted([place for place, _ in begins], groups["place"], side="right")]
-        groups = chosen(groups, (own >= 0) & ((groups["kind1"] < VALID) | (groups["info1"] == own)))
+        groups = _those(groups, (own >= 0) & ((groups["kind1"] < VALID) | (groups["info1"] == own)))
         keys: List[int] = (_keys_of(groups) & self._told[groups["info2"] >> 11]).tolist()
         if self._time != TIME * (clock.start is not None):
             self._time = TIME * (clock.start is not None)
@@ -169,7 +171,7 @@ class Redsea:
         if group >> 48 & 1 and code in self._makers:
             self._makers[code](rest, (self._pi, second, group >> 16 & 0xFFFF, group & 0xFFFF))
             if code >> 1 == 6:
-                # Few are alike, so that these lines are made without a dictionary.
+                # Without a dictionary: the lines of some stations are mostly these.
                 third = "" if code & 1 else f"{group >> 16 & 0xFFFF},"
                 text += f',"in_house_data":[{second & 0x1F},{third}{group & 0xFFFF}]'
         if self._fresh:
@@ -321,13 +323,16 @@ class Redsea:
                 found["dab"].update(channel=held["channel"], ensemble_id=f"0x{held['ensemble']}")
 
 
+def _those(rows: Rows, which: Array) -> Rows:
+    return rows if which.all() else chosen(rows, which)
+
+
 def _keys_of(groups: Rows) -> Array:
     """Blocks 2 to 4 of groups, whether these are complete, and whether all four are valid."""
-    kinds = kinds_of(groups)
     second, third, fourth = (groups[f"info{block}"].astype("i8") for block in BLOCKS[1:])
-    complete = (kinds[:, 2:] >= VALID).all(axis=1)
-    key = complete << 48 | second << 32 | numpy.where(complete, third << 16 | fourth, 0)
-    keys: Array = key | (kinds == VALID).all(axis=1).astype("i8") << 49
+    complete = (groups["kind3"] >= VALID) & (groups["kind4"] >= VALID)
+    valid = numpy.logical_and.reduce([groups[f"kind{block}"] == VALID for block in BLOCKS])
+    keys: Array = valid * (1 << 49) | complete << 48 | second << 32 | (third << 16 | fourth) * complete
     return keys
 
 

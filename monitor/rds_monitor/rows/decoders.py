@@ -65,20 +65,20 @@ class ByProgram:
         self, program: str, rules: Rules = Rules(), gaps: Gaps = (), bits: Optional[int] = None
     ) -> None:
         self._program, self._words, self.place = program, _words(rules, gaps, bits), 0
-        self._it: Optional["subprocess.Popen[bytes]"] = None
+        self._process: Optional["subprocess.Popen[bytes]"] = None
         # What it wrote and was not taken yet.
         self._text = b""
 
     def push(self, data: bytes) -> Rows:
         if not data:
             return parse(b"")[0]
-        process = self._it or self._start()
+        process = self._process or self._start()
         self.place += 8 * len(data)
         self._work(process, memoryview(data))
         return self._taken()
 
     def finish(self, data: bytes = b"", bits: int = 0) -> Tuple[Rows, Totals]:
-        process = self._it or self._start()
+        process = self._process or self._start()
         try:
             self._end(process, memoryview(data[: (bits + 7) // 8]))
         except OSError as error:
@@ -103,7 +103,7 @@ class ByProgram:
         for stream in (process.stdin, process.stdout, process.stderr):
             assert stream
             os.set_blocking(stream.fileno(), False)
-        self._it = process
+        self._process = process
         return process
 
     def _work(self, process: "subprocess.Popen[bytes]", rest: memoryview) -> None:
