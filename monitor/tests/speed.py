@@ -27,15 +27,15 @@ class Limit(NamedTuple):
     """A command, and how many times the seconds of the list it may take from a recording and from a listing."""
 
     words: str
-    recording: float = 2
-    listing: float = 8
+    recording: float = 4
+    listing: float = 10
 
 
 LIMITS = (
     *map(Limit, ("errors", "outages", "groups", "programmes", "types")),
-    Limit("info", 25, 30),
-    Limit("json --redsea", 35, 40),
-    Limit("db --name day {folder}/day.db", 10, 20),
+    Limit("info", 15, 20),
+    Limit("json --redsea", 20, 25),
+    Limit("db --name day {folder}/day.db", 20, 25),
 )
 
 

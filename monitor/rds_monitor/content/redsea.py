@@ -168,12 +168,12 @@ class Redsea:
         rest: Object = {}
         self._is_valid = bool(group >> 49)
         code, text = second >> 11, self._head(self._pi, second & 0xFFE0) + self._time
-        if group >> 48 & 1 and code in self._makers:
+        if group >> 48 & 1 and code >> 1 == 6:
+            # Without a dictionary: the lines of some stations are mostly these.
+            third = "" if code & 1 else f"{group >> 16 & 0xFFFF},"
+            text += f',"in_house_data":[{second & 0x1F},{third}{group & 0xFFFF}]'
+        elif group >> 48 & 1 and code in self._makers:
             self._makers[code](rest, (self._pi, second, group >> 16 & 0xFFFF, group & 0xFFFF))
-            if code >> 1 == 6:
-                # Without a dictionary: the lines of some stations are mostly these.
-                third = "" if code & 1 else f"{group >> 16 & 0xFFFF},"
-                text += f',"in_house_data":[{second & 0x1F},{third}{group & 0xFFFF}]'
         if self._fresh:
             self._applications(rest)
         return f"{text},{safe_json(rest)[1:]}\n" if rest else text + "}\n"
