@@ -113,6 +113,11 @@ def test_variants_in_turn_come_twice_alike() -> None:
     assert found[-1]["location_table"] == 1 and found[-1]["service"] == 10
 
 
+def test_a_channel_of_both_versions_is_told_by_the_first_group() -> None:
+    events = events_of([*NAMED, group("5B", 17), group("5A", 17, 1, 2)])
+    assert [event.place for event in events if event.item == "tdc:17"] == [4 * 104]
+
+
 # ---- the rule beside a plain reading of it
 
 

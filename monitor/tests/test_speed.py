@@ -15,7 +15,7 @@ from speed import make_day, measured
 
 # Times the processor seconds of the list, besides the seconds for imports: on a slow machine, those of a second of a recording.
 DAY = {"errors": 1.75, "outages": 1.75, "groups": 1.75}
-# A third more than on a machine with no other work.
+# A third above the goals for a machine with no other work.
 CONTENTS = {"json --redsea": 20, "json": 20, "db --name day {folder}/day.db": 15}
 # How many times a recording's seconds its listing takes.
 LISTING = 3

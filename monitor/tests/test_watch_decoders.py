@@ -78,8 +78,8 @@ def test_no_bits() -> None:
 def test_a_program_that_dies() -> None:
     program = ByProgram(PROGRAM)
     given = len(program.push(received(5)))
-    assert given and program._it
-    os.kill(program._it.pid, signal.SIGKILL)
+    assert given and program._process
+    os.kill(program._process.pid, signal.SIGKILL)
     with pytest.raises(Fault, match=" was ended by SIGKILL"):
         program.push(b"more")
     with pytest.raises(Fault, match=" was ended by SIGKILL"):
