@@ -3,6 +3,7 @@
 from __future__ import annotations
 
 import re
+from itertools import islice
 
 from .items import Fault
 
@@ -54,6 +55,7 @@ def is_groups(head: bytes) -> bool:
     if begin[:1] not in (b"<", b"G", b"g") and begin.strip(_WORD_SIGNS):
         return False
     whole = head.split(b"\n")
-    lines = [line for line in whole[: max(1, len(whole) - 1)] if not re.fullmatch(NO_GROUP, line)][:3]
+    told = (line for line in whole[: max(1, len(whole) - 1)] if not re.fullmatch(NO_GROUP, line))
+    lines = list(islice(told, 3))
     fit = (re.fullmatch(GROUP_LINE, line) and re.search(_IN_FOURS, line) for line in lines)
     return bool(lines) and all(fit)

@@ -178,7 +178,8 @@ NAME_OF_PRIME = numpy.uint16(_number(b"x:"))
 
 
 def _parse_blocks(lines: _Lines, rows: Rows) -> Bools:
-    """Sets the blocks of rows: none, lost, B:2540 or C:0000~0008000. Which of them are blocks, a row per number."""
+    """Sets the blocks of rows: none, lost, B:2540 or C:0000~0008000. Which of them are blocks, a row per number. Most rows have neither
+    masks nor lost blocks."""
     starts, lengths = lines.starts[:, 4:].T.copy(), (lines.ends - lines.starts)[:, 4:].T.copy()
     # Of C' the name has a letter more, and is read from that on.
     prime = (lines.data[starts[2]] == ord("C")) & (lines.data[starts[2] + 1] == ord("x"))
@@ -187,27 +188,34 @@ def _parse_blocks(lines: _Lines, rows: Rows) -> Bools:
     words = lines.words(starts)
     pairs = words.view("<u2").reshape(4, -1, 4)
     infos = HEX[pairs[..., 1]] << 8 | HEX[pairs[..., 2]]
-    is_own = pairs[..., 0] == NAMES
-    is_own[2] = pairs[2, :, 0] == numpy.where(prime, NAME_OF_PRIME, NAMES[2])
-    is_short, low = lengths == 4, words & numpy.uint64(0xFFFFFFFF)
-    lost, none = is_short & (low == LOST_TEXT), is_short & (low == NONE)
-    known = is_own & (infos < NO_HEX)
-    has_mask = known & (lengths == 14)
+    known = pairs[..., 0] == NAMES
+    known[2] = pairs[2, :, 0] == numpy.where(prime, NAME_OF_PRIME, NAMES[2])
+    known &= infos < NO_HEX
+    has_mask, is_short = known & (lengths == 14), lengths == 4
     known &= has_mask | (lengths == 6)
-    masks = numpy.zeros(starts.shape, "i4")
+    corrected: Any = 0
     if has_mask.any():
+        masks = numpy.zeros(starts.shape, "i4")
         masks[has_mask] = _masks(lines.words(starts[has_mask] + 6))
         known &= masks >= 0
-    kinds = known * numpy.uint8(VALID) + lost * numpy.uint8(LOST)
-    kinds += (masks > 0) * numpy.uint8(CORRECTED - VALID)
+        corrected = masks > 0
+        _set(rows, "burst", masks * known)
+    fine: Bools = known
+    kinds = known * numpy.uint8(VALID) + corrected * numpy.uint8(CORRECTED - VALID)
+    if is_short.any():
+        low = words & numpy.uint64(0xFFFFFFFF)
+        lost = is_short & (low == LOST_TEXT)
+        kinds, fine = kinds + lost * numpy.uint8(LOST), known | lost | is_short & (low == NONE)
     offsets = known * numpy.array([[1], [2], [3], [5]], "u1")
     offsets[2] += known[2] & prime
-    found = {"info": infos * known, "burst": masks * known, "kind": kinds, "offset": offsets}
-    for name, columns in found.items():
-        for block, column in zip(BLOCKS, columns):
-            rows[f"{name}{block}"] = column
-    fine: Bools = known | none | lost
+    for name, columns in (("kind", kinds), ("offset", offsets), ("info", infos * known)):
+        _set(rows, name, columns)
     return fine
+
+
+def _set(rows: Rows, name: str, columns: Array) -> None:
+    for block, column in zip(BLOCKS, columns):
+        rows[f"{name}{block}"] = column
 
 
 def _masks(words: Array) -> Array:
