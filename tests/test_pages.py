@@ -344,6 +344,23 @@ def test_glossary(faults: Faults) -> None:
     faults.same("docs/GLOSSARY.md, words that are there twice", set(), twice)
 
 
+@pytest.mark.parametrize("page", ["README.md", "docs/ACCURACY.md", "docs/COMPARISON.md"])
+def test_figures_of_reception(page: str) -> None:
+    """A page that tells which share of a signal was received says that signals are simulated, before its first table of it."""
+    told = r"All signals are simulated|Every signal on these pages is simulated|by simulated signals"
+    assert re.search(told, one_line(read(page))[:1500])
+
+
+def test_none(rds: str) -> None:
+    """A block that is none may have been received, as one of the two that acquired sync. Help, manual and page say when it is none."""
+    pages = {
+        "help": said(rds, "list", "--help"),
+        **{path: read(path) for path in ("rds.1", "docs/FORMATS.md")},
+    }
+    when = r"before the (block|one) that acquired sync, after sync was lost,? or past the end"
+    assert {name for name, text in pages.items() if not re.search(when, one_line(text))} == set()
+
+
 # ---- links and commands
 
 
