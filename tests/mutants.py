@@ -225,7 +225,7 @@ class Copy:
             except subprocess.TimeoutExpired:
                 os.killpg(process.pid, signal.SIGKILL)
                 return "no end"
-        found = re.search(r"^(?:FAILED|ERROR) (\S+?\.py\S*)", text, re.M)
+        found = re.search(r"^(?:FAILED|ERROR) (\S+\.py(?:::\w+)*)", text, re.M)
         assert found or process.returncode in (0, 5), text
         return found[1] if found else ""
 
