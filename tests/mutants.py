@@ -97,8 +97,10 @@ def texts_of(text: str) -> Iterator[str]:
 def fields_of(node: Any) -> Iterator[tuple[str, Any]]:
     """The fields of a node that may have another value, and these."""
     if isinstance(node, ast.Constant) and type(node.value) in (bool, int, float):
-        values = [not node.value] if isinstance(node.value, bool) else [node.value + 1, node.value - 1]
-        yield from (("value", value) for value in values)
+        value = node.value
+        is_small = isinstance(value, int) or abs(value) < 10
+        others = [not value] if isinstance(value, bool) else [value + 1, value - 1] if is_small else [value * 10]
+        yield from (("value", other) for other in others)
     elif isinstance(node, ast.Compare) and type(node.ops[0]).__name__ in OTHER:
         yield "ops", [getattr(ast, OTHER[type(node.ops[0]).__name__])(), *node.ops[1:]]
     elif isinstance(node, (ast.BinOp, ast.BoolOp, ast.UnaryOp, ast.AugAssign)):

@@ -276,7 +276,7 @@ def noise(seed: int) -> Rows:
         rows[f"burst{number + 1}"] = 3 * (read & (kinds == CORRECTED))
     rows["what"] = GROUP
     _set_types(rows)
-    pauses = random.choice([0, 0, 0, 0, 0, 1, 40, 700, 3000], count)
+    pauses = random.choice([0, 0, 0, 0, 0, 1, 40, 1000, 3000], count)
     lengths = 26 * (last - first + 1)
     rows["place"] = numpy.cumsum(pauses) + numpy.cumsum(lengths) - lengths
     return rows
