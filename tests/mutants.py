@@ -48,16 +48,17 @@ ENTRIES = re.compile(r"(?<=; )([^;]+); ([^;]+)(?=; )")
 
 
 class Edit(NamedTuple):
-    """A field of a node in the tree of a file, and its other value."""
+    """A field of a node in a statement of a file, and its other value."""
 
     path: str
     tree: ast.AST
+    statement: ast.stmt
     node: Any
     field: str
     value: Any
 
     def source(self, node: ast.AST) -> str:
-        """The source of a node that holds the edited one."""
+        """The source of the tree, or of a statement, that holds the edited node."""
         before = getattr(self.node, self.field)
         setattr(self.node, self.field, self.value)
         try:
@@ -66,12 +67,12 @@ class Edit(NamedTuple):
             setattr(self.node, self.field, before)
 
     def name(self) -> str:
-        """The line, and the words that differ, with some before and after them."""
-        both = ast.unparse(self.node), self.source(self.node)
+        """The words that differ, with some before and after them."""
+        both = ast.unparse(self.statement), self.source(self.statement)
         begin, end = (len(os.path.commonprefix(texts)) for texts in (both, [text[::-1] for text in both]))
-        begin, end = max(0, begin - 20), max(0, min(end, *(len(text) - begin for text in both)) - 20)
+        begin, end = max(0, begin - 30), max(0, min(end, *(len(text) - begin for text in both)) - 30)
         old, new = (" ".join(text[begin : len(text) - end].split()) for text in both)
-        return f"{self.path}:{self.node.lineno}: {old} -> {new}"
+        return f"{self.path}: {old} -> {new}"
 
 
 def negated(node: Any) -> ast.expr:
@@ -87,9 +88,11 @@ def swapped(values: list[Any]) -> Iterator[list[Any]]:
 
 def texts_of(text: str) -> Iterator[str]:
     """A table in a text, edited."""
+    comments = {place for found in re.finditer("^ *--.*", text, re.M) for place in range(*found.span())}
     for pattern, new in IN_TEXT.items():
         for found in re.finditer(pattern, text):
-            yield text[: found.start()] + (new or str(int(found[0]) + 1)) + text[found.end() :]
+            if found.start() not in comments:
+                yield text[: found.start()] + (new or str(int(found[0]) + 1)) + text[found.end() :]
     for found in ENTRIES.finditer(text):
         yield text[: found.start()] + f"{found[2]}; {found[1]}" + text[found.end() :]
 
@@ -99,7 +102,9 @@ def fields_of(node: Any) -> Iterator[tuple[str, Any]]:
     if isinstance(node, ast.Constant) and type(node.value) in (bool, int, float):
         value = node.value
         is_small = isinstance(value, int) or abs(value) < 10
-        others = [not value] if isinstance(value, bool) else [value + 1, value - 1] if is_small else [value * 10]
+        others = (
+            [not value] if isinstance(value, bool) else [value + 1, value - 1] if is_small else [value * 10]
+        )
         yield from (("value", other) for other in others)
     elif isinstance(node, ast.Compare) and type(node.ops[0]).__name__ in OTHER:
         yield "ops", [getattr(ast, OTHER[type(node.ops[0]).__name__])(), *node.ops[1:]]
@@ -120,15 +125,19 @@ def fields_of(node: Any) -> Iterator[tuple[str, Any]]:
 def edits_of(path: Path) -> Iterator[Edit]:
     """All edits of a file but those of its annotations and of the texts that it prints."""
     name, tree = str(path.relative_to(TOP)), ast.parse(path.read_bytes())
-    annotations = [getattr(node, of, None) for node in ast.walk(tree) for of in ("annotation", "returns")]
+    nodes = [*ast.walk(tree)]
+    annotations = [getattr(node, of, None) for node in nodes for of in ("annotation", "returns")]
     left_out = {inner for node in annotations if node for inner in ast.walk(node)}
-    for node in ast.walk(tree):
-        if node not in left_out:
-            yield from (Edit(name, tree, node, field, value) for field, value in fields_of(node))
+    # the innermost statement of each, since outer ones come first
+    owners = {inner: node for node in nodes if isinstance(node, ast.stmt) for inner in ast.walk(node)}
+    of = lambda node, found: (Edit(name, tree, owners[node], node, field, value) for field, value in found)
+    for node in nodes:
+        if node in owners and node not in left_out:
+            yield from of(node, fields_of(node))
         if isinstance(node, ast.Assign) and isinstance(node.value, (ast.Constant, ast.JoinedStr)):
             for part in ast.walk(node.value):
                 if isinstance(part, ast.Constant) and isinstance(part.value, str) and "\n" in part.value:
-                    yield from (Edit(name, tree, part, "value", text) for text in texts_of(part.value))
+                    yield from of(part, (("value", text) for text in texts_of(part.value)))
 
 
 @cache
