@@ -525,5 +525,7 @@ def test_a_year_of_30_stations(database) -> None:
 def test_a_store_that_is_closed_is_one_file(database, station: bytes) -> None:
     add("--name", "it", database, data=station)
     assert sorted(path.name for path in database.parent.iterdir()) == ["it.db"]
+    # SQLite has the mark of an application at byte 68 of its file.
+    assert database.read_bytes()[68:72] == b"RDSm"
     with pytest.raises(Fault):
         store.Store(str(database.parent))
