@@ -115,7 +115,8 @@ def fields_of(node: Any) -> Iterator[tuple[str, Any]]:
             yield "operand", negated(node.operand)
     elif isinstance(node, (ast.Tuple, ast.List, ast.Call, ast.Dict)):
         field = {ast.Call: "args", ast.Dict: "values"}.get(type(node), "elts")
-        yield from ((field, values) for values in swapped(getattr(node, field)))
+        if getattr(getattr(node, "func", None), "id", "") not in ("max", "min"):
+            yield from ((field, values) for values in swapped(getattr(node, field)))
     elif isinstance(node, (ast.IfExp, ast.If, ast.While)):
         yield "test", negated(node.test)
     elif isinstance(node, ast.Return) and isinstance(node.value, (ast.Compare, ast.BoolOp)):

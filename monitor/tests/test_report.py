@@ -340,6 +340,7 @@ def test_a_database_tells_what_its_recording_does(tmp_path: Path, station: bytes
         minutes = alone["mix"][slice(*found)]
         assert (at, after) == (120 * found[0] // 2, 120 * found[0] // 2 + 120)
         assert Counter(mix) == sum((Counter(told) for *_, told in minutes), Counter())
+    assert [at for at, _ in alone["clock"]] == [60, 120, 180]
     offsets = [offset for _, offset in alone["clock"]]
     means = [sum(offsets[:2]) / 2, offsets[2]]
     assert stored["clock"] == [
