@@ -329,6 +329,9 @@ def test_a_database_tells_what_its_recording_does(tmp_path: Path, station: bytes
     )
     assert {name: stored[name] for name in SAME} == {name: alone[name] for name in SAME}
     assert len({*stored["totals"].values()}) == 5 and stored["outage_count"] == 1
+    noise, seconds = stored["outages"][0][2], 8 * len(data) / 1189
+    known = {"received": seconds - noise, "noise": noise, "down": 0.0, "unknown": 0.0}
+    assert stored["available"] == pytest.approx(known, abs=1e-3)
     counted = [dict(told["parts"][0], at=0) for told in (stored, alone)]
     for name in ("sent", "corrected", "lost", "missing"):
         steps, seconds = (
