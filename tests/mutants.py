@@ -23,7 +23,6 @@ import tempfile
 from concurrent.futures import ThreadPoolExecutor
 from functools import cache
 from pathlib import Path
-from queue import Queue
 from typing import Any, Iterator, NamedTuple
 
 TOP = Path(__file__).resolve().parents[1]
@@ -35,15 +34,7 @@ PAIRS = "Lt LtE, Gt GtE, Eq NotEq, Is IsNot, In NotIn, And Or, Add Sub, Mult Flo
 OTHER = dict(pair for one, two in map(str.split, PAIRS.split(", ")) for pair in ((one, two), (two, one)))
 OTHER |= {"Div": "Mult", "Mod": "FloorDiv"}
 # In a text of several lines: its numbers, operators and functions, and two entries between semicolons.
-IN_TEXT = {
-    r"\b\d+\b": "",
-    " < ": " <= ",
-    " > ": " >= ",
-    " - ": " + ",
-    " AND ": " OR ",
-    "MAX": "MIN",
-    "MIN": "MAX",
-}
+IN_TEXT = {r"\b\d+\b": "", " < ": " <= ", " > ": " >= ", " - ": " + ", " AND ": " OR ", "MAX": "MIN"}
 ENTRIES = re.compile(r"(?<=; )([^;]+); ([^;]+)(?=; )")
 
 
@@ -87,24 +78,23 @@ def swapped(values: list[Any]) -> Iterator[list[Any]]:
 
 
 def texts_of(text: str) -> Iterator[str]:
-    """A table in a text, edited."""
+    """A table in a text, edited. Entries that begin with their keys keep these."""
     comments = {place for found in re.finditer("^ *--.*", text, re.M) for place in range(*found.span())}
     for pattern, new in IN_TEXT.items():
         for found in re.finditer(pattern, text):
             if found.start() not in comments:
                 yield text[: found.start()] + (new or str(int(found[0]) + 1)) + text[found.end() :]
     for found in ENTRIES.finditer(text):
-        yield text[: found.start()] + f"{found[2]}; {found[1]}" + text[found.end() :]
+        (key, _, one), (other_key, _, other) = (entry.partition(" ") for entry in found.groups())
+        new = f"{key} {other}; {other_key} {one}" if one and other else f"{found[2]}; {found[1]}"
+        yield text[: found.start()] + new + text[found.end() :]
 
 
 def fields_of(node: Any) -> Iterator[tuple[str, Any]]:
     """The fields of a node that may have another value, and these."""
     if isinstance(node, ast.Constant) and type(node.value) in (bool, int, float):
-        value = node.value
-        is_small = isinstance(value, int) or abs(value) < 10
-        others = (
-            [not value] if isinstance(value, bool) else [value + 1, value - 1] if is_small else [value * 10]
-        )
+        small = [node.value + 1, node.value - 1] if node.value < 10 or isinstance(node.value, int) else []
+        others = [not node.value] if isinstance(node.value, bool) else small or [node.value * 10]
         yield from (("value", other) for other in others)
     elif isinstance(node, ast.Compare) and type(node.ops[0]).__name__ in OTHER:
         yield "ops", [getattr(ast, OTHER[type(node.ops[0]).__name__])(), *node.ops[1:]]
@@ -138,7 +128,8 @@ def edits_of(path: Path) -> Iterator[Edit]:
         if isinstance(node, ast.Assign) and isinstance(node.value, (ast.Constant, ast.JoinedStr)):
             for part in ast.walk(node.value):
                 if isinstance(part, ast.Constant) and isinstance(part.value, str) and "\n" in part.value:
-                    yield from of(part, (("value", text) for text in texts_of(part.value)))
+                    texts = {*texts_of(part.value)} - {part.value}
+                    yield from of(part, (("value", text) for text in sorted(texts)))
 
 
 @cache
@@ -178,46 +169,46 @@ def tests_of(edited: Path) -> list[str]:
     return [str(path.relative_to(TOP)) for path in tests]
 
 
-class Copy:
-    """A copy of the tree, in which one file at a time is edited."""
+def copy_to(top: Path) -> None:
+    """Copies the tree; what no edit changes is linked."""
+    for path in TOP.iterdir():
+        if path.name not in COPIED.split():
+            (top / path.name).symlink_to(path)
+        elif path.is_dir():
+            shutil.copytree(path, top / path.name, ignore=shutil.ignore_patterns("__pycache__"))
+        else:
+            shutil.copy2(path, top)
 
-    def __init__(self, top: Path) -> None:
-        self.top = top
-        top.mkdir()
-        for path in TOP.iterdir():
-            if path.name not in COPIED.split():
-                (top / path.name).symlink_to(path)
-            elif path.is_dir():
-                shutil.copytree(path, top / path.name, ignore=shutil.ignore_patterns("__pycache__"))
-            else:
-                shutil.copy2(path, top)
 
-    def failing(self, tests: list[str], passed_over: list[str]) -> str:
-        """The first test that fails, or "no end"; empty if all pass."""
-        words = [sys.executable, *"-m pytest -x -q -rfE -n 0".split(), *tests]
-        words += [f"--deselect={name}" for name in passed_over]
-        # an edit within a second leaves the time and the size of a file as they were
-        variables = {**os.environ, "PYTHONDONTWRITEBYTECODE": "1", "RDS_COUNTS_OF_ALONE": "/dev/null"}
-        options: dict[str, Any] = {"stdout": subprocess.PIPE, "stderr": subprocess.STDOUT, "text": True}
-        options["preexec_fn"] = lambda: resource.setrlimit(resource.RLIMIT_DATA, (MEMORY, MEMORY))
-        with subprocess.Popen(words, cwd=self.top, env=variables, start_new_session=True, **options) as ran:
-            try:
-                text = ran.communicate(timeout=SECONDS)[0]
-            except subprocess.TimeoutExpired:
-                os.killpg(ran.pid, signal.SIGKILL)
-                return "no end"
-        found = re.search(r"^(?:FAILED|ERROR) (\S+\.py(?:::\w+)*)", text, re.M)
-        assert found or ran.returncode in (0, 5), text
-        return found[1] if found else ""
+def failing(top: Path, tests: list[str], passed_over: list[str]) -> str:
+    """The first test of a tree that fails, or "no end"; empty if all pass."""
+    words = [sys.executable, *"-m pytest -x -q -rfE -n 0".split(), *tests]
+    words += [f"--deselect={name}" for name in passed_over]
+    # two versions of a file may have one size and one time
+    variables = {**os.environ, "PYTHONDONTWRITEBYTECODE": "1", "RDS_COUNTS_OF_ALONE": "/dev/null"}
+    options: dict[str, Any] = {"stdout": subprocess.PIPE, "stderr": subprocess.STDOUT, "text": True}
+    options["preexec_fn"] = lambda: resource.setrlimit(resource.RLIMIT_DATA, (MEMORY, MEMORY))
+    with subprocess.Popen(words, cwd=top, env=variables, start_new_session=True, **options) as ran:
+        try:
+            text = ran.communicate(timeout=SECONDS)[0]
+        except subprocess.TimeoutExpired:
+            os.killpg(ran.pid, signal.SIGKILL)
+            return "no end"
+    found = re.search(r"^(?:FAILED|ERROR) (\S+\.py(?:::\w+)*)", text, re.M)
+    assert found or ran.returncode in (0, 5), text
+    return found[1] if found else ""
 
-    def seen_by(self, path: str, edited: str, unedited: str, tests: list[str]) -> str:
-        """The first test that fails for the edit alone, or ""."""
-        passed_over: list[str] = []
+
+def seen_by(path: str, edited: str, unedited: str, tests: list[str]) -> str:
+    """The first test that fails for the edit alone, or ""."""
+    passed_over: list[str] = []
+    with tempfile.TemporaryDirectory() as folder:
+        copy_to(Path(folder))
         while True:
-            (self.top / path).write_text(edited)
-            name = self.failing(tests, passed_over)
-            (self.top / path).write_text(unedited)
-            if name in ("", "no end") or not self.failing([name], []):
+            (Path(folder) / path).write_text(edited)
+            name = failing(Path(folder), tests, passed_over)
+            (Path(folder) / path).write_text(unedited)
+            if name in ("", "no end") or not failing(Path(folder), [name], []):
                 return name
             passed_over.append(name)
 
@@ -250,19 +241,15 @@ def main() -> int:
     words = parser.parse_args()
     known = {line.partition("\t")[0] for line in (TOP / "tests/mutants.tsv").read_text().splitlines()}
     edits = [edit for edit in chosen(words.seed, words.count, words.files) if edit.name() not in known]
+    # of all edits at first: jobs that edit one tree at once would be in each other's way
     texts = [(edit.name(), edit.path, edit.source(edit.tree), ast.unparse(edit.tree)) for edit in edits]
-    with tempfile.TemporaryDirectory() as folder, ThreadPoolExecutor(words.jobs) as pool:
-        copies: Queue[Copy] = Queue()
-        for number in range(words.jobs):
-            copies.put(Copy(Path(folder) / str(number)))
 
-        def is_seen(text: tuple[str, str, str, str]) -> bool:
-            copy = copies.get()
-            name = copy.seen_by(*text[1:], words.tests or tests_of(TOP / text[1]))
-            copies.put(copy)
-            print(f"{text[0]}\t{name or 'NOT SEEN'}", flush=True)
-            return bool(name)
+    def is_seen(text: tuple[str, str, str, str]) -> bool:
+        name = seen_by(*text[1:], words.tests or tests_of(TOP / text[1]))
+        print(f"{text[0]}\t{name or 'NOT SEEN'}", flush=True)
+        return bool(name)
 
+    with ThreadPoolExecutor(words.jobs) as pool:
         unseen = [*pool.map(is_seen, texts)].count(False)
     print(f"{len(edits) - unseen} of {len(edits)} edits are seen")
     return int(unseen > 0)
