@@ -125,7 +125,7 @@ def edits_of(path: Path) -> Iterator[Edit]:
     for node in nodes:
         if node in owners and node not in left_out:
             yield from of(node, fields_of(node))
-        if isinstance(node, ast.Assign) and isinstance(node.value, (ast.Constant, ast.JoinedStr)):
+        if isinstance(node, ast.Assign) and isinstance(node.targets[0], ast.Name):
             for part in ast.walk(node.value):
                 if isinstance(part, ast.Constant) and isinstance(part.value, str) and "\n" in part.value:
                     texts = {*texts_of(part.value)} - {part.value}

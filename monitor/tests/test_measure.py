@@ -12,10 +12,12 @@ import pytest
 from hypothesis import given, settings, strategies as st
 
 from conftest import rds
-from made import BLOCK_OFFSETS, block, damaged, group_row, listing, output, run, said
+from made import BLOCK_OFFSETS, block, damaged, group_row, listing, output, read, run, said
 from rds_monitor.measures.errors import Errors
 from rds_monitor.measures.measure import Programmes
 from rds_monitor.measures.outages import Outages
+from rds_monitor.measures.table import columns_of
+from rds_monitor.rows.clock import Clock
 from rds_monitor.rows.items import CORRECTED, GROUP, ITEM, LOST, VALID, Rows
 from rds_monitor.rows.parse import _set_types
 
@@ -181,6 +183,17 @@ def test_the_rows_as_a_table(station: bytes, station_listing: bytes) -> None:
     plain = [row.rsplit(",", 2)[0] for row in table[1:]]
     assert plain == station_listing.decode().splitlines()[:-12]
     assert said("table", data=station)[2] == "group,26,0,A,none,B:0548,C:E100,D:5041,0.022"
+
+
+def test_columns_for_parquet(station_listing: bytes) -> None:
+    rows = read(station_listing)
+    columns = columns_of(rows, Clock(0.5, 1000.0))
+    assert [*columns] == [*ITEM.names, "time_s", "time_utc"]
+    assert all((columns[name] == rows[name]).all() for name in ITEM.names)
+    assert columns["time_s"].tolist() == (rows["place"] / 1000).tolist()
+    assert columns["time_utc"].astype("i8").tolist() == [
+        1000 * place + 500000 for place in rows["place"].tolist()
+    ]
 
 
 def test_parquet(station: bytes, tmp_path) -> None:
