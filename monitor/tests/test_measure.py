@@ -187,13 +187,12 @@ def test_the_rows_as_a_table(station: bytes, station_listing: bytes) -> None:
 
 def test_columns_for_parquet(station_listing: bytes) -> None:
     rows = read(station_listing)
-    columns = columns_of(rows, Clock(0.5, 1000.0))
+    columns = columns_of(rows, Clock(0.5, 1024.0))
     assert [*columns] == [*ITEM.names, "time_s", "time_utc"]
     assert all((columns[name] == rows[name]).all() for name in ITEM.names)
-    assert columns["time_s"].tolist() == (rows["place"] / 1000).tolist()
-    assert columns["time_utc"].astype("i8").tolist() == [
-        1000 * place + 500000 for place in rows["place"].tolist()
-    ]
+    assert columns["time_s"].tolist() == (rows["place"] / 1024).tolist()
+    wanted = [500000 + place * 15625 // 16 for place in rows["place"].tolist()]
+    assert columns["time_utc"].astype("i8").tolist() == wanted
 
 
 def test_parquet(station: bytes, tmp_path) -> None:
