@@ -114,11 +114,12 @@ def fields_of(node: Any) -> Iterator[tuple[str, Any]]:
 
 
 def edits_of(path: Path) -> Iterator[Edit]:
-    """All edits of a file but those of its annotations and of the texts that it prints."""
+    """All edits of a file but those of its types and of the texts that it prints."""
     name, tree = str(path.relative_to(TOP)), ast.parse(path.read_bytes())
     nodes = [*ast.walk(tree)]
-    annotations = [getattr(node, of, None) for node in nodes for of in ("annotation", "returns")]
-    left_out = {inner for node in annotations if node for inner in ast.walk(node)}
+    types = [getattr(node, of, None) for node in nodes for of in ("annotation", "returns")]
+    types += [node for node in nodes if isinstance(node, ast.Subscript) and ast.unparse(node.value).istitle()]
+    left_out = {inner for node in types if node for inner in ast.walk(node)}
     # the innermost statement of each, since outer ones come first
     owners = {inner: node for node in nodes if isinstance(node, ast.stmt) for inner in ast.walk(node)}
     of = lambda node, found: (Edit(name, tree, owners[node], node, field, value) for field, value in found)

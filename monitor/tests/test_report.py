@@ -332,6 +332,11 @@ def test_a_database_tells_what_its_recording_does(tmp_path: Path, station: bytes
     noise, seconds = stored["outages"][0][2], 8 * len(data) / 1189
     known = {"received": seconds - noise, "noise": noise, "down": 0.0, "unknown": 0.0}
     assert stored["available"] == pytest.approx(known, abs=1e-3)
+    assert {**stored["held"], "CT": ""} == {**alone["held"], "CT": ""}
+    with sqlite3.connect(tmp_path / "it.db") as database:
+        database.execute("UPDATE sessions SET quiet_place = end_place - 2 * 1189")
+    lasting = data_of(page(tmp_path / "it.db"))[0]["outages"][1:]
+    assert lasting == [[pytest.approx(value, abs=1e-3) for value in (seconds - 2, seconds, 2)]]
     counted = [dict(told["parts"][0], at=0) for told in (stored, alone)]
     for name in ("sent", "corrected", "lost", "missing"):
         steps, seconds = (
