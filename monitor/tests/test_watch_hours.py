@@ -112,7 +112,7 @@ def test_by_age(tmp_path: Path) -> None:
 
 def test_by_size(tmp_path: Path) -> None:
     """The oldest go first; the last hours stay, however large."""
-    assert kept(tmp_path, Keep(listings_gb=399e-9), 100, 100, 100, 100, 100) == [2, 3, 4]
+    assert kept(tmp_path, Keep(listings_gb=300e-9), 100, 100, 100, 100, 100) == [2, 3, 4]
     assert kept(tmp_path / "less", Keep(listings_gb=50e-9), 100, 100, 100, 100, 100) == [3, 4]
     assert len(list((tmp_path / "listings" / "Alpha").glob("*.csv"))) == 3
 
