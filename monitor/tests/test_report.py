@@ -195,7 +195,7 @@ def test_lines_of_a_tile() -> None:
     line = line_of([Span(0, 900, numpy.array([10] * 2), numpy.array([10, 5]))], 1800.0)
     assert line == [None] * 94 + [0.0, 50.0]
     assert line_of([], 5.0) == [None] * 96
-    # The day begins and ends within what was received.
+    # The day begins and ends inside the recording.
     older = Span(-900, 900, numpy.array([100] * 99), numpy.arange(99))
     assert line_of([older], 86400 + 900.0) == [100.0 - valid for valid in range(2, 98)]
     assert last_minute([]) is bad_percent(0, 0) is None

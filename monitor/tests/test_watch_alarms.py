@@ -225,7 +225,7 @@ def test_ta_and_pty_31() -> None:
 
 @pytest.mark.parametrize("sign", [1, -1])
 def test_clock_time(sign: int) -> None:
-    """Ahead and behind; at the limit it is not off, and up to half of it the alarm ends."""
+    """A clock that is fast or slow. At the limit it is not off, and up to half of it the alarm ends."""
     judged = Judged().ticks(*(sign * offset for offset in (0, 0, 7, 0, 7, 8, 4, 4, 1, 2, 7)))
     assert judged.found == [("ct", True, 6.0), ("ct", False, 10.0)]
     assert judged.texts[0] == f"CT is off by {8 * sign:+.1f} s"
