@@ -447,6 +447,14 @@ def test_group_runs_by_one_worker(copy: Path) -> None:
     assert len(workers) == 8 and len({*workers}) == 1, ended.out
 
 
+@pytest.mark.parametrize("test, status", [("test_fields.py", 0), ("test_rooms.py", 1)])
+def test_random_edit(test: str, status: int) -> None:
+    """An edit of the tables of names is seen by the test that compares them, and by no other."""
+    words = f"--count 1 --files monitor/rds_monitor/content/names.py --tests monitor/tests/{test}".split()
+    ended = run(sys.executable, TOP / "tests" / "mutants.py", *words)
+    assert ended.status == status and (b"NOT SEEN" in ended.out) == (status == 1), ended
+
+
 # ---- the tools
 
 

@@ -16,6 +16,7 @@ import zstandard
 
 from conftest import COMMAND, encode, monitor, ran, rds
 from made import group_row, listing, lock, run, split
+from rds_monitor.watch.verdict import Limits, Seen, Verdict
 
 VALID = "99.98 % of the blocks valid, last valid group 0.007 s ago"
 DATA = "valid=99.98%;90:;50:;0;100 corrected=0.00%;;;0;100 age=0.007s;10;60;0"
@@ -64,6 +65,35 @@ def test_a_good_reception(sample, listed) -> None:
         listed,
     )
     judged(0, "RDS OK - 99.98 % *", "-", data=sample.read_bytes())
+
+
+# Per cent of valid blocks and seconds since the last group, at each limit and past it, and the status.
+@pytest.mark.parametrize(
+    "valid, age, status",
+    [
+        (90, 10, 0),
+        (89.9, 0, 1),
+        (50, 0, 1),
+        (49.9, 0, 2),
+        (100, 10.1, 1),
+        (100, 60, 1),
+        (100, 60.1, 2),
+        (60, 61, 2),
+    ],
+)
+def test_limits(valid: float, age: float, status: int) -> None:
+    verdict = Verdict()
+    verdict.judge(Seen(valid, 0.0, age, None, []), Limits(90, 50, 10, 60), None, [])
+    assert verdict.status == status
+
+
+def test_what_is_told_of_the_last_minute() -> None:
+    verdict = Verdict()
+    verdict.judge(
+        Seen(None, None, 1.0, None, ["NEWS 1", "ALPHA", "NEWS 2"]), Limits(90, 50, 10, 60), None, ["NEWS*"]
+    )
+    assert verdict.said == ["no whole minute yet", "last valid group 1.000 s ago", "name NEWS 2"]
+    assert verdict.data == ["valid=U", "corrected=U", "age=1.000s;10;60;0"] and verdict.status == 0
 
 
 @pytest.mark.parametrize("suffix", ["gz", "xz", "zst"])

@@ -167,8 +167,11 @@ CASES: Dict[str, Case] = {
         texts={"eon:D312.af": "87.6 92.5 97.5"},
     ),
     "14A: mapped frequencies": Case(
-        [eon(5, 0x0132), eon(6, 0x0264), eon(9, 0x0110)],
-        {"eon:D312.mapped:87.6": 92500, "eon:D312.mapped:87.7": 97500, "eon:D312.mapped:87.6.am": 531},
+        [eon(5, 0x0132), eon(6, 0x0264), eon(7, 0x0396), eon(8, 0xCCCC), eon(8, 0x05CD), eon(9, 0x0110)],
+        {
+            **{f"eon:D312.mapped:{at}": to for at, to in ((87.6, 92500), (87.7, 97500), (87.8, 102500))},
+            **{"eon:D312.mapped:107.9": 107900, "eon:D312.mapped:88.0": None, "eon:D312.mapped:87.6.am": 531},
+        },
     ),
     "14A: linkage": Case(
         [eon(12, 0xC123)],
@@ -259,6 +262,10 @@ CASES: Dict[str, Case] = {
     "DAB service": Case([oda(0x0093, "12A"), group("12A", 0x10, 0, 0xD310)], {"dab_service:D310": True}),
     "one frequency": Case(name(b"PAXO 318", [0xE16A]), {"af": [98100]}, texts={"af": "98.1"}),
     "no list": Case(name(b"PAXO 318", [0xE0CD]), {"af": []}, texts={"af": "none"}),
+    "a list of 25": Case(
+        [group("0A", k % 4, pair, 0x2020) for k, pair in enumerate([0xF901, *range(0x0203, 0x1A00, 0x0202)])],
+        {"af": [*range(87600, 90001, 100)]},
+    ),
     "a list that does not end": Case(name(b"PAXO 318", [0xE501, 0x6A02, 0x7CCD]), {"af": None}),
     "long and medium wave": Case(
         name(b"PAXO 318", [0xE401, 0xFA0F, 0xFA10, 0xFA87]),

@@ -107,10 +107,11 @@ def test_redsea_has_no_clock_time_of_a_group_before() -> None:
 
 
 def test_redsea_has_the_start_of_a_programme_item_by_its_own_number() -> None:
-    """FE3C is day 31, hour 24, minute 60: no time of day."""
-    found = redsea("1,A,A:D3C2,B:1000,C:00E0,D:2987", "1,A,A:D3C2,B:1000,C:00E0,D:FE3C")
-    assert [group["prog_item_number"] for group in found] == [0x2987, 0xFE3C]
-    assert [group.get("prog_item_started") for group in found] == [{"day": 5, "time": "06:07"}, None]
+    """FE3C is day 31, hour 24, minute 60: no time of day. One with a corrected block does not count."""
+    groups = ["1,A,A:D3C2,B:1000,C:00E0,D:2987", "1,A,A:D3C2,B:1000,C:00E0,D:FE3C"]
+    found = redsea(*groups, f"{groups[1]}~0000004")
+    assert [group.get("prog_item_number") for group in found] == [0x2987, 0xFE3C, None]
+    assert [group.get("prog_item_started") for group in found] == [{"day": 5, "time": "06:07"}, None, None]
 
 
 def test_redsea_has_no_text_of_the_flag_before() -> None:

@@ -68,6 +68,7 @@ CASES: Dict[str, Tuple[List[Words], List[Tuple[int, Damage]], str, List[Any]]] =
     "a group of a PI that does not count": (GUEST, each([4], LOSE[3]), "pi pty", ["D318", 10]),
     "blocks 1 and 3 that name two programmes": (BOTH, each(range(1, 9), OTHER_3), "pi ps pty", ["D318", 9]),
     "a programme by block 3 of version B": (3 * OF_B, each(range(12), LOSE[1]), "pi ps", ["D318", *PAXO]),
+    "a programme by blocks 2 and 3 of it": (3 * OF_B, each(range(12), LOSE[1], LOSE[4]), "pi ps", ["D318"]),
     "a feature in corrected blocks": (TRAFFIC, each([4, 5], MEND[2]), "tmc", []),
     "a feature once in a valid block": (TRAFFIC, each([4], LOSE[4]) + each([5], MEND[2]), "tmc", []),
     "a feature in two valid blocks": (TRAFFIC, each([4, 5], LOSE[4]), "tmc", [True]),

@@ -2,8 +2,10 @@
 
 from __future__ import annotations
 
+import re
 from itertools import chain
-from typing import Dict
+from pathlib import Path
+from typing import Callable, Dict, Iterator, List, Optional
 
 import numpy
 import pytest
@@ -105,16 +107,41 @@ def test_call_letters() -> None:
     assert [*map(names.call_letters, none)] == 3 * [None]
 
 
-def test_names() -> None:
-    assert len(names.PROGRAMME_TYPES) == len(names.PROGRAMME_TYPES_RBDS) == 32
-    assert len(names.CONTENT_TYPES) == 64
-    assert names.programme_type(31) == "Alarm" and names.programme_type(31, True) == "Emergency"
-    languages = "Unknown German Walloon Zulu Amharic".split()
-    assert [*map(names.language, (0, 8, 0x2B, 0x45, 0x7F))] == languages
-    assert [*map(names.language, (0x2C, 0x44, 0x80))] == 3 * [None]
-    assert names.language(0x40) == "Background sound, clean feed"
-    extended, pis = (0xE0, 0xE1, 0xE0, 0xA0, 0xE0, 0x00), (0xD318, 0xF201, 0x1234, 0x1234, 0x0234, 0xD318)
-    assert [*map(names.country, extended, pis)] == ["de", "fr", "de", "us", None, None]
-    found = {names.country(code, digit << 12) for code in range(256) for digit in range(16)} - {None}
-    assert found <= {*names.COUNTRY_NAMES}
-    assert [names.DAB_CHANNELS[kilohertz] for kilohertz in (174928, 220352, 239200)] == ["5A", "11C", "13F"]
+def typed(table: str) -> Iterator[str]:
+    """The entries of a table in names.txt, each with its code if the table has them in a row."""
+    for line in Path(__file__).with_name("names.txt").read_text().splitlines():
+        head, _, entries = line.partition(": ")
+        if head.split()[0] == table:
+            for place, entry in enumerate(entries.split("; ")):
+                yield entry if head.endswith("-") else f"{int(head.split()[1], 16) + place:02X} {entry}"
+
+
+def country(code: int) -> Optional[str]:
+    """By an extended country code and the first digit of a PI."""
+    found = names.country(code >> 4, (code & 0xF) << 12 | 0x318)
+    return found and f"{found} {names.COUNTRY_NAMES[found]}"
+
+
+def of_codes(name_of: Callable[[int], Optional[str]], count: int) -> List[str]:
+    return [f"{code:02X} {name}" for code, name in enumerate(map(name_of, range(count))) if name]
+
+
+NUMBERED = re.compile("CITIBUS|ELECTRABEL")
+TABLES: Dict[str, List[str]] = {
+    "pty": of_codes(names.programme_type, 32),
+    "rbds": of_codes(lambda code: names.programme_type(code, True), 32),
+    "language": of_codes(names.language, 0x100),
+    "class": of_codes(names.CONTENT_TYPES.__getitem__, 64),
+    "country": of_codes(country, 0x1000),
+    "mode": of_codes(names.DAB_MODES.__getitem__, 4),
+    "scope": of_codes(names.TMC_SCOPES.__getitem__, 4),
+    "channel": [f"{kilohertz} {name}" for kilohertz, name in sorted(names.DAB_CHANNELS.items())],
+    "application": [
+        f"{aid:04X} {name}" for aid, name in names.APPLICATIONS.items() if not NUMBERED.match(name)
+    ],
+}
+
+
+@pytest.mark.parametrize("table", TABLES)
+def test_whole_tables_are_those_of_the_standards(table: str) -> None:
+    assert TABLES[table] == [*typed(table)]

@@ -299,6 +299,7 @@ RARE: List[Tuple[Words, Dict[str, Any]]] = [
     (group("6B", 3, 0xD318, 0x5678), {"in_house_data": [3, 0x5678]}),
     (eon(4, 0xE101), {"alt_frequencies": [87600]}),
     (eon(5, 0x0102), {"kilohertz": 87700}),
+    (eon(8, 0x01CC), {"kilohertz": 107900}),
     (eon(9, 0x0110), {"kilohertz": 531}),
     (eon(12, 0x8042), {"has_linkage": True, "linkage_set": 0x42}),
     (eon(12, 0x0042), {"has_linkage": False}),
@@ -315,6 +316,11 @@ def test_redsea_has_the_keys_of_groups_that_are_rare() -> None:
         else:
             assert {**entry, **keys} == entry
     assert len(found) == len(RARE)
+
+
+def test_redsea_has_lists_by_method_b() -> None:
+    found = redsea(*name(b"PAXO 318", [0xE512, 0x1278, 0x8E12]))[3]["alt_frequencies_b"]
+    assert found == {"tuned_frequency": 89300, "same_programme": [99500], "regional_variants": [101700]}
 
 
 def test_redsea_has_a_ps_as_soon_as_it_is_whole() -> None:

@@ -12,10 +12,12 @@ import pytest
 from hypothesis import given, settings, strategies as st
 
 from conftest import rds
-from made import BLOCK_OFFSETS, block, damaged, group_row, listing, output, run, said
+from made import BLOCK_OFFSETS, block, damaged, group_row, listing, output, read, run, said
 from rds_monitor.measures.errors import Errors
 from rds_monitor.measures.measure import Programmes
 from rds_monitor.measures.outages import Outages
+from rds_monitor.measures.table import columns_of
+from rds_monitor.rows.clock import Clock
 from rds_monitor.rows.items import CORRECTED, GROUP, ITEM, LOST, VALID, Rows
 from rds_monitor.rows.parse import _set_types
 
@@ -183,6 +185,16 @@ def test_the_rows_as_a_table(station: bytes, station_listing: bytes) -> None:
     assert said("table", data=station)[2] == "group,26,0,A,none,B:0548,C:E100,D:5041,0.022"
 
 
+def test_columns_for_parquet(station_listing: bytes) -> None:
+    rows = read(station_listing)
+    columns = columns_of(rows, Clock(0.5, 1024.0))
+    assert [*columns] == [*ITEM.names, "time_s", "time_utc"]
+    assert all((columns[name] == rows[name]).all() for name in ITEM.names)
+    assert columns["time_s"].tolist() == (rows["place"] / 1024).tolist()
+    wanted = [500000 + place * 15625 // 16 for place in rows["place"].tolist()]
+    assert columns["time_utc"].astype("i8").tolist() == wanted
+
+
 def test_parquet(station: bytes, tmp_path) -> None:
     done = run("table", "--parquet", tmp_path / "it.parquet", *START, data=station)
     try:
@@ -276,7 +288,7 @@ def noise(seed: int) -> Rows:
         rows[f"burst{number + 1}"] = 3 * (read & (kinds == CORRECTED))
     rows["what"] = GROUP
     _set_types(rows)
-    pauses = random.choice([0, 0, 0, 0, 0, 1, 40, 700, 3000], count)
+    pauses = random.choice([0, 0, 0, 0, 0, 1, 40, 1000, 3000], count)
     lengths = 26 * (last - first + 1)
     rows["place"] = numpy.cumsum(pauses) + numpy.cumsum(lengths) - lengths
     return rows

@@ -9,13 +9,14 @@ import json
 import os
 import re
 import sqlite3
+from collections import Counter
 from pathlib import Path
 from typing import Any, Dict, List
 
 import numpy
 import pytest
 from conftest import encode, monitor, rds
-from made import peak_memory
+from made import damaged, peak_memory
 from rds_monitor.page.html import told_of
 from rds_monitor.page.line import COUNTS, Counted, Lanes, TimeLine, bad_percent, encoded, said
 from rds_monitor.page.overview import Span, last_minute, line_of, polyline, tile_of
@@ -194,7 +195,17 @@ def test_lines_of_a_tile() -> None:
     line = line_of([Span(0, 900, numpy.array([10] * 2), numpy.array([10, 5]))], 1800.0)
     assert line == [None] * 94 + [0.0, 50.0]
     assert line_of([], 5.0) == [None] * 96
+    # The day begins and ends inside the recording.
+    older = Span(-900, 900, numpy.array([100] * 99), numpy.arange(99))
+    assert line_of([older], 86400 + 900.0) == [100.0 - valid for valid in range(2, 98)]
     assert last_minute([]) is bad_percent(0, 0) is None
+
+
+@pytest.mark.parametrize("step, count", [(1, 60), (20, 3), (59, 1), (60, 1), (3600, 1)])
+def test_the_last_minute_of_steps(step: int, count: int) -> None:
+    valid = numpy.array([0] + [100] * count)
+    assert last_minute([Span(0, step, valid * 0 + 100, valid)]) == 0.0
+    assert last_minute([Span(0, step, valid * 0 + 100, valid[::-1])]) == round(100 / count, 2)
 
 
 @needs_d3
@@ -302,6 +313,48 @@ def test_stations_of_a_database(tmp_path: Path, station: bytes) -> None:
         [pytest.approx(row[0] + 3600), pytest.approx(row[1] + 3600), row[2]] for row in outages
     ]
     assert outages
+
+
+SAME = "start end totals bad_percent outages outage_count sessions events texts lanes more".split()
+
+
+@needs_d3
+def test_a_database_tells_what_its_recording_does(tmp_path: Path, station: bytes) -> None:
+    """All but its steps of two minutes, whose counts, group mix and clock are those of the seconds and minutes in it."""
+    data, words = damaged(station, 0.002, 1), ("--start", "2026-03-29T02:30:00Z", "--rate", "1189")
+    (tmp_path / "it.bin").write_bytes(data[:10000] + bytes(2000) + data[12000:])
+    assert monitor("db", *words, tmp_path / "it.db", tmp_path / "it.bin").returncode == 0
+    stored, alone = (
+        data_of(page(*asked))[0] for asked in ([tmp_path / "it.db"], [*words, tmp_path / "it.bin"])
+    )
+    assert {name: stored[name] for name in SAME} == {name: alone[name] for name in SAME}
+    assert len({*stored["totals"].values()}) == 5 and stored["outage_count"] == 1
+    noise, seconds = stored["outages"][0][2], 8 * len(data) / 1189
+    known = {"received": seconds - noise, "noise": noise, "down": 0.0, "unknown": 0.0}
+    assert stored["available"] == pytest.approx(known, abs=1e-3)
+    assert {**stored["held"], "CT": ""} == {**alone["held"], "CT": ""}
+    with sqlite3.connect(tmp_path / "it.db") as database:
+        database.execute("UPDATE sessions SET quiet_place = end_place - 2 * 1189")
+    lasting = data_of(page(tmp_path / "it.db"))[0]["outages"][1:]
+    assert lasting == [[pytest.approx(value, abs=1e-3) for value in (seconds - 2, seconds, 2)]]
+    counted = [dict(told["parts"][0], at=0) for told in (stored, alone)]
+    for name in ("sent", "corrected", "lost", "missing"):
+        steps, seconds = (
+            numpy.frombuffer(base64.b64decode(part[name]), f"<u{part['bytes']}").astype("i8")
+            for part in counted
+        )
+        assert steps.tolist() == numpy.add.reduceat(seconds, range(0, len(seconds), 120)).tolist(), name
+    for found, (at, after, mix) in zip(((0, 2), (2, 3)), stored["mix"]):
+        minutes = alone["mix"][slice(*found)]
+        assert (at, after) == (120 * found[0] // 2, 120 * found[0] // 2 + 120)
+        assert Counter(mix) == sum((Counter(told) for *_, told in minutes), Counter())
+    assert [at for at, _ in alone["clock"]] == [60, 120, 180]
+    offsets = [offset for _, offset in alone["clock"]]
+    means = [sum(offsets[:2]) / 2, offsets[2]]
+    assert stored["clock"] == [
+        [60, pytest.approx(means[0], abs=1e-3)],
+        [180, pytest.approx(means[1], abs=1e-3)],
+    ]
 
 
 @pytest.fixture(scope="module")

@@ -168,6 +168,63 @@ def test_outages_over_a_cut_are_one(database) -> None:
     ]
 
 
+def test_the_views_of_written_rows(database) -> None:
+    """Two sessions of other rates, the second from where the first ends; rows whose numbers all differ."""
+    store.Store(str(database)).close()
+    change(
+        database,
+        "INSERT INTO recordings VALUES(1, 'first', 'X'), (2, 'second', 'X')",
+        "INSERT INTO sessions VALUES(1, 1, 0, 86340, 1000, 60000, 0, 100000, 1, NULL),"
+        "(2, 2, 0, 86440, 3000, 180000, 0, 120000, 0, 117000)",
+        *(
+            f"INSERT INTO minute_rows(session, minute, sent, valid, corrected, lost, missing, more) VALUES({row})"
+            for row in (
+                "1, 0, 2300, 2000, 150, 100, 50, 0",
+                "1, 1, 1530, 1500, 11, 12, 7, 0",
+                "2, 0, 3000, 2400, 1, 2, 597, 0",
+            )
+        ),
+        "INSERT INTO outage_rows VALUES(1, 10000, 11000), (1, 12000, 14500), (1, 14700, 15000), (1, 98500, 100000)",
+        "INSERT INTO outage_rows VALUES(2, 0, 4500), (2, 4650, 9000), (2, 60000, 63001)",
+        "INSERT INTO watched_rows VALUES(1, 'X', 86330, 86500), (2, 'X', 86510.5, 86512)",
+    )
+    day, next_day = "1970-01-01T23:59:", "1970-01-02T00:0"
+    assert asked(database, "SELECT begin_utc, begin_s, sent, valid, bad_percent FROM minutes") == [
+        (day + "00.000Z", 0.0, 2300, 2000, 13.04),
+        (next_day + "0:00.000Z", 60.0, 1530, 1500, 1.96),
+        (next_day + "0:40.000Z", 0.0, 3000, 2400, 20.0),
+    ]
+    assert asked(
+        database, "SELECT begin_utc, end_utc, ROUND(length_s, 6) FROM outages ORDER BY begin_utc"
+    ) == [
+        (day + "10.000Z", day + "11.000Z", 1.0),
+        (day + "12.000Z", day + "14.500Z", 2.5),
+        (day + "14.700Z", day + "15.000Z", 0.3),
+        (next_day + "0:38.500Z", next_day + "0:40.000Z", 1.5),
+        (next_day + "0:40.000Z", next_day + "0:41.500Z", 1.5),
+        (next_day + "0:41.550Z", next_day + "0:43.000Z", 1.45),
+        (next_day + "1:00.000Z", next_day + "1:01.000Z", 1.000333),
+        (next_day + "1:19.000Z", None, 1.0),
+    ]
+    # Those less than 0.1 s apart are one; 10 s before the first session, 20 s after the second, and a stretch without any.
+    assert asked(database, "SELECT begin_utc, end_utc, length_s, kind FROM station_outages") == [
+        ("1970-01-01T23:58:50.000Z", day + "00.000Z", 10.0, "down"),
+        (day + "10.000Z", day + "11.000Z", 1.0, "noise"),
+        (day + "12.000Z", day + "14.500Z", 2.5, "noise"),
+        (day + "14.700Z", day + "15.000Z", 0.3, "noise"),
+        (next_day + "0:38.500Z", next_day + "0:43.000Z", 4.5, "noise"),
+        (next_day + "1:00.000Z", next_day + "1:01.000Z", 1.0, "noise"),
+        (next_day + "1:19.000Z", None, 1.0, "noise"),
+        (next_day + "1:20.000Z", None, 20.0, "down"),
+        (next_day + "1:50.500Z", None, 1.5, "down"),
+    ]
+    # 2300 blocks at 1000 bits per second are 59.8 s; 1530, and 3000 at 3000, 65.78 s.
+    assert asked(database, "SELECT * FROM days") == [
+        ("X", "1970-01-01", 0.02, 2300, 2000, 86.96, 56.2, 3.8, 10.0, 86330.0),
+        ("X", "1970-01-02", 0.02, 4530, 3900, 86.09, 73.55, 6.45, 21.5, 86298.5),
+    ]
+
+
 def test_a_name_that_scrolls_is_cut(database) -> None:
     groups = []
     for n in range(2000):
@@ -375,7 +432,8 @@ def test_two_databases_are_merged(tmp_path, station: bytes) -> None:
         ("two all", told.format("run", run_of, "B", "5, 9, 'x'")),
         ("one", told.format("watched", watched, "B", "0, 70")),
         ("two", told.format("watched", watched, "B", "60, 90")),
-        ("all", told.format("watched", watched, "B", "0, 90")),
+        ("one", told.format("watched", watched, "B", "90, 95")),
+        ("all", told.format("watched", watched, "B", "0, 95")),
         ("one", "INSERT INTO station_rows VALUES('B', 8, 'old')"),
         ("two", "INSERT INTO station_rows VALUES('B', 9, 'new')"),
     ]
@@ -470,5 +528,7 @@ def test_a_year_of_30_stations(database) -> None:
 def test_a_store_that_is_closed_is_one_file(database, station: bytes) -> None:
     add("--name", "it", database, data=station)
     assert sorted(path.name for path in database.parent.iterdir()) == ["it.db"]
+    # SQLite has the mark of an application at byte 68 of its file.
+    assert database.read_bytes()[68:72] == b"RDSm"
     with pytest.raises(Fault):
         store.Store(str(database.parent))

@@ -202,6 +202,9 @@ def test_texts_that_are_stuck() -> None:
         ("rt_stuck", False, 211.0),
     ]
     assert Judged().seconds(400, rt="One", ps="A").found == []
+    # Nothing is known of a text while no byte comes.
+    unheard = Judged("[station.alarms]", "rt_stuck = 100", "silent = false").seconds(50, rt="One")
+    assert unheard.seconds(200, quiet=3).found == []
 
 
 def test_ta_and_pty_31() -> None:
@@ -220,10 +223,15 @@ def test_ta_and_pty_31() -> None:
     ]
 
 
-def test_clock_time() -> None:
-    judged = Judged().ticks(0, 0, 7, 0, 7, 8, 4, 4, 1, 2, 7)
-    assert [(name, begins) for name, begins, _ in judged.found] == [("ct", True), ("ct", False)]
-    assert judged.found[0][2] == 6 and judged.found[1][2] == 10
+@pytest.mark.parametrize("sign", [1, -1])
+def test_clock_time(sign: int) -> None:
+    """A clock that is fast or slow. At the limit it is not off, and up to half of it the alarm ends."""
+    judged = Judged().ticks(*(sign * offset for offset in (0, 0, 7, 0, 7, 8, 4, 4, 1, 2, 7)))
+    assert judged.found == [("ct", True, 6.0), ("ct", False, 10.0)]
+    assert judged.texts[0] == f"CT is off by {8 * sign:+.1f} s"
+    limited = Judged("[station.alarms]", "ct_offset = 4")
+    limited.ticks(*(sign * offset for offset in (4, 4, 4, 5, 5, 4, 3, 3, 2, 2)))
+    assert limited.found == [("ct", True, 5.0), ("ct", False, 10.0)]
 
 
 def test_the_pace_of_bits() -> None:
@@ -237,7 +245,9 @@ def test_the_pace_of_bits() -> None:
         ("slow", True, 256.0),
         ("slow", False, 356.0),
     ]
+    assert judged.texts[::2] == ["bits come too fast by 2.0 %", "bits come too slowly by 2.0 %"]
     assert Judged().seconds(2, pace=math.inf).found == [("fast", True, 1.0)]
+    assert Judged().seconds(200, pace=1.01).seconds(200, pace=0.99).found == []
 
 
 def test_an_alarm_outlasts_the_watch() -> None:

@@ -44,7 +44,7 @@ FORMS: Dict[str, Tuple[str, ...]] = {
     "mpx s16": ('form = "mpx"', 'raw = "s16"', "rate = 171000"),
     "mpx f32": ('form = "mpx"', 'raw = "f32"', "rate = 192000"),
     "iq u8": ('form = "iq"', 'raw = "u8"', "rate = 240000"),
-    "iq s16, beside the centre": ('form = "iq"', 'raw = "s16"', "rate = 256000", "offset = 20000"),
+    "iq s16, far below the centre": ('form = "iq"', 'raw = "s16"', "rate = 480000", "offset = -150000"),
 }
 
 

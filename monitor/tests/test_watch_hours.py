@@ -112,9 +112,9 @@ def test_by_age(tmp_path: Path) -> None:
 
 def test_by_size(tmp_path: Path) -> None:
     """The oldest go first; the last hours stay, however large."""
-    assert kept(tmp_path, Keep(listings_gb=299e-9), 100, 100, 100, 100, 100) == [3, 4]
+    assert kept(tmp_path, Keep(listings_gb=300e-9), 100, 100, 100, 100, 100) == [2, 3, 4]
     assert kept(tmp_path / "less", Keep(listings_gb=50e-9), 100, 100, 100, 100, 100) == [3, 4]
-    assert len(list((tmp_path / "listings" / "Alpha").glob("*.csv"))) == 2
+    assert len(list((tmp_path / "listings" / "Alpha").glob("*.csv"))) == 3
 
 
 def test_one_that_is_being_written(tmp_path: Path) -> None:
@@ -122,7 +122,7 @@ def test_one_that_is_being_written(tmp_path: Path) -> None:
 
 
 def test_old_rows_of_the_database(tmp_path: Path) -> None:
-    """Parts that ended before go, with all that belongs to them, and facts that nothing names."""
+    """Parts that ended before go, with all that belongs to them, and facts that nothing names. What lasts, or ended later, stays."""
     records = Records(str(tmp_path / "watch.db"))
     for name, begin, ps in (("old", HOUR - 10 * 86400, "OLD"), ("new", HOUR - 3600, "NEW")):
         key = PartKey(f"Alpha {name}", 0)
@@ -133,10 +133,19 @@ def test_old_rows_of_the_database(tmp_path: Path) -> None:
         run_ = RunBegan("Alpha", begin), RunEnded("Alpha", begin + 9, name)
         ended = alarm._replace(begins=False, utc=begin + 1)
         records.write([*part, PartGrew(key, 71250, 0, True), alarm, ended, *run_])
+    lasting, late = (AlarmChanged("Alpha", name, True, HOUR - 9 * 86400, "") for name in ("lasting", "late"))
+    records.write([lasting, late, late._replace(begins=False, utc=HOUR)])
+    records.write([RunBegan("Alpha", HOUR - 9 * 86400), RunEnded("Alpha", HOUR, "late")])
+    for watched in ((HOUR - 9 * 86400, HOUR - 3 * 86400), (HOUR - 3 * 86400 + 60, HOUR)):
+        records.database.execute(
+            "INSERT INTO watched_rows(station, begin_at, end_at) VALUES('Alpha', ?, ?)", watched
+        )
     tidy(str(tmp_path), Keep(database_days=0), HOUR, records)
-    assert counts(records) == [2, 2, 2, 2, 2, 2, 2, 2, 4]
+    assert counts(records) == [2, 2, 2, 2, 2, 2, 4, 3, 4]
     tidy(str(tmp_path), Keep(database_days=2), HOUR, records)
-    assert counts(records) == [1] * 8 + [2]
+    assert counts(records) == [1, 1, 1, 1, 1, 1, 3, 2, 2]
+    watched_rows = records.database.execute("SELECT begin_at, end_at FROM watched_rows").fetchall()
+    assert watched_rows == [(HOUR - 2 * 86400, HOUR)]
     facts = records.database.execute("SELECT value FROM facts ORDER BY 1").fetchall()
     assert facts == [("NEW",), ("text of new",)]
     records.close()

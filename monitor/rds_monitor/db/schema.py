@@ -173,7 +173,7 @@ CREATE VIEW days AS
     FROM (SELECT station, kind, day, MIN(end_at, (day + 1) * 86400.0) - begin_at AS length FROM cut) GROUP BY station, day),
   counted AS (
     SELECT station, CAST((start + minute * minute_bits / rate) / 86400 AS INTEGER) AS day,
-      SUM(sent) * 26 / rate / 3600 AS hours, SUM(sent) AS sent, SUM(valid) AS valid
+      SUM(sent * 26 / rate) / 3600 AS hours, SUM(sent) AS sent, SUM(valid) AS valid
     FROM minute_rows {JOIN} WHERE start IS NOT NULL GROUP BY 1, 2)
   SELECT seconds.station, date(seconds.day * 86400, 'unixepoch') AS day, ROUND(COALESCE(hours, 0), 2) AS hours,
     COALESCE(sent, 0) AS sent, COALESCE(valid, 0) AS valid, ROUND(100.0 * valid / sent, 2) AS valid_percent,
