@@ -64,7 +64,7 @@ live_next live bytes = record {
 abbrev pub guessed : LiveOf → State → LiveOf
 guessed live state = record live { state = state; totals = totals_of [] }
 
--- no count grew by more than so many bits may give
+-- no count grew by more than this number of bits may give
 pub record IsWithin (bits : ℕ) (before after : Totals) : Type 0 where
   pub within : (n : ℕ) → IsAtMost n before → IsAtMost (n + most_counted bits) after
 

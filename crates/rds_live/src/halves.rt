@@ -88,7 +88,7 @@ fn count_both<R: Threads + Sync>(
     join_mut(rt, &mut ahead, &mut here);
 }
 
-/// How many bytes of these the first half of so many workers counts.
+/// How many of these bytes the first half of the workers counts.
 fn cut_for(len: usize, workers: u32) -> usize
     ensures { result ≤ len }
 {
