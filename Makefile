@@ -66,19 +66,24 @@ quick: toolchain
 	tests/quick.sh
 
 # The wrong bodies get the processors that `rt ci` leaves free: most crates use one another, so it often proves a single crate. The
-# tests try the built programs once all is proved.
+# tests try the built programs once all is proved. build/passed names the commit, if the tree was that commit from begin to end.
 test: toolchain
 	@mkdir -p build
 	@rm -f $(LOG)
+	@$(commit) > build/tested
 	+$(MAKE) --no-print-directory -j 2 WHEN='--beside $(LOG)' wrong-bodies built
-	+$(MAKE) --no-print-directory tried
-	@[ -n "$$(git status --porcelain)" ] || git rev-parse HEAD > build/passed
+	+$(MAKE) --no-print-directory tried TESTS='$(ALL_TESTS)'
+	@if $(commit) | cmp -s - build/tested && [ "$$(wc -l < build/tested)" = 1 ]; then cp build/tested build/passed; fi
+
+# a line, and more if files were changed
+commit = { git rev-parse HEAD; git status --porcelain; }
+ALL_TESTS := tests monitor/tests
 
 # All tests by pytest, over what is built. It prints which tests are skipped and why, and fails if there are fewer cases than in
 # tests/counts.tsv. Times are measured last, when nothing else runs.
 tried:
-	timeout 3600 $(PYTHON) -m pytest -n auto $(TESTS)
-TESTS ?= tests monitor/tests
+	PYTEST_ADDOPTS= timeout 3600 $(PYTHON) -m pytest -n auto $(TESTS)
+TESTS ?= $(ALL_TESTS)
 
 # the output of `rt ci`, for which the wrong bodies wait
 LOG := build/proofs.log

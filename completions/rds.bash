@@ -5,8 +5,8 @@ _rds_options() {
   local part='--bits --gaps' input='--hex --bits --gaps' rules='--burst --reach --loss --share --of' crew='--workers --progress'
   case $1 in
     scan) echo "$input $crew --help" ;;
-    list | totals) echo "$input $rules --pieces $crew --help" ;;
-    follow) echo "$part $rules --help" ;;
+    list | totals) echo "$input $rules --pieces $crew --soft --margin --help" ;;
+    follow) echo "$part $rules --workers --help" ;;
     encode) echo '--hex --help' ;;
     '') echo 'scan list follow totals encode help --help --version' ;;
   esac
@@ -25,7 +25,7 @@ _rds() {
   local word=${COMP_WORDS[COMP_CWORD]} before=${COMP_WORDS[COMP_CWORD - 1]} command='' offered
   ((COMP_CWORD > 1)) && command=${COMP_WORDS[1]}
   case $before in
-    --bits | --gaps | --burst | --reach | --loss | --share | --of | --pieces | --workers) offered=$(_rds_values "$before") ;;
+    --bits | --gaps | --burst | --reach | --loss | --share | --of | --pieces | --workers | --margin) offered=$(_rds_values "$before") ;;
     help) offered='scan list follow totals encode' ;;
     *) offered=$(_rds_options "$command") ;;
   esac

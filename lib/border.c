@@ -104,15 +104,41 @@ uint8_t rds_push(const uint8_t *bytes, size_t bytes_len, const rds_gap_t *gaps, 
 }
 
 /* The scratch is lent only for the call. What was lent before, to a call that a signal has interrupted, is lent again after it. */
+static struct scratch lend(uint8_t *scratch, size_t scratch_len)
+{
+    const struct scratch before = heap_scratch;
+    heap_scratch = (struct scratch){true, (uintptr_t)scratch, (uintptr_t)scratch + scratch_len};
+    return before;
+}
+
 uint8_t rds_push_with(const uint8_t *bytes, size_t bytes_len, const rds_gap_t *gaps, size_t gaps_len, const rds_rules_t *rules,
                       rds_stream_t *stream, rds_item_t *room, size_t room_len, uint64_t *taken, uint64_t *count, uint8_t *scratch,
                       size_t scratch_len)
 {
     LOOK_AT(MANY(bytes), MANY(gaps), ONE(rules), ONE_WRITTEN(stream), MANY_WRITTEN(room), ONE_WRITTEN(taken), ONE_WRITTEN(count),
             MANY_WRITTEN(scratch));
-    const struct scratch before = heap_scratch;
-    heap_scratch = (struct scratch){true, (uintptr_t)scratch, (uintptr_t)scratch + scratch_len};
+    const struct scratch before = lend(scratch, scratch_len);
     const uint8_t number = proved_rds_push(ROW(bytes), ROW(gaps), rules, stream, ROW(room), taken, count);
+    heap_scratch = before;
+    return number;
+}
+
+PROVED(rds_push_soft);
+uint8_t rds_push_soft(const int8_t *symbols, size_t symbols_len, const rds_gap_t *gaps, size_t gaps_len, const rds_rules_t *rules,
+                      uint8_t margin, rds_soft_t *soft, rds_item_t *room, size_t room_len, uint64_t *taken, uint64_t *count)
+{
+    LOOK_AT(MANY(symbols), MANY(gaps), ONE(rules), ONE_WRITTEN(soft), MANY_WRITTEN(room), ONE_WRITTEN(taken), ONE_WRITTEN(count));
+    return proved_rds_push_soft(ROW(symbols), ROW(gaps), rules, margin, soft, ROW(room), taken, count);
+}
+
+uint8_t rds_push_soft_with(const int8_t *symbols, size_t symbols_len, const rds_gap_t *gaps, size_t gaps_len, const rds_rules_t *rules,
+                           uint8_t margin, rds_soft_t *soft, rds_item_t *room, size_t room_len, uint64_t *taken, uint64_t *count,
+                           uint8_t *scratch, size_t scratch_len)
+{
+    LOOK_AT(MANY(symbols), MANY(gaps), ONE(rules), ONE_WRITTEN(soft), MANY_WRITTEN(room), ONE_WRITTEN(taken), ONE_WRITTEN(count),
+            MANY_WRITTEN(scratch));
+    const struct scratch before = lend(scratch, scratch_len);
+    const uint8_t number = proved_rds_push_soft(ROW(symbols), ROW(gaps), rules, margin, soft, ROW(room), taken, count);
     heap_scratch = before;
     return number;
 }
@@ -202,6 +228,7 @@ static const struct refusal {
     {RDS_NOT_A_STREAM, "NotAStream", "a stream that was not zeroed, or is in another byte order"},
     {RDS_OTHER_VERSION, "OtherVersion", "a stream of another version"},
     {RDS_OTHER_RULES, "OtherRules", "a stream that is decoded by other rules"},
+    {RDS_MARGIN_RANGE, "MarginRange", "the margin is not 1 to 127"},
 };
 
 static const char unknown[] = "unknown";

@@ -40,10 +40,11 @@
  * Threads. Nothing is kept after a call: no handle, no thread, no lock, no global state, nothing to free. Calls may run at the same time
  * if none writes what another uses. So several threads may call rds_finish for one stream, but not while one pushes to it.
  *
- * Stack and memory. A call takes at most 8192 bytes of stack. Only rds_totals, rds_items, rds_run, rds_finish_run, rds_push, rds_finish,
- * rds_finish_with, rds_check and rds_correct call malloc, and they free what they took before they return. rds_totals and rds_items copy
- * the recording, and take up to 1.2 bytes per byte of it. rds_push takes at most 1 MB, and less if there is less room: use it for any
- * long recording. rds_push_with takes its memory from the caller instead.
+ * Stack and memory. A call takes at most 8192 bytes of stack. Only rds_totals, rds_items, rds_run, rds_finish_run, rds_push,
+ * rds_push_soft, rds_finish, rds_finish_with, rds_check and rds_correct call malloc, and they free what they took before they return.
+ * rds_totals and rds_items copy the recording, and take up to 1.2 bytes per byte of it. rds_push and rds_push_soft take at most 1 MB, and
+ * less if there is less room: use rds_push for any long recording. rds_push_with and rds_push_soft_with take their memory from the caller
+ * instead.
  *
  * Time. A call takes time for the bits that it decodes and for the gaps that it is given, whatever the length of the recording or stream.
  *
@@ -95,7 +96,8 @@ enum {
     /* The causes of RDS_UNLAWFUL_STATE that rds_check names. */
     RDS_NOT_A_STREAM = 72,    /* a stream that was not zeroed before its first call, or is in another byte order */
     RDS_OTHER_VERSION = 73,   /* a stream of another RDS_STREAM_VERSION */
-    RDS_OTHER_RULES = 74      /* a stream that is decoded by other rules */
+    RDS_OTHER_RULES = 74,     /* a stream that is decoded by other rules */
+    RDS_MARGIN_RANGE = 75     /* margin is not 1 to 127 */
 };
 
 /* The twelve totals of a report: 128 bytes. */
@@ -183,6 +185,16 @@ typedef struct rds_stream_t {
 
 enum { RDS_STREAM_MAGIC = 0x31534452, RDS_STREAM_VERSION = 1 };
 
+/* The state of a stream of symbols between two chunks: 496 bytes, all 0 before the first call. It may be copied, stored, and continued
+ * like a stream. */
+typedef struct rds_soft_t {
+    rds_stream_t stream; /* the stream of the symbols' bits */
+    int8_t symbols[240]; /* the last symbols taken, after zeros if there are fewer */
+} rds_soft_t;
+
+/* The usual margin: two nats, in units of 1/16 nat. */
+#define RDS_MARGIN 32
+
 /* The information words of a group's four blocks: 8 bytes. */
 typedef struct rds_words_t {
     uint16_t words[4];
@@ -267,6 +279,32 @@ RDS_MUST_USE
 uint8_t rds_push_with(const uint8_t *bytes, size_t bytes_len, const rds_gap_t *gaps, size_t gaps_len, const rds_rules_t *rules,
                       rds_stream_t *stream, rds_item_t *room, size_t room_len, uint64_t *taken, uint64_t *count, uint8_t *scratch,
                       size_t scratch_len);
+
+/* rds_push for symbols in place of bits: soft decisions. A symbol is a signed byte: its sign tells the bits beside it, its size how sure it
+ * is, a log-likelihood ratio in units of 1/16 nat. Bit i is that between symbols i and i + 1. The items are those of the bits, and each group
+ * is read again from its symbols: burst of a corrected block is any mask, not only a burst. The bits alone acquire and lose sync.
+ *   symbols, symbols_len  the next symbols, the first of which is the one after those taken before
+ *   margin                how much more than the flips that are corrected any others must weigh, 1 to 127: RDS_MARGIN
+ *   soft                  the state of the stream, zeros at its start; receives the state after the symbols taken
+ *   taken                 receives the number of symbols taken, eight per byte of bits
+ * Offer the other symbols again: the last one at least, since only its sign was needed. The call takes as many bytes of bits as there are,
+ * or as room_len / 16, but at least one, and at most 960. From a stream of zeros on, however it is cut, the items are those of the whole:
+ * no later symbol changes them. rds_finish gives the group in progress of soft->stream, by its bits.
+ * Errors: RDS_MARGIN_RANGE, then those of rds_push, for the symbols that would be taken. */
+RDS_MUST_USE
+uint8_t rds_push_soft(const int8_t *symbols, size_t symbols_len, const rds_gap_t *gaps, size_t gaps_len, const rds_rules_t *rules,
+                      uint8_t margin, rds_soft_t *soft, rds_item_t *room, size_t room_len, uint64_t *taken, uint64_t *count);
+
+/* Enough bytes of scratch for rds_push_soft_with, without gaps. */
+#define RDS_SOFT_SCRATCH(room) (40960 + 58 * ((size_t)(room) < 16 ? (size_t)16 : (size_t)(room) < 15360 ? (size_t)(room) : (size_t)15360))
+
+/* rds_push_soft without malloc, as rds_push_with is to rds_push.
+ *   scratch, scratch_len  bytes that the call may overwrite, also on error: RDS_SOFT_SCRATCH(room_len), and 64 per gap near the symbols
+ * Errors: those of rds_push_soft. */
+RDS_MUST_USE
+uint8_t rds_push_soft_with(const int8_t *symbols, size_t symbols_len, const rds_gap_t *gaps, size_t gaps_len, const rds_rules_t *rules,
+                           uint8_t margin, rds_soft_t *soft, rds_item_t *room, size_t room_len, uint64_t *taken, uint64_t *count,
+                           uint8_t *scratch, size_t scratch_len);
 
 /* The end of a stream: the group in progress, as far as it was read, and the totals. The stream is only read, and can continue.
  *   stream            the state of the stream

@@ -4,6 +4,7 @@ from __future__ import annotations
 
 import json
 import os
+import re
 import shutil
 import subprocess
 import sys
@@ -13,6 +14,8 @@ from pathlib import Path
 from typing import Any, Callable
 
 import pytest
+from packages import AS_ROOT, TOOLS, Packages
+from running import needs
 
 TOP = Path(__file__).resolve().parents[1]
 COUNTS = TOP / "tests" / "counts.tsv"
@@ -85,6 +88,15 @@ def station() -> bytes:
     return (TOP / "examples" / "station.bin").read_bytes()
 
 
+@pytest.fixture(scope="session")
+def packages(
+    rds: str, librds: str, librds_arm64: str | None, tmp_path_factory: pytest.TempPathFactory
+) -> Packages:
+    """The Debian packages, and a root folder in which they are installed."""
+    needs(*TOOLS, *AS_ROOT)
+    return Packages(rds, librds, librds_arm64, tmp_path_factory.mktemp("packages"))
+
+
 @pytest.fixture
 def cases(record_property: Callable[[str, int], None]) -> Callable[[int], None]:
     """Notes how many cases a test compares, if there are several."""
@@ -151,13 +163,28 @@ def run_alone(config: pytest.Config) -> tuple[int, dict[str, list[int]]]:
 # ---- how many tests there have to be
 
 
+# The start of a reason to skip for which no tool is a cure.
+CANNOT = "this machine cannot"
+
+
+def is_excused(reason: str) -> bool:
+    """Whether the machine cannot do what a skipped test needs, or cannot have a tool that the reason names."""
+    lacking = os.environ.get("RDS_LACKING", "").split()
+    return CANNOT in reason or any(
+        re.search(rf"(?<![\w-]){re.escape(name)}(?![\w-])", reason) for name in lacking
+    )
+
+
 def counts_of(stats: dict[str, list[Any]]) -> dict[str, list[int]]:
-    """How many cases of each file passed, and how many tests were skipped. A test may note more cases than one."""
+    """How many cases of each file passed, and how many tests were skipped, some of them with a good excuse. A test may note more cases
+    than one."""
     counts: dict[str, list[int]] = {}
     for place, outcome in enumerate(("passed", "skipped")):
         for report in stats.get(outcome, []):
-            cases = dict(report.user_properties).get("cases", 1)
-            counts.setdefault(report.nodeid.partition("::")[0], [0, 0])[place] += cases
+            cases = dict(getattr(report, "user_properties", ())).get("cases", 1)
+            found = counts.setdefault(report.nodeid.partition("::")[0], [0, 0, 0])
+            found[place] += cases
+            found[2] += outcome == "skipped" and is_excused(report.longrepr[2])
     return counts
 
 
@@ -167,24 +194,34 @@ def wanted_counts() -> dict[str, list[int]]:
     return {path: [int(passed), int(skipped)] for path, passed, skipped in rows}
 
 
+def is_short(counts: list[int], wanted: list[int]) -> bool:
+    """Whether fewer passed than have to, or if all tools are there, more were skipped without an excuse."""
+    passed, skipped, excused = counts
+    if not os.environ.get("RDS_ALL_TOOLS"):
+        return passed + skipped < sum(wanted)
+    # How many cases an excused test has is not known.
+    return skipped - excused > wanted[1] or passed < wanted[0] and not excused
+
+
 def missing_tests(config: pytest.Config, counts: dict[str, list[int]]) -> list[str]:
     """A line for each file of which fewer tests passed than the table has."""
     wanted, faults = wanted_counts(), []
     is_whole = {TOP / "tests", TOP / "monitor/tests"} <= {Path(arg).resolve() for arg in config.args}
-    has_all_tools = bool(os.environ.get("RDS_ALL_TOOLS"))
     for path in sorted({*counts, *wanted} if is_whole else {*counts} & {*wanted}):
-        passed, skipped = counts.get(path, [0, 0])
+        found = counts.get(path, [0, 0, 0])
         if path not in wanted:
-            faults.append(f"{path} has no row: it has {passed} passed and {skipped} skipped")
-        elif passed < wanted[path][0] and (has_all_tools or passed + skipped < sum(wanted[path])):
-            faults.append(f"{path}: {passed} passed and {skipped} skipped, where there were {wanted[path]}")
+            faults.append(f"{path} has no row: it has {found[0]} passed and {found[1]} skipped")
+        elif is_short(found, wanted[path]):
+            faults.append(
+                f"{path}: {found[0]} passed and {found[1]} skipped, where there were {wanted[path]}"
+            )
     return faults
 
 
 def write_counts(counts: dict[str, list[int]]) -> None:
     """Writes the table, in which these counts replace those of their files."""
     rows = sorted({**wanted_counts(), **counts}.items())
-    lines = [f"{path}\t{passed}\t{skipped}" for path, (passed, skipped) in rows if (TOP / path).exists()]
+    lines = [f"{path}\t{passed}\t{skipped}" for path, (passed, skipped, *_) in rows if (TOP / path).exists()]
     COUNTS.write_text("\n".join(["file\tpassed\tskipped", *lines, ""]))
 
 
@@ -204,7 +241,7 @@ def pytest_terminal_summary(terminalreporter: Any, config: pytest.Config) -> Non
         status, of_alone = run_alone(config)
         # a file may have tests that run alone and others
         for path, more in of_alone.items():
-            counts[path] = [sum(pair) for pair in zip(counts.get(path, [0, 0]), more)]
+            counts[path] = [sum(pair) for pair in zip(counts.get(path, [0, 0, 0]), more)]
     if config.getoption("--write-counts"):
         write_counts(counts)
     faults = [] if is_part(config) else missing_tests(config, counts)
@@ -216,5 +253,5 @@ def pytest_terminal_summary(terminalreporter: Any, config: pytest.Config) -> Non
     elif is_alone and session.exitstatus == pytest.ExitCode.NO_TESTS_COLLECTED:
         session.exitstatus = pytest.ExitCode.OK
     spent = time.process_time() + sum(os.times()[2:4])
-    passed = sum(count for count, _ in counts.values())
+    passed = sum(count for count, *_ in counts.values())
     terminalreporter.write_line(f"{passed} cases, {spent:.0f} processor seconds")

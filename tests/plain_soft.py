@@ -1,4 +1,4 @@
-"""The blocks of 27 symbols by docs/MODEL.md, as a listing spells them, by a plain search over flips."""
+"""The blocks of 27 symbols, and listings of symbols, by docs/MODEL.md, with a plain search over flips."""
 
 from __future__ import annotations
 
@@ -13,9 +13,12 @@ SYMBOLS = 27
 TOP = 127
 # The most symbols that the short search flips.
 FEW = 6
+# Seven symbols of this size weigh more than the top and the greatest margin of random windows: 7 * 23 > 127 + 32.
+SEVEN_ARE_TOO_MANY = 23
 # The sets of offsets to be tried for block 3, by the second byte of a window.
 WANTED: tuple[tuple[int, ...], ...] = ((plain.C, plain.CX), (plain.C,), (plain.CX,))
 PLACES = np.arange(SYMBOLS - 1, -1, -1)
+LOST = plain.Read(0, 0, 0)
 
 
 class Window(NamedTuple):
@@ -96,17 +99,22 @@ def weighed_any(remainder: int, confidences: np.ndarray) -> tuple[np.ndarray, np
 
 def spelled(window: Window, any_number: bool) -> str:
     """The block of a window: by flips of up to six symbols, or of any number."""
+    return str(reading(window, any_number)[0])
+
+
+def reading(window: Window, any_number: bool) -> tuple[plain.Read, int]:
+    """The same as it is read, and how many symbols were flipped."""
     signs = window.symbols > 0
     word = int((signs[:-1] != signs[1:]) @ (1 << PLACES[1:]))
     rest = plain.remainder(word)
     offset = int(plain.OFFSET_OF[rest])
     if plain.NUMBERS[offset] == window.number:
-        return f"{plain.NAMES[offset]}:{word >> 10:04X}"
+        return plain.Read(offset, 0, word >> 10), 0
     weight, offset, flips, others = nearest(window, rest, any_number)
     if weight > TOP or others < weight + window.margin:
-        return "lost"
+        return LOST, 0
     mask = mask_of(flips)
-    return f"{plain.NAMES[offset]}:{(word ^ mask) >> 10:04X}~{mask:07X}"
+    return plain.Read(offset, mask, (word ^ mask) >> 10), bin(flips).count("1")
 
 
 def nearest(window: Window, rest: int, any_number: bool) -> tuple[int, int, int, int]:
@@ -124,6 +132,79 @@ def lightest(window: Window, rest: int, any_number: bool) -> Iterator[tuple[int,
         words, weights = find(rest ^ plain.WORDS[offset], confidences)
         for at in np.argpartition(weights, 1)[:2]:
             yield int(weights[at]), offset, int(words[at])
+
+
+# ---- listings
+
+
+class Symbols(NamedTuple):
+    """A recording of symbols: signed bytes, of which n + 1 give n bits, the number of its bits, and its gaps."""
+
+    held: bytes
+    bits: int
+    gaps: plain.Gaps = ()
+
+    def hard(self) -> plain.Recording:
+        """The recording of the bits."""
+        above = np.frombuffer(self.held, np.int8) > 0
+        return plain.Recording(np.packbits(above[1:] != above[:-1]).tobytes(), self.bits, self.gaps)
+
+
+class Again:
+    """Groups that are read again; `flips` counts the corrected blocks by their flips, six or more together."""
+
+    def __init__(self, symbols: Symbols, margin: int, any_number: bool) -> None:
+        self.recording, self.margin, self.any_number = symbols.hard(), margin, any_number
+        self.symbols = np.frombuffer(symbols.held, np.int8)
+        self.flips = [0] * FEW
+
+    def item(self, item: plain.Item) -> plain.Item:
+        if item.what != "group":
+            return item
+        first = next(k for k, block in enumerate(item.blocks) if block)
+        read: list[plain.Read] = []
+        for number, block in enumerate(filter(None, item.blocks), first + 1):
+            second = read[1 - first] if number == 3 and first < 2 else LOST
+            wanted = 0 if not second.offset else 2 if second.word >> 11 & 1 else 1
+            read.append(self.block(block, number, wanted, item.place + plain.BLOCK * len(read)))
+        return plain.group_of(item.place + plain.BLOCK * len(read) - 1, first + 1, read)
+
+    def block(self, hard: plain.Read, number: int, wanted: int, place: int) -> plain.Read:
+        """The block whose first bit is here."""
+        if hard.offset and not hard.burst or not self.recording.is_heard[place + plain.BLOCK - 1]:
+            return hard
+        window = Window(number, wanted, self.margin, self.symbols[place : place + SYMBOLS])
+        block, flips = reading(window, self.any_number)
+        if flips:
+            self.flips[min(flips, FEW) - 1] += 1
+        return block
+
+
+def listing(job: str, symbols: Symbols, rules: plain.Rules, margin: int, any_number: bool) -> str:
+    """What `rds` writes for list or totals with --soft."""
+    again = Again(symbols, margin, any_number)
+    items = [again.item(item) for item in plain.report(again.recording, rules._replace(burst=0))]
+    blocks = [block for item in items for block in item.blocks if block]
+    bare = [item._replace(blocks=tuple(b and b._replace(burst=0) for b in item.blocks)) for item in items]
+    totals = plain.totals_of(bare)
+    totals["valid"] -= sum(again.flips)
+    totals["bits"] = sum(bin(block.burst).count("1") for block in blocks)
+    totals.update((f"soft{count}", found) for count, found in enumerate(again.flips, 1))
+    rows = plain.csv_text(item.fields() for item in items) if job == "list" else ""
+    return rows + plain.text_of_totals(totals)
+
+
+# ---- random ones
+
+
+def random_symbols(numbers: np.random.Generator, held: bytes, least: int) -> bytes:
+    """Symbols of these bits, of at least this size, of which some are wrong and nearly of the least."""
+    bits = np.unpackbits(np.frombuffer(held, np.uint8))
+    signs = np.cumsum([numbers.integers(2), *bits]) % 2 == 1
+    sizes = numbers.integers(least, 128, len(signs))
+    wrong = numbers.random(len(signs)) < numbers.choice([0, 0.01, 0.05, 0.1])
+    sizes[wrong] = numbers.integers(least, least + 30, int(wrong.sum()))
+    return np.where(signs ^ wrong, sizes, -sizes).astype(np.int8).tobytes()
 
 
 def random_window(numbers: np.random.Generator, least: int) -> Window:

@@ -2,7 +2,7 @@
 
 For each seed making.py makes a recording, and lines of groups. The program scans, lists and totals the recording by rules, gaps, cuttings and
 workers that are drawn from the seed. It follows it in chunks of random lengths, and its beginning byte by byte; and it encodes the lines. Each
-seed has a byte that is no digit and no blank, which is refused. Streams are parts of a station from any bit on, with wrong bits and stretches
+seed has a byte that is no digit and no blank, which is refused. Symbols of other recordings are listed by plain_soft.py. Streams are parts of a station from any bit on, with wrong bits and stretches
 that say nothing; at every tenth seed the pipe is slow. A run that differs is shown by its seed and its words.
 
 The program stores the rows of groups eight bytes at a time, and plain.py writes them by Python's csv module: all forms of each field occur, and
@@ -21,13 +21,15 @@ from functools import cache, lru_cache
 from typing import Callable
 
 import making
+import numpy as np
 import plain
+import plain_soft
 import pytest
 from running import LIMIT, Ran, run
 
 Cases = Callable[[int], None]
 # How many seeds there are, and how many runs each seed of a recording has.
-SEEDS, STREAMS, RUNS = 120, 2000, 17
+SEEDS, STREAMS, SOFT, RUNS = 120, 2000, 100, 17
 
 
 @lru_cache(4)
@@ -222,7 +224,8 @@ def difference(rds: str, seed: int) -> str:
     words = making.rules(chance) + some_gaps(chance, bits)
     words += ["--bits", str(bits)] if bits < 8 * len(held) else []
     most = 1 if len(held) < 300 and chance.random() < 0.5 else chance.randint(2, 10_000)
-    given = streamed(rds, ["follow", *words], held, most, 0.001 if seed % 10 == 0 else 0, chance)
+    workers = ["--workers", str(chance.randint(1, 40))] if seed % 2 else []
+    given = streamed(rds, ["follow", *words, *workers], held, most, 0.001 if seed % 10 == 0 else 0, chance)
     is_right = given == (0, wanted(["list", *words], held), b"")
     return "" if is_right else f"seed {seed}: rds follow {' '.join(words)}, chunks of up to {most} bytes"
 
@@ -232,6 +235,42 @@ def test_streams(rds: str, first: int, cases: Cases) -> None:
     seeds = range(first, first + 100)
     assert [text for text in (difference(rds, seed) for seed in seeds) if text] == []
     cases(len(seeds))
+
+
+# ---- symbols, and soft decisions
+
+
+def soft_words(chance: random.Random, margin: int, bits: int, count: int) -> list[str]:
+    words = ["--soft", "--margin", str(margin), *making.rules(chance)[2:], *making.gaps(chance, bits)]
+    return words + (["--bits", str(bits)] if bits < count else [])
+
+
+def soft_difference(rds: str, seed: int) -> list[str]:
+    """The words of runs over symbols that differ. Most have symbols of which seven are too many to flip."""
+    chance, numbers = random.Random(f"soft {seed}"), np.random.default_rng(seed)
+    any_number = seed % 10 == 0
+    held = making.recording(seed)[: 200 if any_number else 1500]
+    least = chance.choice([0, 1, 12]) if any_number else plain_soft.SEVEN_ARE_TOO_MANY
+    cut = chance.choice([None, None, chance.randrange(60)])
+    symbols = plain_soft.random_symbols(numbers, held, least)[:cut]
+    count = max(0, len(symbols) - 1)
+    bits, margin = max(0, count - chance.choice([0, 0, chance.randint(0, 40)])), chance.randint(1, 32)
+    words = soft_words(chance, margin, bits, count)
+    differing = []
+    for job in ("list", "totals"):
+        parsed = plain.arguments().parse_args([job, *words[3:]])
+        recording = plain_soft.Symbols(symbols, bits, tuple(parsed.gaps))
+        right = plain_soft.listing(job, recording, plain.rules_of(parsed), margin, any_number).encode()
+        given = run(rds, job, *words, *making.crew(chance), data=symbols)
+        differing += [] if given == (0, right, b"") else [f"seed {seed}: rds {job} {' '.join(words)}"]
+    return differing
+
+
+@pytest.mark.parametrize("first", range(1, SOFT + 1, 25))
+def test_symbols(rds: str, first: int, cases: Cases) -> None:
+    seeds = range(first, first + 25)
+    assert [text for seed in seeds for text in soft_difference(rds, seed)] == []
+    cases(2 * len(seeds))
 
 
 # ---- totals by several workers, who have 64 KiB each at least

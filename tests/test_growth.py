@@ -274,7 +274,7 @@ sample.1 : 152 : run 0 0 : list --workers 1
 sample.1 : 220 : run 4096 0 : list --workers 1
 sample.1 : 236 : run 4096 2000 : list --workers 1 --gaps NEAR
 sample.8 : 71 : push 65536 10000 : list --workers 1 --gaps MANY
-sample.8 : 175 : run 16384 0 : list --workers 1
+sample.8 : 185 : run 16384 0 : list --workers 1
 sample.fewer : 125 : push 64 100000 : look 64 100000
 """
 known: dict[str, int] = {}

@@ -55,7 +55,8 @@ Declared = tuple[dict[str, str], dict[str, str]]
 def in_c(kind: str) -> str:
     """A type of Rust or Rattle as C has it."""
     name = upper(kind.split()[-1].lstrip("&"))[4:].lower()
-    plain = "size_t" if name == "usize" else f"uint{name[1:]}_t" if name[1:].isdigit() else f"{name}_t"
+    sized = f"{'u' * (name[0] == 'u')}int{name[1:]}_t" if name[1:].isdigit() else f"{name}_t"
+    plain = "size_t" if name == "usize" else sized
     return f"{'' if 'mut' in kind else 'const '}{plain} *" if kind[0] in "*&" else plain
 
 
@@ -92,7 +93,8 @@ def of_ctypes(kind: Any) -> str:
         return f"{of_ctypes(kind._type_)} *"
     if issubclass(kind, ctypes.Structure):
         return in_c(kind.__name__)
-    return "uint8_t *" if kind is ctypes.c_char_p else f"uint{8 * ctypes.sizeof(kind)}_t"
+    sign = "" if kind is ctypes.c_int8 else "u"
+    return "uint8_t *" if kind is ctypes.c_char_p else f"{sign}int{8 * ctypes.sizeof(kind)}_t"
 
 
 def field_of_ctypes(name: str, kind: Any) -> str:
@@ -146,7 +148,7 @@ CRATES = "".join(
     path.read_text() for crate in ("abi", "c") for path in (TOP / f"crates/rds_{crate}/src").glob("*.rt")
 )
 # Functions of lib/border.c alone.
-OF_BORDER = {"rds_push_with"}
+OF_BORDER = {"rds_push_with", "rds_push_soft_with"}
 SOURCES: dict[str, tuple[Declared, set[str]]] = {
     "crates": (of_rust(CRATES), OF_BORDER),
     "bindings/rust": (of_rust(read("bindings/rust/src/ffi.rs")), set()),
@@ -198,7 +200,7 @@ def test_all_of_version_0_2_is_still_declared() -> None:
 def test_sizes_in_comments() -> None:
     rows = re.findall(r"/\*((?:(?!\*/).)*)\*/\s*typedef struct (\w+)", HEADER, re.S)
     sizes = [(name, size) for comment, name in rows for size in re.findall(r"(\d+) bytes", comment)]
-    assert len(sizes) == 10
+    assert len(sizes) == 11
     checks = [f'_Static_assert(sizeof({name}) == {size}, "{name}");' for name, size in sizes]
     compiled("\n".join([HEAD, *checks]), CC, "-xc", "-std=gnu11")
 

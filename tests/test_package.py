@@ -19,11 +19,10 @@ from pathlib import Path
 from typing import Any, Callable
 
 import pytest
+from packages import CC, SAMPLE, Packages, dated, files_below, made
 from running import TOP, first_program, needs, run, said, wrote
 
-SAMPLE = (TOP / "examples" / "station.bin").read_bytes()
 COUNTS = "7691 valid, 1923 groups"
-CC = os.environ.get("CC", "cc")
 COMMANDS = ["scan", "list", "follow", "totals", "encode"]
 Cases = Callable[[int], None]
 
@@ -73,87 +72,92 @@ def test_commands_of_the_help(rds: str) -> None:
     assert re.findall(r"^  ([a-z]+)  ", text, re.M) == [*COMMANDS, "help"]
 
 
-def test_completion_of_a_word(cases: Cases) -> None:
+# The numbers of options that take few. Of threads, those of usual machines.
+VALUES = {"--burst": range(6), "--reach": range(1, 9), "--workers": (1, 2, 4, 8, 16)}
+# Options that are ignored or refused beside another, and are not offered then.
+APART = {"--loss": "--share --of", "--share": "--loss", "--of": "--loss", "--soft": "--hex --burst"}
+VALUED = "--bits --gaps --burst --reach --loss --share --of --pieces --workers --margin".split()
+
+
+def entries_of(rds: str, command: str) -> dict[str, str]:
+    """The help's words of each option, in one line."""
+    text = said(rds, command, "--help").split("\nOptions:\n")[1].split("\n\n")[0]
+    entries = re.split(r"\n(?=  +-)", f"\n{text}")[1:]
+    parted = (re.match(r" *(?:-\w, )?(--[a-z]+)(?: <\w+>)?\s+([\s\S]*)", entry) for entry in entries)
+    return {entry[1]: " ".join(entry[2].split()) for entry in parted if entry}
+
+
+@pytest.mark.parametrize("command", COMMANDS)
+def test_what_zsh_shows(rds: str, command: str, cases: Cases) -> None:
+    """Of each option the help's words, the numbers that it takes, and those beside which it is not offered."""
+    needs("zsh")
+    lines = wrote("zsh", "-fc", ZSH, "zsh", "rds", command, "", cwd=TOP).decode().splitlines()
+    parted = [
+        re.fullmatch(r"(?:\(([^)]*)\))?(-[a-z-]+)\[([^]]*)\](?::([^:]*))?(?::\(([^)]*)\))?", line)
+        for line in lines[1:]
+        if line != "-s"
+    ]
+    help_, entries = [], entries_of(rds, command)
+    for found in parted:
+        assert found, lines
+        apart, name, words, what, values = found.groups(default="")
+        if name in ("-h", "--help"):
+            help_.append((apart, name, words))
+            continue
+        entry = entries[name][0].lower() + entries[name][1:]
+        assert entry.startswith(words) or f": {words}" in entry, (words, entry)
+        assert apart == APART.get(name, "") and bool(what) == (name in VALUED), found[0]
+        assert values == " ".join(map(str, VALUES.get(name, ()))), found[0]
+    assert help_ == [("-h --help", "-h", "print help"), ("-h --help", "--help", "print help")]
+    cases(len(parted))
+
+
+def test_options_that_exclude_each_other(rds: str, cases: Cases) -> None:
+    for words in (["--loss", "3", "--share", "3"], ["--loss", "3", "--of", "3"]):
+        assert b"ignored" in run(rds, "list", *words).err
     cases(2)
-    assert by_bash("rds", "list", "--s") == ["--share"]
-    assert by_bash("rds", "list", "--burst", "") == ["0", "1", "2", "3", "4", "5"]
+
+
+def test_what_zsh_shows_of_commands(rds: str, cases: Cases) -> None:
+    told = (
+        wrote("zsh", "-fc", ZSH.replace(' | sed "s/:.*//"', ""), "zsh", "rds", "", cwd=TOP)
+        .decode()
+        .splitlines()
+    )
+    listed = re.findall(
+        r"^  ([a-z]+)  +(.)(.*)$", said(rds, "--help").split("Commands:")[1].split("\n\n")[0], re.M
+    )
+    wanted = [f"{name}:{first.lower()}{rest}" for name, first, rest in listed if name != "help"]
+    assert (
+        told[: len(wanted)] == wanted
+        and told[len(wanted)] == "help:print help, of the program or of a command"
+    )
+    version = [f"(-V --version){name}[print the name and version]" for name in ("-V", "--version")]
+    assert told[-2:] == version and "(-h --help)--help[print help]" in told
+    cases(len(told))
+
+
+@pytest.mark.parametrize("command", ["list", "scan", "follow", "totals"])
+def test_numbers_that_bash_offers(command: str, cases: Cases) -> None:
+    for name in VALUED:
+        wanted = sorted(map(str, VALUES.get(name, ())))
+        assert by_bash("rds", command, name, "") == wanted, name
+    assert by_bash("rds", command, "--progress", "--bi") == ["--bits"]
+    assert by_bash("rds", command, "--workers", "1") == ["1", "16"]
+    cases(len(VALUED) + 2)
+
+
+def test_completion_of_a_word(cases: Cases) -> None:
+    cases(4)
+    assert by_bash("rds", "list", "--sh") == ["--share"]
+    assert by_bash("rds", "en") == ["encode"] and by_bash("rds", "help", "f") == ["follow"]
+    assert said("bash", "-c", ". completions/rds.bash; complete -p rds", cwd=TOP) == "complete -F _rds rds"
+    assert (TOP / "completions/_rds").read_text().startswith("#compdef rds\n")
 
 
 # ---- the packages
 
-TOOLS = ["dpkg", "dpkg-architecture", "dpkg-deb", "dpkg-shlibdeps", "readelf", "strip", "lintian"]
-# dpkg looks for its helpers there
-os.environ["PATH"] += ":/usr/local/sbin:/usr/sbin:/sbin"
-# installing gives files to root, or seems to
-AS_ROOT = [] if os.getuid() == 0 else ["fakeroot"]
 of_packages = pytest.mark.xdist_group("packages")
-
-
-def dated() -> dict[str, str]:
-    return {**os.environ, "SOURCE_DATE_EPOCH": "1700000000"}
-
-
-def made(rds: str, librds: str, folder: Path, arm64: str | None) -> list[Path]:
-    """Builds the packages into the folder."""
-    words = [TOP / "packaging/make_deb.sh", rds, librds, folder, *([arm64] if arm64 else [])]
-    text = said(*words, cwd=TOP, timeout=300, env=dated())
-    return [Path(line) for line in text.splitlines()]
-
-
-class Packages:
-    """The packages, and a root folder in which those of this processor are installed."""
-
-    def __init__(self, rds: str, librds: str, arm64: str | None, folder: Path) -> None:
-        self.rds, self.librds, self.arm64, self.folder = rds, librds, arm64, folder / "a folder"
-        self.folder.mkdir()
-        self.files = made(rds, librds, self.folder, arm64)
-        self.version = said(rds, "--version").removeprefix("rds ") + "-1"
-        self.root = folder / "root"
-        self.libdir = f"/usr/lib/{said('dpkg-architecture', '-qDEB_HOST_MULTIARCH')}"
-        self.installed = [path for path in self.files if not path.name.endswith("_arm64.deb")]
-        for name in ("info", "updates", "triggers"):
-            (self.root / "var/lib/dpkg" / name).mkdir(parents=True)
-        needed = ("libc6", "python3", "python3-numpy")
-        status = [run("dpkg-query", "--status", name).out + b"\n" for name in needed]
-        (self.root / "var/lib/dpkg/status").write_bytes(b"".join(status))
-        self.dpkg("--install", *map(str, self.installed))
-
-    def dpkg(self, *words: str) -> None:
-        """dpkg on the root folder, by none of this machine's settings that leave out files."""
-        options = ["--force-not-root", "--force-script-chrootless", "--path-include=*", "--force-depends"]
-        folders = [f"--root={self.root}", f"--log={self.folder}/log"]
-        wrote(*AS_ROOT, "dpkg", *folders, *options, *words, timeout=120)
-
-    def there(self) -> list[str]:
-        """The files in the root folder but for dpkg's own."""
-        return sorted(f"/{name}" for name in files_below(self.root) if not name.startswith("var/lib/dpkg/"))
-
-    def differing(self) -> list[str]:
-        """The installed files that are missing, or other than they were."""
-        lines = run("dpkg", f"--root={self.root}", "--verify").out.decode().splitlines()
-        return [line.split()[-1] for line in lines]
-
-    def run_program(self, *words: object) -> str:
-        python = {"PYTHONPATH": f"{self.root}/usr/lib/python3/dist-packages", "PYTHONDONTWRITEBYTECODE": "1"}
-        library = {"RDS_LIBRARY": "", "LD_LIBRARY_PATH": f"{self.root}{self.libdir}"}
-        return said(*words, data=SAMPLE, env={**os.environ, **python, **library})
-
-    def program(self, folder: Path, *options: str) -> Path:
-        """docs/LIBRARY.md's first program in C, with these options."""
-        (folder / "first.c").write_text(first_program("c"))
-        wrote(CC, "-o", folder / "program", folder / "first.c", *options)
-        return folder / "program"
-
-
-def files_below(folder: Path) -> set[str]:
-    paths = (path for path in folder.rglob("*") if path.is_symlink() or not path.is_dir())
-    return {str(path.relative_to(folder)) for path in paths}
-
-
-@pytest.fixture(scope="session")
-def packages(rds: str, librds: str, librds_arm64: str | None, tmp_path_factory: Any) -> Packages:
-    needs(*TOOLS, *AS_ROOT)
-    return Packages(rds, librds, librds_arm64, tmp_path_factory.mktemp("packages"))
 
 
 @of_packages
@@ -163,14 +167,6 @@ def test_names_of_packages(packages: Packages) -> None:
     names += ["python3-librds:all", "rds-monitor:all", "rds:amd64"]
     wanted = [f"{name.split(':')[0]}_{packages.version}_{name.split(':')[1]}.deb" for name in names]
     assert packages.files == [packages.folder / name for name in wanted]
-
-
-@of_packages
-def test_lintian(packages: Packages) -> None:
-    words = ["lintian", "--allow-root", "--tag-display-limit", "0"]
-    text = run(*words, *packages.files, timeout=300).out.decode()
-    # an upload to Debian closes a bug
-    assert {*re.findall(r"^[EW]: .*?: (\S+)", text, re.M)} == {"initial-upload-closes-no-bugs"}
 
 
 def newest_libc(path: str) -> str:
@@ -366,6 +362,14 @@ def test_programs_by_cmake(packages: Packages, tmp_path: Path, cases: Cases) -> 
 
 # the last of them: it removes the packages of the others
 @of_packages
+def test_lintian(packages: Packages) -> None:
+    words = ["lintian", "--allow-root", "--tag-display-limit", "0"]
+    text = run(*words, *packages.files, timeout=300).out.decode()
+    # an upload to Debian closes a bug
+    assert {*re.findall(r"^[EW]: .*?: (\S+)", text, re.M)} == {"initial-upload-closes-no-bugs"}
+
+
+@of_packages
 def test_nothing_is_left_of_removed_packages(packages: Packages) -> None:
     packages.dpkg("--purge", *"rds rds-monitor python3-librds librds-dev librds0-dbgsym librds0".split())
     assert packages.there() == [] and not (packages.root / "usr").exists()
@@ -515,6 +519,10 @@ def test_containerfile(packages: Packages, cases: Cases) -> None:
     kinds = "librds0 python3-librds rds rds-monitor".split()
     assert [[name.split("_")[0] for name in one] for one in found] == [[kind] for kind in kinds]
     assert re.findall("^FROM (.*)$", text, re.M) == ["debian:bookworm-slim"]
+    run_line = "apt-get update && apt-get install --yes --no-install-recommends /packages/*.deb && rm -rf /packages /var/lib/apt/lists/*"
+    assert " ".join(re.findall(r"^RUN (.*\\\n.*)$", text, re.M)[0].replace("\\\n", "").split()) == run_line
+    last = re.findall("^(?:USER|WORKDIR|CMD) .*$", text, re.M)
+    assert last == ["USER nobody", "WORKDIR /data", 'CMD ["rds-monitor", "--help"]']
     if shutil.which("podman"):
         words = ["podman", "build", "-q", "-f", TOP / "packaging/Containerfile", packages.folder]
         image = said(*words, timeout=600)

@@ -84,6 +84,9 @@ class Program:
         self.rows = set(re.findall(r"^  ([a-z]+),[A-Z]+,?", helps["list"], re.M))
         self.totals = set(re.findall(r"^total,(\w+),", said(rds, "totals"), re.M))
 
+        self.errors = dict(re.findall(r"^ +(\d+ [A-Z]\w+) +(.*(?:\n {12,}.*)*)", text, re.M))
+        self.about = between(text, "Print version\n\n", "\n\n")
+
     @staticmethod
     def options_in(text: str) -> dict[str, str]:
         """Each option of a help text with what is said of it."""
@@ -107,11 +110,23 @@ class Manual:
             for commands in re.findall(r"^\.Cm ([a-z| ]+)$", form, re.M):
                 self.options |= dict.fromkeys(commands.split(" | "), set(re.findall(r"Fl -([a-z]+)", form)))
         entries = re.findall(r"^\.It Fl -([a-z]+)[^\n]*\n((?:(?!\.It |\.El).*\n)*)", text, re.M)
+        self.entries = dict(entries)
         self.said = {name: one_line(entry) for name, entry in entries}
         self.refusals = set(re.findall(r"^\.It (\d+) (\w+)$", text, re.M))
+        errors = re.findall(r"^\.It (\d+ \w+)\n((?:(?!\.It |\.El).*\n)*)", text, re.M)
+        self.errors = {name: without_macros(entry) for name, entry in errors}
+        self.about = without_macros(between(text, ".Sh DESCRIPTION", ".Sh ROWS"))
         rows = between(text, ".Sh ROWS", ".Sh ")
         self.rows = set(re.findall(r"^\.It Li (\w+)$", rows, re.M))
         self.totals = every_burst(set(re.findall(r"^\.Li (\w+)", between(rows, ".It Li total", ".El"), re.M)))
+
+
+def without_macros(text: str) -> str:
+    """A text of mdoc as it is read, in one line."""
+    text = re.sub(r"^\.Ql (\S+)", r"'\1'", text, flags=re.M)
+    text = re.sub(r"^\.Fl -", "--", text, flags=re.M)
+    text = re.sub(r"^\.(?:Ar|Cm|Li|Pa) ", "", text, flags=re.M)
+    return re.sub(r" ([;:,.])(?= |$)", r"\1", one_line(text)).strip()
 
 
 class Using:
@@ -166,6 +181,27 @@ def test_values_of_options(program: Program, faults: Faults) -> None:
             faults.same(f"rds.1, range of --{name}", span_in(text), span_in(entry))
 
 
+def test_manual_has_the_words_of_the_help(program: Program, faults: Faults) -> None:
+    """Each option's entry of rds.1, and each error's, begins with them."""
+    manual = Manual()
+    of_encode = program.options["encode"]["hex"].strip()
+    faults.same(
+        "rds.1, words of encode --hex",
+        1,
+        without_macros(manual.entries["hex"]).count(f": {of_encode[0].lower()}{of_encode[1:]}."),
+    )
+    for name, text in (program.every_option | program.options["list"]).items():
+        wanted = re.sub(r" \[default: (.*)\]$", r"; default \1", text.strip())
+        found = without_macros(manual.entries.get(name, ""))
+        faults.same(f"rds.1, words of --{name}", f"{wanted}.", found[: len(wanted) + 1])
+    for name, text in program.errors.items():
+        wanted, found = one_line(text), manual.errors.get(name, "")
+        faults.same(f"rds.1, words of {name}", f"{wanted}.".lower(), found[: len(wanted) + 1].lower())
+    sentences = re.split(r"(?<=\.) |; ", one_line(program.about))
+    missing = {text for text in sentences if "--hex" not in text and text not in manual.about}
+    faults.same("rds.1, words on the input", set(), missing)
+
+
 def test_errors_and_rows(program: Program, faults: Faults) -> None:
     manual, using = Manual(), Using()
     for refusals, rows, page in (("docs/USING.md", "docs/FORMATS.md", using), ("rds.1", "rds.1", manual)):
@@ -196,7 +232,7 @@ TOLD = (
     (TESTING, r"a recording for each of ([\d,]+) seeds", DIFFERENTIAL, r"^SEEDS, .* = (\d+),"),
     (TESTING, r"compares ([\d,]+) streams", DIFFERENTIAL, r"^SEEDS, .* = \d+, (\d+),"),
     (TESTING, r"`rds list` over ([\d,]+) random recordings", "tests/test_library.py", r"^RECORDINGS = (\d+)"),
-    (TESTING, r"Random calls of ([\d,]+) seeds", "tests/test_library.py", r'^SEEDS = \{"0.2": (\d+)'),
+    (TESTING, r"Random calls of ([\d,]+) seeds", "tests/test_library.py", r'^SEEDS = .*"archive": (\d+)'),
     (TESTING, r"and (\d+) states and", "tests/library/calls.py", r"in range\((\d+)\):\n +begin ="),
     (TESTING, r"(\w+) threads call at once", "tests/test_library.py", r"ThreadPoolExecutor\((\d+)\)"),
     (TESTING, r"A size is (\w+) times the one before", GROWTH, r"^SIZES = \(1, (\d+),"),

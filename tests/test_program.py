@@ -8,6 +8,7 @@ from __future__ import annotations
 import codecs
 import contextlib
 import os
+import random
 import re
 import select
 import shlex
@@ -55,6 +56,7 @@ TEXTS = {
     "with_gap": f"{FIRST}group,104,0,A,lost,B:0000,C:0000,D:0000\n",
     "ignored_loss": "rds: --loss is ignored with --share\n",
     "ignored_of": "rds: --of is ignored without --share\n",
+    "no_flips": "".join(f"total,soft{count},0,-,-,-,-,-\n" for count in range(1, 7)),
 }
 
 
@@ -101,7 +103,7 @@ def test_table(rds: str, row: list[str]) -> None:
 
 def test_how_many_texts_are_compared_in_part() -> None:
     # a part says less than the whole
-    assert sum(field[:1] in ("*", "^") for row in ROWS for field in row[4:]) == 68
+    assert sum(field[:1] in ("*", "^") for row in ROWS for field in row[4:]) == 75
 
 
 def test_argument_that_is_not_utf_8(rds: str) -> None:
@@ -182,6 +184,16 @@ def test_nothing_is_read_after_the_last_byte(rds: str, station: bytes, tmp_path:
         ended = run(rds, "follow", "--bits", 803, stdin=file)
         assert os.read(file.fileno(), 1000) == station[101:400]
     assert ended == (0, wrote(rds, "list", "--bits", 803, data=station[:400]), b"")
+
+
+@pytest.mark.parametrize("workers", [2, 4, 256])
+def test_stream_is_listed_by_several(rds: str, station: bytes, tmp_path: Path, workers: int) -> None:
+    # a file, since a read of a pipe gives 64 KiB at most; noise, in which guesses fail
+    path, held = tmp_path / "in", 40 * station + random.Random(5).randbytes(300_000) + station
+    path.write_bytes(held)
+    with path.open("rb") as file:
+        ended = run(rds, "follow", "--workers", workers, stdin=file)
+    assert ended == (0, wrote(rds, "list", "--workers", 1, data=held), b"")
 
 
 def test_stream_is_listed_as_its_recording(rds: str, station: bytes) -> None:
@@ -296,6 +308,8 @@ REFUSED = {
     "closed input | scan --hex <&-": "9 Read",
     "settings before closed input | list --loss 0 <&-": "3 LossRange",
     "closed input of a stream | follow <&-": "9 Read",
+    "settings of a closed stream | follow --workers 0 <&-": "7 CrewRange",
+    "rules before workers | follow --loss 0 --workers 257 <&-": "3 LossRange",
     "closed output | scan --hex <$IN >&-": "10 Write",
     "closed output of a stream | follow --bits 40 <$IN >&-": "10 Write",
     "full output | scan --hex <$IN >/dev/full": "10 Write",

@@ -4,11 +4,8 @@ from __future__ import annotations
 
 import numpy as np
 import pytest
-from plain_soft import Window, random_window, spelled
+from plain_soft import SEVEN_ARE_TOO_MANY, Window, random_window, spelled
 from running import said
-
-# Seven symbols of this size weigh more than the top and the greatest margin of these windows: 7 * 23 > 127 + 32.
-SEVEN_ARE_TOO_MANY = 23
 
 
 def blocks(bench: str, windows: list[Window]) -> list[str]:

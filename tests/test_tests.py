@@ -8,6 +8,7 @@ import os
 import re
 import shutil
 import sys
+import time
 from pathlib import Path
 from typing import Any, Callable
 
@@ -27,7 +28,7 @@ import test_progress
 import test_refusals
 import test_work
 from inputs import make_refuse
-from running import TOP, Ran, needs, run, wrote
+from running import TOP, Ran, run, said, wrote
 
 # Wrong programs, in bash; $rds is the right one.
 PROGRAMS = {
@@ -410,19 +411,48 @@ def test_without(): needs("a-tool-that-is-not-there")
 """
 
 
-# A row of the table, whether all tools have to be there, and whether the run passes.
-ROWS_OF_COUNTS = [("2\t0", "", True), ("3\t0", "", False), ("2\t0", "1", False), ("1\t1", "1", True)]
+# A row of the table, of which 1 passed and 1 was skipped; what the gate says of tools, and whether the run passes.
+ALL_TOOLS = {"RDS_ALL_TOOLS": "1"}
+ROWS_OF_COUNTS: list[tuple[str, dict[str, str], bool]] = [
+    ("2\t0", {}, True),
+    ("3\t0", {}, False),
+    ("2\t0", ALL_TOOLS, False),
+    ("1\t1", ALL_TOOLS, True),
+    # one is skipped that was not there
+    ("1\t0", ALL_TOOLS, False),
+    ("2\t0", {**ALL_TOOLS, "RDS_LACKING": "a-tool its-package"}, False),
+    ("2\t0", {**ALL_TOOLS, "RDS_LACKING": "a-tool-that-is-not-there its-package"}, True),
+    ("2\t1", {**ALL_TOOLS, "RDS_LACKING": "a-tool-that-is-not-there its-package"}, True),
+]
 
 
-def test_fewer_tests_than_the_table_has(copy: Path) -> None:
-    """A test that is gone fails the run, and one that is skipped if all tools have to be there; its reason is told."""
+def test_fewer_tests_than_the_table_has(copy: Path, cases: Cases) -> None:
+    """A test that is gone fails the run, and if all tools have to be there one that is skipped too, unless its tool cannot be had."""
     (copy / "tests" / "test_some.py").write_text(SKIPPING)
     for row, variables, is_enough in ROWS_OF_COUNTS:
         (copy / "tests" / "counts.tsv").write_text(f"file\tpassed\tskipped\ntests/test_some.py\t{row}\n")
-        ended = outcome_of("test_some.py", top=copy, RDS_ALL_TOOLS=variables)
+        ended = outcome_of("test_some.py", top=copy, **{"RDS_ALL_TOOLS": "", "RDS_LACKING": "", **variables})
         text, fault = ended.out.decode(), "tests/counts.tsv: tests/test_some.py: 1 passed and 1 skipped"
         assert (ended.status == 0) == is_enough, text
         assert "there is no a-tool-that-is-not-there on the PATH" in text and (is_enough or fault in text)
+    cases(len(ROWS_OF_COUNTS))
+
+
+def test_file_that_is_gone(copy: Path) -> None:
+    """Of a whole run each row has to have its file, and each file its row."""
+    for folder in ("tests", "monitor/tests"):
+        for path in (copy / folder).glob("test_*.py"):
+            path.unlink()
+    (copy / "tests/test_some.py").write_text("def test_one(): pass\n")
+    (copy / "tests/counts.tsv").write_text("file\tpassed\tskipped\ntests/test_gone.py\t1\t0\n")
+    words = [sys.executable, *"-B -m pytest -q -n 0 tests monitor/tests".split()]
+    ended = run(*words, cwd=copy, env={**os.environ, "PYTEST_ADDOPTS": ""})
+    text = ended.out.decode()
+    assert (
+        ended.status == 1
+        and "tests/test_gone.py: 0 passed" in text
+        and "tests/test_some.py has no row" in text
+    )
 
 
 def test_tests_that_run_alone_count(copy: Path) -> None:
@@ -455,21 +485,34 @@ def test_random_edit(test: str, status: int) -> None:
     assert ended.status == status and (b"NOT SEEN" in ended.out) == (status == 1), ended
 
 
+def test_random_edits_of_the_day(rds: str, librds: str, cases: Cases) -> None:
+    """Of 12 edits, others each day, the nearest tests see some. build/mutants has them; by all tests `tests/mutants.py` tries more."""
+    variables = {**os.environ, "RDS": rds, "RDS_LIBRARY": f"{librds}/librds.so.0", "PYTEST_ADDOPTS": ""}
+    # Two near tests miss up to half of the edits, and one in ten changes nothing: fewer than three seen are no chance.
+    words = f"--seed {time.strftime('%Y%m%d')} --count 12 --near 2 --unseen 9".split()
+    ended = run(sys.executable, TOP / "tests" / "mutants.py", *words, env=variables, timeout=1800)
+    (TOP / "build").mkdir(exist_ok=True)
+    (TOP / "build" / "mutants").write_bytes(ended.out)
+    assert ended.status == 0 and b" edits are seen" in ended.out, ended
+    cases(12)
+
+
 # ---- the tools
 
 
 # Tools that come with others, or with Debian itself.
-OTHER_TOOLS = "dpkg dpkg-architecture dpkg-deb readelf strip objdump qemu-x86_64 make python3 rt a-tool-that-is-not-there"
+OTHER_TOOLS = "RT date librds podman sh dpkg dpkg-architecture dpkg-deb readelf strip objdump qemu-x86_64 make python3 rt a-tool-that-is-not-there"
 
 
 def test_tools_that_the_gate_installs() -> None:
     """A test whose tool is missing is skipped: .ci/run names each tool but some that come with others."""
-    texts = "".join(path.read_text() for path in (TOP / "tests").glob("test_*.py"))
-    rows = re.findall(r"\bneeds\(([^*)]*)\)", texts)
+    paths = [*(TOP / "tests").glob("*.py"), *(TOP / "monitor/tests").glob("*.py")]
+    texts = "".join(path.read_text() for path in paths)
+    rows = re.findall(r"\b(?:needs|which|importorskip)\(([^*)]*)\)", texts)
     tools = {tool for row in rows for tool in re.findall(r'"([\w-]+)"', row)}
     gate = (TOP / ".ci/run").read_text()
     missing = {tool for tool in tools if not re.search(rf"\b{re.escape(tool)}(?![\w-])", gate)}
-    assert len(tools) > 12 and missing <= {*OTHER_TOOLS.split()}
+    assert len(tools) > 30 and missing <= {*OTHER_TOOLS.split()}
 
 
 # ---- wrong bodies, front pages and proofs
@@ -502,8 +545,7 @@ def crates(copy: Path) -> Path:
 
 def wrong_bodies(top: Path, *words: object, rt: str = "true") -> tuple[int | None, str]:
     """The status of the script, and what it tells."""
-    variables = {**os.environ, **({"RT": rt} if rt else {})}
-    ended = run(sys.executable, top / "tests" / "wrong_bodies.py", *words, env=variables, timeout=600)
+    ended = run(sys.executable, top / "tests" / "wrong_bodies.py", *words, env={**os.environ, "RT": rt})
     return ended.status, (ended.out + ended.err).decode()
 
 
@@ -525,18 +567,25 @@ def test_wrong_bodies_without_a_toolchain(tmp_path: Path) -> None:
     assert status == 1 and "rds_code is not proved" in text
 
 
+# A prover that refuses one edit of a file, by a goal at its line.
+PROVER = r"""#!/bin/sh
+at=$(grep -n '(self.number + 1).min(4)' src/block_number.rt)
+echo only=2 checked
+echo "note: src/block_number.rt:${at%%:*}:1: a goal is left (\`value\`)" """
+
+
 def test_edit_that_changes_nothing(crates: Path) -> None:
-    needs("rt")
+    """It is not refused by the goals of another edit of the same file. The gate tries an edit with `equal:` of that crate by the prover."""
     folder, same = crates / "crates" / "rds_code", "1..=4 => Some(BlockNumber { number }),"
     for edit in (folder / "wrong").iterdir():
-        # the goals of another edit of the same file must not count for this one
         edit.unlink() if edit.name != "no_block_after_the_fourth.edit" else None
     unchanged = f"file: src/block_number.rt\nold: {same}\nnew: {same} // the same\n"
     (folder / "wrong" / "nothing_is_changed.edit").write_text(unchanged)
     answers = crates / "tests" / "wrong_bodies.answers"
     answers.write_text(re.sub("^rds_code.*\n", "", answers.read_text(), flags=re.M))
-    status, text = wrong_bodies(crates, "rds_code", rt="")
-    assert status == 1 and "1 as they must be, 1 not: rds_code/nothing_is_changed" in text
+    script(crates / "kit/bin/rattle", PROVER)
+    status, text = wrong_bodies(crates, "rds_code", rt=str(script(crates / "kit/bin/rt", "#!/bin/sh\n")))
+    assert status == 1 and "1 as they must be, 1 not: rds_code/nothing_is_changed" in text, text
 
 
 def must_fail(top: Path, *words: object) -> Ran:
@@ -618,6 +667,8 @@ class Gate:
         (top / "crates.txt").touch()
         for path in ("Makefile", ".ci/run"):
             shutil.copy2(TOP / path, top / path)
+        noting = (top / "few/make").read_text().replace("\n", f"\necho $RDS_LACKING >{top}/lacking\n", 1)
+        (top / "few/make").write_text(noting)
 
     def run(self, *words: str, path: str, failing: str = "") -> Ran:
         (self.top / "called").write_text("")
@@ -650,10 +701,49 @@ def test_gate(gate: Gate, cases: Cases) -> None:
 
 
 def test_ci(gate: Gate, cases: Cases) -> None:
-    """It installs each package if all tools are missing, goes on if that fails, and ends as `make test` does."""
+    """It installs each package if all tools are missing, one by one if that fails, and ends as `make test` does. Then each tool that is
+    not there is named to the tests."""
     assert gate.ci(failing="make").status not in (0, None)
-    tools = re.findall(r"\S+:(\S+)", (TOP / ".ci/run").read_text().split("tools=(")[1].split(")\n")[0])
-    installed = next(line for line in gate.called() if line.startswith("apt-get install ")).split()
-    assert len(tools) > 20 and [tool for tool in tools if tool not in installed] == []
-    assert gate.ci(failing="apt-get").status == 0 and gate.called()[-1] == "make test"
-    cases(len(tools) + 2)
+    tools = re.findall(r"(\S+):(\S+)", (TOP / ".ci/run").read_text().split("tools=(")[1].split(")\n")[0])
+    packages = {package for _, package in tools}
+    assert len(tools) > 30 and packages <= {*installs(gate)[0]}
+    ended = gate.ci(failing="apt-get")
+    assert ended.status == 0 and gate.called()[-1] == "make test"
+    one_by_one = installs(gate)[1:]
+    assert packages <= {call[-1] for call in one_by_one} and {len(call) for call in one_by_one} == {5}
+    lacking = {*(gate.top / "lacking").read_text().split()}
+    assert {name for pair in tools for name in pair} <= lacking
+    cases(len(tools) + 4)
+
+
+def installs(gate: Gate) -> list[list[str]]:
+    """The words of each call that installs packages."""
+    return [line.split() for line in gate.called() if line.startswith("apt-get install ")]
+
+
+def test_commit_that_passed(gate: Gate, cases: Cases) -> None:
+    """build/passed names a commit only if the tree was that commit from the begin of the tests to their end."""
+    (gate.top / "tools/git").unlink()
+    (gate.top / ".gitignore").write_text("called\nlacking\nbuild\n")
+
+    def commit(text: str) -> str:
+        (gate.top / "file").write_text(text)
+        wrote("git", "init", "-q", cwd=gate.top)
+        wrote("git", "add", "-A", cwd=gate.top)
+        wrote(*"git -c user.name=a -c user.email=a commit -qm".split(), text, cwd=gate.top)
+        return said("git", "rev-parse", "HEAD", cwd=gate.top)
+
+    passed = gate.top / "build/passed"
+    first = commit("one")
+    assert gate.make_test().status == 0 and passed.read_text().split() == [first]
+    second = commit("two")
+    assert gate.make_test(failing="python3").status != 0 and passed.read_text().split() == [first]
+    (gate.top / "file").write_text("changed")
+    assert gate.make_test().status == 0 and passed.read_text().split() == [first]
+    wrote("git", "checkout", "-q", "file", cwd=gate.top)
+    tests = gate.top / "tools/python3"
+    tests.write_text(
+        f"{tests.read_text()}\necho three >{gate.top}/file; git -C {gate.top} -c user.name=a -c user.email=a commit -qam three\n"
+    )
+    assert gate.make_test().status == 0 and passed.read_text().split() == [first] != [second]
+    cases(4)

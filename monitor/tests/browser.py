@@ -15,6 +15,10 @@ def missing() -> List[str]:
     return found if find_spec("selenium") else [*found, "python3-selenium"]
 
 
+# of pages of `report` too
+LACKING = [*missing(), *([] if Path("/usr/share/javascript/d3/d3.min.js").exists() else ["libjs-d3"])]
+
+
 @contextmanager
 def browser(folder: Path, width: int = 1100, height: int = 900, dark: bool = False) -> Iterator[Any]:
     """A browser whose profile is in a folder, and which has no network."""

@@ -7,10 +7,11 @@ import subprocess
 import sys
 import time
 from pathlib import Path
-from typing import Any, Iterable, Sequence
+from typing import Any, Iterable, Iterator, Sequence
 
 import forked
 import pytest
+from browser import browser
 from hypothesis import HealthCheck, settings
 
 # The same examples each time, however slow the machine is: a gate that fails by chance is none.
@@ -68,6 +69,13 @@ def decoder(request: pytest.FixtureRequest, monkeypatch: pytest.MonkeyPatch) -> 
         monkeypatch.setenv("RDS_LIBRARY", "/none")
         monkeypatch.setattr("rds_monitor.rows.decoders.library", no_librds)
     return str(request.param)
+
+
+@pytest.fixture(scope="session")
+def driver(tmp_path_factory: Any) -> Iterator[Any]:
+    """One browser for all tests of pages."""
+    with browser(tmp_path_factory.mktemp("browser")) as driver:
+        yield driver
 
 
 @pytest.fixture(scope="session")

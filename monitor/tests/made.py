@@ -16,7 +16,7 @@ from rds_monitor import cli
 from rds_monitor.rows.items import ACQUIRED, CORRECTED, GROUP, ITEM, LOSS, LOST, VALID, Reading, Rows
 from rds_monitor.rows.items import totals_of
 from rds_monitor.rows.listing import Listing, text_of, totals_text
-from rds_monitor.rows.parse import _set_types
+from rds_monitor.rows.parse import set_types
 
 BLOCK_OFFSETS = (1, 2, 3, 5)
 
@@ -25,6 +25,14 @@ def damaged(data: bytes, rate: float, seed: int) -> bytes:
     """The bits, of which each is inverted at this rate."""
     inverted = numpy.random.default_rng(seed).random(8 * len(data)) < rate
     return (numpy.frombuffer(data, "u1") ^ numpy.packbits(inverted)).tobytes()
+
+
+def symbols(data: bytes, noise: float, seed: int = 1) -> bytes:
+    """Of the bits, as they are received with an amplitude of 1 and this noise: signed bytes, one more than bits."""
+    signs = numpy.bitwise_xor.accumulate(numpy.unpackbits(numpy.frombuffer(b"\0" + data, "u1"))[7:])
+    heard = 2.0 * signs - 1 + noise * numpy.random.default_rng(seed).standard_normal(signs.size)
+    sizes = numpy.clip(16 * 2 * abs(heard) / noise**2, 1, 127)
+    return (numpy.sign(heard) * sizes).astype("i1").tobytes()
 
 
 def block(row: Any, number: int, word: Optional[int], burst: int = 0) -> None:
@@ -48,7 +56,7 @@ def group_row(place: int, words: Sequence[Optional[int]], first: int = 1, prime:
         block(rows[0], number, word)
     if prime and rows["kind3"][0] >= VALID:
         rows["offset3"] = 4
-    _set_types(rows)
+    set_types(rows)
     return rows
 
 

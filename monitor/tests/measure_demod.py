@@ -24,14 +24,16 @@ Words = Tuple[int, ...]
 RATE = 192000
 
 
+def words_in(listing: bytes) -> List[Words]:
+    """The words of the complete groups of a listing."""
+    rows = [line.split(",") for line in listing.decode().splitlines()]
+    whole = (row[4:] for row in rows if row[0] == "group" and not {"none", "lost"} & {*row[4:]})
+    return [tuple(int(block.split(":")[1][:4], 16) for block in blocks) for blocks in whole]
+
+
 def whole_groups(bits: bytes) -> List[Words]:
     """The words of the complete groups that rds finds."""
-    found = []
-    for line in rds("list", data=bits).decode().splitlines():
-        fields = line.split(",")
-        if fields[0] == "group" and not {"none", "lost"} & set(fields[4:]):
-            found.append(tuple(int(block.split(":")[1][:4], 16) for block in fields[4:]))
-    return found
+    return words_in(rds("list", data=bits))
 
 
 def bits_of(capture: Capture, signal: Array, block: int = 65536) -> List[Array]:

@@ -14,13 +14,11 @@ import tempfile
 from pathlib import Path
 from typing import Any, Dict, List, Sequence
 
-import numpy
 from conftest import TOP, encode, rds
 from made import damaged
-from measure_demod import RATE, Table, Words, bits_of, print_table
+from measure_demod import RATE, Table, Words, print_table, words_in
+from measure_soft import packed, symbols_of
 from modulator import mpx, words
-
-from rds_monitor.signal.receiver import Capture
 
 PYTHON, READER = "/usr/bin/python3", Path(__file__).with_name("gnuradio_receiver.py")
 COUNT = 1000
@@ -39,9 +37,7 @@ def by_gnuradio(form: str, data: bytes, *more: str) -> List[Words]:
 
 def by_rds(bits: bytes, burst: int = 2) -> List[Words]:
     """The complete groups that rds lists."""
-    rows = [line.split(",") for line in rds("list", "--burst", burst, data=bits).decode().splitlines()]
-    whole = (row[4:] for row in rows if row[0] == "group" and not {"none", "lost"} & {*row[4:]})
-    return [tuple(int(block.split(":")[1][:4], 16) for block in blocks) for blocks in whole]
+    return words_in(rds("list", "--burst", burst, data=bits))
 
 
 def told(found: Sequence[Words], sent: Sequence[Words]) -> str:
@@ -53,9 +49,10 @@ def told(found: Sequence[Words], sent: Sequence[Words]) -> str:
 def signal(seed: int, snr: float) -> List[Any]:
     groups = words(seed, COUNT)
     sent = mpx(encode(groups), RATE, snr=snr, seed=seed)
-    (received,) = bits_of(Capture(RATE, False, 1.0, [0.0], ()), sent)
-    bits = numpy.packbits(received).tobytes()
+    symbols = symbols_of(sent)
+    bits = packed(symbols)[0]
     readings = (
+        words_in(rds("list", "--soft", data=symbols.tobytes())),
         by_rds(bits),
         by_gnuradio("bits", bits),
         by_gnuradio("mpx", sent.astype("f4").tobytes(), str(RATE)),
@@ -73,9 +70,15 @@ def bits(seed: int, rate: float) -> List[Any]:
 
 TABLES: Dict[str, Table] = {
     "signal": Table(
-        ("SNR", "`rds-monitor demod`, `rds`", "the same bits, gr-rds", "GNU Radio, gr-rds"),
+        (
+            "SNR",
+            "`demod --soft`, `rds --soft`",
+            "`demod`, `rds`",
+            "the same bits, gr-rds",
+            "GNU Radio, gr-rds",
+        ),
         signal,
-        {f"{snr:g} dB".replace("-", "−"): (snr,) for snr in (4, 2, 1, 0, -1, -2, -3)},
+        {f"{snr:g} dB".replace("-", "−"): (snr,) for snr in (2, 0, -1, -2, -3, -4)},
     ),
     "bits": Table(
         ("Bit errors", "`--burst 0`", "`--burst 2`", "`--burst 5`", "gr-rds"),
@@ -88,7 +91,7 @@ TABLES: Dict[str, Table] = {
 # ---- the picture
 
 WIDTH, HEIGHT, LEFT, BELOW, RIGHT = 640, 300, 50, 40, 190
-COLOURS = ("#0b6e4f", "#c05621", "#6b46c1")
+COLOURS = ("#2563eb", "#0b6e4f", "#c05621", "#6b46c1")
 
 
 def picture(page: str) -> str:

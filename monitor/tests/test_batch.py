@@ -13,6 +13,7 @@ import sys
 import time
 from pathlib import Path
 from typing import Any, Iterator, List
+from unittest import mock
 
 import numpy
 import pytest
@@ -20,7 +21,7 @@ from conftest import COMMAND, PROGRAM, STATION, TOP, encode, monitor, ran, rds
 from made import run
 from modulator import mpx, stored, wav, words
 
-from rds_monitor.batch import WORK
+from rds_monitor.batch import WORK, BatchRun, Job
 
 pytestmark = pytest.mark.skipif(not shutil.which("parallel"), reason="GNU parallel is not installed")
 
@@ -159,6 +160,15 @@ def test_a_listing_is_moved_into_its_place(
     assert set(listings(folders[1]).values()) == {station_listing}
 
 
+def test_progress_is_shown_at_once(tmp_path: Path, monkeypatch: pytest.MonkeyPatch) -> None:
+    """What was written to a terminal is seen when it is flushed."""
+    seen: List[str] = []
+    terminal = mock.Mock(isatty=lambda: True, write=seen.append, flush=lambda: seen.append("|"))
+    monkeypatch.setattr(sys, "stderr", terminal)
+    BatchRun([Job("a", "b")] * 3, str(tmp_path)).take(1, 1, "out of memory")
+    assert "".join(seen).endswith("\r1 of 3\x1b[K|")
+
+
 @pytest.mark.parametrize(
     "text,said",
     [
@@ -285,7 +295,7 @@ def test_a_full_disk(folders: Any) -> None:
         *map(str, folders),
     ]
     if subprocess.run([*words_[:4], mount, str(folders[1])], capture_output=True).returncode:
-        pytest.skip("no file system can be mounted here")
+        pytest.skip("this machine cannot mount a file system")
     done = subprocess.run(words_, capture_output=True)
     assert done.returncode == 1
     assert b"a.bin: failed: " in done.stderr and b"b.bin: failed: " in done.stderr
@@ -332,7 +342,7 @@ def machines(tmp_path: Path) -> Iterator[List[str]]:
             end = time.monotonic() + 60
             while subprocess.run([*login.split(), "true"], capture_output=True).returncode:
                 if time.monotonic() > end:
-                    pytest.skip("no sshd can be started here")
+                    pytest.skip("this machine cannot start sshd")
                 time.sleep(0.1)
         yield logins
     finally:

@@ -11,15 +11,14 @@ from typing import Any, Iterator, List
 
 import pytest
 
-from browser import browser, missing
+from browser import LACKING
 from conftest import encode, monitor
 from rds_monitor.content.charset import printable
-from rds_monitor.page.html import D3, page_of
+from rds_monitor.page.html import page_of
 from sent import clock, group
 from test_report import EVIL, station, told_line
 from years import make_year
 
-LACKING = [*missing(), *([] if Path(D3).exists() else ["libjs-d3"])]
 # In one worker, so that there is one browser.
 pytestmark = [
     pytest.mark.skipif(bool(LACKING), reason="needs " + " and ".join(LACKING)),
@@ -87,12 +86,6 @@ def write(folder: Path, name: str, *words: str) -> None:
     done = monitor("report", *words, cwd=folder)
     assert done.returncode == 0, done.stderr
     (folder / f"{name}.html").write_bytes(done.stdout)
-
-
-@pytest.fixture(scope="module")
-def driver(tmp_path_factory: Any) -> Iterator[Any]:
-    with browser(tmp_path_factory.mktemp("browser")) as driver:
-        yield driver
 
 
 @pytest.fixture
@@ -193,35 +186,6 @@ def test_zoom_by_keys(opened: Any) -> None:
         assert seconds_in_view(page) == seconds
 
 
-def test_what_the_lines_and_tables_say(opened: Any, folder: Path) -> None:
-    """Numbers of the page's data: times without a start, per cent of bad blocks, sessions, outages in view, and rows that are too many."""
-    page = opened("counted")
-    assert all_of(page, "output")[0].text == "00:00:00 to 02:00:00: 11.11 % bad blocks"
-    cells = {
-        kind: [cell.text for cell in all_of(page, f".{kind} tbody td")] for kind in ("sessions", "outages")
-    }
-    assert cells["sessions"] == ["00:00:00", "02:00:00", "7200.000", "324000", "288000"]
-    assert cells["outages"] == ["00:01:00", "00:01:01", "1.500", "01:30:00", "01:30:01", "1.000"]
-    rows = [element.text for element in all_of(page, ".events tbody tr")]
-    assert len(rows) == 202
-    assert rows[200:] == ["10 more: zoom in", "7 more are not on this page"]
-    assert rows[0] == "00:00:10 PTY 1"
-    lane = [element.get_attribute("textContent") for element in all_of(page, "rect.item title")]
-    assert lane and lane[0] == "PTY from 00:00:10: 1"
-    types = [element.text.strip() for element in all_of(page, ".types > span")]
-    assert types == [*sorted(f"{n}A" for n in range(1, 13)), "other"]
-    titles = [element.get_attribute("textContent") for element in all_of(page, "rect.mix title")]
-    assert any(title.startswith("other: 17 groups") for title in titles)
-    kinds = ("valid", "missing", "lost", "corrected")
-    heights = {kind: float(all_of(page, f"rect.{kind}")[0].get_attribute("height")) for kind in kinds}
-    assert abs(heights["corrected"] / heights["valid"] - 3 / 45) < 0.01
-    assert heights["corrected"] > heights["missing"]
-    click(page, "minute")
-    page.execute_script("arguments[0].focus()", all_of(page, ".chart")[0])
-    all_of(page, ".chart")[0].send_keys(Keys.HOME + "+" * 9)
-    assert len(all_of(page, ".outages tbody tr")) == 0 and len(all_of(page, ".sessions tbody tr")) == 1
-
-
 def test_an_outage_is_seen_at_any_zoom(opened: Any) -> None:
     page = opened("one")
     rows = all_of(page, ".outages tbody tr")
@@ -237,7 +201,17 @@ def test_an_outage_is_seen_at_any_zoom(opened: Any) -> None:
 
 
 def drawn(page: Any, kind: str, part: str = "width") -> List[float]:
-    return [float(element.get_attribute(part)) for element in all_of(page, f"rect.{kind}")]
+    read = "return [...document.querySelectorAll(arguments[0])].map((it) => +it.getAttribute(arguments[1]))"
+    return list(page.execute_script(read, f"rect.{kind}", part))
+
+
+def texts(page: Any, selector: str) -> List[str]:
+    """The texts of all such elements, in one call of the browser."""
+    return list(
+        page.execute_script(
+            "return [...document.querySelectorAll(arguments[0])].map((it) => it.textContent)", selector
+        )
+    )
 
 
 def test_pages_of_a_year(opened: Any, folder: Path) -> None:
@@ -246,7 +220,7 @@ def test_pages_of_a_year(opened: Any, folder: Path) -> None:
     page.execute_script("arguments[0].click()", all_of(page, "table a")[0])
     assert page.current_url.endswith("/Alpha-2025.html")
     width = sum(drawn(page, "session"))
-    lanes = [element.get_attribute("textContent") for element in all_of(page, "rect.item title")]
+    lanes = texts(page, "rect.item title")
     assert [lane.split(" from ")[0] for lane in lanes if lane[:2] in ("PI", "AF")] == ["PI", "AF"]
     assert lanes[0].endswith(": D318") and drawn(page, "item")[0] == pytest.approx(width, abs=4)
     # Two seconds of each hour, and in March three days: 0.06 % are a line of a pixel, and these days are whole bars.
@@ -256,9 +230,9 @@ def test_pages_of_a_year(opened: Any, folder: Path) -> None:
     assert lines == pytest.approx(width * 362 / 365, abs=4) and sum(drawn(page, "outage")) == pytest.approx(
         width, abs=4
     )
-    rows = [row.text for row in all_of(page, ".outages tbody tr")]
-    assert rows[0] == "2025-01-01 00:00:00Z 2025-01-02 00:00:00Z 48.000" and rows[-1] == "165 more: zoom in"
-    (march,) = [link for link in all_of(page, "table a") if link.text == "2025-03"]
+    rows = texts(page, ".outages tbody tr")
+    assert rows[0] == "2025-01-01 00:00:00Z2025-01-02 00:00:00Z48.000" and rows[-1] == "165 more: zoom in"
+    march = page.find_element("link text", "2025-03")
     page.execute_script("arguments[0].click()", march)
     assert begin_of_view(page) == "2025-03-01 00:00:00Z"
     click(page, "hour")
@@ -301,14 +275,6 @@ def test_on_a_phone_no_word_breaks(opened: Any, name: str) -> None:
         page.execute_cdp_cmd("Emulation.clearDeviceMetricsOverride", {})
 
 
-def test_all_lanes_are_drawn(opened: Any) -> None:
-    page = opened("one")
-    names = [element.text for element in all_of(page, ".chart svg > text")]
-    assert set("outages sessions groups PI PS RT PTY TP TA".split()) <= set(names)
-    for kind in ("valid", "missing", "outage", "session", "mix", "item"):
-        assert all_of(page, f"rect.{kind}"), kind
-
-
 def test_the_stations_clock(opened: Any) -> None:
     """A lane shows how far it is from that of the recording: by a minute's 60 ms more each minute."""
     page = opened("clock")
@@ -345,10 +311,8 @@ def test_tiles_of_three_stations_the_worst_first(opened: Any) -> None:
 def test_markup_in_radiotext_is_text(opened: Any) -> None:
     page = opened("one")
     assert len(all_of(page, "script")) == 3
-    cells = [element.text for element in all_of(page, ".events td")]
-    assert EVIL in cells
-    lane = [element.get_attribute("textContent") for element in all_of(page, "rect.item title")]
-    assert any(text.endswith(EVIL) for text in lane)
+    assert EVIL in texts(page, ".events td")
+    assert any(text.endswith(EVIL) for text in texts(page, "rect.item title"))
 
 
 def test_hostile_texts_stay_where_they_are(opened: Any) -> None:

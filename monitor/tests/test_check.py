@@ -15,11 +15,12 @@ import pytest
 import zstandard
 
 from conftest import COMMAND, encode, monitor, ran, rds
+from rds_monitor.rows.items import LOST
 from made import group_row, listing, lock, run, split
 from rds_monitor.watch.verdict import Limits, Seen, Verdict
 
-VALID = "99.98 % of the blocks valid, last valid group 0.007 s ago"
-DATA = "valid=99.98%;90:;50:;0;100 corrected=0.00%;;;0;100 age=0.007s;10;60;0"
+VALID = "99.99 % of the blocks valid, last valid group 0.007 s ago"
+DATA = "valid=99.99%;90:;50:;0;100 corrected=0.00%;;;0;100 age=0.007s;10;60;0"
 WHOLE = "RDS OK - 100.00 % of the blocks valid, last valid group 0.??? s ago"
 ROW = "row 1: 'begin_s,end_s' is no row of a listing"
 
@@ -64,7 +65,7 @@ def test_a_good_reception(sample, listed) -> None:
         "--name PAXOLIDU",
         listed,
     )
-    judged(0, "RDS OK - 99.98 % *", "-", data=sample.read_bytes())
+    judged(0, "RDS OK - 99.99 % *", "-", data=sample.read_bytes())
 
 
 # Per cent of valid blocks and seconds since the last group, at each limit and past it, and the status.
@@ -116,7 +117,7 @@ def test_compressed_files(suffix: str, sample, listed) -> None:
 
 def test_the_process_ends_in_the_status(sample) -> None:
     done = monitor("check", "--pi", "D312", sample)
-    assert done.returncode == 2 and done.stdout.startswith(b"RDS CRITICAL - 99.98 %")
+    assert done.returncode == 2 and done.stdout.startswith(b"RDS CRITICAL - 99.99 %")
 
 
 def test_a_station_that_is_gone(tmp_path, station: bytes) -> None:
@@ -224,6 +225,12 @@ def test_only_the_end_of_a_long_file_is_read(tmp_path) -> None:
     # Damage before the seconds that are judged is not even seen.
     path.write_bytes(text[:1000] + b"X" + text[1000:])
     judged(0, "RDS OK - 100.00 % *", "--last", 30, path)
+    # Each block that is judged is valid, and each before it is lost.
+    rows[: len(rows) // 4]["kind1"] = LOST
+    path.write_bytes(listing([rows], totals=False))
+    good = int((len(rows) - len(rows) // 4) * 104 / 1187.5)
+    judged(0, "RDS OK - 100.00 % *", "--last", good, path)
+    judged(0, "RDS OK - 99.?? % *", "--last", good + 60, path)
 
 
 # ---- the length, and names

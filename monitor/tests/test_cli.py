@@ -21,7 +21,7 @@ import zstandard
 from conftest import COMMAND, PROGRAM, STATION, TOP, monitor, ran, rds
 from made import damaged, on_a_terminal, peak_memory, run, said
 from rds_monitor import cli
-from rds_monitor.rows import extent
+from rds_monitor.rows import extent, inputs
 from rds_monitor.watch import verdict
 
 MONITOR = TOP / "monitor"
@@ -32,7 +32,7 @@ def test_help_has_an_example() -> None:
     for command in cli.COMMANDS:
         assert f"  {command.name} " in text and command.summary in text
         shown = run(command.name, "--help")
-        assert shown.status == 0 and "example" in shown.out and f"rds-monitor {command.name}" in shown.out
+        assert shown.status == 0 and re.search(rf"\nexamples?:\n  rds-monitor {command.name} ", shown.out)
     assert run().out == text and run("--version").out.startswith(f"rds-monitor {cli.__version__}\n")
 
 
@@ -215,7 +215,9 @@ def test_progress_is_for_a_terminal(tmp_path, station: bytes) -> None:
         "sys.exit(cli.main(['errors', sys.argv[2]]))"
     )
     shown = on_a_terminal("-c", timed, "1", str(tmp_path / "it"))
-    assert b" %" in shown and shown.endswith(b"\r" + b" " * 4 + b"\r") or shown.rstrip(b"\r ").endswith(b"%")
+    # Chunks of 65536 of a million bytes; at the end the line is erased.
+    assert [*map(int, re.findall(rb"(\d+) %", shown))] == [*(round(6.5536 * n) for n in range(1, 16)), 100]
+    assert shown.endswith(b"100 %\r     \r")
     assert on_a_terminal("-c", timed, "0", str(tmp_path / "it")) == b""
     assert monitor("errors", str(tmp_path / "it")).stderr == b""
     progress = extent.Progress(None)
@@ -293,6 +295,30 @@ def test_defaults_are_those_of_the_help() -> None:
     assert told > 5
 
 
+DEFAULTS = """
+--reach 3; --rate 1187.5; errors --every 60; outages --density 10; outages --shortest 1;
+programmes --least 3; programmes --pause 10; demod --offset 0; stations --seconds 10; watch --speed 1"""
+
+
+def test_defaults_typed_again() -> None:
+    """All numbers. Those without a command are of each that has the option."""
+    found = set()
+    for name, actions in ACTIONS.items():
+        for action in actions:
+            option, number = (action.option_strings or [""])[0], action.default
+            if isinstance(number, (int, float)) and not isinstance(number, bool):
+                of = "" if option in ("--burst", "--reach", "--rate") else f"{name} "
+                found.add(f"{of}{option} {number:g}")
+    assert found == {" ".join(text.split()) for text in DEFAULTS.split(";")}
+    errors = next(command for command in cli.COMMANDS if command.name == "errors")
+    for words, rules in (
+        ("", (2, 3, 10, 0, 0)),
+        ("--share 3", (2, 3, 3, 64, 0)),
+        ("--soft", (2, 3, 10, 0, 32)),
+    ):
+        assert inputs.rules_of(cli.parser_of(errors).parse_args([*words.split(), "x"])) == rules
+
+
 def completed(*words: str, program: str = "rds-monitor", file) -> list:
     """What bash offers for the last word, by the function that it was told to call."""
     ask = (
@@ -309,7 +335,7 @@ def test_completion_in_bash(pages: dict) -> None:
     assert set(completed("", file=bash)) == {command.name for command in cli.COMMANDS}
     assert set(completed("-", file=bash)) == {"-h", "--help", "-V", "--version"}
     assert completed("out", file=bash) == ["outages"]
-    assert completed("outages", "--s", file=bash) == ["--share", "--shortest", "--start"]
+    assert completed("outages", "--s", file=bash) == ["--share", "--soft", "--shortest", "--start"]
     # A value or an input is the name of a file.
     for words in (["outages"], ["outages", "--length"], ["db"], ["errors", "--hex"]):
         assert completed(*words, "READ", file=bash) == ["README.md"]
@@ -321,60 +347,6 @@ def test_completion_in_zsh(pages: dict) -> None:
     assert subprocess.run(["zsh", "-n", pages["_rds-monitor"]], capture_output=True).stderr == b""
 
 
-# ---- completion of rds
-
-BASH, ZSH = TOP / "completions" / "rds.bash", (TOP / "completions" / "_rds").read_text()
-
-
-def options_of_rds(command: str) -> dict:
-    """The options of the program's help: whether each takes a value, and its text."""
-    text = rds(command, "--help").decode().split("Options:\n")[1]
-    entries = re.findall(r"^ +(?:-\w, )?(--[a-z]+)( <\w+>)?  +((?:.*\n(?! +-|\n))*.*)", text, re.M)
-    return {name: (bool(value), " ".join(text.split())) for name, value, text in entries}
-
-
-def commands_of_rds() -> dict:
-    text = rds("--help").decode().split("Commands:\n")[1].split("\n\n")[0]
-    return dict(re.findall(r"^  ([a-z]+) +(.*)", text, re.M))
-
-
-def test_values_that_completion_of_rds_offers() -> None:
-    """They are all numbers of the range, or some of them; an option is not followed by another one in place of its value."""
-    for command in commands_of_rds().keys() - {"help"}:
-        for name, (takes_value, text) in options_of_rds(command).items():
-            offered = completed(command, name, "", program="rds", file=BASH)
-            if not takes_value:
-                assert "--help" in offered
-                continue
-            first, last = re.search(r"(\d+) (?:to (\d+)|or more)", text + " 0 to 0").groups()
-            numbers = [int(word) for word in offered]
-            in_zsh = re.search(rf"'(?:\([^)]*\))?{name}\[[^]]*\]:[^:']*:\(([\d ]*)\)'", ZSH)
-            assert numbers == ([int(text) for text in in_zsh[1].split()] if in_zsh else [])
-            assert all(int(first) <= number <= int(last) for number in numbers)
-            if name in ("--burst", "--reach"):
-                assert numbers == list(range(int(first), int(last) + 1))
-
-
-def test_texts_of_completion_of_rds() -> None:
-    """zsh shows the beginning of what the help says."""
-    assert ZSH.startswith("#compdef rds\n")
-    for command, summary in commands_of_rds().items():
-        assert command == "help" or f"'{command}:{summary[0].lower()}{summary[1:]}'" in ZSH
-        for name, (_, told) in {} if command in ("help", "encode") else options_of_rds(command).items():
-            pattern = rf"'(?:\([^)]*\))?(?:{name}|\{{-h,{name}\}}')\[([^]]*)\]"
-            (shown,) = re.findall(pattern, ZSH.replace("{-h,--help}'", "--help"))[:1]
-            assert name == "--bits" or shown in told.replace(",", "").lower().replace(" n ", " N "), name
-
-
-def test_options_that_exclude_each_other() -> None:
-    """As zsh has them: --loss and --share, of which --of is a part."""
-    excluded = dict(re.findall(r"'\(([^)]*)\)(--[a-z]+)\[", ZSH))
-    assert excluded == {"--share --of": "--loss", "--loss": "--of"} and "'(--loss)--share[" in ZSH
-    for words in (["--loss", "3", "--share", "3"], ["--loss", "3", "--of", "3"]):
-        assert b"ignored" in subprocess.run([PROGRAM, "list", *words], input=b"", capture_output=True).stderr
-    assert options_of_rds("list")["--gaps"][1].count("FROM-TO") and ":FROM-TO,..'" in ZSH
-
-
 # ---- the manual page of rds
 
 # Numbers of the page that no help says: from standards, processors, and an example.
@@ -384,11 +356,10 @@ OF_THE_PAGE = "62106 baseband,62106 earlier,50067,1998,64 processor,2 and,2009 o
 
 def test_numbers_on_the_manual_page_of_rds() -> None:
     """Each is in the program's help, before the same word."""
-    commands = ((), *((name,) for name in commands_of_rds() if name != "help"))
+    commands = ((), *((name,) for name in "scan list follow totals encode".split()))
     help_of_all = " ".join(word for words in commands for word in rds(*words, "--help").decode().split())
     page = " ".join(re.sub(r"^\.(?:Dd|Dt|It \d+|Xr|Bl).*|^\.\w+ ?", "", MANUAL, flags=re.M).split())
-    digits, most = 2 * len(rds("encode", data=b"0" * 16)), 2**36
-    known = {*OF_THE_PAGE, f"{digits} digits", f"1 to {len(str(most)) + 1} digits"}
+    known = {*OF_THE_PAGE, f"1 to {len(str(2**36)) + 1} digits"}
     found = re.findall(r"\b\d+(?: (?:to|is) \d+)?\b(?: \w+)?", page)
     assert [entry for entry in found if entry not in known and entry not in help_of_all] == []
     assert known <= {*found}
@@ -396,16 +367,8 @@ def test_numbers_on_the_manual_page_of_rds() -> None:
     of_both = ("first position after a gap", "16 information bits, then 10 check bits", "eight fields")
     last_bit = "The position of the last bit of the block that acquired"
     assert all(claim in page and claim in help_of_all for claim in of_both)
-    assert all(claim in page for claim in ("at most twice a second", "in seven hex digits", last_bit))
+    assert all(claim in page for claim in ("At most twice a second", "in seven hex digits", last_bit))
     assert "0 The output is complete, or" in " ".join(re.sub(r"^\.It ", "", MANUAL, flags=re.M).split())
-
-
-def test_numbers_of_errors_on_the_manual_page_of_rds() -> None:
-    """Each error has the numbers that the help gives it."""
-    of_help = re.findall(r"^ +(\d+ [A-Z]\w+) +((?:.*\n(?! +\d+ [A-Z]|\n))*.*)", rds("--help").decode(), re.M)
-    of_page = re.findall(r"^\.It (\d+ [A-Z]\w+)\n((?:(?!\.It |\.El).*\n)*)", MANUAL, re.M)
-    told, page = ({name: re.findall(r"\d+", text) for name, text in found} for found in (of_help, of_page))
-    assert len(told) == 16 and told == page
 
 
 COMPRESSED = {

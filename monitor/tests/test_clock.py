@@ -10,7 +10,7 @@ from hypothesis import given, settings, strategies as st
 
 from conftest import STATION
 from made import group_row, listing, run, said
-from rds_monitor.measures.clock import Tick, fit, ticks_of
+from rds_monitor.measures.clock import Tick, fit, go_together, ticks_of
 from rds_monitor.rows.clock import Clock, start_of, utc_text, utc_texts
 from rds_monitor.rows.items import Fault
 
@@ -55,6 +55,15 @@ def test_the_last_start_has_times_to_the_end_of_the_longest_recording() -> None:
 
 
 # ---- the station's clock
+
+
+@pytest.mark.parametrize("bits", range(116, 125))
+def test_ticks_that_go_together(bits: int) -> None:
+    """Two bits a second: the clocks differ by less than half a second, and a hundredth of a minute."""
+    pair = Tick(1000, 0), Tick(1000 + bits, 60)
+    assert go_together(*pair, 2.0, 0.0) == (bits == 120)
+    assert go_together(*pair, 2.0, 0.01) == (118 <= bits <= 122)
+    assert not go_together(pair[1], pair[1], 2.0, 1.0)
 
 
 def minute_group(place: int, time: int) -> numpy.ndarray:

@@ -20,7 +20,9 @@ from measure_demod import TABLES, Words, bits_of, right, whole_groups
 from modulator import Array, dropped, iq, mpx, stored, wav, words
 
 from rds_monitor.signal.outputs import sentence
+from rds_monitor.signal.rates import BLOCK, _prominence
 from rds_monitor.signal.receiver import Capture
+from rds_monitor.signal.samples import open_samples
 
 GROUPS = words(3, 24)  # 2.1 seconds
 SENT = encode(GROUPS)
@@ -32,6 +34,16 @@ def received(signal: Array, rate: int = RATE, **options: Any) -> Tuple[List[Word
 
 
 # ---- the receiver
+
+
+@pytest.mark.parametrize("side", [-1, 1])
+def test_how_high_a_pilot_is(side: int) -> None:
+    """By the median of the 32 bins on each side, of which those next to it are left out."""
+    power, middle = numpy.ones(BLOCK // 2 + 1), round(19000 / 192000 * BLOCK)
+    power[middle - 8 : middle + 9] = 99
+    power[middle - 2 : middle + 3] = [0, 2, 11, 3, 0]
+    power[sorted(range(middle + 9 * side, middle + 41 * side, side))] = 3
+    assert _prominence(power, 192000) == pytest.approx(11 / 2)
 
 
 # Signals; the bit at the flip is wrong, and corrected.
@@ -296,6 +308,17 @@ def test_wav(which: str, signal: Array, file: Any) -> None:
     form, is_long = which[:3], "long_form" in WAVES[which]
     data = wav(stored(signal, form), form, 192000, **WAVES[which]) + b"LIST." * is_long
     assert demodulated(file(data)) == GROUPS[1:]
+
+
+@pytest.mark.parametrize("form", ["u8", "s16", "s24", "s32", "f32", "f64"])
+def test_samples_of_a_file(form: str, file: Any) -> None:
+    """Longer than a block, with both ends of the scale, to a step of the form."""
+    values = numpy.append(numpy.random.default_rng(3).uniform(-1, 1, 400_000), [-1, 0, 1])
+    path = file(wav(stored(values, form, 1.0), form, 192000))
+    source = open_samples(path, raw=None, rate=None, channel=None, is_iq=False)
+    read = numpy.concatenate([*source.blocks()]) / source.full_scale
+    step = 2.0 ** -(24 if form[0] == "f" else int(form[1:]) - 1)
+    assert len(read) == len(values) and abs(read - values).max() <= 2 * step
 
 
 @pytest.mark.parametrize("form", ["s16", "f32", "u8"])

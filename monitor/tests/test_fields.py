@@ -13,6 +13,7 @@ import pytest
 from rds_monitor.content import looks, names
 from rds_monitor.content.fields import FIELDS, TABLE
 from rds_monitor.content.columns import payload
+from rds_monitor.signal.rates import COMMON
 from sent import clock, group, label, tags
 
 
@@ -139,6 +140,7 @@ TABLES: Dict[str, List[str]] = {
     "application": [
         f"{aid:04X} {name}" for aid, name in names.APPLICATIONS.items() if not NUMBERED.match(name)
     ],
+    "rate": [f"{rate / 1000:.7g}" for rate in COMMON],
 }
 
 

@@ -28,6 +28,12 @@ def samples(dtype: str, zero: float, one: float) -> bytes:
     return numpy.where(BITS, one, zero).astype(dtype).tobytes()
 
 
+def symbols(dtype: str, zero: float, one: float) -> bytes:
+    """One more than bits: a bit is 1 between two unlike ones."""
+    signs = numpy.bitwise_xor.accumulate(numpy.concatenate([[1], BITS]))
+    return numpy.where(signs, one, zero).astype(dtype).tobytes()
+
+
 def forms(path: Any) -> List[Tuple[int, str, str]]:
     """The rows of `form`."""
     done = monitor("form", path)
@@ -82,6 +88,8 @@ FORMS = [
     (ONE_SAMPLE, wav(samples("u1", 40, 210), "u8", 1187), "wav"),
     (ONE_SAMPLE, wav(samples("<i2", -1200, 900), "s16", 1187, more=LIST_CHUNK) + b"LIST", "wav"),
     (ONE_SAMPLE, wav(samples("<f4", -0.8, 1.3), "f32", 1187), "wav"),
+    ("signed bytes, one per symbol, as rds --soft reads them", symbols("i1", -99, 127), "soft"),
+    ("32-bit floating point, one per symbol", symbols("<f4", 0.8, -1.3), "soft-f32"),
 ]
 
 
@@ -187,6 +195,12 @@ NO_BITS = [
     ("f32", b"", "there is no bit in the input"),
     ("s16", b"\1\0\xff", "the last sample is cut off"),
     ("f32", b"\0\0\x80\x7f", "a sample is no number"),
+    ("soft", b"", "there is no bit in the input"),
+    ("soft", b"\x7f\0\1", "no sample is below zero"),
+    ("soft", b"\x80\0\xff", "no sample is above zero"),
+    ("soft-f32", b"\0\0\x80\x3f", "no sample is below zero"),
+    ("soft-f32", b"\0\0\x80\x3f\0\0\x80", "the last sample is cut off"),
+    ("soft-f32", b"\0\0\xc0\x7f", "a sample is no number"),
     ("wav", STATION_BYTES, "neither WAV nor FLAC"),
     ("wav", wav(bytes(8), "s16", 1187, channels=2), "the WAV file has 2 channels"),
     ("bytes none", b"", "none: No such file or directory"),
@@ -207,6 +221,15 @@ def test_the_number_of_bits_is_told_if_the_last_byte_is_not_full() -> None:
     assert monitor("pack", "--from", "text", data=b"10101010").stderr == b""
 
 
+def test_symbols_are_bits_that_are_decoded() -> None:
+    """-128 is a symbol as any, and 0 is not above zero."""
+    assert (
+        monitor("pack", "--from", "soft", data=bytes([5, 128, 0, 1, 127, 255, 255, 9, 0])).stdout == b"\xab"
+    )
+    done = monitor("pack", "--from", "soft", "--differential", data=b"\1\xff")
+    assert done.returncode == 2 and b"--differential is for bits" in done.stderr
+
+
 class Trickle:
     """A stream that gives a few bytes at a time, as a pipe may."""
 
@@ -219,6 +242,11 @@ class Trickle:
         return taken
 
 
+def before(bits: Array) -> Array:
+    """Symbols as bits, before differential decoding."""
+    return numpy.bitwise_xor.accumulate(numpy.append(numpy.uint8(0), bits))
+
+
 ENCODINGS: Dict[str, Callable[[Array], bytes]] = {
     "packed": lambda bits: numpy.packbits(bits).tobytes(),
     "bytes": lambda bits: bits.tobytes(),
@@ -229,6 +257,8 @@ ENCODINGS: Dict[str, Callable[[Array], bytes]] = {
     "s16": lambda bits: (2 * bits.astype("<i2") - 1).tobytes(),
     "f32": lambda bits: (2 * bits.astype("<f4") - 1).tobytes(),
     "wav": lambda bits: wav(ENCODINGS["s16"](bits), "s16", 1187),
+    "soft": lambda bits: ENCODINGS["s8"](before(bits)),
+    "soft-f32": lambda bits: ENCODINGS["f32"](before(bits)),
 }
 
 

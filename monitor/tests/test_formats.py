@@ -95,7 +95,7 @@ def test_size_of_a_listing(station: bytes) -> None:
 def test_the_picture_of_the_comparison() -> None:
     docs = TOP / "docs"
     drawn = measure_peers.picture((docs / "COMPARISON.md").read_text(encoding="utf-8"))
-    assert drawn == (docs / "noise.svg").read_text(encoding="utf-8") and drawn.count("<polyline") == 3
+    assert drawn == (docs / "noise.svg").read_text(encoding="utf-8") and drawn.count("<polyline") == 4
 
 
 TROUBLES = (TOP / "docs" / "TROUBLES.md").read_text(encoding="utf-8")

@@ -57,14 +57,6 @@ def test_changes_as_csv() -> None:
     assert {row["pi"] for row in found} == {"D318"}
 
 
-def test_times_and_places() -> None:
-    clock_of = ("--start", "2026-03-29T00:30:00Z", "--rate", "1190")
-    assert said("info", "--csv", *clock_of, data=bits(*STATION_GROUPS)).splitlines()[:2] == [
-        "time_s,pi,item,value,bit,time_utc",
-        "0.087,D318,pi,D318,104,2026-03-29T00:30:00.087Z",
-    ]
-
-
 def test_csv_and_json_and_listing_agree() -> None:
     data = bits(*STATION_GROUPS)
     table = rows(said("info", "--csv", data=data))
@@ -94,12 +86,6 @@ def test_no_station() -> None:
     listing = b"".join(b"total,%s,0,-,-,-,-,-\n" % name.encode() for name in TOTAL_NAMES)
     assert said("info", data=listing) == "no station: no PI was received in valid blocks\n"
     assert said("info", "--csv", data=listing) == "time_s,pi,item,value,bit\n"
-
-
-def test_the_sample() -> None:
-    found = said("info", STATION)
-    assert found.startswith("D393 PAXOLIDU\n")
-    assert "Verified RDS decoding" in found and "RDS-TMC: ALERT-C in 8A" in found
 
 
 def test_rbds() -> None:

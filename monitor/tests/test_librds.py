@@ -234,7 +234,7 @@ def test_a_wheel_with_the_library(tmp_path, station: bytes) -> None:
     assert made == again and "-py3-none-manylinux_2_17_" in made
     inside, environment = tmp_path / "venv" / "bin" / "python", without("RDS_LIBRARY", "PYTHONPATH")
     if not any(installed(name, inside, made, environment) for name in ("python3", sys.executable)):
-        pytest.skip("no pip of 22.3 or later, or no venv")
+        pytest.skip("there is no pip of 22.3 or later, or no venv")
     code = "import sys, librds; print(librds.__file__); print(librds.totals(sys.stdin.buffer.read()).groups)"
     options = {"input": station, "capture_output": True, "env": environment, "check": True, "cwd": tmp_path}
     (package,) = (tmp_path / "venv").glob("lib/*/site-packages/librds")
@@ -440,7 +440,8 @@ def test_defaults() -> None:
     header = (TOP / "lib" / "rds.h").read_text()
     (numbers,) = re.findall(r"define RDS_RULES \{(\d+), (\d+), (\d+), (\d+),", header)
     assert dataclasses.astuple(librds.Rules()) == tuple(map(int, numbers))
-    wanted = dict(bits=None, gaps=(), limit=int(numbers[0]), stream=bytes(256), data=b"")
+    (margin,) = re.findall(r"define RDS_MARGIN (\d+)", header)
+    wanted = dict(bits=None, gaps=(), limit=int(numbers[0]), stream=bytes(256), data=b"", margin=int(margin))
     wanted |= dict(rules=librds.Rules(), offset=None, info=None, burst=0, cause=0, follower=None)
     others = ("ITEM", "Rules", "Kind", "Error")
     calls = [getattr(librds, name) for name in librds.__all__ if name not in others]

@@ -18,7 +18,7 @@ from rds_monitor.rows.heads import HEADER
 from rds_monitor.rows.items import BLOCKS, GROUP, VALID, Fault, Reading, Rows, Rules, totals_of
 from rds_monitor.rows.listing import Listing, text_of, totals_text
 from rds_monitor.rows.opening import open_source
-from rds_monitor.rows.parse import _set_types
+from rds_monitor.rows.parse import set_types
 
 WORDS = (0xD393, 0x0548, 0xE0CD, 0x5041)
 
@@ -119,7 +119,6 @@ group,26,0,A,A:D39G,B:0548,C:E0CD,D:5041              its block 1 is no block
 group,26,0,A,A:d393,B:0548,C:E0CD,D:5041              its block 1 is no block
 group,26,0,A,A:D393,A:0548,C:E0CD,D:5041              its block 2 is no block
 group,26,0,A,A:D393,B:0548,C:E0CD~0000000,D:5041      its block 3 is no block
-group,26,0,A,A:D393,B:0548,C:E0CD~0000041,D:5041      its block 3 is no block
 group,26,0,A,A:D393,B:0548,C:E0CD~8000000,D:5041      its block 3 is no block
 group,26,0,A,A:D393,B:0548,C:E0CD~000800x,D:5041      its block 3 is no block
 group,26,0,A,A:D393,B:0548,C:E0CD~0x08000,D:5041      its block 3 is no block
@@ -285,7 +284,7 @@ def random_group(draw, place: int, first: int, last: int) -> Rows:
         block(rows[0], number, word, (0, 1, 3, 5, 9, 17)[length] << shift)
     if rows["kind3"][0] >= VALID and draw(st.booleans()):
         rows["offset3"] = 4
-    _set_types(rows)
+    set_types(rows)
     return rows
 
 

@@ -4,7 +4,9 @@ from __future__ import annotations
 
 import importlib.util
 import math
+import sys
 from collections import Counter
+from types import SimpleNamespace
 from typing import Iterator, List, Tuple
 
 import numpy
@@ -19,7 +21,7 @@ from rds_monitor.measures.outages import Outages
 from rds_monitor.measures.table import columns_of
 from rds_monitor.rows.clock import Clock
 from rds_monitor.rows.items import CORRECTED, GROUP, ITEM, LOST, VALID, Rows
-from rds_monitor.rows.parse import _set_types
+from rds_monitor.rows.parse import set_types
 
 WORDS = (0xD393, 0x0548, 0xE0CD, 0x5041)
 AT = "--start 2026-03-29T00:30:00Z"
@@ -207,6 +209,35 @@ def test_parquet(station: bytes, tmp_path) -> None:
         assert len(frame) == 1924 and frame.info1[2] == 0xD393
 
 
+class Writer:
+    """In place of that of pyarrow: the tables of a file, whose columns are numpy's, until it is closed."""
+
+    def __init__(self, path: str, schema: str):
+        self.path, self.schema = path, schema
+        self.rows, self.is_closed = 0, False
+        Writer.made.append(self)
+
+    made: "List[Writer]" = []
+
+    def write_table(self, table: SimpleNamespace) -> None:
+        assert not self.is_closed
+        self.rows += len(table.columns["place"])
+
+    def close(self) -> None:
+        self.is_closed = True
+
+
+def test_parquet_by_pyarrow(station: bytes, monkeypatch) -> None:
+    """A table per chunk, into one file, which is closed at last."""
+    table = lambda columns: SimpleNamespace(columns=columns, schema=" ".join(columns))
+    monkeypatch.setitem(sys.modules, "pyarrow", SimpleNamespace(table=table))
+    monkeypatch.setitem(sys.modules, "pyarrow.parquet", SimpleNamespace(ParquetWriter=Writer))
+    assert output("table", "--parquet", "it.parquet", *START, data=station) == ""
+    (made,) = Writer.made
+    assert (made.path, made.rows, made.is_closed) == ("it.parquet", 1924, True)
+    assert made.schema.endswith("time_s time_utc")
+
+
 # ---- other tables, and parts
 
 
@@ -287,7 +318,7 @@ def noise(seed: int) -> Rows:
         )
         rows[f"burst{number + 1}"] = 3 * (read & (kinds == CORRECTED))
     rows["what"] = GROUP
-    _set_types(rows)
+    set_types(rows)
     pauses = random.choice([0, 0, 0, 0, 0, 1, 40, 1000, 3000], count)
     lengths = 26 * (last - first + 1)
     rows["place"] = numpy.cumsum(pauses) + numpy.cumsum(lengths) - lengths

@@ -15,6 +15,7 @@ import time
 from pathlib import Path
 from typing import Callable, Dict, List
 
+import numpy
 import pytest
 
 from captures import Sent, captured
@@ -40,6 +41,7 @@ TASKS: Dict[str, str] = {
     "rds-monitor check --pi D393 bits.bin": "RDS OK",
     "rds-monitor json bits.bin": '"value":"D393"',
     "rds-monitor groups bits.bin": "D393 0549 E100 584F",
+    "rds list --soft < symbols.bin": "B:0549",
     "rds encode < groups.txt > bits.bin": "",
     "rds-monitor stations capture.wav": "D393",
 }
@@ -53,6 +55,9 @@ def folder(tmp_path: Path) -> Path:
     (tmp_path / "bin" / "rds").symlink_to(os.path.realpath(PROGRAM))
     (tmp_path / "bin" / "rds-monitor").symlink_to(TOP / "monitor" / "rds-monitor")
     (tmp_path / "bits.bin").write_bytes(STATION.read_bytes())
+    bits = numpy.unpackbits(numpy.frombuffer(STATION.read_bytes(), "u1"))
+    signs = numpy.cumsum(numpy.append(0, bits)) % 2
+    (tmp_path / "symbols.bin").write_bytes((40 * (2 * signs - 1)).astype("i1").tobytes())
     (tmp_path / "groups.txt").write_text("D393 0549 E100 584F\nD393 054A C4E1 4C49\n")
     return tmp_path
 

@@ -12,8 +12,8 @@ from made import read
 from rds_monitor.content.decoder import Decoder
 from rds_monitor.content.redsea import Redsea
 from rds_monitor.rows.clock import Clock
-from rds_monitor.rows.items import Rows
-from sent import group, name, text
+from rds_monitor.rows.items import CORRECTED, Rows
+from sent import Damage, group, label, name, rows_of, text
 
 
 @pytest.fixture(scope="module")
@@ -58,3 +58,21 @@ def test_the_text_of_a_group_is_made_once(rows: Rows, monkeypatch: Any) -> None:
     monkeypatch.setattr(Redsea, "_text_of", lambda self, group: made.append(group) or text_of(self, group))
     changes = len(Decoder(lapses=True).feed(rows))
     assert len(list(lines(rows, []))) > len(made) and len(made) <= len(set(made)) + 2 * changes
+
+
+@pytest.mark.parametrize(
+    ("words", "key"),
+    [
+        (label(0, 0xE0), "country"),
+        (label(1, 0x123), "tmc_id"),
+        (label(3, 0x08), "language"),
+        (group("1B", 0, 0, 1 << 11 | 16 << 6 | 30), "prog_item_started"),
+    ],
+    ids=["country", "tmc_id", "language", "pin"],
+)
+def test_a_group_before_its_item_counts(words: Any, key: str) -> None:
+    """A corrected one tells no item at first, and the item that a valid one told since."""
+    sent = [*name(b"NAME") * 5, words, words, words]
+    block = 4 if key == "prog_item_started" else 3
+    damage = [(number, Damage(block, CORRECTED)) for number in (20, 22)]
+    assert [key in line for line in [*lines(rows_of(sent, damage), [])][-3:]] == [False, True, True]

@@ -16,11 +16,12 @@ from typing import Any, Dict, List
 import numpy
 import pytest
 from conftest import encode, monitor, rds
-from made import damaged, peak_memory
+from made import peak_memory
 from rds_monitor.page.html import told_of
 from rds_monitor.page.line import COUNTS, Counted, Lanes, TimeLine, bad_percent, encoded, said
 from rds_monitor.page.overview import Span, last_minute, line_of, polyline, tile_of
 
+import rich
 from years import MINUTES, OUTAGE, RATE, make_year
 
 pytest.importorskip("jinja2")
@@ -71,50 +72,6 @@ def told_line(
 
 def events_of(told: Dict[str, Any]) -> List[Any]:
     return [[at, item, told["texts"][number]] for at, item, number in told["events"]]
-
-
-@needs_d3
-def test_counts_are_those_of_errors(station: bytes) -> None:
-    told = data_of(page(data=station))[0]
-    (blocks,) = told["parts"]
-    errors = monitor("errors", "--every", "1", data=station).stdout.decode()
-    rows = [row.split(",") for row in errors.splitlines()[1:]]
-    for name, column in (("sent", 2), ("corrected", 4), ("lost", 5), ("missing", 6)):
-        assert list(base64.b64decode(blocks[name])) == [int(row[column]) for row in rows]
-    assert told["totals"]["sent"] == sum(int(row[2]) for row in rows)
-
-
-@needs_d3
-def test_numbers_on_the_page(tmp_path: Path) -> None:
-    """The page says in words and tables what its data say, each number in its place."""
-    damaged = bytearray(station(rounds=1200))
-    damaged[3000:4000], damaged[12000:12400] = bytes(1000), bytes(400)
-    for at in range(100, 2900, 70):
-        damaged[at] ^= 0x40
-    for at in range(5000, 9000, 90):
-        damaged[at] ^= 0xB5
-    for name in ("a.bin", "b.bin"):
-        (tmp_path / name).write_bytes(bytes(damaged) + bytes(900))
-    text = page(tmp_path / "a.bin", tmp_path / "b.bin")
-    told = data_of(text)[0]
-    totals, tile = told["totals"], told["tile"]
-    assert len({*totals.values()}) == 5
-    assert tile["minute"] != told["bad_percent"] != tile["silent"]
-    assert told["outage_count"] == len(told["outages"]) not in (0, len(told["sessions"]))
-    plain = " ".join(re.sub(r"<[^>]*>", " ", re.sub(r"<script.*?</script>", "", text, flags=re.S)).split())
-    counts = " ".join(str(totals[row]) for row in ("sent", "valid", "corrected", "lost", "missing"))
-    for words in (
-        f"Blocks sent valid corrected uncorrectable not read {counts} ",
-        f"a.bin : {told['bad_percent']} % of the blocks sent are bad.",
-        f"{tile['minute']} % bad blocks in the last minute",
-        f"last whole group {tile['silent']} s before the end",
-    ):
-        assert words in plain
-    assert (
-        f"{totals['valid']} of {totals['sent']} blocks sent are valid, {told['outage_count']} outages."
-        in text
-    )
-    assert told["bad_percent"] == round(100 * (totals["sent"] - totals["valid"]) / totals["sent"], 2)
 
 
 def test_sizes_of_numbers() -> None:
@@ -206,6 +163,8 @@ def test_the_last_minute_of_steps(step: int, count: int) -> None:
     valid = numpy.array([0] + [100] * count)
     assert last_minute([Span(0, step, valid * 0 + 100, valid)]) == 0.0
     assert last_minute([Span(0, step, valid * 0 + 100, valid[::-1])]) == round(100 / count, 2)
+    short = [Span(0, step, numpy.append(valid * 0 + 100, 0), numpy.append(valid, 0))]
+    assert last_minute(short) == last_minute([*short, short[0]._replace(sent=valid * 0)]) == 0.0
 
 
 @needs_d3
@@ -251,6 +210,14 @@ def test_a_day_is_below_a_megabyte(tmp_path: Path) -> None:
     told = data_of(text)[0]
     assert 80000 < told["end"] < 86400 and len(told["mix"]) > 1300
     assert 500_000 < len(text) < 1_000_000
+
+
+@needs_d3
+@pytest.mark.parametrize("seconds, step", [(86400, 1), (86401, 2)])
+def test_an_interval_per_second_of_a_day(seconds: int, step: int, station_listing: bytes) -> None:
+    words = ("--length", int(seconds * 1187.5), "--trust-length")
+    (part,) = data_of(page(*words, data=station_listing))[0]["parts"]
+    assert part["step"] == step
 
 
 @needs_d3
@@ -319,24 +286,25 @@ SAME = "start end totals bad_percent outages outage_count sessions events texts 
 
 
 @needs_d3
-def test_a_database_tells_what_its_recording_does(tmp_path: Path, station: bytes) -> None:
+def test_a_database_tells_what_its_recording_does(tmp_path: Path) -> None:
     """All but its steps of two minutes, whose counts, group mix and clock are those of the seconds and minutes in it."""
-    data, words = damaged(station, 0.002, 1), ("--start", "2026-03-29T02:30:00Z", "--rate", "1189")
-    (tmp_path / "it.bin").write_bytes(data[:10000] + bytes(2000) + data[12000:])
+    data, words = rich.one().bits(), ("--start", "2026-03-29T02:30:00Z", "--rate", str(rich.RATE))
+    (tmp_path / "it.bin").write_bytes(data)
     assert monitor("db", *words, tmp_path / "it.db", tmp_path / "it.bin").returncode == 0
     stored, alone = (
         data_of(page(*asked))[0] for asked in ([tmp_path / "it.db"], [*words, tmp_path / "it.bin"])
     )
     assert {name: stored[name] for name in SAME} == {name: alone[name] for name in SAME}
-    assert len({*stored["totals"].values()}) == 5 and stored["outage_count"] == 1
-    noise, seconds = stored["outages"][0][2], 8 * len(data) / 1189
-    known = {"received": seconds - noise, "noise": noise, "down": 0.0, "unknown": 0.0}
-    assert stored["available"] == pytest.approx(known, abs=1e-3)
-    assert {**stored["held"], "CT": ""} == {**alone["held"], "CT": ""}
+    assert stored["tile"]["line"] == alone["tile"]["line"] and stored["more"] == 4
+    assert len({*stored["totals"].values()}) == 5 and stored["outage_count"] == 3
+    noise, length = sum(row[2] for row in stored["outages"]), 8 * len(data) / rich.RATE
+    known = {"received": length - noise, "noise": noise, "down": 0.0, "unknown": 0.0}
+    assert stored["available"] == pytest.approx(known, abs=2e-3)
+    assert {**stored["held"], "CT": ""} == {**alone["held"], "CT": ""} and stored["held"]["PS"] == "SCROLL 9"
     with sqlite3.connect(tmp_path / "it.db") as database:
-        database.execute("UPDATE sessions SET quiet_place = end_place - 2 * 1189")
-    lasting = data_of(page(tmp_path / "it.db"))[0]["outages"][1:]
-    assert lasting == [[pytest.approx(value, abs=1e-3) for value in (seconds - 2, seconds, 2)]]
+        database.execute("UPDATE sessions SET quiet_place = end_place - 2 * rate")
+    lasting = data_of(page(tmp_path / "it.db"))[0]["outages"][3:]
+    assert lasting == [[pytest.approx(value, abs=1e-3) for value in (length - 2, length, 2)]]
     counted = [dict(told["parts"][0], at=0) for told in (stored, alone)]
     for name in ("sent", "corrected", "lost", "missing"):
         steps, seconds = (
@@ -344,16 +312,13 @@ def test_a_database_tells_what_its_recording_does(tmp_path: Path, station: bytes
             for part in counted
         )
         assert steps.tolist() == numpy.add.reduceat(seconds, range(0, len(seconds), 120)).tolist(), name
-    for found, (at, after, mix) in zip(((0, 2), (2, 3)), stored["mix"]):
-        minutes = alone["mix"][slice(*found)]
-        assert (at, after) == (120 * found[0] // 2, 120 * found[0] // 2 + 120)
-        assert Counter(mix) == sum((Counter(told) for *_, told in minutes), Counter())
-    assert [at for at, _ in alone["clock"]] == [60, 120, 180]
-    offsets = [offset for _, offset in alone["clock"]]
-    means = [sum(offsets[:2]) / 2, offsets[2]]
+    for k, (at, after, mix) in enumerate(stored["mix"]):
+        assert (at, after) == (120 * k, 120 * k + 120)
+        assert Counter(mix) == sum((Counter(told) for *_, told in alone["mix"][2 * k : 2 * k + 2]), Counter())
+    times, offsets = zip(*alone["clock"])
+    assert times == tuple(60 * k + 60 for k in range(14)) and min(offsets) < max(offsets)
     assert stored["clock"] == [
-        [60, pytest.approx(means[0], abs=1e-3)],
-        [180, pytest.approx(means[1], abs=1e-3)],
+        [60 + 60 * k, pytest.approx(sum(offsets[k : k + 2]) / 2, abs=1e-3)] for k in range(0, 14, 2)
     ]
 
 

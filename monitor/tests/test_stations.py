@@ -6,8 +6,10 @@ import json
 import re
 import struct
 from pathlib import Path
+from types import SimpleNamespace
 from typing import Any, Dict, List
 
+import numpy
 import pytest
 from captures import PROGRAMMES, SMALL_RATE, SMALL_SECONDS, Sent, captured, small_capture
 from conftest import monitor
@@ -17,6 +19,8 @@ from modulator import stored, wav
 
 from rds_monitor.rows.items import Fault
 from rds_monitor.signal.centre import centre_in_name, frequency_of, frequency_text, sigmf_of
+from rds_monitor.signal.found import Spectrum, candidates, with_rds
+from rds_monitor.signal.several import LineWriter
 
 pytestmark = pytest.mark.xdist_group("stations")
 RATE, SECONDS = SMALL_RATE, SMALL_SECONDS
@@ -125,9 +129,13 @@ def test_json_without_a_centre(capture: bytes) -> None:
     assert done.returncode == 1 and b"the file is cut off" in done.stderr
 
 
-def test_the_picture(capture: bytes) -> None:
+@pytest.fixture(scope="module")
+def page(capture: bytes) -> str:
+    return monitor("stations", *SHOWN, "--html", data=capture).stdout.decode()
+
+
+def test_the_picture(page: str) -> None:
     """The marks are where the spectrum has its humps; what stations say is text, and no script may run."""
-    page = monitor("stations", *SHOWN, "--html", data=capture).stdout.decode()
     assert "default-src 'none'; style-src 'sha256-" in page and "<script" not in page
     assert "2 stations in 0.6 MHz around 97.95M" in page and "&lt;B&gt; &amp; C" in page and "<B>" not in page
     (line,) = re.findall(r'<polyline points="([^"]+)"', page)
@@ -138,6 +146,24 @@ def test_the_picture(capture: bytes) -> None:
         near = [y for x, y in points if abs(x - mark) < 100]
         beside = [y for x, y in points if 150 < abs(x - mark) < 250]
         assert min(near) < min(beside)
+
+
+def test_a_picture_and_its_names(page: str) -> None:
+    """The grid fills 1200 by 320, as the marks do. Three lines of names are below."""
+    assert 'viewBox="0 0 1200 360"' in page
+    levels = [float(at) for at in re.findall(r'<line x1="0" x2="1200" y1="([\d.]+)"', page)]
+    assert len(levels) > 2 and levels == [
+        pytest.approx(320 - 320 * n / (len(levels) - 1), abs=0.1) for n in range(len(levels))
+    ]
+    assert re.findall(r'class="mark" [^>]* y1="0" y2="(\d+)"', page) == ["320", "320"]
+
+
+def test_how_high_a_hump_is() -> None:
+    """Of power within 50 kHz its window has 0.919, and those beside it 0.5. As strong as noise it is a hump, 28 % high; one of 1.2 % is noise."""
+    offsets = numpy.arange(-400e3, 400e3, 2000.0)
+    for more, wanted in ((1.0, [150e3]), (0.03, [])):
+        power = 1.0 + more * (abs(offsets - 150e3) <= 50e3)
+        assert candidates(Spectrum(power, offsets), 0.0) == wanted
 
 
 def test_no_station() -> None:
@@ -239,6 +265,27 @@ def test_sigmf(capture: bytes, tmp_path: Path) -> None:
         sigmf_of(str(data))
     meta.unlink()
     assert sigmf_of(str(data)) is None
+
+
+def test_two_that_are_too_near() -> None:
+    """The better one counts, wherever it is; those 150 kHz apart are two, and noise is none."""
+    shares, offsets = (0.5, 0.9, 0.6, 0.04, 0.05), (-100e3, 0.0, 150e3, 400e3, 600e3)
+    receivers = [
+        SimpleNamespace(quality=SimpleNamespace(received=SimpleNamespace(share=one))) for one in shares
+    ]
+    assert with_rds(SimpleNamespace(receivers=receivers), offsets) == [1, 2, 4]  # type: ignore[arg-type]
+    assert with_rds(SimpleNamespace(receivers=receivers[1::-1]), offsets[:2]) == [0]  # type: ignore[arg-type]
+
+
+def test_lines_have_all_whole_bytes(capsys: pytest.CaptureFixture[str]) -> None:
+    """Of 70 bits 64 at once, and the rest with the next ones."""
+    strength = SimpleNamespace(_asdict=lambda: {"level_dbfs": -3.0, "snr_db": 20.0})
+    receiver = SimpleNamespace(quality=SimpleNamespace(recent=lambda: strength), is_soft=False)
+    writer = LineWriter(98.1e6, receiver, lambda: 1.5)  # type: ignore[arg-type]
+    for size in (70, 1, 1):
+        writer.push(numpy.ones(size, "u1"))
+    lines = [json.loads(line) for line in capsys.readouterr().out.splitlines()]
+    assert [line["bits"] for line in lines] == [8 * "ff", "ff"] and writer.written == 72
 
 
 def test_frequencies() -> None:

@@ -323,6 +323,24 @@ def test_migrations(database, station: bytes, monkeypatch) -> None:
     assert asked(database, "PRAGMA user_version") == [len(schema.MIGRATIONS) + 1]
 
 
+def test_what_each_version_brought() -> None:
+    """Databases of each are about: what a version added is never moved to another one."""
+    added = [
+        ("sessions", "rate"),
+        ("hour_files", "bytes"),
+        ("sessions", "quiet_place"),
+        ("minute_rows", "snr_db"),
+    ]
+    database = sqlite3.connect(":memory:")
+    for version, script in enumerate(schema.MIGRATIONS):
+        database.executescript(script)
+        there = [
+            database.execute("SELECT 1 FROM pragma_table_info(?) WHERE name = ?", pair).fetchone()
+            for pair in added
+        ]
+        assert [*map(bool, there)] == [number <= version for number in range(len(added))]
+
+
 # Six processes that wait for a writer of the pipe named first, and then make a database, or end in another status than 0.
 MAKERS = """
 import os, sys

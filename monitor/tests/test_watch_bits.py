@@ -2,9 +2,11 @@
 
 from __future__ import annotations
 
+import json
 import random
 from typing import Dict, List, Tuple
 
+import numpy
 import pytest
 
 from conftest import encode
@@ -12,7 +14,7 @@ from modulator import iq, mpx, stored, words
 from network import stations
 from rds_monitor.rows.items import Fault
 from rds_monitor.rows.decoders import decode
-from rds_monitor.watch.bits import bit_source
+from rds_monitor.watch.bits import Lines, bit_source
 from rds_monitor.watch.table import StationTable, table_of
 
 GROUPS = words(5, 60)
@@ -64,6 +66,51 @@ def test_a_signal(name: str) -> None:
     assert len([group for group in found if group in GROUPS]) >= 50
     assert 0.5 < source.delay < 3 and source.strength is not None
     assert source.strength.snr_db is not None and source.strength.snr_db > 15
+
+
+@pytest.mark.parametrize("name", FORMS)
+def test_symbols_of_a_signal(name: str) -> None:
+    """Their bits are those that a station without soft decisions has, and they come some 0.2 s later."""
+    hard, soft = (station(*FORMS[name], *more) for more in (["soft = false"], ["soft = true"]))
+    assert hard.rate is not None and hard.raw is not None and not hard.same_receiver(soft)
+    signal = mpx(encode(GROUPS), hard.rate, snr=10)
+    data = stored(
+        iq(signal, hard.rate, cnr=40, offset=hard.offset) if hard.form == "iq" else signal, hard.raw
+    )
+    found = []
+    for one in (hard, soft):
+        source = bit_source(one)
+        found.append(b"".join([source.take(piece) for piece in cut(data, 3)]) + source.finish())
+        assert 0.5 < source.delay < 3.3
+    symbols = numpy.frombuffer(found[1], "i1")
+    above = symbols > 0
+    assert numpy.packbits(above[1:] != above[:-1])[: len(found[0])].tobytes() == found[0]
+    assert len(symbols) - 8 * len(found[0]) in range(1, 9)
+
+
+def test_lines_of_symbols() -> None:
+    text = '[[receiver]]\nname = "r"\ncommand = ["r"]\nraw = "u8"\nrate = 3200000\ncentre = 97\nsoft = true\n'
+    one = table_of(text + stations('name = "A"', 'receiver = "r"', "frequency = 97.2")).stations[0]
+    source = bit_source(one)
+    told = [{"seconds": at, "symbols": "7f81" * 50, "level_dbfs": -20.0, "snr_db": 3.0} for at in (2.0, 2.5)]
+    assert (
+        one.soft
+        and source.take("".join(f"{json.dumps(line)}\n" for line in told).encode()) == b"\x7f\x81" * 100
+    )
+    assert source.delay == pytest.approx(2.5 - 200 / 1187.5)
+
+
+def test_lines_of_a_shared_receiver() -> None:
+    """The first bits tell how late they are: 2.5 seconds were heard for 12 bytes of them. Strengths are means by power."""
+    source = Lines()
+    line = b'{"frequency":1,"seconds":%s,"bits":"%s","level_dbfs":%s,"snr_db":20.0}\n'
+    assert source.take(line % (b"0.5", b"", b"-9.0")) == b"" and source.delay == 0 and source.strength is None
+    bits = bytes(range(12))
+    for seconds, level, mean in ((b"2.5", b"-20.0", -20.0), (b"9.5", b"3.0", 3.0)):
+        assert source.take(line % (seconds, bits.hex().encode(), level)) == bits
+        assert source.delay == pytest.approx(2.5 - 96 / 1187.5) and source.strength == (mean, 20.0)
+    source.take(2 * (line % (b"9.5", b"00", b"0.0")) + line % (b"9.5", b"00", b"10.0"))
+    assert source.strength is not None and source.strength.level_dbfs == 6.0
 
 
 def test_what_is_no_signal() -> None:

@@ -3,6 +3,7 @@
 from __future__ import annotations
 
 import os
+import time
 from pathlib import Path
 
 import pytest
@@ -13,6 +14,7 @@ from made import run
 from rds_monitor.db.parts import EventRow, MinuteRow, Told
 from rds_monitor.measures.errors import Interval
 from rds_monitor.rows.hours import Hour, hour_of
+from rds_monitor.watch.live import Append
 from rds_monitor.watch.records import (
     AlarmChanged,
     PartGrew,
@@ -27,6 +29,7 @@ from rds_monitor.watch.repair import make_whole
 from rds_monitor.watch.retention import tidy
 from rds_monitor.watch.table import Keep
 from rds_monitor.watch.times import Timing
+from rds_monitor.watch.writer import Batch, Writer, WriterThread
 
 HOUR = 1795748400.0
 
@@ -78,6 +81,19 @@ def test_options_say_more_than_a_name(station_listing: bytes, tmp_path: Path) ->
     other = tmp_path / "monday.csv"
     os.rename(path, other)
     assert run("errors", other).status == 1
+
+
+def test_a_writer_ends_with_its_last_rows(tmp_path: Path) -> None:
+    records = Records(str(tmp_path / "watch.db"))
+    thread = WriterThread(Writer(str(tmp_path), records, lambda *said: None))
+    thread.start()
+    thread.give(Batch([Append("listings/Alpha/it.csv", b"row\n", True)], [], []))
+    while not thread.is_idle:
+        time.sleep(0.01)
+    thread.end(20)
+    assert not thread.is_alive() and thread.crash is None
+    assert (tmp_path / "listings" / "Alpha" / "it.csv").read_bytes() == b"row\n"
+    records.close()
 
 
 # ---- what is too old

@@ -14,6 +14,7 @@ from typing import Any, Dict, List, Tuple
 
 import numpy
 import pytest
+import zstandard
 
 from conftest import rds
 from made import run, said
@@ -33,7 +34,7 @@ from network import (
 )
 from rds_monitor.page.report import stations_of
 from rds_monitor.rows.clock import RATE, Clock, start_of
-from rds_monitor.watch import records, writer
+from rds_monitor.watch import live, records, writer
 from rds_monitor.watch.asked import seen_of
 from rds_monitor.watch.verdict import Limits, Verdict
 
@@ -339,7 +340,10 @@ def test_killed_while_an_hour_is_compressed(
     net.kill()
     net.begin()
     net.run(3)
-    closed = sorted(path.suffix for path in (tmp_path / "listings" / "Alpha").iterdir())
+    paths = [*(tmp_path / "listings" / "Alpha").iterdir()]
+    closed = sorted(path.suffix for path in paths)
+    packed = next(path for path in paths if path.suffix == ".zst").read_bytes()
+    assert zstandard.get_frame_parameters(packed).has_checksum
     assert plain and net.texts("Alpha")[0] == plain and closed[-1] == ".zst" and closed.count(".csv") == 1
     net.end()
     told_once(tmp_path)
@@ -579,6 +583,21 @@ def test_outages_that_last_and_that_are_over(tmp_path: Path) -> None:
     noise, down = ((start_of(begin) - START, length, kind) for begin, _, length, kind in net.asked(query))
     assert noise[2] == "noise" and numpy.allclose(noise[:2], (40, 20), atol=2)
     assert down[2] == "down" and numpy.allclose(down[:2], (60, net.runs[-1][1] - 60), atol=2)
+
+
+def test_when_an_outage_is_told(tmp_path: Path, monkeypatch: pytest.MonkeyPatch) -> None:
+    """Once it lasts a second."""
+    monkeypatch.setattr(live, "NEWS", 0.0)
+    air = Air(ALPHA, START, 60)
+    air.noise(40, 60)
+    net = network(tmp_path, air)
+    query = "SELECT begin_utc, end_utc FROM station_outages WHERE kind = 'noise'"
+    net.run(40.8, 0.2)
+    assert net.asked(query) == []
+    net.run(0.6, 0.2)
+    ((begin, end),) = net.asked(query)
+    assert abs(start_of(begin) - START - 40) < 0.3 and end is None
+    net.end()
 
 
 def test_a_page_of_the_database_of_a_watch(tmp_path: Path) -> None:

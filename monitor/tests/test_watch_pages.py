@@ -92,6 +92,9 @@ def test_a_tile() -> None:
     text = Tags(overview({"Alpha": state(alarms={"ta": "TA is on"})}, {"Alpha": []}, UTC, 60)).text
     shown = "1 stations, 1 with an alarm/98.1 MHz/ALPHA/Now: nothing/PI D318/ta: TA is on/10.0 % of the last minute bad"
     assert all(one in text for one in [*shown.split("/"), "group 0 s ago"])
+    # Bits may be ahead of the clock of the page.
+    text = Tags(overview({"A": state(last_group_utc=UTC + 3)}, {"A": []}, UTC, 60)).text
+    assert "last whole group 0 s ago" in text
     text = Tags(overview({"A": state(minute=None, last_group_utc=None)}, {"A": []}, UTC, 60)).text
     assert "no minute yet; no whole group yet; RDS SNR 21.5 dB, level -31.0 dBFS" in text
 

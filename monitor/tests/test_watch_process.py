@@ -292,16 +292,23 @@ def test_receivers_that_are_none(tmp_path: Path) -> None:
     assert process.end() == 0
 
 
-def test_mpx_is_demodulated(tmp_path: Path) -> None:
+@pytest.mark.parametrize("soft", ["false", "true"])
+def test_mpx_is_demodulated(soft: str, tmp_path: Path) -> None:
     """The tests' modulator makes six seconds, which a receiver repeats."""
     programme = Programme(0xD318, "ALPHA", "Now: nothing")
     data = encode([programme.group(n) for n in range(6, 6 + 72)])
     (tmp_path / "mpx").write_bytes(stored(mpx(data, 192000), "s16"))
     words = ["sh", "-c", f"while cat {tmp_path}/mpx; do sleep 6; done"]
-    path = table(tmp_path, 'form = "mpx"', 'raw = "s16"', "rate = 192000", command=words)
-    process = Process(tmp_path, path)
+    keys = ['form = "mpx"', 'raw = "s16"', "rate = 192000", f"soft = {soft}"]
+    process = Process(tmp_path, table(tmp_path, *keys, command=words))
     process.receives(1000)
+    if soft == "false":
+        table(tmp_path, *keys[:-1], "soft = true", command=words)
+        process.it.send_signal(signal.SIGHUP)
+        process.says("the old table holds: soft decisions need a restart")
     assert process.end() == 0
+    listings = b"".join(path.read_bytes() for path in sorted((tmp_path / "listings" / "Alpha").iterdir()))
+    assert (b"total,soft6," in listings) == (soft == "true")
     texts = asked(tmp_path, "SELECT DISTINCT value FROM events WHERE item IN ('pi', 'ps') ORDER BY 1")
     assert texts == [("ALPHA",), ("D318",)]
 

@@ -136,6 +136,19 @@ def test_a_changed_table(tmp_path: Path) -> None:
     assert all(len(text) > 500 for name in counts for text in net.texts(name)[-1:])
 
 
+def test_a_receiver_that_is_too_fast(tmp_path: Path) -> None:
+    """It is stopped by the first of its stations, and the reason is that of both."""
+    air = SharedAir(
+        {round(1e6 * (96.5 + 0.4 * n)): Air(Programme(0xD300 + n, "A", ""), START, 9000) for n in (0, 1)}
+    )
+    net = Network(tmp_path, few(2), {"north": air}, {"north": [Plan(pace=50)]})
+    net.run(8)
+    reasons = net.asked("SELECT station, reason FROM runs WHERE end_utc NOTNULL")
+    assert sorted(reasons) == [(name, "gave bits faster than real time") for name in ("A0", "A1")]
+    assert len(net.runs) == 2
+    net.end()
+
+
 # ---- processes
 
 
@@ -151,11 +164,12 @@ def until(holds: Callable[[], Any], seconds: float = 60.0) -> Any:
 
 
 @pytest.mark.xdist_group("stations")
-def test_the_hours_are_those_of_a_receiver_for_each(tmp_path: Path) -> None:
+@pytest.mark.parametrize("soft", ["false", "true"])
+def test_the_hours_are_those_of_a_receiver_for_each(soft: str, tmp_path: Path) -> None:
     """A receiver gives a capture and ends: of each station the whole session is there, as by a receiver of its own."""
     (tmp_path / "capture").write_bytes(small_capture())
     command = json.dumps(["cat", str(tmp_path / "capture")])
-    of = f'command = {command}\nraw = "s16"\nrate = {SMALL_RATE}\n'
+    of = f'command = {command}\nraw = "s16"\nrate = {SMALL_RATE}\nsoft = {soft}\n'
     text = f'[[receiver]]\nname = "north"\ncentre = {SMALL_CENTRE / 1e6}\n{of}'
     for hertz in PROGRAMMES:
         text += f'[[station]]\nname = "S{hertz}"\nreceiver = "north"\nfrequency = {hertz / 1e6}\n'
@@ -173,6 +187,7 @@ def test_the_hours_are_those_of_a_receiver_for_each(tmp_path: Path) -> None:
     for hertz, groups in PROGRAMMES.items():
         first = [min((tmp_path / "listings" / f"{of}{hertz}").iterdir()).read_bytes() for of in "SO"]
         assert first[0] == first[1] and b"total,complete,2" in first[0]
+        assert (b"total,soft6," in first[0]) == (soft == "true")
         assert first[0].decode().count(f",A:{groups[0][0]:04X},") >= 18
 
 
@@ -247,6 +262,9 @@ FAULTS = [
     (receiver("north") + stations(*STATION), "receiver 'north' has no 'centre'"),
     (receiver("north", "centre = 97", 'form = "mpx"') + stations(*STATION), "one of iq is"),
     (stations('name = "A"', 'command = ["a"]', "equaliser = true"), "'equaliser' is for the form iq"),
+    (stations('name = "A"', 'command = ["a"]', "soft = true"), "'soft' is for the forms mpx and iq"),
+    (receiver("north", "centre = 97", "soft = 1") + stations(*STATION), "true or false is needed"),
+    (few(1).replace("frequency", "soft = true\nfrequency"), "'soft' is a key of its receiver"),
 ]
 
 

@@ -6,6 +6,7 @@ import importlib
 import re
 import sys
 import syslog
+import tomllib
 from pathlib import Path
 from typing import Any, List
 
@@ -58,10 +59,12 @@ def test_all_of_it() -> None:
     [
         ("", "there is no [[station]]"),
         ("[[station]", "this is no TOML"),
+        ('folder = ""\n' + stations(*ALPHA), "folder: a text is needed"),
         ("speed = 3\n" + stations(*ALPHA), "the table has an unknown key 'speed'"),
         (stations('name = "Alpha"'), "station 'Alpha' has no 'command'"),
         (stations('command = ["a"]'), "the station number 1 has no 'name'"),
         (stations('name = "Alpha"', 'command = "rtl_fm -f 98.1M"'), "a list of words is needed"),
+        (stations('name = "Alpha"', 'command = ["a\\u0000"]'), "a list of words is needed"),
         (stations('name = "../etc"', 'command = ["a"]'), "cannot be the name of a folder"),
         (stations('name = "index"', 'command = ["a"]'), "cannot be the name of a folder"),
         (stations('name = "a/b"', 'command = ["a"]'), "cannot be the name of a folder"),
@@ -73,6 +76,9 @@ def test_all_of_it() -> None:
         (stations(*ALPHA, "af = [981]"), "a list of frequencies in MHz"),
         (stations(*ALPHA, 'form = "wav"'), "one of bits, mpx, iq"),
         (stations(*ALPHA, 'form = "mpx"'), "needs 'raw' and 'rate'"),
+        (stations(*ALPHA, 'form = "mpx"', 'raw = "s16"'), "needs 'raw' and 'rate'"),
+        (stations(*ALPHA, 'form = "iq"', "offset = 3e6"), "a number of Hz is needed"),
+        (stations(*ALPHA, 'form = "iq"', "offset = true"), "a number of Hz is needed"),
         (stations(*ALPHA, "rate = 171000"), "are for the forms mpx and iq"),
         (stations(*ALPHA, 'form = "mpx"', 'raw = "s16"', "rate = 48000"), "128000 to 20000000 samples"),
         (stations(*ALPHA, "patience = -1"), "a number that is not below 0"),
@@ -128,6 +134,31 @@ def test_the_command_line(tmp_path: Path) -> None:
     assert run("watch").status == 2
 
 
+@pytest.mark.parametrize(
+    ("words", "text", "wanted"),
+    [
+        ((), "", None),
+        ((), 'program = "mine"\n', "mine"),
+        (("--program", "other"), 'program = "mine"\n', "other"),
+        (("--program", "other"), "", "other"),
+    ],
+)
+def test_which_program_decodes(
+    words: List[str], text: str, wanted: Any, tmp_path: Path, monkeypatch: pytest.MonkeyPatch
+) -> None:
+    """That of the command line, or else of the table, or else none."""
+    asked: List[Any] = []
+
+    def decoder_of(program: Any, jobs: Any) -> Any:
+        asked.append(program)
+        raise Fault("this is no decoder")
+
+    monkeypatch.setattr(watch, "decoder_of", decoder_of)
+    path = tmp_path / "stations.toml"
+    path.write_text(text + stations(*ALPHA))
+    assert run("watch", "--folder", tmp_path, *words, path).status == 1 and asked == [wanted]
+
+
 def test_commands_that_are_tried(tmp_path: Path) -> None:
     """Those of receivers and of alarms have to be there, and programs; each that is not is told."""
     path, plain = tmp_path / "stations.toml", tmp_path / "plain"
@@ -175,7 +206,16 @@ def test_the_tables_that_are_shown() -> None:
         text = page.split(f"## {title}\n")[1].split("##")[0]
         shown = "\n".join(line[4:] for line in text.splitlines() if line.startswith("    "))
         assert table_of(shown).stations[0].name == "Alpha"
-    assert len(table_of((TOP / "packaging" / "stations.toml").read_text()).stations) >= 1
+    text = (TOP / "packaging" / "stations.toml").read_text()
+    (station,), told = table_of(text).stations, tomllib.loads(text)
+    assert told["keep"] == {"listings_days": 60, "listings_gb": 50, "database_days": 800}
+    assert (station.form, station.raw, station.rate, station.frequency) == ("mpx", "s16", 171000, 98.1)
+    words = list(station.command)
+    assert words[0] == "rtl_fm" and dict(zip(words[1::2], words[2::2])) == {
+        **{"-d": "0", "-M": "fm", "-l": "0", "-A": "std", "-p": "0", "-F": "9"},
+        **{"-s": f"{station.rate // 1000}k", "-f": f"{station.frequency}M"},
+    }
+    assert told["station"][0]["pi"] == "D318" and told["station"][0]["ps"] == "ALPHA*"
 
 
 PAGE = " ".join((TOP / "monitor" / "WATCHING.md").read_text().split())

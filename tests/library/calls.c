@@ -101,6 +101,25 @@ static int64_t allowed;
 static int is_calling;
 #endif
 
+static uint64_t word_at(const unsigned char *at)
+{
+    uint64_t word;
+    memcpy(&word, at, sizeof word);
+    return word;
+}
+
+/* The first byte that is not the pattern, or the end: eight bytes at a time, since emulators are slow. */
+static const unsigned char *pattern_end(const unsigned char *at, const unsigned char *end)
+{
+    while (end - at >= 8 && word_at(at) == UINT64_MAX / 255 * PATTERN)
+        at += 8;
+    while (at < end && *at == PATTERN)
+        at++;
+    return at;
+}
+
+static int is_pattern(const unsigned char *at, const unsigned char *end) { return pattern_end(at, end) == end; }
+
 #define RECORDING bytes, asked.bytes_len, asked.bits, gaps, asked.gaps_len, &asked.rules
 #define STREAM gaps, asked.gaps_len, &asked.rules, &asked.known.stream
 #define ROOM room.items, asked.room_len
@@ -148,16 +167,15 @@ static void call_there(void)
 /* The bytes of stack that a call takes, by the pattern that it leaves. */
 static int64_t stack_of_call(void)
 {
-    size_t left = 0;
-    memset(stack, PATTERN, sizeof stack);
+    size_t left;
     getcontext(&callee);
     callee.uc_stack.ss_sp = stack;
     callee.uc_stack.ss_size = sizeof stack;
     callee.uc_link = &caller;
     makecontext(&callee, call_there, 0);
     swapcontext(&caller, &callee);
-    while (stack[left] == PATTERN)
-        left++;
+    left = (size_t)(pattern_end(stack, stack + sizeof stack) - stack);
+    memset(stack + left, PATTERN, sizeof stack - left);
     return (int64_t)(sizeof stack - left);
 }
 #else
@@ -179,13 +197,6 @@ static size_t written(void)
     return asked.call >= ITEMS && asked.call <= FINISH_WITH ? answer.count * sizeof(rds_item_t) : 0;
 }
 
-static int is_pattern(const unsigned char *at, const unsigned char *end)
-{
-    while (at < end && *at == PATTERN)
-        at++;
-    return at == end;
-}
-
 static void set_scratch(void)
 {
 #ifndef OF_0_2
@@ -203,8 +214,18 @@ static int is_scratch_left(void)
     return is_pattern(scratch, first) && is_pattern(end, end + AROUND);
 }
 
+/* Fills what calls may write; after each call only what it wrote is filled again. */
+static void paint(void)
+{
+    memset(&room, PATTERN, sizeof room);
+#ifdef REFUSING
+    memset(stack, PATTERN, sizeof stack);
+#endif
+}
+
 int main(void)
 {
+    paint();
     const int64_t no_stack = stack_of_call();
     while (fread(&asked, sizeof asked, 1, stdin)) {
         const unsigned char *first = (const unsigned char *)&room, *end = (const unsigned char *)(room.items + asked.room_len + 1);
@@ -212,7 +233,6 @@ int main(void)
             fread(bytes, 1, asked.bytes_len, stdin) < asked.bytes_len || fread(gaps, sizeof *gaps, asked.gaps_len, stdin) < asked.gaps_len)
             return 2;
         memset(&answer, PATTERN, sizeof answer);
-        memset(&room, PATTERN, (size_t)(end - first));
         answer.refused = answer.kept = answer.most = 0;
         if (asked.call == PUSH_WITH)
             set_scratch();
@@ -225,6 +245,7 @@ int main(void)
         answer.is_room_left = (uint64_t)(is_pattern(first + written(), end) && (asked.call != PUSH_WITH || is_scratch_left()));
         fwrite(&answer, sizeof answer, 1, stdout);
         fwrite(&room, 1, written(), stdout);
+        memset(&room, PATTERN, answer.is_room_left ? written() : sizeof room);
     }
     return 0;
 }

@@ -505,5 +505,9 @@ def made_up(chance: random.Random, rules: Rules) -> bytes:
 
 
 @cache
+def drawn_by(seed: int) -> list[Asked]:
+    return [*Draw(seed).all()]
+
+
 def drawn(seeds: range) -> list[Asked]:
-    return [one for seed in seeds for one in Draw(seed).all()]
+    return [one for seed in seeds for one in drawn_by(seed)]

@@ -51,6 +51,7 @@ from ._ffi import (
     RdsItem,
     RdsPacked,
     RdsRules,
+    RdsSoft,
     RdsStream,
     RdsTotals,
     RdsWords,
@@ -74,6 +75,7 @@ __all__ = [
     "Group",
     "Loss",
     "Follower",
+    "SoftFollower",
     "read",
     "read_async",
     "totals",
@@ -126,6 +128,7 @@ class Error(IntEnum):
     NOT_A_STREAM = 72
     OTHER_VERSION = 73
     OTHER_RULES = 74
+    MARGIN_RANGE = 75
 
 
 _CAUSES = (Error.NOT_A_STREAM, Error.OTHER_VERSION, Error.OTHER_RULES)
@@ -608,6 +611,66 @@ class Follower:
         """The state of the stream, 256 bytes. They can be stored, and are equal if the same bytes were heard."""
         with self._lock:
             return bytes(self._stream)
+
+
+# How many symbols a call of rds_push_soft takes at most, and the one after them.
+_SYMBOLS = 8 * 960 + 1
+
+
+class SoftFollower:
+    """A stream of symbols that is decoded chunk by chunk: soft decisions. A symbol is a signed byte: its sign tells the
+    bits beside it, its size how sure it is, in units of 1/16 nat. The items are those of the bits, each group read again
+    from its symbols: a corrected block has any error mask, not only a burst.
+
+        follower = librds.SoftFollower()
+        for chunk in chunks:
+            for item in follower.push(chunk):
+                print(item)
+
+    All other flips of a block's symbols must weigh by `margin` more than those that are corrected: 1 to 127, else it is
+    `Refused` 75. The default is two nats. `stream` continues in a Follower, by bits, to its end for example.
+    """
+
+    def __init__(self, rules: Rules = Rules(), gaps: Gaps = (), margin: int = 32):
+        self._gaps = list(gaps)
+        self._terms = (*_terms(self._gaps, rules), _within(margin, 255))
+        self._soft, self._rest = RdsSoft(), b""
+        self._lock = threading.Lock()
+        self.push(b"")
+
+    def push(self, symbols: Buffer) -> list[Item]:
+        """The items that the next symbols complete, up to seven bits late. Past 2^36 bits it raises `Refused` 5. On error
+        the stream is unchanged."""
+        return [item for part in self._push(_values, symbols) for item in part]
+
+    def push_array(self, symbols: Buffer) -> NDArray[Any]:
+        """The same as rows of the dtype `ITEM`, as `items_array` gives them."""
+        import numpy
+
+        items = bytearray().join(self._push(_stored, symbols))
+        rows: NDArray[Any] = numpy.frombuffer(items, sys.modules[__name__].ITEM)
+        return rows
+
+    def _push(self, take: Callable[[Any, int], Any], symbols: Buffer) -> list[Any]:
+        """What `take` makes of the items, in parts. The last symbols, eight at most, wait for the next."""
+        parts: list[Any] = []
+        taken, count, done = ctypes.c_uint64(), ctypes.c_uint64(), 0
+        with self._lock, _lent_room(0) as room:
+            given, soft = self._rest + _bytes(symbols), RdsSoft.from_buffer_copy(self._soft)
+            while not parts or len(given) - done > 8:
+                chunk = given[done : done + _SYMBOLS]
+                lent = (ctypes.c_int8 * len(chunk)).from_buffer_copy(chunk), len(chunk)
+                _check(_library.rds_push_soft(*lent, *self._terms, soft, room, len(room), taken, count))
+                parts.append(take(room, count.value))
+                done += taken.value
+            self._soft, self._rest = soft, given[done:]
+        return parts
+
+    @property
+    def stream(self) -> bytes:
+        """The state of the stream of bits, as `Follower.stream`."""
+        with self._lock:
+            return bytes(self._soft.stream)
 
 
 # ---- files and sockets

@@ -4,7 +4,7 @@ from __future__ import annotations
 
 import ctypes
 import os
-from ctypes import POINTER, c_char_p, c_size_t, c_uint8, c_uint16, c_uint32, c_uint64
+from ctypes import POINTER, c_char_p, c_int8, c_size_t, c_uint8, c_uint16, c_uint32, c_uint64
 from typing import Any
 
 
@@ -82,6 +82,10 @@ class RdsStream(ctypes.Structure):
     ]
 
 
+class RdsSoft(ctypes.Structure):
+    _fields_ = [("stream", RdsStream), ("symbols", c_int8 * 240)]
+
+
 class RdsWords(ctypes.Structure):
     _fields_ = [("words", c_uint16 * 4)]
 
@@ -98,6 +102,7 @@ STRUCTS = [
     RdsRules,
     RdsState,
     RdsStream,
+    RdsSoft,
     RdsWords,
     RdsPacked,
 ]
@@ -116,6 +121,10 @@ FUNCTIONS: dict[str, tuple[Any, list[Any]]] = {
     "rds_run": (c_uint8, [*BYTES, c_uint64, *TERMS, c_uint64, c_uint64, STATE, *ROOM, COUNT]),
     "rds_finish_run": (c_uint8, [*BYTES, c_uint64, *TERMS, STATE, *ROOM, COUNT]),
     "rds_push": (c_uint8, [*BYTES, *TERMS, STREAM, *ROOM, COUNT, COUNT]),
+    "rds_push_soft": (
+        c_uint8,
+        [POINTER(c_int8), c_size_t, *TERMS, c_uint8, POINTER(RdsSoft), *ROOM, COUNT, COUNT],
+    ),
     "rds_finish": (c_uint8, [*TERMS, STREAM, *ROOM, COUNT, TOTALS]),
     "rds_finish_with": (c_uint8, [*BYTES, c_uint64, *TERMS, STREAM, *ROOM, COUNT, TOTALS]),
     "rds_check": (c_uint8, [*TERMS, STREAM]),

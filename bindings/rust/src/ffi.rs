@@ -80,6 +80,14 @@ pub struct RdsStream {
     pub reserved: u64,
 }
 
+/// The state of a stream of symbols between two chunks.
+#[repr(C)]
+#[derive(Clone, Copy, Debug, PartialEq, Eq, Hash)]
+pub struct RdsSoft {
+    pub stream: RdsStream,
+    pub symbols: [i8; 240],
+}
+
 #[repr(C)]
 #[derive(Clone, Copy, Debug, PartialEq, Eq, Hash)]
 pub struct RdsWords {
@@ -99,6 +107,8 @@ extern "C" {
     pub fn rds_finish_run(bytes: *const u8, bytes_len: usize, bits: u64, gaps: *const RdsGap, gaps_len: usize, rules: *const RdsRules, state: *const RdsState, room: *mut RdsItem, room_len: usize, count: *mut u64) -> u8;
     pub fn rds_push(bytes: *const u8, bytes_len: usize, gaps: *const RdsGap, gaps_len: usize, rules: *const RdsRules, stream: *mut RdsStream, room: *mut RdsItem, room_len: usize, taken: *mut u64, count: *mut u64) -> u8;
     pub fn rds_push_with(bytes: *const u8, bytes_len: usize, gaps: *const RdsGap, gaps_len: usize, rules: *const RdsRules, stream: *mut RdsStream, room: *mut RdsItem, room_len: usize, taken: *mut u64, count: *mut u64, scratch: *mut u8, scratch_len: usize) -> u8;
+    pub fn rds_push_soft(symbols: *const i8, symbols_len: usize, gaps: *const RdsGap, gaps_len: usize, rules: *const RdsRules, margin: u8, soft: *mut RdsSoft, room: *mut RdsItem, room_len: usize, taken: *mut u64, count: *mut u64) -> u8;
+    pub fn rds_push_soft_with(symbols: *const i8, symbols_len: usize, gaps: *const RdsGap, gaps_len: usize, rules: *const RdsRules, margin: u8, soft: *mut RdsSoft, room: *mut RdsItem, room_len: usize, taken: *mut u64, count: *mut u64, scratch: *mut u8, scratch_len: usize) -> u8;
     pub fn rds_finish(gaps: *const RdsGap, gaps_len: usize, rules: *const RdsRules, stream: *const RdsStream, room: *mut RdsItem, room_len: usize, count: *mut u64, totals: *mut RdsTotals) -> u8;
     pub fn rds_finish_with(bytes: *const u8, bytes_len: usize, bits: u64, gaps: *const RdsGap, gaps_len: usize, rules: *const RdsRules, stream: *const RdsStream, room: *mut RdsItem, room_len: usize, count: *mut u64, totals: *mut RdsTotals) -> u8;
     pub fn rds_check(gaps: *const RdsGap, gaps_len: usize, rules: *const RdsRules, stream: *const RdsStream) -> u8;

@@ -25,7 +25,7 @@ mod stream;
 
 pub use stream::{read, ReadError, ReadItems};
 
-use ffi::{RdsBlock, RdsGap, RdsItem, RdsPacked, RdsRules, RdsTotals, RdsWords};
+use ffi::{RdsBlock, RdsGap, RdsItem, RdsPacked, RdsRules, RdsSoft, RdsTotals, RdsWords};
 use std::cell::RefCell;
 use std::fmt;
 use std::io::Read;
@@ -67,6 +67,7 @@ impl Refused {
     pub const NOT_A_STREAM: u8 = 72;
     pub const OTHER_VERSION: u8 = 73;
     pub const OTHER_RULES: u8 = 74;
+    pub const MARGIN_RANGE: u8 = 75;
 }
 
 impl Refused {
@@ -77,7 +78,7 @@ impl Refused {
 }
 
 /// `tests/test_header.py` compares these with the proved code, and those that it does not have with `lib/border.c`.
-const REASONS: [(u8, &str); 19] = [
+const REASONS: [(u8, &str); 20] = [
     (1, "the burst limit is above 5"),
     (2, "the reach is not 1 to 8"),
     (3, "the loss is not 1 to 64"),
@@ -97,6 +98,7 @@ const REASONS: [(u8, &str); 19] = [
     (72, "a stream that was not zeroed, or is in another byte order"),
     (73, "a stream of another version"),
     (74, "a stream that is decoded by other rules"),
+    (75, "the margin is not 1 to 127"),
 ];
 
 impl fmt::Display for Refused {
@@ -599,6 +601,85 @@ impl Follower {
     /// The items of the next bits of the stream, which a reader gives, as [`read`] gives them.
     pub fn read<R: Read>(self, reader: R) -> ReadItems<R> {
         ReadItems::new(self, reader)
+    }
+}
+
+/// A stream of symbols that is followed chunk by chunk: soft decisions.
+///
+/// A symbol is a signed byte: its sign tells the bits beside it, its size how sure it is, in units of 1/16 nat. The items are those of the
+/// bits, each group read again from its symbols: a corrected block has any mask, not only a burst.
+///
+/// ```
+/// let mut follower = rds::SoftFollower::new(&rds::Rules::default(), &[], rds::SoftFollower::MARGIN)?;
+/// let items = follower.push(&[100; 801])?;
+/// assert!(items.len() == 0 && follower.stream().place == 800);
+/// # Ok::<(), rds::Refused>(())
+/// ```
+#[derive(Clone, Debug)]
+pub struct SoftFollower {
+    follower: Follower,
+    symbols: [i8; 240],
+    margin: u8,
+    /// Symbols that were not taken: eight at most.
+    rest: Vec<i8>,
+}
+
+impl SoftFollower {
+    /// The usual margin: two nats.
+    pub const MARGIN: u8 = 2 * 16;
+
+    /// A new stream. All other flips of a block's symbols must weigh by `margin` more than those that are corrected: 1 to 127, else it is
+    /// error 75.
+    pub fn new(rules: &Rules, gaps: &[Range<u64>], margin: u8) -> Result<SoftFollower, Refused> {
+        let follower = Follower::new(rules, gaps)?;
+        let mut soft = SoftFollower { follower, symbols: [0; 240], margin, rest: Vec::new() };
+        soft.push(&[])?;
+        Ok(soft)
+    }
+
+    /// Takes the next symbols, any number of them, and gives the items that they complete, up to seven bits late. Past 2^36 bits it is
+    /// error 5. On error the stream is unchanged.
+    pub fn push(&mut self, symbols: &[i8]) -> Result<Items, Refused> {
+        let mut soft = RdsSoft { stream: self.follower.stream, symbols: self.symbols };
+        let (all, mut at, mut found) = ([&self.rest, symbols].concat(), 0, Vec::new());
+        SPARE.with_borrow_mut(|room| loop {
+            room.resize(ROOM, RdsItem::default());
+            let (taken, count) = self.push_some(&mut soft, &all[at..], room)?;
+            found.extend_from_slice(&room[..count]);
+            at += taken;
+            if all.len() - at <= 8 {
+                (self.follower.stream, self.symbols) = (soft.stream, soft.symbols);
+                self.rest = all[at..].to_vec();
+                return Ok(Items(found.into_iter()));
+            }
+        })
+    }
+
+    /// Takes as many of these symbols as the library takes at once: how many, and the number of items.
+    fn push_some(&self, soft: &mut RdsSoft, symbols: &[i8], room: &mut [RdsItem]) -> Result<(usize, usize), Refused> {
+        let (mut taken, mut count) = (0, 0);
+        // SAFETY: as in `totals`.
+        check(unsafe {
+            ffi::rds_push_soft(
+                symbols.as_ptr(),
+                symbols.len(),
+                self.follower.gaps.as_ptr(),
+                self.follower.gaps.len(),
+                &self.follower.rules,
+                self.margin,
+                soft,
+                room.as_mut_ptr(),
+                room.len(),
+                &mut taken,
+                &mut count,
+            )
+        })?;
+        Ok((taken as usize, count as usize))
+    }
+
+    /// The state of the stream of bits, which [`Follower::resume`] continues by bits, to its end for example.
+    pub fn stream(&self) -> &Stream {
+        &self.follower.stream
     }
 }
 

@@ -3,7 +3,7 @@
 // The items of a push may be dropped.
 #![deny(unused_must_use)]
 
-use rds::{Block, Follower, Group, Item, LossRule, Offset, ReadError, ReadItems, Recording, Refused, Rules, Stream, Totals, Version};
+use rds::{Block, Follower, Group, Item, LossRule, Offset, ReadError, ReadItems, Recording, Refused, Rules, SoftFollower, Stream, Totals, Version};
 use std::error::Error;
 use std::fmt::{Debug, Write};
 use std::hash::Hash;
@@ -123,6 +123,7 @@ fn values_can_be_compared_hashed_and_sent() {
     is_value::<Item>();
     is_value::<Totals>();
     is_value::<rds::ffi::RdsStream>();
+    is_sent::<SoftFollower>();
     is_sent::<Refused>();
     is_sent::<Recording<'_>>();
     is_sent::<ReadItems<&[u8]>>();
@@ -200,4 +201,34 @@ fn a_third_block_may_be_of_either_version() {
     assert_eq!(rds::correct_third(0x384_00BB, 2), corrected(Offset::C, 0x30));
     assert_eq!(rds::correct_third(0x384_0283, 2), corrected(Offset::Cx, 0x30));
     assert_eq!(rds::correct(0x384_0283, Offset::C, 2), Ok(Block::Lost));
+}
+
+/// Symbols of encoded groups, one in 130 of them wrong and unsure.
+fn symbols() -> Vec<i8> {
+    let bytes = rds::encode(&[GROUP; 20]).unwrap();
+    let mut symbols: Vec<i8> = vec![100];
+    for place in 0..8 * bytes.len() {
+        let bit = bytes[place / 8] >> (7 - place % 8) & 1;
+        symbols.push(symbols[place] * (1 - 2 * bit as i8));
+    }
+    symbols.iter_mut().skip(250).step_by(130).for_each(|symbol| *symbol /= -10);
+    symbols
+}
+
+#[test]
+fn symbols_are_read_again_however_they_are_cut() {
+    let (rules, symbols) = (Rules::default(), symbols());
+    let mut follower = SoftFollower::new(&rules, &[], SoftFollower::MARGIN).unwrap();
+    let items: Vec<Item> = symbols.chunks(97).flat_map(|chunk| follower.push(chunk).unwrap()).collect();
+    let groups: Vec<&Group> = items.iter().filter_map(|it| if let Item::Group(group) = it { Some(group) } else { None }).skip(1).collect();
+    assert!(groups.len() > 15 && groups.iter().all(|group| group.words() == GROUP.map(Some)));
+    let blocks = groups.iter().flat_map(|group| group.blocks);
+    assert!(blocks.filter(|block| matches!(block, Block::Corrected { .. })).count() > 10);
+    let mut other = SoftFollower::new(&rules, &[], SoftFollower::MARGIN).unwrap();
+    assert_eq!(other.push(&symbols).unwrap().collect::<Vec<_>>(), items);
+    assert_eq!(other.stream(), follower.stream());
+    let bits = Follower::resume(&rules, &[], *follower.stream()).unwrap();
+    assert!(bits.place() == symbols.len() as u64 / 8 * 8 && bits.finish().is_ok());
+    let error = SoftFollower::new(&rules, &[], 0).unwrap_err();
+    assert_eq!(error.to_string(), "refused 75 MarginRange: the margin is not 1 to 127");
 }

@@ -7,16 +7,17 @@ use Rattle.rds_sync.specs.Rules.{RuleNumbers}
 use Rattle.rds_sync.specs.declared.error.SyncError.{SyncError}
 use Rattle.rds_sync.specs.declared.error.SyncError.TheVariants as sync
 use Rattle.rds_tool.specs.Refusals.{of_sync}
-use Rattle.rds_tool.specs.Following.{AllCount, BreaksOff, IsHeardOut, MayBreakOff, listed}
+use Rattle.rds_tool.specs.Following.{AllCount, BreaksOff, IsHeardOut, MayBreakOff, listed, most_read}
+use Rattle.rds_tool.specs.Plans.{AreWorkers}
 use Rattle.rds_tool.specs.History.{Gave}
 use Rattle.rds_tool.specs.Outcome.{IsOutside, Writes, WritesPrefix, result_of_job}
 use Rattle.rds_tool.specs.Tasks.{task_of}
 use Rattle.rds_tool.specs.Transcribed.{IsTranscribed}
 use Rattle.rds_tool.specs.declared.devices.Source.{Ghosts as Source}
 use Rattle.rds_tool.specs.declared.error.ToolError.{ToolError}
-use Rattle.rds_tool.specs.declared.error.ToolError.TheVariants.{BadGaps, BitsPastBytes, BurstRange, LossRange, OutOfMemory, ReachRange, Read, ShareRange, TooLong, Write}
+use Rattle.rds_tool.specs.declared.error.ToolError.TheVariants.{BadGaps, BitsPastBytes, BurstRange, CrewRange, LossRange, OutOfMemory, ReachRange, Read, ShareRange, TooLong, Write}
 use Rattle.rds_tool.specs.declared.job.Job.{Job}
-use Rattle.rds.specs.Session.{IsDone, IsFollowed, RefusesRules}
+use Rattle.rds.specs.Session.{IsDone, IsFollowed, RefusesRules, RefusesWorkers}
 
 -- the bytes given are all bytes given since the reader was made
 gave_all : (given' : List ℕ) (P : List ℕ → Type 0) → Gave [] given' P → P given'
@@ -119,17 +120,17 @@ module _ (terms : Terms) (bits : Option ℕ) (given' : List ℕ) (ended : Bool) 
   followed_end (Err e) h = tt
 
   -- why it broke off is no matter of the rules
-  broke_for : (answer : Result (Unit {0}) ToolError) → IfErr answer MayBreakOff → IfErr answer (λ error. MayBreakOff error ⊎ RefusesRules terms.rules error)
-  broke_for (Ok x) h = tt
-  broke_for (Err e) h = inl h
+  broke_for : (workers : ℕ) (answer : Result (Unit {0}) ToolError) → IfErr answer MayBreakOff → IfErr answer (λ error. MayBreakOff error ⊎ (RefusesRules terms.rules error ⊎ RefusesWorkers workers error))
+  broke_for workers (Ok x) h = tt
+  broke_for workers (Err e) h = inl h
 
-  pub stream_followed : (given : List ℕ) (read' : ℕ) (old : Option (List ℕ)) (written' : ℕ) (answer : Result (Unit {0}) ToolError)
+  pub stream_followed : (workers : ℕ) (given : List ℕ) (read' : ℕ) (old : Option (List ℕ)) (written' : ℕ) (answer : Result (Unit {0}) ToolError)
       → given ≡ [] → read' ≡ 0 → old ≡ Some [] → written' ≡ 0
       → OnOk answer (Gave given given' (λ bytes. IsHeardOut bits ended bytes × Writes old (Some taken) (listed terms bits bytes)))
       → OnOk answer (flushed ≡ true) → IsErrOf answer Read ↔ (read' < reads) → IsErrOf answer Write ↔ (written' < writes)
-      → IfErr answer MayBreakOff → IfErr answer (BreaksOff terms bits given given' ended old (Some taken) flushed)
-      → IsFollowed given' ended reads taken flushed writes answer terms bits
-  stream_followed given read' old written' answer fresh unfailed none sound heard flush read write refused broke =
+      → IfErr answer MayBreakOff → IfErr answer (BreaksOff (most_read workers) terms bits given given' ended old (Some taken) flushed)
+      → IsFollowed given' ended reads taken flushed writes answer terms bits workers
+  stream_followed workers given read' old written' answer fresh unfailed none sound heard flush read write refused broke =
       let all : OnOk answer (Gave [] given' (λ bytes. IsHeardOut bits ended bytes × Writes (Some []) (Some taken) (listed terms bits bytes))) =
       subst (λ o. OnOk answer (Gave [] given' (λ bytes. IsHeardOut bits ended bytes × Writes o (Some taken) (listed terms bits bytes)))) none
       (subst (λ g. OnOk answer (Gave g given' (λ bytes. IsHeardOut bits ended bytes × Writes old (Some taken) (listed terms bits bytes)))) fresh heard) in
@@ -141,9 +142,9 @@ module _ (terms : Terms) (bits : Option ℕ) (given' : List ℕ) (ended : Bool) 
           read = subst (λ n. IsErrOf answer Read ↔ (n < reads)) unfailed read;
           write = subst (λ n. IsErrOf answer Write ↔ (n < writes)) sound write;
         };
-        refused = broke_for answer refused;
-        broke_off = subst (λ o. IfErr answer (BreaksOff terms bits [] given' ended o (Some taken) flushed)) none
-            (subst (λ g. IfErr answer (BreaksOff terms bits g given' ended old (Some taken) flushed)) fresh broke);
+        refused = broke_for workers answer refused;
+        broke_off = subst (λ o. IfErr answer (BreaksOff (most_read workers) terms bits [] given' ended o (Some taken) flushed)) none
+            (subst (λ g. IfErr answer (BreaksOff (most_read workers) terms bits g given' ended old (Some taken) flushed)) fresh broke);
       }
 
 -- rules that are refused, before anything is read
@@ -170,9 +171,9 @@ is_of_rules sync.ShareRange k is among = none_of ShareRange k (sym is) among (λ
 abbrev pub IsRefusal : RuleNumbers → SyncError → Type 0
 IsRefusal rules x = (x ≡ sync.OutOfMemory) ⊎ (let e : ToolError = of_sync x in RefusesRules rules e)
 
-no_break : (rules : RuleNumbers) (x : SyncError) → IsRefusal rules x → let e : ToolError = of_sync x in MayBreakOff e ⊎ RefusesRules rules e
-no_break rules x (inl memory) = inl (inl (ap of_sync memory))
-no_break rules x (inr refused) = inr refused
+no_break : (rules : RuleNumbers) (workers : ℕ) (x : SyncError) → IsRefusal rules x → let e : ToolError = of_sync x in MayBreakOff e ⊎ (RefusesRules rules e ⊎ RefusesWorkers workers e)
+no_break rules workers x (inl memory) = inl (inl (ap of_sync memory))
+no_break rules workers x (inr refused) = inr (inl refused)
 
 same_error : (d e : ToolError) → (let r : Result (Unit {0}) ToolError = Err d in r ≡ Err e) → d ≡ e
 same_error d e p = cc p
@@ -180,9 +181,11 @@ same_error d e p = cc p
 none_less : (let n : ℕ = 0 in n < 0) → ⊥
 none_less some = omega (arith, some)
 
-pub stream_refused : (terms : Terms) (bits : Option ℕ) (x : SyncError) → IsRefusal terms.rules x → IsFollowed [] false 0 [] false 0 (Err (of_sync x)) terms bits
-stream_refused terms bits x why =
-    let not : (k : ToolError) → ((k ≡ Read) ⊎ ((k ≡ Write) ⊎ ((k ≡ TooLong) ⊎ ((k ≡ BitsPastBytes) ⊎ (k ≡ BadGaps))))) → (let r : ToolError = of_sync x in r ≡ k) → ⊥ = λ k among is. is_of_rules x k is among in
+-- an error of the request
+stream_refused : (terms : Terms) (bits : Option ℕ) (workers : ℕ) (e : ToolError) → MayBreakOff e ⊎ (RefusesRules terms.rules e ⊎ RefusesWorkers workers e)
+    → ((k : ToolError) → (e ≡ k) → ((k ≡ Read) ⊎ ((k ≡ Write) ⊎ ((k ≡ TooLong) ⊎ ((k ≡ BitsPastBytes) ⊎ (k ≡ BadGaps))))) → ⊥) → IsFollowed [] false 0 [] false 0 (Err e) terms bits workers
+stream_refused terms bits workers e why is_none =
+    let not : (k : ToolError) → ((k ≡ Read) ⊎ ((k ≡ Write) ⊎ ((k ≡ TooLong) ⊎ ((k ≡ BitsPastBytes) ⊎ (k ≡ BadGaps))))) → (e ≡ k) → ⊥ = λ k among is. is_none k is among in
     record {
       text = tt;
       end = tt;
@@ -191,7 +194,7 @@ stream_refused terms bits x why =
         read = (λ p. absurd (not Read (inl refl) (same_error _ _ p)), λ some. absurd (none_less some));
         write = (λ p. absurd (not Write (inr (inl refl)) (same_error _ _ p)), λ some. absurd (none_less some));
       };
-      refused = no_break terms.rules x why;
+      refused = why;
       broke_off = record {
         bytes = [];
         gave = refl;
@@ -218,17 +221,33 @@ rules_refused T rules sync.LossRange burst reach loss share = inr (loss refl)
 rules_refused T rules sync.OutOfMemory burst reach loss share = inl refl
 rules_refused T rules sync.ShareRange burst reach loss share = inr (share refl)
 
-pub stream_refused_by : (T : Type 0) (terms : Terms) (bits : Option ℕ) (x : SyncError)
+-- no device was used
+at_once : (terms : Terms) (bits : Option ℕ) (workers : ℕ) (e : ToolError) → IsFollowed [] false 0 [] false 0 (Err e) terms bits workers
+    → (given : List ℕ) (ended : Bool) (reads : ℕ) (taken : List ℕ) (flushed : Bool) (writes : ℕ) (answer : Result (Unit {0}) ToolError)
+    → answer ≡ Err e → given ≡ [] → ended ≡ false → reads ≡ 0 → taken ≡ [] → flushed ≡ false → writes ≡ 0
+    → IsFollowed given ended reads taken flushed writes answer terms bits workers
+at_once terms bits workers x all given ended reads taken flushed writes answer a g e r t f w =
+    subst (λ y. IsFollowed y ended reads taken flushed writes answer terms bits workers) (sym g)
+    (subst (λ y. IsFollowed [] y reads taken flushed writes answer terms bits workers) (sym e)
+    (subst (λ y. IsFollowed [] false y taken flushed writes answer terms bits workers) (sym r)
+    (subst (λ y. IsFollowed [] false 0 y flushed writes answer terms bits workers) (sym t)
+    (subst (λ y. IsFollowed [] false 0 [] y writes answer terms bits workers) (sym f)
+    (subst (λ y. IsFollowed [] false 0 [] false y answer terms bits workers) (sym w)
+    (subst (λ y. IsFollowed [] false 0 [] false 0 y terms bits workers) (sym a) all))))))
+
+pub refused_by_rules : (T : Type 0) (terms : Terms) (bits : Option ℕ) (workers : ℕ) (x : SyncError)
     → (IsRefused T x sync.BurstRange → RefusesRules terms.rules BurstRange) → (IsRefused T x sync.ReachRange → RefusesRules terms.rules ReachRange)
     → (IsRefused T x sync.LossRange → RefusesRules terms.rules LossRange) → (IsRefused T x sync.ShareRange → RefusesRules terms.rules ShareRange)
     → (given : List ℕ) (ended : Bool) (reads : ℕ) (taken : List ℕ) (flushed : Bool) (writes : ℕ) (answer : Result (Unit {0}) ToolError)
     → answer ≡ Err (of_sync x) → given ≡ [] → ended ≡ false → reads ≡ 0 → taken ≡ [] → flushed ≡ false → writes ≡ 0
-    → IsFollowed given ended reads taken flushed writes answer terms bits
-stream_refused_by T terms bits x burst reach loss share given ended reads taken flushed writes answer a g e r t f w =
-    subst (λ y. IsFollowed y ended reads taken flushed writes answer terms bits) (sym g)
-    (subst (λ y. IsFollowed [] y reads taken flushed writes answer terms bits) (sym e)
-    (subst (λ y. IsFollowed [] false y taken flushed writes answer terms bits) (sym r)
-    (subst (λ y. IsFollowed [] false 0 y flushed writes answer terms bits) (sym t)
-    (subst (λ y. IsFollowed [] false 0 [] y writes answer terms bits) (sym f)
-    (subst (λ y. IsFollowed [] false 0 [] false y answer terms bits) (sym w)
-    (subst (λ y. IsFollowed [] false 0 [] false 0 y terms bits) (sym a) (stream_refused terms bits x (rules_refused T terms.rules x burst reach loss share))))))))
+    → IsFollowed given ended reads taken flushed writes answer terms bits workers
+refused_by_rules T terms bits workers x burst reach loss share =
+    at_once terms bits workers (of_sync x) (stream_refused terms bits workers (of_sync x) (no_break terms.rules workers x (rules_refused T terms.rules x burst reach loss share)) (is_of_rules x))
+
+pub refused_by_workers : (terms : Terms) (bits : Option ℕ) (workers : ℕ) → (AreWorkers workers → ⊥)
+    → (given : List ℕ) (ended : Bool) (reads : ℕ) (taken : List ℕ) (flushed : Bool) (writes : ℕ) (answer : Result (Unit {0}) ToolError)
+    → answer ≡ Err CrewRange → given ≡ [] → ended ≡ false → reads ≡ 0 → taken ≡ [] → flushed ≡ false → writes ≡ 0
+    → IsFollowed given ended reads taken flushed writes answer terms bits workers
+refused_by_workers terms bits workers outside =
+    at_once terms bits workers CrewRange (stream_refused terms bits workers CrewRange (inr (inr (refl, outside)))
+    (λ k is among. none_of CrewRange k (sym is) among (λ p. cc p) (λ p. cc p) (λ p. cc p) (λ p. cc p) (λ p. cc p)))

@@ -5,11 +5,12 @@ use Rattle.rds_live.specs.StreamDecoder.{Terms}
 use Rattle.rds_sync.specs.Ranges.{IsRunOutside, IsShareOutside, farthest_reach, longest_burst}
 use Rattle.rds_sync.specs.Rules.{RuleNumbers}
 use Rattle.rds_tool.specs.Ends.{given_by, has_ended, is_flushed, read_failures, taken_by, write_failures}
-use Rattle.rds_tool.specs.Following.{BreaksOff, IsHeardOut, MayBreakOff, listed}
+use Rattle.rds_tool.specs.Following.{BreaksOff, IsHeardOut, MayBreakOff, listed, most_read}
+use Rattle.rds_tool.specs.Plans.{AreWorkers}
 use Rattle.rds_tool.specs.Outcome.{IsOutside, result_of_job}
 use Rattle.rds_tool.specs.Tasks.{task_of}
 use Rattle.rds_tool.specs.declared.error.ToolError.{ToolError}
-use Rattle.rds_tool.specs.declared.error.ToolError.TheVariants.{BurstRange, LossRange, NoWorker, ReachRange, Read, ShareRange, TooManyTurns, Write}
+use Rattle.rds_tool.specs.declared.error.ToolError.TheVariants.{BurstRange, CrewRange, LossRange, NoWorker, ReachRange, Read, ShareRange, TooManyTurns, Write}
 use Rattle.rds_tool.specs.declared.job.Job.{Job}
 use Rattle.rds_tool.specs.declared.job.Request.{Request}
 use Rattle.rds_tool.specs.declared.job.Request.TheVariants.{Follow, Job as Work}
@@ -22,6 +23,10 @@ RefusesRules rules ReachRange = (rules.reach < 1) ⊎ (farthest_reach < rules.re
 RefusesRules rules LossRange = IsRunOutside rules.loss
 RefusesRules rules ShareRange = IsShareOutside rules.loss
 RefusesRules rules other = ⊥
+
+-- so is a number of workers
+abbrev pub RefusesWorkers : ℕ → ToolError → Type 0
+RefusesWorkers workers error = (error ≡ CrewRange) × (AreWorkers workers → ⊥)
 
 -- an error of a device is answered exactly if the device failed
 pub record BlamesDevices (failed_reads failed_writes : ℕ) (answer : Result (Unit {0}) ToolError) : Type 0 where
@@ -45,13 +50,13 @@ module _ (given : List ℕ) (ended : Bool) (failed_reads : ℕ) (taken : List �
     pub prefix : IsErrOf answer Write → (rest : List ℕ) × (result_of_job job given ≡ Ok (taken ++ rest))
 
   -- a stream was followed: all that was read makes all that was written, or it broke off, or its rules are refused
-  pub record IsFollowed (terms : Terms) (bits : Option ℕ) : Type 0 where
+  pub record IsFollowed (terms : Terms) (bits : Option ℕ) (workers : ℕ) : Type 0 where
     pub text : OnOk answer (listed terms bits given ≡ Ok taken)
     pub end : OnOk answer (IsHeardOut bits ended given)
     pub flush : OnOk answer (flushed ≡ true)
     pub devices : BlamesDevices failed_reads failed_writes answer
-    pub refused : IfErr answer (λ error. MayBreakOff error ⊎ RefusesRules terms.rules error)
-    pub broke_off : IfErr answer (BreaksOff terms bits [] given ended (Some []) (Some taken) flushed)
+    pub refused : IfErr answer (λ error. MayBreakOff error ⊎ (RefusesRules terms.rules error ⊎ RefusesWorkers workers error))
+    pub broke_off : IfErr answer (BreaksOff (most_read workers) terms bits [] given ended (Some []) (Some taken) flushed)
 
 -- the job was done by this session
 abbrev pub HasDone : Job → Session → Type 0
@@ -60,17 +65,17 @@ HasDone job s =
     (write_failures s.writer.device) s.answer job
 
 -- the stream was followed by it
-abbrev pub HasFollowed : Terms → Option ℕ → Session → Type 0
-HasFollowed terms bits s =
+abbrev pub HasFollowed : Terms → Option ℕ → ℕ → Session → Type 0
+HasFollowed terms bits workers s =
     IsFollowed (given_by s.reader.device) (has_ended s.reader.device) (read_failures s.reader.device) (taken_by s.writer.device) (is_flushed s.writer.device)
-    (write_failures s.writer.device) s.answer terms bits
+    (write_failures s.writer.device) s.answer terms bits workers
 
 -- the request was done by this session
 abbrev pub DoesAsked : Request → Session → Type 0
 DoesAsked (Work job progress) s = HasDone job s
-DoesAsked (Follow input rules) s = HasFollowed (record { rules = rules; gaps = input.gaps }) input.bits s
+DoesAsked (Follow input rules workers) s = HasFollowed (record { rules = rules; gaps = input.gaps }) input.bits workers s
 
 -- the request asks for the progress of its job
 abbrev pub asks_for_progress : Request → Bool
 asks_for_progress (Work job progress) = progress
-asks_for_progress (Follow input rules) = false
+asks_for_progress (Follow input rules workers) = false

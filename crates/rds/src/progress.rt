@@ -280,6 +280,10 @@ fn length_of(job: &Job) -> Length {
             Some(bits) => Length::Asked(bits),
             None => Length::Read(if input.hex { 4 } else { 8 }),
         },
+        Job::Soft { input, .. } => match input.bits {
+            Some(bits) => Length::Asked(bits),
+            None => Length::Read(1),
+        },
         Job::Encode { .. } => Length::Read(0),
     }
 }
@@ -291,6 +295,6 @@ fn most_pieces(job: &Job) -> u64 {
             Cuts::Even(pieces) => *pieces,
             Cuts::At(places) => (places.len() as u64).saturating_add(1),
         },
-        Job::Scan(..) | Job::Encode { .. } => 0,
+        Job::Scan(..) | Job::Soft { .. } | Job::Encode { .. } => 0,
     }
 }

@@ -2,14 +2,14 @@
 //!
 //! No contract can name the bytes that the system will give or keep. So a session returns both devices with their
 //! histories: the bytes that reads gave, and the bytes that writes took.
-ghost use Rattle.std.specs.Prelude.{◌≡◌, Err};
+ghost use Rattle.std.specs.Prelude.{◌≡◌, Err, IfErr};
 ghost use Rattle.rds.specs.Fresh.{IsUnread, IsUnwritten};
-ghost use Rattle.rds.specs.Session.{DoesAsked, HasDone, HasFollowed};
-ghost use Rattle.rds_tool.specs.Refusals.{of_sync};
+ghost use Rattle.rds.specs.Session.{DoesAsked, HasDone, HasFollowed, RefusesWorkers};
 
 use crate::progress::{Console, Progress, Reporting, Teller};
 use crate::sealed::Sealed;
-use rds_sync::{Rules, SyncError};
+use rds_crew::MOST_WORKERS;
+use rds_sync::Rules;
 use rds_tool::{
     FromRead, Input, Job, Request, RuleNumbers, ToWrite, ToolError, follow, transcribe,
     transcribe_gated,
@@ -49,7 +49,9 @@ pub fn do_request<C: Threads + Sync, T: Console>(
             }
             None => run_untold(alloc, crew, reader, writer, job),
         },
-        Request::Follow(input, rules) => run_stream(alloc, reader, writer, input, *rules),
+        Request::Follow(input, rules, workers) => run_stream(
+            alloc, crew, reader, writer, input, *rules, *workers,
+        ),
     }
 }
 
@@ -94,38 +96,81 @@ fn run_untold<C: Threads + Sync>(
     }
 }
 
-/// Lists a stream as it comes, if its rules are within their ranges.
-fn run_stream(
+/// Lists a stream as it comes, if its rules and the number of workers are within their ranges.
+fn run_stream<C: Threads + Sync>(
     alloc: Global,
+    crew: &C,
     reader: Sealed<FromRead<Stdin>>,
     writer: Sealed<ToWrite<Stdout>>,
     input: &Input,
     numbers: RuleNumbers,
+    workers: u32,
 ) -> Session
     requires reader { IsUnread reader }
     requires writer { IsUnwritten writer }
-    ensures { HasFollowed (record { rules = numbers; gaps = input.now.gaps }) input.now.bits result }
+    ensures { HasFollowed (record { rules = numbers; gaps = input.now.gaps }) input.now.bits workers result }
 {
     match Rules::of(alloc, numbers) {
-        Ok(rules) => follow_by(alloc, reader, writer, input, &rules),
+        Ok(rules) => follow_if_few(alloc, crew, reader, writer, input, &rules, workers),
+        Err(error) => refused_session(reader, writer, ToolError::from(error)),
+    }
+}
+
+/// Lists a stream by these rules, if the number of workers is within its range.
+fn follow_if_few<C: Threads + Sync>(
+    alloc: Global,
+    crew: &C,
+    reader: Sealed<FromRead<Stdin>>,
+    writer: Sealed<ToWrite<Stdout>>,
+    input: &Input,
+    rules: &Rules,
+    workers: u32,
+) -> Session
+    requires reader { IsUnread reader }
+    requires writer { IsUnwritten writer }
+    ensures { HasFollowed (record { rules = rules.now; gaps = input.now.gaps }) input.now.bits workers result }
+{
+    match check_workers(workers) {
+        Ok(()) => follow_by(alloc, crew, reader, writer, input, rules, workers),
         Err(error) => refused_session(reader, writer, error),
     }
 }
 
-fn follow_by(
+/// Refuses a number of workers out of its range.
+fn check_workers(workers: u32) -> Result<(), ToolError>
+    ensures { IfErr result (λ error. RefusesWorkers workers error) }
+{
+    if workers < 1 || workers > MOST_WORKERS {
+        return Err(ToolError::CrewRange);
+    }
+    Ok(())
+}
+
+fn follow_by<C: Threads + Sync>(
     alloc: Global,
+    crew: &C,
     mut reader: Sealed<FromRead<Stdin>>,
     mut writer: Sealed<ToWrite<Stdout>>,
     input: &Input,
     rules: &Rules,
+    workers: u32,
 ) -> Session
     requires reader { IsUnread reader }
     requires writer { IsUnwritten writer }
-    ensures { HasFollowed (record { rules = rules.now; gaps = input.now.gaps }) input.now.bits result }
+    ensures { HasFollowed (record { rules = rules.now; gaps = input.now.gaps }) input.now.bits workers result }
 {
     let bits = input.bits;
     let gaps = input.gaps.as_slice();
-    let answer = follow(alloc, &mut reader, &mut writer, rules, bits, gaps);
+    let answer = follow(
+        crew,
+        alloc,
+        &mut reader,
+        &mut writer,
+        rules,
+        bits,
+        gaps,
+        workers,
+    );
     Session {
         reader,
         writer,
@@ -137,15 +182,15 @@ fn follow_by(
 fn refused_session(
     reader: Sealed<FromRead<Stdin>>,
     writer: Sealed<ToWrite<Stdout>>,
-    error: SyncError,
+    error: ToolError,
 ) -> Session
-    ensures answer { result.answer ≡ Err (of_sync error) }
+    ensures answer { result.answer ≡ Err error }
     ensures reader { result.reader ≡ reader }
     ensures writer { result.writer ≡ writer }
 {
     Session {
         reader,
         writer,
-        answer: Err(error.into()),
+        answer: Err(error),
     }
 }

@@ -9,14 +9,16 @@ use Rattle.rds_abi.specs.Asked.{AreGiven, AreReserved, Asked, IsLawful, IsRecord
 use Rattle.rds_abi.specs.Blocks.{RefusesCorrection}
 use Rattle.rds_abi.specs.Exclusion.{Exclude, ReasonsExclude, WithRoom}
 use Rattle.rds_abi.specs.Stream.{AreLast, IsFollowed, IsLeft, RefusesEnd, RefusesFollowed, RefusesLast, RefusesPush, RefusesStream, place_after, terms_of}
+use Rattle.rds_abi.specs.Soft.{IsMargin, IsPushed, RefusesSoft}
 use Rattle.rds_abi.specs.Ranges.{IsLeftState, IsRun, RefusesPlaces, RefusesRun}
 use Rattle.rds_abi.specs.Names.{RefusesName}
 use Rattle.rds_abi.specs.declared.layout.RdsGap.{RdsGap}
 use Rattle.rds_abi.specs.declared.layout.RdsRules.{RdsRules}
+use Rattle.rds_abi.specs.declared.layout.RdsSoft.{RdsSoft}
 use Rattle.rds_abi.specs.declared.layout.RdsState.{RdsState}
 use Rattle.rds_abi.specs.declared.layout.RdsStream.{RdsStream}
 use Rattle.rds_abi.specs.declared.refusal.Refusal.{Refusal}
-use Rattle.rds_abi.specs.declared.refusal.Refusal.TheVariants.{BadGaps, BitsPastBytes, BlockRange, BurstRange, LossRange, NoRefusal, OffsetRange, OutOfMemory, PlaceRange, ReachRange, ReservedField, ShareRange, SmallRoom, TooLong, UnlawfulState}
+use Rattle.rds_abi.specs.declared.refusal.Refusal.TheVariants.{BadGaps, BitsPastBytes, BlockRange, BurstRange, LossRange, MarginRange, NoRefusal, OffsetRange, OutOfMemory, PlaceRange, ReachRange, ReservedField, ShareRange, SmallRoom, TooLong, UnlawfulState}
 
 -- what is lawful can be refused only for lack of memory
 abbrev pub Leaves : Type 0 → (Refusal → Type 0) → Type 0
@@ -252,6 +254,16 @@ name-excludes number room NoRefusal other a b = absurd b
 name-excludes number room SmallRoom other a b = absurd b
 name-excludes number room one other a b = absurd a
 
+-- a margin first, and then what `push` looks at
+module _ (rules : RdsRules) (gaps : List RdsGap) (margin : ℕ) (s : RdsSoft) (bytes : List ℕ) where
+  pub soft-excludes : Exclude (RefusesSoft rules gaps margin s bytes)
+  soft-excludes =
+      in-turn (only-exclude (IsMargin margin → ⊥) MarginRange) (only-leaves (λ lawful not. not lawful)) (push-excludes rules gaps s.stream bytes)
+
+  pub soft-leaves : Leaves (IsPushed rules gaps margin s bytes) (RefusesSoft rules gaps margin s bytes)
+  soft-leaves lawful reason a =
+      in-turn-leaves (only-leaves (λ is not. not is)) (push-leaves rules gaps s.stream bytes) (lawful.margin_is, (lawful.followed, lawful.fits)) reason a
+
 -- ---- the calls
 
 pub reasons-exclude : ReasonsExclude
@@ -259,6 +271,7 @@ reasons-exclude = record {
   whole = λ a. with-room (whole-excludes a) (whole-leaves a);
   range = λ a from to s. with-room (range-excludes a from to s) (range-leaves a from to s);
   push = λ rules gaps s bytes. with-room (push-excludes rules gaps s bytes) (push-leaves rules gaps s bytes);
+  push_soft = λ rules gaps margin s bytes. with-room (soft-excludes rules gaps margin s bytes) (soft-leaves rules gaps margin s bytes);
   finish = λ rules gaps s. with-room (followed-excludes rules gaps s) (followed-leaves rules gaps s);
   finish_with = ended;
   correct = correct-excludes;

@@ -18,7 +18,7 @@ use Rattle.rds_abi.specs.Ranges.{state_of}
 use Rattle.rds_abi.specs.Layout.{item_in_c}
 use Rattle.rds_abi.specs.declared.layout.RdsStream.{RdsStream}
 use Rattle.rds_abi.specs.declared.refusal.Refusal.{Refusal}
-use Rattle.rds_abi.specs.declared.refusal.Refusal.TheVariants.{BadGaps, BitsPastBytes, BlockRange, BurstRange, LossRange, NoRefusal, OffsetRange, OutOfMemory, PlaceRange, ReachRange, ReservedField, ShareRange, SmallRoom, TooLong, UnlawfulState}
+use Rattle.rds_abi.specs.declared.refusal.Refusal.TheVariants.{BadGaps, BitsPastBytes, BlockRange, BurstRange, LossRange, MarginRange, NoRefusal, OffsetRange, OutOfMemory, PlaceRange, ReachRange, ReservedField, ShareRange, SmallRoom, TooLong, UnlawfulState}
 
 -- terms of the same rules are laid out alike
 same-laid : (one other : LiveOf) → one.terms.rules ≡ other.terms.rules → other ≡ record { terms = other.terms; tail = one.tail; place = one.place; state = one.state; totals = one.totals } → (s : RdsStream)
@@ -73,6 +73,7 @@ module _ (all near : Terms) (s : RdsStream) (before len : ℕ) (is : IsNear all 
   refused-near OffsetRange none = absurd none
   refused-near NoRefusal none = absurd none
   refused-near ReservedField none = absurd none
+  refused-near MarginRange none = absurd none
 
   -- bytes that are in the part
   module _ (bytes : List ℕ) (begins : before ≡ before_tail (stream_of all s))

@@ -3,10 +3,12 @@ use Rattle.std.specs.Prelude.{◌≡◌, ℕ, ◌^◌, ◌≤◌, ◌⊎◌, Lis
 use Rattle.rds_abi.specs.Asked.{Asked, IsLawful, Refuses}
 use Rattle.rds_abi.specs.Blocks.{RefusesCorrection}
 use Rattle.rds_abi.specs.Stream.{AreLast, IsFollowed, RefusesEnd, RefusesFollowed, RefusesPush, place_after}
+use Rattle.rds_abi.specs.Soft.{IsPushed, RefusesSoft}
 use Rattle.rds_abi.specs.Ranges.{IsRun, RefusesRun}
 use Rattle.rds_abi.specs.Names.{RefusesName}
 use Rattle.rds_abi.specs.declared.layout.RdsGap.{RdsGap}
 use Rattle.rds_abi.specs.declared.layout.RdsRules.{RdsRules}
+use Rattle.rds_abi.specs.declared.layout.RdsSoft.{RdsSoft}
 use Rattle.rds_abi.specs.declared.layout.RdsState.{RdsState}
 use Rattle.rds_abi.specs.declared.layout.RdsStream.{RdsStream}
 use Rattle.rds_abi.specs.declared.refusal.Refusal.{Refusal}
@@ -27,6 +29,8 @@ pub record ReasonsExclude : Type 0 where
   pub range : (a : Asked) (from to : ℕ) (s : RdsState) → Exclude (WithRoom (IsRun a from to s) (RefusesRun a from to s))
   pub push : (rules : RdsRules) (gaps : List RdsGap) (s : RdsStream) (bytes : List ℕ)
       → Exclude (WithRoom (IsFollowed rules gaps s × (place_after s bytes ≤ 2 ^ 36)) (RefusesPush rules gaps s bytes))
+  pub push_soft : (rules : RdsRules) (gaps : List RdsGap) (margin : ℕ) (s : RdsSoft) (bytes : List ℕ)
+      → Exclude (WithRoom (IsPushed rules gaps margin s bytes) (RefusesSoft rules gaps margin s bytes))
   pub finish : (rules : RdsRules) (gaps : List RdsGap) (s : RdsStream)
       → Exclude (WithRoom (IsFollowed rules gaps s) (RefusesFollowed rules gaps s))
   pub finish_with : (rules : RdsRules) (gaps : List RdsGap) (s : RdsStream) (bytes : List ℕ) (bits : ℕ)

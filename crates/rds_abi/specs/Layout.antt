@@ -11,6 +11,13 @@ use Rattle.rds_sync.specs.declared.item.Item.TheVariants.{Acquired, Group, LostL
 use Rattle.rds_sync.specs.declared.item.Version.{Version}
 use Rattle.rds_sync.specs.declared.item.Version.TheVariants.{A, B, Unknown}
 use Rattle.rds_sync.specs.declared.totals.Totals.{Totals}
+use Rattle.rds_soft.specs.declared.soft_reading.SoftReading.{SoftReading}
+use Rattle.rds_soft.specs.declared.soft_reading.SoftReading.TheVariants as Soft
+use Rattle.rds_soft.specs.declared.soft_item.SoftBlock.{SoftBlock}
+use Rattle.rds_soft.specs.declared.soft_item.SoftBlock.TheVariants.{Missing as SoftMissing, Read as SoftRead}
+use Rattle.rds_soft.specs.declared.soft_item.SoftItem.{SoftItem}
+use Rattle.rds_soft.specs.declared.soft_item.SoftItem.TheVariants.{Acquired as SoftAcquired, Group as InSoft, LostLock as SoftLostLock}
+use Rattle.rds_soft.specs.Nearest.{mask_of}
 use Rattle.rds_abi.specs.declared.layout.RdsBlock.{RdsBlock}
 use Rattle.rds_abi.specs.declared.layout.RdsItem.{RdsItem}
 use Rattle.rds_abi.specs.declared.layout.RdsTotals.{RdsTotals}
@@ -81,3 +88,27 @@ item_in_c (Group g) = record {
 }
 item_in_c (LostLock a) =
     record { place = a; blocks = no_block ∷ no_block ∷ no_block ∷ no_block ∷ []; what = 3; number = 0; version = 0; conflict = 0; unused = 0 }
+
+-- ---- read again from symbols: a corrected block has the mask of its flips
+
+abbrev pub soft_reading_in_c : SoftReading → RdsBlock
+soft_reading_in_c Soft.Lost = record { burst = 0; info = 0; kind = 1; offset = 0 }
+soft_reading_in_c (Soft.Valid o info) = record { burst = 0; info = info; kind = 2; offset = offset_in_c o }
+soft_reading_in_c (Soft.Corrected o info flips) = record { burst = mask_of flips; info = info; kind = 3; offset = offset_in_c o }
+
+abbrev pub soft_block_in_c : SoftBlock → RdsBlock
+soft_block_in_c SoftMissing = no_block
+soft_block_in_c (SoftRead reading) = soft_reading_in_c reading
+
+abbrev pub soft_item_in_c : SoftItem → RdsItem
+soft_item_in_c (InSoft g) = record {
+  place = g.place;
+  blocks = map soft_block_in_c g.blocks;
+  what = 2;
+  number = kind_in_c g.kind;
+  version = version_in_c g.version;
+  conflict = if g.conflict then 1 else 0;
+  unused = 0;
+}
+soft_item_in_c (SoftAcquired a x) = item_in_c (Acquired a x)
+soft_item_in_c (SoftLostLock a) = item_in_c (LostLock a)

@@ -5,5 +5,6 @@ pub mod Blocks
 pub mod Names
 pub mod Ranges
 pub mod Stream
+pub mod Soft
 pub mod Exclusion
 pub mod Examples

@@ -2,7 +2,7 @@
 -- `name` and `of_number` answer them.
 use Rattle.std.specs.Prelude.{ℕ, List, codes}
 use Rattle.rds_abi.specs.declared.refusal.Refusal.{Refusal}
-use Rattle.rds_abi.specs.declared.refusal.Refusal.TheVariants.{BadGaps, BitsPastBytes, BlockRange, BurstRange, LossRange, NoRefusal, OffsetRange, OutOfMemory, PlaceRange, ReachRange, ReservedField, ShareRange, SmallRoom, TooLong, UnlawfulState}
+use Rattle.rds_abi.specs.declared.refusal.Refusal.TheVariants.{BadGaps, BitsPastBytes, BlockRange, BurstRange, LossRange, MarginRange, NoRefusal, OffsetRange, OutOfMemory, PlaceRange, ReachRange, ReservedField, ShareRange, SmallRoom, TooLong, UnlawfulState}
 
 abbrev pub number_of : Refusal → ℕ
 number_of BurstRange = 1
@@ -20,6 +20,7 @@ number_of BlockRange = 67
 number_of OffsetRange = 68
 number_of NoRefusal = 69
 number_of ReservedField = 71
+number_of MarginRange = 75
 
 abbrev pub name_of : Refusal → List ℕ
 name_of BurstRange = codes "BurstRange"
@@ -37,3 +38,4 @@ name_of BlockRange = codes "BlockRange"
 name_of OffsetRange = codes "OffsetRange"
 name_of NoRefusal = codes "NoRefusal"
 name_of ReservedField = codes "ReservedField"
+name_of MarginRange = codes "MarginRange"

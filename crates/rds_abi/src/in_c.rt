@@ -1,10 +1,12 @@
 //! Items, blocks and totals, laid out for C.
 
 ghost use Rattle.std.specs.Prelude.{◌≡◌, [], ◌∷◌};
-ghost use Rattle.rds_abi.specs.Layout.{block_in_c, item_in_c, kind_in_c, no_block, offset_in_c, reading_in_c, totals_in_c, version_in_c};
+ghost use Rattle.rds_abi.specs.Layout.{block_in_c, item_in_c, kind_in_c, no_block, offset_in_c, reading_in_c, soft_block_in_c, soft_item_in_c, soft_reading_in_c, totals_in_c, version_in_c};
+ghost use Rattle.rds_soft.specs.declared.soft_item.SoftItem.TheVariants.{Group as InSoft};
 
 use crate::layout::{RdsBlock, RdsItem, RdsTotals};
 use rds_code::{Offset, Reading};
+use rds_soft::{SoftBlock, SoftGroup, SoftItem, SoftReading, mask_of};
 use rds_sync::{Block, Group, Item, Totals, Version};
 
 /// Totals, for C.
@@ -155,6 +157,68 @@ fn group_in_c(group: Group) -> RdsItem
         number: kind_in_c(group.kind),
         version: version_in_c(group.version),
         conflict: u8::from(group.conflict),
+        unused: 0,
+    }
+}
+
+/// A soft reading, for C.
+fn soft_reading_in_c(reading: SoftReading) -> RdsBlock
+    ensures { result ≡ soft_reading_in_c reading }
+{
+    match reading {
+        SoftReading::Lost => reading_in_c(Reading::Lost),
+        SoftReading::Valid { offset, info } => reading_in_c(Reading::Valid { offset, info }),
+        SoftReading::Corrected {
+            offset,
+            info,
+            flips,
+        } => RdsBlock {
+            burst: mask_of(flips),
+            info,
+            kind: 3u8,
+            offset: offset_in_c(offset),
+        },
+    }
+}
+
+/// A block that was read again, for C.
+fn soft_block_in_c(block: SoftBlock) -> RdsBlock
+    ensures { result ≡ soft_block_in_c block }
+{
+    match block {
+        SoftBlock::Missing => RdsBlock::MISSING,
+        SoftBlock::Read(reading) => soft_reading_in_c(reading),
+    }
+}
+
+/// An item that was read again, for C.
+pub(crate) fn soft_item_in_c(item: SoftItem) -> RdsItem
+    ensures { result ≡ soft_item_in_c item }
+{
+    match item {
+        SoftItem::Acquired { place, number } => item_in_c(Item::Acquired { place, number }),
+        SoftItem::Group(group) => soft_group_in_c(group),
+        SoftItem::LostLock { place } => item_in_c(Item::LostLock { place }),
+    }
+}
+
+/// A group that was read again, for C.
+fn soft_group_in_c(again: SoftGroup) -> RdsItem
+    ensures { result ≡ soft_item_in_c (InSoft again) }
+{
+    let [one, two, three, four] = again.blocks;
+    RdsItem {
+        place: again.place,
+        blocks: [
+            soft_block_in_c(one),
+            soft_block_in_c(two),
+            soft_block_in_c(three),
+            soft_block_in_c(four),
+        ],
+        what: 2,
+        number: kind_in_c(again.kind),
+        version: version_in_c(again.version),
+        conflict: u8::from(again.conflict),
         unused: 0,
     }
 }

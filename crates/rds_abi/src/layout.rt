@@ -199,3 +199,13 @@ impl RdsStream {
         reserved: 0,
     };
 }
+
+/// The state of a stream of symbols between two chunks: 496 bytes, all 0 before the first call.
+#[repr(C)]
+#[derive(Clone, Copy)]
+pub struct RdsSoft {
+    /// The stream of the symbols' bits.
+    pub stream: RdsStream,
+    /// The last 240 symbols that were taken, after zeros if there are fewer.
+    pub symbols: [i8; 240],
+}

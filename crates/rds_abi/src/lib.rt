@@ -8,6 +8,7 @@
 //! - [`totals`] and [`items`] of a recording that is handed over whole.
 //! - [`run`] and [`finish_run`]: the same from range to range, by an [`RdsState`] that the caller keeps.
 //! - [`push`], and [`finish`] or [`finish_with`]: a stream chunk by chunk, by an [`RdsStream`] that the caller keeps.
+//! - [`push_soft`]: a stream of symbols, by an [`RdsSoft`] that the caller keeps.
 //! - [`remainder`], [`correct`] and [`encode`]: single blocks and groups.
 //! - [`Refusal`]: why a call is refused, with its number and name. By [`laws`] no two reasons hold at once.
 //! - [`RdsTotals`], [`RdsItem`], [`RdsBlock`], [`RdsGap`], [`RdsRules`], [`RdsWords`], [`RdsPacked`]: the
@@ -30,6 +31,7 @@ mod whole; // A recording that is handed over whole.
 mod part; // The part of a recording that a run hears.
 mod ranges; // A run from range to range.
 mod stream; // A stream chunk by chunk.
+mod soft; // A stream of symbols.
 mod blocks; // Single blocks.
 mod groups; // Groups to bytes.
 mod names; // Names and the version.
@@ -39,10 +41,12 @@ pub mod laws; // The refusals exclude each other.
 pub use blocks::{correct, remainder};
 pub use groups::encode;
 pub use layout::{
-    RdsBlock, RdsGap, RdsItem, RdsPacked, RdsRules, RdsState, RdsStream, RdsTotals, RdsWords,
+    RdsBlock, RdsGap, RdsItem, RdsPacked, RdsRules, RdsSoft, RdsState, RdsStream, RdsTotals,
+    RdsWords,
 };
 pub use names::{VERSION, refusal_name};
 pub use ranges::{finish_run, run};
 pub use refusal::Refusal;
+pub use soft::push_soft;
 pub use stream::{check, finish, finish_with, push};
 pub use whole::{items, totals};

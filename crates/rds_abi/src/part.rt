@@ -67,7 +67,7 @@ pub(crate) fn near(gaps: &[RdsGap], before: u64, len: u64) -> &[RdsGap]
 }
 
 /// The gaps in the part that begins at `before` and has `len` places, by their places in the part.
-fn gaps_within(
+pub(crate) fn gaps_within(
     alloc: Global,
     gaps: &[RdsGap],
     before: u64,

@@ -56,6 +56,9 @@ pub enum Refusal {
     /// A reserved field of the rules is not 0.
     #[error("a reserved field that is not 0")]
     ReservedField,
+    /// The margin is not 1 to 127.
+    #[error("the margin is not 1 to 127")]
+    MarginRange,
 }
 
 impl Refusal {
@@ -81,6 +84,7 @@ impl Refusal {
             Refusal::OffsetRange => 68,
             Refusal::NoRefusal => 69,
             Refusal::ReservedField => 71,
+            Refusal::MarginRange => 75,
         }
     }
 
@@ -105,6 +109,7 @@ impl Refusal {
             68 => Some(Refusal::OffsetRange),
             69 => Some(Refusal::NoRefusal),
             71 => Some(Refusal::ReservedField),
+            75 => Some(Refusal::MarginRange),
             _ => None,
         }
     }
@@ -129,6 +134,7 @@ impl Refusal {
             Refusal::OffsetRange => "OffsetRange",
             Refusal::NoRefusal => "NoRefusal",
             Refusal::ReservedField => "ReservedField",
+            Refusal::MarginRange => "MarginRange",
         }
     }
 }

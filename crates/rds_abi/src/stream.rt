@@ -35,9 +35,9 @@ const MOST_BYTES: u64 = MOST_BITS / 8;
 const MAGIC: u32 = 0x3153_4452;
 
 /// How many bytes a decoder takes at once at most, and how many items a byte may complete.
-const AT_ONCE: usize = 960;
+pub(crate) const AT_ONCE: usize = 960;
 
-const ITEMS_A_BYTE: usize = 16;
+pub(crate) const ITEMS_A_BYTE: usize = 16;
 
 /// Totals, from C.
 fn totals_from_c(totals: RdsTotals) -> Totals
@@ -58,9 +58,9 @@ fn totals_from_c(totals: RdsTotals) -> Totals
 
 /// The terms of a stream: the rules and the gaps.
 #[derive(Drop)]
-struct StreamTerms {
-    rules: Rules,
-    gaps: Vec<(u64, u64)>,
+pub(crate) struct StreamTerms {
+    pub(crate) rules: Rules,
+    pub(crate) gaps: Vec<(u64, u64)>,
 }
 
 impl Model for StreamTerms {
@@ -97,7 +97,7 @@ fn told_of(alloc: Global, rules: RdsRules, gaps: &[RdsGap]) -> Result<StreamTerm
 
 /// The terms of a part of a stream, from C: the rules, and the gaps near the part that begins at `before` and
 /// has `len` places. It takes memory only for these gaps.
-fn told_near(
+pub(crate) fn told_near(
     alloc: Global,
     rules: RdsRules,
     gaps: &[RdsGap],
@@ -134,7 +134,7 @@ fn told_around(
 }
 
 /// The decoder of the stream that these numbers say.
-fn live_of<'r>(
+pub(crate) fn live_of<'r>(
     alloc: Global,
     told: &'r StreamTerms,
     stream: &RdsStream,
@@ -205,14 +205,14 @@ fn rules_in_c(rules: &Rules) -> RdsRules
 }
 
 /// How many of the last bytes of a stream are known.
-fn kept_of(stream: &RdsStream) -> u64
+pub(crate) fn kept_of(stream: &RdsStream) -> u64
     ensures { result ≡ min most_kept (stream.now.place / 8) }
 {
     MOST_KEPT.min(stream.place / 8)
 }
 
 /// The place from which the bits of a stream are known.
-fn known_from(stream: &RdsStream) -> u64
+pub(crate) fn known_from(stream: &RdsStream) -> u64
     ensures { result ≡ stream.now.place - 8 * min most_kept (stream.now.place / 8) }
 {
     stream.place - 8 * kept_of(stream)
@@ -230,7 +230,7 @@ fn tail_in_c(tail: &[u8]) -> [u8; 32]
 }
 
 /// What is known of a stream, for C.
-fn stream_in_c(rules: &Rules, live: &StreamDecoder<'_>) -> RdsStream
+pub(crate) fn stream_in_c(rules: &Rules, live: &StreamDecoder<'_>) -> RdsStream
     requires { live.now.terms.rules ≡ rules.now }
     ensures laid { result ≡ the_stream_in_c live.now }
     ensures says { the_stream_of live.now.terms result ≡ live.now }
@@ -400,7 +400,7 @@ fn go_on(
 }
 
 /// Refuses bytes with which a stream would be too long.
-fn refuse_long(place: u64, bytes: &[u8]) -> Result<(), Refusal>
+pub(crate) fn refuse_long(place: u64, bytes: &[u8]) -> Result<(), Refusal>
     requires { place ≤ 2 ^ 36 }
     ensures fits { OnOk result (place + 8 * length bytes.now ≤ 2 ^ 36) }
     ensures refused { IfErr result

@@ -14,4 +14,5 @@
 mod whole; // A recording that is handed over whole.
 mod ranges; // A run from range to range.
 mod stream; // A stream chunk by chunk.
+mod soft; // A stream of symbols.
 mod single; // Single blocks and groups, names and the version.

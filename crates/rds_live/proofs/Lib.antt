@@ -14,3 +14,4 @@ pub mod Rooms
 pub mod Moves
 pub mod Taking
 pub mod Sewing
+pub mod Listers

@@ -42,6 +42,12 @@ sewn live guess rest mark totals is met sum =
     ap (λ (t : Totals). record { terms = live.terms; tail = guess.tail; place = guess.place; state = guess.state; totals = t }) all
     ∙ ap (λ (g : LiveOf). record { terms = live.terms; tail = g.tail; place = g.place; state = g.state; totals = plus live.totals (totals_of (completed live rest)) }) same
 
+-- a guess that began in the state there
+pub guessed-there : (old next guess : LiveOf) (seam : List ℕ) (mark : State) (rest : List ℕ) → guess ≡ live_next (guessed (live_next old seam) mark) rest → next ≡ live_next old seam → mark ≡ next.state
+    → guess ≡ live_next (guessed next next.state) rest
+guessed-there old next guess seam mark rest is there met =
+    is ∙ ap (λ (l : LiveOf). live_next (guessed l mark) rest) (sym there) ∙ ap (λ (s : State). live_next (guessed next s) rest) met
+
 -- the numbers of a guess, which begins with a search at the same place
 pub guess-is : (live : LiveOf) (front seam tail : List ℕ) (place : ℕ) (search : State) (none : Totals) (guess : LiveOf) → tail ≡ last_bytes (live.tail ++ front) → place ≡ live.place + 8 * length front
     → guess ≡ live_next (record { terms = live.terms; tail = tail; place = place; state = search; totals = none }) seam

@@ -5,3 +5,4 @@ pub mod Places
 pub mod Room
 pub mod Keeping
 pub mod Next
+pub mod Listing

@@ -12,7 +12,7 @@ use std::thread::{Threads, join_mut};
 pub(crate) const SHARE: usize = 65_536;
 
 /// How many bytes a guess goes over before it is looked at. Over a sound signal it has the true state long before.
-const SEAM: usize = 4_096;
+pub(crate) const SEAM: usize = 4_096;
 
 /// Has the decoder count all of these bytes, by up to this number of threads.
 ///
@@ -89,7 +89,7 @@ fn count_both<R: Threads + Sync>(
 }
 
 /// How many of these bytes the first half of the workers counts.
-fn cut_for(len: usize, workers: u32) -> usize
+pub(crate) fn cut_for(len: usize, workers: u32) -> usize
     ensures { result ≤ len }
 {
     let workers = workers.max(1) as usize;

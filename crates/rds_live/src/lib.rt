@@ -74,6 +74,9 @@
 // In the order of reading: the decoder, what it keeps, and how a part of a stream becomes a recording.
 mod stream_decoder; // The decoder of a stream.
 mod stream_counter; // A stream that is counted by several workers.
+mod stream_lister; // A stream that is listed by several workers.
+mod item_rows; // The rows that these make.
+mod listed_halves; // Bytes that are listed by halves.
 mod halves; // Bytes that are counted by halves.
 mod room; // The last bytes, and those that come after them.
 mod gaps; // The gaps of a stream, and those of a part of it.
@@ -84,5 +87,7 @@ mod error; // Why a decoder that was kept as numbers is refused.
 
 pub use error::ResumeError;
 pub use gaps::may_have_gaps;
+pub use item_rows::ItemRows;
 pub use stream_counter::StreamCounter;
 pub use stream_decoder::{MOST_ITEMS, StreamDecoder, StreamEnd};
+pub use stream_lister::StreamLister;

@@ -126,8 +126,7 @@ fn append(gathered: &mut Vec<u8>, bytes: &[u8])
     requires { length gathered.old.items + length bytes.now ≤ vec_capacity gathered.old }
     ensures { gathered.new.items ≡ gathered.old.items ++ bytes.now }
 {
-    match gathered.extend_from_slice(bytes) {
-        Ok(()) => {}
-        Err(_) => unreachable!(),
-    }
+    let Ok(()) = gathered.extend_from_slice(bytes) else {
+        unreachable!()
+    };
 }

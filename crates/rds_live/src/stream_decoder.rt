@@ -274,6 +274,7 @@ impl<'r> StreamDecoder<'r> {
         ensures next { IfOk result (λ count. self.new ≡ live_next self.old (take count bytes.now)) }
         ensures completed { IfOk result (λ count. items.new.items
             ≡ completed self.old (take count bytes.now)) }
+        ensures small { IfOk result (λ count. IsWithin (8 * count) self.old.totals self.new.totals) }
         ensures only { IsOkUnless result StreamError.TooLong }
     {
         if bytes.len() as u64 > (MOST_BITS - self.place) / 8 {
@@ -415,14 +416,32 @@ impl<'r> StreamDecoder<'r> {
         ensures small { IsWithin (8 * length seam.now + 8 * length rest.now) self.old.totals self.new.totals }
     {
         self.count(seam);
-        if are_same(&self.state, &mark) {
-            self.totals = self.totals.plus(guess.totals);
-            self.room = guess.room;
-            self.place = guess.place;
-            self.state = guess.state;
-            return;
+        if self.is_in(mark) {
+            self.take_over(rest, guess);
+        } else {
+            self.count(rest);
         }
-        self.count(rest);
+    }
+
+    /// Whether it is in this state.
+    pub(crate) fn is_in(&self, mark: State) -> bool
+        ensures { result ≡ true → mark ≡ self.now.state }
+    {
+        self.state == mark
+    }
+
+    /// Takes over the count of these bytes from a guess that began in the same state.
+    pub(crate) fn take_over(&mut self, bytes: &[u8], guess: StreamDecoder<'r>)
+        requires guess { guess ≡ live_next (guessed self.old self.old.state) bytes.now }
+        requires few { IsAtMost (most_counted (8 * length bytes.now)) guess.totals }
+        ensures next { self.new ≡ live_next self.old bytes.now }
+        ensures small { IsWithin (8 * length bytes.now) self.old.totals self.new.totals }
+    {
+        let _ = bytes;
+        self.totals = self.totals.plus(guess.totals);
+        self.room = guess.room;
+        self.place = guess.place;
+        self.state = guess.state;
     }
 
     /// Its numbers are lawful, and its rules in their range.
@@ -556,13 +575,6 @@ impl<'r> StreamDecoder<'r> {
         let group = moved_end(&part, rules, end, before);
         Ok(stream_end_of(totals, group))
     }
-}
-
-/// Whether two states are the same.
-fn are_same(one: &State, other: &State) -> bool
-    ensures { result ≡ true → one.now ≡ other.now }
-{
-    one == other
 }
 
 /// Has the decoder take all of these bytes, and gives the items that they complete.

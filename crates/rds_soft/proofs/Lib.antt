@@ -10,3 +10,6 @@ pub mod LaneLemmas
 pub mod SymbolLemmas
 pub mod AgainLaws
 pub mod AgainLemmas
+pub mod ReadAgainLaws
+pub mod TotalsLemmas
+pub mod PackLemmas

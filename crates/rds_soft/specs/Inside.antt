@@ -2,3 +2,4 @@
 pub mod Lightest
 pub mod Rows
 pub mod Nearer
+pub mod Packed

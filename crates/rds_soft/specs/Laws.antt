@@ -14,6 +14,7 @@ use Rattle.rds_soft.specs.declared.soft_item.SoftItem.{SoftItem}
 use Rattle.rds_soft.specs.Nearest.{mask_of, weight, top, Turns, IsNearest}
 use Rattle.rds_soft.specs.Symbols.{hard_bits, hard_window, IsSoftReading}
 use Rattle.rds_soft.specs.Again.{symbols_heard, IsReadingHeard, IsBlockAgain, IsItemAgain}
+use Rattle.rds_soft.specs.ReadAgain.{item_again}
 
 -- no flips turn a window that is a wanted block already, and they weigh nothing
 abbrev pub NoneTurnsValid : Type 0
@@ -49,6 +50,11 @@ HasOneSoftReading = (symbols : List ℤ) (x : ℕ) (wanted : Wanted) (margin : �
 abbrev pub HasOneItemAgain : Type 0
 HasOneItemAgain = (b : Signal) (symbols : List ℤ) (margin : ℕ) (item : Item) (one other : SoftItem) → 1 ≤ margin
     → IsItemAgain b symbols margin item one → IsItemAgain b symbols margin item other → other ≡ one
+
+-- the item that `item_again` computes is one that the rule allows
+abbrev pub ItemsAreReadAgainSo : Type 0
+ItemsAreReadAgainSo = (b : Signal) (symbols : List ℤ) (margin : ℕ) (item : Item) → 1 ≤ margin → margin ≤ 127
+    → IsItemAgain b symbols margin item (item_again b symbols margin item)
 
 -- a recording of the bits of symbols has the windows of these symbols
 abbrev pub SymbolsHaveWindows : Type 0

@@ -2,6 +2,8 @@ pub mod Nearest
 pub mod Symbols
 pub mod SoftGroups
 pub mod Again
+pub mod ReadAgain
+pub mod SoftTotals
 pub mod Laws
 pub mod Inside
 pub mod Examples

@@ -1,7 +1,9 @@
 //! Items of a report, read again from the symbols of its recording.
 ghost use Rattle.std.specs.Prelude.{◌≡◌, ◌+◌, ◌*◌, ◌≤◌, Some, None, drop, length, nat_lt, take, if◌then◌else◌};
+ghost use Rattle.rds_soft.specs.ReadAgain.{symbols_of};
 ghost use Rattle.rds_soft.specs.Again.{IsBlockAgain, IsGroupAgain, symbols_heard as the_symbols_heard, was_read as the_was_read};
 
+use crate::lightest::SYMBOLS;
 use crate::margin::Margin;
 use crate::nearest::Search;
 use crate::soft_item::{SoftBlock, SoftGroup, SoftItem};
@@ -13,17 +15,17 @@ use rds_sync::{Block, Item};
 impl Search {
     ghost use Rattle.rds_soft.specs.Again.{IsItemAgain};
 
-    /// An item of a report, read again from the symbols of its recording: `symbols` are signed bytes, and bit i of the recording
-    /// is that between symbols i and i + 1. In a group each block that was read is read again, unless it is valid. A block that
+    /// An item of a report, read again from the symbols of its recording: the bytes of `symbols` are signed, and bit i of the
+    /// recording is that between symbols i and i + 1. In a group each block that was read is read again, unless it is valid. A block that
     /// touches a gap, or ends past the symbols, is lost. Acquisitions and losses stay as they are.
     pub fn read_again(
         &mut self,
         recording: &Recording,
-        symbols: &[i8],
+        symbols: &[u8],
         margin: Margin,
         item: &Item,
     ) -> SoftItem
-        ensures { IsItemAgain recording.now symbols.now margin item.now result }
+        ensures { IsItemAgain recording.now (symbols_of symbols.now) margin item.now result }
     {
         match *item {
             Item::Acquired { place, number } => SoftItem::Acquired { place, number },
@@ -44,7 +46,7 @@ impl Search {
 #[derive(Clone, Copy)]
 struct Source<'a> {
     recording: &'a Recording,
-    symbols: &'a [i8],
+    symbols: &'a [u8],
     /// The place of the first bit of the first block that was read.
     place: u64,
 }
@@ -56,7 +58,7 @@ fn group_again(
     margin: Margin,
     blocks: &[Block; 4],
 ) -> SoftGroup
-    ensures { IsGroupAgain source.now.recording.now source.now.symbols.now margin source.now.place blocks.now result }
+    ensures { IsGroupAgain source.now.recording.now (symbols_of source.now.symbols.now) margin source.now.place blocks.now result }
 {
     let [one, two, three, four] = blocks;
     let before_three = was_read(one) + was_read(two);
@@ -124,7 +126,7 @@ fn block_again(
     wanted: Wanted,
 ) -> SoftBlock
     requires { before ≤ 3 }
-    ensures { let heard = the_symbols_heard source.now.recording.now source.now.symbols.now (source.now.place + 26 * before) in
+    ensures { let heard = the_symbols_heard source.now.recording.now (symbols_of source.now.symbols.now) (source.now.place + 26 * before) in
         IsBlockAgain heard number wanted margin block.now result }
 {
     match *block {
@@ -143,7 +145,7 @@ fn block_again(
 /// The symbols of a block, if all are there and none of its bits is in a gap.
 fn symbols_heard(source: &Source<'_>, before: u64) -> Option<[i8; 27]>
     requires { before ≤ 3 }
-    ensures { result ≡ the_symbols_heard source.now.recording.now source.now.symbols.now (source.now.place + 26 * before) }
+    ensures { result ≡ the_symbols_heard source.now.recording.now (symbols_of source.now.symbols.now) (source.now.place + 26 * before) }
 {
     let bits = source.recording.len();
     if source.place >= bits {
@@ -158,11 +160,33 @@ fn symbols_heard(source: &Source<'_>, before: u64) -> Option<[i8; 27]>
 }
 
 /// The 27 symbols from a place on, if they are there.
-fn chunk_at(symbols: &[i8], first: usize) -> Option<[i8; 27]>
-    ensures { result ≡ (if nat_lt (first + 26) (length symbols.now) then Some (take 27 (drop first symbols.now)) else None) }
+fn chunk_at(symbols: &[u8], first: usize) -> Option<[i8; 27]>
+    ensures { result ≡ (if nat_lt (first + 26) (length (symbols_of symbols.now))
+        then Some (take 27 (drop first (symbols_of symbols.now))) else None) }
 {
-    match symbols.get(first..)?.first_chunk() {
+    match bytes_at(symbols, first) {
+        Some(bytes) => Some(signed(&bytes)),
+        None => None,
+    }
+}
+
+/// The 27 bytes from a place on, if they are there.
+fn bytes_at(bytes: &[u8], first: usize) -> Option<[u8; 27]>
+    ensures { result ≡ (if nat_lt (first + 26) (length bytes.now) then Some (take 27 (drop first bytes.now)) else None) }
+{
+    match bytes.get(first..)?.first_chunk() {
         Some(chunk) => Some(*chunk),
         None => None,
     }
+}
+
+/// 27 bytes as symbols.
+fn signed(bytes: &[u8; 27]) -> [i8; 27]
+    ensures { result ≡ symbols_of bytes.now }
+{
+    let mut symbols = [0i8; 27];
+    for i in 0..SYMBOLS {
+        symbols[i] = bytes[i].cast_signed();
+    }
+    symbols
 }

@@ -1,7 +1,8 @@
 //! Laws of the nearest block. Each call does nothing: its contract is a law of the definitions.
-ghost use Rattle.rds_soft.specs.Laws.{NoneTurnsValid, HasOneNearest, SureSymbolsStay, CorrectsSent, HasOneSoftReading, HasOneItemAgain, SymbolsHaveWindows, ReadsFromSymbols};
+ghost use Rattle.rds_soft.specs.SoftTotals.{SoftTotalsJoin};
+ghost use Rattle.rds_soft.specs.Laws.{NoneTurnsValid, HasOneNearest, SureSymbolsStay, CorrectsSent, HasOneSoftReading, HasOneItemAgain, ItemsAreReadAgainSo, SymbolsHaveWindows, ReadsFromSymbols};
 
-use rds_code::laws::readings_follow_the_rule;
+use rds_code::laws::{readings_follow_the_rule, remainders_are_linear};
 
 /// A window that is valid needs no flips, which weigh nothing.
 pub fn valid_blocks_need_no_flips()
@@ -27,6 +28,18 @@ pub fn sent_blocks_are_corrected()
 pub fn items_are_read_again_alike()
     ensures readings { HasOneSoftReading }
     ensures items { HasOneItemAgain }
+{}
+
+/// `item_again` computes the item that is read again.
+pub fn items_are_read_again_so()
+    ensures { ItemsAreReadAgainSo }
+{
+    remainders_are_linear();
+}
+
+/// The totals of two lists, one after the other, are those of each together.
+pub fn soft_totals_join()
+    ensures { SoftTotalsJoin }
 {}
 
 /// If a recording's bits are those of symbols, its windows are those of 27 symbols, and each block that it reads is read again as

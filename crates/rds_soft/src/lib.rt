@@ -21,6 +21,7 @@
 //! - [`Search::read`]: 27 symbols, read as a block, a [`SoftReading`]: valid, corrected or lost. [`mask_of`]: the bits that flips
 //!   invert.
 //! - [`Search::read_again`]: an item of a report, read again from the symbols of its recording, a [`SoftItem`].
+//! - [`pack_bits`]: the packed bits of symbols. [`SoftTotals`]: the totals of items that were read again.
 //! - [`laws`]: at most one block is nearest, which blocks are corrected to what was sent, and that items are read again in one way.
 //!
 //! # What callers may rely on
@@ -32,7 +33,7 @@
 //!
 //! # What it leaves to others
 //!
-//! The bits of symbols as a recording, and its report: when a receiver is in sync follows from the hard bits alone. What the
+//! The report of the bits of symbols: when a receiver is in sync follows from the hard bits alone. What the
 //! confidence of a symbol is.
 #![tactic(auto)]
 
@@ -46,10 +47,14 @@ mod soft_reading; // What symbols may say.
 mod symbols; // How symbols are read.
 mod soft_item; // Items as symbols tell them.
 mod again; // Items read again.
+mod soft_totals; // Their totals.
+mod pack; // Symbols as the bits between them.
 pub mod laws; // The laws of the nearest block.
 
 pub use correction::Correction;
 pub use margin::Margin;
 pub use nearest::Search;
+pub use pack::pack_bits;
 pub use soft_item::{SoftBlock, SoftGroup, SoftItem};
 pub use soft_reading::{SoftReading, mask_of};
+pub use soft_totals::SoftTotals;

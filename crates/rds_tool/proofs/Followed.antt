@@ -19,7 +19,7 @@ use Rattle.rds_sync.specs.Loss.{IsLossRule}
 use Rattle.rds_sync.specs.Step.{items_of_end, run}
 use Rattle.rds_sync.specs.declared.totals.Totals.{Totals}
 use Rattle.rds_sync.specs.Totals.{totals_of}
-use Rattle.rds_tool.specs.Following.{AllCount, EndsShort, IsReadAsFar, IsTooLong, MayBreakEarly, MayBreakOff, StopsBetweenRows, StopsInRows, counted, listed, rows_so_far, stream_text}
+use Rattle.rds_tool.specs.Following.{AllCount, EndsShort, IsReadAsFar, IsTooLong, MayBreakEarly, MayBreakOff, StopsBetweenRows, StopsInRows, counted, listed, most_read, rows_so_far, stream_text}
 use Rattle.rds_tool.specs.Input.{and_then, claimed, first_bits}
 use Rattle.rds_tool.specs.Inside.Streams.{IsFollowed, IsNearEnd, IsPlaceOf, IsShortEnough, bits_left}
 use Rattle.rds_tool.specs.Listing.{item_row, report_text, totals_text}
@@ -44,7 +44,7 @@ lent_whole len buf rest long = subst (λ m. take m (buf ++ rest) ≡ buf) long (
 pub front_is : (n len : ℕ) (all buf rest : List ℕ) → length buf ≡ len → all ≡ take len (buf ++ rest) → take n all ≡ take n buf
 front_is n len all buf rest long is = ap (take n) (is ∙ lent_whole len buf rest long)
 
-pub few_taken : (n : ℕ) (bytes buf : List ℕ) → bytes ≡ take n buf → length buf ≡ 65536 → length bytes ≤ 65536
+pub few_taken : {most : ℕ} (n : ℕ) (bytes buf : List ℕ) → bytes ≡ take n buf → length buf ≡ most → length bytes ≤ most
 few_taken n bytes buf is long = let count : length bytes ≡ length (take n buf) = ap (λ (xs : List ℕ). length xs) is in omega (arith, count, length-take n buf, long)
 
 pub some_taken : (n : ℕ) (bytes buf : List ℕ) → bytes ≡ take n buf → (n ≡ 0 → ⊥) → n ≤ length buf → 0 < length bytes
@@ -55,8 +55,8 @@ pub fits_room : (n room : ℕ) (bytes buf : List ℕ) → bytes ≡ take n buf �
 fits_room n room bytes buf is within = let count : length bytes ≡ length (take n buf) = ap (λ (xs : List ℕ). length xs) is in omega (arith, count, length-take n buf, within)
 
 -- the last read gives a byte at most
-pub few_last : (n : ℕ) (bytes buf : List ℕ) → bytes ≡ take n buf → n ≤ 1 → length bytes ≤ 65536
-few_last n bytes buf is few = let count : length bytes ≡ length (take n buf) = ap (λ (xs : List ℕ). length xs) is in omega (arith, count, length-take n buf, few)
+pub few_last : (workers n : ℕ) (bytes buf : List ℕ) → bytes ≡ take n buf → n ≤ 1 → length bytes ≤ most_read workers
+few_last workers n bytes buf is few = let count : length bytes ≡ length (take n buf) = ap (λ (xs : List ℕ). length xs) is in omega (arith, count, length-take n buf, few)
 
 took_all : (n : ℕ) (bytes buf : List ℕ) → bytes ≡ take n buf → n ≤ length buf → length bytes ≡ n
 took_all n bytes buf is within = let count : length bytes ≡ length (take n buf) = ap (λ (xs : List ℕ). length xs) is in omega (arith, count, length-take n buf, within)
@@ -106,7 +106,7 @@ module _ (terms : Terms) (bits : Option ℕ) where
   followed_none live from old is = record { live_is = is; taken = Consumes-nil from; written = Appends-nil old; short = omega arith; all_count = all_none bits }
 
   -- nothing was read, and nothing written
-  pub nothing_done : (from old : Option (List ℕ)) → StopsBetweenRows terms bits from from old old
+  pub nothing_done : {most : ℕ} (from old : Option (List ℕ)) → StopsBetweenRows most terms bits from from old old
   nothing_done from old = ([], [], omega arith, all_none bits, Consumes-nil from, Appends-nil old)
 
   -- the listing of a stream begins with the rows so far
@@ -140,7 +140,7 @@ module _ (terms : Terms) (bits : Option ℕ) where
     is_place = place_of_all bits live.place heard place_is f.all_count
 
     -- nothing came after it
-    pub stops_here : (after : Option (List ℕ)) → Keeps to after → StopsBetweenRows terms bits from after old new
+    pub stops_here : {most : ℕ} (after : Option (List ℕ)) → Keeps to after → StopsBetweenRows most terms bits from after old new
     stops_here after kept =
         (heard, [], omega arith, f.all_count, subst (λ xs. Consumes from after xs) (sym (append-nil heard)) (Consumes-kept from to after heard f.taken kept), f.written)
 
@@ -165,7 +165,7 @@ module _ (terms : Terms) (bits : Option ℕ) where
         taken_more = Consumes-trans from to after heard bytes f.taken took_bytes
 
         -- these came after it, and no row of them was written
-        pub stops_behind : length bytes ≤ 65536 → StopsBetweenRows terms bits from after old new
+        pub stops_behind : {most : ℕ} → length bytes ≤ most → StopsBetweenRows most terms bits from after old new
         stops_behind few = (heard, bytes, few, f.all_count, taken_more, f.written)
 
         -- they are too many
@@ -198,9 +198,9 @@ module _ (terms : Terms) (bits : Option ℕ) where
                 }
 
             -- a beginning of their rows was written
-            pub stops_in_rows : RunsAreReports → IsLossRule terms.rules.loss → length bytes ≤ 65536
+            pub stops_in_rows : {most : ℕ} → RunsAreReports → IsLossRule terms.rules.loss → length bytes ≤ most
                 → ((before : List ℕ) → HasHeard live before → (rows : List ℕ) × HasRows live.terms before bytes rows × WritesPrefix new later (Ok rows))
-                → StopsInRows terms bits from after old later
+                → StopsInRows most terms bits from after old later
             stops_in_rows reports loss few wrote =
                 let (rows, more, prefix) = rows_by wrote in
                 let (written, rest, split, did) = prefix in
@@ -392,7 +392,7 @@ module _ (terms : Terms) (bits : Option ℕ) (live : LiveOf) (from to old new : 
               subst (λ (w : Result (List ℕ) ToolError). Writes old later w) (sym is) all
 
         -- a beginning of it was written
-        pub stops_at_end : length last ≤ 65536 → WritesPrefix new later (Ok text) → StopsInRows terms bits from after old later
+        pub stops_at_end : {most : ℕ} → length last ≤ most → WritesPrefix new later (Ok text) → StopsInRows most terms bits from after old later
         stops_at_end short (written, rest, split, did) =
             let front : List ℕ = rows_so_far terms heard in (
               heard,
@@ -473,9 +473,9 @@ pub after_no_write : {T X : Type 0} (r : Result T ToolError) (e : ToolError) →
 after_no_write {X = X} r e is h = subst (λ x. IfErr x (λ error. error ≢ Write → X)) (sym is) h
 
 -- the writer is as it was
-pub stops_untouched : {W : Type 0} (contents : W → Option (List ℕ)) (terms : Terms) (bits : Option ℕ) (from after old : Option (List ℕ)) (v w : W) → w ≡ v
-    → StopsBetweenRows terms bits from after old (contents v) → StopsBetweenRows terms bits from after old (contents w)
-stops_untouched contents terms bits from after old v w same h = subst (λ x. StopsBetweenRows terms bits from after old (contents x)) (sym same) h
+pub stops_untouched : {W : Type 0} {most : ℕ} (contents : W → Option (List ℕ)) (terms : Terms) (bits : Option ℕ) (from after old : Option (List ℕ)) (v w : W) → w ≡ v
+    → StopsBetweenRows most terms bits from after old (contents v) → StopsBetweenRows most terms bits from after old (contents w)
+stops_untouched {most = most} contents terms bits from after old v w same h = subst (λ x. StopsBetweenRows most terms bits from after old (contents x)) (sym same) h
 
 -- a fact that holds in any case holds if there is a success
 pub on_any_ok : {T E P : Type 0} (r : Result T E) → P → OnOk r P

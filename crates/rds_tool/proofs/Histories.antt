@@ -48,7 +48,7 @@ module _ (terms : Terms) (bits : Option ℕ) (live : LiveOf) (from to old new : 
   held_all : IsFollowed terms bits live (Some heard) (Some []) old new heard
   held_all = record { live_is = f.live_is; taken = sym (append-nil heard); written = f.written; short = f.short; all_count = f.all_count }
 
-  pub stops_all : StopsBetweenRows terms bits (Some heard) (Some []) old new
+  pub stops_all : {most : ℕ} → StopsBetweenRows most terms bits (Some heard) (Some []) old new
   stops_all = stops_here terms bits live (Some heard) (Some []) old new heard held_all (Some []) refl
 
   -- fewer bytes came than are claimed
@@ -114,13 +114,13 @@ heard_all (Err e) terms bits given given' bytes ended old new gave out wrote = t
 
 module _ (terms : Terms) (bits : Option ℕ) (given given' : List ℕ) (ended : Bool) (old new : Option (List ℕ)) (flushed : Bool) (e : ToolError) where
   -- before anything is read
-  pub broke_at_once : given' ≡ given → new ≡ old → (e ≢ Read) × (e ≢ Write) × (e ≢ BitsPastBytes) → (e ≡ TooLong → IsTooLong bits (Some []) (Some []))
-      → (e ≡ BadGaps → AreGaps (2 ^ 36) terms.gaps → ⊥) → BreaksOff terms bits given given' ended old new flushed e
-  broke_at_once same still other long gaps = record {
+  pub broke_at_once : {most : ℕ} → given' ≡ given → new ≡ old → (e ≢ Read) × (e ≢ Write) × (e ≢ BitsPastBytes) → (e ≡ TooLong → IsTooLong bits (Some []) (Some []))
+      → (e ≡ BadGaps → AreGaps (2 ^ 36) terms.gaps → ⊥) → BreaksOff most terms bits given given' ended old new flushed e
+  broke_at_once {most = most} same still other long gaps = record {
     bytes = [];
     gave = same ∙ sym (append-nil given);
     prompt = λ p. absurd (other.0 p);
-    between = λ _. subst (λ n. StopsBetweenRows terms bits (Some []) (Some []) old n) (sym still) (nothing_done terms bits (Some []) old);
+    between = λ _. subst (λ n. StopsBetweenRows most terms bits (Some []) (Some []) old n) (sym still) (nothing_done terms bits (Some []) old);
     within = λ p. absurd (other.1 p);
     too_long = long;
     past = λ p. absurd (other.2 p);
@@ -128,9 +128,9 @@ module _ (terms : Terms) (bits : Option ℕ) (given given' : List ℕ) (ended : 
   }
 
   -- at a read
-  pub broke_at_read : (bytes : List ℕ) → given' ≡ given ++ bytes → Appends old new (rows_so_far terms bytes) → IsFlushedAfter bytes flushed
-      → StopsBetweenRows terms bits (Some bytes) (Some []) old new → (e ≢ Write) × (e ≢ TooLong) × (e ≢ BadGaps)
-      → (e ≡ BitsPastBytes → EndsShort bits (Some bytes) (Some []) × (ended ≡ true)) → BreaksOff terms bits given given' ended old new flushed e
+  pub broke_at_read : {most : ℕ} (bytes : List ℕ) → given' ≡ given ++ bytes → Appends old new (rows_so_far terms bytes) → IsFlushedAfter bytes flushed
+      → StopsBetweenRows most terms bits (Some bytes) (Some []) old new → (e ≢ Write) × (e ≢ TooLong) × (e ≢ BadGaps)
+      → (e ≡ BitsPastBytes → EndsShort bits (Some bytes) (Some []) × (ended ≡ true)) → BreaksOff most terms bits given given' ended old new flushed e
   broke_at_read bytes gave wrote flush stops other short = record {
     bytes = bytes;
     gave = gave;
@@ -143,10 +143,10 @@ module _ (terms : Terms) (bits : Option ℕ) (given given' : List ℕ) (ended : 
   }
 
   -- after one
-  pub broke_after : (bytes : List ℕ) → given' ≡ given ++ bytes → (e ≢ Read) × (e ≢ BitsPastBytes)
-      → (e ≢ Write → StopsBetweenRows terms bits (Some bytes) (Some []) old new) → (e ≡ Write → StopsInRows terms bits (Some bytes) (Some []) old new)
+  pub broke_after : {most : ℕ} (bytes : List ℕ) → given' ≡ given ++ bytes → (e ≢ Read) × (e ≢ BitsPastBytes)
+      → (e ≢ Write → StopsBetweenRows most terms bits (Some bytes) (Some []) old new) → (e ≡ Write → StopsInRows most terms bits (Some bytes) (Some []) old new)
       → (e ≡ TooLong → IsTooLong bits (Some bytes) (Some [])) → (e ≡ BadGaps → AreGaps (claimed bits bytes) terms.gaps → ⊥)
-      → BreaksOff terms bits given given' ended old new flushed e
+      → BreaksOff most terms bits given given' ended old new flushed e
   broke_after bytes gave other stops in_rows long gaps = record {
     bytes = bytes;
     gave = gave;
@@ -159,9 +159,9 @@ module _ (terms : Terms) (bits : Option ℕ) (given given' : List ℕ) (ended : 
   }
 
 -- at the last write
-pub broke_at_write : {T : Type 0} (r : Result T ToolError) (terms : Terms) (bits : Option ℕ) (given given' bytes : List ℕ) (ended : Bool) (old new : Option (List ℕ)) (flushed : Bool)
-    → IfErr r (λ e. e ≡ Write) → given' ≡ given ++ bytes → (r ≡ Err Write → StopsInRows terms bits (Some bytes) (Some []) old new)
-    → IfErr r (BreaksOff terms bits given given' ended old new flushed)
+pub broke_at_write : {T : Type 0} {most : ℕ} (r : Result T ToolError) (terms : Terms) (bits : Option ℕ) (given given' bytes : List ℕ) (ended : Bool) (old new : Option (List ℕ)) (flushed : Bool)
+    → IfErr r (λ e. e ≡ Write) → given' ≡ given ++ bytes → (r ≡ Err Write → StopsInRows most terms bits (Some bytes) (Some []) old new)
+    → IfErr r (BreaksOff most terms bits given given' ended old new flushed)
 broke_at_write (Ok x) terms bits given given' bytes ended old new flushed kind gave rows = tt
 broke_at_write (Err e) terms bits given given' bytes ended old new flushed kind gave rows =
     let not : (k : ToolError) → Write ≢ k → e ≢ k = λ k other p. other (sym kind ∙ p) in

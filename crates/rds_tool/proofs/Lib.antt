@@ -26,3 +26,4 @@ pub mod Ordered
 pub mod Alike
 pub mod WellFormed
 pub mod HexDigits
+pub mod Softly

@@ -4,29 +4,27 @@ use Rattle.std.specs.Option.{option_map}
 use Rattle.std.specs.Str.{bytes_eq}
 use Rattle.std.proofs.lemmas.Slice.Eq.{bytes_eq-Decides}
 use Rattle.clap.specs.Words.{Row, Text}
-use Rattle.rds_sync.specs.Rules.{RuleNumbers}
-use Rattle.rds_tool.specs.CommandLine.{number_of, request_of, rules_of, settings_of, with_progress}
+use Rattle.rds_tool.specs.CommandLine.{number_of, report_job_of, request_of, stream_of, with_progress}
 use Rattle.rds_tool.specs.declared.job.Input.{Input}
-use Rattle.rds_tool.specs.declared.job.Job.TheVariants.{Encode, List as ListJob, Scan, Totals}
+use Rattle.rds_tool.specs.declared.job.Job.{Job}
+use Rattle.rds_tool.specs.declared.job.Job.TheVariants.{Encode, Scan}
 use Rattle.rds_tool.specs.declared.job.Request.TheVariants.{Follow}
-use Rattle.rds_tool.specs.declared.job.Settings.{Settings}
 
 module _ (name : Text) (rows : List Row) (input : Input) where
   pub of_scan : name ≡ codes "scan" → (read workers : Option ℕ) → read ≡ number_of (codes "workers") rows → read ≡ workers
       → option_map (λ n. with_progress rows (Scan input n)) workers ≡ request_of name rows input
   of_scan is read workers reads same = rw (is, sym same ∙ reads) refl
 
-  pub of_list : name ≡ codes "list" → (read settings : Option Settings) → read ≡ settings_of rows → read ≡ settings
-      → option_map (λ s. with_progress rows (ListJob input s)) settings ≡ request_of name rows input
-  of_list is read settings reads same = rw (is, sym same ∙ reads) refl
+  pub of_list : name ≡ codes "list" → (read job : Option Job) → read ≡ report_job_of rows true input → read ≡ job
+      → option_map (with_progress rows) job ≡ request_of name rows input
+  of_list is read job reads same = rw (is, sym same ∙ reads) refl
 
-  pub of_totals : name ≡ codes "totals" → (read settings : Option Settings) → read ≡ settings_of rows → read ≡ settings
-      → option_map (λ s. with_progress rows (Totals input s)) settings ≡ request_of name rows input
-  of_totals is read settings reads same = rw (is, sym same ∙ reads) refl
+  pub of_totals : name ≡ codes "totals" → (read job : Option Job) → read ≡ report_job_of rows false input → read ≡ job
+      → option_map (with_progress rows) job ≡ request_of name rows input
+  of_totals is read job reads same = rw (is, sym same ∙ reads) refl
 
-  pub of_follow : name ≡ codes "follow" → (read rules : Option RuleNumbers) → read ≡ rules_of rows → read ≡ rules
-      → option_map (Follow input) rules ≡ request_of name rows input
-  of_follow is read rules reads same = rw (is, sym same ∙ reads) refl
+  pub of_follow : name ≡ codes "follow" → stream_of input rows ≡ request_of name rows input
+  of_follow is = rw is refl
 
   pub of_encode : name ≡ codes "encode" → Some (with_progress rows (Encode input.hex)) ≡ request_of name rows input
   of_encode is = rw is refl

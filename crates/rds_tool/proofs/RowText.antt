@@ -130,14 +130,14 @@ version_short VB true = omega arith
 version_short Unknown conflict = omega arith
 
 -- the four blocks of a group, one by one
-pub four_blocks : (bs : List Block) (a b c d : Block) → length bs ≡ 4
-    → map block_text bs ≡ block_text (get_or bs 0 a) ∷ block_text (get_or bs 1 b) ∷ block_text (get_or bs 2 c) ∷ block_text (get_or bs 3 d) ∷ []
-four_blocks (x ∷ y ∷ z ∷ w ∷ []) a b c d n = refl
-four_blocks [] a b c d n = absurd (omega arith)
-four_blocks (x ∷ []) a b c d n = absurd (omega arith)
-four_blocks (x ∷ y ∷ []) a b c d n = absurd (omega arith)
-four_blocks (x ∷ y ∷ z ∷ []) a b c d n = absurd (omega arith)
-four_blocks (x ∷ y ∷ z ∷ w ∷ v ∷ rest) a b c d n = absurd (omega arith)
+pub four_blocks : {X : Type 0} (show : X → List ℕ) (bs : List X) (a b c d : X) → length bs ≡ 4
+    → map show bs ≡ show (get_or bs 0 a) ∷ show (get_or bs 1 b) ∷ show (get_or bs 2 c) ∷ show (get_or bs 3 d) ∷ []
+four_blocks show (x ∷ y ∷ z ∷ w ∷ []) a b c d n = refl
+four_blocks show [] a b c d n = absurd (omega arith)
+four_blocks show (x ∷ []) a b c d n = absurd (omega arith)
+four_blocks show (x ∷ y ∷ []) a b c d n = absurd (omega arith)
+four_blocks show (x ∷ y ∷ z ∷ []) a b c d n = absurd (omega arith)
+four_blocks show (x ∷ y ∷ z ∷ w ∷ v ∷ rest) a b c d n = absurd (omega arith)
 
 blocks_plain : (bs : List Block) → AllByRecursion IsPlain (map block_text bs)
 blocks_plain [] = tt

@@ -1,8 +1,8 @@
 -- The texts of the tasks, and what they can't be refused for.
-use Rattle.std.proofs.Common.{◌↔◌, ◌||◌, arith, ◌++◌, ◌∙◌, ◌*◌, ◌^◌, length, not, nat_lt, ◌≡◌, ◌<◌, ◌≢◌, Bool, Err, List, None, Ok, Option, Result, Some, [], ◌∷◌, ap, ap₂, false, if◌then◌else◌, inl, inr, refl, subst, sym, true, ℕ}
+use Rattle.std.proofs.Common.{◌-◌, map, ◌↔◌, ◌||◌, arith, ◌++◌, ◌∙◌, ◌*◌, ◌^◌, length, not, nat_lt, ◌≡◌, ◌<◌, ◌≢◌, Bool, Err, List, None, Ok, Option, Result, Some, [], ◌∷◌, ap, ap₂, false, if◌then◌else◌, inl, inr, refl, subst, sym, true, ℕ}
 use Rattle.std.specs.Prelude.{IfErr, IfSome, OnOk}
 use Rattle.std.specs.Io.KnownBytes.{Appends}
-use Rattle.std.specs.List.{filter}
+use Rattle.std.specs.List.{filter, range_with_len}
 use Rattle.hex.specs.Hex.{decode_of, decode_sized}
 use Rattle.rds_stream.specs.Recording.{Signal, bits_of, length_of}
 use Rattle.hex.specs.declared.error.FromHexError.{FromHexError}
@@ -17,6 +17,9 @@ use Rattle.rds_tool.specs.GroupText.{line_text, lines_of, lines_text, words_of, 
 use Rattle.rds_tool.specs.Input.{and_then, bytes_of, claimed, decoded, first_bits, is_blank, may_be_gaps, or_hex_text, recording_of}
 use Rattle.rds_tool.specs.Listing.{report_text, totals_text}
 use Rattle.rds_tool.specs.Outcome.{Writes, WritesPrefix, cut_recording, list_text, result_of_job, text_of_task, totals_list}
+use Rattle.rds_soft.specs.ReadAgain.{symbols_of}
+use Rattle.rds_soft.specs.Symbols.{hard_bit}
+use Rattle.rds_tool.specs.Soft.{claimed_of, recording_of_symbols}
 use Rattle.rds_tool.specs.Plans.{PlanOf, crew_of, cut_by, plan_of, workers_of}
 use Rattle.rds_sync.specs.declared.loss.Loss.{Loss}
 use Rattle.rds_sync.specs.declared.loss.Loss.TheVariants.{Run, Share}
@@ -29,7 +32,7 @@ use Rattle.rds_tool.specs.declared.job.Cuts.{Cuts}
 use Rattle.rds_tool.specs.declared.job.Cuts.TheVariants.{At, Even}
 use Rattle.rds_tool.specs.declared.job.Input.{Input}
 use Rattle.rds_tool.specs.declared.job.Job.{Job}
-use Rattle.rds_tool.specs.declared.job.Job.TheVariants.{Encode, List as ListJob, Scan, Totals}
+use Rattle.rds_tool.specs.declared.job.Job.TheVariants.{Encode, List as ListJob, Scan, Soft, Totals}
 use Rattle.rds_tool.specs.declared.job.Settings.{Settings}
 use Rattle.rds_tool.specs.declared.task.Task.{Task}
 use Rattle.rds_tool.specs.declared.task.Task.TheVariants as task
@@ -128,6 +131,12 @@ recording_errs input held =
     (bytes_errs input.hex (decoded held) (Ok held) (hex_errs (decode_of (filter (λ b. not (is_blank b)) held))) tt)
     (λ bytes. let n = claimed input.bits bytes in first_errs (nat_lt (2 ^ 36) n) (nat_lt (8 * length bytes) n) (not (may_be_gaps 0 input.gaps n)) (record { bits = bits_of bytes n; gaps = input.gaps }))
 
+symbols_errs : (input : Input) (symbols : List ℕ) → IfErr (recording_of_symbols input symbols) IsOfOutcome
+symbols_errs input symbols =
+    let n = claimed_of input.bits symbols in
+    first_errs (nat_lt (2 ^ 36) n) (nat_lt (length symbols - 1) n) (not (may_be_gaps 0 input.gaps n))
+    (record { bits = map (hard_bit (symbols_of symbols)) (range_with_len 0 n); gaps = input.gaps })
+
 cut_by_errs : (fits : Bool) (bits : Signal) → let r : Result Signal ToolError = if fits then Ok bits else Err BadCutting in IfErr r IsOfOutcome
 cut_by_errs true bits = tt
 cut_by_errs false bits = tt
@@ -155,6 +164,8 @@ task_errs (task.Scan input workers) held = then_errs IsOfOutcome (recording_of i
 task_errs (task.List input plan) held = then_errs IsOfOutcome (cut_recording input plan.cuts held) _ (cut_errs input plan.cuts held) (λ bits. tt)
 task_errs (task.Totals input plan) held = then_errs IsOfOutcome (cut_recording input plan.cuts held) _ (cut_errs input plan.cuts held) (λ bits. tt)
 task_errs (task.Encode hex) held = lines_errs hex (lines_of held)
+task_errs (task.Soft input plan margin has_rows) held =
+    then_errs IsOfOutcome (recording_of_symbols input held) _ (symbols_errs input held) (λ recording. tt)
 
 of_bytes : (t : Task) (held : List ℕ) (e : ToolError) → text_of_task t held ≡ Err e → IsOfOutcome e
 of_bytes t held e q = let P : Result (List ℕ) ToolError → Type 0 = λ r. IfErr r IsOfOutcome in subst P q (task_errs t held)
@@ -205,6 +216,7 @@ settings_errs (Scan input workers) = then_errs IsOfOutcome (workers_of workers) 
 settings_errs (ListJob input settings) = then_errs IsOfOutcome (plan_of settings) _ (plan_errs settings) (λ plan. tt)
 settings_errs (Totals input settings) = then_errs IsOfOutcome (plan_of settings) _ (plan_errs settings) (λ plan. tt)
 settings_errs (Encode hex) = tt
+settings_errs (Soft input settings margin has_rows) = then_errs IsOfOutcome (plan_of settings) _ (plan_errs settings) (λ plan. tt)
 
 -- settings are refused because memory was refused, or as such
 pub settings_inside : (job : Job) (e : ToolError) → IsMemoryOrErrOf (task_of job) e → IsInside e

@@ -1,6 +1,6 @@
 -- The command line, as `clap` reads it, and the job or stream that its words ask for: this project's rule.
 -- `asked_of` answers it; `rds_command` and the functions of `entries.rt` are its steps.
-use Rattle.std.specs.Prelude.{◌≡◌, ◌≢◌, ◌⊎◌, ◌++◌, ⊤, Bool, Err, IfOk, List, None, Ok, Option, Result, Some, [], codes, false, find, if◌then◌else◌, option_and_then, pos, string_bytes, true, ℕ, ◌∷◌}
+use Rattle.std.specs.Prelude.{◌≡◌, ◌≢◌, ◌⊎◌, ◌++◌, ⊤, Bool, Err, IfOk, List, None, Ok, Option, Result, Some, [], codes, false, find, if◌then◌else◌, nat_le, option_and_then, pos, ◌&&◌, string_bytes, true, ℕ, ◌∷◌}
 use Rattle.std.specs.Str.{bytes_eq}
 use Rattle.std.specs.Option.{ok_or, option_map}
 use Rattle.std.specs.Result.{result_ok}
@@ -35,7 +35,7 @@ use Rattle.rds_tool.specs.declared.job.Job.{Job}
 use Rattle.rds_tool.specs.declared.job.Request.{Request}
 use Rattle.rds_tool.specs.declared.job.Request.TheVariants.{Job as AskedJob, Follow}
 use Rattle.rds_tool.specs.declared.job.Settings.{Settings}
-use Rattle.rds_tool.specs.declared.job.Job.TheVariants.{Encode, List as ListJob, Scan, Totals}
+use Rattle.rds_tool.specs.declared.job.Job.TheVariants.{Encode, List as ListJob, Scan, Soft, Totals}
 
 -- ---- the input of a command
 
@@ -77,17 +77,25 @@ sync_options =
 abbrev pub worker_options : List Rule
 worker_options = number_rule (codes "workers") (codes "4" ∷ []) ∷ flag_rule (codes "progress") ∷ []
 
+-- `--margin`, 1 to 127, beside `--soft`
+abbrev pub margin_rule : Rule
+margin_rule = value_rule (codes "margin") (parser.Signed (pos 1) (pos 127)) (codes "32" ∷ [])
+
+-- `--soft`, whose input is symbols
+abbrev pub soft_options : List Rule
+soft_options = flag_rule (codes "soft") ∷ margin_rule ∷ []
+
 abbrev pub scan_options : List Rule
 scan_options = flag_rule (codes "hex") ∷ bits_and_gaps ++ worker_options
 
 abbrev pub report_options : List Rule
 report_options =
     flag_rule (codes "hex") ∷ bits_and_gaps ++ sync_options ++ number_rule (codes "pieces") (codes "16" ∷ [])
-    ∷ worker_options
+    ∷ worker_options ++ soft_options
 
--- `follow` has none of the other options: one thread decodes raw bytes as they arrive
+-- `follow` reads raw bytes as they arrive, by one thread unless more are asked for
 abbrev pub follow_options : List Rule
-follow_options = bits_and_gaps ++ sync_options
+follow_options = bits_and_gaps ++ sync_options ++ number_rule (codes "workers") (codes "1" ∷ []) ∷ []
 
 -- the command `name` with these options
 abbrev pub command_shape : Text → List Rule → Shape
@@ -183,17 +191,41 @@ settings_of rows =
     record { burst = rules.burst; reach = rules.reach; loss = rules.loss; workers = workers; cuts = Even pieces })
     (number_of (codes "pieces") rows)) (number_of (codes "workers") rows)) (rules_of rows)
 
+-- the number, if it is in the range
+abbrev pub number_within : ℕ → ℕ → Option ℕ → Option ℕ
+number_within least most None = None
+number_within least most (Some n) = if nat_le least n && nat_le n most then Some n else None
+
 -- the job, with its progress shown if `--progress` is given
 abbrev pub with_progress : List Row → Job → Request
 with_progress rows job = AskedJob job (flag_of (codes "progress") rows)
+
+-- the margin of symbols: `Some None` if `--soft` is not given
+abbrev pub margin_of : List Row → Option (Option ℕ)
+margin_of rows =
+    if flag_of (codes "soft") rows then option_map (λ n. Some n) (number_within 1 127 (number_of (codes "margin") rows)) else Some None
+
+-- the job of these settings: a list if rows are asked for, or only its totals; of symbols if there is a margin
+abbrev pub job_with : Bool → Input → Settings → Option ℕ → Job
+job_with true input settings None = ListJob input settings
+job_with false input settings None = Totals input settings
+job_with has_rows input settings (Some margin) = Soft input settings margin has_rows
+
+abbrev pub report_job_of : List Row → Bool → Input → Option Job
+report_job_of rows has_rows input =
+    option_and_then (λ settings. option_map (job_with has_rows input settings) (margin_of rows)) (settings_of rows)
+
+-- the stream of its entries
+abbrev pub stream_of : Input → List Row → Option Request
+stream_of input rows = option_and_then (λ rules. option_map (Follow input rules) (number_of (codes "workers") rows)) (rules_of rows)
 
 -- the job or stream of a command and its entries, over this input
 abbrev pub request_of : Text → List Row → Input → Option Request
 request_of name rows input =
     if bytes_eq name (codes "scan") then option_map (λ workers. with_progress rows (Scan input workers)) (number_of (codes "workers") rows)
-    else if bytes_eq name (codes "list") then option_map (λ settings. with_progress rows (ListJob input settings)) (settings_of rows)
-    else if bytes_eq name (codes "totals") then option_map (λ settings. with_progress rows (Totals input settings)) (settings_of rows)
-    else if bytes_eq name (codes "follow") then option_map (Follow input) (rules_of rows)
+    else if bytes_eq name (codes "list") then option_map (with_progress rows) (report_job_of rows true input)
+    else if bytes_eq name (codes "totals") then option_map (with_progress rows) (report_job_of rows false input)
+    else if bytes_eq name (codes "follow") then stream_of input rows
     else if bytes_eq name (codes "encode") then Some (with_progress rows (Encode input.hex))
     else None
 
@@ -203,11 +235,20 @@ request_with name rows gaps =
     option_and_then (λ bits. request_of name rows (record { hex = flag_of (codes "hex") rows; bits = bits; gaps = gaps }))
     (if_given 18446744073709551615 (one_of (codes "bits") rows))
 
+-- the fault of options that cannot be used together: `--hex` or `--burst` beside `--soft`, or `--margin` without it
+abbrev pub misuse_by : List Row → Option NoJob
+misuse_by rows =
+    if flag_of (codes "soft") rows
+    then (if flag_of (codes "hex") rows then Some no.SoftHex else if is_given (codes "burst") rows then Some no.SoftBurst else None)
+    else (if is_given (codes "margin") rows then Some no.HardMargin else None)
+
 -- the request and the option that is ignored, or why there is no request
 abbrev pub asked_with : Text → List Row → Option (List (ℕ × ℕ)) → Result Asked NoJob
 asked_with name rows None = Err no.Gaps
-asked_with name rows (Some gaps) =
-    ok_or (option_map (λ request. record { request = request; ignored = ignored_by rows }) (request_with name rows gaps)) no.Entries
+asked_with name rows (Some gaps) = elim (misuse_by rows) [
+  | Some why ↦ Err why
+  | None ↦ ok_or (option_map (λ request. record { request = request; ignored = ignored_by rows }) (request_with name rows gaps)) no.Entries
+]
 
 -- the request of a command and its entries, or the fault: bad gaps come before any other
 abbrev pub asked_by : Option (Text × List Row) → Result Asked NoJob
@@ -221,7 +262,7 @@ HasBadGaps entries = asked_by entries ≡ Err no.Gaps
 -- the job of a request: a stream is none
 abbrev pub job_in : Request → Option Job
 job_in (AskedJob job progress) = Some job
-job_in (Follow input rules) = None
+job_in (Follow input rules workers) = None
 
 -- the job that a command and its entries ask for, if any
 abbrev pub job_by : Option (Text × List Row) → Option Job

@@ -1,6 +1,6 @@
 -- Following a stream: the rows that are written as its bytes come, and those that were written if it breaks
 -- off; this project's rule. `follow` promises it.
-use Rattle.std.specs.Prelude.{◌++◌, ◌≡◌, ◌≢◌, ◌≤◌, ◌<◌, ◌+◌, ◌*◌, ◌^◌, ◌⊎◌, [], ⊤, ℕ, Bool, List, None, Ok, Option, Result, Some, length, min, true}
+use Rattle.std.specs.Prelude.{◌++◌, ◌≡◌, ◌≢◌, ◌≤◌, ◌<◌, ◌+◌, ◌-◌, ◌*◌, ◌^◌, ◌⊎◌, [], ⊤, ℕ, Bool, List, None, Ok, Option, Result, Some, length, min, true}
 use Rattle.std.specs.List.{flat_map}
 use Rattle.std.specs.Io.KnownBytes.{Appends, Consumes, IsAtEnd}
 use Rattle.rds_live.specs.StreamDecoder.{Terms, complete, signal_at}
@@ -11,9 +11,9 @@ use Rattle.rds_tool.specs.Outcome.{list_text}
 use Rattle.rds_tool.specs.declared.error.ToolError.{ToolError}
 use Rattle.rds_tool.specs.declared.error.ToolError.TheVariants.{BadGaps, BitsPastBytes, OutOfMemory, Read, TooLong, Write}
 
--- the most bytes that one read gives
-abbrev pub most_read : ℕ
-most_read = 65536
+-- the most bytes that one read gives, by this number of workers
+abbrev pub most_read : ℕ → ℕ
+most_read workers = 65536 * (1 + min 3 (workers - 1))
 
 -- how many bits of a stream of these bytes count: the number that is claimed, if there are as many, or else
 -- all
@@ -72,18 +72,19 @@ MayBreakOff e = (e ≡ OutOfMemory) ⊎ ((e ≡ Read) ⊎ ((e ≡ Write) ⊎ ((e
 abbrev pub MayBreakEarly : ToolError → Type 0
 MayBreakEarly e = (e ≡ OutOfMemory) ⊎ ((e ≡ Read) ⊎ ((e ≡ Write) ⊎ ((e ≡ TooLong) ⊎ (e ≡ BadGaps))))
 
-module _ (terms : Terms) (bits : Option ℕ) (from to old new : Option (List ℕ)) where
+-- `most` bounds the bytes of a read
+module _ (most : ℕ) (terms : Terms) (bits : Option ℕ) (from to old new : Option (List ℕ)) where
   -- the rows of all reads, except at most the last, were written: whole rows, each once
   abbrev pub StopsBetweenRows : Type 0
   StopsBetweenRows =
-      (heard : List ℕ) × (last : List ℕ) × (length last ≤ most_read) × AllCount bits heard
+      (heard : List ℕ) × (last : List ℕ) × (length last ≤ most) × AllCount bits heard
       × Consumes from to (heard ++ last)
       × Appends old new (rows_so_far terms heard)
 
   -- these rows were written, and then a beginning of the rest of the listing of all that was read
   abbrev pub StopsInRows : Type 0
   StopsInRows =
-      (heard : List ℕ) × (last : List ℕ) × (length last ≤ most_read) × AllCount bits heard
+      (heard : List ℕ) × (last : List ℕ) × (length last ≤ most) × AllCount bits heard
       × Consumes from to (heard ++ last)
       × (written : List ℕ) × (rest : List ℕ)
       × (stream_text terms bits (heard ++ last) ≡ rows_so_far terms heard ++ (written ++ rest))
@@ -102,15 +103,15 @@ IsFlushedAfter bytes flushed = (bytes ≡ []) ⊎ (flushed ≡ true)
 
 -- following broke off by this error: the reader gave these bytes, and the statements above hold for a reader
 -- that held only them
-pub record BreaksOff (terms : Terms) (bits : Option ℕ) (given given' : List ℕ) (ended : Bool)
+pub record BreaksOff (most : ℕ) (terms : Terms) (bits : Option ℕ) (given given' : List ℕ) (ended : Bool)
     (old new : Option (List ℕ)) (flushed : Bool) (e : ToolError) : Type 0 where
   pub bytes : List ℕ
   pub gave : given' ≡ given ++ bytes
   -- if a read fails, the rows that are complete were taken and flushed before it; since any read may fail,
   -- and no write follows one that did, so they are before each read
   pub prompt : e ≡ Read → Appends old new (rows_so_far terms bytes) × IsFlushedAfter bytes flushed
-  pub between : e ≢ Write → StopsBetweenRows terms bits (Some bytes) (Some []) old new
-  pub within : e ≡ Write → StopsInRows terms bits (Some bytes) (Some []) old new
+  pub between : e ≢ Write → StopsBetweenRows most terms bits (Some bytes) (Some []) old new
+  pub within : e ≡ Write → StopsInRows most terms bits (Some bytes) (Some []) old new
   pub too_long : e ≡ TooLong → IsTooLong bits (Some bytes) (Some [])
   pub past : e ≡ BitsPastBytes → EndsShort bits (Some bytes) (Some []) × (ended ≡ true)
   pub bad_gaps : e ≡ BadGaps → (AreGaps (2 ^ 36) terms.gaps → ⊥)

@@ -3,6 +3,7 @@ pub mod Counters
 pub mod Digits
 pub mod GroupLines
 pub mod HexText
+pub mod Listers
 pub mod RowWriter
 pub mod Rows
 pub mod Streams

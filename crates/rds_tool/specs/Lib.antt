@@ -9,6 +9,7 @@ pub mod Rules
 pub mod Cuts
 pub mod Plans
 pub mod Listing
+pub mod Soft
 pub mod GroupText
 pub mod Outcome
 pub mod Tasks

@@ -12,6 +12,7 @@ use Rattle.rds_tool.specs.GroupText.{encoded_text}
 use Rattle.rds_tool.specs.Input.{and_then, recording_of}
 use Rattle.rds_tool.specs.Listing.{report_text, scan_text, totals_text}
 use Rattle.rds_tool.specs.Plans.{cut_by}
+use Rattle.rds_tool.specs.Soft.{recording_of_symbols, soft_text}
 use Rattle.rds_tool.specs.Tasks.{task_of}
 use Rattle.rds_tool.specs.declared.error.ToolError.{ToolError}
 use Rattle.rds_tool.specs.declared.error.ToolError.TheVariants.{OutOfMemory, Read, TooManyTurns, Write}
@@ -39,6 +40,8 @@ text_of_task (task.Scan input workers) held = and_then (recording_of input held)
 text_of_task (task.List input plan) held = and_then (cut_recording input plan.cuts held) (λ recording. Ok (list_text plan.rules recording))
 text_of_task (task.Totals input plan) held = and_then (cut_recording input plan.cuts held) (λ recording. Ok (totals_list plan.rules recording))
 text_of_task (task.Encode hex) held = encoded_text hex held
+text_of_task (task.Soft input plan margin has_rows) held =
+    and_then (recording_of_symbols input held) (λ recording. Ok (soft_text has_rows plan.rules margin held recording))
 
 -- the text of a job over the bytes held, or its refusal; the settings are looked at first
 abbrev pub result_of_job : Job → List ℕ → Result (List ℕ) ToolError

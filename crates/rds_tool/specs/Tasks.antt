@@ -14,3 +14,4 @@ task_of (job.Scan input workers) = and_then (workers_of workers) (λ workers. Ok
 task_of (job.List input settings) = and_then (plan_of settings) (λ plan. Ok (task.List input plan))
 task_of (job.Totals input settings) = and_then (plan_of settings) (λ plan. Ok (task.Totals input plan))
 task_of (job.Encode hex) = Ok (task.Encode hex)
+task_of (job.Soft input settings margin has_rows) = and_then (plan_of settings) (λ plan. Ok (task.Soft input plan margin has_rows))

@@ -66,7 +66,7 @@ fn job_in(alloc: Global, request: Request) -> Result<Job, CliFault>
 {
     match request {
         Request::Job { job, progress: _ } => Ok(job),
-        Request::Follow(_, _) => Err(words_fault(alloc, "error: a stream is no job\n")),
+        Request::Follow(_, _, _) => Err(words_fault(alloc, "error: a stream is no job\n")),
     }
 }
 
@@ -107,6 +107,9 @@ fn no_job(alloc: Global, why: NoJob) -> CliFault
 {
     match why {
         NoJob::Gaps => words_fault(alloc, "bad --gaps\n"),
+        NoJob::SoftHex => words_fault(alloc, "error: --hex cannot be used with --soft\n"),
+        NoJob::SoftBurst => words_fault(alloc, "error: --burst cannot be used with --soft\n"),
+        NoJob::HardMargin => words_fault(alloc, "error: --margin needs --soft\n"),
         NoJob::Entries => words_fault(alloc, "error: these words ask for nothing\n"),
         NoJob::Memory => out_of_memory(alloc),
     }

@@ -6,7 +6,8 @@ ghost use Rattle.rds_tool.specs.Inside.Commands.{app_of_row, bare_app, rule_of_o
 
 use crate::help;
 use CommandOption::{
-    Bits, Burst, Gaps, HexInput, HexOutput, Loss, Of, Pieces, Progress, Reach, Share, Workers,
+    Bits, Burst, FollowWorkers, Gaps, HexInput, HexOutput, Loss, Margin, Of, Pieces, Progress,
+    Reach, Share, Soft, Workers,
 };
 use clap::builder::ValueParser;
 use clap::{Arg, ArgAction, Command};
@@ -26,7 +27,10 @@ enum CommandOption {
     Of,
     Pieces,
     Workers,
+    FollowWorkers,
     Progress,
+    Soft,
+    Margin,
 }
 
 impl CommandOption {
@@ -45,7 +49,10 @@ impl CommandOption {
             Of => &OF,
             Pieces => &PIECES,
             Workers => &WORKERS,
+            FollowWorkers => &FOLLOW_WORKERS,
             Progress => &PROGRESS,
+            Soft => &SOFT,
+            Margin => &MARGIN,
         }
     }
 }
@@ -166,10 +173,31 @@ static WORKERS: OptionRow = OptionRow {
     ..NUMBER
 };
 
+static FOLLOW_WORKERS: OptionRow = OptionRow {
+    name: "workers",
+    default: &["1"],
+    help: help::WORKERS,
+    ..NUMBER
+};
+
 static PROGRESS: OptionRow = OptionRow {
     name: "progress",
     help: help::PROGRESS,
     ..FLAG
+};
+
+static SOFT: OptionRow = OptionRow {
+    name: "soft",
+    help: help::SOFT,
+    ..FLAG
+};
+
+static MARGIN: OptionRow = OptionRow {
+    name: "margin",
+    parser: ValueParser::Signed(1, 127),
+    default: &["32"],
+    help: help::MARGIN,
+    ..NUMBER
 };
 
 static COMMANDS: [CommandRow; 5] = [
@@ -186,7 +214,8 @@ static COMMANDS: [CommandRow; 5] = [
         usage: help::LIST_USAGE,
         after: help::LIST_AFTER,
         options: &[
-            HexInput, Bits, Gaps, Burst, Reach, Loss, Share, Of, Pieces, Workers, Progress,
+            HexInput, Bits, Gaps, Burst, Reach, Loss, Share, Of, Pieces, Workers, Progress, Soft,
+            Margin,
         ],
     },
     CommandRow {
@@ -194,7 +223,7 @@ static COMMANDS: [CommandRow; 5] = [
         about: help::FOLLOW,
         usage: help::FOLLOW_USAGE,
         after: help::FOLLOW_AFTER,
-        options: &[Bits, Gaps, Burst, Reach, Loss, Share, Of],
+        options: &[Bits, Gaps, Burst, Reach, Loss, Share, Of, FollowWorkers],
     },
     CommandRow {
         name: "totals",
@@ -202,7 +231,8 @@ static COMMANDS: [CommandRow; 5] = [
         usage: help::TOTALS_USAGE,
         after: help::TOTALS_AFTER,
         options: &[
-            HexInput, Bits, Gaps, Burst, Reach, Loss, Share, Of, Pieces, Workers, Progress,
+            HexInput, Bits, Gaps, Burst, Reach, Loss, Share, Of, Pieces, Workers, Progress, Soft,
+            Margin,
         ],
     },
     CommandRow {

@@ -252,7 +252,7 @@ fn read_some<R: Threads + Sync, S: Source, T: Taker>(
 }
 
 /// Zero bytes, as many as asked for.
-fn zeros(alloc: Global, len: usize) -> Result<Vec<u8>, AllocError>
+pub fn zeros(alloc: Global, len: usize) -> Result<Vec<u8>, AllocError>
     ensures { IfOk result (λ v. length v.items ≡ len) }
 {
     vec![in alloc; 0u8; len]

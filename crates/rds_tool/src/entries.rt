@@ -1,13 +1,14 @@
 //! From the entries of a parsed command line to the job or stream that they ask for.
 ghost use Rattle.std.specs.Prelude.{◌≡◌, ◌⊎◌, IfErr, IfOk, None, Some, codes};
 ghost use Rattle.clap.specs.Words.{found_of, one_of, rows_of, subcommand_rows_of};
-ghost use Rattle.rds_tool.specs.CommandLine.{Gives, asked_by as the_asked_by, asked_with, flag_of, gaps_asked_for, if_given, ignored_by, is_given as the_words_give, loss_of, number_of, request_of as the_request_of, request_with as the_request_with, rules_of, settings_of};
+ghost use Rattle.rds_tool.specs.CommandLine.{Gives, asked_by as the_asked_by, asked_with, flag_of, gaps_asked_for, if_given, ignored_by, is_given as the_words_give, job_with as the_job_with, loss_of, margin_of, misuse_by, number_of, report_job_of, request_of as the_request_of, request_with as the_request_with, rules_of, settings_of, stream_of};
 
 use crate::fault::NoJob;
 use crate::gap_text::gaps_of;
 use crate::{Asked, Cuts, Ignored, Input, Job, Request, Settings};
 use clap::ArgMatches;
 use clap::parser::ValueSource;
+use rds_soft::Margin;
 use rds_sync::{Loss, RuleNumbers};
 use std::alloc::Global;
 
@@ -26,6 +27,9 @@ fn asked_by(alloc: Global, name: &str, entries: &ArgMatches<'_>) -> Result<Asked
     ensures { Gives (the_asked_by (Some (name.now, rows_of (found_of entries.now)))) result }
 {
     let gaps = gaps_in(alloc, entries)?;
+    if let Some(misuse) = misuse_in(entries) {
+        return Err(misuse);
+    }
     match request_with(name, entries, gaps) {
         Some(request) => Ok(Asked {
             request,
@@ -51,18 +55,9 @@ fn request_of(name: &str, entries: &ArgMatches<'_>, input: Input) -> Option<Requ
             let workers = number_in(entries, "workers")?;
             Job::Scan(input, workers)
         }
-        "list" => {
-            let settings = settings_in(entries)?;
-            Job::List(input, settings)
-        }
-        "totals" => {
-            let settings = settings_in(entries)?;
-            Job::Totals(input, settings)
-        }
-        "follow" => {
-            let rules = rules_in(entries)?;
-            return Some(Request::Follow(input, rules));
-        }
+        "list" => report_job_in(entries, true, input)?,
+        "totals" => report_job_in(entries, false, input)?,
+        "follow" => return stream_in(entries, input),
         "encode" => Job::Encode { hex: input.hex },
         _ => return None,
     };
@@ -70,6 +65,66 @@ fn request_of(name: &str, entries: &ArgMatches<'_>, input: Input) -> Option<Requ
         job,
         progress: flag_in(entries, "progress"),
     })
+}
+
+/// The job of a list, or of only its totals.
+fn report_job_in(entries: &ArgMatches<'_>, rows: bool, input: Input) -> Option<Job>
+    ensures { result ≡ report_job_of (rows_of (found_of entries.now)) rows input }
+{
+    let settings = settings_in(entries)?;
+    let margin = soft_in(entries)?;
+    Some(job_with(rows, input, settings, margin))
+}
+
+fn job_with(rows: bool, input: Input, settings: Settings, margin: Option<Margin>) -> Job
+    ensures { result ≡ the_job_with rows input settings margin }
+{
+    match margin {
+        Some(margin) => Job::Soft {
+            input,
+            settings,
+            margin,
+            rows,
+        },
+        None if rows => Job::List(input, settings),
+        None => Job::Totals(input, settings),
+    }
+}
+
+/// The margin, if the input is symbols.
+fn soft_in(entries: &ArgMatches<'_>) -> Option<Option<Margin>>
+    ensures { result ≡ margin_of (rows_of (found_of entries.now)) }
+{
+    if !flag_in(entries, "soft") {
+        return Some(None);
+    }
+    let margin = number_in(entries, "margin")?;
+    match margin {
+        1..=127 => Some(Margin::new(margin as u8)),
+        _ => None,
+    }
+}
+
+/// The fault of options that don't go together.
+fn misuse_in(entries: &ArgMatches<'_>) -> Option<NoJob>
+    ensures { result ≡ misuse_by (rows_of (found_of entries.now)) }
+{
+    if flag_in(entries, "soft") {
+        if flag_in(entries, "hex") {
+            return Some(NoJob::SoftHex);
+        }
+        is_given(entries, "burst").then_some(NoJob::SoftBurst)
+    } else {
+        is_given(entries, "margin").then_some(NoJob::HardMargin)
+    }
+}
+
+fn stream_in(entries: &ArgMatches<'_>, input: Input) -> Option<Request>
+    ensures { result ≡ stream_of input (rows_of (found_of entries.now)) }
+{
+    let rules = rules_in(entries)?;
+    let workers = number_in(entries, "workers")?;
+    Some(Request::Follow(input, rules, workers))
 }
 
 fn gaps_in(alloc: Global, entries: &ArgMatches<'_>) -> Result<Vec<(u64, u64)>, NoJob>

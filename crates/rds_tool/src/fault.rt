@@ -31,6 +31,12 @@ pub struct CliFault {
 pub enum NoJob {
     /// `--gaps` spells no gaps.
     Gaps,
+    /// `--hex` is given beside `--soft`.
+    SoftHex,
+    /// `--burst` is given beside `--soft`.
+    SoftBurst,
+    /// `--margin` is given without `--soft`.
+    HardMargin,
     /// Another entry is none that a job or a stream has.
     Entries,
     /// A growth of memory was refused.

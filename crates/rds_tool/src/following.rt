@@ -6,27 +6,30 @@ ghost use Rattle.rds_live.specs.StreamDecoder.{HasHeard, live_of, report_at};
 ghost use Rattle.rds_stream.specs.Recording.{AreGaps};
 ghost use Rattle.rds_sync.specs.Advance.{group_item};
 ghost use Rattle.rds_sync.specs.Totals.{totals_of};
-ghost use Rattle.rds_tool.specs.Following.{AllCount, EndsShort, IsLong, IsReadAsFar, IsTooLong, MayBreakEarly, MayBreakOff, StopsBetweenRows, StopsInRows, BreaksOff, IsFlushedAfter, IsHeardOut, listed, rows_so_far};
+ghost use Rattle.rds_tool.specs.Following.{AllCount, EndsShort, IsLong, IsReadAsFar, IsTooLong, MayBreakEarly, MayBreakOff, StopsBetweenRows, StopsInRows, BreaksOff, IsFlushedAfter, IsHeardOut, listed, most_read, rows_so_far};
 ghost use Rattle.rds_tool.specs.History.{Gave};
 ghost use Rattle.rds_tool.specs.Input.{claimed};
 ghost use Rattle.rds_tool.specs.Inside.Streams.{IsFollowed, IsNearAnswer, IsNearEnd, IsPlaceOf, IsShortEnough, bits_left as the_bits_left};
 ghost use Rattle.rds_tool.specs.Listing.{item_row, report_text, totals_text};
 ghost use Rattle.rds_tool.specs.Outcome.{Writes, WritesPrefix};
 
+use crate::engine::zeros;
 use crate::listing::{push_items, push_totals};
 use crate::rows::RowWriter;
+use crate::stream_rows::StreamRows;
 use crate::text::write_flushed;
 use crate::{Failed, Sink, Source, ToolError};
-use rds_live::{MOST_ITEMS, StreamDecoder, StreamEnd};
+use rds_live::{StreamDecoder, StreamEnd, StreamLister};
 use rds_stream::MOST_BITS;
 use rds_sync::{Item, Rules, laws};
 use std::alloc::Global;
+use std::thread::Threads;
 
 /// How many bytes a read asks for at most.
-const CHUNK: usize = 65_536;
+const CHUNK: usize = 262_144;
 
-/// How many bytes of rows one byte of a sound station gives: a group of 13 bytes has a row of some 50.
-const ROWS_A_BYTE: usize = 4;
+/// How many bytes of a read each worker gets, as far as a read has room for.
+const SHARE: usize = 65_536;
 
 /// Follows a stream by these rules, from the reader's next byte to its end, the highest bit of a byte first:
 /// after each read it writes and flushes the rows that are complete, and at the end of input the rest of the
@@ -35,20 +38,23 @@ const ROWS_A_BYTE: usize = 4;
 ///
 /// With `bits` the stream ends after that number of bits, in the middle of a byte too: no byte after theirs
 /// is read. The gaps are those of [`Input`](crate::Input). A read that gives less than was asked for is
-/// decoded as it is, so no row waits for bits after it. Of a stream no more is kept than the last read.
+/// decoded as it is, so no row waits for bits after it. Of a stream no more is kept than the last read. Up to this number of workers
+/// list it, if it has 16 KiB for each: the rows are the same by any number.
 ///
 /// Refusals: `TooLong` past 2^36 bits, before anything is read if `bits` says so; `BitsPastBytes` if the
 /// input ends before `bits`; `BadGaps`, before anything is read if no recording may have such gaps, and else
 /// at the end; `Read` and `Write` if a device failed; and `OutOfMemory`. None takes back the text that was
 /// written: whole rows of all bytes that were read but the last read, and, if the writer failed, a beginning
 /// of the text that comes next. Reader and writer have counted fewer than 2^63 failures before.
-pub fn follow<S: Source, K: Sink>(
+pub fn follow<R: Threads + Sync, S: Source, K: Sink>(
+    rt: &R,
     alloc: Global,
     reader: &mut S,
     writer: &mut K,
     rules: &Rules,
     bits: Option<u64>,
     gaps: &[(u64, u64)],
+    workers: u32,
 ) -> Result<(), ToolError>
     requires reads { S.failed reader.old < 2 ^ 63 }
     requires writes { K.failed writer.old < 2 ^ 63 }
@@ -73,10 +79,10 @@ pub fn follow<S: Source, K: Sink>(
 
     // The writer's contents after a refusal.
     ensures between { IfErr result (λ error. error ≢ ToolError.Write
-        → StopsBetweenRows (record { rules = rules.now; gaps = gaps.now }) bits
+        → StopsBetweenRows (most_read workers) (record { rules = rules.now; gaps = gaps.now }) bits
         (S.remaining reader.old) (S.remaining reader.new) (K.contents writer.old) (K.contents writer.new)) }
     ensures within { IsErrOf result ToolError.Write
-        → StopsInRows (record { rules = rules.now; gaps = gaps.now }) bits
+        → StopsInRows (most_read workers) (record { rules = rules.now; gaps = gaps.now }) bits
         (S.remaining reader.old) (S.remaining reader.new) (K.contents writer.old) (K.contents writer.new) }
 
     // The same at every device, of the bytes that the reader gave.
@@ -85,11 +91,11 @@ pub fn follow<S: Source, K: Sink>(
         × Writes (K.contents writer.old) (K.contents writer.new)
         (listed (record { rules = rules.now; gaps = gaps.now }) bits bytes))) }
     ensures flushed { OnOk result (K.is_flushed writer.new ≡ true) }
-    ensures broke_off { IfErr result (BreaksOff (record { rules = rules.now; gaps = gaps.now }) bits
+    ensures broke_off { IfErr result (BreaksOff (most_read workers) (record { rules = rules.now; gaps = gaps.now }) bits
         (S.given reader.old) (S.given reader.new) (S.has_ended reader.new)
         (K.contents writer.old) (K.contents writer.new) (K.is_flushed writer.new)) }
 {
-    let live = follow_bytes(alloc, reader, writer, rules, gaps, bits)?;
+    let live = follow_bytes(rt, alloc, reader, writer, rules, gaps, bits, workers)?;
     let left = bits_left(bits, live.place());
     let mut last = [0u8; 1];
     let count = read_last(reader, &mut last, left)?;
@@ -98,13 +104,15 @@ pub fn follow<S: Source, K: Sink>(
 }
 
 /// Follows the whole bytes of a stream that count, to its end at most.
-fn follow_bytes<'r, S: Source, K: Sink>(
+fn follow_bytes<'r, R: Threads + Sync, S: Source, K: Sink>(
+    rt: &R,
     alloc: Global,
     reader: &mut S,
     writer: &mut K,
     rules: &'r Rules,
     gaps: &'r [(u64, u64)],
     bits: Option<u64>,
+    workers: u32,
 ) -> Result<StreamDecoder<'r>, ToolError>
     requires reads { S.failed reader.old < 2 ^ 63 }
     requires writes { K.failed writer.old < 2 ^ 63 }
@@ -126,49 +134,41 @@ fn follow_bytes<'r, S: Source, K: Sink>(
     ensures bad_gaps { IsErrOf result ToolError.BadGaps → AreGaps (2 ^ 36) gaps.now → ⊥ }
     ensures refused { IfErr result MayBreakEarly }
     ensures between { IfErr result (λ error. error ≢ ToolError.Write
-        → StopsBetweenRows (record { rules = rules.now; gaps = gaps.now }) bits
+        → StopsBetweenRows (most_read workers) (record { rules = rules.now; gaps = gaps.now }) bits
         (S.remaining reader.old) (S.remaining reader.new) (K.contents writer.old) (K.contents writer.new)) }
     ensures within { IsErrOf result ToolError.Write
-        → StopsInRows (record { rules = rules.now; gaps = gaps.now }) bits
+        → StopsInRows (most_read workers) (record { rules = rules.now; gaps = gaps.now }) bits
         (S.remaining reader.old) (S.remaining reader.new) (K.contents writer.old) (K.contents writer.new) }
-    ensures broke_off { IfErr result (BreaksOff (record { rules = rules.now; gaps = gaps.now }) bits
+    ensures broke_off { IfErr result (BreaksOff (most_read workers) (record { rules = rules.now; gaps = gaps.now }) bits
         (S.given reader.old) (S.given reader.new) (S.has_ended reader.new)
         (K.contents writer.old) (K.contents writer.new) (K.is_flushed writer.new)) }
 {
     prove!(1 <= rules.reach());
     laws::runs_are_reports();
-    let (mut live, mut buf, mut items) = begin(alloc, rules, gaps, bits)?;
-    let mut pen = RowWriter::new();
+    let (begun, mut buf) = begin(alloc, rules, gaps, bits, workers)?;
+    let mut lister = begun;
     'reads: loop {
-        let room = room_before_end(bits, live.place());
+        let room = room_before_end(bits, lister.place());
         let count = read_once(reader, buf.as_mut_slice(), room)?;
         if count == 0 {
             break;
         }
-        follow_chunk(
-            alloc,
-            writer,
-            &mut live,
-            &buf[..count],
-            &mut items,
-            &mut pen,
-        )?;
+        lister = follow_chunk(rt, alloc, writer, lister, &buf[..count], workers)?;
     }
-    Ok(live)
+    Ok(lister.into_decoder())
 }
 
-/// A decoder that has heard nothing yet, of a stream that may have `bits` bits and these gaps. There is room
-/// for a read and for the items that are complete at once.
+/// A lister that has heard nothing yet, of a stream that may have `bits` bits and these gaps, and room for a read.
 fn begin<'r>(
     alloc: Global,
     rules: &'r Rules,
     gaps: &'r [(u64, u64)],
     bits: Option<u64>,
-) -> Result<(StreamDecoder<'r>, Vec<u8>, Vec<Item>), ToolError>
-    ensures live { IfOk result (λ begun. begun.0 ≡ live_of
+    workers: u32,
+) -> Result<(StreamLister<'r, StreamRows>, Vec<u8>), ToolError>
+    ensures live { IfOk result (λ begun. begun.0.live ≡ live_of
         (record { rules = rules.now; gaps = gaps.now }) []) }
-    ensures room { IfOk result (λ begun. length begun.1.items ≡ 65536) }
-    ensures items { IfOk result (λ begun. 16 ≤ vec_capacity begun.2) }
+    ensures room { IfOk result (λ begun. length begun.1.items ≡ most_read workers) }
     ensures claims { OnOk result (IsShortEnough bits) }
     ensures too_long { IsErrOf result ToolError.TooLong → IsLong bits }
     ensures bad_gaps { IsErrOf result ToolError.BadGaps → AreGaps (2 ^ 36) gaps.now → ⊥ }
@@ -177,9 +177,16 @@ fn begin<'r>(
 {
     check_claim(bits)?;
     let live = StreamDecoder::with_gaps(alloc, rules, gaps)?;
-    let buf = vec![in alloc; 0u8; CHUNK]?;
-    let items = Vec::with_capacity(alloc, MOST_ITEMS)?;
-    Ok((live, buf, items))
+    let lister = StreamLister::new(alloc, live, StreamRows::new(alloc)?)?;
+    let buf = zeros(alloc, read_by(workers))?;
+    Ok((lister, buf))
+}
+
+/// How many bytes a read asks for, by this number of workers.
+fn read_by(workers: u32) -> usize
+    ensures { result ≡ most_read workers }
+{
+    SHARE * (1 + workers.saturating_sub(1).min(3) as usize)
 }
 
 /// Refuses more bits than a stream may have.
@@ -196,7 +203,7 @@ fn check_claim(bits: Option<u64>) -> Result<(), ToolError>
 /// How many bytes the next read may ask for: none if no whole byte is left of the bits that count.
 fn room_before_end(bits: Option<u64>, place: u64) -> usize
     requires { IsPlaceOf bits place }
-    ensures few { result ≤ 65536 }
+    ensures few { result ≤ 262144 }
     ensures within { IfSome bits (λ bits. place + 8 * result ≤ bits) }
     ensures none { result ≡ 0 → IfSome bits (λ bits. bits < place + 8) × (bits ≢ None) }
 {
@@ -282,96 +289,64 @@ fn read_last<S: Source>(reader: &mut S, last: &mut [u8], left: u64) -> Result<us
 }
 
 /// Decodes the next bytes of a stream, and writes and flushes the rows that they complete.
-fn follow_chunk<K: Sink>(
+fn follow_chunk<'r, R: Threads + Sync, K: Sink>(
+    rt: &R,
     alloc: Global,
     writer: &mut K,
-    live: &mut StreamDecoder<'_>,
+    lister: StreamLister<'r, StreamRows>,
     bytes: &[u8],
-    items: &mut Vec<Item>,
-    pen: &mut RowWriter,
-) -> Result<(), ToolError>
-    requires count { K.failed writer.old < 2 ^ 63 }
-    requires room { 16 ≤ vec_capacity items.old }
-    ensures heard { OnOk result ((before : List ℕ) → HasHeard live.old before
-        → HasHeard live.new (before ++ bytes.now)) }
-    ensures terms { OnOk result (live.new.terms ≡ live.old.terms) }
-    ensures rows { OnOk result ((before : List ℕ) → HasHeard live.old before → (rows : List ℕ)
-        × (rows_so_far live.old.terms (before ++ bytes.now) ≡ rows_so_far live.old.terms before ++ rows)
+    workers: u32,
+) -> Result<StreamLister<'r, StreamRows>, ToolError>
+    requires { K.failed writer.old < 2 ^ 63 }
+    ensures heard { IfOk result (λ next. (before : List ℕ) → HasHeard lister.entry.live before
+        → HasHeard next.live (before ++ bytes.now)) }
+    ensures terms { IfOk result (λ next. next.live.terms ≡ lister.entry.live.terms) }
+    ensures rows { OnOk result ((before : List ℕ) → HasHeard lister.entry.live before → (rows : List ℕ)
+        × (rows_so_far lister.entry.live.terms (before ++ bytes.now)
+        ≡ rows_so_far lister.entry.live.terms before ++ rows)
         × Appends (K.contents writer.old) (K.contents writer.new) rows) }
     ensures count { OnOk result (K.failed writer.new ≡ K.failed writer.old) }
-    ensures room { vec_capacity items.new ≡ vec_capacity items.old }
-    ensures fits { OnOk result (live.old.place + 8 * length bytes.now ≤ 2 ^ 36) }
+    ensures fits { OnOk result (lister.entry.live.place + 8 * length bytes.now ≤ 2 ^ 36) }
     ensures flushed { OnOk result (K.is_flushed writer.new ≡ true) }
     ensures write { IsErrOf result ToolError.Write ↔ (K.failed writer.old < K.failed writer.new) }
-    ensures too_long { IsErrOf result ToolError.TooLong → 2 ^ 36 < live.old.place + 8 * length bytes.now }
+    ensures too_long { IsErrOf result ToolError.TooLong
+        → 2 ^ 36 < lister.entry.live.place + 8 * length bytes.now }
     ensures kinds { IfErr result (λ error. (error ≡ ToolError.OutOfMemory)
         ⊎ ((error ≡ ToolError.Write) ⊎ (error ≡ ToolError.TooLong))) }
     ensures untouched { IfErr result (λ error. error ≢ ToolError.Write → writer.new ≡ writer.old) }
-    ensures prefix { IsErrOf result ToolError.Write → (before : List ℕ) → HasHeard live.old before
+    ensures prefix { IsErrOf result ToolError.Write → (before : List ℕ) → HasHeard lister.entry.live before
         → (rows : List ℕ)
-        × (rows_so_far live.old.terms (before ++ bytes.now) ≡ rows_so_far live.old.terms before ++ rows)
+        × (rows_so_far lister.entry.live.terms (before ++ bytes.now)
+        ≡ rows_so_far lister.entry.live.terms before ++ rows)
         × WritesPrefix (K.contents writer.old) (K.contents writer.new) (Ok rows) }
 {
-    let rows = rows_of_chunk(alloc, live, bytes, items, pen)?;
-    write_flushed(writer, rows.as_slice())
+    let next = list_chunk(rt, alloc, lister, bytes, workers)?;
+    next.rows().write_to(writer)?;
+    Ok(next)
 }
 
-/// Decodes the next bytes of a stream, and gives the rows that they complete.
-fn rows_of_chunk(
+/// Decodes the next bytes of a stream, and makes the rows that they complete, in place of those before.
+fn list_chunk<'r, R: Threads + Sync>(
+    rt: &R,
     alloc: Global,
-    live: &mut StreamDecoder<'_>,
+    lister: StreamLister<'r, StreamRows>,
     bytes: &[u8],
-    items: &mut Vec<Item>,
-    pen: &mut RowWriter,
-) -> Result<Vec<u8>, ToolError>
-    requires { 16 ≤ vec_capacity items.old }
-    ensures heard { OnOk result ((before : List ℕ) → HasHeard live.old before
-        → HasHeard live.new (before ++ bytes.now)) }
-    ensures terms { OnOk result (live.new.terms ≡ live.old.terms) }
-    ensures rows { IfOk result (λ text. (before : List ℕ) → HasHeard live.old before
-        → rows_so_far live.old.terms (before ++ bytes.now)
-        ≡ rows_so_far live.old.terms before ++ text.items) }
-    ensures room { vec_capacity items.new ≡ vec_capacity items.old }
-    ensures fits { OnOk result (live.old.place + 8 * length bytes.now ≤ 2 ^ 36) }
-    ensures too_long { IsErrOf result ToolError.TooLong → 2 ^ 36 < live.old.place + 8 * length bytes.now }
+    workers: u32,
+) -> Result<StreamLister<'r, StreamRows>, ToolError>
+    ensures heard { IfOk result (λ next. (before : List ℕ) → HasHeard lister.entry.live before
+        → HasHeard next.live (before ++ bytes.now)) }
+    ensures terms { IfOk result (λ next. next.live.terms ≡ lister.entry.live.terms) }
+    ensures rows { IfOk result (λ next. (before : List ℕ) → HasHeard lister.entry.live before
+        → rows_so_far lister.entry.live.terms (before ++ bytes.now)
+        ≡ rows_so_far lister.entry.live.terms before ++ next.rows) }
+    ensures fits { OnOk result (lister.entry.live.place + 8 * length bytes.now ≤ 2 ^ 36) }
+    ensures too_long { IsErrOf result ToolError.TooLong
+        → 2 ^ 36 < lister.entry.live.place + 8 * length bytes.now }
     ensures kinds { IfErr result (λ error. (error ≡ ToolError.OutOfMemory) ⊎ (error ≡ ToolError.TooLong)) }
 {
-    let mut text = Vec::with_capacity(alloc, bytes.len().saturating_mul(ROWS_A_BYTE))?;
-    let mut rest = bytes;
-    while !rest.is_empty() {
-        let count = push_rows(&mut text, live, rest, items, pen)?;
-        rest = &rest[count..];
-    }
-    prove!(live.place() <= MOST_BITS);
-    Ok(text)
-}
-
-/// Decodes as many of the next bytes of a stream as it takes at once, and appends the rows that they complete. Answers how many
-/// bytes these were.
-fn push_rows(
-    text: &mut Vec<u8>,
-    live: &mut StreamDecoder<'_>,
-    bytes: &[u8],
-    items: &mut Vec<Item>,
-    pen: &mut RowWriter,
-) -> Result<usize, ToolError>
-    requires some { 0 < length bytes.now }
-    requires room { 16 ≤ vec_capacity items.old }
-    ensures some { IfOk result (λ count. (0 < count) × (count ≤ length bytes.now)) }
-    ensures heard { IfOk result (λ count. (before : List ℕ) → HasHeard live.old before
-        → HasHeard live.new (before ++ take count bytes.now)) }
-    ensures terms { OnOk result (live.new.terms ≡ live.old.terms) }
-    ensures place { IfOk result (λ count. live.new.place ≡ live.old.place + 8 * count) }
-    ensures rows { IfOk result (λ count. (before written : List ℕ) → HasHeard live.old before
-        → rows_so_far live.old.terms before ≡ written ++ text.old.items
-        → rows_so_far live.old.terms (before ++ take count bytes.now) ≡ written ++ text.new.items) }
-    ensures room { vec_capacity items.new ≡ vec_capacity items.old }
-    ensures too_long { IsErrOf result ToolError.TooLong → 2 ^ 36 < live.old.place + 8 * length bytes.now }
-    ensures kinds { IfErr result (λ error. (error ≡ ToolError.OutOfMemory) ⊎ (error ≡ ToolError.TooLong)) }
-{
-    let count = live.take(bytes, items)?;
-    push_items(pen, text, items.as_slice())?;
-    Ok(count)
+    let mut lister = lister;
+    lister.clear_rows();
+    Ok(lister.list(rt, alloc, bytes, workers)?)
 }
 
 /// The rest of a listing: the rows that the first `bits` bits of these bytes complete, that of the group in

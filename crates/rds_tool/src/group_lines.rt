@@ -15,7 +15,7 @@ use std::thread::Threads;
 /// How many digits a line has: those of four words.
 const DIGITS: usize = 16;
 
-/// The groups that lines of digits spell, of which two bytes a word are kept.
+/// The groups that lines of digits spell. Each is kept as four words, in 8 bytes.
 #[derive(Drop)]
 pub struct GroupLines {
     groups: Vec<[u16; 4]>,

@@ -95,7 +95,7 @@ pub const FOLLOW_AFTER: &str =
     "After each read, writes the rows of 'rds list' that are complete. When the input
 ends, or the bits that --bits asks for, the last group and the totals follow.
 The whole output is that of 'rds list' for the same bytes. Memory does not grow
-with the stream.
+with the stream. More workers help if reads give 32 KiB or more.
 
 'rds --help' lists the errors.";
 
@@ -116,6 +116,9 @@ pub const TOTALS_AFTER: &str =
   complete           groups whose four blocks are valid or corrected
   acquired           how often block sync was acquired
   losses             how often it was lost
+
+With --soft come six more: soft1 to soft6, blocks corrected by as many flips of
+symbols; soft6 counts those by six or more. No block is corrected by a burst.
 
 'rds --help' lists the errors.";
 
@@ -165,3 +168,9 @@ pub const WORKERS: &str = "Use at most N threads, 1 to 256; the output stays
 the same";
 
 pub const PROGRESS: &str = "Show progress in one line on standard error";
+
+pub const SOFT: &str = "The input is soft symbols, a signed byte each;
+not with --hex or --burst";
+
+pub const MARGIN: &str = "With --soft: correct a block only if all other corrections
+weigh N more, 1 to 127";

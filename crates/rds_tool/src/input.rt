@@ -33,7 +33,7 @@ pub fn recording_of(input: Input, held: Vec<u8>) -> Result<Recording, ToolError>
 }
 
 /// The first `bits` bits, with these gaps.
-fn first_bits(bytes: Vec<u8>, bits: u64, gaps: Vec<(u64, u64)>) -> Result<Recording, ToolError>
+pub fn first_bits(bytes: Vec<u8>, bits: u64, gaps: Vec<(u64, u64)>) -> Result<Recording, ToolError>
     ensures { result ≡ the_first_bits bits gaps.items bytes.items }
 {
     match Recording::with_gaps(bytes, bits, gaps) {

@@ -4,6 +4,7 @@ ghost use Rattle.std.specs.Cmp.{partial_equiv_from_equiv};
 ghost use Rattle.rds_tool.specs.CommandLine.{warning_of};
 ghost use Rattle.rds_tool.specs.InputOf.{says_same, says_same_equiv};
 
+use rds_soft::Margin;
 use rds_sync::{Loss, RuleNumbers};
 use std::marker::Model;
 
@@ -83,10 +84,20 @@ pub enum Job {
     List(Input, Settings),
     /// Only the twelve totals.
     Totals(Input, Settings),
+    /// The list of symbols, which the bytes of the input are, each a signed byte: the report of their bits, each group read again
+    /// from its symbols by this margin, and then its eighteen totals; or only the totals, without `rows`.
+    Soft {
+        input: Input,
+        settings: Settings,
+        margin: Margin,
+        rows: bool,
+    },
     /// The blocks of groups that are given as lines of sixteen hexadecimal digits, four words each;
     /// spaces, tabs and carriage returns don't count, and empty lines are skipped. A group is 13 bytes,
     /// or with `hex` a line of 26 lower-case digits.
-    Encode { hex: bool },
+    Encode {
+        hex: bool,
+    },
 }
 
 /// The request of a command line, and the option that it gives in vain.
@@ -102,9 +113,9 @@ pub struct Asked {
 pub enum Request {
     /// A job, and whether the program is to tell how far it is. The job's text doesn't depend on it.
     Job { job: Job, progress: bool },
-    /// To follow a stream by these rules, each in the range that [`Settings`] has for it. The input is the
-    /// bytes themselves, so `hex` is off.
-    Follow(Input, RuleNumbers),
+    /// To follow a stream by these rules and at most this number of threads, each in the range that [`Settings`] has for it. The input
+    /// is the bytes themselves, so `hex` is off.
+    Follow(Input, RuleNumbers, u32),
 }
 
 /// An option of the rule of loss that the rule asked for leaves out.

@@ -73,9 +73,12 @@ mod task; // A job whose settings were looked at, and the text that it writes.
 mod making; // From a job to its task, and on to its text.
 mod plan; // Rules, workers and pieces.
 mod input; // From bytes to a recording.
+mod soft_source; // From bytes to symbols, and the recording of their bits.
 mod taker; // Where the bytes of a reader go.
 mod counting; // Totals that are counted as the bytes come.
 mod one_pass; // A list by one worker, written while it is decoded.
+mod lister; // The listing of its items.
+mod soft_lister; // The same of items that are read again.
 mod text; // The text that a task writes.
 mod listing_rows; // The rows of a report, from any on.
 mod window_rows; // Those of a scan.
@@ -87,6 +90,7 @@ mod page; // Room for rows, on the stack.
 mod digits; // Digits of numbers.
 mod group_lines; // Groups from lines of digits.
 mod encode; // Groups as blocks.
+mod stream_rows; // Rows of a stream.
 mod following; // From a reader to a writer, as the bytes come.
 mod error; // Why a transcription is refused.
 pub mod laws; // The laws of jobs and their texts.
@@ -99,5 +103,6 @@ pub use fault::{CliFault, FaultKind};
 pub use following::follow;
 pub use job::{Asked, Cuts, Ignored, Input, Job, Request, Settings};
 pub use rds_rows::{Failed, Sink, write_all};
+pub use rds_soft::Margin;
 pub use rds_sync::{Loss, RuleNumbers};
 pub use trace::Trace;

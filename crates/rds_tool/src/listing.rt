@@ -11,7 +11,7 @@ use crate::totals::totals_with_names;
 use rds_rows::Sheet;
 use rds_stream::Recording;
 use rds_sync::{IndexedItems, Item, ItemIter, Rules, Totals};
-use std::alloc::Global;
+use std::alloc::{AllocError, Global};
 
 /// The source of items: the recording that they name, and the rules.
 #[derive(Clone, Copy)]
@@ -58,6 +58,7 @@ pub fn fill_totals(rows: &mut RowWriter, totals: &[(&'static str, u64)], sheet: 
     requires longest { (size_of sheet.old).1 ≡ 168 }
     ensures rows { text_of sheet.new ≡ text_of sheet.old
         ++ flat_map total_row (map (λ total. (total.0.now, total.1)) totals.now) }
+    ensures left { left_of sheet.new + length totals.now ≡ left_of sheet.old }
     ensures size { size_of sheet.new ≡ size_of sheet.old }
 {
     rows.write_totals(totals);
@@ -65,9 +66,12 @@ pub fn fill_totals(rows: &mut RowWriter, totals: &[(&'static str, u64)], sheet: 
 }
 
 /// Appends the rows of these items, page by page.
-pub fn push_items(rows: &mut RowWriter, text: &mut Vec<u8>, items: &[Item]) -> Result<(), ToolError>
-    ensures rows { OnOk result (text.new.items ≡ text.old.items ++ flat_map item_row items.now) }
-    ensures refused { IsOkUnless result ToolError.OutOfMemory }
+pub fn push_items(
+    rows: &mut RowWriter,
+    text: &mut Vec<u8>,
+    items: &[Item],
+) -> Result<(), AllocError>
+    ensures { OnOk result (text.new.items ≡ text.old.items ++ flat_map item_row items.now) }
 {
     let mut left = items;
     while !left.is_empty() {

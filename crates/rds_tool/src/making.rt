@@ -11,9 +11,11 @@ use crate::group_lines::GroupLines;
 use crate::input::recording_of;
 use crate::listing::totals_rows;
 use crate::plan::report_by;
+use crate::soft_source::SoftSource;
 use crate::task::{Listing, Plan, Task, Text, Workers};
 use crate::{Input, Job, Settings, ToolError};
 use rds_crew::Gate;
+use rds_soft::Margin;
 use rds_sync::{Spans, Totals};
 use std::alloc::Global;
 use std::thread::Threads;
@@ -41,6 +43,15 @@ impl<'a> Task<'a> {
                 Ok(Task::Totals(input, plan))
             }
             Job::Encode { hex } => Ok(Task::Encode { hex: *hex }),
+            Job::Soft {
+                input,
+                settings,
+                margin,
+                rows,
+            } => {
+                let (input, plan) = input_and_plan(alloc, input, settings)?;
+                Ok(Task::Soft(input, plan, *margin, *rows))
+            }
         }
     }
 
@@ -60,6 +71,9 @@ impl<'a> Task<'a> {
             Task::List(input, plan) => list_of(rt, alloc, input, plan, held, gate),
             Task::Totals(input, plan) => rows_of_totals(rt, alloc, input, &plan, held, gate),
             Task::Encode { hex } => groups_of(alloc, hex, held.as_slice()),
+            Task::Soft(input, plan, margin, rows) => {
+                soft_text_of(alloc, input, plan, margin, rows, held)
+            }
         }
     }
 }
@@ -164,4 +178,21 @@ fn groups_of<'a>(alloc: Global, hex: bool, lines: &[u8]) -> Result<Text<'a>, Too
     let mut reader = GroupLines::new(alloc);
     reader.push(lines)?;
     Ok(Text::Groups(reader.finish()?, hex))
+}
+
+/// The listing of the symbols that the bytes are, or only its totals.
+fn soft_text_of<'a>(
+    alloc: Global,
+    input: Input,
+    plan: Plan<'a>,
+    margin: Margin,
+    rows: bool,
+    held: Vec<u8>,
+) -> Result<Text<'a>, ToolError>
+    ensures ok { IfOk result (λ text. text_of_task (task.Soft input plan.entry margin rows) held.items
+        ≡ Ok (bytes_of text)) }
+    ensures refused { IfErr result (IsMemoryOrErrOf (text_of_task (task.Soft input plan.entry margin rows) held.items)) }
+{
+    let source = SoftSource::of(alloc, input, margin, held)?;
+    Ok(Text::Soft(source, plan, rows))
 }

@@ -3,12 +3,15 @@ ghost use Rattle.std.specs.Prelude.{◌+◌, ◌++◌, ◌≡◌, ◌≤◌, ◌
 ghost use Rattle.csv.specs.Writing.{default_writer, row_text};
 ghost use Rattle.rds_code.specs.Offsets.{name};
 ghost use Rattle.rds_sync.specs.declared.item.Item.TheVariants as AnItem;
-ghost use Rattle.rds_tool.specs.Listing.{block_text, item_fields, item_row, kind_text, version_text, window_row, word_text};
+ghost use Rattle.rds_soft.specs.declared.soft_item.SoftItem.TheVariants as ASoftItem;
+ghost use Rattle.rds_tool.specs.Soft.{soft_block_text, soft_row};
+ghost use Rattle.rds_tool.specs.Listing.{block_text, hex_digits, item_fields, item_row, kind_text, version_text, window_row, word_text};
 ghost use Rattle.rds_tool.specs.Inside.RowWriter.{IsPlain};
 
 use crate::digits::{mask_digits, word_digits};
 use crate::page::Page;
 use rds_code::{Offset, Reading};
+use rds_soft::{SoftBlock, SoftGroup, SoftReading, mask_of};
 use rds_sync::{Block, Group, Version};
 
 impl Page {
@@ -30,6 +33,25 @@ impl Page {
         self.put_block(two);
         self.put_block(three);
         self.put_block(four);
+        self.put_byte(b'\n');
+    }
+
+    /// Appends the row of a group that was read again.
+    pub fn push_soft_group(&mut self, group: &SoftGroup)
+        requires { length self.old + 168 ≤ 4096 }
+        ensures text { self.new ≡ self.old ++ soft_row (ASoftItem.Group group.now) }
+        ensures short { length self.new ≤ length self.old + 168 }
+    {
+        count_four(&group.blocks);
+        self.put(*b"group,\0\0", 6);
+        self.put_number(group.place);
+        self.put_kind(group.kind);
+        self.put_version(group.version, group.conflict);
+        let [one, two, three, four] = &group.blocks;
+        self.put_soft_block(one);
+        self.put_soft_block(two);
+        self.put_soft_block(three);
+        self.put_soft_block(four);
         self.put_byte(b'\n');
     }
 
@@ -121,10 +143,43 @@ impl Page {
                 },
             ) => {
                 self.put_word(offset, info);
-                let [a, b, c, d, e, f, g] = mask_digits(burst.pattern());
-                self.put([b'~', a, b, c, d, e, f, g], 8)
+                self.put_mask(burst.pattern());
             }
         }
+    }
+
+    /// Appends a comma and the field of a block that was read again.
+    fn put_soft_block(&mut self, block: &SoftBlock)
+        requires { length self.old + 16 ≤ 4096 }
+        ensures text { self.new ≡ self.old ++ 44 ∷ soft_block_text block.now }
+        ensures short { length self.new ≤ length self.old + 16 }
+    {
+        match *block {
+            SoftBlock::Missing => self.put(*b",none\0\0\0", 5),
+            SoftBlock::Read(SoftReading::Lost) => self.put(*b",lost\0\0\0", 5),
+            SoftBlock::Read(SoftReading::Valid { offset, info }) => self.put_word(offset, info),
+            SoftBlock::Read(
+                SoftReading::Corrected {
+                    offset,
+                    info,
+                    flips,
+                },
+            ) => {
+                self.put_word(offset, info);
+                self.put_mask(mask_of(flips));
+            }
+        }
+    }
+
+    /// Appends a tilde and an error mask.
+    #[inline(always)]
+    fn put_mask(&mut self, mask: u32)
+        requires { length self.old + 8 ≤ 4096 }
+        ensures text { self.new ≡ self.old ++ 126 ∷ hex_digits 7 mask }
+        ensures short { length self.new ≤ length self.old + 8 }
+    {
+        let [a, b, c, d, e, f, g] = mask_digits(mask);
+        self.put([b'~', a, b, c, d, e, f, g], 8)
     }
 
     /// Appends a comma, an offset and an information word.
@@ -141,4 +196,12 @@ impl Page {
             _ => unreachable!(),
         }
     }
+}
+
+/// Tells clauses that there are four blocks.
+#[inline(always)]
+fn count_four(blocks: &[SoftBlock; 4])
+    ensures { length blocks.now ≡ 4 }
+{
+    let _ = blocks;
 }

@@ -3,12 +3,14 @@ ghost use Rattle.std.specs.Prelude.{◌+◌, ◌++◌, ◌*◌, ◌<◌, ◌≡�
 ghost use Rattle.std.specs.List.{AllByRecursion, flat_map};
 ghost use Rattle.rds_sync.specs.declared.item.Item.TheVariants as AnItem;
 ghost use Rattle.rds_tool.specs.Listing.{item_row, row, total_row};
+ghost use Rattle.rds_tool.specs.Soft.{soft_row};
 ghost use Rattle.rds_tool.specs.Inside.RowWriter.{IsBetween, IsPlain, IsShort};
 ghost use Rattle.csv.specs.Writing.{writer_under};
 
 use crate::page::{LONGEST_ROW, Page};
 use csv::{Error, Writer, WriterBuilder};
 use itoa::Buffer;
+use rds_soft::SoftItem;
 use rds_sync::Item;
 use std::marker::Model;
 
@@ -81,6 +83,19 @@ impl RowWriter {
         self.page.clear();
         for (name, value) in totals {
             self.push_total(name, *value);
+        }
+    }
+
+    /// Forgets the rows before, and writes that of an item that was read again.
+    pub fn write_soft_item(&mut self, item: &SoftItem)
+        ensures row { self.new ≡ soft_row item.now }
+        ensures short { length self.new ≤ 168 }
+    {
+        self.page.clear();
+        match item {
+            SoftItem::Acquired { place, number } => self.push_acquired(*place, *number),
+            SoftItem::Group(group) => self.page.push_soft_group(group),
+            SoftItem::LostLock { place } => self.push_loss(*place),
         }
     }
 

@@ -1,7 +1,9 @@
 //! A job whose settings were looked at, and the text that it writes.
 ghost use Rattle.std.specs.Prelude.{◌≡◌};
 
+use crate::soft_source::SoftSource;
 use crate::{Cuts, Input};
+use rds_soft::Margin;
 use rds_stream::Recording;
 use rds_sync::{Report, Rules};
 use std::marker::Model;
@@ -46,6 +48,7 @@ pub enum Task<'a> {
     List(Input, Plan<'a>),
     Totals(Input, Plan<'a>),
     Encode { hex: bool },
+    Soft(Input, Plan<'a>, Margin, bool),
 }
 
 /// A text that is made, or the source that one is spelled from while it is written.
@@ -59,6 +62,8 @@ pub enum Text<'a> {
     Windows(Recording, Workers),
     /// Groups that are encoded while they are written, with `hex` as lines of digits.
     Groups(Vec<[u16; 4]>, bool),
+    /// Symbols whose report is read again while their bits are decoded, and whether the rows of its items are written.
+    Soft(SoftSource, Plan<'a>, bool),
 }
 
 /// A report and the source of its items.

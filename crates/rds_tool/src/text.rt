@@ -6,13 +6,17 @@ ghost use Rattle.rds_tool.specs.Inside.GroupLines.{text_of_groups};
 ghost use Rattle.rds_tool.specs.Inside.Texts.{bytes_of};
 ghost use Rattle.rds_tool.specs.Listing.{report_text, scan_text};
 ghost use Rattle.rds_tool.specs.Outcome.{WritesPrefix, list_text};
+ghost use Rattle.rds_tool.specs.Soft.{soft_text};
 
 use crate::ToolError;
 use crate::encode::GroupRows;
+use crate::lister::HardLister;
 use crate::listing::Heard;
 use crate::listing_rows::ListingRows;
 use crate::one_pass::write_in_one_pass;
 use crate::plan::busy_workers;
+use crate::soft_lister::SoftLister;
+use crate::soft_source::SoftSource;
 use crate::task::{Listing, Plan, Text};
 use crate::window_rows::WindowRows;
 use rds_rows::{Failed, RowsError, Sink, write_all, write_rows};
@@ -75,11 +79,14 @@ fn write_bytes<R: Threads + Sync, K: Sink>(
     match text {
         Text::Whole(bytes) => write_whole(writer, bytes.as_slice()),
         Text::Listing(listing) => write_listing(rt, alloc, listing, writer),
-        Text::OnePass(recording, plan) => write_decoded(alloc, recording, plan, writer),
+        Text::OnePass(recording, plan) => write_decoded(rt, alloc, recording, plan, writer),
         Text::Windows(recording, workers) => {
             write_windows(rt, alloc, recording, workers.count(), writer)
         }
         Text::Groups(groups, hex) => write_groups(rt, alloc, groups.as_slice(), *hex, writer),
+        Text::Soft(source, plan, has_rows) => {
+            write_softly(rt, alloc, source, plan, *has_rows, writer)
+        }
     }
 }
 
@@ -126,7 +133,8 @@ fn write_listing<R: Threads + Sync, K: Sink>(
 }
 
 /// Writes the listing of a recording while it is decoded.
-fn write_decoded<K: Sink>(
+fn write_decoded<R: Threads + Sync, K: Sink>(
+    rt: &R,
     alloc: Global,
     recording: &Recording,
     plan: &Plan<'_>,
@@ -142,7 +150,38 @@ fn write_decoded<K: Sink>(
         → AppendsPrefix (K.contents writer.old) (K.contents writer.new)
         (list_text plan.now.rules recording.now) }
 {
-    write_in_one_pass(alloc, recording, plan.rules(), writer)
+    let mut lister = HardLister::new();
+    write_in_one_pass(rt, alloc, recording, plan.rules(), &mut lister, writer)
+}
+
+/// Writes the listing of symbols, or only its totals, while their bits are decoded.
+fn write_softly<R: Threads + Sync, K: Sink>(
+    rt: &R,
+    alloc: Global,
+    source: &SoftSource,
+    plan: &Plan<'_>,
+    has_rows: bool,
+    writer: &mut K,
+) -> Result<(), RowsError>
+    requires { K.failed writer.old < 2 ^ 63 }
+    ensures ok { OnOk result (Appends (K.contents writer.old) (K.contents writer.new)
+        (soft_text has_rows plan.now.rules source.now.margin source.now.symbols.items source.now.recording)) }
+    ensures count { OnOk result (K.failed writer.new ≡ K.failed writer.old) }
+    ensures write { IsErrOf result RowsError.Write ↔ (K.failed writer.old < K.failed writer.new) }
+    ensures untouched { IsErrOf result RowsError.OutOfMemory → writer.new ≡ writer.old }
+    ensures prefix { IsErrOf result RowsError.Write
+        → AppendsPrefix (K.contents writer.old) (K.contents writer.new)
+        (soft_text has_rows plan.now.rules source.now.margin source.now.symbols.items source.now.recording) }
+{
+    let mut lister = SoftLister::new(alloc, source, has_rows)?;
+    write_in_one_pass(
+        rt,
+        alloc,
+        &source.recording,
+        plan.rules(),
+        &mut lister,
+        writer,
+    )
 }
 
 /// Writes the rows of the valid windows, spelled by as many threads as there are workers.

@@ -68,7 +68,7 @@ follow_by_a_share = codes "rds" ∷ codes "follow" ∷ codes "--of" ∷ codes "3
 
 abbrev stream_asked : Asked
 stream_asked = record {
-  request = request.Follow (record { hex = false; bits = None; gaps = [] }) (record { burst = 2; reach = 3; loss = Share 2 3 });
+  request = request.Follow (record { hex = false; bits = None; gaps = [] }) (record { burst = 2; reach = 3; loss = Share 2 3 }) 1;
   ignored = None;
 }
 

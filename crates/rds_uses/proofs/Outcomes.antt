@@ -96,6 +96,7 @@ module _ (bytes new : List ℕ) (few : 8 * length bytes ≤ 2 ^ 36) (rules : Rul
   listed (job.Scan input workers) by is = absurd by
   listed (job.Totals input settings) by is = absurd by
   listed (job.Encode hex) by is = absurd by
+  listed (job.Soft input settings margin rows) by is = absurd by
 
 module _ (input : Input) (recorded : Signal) (bytes text : List ℕ) (is_recording : recording_of input bytes ≡ Ok recorded) where
   -- the text of a scan, if there are workers
@@ -112,6 +113,7 @@ module _ (bytes new : List ℕ) (few : 8 * length bytes ≤ 2 ^ 36) where
   scanned (job.List input settings) by is = absurd by
   scanned (job.Totals input settings) by is = absurd by
   scanned (job.Encode hex) by is = absurd by
+  scanned (job.Soft input settings margin rows) by is = absurd by
 
 -- ---- laws of jobs
 

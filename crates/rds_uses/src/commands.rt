@@ -40,11 +40,12 @@ pub fn list_with_a_warning(alloc: Global) -> Result<Asked, CliFault>
     asked_of(alloc, LIST_BY_TWO_LOSSES.as_slice())
 }
 
-/// `rds follow --of 3 --share 2` asks for a stream to be followed, to its end and without gaps, that loses a lock by this share.
+/// `rds follow --of 3 --share 2` asks for a stream to be followed, to its end and without gaps, that loses a lock by this share,
+/// by one worker.
 pub fn follow_by_a_share(alloc: Global) -> Result<Asked, CliFault>
     ensures { IfOk result (λ asked. asked.request
         ≡ Request.Follow (record { hex = false; bits = None; gaps = [] })
-        (record { burst = 2; reach = 3; loss = Share 2 3 })) }
+        (record { burst = 2; reach = 3; loss = Share 2 3 }) 1) }
 {
     asked_of(alloc, FOLLOW_BY_A_SHARE.as_slice())
 }

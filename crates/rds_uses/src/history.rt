@@ -64,13 +64,15 @@ pub fn job_between_devices<R: Threads + Sync, S: Source, K: Sink>(
 }
 
 /// A stream at any devices: the text that is written is the listing of the bytes that were read, up to the
-/// end or the last bit that counts. If a read fails, the rows of all bytes before it were taken and flushed.
-pub fn heard_live<S: Source, K: Sink>(
+/// end or the last bit that counts, by any number of workers. If a read fails, the rows of all bytes before it were taken and flushed.
+pub fn heard_live<R: Threads + Sync, S: Source, K: Sink>(
+    rt: &R,
     alloc: Global,
     reader: &mut S,
     writer: &mut K,
     rules: &Rules,
     bits: Option<u64>,
+    workers: u32,
 ) -> Result<(), ToolError>
     requires reads { S.failed reader.old < 2 ^ 63 }
     requires writes { K.failed writer.old < 2 ^ 63 }
@@ -85,5 +87,5 @@ pub fn heard_live<S: Source, K: Sink>(
         (rows_so_far (record { rules = rules.now; gaps = [] }) bytes)
         × IsFlushedAfter bytes (K.is_flushed writer.new)) }
 {
-    follow(alloc, reader, writer, rules, bits, &[])
+    follow(rt, alloc, reader, writer, rules, bits, &[], workers)
 }

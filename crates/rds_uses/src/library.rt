@@ -1,5 +1,5 @@
 //! Promises of the calls for C to a user.
-ghost use Rattle.std.specs.Prelude.{◌≡◌, ◌≢◌, ◌++◌, ◌+◌, ◌*◌, ◌^◌, ◌<◌, ◌⊎◌, ℕ, List, [], ◌∷◌, IfErr, IfOk, IfSome, None, OnOk, length, map, take, true};
+ghost use Rattle.std.specs.Prelude.{◌≡◌, ◌≢◌, ◌++◌, ◌+◌, ◌*◌, ◌^◌, ◌<◌, ◌≤◌, ◌⊎◌, ℕ, List, [], ◌∷◌, IfErr, IfOk, IfSome, None, OnOk, Some, length, map, take, true};
 ghost use Rattle.rds_code.specs.Remainder.{rem};
 ghost use Rattle.rds_sync.specs.Report.{report_items};
 ghost use Rattle.rds_sync.specs.Totals.{totals_of};
@@ -10,8 +10,9 @@ ghost use Rattle.rds_abi.specs.Stream.{AreCompleted, AreLeft, AreWritten, stream
 ghost use Rattle.rds_abi.specs.Layout.{item_in_c, totals_in_c};
 
 use rds_abi::{
-    RdsGap, RdsItem, RdsPacked, RdsRules, RdsState, RdsStream, RdsTotals, RdsWords, Refusal,
-    encode, finish, finish_run, finish_with, items, push, remainder, run, totals,
+    RdsGap, RdsItem, RdsPacked, RdsRules, RdsSoft, RdsState, RdsStream, RdsTotals, RdsWords,
+    Refusal, encode, finish, finish_run, finish_with, items, push, push_soft, remainder, run,
+    totals,
 };
 use rds_sync::laws;
 use std::alloc::Global;
@@ -152,6 +153,61 @@ pub fn goes_on_in_little_room(
         &mut count,
     )?;
     Ok(taken)
+}
+
+/// Room for sixteen items is enough for symbols: of nine or more, eight are taken.
+pub fn symbols_go_on(
+    alloc: Global,
+    symbols: &[i8],
+    rules: RdsRules,
+    soft: &mut RdsSoft,
+    room: &mut [RdsItem],
+) -> Result<u64, Refusal>
+    requires room { length room.old ≡ 16 }
+    requires nine { 9 ≤ length symbols.now }
+    ensures some { IfOk result (λ taken. taken ≡ 8) }
+    ensures roomy { IfErr result (λ refusal. refusal ≢ Refusal.SmallRoom) }
+{
+    let mut taken = 0;
+    let mut count = 0;
+    push_soft(
+        alloc,
+        symbols,
+        &[],
+        rules,
+        32,
+        soft,
+        room,
+        &mut taken,
+        &mut count,
+    )?;
+    Ok(taken)
+}
+
+/// A margin of 0 is refused as such, whatever else is asked, and even without memory.
+pub fn no_margin_is_refused(
+    alloc: Global,
+    symbols: &[i8],
+    rules: RdsRules,
+    soft: &mut RdsSoft,
+    room: &mut [RdsItem],
+) -> Option<Refusal>
+    ensures { result ≡ Some Refusal.MarginRange }
+{
+    let mut taken = 0;
+    let mut count = 0;
+    push_soft(
+        alloc,
+        symbols,
+        &[],
+        rules,
+        0,
+        soft,
+        room,
+        &mut taken,
+        &mut count,
+    )
+    .err()
 }
 
 /// A stream in two chunks, between which it is kept only as numbers, and the items that its end closes:

@@ -378,7 +378,7 @@ pub fn encoded_and_listed<R: Threads + Sync>(
     written(rt, alloc, bytes.as_slice(), list)
 }
 
-/// Following a stream writes the same text as listing its bytes by the same rules.
+/// Following a stream writes the same text as listing its bytes by the same rules, by any numbers of workers.
 pub fn followed_and_listed<R: Threads + Sync>(
     rt: &R,
     alloc: Global,
@@ -386,13 +386,14 @@ pub fn followed_and_listed<R: Threads + Sync>(
     rules: &Rules,
     gaps: &[(u64, u64)],
     bits: Option<u64>,
+    workers: u32,
     list: &Job,
 ) -> Option<(Vec<u8>, Vec<u8>)>
     requires { IsListOfStream list.now rules.now bits gaps.now }
     ensures { IfSome result (λ both. both.0.items ≡ both.1.items) }
 {
     tool_laws::streams_are_listed();
-    let Some(rows) = follow_rows(alloc, bytes, rules, gaps, bits) else {
+    let Some(rows) = follow_rows(rt, alloc, bytes, rules, gaps, bits, workers) else {
         return None;
     };
     let Some(listing) = written(rt, alloc, bytes, list) else {
@@ -402,24 +403,28 @@ pub fn followed_and_listed<R: Threads + Sync>(
 }
 
 /// The text that following a stream writes.
-fn follow_rows(
+fn follow_rows<R: Threads + Sync>(
+    rt: &R,
     alloc: Global,
     bytes: &[u8],
     rules: &Rules,
     gaps: &[(u64, u64)],
     bits: Option<u64>,
+    workers: u32,
 ) -> Option<Vec<u8>>
     ensures { IfSome result (λ text.
         listed (record { rules = rules.now; gaps = gaps.now }) bits bytes.now ≡ Ok text.items) }
 {
     let mut writer = ToWrite::new(Vec::new(alloc));
     match follow(
+        rt,
         alloc,
         &mut FromRead::new(bytes),
         &mut writer,
         rules,
         bits,
         gaps,
+        workers,
     ) {
         Ok(()) => Some(writer.into_inner()),
         Err(_) => None,

@@ -1,23 +1,29 @@
 //! Facts about soft decisions that a user of `rds_soft` relies on: which block is nearest, how symbols are read, and what a
 //! report read again keeps.
-ghost use Rattle.std.specs.Prelude.{◌≡◌, ◌≢◌, ℕ, ◌+◌, ◌*◌, ◌<◌, ◌≤◌, ◌^◌, None, Some, IfSome, slice_index, bit_xor, true, IsTrue, List, ◌∷◌, [], drop, length, take};
+ghost use Rattle.std.specs.Prelude.{◌≡◌, ◌≢◌, ℕ, ◌+◌, ◌*◌, ◌<◌, ◌≤◌, ◌^◌, None, Some, IfOk, IfSome, slice_index, bit_xor, true, IsTrue, List, ◌∷◌, [], drop, length, take};
 ghost use Rattle.rds_code.specs.declared.offset.Offset.{Offset as AnOffset};
 ghost use Rattle.rds_code.specs.Offsets.{number as number_of, word};
 ghost use Rattle.rds_code.specs.Remainder.{rem};
 ghost use Rattle.rds_code.specs.Reading.{IsValid, allows, information};
 ghost use Rattle.rds_soft.specs.Nearest.{IsNearest, Turns, mask_of as the_mask_of, top, weight};
-ghost use Rattle.rds_soft.specs.Symbols.{hard_bits, hard_window};
+ghost use Rattle.rds_soft.specs.Symbols.{hard_bit, hard_bits, hard_window};
 ghost use Rattle.rds_code.specs.declared.reading.Wanted.{Wanted as WantedHard};
 ghost use Rattle.rds_stream.specs.Recording.{length_of, reading_at, touched};
 ghost use Rattle.rds_sync.specs.declared.item.Block.TheVariants.{Read};
 ghost use Rattle.rds_soft.specs.declared.soft_item.SoftBlock.TheVariants.{Missing as SoftMissing, Read as SoftRead};
 ghost use Rattle.rds_soft.specs.SoftGroups.{group_of};
 ghost use Rattle.rds_soft.specs.Again.{IsBlockAgain, IsReadingHeard, symbols_heard};
+ghost use Rattle.rds_soft.specs.ReadAgain.{item_again, symbols_of};
+ghost use Rattle.rds_soft.specs.SoftTotals.{soft_totals_of};
 
 use rds_code::{BlockNumber, BurstLimit, Offset, Reading, Wanted};
-use rds_soft::{Correction, Margin, Search, SoftBlock, SoftItem, SoftReading, laws, mask_of};
+use rds_soft::{
+    Correction, Margin, Search, SoftBlock, SoftItem, SoftReading, SoftTotals, laws, mask_of,
+    pack_bits,
+};
 use rds_stream::Recording;
 use rds_sync::{Block, Group, Item, Version};
+use std::alloc::{AllocError, Global};
 
 // ---- the nearest block
 
@@ -92,7 +98,7 @@ pub fn nothing_is_flipped(
     search.nearest(w, confidences, number, wanted, margin)
 }
 
-/// The mask of the last flip but four.
+/// A flip at place 4 from the last symbol inverts the two bits beside it.
 pub fn mask_of_one_flip() -> u32
     ensures { result ≡ 0x18 }
 {
@@ -138,7 +144,7 @@ pub fn read_alike(
 pub fn acquisition_stays(
     search: &mut Search,
     recording: &Recording,
-    symbols: &[i8],
+    symbols: &[u8],
     margin: Margin,
     place: u64,
     number: u8,
@@ -157,7 +163,7 @@ pub fn acquisition_stays(
 pub fn loss_stays(
     search: &mut Search,
     recording: &Recording,
-    symbols: &[i8],
+    symbols: &[u8],
     margin: Margin,
     place: u64,
 ) -> SoftItem
@@ -171,7 +177,7 @@ pub fn again_alike(
     one: &mut Search,
     other: &mut Search,
     recording: &Recording,
-    symbols: &[i8],
+    symbols: &[u8],
     margin: Margin,
     item: &Item,
 ) -> (SoftItem, SoftItem)
@@ -223,7 +229,7 @@ pub fn read_from_symbols(
 pub fn lost_in_gap(
     search: &mut Search,
     recording: &Recording,
-    symbols: &[i8],
+    symbols: &[u8],
     margin: Margin,
     place: u64,
 ) -> SoftItem
@@ -263,4 +269,39 @@ pub fn sent_is_a_block(sent: u32, number: BlockNumber, wanted: Wanted, offset: O
     ensures weightless { weight confidences 0 ≡ 0 }
 {
     laws::valid_blocks_need_no_flips();
+}
+
+/// The item read again is the one that `item_again` computes.
+pub fn again_as_computed(
+    search: &mut Search,
+    recording: &Recording,
+    symbols: &[u8],
+    margin: Margin,
+    item: &Item,
+) -> SoftItem
+    ensures { result ≡ item_again recording.now (symbols_of symbols.now) margin item.now }
+{
+    laws::items_are_read_again_so();
+    laws::items_are_read_again_alike();
+    let _weight = margin.weight();
+    search.read_again(recording, symbols, margin, item)
+}
+
+// ---- packed bits and totals
+
+/// The first packed bit is that between the first two symbols.
+pub fn first_packed_bit(alloc: Global, symbols: &[u8]) -> Result<u8, AllocError>
+    requires { 1 < length symbols.now }
+    ensures { IfOk result (λ bit. bit ≡ hard_bit (symbols_of symbols.now) 0) }
+{
+    let bytes = pack_bits(alloc, symbols)?;
+    Ok(bytes[0] >> 7)
+}
+
+/// The totals of two items, one after the other.
+pub fn totals_of_two(one: &SoftItem, other: &SoftItem) -> SoftTotals
+    ensures { result ≡ soft_totals_of (one.now ∷ other.now ∷ []) }
+{
+    laws::soft_totals_join();
+    SoftTotals::of_item(one).plus(SoftTotals::of_item(other))
 }

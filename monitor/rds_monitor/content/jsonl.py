@@ -10,7 +10,7 @@ from typing import Any, Dict, Iterator, List, Optional, Tuple, Union
 from ..rows.clock import Clock, clock_of, clock_options
 from ..rows.inputs import describe, input_options, open_input
 from ..rows.items import ACQUIRED, GROUP, LOSS, LOST, MISSING, UNKNOWN_TYPE, Rows, Totals
-from ..rows.listing import OFFSET_NAMES, TOTAL_NAMES, flat
+from ..rows.listing import OFFSET_NAMES, named
 from .charset import safe_json
 from .decoder import Decoder, Event
 from .redsea import Redsea
@@ -144,5 +144,5 @@ def _block_object(burst: int, info: int, kind: int, offset: int) -> Optional[Dic
 
 
 def total_objects(totals: Optional[Totals]) -> Iterator[Dict[str, Any]]:
-    for name, value in zip(TOTAL_NAMES, flat(totals) if totals else ()):
+    for name, value in named(totals) if totals else ():
         yield {"event": "total", "name": name, "value": value}

@@ -18,7 +18,7 @@ from ..rows.clock import clock_options
 from ..rows.hours import clock_of_hour, hour_of
 from ..rows.inputs import input_options, open_input
 from ..rows.items import BLOCKS, VALID, Fault, Misuse, Rows, Totals
-from ..rows.listing import TOTAL_NAMES, VERSION_NAMES, block_texts, flat, groups_in, kinds_of
+from ..rows.listing import VERSION_NAMES, block_texts, groups_in, kinds_of, named
 from .merge import merge
 from .parts import MinuteRow, Session, Told, sessions_of
 from .schema import HELD, MARK, MIGRATIONS
@@ -50,7 +50,7 @@ class SessionRows:
         self._insert("outage_rows", 3, ((session, *pair) for pair in told.outages))
 
     def sum_up(self, session: int, totals: Totals) -> None:
-        self._insert("totals", 3, ((session, *pair) for pair in zip(TOTAL_NAMES, flat(totals))), "REPLACE")
+        self._insert("totals", 3, ((session, *pair) for pair in named(totals)), "REPLACE")
 
     def _insert(self, table: str, columns: int, rows: Iterable[Sequence[Any]], again: str = "IGNORE") -> None:
         marks = ", ".join("?" * columns)

@@ -3,7 +3,7 @@
 from __future__ import annotations
 
 import argparse
-from typing import Iterator, List, NamedTuple
+from typing import Any, Iterator, List, NamedTuple
 
 import numpy
 
@@ -29,6 +29,11 @@ class Interval(NamedTuple):
     @property
     def bad_percent(self) -> float:
         return 100 * (self.sent - self.valid) / self.sent if self.sent else 0.0
+
+    def counts(self, is_soft: bool) -> List[Any]:
+        """The cells of a table's row. Soft decisions take the place of corrected bursts, and have a column of their own."""
+        corrected = [0, self.corrected] if is_soft else [self.corrected]
+        return [self.sent, self.valid, *corrected, self.lost, self.missing, f"{self.bad_percent:.2f}"]
 
 
 class Errors:
@@ -127,7 +132,7 @@ def options_errors(parser: argparse.ArgumentParser) -> None:
         parser,
         "Block errors over time, as CSV: per interval the blocks sent by the clock, those valid, "
         "corrected, uncorrectable (lost) and sent while there was no sync (no_sync), and how many per cent"
-        " of those sent are not valid.",
+        " of those sent are not valid. Blocks corrected by soft decisions have a column of their own (soft).",
         "rds-monitor errors --every 60 --start 2026-03-29T00:30:00Z monday.bin > errors.csv",
     )
     input_options(parser)
@@ -141,9 +146,10 @@ def run_errors(arguments: argparse.Namespace) -> int:
     errors, extent = Errors(arguments.every * clock.rate), Extent(open_input(arguments))
     for rows in extent.chunks():
         errors.add(rows)
-    names = "begin_s end_s sent valid corrected lost no_sync bad_percent".split()
+    is_soft, names = extent.is_soft, "begin_s end_s sent valid corrected lost no_sync bad_percent".split()
     lines = (
-        [*clock.texts(*one[:2], digits=0), *one[2:], f"{one.bad_percent:.2f}", *clock.utc(*one[:2])]
+        [*clock.texts(*one[:2], digits=0), *one.counts(is_soft), *clock.utc(*one[:2])]
         for one in errors.intervals(extent.begin, extent.end)
     )
+    names[5:5] = ["soft"] if is_soft else []
     return write_table([*names, *clock.names("begin", "end")], lines)

@@ -45,7 +45,9 @@ class Said(NamedTuple):
 
 def said(item: str, value: Optional[str]) -> Said:
     name, text = label(item), printable(value or "")
-    lane = name.split(" ")[0]
+    first = name.split(" ")[0]
+    # There are several of these; RT flag is no RT.
+    lane = first if first in ("AF", "EON") else name
     shown = f"{name[4:]}: {text}" if lane == "EON" and text else text
     return Said(name, text, lane if lane in LANES else "", shown)
 

@@ -38,8 +38,11 @@ def last_minute(spans: Sequence[Span]) -> Optional[float]:
     """Per cent of bad blocks in the last minute with any, or in the last interval if that is longer."""
     for span in reversed(spans):
         count = max(1, 60 // span.step)
-        if span.sent[-count:].sum():
-            return bad_percent(int(span.sent[-count:].sum()), int(span.valid[-count:].sum()))
+        # The last interval may be shorter than a block.
+        sent = numpy.trim_zeros(span.sent, "b")
+        if len(sent):
+            first = max(0, len(sent) - count)
+            return bad_percent(int(sent[first:].sum()), int(span.valid[first : len(sent)].sum()))
     return None
 
 

@@ -274,7 +274,7 @@
       const line = d3.svg.line().x((it) => this.x(it[0])).y((it) => y(it[1]));
       this.svg.append("g").attr("class", "clock").append("path").attr("d", line(seen)).append("title").text(
         `the station's clock less that of the recording: ${low} s to ${high} s`);
-      const axis = d3.svg.axis().scale(y).orient("left").ticks(3).tickFormat((it) => `${it} s`);
+      const axis = d3.svg.axis().scale(y).orient("left").ticks(3).tickFormat((it) => `${+it.toPrecision(6)} s`);
       this.svg.append("g").attr("class", "axis").attr("transform", `translate(${MARGIN.left},0)`).call(axis);
       this.svg.append("text").attr("x", MARGIN.left + 6).attr("y", top + 10).text("station's clock, less that of the recording");
     }

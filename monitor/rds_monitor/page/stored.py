@@ -14,7 +14,7 @@ from urllib.parse import quote
 import numpy
 
 from ..content.charset import printable
-from ..db.schema import MARK
+from ..db.schema import HELD, MARK
 from ..db.standing import Availability, Standing, standing_of
 from ..rows.items import Fault
 from .line import CUT, MOST_LISTED, SEVERAL, Counted, Lanes, Said, TimeLine, add_mix, join, said
@@ -220,7 +220,7 @@ class StoredStation:
         line.mix = [[at, at + step, found] for at, found in sorted(mix.items())]
         line.lanes = {**self._lanes.taken(end), **line.lanes}
         if sessions:
-            self._hear_last(sessions[-1], busy.lanes)
+            self._hear_last(sessions[-1], end, busy.lanes)
         return line
 
     def _rows_of(self, query: str, *given: str) -> Dict[int, List[Tuple[int, int]]]:
@@ -245,14 +245,18 @@ class StoredStation:
             self._lanes.drop(lane.upper())
         return Busy(lanes, [fact for item in items for fact in facts[item]])
 
-    def _hear_last(self, session: StoredSession, lanes: Sequence[str]) -> None:
-        """What busy items say at last goes on in the next line."""
-        for lane in lanes:
-            query = f"SELECT {lane} FROM minute_rows WHERE session = ? AND {lane} NOTNULL ORDER BY minute DESC LIMIT 1"
-            for (fact,) in self._stored.rows(query, session.number):
-                what = self._stored.fact(fact)
-                self._lanes.hear(self._heard, what)
+    def _hear_last(self, session: StoredSession, end: float, lanes: Sequence[str]) -> None:
+        """What the last minute says that has groups: not each change is stored. Busy items go on in the next line."""
+        query = (
+            f"SELECT {', '.join(HELD)} FROM minute_rows WHERE session = ? AND minute < ? AND mix NOTNULL"
+            " ORDER BY minute DESC LIMIT 1"
+        )
+        after = math.ceil((end - session.start) / session.minute)
+        for facts in self._stored.rows(query, session.number, after):
+            for item, what in ((item, self._stored.fact(fact)) for item, fact in zip(HELD, facts) if fact):
                 self.held[what.item] = what.text
+                if item in lanes:
+                    self._lanes.hear(self._heard, what)
 
     def _slots(
         self, session: StoredSession, begin: float, end: float, step: int, lanes: Sequence[str]

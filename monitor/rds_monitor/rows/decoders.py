@@ -1,8 +1,9 @@
 """The decoder: librds, or a process of the program rds.
 
 Both give the same rows at the same time, and raise the same `Fault`. A decoder is made of rules, gaps and the number of bits to
-decode, if that is known. `place` is how many bits were pushed. `push` gives all rows that the bits so far complete. `finish` takes
-the first `bits` of the last bytes, and gives the last rows and the totals.
+decode, if that is known. `place` is how many bits were pushed, and `place_after` counts bytes to come too. `push` gives all rows
+that the bits so far complete. `finish` takes the first `bits` of the last bytes, and gives the last rows and the totals. By rules
+with a margin bytes are symbols, one more than bits, and `finish` takes none.
 """
 
 from __future__ import annotations
@@ -20,11 +21,12 @@ from functools import partial
 from typing import Any, Callable, List, Optional, Sequence, Tuple, Union
 
 from .items import Fault, Rows, Rules, Totals, joined
-from .listing import TOTAL_NAMES, TOTAL_ROW
+from .listing import SOFT_NAMES, TOTAL_NAMES, TOTAL_ROW, totals_from
 from .parse import parse
+from .soft_end import PADDING, SoftTotals, rows_before
 
 # systemd and a terminal signal all processes of a watch at once. The decoder ends when its input does, and not before.
-SHIELD = 'trap "" TERM INT HUP QUIT; exec "$0" follow "$@"'
+SHIELD = 'trap "" TERM INT HUP QUIT; exec "$0" "$@"'
 # Seconds without any progress after which a program hangs. systemd's watchdog has twice as many.
 PATIENCE = 30.0
 FIRST_PAUSE, LONGEST_PAUSE = 0.0002, 0.01
@@ -32,12 +34,33 @@ FIRST_PAUSE, LONGEST_PAUSE = 0.0002, 0.01
 Gaps = Sequence[Tuple[int, int]]
 
 
-class ByLibrary:
+class Pushed:
+    """How much was pushed to a decoder."""
+
+    def __init__(self, is_soft: bool):
+        self.is_soft, self.bytes = is_soft, 0
+
+    @property
+    def place(self) -> int:
+        return self.place_after(0)
+
+    def place_after(self, size: int) -> int:
+        return max(0, self.bytes + size - 1) if self.is_soft else 8 * (self.bytes + size)
+
+
+class ByLibrary(Pushed):
     """By librds, in this process."""
 
     def __init__(self, rules: Rules = Rules(), gaps: Gaps = (), bits: Optional[int] = None) -> None:
-        self._librds = librds = library()
-        self._follower: Any = self._tried(lambda: librds.Follower(librds.Rules(*rules), list(gaps)))
+        super().__init__(rules.margin > 0)
+        self._librds, given = library(), list(gaps)
+        *four, margin = rules
+        self._follower: Any = self._tried(
+            lambda: self._librds.SoftFollower(self._librds.Rules(*four), given, margin)
+            if margin
+            else self._librds.Follower(self._librds.Rules(*four), given)
+        )
+        self._soft_totals = SoftTotals()
 
     def _tried(self, call: Callable[[], Any]) -> Any:
         try:
@@ -45,26 +68,36 @@ class ByLibrary:
         except self._librds.Refused as error:
             raise Fault(str(error)) from None
 
-    @property
-    def place(self) -> int:
-        return int(self._follower.place)
-
     def push(self, data: bytes) -> Rows:
         rows: Rows = self._tried(lambda: self._follower.push_array(data))
+        self.bytes += len(data)
+        if self.is_soft:
+            self._soft_totals.take(data, rows)
         return rows
 
     def finish(self, data: bytes = b"", bits: int = 0) -> Tuple[Rows, Totals]:
+        if self.is_soft:
+            rows = rows_before(self._tried(lambda: self._follower.push_array(PADDING)), self.place)
+            return rows, self._soft_totals.take(b"", rows)
         rows, found = self._tried(lambda: self._follower.finish_array(data, bits))
-        return rows, Totals(*(getattr(found, name) for name in Totals._fields))
+        told: Any = (getattr(found, name, ()) for name in Totals._fields)
+        return rows, Totals(*told)
 
 
-class ByProgram:
-    """By a process `rds follow`, which starts with the first bits."""
+class ByProgram(Pushed):
+    """By a process `rds follow`, which starts with the first bits; of symbols by the job `soft_job`."""
 
     def __init__(
-        self, program: str, rules: Rules = Rules(), gaps: Gaps = (), bits: Optional[int] = None
+        self,
+        program: str,
+        rules: Rules = Rules(),
+        gaps: Gaps = (),
+        bits: Optional[int] = None,
+        soft_job: str = "follow",
     ) -> None:
-        self._program, self._words, self.place = program, _words(rules, gaps, bits), 0
+        super().__init__(rules.margin > 0)
+        job = soft_job if self.is_soft else "follow"
+        self._program, self._words = program, [job, *_words(rules, gaps, bits)]
         self._process: Optional["subprocess.Popen[bytes]"] = None
         # What it wrote and was not taken yet.
         self._text = b""
@@ -73,7 +106,7 @@ class ByProgram:
         if not data:
             return parse(b"")[0]
         process = self._process or self._start()
-        self.place += 8 * len(data)
+        self.bytes += len(data)
         self._work(process, memoryview(data))
         return self._taken()
 
@@ -187,16 +220,17 @@ class ByProgram:
 
     def _totals(self) -> Optional[Totals]:
         found = [TOTAL_ROW.fullmatch(line) for line in self._text.splitlines()]
-        values = [int(entry[2]) for entry in found if entry]
-        if [entry[1].decode() if entry else "" for entry in found] != list(TOTAL_NAMES):
+        names = TOTAL_NAMES + (SOFT_NAMES if self.is_soft else [])
+        if [entry[1].decode() if entry else "" for entry in found] != names:
             return None
-        return Totals(values[0], tuple(values[1:6]), *values[6:])
+        return totals_from([int(entry[2]) for entry in found if entry])
 
 
 def _words(rules: Rules, gaps: Gaps, bits: Optional[int]) -> List[str]:
     """Options of rds."""
-    burst, reach, loss, of = rules
-    words = [f"--burst={burst}", f"--reach={reach}"]
+    burst, reach, loss, of, margin = rules
+    words = ["--soft", f"--margin={margin}"] if margin else [f"--burst={burst}"]
+    words += [f"--reach={reach}"]
     words += [f"--share={loss}", f"--of={of}"] if of else [f"--loss={loss}"]
     words += [f"--gaps={','.join(f'{begin}-{end}' for begin, end in gaps)}"] if gaps else []
     return words + ([] if bits is None else [f"--bits={bits}"])
@@ -256,34 +290,44 @@ def rds_program() -> str:
     return os.environ.get("RDS") or "rds"
 
 
-def decoder_of(program: Optional[str] = None) -> Tuple[NewDecoder, str]:
-    """The decoder and its name: the program that a table or a command line names, or else librds, or else rds."""
+def decoder_of(program: Optional[str] = None, soft: Sequence[str] = ()) -> Tuple[NewDecoder, str]:
+    """The decoder and its name: the program that a table or a command line names, or else librds, or else rds. For soft decisions
+    `soft` has the jobs that do, if it is a program: the first one that it has is taken."""
     if program is not None:
-        return by_program(program)
+        return by_program(program, soft)
     try:
-        return ByLibrary, f"librds {'.'.join(map(str, library().version()))}"
+        librds = library()
+        if soft and not hasattr(librds, "SoftFollower"):
+            raise ImportError("this librds has no soft decisions")
+        return ByLibrary, f"librds {'.'.join(map(str, librds.version()))}"
     except (ImportError, OSError) as error:
         why = str(error).partition(": install")[0]
     try:
-        return by_program(rds_program())
+        return by_program(rds_program(), soft)
     except Fault as error:
         raise Fault(f"there is neither librds nor rds to decode by ({why}; {error}): {CURE}") from None
 
 
-def by_program(program: str) -> Tuple[NewDecoder, str]:
+def by_program(program: str, soft: Sequence[str] = ()) -> Tuple[NewDecoder, str]:
     """Of a program that answers."""
     path = shutil.which(program)
     if path is None:
         raise Fault(f"there is no program {program!r}")
+    if not _said(path, "--version").startswith(b"rds "):
+        raise Fault(f"{path} is not the program rds")
+    whole, jobs = os.path.abspath(path), [job for job in soft if _said(path, job, "--soft")]
+    if soft and not jobs:
+        raise Fault(f"{path} has no soft decisions ({' or '.join(soft)} --soft)")
+    return partial(ByProgram, whole, soft_job=jobs[0]) if jobs else partial(ByProgram, whole), whole
+
+
+def _said(path: str, *words: str) -> bytes:
+    """What a program writes without an input."""
     null = subprocess.DEVNULL
     try:
-        said = subprocess.run([path, "--version"], stdin=null, capture_output=True, timeout=PATIENCE).stdout
+        return subprocess.run([path, *words], stdin=null, capture_output=True, timeout=PATIENCE).stdout
     except (OSError, subprocess.TimeoutExpired) as error:
         raise Fault(f"{path} cannot be run: {error}") from None
-    if not said.startswith(b"rds "):
-        raise Fault(f"{path} is not the program rds")
-    whole = os.path.abspath(path)
-    return partial(ByProgram, whole), whole
 
 
 def decode(data: bytes) -> Tuple[Rows, Totals]:

@@ -61,6 +61,12 @@ class Extent:
         """It counts after the last chunk."""
         return self._last if self._source.length is None else self._source.length
 
+    @property
+    def is_soft(self) -> bool:
+        """Whether blocks were corrected by soft decisions, as the totals tell. It counts after the last chunk."""
+        totals = self._source.totals
+        return getattr(self._source, "is_soft", False) or bool(totals and totals.soft)
+
 
 def write_table(names: Sequence[str], rows: Iterable[Sequence[Any]]) -> int:
     """Names of columns and rows as CSV, once the first row is certain; the exit status. No cell has a comma in it."""

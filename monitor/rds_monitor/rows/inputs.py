@@ -7,7 +7,7 @@ import os
 import re
 from typing import Optional, Sequence, Tuple
 
-from .items import LONGEST, Fault, Misuse, Reading, Rules, Source
+from .items import LONGEST, MARGIN, Fault, Misuse, Reading, Rules, Source
 from .opening import open_source
 
 
@@ -25,6 +25,12 @@ def gaps_of(text: str) -> Sequence[Tuple[int, int]]:
 def bits_of(text: str) -> int:
     if not re.fullmatch(r"[0-9]+", text) or int(text) > LONGEST:
         raise argparse.ArgumentTypeError(f"{text!r} is no number of bits up to 2^36")
+    return int(text)
+
+
+def margin_of(text: str) -> int:
+    if not re.fullmatch(r"[0-9]{1,3}", text) or not 1 <= int(text) <= 127:
+        raise argparse.ArgumentTypeError(f"{text!r} is no margin from 1 to 127")
     return int(text)
 
 
@@ -51,7 +57,7 @@ def input_options(parser: argparse.ArgumentParser, several: bool = False) -> Non
 
 # The options of a decoder's rules, with their defaults.
 RULES = {
-    "--burst": (2, "correct bursts of up to N bits, 0 to 5 (2)"),
+    "--burst": (None, "correct bursts of up to N bits, 0 to 5 (2)"),
     "--reach": (3, "sync needs two valid blocks at most N blocks apart, 1 to 8 (3)"),
     "--loss": (None, "drop sync after N consecutive bad blocks, 1 to 64 (10)"),
     "--share": (None, "in place of --loss: after N bad blocks of the last --of"),
@@ -63,18 +69,26 @@ def recording_options(parser: argparse.ArgumentParser) -> argparse._ArgumentGrou
     recording = parser.add_argument_group("for a recording")
     for name, (default, text) in RULES.items():
         recording.add_argument(name, type=int, default=default, metavar="N", help=text)
+    recording.add_argument("--soft", action="store_true", help="it is symbols, as demod --soft writes them")
+    margin = "with --soft: correct a block if all other corrections cost N more, 1 to 127 (32)"
+    recording.add_argument("--margin", type=margin_of, metavar="N", help=margin)
     return recording
 
 
 def rules_of(arguments: argparse.Namespace) -> Rules:
     burst, reach, loss, share, of = (getattr(arguments, name[2:]) for name in RULES)
+    if arguments.soft and (burst is not None or getattr(arguments, "hex", False)):
+        raise Misuse(f"--{'hex' if burst is None else 'burst'} and --soft contradict each other")
+    if arguments.margin is not None and not arguments.soft:
+        raise Misuse("--margin needs --soft")
+    burst, margin = 2 if burst is None else burst, (arguments.margin or MARGIN) if arguments.soft else 0
     if loss is not None and share is not None:
         raise Misuse("--loss and --share contradict each other")
     if share is not None:
-        return Rules(burst, reach, share, 64 if of is None else of)
+        return Rules(burst, reach, share, 64 if of is None else of, margin)
     if of is not None:
         raise Misuse("--of needs --share")
-    return Rules(burst, reach, 10 if loss is None else loss)
+    return Rules(burst, reach, 10 if loss is None else loss, 0, margin)
 
 
 def length_of(text: str) -> int:

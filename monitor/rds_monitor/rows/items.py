@@ -19,6 +19,7 @@ VERSION_A, VERSION_B, VERSION_UNKNOWN = 1, 2, 3
 UNKNOWN_TYPE = 255
 BLOCK_BITS, GROUP_BITS = 26, 104
 LONGEST = 2**36
+MARGIN = 32  # of soft decisions, by default
 
 
 BLOCKS = (1, 2, 3, 4)
@@ -59,12 +60,14 @@ class Misuse(Fault):
 
 
 class Rules(NamedTuple):
-    """A decoder's rules, as the options --burst, --reach, --loss and --share with --of give them to rds."""
+    """A decoder's rules, as the options --burst, --reach, --loss and --share with --of give them to rds. With a `margin`, that of
+    --margin, its input is symbols, which it corrects by soft decisions."""
 
     burst: int = 2
     reach: int = 3
     loss: int = 10
     of: int = 0
+    margin: int = 0
 
 
 class Reading(NamedTuple):
@@ -84,7 +87,7 @@ class Reading(NamedTuple):
 
 
 class Totals(NamedTuple):
-    """The twelve totals that end a listing."""
+    """The twelve totals that end a listing; `soft` are the six more of one by soft decisions."""
 
     valid: int
     bursts: Tuple[int, ...]
@@ -94,10 +97,11 @@ class Totals(NamedTuple):
     complete: int
     acquired: int
     losses: int
+    soft: Tuple[int, ...] = ()
 
 
 def totals_of(rows: Rows) -> Totals:
-    """The totals of rows."""
+    """The twelve totals of rows."""
     kinds = numpy.stack([rows[f"kind{block}"] for block in BLOCKS])
     masks = [rows[f"burst{block}"][kinds[block - 1] == CORRECTED] for block in BLOCKS]
     outcomes = numpy.bincount(kinds.reshape(-1), minlength=4)
@@ -123,8 +127,10 @@ def burst_lengths(masks: Rows) -> Rows:
 
 
 def add_totals(one: Totals, other: Totals) -> Totals:
+    """Of the twelve."""
     bursts = tuple(a + b for a, b in zip(one.bursts, other.bursts))
-    return Totals(one.valid + other.valid, bursts, *(int(a) + int(b) for a, b in zip(one[2:], other[2:])))
+    lost, bits, groups, complete, gains, losses = (int(a) + int(b) for a, b in zip(one[2:8], other[2:8]))
+    return Totals(one.valid + other.valid, bursts, lost, bits, groups, complete, gains, losses)
 
 
 class Source(Protocol):

@@ -10,16 +10,18 @@ from __future__ import annotations
 
 import re
 from itertools import chain
-from typing import Iterator, List, NoReturn, Optional
+from typing import Iterator, List, NoReturn, Optional, Sequence, Tuple
 
 import numpy
 
 from .heads import HEADER
-from .items import ACQUIRED, BLOCKS, BLOCK_BITS, GROUP, GROUP_BITS, ITEM, LONGEST, LOSS, MISSING
+from .items import ACQUIRED, BLOCKS, BLOCK_BITS, CORRECTED, GROUP, GROUP_BITS, ITEM, LONGEST, LOSS, MISSING
 from .items import Fault, Readable, Reading, Rows, Totals, add_totals, chosen, joined, totals_of
 from .parse import FIRST, LAST, TOTAL, Bad, parse, read_pattern
 
 TOTAL_NAMES = "valid burst1 burst2 burst3 burst4 burst5 lost bits groups complete acquired losses".split()
+# Blocks that soft decisions corrected, by how many symbols they flipped; the last ones flipped six or more.
+SOFT_NAMES = [f"soft{flips}" for flips in range(1, 7)]
 TOTAL_ROW = re.compile(rb"total,([a-z0-9]+),(0|[1-9][0-9]{0,19}),-,-,-,-,-")
 LINES = 1 << 19
 # No row has a tenth of it.
@@ -53,7 +55,7 @@ class Listing:
     def _begin_session(self) -> None:
         self._last: Optional[Rows] = None
         self.end = 0  # the position after the last bit that a row tells of, so far
-        self._counted = totals_of(numpy.zeros(0, ITEM))
+        self._counted, self._corrected = totals_of(numpy.zeros(0, ITEM)), 0
         self._found: List[int] = []
         self.totals = None
 
@@ -121,16 +123,17 @@ class Listing:
         match = TOTAL_ROW.fullmatch(text)
         if not match:
             raise Bad(row, "it is no row of a total")
-        if len(self._found) == len(TOTAL_NAMES) and self._sessions:
+        names, name = TOTAL_NAMES + SOFT_NAMES, match[1].decode()
+        is_whole = self.totals is not None and (bool(self.totals.soft) or name not in SOFT_NAMES)
+        if is_whole and self._sessions:
             self._next_session()
-        found = self._found
-        if len(found) == len(TOTAL_NAMES):
+        elif is_whole:
             raise Bad(row, "a second listing begins here, or is that of a stream that was restarted")
-        if match[1].decode() != TOTAL_NAMES[len(found)]:
-            raise Bad(row, f"the total {TOTAL_NAMES[len(found)]!r} is missing before it")
+        found = self._found
+        if name != names[len(found)]:
+            raise Bad(row, f"the total {names[len(found)]!r} is missing before it")
         found.append(int(match[2]))
-        if len(found) == len(TOTAL_NAMES):
-            self.totals = Totals(found[0], tuple(found[1:6]), *found[6:])
+        self.totals = totals_from(found)
 
     def _of_session(self, rows: Rows, at: int) -> Iterator[Rows]:
         """Rows without totals, of one session or several; `at` is the number of the first among its lines."""
@@ -154,6 +157,7 @@ class Listing:
     def _taken(self, rows: Rows) -> Rows:
         self._last = rows[-1:].copy()
         self._counted = add_totals(self._counted, totals_of(rows))
+        self._corrected += int((kinds_of(rows) == CORRECTED).sum())
         self.end = max(self.end, int(ends_of(self._last)[0]))
         of = f"{self.length} bits of the recording: it is of another one, or the length is wrong"
         for most, text in ((LONGEST, "2^36 bits that a listing may have"), (self.length, of)):
@@ -167,13 +171,18 @@ class Listing:
             if self.is_part or not final:
                 return
             raise Fault(CUT)
-        pairs = list(zip(TOTAL_NAMES, flat(self.totals), flat(self._counted)))
+        told, counted = self.totals, self._counted
+        if told.soft:
+            # What flips make of a mask is not told by it.
+            counted = counted._replace(bursts=(0,) * 5)
+        pairs = list(zip(TOTAL_NAMES, flat(told), flat(counted)))
+        pairs.append(("corrected", sum(told.bursts) + sum(told.soft), self._corrected))
         wrong = [pair for pair in pairs if pair[1] < pair[2] or pair[1] > pair[2] and not self.is_part]
         if wrong:
-            name, told, counted = wrong[0]
+            name, stated, found = wrong[0]
             raise Fault(
-                f"the total {name!r} is {told}, but the rows have {counted}: rows are missing or too many"
-                + ("" if told < counted else " (--unfinished accepts a part)")
+                f"the total {name!r} is {stated}, but the rows have {found}: rows are missing or too many"
+                + ("" if stated < found else " (--unfinished accepts a part)")
             )
         # Noise gives rows too, every minute or so; if there are none for a tenth of the time, the length is likely a
         # wrong one.
@@ -185,7 +194,21 @@ class Listing:
 
 
 def flat(totals: Totals) -> tuple[int, ...]:
-    return (totals.valid, *totals.bursts, *totals[2:])
+    return (totals.valid, *totals.bursts, *totals[2:8], *totals.soft)
+
+
+def named(totals: Totals) -> Iterator[Tuple[str, int]]:
+    """As they end a listing."""
+    return zip(TOTAL_NAMES + SOFT_NAMES, flat(totals))
+
+
+def totals_from(values: Sequence[int]) -> Optional[Totals]:
+    """Of the values at the end of a listing, if these are all."""
+    if len(values) not in (len(TOTAL_NAMES), len(TOTAL_NAMES + SOFT_NAMES)):
+        return None
+    lost, bits, groups, complete, gains, losses = values[6:12]
+    soft = tuple(values[12:])
+    return Totals(values[0], tuple(values[1:6]), lost, bits, groups, complete, gains, losses, soft)
 
 
 def ends_of(rows: Rows) -> Rows:
@@ -292,5 +315,5 @@ def text_of(rows: Rows) -> bytes:
 
 
 def totals_text(totals: Totals) -> bytes:
-    rows = (f"total,{name},{value},-,-,-,-,-\n" for name, value in zip(TOTAL_NAMES, flat(totals)))
+    rows = (f"total,{name},{value},-,-,-,-,-\n" for name, value in named(totals))
     return "".join(rows).encode("ascii")

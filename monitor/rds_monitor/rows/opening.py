@@ -10,7 +10,7 @@ from typing import Any, Optional, Tuple
 
 from .compressed import decompressed
 from .group_lines import GroupLines
-from .heads import is_groups, is_known, is_listing
+from .heads import ROWS, UTF8, is_groups, is_known, is_listing
 from .items import Fault, Misuse, Readable, Reading, Source
 from .listing import Listing
 from .pipe import Pipe
@@ -25,7 +25,9 @@ def open_source(path: str, how: Reading = Reading()) -> Source:
     unpacked = decompressed(stream, head)
     if unpacked:
         stream, size, head = unpacked, None, _head_of(unpacked)
-    if not how.hex and (is_groups(head) or is_listing(head) or not head and how.unfinished_ok):
+    # Symbols may look like any other text.
+    may_be_text = not how.hex and (not how.rules.margin or head.removeprefix(UTF8).startswith(ROWS))
+    if may_be_text and (is_groups(head) or is_listing(head) or not head and how.unfinished_ok):
         if pipe and head and not head.startswith(b"total,"):
             pipe.decode(b"", synced=True)
         if is_groups(head):

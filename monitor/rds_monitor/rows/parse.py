@@ -10,7 +10,7 @@ from typing import Any, List, Optional, Tuple
 import numpy
 
 from .items import ACQUIRED, BLOCKS, CORRECTED, GROUP, ITEM, LONGEST, LOSS, LOST, UNKNOWN_TYPE, VALID
-from .items import Rows, burst_lengths
+from .items import Rows
 
 Bools = Rows
 Array = Rows
@@ -48,7 +48,7 @@ FIRST, LAST, IS_RUN = numpy.zeros(16, "i8"), numpy.zeros(16, "i8"), numpy.zeros(
 for _first, _last in ((first, last) for first in range(4) for last in range(first, 4)):
     _pattern = (16 >> _first) - (8 >> _last)
     FIRST[_pattern], LAST[_pattern], IS_RUN[_pattern] = _first, _last, True
-# The fields of type and version with their commas, and which bytes of a word are theirs: by `_set_types`.
+# The fields of type and version with their commas, and which bytes of a word are theirs: by `set_types`.
 TYPE_TEXTS = [
     f"{number if number < 16 else '-'},{'?AB?'[version]}{'!' * conflict},".encode()
     for number in range(17)
@@ -165,7 +165,7 @@ def _parse_groups(lines: _Lines, rows: Rows) -> None:
     for block, fine in zip(BLOCKS, _parse_blocks(lines, rows)):
         lines.check(fine | others, f"its block {block} is no block")
     lines.check(IS_RUN[read_pattern(rows)] | others, "its blocks are not in a row")
-    index = _set_types(rows)
+    index = set_types(rows)
     is_own = lines.words(lines.starts[:, 2]) & TYPE_MASKS[index] == TYPE_WORDS[index]
     lines.check(is_own | others, "its type and version are not those of its blocks")
     for name in ("number", "version", "conflict"):
@@ -223,13 +223,12 @@ def _masks(words: Array) -> Array:
     tilde, zero = _number(b"~"), _number(b"0")
     pairs = HEX[(words - tilde + zero).view("<u2").reshape(-1, 4)].astype("i8")
     masks = pairs[:, 0] << 24 | pairs[:, 1] << 16 | pairs[:, 2] << 8 | pairs[:, 3]
-    lengths = burst_lengths(masks)
     fine = (words & numpy.uint64(0xFF) == tilde) & (pairs.max(axis=1, initial=0) < NO_HEX)
-    fine &= (masks < 2**26) & (lengths >= 1) & (lengths <= 5)
+    fine &= (masks < 2**26) & (masks > 0)
     return numpy.where(fine, masks, -1)
 
 
-def _set_types(groups: Rows) -> Array:
+def set_types(groups: Rows) -> Array:
     """Sets type, version and conflict of groups by their blocks, and gives the index of their text."""
     known2, valid3 = groups["kind2"] >= VALID, groups["kind3"] == VALID
     version2 = (groups["info2"] >> 11 & 1).astype("u1") + 1

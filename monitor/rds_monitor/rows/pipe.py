@@ -31,15 +31,17 @@ class Pipe:
         data: bytes = self._stream.read(size)
         return data
 
-    def decode(self, data: bytes, synced: bool) -> None:
-        """These bytes were decoded, and gave a row or none yet."""
+    def decode(self, data: bytes, synced: bool, soft: bool = False) -> None:
+        """These bytes were decoded, of bits or of symbols, and gave a row or none yet."""
         if self._synced:
             return
         self._synced = synced
         if synced and self._told:
             say(f"sync after {time.monotonic() - self._began:.1f} s")
         if not synced and not self._told:
-            self._blocks.push(numpy.unpackbits(numpy.frombuffer(data, "u1")))
+            above = numpy.frombuffer(data, "i1") > 0
+            bits = numpy.diff(above).astype("u1") if soft else numpy.unpackbits(numpy.frombuffer(data, "u1"))
+            self._blocks.push(bits)
             if time.monotonic() >= self._began + PATIENCE:
                 self._tell()
 

@@ -1,4 +1,4 @@
-"""A recording of packed bits as a source of rows."""
+"""A recording of packed bits, or of symbols, as a source of rows."""
 
 from __future__ import annotations
 
@@ -6,10 +6,12 @@ from itertools import chain
 from typing import Iterator, Optional
 
 from .decoders import decoder_of
-from .items import Fault, Readable, Reading, Rows, Totals
+from .items import LONGEST, Fault, Readable, Reading, Rows, Totals
 from .pipe import Pipe
 
 CHUNK = 1 << 18
+# By `list` all rows come at the end.
+SOFT_JOBS = ("follow", "list")
 
 
 class Recording:
@@ -23,15 +25,40 @@ class Recording:
         size: Optional[int] = None,
         pipe: Optional[Pipe] = None,
     ):
-        self.length = how.bits if how.bits is not None or size is None or how.hex else 8 * size
+        self.is_soft = how.rules.margin > 0
+        self.length = how.bits if how.bits is not None or size is None or how.hex else self._bits_in(size)
         self.totals: Optional[Totals] = None
         self._stream, self._head, self._bits, self._hex = stream, head, how.bits, how.hex
         self._gaps, self._pipe = how.gaps, pipe
         # Without a decoder there is no source.
-        self._decoder = decoder_of()[0](how.rules, how.gaps, how.bits)
+        # The program would end with its last bit, and symbols come one by one.
+        bits = None if self.is_soft else how.bits
+        self._decoder = decoder_of(soft=SOFT_JOBS if self.is_soft else ())[0](how.rules, how.gaps, bits)
+
+    def _bits_in(self, size: int) -> int:
+        return max(0, size - 1) if self.is_soft else 8 * size
 
     def chunks(self) -> Iterator[Rows]:
-        decoder, left = self._decoder, self._bits
+        return self._of_symbols() if self.is_soft else self._of_bits()
+
+    def _of_symbols(self) -> Iterator[Rows]:
+        """Of one symbol more than bits."""
+        left = LONGEST if self._bits is None else self._bits + 1
+        for data in self._bytes():
+            yield self._push(data[:left])
+            left -= len(data)
+            if left <= 0:
+                break
+        if self._bits is not None and left > 0:
+            raise self._too_few()
+        yield self._finish(b"", 0)
+
+    def _too_few(self) -> Fault:
+        held = f"the input has {self._decoder.place} bits, fewer than the {self._bits} of --bits"
+        return Fault(f"refused 4 BitsPastBytes: {held}")
+
+    def _of_bits(self) -> Iterator[Rows]:
+        left = self._bits
         for data in self._bytes():
             if left is not None and 8 * len(data) >= left:
                 # The program would end with its last bit.
@@ -42,14 +69,13 @@ class Recording:
             yield self._push(data)
             left = None if left is None else left - 8 * len(data)
         if left:
-            held = f"the input has {decoder.place} bits, fewer than the {self._bits} of --bits"
-            raise Fault(f"refused 4 BitsPastBytes: {held}")
+            raise self._too_few()
         yield self._finish(b"", 0)
 
     def _push(self, data: bytes) -> Rows:
         rows = self._decoder.push(data)
         if self._pipe:
-            self._pipe.decode(data, len(rows) > 0)
+            self._pipe.decode(data, len(rows) > 0, self.is_soft)
         return rows
 
     def _finish(self, data: bytes, bits: int) -> Rows:

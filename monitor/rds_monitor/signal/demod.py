@@ -20,7 +20,8 @@ from .several import judge_stations, run_stations
 SECONDS_KEPT = 6  # of the signal, to find its rate if there is no RDS
 
 DESCRIPTION = """\
-Demodulates RDS. The output is packed bits, differentially decoded, MSB first, as rds reads them.
+Demodulates RDS. The output is packed bits, differentially decoded, MSB first, as rds reads them. With --soft it is
+symbols for rds --soft: per symbol a signed byte, the log-likelihood ratio of its sign in 1/16 nat.
 
 The signal is MPX, which an FM demodulator gives before de-emphasis, or IQ with --iq. It is in a WAV file (integers of
 8 to 32 bits or floating point), in a FLAC file (needs python3-soundfile), or raw, at 128,000 samples per second or
@@ -37,6 +38,7 @@ deviation (rds_khz) that an unmodulated 57 kHz carrier of the same power has. Th
 EXAMPLES = """\
 examples:
   rds-monitor demod mpx.wav | rds list > listing.csv
+  rds-monitor demod --soft mpx.wav | rds list --soft > listing.csv
   rtl_fm -M fm -l 0 -A std -p 0 -s 171k -F 9 -f 98.1M | rds-monitor demod --raw s16 --rate 171000 | rds follow
   rtl_sdr -f 98.1M -s 240k - | rds-monitor demod --iq --raw u8 --rate 240000 > recording.bin
   rds-monitor demod --stations --output bits SDRSharp_20261129_120000Z_98000000Hz_IQ.wav"""
@@ -76,6 +78,7 @@ OPTIONS: Dict[str, Tuple[Dict[str, Any], str]] = {
     "--equalise": ({"metavar": "LIST"}, "--stations: equalise multipath of these (default: of none)"),
     "--channel": (NUMBER, "the channel with MPX, if the file has several; 1 is the first"),
     "--unpacked": (FLAG, "write one byte per bit, 0 or 1"),
+    "--soft": (FLAG, "write symbols in place of bits, a signed byte each"),
     "--output": (FILE, "write to FILE, or into this folder with --stations (default: standard output)"),
     "--json": (FLAG, "report in JSON, one line"),
     "--every": ({"type": float, "metavar": "SECONDS"}, "also report every SECONDS of the signal"),
@@ -100,6 +103,8 @@ def judge_options(arguments: argparse.Namespace) -> None:
         raise Misuse("--at, --equalise and --centre are for --stations")
     if not arguments.iq and (arguments.offset or arguments.no_equaliser):
         raise Misuse("--offset and --no-equaliser are for --iq")
+    if arguments.soft and arguments.unpacked:
+        raise Misuse("--soft and --unpacked contradict each other")
     if arguments.every is not None and not arguments.every > 0:
         raise Misuse("--every is a number of seconds above 0")
 
@@ -142,8 +147,8 @@ def run_demod(arguments: argparse.Namespace) -> int:
         return run_stations(source, arguments)
     offsets = [arguments.offset]
     equalised = offsets if source.is_iq and not arguments.no_equaliser else []
-    capture = Capture(source.rate, source.is_iq, source.full_scale, offsets, equalised)
-    writer = BitWriter(arguments.output, arguments.unpacked)
+    capture = Capture(source.rate, source.is_iq, source.full_scale, offsets, equalised, arguments.soft)
+    writer = BitWriter(arguments.output, not (arguments.unpacked or arguments.soft))
     beginning = receive(source, capture, writer, QualityLine(arguments, sys.stderr))
     if not writer.written:
         raise Fault("the input is too short for a bit")

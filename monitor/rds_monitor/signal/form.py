@@ -15,7 +15,7 @@ import numpy
 from ..rows.decoders import decode, decoder_of
 from ..rows.heads import is_listing
 from ..rows.items import Fault
-from .pack import NAMES, Conversion, bits_of, packed_of
+from .pack import NAMES, SYMBOLS, Conversion, bits_of, packed_of
 from .rates import likely_rate, locked
 from .samples import Layout, Signal, StoredSamples, open_samples, wav_layout
 from .symbols import Bits
@@ -73,6 +73,8 @@ def as_bits(path: str, data: bytes, forms: Tuple[str, ...]) -> List[Found]:
     for form in forms:
         for changes in TRIED:
             if "lsb_first" in changes and form not in ("packed", "hex"):
+                continue
+            if form in SYMBOLS and changes or form in SYMBOLS.values() and "differential" in changes:
                 continue
             try:
                 groups = complete(bits_of(io.BytesIO(data), form, Conversion(**dict.fromkeys(changes, True))))

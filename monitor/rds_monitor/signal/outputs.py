@@ -1,4 +1,4 @@
-"""What `demod` writes: bits, and how well they were received."""
+"""What `demod` writes: bits or symbols, and how well they were received."""
 
 from __future__ import annotations
 
@@ -14,21 +14,31 @@ from .receiver import Receiver
 from .symbols import Bits
 
 
-class BitWriter:
-    """Writes bits, a byte each or packed; those that do not fill a byte wait."""
+class Packer:
+    """Makes bytes of bits, eight to a byte: those that do not fill one wait. Without `packs` each has a byte already."""
 
-    def __init__(self, path: str, unpacked: bool):
-        self._output, self._unpacked = BinaryOutput(path), unpacked
+    def __init__(self, packs: bool):
+        self._packs = packs
         self._rest: Bits = numpy.zeros(0, "u1")
+
+    def push(self, bits: Bits, last: bool = False) -> bytes:
+        if self._packs:
+            bits = numpy.concatenate([self._rest, bits])
+            whole = bits.size if last else bits.size // 8 * 8
+            self._rest, bits = bits[whole:], numpy.packbits(bits[:whole])
+        return bits.tobytes()
+
+
+class BitWriter:
+    """Writes bits, packed or a byte each, or symbols."""
+
+    def __init__(self, path: str, packs: bool):
+        self._output, self._packer = BinaryOutput(path), Packer(packs)
         self.written = 0
 
     def push(self, bits: Bits, last: bool = False) -> None:
         self.written += bits.size
-        if not self._unpacked:
-            bits = numpy.concatenate([self._rest, bits])
-            whole = bits.size if last else bits.size // 8 * 8
-            self._rest, bits = bits[whole:], numpy.packbits(bits[:whole])
-        self._output.write(bits.tobytes())
+        self._output.write(self._packer.push(bits, last))
 
 
 class QualityLine:
@@ -76,5 +86,5 @@ def sentence(told: Dict[str, Any]) -> str:
     return "; ".join(parts)
 
 
-def report_of(receiver: Receiver, bits: int) -> Dict[str, Any]:
-    return {**receiver.quality.report(), "bits": bits}
+def report_of(receiver: Receiver, written: int) -> Dict[str, Any]:
+    return {**receiver.quality.report(), "symbols" if receiver.is_soft else "bits": written}

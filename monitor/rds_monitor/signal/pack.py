@@ -11,7 +11,7 @@ import numpy
 
 from ..rows.items import Fault, Misuse
 from .samples import FORMS, numbers, wav_layout
-from .symbols import Bits
+from .symbols import Bits, DifferentialDecoder
 
 CHUNK = 1 << 20
 WHOLE = 8  # a multiple of every sample's bytes
@@ -27,7 +27,10 @@ NAMES = {
     "s16": "16-bit samples, one per bit",
     "f32": "soft bits, 32-bit floating point",
     "wav": "a WAV file of one sample per bit",
+    "soft": "signed bytes, one per symbol, as rds --soft reads them",
+    "soft-f32": "32-bit floating point, one per symbol",
 }
+SYMBOLS = {"soft": "s8", "soft-f32": "f32"}  # and their samples
 BLANKS = b" \t\r\n\v\f"
 
 
@@ -111,6 +114,12 @@ def _stored(stream: BinaryIO, form: str) -> Iterator[Bits]:
     return _samples(_chunks(stream), form)
 
 
+def _symbols(stream: BinaryIO, form: str) -> Iterator[Bits]:
+    decoder = DifferentialDecoder()
+    for signs in _stored(stream, form):
+        yield decoder.push(signs)
+
+
 def _wav(stream: BinaryIO) -> Iterator[Bits]:
     layout = wav_layout(stream)
     if layout.channels != 1:
@@ -134,6 +143,7 @@ READERS: Dict[str, Callable[[BinaryIO], Iterator[Bits]]] = {
     "bytes": partial(_bytes, one=1),
     "bytes255": partial(_bytes, one=255),
     **{form: partial(_stored, form=form) for form in ("s8", "s16", "f32")},
+    **{name: partial(_symbols, form=form) for name, form in SYMBOLS.items()},
 }
 
 
@@ -210,6 +220,8 @@ class BinaryOutput:
 def run_pack(arguments: argparse.Namespace) -> int:
     if arguments.lsb_first and arguments.form not in ("packed", "hex"):
         raise Misuse("--lsb-first is for packed bits and hexadecimal digits")
+    if arguments.differential and arguments.form in SYMBOLS:
+        raise Misuse("--differential is for bits: those of symbols are decoded")
     change = Conversion(arguments.lsb_first, arguments.invert, arguments.differential)
     stream = sys.stdin.buffer if arguments.input == "-" else open(arguments.input, "rb")
     output, bits = BinaryOutput(arguments.output), 0

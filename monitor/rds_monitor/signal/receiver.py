@@ -15,6 +15,7 @@ from .filters import Bands, Passband, at_least
 from .fm import DEVIATION_HZ, FmReceiver, station_channels
 from .jumps import Jumps
 from .samples import Complexes, Reals, Signal
+from .soft import SoftSymbols
 from .symbols import BIT_RATE, CHIP_RATE, Bits, Carrier, DifferentialDecoder, Symbols, SymbolChain
 
 CARRIER_HZ = 57000
@@ -136,7 +137,7 @@ def _decibels(ratio: float) -> Optional[float]:
 
 class Receiver:
     """From MPX, or the channel of one station around 0 Hz, to bits, decoded differentially; the bits wait for the signal
-    of some 2 seconds after them."""
+    of some 2 seconds after them. With `soft` it gives symbols, a byte each, in their place."""
 
     def __init__(
         self,
@@ -144,6 +145,7 @@ class Receiver:
         is_iq: bool = False,
         full_scale: float = 1.0,
         equalise: bool = False,
+        soft: bool = False,
     ):
         self._fm = FmReceiver(Fraction(rate), equalise) if is_iq else None
         mpx_rate = Fraction(rate)
@@ -161,8 +163,13 @@ class Receiver:
         # one after it is known.
         self._begin = self._size = 0
         self._end: Optional[float] = None
-        self._held: Reals = numpy.zeros(0)
+        self._held: Complexes = numpy.zeros(0, complex)
         self._decoder = DifferentialDecoder()
+        self._soft = SoftSymbols() if soft else None
+
+    @property
+    def is_soft(self) -> bool:
+        return self._soft is not None
 
     def push(self, samples: Signal) -> Bits:
         return self._of_mpx(self._fm.push(samples) if self._fm else samples[None])
@@ -173,6 +180,7 @@ class Receiver:
         parts.append(self._of_parts(self._jumps.push(self._bands.finish()[0])))
         parts.append(self._of_parts(self._jumps.finish()))
         parts.append(self._finished())
+        parts += [self._soft.finish()] if self._soft else []
         return numpy.concatenate(parts)
 
     def _of_mpx(self, mpx: Reals) -> Bits:
@@ -198,23 +206,23 @@ class Receiver:
     def _of_symbols(self, found: List[Symbols], least: int) -> Bits:
         """After a jump the first symbols wait until there are `least`, which tell how many were lost."""
         self.quality.add(found[0], found[-1])
-        self._held = numpy.append(self._held, found[0].symbols.real)
+        self._held = numpy.append(self._held, found[0].symbols)
         if self._end is not None:
             if self._held.size < max(1, least):
                 return numpy.zeros(0, "u1")
             self._held = numpy.append(numpy.zeros(self._missing(self._end)), self._held)
             self._end = None
-        bits = self._decoder.push(self._held)
-        self._held = self._held[:0]
+        symbols, self._held = self._held, self._held[:0]
+        bits = self._decoder.push(symbols.real)
         self.quality.received.push(bits)
-        return bits
+        return self._soft.push(symbols) if self._soft else bits
 
     def _missing(self, end: float) -> int:
         """How many symbols were lost in a jump. If there are blocks on both sides, groups go on after that number;
         else the clock tells it. A receiver drops samples and adds none, so the clock is late if it is wrong.
         """
         before, after = self.quality.received, BlockCounter()
-        after.push(DifferentialDecoder().push(self._held))
+        after.push(DifferentialDecoder().push(self._held.real))
         if before.phase is not None and after.phase is not None:
             return (before.phase - before.bits - 1 - after.phase) % GROUP_BITS
         apart = (self._begin + self._chains[0].begin - end) / self._rate * BIT_RATE
@@ -223,7 +231,8 @@ class Receiver:
 
 class Capture:
     """The receivers of stations in one signal: of one station in MPX, or of those at these offsets from the centre of
-    IQ, in Hz. `equalised` are the offsets of those whose multipath is undone."""
+    IQ, in Hz. `equalised` are the offsets of those whose multipath is undone. With `soft` symbols are in place of bits.
+    """
 
     def __init__(
         self,
@@ -232,10 +241,11 @@ class Capture:
         full_scale: float = 1.0,
         offsets: Sequence[float] = (0.0,),
         equalised: Collection[float] = (),
+        soft: bool = False,
     ):
         self._channels = station_channels(rate, offsets) if is_iq else None
         own = self._channels.bands[0].rate_out if self._channels else Fraction(rate)
-        self.receivers = [Receiver(own, is_iq, full_scale, offset in equalised) for offset in offsets]
+        self.receivers = [Receiver(own, is_iq, full_scale, offset in equalised, soft) for offset in offsets]
 
     def push(self, samples: Signal) -> List[Bits]:
         """Of each station the bits."""

@@ -15,7 +15,7 @@ import numpy
 from ..rows.items import Fault, Misuse
 from .centre import frequency_of, frequency_text
 from .found import HALF_CHANNEL_HZ, SETTLED, Spectrum, candidates, is_inside, spectrum_of, with_rds
-from .outputs import BitWriter, QualityLine, report_of
+from .outputs import BitWriter, Packer, QualityLine, report_of
 from .receiver import Capture, Receiver
 from .samples import SampleSource, Signal
 from .symbols import Bits
@@ -55,25 +55,23 @@ class Tuning:
 
 class LineWriter:
     """Writes a line of JSON whenever there are whole bytes of bits: the frequency, the seconds of the signal that were read, the bits
-    as hexadecimal digits, and how strong the signal was. The last bits that fill no byte are left out."""
+    or symbols as hexadecimal digits, and how strong the signal was. The last bits that fill no byte are left out.
+    """
 
     def __init__(self, frequency: float, receiver: Receiver, seconds: Callable[[], float]):
         self._frequency, self._receiver, self._seconds = frequency, receiver, seconds
-        self._rest: Bits = numpy.zeros(0, "u1")
+        self._packer = Packer(not receiver.is_soft)
         self.written = 0
 
     def push(self, bits: Bits, last: bool = False) -> None:
         self.written += bits.size
-        bits = numpy.concatenate([self._rest, bits])
-        whole = bits.size // 8 * 8
-        self._rest = bits[whole:]
-        if whole:
+        data = self._packer.push(bits)
+        if data:
             heard = self._receiver.quality.recent()._asdict()
-            packed = numpy.packbits(bits[:whole]).tobytes().hex()
             line = {
                 "frequency": self._frequency,
                 "seconds": round(self._seconds(), 3),
-                "bits": packed,
+                "symbols" if self._receiver.is_soft else "bits": data.hex(),
                 **heard,
             }
             print(json.dumps(line, separators=(",", ":")), flush=True)
@@ -126,8 +124,9 @@ class TunedStations:
         writer_of: Callable[[TunedStation], StationWriter],
         named: Sequence[float] = (),
         equalised: Sequence[float] = (),
+        soft: bool = False,
     ):
-        self._source, self._tuning, self._writer_of = source, tuning, writer_of
+        self._source, self._tuning, self._writer_of, self._soft = source, tuning, writer_of, soft
         self._named, self._equalised = named, equalised
         self.seconds = 0.0  # of the signal that were read
         self.spectrum: Optional[Spectrum] = None  # that they were looked for in
@@ -168,7 +167,7 @@ class TunedStations:
             if offset not in offsets:
                 raise Fault(f"{self._tuning.text(offset)} is equalised, but is no station")
         source, tuning = self._source, self._tuning
-        self._capture = Capture(source.rate, True, source.full_scale, offsets, self._equalised)
+        self._capture = Capture(source.rate, True, source.full_scale, offsets, self._equalised, self._soft)
         self._offsets = list(offsets)
         for offset, receiver in zip(offsets, self._capture.receivers):
             self.stations.append(TunedStation(tuning.text(offset), tuning.hertz(offset), receiver))
@@ -220,7 +219,7 @@ def judge_stations(arguments: argparse.Namespace) -> None:
 
 
 def run_stations(source: SampleSource, arguments: argparse.Namespace) -> int:
-    folder, tellers = arguments.output, {}
+    folder, tellers, packs = arguments.output, {}, not (arguments.unpacked or arguments.soft)
     tuning = Tuning(source.centre if arguments.centre is None else arguments.centre, source.rate)
     if folder != "-":
         os.makedirs(folder, exist_ok=True)
@@ -229,13 +228,16 @@ def run_stations(source: SampleSource, arguments: argparse.Namespace) -> int:
         tellers[station.name] = QualityLine(arguments, sys.stderr, station.name)
         if folder == "-":
             return LineWriter(station.frequency, station.receiver, lambda: stations.seconds)
-        return BitWriter(os.path.join(folder, f"{station.name}.bin"), arguments.unpacked)
+        path = os.path.join(folder, f"{station.name}.{'soft' if arguments.soft else 'bin'}")
+        return BitWriter(path, packs)
 
     def tell(station: TunedStation) -> None:
         tellers[station.name].tell(station.receiver.quality.seconds, station.report)
 
-    lists = (tuning.offsets_of(text) if text else [] for text in (arguments.at, arguments.equalise))
-    stations = TunedStations(source, tuning, writer_of, *lists)
+    named, equalised = (
+        tuning.offsets_of(text) if text else [] for text in (arguments.at, arguments.equalise)
+    )
+    stations = TunedStations(source, tuning, writer_of, named, equalised, arguments.soft)
     try:
         stations.run(each=tell)
     finally:

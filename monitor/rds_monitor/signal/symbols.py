@@ -13,7 +13,7 @@ import numpy
 from numpy.typing import NDArray
 
 from .phase import PhaseTrack, Phases, bell
-from .samples import Complexes, Reals
+from .samples import Complexes, Reals, Signal
 
 BIT_RATE = 1187.5
 CHIP_RATE = 2 * BIT_RATE
@@ -290,7 +290,7 @@ class DifferentialDecoder:
     def __init__(self) -> None:
         self._last: NDArray[numpy.bool_] = numpy.zeros(0, bool)
 
-    def push(self, reals: Reals) -> Bits:
+    def push(self, reals: Signal) -> Bits:
         signs = numpy.concatenate([self._last, reals > 0])
         self._last = signs[-1:]
         bits: Bits = (signs[1:] != signs[:-1]).astype(numpy.uint8)

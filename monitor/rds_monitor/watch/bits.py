@@ -1,4 +1,4 @@
-"""From the output of a receiver's command to packed bits."""
+"""From the output of a receiver's command to packed bits, or to symbols."""
 
 from __future__ import annotations
 
@@ -9,18 +9,25 @@ from typing import Optional, Sequence
 import numpy
 
 from ..rows.clock import RATE
+from ..signal.outputs import Packer
 from ..signal.receiver import Capture, Strength
 from ..signal.samples import FORMS, channels_of, checked, numbers
-from ..signal.symbols import Bits
 from .table import StationTable
 
 
 class Packed:
-    """Takes bytes as they come and gives packed bits: here bits that are packed already. `delay` is by how many seconds the last
-    bit is older than the last byte; `strength` is that of the signal since the last call that gave bits."""
+    """Takes bytes as they come and gives packed bits: here bits that are packed already. Soft ones give symbols in place of bits. `delay`
+    is by how many seconds the last bit is older than the last byte; `strength` is that of the signal since the last call that gave bits.
+    """
 
     delay = 0.0
     strength: Optional[Strength] = None
+
+    def __init__(self, soft: bool = False):
+        self._soft = soft
+
+    def _seconds(self, data: bytes) -> float:
+        return len(data) * (1 if self._soft else 8) / RATE
 
     def take(self, data: bytes) -> bytes:
         return data
@@ -34,15 +41,14 @@ class Demodulated(Packed):
 
     def __init__(self, table: StationTable):
         assert table.raw is not None and table.rate is not None
+        super().__init__(table.soft)
         self._form, self._channels = table.raw, (0, 1) if table.form == "iq" else (0,)
         self._frame = len(self._channels) * FORMS[table.raw][0]
         self._rate = table.rate
         is_iq, offsets = table.form == "iq", [table.offset]
-        self._capture = Capture(
-            table.rate, is_iq, FORMS[table.raw][1], offsets, offsets if table.equaliser else ()
-        )
-        self._odd = b""
-        self._bits: Bits = numpy.zeros(0, "u1")
+        equalised = offsets if table.equaliser else ()
+        self._capture = Capture(table.rate, is_iq, FORMS[table.raw][1], offsets, equalised, table.soft)
+        self._odd, self._packer = b"", Packer(not table.soft)
         self._samples = 0
 
     def take(self, data: bytes) -> bytes:
@@ -55,22 +61,16 @@ class Demodulated(Packed):
         samples = channels_of(frames, numbers(data[: frames * self._frame], self._form, kind), self._channels)
         bits = [self._capture.push(block)[0] for block in checked(samples, self._samples)]
         self._samples += frames
-        packed = self._packed(numpy.concatenate(bits))
+        packed = self._packer.push(numpy.concatenate(bits))
         if packed:
             self.strength = self._capture.receivers[0].quality.recent()
         if packed and not self.delay:
             # The receiver waits for later samples: the first bits that it gives tell for how many.
-            self.delay = max(0.0, self._samples / self._rate - 8 * len(packed) / RATE)
+            self.delay = max(0.0, self._samples / self._rate - self._seconds(packed))
         return packed
 
-    def _packed(self, bits: Bits) -> bytes:
-        bits = numpy.concatenate([self._bits, bits])
-        whole = bits.size // 8 * 8
-        self._bits = bits[whole:]
-        return numpy.packbits(bits[:whole]).tobytes()
-
     def finish(self) -> bytes:
-        return self._packed(self._capture.finish()[0]) if self._samples else b""
+        return self._packer.push(self._capture.finish()[0]) if self._samples else b""
 
 
 class Lines(Packed):
@@ -78,11 +78,11 @@ class Lines(Packed):
 
     def take(self, data: bytes) -> bytes:
         told = [json.loads(line) for line in data.splitlines()]
-        packed = b"".join(bytes.fromhex(line["bits"]) for line in told)
+        packed = b"".join(bytes.fromhex(line["symbols" if self._soft else "bits"]) for line in told)
         if packed:
             self.strength = mean_of([Strength(line["level_dbfs"], line["snr_db"]) for line in told])
         if packed and not self.delay:
-            self.delay = max(0.0, told[-1]["seconds"] - 8 * len(packed) / RATE)
+            self.delay = max(0.0, told[-1]["seconds"] - self._seconds(packed))
         return packed
 
 
@@ -98,5 +98,5 @@ def mean_of(parts: Sequence[Strength]) -> Strength:
 
 def bit_source(table: StationTable) -> Packed:
     if table.receiver:
-        return Lines()
+        return Lines(table.soft)
     return Packed() if table.form == "bits" else Demodulated(table)

@@ -24,7 +24,7 @@ from ..rows.compressed import decompressed
 from ..rows.heads import is_listing
 from ..rows.hours import hour_of
 from ..rows.inputs import length_of, recording_options, rules_of
-from ..rows.items import CORRECTED, GROUP_BITS, VALID, Fault, Readable, Reading, Rows, Source
+from ..rows.items import BLOCK_BITS, CORRECTED, GROUP_BITS, VALID, Fault, Readable, Reading, Rows, Source
 from ..rows.listing import Listing, begins_of, ends_of, groups_in, kinds_of
 from ..rows.recording import Recording
 from .asked import judge_station
@@ -83,8 +83,8 @@ class Reception:
 
     def per_cent(self, blocks: int) -> float:
         """Of the blocks sent. A block more than was sent whole may be read where the input is cut."""
-        sent = (self.end - self.begin) / 26
-        if sent < 1:
+        sent = (self.end - self.begin) // BLOCK_BITS
+        if not sent:
             raise Fault("there is no block in it")
         return min(100.0, 100 * blocks / sent)
 
@@ -143,9 +143,10 @@ def open_end(paths: Sequence[str], last: Optional[float], arguments: argparse.Na
     listed = is_listing(head)
     if not listed and arguments.length is not None:
         raise Fault("--length is for a listing")
+    bytes_per_second = arguments.rate if arguments.soft else arguments.rate / 8
     if all(path != "-" and os.path.isfile(path) for path in paths):
         if last is not None:
-            parts = _ends(parts, int(last * (LISTING_BYTES if listed else arguments.rate / 8) + 1), listed)
+            parts = _ends(parts, int(last * (LISTING_BYTES if listed else bytes_per_second) + 1), listed)
     elif len(parts) > 1:
         raise Fault("of several inputs each must be a file")
     data = _Chain([stream for head, stream in parts for stream in (io.BytesIO(head), stream)])

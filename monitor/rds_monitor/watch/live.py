@@ -60,6 +60,10 @@ class LiveSession:
         """How many bits were heard."""
         return self._decoder.place
 
+    def place_after(self, data: bytes) -> int:
+        """Once these were heard too."""
+        return self._decoder.place_after(len(data))
+
     @property
     def timing(self) -> Optional[Timing]:
         return self._timing or self.arrivals.timing

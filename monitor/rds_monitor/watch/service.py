@@ -61,8 +61,12 @@ def run_watch(arguments: argparse.Namespace) -> int:
     folder = arguments.folder or table.folder or os.environ.get("STATE_DIRECTORY", "").split(":")[0]
     if not folder:
         raise Fault("there is no folder to write to: name it by --folder, or 'folder' in the table")
-    decoder = decoder_of(arguments.program or table.program)
+    decoder = decoder_of(arguments.program or table.program, ["follow"] if has_soft(table) else [])
     return Service(arguments.table, table, os.path.abspath(folder), arguments.speed, decoder).run()
+
+
+def has_soft(table: Table) -> bool:
+    return any(station.soft for station in table.stations)
 
 
 def check_table(table: Table) -> int:
@@ -103,6 +107,7 @@ class Service:
     def __init__(self, path: str, table: Table, folder: str, speed: float, decoder: Tuple[NewDecoder, str]):
         self._path, (new_decoder, self._decoded_by) = path, decoder
         self._ending = self._rereading = False
+        self._has_soft = has_soft(table)
         os.makedirs(folder, exist_ok=True)
         self._lock = self._only_one(folder)
         self._records = Records(os.path.join(folder, "watch.db"))
@@ -169,7 +174,10 @@ class Service:
     def _read_table(self) -> None:
         notify(f"RELOADING=1\nMONOTONIC_USEC={time.monotonic_ns() // 1000}")
         try:
-            self._watch.reload(read_table(self._path))
+            table = read_table(self._path)
+            if has_soft(table) and not self._has_soft:
+                raise Fault("soft decisions need a restart")
+            self._watch.reload(table)
             say("notice", f"the table is read again: {len(self._watch.stations)} stations")
         except Fault as error:
             say("error", f"the old table holds: {error}")

@@ -15,7 +15,7 @@ FREQUENCY = re.compile(rb'\{"frequency":(\d+),')
 
 def demodulator(table: ReceiverTable) -> Tuple[str, ...]:
     """The command that gives lines with the bits of all stations."""
-    words = [*ITSELF, "demod", "--stations", "--raw", table.raw]
+    words = [*ITSELF, "demod", "--stations", *(["--soft"] if table.soft else []), "--raw", table.raw]
     words += ["--rate", str(table.rate), "--centre", str(round(1e6 * table.centre))]
     words += ["--at", ",".join(str(station.hertz) for station in table.tuned)]
     equalised = ",".join(str(station.hertz) for station in table.tuned if station.equaliser)

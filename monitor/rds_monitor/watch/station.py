@@ -10,7 +10,7 @@ from ..content.charset import printable
 from ..db.parts import MINUTE_BITS, Told
 from ..db.schema import HELD
 from ..rows.decoders import NewDecoder
-from ..rows.items import Fault
+from ..rows.items import MARGIN, Fault, Rules
 from .alarms import Alarms, Change, Watched
 from .bits import Packed, bit_source
 from .live import Append, LiveSession
@@ -96,7 +96,8 @@ class Station:
             self._end_run(utc)
         elif data and (self._session or not self.keeper.is_stopping):
             if self._session is None:
-                self._session = LiveSession(self.name, self._speed, self._decoder(), self._began)
+                decoder = self._decoder(Rules(margin=MARGIN if self.table.soft else 0))
+                self._session = LiveSession(self.name, self._speed, decoder, self._began)
                 self.alarms.begin_session(steady)
                 self._bits = self._bits or bit_source(self.table)
                 self._counted = 0
@@ -131,7 +132,7 @@ class Station:
         data, self._waiting = b"".join(self._waiting), []
         bits = self._bits.take(data)
         if bits and self.table.form != "bits":
-            place, came = self._session.place + 8 * len(bits), self._last_read - self._bits.delay
+            place, came = self._session.place_after(bits), self._last_read - self._bits.delay
             if self._is_ahead(place, came):
                 self._was_ahead = True
                 raise Fault("gave bits faster than real time")
@@ -146,7 +147,7 @@ class Station:
             self._decode()
             rest = b"" if goes_on else self._bits.finish()
             if rest:
-                self._session.arrivals.take(self._session.place + 8 * len(rest), utc)
+                self._session.arrivals.take(self._session.place_after(rest), utc)
                 self._session.take(rest)
         except (Fault, ValueError) as error:
             self._say("warning", f"{self.name}: {error}")

@@ -56,6 +56,7 @@ class ReceiverTable:
     rate: int
     centre: float
     form: str = "iq"
+    soft: bool = False
     patience: float = 10
     tuned: Tuple[Tuned, ...] = ()
 
@@ -76,6 +77,7 @@ class StationTable:
     offset: float = 0
     receiver: Optional[ReceiverTable] = None
     equaliser: bool = False
+    soft: bool = False
     frequency: Optional[float] = None
     pi: Tuple[str, ...] = ()
     ps: Tuple[str, ...] = ()
@@ -88,7 +90,7 @@ class StationTable:
 
     def same_receiver(self, other: "StationTable") -> bool:
         """Whether the command and the form of its output are the same, so that it need not be restarted."""
-        names = ("name", "command", "form", "raw", "rate", "offset", "receiver", "equaliser", "hertz")
+        names = ("name", "command", "form", "raw", "rate", "offset", "receiver", "equaliser", "soft", "hertz")
         return all(getattr(self, name) == getattr(other, name) for name in names)
 
     @property
@@ -182,6 +184,7 @@ _patterns = _rule(
     "a pattern or a list of patterns is",
     _texts,
 )
+_truth = _rule(lambda value: isinstance(value, bool), "true or false is", bool)
 
 
 def _is_pi(value: Any) -> bool:
@@ -199,7 +202,8 @@ JUDGES: Dict[str, Judge] = {
         int,
     ),
     "receiver": _rule(_is_text, "a text is", str),
-    "equaliser": _rule(lambda value: isinstance(value, bool), "true or false is", bool),
+    "equaliser": _truth,
+    "soft": _truth,
     "offset": _rule(lambda value: _is_number(value) and -3e6 < value < 3e6, "a number of Hz is", float),
     "frequency": _number,
     "pi": _rule(
@@ -218,14 +222,14 @@ JUDGES: Dict[str, Judge] = {
     "alarm_command": _words,
 }
 # Keys of a receiver's own that a station of it does not have.
-OF_RECEIVER = ("command", "form", "raw", "rate", "offset", "patience")
+OF_RECEIVER = ("command", "form", "raw", "rate", "offset", "patience", "soft")
 RECEIVER_JUDGES: Dict[str, Judge] = {
-    **{name: JUDGES[name] for name in ("command", "raw", "rate", "patience")},
+    **{name: JUDGES[name] for name in ("command", "raw", "rate", "patience", "soft")},
     "name": _text,
     "form": _one_of(("iq",)),
     "centre": _number,
 }
-KEPT = {"compress": _rule(lambda value: isinstance(value, bool), "true or false is", bool)}
+KEPT = {"compress": _truth}
 
 
 # ---- reading
@@ -377,13 +381,15 @@ def _of_receiver(
             f"{of}: {frequency:g} MHz is not in the band of receiver {receiver.name!r}: that has {band}"
         )
     common = {"command": list(receiver.command), "form": receiver.form, "patience": receiver.patience}
-    common.update(raw=receiver.raw, rate=receiver.rate)
+    common.update(raw=receiver.raw, rate=receiver.rate, soft=receiver.soft)
     return {**{key: value for key, value in merged.items() if key not in OF_RECEIVER}, **common}
 
 
 def _judge_form(table: StationTable, of: str) -> None:
     if table.form != "iq" and table.equaliser:
         raise Fault(f"{of}: 'equaliser' is for the form iq")
+    if table.form == "bits" and table.soft:
+        raise Fault(f"{of}: 'soft' is for the forms mpx and iq")
     if table.form == "bits" and (table.raw is not None or table.rate is not None or table.offset):
         raise Fault(f"{of}: 'raw', 'rate' and 'offset' are for the forms mpx and iq")
     if table.form != "bits" and (table.raw is None or table.rate is None):

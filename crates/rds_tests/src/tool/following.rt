@@ -3,6 +3,7 @@ use crate::tool::devices::{SlowReader, Withholding};
 use rds_sync::Rules;
 use rds_tool::{ToWrite, ToolError, follow};
 use std::alloc::Global;
+use std::thread::Threads;
 
 const NO_GAPS: &[(u64, u64)] = &[];
 
@@ -29,10 +30,25 @@ fn length_of_rows(bytes: u8) -> usize {
 
 /// Whether the rows that the first `bytes` bytes complete, one per read, are flushed before the next read,
 /// which fails.
-fn are_flushed_after(alloc: Global, rules: &Rules, bytes: u8) -> bool {
+fn are_flushed_after<R: Threads + Sync>(
+    rt: &R,
+    alloc: Global,
+    rules: &Rules,
+    bytes: u8,
+    workers: u32,
+) -> bool {
     let mut reader = SlowReader::new(&GROUPS, 1, u64::from(bytes) + 1);
     let mut writer = ToWrite::new(Withholding::new(alloc, false));
-    let answer = follow(alloc, &mut reader, &mut writer, rules, None, NO_GAPS);
+    let answer = follow(
+        rt,
+        alloc,
+        &mut reader,
+        &mut writer,
+        rules,
+        None,
+        NO_GAPS,
+        workers,
+    );
     let rows = ROWS.get(..length_of_rows(bytes));
     answer == Err(ToolError::Read) && Some(writer.into_inner().flushed()) == rows
 }
@@ -40,14 +56,21 @@ fn are_flushed_after(alloc: Global, rules: &Rules, bytes: u8) -> bool {
 #[test]
 fn rows_come_with_the_read_that_completes_them(rt: HostRuntime) {
     for bytes in 0..27u8 {
-        assert!(rt; come_after(rt.alloc(), bytes), "after {bytes} bytes");
+        assert!(rt;
+            come_after(&rt, rt.alloc(), bytes, 1),
+            "after {bytes} bytes"
+        );
+        assert!(rt;
+            come_after(&rt, rt.alloc(), bytes, 4),
+            "after {bytes} bytes, by four workers"
+        );
     }
 }
 
 /// Whether there is memory for the rules, and by them these rows are flushed in time.
-fn come_after(alloc: Global, bytes: u8) -> bool {
+fn come_after<R: Threads + Sync>(rt: &R, alloc: Global, bytes: u8, workers: u32) -> bool {
     match Rules::new(alloc, 2, 3, 10) {
-        Ok(rules) => are_flushed_after(alloc, &rules, bytes),
+        Ok(rules) => are_flushed_after(rt, alloc, &rules, bytes, workers),
         Err(_) => false,
     }
 }

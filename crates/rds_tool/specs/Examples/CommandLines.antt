@@ -41,13 +41,13 @@ pub list : asked_by (codes "rds" ∷ codes "list" ∷ [])
 unfolding walked
 list = refl
 
--- a stream has no digits, no pieces and no workers
+-- a stream has no digits and no pieces
 pub follow : asked_by
     (codes "rds" ∷ codes "follow" ∷ codes "--of" ∷ codes "10" ∷ codes "--share=9" ∷ codes "--bits=803" ∷ [])
     ≡ Some (
       codes "follow",
       None ∷ Some (codes "803") ∷ Some (codes "2") ∷ Some (codes "3") ∷ Some (codes "10")
-          ∷ Some (codes "9") ∷ Some (codes "10") ∷ None ∷ None ∷ None ∷ [],
+          ∷ Some (codes "9") ∷ Some (codes "10") ∷ None ∷ Some (codes "1") ∷ None ∷ [],
     )
 unfolding walked
 follow = refl
@@ -104,7 +104,7 @@ texts_asked_for = refl
 pub words_wanted : HaveFaults (
     ([], kind.MissingSubcommand ∷ [])
     ∷ (codes "scan" ∷ codes "--burst" ∷ codes "2" ∷ [], kind.UnknownArgument ∷ [])
-    ∷ (codes "follow" ∷ codes "--workers=2" ∷ [], kind.UnknownArgument ∷ [])
+    ∷ (codes "follow" ∷ codes "--pieces=2" ∷ [], kind.UnknownArgument ∷ [])
     ∷ (codes "scan" ∷ codes "--gaps=" ∷ [], [])
     ∷ (codes "encode" ∷ codes "--gaps=1-2" ∷ [], kind.UnknownArgument ∷ [])
     ∷ []

@@ -73,8 +73,9 @@ abbrev pub default_rules : RuleNumbers
 default_rules = record { burst = 2; reach = 3; loss = Run 10 }
 
 pub streams : AskFor (
-    (codes "follow" ∷ [], only (Follow raw_input default_rules))
-    ∷ (codes "follow" ∷ codes "--share=9" ∷ codes "--of" ∷ codes "12" ∷ [], only (Follow raw_input (record default_rules { loss = Share 9 12 })))
+    (codes "follow" ∷ [], only (Follow raw_input default_rules 1))
+    ∷ (codes "follow" ∷ codes "--share=9" ∷ codes "--of" ∷ codes "12" ∷ [], only (Follow raw_input (record default_rules { loss = Share 9 12 }) 1))
+    ∷ (codes "follow" ∷ codes "--workers=4" ∷ [], only (Follow raw_input default_rules 4))
     ∷ []
     )
 unfolding walked

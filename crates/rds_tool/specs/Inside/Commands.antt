@@ -2,10 +2,10 @@
 use Rattle.std.specs.Prelude.{List, Some, [], ◌∷◌, codes, length, map, true}
 use Rattle.clap.specs.Words.{App, Rule, new_app, new_rule, with_rule, with_subcommand}
 use Rattle.clap.specs.declared.builder.value_parser.ValueParser.TheVariants as parser
-use Rattle.rds_tool.specs.CommandLine.{flag_rule, number_rule, value_rule}
+use Rattle.rds_tool.specs.CommandLine.{flag_rule, margin_rule, number_rule, value_rule}
 use Rattle.rds_tool.specs.declared.commands.CommandRow.{CommandRow}
 use Rattle.rds_tool.specs.declared.commands.CommandOption.{CommandOption}
-use Rattle.rds_tool.specs.declared.commands.CommandOption.TheVariants.{Bits, Burst, Gaps, HexInput, HexOutput, Loss, Of, Pieces, Progress, Reach, Share, Workers}
+use Rattle.rds_tool.specs.declared.commands.CommandOption.TheVariants.{Bits, Burst, FollowWorkers, Gaps, HexInput, HexOutput, Loss, Margin, Of, Pieces, Progress, Reach, Share, Soft, Workers}
 use Rattle.rds_tool.specs.declared.commands.OptionRow.{OptionRow}
 
 abbrev pub rule_of_row : OptionRow → Rule
@@ -29,7 +29,10 @@ rule_of_option Share = number_rule (codes "share") []
 rule_of_option Of = number_rule (codes "of") (codes "64" ∷ [])
 rule_of_option Pieces = number_rule (codes "pieces") (codes "16" ∷ [])
 rule_of_option Workers = number_rule (codes "workers") (codes "4" ∷ [])
+rule_of_option FollowWorkers = number_rule (codes "workers") (codes "1" ∷ [])
 rule_of_option Progress = flag_rule (codes "progress")
+rule_of_option Soft = flag_rule (codes "soft")
+rule_of_option Margin = margin_rule
 
 -- a command with one thing more for each row
 abbrev pub with_each : {X : Type 0} → (App → X → App) → App → List X → App

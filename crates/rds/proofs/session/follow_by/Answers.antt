@@ -6,7 +6,7 @@ use Rattle.rds.proofs.Sessions.{stream_followed}
 use Rattle.rds.proofs.session.follow_by.Goals as goal
 
 pub returns : goal.returns
-returns c =
+returns g c =
     let followed = c.follow-answer.ensures in
     let answer = c.follow-answer.result in
     let given = given_by c.follow-answer.new.reader.device in
@@ -20,8 +20,8 @@ returns c =
     let lent = c.as_slice-gaps.ensures.value in
     let bits : c.input.inside.bits ≡ c.args.input.now.bits = cc in
     let gaps : c.as_slice-gaps.result.now ≡ c.args.input.now.gaps = cc in
-    subst (λ (b : Option ℕ). IsFollowed given ended reads taken flushed writes answer (record { rules = c.args.rules.now; gaps = c.args.input.now.gaps }) b) bits
-    (subst (λ (gs : List (ℕ × ℕ)). IsFollowed given ended reads taken flushed writes answer (record { rules = c.args.rules.now; gaps = gs }) c.input.inside.bits) gaps
-    (stream_followed (record { rules = c.args.rules.now; gaps = c.as_slice-gaps.result.now }) c.input.inside.bits given ended reads taken flushed writes _ _ _ _ answer
+    subst (λ (b : Option ℕ). IsFollowed given ended reads taken flushed writes answer (record { rules = c.args.rules.now; gaps = c.args.input.now.gaps }) b c.args.workers) bits
+    (subst (λ (gs : List (ℕ × ℕ)). IsFollowed given ended reads taken flushed writes answer (record { rules = c.args.rules.now; gaps = gs }) c.input.inside.bits c.args.workers) gaps
+    (stream_followed (record { rules = c.args.rules.now; gaps = c.as_slice-gaps.result.now }) c.input.inside.bits given ended reads taken flushed writes c.args.workers _ _ _ _ answer
     c.requires.reader.given c.requires.reader.failures (ap (λ xs. Some xs) c.requires.writer.taken) c.requires.writer.failures
     followed.heard followed.flushed followed.read followed.write followed.refused followed.broke_off))

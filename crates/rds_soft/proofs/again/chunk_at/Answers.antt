@@ -1,17 +1,33 @@
-use Rattle.std.proofs.Common.{◌≡◌, ◌+◌, ◌∙◌, List, Bool, true, ap, sym, arith, length, take, drop}
-use Rattle.std.specs.Prelude.{ℤ, Some, None, nat_lt, if◌then◌else◌}
-use Rattle.std.proofs.lemmas.Bool.{lt-ltb}
-use Rattle.std.proofs.lemmas.List.{take_rest}
+use Rattle.std.proofs.Common.{◌≡◌, ◌+◌, ◌∙◌, ℕ, List, Bool, true, false, Option, Some, None, refl, ap, sym, length, take, drop}
+use Rattle.std.specs.Prelude.{ℤ, nat_lt, if◌then◌else◌}
+use Rattle.std.specs.Int.{cast_signed, w8}
+use Rattle.std.specs.List.{take-map, drop-map}
+use Rattle.std.specs.Option.{option_map}
+use Rattle.std.proofs.lemmas.List.{length-map}
+use Rattle.rds_soft.specs.ReadAgain.{symbols_of}
 use Rattle.rds_soft.proofs.again.chunk_at.Goals as goal
+
+mapped : (b : Bool) (x : List ℕ) → option_map symbols_of (if b then Some x else None) ≡ (if b then Some (symbols_of x) else None)
+mapped true x = refl
+mapped false x = refl
+
+-- bytes that are there, as symbols
+at_symbols : (raw : List ℕ) (first : ℕ) (found : Option (List ℕ))
+    → found ≡ (if nat_lt (first + 26) (length raw) then Some (take 27 (drop first raw)) else None)
+    → option_map symbols_of found
+    ≡ (if nat_lt (first + 26) (length (symbols_of raw)) then Some (take 27 (drop first (symbols_of raw))) else None)
+at_symbols raw first found is =
+    let part : take 27 (drop first (symbols_of raw)) ≡ symbols_of (take 27 (drop first raw)) =
+    ap (take 27) (drop-map (cast_signed w8) first raw) ∙ take-map (cast_signed w8) 27 (drop first raw) in
+    ap (option_map symbols_of) is
+    ∙ mapped (nat_lt (first + 26) (length raw)) (take 27 (drop first raw))
+    ∙ ap (λ (n : ℕ). (if nat_lt (first + 26) n then Some (symbols_of (take 27 (drop first raw))) else None)) (sym (length-map raw (cast_signed w8)))
+    ∙ ap (λ (xs : List ℤ). (if nat_lt (first + 26) (length (symbols_of raw)) then Some xs else None)) (sym part)
 
 pub returns-in-Some : goal.returns-in-Some
 returns-in-Some c =
-    let rest = c.in_ok-get.ensures.lookup.0 in
-    let first = c.in-Some.ensures.cases in
-    let symbols : List ℤ = c.args.symbols.now in
-    let part : List ℤ = take 27 (drop c.args.first symbols) in
-    let there : nat_lt (c.args.first + 26) (length symbols) ≡ true =
-    lt-ltb (c.args.first + 26) (length symbols) (omega (arith, rest.3, first.enough)) in
-    let same : c.in-Some.chunk.now ≡ part = first.same ∙ ap (take 27) (rest.2 ∙ take_rest symbols c.args.first) in
-    ap (λ (x : List ℤ). Some x) same
-    ∙ sym (ap (λ (b : Bool). (if b then Some part else None)) there)
+    ap (λ (xs : List ℤ). Some xs) c.signed.ensures
+    ∙ at_symbols c.args.symbols.now c.args.first (Some c.in-Some.bytes) c.in-Some.ensures
+
+pub returns-in-None : goal.returns-in-None
+returns-in-None c = at_symbols c.args.symbols.now c.args.first None c.in-None.ensures

@@ -6,6 +6,7 @@ use Rattle.rds_stream.specs.Recording.{Signal}
 use Rattle.rds_sync.specs.declared.item.Block.{Block}
 use Rattle.rds_soft.specs.declared.soft_item.SoftBlock.{SoftBlock}
 use Rattle.rds_soft.specs.Again.{symbols_heard, was_read, IsBlockAgain, IsGroupAgain}
+use Rattle.rds_soft.specs.ReadAgain.{symbols_of}
 use Rattle.rds_soft.specs.SoftGroups.{wanted_beside}
 use Rattle.rds_soft.proofs.AgainLemmas.{list_of_four}
 use Rattle.rds_soft.proofs.again.group_again.Goals as goal
@@ -20,7 +21,7 @@ after b s place n m x wanted margin block again same h =
 pub returns : goal.returns
 returns c =
     let b = c.args.source.now.recording.now in
-    let s : List ℤ = c.args.source.now.symbols.now in
+    let s : List ℤ = symbols_of c.args.source.now.symbols.now in
     let place : ℕ = c.args.source.now.place in
     let margin : ℕ = c.args.margin in
     let one : Block = get_or c.args.blocks.now 0 c.index-blocks-0.result in

@@ -114,7 +114,7 @@ pub returns-in_err-rows-clause-between : goal.returns-in_err-rows-clause-between
 returns-in_err-rows-clause-between g c =
     let (heard, f, gave, flush) = c.in_ok-live.ensures.followed in
     let bytes = take c.in_ok-count.count c.read_last.new.last in
-    after_refusal _ (stops_behind _ _ _ _ _ _ _ heard f _ _ _ c.in_ok-count.ensures.taken bytes refl (few_last c.in_ok-count.count bytes c.read_last.new.last refl c.in_ok-count.ensures.few))
+    after_refusal _ (stops_behind _ _ _ _ _ _ _ heard f _ _ _ c.in_ok-count.ensures.taken bytes refl (few_last _ c.in_ok-count.count bytes c.read_last.new.last refl c.in_ok-count.ensures.few))
 
 pub returns-clause-end : goal.returns-clause-end
 returns-clause-end g c =
@@ -162,7 +162,7 @@ returns-clause-within g c = λ p.
     stops_at_end _ _ _ _ _ _ _ heard f c.in_ok-live.ensures.near_end _ c.in_ok-count.count c.read_last.new.last c.in_ok-count.ensures.taken
     c.bits_left-left.result c.place.result c.bits_left-left.ensures c.place.ensures.value c.in_ok-count.ensures.within c.in_ok-count.ensures.still _
     (λ before h. c.in_ok-rows.ensures.rows before h ∙ ap (λ (ys : List ℕ). rows_so_far c.in_ok-live.live.terms before ++ ys) (sym c.as_slice.ensures.value)) _
-    (few_last c.in_ok-count.count _ c.read_last.new.last refl c.in_ok-count.ensures.few) (of_err _ _ p c.write_flushed.ensures.prefix)
+    (few_last _ c.in_ok-count.count _ c.read_last.new.last refl c.in_ok-count.ensures.few) (of_err _ _ p c.write_flushed.ensures.prefix)
 
 pub rows_of_rest-requires-clause-few : goal.rows_of_rest-requires-clause-few
 rows_of_rest-requires-clause-few g c = few_bits _ _ c.in_ok-count.ensures.within.1 c.in_ok-count.ensures.few
@@ -197,7 +197,7 @@ returns-in_err-rows-clause-broke_off g c =
     passes _ _ _ c.from_residual-in_err-rows.ensures
     (broke_after _ _ _ _ _ _ _ _ _ (heard ++ last) (gave_more _ _ _ heard last gave read.given)
     (not Read (differ _ _ refl) (differ _ _ refl), not BitsPastBytes (differ _ _ refl) (differ _ _ refl))
-    (λ _. stops_behind _ _ _ _ _ _ _ heard f' (Some []) _ _ (took_rest _ last _ refl) last refl (few_last c.in_ok-count.count last buf refl read.few))
+    (λ _. stops_behind _ _ _ _ _ _ _ heard f' (Some []) _ _ (took_rest _ last _ refl) last refl (few_last _ c.in_ok-count.count last buf refl read.few))
     (λ p. absurd (not Write (differ _ _ refl) (differ _ _ refl) p)) (λ p. absurd (not TooLong (differ _ _ refl) (differ _ _ refl) p))
     (λ p. subst (λ (gs : List (ℕ × ℕ)). AreGaps (claimed c.args.bits (heard ++ last)) gs → ⊥) gaps_are
     (no_such_gaps _ _ _ _ _ _ _ heard f' near _ c.in_ok-count.count buf (took_rest _ last _ refl)
@@ -238,4 +238,4 @@ returns-clause-broke_off g c =
     (λ p. stops_at_end _ _ _ _ _ _ _ heard f' near _ c.in_ok-count.count buf (took_rest _ last _ refl)
     c.bits_left-left.result c.place.result c.bits_left-left.ensures c.place.ensures.value read.within still _
     (λ before h. c.in_ok-rows.ensures.rows before h ∙ ap (λ (ys : List ℕ). rows_so_far c.in_ok-live.live.terms before ++ ys) (sym c.as_slice.ensures.value)) _
-    (few_last c.in_ok-count.count _ buf refl read.few) (of_err _ _ p c.write_flushed.ensures.prefix))
+    (few_last _ c.in_ok-count.count _ buf refl read.few) (of_err _ _ p c.write_flushed.ensures.prefix))

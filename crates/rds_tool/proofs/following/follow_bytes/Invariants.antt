@@ -1,19 +1,17 @@
 use Rattle.std.proofs.Common.{length, ◌++◌, ◌-◌, ◌^◌, ◌≡◌, ◌≤◌, List, ℕ}
-use Rattle.std.specs.Prelude.{vec_capacity}
-use Rattle.rds_tool.specs.Following.{IsFlushedAfter}
+use Rattle.rds_tool.specs.Following.{IsFlushedAfter, most_read}
 use Rattle.rds_tool.specs.Inside.Streams.{IsFollowed}
 use Rattle.rds_tool.proofs.following.follow_bytes.Given as goal
 
 abbrev pub invariant-reads : goal.invariant-reads
 invariant-reads g l = record {
-  followed : (heard : List ℕ) × IsFollowed (record { rules = l.fn.rules; gaps = l.fn.gaps }) l.fn.bits l.live
+  followed : (heard : List ℕ) × IsFollowed (record { rules = l.fn.rules; gaps = l.fn.gaps }) l.fn.bits l.lister.live
       (g.S.Source.remaining l.fn.reader) (g.S.Source.remaining l.reader) (g.K.Sink.contents l.fn.writer) (g.K.Sink.contents l.writer) heard
       × (g.S.Source.given l.reader ≡ g.S.Source.given l.fn.reader ++ heard) × IsFlushedAfter heard (g.K.Sink.is_flushed l.writer);
   reads : g.S.Source.failed l.reader ≡ g.S.Source.failed l.fn.reader;
   writes : g.K.Sink.failed l.writer ≡ g.K.Sink.failed l.fn.writer;
-  room : length l.buf.items ≡ 65536;
-  items : 16 ≤ vec_capacity l.items;
+  room : length l.buf.items ≡ most_read l.fn.workers;
 }
 
 abbrev pub decreases-reads : goal.decreases-reads
-decreases-reads g l = 2 ^ 36 - l.live.place
+decreases-reads g l = 2 ^ 36 - l.lister.live.place

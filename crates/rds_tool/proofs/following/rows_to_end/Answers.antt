@@ -9,4 +9,4 @@ appended old mid late new items group totals none first second third =
 
 pub returns-clause-rows : goal.returns-clause-rows
 returns-clause-rows c =
-    appended _ _ _ _ _ _ _ c.new-text.ensures.items c.in_ok-push_items.ensures.rows c.in_ok-push_last_group.ensures.text c.in_ok-push_totals.ensures.rows
+    appended _ _ _ _ _ _ _ c.new-text.ensures.items c.in_ok-push_items.ensures c.in_ok-push_last_group.ensures.text c.in_ok-push_totals.ensures.rows

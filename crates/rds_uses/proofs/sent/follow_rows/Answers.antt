@@ -5,7 +5,7 @@ use Rattle.rds_uses.proofs.Outcomes.{given_back, written}
 use Rattle.rds_uses.proofs.sent.follow_rows.Goals as goal
 
 pub returns-in-Ok : goal.returns-in-Ok
-returns-in-Ok c =
+returns-in-Ok g c =
     let terms : Terms = record { rules = c.args.rules.now; gaps = c.args.gaps.now } in
     let held : c.new-2.result.reader.now ≡ c.args.bytes.now = cc in
     let same : c.new-writer.result.begun.value.items ≡ [] = cc in

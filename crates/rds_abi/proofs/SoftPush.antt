@@ -1,0 +1,231 @@
+-- What is heard and written of symbols that are pushed.
+use Rattle.std.proofs.Common.{◌≡◌, ◌+◌, ◌-◌, ◌*◌, ◌/◌, ◌^◌, ◌<◌, ◌≤◌, ◌++◌, ◌⊎◌, ◌∙◌, ℕ, List, ap, ap₂, arith, drop, inl, inr, length, map, min, subst, sym, take}
+use Rattle.std.specs.Prelude.{ℤ}
+use Rattle.std.proofs.lemmas.Bool.{cases_lt}
+use Rattle.std.proofs.lemmas.List.{drop-append-le, drop-drop, length-append, length-drop, length-map, length-take, take-take, take_all}
+use Rattle.rds_stream.specs.Recording.{Signal, length_of}
+use Rattle.rds_sync.specs.Laws.{AcquisitionsAreLate, RunsGiveFewItems, StepsAreLawful}
+use Rattle.rds_sync.specs.Lawful.{IsLawful}
+use Rattle.rds_sync.specs.Ranges.{IsInRange}
+use Rattle.rds_sync.specs.declared.item.Item.{Item}
+use Rattle.rds_live.specs.Gaps.{gaps_within}
+use Rattle.rds_live.specs.Moving.{most_behind}
+use Rattle.rds_live.specs.StreamDecoder.{HasHeard, LiveOf, Terms, complete, most_kept, signal_of}
+use Rattle.rds_live.specs.Next.{NextIsHeard, before_tail, completed, live_next, moved_back, part_with, run_next}
+use Rattle.rds_live.proofs.Following.{lawful-back}
+use Rattle.rds_live.proofs.Parts.{length-signal}
+use Rattle.rds_live.proofs.Pieces.{back-on}
+use Rattle.rds_abi.specs.Asked.{IsFilled, IsTooMuch}
+use Rattle.rds_abi.specs.Layout.{item_in_c, soft_item_in_c}
+use Rattle.rds_abi.specs.Stream.{IsFollowed, IsLeft, IsNear, RefusesPush, RefusesStream, place_after, stream_of}
+use Rattle.rds_abi.specs.Soft.{HasHeardSoft, IsMargin, IsPushed, IsWrittenAgain, RefusesSoft, again_in, byte_count, bytes_of, piece_of, read_again, symbols_kept}
+use Rattle.rds_abi.specs.declared.layout.RdsGap.{RdsGap}
+use Rattle.rds_abi.specs.declared.layout.RdsItem.{RdsItem}
+use Rattle.rds_abi.specs.declared.layout.RdsRules.{RdsRules}
+use Rattle.rds_abi.specs.declared.layout.RdsSoft.{RdsSoft}
+use Rattle.rds_abi.specs.declared.layout.RdsStream.{RdsStream}
+use Rattle.rds_abi.specs.declared.refusal.Refusal.{Refusal}
+use Rattle.rds_abi.specs.declared.refusal.Refusal.TheVariants.{SmallRoom, TooLong}
+use Rattle.rds_abi.specs.Refusals.{number_of}
+use Rattle.rds_abi.proofs.Fitting.{few-completed}
+use Rattle.rds_abi.proofs.NearStreams.{are-completed, heard-next, left-near, pushed-after, pushed-completed, refused-near}
+use Rattle.rds_abi.proofs.SoftItems.{AreSymbolsOf, items-same, run-inside}
+use Rattle.rds_abi.proofs.SoftStreams.{bytes-join, erasures, kept-on, part-symbols, symbols-alike}
+use Rattle.rds_abi.proofs.SoftSymbols.{byte_count_of}
+
+-- ---- by the gaps near the bytes, and by all
+
+module _ (all near : Terms) (s : RdsStream) (bytes : List ℕ) (from len kept few : ℕ) (near_is : IsNear all near from len) (from_is : from ≡ s.place - 8 * kept)
+    (len_is : len ≡ 8 * (kept + few)) (keeps : kept ≡ min most_kept (s.place / 8)) (many : few ≡ length bytes) (small : few ≤ 960) where
+  is : IsNear all near (s.place - 8 * kept) (8 * (kept + few))
+  is =
+      subst (λ (n : ℕ). IsNear all near (s.place - 8 * kept) n) len_is
+      (subst (λ (p : ℕ). IsNear all near p len) from_is near_is)
+
+  most : few ≡ min 8589934592 (length bytes)
+  most = omega (arith, many, small)
+
+  every : take (length bytes) bytes ≡ bytes
+  every = take_all (length bytes) bytes (omega arith)
+
+  pub all-left : (t : RdsStream) → IsLeft near t → IsLeft all t
+  all-left t = left-near all near t (s.place - 8 * kept) (8 * (kept + few)) is
+
+  module _ (left : IsLeft near s) (fits : place_after s bytes ≤ 2 ^ 36) where
+    pub all-completed : completed (stream_of near s) bytes ≡ completed (stream_of all s) bytes
+    all-completed =
+        subst (λ (xs : List ℕ). completed (stream_of near s) xs ≡ completed (stream_of all s) xs) every
+        (pushed-completed all near s bytes kept few is keeps most left fits (length bytes))
+
+    pub all-after : (new : RdsStream) → stream_of near new ≡ live_next (stream_of near s) bytes → stream_of all new ≡ live_next (stream_of all s) bytes
+    all-after new after =
+        subst (λ (xs : List ℕ). stream_of all new ≡ live_next (stream_of all s) xs) every
+        (pushed-after all near s bytes kept few is keeps most left fits (length bytes) new
+        (subst (λ (xs : List ℕ). stream_of near new ≡ live_next (stream_of near s) xs) (sym every) after))
+
+  pub all-refused : (r : Refusal) (room count : ℕ) (Same : Type 0)
+      → (IsLeft near s × (place_after s bytes ≤ 2 ^ 36) × IsTooMuch (map item_in_c (completed (stream_of near s) bytes)) room r count)
+      ⊎ ((RefusesStream near s r ⊎ (IsLeft near s × (2 ^ 36 < place_after s bytes) × (r ≡ TooLong))) × Same)
+      → (IsLeft all s × (place_after s bytes ≤ 2 ^ 36) × IsTooMuch (map item_in_c (completed (stream_of all s) bytes)) room r count)
+      ⊎ ((RefusesStream all s r ⊎ (IsLeft all s × (2 ^ 36 < place_after s bytes) × (r ≡ TooLong))) × Same)
+  all-refused r room count Same (inl (left, fits, much)) =
+      inl (all-left s left, fits, subst (λ (items : List Item). IsTooMuch (map item_in_c items) room r count) (all-completed left fits) much)
+  all-refused r room count Same (inr (inl refused, same)) =
+      inr (inl (refused-near all near s (s.place - 8 * kept) (8 * (kept + few)) is r refused), same)
+  all-refused r room count Same (inr (inr (left, long, too), same)) = inr (inr (all-left s left, long, too), same)
+
+-- a margin that was looked at first
+pub with-margin : (rules : RdsRules) (gaps : List RdsGap) (margin : ℕ) (s : RdsSoft) (bytes : List ℕ) (r : Refusal) (TooMany Same : Type 0) → IsMargin margin
+    → (IsFollowed rules gaps s.stream × (place_after s.stream bytes ≤ 2 ^ 36) × TooMany) ⊎ (RefusesPush rules gaps s.stream bytes r × Same)
+    → (IsPushed rules gaps margin s bytes × TooMany) ⊎ (RefusesSoft rules gaps margin s bytes r × Same)
+with-margin rules gaps margin s bytes r TooMany Same is (inl (followed, fits, many)) =
+    inl (record { margin_is = is; followed = followed; fits = fits }, many)
+with-margin rules gaps margin s bytes r TooMany Same is (inr (refused, same)) = inr (inr (is, refused), same)
+
+-- ---- a stream that was heard
+
+module _ (law : NextIsHeard) (all : Terms) (s : RdsSoft) (piece : List ℤ) (bytes : List ℕ) (range : IsInRange all.rules) (left : IsLeft all s.stream)
+    (bytes_are : bytes ≡ bytes_of piece) (long : length piece ≡ 8 * length bytes + 1) (before : List ℤ)
+    (h : HasHeardSoft all s (before ++ take 1 piece)) where
+  abbrev place : ℕ
+  place = s.stream.place
+
+  taken : length before ≡ place
+  taken = omega (arith, h.one_more, length-append before (take 1 piece), length-take 1 piece, long)
+
+  joined : bytes_of (before ++ piece) ≡ bytes_of (before ++ take 1 piece) ++ bytes
+  joined =
+      bytes-join before piece (place / 8) (omega (arith, taken, left.live.whole)) (omega (arith, long))
+      ∙ ap (λ (bs : List ℕ). bytes_of (before ++ take 1 piece) ++ bs) (sym bytes_are)
+
+  -- the stream after the piece
+  pub soft-heard : (new : RdsSoft) → stream_of all new.stream ≡ live_next (stream_of all s.stream) bytes
+      → new.symbols ≡ take symbols_kept (drop (8 * length bytes) (s.symbols ++ piece)) → HasHeardSoft all new (before ++ piece)
+  soft-heard new after last =
+      let on : new.stream.place ≡ place + 8 * length bytes = ap (λ (l : LiveOf). l.place) after in
+      record {
+        bits = subst (λ (bs : List ℕ). HasHeard (stream_of all new.stream) bs) (sym joined)
+            (heard-next law all s.stream bytes range left new.stream after (bytes_of (before ++ take 1 piece)) h.bits);
+        one_more = omega (arith, on, length-append before piece, taken, long);
+        last = last
+            ∙ ap (λ (xs : List ℤ). take symbols_kept (drop (8 * length bytes) xs)) (kept-on before place taken s.symbols (take 1 piece) piece h.last)
+            ∙ ap (take symbols_kept) (drop-drop (8 * length bytes) place (erasures ++ (before ++ piece)))
+            ∙ ap (λ (n : ℕ). take symbols_kept (drop n (erasures ++ (before ++ piece)))) (sym on);
+      }
+
+  -- the items that it completes
+  pub soft-complete : complete all (bytes_of (before ++ take 1 piece)) ++ completed (stream_of all s.stream) bytes ≡ complete all (bytes_of (before ++ piece))
+  soft-complete =
+      sym (ap (complete all) joined ∙ are-completed law all s.stream bytes range left (bytes_of (before ++ take 1 piece)) h.bits)
+
+  module _ (late : AcquisitionsAreLate) (steps : StepsAreLawful) (later : List ℤ) (margin : ℕ) where
+    abbrev live : LiveOf
+    live = stream_of all s.stream
+
+    abbrev d : ℕ
+    d = before_tail live
+
+    abbrev end : ℕ
+    end = 8 * length live.tail + 8 * length bytes
+
+    abbrev kept : ℕ
+    kept = min most_kept (place / 8)
+
+    abbrev P : List ℤ
+    P = drop (symbols_kept - 8 * kept) (s.symbols ++ piece)
+
+    abbrev W : List ℤ
+    W = (before ++ piece) ++ later
+
+    tail_long : length live.tail ≡ kept
+    tail_long = left.live.kept
+
+    d_is : place - 8 * kept ≡ d
+    d_is = omega (arith, tail_long)
+
+    symbols : P ≡ drop d (before ++ piece)
+    symbols =
+        part-symbols before place taken s.symbols (take 1 piece) piece (8 * kept) h.last (omega arith) (omega arith)
+        ∙ ap (λ (n : ℕ). drop n (before ++ piece)) d_is
+
+    early : d ≤ length (before ++ piece)
+    early = omega (arith, taken, length-append before piece)
+
+    all_long : length W ≡ place + 8 * length bytes + 1 + length later
+    all_long = omega (arith, length-append (before ++ piece) later, length-append before piece, taken, long)
+
+    reach : d + end ≡ place + 8 * length bytes
+    reach = omega (arith, tail_long)
+
+    alike : (part : Signal) → length_of part ≡ 8 * (kept + length bytes) → part.gaps ≡ gaps_within all.gaps (place - 8 * kept) (8 * (kept + length bytes))
+        → AreSymbolsOf part P end (signal_of all.gaps (bytes_of W)) W d
+    alike part part_long gaps =
+        let n_is : 8 * (kept + length bytes) ≡ end = omega (arith, tail_long) in
+        symbols-alike part (signal_of all.gaps (bytes_of W)) P W later d end left.live.gaps (part_long ∙ n_is)
+        (gaps ∙ ap₂ (λ (p n : ℕ). gaps_within all.gaps p n) d_is n_is)
+        (ap (λ (xs : List ℤ). length xs) symbols ∙ omega (arith, length-drop d (before ++ piece), length-append before piece, taken, long, tail_long))
+        (drop-append-le d (before ++ piece) later early ∙ ap (λ (xs : List ℤ). xs ++ later) (sym symbols))
+        (omega (arith, length-signal all.gaps (bytes_of W), byte_count_of W, all_long, reach, left.live.whole))
+        (omega (arith, all_long, reach))
+
+    lawful : IsLawful all.rules (8 * length live.tail) (moved_back d live.state)
+    lawful =
+        lawful-back all.rules d (8 * length live.tail) place (moved_back d live.state) live.state
+        (back-on all.rules d place live.state left.live.lawful (omega arith)) left.live.lawful (omega (arith, tail_long)) far where
+          far : (d ≡ 0) ⊎ (most_behind ≤ 8 * length live.tail)
+          far = (elim (cases_lt (place / 8) 30) [
+            | inl few ↦ inl (omega (arith, few, tail_long, left.live.whole))
+            | inr many ↦ inr (omega (arith, many, tail_long))
+          ])
+
+    -- are written as they are read again from all symbols
+    pub soft-written : (near : Terms) (old new : List RdsItem) → completed (stream_of near s.stream) bytes ≡ completed live bytes
+        → IsWrittenAgain near all.gaps margin s piece bytes old new
+        → IsFilled (map soft_item_in_c (read_again all margin W (completed live bytes))) old new
+    soft-written near old new same (part, part_long, gaps, filled) =
+        let here : IsFilled (map (λ (item : Item). soft_item_in_c (again_in part P d margin item)) (completed live bytes)) old new =
+        subst (λ (n : ℕ). IsFilled (map (λ (item : Item). soft_item_in_c (again_in part P n margin item)) (completed live bytes)) old new) d_is
+        (subst (λ (items : List Item). IsFilled (map (λ (item : Item). soft_item_in_c (again_in part P (place - 8 * kept) margin item)) items) old new) same filled) in
+        let again = items-same part (signal_of all.gaps (bytes_of W)) P W margin end d (alike part part_long gaps) soft_item_in_c (run_next live bytes (8 * length bytes)).1
+        (run-inside late steps (part_with live bytes (8 * length bytes)) all.rules range.loss.0 (moved_back d live.state) (8 * length live.tail) (8 * length bytes) lawful) in
+        subst (λ (items : List RdsItem). IsFilled items old new) again here
+
+-- ---- the piece that is taken
+
+module _ (symbols : List ℤ) (room : ℕ) (piece : List ℤ) (bytes : List ℕ) (piece_is : piece ≡ piece_of symbols room)
+    (count : (length piece - 1) / 8 ≡ byte_count symbols room) (bytes_are : bytes ≡ bytes_of piece) where
+  pub piece-bytes : bytes ≡ bytes_of (piece_of symbols room)
+  piece-bytes = bytes_are ∙ ap bytes_of piece_is
+
+  pub piece-many : length bytes ≡ byte_count symbols room
+  piece-many = omega (arith, ap (λ (bs : List ℕ). length bs) bytes_are, byte_count_of piece, count)
+
+  pub piece-few : length bytes ≤ 960
+  piece-few = omega (arith, piece-many)
+
+  pub piece-taken : piece ≡ take (8 * length bytes + 1) symbols
+  piece-taken = piece_is ∙ ap (λ (n : ℕ). take (8 * n + 1) symbols) (sym piece-many)
+
+  pub piece-long : 0 < length symbols → length piece ≡ 8 * length bytes + 1
+  piece-long some = omega (arith, some, ap (λ (xs : List ℤ). length xs) piece-taken, length-take (8 * length bytes + 1) symbols, piece-many)
+
+  pub piece-first : take 1 piece ≡ take 1 symbols
+  piece-first = ap (take 1) piece-taken ∙ take-take 1 (8 * length bytes + 1) symbols (omega arith)
+
+-- room for sixteen items is never too little
+pub roomy-soft : RunsGiveFewItems → (terms : Terms) (s : RdsStream) (symbols : List ℤ) (bytes : List ℕ) (room count : ℕ) (r : Refusal) (Same : Type 0)
+    → length bytes ≡ byte_count symbols room
+    → (IsLeft terms s × (place_after s bytes ≤ 2 ^ 36) × IsTooMuch (map item_in_c (completed (stream_of terms s) bytes)) room r count)
+    ⊎ ((RefusesStream terms s r ⊎ (IsLeft terms s × (2 ^ 36 < place_after s bytes) × (r ≡ TooLong))) × Same)
+    → r ≡ SmallRoom → room < 16
+roomy-soft law terms s symbols bytes room count r Same many (inl (left, fits, much)) is =
+    omega (
+      arith,
+      much.1,
+      length-map (completed (stream_of terms s) bytes) item_in_c,
+      few-completed law (stream_of terms s) bytes,
+      many,
+    )
+roomy-soft law terms s symbols bytes room count r Same many (inr (inl refused, same)) is =
+    absurd (subst (λ (it : Refusal). RefusesStream terms s it) is refused)
+roomy-soft law terms s symbols bytes room count r Same many (inr (inr (left, long, too), same)) is = absurd (omega (arith, ap number_of (sym too ∙ is)))

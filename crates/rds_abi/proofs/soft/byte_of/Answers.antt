@@ -1,0 +1,26 @@
+use Rattle.std.proofs.Common.{◌≡◌, ◌+◌, ap, ◌∙◌, arith, rules, add-one, ◌^◌, get_or, bit_xor}
+use mathlib.Core.Path.{ap₂}
+use Rattle.std.specs.Prelude.{ℤ, pos}
+use Rattle.std.specs.Int.{w8}
+use Rattle.std.proofs.Math.Nat.{pow-suc}
+use Rattle.std.proofs.lemmas.Int.{to_z-of_z}
+use Rattle.rds_soft.specs.Symbols.{sign, hard_bit}
+use Rattle.rds_abi.proofs.SoftSymbols.{bits_more}
+use Rattle.rds_abi.proofs.soft.byte_of.Goals as goal
+use mir.Val.{SFits}
+
+pub loop-i-preserved : goal.loop-i-preserved
+loop-i-preserved c =
+    let i = c.loop-i.i in
+    let first = c.args.first in
+    let one : ℤ = get_or c.args.symbols.now (first + i) (pos 0) in
+    let next : ℤ = get_or c.args.symbols.now (first + i + 1) (pos 0) in
+    let one_fits : SFits w8 one = search rules in
+    let next_fits : SFits w8 next = search rules in
+    let bit : c.bit_between.result ≡ hard_bit c.args.symbols.now (first + i) =
+    c.bit_between.ensures.value ∙ ap₂ (λ (a b : ℤ). bit_xor (sign a) (sign b)) (to_z-of_z w8 one one_fits) (to_z-of_z w8 next next_fits) in
+    let more = bits_more c.args.symbols.now first i (omega (arith, c.loop-i-test.true)) in
+    record {
+      value = omega (arith, more, c.loop-i.invariant.value, bit);
+      small = omega (arith, ap (λ k. 2 ^ k) (add-one i), pow-suc 2 i, c.loop-i.invariant.small, c.bit_between.ensures.digit);
+    }

@@ -1,0 +1,10 @@
+use Rattle.std.proofs.Common.{◌∙◌, ℕ, List, ap, arith}
+use Rattle.std.proofs.lemmas.List.{take_all}
+use Rattle.rds_live.specs.Next.{live_next}
+use Rattle.rds_abi.proofs.soft.items_of.Goals as goal
+
+pub returns-clause-next : goal.returns-clause-next
+returns-clause-next c =
+    c.in-Ok.ensures.next
+    ∙ ap (λ (xs : List ℕ). live_next c.args.live.now xs)
+    (take_all c.in-Ok.field-0 c.args.bytes.now (omega (arith, c.in-Ok.ensures.count, c.in_ok-items.ensures.capacity, c.requires.few)))

@@ -1,0 +1,6 @@
+use Rattle.std.proofs.Common.{◌∙◌, ap, take}
+use Rattle.std.proofs.lemmas.List.{take_rest}
+use Rattle.rds_abi.proofs.soft.kept_from.Goals as goal
+
+pub returns : goal.returns
+returns c = c.in-Some.ensures.cases.same ∙ ap (take 240) (take_rest c.args.symbols.now c.args.first)

@@ -1,0 +1,37 @@
+-- Listers that take bytes in pieces.
+use Rattle.std.proofs.Common.{◌≡◌, ◌++◌, ◌∙◌, Err, List, Ok, Result, [], ap, ap₂, append_assoc, sym, ℕ}
+use Rattle.std.specs.Prelude.{IfOk}
+use Rattle.std.specs.List.{flat_map}
+use Rattle.std.proofs.lemmas.Grind.{flat_map-append}
+use Rattle.std.proofs.lemmas.List.{append-nil}
+use Rattle.rds_sync.specs.Ranges.{IsInRange}
+use Rattle.rds_sync.specs.declared.item.Item.{Item}
+use Rattle.rds_live.specs.Listing.{ListerOf, lister_next}
+use Rattle.rds_live.specs.Next.{PiecesJoin, completed, live_next}
+use Rattle.rds_live.specs.StreamDecoder.{IsStreamDecoder, LiveOf}
+
+-- bytes in two pieces give the same as at once
+pub lists-join : PiecesJoin → (row : Item → List ℕ) (lister : ListerOf) (first second : List ℕ) → IsInRange lister.live.terms.rules → IsStreamDecoder lister.live
+    → lister_next row (lister_next row lister first) second ≡ lister_next row lister (first ++ second)
+lists-join join row lister first second range known =
+    let (next, items) = join lister.live first second range known in
+    let some : List Item = completed lister.live first in
+    let more : List Item = completed (live_next lister.live first) second in
+    ap₂ (λ (l : LiveOf) (xs : List ℕ). record { live = l; rows = xs }) next
+    (append_assoc lister.rows (flat_map row some) (flat_map row more)
+    ∙ ap (λ (xs : List ℕ). lister.rows ++ xs) (sym (flat_map-append row some more) ∙ ap (λ (xs : List Item). flat_map row xs) items))
+
+-- no byte changes nothing
+pub lists-still : (row : Item → List ℕ) (lister : ListerOf) → live_next lister.live [] ≡ lister.live → completed lister.live [] ≡ [] → lister_next row lister [] ≡ lister
+lists-still row lister still none =
+    ap₂ (λ (l : LiveOf) (xs : List ℕ). record { live = l; rows = xs }) still
+    (ap (λ (items : List Item). lister.rows ++ flat_map row items) none ∙ append-nil lister.rows)
+
+-- of an answer that is no error
+pub on-ok : {T E : Type 0} {P Q : T → Type 0} (r : Result T E) → ((x : T) → P x → Q x) → IfOk r P → IfOk r Q
+on-ok (Ok x) more p = more x p
+on-ok (Err e) more p = tt
+
+pub on-ok-both : {T E : Type 0} {P Q S : T → Type 0} (r : Result T E) → ((x : T) → P x → Q x → S x) → IfOk r P → IfOk r Q → IfOk r S
+on-ok-both (Ok x) more p q = more x p q
+on-ok-both (Err e) more p q = tt

@@ -1,0 +1,15 @@
+use Rattle.std.proofs.Common.{◌≡◌, ◌+◌, ◌-◌, ◌*◌, ◌≤◌, length}
+use Rattle.rds_live.specs.Listing.{lister_next}
+use Rattle.rds_live.specs.Next.{IsWithin}
+use Rattle.rds_live.proofs.stream_lister.StreamLister.list_alone.Given as goal
+
+abbrev pub invariant-loop-rest : goal.invariant-loop-rest
+invariant-loop-rest g l = record {
+  next : lister_next g.T.ItemRows.row_of l.lister l.rest ≡ lister_next g.T.ItemRows.row_of l.fn.self l.bytes;
+  place : l.lister.live.place + 8 * length l.rest ≡ l.fn.self.live.place + 8 * length l.bytes;
+  few : length l.rest ≤ length l.bytes;
+  small : IsWithin (8 * (length l.bytes - length l.rest)) l.fn.self.live.totals l.lister.live.totals;
+}
+
+abbrev pub decreases-loop-rest : goal.decreases-loop-rest
+decreases-loop-rest g l = length l.rest

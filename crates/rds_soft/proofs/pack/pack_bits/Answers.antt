@@ -1,0 +1,20 @@
+use Rattle.std.proofs.Common.{◌≡◌, ◌+◌, ◌*◌, ◌<◌, ◌∙◌, ℕ, List, [], ◌∷◌, length-append, ap, sym, subst, length}
+use Rattle.std.proofs.lemmas.List.{take_rest}
+use Rattle.rds_stream.specs.Recording.{packed_bit}
+use Rattle.rds_soft.specs.ReadAgain.{symbols_of}
+use Rattle.rds_soft.specs.Symbols.{hard_bit}
+use Rattle.rds_soft.proofs.PackLemmas.{next_rest, bits_more}
+use Rattle.rds_soft.proofs.pack.pack_bits.Goals as goal
+
+pub loop-left-preserved : goal.loop-left-preserved
+loop-left-preserved c =
+    let symbols : List ℕ = c.args.symbols.now in
+    let left : List ℕ = c.loop-left.left.now in
+    let bytes : List ℕ = c.loop-left.bytes.items in
+    let pushed = c.in_ok-push.ensures.items in
+    let more : length c.push.new.self.items ≡ length bytes + 1 = ap length pushed ∙ length-append bytes (c.byte_of.result ∷ []) in
+    record {
+      rest = take_rest left c.min.result ∙ next_rest symbols left (length bytes) c.min.result (length c.push.new.self.items) c.loop-left.invariant.rest c.min.ensures more;
+      bits = subst (λ (xs : List ℕ). (i : ℕ) → i < 8 * length xs → i + 1 < length symbols → packed_bit xs i ≡ hard_bit (symbols_of symbols) i) (sym pushed)
+          (bits_more symbols left bytes c.byte_of.result c.loop-left.invariant.rest c.loop-left.invariant.bits c.byte_of.ensures);
+    }

@@ -1,0 +1,127 @@
+-- The reading of symbols and the item read again, as functions. The law `items_are_read_again_so` promises that each gives what the
+-- rule of its name allows, which is one thing at most, so contracts above can name the rows of a soft listing.
+use Rattle.std.specs.Prelude.{◌==◌, ℕ, ◌+◌, List, [], ◌∷◌, Option, Some, None, nat_lt, if◌then◌else◌, bit_xor, min, map, ℤ}
+use Rattle.std.specs.Int.{cast_signed, w8}
+use Rattle.rds_code.specs.declared.offset.Offset.{Offset}
+use Rattle.rds_code.specs.declared.offset.Offset.TheVariants.{A, B, C, Cx, D}
+use Rattle.rds_code.specs.declared.reading.Reading.TheVariants.{Valid}
+use Rattle.rds_code.specs.declared.reading.Wanted.{Wanted}
+use Rattle.rds_code.specs.declared.reading.Wanted.TheVariants.{OnlyC, OnlyCx, Either}
+use Rattle.rds_code.specs.Remainder.{rem}
+use Rattle.rds_code.specs.Offsets.{offset_of, word, number}
+use Rattle.rds_code.specs.Reading.{information}
+use Rattle.rds_stream.specs.Recording.{Signal}
+use Rattle.rds_sync.specs.declared.item.Block.{Block}
+use Rattle.rds_sync.specs.declared.item.Block.TheVariants.{Missing, Read}
+use Rattle.rds_sync.specs.declared.item.Item.{Item}
+use Rattle.rds_sync.specs.declared.item.Item.TheVariants.{Acquired, Group, LostLock}
+use Rattle.rds_sync.specs.Groups.{block_in}
+use Rattle.rds_soft.specs.declared.correction.Correction.{Correction}
+use Rattle.rds_soft.specs.declared.soft_reading.SoftReading.{SoftReading}
+use Rattle.rds_soft.specs.declared.soft_reading.SoftReading.TheVariants as Soft
+use Rattle.rds_soft.specs.declared.soft_item.SoftBlock.{SoftBlock}
+use Rattle.rds_soft.specs.declared.soft_item.SoftBlock.TheVariants as Again
+use Rattle.rds_soft.specs.declared.soft_item.SoftGroup.{SoftGroup}
+use Rattle.rds_soft.specs.declared.soft_item.SoftItem.{SoftItem}
+use Rattle.rds_soft.specs.declared.soft_item.SoftItem.TheVariants as InSoft
+use Rattle.rds_soft.specs.Inside.Lightest.{effect, confidence, least, lightest, second}
+use Rattle.rds_soft.specs.Nearest.{mask_of, top}
+use Rattle.rds_soft.specs.SoftGroups.{wanted_beside, group_of}
+use Rattle.rds_soft.specs.Symbols.{confidences, hard_window}
+use Rattle.rds_soft.specs.Again.{symbols_heard, first_bit}
+
+-- symbols as bytes: each is a signed byte
+abbrev pub symbols_of : List ℕ → List ℤ
+symbols_of bytes = map (cast_signed w8) bytes
+
+-- ---- the correction
+
+-- the lightest flips that turn a window into a block with this offset, their weight, and the least weight of any others
+pub record Turn : Type 0 where
+  pub offset : Offset
+  pub flips : ℕ
+  pub weight : ℕ
+  pub others : ℕ
+
+abbrev pub turn_to : ℕ → List ℕ → Offset → Turn
+turn_to w cs o = let s : ℕ = bit_xor (rem w) (word o) in record {
+  offset = o;
+  flips = lightest effect (confidence cs) 27 s;
+  weight = least effect (confidence cs) 27 s;
+  others = second effect (confidence cs) 27 s;
+}
+
+-- the lighter of two, to which the heavier is a rival
+abbrev pub lighter : Turn → Turn → Turn
+lighter t u =
+    if nat_lt u.weight t.weight then record u { others = min u.others t.weight } else record t { others = min t.others u.weight }
+
+abbrev pub turn_third : ℕ → Wanted → List ℕ → Turn
+turn_third w OnlyC cs = turn_to w cs C
+turn_third w OnlyCx cs = turn_to w cs Cx
+turn_third w Either cs = lighter (turn_to w cs C) (turn_to w cs Cx)
+
+-- the lightest turn of w into block x
+abbrev pub turn_of : ℕ → ℕ → Wanted → List ℕ → Turn
+turn_of w x wanted cs =
+    if x == 1 then turn_to w cs A
+    else if x == 2 then turn_to w cs B
+    else if x == 4 then turn_to w cs D
+    else turn_third w wanted cs
+
+-- the turn, if it is within the top and the margin
+abbrev pub within : Turn → ℕ → Option Correction
+within t margin =
+    if nat_lt top t.weight then None
+    else if nat_lt t.others (t.weight + margin) then None
+    else Some (record { offset = t.offset; flips = t.flips })
+
+unfoldable pub correction : ℕ → ℕ → Wanted → List ℕ → ℕ → Option Correction
+correction w x wanted cs margin = within (turn_of w x wanted cs) margin
+
+-- ---- readings
+
+abbrev pub reading_by : ℕ → Option Correction → SoftReading
+reading_by w None = Soft.Lost
+reading_by w (Some c) = Soft.Corrected c.offset (information (bit_xor w (mask_of c.flips))) c.flips
+
+-- the offset of a window, if it is one of block x
+abbrev pub own_of : Option Offset → ℕ → Option Offset
+own_of None x = None
+own_of (Some o) x = if number o == x then Some o else None
+
+abbrev pub reading_or : ℕ → Option Offset → SoftReading → SoftReading
+reading_or w None other = other
+reading_or w (Some o) other = Soft.Valid o (information w)
+
+-- 27 symbols, read as block x
+unfoldable pub soft_reading : List ℤ → ℕ → Wanted → ℕ → SoftReading
+soft_reading symbols x wanted margin =
+    reading_or (hard_window symbols) (own_of (offset_of (rem (hard_window symbols))) x)
+    (reading_by (hard_window symbols) (correction (hard_window symbols) x wanted (confidences symbols) margin))
+
+abbrev pub reading_heard : Option (List ℤ) → ℕ → Wanted → ℕ → SoftReading
+reading_heard None x wanted margin = Soft.Lost
+reading_heard (Some symbols) x wanted margin = soft_reading symbols x wanted margin
+
+-- ---- items
+
+abbrev pub block_again : Option (List ℤ) → ℕ → Wanted → ℕ → Block → SoftBlock
+block_again heard x wanted margin Missing = Again.Missing
+block_again heard x wanted margin (Read (Valid o info)) = Again.Read (Soft.Valid o info)
+block_again heard x wanted margin (Read hard) = Again.Read (reading_heard heard x wanted margin)
+
+abbrev pub group_again : Signal → List ℤ → ℕ → ℕ → List Block → SoftGroup
+group_again b symbols margin place blocks =
+    let heard : ℕ → Option (List ℤ) = λ y. symbols_heard b symbols (first_bit place blocks y) in
+    let two : SoftBlock = block_again (heard 2) 2 Either margin (block_in blocks 2) in
+    group_of place
+    (block_again (heard 1) 1 Either margin (block_in blocks 1) ∷ two
+    ∷ block_again (heard 3) 3 (wanted_beside two) margin (block_in blocks 3)
+    ∷ block_again (heard 4) 4 Either margin (block_in blocks 4) ∷ [])
+
+-- an item, read again
+unfoldable pub item_again : Signal → List ℤ → ℕ → Item → SoftItem
+item_again b symbols margin (Acquired place number) = InSoft.Acquired place number
+item_again b symbols margin (LostLock place) = InSoft.LostLock place
+item_again b symbols margin (Group g) = InSoft.Group (group_again b symbols margin g.place g.blocks)

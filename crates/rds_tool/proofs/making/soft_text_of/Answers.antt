@@ -1,0 +1,15 @@
+use Rattle.std.proofs.Common.{◌∙◌, ℕ, List, Ok, Result, ap, sym}
+use mathlib.Core.Path.{ap₂}
+use Rattle.rds_stream.specs.Recording.{Signal}
+use Rattle.rds_tool.specs.Input.{and_then}
+use Rattle.rds_tool.specs.Soft.{soft_text}
+use Rattle.rds_tool.specs.declared.error.ToolError.{ToolError}
+use Rattle.rds_tool.proofs.making.soft_text_of.Goals as goal
+
+pub returns-clause-ok : goal.returns-clause-ok
+returns-clause-ok c =
+    let source = c.in_ok-source.source in
+    let ok = c.in_ok-source.ensures.ok in
+    let held : List ℕ = c.args.held.items in
+    ap (λ (made : Result Signal ToolError). and_then made (λ recording. Ok (soft_text c.args.rows c.args.plan.rules c.args.margin held recording))) ok.0
+    ∙ ap₂ (λ (symbols : List ℕ) (margin : ℕ). Ok (soft_text c.args.rows c.args.plan.rules margin symbols source.recording)) (sym ok.1) (sym ok.2)

@@ -1,0 +1,34 @@
+-- Items that were counted.
+use Rattle.std.specs.Prelude.{◌≡◌, ◌*◌, ◌^◌, Bool, List, length, map, ℕ}
+use Rattle.rds_soft.specs.SoftTotals.{AreAtMost, soft_totals_of}
+use Rattle.rds_soft.specs.declared.soft_item.SoftItem.{SoftItem}
+use Rattle.rds_soft.specs.declared.soft_totals.SoftTotals.{SoftTotals}
+use Rattle.rds_soft.specs.ReadAgain.{item_again, symbols_of}
+use Rattle.rds_sync.specs.Counting.{IsAtMost}
+use Rattle.rds_sync.specs.Totals.{totals_of}
+use Rattle.rds_sync.specs.declared.item.Item.{Item}
+use Rattle.rds_sync.specs.declared.totals.Totals.{Totals}
+use Rattle.rds_tool.specs.Soft.{row_again, totals_again}
+use Rattle.rds_tool.specs.declared.soft_source.SoftSource.{SoftSource}
+
+-- the totals are those of these items, which bound them
+pub record HasCounted (items : List Item) (totals : Totals) : Type 0 where
+  pub are : totals ≡ totals_of items
+  pub small : IsAtMost (2 ^ 10 * length items) totals
+
+-- how a source reads an item again
+abbrev pub again_of : SoftSource → Item → SoftItem
+again_of source = item_again source.recording (symbols_of source.symbols.items) source.margin
+
+-- the same of items that were read again
+pub record HasCountedAgain (again : Item → SoftItem) (items : List Item) (totals : SoftTotals) : Type 0 where
+  pub are : totals ≡ soft_totals_of (map again items)
+  pub small : AreAtMost (2 ^ 10 * length items) totals
+
+-- the row of an item of a source, if rows are written
+abbrev pub row_of_source : Bool → SoftSource → Item → List ℕ
+row_of_source has_rows source = row_again has_rows source.recording source.symbols.items source.margin
+
+-- the rows of its totals
+abbrev pub totals_of_source : SoftSource → List Item → List ℕ
+totals_of_source source = totals_again source.recording source.symbols.items source.margin

@@ -1,0 +1,349 @@
+"""Every command, view, page and metric over the recordings of rich.py: whole texts, which are in rich/.
+
+A file there has commands after "$ ", each followed by its output; `@one` is the recording of that name with its start and rate.
+`RICH=write python3 -m pytest monitor/tests/test_rich.py` writes what the commands say now: read each line that changes against
+what rich.py sends. The tests below compare the numbers in them with counts of what was sent.
+"""
+
+from __future__ import annotations
+
+import base64
+import csv
+import json
+import os
+import re
+import shlex
+import sqlite3
+from collections import Counter
+from pathlib import Path
+from typing import Dict, Iterator, List, Tuple
+from unittest import mock
+
+import numpy
+import pytest
+
+import rich
+from conftest import rds
+from made import output, run
+from network import START, Network, Plan, SharedAir, no_space
+from rds_monitor.rows.clock import utc_text
+from rds_monitor.rows.decoders import decoder_of
+from rds_monitor.watch import writer
+from rds_monitor.watch.alarms import NAMES
+
+# When the watch was looked at for the last time.
+END = START + 825
+TEXTS = Path(__file__).parent / "rich"
+ONE, TWO = rich.one(), rich.two()
+CLOCKS = {
+    f"@{of.name}": f"--start {utc_text(of.start)} --rate {rich.RATE} {of.name}.bin" for of in (ONE, TWO)
+}
+
+
+# Each alarm comes within the fourteen minutes of `one`.
+TABLE = """
+[defaults.alarms]
+ps_stuck = 200
+rt_stuck = 150
+ta = 20
+ct = 1
+ct_offset = 1
+ct_absent = 70
+silent = 5
+no_rds = 4
+fast = 20
+slow = 20
+flapping = 2
+errors = 1
+errors_percent = 5
+pi = 5
+ps = 10
+rt = 20
+af = 10
+disk = 2
+
+[[station]]
+name = "Alpha"
+command = ["a"]
+frequency = 98.1
+pi = "D318"
+ps = "RICH*"
+rt = "Caf*"
+af = [87.6, 87.7, 87.8]
+
+[[receiver]]
+name = "north"
+command = ["n"]
+raw = "u8"
+rate = 2400000
+centre = 98.0
+
+[[station]]
+name = "Beta <b>"
+receiver = "north"
+frequency = 97.3
+pi = ["D319", "D31A"]
+"""
+# Runs of Alpha's receiver: silent for a while; until the watch is ended; too fast; too slow; and to the end.
+PLANS = [Plan(drops=(300, 12)), Plan(dies=60), Plan(pace=1.02, dies=90), Plan(pace=0.97, dies=120), Plan()]
+
+
+class OnAir:
+    """The bytes of a recording, some times over, by the seconds since its begin."""
+
+    def __init__(self, of: rich.Recording, times: int = 1):
+        self._data = of.bits() * times
+
+    def at(self, seconds: float) -> int:
+        return min(len(self._data), int(seconds * rich.RATE / 8))
+
+    def bytes(self, first: int, after: int) -> bytes:
+        return self._data[first:after]
+
+
+@pytest.fixture(scope="module")
+def folder(tmp_path_factory: pytest.TempPathFactory) -> Iterator[Path]:
+    """The recordings, a listing of both as of a stream that was restarted, and a database of both."""
+    path, before = tmp_path_factory.mktemp("rich"), os.getcwd()
+    os.chdir(path)
+    for of in (ONE, TWO):
+        Path(f"{of.name}.bin").write_bytes(of.bits())
+        Path(f"{of.name}.csv").write_bytes(rds("list", data=of.bits()))
+        *clock, recording = CLOCKS[f"@{of.name}"].split()
+        output("db", "--station", "Alpha", *clock, "rich.db", recording)
+    Path("both.csv").write_bytes(Path("one.csv").read_bytes() + Path("two.csv").read_bytes())
+    Path("one.hex").write_text(ONE.bits()[:20000].hex())
+    Path("one.text").write_text("".join(f"{byte:08b}" for byte in ONE.bits()[:20000]))
+    Path("watch.toml").write_text(TABLE)
+    yield path
+    os.chdir(before)
+
+
+@pytest.fixture(scope="module")
+def watched(folder: Path) -> Iterator[None]:
+    """A watch over both, which was away for ten seconds, and whose disk was full for five."""
+    path = folder / "watch"
+    path.mkdir()
+    airs = {"a": OnAir(ONE), "n": SharedAir({97_300_000: OnAir(TWO, 7)})}
+    net = Network(path, TABLE, airs, {"a": [*PLANS]}, decoder_of()[0])
+    with pytest.MonkeyPatch.context() as patch:
+        patch.setattr(os, "fdatasync", lambda file: None)
+        net.run(350)
+        net.restart(10)
+        net.run(100)
+        with patch.context() as full:
+            full.setattr(writer.HourWriter, "append", no_space)
+            net.run(5)
+        net.run(END - net.times.utc)
+    (path / "said.txt").write_text("".join(f"{line}\n" for line in net.said))
+    yield
+    net.end()
+
+
+# ---- commands
+
+
+def data_of(page: str) -> List[str]:
+    """What a page's script shows, a line per list."""
+    found = re.search(r'<script type="application/json" id="data">(.*?)</script>', page, re.S)
+    assert found
+    lines = []
+    for station in json.loads(found[1]):
+        for part in station["parts"]:
+            part.update(
+                {name: len(text) for name, text in part.items() if isinstance(text, str) and name != "bytes"}
+            )
+        lines += [f"{name}: {json.dumps(value, ensure_ascii=False)}" for name, value in station.items()]
+    return lines
+
+
+def text_of(page: str) -> List[str]:
+    """The words of a page, a line per row of a table or paragraph."""
+    body = re.sub(r"<(script|style)\b.*?</\1>|<!--.*?-->", "", page, flags=re.S)
+    lines = re.split(r"</?(?:p|tr|h\d|li|table|section|summary|details|div)\b[^>]*>", body)
+    return [line for line in (" ".join(re.sub(r"<[^>]*>", " ", one).split()) for one in lines) if line]
+
+
+def shown(words: List[str]) -> List[str]:
+    """What a command says."""
+    if words[0] == "sql":
+        return ["|".join(str(cell) for cell in row) for row in sqlite3.connect(words[1]).execute(words[2])]
+    if words[0] == "cat":
+        return Path(words[1]).read_text().splitlines()
+    if words[0] == "text":
+        return text_of(Path(words[1]).read_text())
+    with mock.patch("rds_monitor.watch.asked.time.time", lambda: END):
+        done = run(*words[1:])
+    is_page = done.out.startswith("<!")
+    lines = [*text_of(done.out), *data_of(done.out)] if is_page else done.out.splitlines()
+    return [
+        *lines,
+        *(f"! {line}" for line in done.err.splitlines()),
+        *[f"status {done.status}"] * (done.status > 0),
+    ]
+
+
+def ran(command: str) -> List[str]:
+    for name, words in CLOCKS.items():
+        command = command.replace(name, words)
+    return shown(shlex.split(command))
+
+
+@pytest.mark.parametrize("name", sorted(path.name for path in TEXTS.iterdir()))
+def test_all_that_is_said(name: str, folder: Path, request: pytest.FixtureRequest) -> None:
+    if name.startswith("watch"):
+        request.getfixturevalue("watched")
+    golden = (TEXTS / name).read_text().splitlines()
+    found = [line for told in golden if told.startswith("$ ") for line in (told, *ran(told[2:]))]
+    if os.environ.get("RICH") == "write":
+        (TEXTS / name).write_text("".join(f"{line}\n" for line in found))
+    assert found == golden
+
+
+# ---- beside what was sent
+
+
+def table(name: str, number: int = 0) -> List[Dict[str, str]]:
+    """The CSV of the command of this number in a golden text."""
+    return list(csv.DictReader((TEXTS / f"{name}.txt").read_text().split("$ ")[number + 1].splitlines()[1:]))
+
+
+def whole(rows: List[Dict[str, str]], *names: str) -> List[Tuple[int, ...]]:
+    return [tuple(int(row[name]) for name in names) for row in rows]
+
+
+COUNTS = ("valid", "corrected", "lost")
+
+
+@pytest.mark.parametrize("number, of, seconds", [(0, ONE, 60), (2, TWO, 60)])
+def test_blocks_by_minute(number: int, of: rich.Recording, seconds: float) -> None:
+    rows = table("errors", number)
+    assert whole(rows, *COUNTS) == [tuple(one.get(name, 0) for name in COUNTS) for one in of.counts(seconds)]
+    sent = 0
+    for row, end in zip(rows, [seconds * (k + 1) * rich.RATE for k in range(len(rows) - 1)] + [of.length]):
+        sent += int(row["sent"])
+        assert abs(sent - end / rich.BLOCK) <= 1
+        assert int(row["sent"]) == sum(int(row[name]) for name in (*COUNTS, "no_sync"))
+
+
+def test_a_watch_judges_as_its_listing_does(tmp_path: Path) -> None:
+    """At the end of its first minute, which is the end of a block and no hour's."""
+    alpha = OnAir(ONE)
+    block = next(begin for begin in ONE.begins() if begin > 100 * rich.RATE)
+    first = next(
+        byte for byte in range(alpha.at(40), len(ONE.bits())) if (8 * byte + 71250 - block) % 26 == 0
+    )
+    net = Network(tmp_path, TABLE, {"a": alpha, "n": SharedAir({97_300_000: alpha})}, None, decoder_of()[0])
+    net.times.pass_by((8 * first + 1) / rich.RATE - 1)
+    net.run(75)
+    data = ONE.bits()[first : first + 8907]
+    (tmp_path / "it.csv").write_bytes(rds("list", "--bits", 71250, data=data))
+    with mock.patch("rds_monitor.watch.asked.time.time", lambda: net.times.utc):
+        there = run("check", "--station", "Alpha", tmp_path / "watch.db")
+    alone = run("check", "--length", 71250, tmp_path / "it.csv")
+    found = [re.findall(r"(valid|corrected)=([\d.]+)%", done.out) for done in (there, alone)]
+    assert found[0] == found[1] and found[0][0] != ("valid", "100.00")
+    net.end()
+
+
+def test_seconds_of_the_page(folder: Path) -> None:
+    """The page's script has them as numbers of a byte each."""
+    page = output("report", *CLOCKS["@one"].split())
+    found = re.search(r'<script type="application/json" id="data">(.*?)</script>', page, re.S)
+    assert found
+    (part,) = json.loads(found[1])[0]["parts"]
+    read = {name: list(base64.b64decode(part[name])) for name in ("sent", "corrected", "lost", "missing")}
+    valid = [sent - sum(others) for sent, *others in zip(*read.values())]
+    wanted = ONE.counts(1)
+    assert valid == [one.get("valid", 0) for one in wanted]
+    assert read["corrected"] == [one.get("corrected", 0) for one in wanted]
+    assert read["lost"] == [one.get("lost", 0) for one in wanted]
+
+
+def test_corrections() -> None:
+    """Each block by its group, with the bits that were wrong."""
+    begins = list(ONE.begins())
+    wanted = []
+    for number, block, count, first in ONE.damages:
+        if count < rich.LOST:
+            mask = 1 << 25 - first | 1 << 26 - first - count
+            wanted.append((begins[number], block + 1, f"{mask:07X}", count))
+    rows = table("corrected")
+    found = [(int(row["bit"]), int(row["block"]), row["burst"], int(row["burst_length"])) for row in rows]
+    assert found == wanted
+    words = {begins[n] + 26 * k: word for n, words in enumerate(ONE.groups) for k, word in enumerate(words)}
+    assert [int(row["word"], 16) for row in rows] == [
+        words[int(row["bit"]) + 26 * (int(row["block"]) - 1)] for row in rows
+    ]
+
+
+@pytest.mark.parametrize("number, of, least", [(0, ONE, 1.0), (2, TWO, 0.5)])
+def test_outages_are_those_sent(number: int, of: rich.Recording, least: float) -> None:
+    """From the end of the last valid block to the second one after, by which sync is acquired."""
+    valid = [place for place, outcome in of.heard() if outcome == "valid"]
+    gaps = [(one + 26, two) for one, two in zip(valid, [*valid[1:], of.length])]
+    wanted = [gap for gap in gaps if gap[1] - gap[0] >= least * rich.RATE]
+    assert whole(table("outages", number), "begin_bit", "end_bit") == wanted
+
+
+def test_types_are_those_sent() -> None:
+    """Groups whose block 2 is known, by whether it was corrected."""
+    begins, outcomes = list(ONE.begins()), dict(ONE.heard())
+    wanted: "Counter[Tuple[str, str, bool]]" = Counter()
+    for begin, (_, second, *_) in zip(begins, ONE.groups):
+        outcome = outcomes.get(begin + 26, "lost")
+        if outcome != "lost":
+            wanted[str(second >> 12), "AB"[second >> 11 & 1], outcome == "corrected"] += 1
+    found: "Counter[Tuple[str, str, bool]]" = Counter()
+    for row in table("types"):
+        if row["type"] != "-":
+            found[row["type"], row["version"], False] += int(row["groups"])
+            found[row["type"], row["version"], True] += int(row["corrected"])
+    assert +found == +wanted and len({key[:2] for key in wanted}) == 32
+
+
+def test_programmes_are_those_sent() -> None:
+    begins = list(ONE.begins())
+    ours = [number for number, group in enumerate(ONE.groups) if group[0] == rich.OTHER_PI]
+    first, after = begins[ours[0]], begins[ours[-1] + 1]
+    rows = table("programmes")
+    assert [row["pi"] for row in rows] == ["D318", "D4A9", "D318"]
+    ends = whole(rows, "begin_bit", "end_bit")
+    assert ends[1] == (first, after) and ends[0][1] == first and ends[2][0] == after
+    assert int(rows[1]["groups"]) == len(ours)
+
+
+def test_the_clock_is_the_one_sent() -> None:
+    """By the ends of the groups of clock time: the rate by least squares, and a step of 1.7 seconds."""
+    ticks = []
+    for begin, (_, second, third, fourth) in zip(ONE.begins(), ONE.groups):
+        if second >> 11 == 4 << 1:
+            days = (second & 3) << 15 | third >> 1
+            ticks.append(
+                (
+                    begin + 104,
+                    (days - 40587) * 86400
+                    + ((third & 1) << 4 | fourth >> 12) * 3600
+                    + (fourth >> 6 & 63) * 60,
+                )
+            )
+    parts = [numpy.array(part, float) for part in (ticks[:11], ticks[11:])]
+    centred = numpy.concatenate([part - part.mean(0) for part in parts])
+    rate = float(centred[:, 0] @ centred[:, 1] / (centred[:, 1] @ centred[:, 1]))
+    (row,) = table("clock")
+    assert (row["groups"], row["stretches"]) == ("14", "2") and row["rate"] == f"{rate:.6f}"
+    (step,) = table("clock", 2)
+    (before, then), (bit, time) = ticks[10], ticks[11]
+    assert (int(step["bit"]), step["utc"]) == (bit, utc_text(time))
+    assert float(step["step_s"]) == pytest.approx(time - then - (bit - before) / rate, abs=0.001)
+
+
+def test_nothing_is_left_out() -> None:
+    """No count is another, so that two swapped columns are seen; and each alarm comes."""
+    sums = Counter[str]()
+    for _, outcome in ONE.heard():
+        sums[outcome] += 1
+    by_length = Counter(one.bits for one in ONE.damages)
+    assert len({*sums.values()}) == 3 and len({*by_length.values()}) == 6
+    begun = re.findall(r"^(?:.*: )?alarm (\w+) begins", (TEXTS / "watch_database.txt").read_text(), re.M)
+    assert {*begun} == {*NAMES}

@@ -1,0 +1,179 @@
+"""Symbols for soft decisions, as `rds-monitor demod --soft` writes them."""
+
+from __future__ import annotations
+
+import json
+import math
+from pathlib import Path
+from typing import Callable, Dict, List
+
+import numpy
+import pytest
+from captures import Sent, alone, captured
+from conftest import encode, monitor
+from measure_demod import bits_of
+from modulator import Array, dropped, iq, mpx, stored, words
+
+from rds_monitor.signal.receiver import Capture
+from rds_monitor.signal.soft import SoftSymbols
+
+RATE = 192000
+SENT = encode(words(5, 60))
+
+
+def signed(data: Array) -> Array:
+    return data.view("i1").astype(int)
+
+
+def bits_between(symbols: Array) -> Array:
+    """A bit is 1 if exactly one of the two symbols is above 0."""
+    above = symbols > 0
+    return (above[1:] != above[:-1]).astype("u1")
+
+
+# ---- by a definition
+
+
+def random_symbols(seed: int, count: int) -> Array:
+    """With an amplitude that fades, bursts of noise, and symbols that were lost."""
+    random = numpy.random.default_rng(seed)
+    places = numpy.arange(count)
+    noise = numpy.where(places // 30 % 7 == 3, 1.5, 0.4)
+    values = random.standard_normal((count, 2)) @ numpy.array([1, 1j]) * noise
+    values += (2 * random.integers(0, 2, count) - 1) * (1.2 + numpy.cos(places / 200))
+    values[300:340] = values[random.integers(0, count, count // 60)] = 0
+    return values
+
+
+def stated(symbols: Array) -> List[int]:
+    """The amplitude is that of 32 segments of eight symbols on both sides, the noise the larger one of 8 and of 2."""
+    found: List[int] = []
+
+    def mean(middle: int, reach: int, of: Callable[[complex], float]) -> float:
+        near = symbols[max(0, 8 * (middle - reach)) : 8 * (middle + reach + 1)].tolist()
+        squares = [of(value) ** 2 for value in near if value != 0]
+        return math.fsum(squares) / max(1, len(squares))
+
+    for number, value in enumerate(symbols.tolist()):
+        own = number // 8
+        power = mean(own, 32, lambda one: one.real) - mean(own, 32, lambda one: one.imag)
+        noise = max(mean(own, reach, lambda one: one.imag) for reach in (8, 2))
+        size = min(127, max(1, int(16 * 2 * math.sqrt(max(0.0, power)) * abs(value.real) / noise)))
+        found.append(0 if value == 0 else size if value.real > 0 else -size)
+    return found
+
+
+@pytest.mark.parametrize("count", [1, 7, 8, 300, 1500, 1505])
+def test_symbols_by_the_definition(count: int) -> None:
+    symbols, maker = random_symbols(count, count), SoftSymbols()
+    found = signed(numpy.concatenate([maker.push(symbols), maker.finish()])).tolist()
+    assert found == stated(symbols)
+    assert count < 1000 or {-127, -1, 0, 1, 127} < {*found} and -128 not in found
+
+
+@pytest.mark.parametrize("size", [1, 8, 99])
+def test_symbols_in_parts(size: int) -> None:
+    symbols, whole, maker = random_symbols(2, 1200), SoftSymbols(), SoftSymbols()
+    parts = [maker.push(symbols[at : at + size]) for at in range(0, symbols.size, size)]
+    assert sum(map(len, parts)) >= 1200 - 33 * 8
+    expected = numpy.concatenate([whole.push(symbols), whole.finish()])
+    assert (numpy.concatenate([*parts, maker.finish()]) == expected).all()
+
+
+@pytest.mark.parametrize("scale", [1e-9, 1.0, 1e9])
+def test_they_are_as_sure_as_they_are_right(scale: float) -> None:
+    """A sign of c is wrong at most once in 1 + exp(c / 16), at any level; the larger mean of noise makes this less."""
+    random, count = numpy.random.default_rng(4), 200_000
+    sent = 2 * random.integers(0, 2, count) - 1
+    heard, maker = sent + random.standard_normal((count, 2)) @ numpy.array([1, 1j]), SoftSymbols()
+    found = signed(numpy.concatenate([maker.push(scale * heard), maker.finish()]))
+    for low in range(1, 60, 10):
+        some = (abs(found) >= low) & (abs(found) < low + 10)
+        wrong = (numpy.sign(found) != sent)[some].mean()
+        assert 0.5 < wrong * (1 + math.exp((low + 5) / 16)) < 1.02
+
+
+@pytest.mark.parametrize(
+    "symbols", [numpy.zeros(900, complex), numpy.full(900, 1e-300 + 0j), numpy.ones(900, complex)]
+)
+def test_symbols_without_noise(symbols: Array) -> None:
+    maker = SoftSymbols()
+    found = signed(numpy.concatenate([maker.push(symbols), maker.finish()]))
+    assert (found == (127 if symbols[0] == 1 else symbols[0].real > 0)).all()
+
+
+# ---- of a signal
+
+
+SIGNALS: Dict[str, Array] = {
+    "strong": mpx(SENT, RATE, snr=20),
+    "weak": mpx(SENT, RATE, snr=-3),
+    "dropped": dropped(mpx(SENT, RATE, snr=2), 500, RATE),
+    "jumps": mpx(SENT, RATE, snr=10, jump=30),
+    "echo": iq(mpx(SENT, RATE, snr=60), RATE, [(10, 0.7, 0, 2)], 20),
+}
+
+
+@pytest.mark.parametrize("name", SIGNALS)
+def test_the_bits_of_symbols_are_those_of_demod(name: str) -> None:
+    signal = SIGNALS[name]
+    options = RATE, numpy.iscomplexobj(signal), 1.0, [0.0], [0.0] if name == "echo" else []
+    (bits,), (symbols,) = (bits_of(Capture(*options, soft), signal) for soft in (False, True))
+    found = signed(symbols)
+    assert (bits_between(found) == bits).all() and found.size == bits.size + 1 > 5900
+    # Nearly all of a strong signal's symbols are at the top, of either sign.
+    assert {-127, 127} <= {*found.tolist()} and (name != "strong" or (abs(found) == 127).mean() > 0.999)
+
+
+def test_lost_symbols_are_erasures() -> None:
+    """Of 61,234 samples that were dropped, the symbols that are not whole groups."""
+    signal = SIGNALS["strong"]
+    signal = numpy.concatenate([signal[:400_000], signal[461_234:]])
+    found = signed(bits_of(Capture(RATE, soft=True), signal)[0])
+    lost = numpy.flatnonzero(found == 0)
+    assert lost.size == round(61_234 / RATE * 1187.5) % 104 and lost[-1] - lost[0] == lost.size - 1
+
+
+# ---- the command
+
+S16 = ("--raw", "s16", "--rate", RATE)
+
+
+def test_the_command() -> None:
+    data = stored(SIGNALS["weak"], "s16")
+    bits = numpy.frombuffer(monitor("demod", *S16, "--unpacked", data=data).stdout, "u1")
+    done = monitor("demod", *S16, "--soft", "--json", data=data)
+    symbols = signed(numpy.frombuffer(done.stdout, "u1"))
+    assert (bits_between(symbols) == bits).all() and 5 < abs(symbols).mean() < 120
+    assert json.loads(done.stderr)["symbols"] == symbols.size and b"bits" not in done.stderr
+    done = monitor("demod", *S16, "--soft", "--unpacked", data=data)
+    assert done.returncode == 2 and b"--soft and --unpacked contradict each other" in done.stderr
+
+
+def test_symbols_of_stations(tmp_path: Path) -> None:
+    """Of each a file, or lines of JSON."""
+    offsets, rate = (-200e3, 150e3), 600000
+    sent = [Sent(offset, encode(words(number, 40))) for number, offset in enumerate(offsets)]
+    signals = [alone(one, 3.0, number) for number, one in enumerate(sent)]
+    data = stored(captured(sent, rate, 3.0, -40, signals), "s16")
+    command = (
+        "demod",
+        "--raw",
+        "s16",
+        "--rate",
+        rate,
+        "--stations",
+        "--centre",
+        "98M",
+        "--at",
+        "97.8M,98.15M",
+    )
+    assert monitor(*command, "--soft", "--output", tmp_path, data=data).returncode == 0
+    lines = [json.loads(line) for line in monitor(*command, "--soft", data=data).stdout.splitlines()]
+    assert monitor(*command, "--unpacked", "--output", tmp_path, data=data).returncode == 0
+    for name in ("97.8M", "98.15M"):
+        own = [line["symbols"] for line in lines if line["frequency"] == float(name[:-1]) * 1e6]
+        symbols = (tmp_path / f"{name}.soft").read_bytes()
+        assert bytes.fromhex("".join(own)) == symbols and len(symbols) > 3000
+        bits = numpy.fromfile(tmp_path / f"{name}.bin", "u1")
+        assert (bits_between(signed(numpy.frombuffer(symbols, "u1"))) == bits).all()
