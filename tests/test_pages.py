@@ -63,6 +63,9 @@ def span_in(text: str) -> tuple[int, int] | None:
     return (int(found[1]), int(found[2])) if found else None
 
 
+OF_HELP = r"\[default: (\d+)\]"
+
+
 def default_in(pattern: str, text: str) -> str | None:
     found = re.search(pattern, text)
     return found[1] if found else None
@@ -77,9 +80,12 @@ class Program:
     def __init__(self, rds: str) -> None:
         text = said(rds, "--help")
         named = re.findall(r"^  ([a-z]+)  ", between(text, "Commands:", "Options:"), re.M)
-        helps = {command: said(rds, command, "--help") + "\n\n" for command in {*named} - {"help"}}
+        helps = {command: said(rds, command, "--help") + "\n\n" for command in named if command != "help"}
         self.options = {command: self.options_in(text) for command, text in helps.items()}
-        self.every_option = {name: text for named in self.options.values() for name, text in named.items()}
+        # of the first command that has it
+        self.every_option = {
+            name: text for named in reversed(self.options.values()) for name, text in named.items()
+        }
         self.refusals = set(re.findall(r"^ +(\d+) ([A-Z]\w+) ", text, re.M))
         self.rows = set(re.findall(r"^  ([a-z]+),[A-Z]+,?", helps["list"], re.M))
         self.totals = set(re.findall(r"^total,(\w+),", said(rds, "totals"), re.M))
@@ -170,9 +176,16 @@ def test_options(program: Program, faults: Faults) -> None:
 
 def test_values_of_options(program: Program, faults: Faults) -> None:
     manual = Manual()
-    for name, _, values in Using().table:
+    for name, commands, values in Using().table:
         text, entry = program.every_option.get(name, ""), manual.said.get(name, "")
-        default = default_in(r"\[default: (\d+)\]", text)
+        default = default_in(OF_HELP, text)
+        for command in re.findall(r"`(\w+)`", commands):
+            own = default_in(OF_HELP, program.options[command].get(name, ""))
+            if own != default:
+                of = f"default of {command} --{name}"
+                faults.same(f"docs/USING.md, {of}", own, default_in(rf"`{command}` (\d+)", values))
+                told = without_macros(manual.entries.get(name, ""))
+                faults.same(f"rds.1, {of}", own, default_in(rf"default of {command} is (\d+)", told))
         faults.same(f"docs/USING.md, default of --{name}", default, default_in(r"default (\d+)", values))
         faults.same(f"rds.1, default of --{name}", default, default_in(r"default (\d+)", entry))
         # the values of --share depend on another option, and are told in words

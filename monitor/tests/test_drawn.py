@@ -180,11 +180,20 @@ ZOOMS = {
     "days": ["", "in in in left", "hour left left left"],
 }
 NARROW = {"width": 300, "height": 740, "deviceScaleFactor": 1, "mobile": False}
+# Called after the page's own listener, which was there first.
+NOTE_WIDTH = 'addEventListener("resize", () => { document.body.dataset.width = innerWidth; });'
 
 
 def press(driver: Any, buttons: str) -> None:
     for button in buttons.split():
         driver.execute_script(f'document.querySelector("[data-zoom={button}]").click()')
+
+
+def wait_until(driver: Any, told: str) -> None:
+    """Until a script says true: the browser draws anew at its next frame."""
+    from selenium.webdriver.support.wait import WebDriverWait
+
+    WebDriverWait(driver, 60, 0.05).until(lambda given: given.execute_script(told))
 
 
 @pytest.mark.parametrize("name", ZOOMS)
@@ -198,8 +207,10 @@ def test_charts(driver: Any, pages: Path, name: str) -> None:
             view = geometry.whole(data, view.width) if button == "whole" else view.after(button)
         press(driver, buttons)
         compare(driver.execute_script(LOOK), view)
+    driver.execute_script(NOTE_WIDTH)
     driver.execute_cdp_cmd("Emulation.setDeviceMetricsOverride", NARROW)
     try:
+        wait_until(driver, 'return document.body.dataset.width === "300"')
         compare(driver.execute_script(LOOK), view._replace(width=320))
     finally:
         driver.execute_cdp_cmd("Emulation.clearDeviceMetricsOverride", {})
