@@ -11,7 +11,9 @@ from typing import Dict, Iterator, List, NamedTuple, Sequence, Tuple
 
 import numpy
 
+from captures import Sent, captured
 from conftest import encode
+from modulator import mpx, stored, wav
 from network import START
 from sent import Words, clock, eon, eon_name, group, label, name, oda, segments, tags, text, type_name
 
@@ -217,3 +219,58 @@ def two() -> Recording:
     groups += [oda(0xCD46, "8A", 0x0079), *programme(1300, AF_B, RT_B, 12, b"RICH 2", tp=0, pty=15)]
     found = Recording("two", START + 334751.125, 5, groups, damages(300, 2, 1, 0, 0, 0, 3), [], 14300)
     return with_clock(found, 4, [-0.6, -0.6])
+
+
+# ---- what other commands take: signals, texts of groups, and bits of RBDS
+
+MPX_RATE, IQ_RATE, IQ_SECONDS, CENTRE = 171000, 600000, 1.6, 98e6
+# Of the MPX: the ratio of signal to noise in dB, and what carrier and bit clock are off, in Hz and parts in a million.
+SNR, CARRIER, CLOCK = 20, 12, 50
+# Blocks E after each group, and the lines of a text that are no groups.
+BLOCKS_E, NO_GROUPS = 5, {3: "D318 0548 E0CD", 17: "none"}
+
+
+class Station(NamedTuple):
+    """Of a capture: its offset from the centre in Hz, its level in dB, and its groups."""
+
+    offset: int
+    level: float
+    groups: Sequence[Words]
+
+
+def stations() -> List[Station]:
+    """Both send PS, the second one another PI."""
+    groups = one().groups
+    other = next(number for number, words in enumerate(groups) if words[0] == OTHER_PI)
+    return [Station(150000, 0, groups[100:119]), Station(-150000, -10, groups[other : other + 20])]
+
+
+def mpx_file(groups: Sequence[Words]) -> bytes:
+    """A WAV file, whose second channel is the MPX."""
+    signal = mpx(encode(groups), MPX_RATE, SNR, carrier_offset=CARRIER, clock_offset=CLOCK)
+    both = numpy.column_stack([numpy.zeros_like(signal), signal]).ravel()
+    return wav(stored(both, "s16"), "s16", MPX_RATE, channels=2)
+
+
+def capture_file() -> bytes:
+    """The stations, as IQ in a WAV file."""
+    sent = [Sent(one.offset, encode(one.groups), one.level) for one in stations()]
+    return wav(stored(captured(sent, IQ_RATE, IQ_SECONDS, -60), "s16"), "s16", IQ_RATE, channels=2)
+
+
+def group_text(groups: Sequence[Words]) -> str:
+    lines = ["%04X %04X %04X %04X" % words for words in groups]
+    for number, line in NO_GROUPS.items():
+        lines.insert(number - 1, line)
+    return "".join(f"{line}\n" for line in lines)
+
+
+def with_blocks_e(groups: Sequence[Words]) -> bytes:
+    """Groups, after each of which its words follow again in blocks without an offset word."""
+    bits = ""
+    for words in groups:
+        bits += f"{int.from_bytes(encode([words]), 'big'):0{GROUP}b}"
+        for word in (*words, *words)[:BLOCKS_E]:
+            block = int.from_bytes(encode([(word, 0, 0, 0)]), "big") >> 3 * BLOCK
+            bits += f"{block ^ 0xFC:0{BLOCK}b}"
+    return int(bits, 2).to_bytes(len(bits) // 8, "big")

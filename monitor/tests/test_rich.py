@@ -13,6 +13,7 @@ import json
 import os
 import re
 import shlex
+import shutil
 import sqlite3
 from collections import Counter
 from pathlib import Path
@@ -22,8 +23,9 @@ from unittest import mock
 import numpy
 import pytest
 
+import modulator
 import rich
-from conftest import rds
+from conftest import encode, rds
 from made import output, run
 from network import START, Network, Plan, SharedAir, no_space
 from rds_monitor.rows.clock import utc_text
@@ -35,6 +37,8 @@ from rds_monitor.watch.alarms import NAMES
 END = START + 825
 TEXTS = Path(__file__).parent / "rich"
 ONE, TWO = rich.one(), rich.two()
+# The groups of the signal, and of what `why` looks at.
+HEARD = ONE.groups[:32]
 CLOCKS = {
     f"@{of.name}": f"--start {utc_text(of.start)} --rate {rich.RATE} {of.name}.bin" for of in (ONE, TWO)
 }
@@ -101,6 +105,28 @@ class OnAir:
         return self._data[first:after]
 
 
+def recordings() -> None:
+    """The files of `batch`, in a folder of their own."""
+    Path("recordings").mkdir()
+    for name in ("one.bin", "two.bin", "one.hex", "odd.hex"):
+        Path("recordings", name).symlink_to(Path(name).resolve())
+    Path("recordings/zeros.bin").write_bytes(bytes(3000))
+
+
+def for_why() -> None:
+    Path("groups.text").write_text(rich.group_text(HEARD))
+    Path("rbds.bin").write_bytes(rich.with_blocks_e(HEARD))
+
+
+# What a text needs beside the two recordings.
+MAKERS = {
+    "batch.txt": recordings,
+    "demod.txt": lambda: Path("mpx.wav").write_bytes(rich.mpx_file(HEARD)),
+    "stations.txt": lambda: Path("capture.wav").write_bytes(rich.capture_file()),
+    "why.txt": for_why,
+}
+
+
 @pytest.fixture(scope="module")
 def folder(tmp_path_factory: pytest.TempPathFactory) -> Iterator[Path]:
     """The recordings, a listing of both as of a stream that was restarted, and a database of both."""
@@ -115,6 +141,7 @@ def folder(tmp_path_factory: pytest.TempPathFactory) -> Iterator[Path]:
     Path("one.hex").write_text(ONE.bits()[:20000].hex())
     Path("one.text").write_text("".join(f"{byte:08b}" for byte in ONE.bits()[:20000]))
     Path("watch.toml").write_text(TABLE)
+    Path("odd.hex").write_text("0" * 333)
     yield path
     os.chdir(before)
 
@@ -170,12 +197,19 @@ def shown(words: List[str]) -> List[str]:
         return ["|".join(str(cell) for cell in row) for row in sqlite3.connect(words[1]).execute(words[2])]
     if words[0] == "cat":
         return Path(words[1]).read_text().splitlines()
+    if words[0] == "totals":
+        return [line for line in Path(words[1]).read_text().splitlines() if line.startswith("total,")]
     if words[0] == "text":
         return text_of(Path(words[1]).read_text())
+    data = b""
+    if words[-2:-1] == ["<"]:
+        *words, _, file = words
+        data = Path(file).read_bytes()
     with mock.patch("rds_monitor.watch.asked.time.time", lambda: END):
-        done = run(*words[1:])
-    is_page = done.out.startswith("<!")
-    lines = [*text_of(done.out), *data_of(done.out)] if is_page else done.out.splitlines()
+        done = run(*words[1:], data=data)
+    lines = done.out.splitlines()
+    if done.out.startswith("<!"):
+        lines = [*text_of(done.out), *(data_of(done.out) if 'id="data"' in done.out else [])]
     return [
         *lines,
         *(f"! {line}" for line in done.err.splitlines()),
@@ -193,6 +227,9 @@ def ran(command: str) -> List[str]:
 def test_all_that_is_said(name: str, folder: Path, request: pytest.FixtureRequest) -> None:
     if name.startswith("watch"):
         request.getfixturevalue("watched")
+    if name == "batch.txt" and not shutil.which("parallel"):
+        pytest.skip("GNU parallel is not installed")
+    MAKERS.get(name, list)()
     golden = (TEXTS / name).read_text().splitlines()
     found = [line for told in golden if told.startswith("$ ") for line in (told, *ran(told[2:]))]
     if os.environ.get("RICH") == "write":
@@ -336,6 +373,90 @@ def test_the_clock_is_the_one_sent() -> None:
     (before, then), (bit, time) = ticks[10], ticks[11]
     assert (int(step["bit"]), step["utc"]) == (bit, utc_text(time))
     assert float(step["step_s"]) == pytest.approx(time - then - (bit - before) / rate, abs=0.001)
+
+
+def totals_of(of: rich.Recording) -> Dict[str, int]:
+    """What `rds list` counts at its end, from what was sent: a group is four blocks from the start of its stretch on."""
+    heard, begins = of.heard(), [*of.begins()]
+    starts = [of.zeros, *(begins[outage.group] for outage in of.outages)]
+    groups: Dict[int, List[str]] = {}
+    for place, outcome in heard:
+        start = max(start for start in starts if start <= place)
+        groups.setdefault(start + (place - start) // 104 * 104, []).append(outcome)
+    places = {place for place, _ in heard}
+    acquired = [place for place in places if place - rich.BLOCK not in places]
+    bits = [one.bits for one in of.damages if one.bits <= 2]
+    outcomes = Counter(outcome for _, outcome in heard)
+    return {
+        "valid": outcomes["valid"],
+        **{f"burst{length}": bits.count(length) for length in range(1, 6)},
+        "lost": outcomes["lost"],
+        "bits": sum(bits),
+        "groups": len(groups),
+        "complete": sum(len(one) == 4 and "lost" not in one for one in groups.values()),
+        "acquired": len(acquired),
+        "losses": len(acquired) - (of.end < 260),
+    }
+
+
+@pytest.mark.parametrize("number, of", [(1, ONE), (2, TWO)])
+def test_totals_are_those_sent(number: int, of: rich.Recording) -> None:
+    part = (TEXTS / "batch.txt").read_text().split("$ ")[number + 1]
+    assert [line.split(",")[1:3] for line in part.splitlines()[1:]] == [
+        [name, str(count)] for name, count in totals_of(of).items()
+    ]
+
+
+def test_faults_are_where_they_were_put() -> None:
+    told = (TEXTS / "why.txt").read_text()
+    assert f"the input holds {ONE.length} bits" in told and f"recording, {ONE.length} bits" in told
+    text = rich.group_text(HEARD)
+    byte = text.index("none") + 1
+    assert f"byte {byte} (line 17, column 1) is 0x6E," in told
+    assert [f"line {number}: {line}" for number, line in rich.NO_GROUPS.items()] == re.findall(
+        "^line .*", told, re.M
+    )
+    # A block of zeros is none, so that less than four in a row are left of a group with a 0.
+    whole = [words for words in HEARD if 0 not in words]
+    bits = len(HEARD) * (rich.GROUP + rich.BLOCK * rich.BLOCKS_E)
+    assert f"{rich.BLOCKS_E * len(whole)} of the blocks in the first {bits} bits have" in told
+
+
+def received(name: str, number: int) -> List[Tuple[int, ...]]:
+    """The whole groups of the command of this number in a golden text."""
+    lines = (TEXTS / f"{name}.txt").read_text().split("$ ")[number + 1].splitlines()[1:]
+    return [tuple(int(word, 16) for word in line.split()[:4]) for line in lines if "-" not in line]
+
+
+def test_signals_have_the_groups_sent() -> None:
+    """All but the first, which acquires sync, and of a capture the last one, whose bits are cut off."""
+    assert received("demod", 1) == [*HEARD[1:]]
+    one, other = rich.stations()
+    assert received("stations", 4) == received("stations", 7) == [*other.groups[1:18]]
+    (line,) = re.findall(r'"bits":"(\w+)"', (TEXTS / "stations.txt").read_text())
+    sent, found = (
+        "".join(f"{byte:08b}" for byte in data) for data in (encode(one.groups[:17])[1:], bytes.fromhex(line))
+    )
+    assert sent in found
+
+
+@pytest.mark.parametrize("name, number", [("demod", 2), ("stations", 3)])
+def test_signals_are_measured_as_they_were_made(name: str, number: int) -> None:
+    """Of the capture's stations the noise is that of FM, so it is not known."""
+    part = (TEXTS / f"{name}.txt").read_text().split("$ ")[number + 1]
+    for line in re.findall(r"^! ({.*)", part, re.M):
+        told = json.loads(line)
+        level = 20 * numpy.log10(modulator.RDS_LEVEL / modulator.PILOT_LEVEL)
+        assert told["rds_to_pilot_db"] == pytest.approx(level, abs=0.2)
+        if name == "demod":
+            assert told["seconds"] == pytest.approx(len(HEARD) * 104 / 1187.5, abs=0.06)
+            assert told["snr_db"] == pytest.approx(rich.SNR, abs=0.3)
+            assert told["carrier_offset_hz"] == pytest.approx(rich.CARRIER, abs=0.1)
+            assert told["clock_offset_ppm"] == pytest.approx(rich.CLOCK, abs=3)
+        else:
+            (sent,) = [one for one in rich.stations() if one.offset + rich.CENTRE == told["frequency"]]
+            assert told["level_dbfs"] == pytest.approx(sent.level + 20 * numpy.log10(1 / 3), abs=0.2)
+            assert told["rds_khz"] == pytest.approx(75 * modulator.RDS_LEVEL, abs=0.05)
 
 
 def test_nothing_is_left_out() -> None:
