@@ -297,6 +297,47 @@ def test_seconds_of_the_page(folder: Path) -> None:
     assert read["lost"] == [one.get("lost", 0) for one in wanted]
 
 
+def by_minutes(counted: List[Dict[str, int]], minutes: int) -> List[Dict[str, int]]:
+    """The sums of counts by second, or by minute."""
+    parts = (counted[k : k + minutes] for k in range(0, len(counted), minutes))
+    return [dict(sum((Counter(one) for one in part), Counter[str]())) for part in parts]
+
+
+def counts_of(part: Dict[str, str]) -> List[Dict[str, int]]:
+    """Of a page, by interval."""
+    kind = f"<u{part['bytes']}"
+    columns = {name: numpy.frombuffer(base64.b64decode(part[name]), kind).tolist() for name in PARTS}
+    return [dict(zip(columns, row)) for row in zip(*columns.values())]
+
+
+PARTS = ("sent", "corrected", "lost", "missing")
+
+
+@pytest.mark.parametrize("of", [ONE, TWO], ids=["one", "two"])
+def test_the_page_of_a_database_is_that_of_its_recording(of: rich.Recording, folder: Path) -> None:
+    """From an even minute on: a database has two minutes in place of each second, the time that was watched, and the clock's offset."""
+    clock = ["--start", utc_text(of.start // 120 * 120), "--rate", str(rich.RATE)]
+    path = f"{of.name}-alone.db"
+    output("db", "--station", f"{of.name}.bin", *clock, path, f"{of.name}.bin")
+    pages = output("report", *clock, f"{of.name}.bin"), output("report", path)
+    found = [
+        re.search(r'<script type="application/json" id="data">(.*?)</script>', page, re.S) for page in pages
+    ]
+    recorded, stored = (json.loads(one[1])[0] for one in found if one)
+    ((seconds,), (minutes,)) = (told.pop("parts") for told in (recorded, stored))
+    assert by_minutes(counts_of(seconds), 120) == by_minutes(counts_of(minutes), 1)
+    mixes = [told.pop("mix") for told in (recorded, stored)]
+    assert by_minutes([mix for _, _, mix in mixes[0]], 2) == by_minutes([mix for _, _, mix in mixes[1]], 1)
+    offsets = [[value for _, value in told.pop("clock")] for told in (recorded, stored)]
+    assert numpy.mean(offsets[0][:2]) == pytest.approx(offsets[1][0], abs=0.001)
+    assert recorded["held"].pop("CT")[:4] == "2026" and "from the recording" in stored["held"].pop("CT")
+    available = stored.pop("available")
+    assert recorded.pop("available") is None and round(sum(available.values()), 3) == recorded["end"]
+    assert available["noise"] == pytest.approx(sum(length for *_, length in recorded["outages"]), abs=0.002)
+    assert recorded.pop("tile")["line"] == stored.pop("tile")["line"]
+    assert recorded == stored and len(stored) >= 12
+
+
 def test_corrections() -> None:
     """Each block by its group, with the bits that were wrong."""
     begins = list(ONE.begins())
