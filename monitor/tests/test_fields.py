@@ -127,7 +127,8 @@ def of_codes(name_of: Callable[[int], Optional[str]], count: int) -> List[str]:
     return [f"{code:02X} {name}" for code, name in enumerate(map(name_of, range(count))) if name]
 
 
-NUMBERED = re.compile("CITIBUS|ELECTRABEL")
+NUMBERED = re.compile("(CITIBUS|ELECTRABEL-DSM) ")
+APPLICATIONS = {f"{aid:04X} {name}": bool(NUMBERED.match(name)) for aid, name in names.APPLICATIONS.items()}
 TABLES: Dict[str, List[str]] = {
     "pty": of_codes(names.programme_type, 32),
     "rbds": of_codes(lambda code: names.programme_type(code, True), 32),
@@ -137,9 +138,8 @@ TABLES: Dict[str, List[str]] = {
     "mode": of_codes(names.DAB_MODES.__getitem__, 4),
     "scope": of_codes(names.TMC_SCOPES.__getitem__, 4),
     "channel": [f"{kilohertz} {name}" for kilohertz, name in sorted(names.DAB_CHANNELS.items())],
-    "application": [
-        f"{aid:04X} {name}" for aid, name in names.APPLICATIONS.items() if not NUMBERED.match(name)
-    ],
+    "application": [entry for entry, is_numbered in APPLICATIONS.items() if not is_numbered],
+    "numbered": [entry for entry, is_numbered in APPLICATIONS.items() if is_numbered],
     "rate": [f"{rate / 1000:.7g}" for rate in COMMON],
 }
 
@@ -147,3 +147,11 @@ TABLES: Dict[str, List[str]] = {
 @pytest.mark.parametrize("table", TABLES)
 def test_whole_tables_are_those_of_the_standards(table: str) -> None:
     assert TABLES[table] == [*typed(table)]
+
+
+def test_each_number_of_an_operator_comes_once() -> None:
+    found = sorted(name for name in names.APPLICATIONS.values() if NUMBERED.match(name))
+    wanted = [
+        (name, n) for name, count in (("CITIBUS", 4), ("ELECTRABEL-DSM", 20)) for n in range(1, count + 1)
+    ]
+    assert found == sorted(f"{name} {number}" for name, number in wanted)
