@@ -28,6 +28,7 @@ import rich
 from conftest import encode, rds
 from made import output, run
 from network import START, Network, Plan, SharedAir, no_space
+from rds_monitor.page.stored import Stored
 from rds_monitor.rows.clock import utc_text
 from rds_monitor.rows.decoders import decoder_of
 from rds_monitor.watch import writer
@@ -336,6 +337,11 @@ def test_the_page_of_a_database_is_that_of_its_recording(of: rich.Recording, fol
     assert available["noise"] == pytest.approx(sum(length for *_, length in recorded["outages"]), abs=0.002)
     assert recorded.pop("tile")["line"] == stored.pop("tile")["line"]
     assert recorded == stored and len(stored) >= 12
+
+
+def test_intervals_of_a_database(folder: Path) -> None:
+    """So long that its 17 minutes fit: two minutes, an hour, or a day."""
+    assert [Stored("rich.db").step(most) for most in (9, 8, 1, 0)] == [120, 3600, 3600, 86400]
 
 
 def test_corrections() -> None:
