@@ -259,6 +259,18 @@ def test_an_alarm_outlasts_the_watch() -> None:
     assert judged.texts == ["PI D319; it lasted 116 s"]
 
 
+def test_an_alarm_outlasts_another_table() -> None:
+    """It begins once, and ends by its own time."""
+    judged = Judged('pi = "D318"').seconds(20, pi="D319")
+    (station,) = table_of(
+        stations('name = "Alpha"', 'command = ["a"]', 'pi = "D31A"', "[station.alarms]", "pi = 5")
+    ).stations
+    judged.alarms.set_table(station)
+    judged.seconds(20).seconds(20, pi="D31A")
+    assert [found[:2] for found in judged.found] == [("pi", True), ("pi", False)]
+    assert judged.texts == ["PI D319 in place of D318", "PI D319 in place of D318; it lasted 40 s"]
+
+
 def test_what_is_counted_outlasts_the_watch() -> None:
     """And the receiver: the same text after a restart is no change, and time without contents does not count."""
     limits = ("[station.alarms]", "rt_stuck = 100", "ct = 3")
