@@ -102,6 +102,11 @@ CASES = {
         lambda n: [eon(n, 10 << 8 | 20)],
         {4: None, 5: 89500, 6: 89500, 7: 89500, 8: 89500, **dict.fromkeys((9, 10, 11, 12, 15))},
     ),
+    "EON list with long and medium wave": Mirrored(
+        "eon:D312.af",
+        lambda n: [eon(4, 0xE20A), eon(4, 0xFA00 | n)],
+        {1: [vhf(10), 153], 16: [vhf(10), 531], 0: None, 136: None},
+    ),
     "EON medium wave": Mirrored(
         "eon:D312.mapped:88.5.am",
         lambda n: [eon(9, 10 << 8 | n)],
