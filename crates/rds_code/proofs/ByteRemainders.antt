@@ -1,8 +1,5 @@
 -- The tables of remainders of bytes hold what they say: checked entry by entry, by computation.
-use Rattle.std.proofs.Common.{◌≡◌, ℕ, ◌*◌, ◌^◌, ◌<◌, List, map, refl, ap, ◌∙◌, get_or, arith}
-use Rattle.std.specs.List.{range_with_len}
-use Rattle.std.proofs.lemmas.List.FromFn.{get_or-map-range_with_len}
-use Rattle.rds_code.specs.Remainder.{rem}
+use Rattle.rds_code.proofs.Names.{◌≡◌, ℕ, ◌*◌, ◌^◌, ◌<◌, List, map, refl, ap, ◌∙◌, get_or, arith, range_with_len, get_or-map-range_with_len, rem}
 use Rattle.rds_code.specs.declared.byte_remainders.TheConstants.{MIDDLE, HIGH}
 
 -- the remainders of all bytes, shifted up by k places

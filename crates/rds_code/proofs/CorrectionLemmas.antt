@@ -1,18 +1,5 @@
 -- A damaged block is corrected: the burst that damaged it is the only one that fits.
-use Rattle.std.proofs.Common.{◌≡◌, ◌≢◌, ℕ, ◌≤◌, List, [], ◌∷◌, Bool, cond, refl, sym, ap, ◌∙◌, arith, inl, inr, ◌⊎◌, bit_xor, Option, Some, None, find, eqb, subst, lit<, lit≤}
-use Rattle.std.specs.Int.Bits.{xor_assoc, xor_self, xor_zero_r}
-use Rattle.std.specs.Int.Count.{count_leading_zeros, count_trailing_zeros}
-use Rattle.std.proofs.lemmas.Bool.{cases_Bool, eqb-true}
-use Rattle.rds_code.specs.declared.offset.Offset.{Offset}
-use Rattle.rds_code.specs.declared.offset.Offset.TheVariants.{A, B, C, Cx, D}
-use Rattle.rds_code.specs.declared.reading.Wanted.{Wanted}
-use Rattle.rds_code.specs.declared.reading.Reading.TheVariants.{Valid, Corrected}
-use Rattle.rds_code.specs.Remainder.{rem}
-use Rattle.rds_code.specs.Offsets.{word, number, all_offsets, offset_of}
-use Rattle.rds_code.specs.Bursts.{IsBurst}
-use Rattle.rds_code.specs.Reading.{information, IsValid, wanted_offsets, corrections, by_only, reading}
-use Rattle.rds_code.specs.Encoding.{IsBlockOf}
-use Rattle.rds_code.specs.Correction.{alone, other_third_offset, version_burst, ReadsAsSent, CorrectsBurst, CorrectsThird, TakesOtherVersion}
+use Rattle.rds_code.proofs.Names.{◌≡◌, ◌≢◌, ℕ, ◌≤◌, List, [], ◌∷◌, Bool, cond, refl, sym, ap, ◌∙◌, arith, inl, inr, ◌⊎◌, bit_xor, Option, Some, None, find, eqb, subst, lit<, lit≤, xor_assoc, xor_self, xor_zero_r, count_leading_zeros, count_trailing_zeros, cases_Bool, eqb-true, Offset, A, B, C, Cx, D, Wanted, Valid, Corrected, rem, word, number, all_offsets, offset_of, IsBurst, information, IsValid, wanted_offsets, corrections, by_only, reading, IsBlockOf, alone, other_third_offset, version_burst, ReadsAsSent, CorrectsBurst, CorrectsThird, TakesOtherVersion}
 use Rattle.rds_code.proofs.RemainderLemmas.{rem-xor, twice}
 use Rattle.rds_code.proofs.BurstLemmas.{burst_is_one, rem-burst, longer}
 use Rattle.rds_code.proofs.ReadingLemmas.{one_fits, corrections_one, reads_valid, reads_corrected, only_A, only_B, only_D, third, wanted_1, wanted_2, wanted_4}

@@ -1,21 +1,6 @@
 -- One or two bit errors, and bursts of up to ten bits, leave a remainder that is not 0; and how many words are corrected. The remainders are
 -- checked by computation, pattern by pattern.
-use Rattle.std.proofs.Common.{◌≡◌, ◌≢◌, ℕ, zero, suc, ◌+◌, ◌*◌, ◌/◌, ◌%◌, ◌^◌, ◌<◌, ◌≤◌, List, [], ◌∷◌, length, get_or, Bool, true, false, cond, refl, sym, ap, ◌∙◌, arith, inl, inr, ltb, eqb, subst, pow_mono, bit_xor, lit<, ◌⊎◌, IsTrue}
-use Rattle.std.proofs.Math.Nat.{mul-suc}
-use Rattle.std.specs.List.{AllPairs}
-use Rattle.std.specs.Int.Count.{count_trailing_zeros, ones, ones_step, ones-le}
-use Rattle.std.specs.Int.Bits.{xor_assoc, xor_self, xor_zero_r}
-use Rattle.std.proofs.lemmas.Nat.{xor_lt, pow_pos}
-use Rattle.std.proofs.lemmas.Bool.{cases_eq, cases_lt, lt-ltb, eq-eqb}
-use Rattle.rds_code.specs.declared.offset.Offset.{Offset}
-use Rattle.rds_code.specs.declared.offset.Offset.TheVariants.{A, B, C, Cx, D}
-use Rattle.rds_code.specs.declared.reading.Wanted.TheVariants.{OnlyC, OnlyCx}
-use Rattle.rds_code.specs.Remainder.{rem}
-use Rattle.rds_code.specs.Offsets.{word, number}
-use Rattle.rds_code.specs.Bursts.{burst_length, IsBurst, bursts}
-use Rattle.rds_code.specs.Reading.{information, IsReading, allows, wanted_offsets, corrections, by_only}
-use Rattle.rds_code.specs.Correction.{alone}
-use Rattle.rds_code.specs.Detection.{DetectsBitErrors, DetectsErrorBursts, HasOneWordPerRemainder, CountsAllCorrected, remainders_near, burst_counts}
+use Rattle.rds_code.proofs.Names.{◌≡◌, ◌≢◌, ℕ, zero, suc, ◌+◌, ◌*◌, ◌/◌, ◌%◌, ◌^◌, ◌<◌, ◌≤◌, List, [], ◌∷◌, length, get_or, Bool, true, false, cond, refl, sym, ap, ◌∙◌, arith, inl, inr, ltb, eqb, subst, pow_mono, bit_xor, lit<, ◌⊎◌, mul-suc, AllPairs, count_trailing_zeros, ones, ones_step, ones-le, xor_assoc, xor_self, xor_zero_r, xor_lt, pow_pos, cases_eq, cases_lt, lt-ltb, eq-eqb, Offset, A, B, C, Cx, D, rem, word, number, burst_length, IsBurst, bursts, information, IsReading, wanted_offsets, corrections, by_only, alone, DetectsBitErrors, DetectsErrorBursts, HasOneWordPerRemainder, CountsAllCorrected, remainders_near, burst_counts}
 use Rattle.rds_code.proofs.RemainderLemmas.{rem-xor, rem-lt, twice}
 use Rattle.rds_code.proofs.SpanLemmas.{pattern_of, burst_pattern, at_least, ones-pattern}
 use Rattle.rds_code.proofs.CorrectionLemmas.{became}
@@ -182,13 +167,6 @@ wanted_alone B = (refl, omega arith, omega arith)
 wanted_alone C = (refl, omega arith, omega arith)
 wanted_alone Cx = (refl, omega arith, omega arith)
 wanted_alone D = (refl, omega arith, omega arith)
-
-alone_is : (o p : Offset) → number p ≡ number o → IsTrue (allows (alone o) p) → p ≡ o
-alone_is A p own allowed = only_A p own
-alone_is B p own allowed = only_B p own
-alone_is D p own allowed = only_D p own
-alone_is C p own allowed = elim (third p own) [ inl c ↦ c | inr cx ↦ let no : false ≡ true = subst (λ (q : Offset). IsTrue (allows OnlyC q)) cx allowed in absurd (cc no) ]
-alone_is Cx p own allowed = elim (third p own) [ inl c ↦ let no : false ≡ true = subst (λ (q : Offset). IsTrue (allows OnlyCx q)) c allowed in absurd (cc no) | inr cx ↦ cx ]
 
 -- a burst that turns w into a block of offset o is the sum of the two remainders
 near : (w e : ℕ) (o : Offset) → rem (bit_xor w e) ≡ word o → rem w ≡ bit_xor (word o) (rem e)

@@ -1,9 +1,5 @@
 -- The error masks of n bit errors: that the list of them is exactly they, each once.
-use Rattle.std.proofs.Common.{◌≡◌, ℕ, zero, suc, ◌+◌, ◌-◌, ◌*◌, ◌^◌, ◌<◌, ◌≤◌, [], ◌∷◌, true, false, map, refl, sym, ap, ◌∙◌, arith, inl, inr, lit<}
-use Rattle.std.proofs.Math.Nat.{pow-suc}
-use Rattle.std.specs.Int.Count.{ones, ones_cat, ones-le}
-use Rattle.std.proofs.lemmas.Bool.{cases_eq, cases_lt}
-use Rattle.rds_code.specs.Detection.{error_masks, ListsAllErrorMasks}
+use Rattle.rds_code.proofs.Names.{◌≡◌, ℕ, zero, suc, ◌+◌, ◌-◌, ◌*◌, ◌^◌, ◌<◌, ◌≤◌, [], ◌∷◌, true, false, map, refl, sym, ap, ◌∙◌, arith, inl, inr, lit<, pow-suc, ones, ones_cat, ones-le, cases_eq, cases_lt, error_masks, ListsAllErrorMasks}
 use Rattle.rds_code.proofs.Membership.{is_among, all_differ, among_head, among_tail, among_map, among_left, among_right, among_either, among_contains, contains_among, from_map, differ_map, differ_append, differ_pairs}
 
 one_is : ones 1 ≡ 1

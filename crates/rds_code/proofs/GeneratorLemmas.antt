@@ -1,14 +1,6 @@
 -- Of 512 polynomials only the generator and its mirror have period 341 and tell bursts apart: computed, polynomial by polynomial. The standard's
 -- syndrome and the remainder are linear, so they are compared bit by bit.
-use Rattle.std.proofs.Common.{◌≡◌, ℕ, zero, suc, ◌+◌, ◌-◌, ◌*◌, ◌/◌, ◌%◌, ◌^◌, ◌<◌, List, [], ◌∷◌, Bool, true, false, map, length, refl, sym, ap, ap₂, ◌∙◌, arith, inl, inr, eqb, not, bit_xor, ◌⊎◌}
-use Rattle.std.proofs.Math.Nat.{pow-suc}
-use Rattle.std.specs.Int.{bit_at}
-use Rattle.std.specs.Int.Bits.{xor_self, xor_shifted}
-use Rattle.std.proofs.lemmas.Nat.{xor_shr, xor_mod}
-use Rattle.std.proofs.lemmas.Nat.Bits.{bit_at_xor, bit_at-lt}
-use Rattle.std.proofs.lemmas.Bool.{cases_Bool, cases_lt, eq-eqb, eqb-true}
-use Rattle.rds_code.specs.Remainder.{generator, rem}
-use Rattle.rds_code.specs.Bursts.{bursts}
+use Rattle.rds_code.proofs.Names.{◌≡◌, ℕ, zero, suc, ◌+◌, ◌-◌, ◌*◌, ◌/◌, ◌%◌, ◌^◌, ◌<◌, List, [], ◌∷◌, Bool, true, false, map, length, refl, sym, ap, ap₂, ◌∙◌, arith, inl, inr, eqb, not, bit_xor, ◌⊎◌, pow-suc, bit_at, xor_self, xor_shifted, xor_shr, xor_mod, bit_at_xor, bit_at-lt, cases_Bool, cases_lt, eq-eqb, eqb-true, generator, rem, bursts}
 use Rattle.rds_code.specs.Generator.{times_x, times_power, HasPeriod, remainder_by, TellsApart, mirror, AreGeneratorAndMirror, DividesAlike, parity_rows, syndrome, SyndromesAreRemainders}
 use Rattle.rds_code.proofs.RemainderLemmas.{rem-xor, swap_inner, xor_times}
 use Rattle.rds_code.proofs.Membership.{all_differ, all_below, passes_below, one_of_each, differ_map}

@@ -1,9 +1,6 @@
 -- The laws in the forms that their calls state.
-use Rattle.std.proofs.Common.{sym, subst}
+use Rattle.rds_code.proofs.Names.{sym, subst, bursts, IsReading, reading, IsBlockOf}
 use Rattle.rds_code.specs.Laws.{ListsBursts, ReadsByRule, HasOneBlock}
-use Rattle.rds_code.specs.Bursts.{bursts}
-use Rattle.rds_code.specs.Reading.{IsReading, reading}
-use Rattle.rds_code.specs.Encoding.{IsBlockOf}
 use Rattle.rds_code.proofs.Membership.{among_contains, contains_among}
 use Rattle.rds_code.proofs.BurstLemmas.{limit_is_among, among_limit_is}
 use Rattle.rds_code.proofs.ReadingLemmas.{reading_is, reading_is_one}

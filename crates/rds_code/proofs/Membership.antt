@@ -1,8 +1,6 @@
 -- Lists of numbers, by a test of membership that computes.
-use Rattle.std.proofs.Common.{◌≡◌, ◌≢◌, ◌⊎◌, ℕ, zero, suc, ◌<◌, List, [], ◌∷◌, ◌++◌, length, get_or, Bool, true, false, cond, map, refl, sym, ap, ◌∙◌, arith, inl, inr, eqb}
-use Rattle.std.specs.List.{filter, Contains, AllPairs}
+use Rattle.rds_code.proofs.Names.{◌≡◌, ◌≢◌, ◌⊎◌, ℕ, zero, suc, ◌<◌, List, [], ◌∷◌, ◌++◌, length, get_or, Bool, true, false, cond, map, refl, sym, ap, ◌∙◌, arith, inl, inr, eqb, filter, Contains, AllPairs, cases_Bool, eq-eqb, cases_eq, ne_eqb}
 use Rattle.std.proofs.lemmas.List.Elements.{Contains-append_left, Contains-append_right, Contains-append_cases}
-use Rattle.std.proofs.lemmas.Bool.{cases_Bool, eq-eqb, cases_eq, ne_eqb}
 
 -- whether x is among the numbers
 abbrev pub is_among : ℕ → List ℕ → Bool

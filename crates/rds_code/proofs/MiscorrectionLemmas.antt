@@ -1,28 +1,7 @@
 -- How many error masks of two, three and four bit errors miscorrect a block: the remainder and the span of the mask decide. The counts are
 -- computed, bit by bit.
-use Rattle.std.proofs.Common.{◌≡◌, ◌≢◌, ◌⊎◌, ℕ, zero, suc, ◌+◌, ◌-◌, ◌*◌, ◌^◌, ◌<◌, ◌≤◌, List, [], ◌∷◌, ◌++◌, length, get_or, map, Bool, true, false, cond, not, ◌&&◌, refl, sym, ap, ap₂, ◌∙◌, arith, inl, inr, eqb, leb, subst, bit_xor, lit<}
-use Rattle.std.specs.Int.{bit_at}
-use Rattle.std.specs.List.{filter}
-use Rattle.std.proofs.Math.Nat.{pow-suc}
+use Rattle.rds_code.proofs.Names.{◌≡◌, ◌≢◌, ◌⊎◌, ℕ, zero, suc, ◌+◌, ◌-◌, ◌*◌, ◌^◌, ◌<◌, ◌≤◌, List, [], ◌∷◌, ◌++◌, length, get_or, map, Bool, true, false, cond, not, ◌&&◌, refl, sym, ap, ap₂, ◌∙◌, arith, inl, inr, eqb, leb, subst, bit_xor, lit<, bit_at, filter, pow-suc, xor_assoc, xor_self, xor_zero_r, xor_shifted, count_leading_zeros, count_trailing_zeros, ones, ones-le, get_or_append_left, get_or-append-add, xor_comm, xor_lt, cases_Bool, cases_eq, cases_lt, eq-eqb, ne_eqb, le-leb, leb-true, Offset, A, B, C, Cx, D, Wanted, Either, Reading, Corrected, rem, word, number, offset_of, burst_length, IsBurst, bursts, information, IsValid, wanted_offsets, corrections, by_only, reading, IsBlockOf, alone, other_third_offset, error_masks, is_miscorrection, miscorrections, miscorrected, miscorrected_third, miscorrected_either, CountsAllMiscorrections}
 use Rattle.std.proofs.Math.Pow.{pow_pos}
-use Rattle.std.specs.Int.Bits.{xor_assoc, xor_self, xor_zero_r, xor_shifted}
-use Rattle.std.specs.Int.Count.{count_leading_zeros, count_trailing_zeros, ones, ones-le}
-use Rattle.std.proofs.lemmas.List.{get_or_append_left, get_or-append-add}
-use Rattle.std.proofs.lemmas.Nat.{xor_comm, xor_lt}
-use Rattle.std.proofs.lemmas.Bool.{cases_Bool, cases_eq, cases_lt, eq-eqb, ne_eqb, le-leb, leb-true}
-use Rattle.rds_code.specs.declared.offset.Offset.{Offset}
-use Rattle.rds_code.specs.declared.offset.Offset.TheVariants.{A, B, C, Cx, D}
-use Rattle.rds_code.specs.declared.reading.Wanted.{Wanted}
-use Rattle.rds_code.specs.declared.reading.Wanted.TheVariants.{Either}
-use Rattle.rds_code.specs.declared.reading.Reading.{Reading}
-use Rattle.rds_code.specs.declared.reading.Reading.TheVariants.{Corrected}
-use Rattle.rds_code.specs.Remainder.{rem}
-use Rattle.rds_code.specs.Offsets.{word, number, offset_of}
-use Rattle.rds_code.specs.Bursts.{burst_length, IsBurst, bursts}
-use Rattle.rds_code.specs.Reading.{information, IsValid, wanted_offsets, corrections, by_only, reading}
-use Rattle.rds_code.specs.Encoding.{IsBlockOf}
-use Rattle.rds_code.specs.Correction.{alone, other_third_offset}
-use Rattle.rds_code.specs.Detection.{error_masks, is_miscorrection, miscorrections, miscorrected, miscorrected_third, miscorrected_either, CountsAllMiscorrections}
 use Rattle.rds_code.proofs.RemainderLemmas.{rem-short, rem-xor, twice}
 use Rattle.rds_code.proofs.Membership.{is_among, all_below, passes_below, among_map, from_map, filter_agree}
 use Rattle.rds_code.proofs.BurstLemmas.{burst_is_one, longer, limit_is_among, among_limit_is}

@@ -1,24 +1,7 @@
 -- How a block came out, by the outcomes of its window with the offsets that it may have.
-use Rattle.std.proofs.Common.{◌≡◌, ℕ, zero, suc, ◌<◌, ◌≤◌, List, [], ◌∷◌, ◌++◌, length, get_or, slice_index, map, refl, sym, ap, ◌∙◌, arith, inl, inr, ◌⊎◌, bit_xor, subst, Some, ◌+◌, ◌%◌, ◌==◌, if◌then◌else◌}
-use Rattle.std.specs.Int.{bit_at}
-use Rattle.std.proofs.lemmas.Nat.Bits.{bit_at-lt, bit_at_xor}
-use Rattle.std.specs.Int.Bits.{xor_self, xor_zero_r}
-use Rattle.std.specs.Int.Count.{ones}
-use Rattle.std.proofs.lemmas.List.{get_or_append_left, get_or_default, length-append}
+use Rattle.rds_code.proofs.Names.{◌≡◌, ℕ, zero, suc, ◌<◌, ◌≤◌, List, [], ◌∷◌, ◌++◌, length, get_or, slice_index, map, refl, sym, ap, ◌∙◌, arith, inl, inr, ◌⊎◌, bit_xor, subst, Some, ◌+◌, ◌%◌, ◌==◌, if◌then◌else◌, bit_at, bit_at-lt, bit_at_xor, xor_self, xor_zero_r, ones, get_or_append_left, get_or_default, length-append, below_more, Offset, B, C, Cx, Wanted, OnlyC, OnlyCx, Either, Reading, Corrected, Lost, rem, word, number, offset_of, IsBurst, burst_length, outcome_number, burst_outcome, wanted_after, wanted_of_info, HasNoBurst, IsEntry, IsOutcome, IsTurn, StandIn, wanted_at, information, IsValid, wanted_offsets, corrections, by_only, reading}
 use Rattle.std.proofs.Math.Seq.{get_or-append_seam}
-use borrow.Author.Count.{below_more}
-use Rattle.rds_code.specs.declared.offset.Offset.{Offset}
-use Rattle.rds_code.specs.declared.offset.Offset.TheVariants.{B, C, Cx}
-use Rattle.rds_code.specs.declared.reading.Wanted.{Wanted}
-use Rattle.rds_code.specs.declared.reading.Wanted.TheVariants.{OnlyC, OnlyCx, Either}
-use Rattle.rds_code.specs.declared.reading.Reading.{Reading}
-use Rattle.rds_code.specs.declared.reading.Reading.TheVariants.{Corrected, Lost}
-use Rattle.rds_code.specs.Remainder.{rem}
-use Rattle.rds_code.specs.Offsets.{word, number, offset_of}
-use Rattle.rds_code.specs.Bursts.{IsBurst, burst_length}
-use Rattle.rds_code.specs.Outcomes.{outcome_number, burst_outcome, wanted_after, wanted_of_info}
-use Rattle.rds_code.specs.Inside.Outcomes.{HasBurst, HasNoBurst, IsEntry, IsOutcome, IsTurn, StandIn, wanted_at}
-use Rattle.rds_code.specs.Reading.{information, IsValid, wanted_offsets, corrections, by_only, reading}
+use Rattle.rds_code.specs.Inside.Outcomes.{HasBurst}
 use Rattle.rds_code.proofs.RemainderLemmas.{twice}
 use Rattle.rds_code.proofs.BurstLemmas.{rem-burst, longer}
 use Rattle.rds_code.proofs.SpanLemmas.{ones_pos, ones-le_span}

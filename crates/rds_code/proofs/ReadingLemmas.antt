@@ -1,18 +1,5 @@
 -- How a window is corrected: with each offset no burst fits or one does, and the list of the pairs that fit is they.
-use Rattle.std.proofs.Common.{◌≡◌, ℕ, zero, suc, ◌^◌, ◌<◌, ◌≤◌, List, [], ◌∷◌, ◌++◌, Bool, true, false, map, refl, sym, ap, ap₂, ◌∙◌, arith, inl, inr, ◌⊎◌, eqb, subst, bit_xor, Option, Some, None, lit<, IsTrue, IfSome}
-use Rattle.std.specs.List.{filter}
-use Rattle.std.proofs.lemmas.Bool.{cases_eq, eq-eqb, eqb-true, ne_eqb}
-use Rattle.std.proofs.lemmas.Nat.{xor_lt}
-use Rattle.rds_code.specs.declared.offset.Offset.{Offset}
-use Rattle.rds_code.specs.declared.offset.Offset.TheVariants.{A, B, C, Cx, D}
-use Rattle.rds_code.specs.declared.reading.Wanted.{Wanted}
-use Rattle.rds_code.specs.declared.reading.Wanted.TheVariants.{OnlyC, OnlyCx, Either}
-use Rattle.rds_code.specs.declared.reading.Reading.{Reading}
-use Rattle.rds_code.specs.declared.reading.Reading.TheVariants.{Valid, Corrected, Lost}
-use Rattle.rds_code.specs.Remainder.{rem}
-use Rattle.rds_code.specs.Offsets.{word, number, offset_of}
-use Rattle.rds_code.specs.Bursts.{IsBurst, bursts}
-use Rattle.rds_code.specs.Reading.{information, allows, IsValid, IsReading, wanted_offsets, corrections, by_only, corrected, read_from, reading}
+use Rattle.rds_code.proofs.Names.{◌≡◌, ℕ, zero, suc, ◌^◌, ◌<◌, ◌≤◌, List, [], ◌∷◌, ◌++◌, Bool, true, false, map, refl, sym, ap, ap₂, ◌∙◌, arith, inl, inr, ◌⊎◌, eqb, subst, bit_xor, Option, Some, None, lit<, IsTrue, IfSome, filter, cases_eq, eq-eqb, eqb-true, ne_eqb, xor_lt, Offset, A, B, C, Cx, D, Wanted, OnlyC, OnlyCx, Either, Reading, Valid, Corrected, Lost, rem, word, number, offset_of, IsBurst, bursts, information, allows, IsValid, IsReading, wanted_offsets, corrections, by_only, corrected, read_from, reading}
 use Rattle.rds_code.proofs.RemainderLemmas.{rem-xor, rem-lt, twice}
 use Rattle.rds_code.proofs.Membership.{is_among, filter_none, filter_one, filter_among, among_head, among_filter}
 use Rattle.rds_code.proofs.BurstLemmas.{burst_is_one, longer, limit_is_among, among_limit_is, bursts_differ}

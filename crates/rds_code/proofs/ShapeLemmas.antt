@@ -1,10 +1,5 @@
 -- The shape and the shift of a burst of up to five bits.
-use Rattle.std.proofs.Common.{◌≡◌, ℕ, ◌+◌, ◌-◌, ◌*◌, ◌/◌, ◌^◌, Bool, true, refl, sym, ap, ◌∙◌, arith, eqb, subst}
-use Rattle.std.proofs.Math.Nat.{mul-div_cancel}
-use Rattle.std.specs.Int.Count.{count_leading_zeros, count_trailing_zeros}
-use Rattle.std.proofs.lemmas.Bool.{eqb-true}
-use Rattle.std.proofs.lemmas.Nat.{pow_pos}
-use Rattle.rds_code.specs.Bursts.{IsBurst, burst_length}
+use Rattle.rds_code.proofs.Names.{◌≡◌, ℕ, ◌+◌, ◌-◌, ◌*◌, ◌/◌, ◌^◌, Bool, true, refl, sym, ap, ◌∙◌, arith, eqb, subst, mul-div_cancel, count_leading_zeros, count_trailing_zeros, eqb-true, pow_pos, IsBurst, burst_length}
 use Rattle.rds_code.specs.Inside.BurstShape.{shape_of, shift_of, IsShape}
 use Rattle.rds_code.proofs.Membership.{all_below, passes_below}
 use Rattle.rds_code.proofs.BurstLemmas.{IsSmallPattern, small_pattern}

@@ -1,10 +1,5 @@
 -- A burst is an odd pattern, shifted: its lowest one is at the shift, and the pattern is as long as the span.
-use Rattle.std.proofs.Common.{◌≡◌, ℕ, zero, suc, ◌+◌, ◌*◌, ◌/◌, ◌%◌, ◌^◌, ◌<◌, ◌≤◌, sym, ap, ◌∙◌, arith, inl, inr, pow-add, pow_mono, lit<}
-use Rattle.std.proofs.Math.Nat.{pow-suc, suc-mul, mul_assoc, mul-le-mul_right}
-use Rattle.std.specs.Int.Count.{count_trailing_zeros, under, leading_top, ones, ones_step, ones_cat, ones-le}
-use Rattle.std.proofs.lemmas.Nat.{pow_pos}
-use Rattle.std.proofs.lemmas.Bool.{cases_eq, cases_lt}
-use Rattle.rds_code.specs.Bursts.{burst_length, IsBurst}
+use Rattle.rds_code.proofs.Names.{◌≡◌, ℕ, zero, suc, ◌+◌, ◌*◌, ◌/◌, ◌%◌, ◌^◌, ◌<◌, ◌≤◌, sym, ap, ◌∙◌, arith, inl, inr, pow-add, pow_mono, lit<, pow-suc, suc-mul, mul_assoc, mul-le-mul_right, count_trailing_zeros, under, leading_top, ones, ones_step, ones_cat, ones-le, pow_pos, cases_eq, cases_lt, burst_length, IsBurst}
 
 -- n is an odd number, shifted up by t
 pub record IsShifted (n m t : ℕ) : Type 0 where

@@ -1,17 +1,7 @@
 -- The table of block 3 holds what it says: checked entry by entry, by computation, and then told of readings.
-use Rattle.std.proofs.Common.{◌≡◌, ℕ, zero, suc, ◌+◌, ◌*◌, ◌/◌, ◌%◌, ◌<◌, ◌≤◌, ◌==◌, if◌then◌else◌, Bool, true, false, List, map, get_or, bit_xor, refl, sym, ap, subst, ◌∙◌, inl, inr, arith}
-use Rattle.std.specs.List.{range_with_len}
-use Rattle.std.proofs.lemmas.Bool.{ne_eqb}
+use Rattle.rds_code.proofs.Names.{◌≡◌, ℕ, zero, suc, ◌+◌, ◌*◌, ◌/◌, ◌%◌, ◌<◌, ◌≤◌, ◌==◌, if◌then◌else◌, Bool, true, false, List, map, get_or, bit_xor, refl, sym, ap, subst, ◌∙◌, inl, inr, arith, range_with_len, ne_eqb, get_or-map-range_with_len, C, Cx, Either, IsOutcome, wanted_at, word, outcome_number, reading, rem}
 use Rattle.std.proofs.lemmas.Bool.Decides.{eqb_tells}
-use Rattle.std.proofs.lemmas.List.FromFn.{get_or-map-range_with_len}
-use Rattle.rds_code.specs.declared.offset.Offset.TheVariants.{C, Cx}
-use Rattle.rds_code.specs.declared.reading.Wanted.TheVariants.{Either}
 use Rattle.rds_code.specs.declared.thirds.TheConstants.{THIRDS}
-use Rattle.rds_code.specs.Inside.Outcomes.{IsOutcome, wanted_at}
-use Rattle.rds_code.specs.Offsets.{word}
-use Rattle.rds_code.specs.Outcomes.{outcome_number}
-use Rattle.rds_code.specs.Reading.{reading}
-use Rattle.rds_code.specs.Remainder.{rem}
 use Rattle.rds_code.proofs.OutcomeLemmas.{Damage, damaged, third_as_c, third_as_cx, third_as_either, valid_third}
 
 -- of a block that is not valid, by the wanted version and the outcomes with C and with C'

@@ -1,13 +1,10 @@
 -- A table of the outcomes of blocks by their remainders. `Outcomes` keeps it so, and no caller sees it.
-use Rattle.std.specs.Prelude.{◌≡◌, ℕ, zero, suc, ◌/◌, ◌%◌, ◌<◌, ◌≤◌, ◌⊎◌, List, length, slice_index, bit_xor}
+use Rattle.std.specs.Prelude.{◌≡◌, ℕ, zero, suc, ◌/◌, ◌%◌, ◌<◌, ◌⊎◌, List, length, slice_index}
 use Rattle.std.specs.Int.{bit_at}
 use Rattle.std.specs.Int.Count.{ones}
 use Rattle.rds_code.specs.Remainder.{rem}
 use Rattle.rds_code.specs.Bursts.{IsBurst, burst_length}
-use Rattle.rds_code.specs.Offsets.{word}
-use Rattle.rds_code.specs.Outcomes.{burst_outcome, outcome_number}
-use Rattle.rds_code.specs.Reading.{reading}
-use Rattle.rds_code.specs.declared.offset.Offset.TheVariants.{C, Cx}
+use Rattle.rds_code.specs.Outcomes.{burst_outcome}
 use Rattle.rds_code.specs.declared.reading.Wanted.{Wanted}
 use Rattle.rds_code.specs.declared.reading.Wanted.TheVariants.{OnlyC, OnlyCx, Either}
 

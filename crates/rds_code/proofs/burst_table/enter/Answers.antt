@@ -1,9 +1,4 @@
-use Rattle.std.proofs.Common.{◌≡◌, ℕ, List, ◌<◌, ◌∙◌, sym, ap, arith, inl, inr, length, get_or, set}
-use Rattle.std.proofs.lemmas.Bool.{cases_eq}
-use Rattle.std.proofs.lemmas.List.{get_or-set_same, get_or-set_other}
-use Rattle.rds_code.specs.Remainder.{rem}
-use Rattle.rds_code.specs.Bursts.{IsBurst}
-use Rattle.rds_code.specs.Inside.BurstTable.{HasBurst}
+use Rattle.rds_code.proofs.Names.{◌≡◌, ℕ, List, ◌<◌, ◌∙◌, sym, ap, arith, inl, inr, length, get_or, set, cases_eq, get_or-set_same, get_or-set_other, rem, IsBurst, HasBurst}
 use Rattle.rds_code.proofs.BurstLemmas.{burst_is_one}
 use Rattle.rds_code.proofs.RemainderLemmas.{rem-lt}
 use Rattle.rds_code.proofs.burst_table.enter.Goals as goal

@@ -1,7 +1,4 @@
-use Rattle.std.proofs.Common.{◌≡◌, ℕ, ◌+◌, ◌*◌, ◌/◌, ◌^◌, ◌<◌, ◌∙◌, sym, ap, subst, arith, List}
-use Rattle.std.specs.Int.Count.{count_trailing_zeros}
-use borrow.Author.Count.{below_more}
-use Rattle.rds_code.specs.Inside.BurstTable.{HasBurst}
+use Rattle.rds_code.proofs.Names.{◌≡◌, ℕ, ◌+◌, ◌*◌, ◌/◌, ◌^◌, ◌<◌, ◌∙◌, sym, ap, subst, arith, List, count_trailing_zeros, below_more, HasBurst}
 use Rattle.rds_code.proofs.BurstLemmas.{pattern_is_burst, small_pattern}
 use Rattle.rds_code.proofs.burst_table.enter_all.Goals as goal
 

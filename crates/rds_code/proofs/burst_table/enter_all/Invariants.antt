@@ -1,5 +1,4 @@
-use Rattle.std.proofs.Common.{ℕ, ◌+◌, ◌*◌, ◌^◌, ◌<◌}
-use Rattle.rds_code.specs.Inside.BurstTable.{IsSound, HasBurst}
+use Rattle.rds_code.proofs.Names.{ℕ, ◌+◌, ◌*◌, ◌^◌, ◌<◌, IsSound, HasBurst}
 use Rattle.rds_code.proofs.burst_table.enter_all.Given as goal
 
 abbrev pub invariant-loop-half : goal.invariant-loop-half

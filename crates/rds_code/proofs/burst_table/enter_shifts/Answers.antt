@@ -1,8 +1,4 @@
-use Rattle.std.proofs.Common.{◌≡◌, ℕ, ◌+◌, ◌*◌, ◌%◌, ◌^◌, ◌<◌, ◌≤◌, sym, subst, arith, pow_mono, List}
-use Rattle.std.proofs.Math.Nat.{mul-le-mul_right}
-use borrow.Author.Count.{below_more}
-use Rattle.rds_code.specs.Bursts.{IsBurst}
-use Rattle.rds_code.specs.Inside.BurstTable.{IsSound, HasBurst}
+use Rattle.rds_code.proofs.Names.{◌≡◌, ℕ, ◌+◌, ◌*◌, ◌%◌, ◌^◌, ◌<◌, ◌≤◌, sym, subst, arith, pow_mono, List, mul-le-mul_right, below_more, IsBurst, IsSound, HasBurst}
 use Rattle.rds_code.proofs.BurstLemmas.{pattern_is_burst}
 use Rattle.rds_code.proofs.burst_table.enter_shifts.Goals as goal
 use Rattle.rds_code.proofs.burst_table.enter_shifts.Goals.{then-burst, else-burst}

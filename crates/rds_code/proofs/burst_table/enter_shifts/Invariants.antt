@@ -1,6 +1,4 @@
-use Rattle.std.proofs.Common.{ℕ, ◌*◌, ◌^◌, ◌<◌}
-use Rattle.rds_code.specs.Bursts.{IsBurst}
-use Rattle.rds_code.specs.Inside.BurstTable.{IsSound, HasBurst}
+use Rattle.rds_code.proofs.Names.{ℕ, ◌*◌, ◌^◌, ◌<◌, IsBurst, IsSound, HasBurst}
 use Rattle.rds_code.proofs.burst_table.enter_shifts.Given as goal
 
 abbrev pub invariant-loop-shift : goal.invariant-loop-shift

@@ -1,7 +1,4 @@
-use Rattle.std.proofs.Common.{◌≡◌, ◌*◌, ◌%◌, ◌^◌, ◌∙◌, ap, ap₂, sym, subst, arith, bit_or, bit_xor}
-use Rattle.std.proofs.lemmas.Nat.{or_shifted}
-use Rattle.rds_code.specs.Remainder.{rem}
-use Rattle.rds_code.specs.Encoding.{IsBlockOf}
+use Rattle.rds_code.proofs.Names.{◌≡◌, ◌*◌, ◌%◌, ◌^◌, ◌∙◌, ap, ap₂, sym, subst, arith, bit_or, bit_xor, or_shifted, rem, IsBlockOf}
 use Rattle.rds_code.proofs.EncodingLemmas.{encoded_is, checkword-lt}
 use Rattle.rds_code.proofs.encoding.encode_block.Goals as goal
 

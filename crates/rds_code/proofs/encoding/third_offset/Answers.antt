@@ -1,7 +1,4 @@
-use Rattle.std.proofs.Common.{◌≡◌, ap, sym, arith}
-use Rattle.std.specs.Int.{bit_at}
-use Rattle.std.proofs.lemmas.Nat.Bits.{shr_and_one, bit_at-lt}
-use Rattle.rds_code.specs.Encoding.{offset_by_version}
+use Rattle.rds_code.proofs.Names.{◌≡◌, ap, sym, arith, bit_at, shr_and_one, bit_at-lt, offset_by_version}
 use Rattle.rds_code.proofs.encoding.third_offset.Goals as goal
 
 pub returns-else-second-eq1 : goal.returns-else-second-eq1

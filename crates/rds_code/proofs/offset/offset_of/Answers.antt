@@ -1,6 +1,4 @@
-use Rattle.std.proofs.Common.{◌≡◌, ◌≢◌, ℕ, ◌/◌, subst, sym, refl, None, bit_and, get_or, [], ◌∷◌}
-use Rattle.std.proofs.lemmas.Bool.{ne_eqb}
-use Rattle.rds_code.specs.Offsets.{offset_of}
+use Rattle.rds_code.proofs.Names.{◌≡◌, ◌≢◌, ℕ, ◌/◌, subst, sym, refl, None, bit_and, get_or, [], ◌∷◌, ne_eqb, offset_of}
 use Rattle.rds_code.proofs.offset.offset_of.Goals as goal
 
 candidate : ℕ → ℕ

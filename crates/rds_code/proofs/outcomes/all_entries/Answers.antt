@@ -1,6 +1,5 @@
-use Rattle.std.proofs.Common.{ℕ, List, sym, subst, arith}
+use Rattle.rds_code.proofs.Names.{ℕ, List, sym, subst, arith, StandIn}
 use Rattle.std.specs.Vec.{vec_items}
-use Rattle.rds_code.specs.Inside.Outcomes.{StandIn}
 use Rattle.rds_code.proofs.OutcomeLemmas.{one_more}
 use Rattle.rds_code.proofs.outcomes.all_entries.Goals as goal
 

@@ -1,5 +1,4 @@
-use Rattle.std.proofs.Common.{◌≡◌, ◌≤◌, vec_len, vec_items, vec_capacity}
-use Rattle.rds_code.specs.Inside.Outcomes.{StandIn}
+use Rattle.rds_code.proofs.Names.{◌≡◌, ◌≤◌, vec_len, vec_items, vec_capacity, StandIn}
 use Rattle.rds_code.proofs.outcomes.all_entries.Given as goal
 
 abbrev pub invariant-loop-remainder : goal.invariant-loop-remainder

@@ -1,5 +1,4 @@
-use Rattle.std.proofs.Common.{ℕ, ◌<◌, sym, subst}
-use Rattle.std.proofs.lemmas.Nat.{xor_lt}
+use Rattle.rds_code.proofs.Names.{ℕ, ◌<◌, sym, subst, xor_lt}
 use Rattle.rds_code.proofs.ReadingLemmas.{word-lt}
 use Rattle.rds_code.proofs.outcomes.sum_with.Goals as goal
 

@@ -1,9 +1,5 @@
-use Rattle.std.proofs.Common.{◌≡◌, ℕ, suc, ◌+◌, ◌-◌, ◌*◌, ◌%◌, ◌^◌, ◌<◌, ◌≤◌, ◌∙◌, ap, subst, sym, arith, bit_xor, zero-mul, one-mul, pow_mono}
-use Rattle.std.specs.Int.{bit_at}
-use Rattle.std.proofs.lemmas.Nat.{xor_comm}
-use Rattle.std.proofs.lemmas.Nat.Bits.{shr_and_one, bit_at-lt}
-use Rattle.std.specs.Int.Bits.{xor_zero_l}
-use Rattle.rds_code.specs.Remainder.{reduce, rem, generator, IsRemainder}
+use Rattle.std.proofs.Common.{zero-mul, one-mul}
+use Rattle.rds_code.proofs.Names.{◌≡◌, ℕ, suc, ◌+◌, ◌-◌, ◌*◌, ◌%◌, ◌^◌, ◌<◌, ◌≤◌, ◌∙◌, ap, subst, sym, arith, bit_xor, pow_mono, bit_at, xor_comm, shr_and_one, bit_at-lt, xor_zero_l, reduce, rem, generator, IsRemainder}
 use Rattle.rds_code.proofs.RemainderLemmas.{rem-is, rem-lt, reduce-suc, reduce-all, reduce-none}
 use Rattle.rds_code.proofs.plain.rem26.Goals as goal
 use Rattle.rds_code.proofs.plain.rem26.Goals.{then-left-shift-eq1, else-left-shift-eq1}

@@ -1,5 +1,4 @@
-use Rattle.std.proofs.Common.{◌≡◌, ◌-◌}
-use Rattle.rds_code.specs.Remainder.{reduce, rem}
+use Rattle.rds_code.proofs.Names.{◌≡◌, ◌-◌, reduce, rem}
 use Rattle.rds_code.proofs.plain.rem26.Given as goal
 
 abbrev pub invariant-loop-done : goal.invariant-loop-done

@@ -1,5 +1,4 @@
-use Rattle.std.proofs.Common.{◌∙◌, sym, subst, ap₂, bit_xor, ◌%◌}
-use Rattle.rds_code.specs.Remainder.{IsRemainder}
+use Rattle.rds_code.proofs.Names.{◌∙◌, sym, subst, ap₂, bit_xor, ◌%◌, IsRemainder}
 use Rattle.rds_code.proofs.RemainderLemmas.{rem-is, rem-by_bytes}
 use Rattle.rds_code.proofs.remainder.rem26.Goals as goal
 

@@ -1,7 +1,4 @@
-use Rattle.std.proofs.Common.{◌∙◌, ap}
-use Rattle.rds_code.specs.declared.reading.Wanted.{Wanted}
-use Rattle.rds_code.specs.Outcomes.{outcome_number}
-use Rattle.rds_code.specs.Reading.{reading}
+use Rattle.rds_code.proofs.Names.{◌∙◌, ap, Wanted, outcome_number, reading}
 use Rattle.rds_code.proofs.ThirdLemmas.{entry, entry_most, of_outcomes}
 use Rattle.rds_code.proofs.thirds.third.Goals as goal
 

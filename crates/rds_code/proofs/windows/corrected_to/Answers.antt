@@ -1,5 +1,4 @@
-use Rattle.std.proofs.Common.{◌∙◌, ap, refl, sym}
-use Rattle.rds_code.specs.Reading.{by_only}
+use Rattle.rds_code.proofs.Names.{◌∙◌, ap, refl, sym, by_only}
 use Rattle.rds_code.proofs.ReadingLemmas.{asked-lt, none_by_table, one_by_table, corrections_none, corrections_one}
 use Rattle.rds_code.proofs.windows.corrected_to.Goals as goal
 

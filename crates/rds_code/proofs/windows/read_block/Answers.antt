@@ -1,6 +1,4 @@
-use Rattle.std.proofs.Common.{◌∙◌, ap, refl, sym, subst, arith}
-use Rattle.rds_code.specs.Offsets.{offset_of}
-use Rattle.rds_code.specs.Reading.{IsReading}
+use Rattle.rds_code.proofs.Names.{◌∙◌, ap, refl, sym, subst, arith, offset_of, IsReading}
 use Rattle.rds_code.proofs.ReadingLemmas.{reads_corrected, reading_is}
 use Rattle.rds_code.proofs.windows.read_block.Goals as goal
 

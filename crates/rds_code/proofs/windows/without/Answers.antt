@@ -1,5 +1,4 @@
-use Rattle.std.proofs.Common.{◌^◌, ◌<◌, sym, subst, arith}
-use Rattle.std.proofs.lemmas.Nat.{xor_lt}
+use Rattle.rds_code.proofs.Names.{◌^◌, ◌<◌, sym, subst, arith, xor_lt}
 use Rattle.rds_code.proofs.windows.without.Goals as goal
 
 pub overflow_cast-result : goal.overflow_cast-result

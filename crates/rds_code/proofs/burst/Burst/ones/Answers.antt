@@ -1,5 +1,4 @@
-use Rattle.std.proofs.Common.{◌*◌, ◌^◌, ◌∙◌, sym, ap, arith}
-use Rattle.std.specs.Int.Count.{ones}
+use Rattle.rds_code.proofs.Names.{◌*◌, ◌^◌, ◌∙◌, sym, ap, arith, ones}
 use Rattle.rds_code.proofs.SpanLemmas.{ones-pattern, ones_pos, ones-le_span}
 use Rattle.rds_code.proofs.burst.Burst.ones.Goals as goal
 

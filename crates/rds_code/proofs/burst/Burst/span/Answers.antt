@@ -1,5 +1,4 @@
-use Rattle.std.proofs.Common.{◌∙◌, sym, ap, arith}
-use Rattle.rds_code.specs.Bursts.{burst_length}
+use Rattle.rds_code.proofs.Names.{◌∙◌, sym, ap, arith, burst_length}
 use Rattle.rds_code.proofs.ShapeLemmas.{span_of_shape}
 use Rattle.rds_code.proofs.burst.Burst.span.Goals as goal
 

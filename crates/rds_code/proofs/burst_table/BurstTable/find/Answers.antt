@@ -1,5 +1,4 @@
-use Rattle.std.proofs.Common.{◌≡◌, ◌∙◌, arith, get_or}
-use Rattle.std.proofs.lemmas.List.{get_or_default}
+use Rattle.rds_code.proofs.Names.{◌≡◌, ◌∙◌, arith, get_or, get_or_default}
 use Rattle.rds_code.proofs.BurstLemmas.{rem-burst}
 use Rattle.rds_code.proofs.burst_table.BurstTable.find.Goals as goal
 

@@ -1,6 +1,4 @@
-use Rattle.std.proofs.Common.{◌≡◌, ℕ, ◌∙◌, sym, ap, subst, arith, List, length, get_or, replicate, take, drop, ◌++◌}
-use Rattle.std.proofs.lemmas.List.{get_or-replicate, take-append-le, take_all, length-replicate}
-use Rattle.rds_code.specs.Inside.BurstTable.{IsSound, IsBurstTable}
+use Rattle.rds_code.proofs.Names.{◌≡◌, ℕ, ◌∙◌, sym, ap, subst, arith, List, length, get_or, replicate, take, drop, ◌++◌, get_or-replicate, take-append-le, take_all, length-replicate, IsSound, IsBurstTable}
 use Rattle.rds_code.proofs.burst_table.BurstTable.new.Goals as goal
 
 -- an empty table has no burst

@@ -1,5 +1,4 @@
-use Rattle.std.proofs.Common.{ℕ, ◌<◌, length, subst, arith}
-use Rattle.rds_code.specs.Inside.Outcomes.{IsEntry}
+use Rattle.rds_code.proofs.Names.{ℕ, ◌<◌, length, subst, arith, IsEntry}
 use Rattle.rds_code.proofs.OutcomeLemmas.{entry_of}
 use Rattle.rds_code.proofs.outcomes.Outcomes.entry.Goals as goal
 

@@ -1,12 +1,4 @@
-use Rattle.std.proofs.Common.{◌≡◌, ℕ, ◌≤◌, ◌∙◌, bit_xor, [], ◌∷◌, refl, sym, ap, subst, arith}
-use Rattle.rds_code.specs.declared.offset.Offset.{Offset}
-use Rattle.rds_code.specs.declared.offset.Offset.TheVariants.{A, B, C, Cx, D}
-use Rattle.rds_code.specs.declared.reading.Wanted.{Wanted}
-use Rattle.rds_code.specs.Inside.Outcomes.{IsOutcome}
-use Rattle.rds_code.specs.Outcomes.{outcome_number}
-use Rattle.rds_code.specs.Offsets.{number, word}
-use Rattle.rds_code.specs.Reading.{reading, wanted_offsets}
-use Rattle.rds_code.specs.Remainder.{rem}
+use Rattle.rds_code.proofs.Names.{◌≡◌, ℕ, ◌≤◌, ◌∙◌, bit_xor, [], ◌∷◌, refl, sym, ap, subst, arith, Offset, A, B, C, Cx, D, Wanted, IsOutcome, outcome_number, number, word, reading, wanted_offsets, rem}
 use Rattle.rds_code.proofs.OutcomeLemmas.{by_single}
 use Rattle.rds_code.proofs.ReadingLemmas.{only_A, only_B, only_D, wanted_1, wanted_2, wanted_4}
 use Rattle.rds_code.proofs.outcomes.Outcomes.of_block.Goals as goal

@@ -1,8 +1,4 @@
-use Rattle.std.proofs.Common.{ℕ, ◌/◌, ◌∙◌, ap, subst, bit_xor}
-use Rattle.std.proofs.lemmas.Nat.Bits.{shr_and_one}
-use Rattle.rds_code.specs.Inside.Outcomes.{IsTurn, wanted_at}
-use Rattle.rds_code.specs.Offsets.{word}
-use Rattle.rds_code.specs.declared.offset.Offset.TheVariants.{B}
+use Rattle.rds_code.proofs.Names.{ℕ, ◌/◌, ◌∙◌, ap, subst, bit_xor, shr_and_one, IsTurn, wanted_at, word, B}
 use Rattle.rds_code.proofs.OutcomeLemmas.{wanted_by_turn}
 use Rattle.rds_code.proofs.outcomes.Outcomes.wanted_after.Goals as goal
 

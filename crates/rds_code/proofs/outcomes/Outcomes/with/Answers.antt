@@ -1,5 +1,4 @@
-use Rattle.std.proofs.Common.{◌%◌, bit_xor}
-use Rattle.rds_code.specs.Offsets.{word}
+use Rattle.rds_code.proofs.Names.{◌%◌, bit_xor, word}
 use Rattle.rds_code.proofs.OutcomeLemmas.{at_most_13}
 use Rattle.rds_code.proofs.outcomes.Outcomes.with.Goals as goal
 
