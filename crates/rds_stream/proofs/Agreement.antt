@@ -1,12 +1,8 @@
 -- Words that planes hold, and the remainders that are offset words.
-use Rattle.std.proofs.Common.{◌≡◌, ◌≢◌, ◌↔◌, ℕ, ◌+◌, ◌-◌, ◌^◌, ◌<◌, sym, ap, ◌∙◌, subst, arith, refl, bit_and, bit_or, bit_xor, List, None, IsSome, inl, inr}
+use Rattle.rds_stream.proofs.Names.{◌≡◌, ◌≢◌, ◌↔◌, ℕ, ◌+◌, ◌-◌, ◌^◌, ◌<◌, sym, ap, ◌∙◌, subst, arith, refl, bit_and, bit_or, bit_xor, List, None, IsSome, inl, inr, bit_at, cases_eq, ne_eqb, bit_at_and, bit_at_or, bit_at_xor, bit_at-lt, same_from_bits_below, word, offset_of, HoldInLane, lane}
 use borrow.Author.Count.{below_more}
-use Rattle.std.specs.Int.{bit_at}
-use Rattle.std.proofs.lemmas.Bool.{cases_eq, ne_eqb, true≢false}
-use Rattle.std.proofs.lemmas.Nat.Bits.{bit_at_and, bit_at_or, bit_at_xor, bit_at-lt, same_from_bits_below}
+use Rattle.std.proofs.lemmas.Bool.{true≢false}
 use Rattle.rds_code.specs.declared.offset.Offset.TheVariants.{A, B, C, Cx, D}
-use Rattle.rds_code.specs.Offsets.{word, offset_of}
-use Rattle.rds_stream.specs.Inside.Lanes.{HoldInLane, lane}
 
 -- at bit k of lane j the lowest n planes hold the lowest n bits of the word
 abbrev pub Agree : List (List ℕ) → ℕ → ℕ → ℕ → ℕ → Type 0

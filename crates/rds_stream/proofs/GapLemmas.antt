@@ -1,13 +1,7 @@
 -- Gaps in order, and the windows that they touch.
-use Rattle.std.proofs.Common.{◌≡◌, ℕ, ◌+◌, ◌-◌, ◌<◌, ◌≤◌, ◌⊎◌, ◌&&◌, sym, ap, ap₂, ◌∙◌, subst, arith, List, length, get_or, leb, ltb, true, false, Bool, inl, inr, refl}
-use Rattle.std.proofs.lemmas.Bool.{cases_lt, le-leb, lt-leb, le-ltb, lt-ltb}
+use Rattle.std.proofs.Common.{ap₂}
+use Rattle.rds_stream.proofs.Names.{◌≡◌, ℕ, ◌+◌, ◌-◌, ◌<◌, ◌≤◌, ◌⊎◌, ◌&&◌, sym, ap, ◌∙◌, subst, arith, List, length, get_or, leb, ltb, true, false, Bool, inl, inr, refl, cases_lt, le-leb, lt-leb, le-ltb, lt-ltb, HoldsAt, IsNonDecreasingBy, IsNonDecreasingBy-from_all_adjacent, AreGaps, Signal, touched, is_touched_by, AllEndBy, IsFirstAfter, IsSection}
 use Rattle.std.proofs.lemmas.List.Folds.{list_any_at, list_any_none}
-use Rattle.std.specs.List.{HoldsAt}
-use Rattle.std.specs.List.Sorted.{IsNonDecreasingBy}
-use Rattle.std.proofs.lemmas.List.Sorted.{IsNonDecreasingBy-from_all_adjacent}
-use Rattle.rds_stream.specs.Recording.{AreGaps, Signal, touched, is_touched_by}
-use Rattle.rds_stream.specs.Inside.Gaps.{AllEndBy, IsFirstAfter}
-use Rattle.rds_stream.specs.Inside.Sections.{IsSection}
 
 and_false : (x : Bool) → (x && false) ≡ false
 and_false true = refl

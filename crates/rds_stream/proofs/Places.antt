@@ -1,16 +1,7 @@
 -- Numbers whose binary digits are neighbouring places.
-use Rattle.std.proofs.Common.{◌≡◌, ◌≢◌, ℕ, zero, suc, ◌+◌, ◌-◌, ◌*◌, ◌/◌, ◌%◌, ◌^◌, ◌<◌, ◌≤◌, refl, sym, ap, ◌∙◌, arith, bit_and, bit_or, ⊎_elim, List, length, get_or, take, drop, length-drop, add-one}
-use mathlib.Core.Path.{ap₂}
-use Rattle.std.specs.Int.{bit_at}
+use Rattle.rds_stream.proofs.Names.{◌≡◌, ◌≢◌, ℕ, zero, suc, ◌+◌, ◌-◌, ◌*◌, ◌/◌, ◌%◌, ◌^◌, ◌<◌, ◌≤◌, refl, sym, ap, ◌∙◌, arith, bit_and, bit_or, ⊎_elim, List, length, get_or, take, drop, length-drop, add-one, ap₂, bit_at, pow-suc, mul_assoc, mod-eq_of_lt, cases_eq, shr-shr, shr_high, mod_low, or_shifted, and_mask, bit_at-lt, get_or-drop, get_or-map-range_with_len, length-map-range_with_len, packed_bit, bits_of, window}
 use Rattle.std.specs.Int.Digits.{number_from_digits}
-use Rattle.std.proofs.Math.Nat.{pow-suc, mul_assoc, mod-eq_of_lt}
-use Rattle.std.proofs.lemmas.Bool.{cases_eq}
-use Rattle.std.proofs.lemmas.Nat.{shr-shr, shr_high, mod_low, or_shifted, and_mask}
-use Rattle.std.proofs.lemmas.Nat.Bits.{bit_at-lt}
-use Rattle.std.proofs.lemmas.List.{get_or-drop}
-use Rattle.std.proofs.lemmas.List.FromFn.{get_or-map-range_with_len, length-map-range_with_len}
 use Rattle.std.proofs.lemmas.Int.Digits.{number_more as digits_more}
-use Rattle.rds_stream.specs.Recording.{packed_bit, bits_of, window}
 
 -- the number whose n binary digits are the places of f that end with place i
 unfoldable pub number : (ℕ → ℕ) → ℕ → ℕ → ℕ

@@ -1,10 +1,5 @@
 -- Packed bits of which the first are put in the place of others.
-use Rattle.std.proofs.Common.{◌≡◌, ℕ, ◌+◌, ◌-◌, ◌*◌, ◌/◌, ◌%◌, ◌<◌, ◌≤◌, ◌++◌, refl, sym, ap, ◌∙◌, arith, List, length, get_or, drop, length-drop, inl, inr}
-use Rattle.std.specs.Int.{bit_at}
-use Rattle.std.proofs.lemmas.Bool.{cases_lt}
-use Rattle.std.proofs.lemmas.List.{length-append, get_or-drop, get_or_append_left, get_or-append_right, same_lists}
-use Rattle.std.proofs.lemmas.List.FromFn.{get_or-map-range_with_len}
-use Rattle.rds_stream.specs.Recording.{packed_bit, bits_of}
+use Rattle.rds_stream.proofs.Names.{◌≡◌, ℕ, ◌+◌, ◌-◌, ◌*◌, ◌/◌, ◌%◌, ◌<◌, ◌≤◌, ◌++◌, refl, sym, ap, ◌∙◌, arith, List, length, get_or, drop, length-drop, inl, inr, bit_at, cases_lt, length-append, get_or-drop, get_or_append_left, get_or-append_right, same_lists, get_or-map-range_with_len, packed_bit, bits_of}
 use Rattle.rds_stream.proofs.Places.{length-bits_of}
 
 -- the bits of bytes of which the first are others

@@ -1,16 +1,7 @@
 -- Each bit of a remainder as a sum of bits of its window, and each plane from the one above it.
-use Rattle.std.proofs.Common.{◌≡◌, ℕ, zero, suc, ◌+◌, ◌-◌, ◌*◌, ◌/◌, ◌%◌, ◌^◌, ◌<◌, ◌≤◌, refl, sym, ap, ◌∙◌, arith, bit_xor, List, [], ◌∷◌, map, get_or}
-use mathlib.Core.Path.{ap₂}
-use Rattle.std.specs.Int.{bit_at}
-use Rattle.std.specs.List.{range_with_len}
+use Rattle.rds_stream.proofs.Names.{◌≡◌, ℕ, zero, suc, ◌+◌, ◌-◌, ◌*◌, ◌/◌, ◌%◌, ◌^◌, ◌<◌, ◌≤◌, refl, sym, ap, ◌∙◌, arith, bit_xor, List, [], ◌∷◌, map, get_or, ap₂, bit_at, range_with_len, pow-suc, mod-eq_of_lt, pow_pos, mod_below, div_below, shr_split, bit_at_xor, bit_at-zero, bit_at_cat_low, get_or-map-range_with_len, rem, IsWindowAt, lane}
 use Rattle.std.specs.Int.Bits.{xor_shifted}
-use Rattle.std.proofs.Math.Nat.{pow-suc, mod-eq_of_lt}
-use Rattle.std.proofs.lemmas.Nat.{pow_pos, mod_below, div_below, shr_split}
-use Rattle.std.proofs.lemmas.Nat.Bits.{bit_at_xor, bit_at-zero, bit_at_cat_low}
-use Rattle.std.proofs.lemmas.List.FromFn.{get_or-map-range_with_len}
-use Rattle.rds_code.specs.Remainder.{rem}
 use Rattle.rds_code.specs.Laws.{IsLinear}
-use Rattle.rds_stream.specs.Inside.Lanes.{IsWindowAt, lane}
 use Rattle.rds_stream.proofs.BitOrder.{shr_bit}
 
 -- the remainder of each power of x by the generator

@@ -1,14 +1,7 @@
 -- Words of valid places: places with an offset and without one.
-use Rattle.std.proofs.Common.{◌≡◌, ℕ, ◌+◌, ◌-◌, ◌*◌, ◌/◌, ◌%◌, ◌^◌, ◌<◌, ◌≤◌, refl, sym, ap, ◌∙◌, subst, arith, Option, Some, None, IsSome, inl, inr, bit_or, w64, true≢false}
-use Rattle.std.specs.Int.{bit_at}
-use Rattle.std.proofs.lemmas.Bool.{cases_lt}
-use Rattle.std.proofs.lemmas.Nat.Bits.{bit_at-zero, bit_at_set_same, bit_at_set_other}
-use Rattle.rds_code.specs.declared.offset.Offset.{Offset}
-use Rattle.rds_stream.specs.Recording.{Signal, offset_at}
+use Rattle.rds_stream.proofs.Names.{◌≡◌, ℕ, ◌+◌, ◌-◌, ◌*◌, ◌/◌, ◌%◌, ◌^◌, ◌<◌, ◌≤◌, refl, sym, ap, ◌∙◌, subst, arith, Option, Some, None, IsSome, inl, inr, bit_or, w64, true≢false, bit_at, cases_lt, bit_at-zero, bit_at_set_same, bit_at_set_other, Offset, Signal, offset_at, NoneValid, TellsValidPlaces}
 use Rattle.rds_stream.proofs.BitOrder.{shr_bit}
 use Rattle.rds_stream.proofs.WindowLists.{off_early}
-use Rattle.rds_stream.specs.ValidWindows.{NoneValid}
-use Rattle.rds_stream.specs.Inside.ValidPlaces.{TellsValidPlaces}
 
 pub some_is : (o : Option Offset) → IsSome o → (x : Offset) × (o ≡ Some x)
 some_is None some = absurd (true≢false (sym some))

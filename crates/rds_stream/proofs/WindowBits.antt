@@ -1,10 +1,6 @@
 -- The bits of a window, where the bits of the recording near it are known to be digits.
-use Rattle.std.proofs.Common.{◌≡◌, ℕ, zero, suc, ◌+◌, ◌-◌, ◌*◌, ◌/◌, ◌^◌, ◌<◌, ◌≤◌, sym, ap, ◌∙◌, subst, arith, List, length, get_or, pow_pos, ⊎_elim}
-use Rattle.std.specs.Int.{bit_at}
-use Rattle.std.proofs.lemmas.Bool.{cases_lt}
-use Rattle.std.proofs.Math.Nat.{pow-suc}
-use Rattle.std.proofs.lemmas.Nat.Bits.{bit_at_lowest, bit_at-suc}
-use Rattle.rds_stream.specs.Recording.{window}
+use Rattle.std.proofs.Common.{pow_pos}
+use Rattle.rds_stream.proofs.Names.{◌≡◌, ℕ, zero, suc, ◌+◌, ◌-◌, ◌*◌, ◌/◌, ◌^◌, ◌<◌, ◌≤◌, sym, ap, ◌∙◌, subst, arith, List, length, get_or, ⊎_elim, bit_at, cases_lt, pow-suc, bit_at_lowest, bit_at-suc, window}
 use Rattle.rds_stream.proofs.Places.{number, window_is}
 
 number_lt : (f : ℕ → ℕ) (n i : ℕ) → n ≤ i + 1 → ((k : ℕ) → k ≤ i → i < k + n → f k < 2) → number f n i < 2 ^ n

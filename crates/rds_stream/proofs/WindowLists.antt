@@ -1,14 +1,6 @@
 -- The offsets of places, and the valid windows one place on.
-use Rattle.std.proofs.Common.{suc, zero, ◌≡◌, ℕ, ◌+◌, ◌-◌, ◌<◌, ◌≤◌, refl, sym, ap, ◌∙◌, arith, [], ◌∷◌, ◌++◌, Some, None, option_map, true, false, Option, IsSome, inl, inr, subst, true≢false}
-use Rattle.std.proofs.lemmas.Bool.{cases_Bool, cases_lt, lt-ltb, le-ltb}
-use Rattle.std.specs.List.{range_with_len, filter_map, cons_option}
-use Rattle.std.proofs.lemmas.List.{map-id, append-nil}
-use Rattle.std.proofs.lemmas.List.FromFn.{map-range_with_len_more}
+use Rattle.rds_stream.proofs.Names.{suc, zero, ◌≡◌, ℕ, ◌+◌, ◌-◌, ◌<◌, ◌≤◌, refl, sym, ap, ◌∙◌, arith, [], ◌∷◌, ◌++◌, Some, None, option_map, true, false, Option, IsSome, inl, inr, subst, true≢false, cases_Bool, cases_lt, lt-ltb, le-ltb, range_with_len, filter_map, cons_option, map-id, append-nil, map-range_with_len_more, Offset, rem, offset_of, Signal, window, touched, heard, offset_heard, offset_at, valid_at, valid_windows}
 use Rattle.std.proofs.lemmas.List.Elements.{filter_map-append}
-use Rattle.rds_code.specs.declared.offset.Offset.{Offset}
-use Rattle.rds_code.specs.Remainder.{rem}
-use Rattle.rds_code.specs.Offsets.{offset_of}
-use Rattle.rds_stream.specs.Recording.{Signal, window, touched, heard, offset_heard, offset_at, valid_at, valid_windows}
 
 pub off_early : (b : Signal) (p : ℕ) → p < 25 → offset_at b p ≡ None
 unfolding offset_at

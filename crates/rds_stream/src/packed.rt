@@ -1,5 +1,5 @@
 //! Packed bits with places.
-ghost use Rattle.std.specs.Prelude.{◌≡◌, List, ℕ, ◌+◌, ◌*◌, ◌^◌, ◌<◌, ◌≤◌, ◌-◌, ◌++◌, ◌↔◌, [], ◌∷◌, All, drop, vec_len, length, slice_index, if◌then◌else◌};
+ghost use Rattle.std.specs.Prelude.{◌≡◌, List, ℕ, ◌+◌, ◌*◌, ◌/◌, ◌^◌, ◌<◌, ◌≤◌, ◌-◌, ◌++◌, ◌↔◌, [], ◌∷◌, All, drop, vec_len, length, slice_index, if◌then◌else◌, bit_and};
 ghost use Rattle.rds_stream.specs.declared.error.StreamError.TheVariants.{TooLong, BitsPastBytes};
 ghost use Rattle.std.specs.Int.{bit_at};
 ghost use Rattle.rds_stream.specs.Recording.{packed_bit, bits_of, window};
@@ -14,6 +14,9 @@ pub const MOST_BITS: u64 = 1 << 36;
 
 /// Ones in the places of a block.
 const BLOCK: u32 = (1 << BLOCK_BITS) - 1;
+
+/// The places of seven bytes.
+const SEVEN_BYTES: u64 = 7 * 8;
 
 /// Packed bits with their places from 0 on. Contracts see the list of the bits, each 0 or 1.
 #[derive(Drop)]
@@ -37,6 +40,50 @@ fn bit_of(bytes: &[u8], place: u64) -> u8
     ensures digit { result < 2 }
 {
     bytes[(place / 8) as usize] >> (7 - place % 8) & 1
+}
+
+/// The bits of eight bytes up to `place`, the last one lowest. They hold the windows of two blocks.
+#[inline(always)]
+fn bits_up_to(bytes: &[u8], place: u64) -> u64
+    requires first { 56 ≤ place }
+    requires last { place < 8 * length bytes.now }
+    ensures here { (bits : ℕ) → place < bits → bit_and result (2 ^ 26 - 1) ≡ window (bits_of bytes.now bits) place }
+    ensures before { (bits : ℕ) → place < bits
+        → bit_and (result / 2 ^ 26) (2 ^ 26 - 1) ≡ window (bits_of bytes.now bits) (place - 26) }
+{
+    let last = (place / 8) as usize;
+    let eight = [
+        bytes[last - 7],
+        bytes[last - 6],
+        bytes[last - 5],
+        bytes[last - 4],
+        bytes[last - 3],
+        bytes[last - 2],
+        bytes[last - 1],
+        bytes[last],
+    ];
+    u64::from_be_bytes(eight) >> (7 - place % 8)
+}
+
+/// The window that ends at `place`, which may have fewer than seven bytes before its own.
+#[cold]
+fn early_window(bytes: &[u8], place: u64) -> u32
+    requires first { 25 ≤ place }
+    requires last { place < 8 * length bytes.now }
+    ensures value { (bits : ℕ) → place < bits → result ≡ window (bits_of bytes.now bits) place }
+    ensures block { result < 2 ^ 26 }
+{
+    // A window takes up four bytes, or five if it begins with the last bit of one.
+    let last = (place / 8) as usize;
+    let four = [
+        bytes[last - 3],
+        bytes[last - 2],
+        bytes[last - 1],
+        bytes[last],
+    ];
+    let before = if place % 8 == 0 { bytes[last - 4] } else { 0 };
+    let places = (before as u64) << 32 | u32::from_be_bytes(four) as u64;
+    (places >> (7 - place % 8) & BLOCK as u64) as u32
 }
 
 /// Puts these bytes in the place of the first ones.
@@ -109,23 +156,11 @@ impl Packed {
         ensures value { result ≡ window self.now place }
         ensures block { result < 2 ^ 26 }
     {
-        // The eight bytes up to that of its last bit hold a window; the first 56 places have fewer.
-        let last = (place / 8) as usize;
-        if last < 7 {
-            return self.early_window(place);
-        }
         let bytes = self.bytes.as_slice();
-        let eight = [
-            bytes[last - 7],
-            bytes[last - 6],
-            bytes[last - 5],
-            bytes[last - 4],
-            bytes[last - 3],
-            bytes[last - 2],
-            bytes[last - 1],
-            bytes[last],
-        ];
-        (u64::from_be_bytes(eight) >> (7 - place % 8) & BLOCK as u64) as u32
+        if place < SEVEN_BYTES {
+            return early_window(bytes, place);
+        }
+        (bits_up_to(bytes, place) & BLOCK as u64) as u32
     }
 
     /// The windows of two blocks in a row, of which the second ends at `place`, which is at least 51, and below the
@@ -137,49 +172,14 @@ impl Packed {
         ensures value { result ≡ window self.now (place - 26) ∷ window self.now place ∷ [] }
         ensures blocks { All (λ window. window < 2 ^ 26) result }
     {
-        // The eight bytes up to that of the last bit hold both.
-        let last = (place / 8) as usize;
-        if last < 7 {
+        if place < SEVEN_BYTES {
             return [self.window(place - BLOCK_BITS as u64), self.window(place)];
         }
-        let bytes = self.bytes.as_slice();
-        let eight = u64::from_be_bytes([
-            bytes[last - 7],
-            bytes[last - 6],
-            bytes[last - 5],
-            bytes[last - 4],
-            bytes[last - 3],
-            bytes[last - 2],
-            bytes[last - 1],
-            bytes[last],
-        ]);
-        let up_to = eight >> (7 - place % 8);
+        let up_to = bits_up_to(self.bytes.as_slice(), place);
         [
             (up_to >> BLOCK_BITS & BLOCK as u64) as u32,
             (up_to & BLOCK as u64) as u32,
         ]
-    }
-
-    /// `window` at a place that may have fewer than seven bytes before its own.
-    #[cold]
-    fn early_window(&self, place: u64) -> u32
-        requires first { 25 ≤ place }
-        requires last { place < length self.now }
-        ensures value { result ≡ window self.now place }
-        ensures block { result < 2 ^ 26 }
-    {
-        // A window takes up four bytes, or five if it begins with the last bit of one.
-        let last = (place / 8) as usize;
-        let bytes = self.bytes.as_slice();
-        let four = [
-            bytes[last - 3],
-            bytes[last - 2],
-            bytes[last - 1],
-            bytes[last],
-        ];
-        let before = if place % 8 == 0 { bytes[last - 4] } else { 0 };
-        let places = (before as u64) << 32 | u32::from_be_bytes(four) as u64;
-        (places >> (7 - place % 8) & BLOCK as u64) as u32
     }
 
     /// The bits at the 89 places from `from` on, the first one lowest, in two words of 57 places: the second begins 32

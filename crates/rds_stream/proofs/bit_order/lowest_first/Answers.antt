@@ -1,5 +1,4 @@
-use Rattle.std.proofs.Common.{◌≡◌, ℕ, ◌+◌, ◌-◌, ◌*◌, ◌/◌, ◌%◌, ◌∙◌, ap, arith, get_or, Fits, w8, rules}
-use Rattle.std.specs.Int.{bit_at}
+use Rattle.rds_stream.proofs.Names.{◌≡◌, ℕ, ◌+◌, ◌-◌, ◌*◌, ◌/◌, ◌%◌, ◌∙◌, ap, arith, get_or, Fits, w8, rules, bit_at}
 use Rattle.rds_stream.proofs.BitOrder.{byte_bit, eight_bytes}
 use Rattle.rds_stream.proofs.bit_order.lowest_first.Goals as goal
 

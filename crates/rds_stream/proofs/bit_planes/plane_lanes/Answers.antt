@@ -1,8 +1,4 @@
-use Rattle.std.proofs.Common.{◌≡◌, ℕ, ◌+◌, ◌-◌, ◌*◌, ◌<◌, ◌≤◌, ◌∙◌, sym, ap, arith, get_or}
-use Rattle.std.specs.Int.{bit_at}
-use Rattle.std.proofs.lemmas.Nat.Bits.{bit_at-lt}
-use Rattle.rds_stream.specs.Inside.Lanes.{IsWindowAt}
-use Rattle.rds_stream.specs.Recording.{window}
+use Rattle.rds_stream.proofs.Names.{◌≡◌, ℕ, ◌+◌, ◌-◌, ◌*◌, ◌<◌, ◌≤◌, ◌∙◌, sym, ap, arith, get_or, bit_at, bit_at-lt, IsWindowAt, window}
 use Rattle.rds_stream.proofs.WindowBits.{window_lt, window_bit}
 use Rattle.rds_stream.proofs.bit_planes.plane_lanes.Goals as goal
 

@@ -1,7 +1,5 @@
-use Rattle.std.proofs.Common.{◌≡◌, ℕ, ◌+◌, ◌*◌, ◌/◌, ◌%◌, ◌<◌, ◌∙◌, arith, subst, List, [], ◌∷◌}
-use Rattle.rds_code.specs.Remainder.{rem}
+use Rattle.rds_stream.proofs.Names.{◌≡◌, ℕ, ◌+◌, ◌*◌, ◌/◌, ◌%◌, ◌<◌, ◌∙◌, arith, subst, List, [], ◌∷◌, rem, window}
 use Rattle.rds_stream.specs.Planes.{Hold}
-use Rattle.rds_stream.specs.Recording.{window}
 use Rattle.rds_stream.proofs.RemainderBits.{ten_words}
 use Rattle.rds_stream.proofs.bit_planes.planes.Goals as goal
 

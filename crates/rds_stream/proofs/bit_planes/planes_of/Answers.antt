@@ -1,5 +1,4 @@
-use Rattle.std.proofs.Common.{◌/◌, ◌^◌, ◌∙◌, sym, ap, subst, bit_xor, get_or}
-use mathlib.Core.Path.{ap₂}
+use Rattle.rds_stream.proofs.Names.{◌/◌, ◌^◌, ◌∙◌, sym, ap, subst, bit_xor, get_or, ap₂}
 use Rattle.rds_stream.proofs.RemainderBits.{Sums, shows, in_lane, plane_0, plane_1, plane_2, plane_3, plane_4, plane_5, plane_6, plane_7, plane_8, plane_9}
 use Rattle.rds_stream.proofs.bit_planes.planes_of.Goals as goal
 

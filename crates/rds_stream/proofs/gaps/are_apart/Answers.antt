@@ -1,6 +1,4 @@
-use Rattle.std.proofs.Common.{ℕ, sym, ◌∙◌, leb, leb-true, rules, Bool, true≢false, inl, inr}
-use Rattle.std.proofs.lemmas.Bool.{MatchBool-at_true, MatchBool-at_false, cases_Bool, le-leb}
-use Rattle.std.proofs.lemmas.List.Sorted.{answers_always}
+use Rattle.rds_stream.proofs.Names.{ℕ, sym, ◌∙◌, leb, leb-true, rules, Bool, true≢false, inl, inr, MatchBool-at_true, MatchBool-at_false, cases_Bool, le-leb, answers_always}
 use Rattle.rds_stream.proofs.gaps.are_apart.Goals as goal
 
 pub returns : goal.returns

@@ -1,9 +1,5 @@
-use Rattle.std.proofs.Common.{◌≡◌, ◌<◌, ◌≤◌, ℕ, List, Option, Some, None, Bor, sym, subst, length, leb, leb-true, leb-false, arith, rules, true, false}
-use Rattle.std.specs.List.{HoldsAt}
-use Rattle.std.specs.List.Sorted.{IsPartitionPoint}
+use Rattle.rds_stream.proofs.Names.{◌≡◌, ◌<◌, ◌≤◌, ℕ, List, Option, Some, None, Bor, sym, subst, length, leb, leb-true, leb-false, arith, rules, true, false, HoldsAt, IsPartitionPoint, IsPartitionPoint-from_clause, IsPartitionedBy-leb, AllEndBy, IsFirstAfter}
 use Rattle.std.specs.Option.{MatchOption, option_copied}
-use Rattle.std.proofs.lemmas.List.Sorted.{IsPartitionPoint-from_clause, IsPartitionedBy-leb}
-use Rattle.rds_stream.specs.Inside.Gaps.{AllEndBy, IsFirstAfter}
 use Rattle.rds_stream.proofs.gaps.first_after.Goals as goal
 
 -- the gap after those that end by the place, where there is one

@@ -1,5 +1,4 @@
-use Rattle.std.proofs.Common.{bit_or, ◌∙◌, sym, arith}
-use Rattle.std.proofs.lemmas.Simd.{length-zip2, get_or-zip2}
+use Rattle.rds_stream.proofs.Names.{bit_or, ◌∙◌, sym, arith, length-zip2, get_or-zip2}
 use Rattle.rds_stream.proofs.lanes.either.Goals as goal
 
 pub returns : goal.returns

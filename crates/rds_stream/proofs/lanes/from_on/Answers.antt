@@ -1,5 +1,4 @@
-use Rattle.std.proofs.Common.{◌/◌, ◌^◌, ◌∙◌, arith, ap, replicate, get_or}
-use Rattle.std.proofs.lemmas.Simd.{length-zip2, get_or-zip2, get_or-replicate}
+use Rattle.rds_stream.proofs.Names.{◌/◌, ◌^◌, ◌∙◌, arith, ap, replicate, get_or, length-zip2, get_or-zip2, get_or-replicate}
 use Rattle.rds_stream.proofs.lanes.from_on.Goals as goal
 
 pub returns : goal.returns

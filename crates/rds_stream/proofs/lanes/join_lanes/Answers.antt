@@ -1,5 +1,4 @@
-use Rattle.std.proofs.Common.{◌+◌, ◌*◌, ◌%◌, ◌<◌, ◌≡◌, ◌∙◌, ap, suc, zero, ℕ, arith, get_or, bit_and, bit_or, List}
-use Rattle.std.specs.Int.{bit_at}
+use Rattle.rds_stream.proofs.Names.{◌+◌, ◌*◌, ◌%◌, ◌<◌, ◌≡◌, ◌∙◌, ap, suc, zero, ℕ, arith, get_or, bit_and, bit_or, List, bit_at}
 use Rattle.rds_stream.proofs.BitOrder.{joined_low, joined_high}
 use Rattle.rds_stream.proofs.lanes.join_lanes.Goals as goal
 

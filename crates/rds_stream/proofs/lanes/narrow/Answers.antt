@@ -1,5 +1,4 @@
-use Rattle.std.proofs.Common.{bit_and, bit_xor, ◌∙◌, sym, ap, arith, replicate, get_or}
-use Rattle.std.proofs.lemmas.Simd.{length-zip2, get_or-zip2, get_or-replicate}
+use Rattle.rds_stream.proofs.Names.{bit_and, bit_xor, ◌∙◌, sym, ap, arith, replicate, get_or, length-zip2, get_or-zip2, get_or-replicate}
 use Rattle.std.specs.Simd.Lanes.{zip2}
 use Rattle.rds_stream.proofs.lanes.narrow.Goals as goal
 

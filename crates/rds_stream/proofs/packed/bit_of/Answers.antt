@@ -1,5 +1,4 @@
-use Rattle.std.proofs.Common.{◌-◌, ◌/◌, ◌%◌, get_or}
-use Rattle.std.proofs.lemmas.Nat.Bits.{shr_and_one}
+use Rattle.rds_stream.proofs.Names.{◌-◌, ◌/◌, ◌%◌, get_or, shr_and_one}
 use Rattle.rds_stream.proofs.packed.bit_of.Goals as goal
 
 pub returns-clause-value : goal.returns-clause-value

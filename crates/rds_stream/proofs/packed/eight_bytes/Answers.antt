@@ -1,6 +1,4 @@
-use Rattle.std.proofs.Common.{◌≡◌, ◌+◌, ◌-◌, ◌*◌, ◌/◌, ◌%◌, ◌∙◌, ap, arith, get_or}
-use mathlib.Core.Path.{ap₂}
-use Rattle.std.specs.Int.{bit_at}
+use Rattle.rds_stream.proofs.Names.{◌≡◌, ◌+◌, ◌-◌, ◌*◌, ◌/◌, ◌%◌, ◌∙◌, ap, arith, get_or, ap₂, bit_at}
 use Rattle.rds_stream.proofs.BitOrder.{eight_neighbours}
 use Rattle.rds_stream.proofs.packed.eight_bytes.Goals as goal
 

@@ -1,7 +1,4 @@
-use Rattle.std.proofs.Common.{◌≡◌, ◌+◌, ◌-◌, ◌≤◌, ◌++◌, ◌∷◌, [], ℕ, List, Some, None, sym, ap, ◌∙◌, subst, arith}
-use Rattle.rds_code.specs.declared.offset.Offset.{Offset}
-use Rattle.rds_stream.specs.Recording.{Signal, offset_at, valid_windows}
-use Rattle.rds_stream.specs.ValidWindows.{WindowsLeft, GivesFirst, NoneValid}
+use Rattle.rds_stream.proofs.Names.{◌≡◌, ◌+◌, ◌-◌, ◌≤◌, ◌++◌, ◌∷◌, [], ℕ, List, Some, None, sym, ap, ◌∙◌, subst, arith, Offset, Signal, offset_at, valid_windows, WindowsLeft, GivesFirst, NoneValid}
 use Rattle.rds_stream.proofs.WindowLists.{valid_over, valid_with}
 use Rattle.rds_stream.proofs.scanning.scan.Invariants.{HasScanned}
 use Rattle.rds_stream.proofs.scanning.scan.Goals as goal

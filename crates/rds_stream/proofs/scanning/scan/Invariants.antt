@@ -1,7 +1,4 @@
-use Rattle.std.proofs.Common.{◌≡◌, ◌≤◌, ℕ, List}
-use Rattle.rds_code.specs.declared.offset.Offset.{Offset}
-use Rattle.rds_stream.specs.Recording.{Signal, valid_windows}
-use Rattle.rds_stream.specs.ValidWindows.{WindowsLeft}
+use Rattle.rds_stream.proofs.Names.{◌≡◌, ◌≤◌, ℕ, List, Offset, Signal, valid_windows, WindowsLeft}
 use Rattle.rds_stream.proofs.scanning.scan.Given as goal
 
 -- the windows found so far are all that are valid so far

@@ -1,5 +1,4 @@
-use Rattle.std.proofs.Common.{◌≡◌, ◌+◌, ◌/◌, ◌^◌, ◌∙◌, ap, arith}
-use Rattle.std.specs.Int.{bit_at}
+use Rattle.rds_stream.proofs.Names.{◌≡◌, ◌+◌, ◌/◌, ◌^◌, ◌∙◌, ap, arith, bit_at}
 use Rattle.rds_stream.proofs.BitOrder.{shr_bit}
 use Rattle.rds_stream.proofs.valid_places.above.Goals as goal
 

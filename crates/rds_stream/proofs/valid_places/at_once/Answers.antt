@@ -1,9 +1,4 @@
-use Rattle.std.proofs.Common.{◌≡◌, ◌↔◌, ◌+◌, ◌*◌, ◌/◌, ◌%◌, ◌<◌, ◌∙◌, ap, sym, subst, arith, get_or, ℕ, Option, IsSome}
-use Rattle.std.specs.Int.{bit_at}
-use Rattle.rds_code.specs.declared.offset.Offset.{Offset}
-use Rattle.rds_code.specs.Remainder.{rem}
-use Rattle.rds_code.specs.Offsets.{offset_of}
-use Rattle.rds_stream.specs.Recording.{window}
+use Rattle.rds_stream.proofs.Names.{◌≡◌, ◌↔◌, ◌+◌, ◌*◌, ◌/◌, ◌%◌, ◌<◌, ◌∙◌, ap, sym, subst, arith, get_or, ℕ, Option, IsSome, bit_at, Offset, rem, offset_of, window}
 use Rattle.rds_stream.proofs.WindowLists.{off_clear}
 use Rattle.rds_stream.proofs.valid_places.at_once.Goals as goal
 

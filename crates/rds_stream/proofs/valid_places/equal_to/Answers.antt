@@ -1,8 +1,4 @@
-use Rattle.std.proofs.Common.{◌≡◌, ◌↔◌, ◌+◌, ◌-◌, ◌∙◌, sym, subst, ap, refl, arith, get_or}
-use Rattle.std.specs.Int.{bit_at}
-use Rattle.std.proofs.lemmas.Nat.Bits.{bit_at_ones, bit_at-zero, shr_and_one}
-use Rattle.std.proofs.lemmas.Simd.{get_or-replicate}
-use Rattle.rds_stream.specs.Inside.Lanes.{lane}
+use Rattle.rds_stream.proofs.Names.{◌≡◌, ◌↔◌, ◌+◌, ◌-◌, ◌∙◌, sym, subst, ap, refl, arith, get_or, bit_at, bit_at_ones, bit_at-zero, shr_and_one, get_or-replicate, lane}
 use Rattle.rds_stream.proofs.Agreement.{Agree, agree_more, agree_is, not_one}
 use Rattle.rds_stream.proofs.valid_places.equal_to.Goals as goal
 use Rattle.rds_stream.proofs.valid_places.equal_to.Goals.{then-word-r-eq1, else-word-r-eq1}

@@ -1,5 +1,4 @@
-use Rattle.std.proofs.Common.{◌≡◌, ℕ, ◌<◌, ◌↔◌, slice_index}
-use Rattle.std.specs.Int.{bit_at}
+use Rattle.rds_stream.proofs.Names.{◌≡◌, ℕ, ◌<◌, ◌↔◌, slice_index, bit_at}
 use Rattle.rds_stream.proofs.Agreement.{Agree}
 use Rattle.rds_stream.proofs.valid_places.equal_to.Given as goal
 

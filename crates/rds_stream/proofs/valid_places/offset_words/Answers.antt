@@ -1,5 +1,4 @@
-use Rattle.std.proofs.Common.{◌∙◌, ap, bit_or, get_or}
-use mathlib.Core.Path.{ap₂}
+use Rattle.rds_stream.proofs.Names.{◌∙◌, ap, bit_or, get_or, ap₂}
 use Rattle.rds_stream.proofs.Agreement.{offset_bit, told}
 use Rattle.rds_stream.proofs.valid_places.offset_words.Goals as goal
 

@@ -1,7 +1,4 @@
-use Rattle.std.proofs.Common.{ℕ, Option, IsSome, true≢false, ◌+◌, ◌∙◌, sym, subst, arith}
-use Rattle.rds_code.specs.declared.offset.Offset.{Offset}
-use Rattle.rds_stream.specs.Recording.{offset_at}
-use Rattle.rds_stream.specs.Inside.ValidPlaces.{TellsValidPlaces}
+use Rattle.rds_stream.proofs.Names.{ℕ, Option, IsSome, true≢false, ◌+◌, ◌∙◌, sym, subst, arith, Offset, offset_at, TellsValidPlaces}
 use Rattle.rds_stream.proofs.WindowLists.{off_clear}
 use Rattle.rds_stream.proofs.ValidPlaceLemmas.{with_valid, with_invalid, none_is}
 use Rattle.rds_stream.proofs.valid_places.one_by_one.Goals as goal

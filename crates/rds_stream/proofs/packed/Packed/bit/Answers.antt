@@ -1,5 +1,4 @@
-use Rattle.std.proofs.Common.{◌≡◌, ℕ, zero, suc, ◌<◌, ◌∙◌, sym, ap, refl, arith, length, get_or, nat_eq, if◌then◌else◌}
-use Rattle.rds_stream.specs.Recording.{packed_bit}
+use Rattle.rds_stream.proofs.Names.{◌≡◌, ℕ, zero, suc, ◌<◌, ◌∙◌, sym, ap, refl, arith, length, get_or, nat_eq, if◌then◌else◌, packed_bit}
 use Rattle.rds_stream.proofs.Places.{length-bits_of, get_or-bits_of}
 use Rattle.rds_stream.proofs.packed.Packed.bit.Goals as goal
 

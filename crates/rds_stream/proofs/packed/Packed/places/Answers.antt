@@ -1,6 +1,4 @@
-use Rattle.std.proofs.Common.{◌≡◌, ◌+◌, ◌*◌, ◌/◌, ◌%◌, ◌^◌, ◌<◌, ◌∙◌, ℕ, zero, suc, [], ◌∷◌, sym, ap, arith, length, get_or}
-use Rattle.std.specs.Int.{bit_at}
-use Rattle.rds_stream.specs.Recording.{packed_bit}
+use Rattle.rds_stream.proofs.Names.{◌≡◌, ◌+◌, ◌*◌, ◌/◌, ◌%◌, ◌^◌, ◌<◌, ◌∙◌, ℕ, zero, suc, [], ◌∷◌, sym, ap, arith, length, get_or, bit_at, packed_bit}
 use Rattle.rds_stream.proofs.Places.{length-bits_of, get_or-bits_of}
 use Rattle.rds_stream.proofs.BitOrder.{shr_bit}
 use Rattle.rds_stream.proofs.packed.Packed.places.Goals as goal

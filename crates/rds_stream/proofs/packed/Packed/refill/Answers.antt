@@ -1,6 +1,4 @@
-use Rattle.std.proofs.Common.{◌≤◌, ◌*◌, ◌++◌, ℕ, List, length, drop, sym, ap, ◌∙◌, arith}
-use Rattle.std.proofs.lemmas.List.{with_items_is}
-use Rattle.rds_stream.specs.Recording.{bits_of}
+use Rattle.rds_stream.proofs.Names.{◌≤◌, ◌*◌, ◌++◌, ℕ, List, length, drop, sym, ap, ◌∙◌, arith, with_items_is, bits_of}
 use Rattle.rds_stream.proofs.Places.{length-bits_of}
 use Rattle.rds_stream.proofs.Refilling.{bits-refilled}
 use Rattle.rds_stream.proofs.packed.Packed.refill.Goals as goal

@@ -1,38 +1,21 @@
-use Rattle.std.proofs.Common.{ℕ, ◌<◌, ◌∙◌, ap, arith, length, get_or, Fits, w8, rules}
-use Rattle.rds_stream.specs.Recording.{bits_of, window}
-use Rattle.rds_stream.proofs.Places.{length-bits_of, window_of_eight}
+use Rattle.rds_stream.proofs.Names.{◌∙◌, ap, arith, length, bits_of, window}
+use Rattle.rds_stream.proofs.Places.{length-bits_of}
 use Rattle.rds_stream.proofs.packed.Packed.window.Goals as goal
 
-pub bounds-bytes-last : goal.bounds-bytes-last
-bounds-bytes-last c = omega (arith, length-bits_of c.self.inside.bytes.items c.self.inside.bits, ap length c.self.view_is)
+pub early_window-requires-clause-last : goal.early_window-requires-clause-last
+early_window-requires-clause-last c = omega (arith, length-bits_of c.self.inside.bytes.items c.self.inside.bits, ap length c.self.view_is, ap length c.as_slice-bytes.ensures.value)
 
-pub bounds-bytes-last-2 : goal.bounds-bytes-last-2
-bounds-bytes-last-2 c = omega (arith, length-bits_of c.self.inside.bytes.items c.self.inside.bits, ap length c.self.view_is)
+pub returns-then-place-lt-SEVEN_BYTES-clause-value : goal.returns-then-place-lt-SEVEN_BYTES-clause-value
+returns-then-place-lt-SEVEN_BYTES-clause-value c =
+    let bits = c.self.inside.bits in
+    c.early_window.ensures.value bits (omega (arith, length-bits_of c.self.inside.bytes.items bits, ap length c.self.view_is))
+    ∙ ap (λ b. window (bits_of b bits) c.args.place) c.as_slice-bytes.ensures.value ∙ ap (λ b. window b c.args.place) c.self.view_is
 
-pub bounds-bytes-last-3 : goal.bounds-bytes-last-3
-bounds-bytes-last-3 c = omega (arith, length-bits_of c.self.inside.bytes.items c.self.inside.bits, ap length c.self.view_is)
-
-pub bounds-bytes-last-4 : goal.bounds-bytes-last-4
-bounds-bytes-last-4 c = omega (arith, length-bits_of c.self.inside.bytes.items c.self.inside.bits, ap length c.self.view_is)
-
-pub bounds-bytes-last-5 : goal.bounds-bytes-last-5
-bounds-bytes-last-5 c = omega (arith, length-bits_of c.self.inside.bytes.items c.self.inside.bits, ap length c.self.view_is)
-
-pub bounds-bytes-last-6 : goal.bounds-bytes-last-6
-bounds-bytes-last-6 c = omega (arith, length-bits_of c.self.inside.bytes.items c.self.inside.bits, ap length c.self.view_is)
-
-pub bounds-bytes-last-7 : goal.bounds-bytes-last-7
-bounds-bytes-last-7 c = omega (arith, length-bits_of c.self.inside.bytes.items c.self.inside.bits, ap length c.self.view_is)
-
-pub bounds-bytes-last-8 : goal.bounds-bytes-last-8
-bounds-bytes-last-8 c = omega (arith, length-bits_of c.self.inside.bytes.items c.self.inside.bits, ap length c.self.view_is)
+pub bits_up_to-requires-clause-last : goal.bits_up_to-requires-clause-last
+bits_up_to-requires-clause-last c = omega (arith, length-bits_of c.self.inside.bytes.items c.self.inside.bits, ap length c.self.view_is, ap length c.as_slice-bytes.ensures.value)
 
 pub returns-clause-value : goal.returns-clause-value
 returns-clause-value c =
-    let bytes = c.as_slice-bytes.result.now in
     let bits = c.self.inside.bits in
-    let i = c.args.place in
-    let held : i < bits = omega (arith, length-bits_of c.self.inside.bytes.items bits, ap length c.self.view_is) in
-    let fits : (k : ℕ) → Fits w8 (get_or bytes k 0) = search rules in
-    window_of_eight bytes bits i c.from_be_bytes.result c.requires.first held (omega arith) (λ k. (fits k).fits) c.from_be_bytes.ensures
-    ∙ ap (λ b. window (bits_of b bits) i) c.as_slice-bytes.ensures.value ∙ ap (λ b. window b i) c.self.view_is
+    c.bits_up_to.ensures.here bits (omega (arith, length-bits_of c.self.inside.bytes.items bits, ap length c.self.view_is))
+    ∙ ap (λ b. window (bits_of b bits) c.args.place) c.as_slice-bytes.ensures.value ∙ ap (λ b. window b c.args.place) c.self.view_is

@@ -1,5 +1,4 @@
-use Rattle.std.proofs.Common.{◌≡◌, ◌≤◌, ◌+◌, ◌-◌, ℕ, get_or, List, [], ◌∷◌, Option, Some, ap, sym, ◌∙◌, arith}
-use Rattle.rds_stream.specs.Recording.{Signal, heard, window}
+use Rattle.rds_stream.proofs.Names.{◌≡◌, ◌≤◌, ◌+◌, ◌-◌, ℕ, get_or, List, [], ◌∷◌, Option, Some, ap, sym, ◌∙◌, arith, Signal, heard, window}
 use Rattle.rds_stream.proofs.WindowLists.{heard_clear}
 use Rattle.rds_stream.proofs.reader.Reader.four_windows.Goals as goal
 

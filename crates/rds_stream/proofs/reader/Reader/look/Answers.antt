@@ -1,5 +1,4 @@
-use Rattle.std.proofs.Common.{ap, sym, ◌∙◌, Some}
-use Rattle.rds_stream.specs.Recording.{Signal, heard}
+use Rattle.rds_stream.proofs.Names.{ap, sym, ◌∙◌, Some, Signal, heard}
 use Rattle.rds_stream.proofs.WindowLists.{heard_clear, heard_touched}
 use Rattle.rds_stream.proofs.reader.Reader.look.Goals as goal
 use Rattle.rds_stream.proofs.reader.Reader.look.Goals.{then-self, else-self}

@@ -1,5 +1,4 @@
-use Rattle.std.proofs.Common.{ap, sym, ◌∙◌, arith, Some}
-use Rattle.rds_stream.specs.Recording.{Signal, heard}
+use Rattle.rds_stream.proofs.Names.{ap, sym, ◌∙◌, arith, Some, Signal, heard}
 use Rattle.rds_stream.proofs.WindowLists.{heard_clear}
 use Rattle.rds_stream.proofs.reader.Reader.window.Goals as goal
 

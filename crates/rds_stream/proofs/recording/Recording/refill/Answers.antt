@@ -1,7 +1,5 @@
-use Rattle.std.proofs.Common.{◌≡◌, ◌*◌, ◌++◌, ◌∙◌, ℕ, List, length, length-drop, drop, sym, ap, subst, arith}
+use Rattle.rds_stream.proofs.Names.{◌≡◌, ◌*◌, ◌++◌, ◌∙◌, ℕ, List, length, length-drop, drop, sym, ap, subst, arith, length-append, with_items_is, AreGaps, Signal, bits_of}
 use Rattle.std.specs.Vec.{with_items}
-use Rattle.std.proofs.lemmas.List.{length-append, with_items_is}
-use Rattle.rds_stream.specs.Recording.{AreGaps, Signal, bits_of}
 use Rattle.rds_stream.proofs.Places.{length-bits_of}
 use Rattle.rds_stream.proofs.recording.Recording.refill.Goals as goal
 

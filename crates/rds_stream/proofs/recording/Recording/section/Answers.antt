@@ -1,8 +1,4 @@
-use Rattle.std.proofs.Common.{ℕ, ◌-◌, List, arith, subst, sym, true, false, length}
-use Rattle.std.specs.List.Sorted.{IsNonDecreasingBy}
-use Rattle.rds_stream.specs.Recording.{Signal}
-use Rattle.rds_stream.specs.Inside.Gaps.{AllEndBy, IsFirstAfter}
-use Rattle.rds_stream.specs.Inside.Sections.{IsSection}
+use Rattle.rds_stream.proofs.Names.{ℕ, ◌-◌, List, arith, subst, sym, true, false, length, IsNonDecreasingBy, Signal, AllEndBy, IsFirstAfter, IsSection}
 use Rattle.rds_stream.proofs.GapLemmas.{ends_rise, touched_on, clear_before, clear_after}
 use Rattle.rds_stream.proofs.recording.Recording.section.Goals as goal
 

@@ -1,5 +1,4 @@
-use Rattle.std.proofs.Common.{ℕ, List, ap, refl, sym, ◌∙◌, subst, length}
-use Rattle.rds_stream.specs.Recording.{AreGaps}
+use Rattle.rds_stream.proofs.Names.{ℕ, List, ap, refl, sym, ◌∙◌, subst, length, AreGaps}
 use Rattle.rds_stream.proofs.Places.{length-bits_of}
 use Rattle.rds_stream.proofs.recording.Recording.with_gaps.Goals as goal
 

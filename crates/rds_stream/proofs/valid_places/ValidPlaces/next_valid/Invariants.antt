@@ -1,10 +1,6 @@
-use Rattle.std.proofs.Common.{◌≤◌, ◌<◌, ◌-◌, ℕ}
+use Rattle.rds_stream.proofs.Names.{◌≤◌, ◌<◌, ◌-◌, ℕ, Signal, IsSection, NoneValid, TellsValidPlaces}
 use Rattle.rds_stream.specs.declared.valid_places.ValidPlaces.{ValidPlaces}
-use Rattle.rds_stream.specs.Recording.{Signal}
 use Rattle.rds_stream.specs.declared.gaps.Section.{Section}
-use Rattle.rds_stream.specs.Inside.Sections.{IsSection}
-use Rattle.rds_stream.specs.ValidWindows.{NoneValid}
-use Rattle.rds_stream.specs.Inside.ValidPlaces.{TellsValidPlaces}
 use Rattle.rds_stream.proofs.valid_places.ValidPlaces.next_valid.Given as goal
 
 -- no place from `from` to the first of these has an offset, and the known section is one

@@ -1,5 +1,4 @@
-use Rattle.std.proofs.Common.{arith}
-use Rattle.std.proofs.lemmas.Nat.Bits.{bit_at_above}
+use Rattle.rds_stream.proofs.Names.{arith, bit_at_above}
 use Rattle.rds_stream.proofs.valid_places.ValidPlaces.of.Goals as goal
 
 pub returns-clause-places : goal.returns-clause-places

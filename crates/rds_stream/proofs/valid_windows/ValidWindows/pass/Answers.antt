@@ -1,5 +1,4 @@
-use Rattle.std.proofs.Common.{◌≤◌, ap, arith}
-use Rattle.rds_stream.specs.ValidWindows.{WindowsLeft}
+use Rattle.rds_stream.proofs.Names.{◌≤◌, ap, arith, WindowsLeft}
 use Rattle.rds_stream.proofs.valid_windows.ValidWindows.pass.Goals as goal
 
 pub invariant_of-self : goal.invariant_of-self

@@ -1,9 +1,4 @@
-use Rattle.std.proofs.Common.{◌≡◌, ◌+◌, ℕ, Option, Some, None, IsSome, refl, sym, ◌∙◌, subst, arith}
-use Rattle.rds_code.specs.declared.offset.Offset.{Offset}
-use Rattle.rds_code.specs.Offsets.{offset_of}
-use Rattle.rds_code.specs.Remainder.{rem}
-use Rattle.rds_stream.specs.Recording.{Signal, offset_at, window}
-use Rattle.rds_stream.specs.ValidWindows.{WindowsLeft, GivesFirst}
+use Rattle.rds_stream.proofs.Names.{◌≡◌, ◌+◌, ℕ, Option, Some, None, IsSome, refl, sym, ◌∙◌, subst, arith, Offset, offset_of, rem, Signal, offset_at, window, WindowsLeft, GivesFirst}
 use Rattle.rds_stream.proofs.WindowLists.{off_stored}
 use Rattle.rds_stream.proofs.ValidPlaceLemmas.{never_some, none_ahead, none_below, join_none, one_valid, places_behind, valid_late}
 use Rattle.rds_stream.proofs.valid_windows.ValidWindowsIterator.next.Goals as goal
