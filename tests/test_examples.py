@@ -128,29 +128,6 @@ def test_a_stream_that_may_begin_anew(rds: str, listing: bytes, tmp_path: Path) 
     assert run("sh", "-c", script, data=held, cwd=tmp_path, env=variables) == (0, listing, b"")
 
 
-# ---- the sample
-
-
-def test_first_decode(listing: bytes) -> None:
-    assert listing.decode().splitlines()[:4] == [
-        "acquired,51,2,-,-,-,-,-",
-        "group,26,0,A,none,B:0548,C:E100,D:5041",
-        "group,104,0,A,A:D393,B:0549,C:E100,D:584F",
-        "group,208,0,A,A:D393,B:054A,C:E100,D:4C49",
-    ]
-
-
-@pytest.mark.parametrize("name, count", [("complete", 1922), ("valid", 7691), ("acquired", 1), ("losses", 0)])
-def test_total_of_the_sample(listing: bytes, name: str, count: int) -> None:
-    assert f"total,{name},{count},-,-,-,-,-" in listing.decode().splitlines()
-
-
-def test_groups_of_the_sample(listing: bytes, cases: Cases) -> None:
-    cases(2)
-    groups = [row for row in listing.decode().splitlines() if row.startswith("group,")]
-    assert (len(groups), sum(",A:D393," in row for row in groups)) == (1923, 1922)
-
-
 # ---- three hours of a station, with an outage, a slip, a change of programme and dropped samples
 
 ERRORS = """begin_s,end_s,sent,valid,corrected,lost,no_sync,bad_percent

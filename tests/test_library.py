@@ -333,7 +333,8 @@ def streamed(module: ModuleType, call: Call, seed: int) -> tuple[list[object], o
     return items + last, totals, at_once.stream == stream
 
 
-RECORDINGS = 2000
+# Each burst and reach come together some twenty times.
+RECORDINGS = 1000
 
 
 @pytest.fixture(scope="session")
@@ -417,7 +418,7 @@ def test_eight_threads_at_once(module: ModuleType) -> None:
     alone = [*map(decoded, range(8))]
     assert all(rows == at_once for rows, at_once in alone)
     with ThreadPoolExecutor(8) as pool:
-        assert [*pool.map(decoded, [*range(8)] * 20)] == alone * 20
+        assert [*pool.map(decoded, [*range(8)] * 5)] == alone * 5
 
 
 # ---- texts, memory and stack

@@ -12,9 +12,9 @@ def blocks(bench: str, windows: list[Window]) -> list[str]:
     return said(bench, "--soft", data=b"".join(window.packed() for window in windows)).splitlines()
 
 
-@pytest.mark.parametrize("seed", range(10))
+@pytest.mark.parametrize("seed", range(4))
 def test_flips_of_up_to_six(rds_bench: str, seed: int) -> None:
-    """10,000 windows, in which no more than six symbols are flipped."""
+    """10,000 windows, in which no more than six symbols are flipped: each of the 1,024 remainders comes some ten times."""
     numbers = np.random.default_rng(seed)
     windows = [random_window(numbers, SEVEN_ARE_TOO_MANY) for _ in range(10_000)]
     found = blocks(rds_bench, windows)
@@ -26,14 +26,14 @@ def test_flips_of_up_to_six(rds_bench: str, seed: int) -> None:
 def test_any_flips(rds_bench: str, least: int) -> None:
     """Windows with symbols of any size, erasures too, against each of the 2^27 flips."""
     numbers = np.random.default_rng(least)
-    windows = [random_window(numbers, least) for _ in range(400)]
+    windows = [random_window(numbers, least) for _ in range(150)]
     assert blocks(rds_bench, windows) == [spelled(window, True) for window in windows]
 
 
 def test_bytes_of_any_size(rds_bench: str) -> None:
     """Random bytes, -128 among them, and an extreme: all symbols of -128, whose bits are 0."""
     numbers = np.random.default_rng(9)
-    rows = numbers.integers(-128, 128, (300, 27)).astype(np.int8)
+    rows = numbers.integers(-128, 128, (150, 27)).astype(np.int8)
     rows[0] = -128
     windows = [Window(1 + i % 4, i % 3, 1 + i % 127, row) for i, row in enumerate(rows)]
     assert blocks(rds_bench, windows) == [spelled(window, True) for window in windows]

@@ -196,7 +196,6 @@ SEEN: list[tuple[str, str, Callable[[str, Path], object]]] = [
     ),
     ("crew_differs", "", lambda rds, _: test_listings.test_crew(rds, "station", (16, 4))),
     ("silent hanging content other_status no_progress noisy", "", refused),
-    ("silent", "", lambda rds, _: test_examples.test_first_decode(wrote(rds, "list", data=SAMPLE))),
     ("hanging", "", lambda rds, at: test_examples.Day(rds, at)),
     ("silent hanging", "", lambda rds, _: test_package.test_completion(rds, test_package.by_bash, "list")),
     ("one_byte_short", "", lambda rds, _: test_differential.test_places_of_each_length(rds, 2)),
@@ -225,6 +224,8 @@ SEEN: list[tuple[str, str, Callable[[str, Path], object]]] = [
 def test_wrong_program(
     wrong: Callable[[str], str], tmp_path: Path, monkeypatch: Any, program: str, text: str, test: Any
 ) -> None:
+    # a wrong program is no more right at the fifteenth attempt
+    monkeypatch.setattr(test_growth, "ATTEMPTS", 3)
     if program == "hanging":
         monkeypatch.setenv("LIMIT", "1")
         for module in (running, test_program, test_differential, test_growth, test_refusals, test_progress):
@@ -267,7 +268,8 @@ BENCHES = {
 
 
 @pytest.mark.parametrize("name", BENCHES)
-def test_wrong_bench(tmp_path: Path, name: str) -> None:
+def test_wrong_bench(tmp_path: Path, monkeypatch: Any, name: str) -> None:
+    monkeypatch.setattr(test_growth, "ATTEMPTS", 3)
     edit, forms, text = BENCHES[name]
     inputs = test_growth.Inputs(tmp_path)
     times = "([scan]=1 [windows]=1 [places]=4 [divided]=16 [report]=1 [guess]=1 [items]=4)"
@@ -413,28 +415,37 @@ def test_without(): needs("a-tool-that-is-not-there")
 
 # A row of the table, of which 1 passed and 1 was skipped; what the gate says of tools, and whether the run passes.
 ALL_TOOLS = {"RDS_ALL_TOOLS": "1"}
-ROWS_OF_COUNTS: list[tuple[str, dict[str, str], bool]] = [
-    ("2\t0", {}, True),
-    ("3\t0", {}, False),
-    ("2\t0", ALL_TOOLS, False),
-    ("1\t1", ALL_TOOLS, True),
+ROWS_OF_COUNTS: list[tuple[list[int], dict[str, str], bool]] = [
+    ([2, 0], {}, True),
+    ([3, 0], {}, False),
+    ([2, 0], ALL_TOOLS, False),
+    ([1, 1], ALL_TOOLS, True),
     # one is skipped that was not there
-    ("1\t0", ALL_TOOLS, False),
-    ("2\t0", {**ALL_TOOLS, "RDS_LACKING": "a-tool its-package"}, False),
-    ("2\t0", {**ALL_TOOLS, "RDS_LACKING": "a-tool-that-is-not-there its-package"}, True),
-    ("2\t1", {**ALL_TOOLS, "RDS_LACKING": "a-tool-that-is-not-there its-package"}, True),
+    ([1, 0], ALL_TOOLS, False),
+    ([2, 0], {**ALL_TOOLS, "RDS_LACKING": "a-tool its-package"}, False),
+    ([2, 0], {**ALL_TOOLS, "RDS_LACKING": "a-tool-that-is-not-there its-package"}, True),
+    ([2, 1], {**ALL_TOOLS, "RDS_LACKING": "a-tool-that-is-not-there its-package"}, True),
 ]
 
 
-def test_fewer_tests_than_the_table_has(copy: Path, cases: Cases) -> None:
+def test_fewer_tests_than_the_table_has(copy: Path, request: Any, monkeypatch: Any, cases: Cases) -> None:
     """A test that is gone fails the run, and if all tools have to be there one that is skipped too, unless its tool cannot be had."""
     (copy / "tests" / "test_some.py").write_text(SKIPPING)
-    for row, variables, is_enough in ROWS_OF_COUNTS:
-        (copy / "tests" / "counts.tsv").write_text(f"file\tpassed\tskipped\ntests/test_some.py\t{row}\n")
-        ended = outcome_of("test_some.py", top=copy, **{"RDS_ALL_TOOLS": "", "RDS_LACKING": "", **variables})
-        text, fault = ended.out.decode(), "tests/counts.tsv: tests/test_some.py: 1 passed and 1 skipped"
-        assert (ended.status == 0) == is_enough, text
-        assert "there is no a-tool-that-is-not-there on the PATH" in text and (is_enough or fault in text)
+    reason, fault = (
+        "there is no a-tool-that-is-not-there on the PATH",
+        "tests/test_some.py: 1 passed and 1 skipped",
+    )
+    runner = request.config.pluginmanager.get_plugin(f"{TOP}/tests/conftest.py")
+    for number, (wanted, variables, is_enough) in enumerate(ROWS_OF_COUNTS):
+        for name in ("RDS_ALL_TOOLS", "RDS_LACKING"):
+            monkeypatch.setenv(name, variables.get(name, ""))
+        assert runner.is_short([1, 1, int(runner.is_excused(reason))], wanted) != is_enough, variables
+        if number < 2:
+            row = f"tests/test_some.py\t{wanted[0]}\t{wanted[1]}"
+            (copy / "tests" / "counts.tsv").write_text(f"file\tpassed\tskipped\n{row}\n")
+            ended = outcome_of("test_some.py", top=copy)
+            text = ended.out.decode()
+            assert (ended.status == 0) == is_enough == (fault not in text) and reason in text, text
     cases(len(ROWS_OF_COUNTS))
 
 
@@ -455,26 +466,25 @@ def test_file_that_is_gone(copy: Path) -> None:
     )
 
 
-def test_tests_that_run_alone_count(copy: Path) -> None:
-    alone = "import pytest\n@pytest.mark.alone\ndef test_of_time(): assert False\n"
-    (copy / "tests" / "test_some.py").write_text(alone)
-    ended = run(sys.executable, "-m", "pytest", "-n", "1", "test_some.py", cwd=copy / "tests")
-    assert ended.status == 1 and "1 failed" in ended.out.decode()
-
-
-GROUP = """
+BY_WORKERS = """
 import pytest
+@pytest.mark.alone
+def test_of_time(): assert False
 @pytest.mark.xdist_group("one")
 @pytest.mark.parametrize("number", range(8))
 def test_of_a_group(number, worker_id): open("workers", "a").write(worker_id + " ")
 """
 
 
-def test_group_runs_by_one_worker(copy: Path) -> None:
-    (copy / "tests" / "test_some.py").write_text(GROUP)
-    ended = run(sys.executable, "-m", "pytest", "-q", "-n", "2", "test_some.py", cwd=copy / "tests")
+def test_run_by_workers(copy: Path, cases: Cases) -> None:
+    """A group runs by one of them, and tests that run alone count."""
+    (copy / "tests" / "test_some.py").write_text(BY_WORKERS)
+    ended = run(sys.executable, *"-B -m pytest -n 2 test_some.py".split(), cwd=copy / "tests")
     workers = (copy / "tests" / "workers").read_text().split()
     assert len(workers) == 8 and len({*workers}) == 1, ended.out
+    text = ended.out.decode()
+    assert ended.status == 1 and "1 failed" in text and "8 passed" in text, text
+    cases(2)
 
 
 @pytest.mark.parametrize("test, status", [("test_fields.py", 0), ("test_rooms.py", 1)])
@@ -486,15 +496,15 @@ def test_random_edit(test: str, status: int) -> None:
 
 
 def test_random_edits_of_the_day(rds: str, librds: str, cases: Cases) -> None:
-    """Of 12 edits, others each day, the nearest tests see some. build/mutants has them; by all tests `tests/mutants.py` tries more."""
+    """Of 6 edits, others each day, the nearest tests see one. build/mutants has them; by all tests `tests/mutants.py` tries more."""
     variables = {**os.environ, "RDS": rds, "RDS_LIBRARY": f"{librds}/librds.so.0", "PYTEST_ADDOPTS": ""}
-    # Two near tests miss up to half of the edits, and one in ten changes nothing: fewer than three seen are no chance.
-    words = f"--seed {time.strftime('%Y%m%d')} --count 12 --near 2 --unseen 9".split()
+    # Two near tests miss up to half of the edits, and one in ten changes nothing: six unseen ones are no chance.
+    words = f"--seed {time.strftime('%Y%m%d')} --count 6 --near 2 --unseen 5".split()
     ended = run(sys.executable, TOP / "tests" / "mutants.py", *words, env=variables, timeout=1800)
     (TOP / "build").mkdir(exist_ok=True)
     (TOP / "build" / "mutants").write_bytes(ended.out)
     assert ended.status == 0 and b" edits are seen" in ended.out, ended
-    cases(12)
+    cases(6)
 
 
 # ---- the tools

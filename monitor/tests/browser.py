@@ -19,6 +19,13 @@ def missing() -> List[str]:
 LACKING = [*missing(), *([] if Path("/usr/share/javascript/d3/d3.min.js").exists() else ["libjs-d3"])]
 
 
+def wait_until(driver: Any, told: str, *given: Any) -> None:
+    """Until a script says true: the browser draws anew, or has another page, some time after it is told to."""
+    from selenium.webdriver.support.wait import WebDriverWait
+
+    WebDriverWait(driver, 60, 0.05).until(lambda asked: asked.execute_script(told, *given))
+
+
 @contextmanager
 def browser(folder: Path, width: int = 1100, height: int = 900, dark: bool = False) -> Iterator[Any]:
     """A browser whose profile is in a folder, and which has no network."""

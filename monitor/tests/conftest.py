@@ -31,6 +31,8 @@ sys.path[:0] = [str(TOP / "monitor"), str(TOP / "bindings" / "python")]
 os.environ["PYTHONPATH"] = os.pathsep.join(sys.path[:2])
 
 STATION = TOP / "examples" / "station.bin"
+# The command, in a process of its own.
+monitor = forked.run
 # The command, as a process of its own.
 COMMAND = [sys.executable, "-m", "rds_monitor"]
 
@@ -48,13 +50,6 @@ def ran(words: Sequence[Any], **options: Any) -> "subprocess.CompletedProcess[st
 def encode(groups: Iterable[Sequence[int]]) -> bytes:
     """The bits of groups, given by their four information words."""
     return rds("encode", data="".join("%04X%04X%04X%04X\n" % tuple(group) for group in groups).encode())
-
-
-def monitor(*words: Any, data: bytes = b"", **options: Any) -> "subprocess.CompletedProcess[bytes]":
-    """The command, in a process of its own; in another environment, in one that has imported nothing yet."""
-    if "env" not in options:
-        return forked.run(*words, data=data, **options)
-    return subprocess.run([*COMMAND, *map(str, words)], input=data, capture_output=True, **options)
 
 
 def no_librds() -> Any:

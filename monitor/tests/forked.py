@@ -33,17 +33,21 @@ def _command(words: Sequence[str], folder: str, known: Dict[str, str], files: Se
     sys.stderr = open(2, "w", 1, errors="backslashreplace", closefd=False)
     sys.argv[1:] = words
     os.chdir(folder)
+    gone = {*os.environ["PYTHONPATH"].split(":")} - {*known["PYTHONPATH"].split(":")}
+    sys.path[:] = [path for path in sys.path if path not in gone]
     os.environ.clear()
     os.environ.update(known)
     runpy.run_module("rds_monitor", run_name="__main__", alter_sys=True)
 
 
-def run(*words: Any, data: bytes = b"", cwd: Any = None) -> "subprocess.CompletedProcess[bytes]":
-    """The command with these words, as `subprocess.run` does it."""
+def run(
+    *words: Any, data: bytes = b"", cwd: Any = None, env: Any = os.environ
+) -> "subprocess.CompletedProcess[bytes]":
+    """The command with these words, as `subprocess.run` does it. Python itself has started in the usual environment."""
     reading, writing = os.pipe()
     with tempfile.TemporaryFile() as out, tempfile.TemporaryFile() as err:
         files = [Connection(file) for file in (reading, os.dup(out.fileno()), os.dup(err.fileno()))]
-        given = [str(word) for word in words], str(cwd or os.getcwd()), dict(os.environ), files
+        given = [str(word) for word in words], str(cwd or os.getcwd()), dict(env), files
         process = _context().Process(target=_command, args=given)
         process.start()
         for file in files:

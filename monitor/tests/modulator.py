@@ -36,9 +36,16 @@ def chips_of(bits: Array) -> Array:
 def baseband(chips: Array, times: Array) -> Array:
     """The chips at times in chips, by power 1. Each has the impulse response of cos(pi f td / 4), |f| < 2 / td, which is
     cos(2 pi x) / (1 - 16 x^2) at x chips from its middle."""
+    padded = numpy.concatenate([numpy.zeros(REACH), chips, numpy.zeros(REACH + 1)])
+    # a part at a time, which is in the cache of the processor
+    parts = [impulses(padded, times[at : at + 16384]) for at in range(0, times.size, 16384)]
+    signal = numpy.concatenate([numpy.zeros(0), *parts])
+    return signal / numpy.sqrt(numpy.mean(signal**2))
+
+
+def impulses(padded: Array, times: Array) -> Array:
     first = numpy.floor(times).astype(int)
     within = times - first
-    padded = numpy.concatenate([numpy.zeros(REACH), chips, numpy.zeros(REACH + 1)])
     # The cosine is the same for all chips. At a quarter of a chip the response is pi / 4.
     total, at_poles = numpy.zeros(times.size), numpy.zeros(times.size)
     chip, below = numpy.empty(times.size), numpy.empty(times.size)
@@ -54,8 +61,8 @@ def baseband(chips: Array, times: Array) -> Array:
             below[poles] = numpy.inf
         chip /= below
         total += chip
-    signal = numpy.cos(2 * numpy.pi * within) * total + at_poles
-    return signal / numpy.sqrt(numpy.mean(signal**2))
+    result: Array = numpy.cos(2 * numpy.pi * within) * total + at_poles
+    return result
 
 
 def low_noise(random: numpy.random.Generator, size: int, rate: int) -> Array:

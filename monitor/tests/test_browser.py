@@ -11,7 +11,7 @@ from typing import Any, Iterator, List
 
 import pytest
 
-from browser import LACKING
+from browser import LACKING, wait_until
 from conftest import encode, monitor
 from rds_monitor.content.charset import printable
 from rds_monitor.page.html import page_of
@@ -121,6 +121,14 @@ def click(driver: Any, zoom: str) -> None:
     driver.execute_script("arguments[0].click()", all_of(driver, f"[data-zoom={zoom}]")[0])
 
 
+def follow(driver: Any, link: Any, end: str) -> None:
+    """To the page of a link, whose address ends so."""
+    driver.execute_script("arguments[0].click()", link)
+    wait_until(
+        driver, "return document.URL.endsWith(arguments[0]) && document.readyState === 'complete'", end
+    )
+
+
 def test_zoom_by_buttons(opened: Any) -> None:
     page = opened("one")
     whole = seconds_in_view(page)
@@ -217,8 +225,7 @@ def texts(page: Any, selector: str) -> List[str]:
 def test_pages_of_a_year(opened: Any, folder: Path) -> None:
     """From the overview to a year by days and a month by hours. Outages are drawn by their share, a constant PI as one strip."""
     page = opened("years/index")
-    page.execute_script("arguments[0].click()", all_of(page, "table a")[0])
-    assert page.current_url.endswith("/Alpha-2025.html")
+    follow(page, all_of(page, "table a")[0], "/Alpha-2025.html")
     width = sum(drawn(page, "session"))
     lanes = texts(page, "rect.item title")
     assert [lane.split(" from ")[0] for lane in lanes if lane[:2] in ("PI", "AF")] == ["PI", "AF"]
@@ -232,16 +239,18 @@ def test_pages_of_a_year(opened: Any, folder: Path) -> None:
     )
     rows = texts(page, ".outages tbody tr")
     assert rows[0] == "2025-01-01 00:00:00Z2025-01-02 00:00:00Z48.000" and rows[-1] == "165 more: zoom in"
-    march = page.find_element("link text", "2025-03")
-    page.execute_script("arguments[0].click()", march)
+    follow(page, page.find_element("link text", "2025-03"), "/Alpha-2025-03.html")
     assert begin_of_view(page) == "2025-03-01 00:00:00Z"
     click(page, "hour")
     click(page, "left")
     assert all_of(page, "rect.valid") and drawn(page, "outage", "height")
-    for link in ("2025-04", "2025", "all stations"):
+    for link, end in (
+        ("2025-04", "/Alpha-2025-04.html"),
+        ("2025", "/Alpha-2025.html"),
+        ("all stations", "/index.html"),
+    ):
         (found,) = [one for one in all_of(page, "p a") if one.text == link]
-        page.execute_script("arguments[0].click()", found)
-    assert page.current_url.endswith("/index.html")
+        follow(page, found, end)
 
 
 # Words that are on two lines.
@@ -269,6 +278,7 @@ def test_on_a_phone_no_word_breaks(opened: Any, name: str) -> None:
     page.execute_cdp_cmd("Emulation.setDeviceMetricsOverride", size)
     try:
         page.refresh()
+        wait_until(page, "return innerWidth === 360")
         assert page.execute_script(BROKEN) == []
         assert page.execute_script("return document.documentElement.scrollWidth") == 360
     finally:
@@ -304,8 +314,7 @@ def test_tiles_of_three_stations_the_worst_first(opened: Any) -> None:
     assert alarms == ["no whole group for 27 s", "no alarm", "no alarm"]
     assert "D313" in tiles[0].text and "bad" in tiles[0].text and tiles[0].get_attribute("class") == "alarm"
     assert len(all_of(page, ".tiles polyline")) == 3 and len(all_of(page, ".chart svg")) == 3
-    page.execute_script("arguments[0].click()", tiles[2])
-    assert page.current_url.endswith("#station-2")
+    follow(page, tiles[2], "#station-2")
 
 
 def test_markup_in_radiotext_is_text(opened: Any) -> None:
@@ -341,6 +350,7 @@ def test_dark_and_light(opened: Any) -> None:
         page = opened("one")
         feature = {"name": "prefers-color-scheme", "value": scheme}
         page.execute_cdp_cmd("Emulation.setEmulatedMedia", {"features": [feature]})
+        wait_until(page, "return matchMedia(`(prefers-color-scheme: ${arguments[0]})`).matches", scheme)
         colours.append(page.execute_script("return getComputedStyle(document.body).color"))
     page.execute_cdp_cmd("Emulation.setEmulatedMedia", {"features": []})
     assert colours == ["rgb(0, 0, 0)", "rgb(255, 255, 255)"]

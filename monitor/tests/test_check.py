@@ -38,6 +38,13 @@ def ago(path: Any, seconds: float) -> None:
     os.utime(path, (time.time() - seconds,) * 2)
 
 
+@pytest.fixture(autouse=True)
+def still(monkeypatch: pytest.MonkeyPatch) -> None:
+    """The clock stands still, however long a test takes."""
+    now = time.time()
+    monkeypatch.setattr("rds_monitor.watch.check.time.time", lambda: now)
+
+
 @pytest.fixture
 def sample(tmp_path, station: bytes):
     path = tmp_path / "station.bin"

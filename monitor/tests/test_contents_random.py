@@ -17,7 +17,8 @@ from rds_monitor.rows.clock import Clock
 from rds_monitor.rows.items import CORRECTED, LOST
 from sent import Damage, Words, group
 
-SEEDS, GROUPS = 100, 500
+# By so many seeds each item is told fifteen times or more, from blocks of which a quarter is bad.
+SEEDS, GROUPS = 50, 500
 # How long a name, a text or a list may be told after it was sent: turns that are joined, as groups of the station.
 KEPT = 700
 LETTERS = "ABCDEFGHIJKLMNOPQRSTUVWXYZ 0123456789"
@@ -180,7 +181,7 @@ def test_random_groups_have_no_end_of_parts() -> None:
 
 def test_lines_of_redsea_are_made_anew_where_items_change(monkeypatch: pytest.MonkeyPatch) -> None:
     """None differs from the line that is made for each group by itself."""
-    for seed in range(20):
+    for seed in range(8):
         groups = Station(seed).groups(GROUPS)
         rows = sent.rows_of([said.words for said in groups], damage_of(groups, seed, 0.05))
         lines = [*Redsea(Decoder(lapses=True)).lines(rows, Clock())]
@@ -203,6 +204,6 @@ def test_each_value_that_is_told_was_sent(bad: float) -> None:
             told[item] += 1
             wrong[item] += not is_sent(event, groups)
     expected = set("ps rt rt_ab rt_plus pin language oda ct eon ptyn lps tmc_provider".split())
-    assert expected <= set(told) and min(told[item] for item in expected) >= 40
+    assert expected <= set(told) and min(told[item] for item in expected) >= 15
     # Only blocks that were corrected wrongly, one in 150 of the bad ones, bring another value, and few of them.
     assert sum(wrong.values()) <= bad / 50 * sum(told.values()), wrong

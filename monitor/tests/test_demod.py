@@ -197,16 +197,17 @@ def test_iq(rate: int, offset: float) -> None:
     assert received(signal, rate, offset=float(offset))[0] == GROUPS[1:8]
 
 
-@pytest.mark.parametrize("equalise", [False, True])
 @pytest.mark.parametrize("loudness", [0, 0.8])
 @pytest.mark.parametrize("rate,cnr", [(171000, 15), (171000, 50), (250000, 15), (250000, 30), (480000, 50)])
-def test_the_deviation_is_that_sent(rate: int, cnr: float, loudness: float, equalise: bool) -> None:
+def test_the_deviation_is_that_sent(rate: int, cnr: float, loudness: float) -> None:
     """Within 0.2 dB, whatever the discriminator and the equaliser do to it."""
     multiplex = mpx(encode(words(4, 36)), rate, snr=60, level=1.39 / 75, loudness=loudness)
-    told = received(iq(multiplex, rate, cnr=cnr), rate, equalise=equalise)[1]
-    assert abs(20 * numpy.log10(told["rds_khz"] / 1.39)) < 0.2
-    # The pilot has 0.09 of 75 kHz.
-    assert abs(told["rds_to_pilot_db"] - 20 * numpy.log10(1.39 / 6.75)) < 0.25
+    signal = iq(multiplex, rate, cnr=cnr)
+    for equalise in (False, True):
+        told = received(signal, rate, equalise=equalise)[1]
+        assert abs(20 * numpy.log10(told["rds_khz"] / 1.39)) < 0.2, equalise
+        # The pilot has 0.09 of 75 kHz.
+        assert abs(told["rds_to_pilot_db"] - 20 * numpy.log10(1.39 / 6.75)) < 0.25, equalise
 
 
 @pytest.mark.parametrize("rate,count,equalise", [(480000, 30, True), (499999, 12, False)])
@@ -251,7 +252,7 @@ def test_a_station_after_silence_in_iq() -> None:
     block=st.integers(1, 100000),
     seed=st.integers(0, 99),
 )
-@settings(max_examples=25, deadline=None)
+@settings(max_examples=15, deadline=None)
 def test_any_samples_give_bits_in_time(kind: str, is_iq: bool, seconds: float, block: int, seed: int) -> None:
     random, size = numpy.random.default_rng(seed), int(seconds * RATE)
     signal = {
@@ -411,7 +412,7 @@ def test_wav_from_a_pipe_does_not_say_how_long_it_is(signal: Array) -> None:
 
 def test_memory_does_not_grow() -> None:
     options = ("--raw", "s16", "--rate", str(RATE), "--output", "/dev/null")
-    before, after = (peak_memory("demod", *options, data=bytes(2 * RATE * seconds)) for seconds in (20, 100))
+    before, after = (peak_memory("demod", *options, data=bytes(2 * RATE * seconds)) for seconds in (10, 50))
     assert after < before + 4000 and after < 100000
 
 

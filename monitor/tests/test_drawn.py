@@ -11,7 +11,7 @@ import numpy
 import pytest
 
 import geometry
-from browser import LACKING
+from browser import LACKING, wait_until
 from geometry import Box, View
 from rds_monitor.page.html import page_of, told_of
 from rds_monitor.page.line import Counted, Lanes, TimeLine, said
@@ -187,13 +187,6 @@ NOTE_WIDTH = 'addEventListener("resize", () => { document.body.dataset.width = i
 def press(driver: Any, buttons: str) -> None:
     for button in buttons.split():
         driver.execute_script(f'document.querySelector("[data-zoom={button}]").click()')
-
-
-def wait_until(driver: Any, told: str) -> None:
-    """Until a script says true: the browser draws anew at its next frame."""
-    from selenium.webdriver.support.wait import WebDriverWait
-
-    WebDriverWait(driver, 60, 0.05).until(lambda given: given.execute_script(told))
 
 
 @pytest.mark.parametrize("name", ZOOMS)

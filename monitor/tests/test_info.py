@@ -8,13 +8,12 @@ import json
 import os
 import re
 import subprocess
-import time
 import unicodedata
 from typing import Any, Dict, List, Tuple
 
 import pytest
 
-from conftest import COMMAND, PROGRAM, STATION, encode, monitor, rds
+from conftest import COMMAND, STATION, encode, monitor, rds
 from made import output as said
 from rds_monitor.rows.listing import TOTAL_NAMES
 from sent import Words, clock, eon, group, label, name, oda, segments, tags, text
@@ -144,9 +143,9 @@ def test_hostile_marks_in_utf8_are_shown_as_text(which: str) -> None:
 
 
 def test_output_is_utf8_whatever_the_locale() -> None:
-    environment = {**os.environ, "LC_ALL": "C", "PYTHONUTF8": "0"}
-    done = monitor("info", "--csv", data=bits(*name(b"K\x97ln \x24\xab ")), env=environment)
-    assert done.returncode == 0 and "Köln ¤$" in done.stdout.decode("utf-8")
+    environment, data = {**os.environ, "LC_ALL": "C", "PYTHONUTF8": "0"}, bits(*name(b"K\x97ln \x24\xab "))
+    told = subprocess.check_output([*COMMAND, "info", "--csv"], input=data, env=environment)
+    assert "Köln ¤$" in told.decode("utf-8")
 
 
 # ---- json
@@ -163,26 +162,6 @@ def test_a_stream_is_told_as_it_comes(station_listing: bytes) -> None:
         assert found[1]["item"] == "pi" and process.poll() is None
         process.stdin.close()
         assert process.stdout.read() and process.wait() == 0
-
-
-@pytest.mark.parametrize("first", [[PROGRAM, "follow"], ["cat"]], ids=["rds follow", "bits"])
-def test_a_row_comes_with_the_last_bit_of_its_group(first: List[str], station: bytes) -> None:
-    """No more is sent before the row is there, which takes a fifth of a second at the most, by the least of some."""
-    pipe = subprocess.PIPE
-    with subprocess.Popen(first, stdin=pipe, stdout=pipe) as source:
-        with subprocess.Popen([*COMMAND, "json", "--rows"], stdin=source.stdout, stdout=pipe) as process:
-            assert source.stdin and process.stdout
-            delays, rows_at_once = [], 2
-            for number in range(12):
-                source.stdin.write(station[13 * number : 13 * number + 13])
-                source.stdin.flush()
-                sent_at = time.monotonic()
-                found = [json.loads(process.stdout.readline()) for _ in range(rows_at_once)]
-                delays.append(time.monotonic() - sent_at)
-                assert found[-1]["event"] == "group" and found[-1]["bit"] == (104 * number or 26)
-                rows_at_once = 1
-            source.stdin.close()
-            assert min(delays[1:]) < 0.2 and process.wait() == 0
 
 
 def test_events_in_order() -> None:

@@ -75,6 +75,8 @@ def delays(chain: Chain, station: bytes) -> List[float]:
     return found
 
 
+# A machine that does other work too may take longer.
+@pytest.mark.alone
 @pytest.mark.parametrize("words", ["json --rows", "json --redsea", "groups", "table"])
 def test_rows_through_rds_follow(words: str, station: bytes) -> None:
     chain = Chain(f"{words} --unfinished", follows=True)
@@ -87,10 +89,11 @@ def test_bits_of_pack(station: bytes) -> None:
     for number in range(20):
         packed = station[number * GROUP : (number + 1) * GROUP]
         chain.send(numpy.unpackbits(numpy.frombuffer(packed, "u1")).tobytes())
-        assert chain.reads(20 if not number else 1) == packed
+        assert chain.reads(20) == packed
     assert chain.end() == ""
 
 
+@pytest.mark.alone
 def test_rows_of_bits(decoder: str, station: bytes) -> None:
     chain = Chain("json --rows", follows=False)
     assert statistics.median(delays(chain, station)) < 0.2

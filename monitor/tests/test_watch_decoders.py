@@ -105,7 +105,8 @@ def script(folder: Path, text: str) -> str:
 def test_a_program_that_is_none(
     tmp_path: Path, monkeypatch: pytest.MonkeyPatch, text: str, reason: str
 ) -> None:
-    monkeypatch.setattr(decoders, "PATIENCE", 0.5)
+    # a machine that is loaded may start the others late
+    monkeypatch.setattr(decoders, "PATIENCE", 0.5 if "did nothing" in reason else 60.0)
     program = ByProgram(script(tmp_path, text))
     with pytest.raises(Fault, match=reason):
         program.push(b"some bytes\n")
@@ -241,8 +242,8 @@ def test_without_the_library(tmp_path: Path) -> None:
     command = ["sh", "-c", f"cat {tmp_path}/bits; sleep 60"]
     known = dict(PYTHONPATH=str(TOP / "monitor"), RDS_LIBRARY="/none/librds.so.0")
     path = f"{tmp_path}/bin:{os.environ['PATH']}"
-    process = Process(tmp_path, table(tmp_path, command=command), PATH=path, RDS="", **known)
     (tmp_path / "bits").write_bytes(received(20))
+    process = Process(tmp_path, table(tmp_path, command=command), PATH=path, RDS="", **known)
     process.says(f"decoded by {tmp_path}/bin/rds")
     process.receives()
     assert process.end() == 0

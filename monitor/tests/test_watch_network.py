@@ -193,7 +193,7 @@ def test_outages_a_wrong_pi_and_restarts(tmp_path: Path) -> None:
 # ---- killed
 
 
-@pytest.mark.parametrize("seed", range(5))
+@pytest.mark.parametrize("seed", range(3))
 def test_killed_at_random_moments(tmp_path: Path, seed: int) -> None:
     """Ten times each: nothing is lost but the last second, nothing is there twice, and no time is off by a second."""
     chance = random.Random(seed)
@@ -219,7 +219,7 @@ def test_killed_at_random_moments(tmp_path: Path, seed: int) -> None:
 
 def tear(net: Network, chance: random.Random) -> None:
     """A power failure may leave a part of a row, or zeros, at the end of a file that was not synchronised."""
-    newest = max((net.folder / "listings" / "Alpha").iterdir(), key=lambda path: path.stat().st_mtime_ns)
+    newest = max((net.folder / "listings" / "Alpha").iterdir())
     with open(newest, "ab") as file:
         file.write(chance.choice([b"", b"group,9", b"\0" * 70, b"group,99999,0,A,A:D318\n"]))
 

@@ -208,10 +208,7 @@ class Books:
         for n, (begin, end) in enumerate([self.noise[0], self.other_pi[0], self.noise[1], self.other_pi[1]]):
             self.restart(end - 8, n % 2 == 0)
         self.run(self.full[0] - 60)
-        newest = max(
-            (self.folder / "listings" / "Alpha").glob("*.csv"), key=lambda path: path.stat().st_mtime_ns
-        )
-        newest.unlink()
+        max((self.folder / "listings" / "Alpha").glob("*.csv")).unlink()
         self.run(self.full[0])
         with monkeypatch.context() as patch:
             patch.setattr(writer.HourWriter, "append", no_space)
