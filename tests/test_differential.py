@@ -18,6 +18,7 @@ import subprocess
 import time
 from concurrent.futures import ThreadPoolExecutor
 from functools import cache, lru_cache
+from pathlib import Path
 from typing import Callable
 
 import making
@@ -159,20 +160,20 @@ def test_every_form_of_a_field(rds: str) -> None:
 
 
 # Bytes of zeros have no valid window: they only move what comes after them, from one prefix on.
-PREFIX, CHUNK = 8, bytes(1 << 20)
+PREFIX = 8
 
 
 @pytest.mark.parametrize("digits", range(2, 12))
-def test_places_of_each_length(rds: str, digits: int) -> None:
+def test_places_of_each_length(rds: str, tmp_path: Path, digits: int) -> None:
     words = ([0xD393, word, 0xABCD, 0x0123] for word in range(0, 65536, 257))
     zeros = 10 ** (digits - 1) // 8 if digits > 2 else 0
     data = bytes(PREFIX if zeros else 0) + b"".join(map(plain.packed, words)) + making.recording(2)
-    with subprocess.Popen([rds, "follow"], stdin=subprocess.PIPE, stdout=subprocess.PIPE) as program:
-        assert program.stdin
-        for _ in range(zeros // len(CHUNK)):
-            program.stdin.write(CHUNK)
-        program.stdin.write(bytes(zeros % len(CHUNK)))
-        out, _ = program.communicate(data, timeout=LIMIT)
+    with (tmp_path / "in").open("w+b") as file:
+        # the zeros are a hole
+        file.seek(zeros)
+        file.write(data)
+        file.seek(0)
+        out = run(rds, "follow", stdin=file).out
     row = re.compile(r"^(acquired|group|lost),(\d+)", re.M)
     listed = (wanted(["list"], data) or b"").decode()
     moved = row.sub(lambda found: f"{found[1]},{int(found[2]) + 8 * zeros}", listed)

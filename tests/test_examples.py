@@ -56,22 +56,28 @@ def held_in(folder: Path) -> bytes:
 # ---- rotation of a stream
 
 
-def test_a_file_a_second(rds: str, station: bytes, listing: bytes, tmp_path: Path, cases: Cases) -> None:
+# The shell looks at the clock for each row.
+SOME = 10000
+
+
+def test_a_file_a_second(rds: str, station: bytes, tmp_path: Path, cases: Cases) -> None:
     """The stream comes in chunks of random lengths over more than a second."""
     cases(2)
     rotate = f"{EXAMPLES}/rotate.sh --by %Y-%m-%dT%H:%M:%SZ {tmp_path}/seconds"
     words = ["bash", "-o", "pipefail", "-c", f"{rds} follow | {rotate}"]
     with subprocess.Popen(words, stdin=subprocess.PIPE) as child:
         assert child.stdin
-        hand_on(os.dup(child.stdin.fileno()), station, 2000, 0.1, random.Random(1))
+        hand_on(os.dup(child.stdin.fileno()), station[:SOME], 2000, 0.3, random.Random(1))
     assert child.returncode == 0
+    listing = wrote(rds, "list", data=station[:SOME])
     assert held_in(tmp_path / "seconds") == listing and len([*(tmp_path / "seconds").iterdir()]) > 1
 
 
-def test_a_file_that_is_there_is_added_to(rds: str, station: bytes, listing: bytes, tmp_path: Path) -> None:
+def test_a_file_that_is_there_is_added_to(tmp_path: Path) -> None:
+    rows = b"a row\nanother\n"
     for _ in range(2):
-        told("rotate.sh", "--by", "listing", tmp_path / "one", data=wrote(rds, "follow", data=station))
-    assert (tmp_path / "one" / "listing.csv").read_bytes() == 2 * listing
+        told("rotate.sh", "--by", "listing", tmp_path / "one", data=rows)
+    assert (tmp_path / "one" / "listing.csv").read_bytes() == 2 * rows
 
 
 def test_rotation_of_a_stream_that_is_killed(rds: str, station: bytes, tmp_path: Path, cases: Cases) -> None:
@@ -82,9 +88,9 @@ def test_rotation_of_a_stream_that_is_killed(rds: str, station: bytes, tmp_path:
     rotating = subprocess.Popen(words, stdin=following.stdout)
     assert following.stdin and following.stdout
     following.stdout.close()
-    following.stdin.write(station[:10005])
+    following.stdin.write(station[:2008])
     following.stdin.flush()
-    rows = [row for row in wrote(rds, "list", data=station[:10005]).splitlines(True) if row[:6] != b"total,"]
+    rows = [row for row in wrote(rds, "list", data=station[:2008]).splitlines(True) if row[:6] != b"total,"]
     complete, path = b"".join(rows[:-1]), tmp_path / "listing.csv"
     for _ in range(300):
         if path.exists() and path.stat().st_size >= len(complete):
@@ -93,8 +99,8 @@ def test_rotation_of_a_stream_that_is_killed(rds: str, station: bytes, tmp_path:
     following.kill()
     assert rotating.wait(60) == 0 and path.read_bytes() == complete
     following.stdin.close()
-    told("rotate.sh", "--by", "listing", tmp_path, data=wrote(rds, "follow", data=station[10005:]))
-    assert path.read_bytes() == complete + wrote(rds, "list", data=station[10005:])
+    told("rotate.sh", "--by", "listing", tmp_path, data=wrote(rds, "follow", data=station[2008:SOME]))
+    assert path.read_bytes() == complete + wrote(rds, "list", data=station[2008:SOME])
 
 
 def test_rows_of_any_text(tmp_path: Path, cases: Cases) -> None:

@@ -198,7 +198,7 @@ SEEN: list[tuple[str, str, Callable[[str, Path], object]]] = [
     ("silent hanging content other_status no_progress noisy", "", refused),
     ("hanging", "", lambda rds, at: test_examples.Day(rds, at)),
     ("silent hanging", "", lambda rds, _: test_package.test_completion(rds, test_package.by_bash, "list")),
-    ("one_byte_short", "", lambda rds, _: test_differential.test_places_of_each_length(rds, 2)),
+    ("one_byte_short", "", lambda rds, at: test_differential.test_places_of_each_length(rds, at, 2)),
     (
         "one_worker_more",
         "threads, where",

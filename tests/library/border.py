@@ -98,9 +98,9 @@ class Function:
         return seen == call[one.name]
 
     def faults(self) -> list[str]:
-        return [
-            f"{self.name}: {text}" for text, call, is_bad in self.calls() if not self.is_right(call, is_bad)
-        ]
+        """The first fault, if there is one."""
+        wrong = (text for text, call, is_bad in self.calls() if not self.is_right(call, is_bad))
+        return [f"{self.name}: {text}" for text in itertools.islice(wrong, 1)]
 
     def calls(self) -> Iterator[tuple[str, Call, bool]]:
         """A text, a call, and whether it has to be refused."""
