@@ -1,5 +1,5 @@
 -- Command lines as `clap` reads them.
-use Rattle.std.proofs.Common.{◌≡◌, ◌⊎◌, ◌∙◌, sym, List, [], ◌∷◌, OnOk, IfErr, IfOk, IsErrAnd, Result, Ok, Err, Some, None, codes, false, refl, ap, inl, inr}
+use Rattle.std.proofs.Common.{◌≡◌, ◌⊎◌, ◌∙◌, sym, List, [], ◌∷◌, OnOk, IfOk, Result, Ok, Err, Some, None, codes, false, refl, ap, inl, inr}
 use Rattle.std.specs.Result.{result_ok}
 use Rattle.clap.specs.Faults.{defaults_fault, flags_fault, walk_fault}
 use Rattle.clap.specs.Takes.{flags_pass, walk_passes}
@@ -24,16 +24,6 @@ same computed x y is given = let both : Ok x ≡ Ok y = sym is ∙ given in cc
 
 -- ---- gaps
 
-abbrev pub scan_with_a_gap : List Text
-scan_with_a_gap = codes "rds" ∷ codes "scan" ∷ codes "--gaps" ∷ codes "104-105" ∷ []
-
-abbrev gap_asked : Asked
-gap_asked = record { request = request.Job (job.Scan (record { hex = false; bits = None; gaps = (104, 105) ∷ [] }) 4) false; ignored = None }
-
-pub has_the_gap : (asked : Asked) → asked_by (entries_of scan_with_a_gap) ≡ Ok asked → asked.request ≡ gap_asked.request
-unfolding walked
-has_the_gap asked is = ap (λ (a : Asked). a.request) (same (asked_by (entries_of scan_with_a_gap)) gap_asked asked refl is)
-
 abbrev pub scan_with_bad_gaps : List Text
 scan_with_bad_gaps = codes "rds" ∷ codes "scan" ∷ codes "--gaps" ∷ codes "5" ∷ []
 
@@ -57,34 +47,36 @@ losses_asked = record {
   ignored = Some ignored.Loss;
 }
 
-pub ignores_the_loss : (asked : Asked) → asked_by (entries_of list_by_two_losses) ≡ Ok asked → asked.ignored ≡ Some ignored.Loss
+pub ignores_the_loss : (asked : Asked) → asked_by (entries_of list_by_two_losses) ≡ Ok asked → (asked.ignored ≡ Some ignored.Loss) × (asked.request ≡ losses_asked.request)
 unfolding walked
-ignores_the_loss asked is = ap (λ (a : Asked). a.ignored) (same (asked_by (entries_of list_by_two_losses)) losses_asked asked refl is)
+ignores_the_loss asked is =
+    let it = same (asked_by (entries_of list_by_two_losses)) losses_asked asked refl is in
+    (ap (λ (a : Asked). a.ignored) it, ap (λ (a : Asked). a.request) it)
 
 -- ---- a stream
 
-abbrev pub follow_by_a_share : List Text
-follow_by_a_share = codes "rds" ∷ codes "follow" ∷ codes "--of" ∷ codes "3" ∷ codes "--share" ∷ codes "2" ∷ []
+abbrev pub follow_with_a_gap : List Text
+follow_with_a_gap = codes "rds" ∷ codes "follow" ∷ codes "--of" ∷ codes "3" ∷ codes "--share" ∷ codes "2" ∷ codes "--gaps" ∷ codes "104-105" ∷ []
 
 abbrev stream_asked : Asked
 stream_asked = record {
-  request = request.Follow (record { hex = false; bits = None; gaps = [] }) (record { burst = 2; reach = 3; loss = Share 2 3 }) 1;
+  request = request.Follow (record { hex = false; bits = None; gaps = (104, 105) ∷ [] }) (record { burst = 2; reach = 3; loss = Share 2 3 }) 1;
   ignored = None;
 }
 
-pub has_the_share : (asked : Asked) → asked_by (entries_of follow_by_a_share) ≡ Ok asked → asked.request ≡ stream_asked.request
+pub has_the_gap : (asked : Asked) → asked_by (entries_of follow_with_a_gap) ≡ Ok asked → asked.request ≡ stream_asked.request
 unfolding walked
-has_the_share asked is = ap (λ (a : Asked). a.request) (same (asked_by (entries_of follow_by_a_share)) stream_asked asked refl is)
+has_the_gap asked is = ap (λ (a : Asked). a.request) (same (asked_by (entries_of follow_with_a_gap)) stream_asked asked refl is)
 
-no_fault_of_stream : faults_of follow_by_a_share ≡ []
+no_fault_of_stream : faults_of follow_with_a_gap ≡ []
 unfolding walked bundle_met flags_pass walk_passes flags_fault walk_fault defaults_fault
 no_fault_of_stream = refl
 
-pub no_job_of_stream : (given : Job) → job_by (entries_of follow_by_a_share) ≡ Some given → ⊥
+pub no_job_of_stream : (given : Job) → job_by (entries_of follow_with_a_gap) ≡ Some given → ⊥
 unfolding walked
 no_job_of_stream given is = let no : None ≡ Some given = is in cc
 
-pub words_or_memory : (answer : FaultKind) → MayAnswer (faults_of follow_by_a_share) (job_by (entries_of follow_by_a_share)) answer → (answer ≡ Words) ⊎ (answer ≡ Memory)
+pub words_or_memory : (answer : FaultKind) → MayAnswer (faults_of follow_with_a_gap) (job_by (entries_of follow_with_a_gap)) answer → (answer ≡ Words) ⊎ (answer ≡ Memory)
 words_or_memory Words may = inl refl
 words_or_memory Memory may = inr refl
 words_or_memory Help may = absurd (rw no_fault_of_stream at may)
@@ -94,11 +86,6 @@ words_or_memory Version may = absurd (rw no_fault_of_stream at may)
 pub never : {T E : Type 0} (answer : Result T E) → IfOk answer (λ x. ⊥) → OnOk answer ⊥
 never (Ok x) h = absurd h
 never (Err e) h = tt
-
--- a refusal that says so is one
-pub refused_so : {T E : Type 0} (answer : Result T E) (P : E → Type 0) → IsErrAnd answer P → OnOk answer ⊥ × IfErr answer P
-refused_so (Ok job) P h = absurd h
-refused_so (Err e) P h = (tt, h)
 
 -- ---- the texts that are shown
 

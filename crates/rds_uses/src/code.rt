@@ -1,6 +1,6 @@
 //! Facts that a user of `rds_code` relies on: remainders, offsets, bursts, and blocks as they are sent and
 //! read.
-ghost use Rattle.std.specs.Prelude.{◌≡◌, ◌≢◌, ℕ, ◌+◌, ◌<◌, ◌≤◌, ◌^◌, ◌↔◌, ◌∷◌, [], IsTrue, IfOk, None, Some, Contains, bit_xor, codes, slice_index, true};
+ghost use Rattle.std.specs.Prelude.{◌≡◌, ◌≢◌, ℕ, ◌+◌, ◌<◌, ◌≤◌, ◌^◌, ◌↔◌, ◌⊎◌, ◌∷◌, [], IsTrue, IfOk, None, Some, Contains, bit_xor, codes, slice_index, true};
 ghost use Rattle.std.specs.Int.{bit_at};
 ghost use Rattle.std.specs.Int.Count.{ones};
 ghost use Rattle.rds_code.specs.declared.offset.Offset.{Offset as AnOffset};
@@ -24,22 +24,15 @@ use std::alloc::Global;
 
 // ---- remainders
 
-/// The ten bits that differ from a block by a multiple of the generator are its remainder: no others do.
-pub fn only_remainder(w: u32, remainder: u16) -> u16
+/// The ten bits that differ from a block by a multiple of the generator are its remainder: no others do. Each block has some.
+pub fn only_remainder(w: u32, remainder: u16) -> (u16, u16)
     requires block { w < 2 ^ 26 }
     requires remainder { IsRemainder w remainder }
-    ensures { result ≡ remainder }
+    ensures only { result ≡ (remainder, remainder) }
+    ensures some { (v : ℕ) → v < 2 ^ 26 → IsRemainder v (rem v) }
 {
     laws::blocks_have_one_remainder();
-    rem26(w)
-}
-
-/// The remainder by long division is one.
-pub fn divided(w: u32) -> u16
-    requires { w < 2 ^ 26 }
-    ensures { IsRemainder w result }
-{
-    plain::rem26(w)
+    (rem26(w), plain::rem26(w))
 }
 
 /// Tables and long division agree.
@@ -50,41 +43,18 @@ pub fn remainders_agree(w: u32) -> bool
     rem26(w) == plain::rem26(w)
 }
 
-/// A polynomial with the generator's period, by which all bursts of up to five bits are told apart, is one of two.
-pub fn is_one_of_two(polynomial: u16) -> bool
-    requires candidate { IsCandidate polynomial }
-    requires period { HasPeriod polynomial 341 }
-    requires told { TellsApart polynomial }
-    ensures { result ≡ true }
-{
-    laws::generator_is_one_of_two();
-    polynomial == 0x5B9 || polynomial == 0x4ED
-}
-
-/// A receiver that divides as a shift register does, bit by bit, has the same remainder.
+/// A receiver that divides bit by bit, as a shift register does, has the same remainder. So has one that multiplies the
+/// standard's syndrome by x^16. A polynomial with the generator's period, by which all bursts of up to five bits are told apart, is the
+/// generator or its mirror.
 pub fn shifted_in(w: u32) -> u16
     requires { w < 2 ^ 26 }
-    ensures { remainder_by generator 26 w ≡ result }
+    ensures divided { remainder_by generator 26 w ≡ result }
+    ensures multiplied { times_power generator 16 (syndrome parity_rows w) ≡ result }
+    ensures two { (g : ℕ) → IsCandidate g → HasPeriod g 341 → TellsApart g → (g ≡ 0x5B9) ⊎ (g ≡ 0x4ED) }
 {
     laws::generator_is_one_of_two();
-    rem26(w)
-}
-
-/// A receiver that has the standard's syndrome of a block multiplies it by x^16.
-pub fn from_syndrome(w: u32) -> u16
-    requires { w < 2 ^ 26 }
-    ensures { times_power generator 16 (syndrome parity_rows w) ≡ result }
-{
     laws::syndromes_are_remainders();
     rem26(w)
-}
-
-/// A block has a remainder, whoever computes it.
-pub fn has_remainder(w: u32)
-    requires { w < 2 ^ 26 }
-    ensures { IsRemainder w (rem w) }
-{
-    laws::blocks_have_one_remainder();
 }
 
 /// The remainder of a damaged block is that of the block as it was sent, and to it that of the damage.
@@ -109,71 +79,52 @@ pub(crate) fn damaged(sent: u32, damage: u32) -> u32
 
 // ---- offsets
 
-/// An offset is known by its word.
-pub fn known_by_word(offset: Offset) -> Option<Offset>
-    ensures { result ≡ Some offset }
+/// An offset is known by its word, and counted from 1 to 4. C' is printed as `Cx`.
+pub fn known_by_word(offset: Offset) -> (Option<Offset>, usize, &'static str)
+    ensures offset { result.0 ≡ Some offset }
+    ensures index { result.1 + 1 ≡ number offset }
+    ensures inside { result.1 < 4 }
+    ensures name { offset ≡ Cx → result.2.now ≡ codes "Cx" }
 {
-    offset_of(offset.word())
+    let index = (offset.number().get() - 1) as usize;
+    (offset_of(offset.word()), index, offset.name())
 }
 
-/// The blocks of a group are counted from 1 to 4.
-pub fn index_in_group(offset: Offset) -> usize
-    ensures value { result + 1 ≡ number offset }
-    ensures inside { result < 4 }
+/// Block 1 comes after block 4, and there is no block 5.
+pub fn number_behind_last() -> Option<u8>
+    ensures { result ≡ Some 1 }
 {
-    (offset.number().get() - 1) as usize
-}
-
-/// C' is printed as `Cx`.
-pub fn name_of_c_prime() -> &'static str
-    ensures { result.now ≡ codes "Cx" }
-{
-    Offset::Cx.name()
+    match BlockNumber::new(5) {
+        Some(_) => None,
+        None => Some(BlockNumber::new(4)?.next().get()),
+    }
 }
 
 // ---- bursts
 
-/// A burst leaves a remainder, so that it is seen.
-pub fn shows(burst: Burst) -> bool
-    ensures { result ≡ true }
-{
-    laws::bursts_have_their_remainders();
-    rem26(burst.pattern()) != 0
-}
-
-/// Two bursts are one if their remainders are.
+/// A burst leaves a remainder, by which it is told from all others, and is in the list of bursts.
 pub fn told_apart(one: Burst, other: Burst) -> bool
     requires { rem one ≡ rem other }
-    ensures { result ≡ true }
+    ensures same { result ≡ true }
+    ensures listed { Contains (bursts 5) one }
 {
     laws::bursts_have_their_remainders();
-    let _patterns = (one.pattern(), other.pattern());
-    one == other
-}
-
-/// Each burst is in the list of bursts.
-pub fn listed(burst: Burst) -> u32
-    ensures { Contains (bursts 5) result }
-{
     laws::bursts_are_listed();
-    burst.pattern()
+    let (pattern, _other) = (one.pattern(), other.pattern());
+    one == other && rem26(pattern) != 0
 }
 
-/// A place for each span in a table of five.
-pub fn index_by_span(burst: Burst) -> usize
-    ensures value { result + 1 ≡ burst_length burst }
-    ensures inside { result < 5 }
+/// A burst's span, ones and outcome, as indices of tables of 5, 5 and 11.
+pub fn indices_of(burst: Burst) -> (usize, usize, usize)
+    ensures span { (result.0 + 1 ≡ burst_length burst) × (result.0 < 5) }
+    ensures ones { (result.1 + 1 ≡ ones burst) × (result.1 < 5) }
+    ensures outcome { result.2 < 11 }
 {
-    (burst.span() - 1) as usize
-}
-
-/// The bits that two bursts inverted: two to ten.
-pub fn bits_of_two(one: Burst, other: Burst) -> u8
-    ensures value { result ≡ ones one + ones other }
-    ensures least { 2 ≤ result }
-    ensures most { result ≤ 10 }
-{
-    one.ones() + other.ones()
+    (
+        (burst.span() - 1) as usize,
+        (burst.ones() - 1) as usize,
+        (burst.outcome() - 3) as usize,
+    )
 }
 
 /// The table finds each burst by its remainder, within its own span.
@@ -184,22 +135,17 @@ pub fn found_again(table: &BurstTable, burst: Burst) -> Option<Burst>
     table.find(rem26(burst.pattern()), limit)
 }
 
-/// The burst that the table finds has the remainder that was asked for, and the span.
+/// The burst that the table finds has the remainder that was asked for, and the span. An undamaged block has none.
 pub fn found_as_asked(table: &BurstTable, remainder: u16, limit: BurstLimit) -> bool
     requires remainder { remainder < 1024 }
-    ensures { result ≡ true }
+    ensures found { result ≡ true }
 {
     match table.find(remainder, limit) {
-        Some(burst) => rem26(burst.pattern()) == remainder && burst.span() <= limit.bits(),
+        Some(burst) => {
+            remainder != 0 && rem26(burst.pattern()) == remainder && burst.span() <= limit.bits()
+        }
         None => true,
     }
-}
-
-/// An undamaged block has no burst to be found.
-pub fn nothing_found(table: &BurstTable, limit: BurstLimit) -> Option<Burst>
-    ensures { result ≡ None }
-{
-    table.find(0, limit)
 }
 
 // ---- blocks
@@ -212,30 +158,20 @@ pub fn is_the_block(w: u32, info: u16, offset: Offset) -> bool
     encode_block(info, offset) == w
 }
 
-/// A block that is sent comes out valid, whatever else may be corrected.
-pub fn sent_and_told(outcomes: &Outcomes, info: u16, offset: Offset, wanted: Wanted) -> u8
-    ensures { result ≡ 1 }
+/// A block that is sent comes out valid, whatever else may be corrected. If it is a block 2 with its version bit set, it allows only
+/// C' for a damaged block 3.
+pub fn sent_and_told(outcomes: &Outcomes, info: u16, offset: Offset, wanted: Wanted) -> (u8, Wanted)
+    ensures outcome { result.0 ≡ 1 }
+    ensures wanted { offset ≡ B → bit_at info 11 ≡ 1 → result.1 ≡ OnlyCx }
 {
     laws::blocks_are_read_as_sent();
     let sent = encode_block(info, offset);
-    outcomes.of_block(sent, offset.number(), wanted)
-}
-
-/// A block 2 that is sent with its version bit set allows only C' for a damaged block 3.
-pub fn wanted_after_version_b(outcomes: &Outcomes, info: u16) -> Wanted
-    requires { bit_at info 11 ≡ 1 }
-    ensures { result ≡ OnlyCx }
-{
-    laws::blocks_are_read_as_sent();
-    outcomes.wanted_after(encode_block(info, Offset::B))
+    let outcome = outcomes.of_block(sent, offset.number(), wanted);
+    (outcome, outcomes.wanted_after(sent))
 }
 
 /// Outcomes are by the limit that they were made for.
-pub fn limit_of_outcomes(
-    alloc: Global,
-    table: &BurstTable,
-    limit: BurstLimit,
-) -> Result<u8, CodeError>
+pub fn told_limit(alloc: Global, table: &BurstTable, limit: BurstLimit) -> Result<u8, CodeError>
     ensures { IfOk result (λ bits. (bits ≡ limit) × (bits ≤ 5)) }
 {
     let outcomes = Outcomes::new(alloc, table, limit)?;
@@ -250,23 +186,6 @@ pub fn limit_of_three() -> Option<u8>
         (Some(limit), None) => Some(limit.bits()),
         _ => None,
     }
-}
-
-/// Block 1 comes after block 4, and there is no block 5.
-pub fn number_behind_last() -> Option<u8>
-    ensures { result ≡ Some 1 }
-{
-    match BlockNumber::new(5) {
-        Some(_) => None,
-        None => Some(BlockNumber::new(4)?.next().get()),
-    }
-}
-
-/// Each burst has one of eleven outcomes.
-pub fn outcome_from_0(burst: Burst) -> u8
-    ensures { result < 11 }
-{
-    burst.outcome() - 3
 }
 
 /// A block that is sent and read, whatever else may be corrected.
@@ -304,12 +223,7 @@ pub fn damaged_and_read(
 }
 
 /// Block 3 of version A likewise, if only C is wanted.
-pub fn damaged_third_and_read(
-    table: &BurstTable,
-    info: u16,
-    burst: Burst,
-    limit: BurstLimit,
-) -> Reading
+pub fn damaged_third(table: &BurstTable, info: u16, burst: Burst, limit: BurstLimit) -> Reading
     requires burst { IsBurst limit burst }
     requires not_that_one { burst ≢ version_burst }
     ensures { result ≡ Corrected C info burst }
@@ -329,22 +243,7 @@ pub fn taken_for_other_version(info: u16, burst: Burst) -> Option<Offset>
     offset_of(rem26(block))
 }
 
-/// A window is corrected only if exactly one pair of an offset and a burst fits.
-pub fn corrected_by_one_pair(
-    table: &BurstTable,
-    w: u32,
-    number: BlockNumber,
-    wanted: Wanted,
-    limit: BurstLimit,
-) -> Reading
-    requires block { w < 2 ^ 26 }
-    ensures { (o : AnOffset) (info e : ℕ) → result ≡ Corrected o info e
-        → FitsAlone w number wanted limit o e }
-{
-    read_block(table, w, number, wanted, limit)
-}
-
-/// Who reads by the rule reads this.
+/// Who reads by the rule reads this: a window is corrected only if exactly one pair of an offset and a burst fits.
 pub fn read_by_the_rule(
     table: &BurstTable,
     w: u32,
@@ -353,14 +252,16 @@ pub fn read_by_the_rule(
     limit: BurstLimit,
 ) -> Reading
     requires block { w < 2 ^ 26 }
-    ensures { (r : AReading) → IsReading w number wanted limit r → r ≡ result }
+    ensures rule { (r : AReading) → IsReading w number wanted limit r → r ≡ result }
+    ensures alone { (o : AnOffset) (info e : ℕ) → result ≡ Corrected o info e
+        → FitsAlone w number wanted limit o e }
 {
     prove!(number.get() <= 4 && limit.bits() <= 5);
     laws::readings_follow_the_rule();
     read_block(table, w, number, wanted, limit)
 }
 
-/// A group that is sent and read, block by block: block 3 has C' if the version bit is set.
+/// A group that is sent and read, block by block: block 3 has C' if the version bit is set. Its last block is that of its last word.
 pub fn group_sent_and_read(table: &BurstTable, words: [u16; 4], limit: BurstLimit) -> [Reading; 4]
     ensures { result ≡ Valid A (slice_index words 0) ∷ Valid B (slice_index words 1)
         ∷ Valid (third_offset (slice_index words 1)) (slice_index words 2) ∷ Valid D (slice_index words 3)
@@ -368,18 +269,12 @@ pub fn group_sent_and_read(table: &BurstTable, words: [u16; 4], limit: BurstLimi
 {
     laws::blocks_are_read_as_sent();
     let [one, two, three, four] = encode_group(words);
+    let is_last = four == encode_block(words[3], Offset::D);
+    prove!(is_last);
     [
         read_block(table, one, BlockNumber::ONE, Wanted::Either, limit),
         read_block(table, two, BlockNumber::TWO, Wanted::Either, limit),
         read_block(table, three, BlockNumber::THREE, Wanted::Either, limit),
         read_block(table, four, BlockNumber::FOUR, Wanted::Either, limit),
     ]
-}
-
-/// The last block of a group is that of its last word.
-pub fn last_block(first: u16, second: u16, third: u16, fourth: u16) -> bool
-    ensures { result ≡ true }
-{
-    let [_, _, _, block] = encode_group([first, second, third, fourth]);
-    block == encode_block(fourth, Offset::D)
 }

@@ -1,53 +1,47 @@
 //! Facts that the program relies on when it reads its command line.
-ghost use Rattle.std.specs.Prelude.{◌≡◌, ◌⊎◌, ◌++◌, ◌∷◌, [], IfErr, IfOk, None, OnOk, Some, codes, false, string_bytes, true};
+ghost use Rattle.std.specs.Prelude.{◌≡◌, ◌⊎◌, ◌++◌, ◌∷◌, [], IfErr, IfOk, IsErrAnd, None, OnOk, Some, codes, false, string_bytes, true};
 ghost use Rattle.rds_sync.specs.declared.loss.Loss.TheVariants.{Share};
 ghost use Rattle.rds_tool.specs.declared.job.Job.TheVariants as AJob;
+ghost use Rattle.rds_tool.specs.declared.job.Cuts.TheVariants.{Even};
 
 use rds_tool::{Asked, CliFault, FaultKind, Ignored, Job, Request, asked_of, job_of};
 use std::alloc::Global;
-
-static SCAN_WITH_A_GAP: [&str; 4] = ["rds", "scan", "--gaps", "104-105"];
 
 static SCAN_WITH_BAD_GAPS: [&str; 4] = ["rds", "scan", "--gaps", "5"];
 
 static LIST_BY_TWO_LOSSES: [&str; 6] = ["rds", "list", "--share", "2", "--loss", "10"];
 
-static FOLLOW_BY_A_SHARE: [&str; 6] = ["rds", "follow", "--of", "3", "--share", "2"];
+static FOLLOW_WITH_A_GAP: [&str; 8] = [
+    "rds", "follow", "--of", "3", "--share", "2", "--gaps", "104-105",
+];
 
 static HELP_OF_LIST: [&str; 3] = ["rds", "list", "--help"];
 
-/// `rds scan --gaps 104-105` asks for a scan with this gap.
-pub fn scan_with_a_gap(alloc: Global) -> Result<Asked, CliFault>
-    ensures { IfOk result (λ asked. asked.request
-        ≡ Request.Job (AJob.Scan (record { hex = false; bits = None; gaps = (104, 105) ∷ [] }) 4) false) }
-{
-    asked_of(alloc, SCAN_WITH_A_GAP.as_slice())
-}
-
 /// `rds scan --gaps 5` asks for nothing: it is told that the gaps are bad, or memory was refused.
 pub fn scan_with_bad_gaps(alloc: Global) -> Result<Asked, CliFault>
-    ensures no_job { OnOk result ⊥ }
-    ensures told { IfErr result (λ fault. (fault.kind ≡ FaultKind.Memory)
+    ensures { IsErrAnd result (λ fault. (fault.kind ≡ FaultKind.Memory)
         ⊎ ((fault.kind ≡ FaultKind.Words) × (string_bytes fault.text ≡ codes "bad --gaps" ++ 10 ∷ []))) }
 {
     asked_of(alloc, SCAN_WITH_BAD_GAPS.as_slice())
 }
 
-/// `rds list --share 2 --loss 10` warns of the loss, though 10 is the default.
+/// `rds list --share 2 --loss 10` asks for a list, and warns of the loss, though 10 is the default.
 pub fn list_with_a_warning(alloc: Global) -> Result<Asked, CliFault>
-    ensures { IfOk result (λ asked. asked.ignored ≡ Some Ignored.Loss) }
+    ensures { IfOk result (λ asked. (asked.ignored ≡ Some Ignored.Loss) × (asked.request
+        ≡ Request.Job (AJob.List (record { hex = false; bits = None; gaps = [] })
+        (record { burst = 2; reach = 3; loss = Share 2 64; workers = 4; cuts = Even 16 })) false)) }
 {
     asked_of(alloc, LIST_BY_TWO_LOSSES.as_slice())
 }
 
-/// `rds follow --of 3 --share 2` asks for a stream to be followed, to its end and without gaps, that loses a lock by this share,
-/// by one worker.
-pub fn follow_by_a_share(alloc: Global) -> Result<Asked, CliFault>
+/// `rds follow --of 3 --share 2 --gaps 104-105` asks for a stream to be followed, to its end and with this gap, that loses a lock by this
+/// share, by one worker.
+pub fn follow_with_a_gap(alloc: Global) -> Result<Asked, CliFault>
     ensures { IfOk result (λ asked. asked.request
-        ≡ Request.Follow (record { hex = false; bits = None; gaps = [] })
+        ≡ Request.Follow (record { hex = false; bits = None; gaps = (104, 105) ∷ [] })
         (record { burst = 2; reach = 3; loss = Share 2 3 }) 1) }
 {
-    asked_of(alloc, FOLLOW_BY_A_SHARE.as_slice())
+    asked_of(alloc, FOLLOW_WITH_A_GAP.as_slice())
 }
 
 /// To follow a stream is no job, and no words were wrong but for that.
@@ -55,7 +49,7 @@ pub fn stream_is_no_job(alloc: Global) -> Result<Job, CliFault>
     ensures no_job { OnOk result ⊥ }
     ensures fault { IfErr result (λ fault. (fault.kind ≡ FaultKind.Words) ⊎ (fault.kind ≡ FaultKind.Memory)) }
 {
-    job_of(alloc, FOLLOW_BY_A_SHARE.as_slice())
+    job_of(alloc, FOLLOW_WITH_A_GAP.as_slice())
 }
 
 /// `rds list --help` asks for nothing else: help is shown, or memory was refused.

@@ -1,51 +1,125 @@
-//! Facts that a user of `rds_crew` relies on: the report of a crew is that of one decoder, and each refusal
-//! has its cause.
-ghost use Rattle.std.specs.Prelude.{◌≡◌, IsOkUnless, IfOk, IsErrOf};
+//! Facts that a user of `rds_crew` relies on: the report of a crew is that of one decoder, and each number that is dealt is drawn once,
+//! by whichever seat.
+ghost use Rattle.std.specs.Prelude.{◌≡◌, ◌<◌, ◌↔◌, ◌⊎◌, IfErr, IfOk, IsErrOf, ◌+◌, ◌≤◌, ◌^◌, All, IfSome, None, Some, false, length, true};
 ghost use Rattle.rds_stream.specs.Recording.{length_of};
 ghost use Rattle.rds_crew.specs.declared.error.CrewError.TheVariants.{CrewRange, OutOfMemory};
 ghost use Rattle.rds_pieces.specs.Cutting.{IsCutting};
 ghost use Rattle.rds_sync.specs.Decoding.{listed};
 ghost use Rattle.rds_sync.specs.Report.{report_items};
 ghost use Rattle.rds_sync.specs.Totals.{totals_of};
+ghost use Rattle.rds_crew.specs.declared.deal.Event.TheVariants.{Draw, Progress};
+ghost use Rattle.rds_crew.specs.Seats.{DidWholeRun, DrewAllOnce, HasRested, IsFresh, IsOf, seat_after};
 
-use rds_crew::{CrewError, OpenGate, decode_crew};
+use rds_crew::{CrewError, Dealer, OpenGate, Seat, decode_crew};
 use rds_pieces::{Cutting, RecordingWork};
 use rds_stream::Recording;
 use rds_sync::{Report, Rules};
 use std::alloc::Global;
 use std::thread::Threads;
 
-/// The report of a recording by four workers, however it is cut: that of one decoder. Only memory can be
-/// refused.
-pub fn decoded_by_four<R: Threads + Sync>(
+/// The report of a recording by any number of workers, however it is cut: that of one decoder. No worker is refused, and so are more than
+/// 256, else only memory.
+pub fn decoded_by_any<R: Threads + Sync>(
     rt: &R,
     alloc: Global,
     recording: &Recording,
     rules: &Rules,
     cutting: &Cutting,
+    workers: u32,
 ) -> Result<Report, CrewError>
     requires { IsCutting (length_of recording.now) cutting.now }
     ensures items { IfOk result (λ report. report.items
         ≡ listed recording.now rules.now (report_items recording.now rules.now)) }
     ensures totals { IfOk result
         (λ report. report.totals ≡ totals_of (report_items recording.now rules.now)) }
-    ensures refused { IsOkUnless result OutOfMemory }
+    ensures range { IsErrOf result CrewRange ↔ ((workers ≡ 0) ⊎ (256 < workers)) }
+    ensures refused { IfErr result (λ error. (error ≡ CrewRange) ⊎ (error ≡ OutOfMemory)) }
 {
     let work = RecordingWork::new(recording, rules, cutting);
-    decode_crew(rt, alloc, &work, 4, &OpenGate)
+    decode_crew(rt, alloc, &work, workers, &OpenGate)
 }
 
-/// More than 256 workers are refused.
-pub fn too_many_workers<R: Threads + Sync>(
-    rt: &R,
-    alloc: Global,
-    recording: &Recording,
-    rules: &Rules,
-    cutting: &Cutting,
-) -> Result<Report, CrewError>
-    requires { IsCutting (length_of recording.now) cutting.now }
-    ensures { IsErrOf result CrewRange }
+// ---- dealers
+
+/// A dealer with one seat, which has drawn nothing.
+pub fn with_one_seat(alloc: Global, pieces: u64) -> Option<(Dealer, Seat)>
+    requires { pieces < 2 ^ 63 }
+    ensures pieces { IfSome result (λ made. made.0.name.pieces ≡ pieces) }
+    ensures seats { IfSome result (λ made. made.0.seats ≡ 1) }
+    ensures seat { IfSome result (λ made. IsFresh made.0 made.1) }
 {
-    let work = RecordingWork::new(recording, rules, cutting);
-    decode_crew(rt, alloc, &work, 257, &OpenGate)
+    let (dealer, mut seats) = Dealer::new(alloc, pieces, 1).ok()?;
+    let seat = seats.pop()?;
+    Some((dealer, seat))
+}
+
+/// A dealer without seats is refused. For 256 nothing but memory can be.
+pub fn refused_seats(alloc: Global) -> (Option<CrewError>, Option<CrewError>)
+    ensures none { result.0 ≡ Some CrewRange }
+    ensures all { IfSome result.1 (λ error. error ≡ OutOfMemory) }
+{
+    (
+        Dealer::new(alloc, 100, 0).err(),
+        Dealer::new(alloc, 100, 256).err(),
+    )
+}
+
+/// A number that is drawn is held, and can be finished; a seat that got none has rested.
+pub fn draw_and_finish(dealer: &Dealer, seat: Seat) -> (bool, Seat)
+    requires own { IsOf dealer.now seat }
+    requires empty { seat.view.held ≡ None }
+    ensures own { IsOf dealer.now result.1 }
+    ensures some { result.0 ≡ true → result.1.view.finished ≡ seat.view.finished + 1 }
+    ensures none { result.0 ≡ false → HasRested result.1 }
+{
+    let (number, holder) = dealer.draw(seat);
+    match number {
+        Some(j) => (true, dealer.finish(holder, j)),
+        None => (false, holder),
+    }
+}
+
+/// The view of a seat after a draw: its own event, and no more. A seat that has ended gets no number, and takes no step. The seat holds
+/// the number that it drew, which is below the number of pieces, and has ended exactly if it got none.
+pub fn seat_after_draw(dealer: &Dealer, seat: Seat) -> (Option<u64>, Seat)
+    requires own { IsOf dealer.now seat }
+    requires empty { seat.view.held ≡ None }
+    ensures number { IfSome result.0 (λ j. j < dealer.now.name.pieces) }
+    ensures going { seat.view.ended ≡ 0 → result.1 ≡ seat_after seat (Draw result.0) }
+    ensures ended { seat.view.ended ≡ 1 → result ≡ (None, seat) }
+{
+    let (number, seat) = dealer.draw(seat);
+    let is_told = seat.holding() == number && seat.ended() == number.is_none();
+    prove!(is_told);
+    (number, seat)
+}
+
+/// Progress is no less than the number that the seat finished, and no less than it was told before. At most all pieces are finished, and
+/// fewer while the seat holds one. The seat's view has this event, and no more, and the count that it was told is the answer.
+pub fn progress_rises(dealer: &Dealer, seat: Seat) -> (u64, Seat)
+    requires { IsOf dealer.now seat }
+    ensures own { IsOf dealer.now result.1 }
+    ensures event { result.1 ≡ seat_after seat (Progress result.0) }
+    ensures within { result.0 ≤ dealer.now.name.pieces }
+    ensures held { IfSome seat.view.held (λ _. result.0 < dealer.now.name.pieces) }
+{
+    let (own, before) = (seat.finished(), seat.told());
+    let (done, seat) = dealer.progress(seat);
+    let is_told = own <= done && before <= done && seat.told() == done;
+    prove!(is_told);
+    (done, seat)
+}
+
+/// Once all seats are back, each number was drawn once and is finished, and their events are a run of the
+/// core.
+pub fn closed(dealer: Dealer, seats: Vec<Seat>) -> bool
+    requires all { length seats.items ≡ dealer.seats }
+    requires own { All (IsOf dealer) seats.items }
+    requires rested { All HasRested seats.items }
+    ensures whole { result ≡ true }
+    ensures once { DrewAllOnce dealer.name.pieces seats.items }
+    ensures run { DidWholeRun dealer seats.items }
+{
+    let closed = dealer.close(seats);
+    closed.drawn == closed.finished
 }

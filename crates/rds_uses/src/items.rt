@@ -1,5 +1,5 @@
 //! Facts that a user of lists of items, and of their totals, relies on.
-ghost use Rattle.std.specs.Prelude.{◌≡◌, ◌-◌, ◌+◌, ◌*◌, ◌≤◌, ◌^◌, ◌++◌, ◌∷◌, [], IfOk, IfSome, None, Some, drop, false, length, slice_get, slice_range, true, vec_capacity};
+ghost use Rattle.std.specs.Prelude.{◌≡◌, ◌-◌, ◌+◌, ◌*◌, ◌≤◌, ◌^◌, ◌++◌, ◌∷◌, [], All, IfOk, IfSome, None, Some, drop, false, length, slice_get, slice_range, true, vec_capacity};
 ghost use Rattle.rds_stream.specs.Recording.{length_of};
 ghost use Rattle.rds_sync.specs.Advance.{group_item};
 ghost use Rattle.rds_sync.specs.Counting.{IsAtMost, IsRest, plus};
@@ -7,11 +7,10 @@ ghost use Rattle.rds_sync.specs.Decoding.{listed};
 ghost use Rattle.rds_sync.specs.Lawful.{IsLawful};
 ghost use Rattle.rds_sync.specs.Step.{items_of_end, run as run_of};
 ghost use Rattle.rds_sync.specs.Totals.{totals_of};
-ghost use Rattle.rds_sync.specs.declared.state.State.TheVariants.{Searching};
 ghost use Rattle.rds_sync.specs.declared.totals.Totals.{Totals as TheTotals};
 
 use rds_stream::Recording;
-use rds_sync::{Decoder, Group, Item, ItemIter, Items, Rules, State, SyncError, Totals, laws};
+use rds_sync::{Decoder, Group, Item, ItemIter, Items, Rules, State, Totals, laws};
 use std::alloc::{AllocError, Global};
 use std::snapshot::Snapshot;
 
@@ -30,39 +29,23 @@ pub fn last_of(items: &Items, recording: &Recording, rules: &Rules) -> Option<It
     items.get(recording, rules, items.len() - 1)
 }
 
-/// The first item, by going over them.
-pub fn first_of(items: &Items, recording: &Recording, rules: &Rules) -> Option<Item>
-    requires source { items.now.source ≡ recording.now }
-    requires rules { items.now.rules ≡ rules.now }
-    ensures { result ≡ slice_get items.now.list 0 }
-{
-    items.iter(recording, rules).next()
-}
-
-/// The second item, by going over all but the first.
-pub fn second_of(items: &Items, recording: &Recording, rules: &Rules) -> Option<Item>
-    requires source { items.now.source ≡ recording.now }
-    requires rules { items.now.rules ≡ rules.now }
-    requires some { 1 ≤ length items.now.list }
-    ensures { result ≡ slice_get items.now.list 1 }
-{
-    items.range(recording, rules, 1, items.len()).next()
-}
-
-/// Any item by its index, once all are collected.
+/// The first item, by going over them, and any item by its index, once all are collected.
 pub fn collected_at(
     alloc: Global,
     items: &Items,
     recording: &Recording,
     rules: &Rules,
     k: usize,
-) -> Result<Option<Item>, AllocError>
+) -> Result<(Option<Item>, Option<Item>), AllocError>
     requires source { items.now.source ≡ recording.now }
     requires rules { items.now.rules ≡ rules.now }
-    ensures { IfOk result (λ item. item ≡ slice_get items.now.list k) }
+    ensures { IfOk result (λ found. (found.0 ≡ slice_get items.now.list 0) × (found.1 ≡ slice_get items.now.list k)) }
 {
     let collected = items.to_vec(alloc, recording, rules)?;
-    Ok(collected.get(k).copied())
+    Ok((
+        items.iter(recording, rules).next(),
+        collected.get(k).copied(),
+    ))
 }
 
 // ---- lists that are made
@@ -96,7 +79,7 @@ pub fn appended_from(items: &mut Items, other: &Items, first: usize) -> bool
     items.append_from(other, first).is_ok()
 }
 
-/// Items in a row by the index of a list, which are those of the list.
+/// Items in a row, by a list and by its index, are those of the list.
 pub fn range_by_index<'a>(
     alloc: Global,
     recording: &'a Recording,
@@ -104,15 +87,17 @@ pub fn range_by_index<'a>(
     items: &'a Items,
     from: usize,
     to: usize,
-) -> Result<ItemIter<'a>, SyncError>
+) -> Result<(ItemIter<'a>, ItemIter<'a>), AllocError>
     requires source { items.now.source ≡ recording.now }
     requires rules { items.now.rules ≡ rules.now }
     requires order { from ≤ to }
     requires within { to ≤ length items.now.list }
-    ensures { IfOk result (λ range. range ≡ slice_range items.now.list from to) }
+    ensures listed { IfOk result (λ both. both.0 ≡ slice_range items.now.list from to) }
+    ensures indexed { IfOk result (λ both. both.1 ≡ slice_range items.now.list from to) }
 {
     let indexed = items.indexed(alloc)?;
-    Ok(indexed.range(recording, rules, from, to))
+    let by_index = indexed.range(recording, rules, from, to);
+    Ok((items.range(recording, rules, from, to), by_index))
 }
 
 /// A span of a run has its items; if there is no memory for the span, the list stays as it was.
@@ -140,25 +125,15 @@ pub fn closed_or_same(items: &mut Items, state: State) -> bool
 
 // ---- items by parts
 
-/// The items of a run over a recording, if there is room for one more in the part: then all of them are in
-/// it.
-pub fn run_in_a_part(recording: &Recording, rules: &Rules, part: &mut Vec<Item>) -> bool
-    ensures { result ≡ true → part.new.items
-        ≡ (run_of recording.now rules.now Searching 0 (length_of recording.now)).1 }
-{
-    let mut decoder = Decoder::new(recording, rules, State::Searching, 0, recording.len());
-    decoder.fill(part);
-    part.len() < part.capacity()
-}
-
-/// After a part that was filled a run ends as it would have, and the part has the room that it had.
-pub fn end_behind_a_part(decoder: Decoder<'_>, part: &mut Vec<Item>) -> State
-    ensures end { result ≡ decoder.entry.end }
+/// The items of a run, if there is room for one more in the part, which keeps its room. The run ends as it would have.
+pub fn run_in_a_part(decoder: Decoder<'_>, part: &mut Vec<Item>) -> (bool, State)
+    ensures all { result.0 ≡ true → part.new.items ≡ decoder.entry.items }
     ensures room { vec_capacity part.new ≡ vec_capacity part.old }
+    ensures end { result.1 ≡ decoder.entry.end }
 {
     let mut decoder = decoder;
     decoder.fill(part);
-    decoder.end_state()
+    (part.len() < part.capacity(), decoder.end_state())
 }
 
 /// The items of a list, if there is room for one more in the part, which keeps its room.
@@ -182,20 +157,12 @@ pub fn totals_of_parts(one: &[Item], other: &[Item]) -> Totals
 
 // ---- totals
 
-/// The totals of one item.
-pub fn totals_of_item(item: &Item) -> Totals
-    ensures value { result ≡ totals_of (item.now ∷ []) }
-    ensures small { IsAtMost (2 ^ 10) result }
+/// The totals of one item, and of the group that the end closes, if there is one.
+pub fn totals_of_item(item: &Item, group: Option<Group>) -> [Totals; 2]
+    ensures value { result ≡ totals_of (item.now ∷ []) ∷ totals_of (group_item group) ∷ [] }
+    ensures small { All (IsAtMost (2 ^ 10)) result }
 {
-    Totals::of_item(item)
-}
-
-/// The totals of the group that the end closes, if there is one.
-pub fn totals_of_end(group: Option<Group>) -> Totals
-    ensures value { result ≡ totals_of (group_item group) }
-    ensures small { IsAtMost (2 ^ 10) result }
-{
-    Totals::of_end(group)
+    [Totals::of_item(item), Totals::of_end(group)]
 }
 
 /// The totals of the rest of a list are those of all, less those of its first items.

@@ -1,5 +1,5 @@
 //! Promises of the calls for C to a user.
-ghost use Rattle.std.specs.Prelude.{◌≡◌, ◌≢◌, ◌++◌, ◌+◌, ◌*◌, ◌^◌, ◌<◌, ◌≤◌, ◌⊎◌, ℕ, List, [], ◌∷◌, IfErr, IfOk, IfSome, None, OnOk, Some, length, map, take, true};
+ghost use Rattle.std.specs.Prelude.{◌≡◌, ◌≢◌, ◌++◌, ◌+◌, ◌*◌, ◌^◌, ◌<◌, ◌≤◌, ◌⊎◌, ℕ, List, [], ◌∷◌, Err, IfErr, IfOk, IfSome, None, OnOk, Some, length, map, false, take, true};
 ghost use Rattle.rds_code.specs.Remainder.{rem};
 ghost use Rattle.rds_sync.specs.Report.{report_items};
 ghost use Rattle.rds_sync.specs.Totals.{totals_of};
@@ -50,6 +50,14 @@ pub struct Counts {
     pub end: u64,
 }
 
+impl Counts {
+    const NONE: Counts = Counts {
+        first: 0,
+        second: 0,
+        end: 0,
+    };
+}
+
 /// A recording in two ranges, and the items that its end closes: together the items of the whole.
 pub fn in_two_ranges(
     alloc: Global,
@@ -68,22 +76,19 @@ pub fn in_two_ranges(
 {
     laws::runs_join();
     laws::runs_are_reports();
-    let mut counts = Counts {
-        first: 0,
-        second: 0,
-        end: 0,
-    };
+    let mut n = Counts::NONE;
     let mut state = RdsState::SEARCHING;
+    let (early, late) = ((0, middle), (middle, bits));
     run(
         alloc,
         bytes,
         bits,
         gaps,
         rules,
-        (0, middle),
+        early,
         &mut state,
         first,
-        &mut counts.first,
+        &mut n.first,
     )?;
     run(
         alloc,
@@ -91,13 +96,13 @@ pub fn in_two_ranges(
         bits,
         gaps,
         rules,
-        (middle, bits),
+        late,
         &mut state,
         second,
-        &mut counts.second,
+        &mut n.second,
     )?;
-    finish_run(alloc, bytes, bits, gaps, rules, state, end, &mut counts.end)?;
-    Ok(counts)
+    finish_run(alloc, bytes, bits, gaps, rules, state, end, &mut n.end)?;
+    Ok(n)
 }
 
 /// Takes all of the next bytes of a stream, or says that there is too little room for the items that they
@@ -140,74 +145,38 @@ pub fn goes_on_in_little_room(
     ensures some { IfOk result (λ taken. 0 < taken) }
     ensures roomy { IfErr result (λ refusal. refusal ≢ Refusal.SmallRoom) }
 {
-    let mut taken = 0;
-    let mut count = 0;
-    push(
-        alloc,
-        bytes,
-        &[],
-        rules,
-        stream,
-        room,
-        &mut taken,
-        &mut count,
-    )?;
+    let (mut taken, mut n) = (0, 0);
+    push(alloc, bytes, &[], rules, stream, room, &mut taken, &mut n)?;
     Ok(taken)
 }
 
-/// Room for sixteen items is enough for symbols: of nine or more, eight are taken.
+/// Room for sixteen items is enough for symbols: of nine or more, eight are taken. A margin of 0 is refused as such, whatever else is
+/// asked, and even without memory.
 pub fn symbols_go_on(
     alloc: Global,
     symbols: &[i8],
     rules: RdsRules,
+    margin: u8,
     soft: &mut RdsSoft,
     room: &mut [RdsItem],
 ) -> Result<u64, Refusal>
-    requires room { length room.old ≡ 16 }
-    requires nine { 9 ≤ length symbols.now }
-    ensures some { IfOk result (λ taken. taken ≡ 8) }
-    ensures roomy { IfErr result (λ refusal. refusal ≢ Refusal.SmallRoom) }
+    ensures some { length room.old ≡ 16 → 9 ≤ length symbols.now → IfOk result (λ taken. taken ≡ 8) }
+    ensures roomy { length room.old ≡ 16 → IfErr result (λ refusal. refusal ≢ Refusal.SmallRoom) }
+    ensures margin { margin ≡ 0 → result ≡ Err Refusal.MarginRange }
 {
-    let mut taken = 0;
-    let mut count = 0;
+    let (mut taken, mut n) = (0, 0);
     push_soft(
         alloc,
         symbols,
         &[],
         rules,
-        32,
+        margin,
         soft,
         room,
         &mut taken,
-        &mut count,
+        &mut n,
     )?;
     Ok(taken)
-}
-
-/// A margin of 0 is refused as such, whatever else is asked, and even without memory.
-pub fn no_margin_is_refused(
-    alloc: Global,
-    symbols: &[i8],
-    rules: RdsRules,
-    soft: &mut RdsSoft,
-    room: &mut [RdsItem],
-) -> Option<Refusal>
-    ensures { result ≡ Some Refusal.MarginRange }
-{
-    let mut taken = 0;
-    let mut count = 0;
-    push_soft(
-        alloc,
-        symbols,
-        &[],
-        rules,
-        0,
-        soft,
-        room,
-        &mut taken,
-        &mut count,
-    )
-    .err()
 }
 
 /// A stream in two chunks, between which it is kept only as numbers, and the items that its end closes:
@@ -228,41 +197,13 @@ pub fn in_two_chunks(
     ensures totals { IfOk result
         (λ r. r.1 ≡ totals_in_c (totals_of (report_of (terms_of rules gaps.now) (early.now ++ late.now)))) }
 {
-    let mut counts = Counts {
-        first: 0,
-        second: 0,
-        end: 0,
-    };
+    let mut n = Counts::NONE;
     let mut totals = RdsTotals::NONE;
     let mut stream = RdsStream::UNHEARD;
-    push_all(
-        alloc,
-        early,
-        gaps,
-        rules,
-        &mut stream,
-        first,
-        &mut counts.first,
-    )?;
-    push_all(
-        alloc,
-        late,
-        gaps,
-        rules,
-        &mut stream,
-        second,
-        &mut counts.second,
-    )?;
-    finish(
-        alloc,
-        gaps,
-        rules,
-        &stream,
-        end,
-        &mut counts.end,
-        &mut totals,
-    )?;
-    Ok((counts, totals))
+    push_all(alloc, early, gaps, rules, &mut stream, first, &mut n.first)?;
+    push_all(alloc, late, gaps, rules, &mut stream, second, &mut n.second)?;
+    finish(alloc, gaps, rules, &stream, end, &mut n.end, &mut totals)?;
+    Ok((n, totals))
 }
 
 /// A stream that ends inside a byte, after the first `bits` bits of these bytes: the items that they complete are written, and the
@@ -339,4 +280,46 @@ pub fn refused_alike(
         (Err(first), Err(again)) => Some((first, again)),
         _ => None,
     }
+}
+
+// ---- numbers that are kept between calls: only those that a call can have left
+
+/// A search that waits for a block is refused: no call leaves such a state.
+pub fn search_that_waits(alloc: Global, bytes: &[u8], rules: RdsRules, due: u64) -> bool
+    requires { due ≢ 0 }
+    ensures { result ≡ false }
+{
+    let mut state = RdsState {
+        due,
+        ..RdsState::SEARCHING
+    };
+    let (none, mut n) = ((0, 0), 0);
+    run(
+        alloc,
+        bytes,
+        0,
+        &[],
+        rules,
+        none,
+        &mut state,
+        &mut [],
+        &mut n,
+    )
+    .is_ok()
+}
+
+/// A stream that searches has no first block: numbers that say otherwise are refused.
+pub fn state_of_no_stream(alloc: Global, rules: RdsRules, first: u32) -> bool
+    requires { first ≢ 0 }
+    ensures { result ≡ false }
+{
+    let stream = RdsStream {
+        state: RdsState {
+            first,
+            ..RdsState::SEARCHING
+        },
+        ..RdsStream::UNHEARD
+    };
+    let (mut n, mut totals) = (0, RdsTotals::NONE);
+    finish(alloc, &[], rules, &stream, &mut [], &mut n, &mut totals).is_ok()
 }

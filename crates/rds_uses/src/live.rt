@@ -1,21 +1,21 @@
 //! Promises to a user of the decoder of a stream.
-ghost use Rattle.std.specs.Prelude.{◌≡◌, ◌<◌, ◌↔◌, ◌+◌, ◌*◌, ◌/◌, ◌^◌, ◌++◌, [], List, ℕ, IfOk, IsErrOf, IsOkUnless, OnErr, length, min, take, vec_capacity};
+ghost use Rattle.std.specs.Prelude.{◌≡◌, ◌<◌, ◌≤◌, ◌↔◌, ◌+◌, ◌*◌, ◌/◌, ◌^◌, ◌++◌, [], List, ℕ, Err, IfOk, IsErrOf, IsOkUnless, OnErr, OnOk, length, min, take, vec_capacity};
 ghost use Rattle.rds_stream.specs.Recording.{AreGaps};
 ghost use Rattle.rds_sync.specs.Advance.{group_item};
+ghost use Rattle.rds_sync.specs.Counting.{plus};
+ghost use Rattle.rds_sync.specs.Ranges.{IsInRange};
 ghost use Rattle.rds_sync.specs.Totals.{totals_of};
-ghost use Rattle.rds_live.specs.Next.{completed, live_next};
+ghost use Rattle.rds_live.specs.Next.{completed, group_next, items_next, live_next};
 ghost use Rattle.rds_live.specs.StreamDecoder.{HasHeard, by_rules, complete, live_of, report_of};
 
-use rds_live::{ResumeError, StreamDecoder, StreamEnd};
+use rds_live::{ResumeError, StreamCounter, StreamDecoder, StreamEnd, laws};
 use rds_stream::StreamError;
-use rds_sync::{Item, Rules, State};
+use rds_sync::{Item, Rules, Totals};
 use std::alloc::Global;
+use std::thread::Threads;
 
 /// A decoder of a stream without gaps, which has heard nothing yet. Only memory can be refused.
-pub fn begun_without_gaps<'r>(
-    alloc: Global,
-    rules: &'r Rules,
-) -> Result<StreamDecoder<'r>, StreamError>
+pub fn begun_gapless<'r>(alloc: Global, rules: &'r Rules) -> Result<StreamDecoder<'r>, StreamError>
     ensures live { IfOk result (λ live. live ≡ live_of (by_rules rules.now) []) }
     ensures refused { IsOkUnless result StreamError.OutOfMemory }
 {
@@ -100,11 +100,85 @@ pub fn take_rest(
     }
 }
 
-/// Two decoders that were fed the same, however it was cut, are in one state.
-pub fn states<'r>(one: &StreamDecoder<'r>, other: &StreamDecoder<'r>) -> (State, State)
-    requires { (bytes : List ℕ) × (one.now ≡ live_of one.now.terms bytes)
-        × (other.now ≡ live_of one.now.terms bytes) }
-    ensures { result.0 ≡ result.1 }
+// ---- decoders made of lawful numbers, even of those that no stream has
+
+/// Bytes in two chunks give the same as at once, whatever numbers the decoder is made of.
+pub fn in_two_chunks(
+    alloc: Global,
+    live: &mut StreamDecoder<'_>,
+    first: &[u8],
+    second: &[u8],
+) -> Result<(Vec<Item>, Vec<Item>), StreamError>
+    requires { IsInRange live.old.terms.rules }
+    ensures next { OnOk result (live.new ≡ live_next live.old (first.now ++ second.now)) }
+    ensures items { IfOk result (λ r. r.0.items ++ r.1.items ≡ completed live.old (first.now ++ second.now)) }
 {
-    (one.state(), other.state())
+    laws::pieces_join();
+    prove!(live.tail().len() <= 30);
+    let one = live.take_all(alloc, first)?;
+    let other = live.take_all(alloc, second)?;
+    Ok((one, other))
+}
+
+/// The end of such a stream closes the group in progress that its numbers tell of, and counts it.
+pub fn ended(live: StreamDecoder<'_>) -> StreamEnd
+    ensures group { group_item result.group ≡ group_next live.entry [] 0 }
+    ensures totals { result.totals ≡ plus live.entry.totals (totals_of (group_item result.group)) }
+{
+    live.finish()
+}
+
+/// So does an end inside a byte, after the items that its last bits complete.
+pub fn ended_inside(
+    live: StreamDecoder<'_>,
+    last: &[u8],
+    bits: u64,
+    items: &mut Vec<Item>,
+) -> Result<StreamEnd, StreamError>
+    requires held { bits ≤ 8 * length last.now }
+    requires few { bits ≤ 7 }
+    requires room { 14 ≤ vec_capacity items.old }
+    ensures items { OnOk result (items.new.items ≡ items_next live.entry last.now bits) }
+    ensures group { IfOk result (λ end. group_item end.group ≡ group_next live.entry last.now bits) }
+    ensures totals { IfOk result (λ end. end.totals
+        ≡ plus (plus live.entry.totals (totals_of (items_next live.entry last.now bits)))
+        (totals_of (group_next live.entry last.now bits))) }
+{
+    live.finish_with(last, bits, items)
+}
+
+// ---- counters, which several workers share
+
+/// The totals of a stream that comes in two chunks are its report's, by any number of workers.
+pub fn counted_in_two<R: Threads + Sync>(
+    rt: &R,
+    alloc: Global,
+    rules: &Rules,
+    gaps: &[(u64, u64)],
+    first: &[u8],
+    second: &[u8],
+    workers: u32,
+) -> Result<Totals, StreamError>
+    ensures { IfOk result (λ totals. totals ≡ totals_of (report_of
+        (record { rules = rules.now; gaps = gaps.now }) (first.now ++ second.now))) }
+{
+    let live = StreamDecoder::with_gaps(alloc, rules, gaps)?;
+    let mut counter = StreamCounter::new(alloc, live, workers)?;
+    counter.count(rt, alloc, first)?;
+    counter.count(rt, alloc, second)?;
+    Ok(counter.into_decoder(rt, alloc).finish().totals)
+}
+
+/// A chunk past 2^36 bits is refused as such, and was not heard.
+pub fn refused_chunk<R: Threads + Sync>(
+    rt: &R,
+    alloc: Global,
+    counter: &mut StreamCounter<'_>,
+    bytes: &[u8],
+) -> Result<(), StreamError>
+    requires { 2 ^ 36 < counter.old.place + 8 * length bytes.now }
+    ensures refused { result ≡ Err StreamError.TooLong }
+    ensures same { counter.new ≡ counter.old }
+{
+    counter.count(rt, alloc, bytes)
 }

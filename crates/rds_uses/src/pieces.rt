@@ -1,6 +1,6 @@
 //! Facts that a user of `rds_pieces` relies on: cuttings, guesses, seams, joins, and the report that is
 //! stitched of them.
-ghost use Rattle.std.specs.Prelude.{◌≡◌, ℕ, ◌+◌, ◌-◌, ◌*◌, ◌<◌, ◌≤◌, ◌^◌, ◌++◌, ◌∷◌, [], IfOk, IsOkUnless, OnOk, Option, Some, true};
+ghost use Rattle.std.specs.Prelude.{◌≡◌, ℕ, ◌+◌, ◌-◌, ◌*◌, ◌<◌, ◌≤◌, ◌^◌, ◌++◌, ◌∷◌, [], Err, IfOk, IsOkUnless, Ok, OnOk, Option, Some, true, IfSome, vec_len};
 ghost use Rattle.rds_stream.specs.Recording.{length_of};
 ghost use Rattle.rds_sync.specs.declared.state.State.TheVariants.{Searching};
 ghost use Rattle.rds_sync.specs.declared.loss.Loss.TheVariants.{Run};
@@ -15,54 +15,42 @@ ghost use Rattle.rds_pieces.specs.Guess.{guess};
 ghost use Rattle.rds_pieces.specs.Marks.{marks_of};
 ghost use Rattle.rds_pieces.specs.Joining.{AreNeighbours};
 ghost use Rattle.rds_pieces.specs.Meeting.{IsMeeting, distance};
-ghost use Rattle.rds_pieces.specs.RunOf.{FollowEachOther, run_at, run_over, runs_of};
+ghost use Rattle.rds_pieces.specs.RunOf.{FollowEachOther, run_over, runs_of};
 ghost use Rattle.rds_pieces.specs.Seams.{IsSumOfReads};
 ghost use Rattle.rds_pieces.specs.declared.error.PieceError.TheVariants.{BadCutting, OutOfMemory};
+ghost use Rattle.rds_uses.specs.Jobs.{all_bits};
 
 use rds_pieces::{
     Cutting, Mark, PieceError, PieceRun, RecordingWork, Seam, Work, join_runs, laws, seam,
     speculate, stitch,
 };
 use rds_stream::{Counted, Recording, Tape};
-use rds_sync::{Decoder, ItemIter, Items, Loss, Report, Rules, State, Totals, run};
+use rds_sync::{Decoder, ItemIter, Items, Loss, Report, Rules, State, SyncError, Totals};
 use std::alloc::{AllocError, Global};
 use std::slice;
 use std::snapshot::Snapshot;
 
 // ---- cuttings
 
-/// Places that are a cutting of `len` bits are taken as they are.
-pub fn taken_cutting(places: Vec<u64>, len: u64) -> Option<Cutting>
-    requires { IsCutting len places.items }
-    ensures { result ≡ Some places.items }
+/// Places that are a cutting of `len` bits are taken as they are. Others come back, with the refusal.
+pub fn cutting_of(places: Vec<u64>, len: u64) -> Result<Cutting, (PieceError, Vec<u64>)>
+    ensures taken { IsCutting len places.items → result ≡ Ok places.items }
+    ensures refused { ¬ IsCutting len places.items → result ≡ Err (BadCutting, places) }
 {
-    Cutting::new(places, len).ok()
+    Cutting::new(places, len)
 }
 
-/// Places that are none come back, with the refusal.
-pub fn refused_cutting(places: Vec<u64>, len: u64) -> Option<(PieceError, Vec<u64>)>
-    requires { ¬ IsCutting len places.items }
-    ensures { result ≡ Some (BadCutting, places) }
-{
-    Cutting::new(places, len).err()
-}
-
-/// A hundred bits in three pieces, each but the last of a third, rounded up.
-pub fn thirds(alloc: Global) -> Result<Cutting, PieceError>
-    ensures places { IfOk result (λ cutting. cutting ≡ 0 ∷ 34 ∷ 68 ∷ 100 ∷ []) }
-    ensures refused { IsOkUnless result OutOfMemory }
-{
-    Cutting::even(alloc, 100, 3)
-}
-
-/// The last piece ends where the recording does.
-pub fn end_of_last_piece(alloc: Global, len: u64, pieces: u64) -> Result<u64, PieceError>
+/// The last piece of an even cutting ends where the recording does. A hundred bits in three pieces are thirds, rounded up but for the last.
+pub fn even_cutting(alloc: Global, len: u64, pieces: u64) -> Result<(Cutting, u64), PieceError>
     requires some { 1 ≤ pieces }
     requires bits { 0 < len }
-    ensures { IfOk result (λ end. end ≡ len) }
+    ensures thirds { IfOk result (λ made. len ≡ 100 → pieces ≡ 3 → made.0 ≡ 0 ∷ 34 ∷ 68 ∷ 100 ∷ []) }
+    ensures end { IfOk result (λ made. made.1 ≡ len) }
+    ensures refused { IsOkUnless result OutOfMemory }
 {
     let cutting = Cutting::even(alloc, len, pieces)?;
-    Ok(cutting.to(cutting.pieces() - 1))
+    let end = cutting.to(cutting.pieces() - 1);
+    Ok((cutting, end))
 }
 
 /// One piece begins where the one before it ends.
@@ -85,65 +73,43 @@ pub fn bits_beyond_pieces(recording: &Recording, cutting: &Cutting) -> u64
 
 // ---- guesses
 
-/// A guess ends as a run from Searching over its range does.
-pub fn guessed_as_run(recording: &Recording, rules: &Rules, run: &PieceRun) -> bool
-    requires source { run.now.source ≡ recording.now }
-    requires rules { run.now.rules ≡ rules.now }
-    ensures { result ≡ true }
-{
-    let (from, to) = (run.from(), run.to());
-    let decoder = Decoder::new(recording, rules, State::Searching, from, to);
-    decoder.end_state() == run.end_state()
-}
-
-/// The items of a guess, one after the other, are those of a run from Searching over its range.
-pub fn items_of_guess<'a>(
+/// A guess ends as a run from Searching over its range does. Its items, one after the other, are those of that run, and its marks are its
+/// first place and the place after each bit that gave an item.
+pub fn guessed_as_run<'a>(
+    alloc: Global,
     recording: &'a Recording,
     rules: &'a Rules,
     run: &'a PieceRun,
-) -> ItemIter<'a>
+) -> Result<(ItemIter<'a>, Vec<Mark>), AllocError>
     requires source { run.now.source ≡ recording.now }
     requires rules { run.now.rules ≡ rules.now }
-    ensures { result ≡ (run_of recording.now rules.now Searching run.now.from (run.now.to - run.now.from)).1 }
-{
-    run.items(recording, rules)
-}
-
-/// Their list names the recording and the rules of the guess.
-pub fn list_of_guess(run: &PieceRun) -> &Items
-    ensures { result.now ≡ listed run.now.source run.now.rules
-        (run_of run.now.source run.now.rules Searching run.now.from (run.now.to - run.now.from)).1 }
-{
-    run.list()
-}
-
-/// All marks of a guess: its first place, and the place after each bit that gave an item.
-pub fn marks_of_guess(
-    alloc: Global,
-    recording: &Recording,
-    rules: &Rules,
-    run: &PieceRun,
-) -> Result<Vec<Mark>, AllocError>
-    requires source { run.now.source ≡ recording.now }
-    requires rules { run.now.rules ≡ rules.now }
-    ensures { IfOk result (λ found. found.items
+    ensures items { IfOk result (λ guess. guess.0
+        ≡ (run_of recording.now rules.now Searching run.now.from (run.now.to - run.now.from)).1) }
+    ensures marks { IfOk result (λ guess. guess.1.items
         ≡ marks_of recording.now rules.now Searching run.now.from (run.now.to - run.now.from)) }
 {
-    run.marks(recording, rules).collect(alloc)
+    let decoder = Decoder::new(recording, rules, State::Searching, run.from(), run.to());
+    let is_same = decoder.end_state() == run.end_state();
+    prove!(is_same);
+    let marks = run.marks(recording, rules).collect(alloc)?;
+    Ok((run.items(recording, rules), marks))
 }
 
-/// A guess knows the totals of its items.
-pub fn totals_of_guess(run: &PieceRun) -> Totals
-    ensures { result ≡ totals_of
+/// The list of a guess names its recording and rules. Its totals are those of its items.
+pub fn list_of_guess(run: &PieceRun) -> (&Items, Totals)
+    ensures list { result.0.now ≡ listed run.now.source run.now.rules
+        (guess run.now.source run.now.rules run.now.from (run.now.to - run.now.from)).1 }
+    ensures totals { result.1 ≡ totals_of
         (guess run.now.source run.now.rules run.now.from (run.now.to - run.now.from)).1 }
 {
-    run.totals()
+    (run.list(), run.totals())
 }
 
 // ---- seams
 
 /// A seam is the run from the state handed in, and tells the least place where it meets the guess, or that there is none. It reads as many windows as the bits to there cost, without
-/// memory too, and no more than its piece has places for. The tape is of the same bits.
+/// memory too, and no more than its piece has places for. The tape is of the same bits. On sound signal from the piece's first place on, it
+/// meets the guess within 416 bits by a loss of ten blocks.
 pub fn run_and_cost_of_seam<T: Tape>(
     alloc: Global,
     tape: &mut T,
@@ -163,6 +129,10 @@ pub fn run_and_cost_of_seam<T: Tape>(
         ≡ (run_of (T.signal tape.old) rules.now state run.now.from (run.now.to - run.now.from)).0) }
     ensures met { IfOk result (λ seam. IsMeeting (T.signal tape.old) rules.now state Searching run.now.from
         run.now.to seam.met_at) }
+    ensures soon { IfOk result (λ seam. rules.now.loss ≡ Run 10
+        → (p : ℕ) × (c : ℕ) × IsSound (T.signal tape.old) rules.now 0 run.now.from p c
+        → run.now.from + 416 ≤ run.now.to
+        → (place : ℕ) × (seam.met_at ≡ Some place) × (place ≤ run.now.from + 416)) }
     ensures reads { IfOk result (λ seam. T.reads_made tape.new
         ≤ T.reads_made tape.old + (rules.now.reach + 2) * (distance run.now.from run.now.to seam.met_at + 1)) }
     ensures refused { IsOkUnless result OutOfMemory }
@@ -177,47 +147,10 @@ pub fn run_and_cost_of_seam<T: Tape>(
     seam(alloc, tape, rules, state, run)
 }
 
-/// On sound signal from the piece's first place on, a seam meets the guess within 416 bits by a loss of ten blocks.
-pub fn met_on_sound_signal(
-    alloc: Global,
-    recording: &Recording,
-    rules: &Rules,
-    state: State,
-    run: &PieceRun,
-) -> Result<Option<u64>, PieceError>
-    requires lawful { IsLawful rules.now run.now.from state }
-    requires source { run.now.source ≡ recording.now }
-    requires rules { run.now.rules ≡ rules.now }
-    requires loss { rules.now.loss ≡ Run 10 }
-    requires sound { (p : ℕ) × (c : ℕ) × IsSound recording.now rules.now 0 run.now.from p c }
-    requires inside { run.now.from + 416 ≤ run.now.to }
-    ensures { IfOk result (λ met. (place : ℕ) × (met ≡ Some place) × (place ≤ run.now.from + 416)) }
-{
-    let seam = seam(alloc, &mut Counted::new(recording), rules, state, run)?;
-    Ok(seam.met_at)
-}
-
 // ---- joins
 
-/// On sound signal from the cut on, a join costs the windows of 416 bits at most by a loss of ten blocks.
-pub fn join_on_sound_signal<T: Tape>(
-    alloc: Global,
-    tape: &mut T,
-    rules: &Rules,
-    left: &PieceRun,
-    right: &PieceRun,
-) -> Result<PieceRun, PieceError>
-    requires neighbours { AreNeighbours (T.signal tape.old) rules.now left.now right.now }
-    requires room { T.reads_made tape.old ≤ 2 ^ 62 }
-    requires loss { rules.now.loss ≡ Run 10 }
-    requires sound { (p : ℕ) × (c : ℕ) × IsSound (T.signal tape.old) rules.now 0 right.now.from p c }
-    requires inside { right.now.from + 416 ≤ right.now.to }
-    ensures { OnOk result (T.reads_made tape.new ≤ T.reads_made tape.old + (rules.now.reach + 2) * 417) }
-{
-    join_runs(alloc, tape, rules, left, right)
-}
-
-/// Two neighbours joined are the guess of both ranges. That costs, refused memory or not, no more windows than the right run has places for.
+/// Two neighbours joined are the guess of both ranges. That costs, refused memory or not, no more windows than the right run has places
+/// for, and on sound signal from the cut on those of 416 bits at most by a loss of ten blocks.
 pub fn cost_of_join<T: Tape>(
     alloc: Global,
     tape: &mut T,
@@ -231,6 +164,10 @@ pub fn cost_of_join<T: Tape>(
     ensures refused { IsOkUnless result OutOfMemory }
     ensures reads { T.reads_made tape.new
         ≤ T.reads_made tape.old + (rules.now.reach + 2) * (right.now.to - right.now.from + 1) }
+    ensures few { rules.now.loss ≡ Run 10
+        → (p : ℕ) × (c : ℕ) × IsSound (T.signal tape.old) rules.now 0 right.now.from p c
+        → right.now.from + 416 ≤ right.now.to
+        → OnOk result (T.reads_made tape.new ≤ T.reads_made tape.old + (rules.now.reach + 2) * 417) }
     ensures same { T.signal tape.new ≡ T.signal tape.old }
 {
     join_runs(alloc, tape, rules, left, right)
@@ -336,22 +273,8 @@ pub fn joined_by_work<W: Work>(alloc: Global, work: &W) -> Result<PieceRun, Piec
         ≡ run_over (W.recording work.now) (W.rule_set work.now) 0 (length_of (W.recording work.now))) }
     ensures refused { IsOkUnless result OutOfMemory }
 {
-    let (left, right) = two_guesses(alloc, work)?;
-    work.join(alloc, &left, &right)
-}
-
-/// The guesses of a work that is cut into two pieces.
-fn two_guesses<W: Work>(alloc: Global, work: &W) -> Result<(PieceRun, PieceRun), PieceError>
-    requires fits { IsCutting (length_of (W.recording work.now)) (W.places work.now) }
-    requires two { pieces_of (W.places work.now) ≡ 2 }
-    ensures left { IfOk result
-        (λ runs. runs.0 ≡ run_at (W.recording work.now) (W.rule_set work.now) (W.places work.now) 0) }
-    ensures right { IfOk result
-        (λ runs. runs.1 ≡ run_at (W.recording work.now) (W.rule_set work.now) (W.places work.now) 1) }
-    ensures refused { IsOkUnless result OutOfMemory }
-{
     match (work.guess(alloc, 0), work.guess(alloc, 1)) {
-        (Ok(left), Ok(right)) => Ok((left, right)),
+        (Ok(left), Ok(right)) => work.join(alloc, &left, &right),
         _ => Err(PieceError::OutOfMemory),
     }
 }
@@ -372,4 +295,40 @@ pub fn work_of_recording(recording: &Recording, rules: &Rules, cutting: &Cutting
 {
     let work = RecordingWork::new(recording, rules, cutting);
     work.rules().reach() == rules.reach() && work.cutting().pieces() == cutting.pieces()
+}
+
+// ---- all of these together
+
+/// The report of the bytes of a recording in an even cutting: that of one decoder, into however many pieces it is cut.
+pub fn report_of(alloc: Global, bytes: Vec<u8>, pieces: u64) -> Option<Report>
+    requires few { 8 * vec_len bytes ≤ 2 ^ 36 }
+    requires some { 1 ≤ pieces }
+    ensures { IfSome result (λ report. report.items.list
+        ≡ report_items (all_bits bytes.items) (record { burst = 2; reach = 3; loss = Run 10 })) }
+{
+    let bits = 8 * bytes.len() as u64;
+    let recording = Recording::from_bytes(bytes, bits).ok()?;
+    let rules = usual_rules(alloc).ok()?;
+    in_pieces(alloc, &recording, &rules, pieces).ok()
+}
+
+/// The rules that the program takes if none are given.
+fn usual_rules(alloc: Global) -> Result<Rules, SyncError>
+    ensures { IfOk result (λ rules. rules ≡ record { burst = 2; reach = 3; loss = Run 10 }) }
+{
+    Rules::new(alloc, 2, 3, 10)
+}
+
+/// The report of a recording in this number of even pieces.
+fn in_pieces(
+    alloc: Global,
+    recording: &Recording,
+    rules: &Rules,
+    pieces: u64,
+) -> Result<Report, PieceError>
+    requires { 1 ≤ pieces }
+    ensures { IfOk result (λ report. report.items.list ≡ report_items recording.now rules.now) }
+{
+    let cutting = Cutting::even(alloc, recording.len(), pieces)?;
+    stitch_pieces(alloc, recording, rules, &cutting)
 }

@@ -30,12 +30,7 @@ pub fn name_in_code() -> &'static str
 }
 
 /// The program prints the numbers of the layers below: a refusal keeps its number on the way up.
-pub fn keep_numbers(
-    stream: StreamError,
-    sync: SyncError,
-    piece: PieceError,
-    crew: CrewError,
-) -> bool
+pub fn keep_number(stream: StreamError, sync: SyncError, piece: PieceError, crew: CrewError) -> bool
     ensures { result ≡ true }
 {
     ToolError::from(stream).number() == stream.number()
@@ -59,17 +54,10 @@ pub fn name_of_sync(error: SyncError) -> bool
 }
 
 /// See [`name_of_stream`].
-pub fn name_of_piece(error: PieceError) -> bool
+pub fn names_above(piece: PieceError, crew: CrewError) -> bool
     ensures { result ≡ true }
 {
-    ToolError::from(error).name() == error.name()
-}
-
-/// See [`name_of_stream`].
-pub fn name_of_crew(error: CrewError) -> bool
-    ensures { result ≡ true }
-{
-    ToolError::from(error).name() == error.name()
+    ToolError::from(piece).name() == piece.name() && ToolError::from(crew).name() == crew.name()
 }
 
 /// A number tells the refusal of a transcription.

@@ -119,7 +119,8 @@ pub fn miscorrected_of_two(info: u16, offset: Offset, wanted: Wanted, limit: Bur
 
 // ---- a group, damaged
 
-/// A group whose blocks each have one burst within the limit at most has the four words that were sent.
+/// A group whose blocks each have one burst within the limit at most has the four words that were sent. So has a group whose bits are
+/// anywhere in a recording.
 pub fn words_of_damaged(
     recording: &Recording,
     rules: &Rules,
@@ -127,30 +128,18 @@ pub fn words_of_damaged(
     group: &Group,
 ) -> [Option<u16>; 4]
     requires { group.now ≡ group_at recording.now rules.now 1 4 place }
-    ensures { (words damages : List ℕ) → GroupIsHeard recording.now rules.now.burst 1 place words damages
+    ensures heard { (words damages : List ℕ) → GroupIsHeard recording.now rules.now.burst 1 place words damages
         → result ≡ four_words words }
-{
-    prove!(rules.burst() <= 5);
-    laws::damaged_groups_are_corrected();
-    let [one, two, three, four] = group.blocks;
-    [one.info(), two.info(), three.info(), four.info()]
-}
-
-/// So has a group whose bits are anywhere in a recording.
-pub fn words_of_damaged_bits(
-    recording: &Recording,
-    rules: &Rules,
-    place: u64,
-    group: &Group,
-) -> [Option<u16>; 4]
-    requires { group.now ≡ group_at recording.now rules.now 1 4 place }
-    ensures { (before after : List ℕ) (g : SentGroup) → IsCorrectable rules.now.burst g
+    ensures bits { (before after : List ℕ) (g : SentGroup) → IsCorrectable rules.now.burst g
         → place ≡ length before + 103
         → recording.now ≡ ungapped (before ++ (flat_map bits_with_damage (g ∷ []) ++ after))
         → result ≡ four_words g.words }
 {
+    prove!(rules.burst() <= 5);
+    laws::damaged_groups_are_corrected();
     laws::damaged_bits_are_decoded();
-    words_of_damaged(recording, rules, place, group)
+    let [one, two, three, four] = group.blocks;
+    [one.info(), two.info(), three.info(), four.info()]
 }
 
 // ---- a recording of groups
@@ -188,14 +177,9 @@ pub fn recording_of_groups(alloc: Global, groups: &[[u16; 4]]) -> Option<Recordi
     ensures words { IfSome result (λ _. AreWords groups.now) }
 {
     laws::packed_groups_are_sent();
-    let Ok(bytes) = packed_groups(alloc, groups) else {
-        return None;
-    };
+    let bytes = packed_groups(alloc, groups).ok()?;
     let bits = 8 * bytes.len() as u64;
-    match Recording::from_bytes(bytes, bits) {
-        Ok(recording) => Some(recording),
-        Err(_) => None,
-    }
+    Recording::from_bytes(bytes, bits).ok()
 }
 
 /// Groups that are encoded and decoded are listed as they were sent, and counted, by all rules.
@@ -207,9 +191,7 @@ pub fn encoded_and_decoded(alloc: Global, groups: &[[u16; 4]], rules: &Rules) ->
 {
     let _loss = rules.loss();
     laws::encoded_groups_are_listed();
-    let Some(recording) = recording_of_groups(alloc, groups) else {
-        return None;
-    };
+    let recording = recording_of_groups(alloc, groups)?;
     match decode_plain(alloc, &recording, rules) {
         Ok(report) => Some(report),
         Err(_) => None,
@@ -247,37 +229,27 @@ pub fn offset_of_last_block(recording: &Recording, place: u64) -> Option<Offset>
 
 // ---- a recording of groups, damaged
 
-/// Damaged bits are decoded to the groups that were sent. The totals follow from the damage.
+/// Damaged bits are decoded to the groups that were sent, and so are damaged blocks that are heard, whatever the bits are. The totals
+/// follow from the damage.
 pub fn damaged_and_decoded(alloc: Global, recording: &Recording, rules: &Rules) -> Option<Report>
     ensures items { IfSome result (λ report. (groups : List SentGroup)
         → AreBitsOf recording.now rules.now groups → report.items.list ≡ report_damaged groups) }
     ensures totals { IfSome result (λ report. (groups : List SentGroup)
         → AreBitsOf recording.now rules.now groups → report.totals ≡ totals_received groups) }
-{
-    let _loss = rules.loss();
-    laws::damaged_bits_are_decoded();
-    laws::damage_tells_totals();
-    decode_plain(alloc, recording, rules).ok()
-}
-
-/// The same holds of damaged blocks that are heard, whatever the bits are.
-pub fn heard_damaged_and_decoded(
-    alloc: Global,
-    recording: &Recording,
-    rules: &Rules,
-) -> Option<Report>
-    ensures items { IfSome result (λ report. (groups : List SentGroup)
+    ensures heard_items { IfSome result (λ report. (groups : List SentGroup)
         → AreAllHeard recording.now rules.now groups → report.items.list ≡ report_damaged groups) }
-    ensures totals { IfSome result (λ report. (groups : List SentGroup)
+    ensures heard_totals { IfSome result (λ report. (groups : List SentGroup)
         → AreAllHeard recording.now rules.now groups → report.totals ≡ totals_received groups) }
 {
     let _loss = rules.loss();
+    laws::damaged_bits_are_decoded();
     laws::damaged_groups_are_listed();
     laws::damage_tells_totals();
     decode_plain(alloc, recording, rules).ok()
 }
 
-/// A decoder that is locked at the first bit of a group gives the groups that come with the words that were sent.
+/// A decoder that is locked at the first bit of a group gives the groups that come with the words that were sent. So does one in whatever
+/// state, after a sound range.
 pub fn decoded_in_lock(
     alloc: Global,
     recording: &Recording,
@@ -289,35 +261,18 @@ pub fn decoded_in_lock(
     requires lawful { IsLawful rules.now from state }
     requires order { from ≤ to }
     requires within { to ≤ length_of recording.now }
-    ensures { IfOk result (λ run. (bad : ℕ) (groups : List SentGroup)
+    ensures locked { IfOk result (λ run. (bad : ℕ) (groups : List SentGroup)
         → state ≡ Locked (lock_of (from + 25) 1 bad 1)
         → AreHeardBetween recording.now rules.now from to bad groups
         → run.1.items ≡ items_damaged from groups) }
-{
-    prove!(rules.burst() <= 5);
-    laws::damaged_groups_are_listed();
-    run(alloc, recording, rules, state, from, to)
-}
-
-/// After a sound range a decoder gives the groups that come with the words that were sent, whatever state it began in.
-pub fn decoded_after_sound_range(
-    alloc: Global,
-    recording: &Recording,
-    rules: &Rules,
-    state: State,
-    from: u64,
-    to: u64,
-) -> Result<(State, Vec<Item>), SyncError>
-    requires lawful { IsLawful rules.now from state }
-    requires order { from ≤ to }
-    requires within { to ≤ length_of recording.now }
-    ensures { IfOk result (λ run. (start : ℕ) (groups : List SentGroup)
+    ensures sound { IfOk result (λ run. (start : ℕ) (groups : List SentGroup)
         → IsSoundUpTo recording.now rules.now from start
         → AreHeardBetween recording.now rules.now start to 0 groups
         → let before = (run_of recording.now rules.now state from (start - from)).1 in
         run.1.items ≡ before ++ items_damaged start groups) }
 {
-    let _loss = rules.loss();
+    prove!(rules.burst() <= 5);
+    laws::damaged_groups_are_listed();
     laws::sound_signal_is_decoded();
     run(alloc, recording, rules, state, from, to)
 }
@@ -372,9 +327,7 @@ pub fn encoded_and_listed<R: Threads + Sync>(
         → groups_in lines.now ≡ Ok (words ∷ groups) → listing.items ≡ sent_listing words groups) }
 {
     tool_laws::encoded_groups_are_listed();
-    let Some(bytes) = written(rt, alloc, lines, encode) else {
-        return None;
-    };
+    let bytes = written(rt, alloc, lines, encode)?;
     written(rt, alloc, bytes.as_slice(), list)
 }
 
@@ -393,13 +346,8 @@ pub fn followed_and_listed<R: Threads + Sync>(
     ensures { IfSome result (λ both. both.0.items ≡ both.1.items) }
 {
     tool_laws::streams_are_listed();
-    let Some(rows) = follow_rows(rt, alloc, bytes, rules, gaps, bits, workers) else {
-        return None;
-    };
-    let Some(listing) = written(rt, alloc, bytes, list) else {
-        return None;
-    };
-    Some((rows, listing))
+    let rows = follow_rows(rt, alloc, bytes, rules, gaps, bits, workers)?;
+    Some((rows, written(rt, alloc, bytes, list)?))
 }
 
 /// The text that following a stream writes.
@@ -444,11 +392,7 @@ pub fn listed_and_counted<R: Threads + Sync>(
     ensures { IfSome result (λ both. (rows : List ℕ) × (both.0.items ≡ rows ++ both.1.items)) }
 {
     tool_laws::lists_end_with_totals();
-    let Some(listing) = written(rt, alloc, bytes, list) else {
-        return None;
-    };
-    let Some(counts) = written(rt, alloc, bytes, totals) else {
-        return None;
-    };
+    let listing = written(rt, alloc, bytes, list)?;
+    let counts = written(rt, alloc, bytes, totals)?;
     Some((listing, counts))
 }

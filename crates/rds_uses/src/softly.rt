@@ -1,11 +1,11 @@
 //! Facts about soft decisions that a user of `rds_soft` relies on: which block is nearest, how symbols are read, and what a
 //! report read again keeps.
-ghost use Rattle.std.specs.Prelude.{◌≡◌, ◌≢◌, ℕ, ◌+◌, ◌*◌, ◌<◌, ◌≤◌, ◌^◌, None, Some, IfOk, IfSome, slice_index, bit_xor, true, IsTrue, List, ◌∷◌, [], drop, length, take};
+ghost use Rattle.std.specs.Prelude.{◌≡◌, ◌≢◌, ℕ, ◌+◌, ◌*◌, ◌<◌, ◌≤◌, ◌^◌, None, Some, IfOk, IfSome, slice_index, true, IsTrue, ◌∷◌, [], drop, length, take};
 ghost use Rattle.rds_code.specs.declared.offset.Offset.{Offset as AnOffset};
 ghost use Rattle.rds_code.specs.Offsets.{number as number_of, word};
 ghost use Rattle.rds_code.specs.Remainder.{rem};
 ghost use Rattle.rds_code.specs.Reading.{IsValid, allows, information};
-ghost use Rattle.rds_soft.specs.Nearest.{IsNearest, Turns, mask_of as the_mask_of, top, weight};
+ghost use Rattle.rds_soft.specs.Nearest.{Turns, top, weight};
 ghost use Rattle.rds_soft.specs.Symbols.{hard_bit, hard_bits, hard_window};
 ghost use Rattle.rds_code.specs.declared.reading.Wanted.{Wanted as WantedHard};
 ghost use Rattle.rds_stream.specs.Recording.{length_of, reading_at, touched};
@@ -39,23 +39,7 @@ pub fn margin_of(weight: u8) -> u8
     }
 }
 
-/// A window that no flips turn by the rule is not corrected.
-pub fn nothing_near(
-    search: &mut Search,
-    w: u32,
-    confidences: &[u8; 27],
-    number: BlockNumber,
-    wanted: Wanted,
-    margin: Margin,
-) -> Option<Correction>
-    requires window { w < 2 ^ 26 }
-    requires none { (o : AnOffset) (flips : ℕ) → IsNearest w number wanted confidences.now margin o flips → ⊥ }
-    ensures { result ≡ None }
-{
-    search.nearest(w, confidences, number, wanted, margin)
-}
-
-/// A block whose wrong symbols weigh little is corrected to what was sent, by just these symbols.
+/// A block whose wrong symbols weigh little is corrected to what was sent, by just these symbols. No flips weigh nothing.
 pub fn finds_what_was_sent(
     search: &mut Search,
     sent: u32,
@@ -68,13 +52,17 @@ pub fn finds_what_was_sent(
 ) -> Option<Correction>
     ghost lightest: { ℕ }
     requires block { sent < 2 ^ 26 }
-    requires sent { Turns sent number wanted offset 0 }
+    requires own { number_of offset ≡ number }
+    requires allowed { IsTrue (allows wanted offset) }
+    requires due { rem sent ≡ word offset }
     requires wrong { wrong < 2 ^ 27 }
     requires top { weight confidences.now wrong ≤ top }
     requires others { (p : AnOffset) (any : ℕ) → Turns sent number wanted p any → any ≢ 0 → lightest ≤ weight confidences.now any }
     requires apart { 2 * weight confidences.now wrong + margin ≤ lightest }
-    ensures { result ≡ Some (record { offset = offset; flips = wrong }) }
+    ensures found { result ≡ Some (record { offset = offset; flips = wrong }) }
+    ensures weightless { weight confidences.now 0 ≡ 0 }
 {
+    laws::valid_blocks_need_no_flips();
     laws::sent_blocks_are_corrected();
     laws::nearest_blocks_are_alone();
     let _some = margin.weight();
@@ -98,31 +86,9 @@ pub fn nothing_is_flipped(
     search.nearest(w, confidences, number, wanted, margin)
 }
 
-/// A flip at place 4 from the last symbol inverts the two bits beside it.
-pub fn mask_of_one_flip() -> u32
-    ensures { result ≡ 0x18 }
-{
-    mask_of(0x10)
-}
-
 // ---- readings
 
-/// Symbols whose window is valid are read as it is.
-pub fn valid_stays(
-    search: &mut Search,
-    symbols: &[i8; 27],
-    number: BlockNumber,
-    wanted: Wanted,
-    margin: Margin,
-    offset: Offset,
-) -> SoftReading
-    requires { IsValid (hard_window symbols.now) number offset }
-    ensures { result ≡ SoftReading.Valid offset (information (hard_window symbols.now)) }
-{
-    search.read(symbols, number, wanted, margin)
-}
-
-/// Two searches read symbols alike.
+/// Two searches read symbols alike, and those whose window is valid as it is.
 pub fn read_alike(
     one: &mut Search,
     other: &mut Search,
@@ -130,64 +96,35 @@ pub fn read_alike(
     number: BlockNumber,
     wanted: Wanted,
     margin: Margin,
-) -> bool
-    ensures { result ≡ true }
+) -> (SoftReading, SoftReading)
+    ensures alike { result.0 ≡ result.1 }
+    ensures valid { (o : AnOffset) → IsValid (hard_window symbols.now) number o
+        → result.0 ≡ SoftReading.Valid o (information (hard_window symbols.now)) }
 {
     laws::items_are_read_again_alike();
     let _some = margin.weight();
-    one.read(symbols, number, wanted, margin) == other.read(symbols, number, wanted, margin)
+    let first = one.read(symbols, number, wanted, margin);
+    (first, other.read(symbols, number, wanted, margin))
 }
 
 // ---- reports read again
 
-/// An acquisition stays as it is.
-pub fn acquisition_stays(
+/// An acquisition and a loss stay as they are.
+pub fn marks_stay(
     search: &mut Search,
     recording: &Recording,
     symbols: &[u8],
     margin: Margin,
     place: u64,
     number: u8,
-) -> SoftItem
-    ensures { result ≡ SoftItem.Acquired place number }
+) -> [SoftItem; 2]
+    ensures { result ≡ SoftItem.Acquired place number ∷ SoftItem.LostLock place ∷ [] }
 {
-    search.read_again(
-        recording,
-        symbols,
-        margin,
-        &Item::Acquired { place, number },
-    )
-}
-
-/// So does a loss.
-pub fn loss_stays(
-    search: &mut Search,
-    recording: &Recording,
-    symbols: &[u8],
-    margin: Margin,
-    place: u64,
-) -> SoftItem
-    ensures { result ≡ SoftItem.LostLock place }
-{
-    search.read_again(recording, symbols, margin, &Item::LostLock { place })
-}
-
-/// Two workers read an item again alike, whatever each read before.
-pub fn again_alike(
-    one: &mut Search,
-    other: &mut Search,
-    recording: &Recording,
-    symbols: &[u8],
-    margin: Margin,
-    item: &Item,
-) -> (SoftItem, SoftItem)
-    ensures { result.0 ≡ result.1 }
-{
-    laws::items_are_read_again_alike();
-    let _some = margin.weight();
-    let first = one.read_again(recording, symbols, margin, item);
-    let second = other.read_again(recording, symbols, margin, item);
-    (first, second)
+    let acquired = Item::Acquired { place, number };
+    [
+        search.read_again(recording, symbols, margin, &acquired),
+        search.read_again(recording, symbols, margin, &Item::LostLock { place }),
+    ]
 }
 
 /// The windows of a recording of symbols' bits are those of 27 symbols.
@@ -257,18 +194,6 @@ pub fn word_of_corrected(offset: Offset, info: u16, flips: u32) -> Option<u16>
         flips,
     })
     .info()
-}
-
-/// A block as it was sent is turned by no flips, which weigh nothing.
-pub fn sent_is_a_block(sent: u32, number: BlockNumber, wanted: Wanted, offset: Offset)
-    ghost confidences: { List ℕ }
-    requires own { number_of offset ≡ number }
-    requires allowed { IsTrue (allows wanted offset) }
-    requires due { rem sent ≡ word offset }
-    ensures turns { Turns sent number wanted offset 0 }
-    ensures weightless { weight confidences 0 ≡ 0 }
-{
-    laws::valid_blocks_need_no_flips();
 }
 
 /// The item read again is the one that `item_again` computes.

@@ -1,32 +1,30 @@
-//! Facts that a user of `rds_stream` relies on: bits from bytes, windows, scans, planes and tapes.
-ghost use Rattle.std.specs.Prelude.{◌≡◌, ℕ, ◌+◌, ◌-◌, ◌*◌, ◌<◌, ◌≤◌, ◌^◌, IfOk, IfSome, IsOkUnless, None, Some, Err, if◌then◌else◌, slice_index, true, vec_len};
+//! Facts that a user of `rds_stream` relies on: bits from bytes, gaps, windows, scans, planes and tapes.
+ghost use Rattle.std.specs.Prelude.{◌≡◌, ℕ, ◌+◌, ◌-◌, ◌*◌, ◌<◌, ◌≤◌, ◌^◌, IfOk, IfSome, IsOkUnless, None, Ok, Some, Err, if◌then◌else◌, slice_index, true, vec_len, [], false};
 ghost use Rattle.std.specs.Int.{bit_at};
 ghost use Rattle.rds_code.specs.Remainder.{rem};
-ghost use Rattle.rds_stream.specs.Recording.{bits_of, heard, length_of, offset_at, ungapped, valid_windows, window};
+ghost use Rattle.rds_stream.specs.Recording.{bits_of, heard, length_of, offset_at, ungapped, valid_windows, window, AreGaps, touched};
 ghost use Rattle.rds_stream.specs.ValidWindows.{NoneValid};
-ghost use Rattle.rds_stream.specs.declared.error.StreamError.TheVariants.{BitsPastBytes, OutOfMemory, TooLong};
+ghost use Rattle.rds_stream.specs.declared.error.StreamError.TheVariants.{BitsPastBytes, OutOfMemory, TooLong, BadGaps};
+ghost use Rattle.rds_code.specs.Reading.{reading};
+ghost use Rattle.rds_code.specs.declared.reading.Reading.TheVariants.{Lost};
+ghost use Rattle.rds_sync.specs.Advance.{items_in};
+ghost use Rattle.rds_sync.specs.declared.state.State.TheVariants.{Searching};
 
-use rds_code::{Offset, rem26};
-use rds_stream::{Reader, Recording, StreamError, Tape, ValidWindows, offset_heard, planes, scan};
+use rds_code::{BlockNumber, BurstLimit, BurstTable, Offset, Reading, Wanted, rem26};
+use rds_stream::{
+    Counted, Reader, Recording, StreamError, Tape, ValidWindows, offset_heard, planes, read_heard,
+    scan,
+};
+use rds_sync::{Rules, State, Step, advance};
 use std::alloc::Global;
 use std::snapshot::Snapshot;
 
 // ---- recordings
 
-/// The first `bits` bits of the bytes, if these hold as many, and 2^36 at most.
-pub fn recording_from(bytes: Vec<u8>, bits: u64) -> Option<Recording>
-    requires few { bits ≤ 2 ^ 36 }
-    requires held { bits ≤ 8 * vec_len bytes }
-    ensures { result ≡ Some (ungapped (bits_of bytes.items bits)) }
-{
-    match Recording::from_bytes(bytes, bits) {
-        Ok(recording) => Some(recording),
-        Err(_) => None,
-    }
-}
-
-/// More bits than a recording may have are refused as such, and then more than the bytes hold. The bytes come back.
-pub fn refused_in_order(bytes: Vec<u8>, bits: u64) -> Result<Recording, (StreamError, Vec<u8>)>
+/// The first `bits` bits of the bytes. More bits than a recording may have are refused as such, and then more than the bytes hold. The
+/// bytes come back.
+pub fn recording_from(bytes: Vec<u8>, bits: u64) -> Result<Recording, (StreamError, Vec<u8>)>
+    ensures taken { bits ≤ 2 ^ 36 → bits ≤ 8 * vec_len bytes → result ≡ Ok (ungapped (bits_of bytes.items bits)) }
     ensures too_long { 2 ^ 36 < bits → result ≡ Err (TooLong, bytes) }
     ensures past { bits ≤ 2 ^ 36 → 8 * vec_len bytes < bits → result ≡ Err (BitsPastBytes, bytes) }
 {
@@ -39,13 +37,6 @@ pub fn last_bit(recording: &Recording) -> bool
     ensures { slice_index recording.now.bits (length_of recording.now - 1) ≡ (if result then 1 else 0) }
 {
     recording.bit(recording.len() - 1)
-}
-
-/// How many bits there would be with `more` bits added.
-pub fn len_with(recording: &Recording, more: u32) -> u64
-    ensures { result ≡ length_of recording.now + more }
-{
-    recording.len() + u64::from(more)
 }
 
 /// A window as it is stored is a block, whose remainder can be taken.
@@ -72,29 +63,16 @@ pub fn heard_in_a_row(reader: &mut Reader<'_>, place: u64) -> bool
         && hears(reader, place, one)
 }
 
-/// Whether the reader hears this at a place.
+/// Whether the reader hears this block at a place.
 fn hears(reader: &mut Reader<'_>, place: u64, told: Option<u32>) -> bool
     requires first { 25 ≤ place }
     requires last { place < length_of reader.old }
     requires told { told ≡ heard reader.old place }
+    requires block { IfSome told (λ window. window < 2 ^ 26) }
     ensures result { result ≡ true }
     ensures same { reader.new ≡ reader.old }
 {
     told == reader.window(place)
-}
-
-/// Each of them is a block, whose remainder can be taken.
-pub fn last_remainder(reader: &mut Reader<'_>, place: u64) -> Option<u16>
-    requires first { 25 ≤ place }
-    requires last { place + 78 < length_of reader.old }
-    ensures { IfSome result (λ remainder. remainder < 1024) }
-{
-    let _len = reader.recording().len();
-    let [_, _, _, last] = reader.four_windows(place);
-    match last {
-        Some(window) => Some(rem26(window)),
-        None => None,
-    }
 }
 
 // ---- many places
@@ -139,27 +117,97 @@ pub fn last_of_planes(recording: &Recording, at: u64) -> [u64; 10]
 
 // ---- tapes
 
-/// The offset of a tape's last place: at most one window is counted, and the tape is of the same recording.
-pub fn last_offset<T: Tape>(tape: &mut T) -> Option<Offset>
+/// The offset of a tape's last place, of how many bits, and of which recording: at most one window is counted, and the tape is of the
+/// same bits.
+pub fn last_offset<T: Tape>(tape: &mut T) -> (Option<Offset>, u64, Snapshot<Recording>)
     requires some { 26 ≤ length_of (T.signal tape.old) }
     requires room { T.reads_made tape.old < 2 ^ 63 }
-    ensures offset { result ≡ offset_at (T.signal tape.old) (length_of (T.signal tape.old) - 1) }
+    ensures offset { result.0 ≡ offset_at (T.signal tape.old) (length_of (T.signal tape.old) - 1) }
+    ensures twice { result.1 ≡ 2 * length_of (T.signal tape.old) }
+    ensures source { result.2.value ≡ T.signal tape.old }
     ensures counted { T.reads_made tape.new ≤ T.reads_made tape.old + 1 }
     ensures same { T.signal tape.new ≡ T.signal tape.old }
 {
-    offset_heard(tape.window(tape.len() - 1))
+    let len = tape.len();
+    (offset_heard(tape.window(len - 1)), 2 * len, tape.source())
 }
 
-/// How many bits a tape would have with `more` bits added.
-pub fn tape_len_with<T: Tape>(tape: &T, more: u32) -> u64
-    ensures { result ≡ length_of (T.signal tape.now) + more }
+// ---- which gaps are taken
+
+/// The answer if gaps are refused: why, the bytes and the gaps.
+type Refused = (StreamError, Vec<u8>, Vec<(u64, u64)>);
+
+/// The first `bits` bits of the bytes, with these gaps. More bits than a recording may have are refused as such, whatever the gaps. Next
+/// come more bits than the bytes hold, and then gaps that are not among the bits in order. The bytes and the gaps come back.
+pub fn with_gaps(bytes: Vec<u8>, bits: u64, gaps: Vec<(u64, u64)>) -> Result<Recording, Refused>
+    ensures taken { bits ≤ 2 ^ 36 → bits ≤ 8 * vec_len bytes → AreGaps bits gaps.items
+        → result ≡ Ok (record { bits = bits_of bytes.items bits; gaps = gaps.items }) }
+    ensures too_long { 2 ^ 36 < bits → result ≡ Err (TooLong, bytes, gaps) }
+    ensures past { bits ≤ 2 ^ 36 → 8 * vec_len bytes < bits → result ≡ Err (BitsPastBytes, bytes, gaps) }
+    ensures bad_gaps { bits ≤ 2 ^ 36 → bits ≤ 8 * vec_len bytes → (AreGaps bits gaps.items → ⊥)
+        → result ≡ Err (BadGaps, bytes, gaps) }
 {
-    tape.len() + u64::from(more)
+    Recording::with_gaps(bytes, bits, gaps)
 }
 
-/// The recording of a tape, for contracts.
-pub fn recording_of<T: Tape>(tape: &T) -> Snapshot<Recording>
-    ensures { result.value ≡ T.signal tape.now }
+// ---- reading where a gap is touched, and where none is
+
+/// A window that touches a gap is known, and is not heard. Any other is heard as it is stored.
+pub fn heard_or_touched(recording: &Recording, place: u64) -> bool
+    requires first { 25 ≤ place }
+    requires last { place < length_of recording.now }
+    ensures { result ≡ true }
 {
-    tape.source()
+    let mut reader = Reader::new(recording);
+    let heard = if recording.touches(place) {
+        None
+    } else {
+        Some(recording.window(place))
+    };
+    reader.window(place) == heard
+}
+
+/// A block that touches a gap is lost, whatever its bits are; one that touches none is read from the window as it is stored.
+pub fn block_with_gaps(
+    table: &BurstTable,
+    recording: &Recording,
+    place: u64,
+    number: BlockNumber,
+    wanted: Wanted,
+) -> Reading
+    requires first { 25 ≤ place }
+    requires last { place < length_of recording.now }
+    ensures touched { touched recording.now place ≡ true → result ≡ Lost }
+    ensures clear { touched recording.now place ≡ false
+        → result ≡ reading (window recording.now.bits place) number wanted 5 }
+{
+    let heard = Reader::new(recording).window(place);
+    read_heard(table, heard, number, wanted, BurstLimit::LONGEST)
+}
+
+/// The offset of the window that a tape hears is that of the place, in a gap and outside; a window is counted
+/// either way.
+pub fn offset_on_tape(recording: &Recording, place: u64) -> (Option<Offset>, u64)
+    requires first { 25 ≤ place }
+    requires last { place < length_of recording.now }
+    ensures offset { result.0 ≡ offset_at recording.now place }
+    ensures counted { result.1 ≡ 1 }
+{
+    let mut tape = Counted::new(recording);
+    let heard = tape.window(place);
+    (offset_heard(heard), tape.reads())
+}
+
+// ---- synchronisers and gaps
+
+/// A place whose window touches a gap does not acquire: the search goes on, and gives nothing.
+pub fn nothing_acquired_in_gap<T: Tape>(tape: &mut T, rules: &Rules, place: u64, to: u64) -> Step
+    requires before { place < to }
+    requires within { to ≤ length_of (T.signal tape.old) }
+    requires counted { T.reads_made tape.old + 16 ≤ 2 ^ 63 }
+    requires touched { touched (T.signal tape.old) place ≡ true }
+    ensures state { result.state ≡ Searching }
+    ensures items { items_in result.items ≡ [] }
+{
+    advance(tape, rules, State::Searching, place, to)
 }

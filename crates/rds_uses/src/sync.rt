@@ -1,10 +1,9 @@
 //! Facts that a user of `rds_sync` relies on: rules, lawful states, steps over a tape, runs over a range and
 //! their items, and reports.
-ghost use Rattle.std.specs.Prelude.{◌≡◌, ◌≢◌, ℕ, ◌+◌, ◌-◌, ◌*◌, ◌<◌, ◌≤◌, ◌^◌, ◌++◌, ◌↔◌, [], IsTrue, IfOk, IsOkUnless, IsErrOf, None, Some, slice_get, true};
+ghost use Rattle.std.specs.Prelude.{◌≡◌, ◌≢◌, ℕ, ◌+◌, ◌-◌, ◌*◌, ◌<◌, ◌≤◌, ◌^◌, ◌++◌, ◌∷◌, ◌↔◌, [], IsTrue, IfOk, IsOkUnless, None, Some, true, Bool, if◌then◌else◌};
 ghost use Rattle.rds_stream.specs.Recording.{length_of};
 ghost use Rattle.rds_sync.specs.declared.item.Block.{Block as ABlock};
 ghost use Rattle.rds_sync.specs.declared.error.SyncError.TheVariants.{BurstRange, LossRange, OutOfMemory, ReachRange, ShareRange};
-ghost use Rattle.rds_sync.specs.declared.loss.Loss.TheVariants.{Run, Share};
 ghost use Rattle.rds_sync.specs.declared.state.State.{State as AState};
 ghost use Rattle.rds_sync.specs.declared.state.State.TheVariants.{Searching};
 ghost use Rattle.rds_sync.specs.Advance.{group_item, items_in};
@@ -13,54 +12,24 @@ ghost use Rattle.rds_sync.specs.Convergence.{IsSound, sound_bits};
 ghost use Rattle.rds_sync.specs.Decoding.{listed};
 ghost use Rattle.rds_sync.specs.GroupLaws.{IsBlock};
 ghost use Rattle.rds_sync.specs.Groups.{group as group_at, info_of};
-ghost use Rattle.rds_sync.specs.Hop.{IsHop};
 ghost use Rattle.rds_sync.specs.Lawful.{IsBetweenGroups, IsLawful};
-ghost use Rattle.rds_sync.specs.Loss.{IsLawfulBad};
-ghost use Rattle.rds_sync.specs.Ranges.{blocks_seen};
+ghost use Rattle.rds_sync.specs.Loss.{IsLawfulBad, bad_at, loses};
 ghost use Rattle.rds_sync.specs.Report.{report_items};
 ghost use Rattle.rds_sync.specs.Step.{items_at, items_of_end, run as run_of, step};
 ghost use Rattle.rds_sync.specs.Totals.{totals_of};
+ghost use Rattle.std.specs.Int.{bit_at};
+ghost use Rattle.rds_sync.specs.declared.loss.Loss.TheVariants.{Share};
+ghost use Rattle.rds_sync.specs.Ranges.{IsLossInRange};
 
 use rds_stream::{Counted, Reader, Recording, Tape};
 use rds_sync::{
-    Decoder, Group, Item, Lock, Loss, Report, RuleNumbers, Rules, Spans, State, Step, SyncError,
-    Tally, advance, decode_plain, finish, laws, run, run_report, stretch,
+    Bad, Decoder, Group, Item, Lock, Loss, Report, Rules, Spans, State, Step, SyncError, Tally,
+    advance, decode_plain, finish, laws, run, run_report, stretch,
 };
 use std::alloc::{AllocError, Global};
 use std::snapshot::Snapshot;
 
 // ---- rules
-
-/// The rules that the program takes if none are given: nothing but memory can be refused.
-pub fn usual_rules(alloc: Global) -> Result<Rules, SyncError>
-    ensures rules { IfOk result (λ rules. rules ≡ record { burst = 2; reach = 3; loss = Run 10 }) }
-    ensures refused { IsOkUnless result OutOfMemory }
-{
-    Rules::of(
-        alloc,
-        RuleNumbers {
-            burst: 2,
-            reach: 3,
-            loss: Loss::Run(10),
-        },
-    )
-}
-
-/// The same by only their numbers.
-pub fn counted_rules(alloc: Global) -> Result<Rules, SyncError>
-    ensures rules { IfOk result (λ rules. rules ≡ record { burst = 2; reach = 3; loss = Run 10 }) }
-    ensures refused { IsOkUnless result OutOfMemory }
-{
-    Rules::new(alloc, 2, 3, 10)
-}
-
-/// Rules that lose a lock when 10 of the last 12 blocks are bad.
-pub fn shared_rules(alloc: Global) -> Result<Rules, SyncError>
-    ensures rules { IfOk result (λ rules. rules ≡ record { burst = 2; reach = 3; loss = Share 10 12 }) }
-    ensures refused { IsOkUnless result OutOfMemory }
-{
-    Rules::with_share(alloc, 2, 3, 10, 12)
-}
 
 /// Rules are made again of the numbers that they were made of: nothing but memory can be refused.
 pub fn same_rules(alloc: Global, rules: &Rules) -> Result<Rules, SyncError>
@@ -70,50 +39,35 @@ pub fn same_rules(alloc: Global, rules: &Rules) -> Result<Rules, SyncError>
     Rules::of(alloc, rules.numbers())
 }
 
-/// A burst of six bits is refused, whatever else is wrong.
-pub fn long_burst(alloc: Global, reach: u32, loss: u32) -> Result<Rules, SyncError>
-    ensures { IsErrOf result BurstRange }
+/// So they are of one number after the other, of which each fits in a byte.
+pub fn rules_in_bytes(alloc: Global, rules: &Rules) -> Result<Rules, SyncError>
+    ensures rules { IfOk result (λ made. made ≡ rules.now) }
+    ensures refused { IsOkUnless result OutOfMemory }
 {
-    Rules::new(alloc, 6, reach, loss)
-}
-
-/// A reach of no block is refused next.
-pub fn no_reach(alloc: Global, loss: u32) -> Result<Rules, SyncError>
-    ensures { IsErrOf result ReachRange }
-{
-    Rules::new(alloc, 5, 0, loss)
-}
-
-/// A loss after 65 blocks is refused last.
-pub fn late_loss(alloc: Global) -> Result<Rules, SyncError>
-    ensures { IsErrOf result LossRange }
-{
-    Rules::new(alloc, 5, 8, 65)
-}
-
-/// A share of no block is refused last, too.
-pub fn share_of_none(alloc: Global, of: u32) -> Result<Rules, SyncError>
-    ensures { IsErrOf result ShareRange }
-{
-    Rules::with_share(alloc, 5, 8, 0, of)
-}
-
-/// The rules in bytes: each is small enough.
-pub fn rules_in_bytes(rules: &Rules) -> [u8; 2]
-    ensures burst { slice_get result 0 ≡ Some rules.now.burst }
-    ensures reach { slice_get result 1 ≡ Some rules.now.reach }
-{
-    [rules.burst() as u8, rules.reach() as u8]
-}
-
-/// How many blocks a rule of loss looks at, in a byte: it is small enough.
-pub fn blocks_in_byte(rules: &Rules) -> u8
-    ensures { result ≡ blocks_seen rules.now.loss }
-{
+    let (burst, reach) = (rules.burst() as u8, rules.reach() as u8);
     match rules.loss() {
-        Loss::Run(blocks) => blocks as u8,
-        Loss::Share { bad: _, of } => of as u8,
+        Loss::Run(blocks) => Rules::new(alloc, burst.into(), reach.into(), u32::from(blocks as u8)),
+        Loss::Share { bad, of } => Rules::with_share(
+            alloc,
+            burst.into(),
+            reach.into(),
+            bad,
+            u32::from(of as u8),
+        ),
     }
+}
+
+/// Of several wrong numbers the first is refused: a burst of six bits, a reach of no block, then a loss after 65 blocks or a share of
+/// none.
+pub fn refused_in_order(alloc: Global, reach: u32, loss: u32, of: u32) -> [Option<SyncError>; 4]
+    ensures { result ≡ Some BurstRange ∷ Some ReachRange ∷ Some LossRange ∷ Some ShareRange ∷ [] }
+{
+    [
+        Rules::new(alloc, 6, reach, loss).err(),
+        Rules::with_share(alloc, 5, 0, loss, of).err(),
+        Rules::new(alloc, 5, 8, 65).err(),
+        Rules::with_share(alloc, 5, 8, 0, of).err(),
+    ]
 }
 
 // ---- blocks and groups
@@ -131,34 +85,44 @@ pub fn has_four_words(recording: &Recording, rules: &Rules, place: u64, group: &
 
 // ---- states
 
-/// A run from a state that a caller has tested ends in one that needs no test.
+/// A run from a state that a caller has tested ends in one that needs no test. Its items need room for two a bit at most. Only memory can
+/// be refused.
 pub fn tested_run(
     alloc: Global,
     recording: &Recording,
     rules: &Rules,
     state: State,
-) -> Result<bool, SyncError>
-    ensures { IfOk result (λ lawful. lawful ≡ true) }
+) -> Result<(bool, u64), SyncError>
+    ensures lawful { IfOk result (λ told. told.0 ≡ true) }
+    ensures left { IfOk result (λ told. told.1 ≤ 2 * length_of recording.now) }
+    ensures refused { IsOkUnless result OutOfMemory }
 {
+    laws::runs_give_few_items();
+    let len = recording.len();
     if !state.is_lawful(rules, 0) {
-        return Ok(true);
+        return Ok((true, 0));
     }
-    let (end, _items) = run(alloc, recording, rules, state, 0, recording.len())?;
-    Ok(end.is_lawful(rules, recording.len()))
+    let (end, items) = run(alloc, recording, rules, state, 0, len)?;
+    Ok((end.is_lawful(rules, len), 2 * len - items.len() as u64))
 }
 
-/// After a bit from a lawful state there is a lawful state.
+/// After a bit from a lawful state there is a lawful state. If it is another one, with no group in progress, the bit gives an item.
 pub fn lawful_after_bit(recording: &Recording, rules: &Rules, state: State, place: u64)
     requires { IsLawful rules.now place state }
-    ensures { IsLawful rules.now (place + 1) (step recording.now rules.now place state) }
+    ensures lawful { IsLawful rules.now (place + 1) (step recording.now rules.now place state) }
+    ensures item { step recording.now rules.now place state ≢ state
+        → IsBetweenGroups (step recording.now rules.now place state)
+        → items_at recording.now rules.now place state ≢ [] }
 {
     let _loss = rules.loss();
     laws::steps_are_lawful();
+    laws::items_mark_changes();
 }
 
 // ---- steps over a tape
 
-/// A step is the run over its bits: it moves on, stays in the range, and leaves the tape of the same bits.
+/// A step is the run over its bits: it moves on, stays in the range, and leaves the tape of the same bits. A search goes bit by bit, and
+/// reads no more than its own window and one for each block of its reach.
 pub fn one_step<T: Tape>(tape: &mut T, rules: &Rules, state: State, place: u64, to: u64) -> Step
     requires lawful { IsLawful rules.now place state }
     requires before { place < to }
@@ -170,20 +134,11 @@ pub fn one_step<T: Tape>(tape: &mut T, rules: &Rules, state: State, place: u64, 
     ensures items { items_in result.items
         ≡ (run_of (T.signal tape.old) rules.now state place (result.place - place)).1 }
     ensures lawful { IsLawful rules.now result.place result.state }
+    ensures bit { state ≡ Searching → result.place ≡ place + 1 }
+    ensures reads { state ≡ Searching → T.reads_made tape.new ≤ T.reads_made tape.old + (rules.now.reach + 1) }
     ensures same { T.signal tape.new ≡ T.signal tape.old }
 {
     advance(tape, rules, state, place, to)
-}
-
-/// A search goes bit by bit, and reads no more than its own window and one for each block of its reach.
-pub fn search_one_bit<T: Tape>(tape: &mut T, rules: &Rules, place: u64, to: u64) -> u64
-    requires before { place < to }
-    requires within { to ≤ length_of (T.signal tape.old) }
-    requires counted { T.reads_made tape.old + 16 ≤ 2 ^ 63 }
-    ensures place { result ≡ place + 1 }
-    ensures reads { T.reads_made tape.new ≤ T.reads_made tape.old + (rules.now.reach + 1) }
-{
-    advance(tape, rules, State::Searching, place, to).place
 }
 
 /// The end of a recording closes the group in progress, for three windows at most, and the tape is of the same bits.
@@ -200,35 +155,29 @@ pub fn cost_of_end<T: Tape>(tape: &mut T, rules: &Rules, state: State) -> Option
 // ---- runs over a range
 
 /// A stretch moves on and stays in the range, and finds the items that the run over its bits gives; its
-/// reader can go on.
-pub fn one_stretch(reader: &mut Reader<'_>, rules: &Rules, place: u64, to: u64) -> Step
-    requires before { place < to }
-    requires within { to ≤ length_of reader.old }
-    ensures moved { (place < result.place) × (result.place ≤ to) }
-    ensures items { items_in result.items
-        ≡ (run_of reader.old rules.now Searching place (result.place - place)).1 }
-    ensures same { reader.new ≡ reader.old }
-{
-    stretch(reader, rules, State::Searching, place, to)
-}
-
-/// A step of `advance` goes no further than a stretch from the same place.
-pub fn step_within_stretch(
-    recording: &Recording,
+/// reader can go on. A step of `advance` goes no further from the same place.
+pub fn one_stretch(
+    reader: &mut Reader<'_>,
     rules: &Rules,
     state: State,
     place: u64,
     to: u64,
-) -> bool
+) -> (Step, bool)
     requires lawful { IsLawful rules.now place state }
     requires before { place < to }
-    requires within { to ≤ length_of recording.now }
-    ensures { result ≡ true }
+    requires within { to ≤ length_of reader.old }
+    ensures moved { (place < result.0.place) × (result.0.place ≤ to) }
+    ensures items { items_in result.0.items
+        ≡ (run_of reader.old rules.now state place (result.0.place - place)).1 }
+    ensures no_further { result.1 ≡ true }
+    ensures same { reader.new ≡ reader.old }
 {
     laws::steps_agree();
-    let step = advance(&mut Counted::new(recording), rules, state, place, to);
-    let far = stretch(&mut Reader::new(recording), rules, state, place, to);
-    step.place <= far.place
+    let mut tape = Counted::new(reader.recording());
+    let step = advance(&mut tape, rules, state, place, to);
+    let far = stretch(reader, rules, state, place, to);
+    let is_no_further = step.place <= far.place;
+    (far, is_no_further)
 }
 
 /// A hop of a tally that ends where a stretch does ends in the state of the stretch.
@@ -244,32 +193,12 @@ pub fn hop_as_stretch(
     ensures { IfOk result (λ same. same ≡ true) }
 {
     laws::steps_agree();
-    let (end, after) = hopped(alloc, recording, rules, state, place)?;
-    let to = recording.len();
-    let far = stretch(&mut Reader::new(recording), rules, state, place, to);
-    Ok(end != far.place || after == far.state)
-}
-
-/// Where a hop of a tally ends, and in which state.
-fn hopped(
-    alloc: Global,
-    recording: &Recording,
-    rules: &Rules,
-    state: State,
-    place: u64,
-) -> Result<(u64, State), AllocError>
-    requires lawful { IsLawful rules.now place state }
-    requires before { place < length_of recording.now }
-    ensures { IfOk result (λ end. (reads : ℕ) × IsHop recording.now rules.now state place
-        (length_of recording.now) (length_of recording.now) end.0 end.1 reads) }
-{
     let to = recording.len();
     let source = Snapshot::of(recording);
     let mut tally = Tally::new(alloc, source, rules, state, place, Spans::Whole);
-    match tally.hop(&mut Counted::new(recording), rules, to, to) {
-        Ok(()) => Ok((tally.place(), tally.state())),
-        Err(error) => Err(error),
-    }
+    tally.hop(&mut Counted::new(recording), rules, to, to)?;
+    let far = stretch(&mut Reader::new(recording), rules, state, place, to);
+    Ok(tally.place() != far.place || tally.state() == far.state)
 }
 
 /// The items of the run over a recording in two parts, with the group at its end, are the report's.
@@ -366,31 +295,6 @@ pub fn nothing_at_first<'a>(recording: &'a Recording, rules: &'a Rules) -> Decod
     Decoder::new(recording, rules, State::Searching, 0, 51)
 }
 
-/// If a bit leads to another state, with no group in progress, it gives an item.
-pub fn item_of_change(recording: &Recording, rules: &Rules, state: State, place: u64)
-    requires lawful { IsLawful rules.now place state }
-    requires change { step recording.now rules.now place state ≢ state }
-    requires between { IsBetweenGroups (step recording.now rules.now place state) }
-    ensures { items_at recording.now rules.now place state ≢ [] }
-{
-    laws::items_mark_changes();
-}
-
-/// The items of a recording's first bits, collected.
-pub fn collected_items(
-    alloc: Global,
-    recording: &Recording,
-    rules: &Rules,
-    bits: u64,
-) -> Result<Vec<Item>, SyncError>
-    requires { bits ≤ length_of recording.now }
-    ensures items { IfOk result (λ items. items.items ≡ (run_of recording.now rules.now Searching 0 bits).1) }
-    ensures refused { IsOkUnless result OutOfMemory }
-{
-    let (_end, items) = run(alloc, recording, rules, State::Searching, 0, bits)?;
-    Ok(items)
-}
-
 /// The items of a run from a lawful state, their totals, and the state that it ends in.
 pub fn report_of_run(
     alloc: Global,
@@ -415,16 +319,6 @@ pub fn report_of_run(
     run_report(alloc, recording, rules, state, from, to, Spans::Whole)
 }
 
-/// The items of a run need room for two a bit at most.
-pub fn room_for_items(alloc: Global, recording: &Recording, rules: &Rules) -> Result<u64, SyncError>
-    ensures { IfOk result (λ left. left ≤ 2 * length_of recording.now) }
-{
-    laws::runs_give_few_items();
-    let len = recording.len();
-    let (_end, items) = run(alloc, recording, rules, State::Searching, 0, len)?;
-    Ok(2 * len - items.len() as u64)
-}
-
 /// The report of a recording: the items of its locks, and their totals.
 pub fn report_of(alloc: Global, recording: &Recording, rules: &Rules) -> Result<Report, SyncError>
     ensures items { IfOk result (λ report. report.items
@@ -434,4 +328,45 @@ pub fn report_of(alloc: Global, recording: &Recording, rules: &Rules) -> Result<
     ensures refused { IsOkUnless result OutOfMemory }
 {
     decode_plain(alloc, recording, rules)
+}
+
+// ---- rules of loss
+
+/// A lock is lost if the mask that is kept of its last blocks has too many ones. Its lowest bit tells whether the newest block was bad.
+pub fn lost_by_mask(bad: u32, of: u32, mask: u64) -> bool
+    ensures lost { (is_good : ℕ → Bool) (k : ℕ) → bad_at is_good (Share bad of) k ≡ mask
+        → loses (Share bad of) is_good k ≡ result }
+    ensures newest { 1 ≤ of → (is_good : ℕ → Bool) (k : ℕ) → 1 ≤ k
+        → bit_at (bad_at is_good (Share bad of) k) 0 ≡ (if is_good k then 0 else 1) }
+{
+    laws::bad_blocks_lose();
+    laws::masks_tell_blocks();
+    bad <= mask.count_ones()
+}
+
+/// Each rule as one of a share: it loses the same locks at the same blocks.
+pub fn as_share(loss: Loss) -> Loss
+    ensures { (is_good : ℕ → Bool) (k : ℕ) → loses result is_good k ≡ loses loss is_good k }
+{
+    laws::runs_are_shares();
+    match loss {
+        Loss::Run(blocks) => Loss::Share {
+            bad: blocks,
+            of: blocks,
+        },
+        share => share,
+    }
+}
+
+/// A lock that bad blocks in a row lose tells how many it has, and one that a share loses tells its mask.
+pub fn history_of(lock: Lock, loss: Loss) -> Option<u64>
+    requires range { IsLossInRange loss }
+    requires lawful { IsLawfulBad loss lock.bad }
+    ensures { result ≡ Some lock.bad }
+{
+    match (lock.bad_by(loss), loss) {
+        (Bad::Run(blocks), Loss::Run(_)) => Some(u64::from(blocks)),
+        (Bad::Mask(mask), Loss::Share { .. }) => Some(mask),
+        _ => None,
+    }
 }

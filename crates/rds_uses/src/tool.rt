@@ -1,24 +1,33 @@
 //! Facts that a user of `rds_tool` relies on: the text that is written, the devices that stay as they were,
 //! and each refusal by its cause.
-ghost use Rattle.std.specs.Prelude.{◌≡◌, ◌≢◌, ℕ, ◌*◌, ◌<◌, ◌≤◌, ◌^◌, ◌++◌, ◌⊎◌, ◌↔◌, List, Err, IfErr, IfSome, IsErrOf, None, Ok, OnOk, length};
-ghost use Rattle.std.specs.Io.KnownBytes.{Consumes, IsAtEnd};
+ghost use Rattle.std.specs.Prelude.{◌≡◌, ◌≢◌, ℕ, ◌*◌, ◌<◌, ◌≤◌, ◌^◌, ◌++◌, ◌⊎◌, ◌↔◌, List, Err, IfErr, IfSome, IsErrOf, None, Ok, OnOk, length, [], true, false};
+ghost use Rattle.std.specs.Io.KnownBytes.{Consumes, IsAtEnd, Appends};
 ghost use Rattle.rds_sync.specs.Report.{report_items};
 ghost use Rattle.rds_sync.specs.Totals.{totals_of};
-ghost use Rattle.rds_tool.specs.Listing.{report_text, scan_text};
-ghost use Rattle.rds_tool.specs.Outcome.{IsOutside, WritesPrefix, result_of_job};
+ghost use Rattle.rds_tool.specs.Listing.{report_text};
+ghost use Rattle.rds_tool.specs.Outcome.{IsOutside, WritesPrefix, result_of_job, Writes};
 ghost use Rattle.rds_tool.specs.Tasks.{task_of};
-ghost use Rattle.rds_tool.specs.declared.error.ToolError.TheVariants.{BurstRange, NoWorker, Read, TooManyTurns, Write};
-ghost use Rattle.rds_uses.specs.Jobs.{IsListBy, IsScan, all_bits};
+ghost use Rattle.rds_tool.specs.declared.error.ToolError.TheVariants.{NoWorker, Read, TooManyTurns, Write};
+ghost use Rattle.rds_uses.specs.Jobs.{IsListBy, all_bits};
+ghost use Rattle.rds_tool.specs.Ends.{given_by, has_ended, is_flushed, taken_by};
+ghost use Rattle.rds_tool.specs.Following.{IsFlushedAfter, IsHeardOut, listed, rows_so_far};
+ghost use Rattle.rds_tool.specs.History.{Gave};
+ghost use Rattle.rds_stream.specs.Recording.{Signal, length_of};
+ghost use Rattle.rds_tool.specs.Input.{recording_of};
+ghost use Rattle.rds_tool.specs.Laws.{stream_input};
+ghost use Rattle.rds_tool.specs.Plans.{PlanOf, plan_of};
+ghost use Rattle.rds_tool.specs.WellFormed.{DifferInGaps, IsWellFormed};
+ghost use Rattle.rds_tool.specs.declared.job.Input.{Input as AnInput};
+ghost use Rattle.rds_tool.specs.declared.job.Settings.{Settings as SomeSettings};
 
 use rds_crew::Gate;
 use rds_sync::Rules;
 use rds_tool::{
-    FromRead, Input, Job, Settings, Sink, Source, ToWrite, ToolError, transcribe, transcribe_gated,
+    FromRead, Job, Sink, Source, ToWrite, ToolError, follow, laws, transcribe, transcribe_gated,
 };
 use std::alloc::Global;
+use std::rt::{Stdin, Stdout};
 use std::thread::Threads;
-
-// ---- the text that is written
 
 /// The listing of the bytes of a recording: the rows of the items of its locks, and those of their totals, whoever
 /// works and however the recording is cut.
@@ -37,15 +46,6 @@ pub fn listing<R: Threads + Sync>(
     written(rt, alloc, bytes, job)
 }
 
-/// The rows of the valid windows of the bytes of a recording.
-pub fn windows<R: Threads + Sync>(rt: &R, alloc: Global, bytes: &[u8], job: &Job) -> Option<Vec<u8>>
-    requires few { 8 * length bytes.now ≤ 2 ^ 36 }
-    requires job { IsScan job.now }
-    ensures { IfSome result (λ text. text.items ≡ scan_text (all_bits bytes.now)) }
-{
-    written(rt, alloc, bytes, job)
-}
-
 /// The text that a job writes for bytes, if nothing is refused: its outcome.
 pub(crate) fn written<R: Threads + Sync>(
     rt: &R,
@@ -55,14 +55,14 @@ pub(crate) fn written<R: Threads + Sync>(
 ) -> Option<Vec<u8>>
     ensures { IfSome result (λ text. result_of_job job.now bytes.now ≡ Ok text.items) }
 {
-    let mut writer = ToWrite::new(Vec::new(alloc));
-    match transcribe(rt, alloc, &mut FromRead::new(bytes), &mut writer, job) {
-        Ok(()) => Some(writer.into_inner()),
-        Err(_) => None,
+    match append_listing(rt, alloc, bytes, Vec::new(alloc), job) {
+        (Ok(()), text) => Some(text),
+        _ => None,
     }
 }
 
-/// With a gate too: the reader is at its end after success; a failed call of either device is answered; 13
+/// At any devices, with a gate too: the text that is written is the outcome of the bytes that were read. After success the reader has
+/// answered its end, and the last call was a flush that succeeded. A failed call of either device is answered; 13
 /// comes only if 16,777,216 bytes or more were read; 14 never comes; any other refusal if the job and the bytes call for it.
 /// Settings out of their range are refused before anything is read. Nothing was written after any refusal but that of the
 /// writer, and then a first part of the text.
@@ -76,6 +76,13 @@ pub fn gated_causes<R: Threads + Sync, S: Source, K: Sink, G: Gate + Sync>(
 ) -> Result<(), ToolError>
     requires reads { S.failed reader.old < 2 ^ 63 }
     requires writes { K.failed writer.old < 2 ^ 63 }
+    ensures text { OnOk result (Gave (S.given reader.old) (S.given reader.new)
+        (λ bytes. Writes (K.contents writer.old) (K.contents writer.new) (result_of_job job.now bytes))) }
+    ensures ended { OnOk result (S.has_ended reader.new ≡ true) }
+    ensures flushed { OnOk result (K.is_flushed writer.new ≡ true) }
+    ensures refused_by { IfErr result (λ error. IsOutside error ⊎ Gave (S.given reader.old) (S.given reader.new)
+        (λ bytes. (result_of_job job.now bytes ≡ Err error)
+        × ((task_of job.now ≡ Err error) ⊎ (S.has_ended reader.new ≡ true)))) }
     ensures end { OnOk result (IsAtEnd (S.remaining reader.new)) }
     ensures read { IsErrOf result Read ↔ (S.failed reader.old < S.failed reader.new) }
     ensures write { IsErrOf result Write ↔ (K.failed writer.old < K.failed writer.new) }
@@ -111,22 +118,98 @@ pub fn append_listing<R: Threads + Sync>(
     (done, writer.into_inner())
 }
 
-// ---- when the answer is a refusal
+// ---- at any devices, standard input and output too
 
-/// Settings out of their range are refused as such, and nothing is read.
-pub fn refused_unread<R: Threads + Sync, S: Source, K: Sink>(
+/// Both ends of a job over standard input and output, as it left them, and its answer.
+#[derive(Drop)]
+pub struct Piped {
+    pub reader: FromRead<Stdin>,
+    pub writer: ToWrite<Stdout>,
+    pub answer: Result<(), ToolError>,
+}
+
+/// From standard input to standard output: all that was given makes all that was taken, after the end was answered, and the
+/// last call was a flush that succeeded.
+pub fn input_to_output<R: Threads + Sync>(rt: &HostRuntime, crew: &R, job: &Job) -> Piped
+    ensures text { OnOk result.answer
+        (result_of_job job.now (given_by result.reader) ≡ Ok (taken_by result.writer)) }
+    ensures end { OnOk result.answer (has_ended result.reader ≡ true) }
+    ensures flushed { OnOk result.answer (is_flushed result.writer ≡ true) }
+{
+    let mut reader = FromRead::new(rt.stdin());
+    let mut writer = ToWrite::new(rt.stdout());
+    let answer = transcribe(crew, rt.alloc(), &mut reader, &mut writer, job);
+    Piped {
+        reader,
+        writer,
+        answer,
+    }
+}
+
+/// A stream at any devices: the text that is written is the listing of the bytes that were read, up to the
+/// end or the last bit that counts, by any number of workers. If a read fails, the rows of all bytes before it were taken and flushed.
+pub fn heard_live<R: Threads + Sync, S: Source, K: Sink>(
     rt: &R,
     alloc: Global,
     reader: &mut S,
     writer: &mut K,
-    input: Input,
-    settings: Settings,
+    rules: &Rules,
+    bits: Option<u64>,
+    workers: u32,
 ) -> Result<(), ToolError>
     requires reads { S.failed reader.old < 2 ^ 63 }
     requires writes { K.failed writer.old < 2 ^ 63 }
-    requires burst { 5 < settings.burst }
-    ensures refused { result ≡ Err BurstRange }
-    ensures unread { reader.new ≡ reader.old }
+    ensures text { OnOk result
+        (Gave (S.given reader.old) (S.given reader.new)
+        (λ bytes. IsHeardOut bits (S.has_ended reader.new) bytes
+        × Writes (K.contents writer.old) (K.contents writer.new)
+        (listed (record { rules = rules.now; gaps = [] }) bits bytes))) }
+    ensures flushed { OnOk result (K.is_flushed writer.new ≡ true) }
+    ensures prompt { IsErrOf result Read → Gave (S.given reader.old) (S.given reader.new) (λ bytes.
+        Appends (K.contents writer.old) (K.contents writer.new)
+        (rows_so_far (record { rules = rules.now; gaps = [] }) bytes)
+        × IsFlushedAfter bytes (K.is_flushed writer.new)) }
 {
-    transcribe(rt, alloc, reader, writer, &Job::List(input, settings))
+    follow(rt, alloc, reader, writer, rules, bits, &[], workers)
+}
+
+// ---- rows of lists
+
+/// Two receptions that differ only in gaps have one list.
+pub fn listed_alike<R: Threads + Sync>(
+    rt: &R,
+    alloc: Global,
+    held: &[u8],
+    other: &[u8],
+    list: &Job,
+) -> Option<(Vec<u8>, Vec<u8>)>
+    requires { (input : AnInput) × (settings : SomeSettings) × (list.now ≡ Job.List input settings) × (input.hex ≡ false)
+        × DifferInGaps input.gaps held.now other.now }
+    ensures { IfSome result (λ both. both.0.items ≡ both.1.items) }
+{
+    laws::gaps_hide_bits();
+    let first = written(rt, alloc, held, list)?;
+    let second = written(rt, alloc, other, list)?;
+    Some((first, second))
+}
+
+/// A list that was written has a row of eight fields for each item, in order and within its recording, and twelve totals. That of a
+/// stream's bytes begins with the rows that following it has written after any of them.
+pub fn well_formed<R: Threads + Sync>(
+    rt: &R,
+    alloc: Global,
+    bytes: &[u8],
+    list: &Job,
+) -> Option<Vec<u8>>
+    ensures rows { IfSome result (λ listing. (input : AnInput) (settings : SomeSettings) → list.now ≡ Job.List input settings
+        → (recording : Signal) × (recording_of input bytes.now ≡ Ok recording)
+        × IsWellFormed (length_of recording) listing.items) }
+    ensures begun { IfSome result (λ listing. (settings : SomeSettings) (plan : PlanOf) (gaps : List (ℕ × ℕ)) (heard more : List ℕ)
+        → list.now ≡ Job.List (stream_input None gaps) settings → plan_of settings ≡ Ok plan → bytes.now ≡ heard ++ more
+        → (rest : List ℕ)
+        × (listing.items ≡ rows_so_far (record { rules = plan.rules; gaps = gaps }) heard ++ rest)) }
+{
+    laws::lists_are_well_formed();
+    laws::rows_begin_lists();
+    written(rt, alloc, bytes, list)
 }

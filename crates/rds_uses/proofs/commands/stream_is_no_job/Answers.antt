@@ -1,16 +1,16 @@
 use Rattle.std.proofs.Common.{◌≡◌, map, rules}
 use Rattle.std.proofs.lemmas.Result.{IfErr-weaker, IfOk-weaker}
-use Rattle.rds_uses.proofs.CommandLines.{follow_by_a_share, never, no_job_of_stream, words_or_memory}
+use Rattle.rds_uses.proofs.CommandLines.{follow_with_a_gap, never, no_job_of_stream, words_or_memory}
 use Rattle.rds_uses.proofs.commands.stream_is_no_job.Goals as goal
 
 pub returns-clause-no_job : goal.returns-clause-no_job
 returns-clause-no_job c =
-    let words_are : map (λ word. word.now) c.as_slice.result.now ≡ follow_by_a_share = search rules in
+    let words_are : map (λ word. word.now) c.as_slice.result.now ≡ follow_with_a_gap = search rules in
     let entries = c.job_of.ensures.entries in
     never c.job_of.result (IfOk-weaker c.job_of.result _ _ no_job_of_stream (rw words_are at entries))
 
 pub returns-clause-fault : goal.returns-clause-fault
 returns-clause-fault c =
-    let words_are : map (λ word. word.now) c.as_slice.result.now ≡ follow_by_a_share = search rules in
+    let words_are : map (λ word. word.now) c.as_slice.result.now ≡ follow_with_a_gap = search rules in
     let refused = c.job_of.ensures.refused in
     IfErr-weaker c.job_of.result _ _ (λ fault. words_or_memory fault.kind) (rw words_are at refused)

@@ -5,8 +5,8 @@ use Rattle.rds_sync.specs.declared.state.State.{State}
 use Rattle.rds_uses.proofs.SentAndHeard.{if-ok}
 use Rattle.rds_uses.proofs.sent.decoded_in_lock.Goals as goal
 
-pub returns : goal.returns
-returns c =
+pub returns-clause-locked : goal.returns-clause-locked
+returns-clause-locked c =
     let b = c.args.recording.now in
     let rules = c.args.rules.now in
     let from = c.args.from in

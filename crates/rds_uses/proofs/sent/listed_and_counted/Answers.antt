@@ -4,4 +4,4 @@ use Rattle.rds_uses.proofs.sent.listed_and_counted.Goals as goal
 pub returns : goal.returns
 returns g c =
     before-totals c.lists_end_with_totals.ensures c.requires.0 c.requires.1 c.args.list.now c.args.totals.now c.args.bytes.now
-    c.in-Some.listing.items c.in-Some-written.counts.items c.requires.2 c.requires.3 c.in-Some.ensures c.in-Some-written.ensures
+    c.in_ok-listing.listing.items c.in_ok-counts.counts.items c.requires.2 c.requires.3 c.in_ok-listing.ensures c.in_ok-counts.ensures

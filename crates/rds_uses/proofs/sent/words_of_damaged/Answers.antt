@@ -1,14 +1,19 @@
-use Rattle.std.proofs.Common.{◌≡◌, List, Some, ap, ◌∙◌, arith, get_or, slice_index}
+use Rattle.std.proofs.Common.{◌≡◌, ℕ, List, Some, ap, ◌∙◌, ◌++◌, ◌∷◌, [], arith, flat_map, get_or, slice_index, subst, sym}
 use Rattle.rds_code.specs.declared.offset.Offset.TheVariants.{A, B, D}
 use Rattle.rds_code.specs.Encoding.{third_offset}
+use Rattle.rds_stream.specs.Recording.{Signal, ungapped}
 use Rattle.rds_sync.specs.Groups.{info_of}
+use Rattle.rds_sync.specs.Sent.{GroupIsHeard, bits_with_damage}
 use Rattle.rds_sync.specs.declared.item.Block.{Block}
 use Rattle.rds_sync.specs.declared.item.Group.{Group}
+use Rattle.rds_uses.specs.Received.{four_words}
 use Rattle.rds_uses.proofs.SentAndHeard.{word-sent}
+use Rattle.rds_uses.proofs.sent.words_of_damaged.Goals.{After-info-4}
 use Rattle.rds_uses.proofs.sent.words_of_damaged.Goals as goal
 
-pub returns : goal.returns
-returns c = λ words damages heard.
+words-read : (c : After-info-4) (words damages : List ℕ) → GroupIsHeard c.args.recording.now c.args.rules.now.burst 1 c.args.place words damages
+    → c.info.result ∷ c.info-2.result ∷ c.info-3.result ∷ c.info-4.result ∷ [] ≡ four_words words
+words-read c words damages heard =
     let read = c.damaged_groups_are_corrected.ensures c.args.recording.now c.args.rules.now 1 c.args.place words damages (omega arith) (omega arith)
     (omega (arith, c.burst.ensures.range.burst)) heard in
     let blocks = ap (λ (g : Group). g.blocks) (c.requires ∙ read) in
@@ -25,3 +30,14 @@ returns c = λ words damages heard.
     c.info-4.ensures ∙ ap (λ (all : List Block). info_of (get_or all 3 c.index-group-3.result)) blocks
     ∙ word-sent D (slice_index words 3) (slice_index damages 3) in
     cc
+
+pub returns-clause-heard : goal.returns-clause-heard
+returns-clause-heard c words damages heard = words-read (goal.at.returns-clause-heard c).After-info-4 words damages heard
+
+pub returns-clause-bits : goal.returns-clause-bits
+returns-clause-bits c = λ before after g correctable there same.
+    let limit = c.args.rules.now.burst in
+    let heard = (c.damaged_bits_are_decoded.ensures.heard before after limit (g ∷ []) (correctable, tt)).0 in
+    let here = subst (λ (p : ℕ). GroupIsHeard (ungapped (before ++ (flat_map bits_with_damage (g ∷ []) ++ after))) limit 1 p g.words g.damages) (sym there) heard in
+    words-read (goal.at.returns-clause-bits c).After-info-4 g.words g.damages
+    (subst (λ (b : Signal). GroupIsHeard b limit 1 c.args.place g.words g.damages) (sym same) here)

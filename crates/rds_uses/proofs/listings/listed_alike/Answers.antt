@@ -1,7 +1,0 @@
-use Rattle.rds_uses.proofs.WrittenLists.{alike}
-use Rattle.rds_uses.proofs.listings.listed_alike.Goals as goal
-
-pub returns : goal.returns
-returns g c =
-    alike c.gaps_hide_bits.ensures c.args.list.now c.requires.0 c.requires.1 c.args.held.now c.args.other.now c.in-Some.first.items c.in-Some-written.second.items
-    c.requires.2 c.requires.3 c.requires.4 c.in-Some.ensures c.in-Some-written.ensures

@@ -1,9 +1,0 @@
-use Rattle.std.proofs.Common.{◌≡◌, ℕ, ◌-◌, ◌∙◌, Bool, ap₂, arith, cond, min}
-use Rattle.std.proofs.lemmas.Bool.{lt-ltb}
-use Rattle.rds_uses.proofs.loss.newest_in_mask.Goals as goal
-
-pub returns : goal.returns
-returns c is_good k some =
-    let newest : k - 0 ≡ k = omega arith in
-    c.masks_tell_blocks.ensures is_good c.args.bad c.args.of k 0
-    ∙ ap₂ (λ (t : Bool) (j : ℕ). cond t (cond (is_good j) 0 1) 0) (lt-ltb 0 (min c.args.of k) (omega (arith, some, c.requires))) newest
