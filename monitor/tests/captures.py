@@ -65,7 +65,8 @@ def captured(
     for station, signal in zip(stations, given):
         own = numpy.fft.fft(signal)
         bins = numpy.fft.fftfreq(own.size, 1 / own.size).astype(int) + round(station.offset * seconds)
-        numpy.add.at(spectrum, bins % size, own)
+        # each bin once: the whole has no fewer samples than a station
+        spectrum[bins % size] += own
     return numpy.fft.ifft(spectrum) * (rate / NARROW) + noise(size, rate, noise_level)
 
 

@@ -182,7 +182,7 @@ def iq(
         power = numpy.mean(numpy.abs(received) ** 2) / 10 ** (cnr / 10) * rate / 200e3
         noise = random.standard_normal(sent.size) + 1j * random.standard_normal(sent.size)
         received += numpy.sqrt(power / 2) * noise
-    return received * numpy.exp(2j * numpy.pi * offset * times)
+    return received * numpy.exp(2j * numpy.pi * offset * times) if offset else received
 
 
 # ---- samples as files

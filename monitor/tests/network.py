@@ -6,6 +6,7 @@ import json
 import os
 import sqlite3
 import sys
+from functools import lru_cache
 from pathlib import Path
 from typing import Any, Callable, Dict, List, Mapping, NamedTuple, Optional, Sequence, Tuple, Union
 
@@ -47,13 +48,18 @@ class SimulatedTimes(Times):
         self.utc += seconds
 
 
+@lru_cache(16)
+def encoded(programme: Programme, first: int, count: int) -> bytes:
+    return encode(programme.group(first + n) for n in range(count))
+
+
 class Air:
     """A station on the air from `begin` on: its bytes by the true time, which steps of the machine's clock do not change."""
 
     def __init__(self, programme: Programme, begin: float, seconds: float):
         self.begin, self.first = begin, int(begin * GROUPS_PER_SECOND)
-        groups = [programme.group(self.first + n) for n in range(int(seconds * GROUPS_PER_SECOND) + 2)]
-        self._data = numpy.frombuffer(encode(groups), "u1").copy()
+        sent = encoded(programme, self.first, int(seconds * GROUPS_PER_SECOND) + 2)
+        self._data = numpy.frombuffer(sent, "u1").copy()
         # The first group may have begun before.
         self._shift = (begin - self.first / GROUPS_PER_SECOND) * RATE / 8
 

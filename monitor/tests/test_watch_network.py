@@ -279,7 +279,7 @@ class Disk:
             os.truncate(path, self.kept[str(path)])
 
 
-@pytest.mark.parametrize(("seed", "keep"), enumerate(["", COMPRESSED, COMPRESSED]))
+@pytest.mark.parametrize(("seed", "keep"), enumerate(["", COMPRESSED]))
 def test_power_failures(tmp_path: Path, seed: int, keep: str, monkeypatch: pytest.MonkeyPatch) -> None:
     """Twelve times, a third of them just after a SIGKILL. The database tells only of rows that are on the disk, so nothing is there twice.
     Nor is anything lost where hours are compressed."""
@@ -547,14 +547,14 @@ def test_a_table_that_is_read_again(tmp_path: Path) -> None:
 @pytest.mark.parametrize("kill", [False, True])
 def test_an_rt_that_is_stuck_over_restarts_of_the_watch(tmp_path: Path, kill: bool) -> None:
     """The alarm begins once, and lasts."""
-    net = network(tmp_path, Air(ALPHA, START, 400), table=TABLE + "[station.alarms]\nrt_stuck = 150\n")
+    net = network(tmp_path, Air(ALPHA, START, 400), table=TABLE + "[station.alarms]\nrt_stuck = 75\n")
     for _ in range(4):
-        net.run(70)
+        net.run(35)
         net.restart(5, kill)
     net.run(20)
     ((name, begin, end),) = alarms(net)
     # Without the 5 s of each pause, in which nobody knew, and the seconds after it until the RT is there. A kill costs up to ten more.
-    assert name == "rt_stuck" and 0 < begin - 150 - 2 * 5 < (40 if kill else 20) and end is None
+    assert name == "rt_stuck" and 0 < begin - 75 - 2 * 5 < (40 if kill else 20) and end is None
     net.end()
 
 
