@@ -18,6 +18,14 @@ SEVEN_ARE_TOO_MANY = 23
 # The sets of offsets to be tried for block 3, by the second byte of a window.
 WANTED: tuple[tuple[int, ...], ...] = ((plain.C, plain.CX), (plain.C,), (plain.CX,))
 PLACES = np.arange(SYMBOLS - 1, -1, -1)
+# The bits of a word, and two offset words by which each block may be sent.
+BITS = 1 << PLACES[1:]
+SENT = np.array(
+    [
+        [plain.WORDS[one] for one in two]
+        for two in ((plain.A, plain.A), (plain.B, plain.B), (plain.C, plain.CX), (plain.D, plain.D))
+    ]
+)
 LOST = plain.Read(0, 0, 0)
 
 
@@ -105,7 +113,7 @@ def spelled(window: Window, any_number: bool) -> str:
 def reading(window: Window, any_number: bool) -> tuple[plain.Read, int]:
     """The same as it is read, and how many symbols were flipped."""
     signs = window.symbols > 0
-    word = int((signs[:-1] != signs[1:]) @ (1 << PLACES[1:]))
+    word = int((signs[:-1] != signs[1:]) @ BITS)
     rest = plain.remainder(word)
     offset = int(plain.OFFSET_OF[rest])
     if plain.NUMBERS[offset] == window.number:
@@ -207,20 +215,20 @@ def random_symbols(numbers: np.random.Generator, held: bytes, least: int) -> byt
     return np.where(signs ^ wrong, sizes, -sizes).astype(np.int8).tobytes()
 
 
-def random_window(numbers: np.random.Generator, least: int) -> Window:
-    """Symbols of at least this size: of a block that was sent, with up to four wrong ones, or in one of three of noise."""
-    number = int(numbers.integers(1, 5))
-    sizes = numbers.integers(least, 128, SYMBOLS)
-    if numbers.integers(3):
-        offset = (plain.A, plain.B, (plain.C, plain.CX)[int(numbers.integers(2))], plain.D)[number - 1]
-        word = plain.block(int(numbers.integers(1 << 16)), offset)
-        bits = [int(numbers.integers(2)), *(word >> bit & 1 for bit in range(25, -1, -1))]
-        signs = np.cumsum(bits) % 2 == 1
-        wrong = numbers.permutation(SYMBOLS)[: int(numbers.integers(5))]
-        signs[wrong] ^= True
-        sizes[wrong] = numbers.integers(least, least + 30, len(wrong))
-    else:
-        signs = numbers.integers(0, 2, SYMBOLS) == 1
-        sizes = numbers.integers(least, least + 60, SYMBOLS)
-    symbols = np.where(signs, sizes, -sizes).astype(np.int8)
-    return Window(number, int(numbers.integers(3)), int(numbers.integers(1, 33)), symbols)
+def random_windows(numbers: np.random.Generator, least: int, count: int) -> list[Window]:
+    """Symbols of at least this size: of blocks that were sent, with up to four wrong ones, or in one of three of noise."""
+    shape, number = (count, SYMBOLS), numbers.integers(1, 5, count)
+    infos = numbers.integers(1 << 16, size=count) << 10
+    words = infos | plain.remainders(infos) ^ SENT[number - 1, numbers.integers(2, size=count)]
+    bits = words[:, None] >> PLACES & 1
+    bits[:, 0] = numbers.integers(2, size=count)
+    is_sent = numbers.integers(3, size=(count, 1)) > 0
+    signs = np.where(is_sent, np.cumsum(bits, axis=1) % 2, numbers.integers(2, size=shape)) == 1
+    wrong = is_sent & (numbers.random(shape).argsort(axis=1) < numbers.integers(5, size=(count, 1)))
+    sizes = numbers.integers(least, np.where(is_sent, 128, least + 60), shape)
+    sizes[wrong] = numbers.integers(least, least + 30, int(wrong.sum()))
+    symbols = np.where(signs ^ wrong, sizes, -sizes).astype(np.int8)
+    asked = zip(
+        number.tolist(), numbers.integers(3, size=count).tolist(), numbers.integers(1, 33, count).tolist()
+    )
+    return [Window(*of, row) for of, row in zip(asked, symbols)]

@@ -4,7 +4,7 @@ from __future__ import annotations
 
 import numpy as np
 import pytest
-from plain_soft import SEVEN_ARE_TOO_MANY, Window, random_window, spelled
+from plain_soft import SEVEN_ARE_TOO_MANY, Window, random_windows, spelled
 from running import said
 
 
@@ -16,7 +16,7 @@ def blocks(bench: str, windows: list[Window]) -> list[str]:
 def test_flips_of_up_to_six(rds_bench: str, seed: int) -> None:
     """10,000 windows, in which no more than six symbols are flipped."""
     numbers = np.random.default_rng(seed)
-    windows = [random_window(numbers, SEVEN_ARE_TOO_MANY) for _ in range(10_000)]
+    windows = random_windows(numbers, SEVEN_ARE_TOO_MANY, 10_000)
     found = blocks(rds_bench, windows)
     assert found == [spelled(window, False) for window in windows]
     assert {block[:1] for block in found if "~" in block} == {*"ABCD"} and "lost" in found
@@ -26,7 +26,7 @@ def test_flips_of_up_to_six(rds_bench: str, seed: int) -> None:
 def test_any_flips(rds_bench: str, least: int) -> None:
     """Windows with symbols of any size, erasures too, against each of the 2^27 flips."""
     numbers = np.random.default_rng(least)
-    windows = [random_window(numbers, least) for _ in range(150)]
+    windows = random_windows(numbers, least, 150)
     assert blocks(rds_bench, windows) == [spelled(window, True) for window in windows]
 
 
