@@ -20,8 +20,8 @@ from rds_monitor.watch.receiver import Process
 from rds_monitor.watch.shared import demodulator
 from rds_monitor.watch.table import ReceiverTable, table_of
 
-# Two receivers of eight stations each.
-COUNT = 8
+# Two receivers of fifteen stations each.
+COUNT = 15
 RECEIVERS = {"north": 97.0, "south": 100.5}
 
 
@@ -63,7 +63,7 @@ def files_in(folder: Path) -> Dict[str, bytes]:
     return {str(path.relative_to(folder)): path.read_bytes() for path in (folder / "listings").rglob("*.csv")}
 
 
-def test_sixteen_stations_of_two_receivers(tmp_path: Path) -> None:
+def test_thirty_stations_of_two_receivers(tmp_path: Path) -> None:
     """A receiver dies, both hang, and the watch is killed and begins again: the hours, minutes and runs of each station are those
     that it has with a receiver of its own."""
     airs = {
@@ -87,9 +87,9 @@ def test_sixteen_stations_of_two_receivers(tmp_path: Path) -> None:
         net.restart(1.5, kill=True)
         net.run(68, tick=4.0)
         metrics, page = ((net.folder / name).read_text() for name in ("metrics.prom", "pages/index.html"))
-        told = ('rds_level_dbfs{station="north03"} -23\n', 'rds_snr_db{station="south07"} 23\n')
+        told = ('rds_level_dbfs{station="north03"} -23\n', 'rds_snr_db{station="south14"} 16\n')
         assert [text in metrics for text in told] == [net is nets[0]] * 2
-        assert ("RDS SNR 23.0 dB, level -27.0 dBFS" in page) == (net is nets[0])
+        assert ("RDS SNR 16.0 dB, level -34.0 dBFS" in page) == (net is nets[0])
         net.end()
     reasons = nets[0].asked("SELECT DISTINCT reason FROM runs ORDER BY reason")
     hung, died, killed = "gave no byte for 10 s", "ended with status 1: unplugged", "the watch was killed"
