@@ -1,11 +1,9 @@
 -- Short lemmas for the callers of `sent`.
-use Rattle.std.proofs.Common.{arith, inl, inr, get_or, slice_index, length, List, [], ◌∷◌, ◌<◌, ◌^◌, ◌≡◌, Bool, true, false, None, ℕ, zero, suc, Result, Ok, Err, IfOk, Some, ◌≤◌, ◌∙◌, ap, refl}
+use Rattle.std.proofs.Common.{arith, inl, inr, get_or, slice_index, length, List, [], ◌∷◌, ◌<◌, ◌^◌, ◌≡◌, ℕ, zero, suc, Result, Ok, Err, IfOk, Some, ◌≤◌, ◌∙◌, ap, refl}
 use Rattle.rds_code.specs.declared.offset.Offset.{Offset}
 use Rattle.rds_code.specs.declared.offset.Offset.TheVariants.{A, B, C, Cx, D}
-use Rattle.std.specs.Prelude.{nat_lt}
-use Rattle.std.proofs.lemmas.Bool.{cases_lt, le-ltb}
+use Rattle.std.proofs.lemmas.Bool.{cases_lt}
 use Rattle.std.proofs.lemmas.List.{get_or_past}
-use Rattle.rds_code.specs.Encoding.{IsGroupOf}
 use Rattle.rds_code.specs.Offsets.{number, offset_of, word}
 use Rattle.rds_code.specs.Remainder.{rem}
 use Rattle.rds_stream.specs.Recording.{Signal, heard, offset_at, offset_heard, ungapped}
@@ -16,6 +14,7 @@ use Rattle.rds_sync.specs.Rules.{RuleNumbers}
 use Rattle.rds_sync.specs.Sent.{AreWords, EncodedGroupsAreListed, bits_sent, block_sent, totals_sent}
 use Rattle.rds_sync.specs.Totals.{totals_of}
 use Rattle.rds_uses.specs.Received.{report_sent}
+use Rattle.rds_uses.proofs.GapFacts.{off-heard}
 
 pub if-ok : {A E : Type 0} {P Q : A → Type 0} (result : Result A E) → ((a : A) → P a → Q a) → IfOk result P → IfOk result Q
 if-ok (Ok a) also is = also a is
@@ -42,21 +41,8 @@ own-word C = refl
 own-word Cx = refl
 own-word D = refl
 
-off-heard : (b : Signal) (i w : ℕ) → nat_lt i 25 ≡ false → heard b i ≡ Some w → offset_at b i ≡ offset_of (rem w)
-unfolding offset_at
-off-heard b i w far is =
-    ap (λ (early : Bool). elim early [ true ↦ None | false ↦ offset_heard (heard b i) ]) far ∙ ap offset_heard is
-
 pub offset-heard : (b : Signal) (i w : ℕ) (o : Offset) → 25 ≤ i → heard b i ≡ Some w → rem w ≡ word o → offset_at b i ≡ Some o
-offset-heard b i w o far is own = off-heard b i w (le-ltb i 25 far) is ∙ ap offset_of own ∙ own-word o
-
--- the words of a group that was encoded
-pub words-small : (blocks words : List ℕ) → IsGroupOf blocks words → (y : ℕ) → y < 4 → slice_index words y < 2 ^ 16
-words-small blocks words is zero within = omega (arith, is.first.is_block, is.first.above)
-words-small blocks words is (suc zero) within = omega (arith, is.second.is_block, is.second.above)
-words-small blocks words is (suc (suc zero)) within = omega (arith, is.third.is_block, is.third.above)
-words-small blocks words is (suc (suc (suc zero))) within = omega (arith, is.fourth.is_block, is.fourth.above)
-words-small blocks words is (suc (suc (suc (suc y)))) within = absurd (omega (arith, within))
+offset-heard b i w o far is own = off-heard b i far ∙ ap offset_heard is ∙ ap offset_of own ∙ own-word o
 
 pub four-small : (words : List ℕ) → length words ≡ 4 → ((y : ℕ) → y < 4 → slice_index words y < 2 ^ 16) → (y : ℕ) → slice_index words y < 2 ^ 16
 four-small words four small y = elim (cases_lt y 4) [

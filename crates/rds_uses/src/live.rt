@@ -87,11 +87,10 @@ pub fn take_rest(
     live: StreamDecoder<'_>,
     rest: &[u8],
 ) -> Result<(Vec<Item>, StreamEnd), StreamError>
-    ensures items { IfOk result (λ r. (before : List ℕ) → HasHeard live.entry before
-        → complete live.entry.terms before ++ r.0.items ++ group_item r.1.group
-        ≡ report_of live.entry.terms (before ++ rest.now)) }
-    ensures totals { IfOk result (λ r. (before : List ℕ) → HasHeard live.entry before
-        → r.1.totals ≡ totals_of (report_of live.entry.terms (before ++ rest.now))) }
+    ensures { IfOk result (λ r. (before : List ℕ) → HasHeard live.entry before
+        → (complete live.entry.terms before ++ r.0.items ++ group_item r.1.group
+        ≡ report_of live.entry.terms (before ++ rest.now))
+        × (r.1.totals ≡ totals_of (report_of live.entry.terms (before ++ rest.now)))) }
 {
     let mut live = live;
     match live.take_all(alloc, rest) {
@@ -110,8 +109,8 @@ pub fn in_two_chunks(
     second: &[u8],
 ) -> Result<(Vec<Item>, Vec<Item>), StreamError>
     requires { IsInRange live.old.terms.rules }
-    ensures next { OnOk result (live.new ≡ live_next live.old (first.now ++ second.now)) }
-    ensures items { IfOk result (λ r. r.0.items ++ r.1.items ≡ completed live.old (first.now ++ second.now)) }
+    ensures { IfOk result (λ r. (live.new ≡ live_next live.old (first.now ++ second.now))
+        × (r.0.items ++ r.1.items ≡ completed live.old (first.now ++ second.now))) }
 {
     laws::pieces_join();
     prove!(live.tail().len() <= 30);

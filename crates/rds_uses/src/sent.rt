@@ -186,8 +186,8 @@ pub fn recording_of_groups(alloc: Global, groups: &[[u16; 4]]) -> Option<Recordi
 pub fn encoded_and_decoded(alloc: Global, groups: &[[u16; 4]], rules: &Rules) -> Option<Report>
     requires some { 0 < length groups.now }
     requires few { 104 * length groups.now ≤ 2 ^ 36 }
-    ensures items { IfSome result (λ report. report.items.list ≡ report_sent groups.now) }
-    ensures totals { IfSome result (λ report. report.totals ≡ totals_sent (length groups.now)) }
+    ensures { IfSome result (λ report. (report.items.list ≡ report_sent groups.now)
+        × (report.totals ≡ totals_sent (length groups.now))) }
 {
     let _loss = rules.loss();
     laws::encoded_groups_are_listed();

@@ -152,37 +152,25 @@ pub fn with_gaps(bytes: Vec<u8>, bits: u64, gaps: Vec<(u64, u64)>) -> Result<Rec
 
 // ---- reading where a gap is touched, and where none is
 
-/// A window that touches a gap is known, and is not heard. Any other is heard as it is stored.
-pub fn heard_or_touched(recording: &Recording, place: u64) -> bool
-    requires first { 25 ≤ place }
-    requires last { place < length_of recording.now }
-    ensures { result ≡ true }
-{
-    let mut reader = Reader::new(recording);
-    let heard = if recording.touches(place) {
-        None
-    } else {
-        Some(recording.window(place))
-    };
-    reader.window(place) == heard
-}
-
-/// A block that touches a gap is lost, whatever its bits are; one that touches none is read from the window as it is stored.
+/// A window that touches a gap is known, and is not heard: its block is lost, whatever its bits are. Any other is heard and read as it is
+/// stored.
 pub fn block_with_gaps(
     table: &BurstTable,
     recording: &Recording,
     place: u64,
     number: BlockNumber,
     wanted: Wanted,
-) -> Reading
+) -> (bool, Option<u32>, Reading)
     requires first { 25 ≤ place }
     requires last { place < length_of recording.now }
-    ensures touched { touched recording.now place ≡ true → result ≡ Lost }
-    ensures clear { touched recording.now place ≡ false
-        → result ≡ reading (window recording.now.bits place) number wanted 5 }
+    ensures known { result.0 ≡ touched recording.now place }
+    ensures touched { touched recording.now place ≡ true → (result.1 ≡ None) × (result.2 ≡ Lost) }
+    ensures clear { touched recording.now place ≡ false → (result.1 ≡ Some (window recording.now.bits place))
+        × (result.2 ≡ reading (window recording.now.bits place) number wanted 5) }
 {
     let heard = Reader::new(recording).window(place);
-    read_heard(table, heard, number, wanted, BurstLimit::LONGEST)
+    let read = read_heard(table, heard, number, wanted, BurstLimit::LONGEST);
+    (recording.touches(place), heard, read)
 }
 
 /// The offset of the window that a tape hears is that of the place, in a gap and outside; a window is counted
@@ -206,8 +194,7 @@ pub fn nothing_acquired_in_gap<T: Tape>(tape: &mut T, rules: &Rules, place: u64,
     requires within { to ≤ length_of (T.signal tape.old) }
     requires counted { T.reads_made tape.old + 16 ≤ 2 ^ 63 }
     requires touched { touched (T.signal tape.old) place ≡ true }
-    ensures state { result.state ≡ Searching }
-    ensures items { items_in result.items ≡ [] }
+    ensures { (result.state ≡ Searching) × (items_in result.items ≡ []) }
 {
     advance(tape, rules, State::Searching, place, to)
 }

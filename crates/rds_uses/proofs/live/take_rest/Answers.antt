@@ -12,16 +12,11 @@ joined before rest r d other last is other_is last_is =
     ap (λ (items : List Item). items ++ last) (sym other_is)
     ∙ subst (λ (q : Terms). complete q (before ++ rest) ++ last ≡ report_of q (before ++ rest)) is last_is
 
-pub returns-in-Ok-clause-items : goal.returns-in-Ok-clause-items
-returns-in-Ok-clause-items c before heard =
-    let rest = c.args.rest.now in
-    joined before rest c.args.live.terms c.take_all.new.self.terms c.in-Ok.items.items (group_item c.finish.result.group)
-    c.in-Ok.ensures.terms (c.in-Ok.ensures.items before heard)
-    (c.finish.ensures.group (before ++ rest) (c.in-Ok.ensures.heard before heard))
-
-pub returns-in-Ok-clause-totals : goal.returns-in-Ok-clause-totals
-returns-in-Ok-clause-totals c before heard =
-    let rest = c.args.rest.now in
-    subst (λ (q : Terms). c.finish.result.totals ≡ totals_of (report_of q (before ++ rest)))
-    c.in-Ok.ensures.terms
-    (c.finish.ensures.totals (before ++ rest) (c.in-Ok.ensures.heard before heard))
+pub returns-in-Ok : goal.returns-in-Ok
+returns-in-Ok c before heard =
+    let all = before ++ c.args.rest.now in
+    let heard_all = c.in-Ok.ensures.heard before heard in (
+      joined before c.args.rest.now c.args.live.terms c.take_all.new.self.terms c.in-Ok.items.items (group_item c.finish.result.group)
+          c.in-Ok.ensures.terms (c.in-Ok.ensures.items before heard) (c.finish.ensures.group all heard_all),
+      subst (λ (q : Terms). c.finish.result.totals ≡ totals_of (report_of q all)) c.in-Ok.ensures.terms (c.finish.ensures.totals all heard_all),
+    )

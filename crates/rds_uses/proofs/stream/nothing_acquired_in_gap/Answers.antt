@@ -1,11 +1,10 @@
-use Rattle.std.proofs.Common.{◌≡◌, ◌+◌, ◌-◌, ℕ, List, [], ap, refl, ◌∙◌, arith}
+use Rattle.std.proofs.Common.{◌≡◌, ◌+◌, ◌-◌, ℕ, List, [], ap, refl, true, ◌∙◌, arith}
 use Rattle.rds_sync.specs.declared.item.Item.{Item}
 use Rattle.rds_sync.specs.declared.state.State.{State}
 use Rattle.rds_sync.specs.declared.state.State.TheVariants.{Searching}
 use Rattle.rds_sync.specs.Step.{run, step, items_at, after_bit}
 use Rattle.rds_stream.specs.Recording.{Signal, touched}
 use Rattle.rds_sync.specs.Rules.{RuleNumbers}
-use Rattle.std.proofs.Common.{true}
 use Rattle.rds_uses.proofs.GapFacts.{acquired-touched}
 use Rattle.rds_uses.proofs.stream.nothing_acquired_in_gap.Goals as goal
 
@@ -16,14 +15,7 @@ nothing b rules place next is in_gap =
     let one : next - place ≡ 1 = omega (arith, is) in
     rw (one, acquired-touched b rules place in_gap, step, items_at, after_bit) refl
 
-pub returns-clause-state : goal.returns-clause-state
-returns-clause-state g c =
-    c.advance.ensures.state
-    ∙ ap (λ (r : State × List Item). r.0)
-    (nothing (g.T.Tape.signal c.args.tape.now) c.args.rules.now c.args.place c.advance.result.place c.advance.ensures.place c.requires.touched)
-
-pub returns-clause-items : goal.returns-clause-items
-returns-clause-items g c =
-    c.advance.ensures.items
-    ∙ ap (λ (r : State × List Item). r.1)
-    (nothing (g.T.Tape.signal c.args.tape.now) c.args.rules.now c.args.place c.advance.result.place c.advance.ensures.place c.requires.touched)
+pub returns : goal.returns
+returns g c =
+    let none = nothing (g.T.Tape.signal c.args.tape.now) c.args.rules.now c.args.place c.advance.result.place c.advance.ensures.place c.requires.touched in
+    (c.advance.ensures.state ∙ ap (λ (r : State × List Item). r.0) none, c.advance.ensures.items ∙ ap (λ (r : State × List Item). r.1) none)
