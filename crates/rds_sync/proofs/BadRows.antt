@@ -1,16 +1,5 @@
 -- Bad blocks in a row, and good ones in a row, by the loss history: for both rules of loss.
-use Rattle.std.proofs.Common.{◌≡◌, ℕ, zero, suc, ◌+◌, ◌*◌, ◌%◌, ◌/◌, ◌^◌, ◌<◌, ◌≤◌, true, false, refl, sym, ap, ap₂, ◌∙◌, subst, arith}
-use Rattle.std.proofs.Math.Nat.{pow-suc, mul-le-mul_right}
-use Rattle.std.proofs.Math.Pow.{pow_pos}
-use Rattle.std.proofs.lemmas.Bool.{lt-leb}
-use Rattle.std.specs.Int.Count.{ones, ones_step}
-use Rattle.std.specs.Prelude.{count_ones, ⊤}
-use Rattle.rds_sync.specs.declared.loss.Loss.{Loss}
-use Rattle.rds_sync.specs.declared.loss.Loss.TheVariants.{Run, Share}
-use Rattle.rds_sync.specs.Loss.{IsLossRule, IsLawfulBad, bad_after, are_too_many}
-use Rattle.rds_sync.specs.Convergence.{sound_blocks}
-use Rattle.rds_sync.specs.Inside.Outcomes.{bad_over}
-use Rattle.rds_sync.specs.Inside.Words.{blocks_in}
+use Rattle.rds_sync.proofs.Names.{◌≡◌, ℕ, zero, suc, ◌+◌, ◌*◌, ◌%◌, ◌/◌, ◌^◌, ◌<◌, ◌≤◌, true, false, refl, sym, ap, ap₂, ◌∙◌, subst, arith, pow-suc, mul-le-mul_right, pow_pos, lt-leb, ones_step, count_ones, ⊤, Loss, Run, Share, IsLossRule, IsLawfulBad, bad_after, are_too_many, sound_blocks, bad_over, blocks_in}
 use Rattle.rds_sync.proofs.LossLemmas.{double, ones_below, ones_zero}
 
 -- the lowest j digits of m are all f

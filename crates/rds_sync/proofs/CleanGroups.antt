@@ -1,10 +1,5 @@
 -- Groups of four valid blocks in a lock, and a block 4 that acquires.
-use Rattle.std.proofs.Common.{◌≡◌, ℕ, ◌+◌, ◌-◌, ◌*◌, ◌≤◌, List, [], ◌∷◌, true, length, refl, ap, ◌∙◌, arith}
-use Rattle.rds_stream.specs.Recording.{Signal}
-use Rattle.rds_sync.specs.Acquiring.{has_number}
-use Rattle.rds_sync.specs.Groups.{group}
-use Rattle.rds_sync.specs.Inside.Outcomes.{Outcome, missing, valid, lost, corrected, was_valid, good_at}
-use Rattle.rds_sync.specs.Rules.{RuleNumbers}
+use Rattle.rds_sync.proofs.Names.{◌≡◌, ℕ, ◌+◌, ◌-◌, ◌*◌, ◌≤◌, List, [], ◌∷◌, true, length, refl, ap, ◌∙◌, arith, Signal, has_number, group, Outcome, missing, valid, lost, corrected, was_valid, good_at, RuleNumbers}
 use Rattle.rds_sync.proofs.GroupOutcomes.{outcomes, good-at}
 
 pub valid-only : (o : Outcome) → was_valid o ≡ true → o ≡ valid

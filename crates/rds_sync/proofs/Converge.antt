@@ -1,25 +1,7 @@
 -- Any two runs meet on a sound.
-use Rattle.std.proofs.Common.{◌≡◌, ◌≢◌, ℕ, zero, suc, ◌+◌, ◌-◌, ◌*◌, ◌%◌, ◌/◌, ◌<◌, ◌≤◌, Bool, true, false, Option, Some, None, refl, sym, ap, ap₂, ◌∙◌, arith, add-zero, zero-add, inl, inr, ⊎_elim, cond}
-use Rattle.std.proofs.Math.Nat.{suc-add, mul-le-mul_right}
-use Rattle.std.proofs.lemmas.Bool.{eq-eqb, cases_Bool, cases_eq, cases_lt, eqb-true}
-use Rattle.std.proofs.lemmas.List.Sums.{sum_by-cons}
-use Rattle.std.specs.Prelude.{◌==◌, is_some, count_by}
-use Rattle.std.specs.List.{range_with_len, list_any}
-use Rattle.rds_code.specs.Cycle.{number_after}
-use Rattle.rds_stream.specs.Recording.{Signal, offset_at}
-use Rattle.rds_sync.specs.declared.lock.Lock.{Lock}
-use Rattle.rds_sync.specs.declared.state.State.{State}
-use Rattle.rds_sync.specs.declared.state.State.TheVariants.{Searching, Locked}
-use Rattle.rds_sync.specs.Rules.{RuleNumbers}
-use Rattle.rds_sync.specs.Loss.{IsLossRule, IsLawfulBad, bad_after, are_too_many}
+use Rattle.rds_sync.proofs.Names.{◌≡◌, ◌≢◌, ℕ, zero, suc, ◌+◌, ◌-◌, ◌*◌, ◌%◌, ◌/◌, ◌<◌, ◌≤◌, Bool, true, false, Option, Some, None, refl, sym, ap, ap₂, ◌∙◌, arith, add-zero, zero-add, inl, inr, ⊎_elim, cond, suc-add, mul-le-mul_right, eq-eqb, cases_Bool, cases_eq, cases_lt, eqb-true, sum_by-cons, ◌==◌, is_some, count_by, range_with_len, list_any, number_after, Signal, offset_at, Lock, State, Searching, Locked, RuleNumbers, IsLossRule, IsLawfulBad, bad_after, are_too_many, IsLawful, Offset, number, acquired, has_number, has_partner, with_partner, run, step, history_after_block, lock_of, lock_after, IsSound, IsLastFour, sound_blocks, SoundRangesHaveFours, RunsConverge}
 use Rattle.rds_sync.proofs.LossLemmas.{lawful_none, lawful_kept}
 use Rattle.rds_sync.proofs.BadRows.{good_keeps, needed, memory, needed_is, memory_is, HasRow, row_zero, row_short, row_grows, IsClean, clean_zero, clean_none, clean_more, clean_is}
-use Rattle.rds_sync.specs.Lawful.{IsLawful}
-use Rattle.rds_code.specs.declared.offset.Offset.{Offset}
-use Rattle.rds_code.specs.Offsets.{number}
-use Rattle.rds_sync.specs.Acquiring.{acquired, has_number, has_partner, with_partner}
-use Rattle.rds_sync.specs.Step.{run, step, history_after_block, lock_of, lock_after}
-use Rattle.rds_sync.specs.Convergence.{IsSound, IsLastFour, sound_blocks, SoundRangesHaveFours, RunsConverge}
 use Rattle.rds_sync.proofs.RivalLemmas.{every_26, few_in_phase}
 use Rattle.rds_sync.proofs.RunLemmas.{step-waiting, step-keeping, step-losing, step-searching, step-acquiring}
 

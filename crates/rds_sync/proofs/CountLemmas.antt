@@ -1,13 +1,5 @@
 -- Items counted one after the other.
-use Rattle.std.proofs.Common.{◌≡◌, ℕ, ◌+◌, ◌<◌, List, [], ◌∷◌, ◌++◌, length, take, get_or, map, refl, sym, ap, ap₂, ◌∙◌, arith, append_assoc, append-nil, length-append}
-use Rattle.std.proofs.lemmas.List.{take_more}
-use Rattle.rds_sync.specs.declared.item.Group.{Group as GroupRecord}
-use Rattle.rds_sync.specs.declared.item.Item.{Item}
-use Rattle.rds_sync.specs.declared.item.Item.TheVariants.{Group, LostLock}
-use Rattle.rds_sync.specs.declared.totals.Totals.{Totals}
-use Rattle.rds_sync.specs.Counting.{plus}
-use Rattle.rds_sync.specs.Inside.Counts.{CountOf, count_of, joined, group_count, loss_count, added}
-use Rattle.rds_sync.specs.Inside.Outcomes.{Outcome, outcome_of}
+use Rattle.rds_sync.proofs.Names.{◌≡◌, ℕ, ◌+◌, ◌<◌, List, [], ◌∷◌, ◌++◌, length, take, get_or, map, refl, sym, ap, ap₂, ◌∙◌, arith, append_assoc, append-nil, length-append, take_more, GroupRecord, Item, Group, LostLock, Totals, plus, CountOf, count_of, joined, group_count, loss_count, added, Outcome, outcome_of}
 use Rattle.rds_sync.proofs.OutcomeTotals.{group-tells}
 use Rattle.rds_sync.proofs.TotalsLemmas.{same_counts, totals_of-append}
 

@@ -1,19 +1,6 @@
 -- The items of a block that was due, with the blocks of its group.
-use Rattle.std.proofs.Common.{◌≡◌, ◌-◌, ℕ, List, [], ◌∷◌, Bool, sym, ap, ap₂, ◌∙◌, arith}
-use Rattle.rds_stream.specs.Recording.{Signal}
-use Rattle.rds_sync.specs.declared.due.Due.{Due}
-use Rattle.rds_sync.specs.declared.due.Due.TheVariants.{Inside, Closed, Lost}
-use Rattle.rds_sync.specs.declared.lock.Lock.{Lock}
-use Rattle.rds_sync.specs.declared.item.Block.{Block}
-use Rattle.rds_sync.specs.declared.item.Group.{Group as GroupRecord}
-use Rattle.rds_sync.specs.declared.item.Item.TheVariants.{Group, LostLock}
-use Rattle.rds_sync.specs.declared.state.State.TheVariants.{Locked}
-use Rattle.rds_sync.specs.Acquiring.{has_number}
-use Rattle.rds_sync.specs.Groups.{blocks_at}
-use Rattle.rds_sync.specs.Inside.Due.{IsAfter}
-use Rattle.rds_sync.specs.Inside.Locks.{IsFollowed, items_of_due}
-use Rattle.rds_sync.specs.Rules.{RuleNumbers}
-use Rattle.rds_sync.specs.Step.{items_at}
+use Rattle.rds_sync.proofs.Names.{◌≡◌, ◌-◌, ℕ, List, [], ◌∷◌, Bool, sym, ap, ap₂, ◌∙◌, arith, Signal, Due, Inside, Closed, Lock, Block, GroupRecord, Group, LostLock, Locked, has_number, blocks_at, IsAfter, IsFollowed, items_of_due, RuleNumbers, items_at}
+use Rattle.rds_sync.specs.declared.due.Due.TheVariants.{Lost}
 use Rattle.rds_sync.proofs.DueLemmas.{items-inside, items-closed, items-lost, kept-next}
 use Rattle.rds_sync.proofs.GroupBlocks.{group-blocks}
 use Rattle.rds_sync.proofs.ItemLemmas.{some_given}

@@ -1,18 +1,6 @@
 -- The block that is due: its effect on its lock, and its items.
-use Rattle.std.proofs.Common.{◌≡◌, ℕ, ◌+◌, ◌%◌, ◌<◌, [], ◌∷◌, Bool, true, false, refl, sym, ap, ◌∙◌, arith}
-use Rattle.std.proofs.lemmas.Bool.{eq-eqb, ne_eqb}
-use Rattle.rds_stream.specs.Recording.{Signal}
-use Rattle.rds_sync.specs.declared.due.Due.{Due}
-use Rattle.rds_sync.specs.declared.due.Due.TheVariants.{Inside, Closed, Lost}
-use Rattle.rds_sync.specs.declared.lock.Lock.{Lock}
-use Rattle.rds_sync.specs.declared.item.Item.TheVariants.{Group, LostLock}
-use Rattle.rds_sync.specs.declared.state.State.TheVariants.{Searching, Locked}
-use Rattle.rds_sync.specs.Acquiring.{has_number}
-use Rattle.rds_sync.specs.Inside.Due.{state_of, IsKept, IsAfter}
-use Rattle.rds_sync.specs.Groups.{group}
-use Rattle.rds_sync.specs.Loss.{bad_after, are_too_many}
-use Rattle.rds_sync.specs.Rules.{RuleNumbers}
-use Rattle.rds_sync.specs.Step.{step, items_at, completed_group, lock_of, lock_after}
+use Rattle.rds_sync.proofs.Names.{◌≡◌, ℕ, ◌+◌, ◌%◌, ◌<◌, [], ◌∷◌, Bool, true, false, refl, sym, ap, ◌∙◌, arith, eq-eqb, ne_eqb, Signal, Due, Inside, Closed, Lock, Group, LostLock, Searching, Locked, has_number, state_of, IsKept, IsAfter, group, bad_after, are_too_many, RuleNumbers, step, items_at, completed_group, lock_of, lock_after}
+use Rattle.rds_sync.specs.declared.due.Due.TheVariants.{Lost}
 use Rattle.rds_sync.proofs.RunLemmas.{step-keeping, items-keeping, step-losing, items-losing}
 
 pub completed_group-inside : (b : Signal) (rules : RuleNumbers) (first number due : ℕ) → number < 4 → completed_group b rules first number due ≡ []

@@ -1,15 +1,5 @@
 -- The blocks of a group: read one by one, counted, and read on by one.
-use Rattle.std.proofs.Common.{◌≡◌, ◌≢◌, ℕ, zero, suc, ◌+◌, ◌-◌, ◌*◌, ◌<◌, ◌≤◌, ◌⊎◌, Option, List, [], ◌∷◌, refl, sym, ap, ap₂, ◌∙◌, arith, set, inl, inr, cond, leb, ltb}
-use Rattle.std.proofs.Math.Bool.{and-false}
-use Rattle.std.proofs.lemmas.Bool.{le-leb, lt-leb, le-ltb, lt-ltb, cases_lt}
-use Rattle.std.specs.Prelude.{◌&&◌}
-use Rattle.rds_code.specs.declared.reading.Wanted.{Wanted}
-use Rattle.rds_code.specs.declared.reading.Wanted.TheVariants.{Either}
-use Rattle.rds_stream.specs.Recording.{Signal, heard, reading_heard, reading_at}
-use Rattle.rds_sync.specs.declared.item.Block.{Block}
-use Rattle.rds_sync.specs.declared.item.Block.TheVariants.{Missing, Read}
-use Rattle.rds_sync.specs.Groups.{block_at, blocks_at, group, group_of, wanted_beside}
-use Rattle.rds_sync.specs.Rules.{RuleNumbers}
+use Rattle.rds_sync.proofs.Names.{◌≡◌, ◌≢◌, ℕ, zero, suc, ◌+◌, ◌-◌, ◌*◌, ◌<◌, ◌≤◌, ◌⊎◌, Option, List, [], ◌∷◌, refl, sym, ap, ap₂, ◌∙◌, arith, set, inl, inr, cond, leb, ltb, and-false, le-leb, lt-leb, le-ltb, lt-ltb, cases_lt, ◌&&◌, Wanted, Either, Signal, heard, reading_heard, reading_at, Block, Missing, Read, block_at, blocks_at, group, group_of, wanted_beside, RuleNumbers}
 
 module _ (b : Signal) (rules : RuleNumbers) (f x p : ℕ) where
   -- a block that was read is the window heard at its place, read

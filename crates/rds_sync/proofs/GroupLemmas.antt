@@ -1,24 +1,8 @@
 -- The facts of a group, read off its blocks.
-use Rattle.std.proofs.Common.{◌≡◌, ◌≢◌, ℕ, zero, suc, ◌+◌, ◌-◌, ◌*◌, ◌<◌, ◌≤◌, ◌⊎◌, List, [], ◌∷◌, Bool, true, false, Option, Some, None, refl, sym, ap, ◌∙◌, arith, inl, inr}
-use Rattle.std.proofs.lemmas.Bool.{cases_Bool, cases_lt, eqb-true}
-use Rattle.std.specs.Prelude.{◌==◌, ◌&&◌, is_some, slice_get}
-use Rattle.rds_code.specs.declared.offset.Offset.{Offset}
-use Rattle.rds_code.specs.declared.offset.Offset.TheVariants.{A as OA, B as OB, C, Cx, D}
-use Rattle.rds_code.specs.declared.reading.Wanted.{Wanted}
-use Rattle.rds_code.specs.declared.reading.Wanted.TheVariants.{OnlyC, OnlyCx, Either}
-use Rattle.rds_code.specs.declared.reading.Reading.{Reading}
-use Rattle.rds_code.specs.declared.reading.Reading.TheVariants.{Valid, Corrected, Lost}
-use Rattle.rds_code.specs.Offsets.{number, offset_of}
-use Rattle.rds_code.specs.Reading.{reading, corrected, by_only, corrections, wanted_offsets, information}
-use Rattle.rds_code.specs.Remainder.{rem}
-use Rattle.rds_stream.specs.Recording.{Signal, heard, reading_heard, reading_at}
-use Rattle.rds_sync.specs.declared.item.Version.{Version}
-use Rattle.rds_sync.specs.declared.item.Version.TheVariants.{A, B, Unknown}
-use Rattle.rds_sync.specs.declared.item.Block.{Block}
-use Rattle.rds_sync.specs.declared.item.Block.TheVariants.{Missing, Read}
+use Rattle.rds_sync.proofs.Names.{◌≡◌, ◌≢◌, ℕ, zero, suc, ◌+◌, ◌-◌, ◌*◌, ◌<◌, ◌≤◌, ◌⊎◌, List, [], ◌∷◌, Bool, true, false, Option, Some, None, refl, sym, ap, ◌∙◌, arith, inl, inr, cases_Bool, cases_lt, eqb-true, ◌==◌, ◌&&◌, is_some, slice_get, Offset, OA, OB, C, Cx, D, Wanted, OnlyC, OnlyCx, Either, Reading, Valid, Corrected, Lost, number, offset_of, reading, by_only, corrections, wanted_offsets, information, rem, Signal, heard, reading_heard, reading_at, Version, Unknown, Block, Missing, Read, RuleNumbers, info_of, version_of_bit, version_of_offset, version_by_bit, first_known, version, differ, in_conflict, are_complete, wanted_beside, block_at, blocks_at, group_of, group}
+use Rattle.rds_code.specs.Reading.{corrected}
+use Rattle.rds_sync.specs.declared.item.Version.TheVariants.{A, B}
 use Rattle.rds_sync.specs.declared.item.Group.{Group}
-use Rattle.rds_sync.specs.Rules.{RuleNumbers}
-use Rattle.rds_sync.specs.Groups.{info_of, version_of_bit, version_of_offset, version_by_bit, first_known, version, differ, in_conflict, are_complete, wanted_beside, block_at, blocks_at, group_of, group}
 use Rattle.rds_sync.proofs.GroupBlocks.{block_at-read, block_at-missing}
 use Rattle.rds_sync.specs.GroupLaws.{VersionIsRead, VersionsDiffer, GroupIsRead}
 

@@ -1,17 +1,7 @@
 -- How the blocks of a group came out says which of them were valid.
-use Rattle.std.proofs.Common.{◌≡◌, ℕ, zero, suc, ◌-◌, ◌*◌, ◌≤◌, List, Bool, refl, sym, ap, ap₂, ◌∙◌, arith}
-use Rattle.std.proofs.lemmas.Bool.{le-leb}
-use Rattle.std.specs.Prelude.{map, ◌&&◌, if◌then◌else◌}
-use Rattle.rds_code.specs.declared.reading.Wanted.{Wanted}
-use Rattle.rds_code.specs.declared.reading.Wanted.TheVariants.{Either}
-use Rattle.rds_stream.specs.Recording.{Signal, heard, reading_at}
-use Rattle.rds_sync.specs.declared.item.Block.TheVariants.{Missing, Read}
+use Rattle.rds_sync.proofs.Names.{◌≡◌, ℕ, zero, suc, ◌-◌, ◌*◌, ◌≤◌, List, Bool, refl, sym, ap, ap₂, ◌∙◌, arith, le-leb, ◌&&◌, if◌then◌else◌, Wanted, Either, Signal, heard, reading_at, Missing, Read, has_number, RuleNumbers, HaveRoom, block_at, wanted_beside, group, Outcome, outcome_of, was_valid, good_at}
+use Rattle.std.specs.Prelude.{map}
 use Rattle.rds_sync.specs.declared.item.Group.{Group}
-use Rattle.rds_sync.specs.Acquiring.{has_number}
-use Rattle.rds_sync.specs.Rules.{RuleNumbers}
-use Rattle.rds_sync.specs.Lawful.{HaveRoom}
-use Rattle.rds_sync.specs.Groups.{block_at, wanted_beside, group}
-use Rattle.rds_sync.specs.Inside.Outcomes.{Outcome, outcome_of, was_valid, good_at}
 use Rattle.rds_sync.proofs.HeardLemmas.{good-reading}
 use Rattle.rds_sync.proofs.OutcomeTotals.{valid_is}
 

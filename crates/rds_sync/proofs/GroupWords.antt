@@ -1,12 +1,5 @@
 -- The words of the groups that are read.
-use Rattle.std.proofs.Common.{◌≡◌, ℕ, ◌+◌, ◌*◌, ◌≤◌, List, [], ◌∷◌, refl, sym, ap, subst, map, ◌∙◌, arith}
-use Rattle.rds_stream.specs.Recording.{Signal}
-use Rattle.rds_sync.specs.declared.item.Block.{Block}
-use Rattle.rds_sync.specs.declared.item.Group.{Group as GroupRecord}
-use Rattle.rds_sync.specs.Groups.{blocks_at, group}
-use Rattle.rds_sync.specs.Inside.Outcomes.{Outcome, outcome_of}
-use Rattle.rds_sync.specs.Inside.Words.{AreShort, IsShort, blocks_in, nibble, word_of_blocks}
-use Rattle.rds_sync.specs.Rules.{RuleNumbers}
+use Rattle.rds_sync.proofs.Names.{◌≡◌, ℕ, ◌+◌, ◌*◌, ◌≤◌, List, [], ◌∷◌, refl, sym, ap, subst, map, ◌∙◌, arith, Signal, Block, GroupRecord, blocks_at, group, Outcome, outcome_of, AreShort, IsShort, blocks_in, nibble, word_of_blocks, RuleNumbers}
 use Rattle.rds_sync.proofs.GroupBlocks.{group-blocks}
 use Rattle.rds_sync.proofs.GroupOutcomes.{outcomes}
 use Rattle.rds_sync.proofs.ShortOutcomes.{BurstLaws, all_four, group-short}

@@ -1,17 +1,6 @@
 -- The blocks of a group of which all four were heard, and its word.
-use Rattle.std.proofs.Common.{◌≡◌, ◌+◌, ◌-◌, ◌*◌, ◌≤◌, ℕ, List, [], ◌∷◌, Option, None, get_or, map, refl, sym, ap, ◌∙◌, arith}
-use Rattle.rds_code.specs.Outcomes.{outcome_number}
-use Rattle.rds_code.specs.declared.reading.Wanted.{Wanted}
-use Rattle.rds_code.specs.declared.reading.Wanted.TheVariants.{Either}
-use Rattle.rds_code.specs.declared.reading.Reading.{Reading}
-use Rattle.rds_code.specs.declared.reading.Reading.TheVariants.{Valid, Corrected, Lost}
+use Rattle.rds_sync.proofs.Names.{◌≡◌, ◌+◌, ◌-◌, ◌*◌, ◌≤◌, ℕ, List, [], ◌∷◌, Option, None, get_or, map, refl, sym, ap, ◌∙◌, arith, outcome_number, Wanted, Either, Reading, Valid, Corrected, Lost, Signal, reading_heard, reading_at, Read, block_at, blocks_at, wanted_beside, outcome_of, nibble, word_of_blocks, RuleNumbers}
 use Rattle.rds_stream.specs.InARow.{four_heard}
-use Rattle.rds_stream.specs.Recording.{Signal, reading_heard, reading_at}
-use Rattle.rds_sync.specs.declared.item.Block.TheVariants.{Read}
-use Rattle.rds_sync.specs.Groups.{block_at, blocks_at, wanted_beside}
-use Rattle.rds_sync.specs.Inside.Outcomes.{outcome_of}
-use Rattle.rds_sync.specs.Inside.Words.{nibble, word_of_blocks}
-use Rattle.rds_sync.specs.Rules.{RuleNumbers}
 use Rattle.rds_sync.proofs.GroupBlocks.{block_at-read, blocks_at-read}
 
 -- a block that was read from the window heard at its place

@@ -1,17 +1,6 @@
 -- Whole groups that were heard at once.
-use Rattle.std.proofs.Common.{◌≡◌, ◌+◌, ◌-◌, ◌*◌, ◌<◌, ◌≤◌, ℕ, zero, suc, List, [], ◌∷◌, ◌++◌, Bool, false, map, refl, sym, ap, ap₂, subst, ◌∙◌, arith}
-use Rattle.rds_stream.specs.Recording.{Signal}
-use Rattle.rds_sync.specs.declared.item.Block.{Block}
+use Rattle.rds_sync.proofs.Names.{◌≡◌, ◌+◌, ◌-◌, ◌*◌, ◌<◌, ◌≤◌, ℕ, zero, suc, List, [], ◌∷◌, ◌++◌, Bool, false, map, refl, sym, ap, ap₂, subst, ◌∙◌, arith, Signal, Block, Item, GroupItem, Loss, blocks_at, group, group_of, Outcome, was_valid, outcome_of, bad_over, HasPushed, IsWhole, outcomes_at, IsLawfulBad, are_too_many, bad_after, RuleNumbers, is_valid}
 use Rattle.rds_sync.specs.declared.item.Group.{Group}
-use Rattle.rds_sync.specs.declared.item.Item.{Item}
-use Rattle.rds_sync.specs.declared.item.Item.TheVariants.{Group as GroupItem}
-use Rattle.rds_sync.specs.declared.loss.Loss.{Loss}
-use Rattle.rds_sync.specs.Groups.{blocks_at, group, group_of}
-use Rattle.rds_sync.specs.Inside.Outcomes.{Outcome, was_valid, outcome_of, bad_over}
-use Rattle.rds_sync.specs.Inside.WholeGroups.{HasPushed, IsWhole, outcomes_at}
-use Rattle.rds_sync.specs.Loss.{IsLawfulBad, are_too_many, bad_after}
-use Rattle.rds_sync.specs.Rules.{RuleNumbers}
-use Rattle.rds_sync.specs.Totals.{is_valid}
 use Rattle.rds_sync.proofs.OutcomeTotals.{valid_is}
 
 -- a property of 0, 1, 2 and 3 is one of each number below 4

@@ -1,19 +1,6 @@
 -- The windows heard in a recording determine offsets, acquiring, and the reading of a block.
-use Rattle.std.proofs.Common.{◌≡◌, ℕ, suc, ◌+◌, ◌-◌, ◌*◌, ◌<◌, ◌≤◌, List, [], ◌∷◌, Bool, true, false, Option, Some, None, refl, sym, ap, ap₂, ◌∙◌, arith, eqb}
-use Rattle.std.proofs.lemmas.Bool.{le-ltb, lt-ltb}
-use Rattle.std.specs.List.{list_any, range_with_len}
-use Rattle.rds_code.specs.declared.offset.Offset.{Offset}
-use Rattle.rds_code.specs.declared.reading.Wanted.{Wanted}
-use Rattle.rds_code.specs.declared.reading.Reading.{Reading}
-use Rattle.rds_code.specs.declared.reading.Reading.TheVariants.{Valid}
-use Rattle.rds_code.specs.Offsets.{number, offset_of}
-use Rattle.rds_code.specs.Reading.{reading, read_from, information, corrected, corrections, wanted_offsets, by_only}
-use Rattle.rds_code.specs.Remainder.{rem}
-use Rattle.rds_stream.specs.Recording.{Signal, heard, offset_heard, reading_heard, offset_at}
-use Rattle.rds_sync.specs.declared.item.Block.TheVariants.{Read}
-use Rattle.rds_sync.specs.Acquiring.{acquired, has_number, has_partner, is_in_step, is_numbered}
-use Rattle.rds_sync.specs.Rules.{RuleNumbers}
-use Rattle.rds_sync.specs.Totals.{is_valid}
+use Rattle.rds_sync.proofs.Names.{◌≡◌, ℕ, suc, ◌+◌, ◌-◌, ◌*◌, ◌<◌, ◌≤◌, List, [], ◌∷◌, Bool, true, false, Option, Some, None, refl, sym, ap, ap₂, ◌∙◌, arith, eqb, le-ltb, lt-ltb, list_any, range_with_len, Offset, Wanted, Reading, Valid, number, offset_of, reading, read_from, information, corrections, wanted_offsets, by_only, rem, Signal, heard, offset_heard, reading_heard, offset_at, Read, acquired, has_number, has_partner, is_in_step, is_numbered, RuleNumbers, is_valid}
+use Rattle.rds_code.specs.Reading.{corrected}
 use Rattle.rds_sync.proofs.LawfulLemmas.{acquired-none, acquired-some}
 
 -- a block is valid where its window has an offset of the number

@@ -1,18 +1,5 @@
 -- A part of a run over a tape is a hop: bits that give nothing lead to no state between groups but the one that they began in.
-use Rattle.std.proofs.Common.{◌≡◌, ◌≢◌, ℕ, zero, suc, ◌+◌, ◌-◌, ◌*◌, ◌<◌, ◌≤◌, ◌⊎◌, List, [], ◌∷◌, ◌++◌, Option, Some, None, refl, sym, ap, ap₂, ◌∙◌, subst, arith, inl, inr}
-use Rattle.std.proofs.lemmas.Bool.{cases_eq}
-use Rattle.rds_stream.specs.Recording.{Signal}
-use Rattle.rds_sync.specs.declared.lock.Lock.{Lock}
-use Rattle.rds_sync.specs.declared.state.State.{State}
-use Rattle.rds_sync.specs.declared.state.State.TheVariants.{Searching, Locked}
-use Rattle.rds_sync.specs.declared.item.Item.{Item}
-use Rattle.rds_sync.specs.Acquiring.{acquired}
-use Rattle.rds_sync.specs.Hop.{mark, IsHop}
-use Rattle.rds_sync.specs.Lawful.{IsLawful, IsLawfulLock, IsBetweenGroups}
-use Rattle.rds_sync.specs.Laws.{ItemsMarkChanges}
-use Rattle.rds_sync.specs.Loss.{IsLossRule}
-use Rattle.rds_sync.specs.Rules.{RuleNumbers}
-use Rattle.rds_sync.specs.Step.{run, step, items_at}
+use Rattle.rds_sync.proofs.Names.{◌≡◌, ◌≢◌, ℕ, zero, suc, ◌+◌, ◌-◌, ◌*◌, ◌<◌, ◌≤◌, ◌⊎◌, List, [], ◌∷◌, ◌++◌, Option, Some, None, refl, sym, ap, ap₂, ◌∙◌, subst, arith, inl, inr, cases_eq, Signal, Lock, State, Searching, Locked, Item, acquired, mark, IsHop, IsLawful, IsLawfulLock, IsBetweenGroups, ItemsMarkChanges, IsLossRule, RuleNumbers, run, step, items_at}
 use Rattle.rds_sync.proofs.LawfulLemmas.{lawful-step}
 use Rattle.rds_sync.proofs.RunLemmas.{step-acquiring, step-searching, run-found, run-searching, run-places}
 

@@ -1,15 +1,5 @@
 -- How many items a run gives, and that they are the report's.
-use Rattle.std.proofs.Common.{◌≡◌, ◌≢◌, ℕ, zero, suc, ◌+◌, ◌-◌, ◌*◌, ◌≤◌, List, [], ◌∷◌, ◌++◌, length, Option, Some, None, ap, ap₂, ◌∙◌, refl, arith, length-append, inl, inr}
-use Rattle.std.proofs.lemmas.Bool.{eq-eqb, ne_eqb, cases_Bool, cases_eq}
-use Rattle.rds_stream.specs.Recording.{Signal, length_of}
-use Rattle.rds_sync.specs.Acquiring.{acquired}
-use Rattle.rds_sync.specs.Loss.{IsLossRule, are_too_many}
-use Rattle.rds_sync.specs.Report.{report_items}
-use Rattle.rds_sync.specs.Step.{history_after_block, step, run, items_at, items_of_end, completed_group}
-use Rattle.rds_sync.specs.declared.item.Item.{Item}
-use Rattle.rds_sync.specs.declared.state.State.{State}
-use Rattle.rds_sync.specs.declared.state.State.TheVariants.{Searching, Locked}
-use Rattle.rds_sync.specs.Rules.{RuleNumbers}
+use Rattle.rds_sync.proofs.Names.{◌≡◌, ◌≢◌, ℕ, zero, suc, ◌+◌, ◌-◌, ◌*◌, ◌≤◌, List, [], ◌∷◌, ◌++◌, length, Option, Some, None, ap, ap₂, ◌∙◌, refl, arith, length-append, inl, inr, eq-eqb, ne_eqb, cases_Bool, cases_eq, Signal, length_of, acquired, IsLossRule, are_too_many, report_items, history_after_block, step, run, items_at, items_of_end, completed_group, Item, State, Searching, Locked, RuleNumbers}
 use Rattle.rds_sync.proofs.RunIsReport.{run_is_report}
 use Rattle.rds_sync.proofs.RunLemmas.{items-keeping, items-losing, items-searching, items-acquiring, items-waiting}
 

@@ -1,10 +1,5 @@
 -- Counts in lanes of a number.
-use Rattle.std.proofs.Common.{◌≡◌, ℕ, ◌+◌, ◌*◌, ◌/◌, ◌%◌, ◌^◌, ◌≤◌, ◌<◌, Bool, true, false, [], ◌∷◌, ap₂, arith}
-use Rattle.std.specs.Prelude.{if◌then◌else◌}
-use Rattle.std.specs.List.{list_all}
-use Rattle.rds_sync.specs.declared.totals.Totals.{Totals}
-use Rattle.rds_sync.specs.Inside.Counts.{in_lanes, AreLanes, counted, joined, group_count}
-use Rattle.rds_sync.specs.Inside.Outcomes.{Outcome, was_valid, was_lost, has_span, bits_inverted, has_info}
+use Rattle.rds_sync.proofs.Names.{◌≡◌, ℕ, ◌+◌, ◌*◌, ◌/◌, ◌%◌, ◌^◌, ◌≤◌, ◌<◌, Bool, true, false, [], ◌∷◌, ap₂, arith, if◌then◌else◌, list_all, Totals, in_lanes, AreLanes, counted, joined, group_count, Outcome, was_valid, was_lost, has_span, bits_inverted, has_info}
 use Rattle.rds_sync.proofs.TotalsLemmas.{same_counts}
 
 -- the lanes of a number

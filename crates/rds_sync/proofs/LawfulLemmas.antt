@@ -1,21 +1,5 @@
 -- Where a place acquires, and the states that follow on a lawful one.
-use Rattle.std.proofs.Common.{◌≡◌, ℕ, zero, suc, ◌+◌, ◌-◌, ◌*◌, ◌%◌, ◌<◌, ◌≤◌, Bool, true, false, Option, Some, None, refl, sym, ap, subst, ◌∙◌, arith, inl, inr, ⊎_elim}
-use Rattle.std.proofs.lemmas.Bool.{ne_eqb, eq-eqb, cases_eq, cases_lt, cases_Bool, eqb-true, lt-ltb}
-use Rattle.std.specs.Prelude.{◌==◌}
-use Rattle.std.specs.List.{list_any, range_with_len}
-use Rattle.rds_code.specs.declared.offset.Offset.{Offset}
-use Rattle.rds_code.specs.declared.offset.Offset.TheVariants.{A, B, C, Cx, D}
-use Rattle.rds_code.specs.Cycle.{number_after}
-use Rattle.rds_code.specs.Offsets.{number}
-use Rattle.rds_stream.specs.Recording.{Signal, offset_at}
-use Rattle.rds_sync.specs.declared.lock.Lock.{Lock}
-use Rattle.rds_sync.specs.declared.state.State.{State}
-use Rattle.rds_sync.specs.declared.state.State.TheVariants.{Searching, Locked}
-use Rattle.rds_sync.specs.Rules.{RuleNumbers}
-use Rattle.rds_sync.specs.Loss.{IsLossRule, IsLawfulBad, are_too_many}
-use Rattle.rds_sync.specs.Acquiring.{acquired, has_number, has_partner, is_numbered, with_partner}
-use Rattle.rds_sync.specs.Lawful.{IsLawful, IsLawfulLock}
-use Rattle.rds_sync.specs.Step.{run, step, history_after_block, lock_of, lock_after}
+use Rattle.rds_sync.proofs.Names.{◌≡◌, ℕ, zero, suc, ◌+◌, ◌-◌, ◌*◌, ◌%◌, ◌<◌, ◌≤◌, Bool, true, false, Option, Some, None, refl, sym, ap, subst, ◌∙◌, arith, inl, inr, ⊎_elim, ne_eqb, eq-eqb, cases_eq, cases_lt, cases_Bool, eqb-true, lt-ltb, ◌==◌, list_any, range_with_len, Offset, A, B, C, Cx, D, number_after, number, Signal, offset_at, Lock, State, Searching, Locked, RuleNumbers, IsLossRule, IsLawfulBad, are_too_many, acquired, has_number, has_partner, is_numbered, with_partner, IsLawful, IsLawfulLock, run, step, history_after_block, lock_of, lock_after}
 use Rattle.rds_sync.proofs.LossLemmas.{lawful_none, lawful_kept}
 use Rattle.rds_sync.proofs.RunLemmas.{step-acquiring, step-searching, step-waiting, step-keeping, step-losing}
 

@@ -1,19 +1,5 @@
 -- A lock from block to block: its state once block k was read, and the items of the run up to the next.
-use Rattle.std.proofs.Common.{◌≡◌, ◌≢◌, ℕ, suc, ◌+◌, ◌-◌, ◌*◌, ◌%◌, ◌≤◌, List, [], ◌∷◌, ◌++◌, Bool, true, false, refl, sym, ◌∙◌, arith, inl, inr, cond}
-use Rattle.std.proofs.lemmas.Bool.{ne_eqb, cases_eq, cases_lt, le-leb, lt-leb, eq-eqb}
-use Rattle.std.specs.Prelude.{◌==◌}
-use Rattle.rds_code.specs.Cycle.{number_after}
-use Rattle.rds_stream.specs.Recording.{Signal}
-use Rattle.rds_sync.specs.declared.lock.Lock.{Lock}
-use Rattle.rds_sync.specs.declared.state.State.{State}
-use Rattle.rds_sync.specs.declared.state.State.TheVariants.{Searching, Locked}
-use Rattle.rds_sync.specs.declared.item.Item.{Item}
-use Rattle.rds_sync.specs.declared.item.Item.TheVariants.{Group, LostLock}
-use Rattle.rds_sync.specs.Rules.{RuleNumbers}
-use Rattle.rds_sync.specs.Groups.{group}
-use Rattle.rds_sync.specs.Loss.{are_too_many, bad_at}
-use Rattle.rds_sync.specs.Report.{is_good, loses_at, first_of_group}
-use Rattle.rds_sync.specs.Step.{items_of_end, completed_group, lock_of, lock_after}
+use Rattle.rds_sync.proofs.Names.{◌≡◌, ◌≢◌, ℕ, suc, ◌+◌, ◌-◌, ◌*◌, ◌%◌, ◌≤◌, List, [], ◌∷◌, ◌++◌, Bool, true, false, refl, sym, ◌∙◌, arith, inl, inr, cond, ne_eqb, cases_eq, cases_lt, le-leb, lt-leb, eq-eqb, ◌==◌, number_after, Signal, Lock, State, Searching, Locked, Item, Group, LostLock, RuleNumbers, group, are_too_many, bad_at, is_good, loses_at, first_of_group, items_of_end, completed_group, lock_of, lock_after}
 use Rattle.rds_sync.proofs.LossLemmas.{loses_is}
 use Rattle.rds_sync.proofs.RunLemmas.{items-keeping, step-keeping, items-losing, step-losing}
 use Rattle.rds_sync.proofs.WholeRuns.{whole, goes, skip, skip_to_end}

@@ -1,35 +1,8 @@
 -- A longer recording that begins with another one: the run over the bits of both is one, and the group at the end goes on.
-use Rattle.std.proofs.Common.{◌≡◌, ◌≢◌, ℕ, zero, suc, ◌+◌, ◌-◌, ◌*◌, ◌%◌, ◌<◌, ◌≤◌, ◌⊎◌, List, [], ◌∷◌, ◌++◌, length, take, drop, map, Bool, true, false, cond, Option, Some, None, refl, sym, ap, ap₂, subst, ◌∙◌, arith, inl, inr, append_assoc, length-append}
-use Rattle.std.specs.Prelude.{◌||◌, ◌&&◌, ◌==◌, nat_le, nat_lt, if◌then◌else◌, min, filter, slice_get, slice_index, sum_by, is_some}
-use Rattle.std.specs.List.{list_any, range_with_len}
-use Rattle.std.specs.Int.Digits.{number_from_digits}
-use Rattle.std.proofs.lemmas.Bool.{cases_Bool, cases_eq, cases_lt, lt-ltb, le-ltb, lt-leb, eq-eqb, ne_eqb}
-use Rattle.std.proofs.lemmas.List.{drop-append-le, take-append-le, take-append-drop, length-take, length-drop}
+use Rattle.rds_sync.proofs.Names.{◌≡◌, ◌≢◌, ℕ, zero, suc, ◌+◌, ◌-◌, ◌*◌, ◌%◌, ◌<◌, ◌≤◌, ◌⊎◌, List, [], ◌∷◌, ◌++◌, length, take, drop, map, Bool, true, false, cond, Option, Some, None, refl, sym, ap, ap₂, subst, ◌∙◌, arith, inl, inr, append_assoc, length-append, ◌||◌, ◌&&◌, ◌==◌, nat_le, nat_lt, if◌then◌else◌, filter, slice_get, slice_index, sum_by, is_some, list_any, range_with_len, number_from_digits, cases_Bool, cases_eq, cases_lt, lt-ltb, le-ltb, lt-leb, eq-eqb, ne_eqb, drop-append-le, take-append-le, take-append-drop, length-take, length-drop, sum_by-append, sum_by-cons, slice_get_within, get_or_from_slice_get, Offset, Wanted, Either, number, Signal, length_of, window, is_touched_by, touched, heard, offset_heard, reading_heard, reading_at, offset_at, Block, Missing, Read, GroupOf, Item, Acquired, Group, LostLock, Lock, State, Searching, Locked, acquired, has_number, has_partner, with_partner, is_in_step, is_numbered, block_at, blocks_at, group, group_of, info_of, wanted_beside, IsLawful, IsLawfulLock, IsLossRule, bad_after, are_too_many, report_items, RuleNumbers, run, step, items_at, after_bit, items_of_end, history_after_block, completed_group, lock_after, lock_of, totals_of, sum_blocks, count_blocks, is_valid, is_lost, is_corrected_by, bits_corrected, is_group, is_complete, is_acquired, is_sync_loss}
+use Rattle.std.specs.Prelude.{min}
 use Rattle.std.proofs.lemmas.List.Folds.{list_all_at}
-use Rattle.std.proofs.lemmas.List.Sums.{sum_by-append, sum_by-cons}
-use Rattle.std.proofs.lemmas.Option.{slice_get_within, get_or_from_slice_get}
-use Rattle.rds_code.specs.declared.offset.Offset.{Offset}
-use Rattle.rds_code.specs.declared.reading.Wanted.{Wanted}
-use Rattle.rds_code.specs.declared.reading.Wanted.TheVariants.{Either}
-use Rattle.rds_code.specs.Offsets.{number}
-use Rattle.rds_stream.specs.Recording.{Signal, length_of, window, is_touched_by, touched, heard, offset_heard, reading_heard, reading_at, offset_at}
-use Rattle.rds_sync.specs.declared.item.Block.{Block}
-use Rattle.rds_sync.specs.declared.item.Block.TheVariants.{Missing, Read}
-use Rattle.rds_sync.specs.declared.item.Group.{Group as GroupOf}
-use Rattle.rds_sync.specs.declared.item.Item.{Item}
-use Rattle.rds_sync.specs.declared.item.Item.TheVariants.{Acquired, Group, LostLock}
-use Rattle.rds_sync.specs.declared.lock.Lock.{Lock}
-use Rattle.rds_sync.specs.declared.state.State.{State}
-use Rattle.rds_sync.specs.declared.state.State.TheVariants.{Searching, Locked}
-use Rattle.rds_sync.specs.Acquiring.{acquired, has_number, has_partner, with_partner, is_in_step, is_numbered}
-use Rattle.rds_sync.specs.Groups.{block_at, blocks_at, group, group_of, info_of, wanted_beside}
-use Rattle.rds_sync.specs.Lawful.{IsLawful, IsLawfulLock}
 use Rattle.rds_sync.specs.Longer.{BeginsWith, BeginningsBegin, GoesOn, EndGoesOn, OnlyAddsItems, LongerRecordingsAddItems, AreNoLess, TotalsOnlyGrow}
-use Rattle.rds_sync.specs.Loss.{IsLossRule, bad_after, are_too_many}
-use Rattle.rds_sync.specs.Report.{report_items}
-use Rattle.rds_sync.specs.Rules.{RuleNumbers}
-use Rattle.rds_sync.specs.Step.{run, step, items_at, after_bit, items_of_end, history_after_block, completed_group, lock_after, lock_of}
-use Rattle.rds_sync.specs.Totals.{totals_of, sum_blocks, count_blocks, is_valid, is_lost, is_corrected_by, bits_corrected, is_group, is_complete, is_acquired, is_sync_loss}
 use Rattle.rds_sync.proofs.GroupBlocks.{block_at-read, block_at-missing}
 use Rattle.rds_sync.proofs.LawfulLemmas.{lawful-run, lawful-due, lawful-numbers}
 use Rattle.rds_sync.proofs.RunIsReport.{run_is_report}

@@ -1,20 +1,5 @@
 -- A lock's loss history says when it is lost.
-use Rattle.std.proofs.Common.{◌≡◌, ℕ, zero, suc, ◌+◌, ◌-◌, ◌*◌, ◌%◌, ◌/◌, ◌^◌, ◌<◌, ◌≤◌, min, List, [], ◌∷◌, ◌++◌, Bool, true, false, refl, sym, ap, ap₂, ◌∙◌, arith, inl, inr, cond, ◌⊎◌}
-use Rattle.std.proofs.Math.Nat.{div-add-mod, mod-lt, mod-eq_of_lt, pow-suc}
-use Rattle.std.proofs.lemmas.Nat.{mod-mul-add}
-use Rattle.std.proofs.Math.Bool.{and-false}
-use Rattle.std.proofs.Math.Pow.{pow_pos}
-use Rattle.std.proofs.lemmas.Bool.{cases_Bool, cases_eq, cases_lt, le-leb, lt-leb, le-ltb, lt-ltb}
-use Rattle.std.proofs.lemmas.List.Sums.{sum_by_push}
-use Rattle.std.specs.Int.Count.{ones, ones_step}
-use Rattle.std.proofs.lemmas.Nat.Bits.{bit_at-zero, bit_at_lowest, bit_at-suc}
-use Rattle.std.specs.Int.{bit_at}
-use Rattle.std.specs.Prelude.{nat_le, nat_lt, not, count_by, count_ones}
-use Rattle.std.specs.List.{list_all, range_with_len}
-use Rattle.rds_sync.specs.declared.loss.Loss.{Loss}
-use Rattle.rds_sync.specs.declared.loss.Loss.TheVariants.{Run, Share}
-use Rattle.rds_sync.specs.Laws.{MasksTellBlocks}
-use Rattle.rds_sync.specs.Loss.{IsLossRule, IsLawfulBad, bad_at, bad_after, are_too_many, last_blocks, loses}
+use Rattle.rds_sync.proofs.Names.{◌≡◌, ℕ, zero, suc, ◌+◌, ◌-◌, ◌*◌, ◌%◌, ◌/◌, ◌^◌, ◌<◌, ◌≤◌, min, List, [], ◌∷◌, ◌++◌, Bool, true, false, refl, sym, ap, ap₂, ◌∙◌, arith, inl, inr, cond, ◌⊎◌, div-add-mod, mod-lt, mod-eq_of_lt, pow-suc, mod-mul-add, and-false, pow_pos, cases_Bool, cases_eq, cases_lt, le-leb, lt-leb, le-ltb, lt-ltb, sum_by_push, ones, ones_step, bit_at-zero, bit_at_lowest, bit_at-suc, bit_at, nat_le, nat_lt, not, count_by, count_ones, list_all, range_with_len, Loss, Run, Share, MasksTellBlocks, IsLossRule, IsLawfulBad, bad_at, bad_after, are_too_many, last_blocks, loses}
 
 all_pass : (p : ℕ → Bool) (c d : ℕ) → ((j : ℕ) → c ≤ j → j < c + d → p j ≡ true) → list_all p (range_with_len c d) ≡ true
 all_pass p c zero h = refl

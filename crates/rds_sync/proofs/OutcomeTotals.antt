@@ -1,17 +1,6 @@
 -- The totals of a group, from how its blocks came out.
-use Rattle.std.proofs.Common.{◌≡◌, ℕ, ◌+◌, List, [], ◌∷◌, Bool, refl, sym, ap, ap₂, ◌∙◌, add-zero}
-use Rattle.std.specs.Prelude.{sum_by, map, if◌then◌else◌, is_some, ◌&&◌}
-use Rattle.std.specs.List.{list_all}
-use Rattle.std.proofs.lemmas.List.Sums.{sum_by-cons}
-use Rattle.rds_code.specs.declared.reading.Reading.TheVariants.{Valid, Corrected, Lost}
-use Rattle.rds_sync.specs.declared.item.Block.{Block}
-use Rattle.rds_sync.specs.declared.item.Block.TheVariants.{Missing, Read}
-use Rattle.rds_sync.specs.declared.item.Group.{Group as GroupRecord}
-use Rattle.rds_sync.specs.declared.item.Item.{Item}
-use Rattle.rds_sync.specs.declared.item.Item.TheVariants.{Acquired, Group, LostLock}
-use Rattle.rds_sync.specs.Groups.{info_of}
-use Rattle.rds_sync.specs.Inside.Outcomes.{Outcome, outcome_of, was_valid, was_lost, has_span, bits_inverted, has_info, group_totals}
-use Rattle.rds_sync.specs.Totals.{totals_of, sum_blocks, count_blocks, is_valid, is_lost, is_corrected_by, bits_corrected, is_complete}
+use Rattle.rds_sync.proofs.Names.{◌≡◌, ℕ, ◌+◌, List, [], ◌∷◌, Bool, refl, sym, ap, ap₂, ◌∙◌, add-zero, sum_by, if◌then◌else◌, is_some, ◌&&◌, list_all, sum_by-cons, Valid, Corrected, Lost, Block, Missing, Read, GroupRecord, Item, Acquired, Group, LostLock, info_of, Outcome, outcome_of, was_valid, was_lost, has_span, bits_inverted, has_info, group_totals, totals_of, sum_blocks, count_blocks, is_valid, is_lost, is_corrected_by, bits_corrected, is_complete}
+use Rattle.std.specs.Prelude.{map}
 use Rattle.rds_sync.proofs.TotalsLemmas.{same_counts}
 
 -- a sum over a list from that over the images of its elements

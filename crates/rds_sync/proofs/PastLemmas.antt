@@ -1,13 +1,5 @@
 -- Spans of which some items are passed over.
-use Rattle.std.proofs.Common.{◌≡◌, ℕ, ◌+◌, ◌-◌, ◌<◌, List, [], ◌∷◌, ◌++◌, All, length, drop, Option, None, Some, sym, ap, subst, ◌∙◌, arith, append_assoc}
-use Rattle.std.specs.Iterator.{YieldsFirst}
-use Rattle.std.proofs.lemmas.List.{length-drop, drop-append-le}
-use Rattle.std.proofs.lemmas.List.Elements.{All-cons, All-head, All-tail}
-use Rattle.rds_stream.specs.Recording.{Signal}
-use Rattle.rds_sync.specs.declared.item.Item.{Item}
-use Rattle.rds_sync.specs.declared.span.Span.{Span}
-use Rattle.rds_sync.specs.Inside.Spans.{items_of, items_in, IsSpan, AreSpans, IsAt, IsPast, AreBehind, IsInFirst}
-use Rattle.rds_sync.specs.Rules.{RuleNumbers}
+use Rattle.rds_sync.proofs.Names.{◌≡◌, ℕ, ◌+◌, ◌-◌, ◌<◌, List, [], ◌∷◌, ◌++◌, All, length, drop, Option, None, Some, sym, ap, subst, ◌∙◌, arith, append_assoc, YieldsFirst, length-drop, drop-append-le, All-cons, All-head, All-tail, Signal, Item, Span, items_of, items_in, IsSpan, AreSpans, IsAt, IsPast, AreBehind, IsInFirst, RuleNumbers}
 use Rattle.rds_sync.proofs.SpanLemmas.{items_in-append, spans-behind}
 
 -- where an item is asked for, all but the first are left

@@ -1,14 +1,8 @@
 -- How many places of one phase of a sound range have an offset.
-use Rattle.std.proofs.Common.{◌≡◌, ◌≢◌, ℕ, zero, suc, [], ◌∷◌, ◌+◌, ◌*◌, ◌%◌, ◌<◌, ◌≤◌, List, Bool, length, get_or, refl, ap, arith}
-use Rattle.std.specs.Prelude.{is_some, count_by}
+use Rattle.rds_sync.proofs.Names.{◌≡◌, ◌≢◌, ℕ, zero, suc, [], ◌∷◌, ◌+◌, ◌*◌, ◌%◌, ◌<◌, ◌≤◌, List, Bool, length, get_or, refl, ap, arith, is_some, count_by, All-filter, filter_passes, length-filter, Signal, offset_at, RuleNumbers, IsSound, IsRival, sound_blocks}
 use Rattle.std.specs.List.{All, filter}
 use Rattle.std.specs.List.Sorted.{IsStrictlyIncreasing}
-use Rattle.std.proofs.lemmas.List.Elements.{All-filter, filter_passes}
 use Rattle.std.proofs.lemmas.List.Kept.{IsStrictlyIncreasing-filter}
-use Rattle.std.proofs.lemmas.List.Sums.{length-filter}
-use Rattle.rds_stream.specs.Recording.{Signal, offset_at}
-use Rattle.rds_sync.specs.Rules.{RuleNumbers}
-use Rattle.rds_sync.specs.Convergence.{IsSound, IsRival, sound_blocks}
 
 -- n places, each 26 after the one before, from the first on
 abbrev pub every_26 : ℕ → ℕ → List ℕ

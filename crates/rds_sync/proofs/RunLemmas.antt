@@ -1,18 +1,5 @@
 -- Runs: over ranges in a row, while a block is waited for, up to the next block, and through a search.
-use Rattle.std.proofs.Common.{◌≡◌, ◌≢◌, ℕ, zero, suc, ◌+◌, ◌-◌, ◌<◌, ◌≤◌, List, [], ◌∷◌, ◌++◌, true, false, Some, None, refl, sym, ap, ap₂, ◌∙◌, arith, append_assoc, append-nil, add-zero, zero-add}
-use Rattle.std.proofs.Math.Nat.{suc-add}
-use Rattle.std.proofs.lemmas.Bool.{ne_eqb, eq-eqb}
-use Rattle.rds_stream.specs.Recording.{Signal}
-use Rattle.rds_sync.specs.declared.lock.Lock.{Lock}
-use Rattle.rds_sync.specs.declared.state.State.{State}
-use Rattle.rds_sync.specs.declared.state.State.TheVariants.{Searching, Locked}
-use Rattle.rds_sync.specs.declared.item.Item.{Item}
-use Rattle.rds_sync.specs.declared.item.Item.TheVariants.{Acquired, Group, LostLock}
-use Rattle.rds_sync.specs.Rules.{RuleNumbers}
-use Rattle.rds_sync.specs.Loss.{are_too_many}
-use Rattle.rds_sync.specs.Acquiring.{acquired}
-use Rattle.rds_sync.specs.Groups.{group}
-use Rattle.rds_sync.specs.Step.{run, step, after_bit, items_at, history_after_block, completed_group, lock_after}
+use Rattle.rds_sync.proofs.Names.{◌≡◌, ◌≢◌, ℕ, zero, suc, ◌+◌, ◌-◌, ◌<◌, ◌≤◌, List, [], ◌∷◌, ◌++◌, true, false, Some, None, refl, sym, ap, ap₂, ◌∙◌, arith, append_assoc, append-nil, add-zero, zero-add, suc-add, ne_eqb, eq-eqb, Signal, Lock, State, Searching, Locked, Item, Acquired, Group, LostLock, RuleNumbers, are_too_many, acquired, group, run, step, after_bit, items_at, history_after_block, completed_group, lock_after}
 
 module _ (b : Signal) (rules : RuleNumbers) where
   -- one bit

@@ -1,16 +1,6 @@
 -- The bits of groups that were encoded: their windows are the blocks.
-use Rattle.std.proofs.Common.{◌≡◌, ℕ, zero, suc, ◌+◌, ◌-◌, ◌*◌, ◌/◌, ◌%◌, ◌^◌, ◌<◌, List, [], ◌∷◌, ◌++◌, length, Some, refl, sym, ap, ap₂, subst, ◌∙◌, arith, inl, get_or, take, drop, append-nil, append_assoc, length-append}
-use Rattle.std.proofs.Math.Nat.{pow-suc}
-use Rattle.std.proofs.Math.Seq.{drop-append_seam, take-append_seam}
-use Rattle.std.specs.Int.Bits.{xor_zero_r}
-use Rattle.std.specs.Int.Digits.{number_from_digits}
+use Rattle.rds_sync.proofs.Names.{◌≡◌, ℕ, zero, suc, ◌+◌, ◌-◌, ◌*◌, ◌/◌, ◌%◌, ◌^◌, ◌<◌, List, [], ◌∷◌, ◌++◌, length, Some, refl, sym, ap, ap₂, subst, ◌∙◌, arith, inl, get_or, take, drop, append-nil, append_assoc, length-append, pow-suc, drop-append_seam, take-append_seam, xor_zero_r, number_from_digits, Offset, A, B, D, IsBlockOf, encoded, third_offset, HasOneBlock, ungapped, heard, touched, window, IsHeardFrom, GroupIsHeard, AreHeard, binary, group_bits, bits_sent, EncodedGroupsAreHeard, EncodedGroupsAreListed}
 use Rattle.std.proofs.lemmas.Int.Digits.{number_push}
-use Rattle.rds_code.specs.declared.offset.Offset.{Offset}
-use Rattle.rds_code.specs.declared.offset.Offset.TheVariants.{A, B, D}
-use Rattle.rds_code.specs.Encoding.{IsBlockOf, encoded, third_offset}
-use Rattle.rds_code.specs.Laws.{HasOneBlock}
-use Rattle.rds_stream.specs.Recording.{ungapped, heard, touched, window}
-use Rattle.rds_sync.specs.Sent.{IsHeardFrom, GroupIsHeard, AreHeard, binary, group_bits, bits_sent, EncodedGroupsAreHeard, EncodedGroupsAreListed}
 use Rattle.rds_sync.proofs.SentGroups.{CodeLaws}
 use Rattle.rds_sync.proofs.SentRuns.{sent_groups_are_listed}
 

@@ -1,13 +1,5 @@
 -- The bits of groups that were encoded and then damaged: their windows are the blocks with their damage.
-use Rattle.std.proofs.Common.{◌≡◌, ℕ, ◌+◌, ◌-◌, ◌*◌, ◌^◌, ◌<◌, ◌⊎◌, inl, inr, List, [], ◌∷◌, ◌++◌, length, refl, sym, ap, ap₂, subst, ◌∙◌, arith, get_or, append-nil, append_assoc, length-append, bit_xor, flat_map}
-use Rattle.std.proofs.lemmas.Nat.{xor_lt}
-use Rattle.rds_code.specs.declared.offset.Offset.{Offset}
-use Rattle.rds_code.specs.declared.offset.Offset.TheVariants.{A, B, D}
-use Rattle.rds_code.specs.Bursts.{IsBurst}
-use Rattle.rds_code.specs.Encoding.{IsBlockOf, encoded, third_offset}
-use Rattle.rds_code.specs.Laws.{HasOneBlock}
-use Rattle.rds_stream.specs.Recording.{ungapped, heard}
-use Rattle.rds_sync.specs.Sent.{SentGroup, IsHeardFrom, GroupIsHeard, AreHeardDamaged, IsCorrectable, AreCorrectable, binary, bits_with_damage, DamagedGroupsAreHeard, DamagedBitsAreDecoded}
+use Rattle.rds_sync.proofs.Names.{◌≡◌, ℕ, ◌+◌, ◌-◌, ◌*◌, ◌^◌, ◌<◌, ◌⊎◌, inl, inr, List, [], ◌∷◌, ◌++◌, length, refl, sym, ap, ap₂, subst, ◌∙◌, arith, get_or, append-nil, append_assoc, length-append, bit_xor, flat_map, xor_lt, Offset, A, B, D, IsBurst, IsBlockOf, encoded, third_offset, HasOneBlock, ungapped, heard, SentGroup, IsHeardFrom, GroupIsHeard, AreHeardDamaged, IsCorrectable, AreCorrectable, binary, bits_with_damage, DamagedGroupsAreHeard, DamagedBitsAreDecoded}
 use Rattle.rds_sync.proofs.SentBits.{length-binary, heard_there, four_long}
 use Rattle.rds_sync.proofs.SentGroups.{CodeLaws}
 use Rattle.rds_sync.proofs.SentRuns.{damaged_groups_are_listed}

@@ -1,27 +1,6 @@
 -- A group that was sent is read as it was sent, where its blocks are damaged by no more than a burst each.
-use Rattle.std.proofs.Common.{◌≡◌, ◌≢◌, ℕ, zero, suc, ◌-◌, ◌*◌, ◌≤◌, [], ◌∷◌, Option, Some, Bool, false, refl, sym, ap, ap₂, ◌∙◌, arith, inl, inr, ◌⊎◌, get_or, bit_xor}
-use Rattle.std.specs.Int.{bit_at}
-use Rattle.std.specs.Int.Bits.{xor_zero_r}
-use Rattle.std.specs.Int.Count.{count_leading_zeros, count_trailing_zeros}
-use Rattle.std.specs.Prelude.{if◌then◌else◌, nat_le, ◌==◌}
-use Rattle.std.proofs.lemmas.Bool.{cases_eq, ne_eqb, cases_lt, le-leb, lt-leb}
-use Rattle.rds_code.specs.declared.offset.Offset.{Offset}
-use Rattle.rds_code.specs.declared.offset.Offset.TheVariants.{A, B, C, Cx, D}
-use Rattle.rds_code.specs.declared.reading.Wanted.{Wanted}
-use Rattle.rds_code.specs.declared.reading.Wanted.TheVariants.{OnlyC, OnlyCx, Either}
-use Rattle.rds_code.specs.declared.reading.Reading.{Reading}
-use Rattle.rds_code.specs.Bursts.{IsBurst, burst_length}
-use Rattle.rds_code.specs.Offsets.{number}
-use Rattle.rds_code.specs.Reading.{reading}
-use Rattle.rds_code.specs.Encoding.{offset_by_version, third_offset}
+use Rattle.rds_sync.proofs.Names.{◌≡◌, ◌≢◌, ℕ, zero, suc, ◌-◌, ◌*◌, ◌≤◌, [], ◌∷◌, Option, Some, Bool, false, refl, sym, ap, ap₂, ◌∙◌, arith, inl, inr, ◌⊎◌, get_or, bit_xor, bit_at, xor_zero_r, count_leading_zeros, count_trailing_zeros, if◌then◌else◌, nat_le, ◌==◌, cases_eq, ne_eqb, cases_lt, le-leb, lt-leb, Offset, A, B, C, Cx, D, Wanted, OnlyC, OnlyCx, Either, Reading, IsBurst, burst_length, number, reading, offset_by_version, third_offset, Signal, reading_heard, reading_at, Block, Missing, Read, Version, VA, VB, Unknown, version_of_offset, first_known, differ, block_at, group_of, wanted_beside, version, in_conflict, info_of, type_in, version_of_bit, IsHeardFrom, block_sent, GroupsAreCorrected}
 use Rattle.rds_code.specs.Correction.{alone, version_burst, ReadsAsSent, CorrectsBurst, CorrectsThird}
-use Rattle.rds_stream.specs.Recording.{Signal, reading_heard, reading_at}
-use Rattle.rds_sync.specs.declared.item.Block.{Block}
-use Rattle.rds_sync.specs.declared.item.Block.TheVariants.{Missing, Read}
-use Rattle.rds_sync.specs.declared.item.Version.{Version}
-use Rattle.rds_sync.specs.declared.item.Version.TheVariants.{A as VA, B as VB, Unknown}
-use Rattle.rds_sync.specs.Groups.{version_of_offset, first_known, differ, block_at, group_of, wanted_beside, version, in_conflict, info_of, type_in, version_of_bit}
-use Rattle.rds_sync.specs.Sent.{IsHeardFrom, block_sent, GroupsAreCorrected}
 use Rattle.rds_sync.proofs.GroupBlocks.{block_at-read, block_at-missing, blocks_at-read, group-blocks}
 
 -- the laws of the code that this uses

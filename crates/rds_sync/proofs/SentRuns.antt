@@ -1,32 +1,5 @@
 -- The items of a run over groups that were sent: in a lock, and from the first bit of a recording on.
-use Rattle.std.proofs.Common.{◌≡◌, ℕ, zero, suc, ◌+◌, ◌-◌, ◌*◌, ◌<◌, ◌≤◌, List, [], ◌∷◌, ◌++◌, length, Option, Some, None, Bool, true, false, refl, sym, ap, ap₂, subst, ◌∙◌, arith, inl, append-nil, bit_xor, get_or, flat_map}
-use Rattle.std.specs.Int.Bits.{xor_zero_r}
-use Rattle.std.specs.Prelude.{◌||◌, ◌==◌}
-use Rattle.std.specs.List.{list_any, range_with_len}
-use Rattle.std.proofs.lemmas.Bool.{eq-eqb, ne_eqb}
-use Rattle.rds_code.specs.declared.offset.Offset.{Offset}
-use Rattle.rds_code.specs.declared.offset.Offset.TheVariants.{A, B, C, Cx, D}
-use Rattle.rds_code.specs.Encoding.{third_offset}
-use Rattle.rds_code.specs.Offsets.{number, word, offset_of}
-use Rattle.rds_code.specs.Remainder.{rem}
-use Rattle.rds_stream.specs.Recording.{Signal, length_of, offset_heard, offset_at}
-use Rattle.rds_sync.specs.declared.item.Block.{Block}
-use Rattle.rds_sync.specs.declared.item.Group.{Group as GroupOf}
-use Rattle.rds_sync.specs.declared.item.Item.{Item}
-use Rattle.rds_sync.specs.declared.item.Item.TheVariants.{Acquired, Group}
-use Rattle.rds_sync.specs.declared.state.State.{State}
-use Rattle.rds_sync.specs.declared.state.State.TheVariants.{Searching, Locked}
-use Rattle.rds_sync.specs.declared.totals.Totals.{Totals}
-use Rattle.rds_sync.specs.Acquiring.{acquired, has_number, has_partner, is_in_step, is_numbered}
-use Rattle.rds_sync.specs.Counting.{plus}
-use Rattle.rds_sync.specs.Groups.{group}
-use Rattle.rds_sync.specs.Inside.Outcomes.{Outcome, outcome_of, was_valid, bad_over, good_at}
-use Rattle.rds_sync.specs.Loss.{IsLossRule, are_too_many, bad_after}
-use Rattle.rds_sync.specs.Report.{report_items}
-use Rattle.rds_sync.specs.Rules.{RuleNumbers}
-use Rattle.rds_sync.specs.Sent.{IsHeardFrom, GroupIsHeard, AreHeard, block_sent, group_sent, items_sent, SentGroup, four_damages, AreHeardDamaged, items_damaged, bad_after_blocks, KeepLock, SentGroupsAreListed, LockedGroupsAreListed, DamagedGroupsAreListed, SoundSignalIsDecoded}
-use Rattle.rds_sync.specs.Step.{run, items_of_end, lock_of}
-use Rattle.rds_sync.specs.Totals.{totals_of, is_valid}
+use Rattle.rds_sync.proofs.Names.{◌≡◌, ℕ, zero, suc, ◌+◌, ◌-◌, ◌*◌, ◌<◌, ◌≤◌, List, [], ◌∷◌, ◌++◌, length, Option, Some, None, Bool, true, false, refl, sym, ap, ap₂, subst, ◌∙◌, arith, inl, append-nil, bit_xor, get_or, flat_map, xor_zero_r, ◌||◌, ◌==◌, list_any, range_with_len, eq-eqb, ne_eqb, Offset, A, B, C, Cx, D, third_offset, number, word, offset_of, rem, Signal, length_of, offset_heard, offset_at, Block, GroupOf, Item, Acquired, Group, State, Searching, Locked, Totals, acquired, has_number, has_partner, is_in_step, is_numbered, plus, group, Outcome, outcome_of, was_valid, bad_over, good_at, IsLossRule, are_too_many, bad_after, report_items, RuleNumbers, IsHeardFrom, GroupIsHeard, AreHeard, block_sent, group_sent, items_sent, SentGroup, four_damages, AreHeardDamaged, items_damaged, bad_after_blocks, KeepLock, SentGroupsAreListed, LockedGroupsAreListed, DamagedGroupsAreListed, SoundSignalIsDecoded, run, items_of_end, lock_of, totals_of, is_valid}
 use Rattle.rds_sync.proofs.BadRows.{good_keeps}
 use Rattle.rds_sync.proofs.CleanGroups.{AreValid, all_valid, clean-outcomes}
 use Rattle.rds_sync.proofs.Converge.{runs_converge}

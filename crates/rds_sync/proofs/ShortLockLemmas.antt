@@ -1,32 +1,6 @@
 -- The group of a lock that its second block loses, and the run over it.
-use Rattle.std.proofs.Common.{◌≡◌, ◌≢◌, ℕ, zero, suc, ◌+◌, ◌-◌, ◌*◌, ◌%◌, ◌<◌, ◌≤◌, ◌⊎◌, List, [], ◌∷◌, ◌++◌, Bool, true, false, Some, None, map, refl, sym, ap, ◌∙◌, arith, inl, inr}
-use Rattle.std.proofs.Math.Nat.{mod-eq_of_lt, pow-suc}
-use Rattle.std.proofs.Math.Pow.{pow_pos}
-use Rattle.std.specs.Int.Count.{ones}
-use Rattle.std.specs.Prelude.{◌^◌, nat_le, count_ones}
-use Rattle.rds_code.specs.Outcomes.{outcome_number}
-use Rattle.rds_code.specs.declared.reading.Wanted.{Wanted}
-use Rattle.rds_code.specs.declared.reading.Wanted.TheVariants.{Either}
-use Rattle.rds_code.specs.declared.reading.Reading.{Reading}
-use Rattle.rds_code.specs.declared.reading.Reading.TheVariants.{Valid, Corrected, Lost}
-use Rattle.rds_stream.specs.Recording.{Signal, heard, reading_at}
-use Rattle.rds_sync.specs.declared.item.Block.{Block}
-use Rattle.rds_sync.specs.declared.item.Block.TheVariants.{Read}
-use Rattle.rds_sync.specs.declared.item.Item.{Item}
-use Rattle.rds_sync.specs.declared.item.Item.TheVariants.{Group, LostLock}
-use Rattle.rds_sync.specs.declared.state.State.{State}
-use Rattle.rds_sync.specs.declared.state.State.TheVariants.{Searching, Locked}
-use Rattle.rds_sync.specs.Acquiring.{acquired, has_number}
-use Rattle.rds_sync.specs.Groups.{block_at, blocks_at, group, wanted_beside}
-use Rattle.rds_sync.specs.Inside.Counts.{CountOf, joined, group_count, loss_count, added}
-use Rattle.rds_sync.specs.Inside.Outcomes.{Outcome, outcome_of}
-use Rattle.rds_sync.specs.Inside.ShortLocks.{IsLostAtOnce, wanted_behind, first_behind, word_of_two}
-use Rattle.rds_sync.specs.Inside.Words.{nibble, word_of_blocks, blocks_in}
-use Rattle.rds_sync.specs.Lawful.{HaveRoom}
-use Rattle.rds_sync.specs.Loss.{bad_after, are_too_many}
-use Rattle.rds_sync.specs.Rules.{RuleNumbers}
-use Rattle.rds_sync.specs.Step.{items_at, run, history_after_block, lock_after, lock_of}
-use Rattle.rds_sync.specs.Totals.{is_valid}
+use Rattle.rds_sync.proofs.Names.{◌≡◌, ◌≢◌, ℕ, zero, suc, ◌+◌, ◌-◌, ◌*◌, ◌%◌, ◌<◌, ◌≤◌, ◌⊎◌, List, [], ◌∷◌, ◌++◌, Bool, true, false, Some, None, map, refl, sym, ap, ◌∙◌, arith, inl, inr, mod-eq_of_lt, pow-suc, pow_pos, ones, nat_le, count_ones, outcome_number, Wanted, Either, Reading, Valid, Corrected, Lost, Signal, heard, reading_at, Block, Read, Item, Group, LostLock, State, Searching, Locked, acquired, has_number, block_at, blocks_at, group, wanted_beside, CountOf, joined, group_count, loss_count, added, Outcome, outcome_of, IsLostAtOnce, wanted_behind, first_behind, word_of_two, nibble, word_of_blocks, blocks_in, HaveRoom, bad_after, are_too_many, RuleNumbers, items_at, run, history_after_block, lock_after, lock_of, is_valid}
+use Rattle.std.specs.Prelude.{◌^◌}
 use Rattle.rds_sync.proofs.CleanGroups.{valid-only}
 use Rattle.rds_sync.proofs.CountLemmas.{lost-added}
 use Rattle.rds_sync.proofs.GroupBlocks.{block_at-read, block_at-missing}

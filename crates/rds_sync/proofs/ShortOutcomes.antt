@@ -1,24 +1,6 @@
 -- How the blocks of a group come out has a word of 16 bits.
-use Rattle.std.proofs.Common.{◌≡◌, ℕ, zero, suc, ◌+◌, ◌-◌, ◌*◌, ◌%◌, ◌/◌, ◌^◌, ◌<◌, ◌≤◌, min, List, [], ◌∷◌, length, get_or, Bool, true, false, Option, Some, None, refl, sym, ap, ◌∙◌, subst, arith, inl, inr, cond}
-use Rattle.std.proofs.lemmas.Bool.{cases_Bool, cases_lt, lt-leb}
-use Rattle.std.proofs.lemmas.List.Elements.{All-cons}
-use Rattle.std.proofs.Math.Nat.{pow-suc}
-use Rattle.std.specs.Prelude.{nat_le, ◌&&◌, count_ones, if◌then◌else◌}
+use Rattle.rds_sync.proofs.Names.{◌≡◌, ℕ, zero, suc, ◌+◌, ◌-◌, ◌*◌, ◌%◌, ◌/◌, ◌^◌, ◌<◌, ◌≤◌, min, List, [], ◌∷◌, length, get_or, Bool, true, false, Option, Some, None, refl, sym, ap, ◌∙◌, subst, arith, inl, inr, cond, cases_Bool, cases_lt, lt-leb, All-cons, pow-suc, nat_le, ◌&&◌, count_ones, if◌then◌else◌, ones, ones_step, count_leading_zeros, count_trailing_zeros, burst_length, bursts, IsBurst, ReadsByRule, ListsBursts, reading, Wanted, Either, Reading, Valid, Corrected, Lost, Signal, heard, reading_heard, reading_at, Missing, Read, RuleNumbers, group, block_at, wanted_beside, Outcome, corrected, outcome_of, IsShort, AreShort}
 use Rattle.std.specs.List.{All}
-use Rattle.std.specs.Int.Count.{ones, ones_step, count_leading_zeros, count_trailing_zeros}
-use Rattle.rds_code.specs.Bursts.{burst_length, bursts, IsBurst}
-use Rattle.rds_code.specs.Laws.{ReadsByRule, ListsBursts}
-use Rattle.rds_code.specs.Reading.{reading}
-use Rattle.rds_code.specs.declared.reading.Wanted.{Wanted}
-use Rattle.rds_code.specs.declared.reading.Wanted.TheVariants.{Either}
-use Rattle.rds_code.specs.declared.reading.Reading.{Reading}
-use Rattle.rds_code.specs.declared.reading.Reading.TheVariants.{Valid, Corrected, Lost}
-use Rattle.rds_stream.specs.Recording.{Signal, heard, reading_heard, reading_at}
-use Rattle.rds_sync.specs.declared.item.Block.TheVariants.{Missing, Read}
-use Rattle.rds_sync.specs.Rules.{RuleNumbers}
-use Rattle.rds_sync.specs.Groups.{group, block_at, wanted_beside}
-use Rattle.rds_sync.specs.Inside.Outcomes.{Outcome, corrected, outcome_of}
-use Rattle.rds_sync.specs.Inside.Words.{IsShort, AreShort}
 use Rattle.rds_sync.proofs.GroupOutcomes.{outcomes}
 
 -- a span and a number of bits that have four bits

@@ -1,14 +1,5 @@
 -- Spans: those that are passed over, and those of a list with more after them.
-use Rattle.std.proofs.Common.{◌≡◌, ◌≢◌, ℕ, ◌+◌, ◌-◌, ◌<◌, ◌≤◌, List, [], ◌∷◌, ◌++◌, All, length, drop, Option, Some, None, refl, sym, ap, subst, ◌∙◌, arith, length-append, append_assoc, append-nil}
-use Rattle.std.specs.Prelude.{MatchOption}
-use Rattle.std.specs.Iterator.{YieldsFirst}
-use Rattle.std.proofs.Math.Seq.{drop-append-add}
-use Rattle.std.proofs.lemmas.List.Elements.{All-append, All-cons, All-nil}
-use Rattle.rds_stream.specs.Recording.{Signal}
-use Rattle.rds_sync.specs.declared.item.Item.{Item}
-use Rattle.rds_sync.specs.declared.span.Span.{Span}
-use Rattle.rds_sync.specs.Inside.Spans.{items_of, items_in, IsSpan, AreSpans}
-use Rattle.rds_sync.specs.Rules.{RuleNumbers}
+use Rattle.rds_sync.proofs.Names.{◌≡◌, ◌≢◌, ℕ, ◌+◌, ◌-◌, ◌<◌, ◌≤◌, List, [], ◌∷◌, ◌++◌, All, length, drop, Option, Some, None, refl, sym, ap, subst, ◌∙◌, arith, length-append, append_assoc, append-nil, MatchOption, YieldsFirst, drop-append-add, All-append, All-cons, All-nil, Signal, Item, Span, items_of, items_in, IsSpan, AreSpans, RuleNumbers}
 
 module _ (b : Signal) (rules : RuleNumbers) where
   -- the items of spans in two rows

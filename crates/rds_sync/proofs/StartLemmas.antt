@@ -1,15 +1,5 @@
 -- How many items come before a span, and which come from it on.
-use Rattle.std.proofs.Common.{◌≡◌, ℕ, All, ◌+◌, ◌-◌, ◌<◌, ◌≤◌, ◌^◌, min, List, ◌++◌, length, take, drop, get_or, sym, ap, subst, ◌∙◌, arith, length-append}
-use Rattle.std.proofs.Math.Nat.{min-eq_left}
-use Rattle.std.proofs.Math.Seq.{drop-append-add, take-length}
-use Rattle.std.proofs.lemmas.List.{length-drop, take-append-drop, take_more}
-use Rattle.std.proofs.lemmas.List.Elements.{All-drop}
-use Rattle.rds_stream.specs.Recording.{Signal}
-use Rattle.rds_sync.specs.declared.item.Item.{Item}
-use Rattle.rds_sync.specs.declared.span.Span.{Span}
-use Rattle.rds_sync.specs.Decoding.{ItemsOf, listed}
-use Rattle.rds_sync.specs.Inside.Spans.{IsAt, IsFound, IsSpan, items_in, items_of}
-use Rattle.rds_sync.specs.Rules.{RuleNumbers}
+use Rattle.rds_sync.proofs.Names.{◌≡◌, ℕ, All, ◌+◌, ◌-◌, ◌<◌, ◌≤◌, ◌^◌, min, List, ◌++◌, length, take, drop, get_or, sym, ap, subst, ◌∙◌, arith, length-append, min-eq_left, drop-append-add, take-length, length-drop, take-append-drop, take_more, All-drop, Signal, Item, Span, ItemsOf, listed, IsAt, IsFound, IsSpan, items_in, items_of, RuleNumbers}
 use Rattle.rds_sync.proofs.SpanLemmas.{items_in-append, items_in-push}
 
 module _ (b : Signal) (rules : RuleNumbers) where

@@ -1,18 +1,15 @@
 -- A run that goes on, as it is kept.
-use Rattle.std.proofs.Common.{◌≡◌, ℕ, ◌-◌, ◌*◌, ◌^◌, ◌≤◌, List, ◌++◌, length, refl, sym, ap, ap₂, subst, ◌∙◌, arith, append_assoc, append-nil, length-append}
-use Rattle.rds_stream.specs.Recording.{Signal, length_of}
-use Rattle.rds_sync.specs.declared.item.Item.{Item}
-use Rattle.rds_sync.specs.declared.state.State.{State}
-use Rattle.rds_sync.specs.Counting.{IsAtMost}
-use Rattle.rds_sync.specs.Inside.CountRuns.{IsCountStretch}
-use Rattle.rds_sync.specs.Inside.Counts.{CountOf, count_of, joined}
-use Rattle.rds_sync.specs.Inside.Tally.{IsTally}
-use Rattle.rds_sync.specs.Rules.{RuleNumbers}
-use Rattle.rds_sync.specs.Step.{run}
-use Rattle.rds_sync.specs.Tally.{TallyOf, gone_on}
+use Rattle.rds_sync.proofs.Names.{◌≡◌, ℕ, ◌-◌, ◌*◌, ◌^◌, ◌≤◌, List, ◌++◌, length, refl, sym, ap, ap₂, subst, ◌∙◌, arith, append_assoc, append-nil, length-append, Signal, length_of, Item, State, IsAtMost, IsCountStretch, CountOf, count_of, joined, IsTally, RuleNumbers, run, TallyOf, gone_on}
 use Rattle.rds_sync.proofs.CountLemmas.{counted-together}
 use Rattle.rds_sync.proofs.ItemLemmas.{run_items-few}
 use Rattle.rds_sync.proofs.RunLemmas.{run-further, run-places}
+
+-- a part of a run, by other names of its recording and its rules
+pub stretch-over : {b read : Signal} {rules numbers : RuleNumbers} {s : State} {place to : ℕ} {before after : CountOf} {reached : ℕ × State} → b ≡ read → rules ≡ numbers
+    → IsCountStretch read numbers s place to before reached after → IsCountStretch b rules s place to before reached after
+stretch-over {read = read} {rules = rules} {s = s} {place = place} {to = to} {before = before} {after = after} {reached = reached} source same came =
+    subst (λ (signal : Signal). IsCountStretch signal rules s place to before reached after) (sym source)
+    (subst (λ (n : RuleNumbers). IsCountStretch read n s place to before reached after) (sym same) came)
 
 module _ (b : Signal) (rules : RuleNumbers) (list : List Item) (a : ℕ) (s : State) (place : ℕ) (t : State) (first counts : CountOf)
     (is : IsTally b rules list a s place t first counts) where

@@ -1,17 +1,6 @@
 -- Runs to the end of a recording, with the item of the end: what they give up to the first place that acquires, and up to the next
 -- block of a lock.
-use Rattle.std.proofs.Common.{◌≡◌, ◌≢◌, ℕ, zero, suc, ◌+◌, ◌<◌, ◌≤◌, List, [], ◌++◌, Option, Some, None, refl, ap, ap₂, ◌∙◌, arith, append_assoc, add-zero, zero-add}
-use Rattle.std.proofs.Math.Nat.{suc-add}
-use Rattle.std.specs.Prelude.{MatchOption}
-use Rattle.rds_stream.specs.Recording.{Signal}
-use Rattle.rds_sync.specs.declared.lock.Lock.{Lock}
-use Rattle.rds_sync.specs.declared.state.State.{State}
-use Rattle.rds_sync.specs.declared.state.State.TheVariants.{Searching, Locked}
-use Rattle.rds_sync.specs.declared.item.Item.{Item}
-use Rattle.rds_sync.specs.Rules.{RuleNumbers}
-use Rattle.rds_sync.specs.Acquiring.{acquired}
-use Rattle.rds_sync.specs.Step.{run, step, items_at, items_of_end}
-use Rattle.rds_sync.specs.Report.{first_lock}
+use Rattle.rds_sync.proofs.Names.{◌≡◌, ◌≢◌, ℕ, zero, suc, ◌+◌, ◌<◌, ◌≤◌, List, [], ◌++◌, Option, Some, None, refl, ap, ap₂, ◌∙◌, arith, append_assoc, add-zero, zero-add, suc-add, MatchOption, Signal, Lock, State, Searching, Locked, Item, RuleNumbers, acquired, run, step, items_at, items_of_end, first_lock}
 use Rattle.rds_sync.proofs.RunLemmas.{items-searching, step-searching, items-waiting, step-waiting}
 
 module _ (b : Signal) (rules : RuleNumbers) where

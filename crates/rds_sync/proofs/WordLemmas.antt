@@ -1,7 +1,5 @@
 -- How the blocks of a group came out, as a word of 16 bits.
-use Rattle.std.proofs.Common.{◌≡◌, ℕ, zero, suc, ◌+◌, ◌*◌, ◌/◌, ◌%◌, ◌≤◌, List, [], ◌∷◌, refl, ap, ◌∙◌, arith}
-use Rattle.rds_sync.specs.Inside.Outcomes.{Outcome, missing, valid, lost, corrected}
-use Rattle.rds_sync.specs.Inside.Words.{nibble, outcome_at, IsShort, AreShort, word_of_blocks, blocks_in}
+use Rattle.rds_sync.proofs.Names.{◌≡◌, ℕ, zero, suc, ◌+◌, ◌*◌, ◌/◌, ◌%◌, ◌≤◌, List, [], ◌∷◌, refl, ap, ◌∙◌, arith, Outcome, missing, valid, lost, corrected, nibble, outcome_at, IsShort, AreShort, word_of_blocks, blocks_in}
 
 -- four bits tell an outcome
 pub record IsNibble (o : Outcome) : Type 0 where

@@ -1,10 +1,4 @@
-use Rattle.std.proofs.Common.{◌≡◌, ◌≤◌, ℕ, Bool, true, false, Option, Some, None, ap, sym, ◌∙◌}
-use Rattle.std.specs.List.{list_any, range_with_len}
-use Rattle.rds_code.specs.declared.offset.Offset.{Offset}
-use Rattle.rds_code.specs.Offsets.{number}
-use Rattle.rds_stream.specs.Recording.{Signal, heard, offset_heard, offset_at}
-use Rattle.rds_sync.specs.Rules.{RuleNumbers}
-use Rattle.rds_sync.specs.Acquiring.{acquired, has_partner}
+use Rattle.rds_sync.proofs.Names.{◌≡◌, ◌≤◌, ℕ, Bool, true, false, Option, Some, None, ap, sym, ◌∙◌, list_any, range_with_len, Offset, number, Signal, heard, offset_heard, offset_at, RuleNumbers, acquired, has_partner}
 use Rattle.rds_sync.proofs.LawfulLemmas.{acquired-none}
 use Rattle.rds_sync.proofs.HeardLemmas.{off-heard, acquired-early, acquired-offset}
 use Rattle.rds_sync.proofs.acquiring.acquire.Goals as goal

@@ -1,6 +1,4 @@
-use Rattle.std.proofs.Common.{◌≡◌, ◌+◌, false, ap, sym, ◌∙◌, arith}
-use Rattle.rds_stream.specs.Recording.{Signal}
-use Rattle.rds_sync.specs.Acquiring.{has_partner}
+use Rattle.rds_sync.proofs.Names.{◌≡◌, ◌+◌, false, ap, sym, ◌∙◌, arith, Signal, has_partner}
 use Rattle.rds_sync.proofs.HeardLemmas.{any-later}
 use Rattle.rds_sync.proofs.acquiring.has_partner.Goals as goal
 

@@ -1,7 +1,4 @@
-use Rattle.std.proofs.Common.{◌≡◌, ◌≤◌, ◌+◌, ◌-◌, ℕ}
-use Rattle.std.specs.List.{list_any, range_with_len}
-use Rattle.rds_stream.specs.Recording.{Signal}
-use Rattle.rds_sync.specs.Acquiring.{has_partner}
+use Rattle.rds_sync.proofs.Names.{◌≡◌, ◌≤◌, ◌+◌, ◌-◌, ℕ, list_any, range_with_len, Signal, has_partner}
 use Rattle.rds_sync.proofs.acquiring.has_partner.Given as goal
 
 pub record IsTried (bits now : Signal) (place number distance end before reads : ℕ) : Type 0 where

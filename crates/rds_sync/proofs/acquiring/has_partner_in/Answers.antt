@@ -1,5 +1,4 @@
-use Rattle.std.proofs.Common.{◌+◌, sym, ◌∙◌, arith}
-use Rattle.rds_sync.specs.Acquiring.{has_partner}
+use Rattle.rds_sync.proofs.Names.{◌+◌, sym, ◌∙◌, arith, has_partner}
 use Rattle.rds_sync.proofs.HeardLemmas.{any-later}
 use Rattle.rds_sync.proofs.acquiring.has_partner_in.Goals as goal
 

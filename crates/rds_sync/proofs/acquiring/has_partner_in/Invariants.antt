@@ -1,6 +1,4 @@
-use Rattle.std.proofs.Common.{◌≡◌, ◌-◌}
-use Rattle.std.specs.List.{list_any, range_with_len}
-use Rattle.rds_sync.specs.Acquiring.{has_partner}
+use Rattle.rds_sync.proofs.Names.{◌≡◌, ◌-◌, list_any, range_with_len, has_partner}
 use Rattle.rds_sync.proofs.acquiring.has_partner_in.Given as goal
 
 -- the distances that are left decide

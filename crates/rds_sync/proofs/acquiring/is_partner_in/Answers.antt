@@ -1,5 +1,4 @@
-use Rattle.std.proofs.Common.{◌<◌, ◌*◌, ◌-◌, sym, ◌∙◌, arith}
-use Rattle.std.proofs.lemmas.Bool.{lt-leb}
+use Rattle.rds_sync.proofs.Names.{◌<◌, ◌*◌, ◌-◌, sym, ◌∙◌, arith, lt-leb}
 use Rattle.rds_sync.proofs.HeardLemmas.{has_partner-early}
 use Rattle.rds_sync.proofs.acquiring.is_partner_in.Goals as goal
 

@@ -1,5 +1,4 @@
-use Rattle.std.proofs.Common.{ℕ, Option, ap, sym, ◌∙◌}
-use Rattle.rds_stream.specs.Recording.{offset_heard}
+use Rattle.rds_sync.proofs.Names.{ℕ, Option, ap, sym, ◌∙◌, offset_heard}
 use Rattle.rds_sync.proofs.HeardLemmas.{off-early, off-heard}
 use Rattle.rds_sync.proofs.acquiring.offset_at.Goals as goal
 

@@ -1,7 +1,4 @@
-use Rattle.std.proofs.Common.{◌≡◌, ◌-◌, sym, subst}
-use Rattle.rds_sync.specs.declared.state.State.{State}
-use Rattle.rds_sync.specs.Convergence.{IsConverged}
-use Rattle.rds_sync.specs.Step.{run}
+use Rattle.rds_sync.proofs.Names.{◌≡◌, ◌-◌, sym, subst, State, IsConverged, run}
 use Rattle.rds_sync.proofs.collected.run.Goals as goal
 
 pub returns-clause-converged : goal.returns-clause-converged

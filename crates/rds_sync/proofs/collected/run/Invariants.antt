@@ -1,5 +1,4 @@
-use Rattle.std.proofs.Common.{◌≡◌, ◌++◌, ◌-◌}
-use Rattle.rds_sync.specs.Step.{run}
+use Rattle.rds_sync.proofs.Names.{◌≡◌, ◌++◌, ◌-◌, run}
 use Rattle.rds_sync.proofs.collected.run.Given as goal
 
 -- the items that were collected, with those still to come, are the run's

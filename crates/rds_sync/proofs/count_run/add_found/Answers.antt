@@ -1,11 +1,4 @@
-use Rattle.std.proofs.Common.{◌≡◌, ℕ, List, ◌∷◌, true, sym, ap, ◌∙◌}
-use Rattle.rds_sync.specs.declared.item.Item.{Item}
-use Rattle.rds_sync.specs.declared.item.Item.TheVariants.{Acquired}
-use Rattle.rds_sync.specs.Acquiring.{has_number}
-use Rattle.rds_sync.specs.Groups.{group}
-use Rattle.rds_sync.specs.Inside.Counts.{CountOf, joined, group_count, acquired_count, added}
-use Rattle.rds_sync.specs.Inside.Words.{blocks_in}
-use Rattle.rds_sync.specs.Step.{completed_group}
+use Rattle.rds_sync.proofs.Names.{◌≡◌, ℕ, List, ◌∷◌, true, sym, ap, ◌∙◌, Item, Acquired, has_number, group, CountOf, joined, group_count, acquired_count, added, blocks_in, completed_group}
 use Rattle.rds_sync.proofs.CleanGroups.{last-alone}
 use Rattle.rds_sync.proofs.CountLemmas.{group-added}
 use Rattle.rds_sync.proofs.LawfulLemmas.{acquired-number}

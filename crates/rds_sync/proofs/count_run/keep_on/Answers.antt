@@ -1,14 +1,4 @@
-use Rattle.std.proofs.Common.{◌≡◌, ℕ, ◌-◌, ◌<◌, ◌≤◌, List, ◌++◌, refl, sym, ap, ◌∙◌, arith, inl}
-use Rattle.rds_stream.specs.Recording.{Signal}
-use Rattle.rds_sync.specs.declared.lock.Lock.{Lock}
-use Rattle.rds_sync.specs.declared.item.Item.{Item}
-use Rattle.rds_sync.specs.declared.state.State.{State}
-use Rattle.rds_sync.specs.declared.state.State.TheVariants.{Locked}
-use Rattle.rds_sync.specs.Inside.Counts.{CountOf, added}
-use Rattle.rds_sync.specs.Inside.CountRuns.{HasCountedOn, IsCountStretch}
-use Rattle.rds_sync.specs.Lawful.{IsLawful, IsLawfulLock}
-use Rattle.rds_sync.specs.Rules.{RuleNumbers}
-use Rattle.rds_sync.specs.Step.{run}
+use Rattle.rds_sync.proofs.Names.{◌≡◌, ℕ, ◌-◌, ◌<◌, ◌≤◌, List, ◌++◌, refl, sym, ap, ◌∙◌, arith, inl, Signal, Lock, Item, State, Locked, CountOf, added, HasCountedOn, IsCountStretch, IsLawful, IsLawfulLock, RuleNumbers, run}
 use Rattle.rds_sync.proofs.RunLemmas.{run-early, run-places}
 use Rattle.rds_sync.proofs.count_run.keep_on.Goals as goal
 

@@ -1,11 +1,4 @@
-use Rattle.std.proofs.Common.{◌≡◌, ◌≤◌, ◌-◌, ℕ, List}
-use Rattle.rds_stream.specs.Recording.{Signal}
-use Rattle.rds_stream.specs.ValidWindows.{WindowsLeft}
-use Rattle.rds_sync.specs.declared.item.Item.{Item}
-use Rattle.rds_sync.specs.declared.state.State.TheVariants.{Searching}
-use Rattle.rds_sync.specs.Inside.Counts.{CountOf, added}
-use Rattle.rds_sync.specs.Rules.{RuleNumbers}
-use Rattle.rds_sync.specs.Step.{run}
+use Rattle.rds_sync.proofs.Names.{◌≡◌, ◌≤◌, ◌-◌, ℕ, List, Signal, WindowsLeft, Item, Searching, CountOf, added, RuleNumbers, run}
 use Rattle.rds_sync.proofs.count_run.search_on.Given as goal
 
 -- the run up to the windows that are left searches again, and what it gave is kept; what is read is the recording

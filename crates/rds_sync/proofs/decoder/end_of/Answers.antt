@@ -1,9 +1,4 @@
-use Rattle.std.proofs.Common.{◌-◌, List, ap, sym, subst, refl, ◌∙◌, arith}
-use Rattle.rds_stream.specs.Recording.{Signal}
-use Rattle.rds_sync.specs.declared.item.Item.{Item}
-use Rattle.rds_sync.specs.declared.state.State.{State}
-use Rattle.rds_sync.specs.Step.{run}
-use Rattle.rds_sync.specs.Stretch.{IsStretch}
+use Rattle.rds_sync.proofs.Names.{◌-◌, List, ap, sym, subst, refl, ◌∙◌, arith, Signal, Item, State, run, IsStretch}
 use Rattle.rds_sync.proofs.RunLemmas.{run-further}
 use Rattle.rds_sync.proofs.decoder.end_of.Goals as goal
 

@@ -1,9 +1,4 @@
-use Rattle.std.proofs.Common.{◌≡◌, ◌≤◌, ◌-◌, ℕ}
-use Rattle.rds_stream.specs.Recording.{Signal}
-use Rattle.rds_sync.specs.declared.state.State.{State}
-use Rattle.rds_sync.specs.Rules.{RuleNumbers}
-use Rattle.rds_sync.specs.Lawful.{IsLawful}
-use Rattle.rds_sync.specs.Step.{run}
+use Rattle.rds_sync.proofs.Names.{◌≡◌, ◌≤◌, ◌-◌, ℕ, Signal, State, RuleNumbers, IsLawful, run}
 use Rattle.rds_sync.proofs.decoder.end_of.Given as goal
 
 -- the run has come to this place, by a reader of the recording

@@ -1,6 +1,4 @@
-use Rattle.std.proofs.Common.{◌≡◌, ◌+◌, ◌-◌, ◌*◌, ℕ, ap, ap₂, ◌∙◌, arith}
-use Rattle.rds_stream.specs.Recording.{Signal}
-use Rattle.rds_sync.specs.Groups.{blocks_at}
+use Rattle.rds_sync.proofs.Names.{◌≡◌, ◌+◌, ◌-◌, ◌*◌, ℕ, ap, ap₂, ◌∙◌, arith, Signal, blocks_at}
 use Rattle.rds_sync.proofs.follow.blocks_before.Goals as goal
 
 pub loop-number-preserved : goal.loop-number-preserved

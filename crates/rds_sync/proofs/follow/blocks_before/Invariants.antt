@@ -1,5 +1,4 @@
-use Rattle.std.proofs.Common.{◌≡◌, ◌≤◌, ◌+◌, ◌-◌, ◌*◌}
-use Rattle.rds_sync.specs.Groups.{blocks_at}
+use Rattle.rds_sync.proofs.Names.{◌≡◌, ◌≤◌, ◌+◌, ◌-◌, ◌*◌, blocks_at}
 use Rattle.rds_sync.proofs.follow.blocks_before.Given as goal
 
 -- the blocks before this number were read

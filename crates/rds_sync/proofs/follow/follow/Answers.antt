@@ -1,6 +1,4 @@
-use Rattle.rds_sync.specs.declared.loss.Loss.{Loss}
-use Rattle.std.proofs.Common.{subst, sym}
-use Rattle.rds_sync.specs.Inside.Due.{IsAfter}
+use Rattle.rds_sync.proofs.Names.{Loss, subst, sym, IsAfter}
 use Rattle.rds_sync.proofs.DueLemmas.{step-due}
 use Rattle.rds_sync.proofs.DueItems.{given-due, followed-due}
 use Rattle.rds_sync.proofs.follow.follow.Goals as goal

@@ -1,6 +1,4 @@
-use Rattle.std.proofs.Common.{List, ap, ◌-◌, ◌*◌, ◌∙◌}
-use Rattle.rds_sync.specs.declared.item.Block.{Block}
-use Rattle.rds_sync.specs.Groups.{group_of}
+use Rattle.rds_sync.proofs.Names.{List, ap, ◌-◌, ◌*◌, ◌∙◌, Block, group_of}
 use Rattle.rds_sync.proofs.follow.group_so_far.Goals as goal
 
 pub returns-clause-group : goal.returns-clause-group

@@ -1,9 +1,4 @@
-use Rattle.std.proofs.Common.{◌≡◌, ◌-◌, ℕ, List, Option, get_or, set, ap, ◌∙◌, arith}
-use Rattle.rds_stream.specs.Recording.{reading_heard}
-use Rattle.rds_sync.specs.declared.item.Block.{Block}
-use Rattle.rds_sync.specs.declared.item.Block.TheVariants.{Read}
-use Rattle.rds_code.specs.declared.reading.Wanted.TheVariants.{Either}
-use Rattle.rds_sync.specs.Groups.{block_at, wanted_beside}
+use Rattle.rds_sync.proofs.Names.{◌≡◌, ◌-◌, ℕ, List, Option, get_or, set, ap, ◌∙◌, arith, reading_heard, Block, Read, Either, block_at, wanted_beside}
 use Rattle.rds_sync.proofs.GroupBlocks.{blocks_at-next}
 use Rattle.rds_sync.proofs.HeardLemmas.{good-reading}
 use Rattle.rds_sync.proofs.follow.read_due.Goals as goal

@@ -1,7 +1,4 @@
-use Rattle.std.proofs.Common.{◌≡◌, ◌+◌, ◌<◌, ℕ, zero, suc, List, Bool, false, sym, ap, ◌∙◌, arith}
-use Rattle.rds_sync.specs.Loss.{are_too_many, bad_after}
-use Rattle.rds_sync.specs.Inside.Outcomes.{Outcome, bad_over, good_at}
-use Rattle.rds_sync.specs.Inside.Words.{blocks_in}
+use Rattle.rds_sync.proofs.Names.{◌≡◌, ◌+◌, ◌<◌, ℕ, zero, suc, List, Bool, false, sym, ap, ◌∙◌, arith, are_too_many, bad_after, Outcome, bad_over, good_at, blocks_in}
 use Rattle.rds_sync.proofs.four_blocks.bad_after_each.Goals as goal
 
 -- a property of 0, 1, 2 and 3 is one of each number below 4

@@ -1,6 +1,4 @@
-use Rattle.std.proofs.Common.{subst}
-use Rattle.rds_sync.specs.declared.loss.Loss.{Loss}
-use Rattle.rds_sync.specs.Loss.{IsLossRule}
+use Rattle.rds_sync.proofs.Names.{subst, Loss, IsLossRule}
 use Rattle.rds_sync.proofs.BadRows.{clean_kept}
 use Rattle.rds_sync.proofs.four_blocks.bad_after_four.Goals as goal
 

@@ -1,8 +1,4 @@
-use Rattle.std.proofs.Common.{◌+◌, ◌*◌, ℕ, [], ◌∷◌, None, get_or, refl}
-use Rattle.rds_code.specs.declared.reading.Wanted.TheVariants.{Either}
-use Rattle.rds_code.specs.declared.reading.Reading.{Reading}
-use Rattle.rds_stream.specs.Recording.{reading_heard}
-use Rattle.rds_sync.specs.declared.item.Block.TheVariants.{Read}
+use Rattle.rds_sync.proofs.Names.{◌+◌, ◌*◌, ℕ, [], ◌∷◌, None, get_or, refl, Either, Reading, reading_heard, Read}
 use Rattle.rds_sync.proofs.GroupWords.{word-tells}
 use Rattle.rds_sync.proofs.HeardBlocks.{heard-blocks, word-of-outcomes}
 use Rattle.rds_sync.proofs.four_blocks.word_heard.Goals as goal

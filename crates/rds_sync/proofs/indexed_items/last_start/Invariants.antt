@@ -1,8 +1,4 @@
-use Rattle.std.proofs.Common.{◌-◌, ◌≤◌, All, List, length}
-use Rattle.rds_stream.specs.Recording.{Signal}
-use Rattle.rds_sync.specs.declared.span.Span.{Span}
-use Rattle.rds_sync.specs.Inside.Spans.{IsStart}
-use Rattle.rds_sync.specs.Rules.{RuleNumbers}
+use Rattle.rds_sync.proofs.Names.{◌-◌, ◌≤◌, All, List, length, Signal, Span, IsStart, RuleNumbers}
 use Rattle.rds_sync.proofs.indexed_items.last_start.Given as goal
 
 abbrev pub invariant-loop-low : goal.invariant-loop-low

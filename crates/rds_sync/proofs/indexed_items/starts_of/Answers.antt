@@ -1,7 +1,4 @@
-use Rattle.std.proofs.Common.{◌<◌, ◌∷◌, [], All, List, Vec, Global, length, sym, subst, ap, ◌∙◌, arith}
-use Rattle.std.proofs.lemmas.List.Elements.{All-append, All-cons, All-nil}
-use Rattle.rds_sync.specs.declared.span.Start.{Start}
-use Rattle.rds_sync.specs.Inside.Spans.{IsStart}
+use Rattle.rds_sync.proofs.Names.{◌<◌, ◌∷◌, [], All, List, Vec, Global, length, sym, subst, ap, ◌∙◌, arith, All-append, All-cons, All-nil, Start, IsStart}
 use Rattle.rds_sync.proofs.StartLemmas.{counted_next}
 use Rattle.rds_sync.proofs.indexed_items.starts_of.Goals.{then-span-eq0+in_ok-push, else-span-eq0}
 use Rattle.rds_sync.proofs.indexed_items.starts_of.Goals as goal

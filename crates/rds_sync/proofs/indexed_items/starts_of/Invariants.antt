@@ -1,9 +1,4 @@
-use Rattle.std.proofs.Common.{◌≡◌, ◌<◌, ◌^◌, All, List, length, take, ℕ}
-use Rattle.rds_stream.specs.Recording.{Signal}
-use Rattle.rds_sync.specs.declared.span.Start.{Start}
-use Rattle.rds_sync.specs.declared.span.Span.{Span}
-use Rattle.rds_sync.specs.Inside.Spans.{IsSpan, IsStart, items_in}
-use Rattle.rds_sync.specs.Rules.{RuleNumbers}
+use Rattle.rds_sync.proofs.Names.{◌≡◌, ◌<◌, ◌^◌, All, List, length, take, ℕ, Signal, Start, Span, IsSpan, IsStart, items_in, RuleNumbers}
 use Rattle.rds_sync.proofs.indexed_items.starts_of.Given as goal
 
 -- `before` items come before the next span, and all entries kept so far are starts

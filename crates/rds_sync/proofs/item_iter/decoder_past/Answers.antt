@@ -1,7 +1,4 @@
-use Rattle.std.proofs.Common.{◌-◌, List, drop, ap, ◌∙◌}
-use Rattle.std.proofs.lemmas.List.{drop-drop}
-use Rattle.rds_sync.specs.declared.item.Item.{Item}
-use Rattle.rds_sync.specs.Step.{run}
+use Rattle.rds_sync.proofs.Names.{◌-◌, List, drop, ap, ◌∙◌, drop-drop, Item, run}
 use Rattle.rds_sync.proofs.PastLemmas.{one_given}
 use Rattle.rds_sync.proofs.item_iter.decoder_past.Goals as goal
 

@@ -1,5 +1,4 @@
-use Rattle.std.proofs.Common.{◌≡◌, ◌-◌, drop}
-use Rattle.rds_sync.specs.Step.{run}
+use Rattle.rds_sync.proofs.Names.{◌≡◌, ◌-◌, drop, run}
 use Rattle.rds_sync.proofs.item_iter.decoder_past.Given as goal
 
 -- this many items were passed over

@@ -1,8 +1,4 @@
-use Rattle.std.proofs.Common.{List, ◌++◌, All, ap, subst, ◌∙◌}
-use Rattle.std.proofs.lemmas.List.Elements.{All-tail}
-use Rattle.rds_sync.specs.declared.item.Item.{Item}
-use Rattle.rds_sync.specs.declared.span.Span.{Span}
-use Rattle.rds_sync.specs.Inside.Spans.{items_in, IsSpan}
+use Rattle.rds_sync.proofs.Names.{List, ◌++◌, All, ap, subst, ◌∙◌, All-tail, Item, Span, items_in, IsSpan}
 use Rattle.rds_sync.proofs.SpanLemmas.{gives_none}
 use Rattle.rds_sync.proofs.item_iter.next_in.Goals as goal
 

@@ -1,9 +1,4 @@
-use Rattle.std.proofs.Common.{◌≡◌, List, [], ◌++◌, All, length}
-use Rattle.rds_stream.specs.Recording.{Signal}
-use Rattle.rds_sync.specs.declared.span.Span.{Span}
-use Rattle.rds_sync.specs.Decoding.{DecoderOf}
-use Rattle.rds_sync.specs.Inside.Spans.{IsSpan, items_in}
-use Rattle.rds_sync.specs.Rules.{RuleNumbers}
+use Rattle.rds_sync.proofs.Names.{◌≡◌, List, [], ◌++◌, All, length, Signal, Span, DecoderOf, IsSpan, items_in, RuleNumbers}
 use Rattle.rds_sync.proofs.item_iter.next_in.Given as goal
 
 -- the decoder is done, and the rest is in the spans that are left

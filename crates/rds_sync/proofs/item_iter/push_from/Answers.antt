@@ -1,7 +1,4 @@
-use Rattle.std.proofs.Common.{◌≡◌, [], List, All, subst, ◌∙◌, arith, inl, inr}
-use Rattle.std.proofs.lemmas.List.Elements.{All-tail}
-use Rattle.rds_sync.specs.declared.span.Span.{Span}
-use Rattle.rds_sync.specs.Inside.Spans.{IsSpan, items_in}
+use Rattle.rds_sync.proofs.Names.{◌≡◌, [], List, All, subst, ◌∙◌, arith, inl, inr, All-tail, Span, IsSpan, items_in}
 use Rattle.rds_sync.proofs.FillLemmas.{span_taken, with_more}
 use Rattle.rds_sync.proofs.item_iter.push_from.Goals as goal
 

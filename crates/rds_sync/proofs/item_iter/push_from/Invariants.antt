@@ -1,6 +1,4 @@
-use Rattle.std.proofs.Common.{◌≡◌, ◌≤◌, ◌⊎◌, [], ◌++◌, All, length}
-use Rattle.std.specs.Prelude.{vec_capacity}
-use Rattle.rds_sync.specs.Inside.Spans.{IsSpan, items_in}
+use Rattle.rds_sync.proofs.Names.{◌≡◌, ◌≤◌, ◌⊎◌, [], ◌++◌, All, length, vec_capacity, IsSpan, items_in}
 use Rattle.rds_sync.proofs.item_iter.push_from.Given as goal
 
 abbrev pub invariant-loop-rest : goal.invariant-loop-rest

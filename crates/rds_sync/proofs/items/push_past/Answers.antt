@@ -1,5 +1,4 @@
-use Rattle.std.proofs.Common.{List, ◌++◌, ap, ◌∙◌}
-use Rattle.rds_sync.specs.declared.span.Span.{Span}
+use Rattle.rds_sync.proofs.Names.{List, ◌++◌, ap, ◌∙◌, Span}
 use Rattle.rds_sync.proofs.PastLemmas.{behind-past}
 use Rattle.rds_sync.proofs.items.push_past.Goals as goal
 

@@ -1,7 +1,4 @@
-use Rattle.std.proofs.Common.{◌≡◌, ◌-◌, List, ◌∷◌, drop, length, ap, sym, subst, All, ◌∙◌, arith, length-append}
-use Rattle.std.proofs.lemmas.List.Elements.{All-head, All-tail}
-use Rattle.rds_sync.specs.declared.span.Span.{Span}
-use Rattle.rds_sync.specs.Inside.Spans.{items_in, items_of, IsSpan}
+use Rattle.rds_sync.proofs.Names.{◌≡◌, ◌-◌, List, ◌∷◌, drop, length, ap, sym, subst, All, ◌∙◌, arith, length-append, All-head, All-tail, Span, items_in, items_of, IsSpan}
 use Rattle.rds_sync.proofs.SpanLemmas.{past_first}
 use Rattle.rds_sync.proofs.items.spans_from.Goals as goal
 

@@ -1,7 +1,4 @@
-use Rattle.std.proofs.Common.{All, length}
-use Rattle.rds_stream.specs.Recording.{Signal}
-use Rattle.rds_sync.specs.Inside.Spans.{IsAt, IsSpan}
-use Rattle.rds_sync.specs.Rules.{RuleNumbers}
+use Rattle.rds_sync.proofs.Names.{All, length, Signal, IsAt, IsSpan, RuleNumbers}
 use Rattle.rds_sync.proofs.items.spans_from.Given as goal
 
 abbrev pub invariant-loop-span : goal.invariant-loop-span

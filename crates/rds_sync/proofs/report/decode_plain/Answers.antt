@@ -1,12 +1,5 @@
-use Rattle.std.proofs.Common.{◌-◌, ◌++◌, List, ap, ap₂, refl, sym, ◌∙◌}
+use Rattle.rds_sync.proofs.Names.{◌-◌, ◌++◌, List, ap, ap₂, refl, sym, ◌∙◌, Item, Searching, Totals, plus, ItemsOf, listed, run, items_of_end, totals_of}
 use Rattle.rds_stream.specs.Tape.{TapeState}
-use Rattle.rds_sync.specs.declared.item.Item.{Item}
-use Rattle.rds_sync.specs.declared.state.State.TheVariants.{Searching}
-use Rattle.rds_sync.specs.declared.totals.Totals.{Totals}
-use Rattle.rds_sync.specs.Counting.{plus}
-use Rattle.rds_sync.specs.Decoding.{ItemsOf, listed}
-use Rattle.rds_sync.specs.Step.{run, items_of_end}
-use Rattle.rds_sync.specs.Totals.{totals_of}
 use Rattle.rds_sync.proofs.ItemLemmas.{report-run}
 use Rattle.rds_sync.proofs.TotalsLemmas.{totals_of-append}
 use Rattle.rds_sync.proofs.report.decode_plain.Goals as goal

@@ -1,13 +1,4 @@
-use Rattle.std.proofs.Common.{◌≡◌, ◌≤◌, ◌-◌, ℕ, List, ap, ap₂, sym, subst, ◌∙◌, arith}
-use Rattle.rds_stream.specs.Recording.{Signal, length_of}
-use Rattle.rds_sync.specs.declared.item.Item.{Item}
-use Rattle.rds_sync.specs.declared.state.State.{State}
-use Rattle.rds_sync.specs.Decoding.{listed}
-use Rattle.rds_sync.specs.Lawful.{IsLawful}
-use Rattle.rds_sync.specs.Rules.{RuleNumbers}
-use Rattle.rds_sync.specs.Step.{run}
-use Rattle.rds_sync.specs.Tally.{TallyOf, gone_on, tally_at}
-use Rattle.rds_sync.specs.Totals.{totals_of}
+use Rattle.rds_sync.proofs.Names.{◌≡◌, ◌≤◌, ◌-◌, ℕ, List, ap, ap₂, sym, subst, ◌∙◌, arith, Signal, length_of, Item, State, listed, IsLawful, RuleNumbers, run, TallyOf, gone_on, tally_at, totals_of}
 use Rattle.rds_sync.proofs.TallyRuns.{gone-none, gone-again}
 use Rattle.rds_sync.proofs.report.run_report.Invariants.{HasCome}
 use Rattle.rds_sync.proofs.report.run_report.Goals as goal

@@ -1,8 +1,4 @@
-use Rattle.std.proofs.Common.{◌≡◌, ◌≤◌, ◌-◌, ℕ}
-use Rattle.rds_stream.specs.Recording.{Signal}
-use Rattle.rds_sync.specs.declared.state.State.{State}
-use Rattle.rds_sync.specs.Rules.{RuleNumbers}
-use Rattle.rds_sync.specs.Tally.{TallyOf, gone_on, tally_at}
+use Rattle.rds_sync.proofs.Names.{◌≡◌, ◌≤◌, ◌-◌, ℕ, Signal, State, RuleNumbers, TallyOf, gone_on, tally_at}
 use Rattle.rds_sync.proofs.report.run_report.Given as goal
 
 -- the run has come to its place, by a reader of the recording

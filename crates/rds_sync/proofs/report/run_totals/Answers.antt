@@ -1,11 +1,4 @@
-use Rattle.std.proofs.Common.{◌≡◌, ◌≤◌, ◌+◌, ◌-◌, ◌*◌, ◌^◌, ℕ, List, length, ap, sym, subst, ◌∙◌, arith}
-use Rattle.rds_stream.specs.Recording.{Signal}
-use Rattle.rds_sync.specs.Counting.{IsAtMost, plus}
-use Rattle.rds_sync.specs.Inside.CountRuns.{IsCountStretch}
-use Rattle.rds_sync.specs.Inside.Counts.{CountOf}
-use Rattle.rds_sync.specs.Step.{run}
-use Rattle.rds_sync.specs.Totals.{totals_of}
-use Rattle.rds_sync.specs.declared.totals.Totals.{Totals}
+use Rattle.rds_sync.proofs.Names.{◌≡◌, ◌+◌, ◌-◌, ◌*◌, ◌^◌, ℕ, ap, subst, ◌∙◌, arith, Signal, plus, IsCountStretch, CountOf, run, totals_of, Totals}
 use Rattle.rds_sync.proofs.ItemLemmas.{run_items-few}
 use Rattle.rds_sync.proofs.TallyRuns.{tally-gone}
 use Rattle.rds_sync.proofs.TotalsLemmas.{IsAtMost-more}

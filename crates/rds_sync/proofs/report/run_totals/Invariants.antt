@@ -1,5 +1,4 @@
-use Rattle.std.proofs.Common.{◌≡◌, ◌≤◌, ◌-◌, []}
-use Rattle.rds_sync.specs.Inside.Tally.{IsTally}
+use Rattle.rds_sync.proofs.Names.{◌≡◌, ◌≤◌, ◌-◌, [], IsTally}
 use Rattle.rds_sync.proofs.report.run_totals.Given as goal
 
 abbrev pub invariant-stretches : goal.invariant-stretches

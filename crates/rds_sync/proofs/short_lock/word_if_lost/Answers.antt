@@ -1,8 +1,4 @@
-use Rattle.std.proofs.Common.{◌≡◌, ◌+◌, ◌%◌, false, true, refl, subst, ◌∙◌, arith}
-use Rattle.rds_sync.specs.declared.loss.Loss.{Loss}
-use Rattle.rds_sync.specs.Groups.{blocks_at}
-use Rattle.rds_sync.specs.Inside.ShortLocks.{wanted_behind, first_behind}
-use Rattle.rds_sync.specs.Loss.{bad_after, are_too_many}
+use Rattle.rds_sync.proofs.Names.{◌≡◌, ◌+◌, ◌%◌, false, true, refl, subst, ◌∙◌, arith, Loss, blocks_at, wanted_behind, first_behind, bad_after, are_too_many}
 use Rattle.rds_sync.proofs.GroupWords.{word-tells}
 use Rattle.rds_sync.proofs.ShortLockLemmas.{bad-there, two-are}
 use Rattle.rds_sync.proofs.short_lock.word_if_lost.Goals as goal

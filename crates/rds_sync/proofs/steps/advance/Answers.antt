@@ -1,9 +1,4 @@
-use Rattle.std.proofs.Common.{◌≡◌, ◌-◌, ℕ, List, ap, sym, subst, ◌∙◌, arith, append-nil}
-use Rattle.rds_sync.specs.declared.state.State.{State}
-use Rattle.rds_sync.specs.declared.state.State.TheVariants.{Locked, Searching}
-use Rattle.rds_sync.specs.declared.item.Item.{Item}
-use Rattle.rds_sync.specs.Lawful.{IsLawful}
-use Rattle.rds_sync.specs.Step.{items_at, run, step}
+use Rattle.rds_sync.proofs.Names.{◌≡◌, ◌-◌, ℕ, List, ap, sym, subst, ◌∙◌, arith, append-nil, State, Locked, Searching, Item, IsLawful, items_at, run, step}
 use Rattle.rds_sync.proofs.LawfulLemmas.{lawful-due, lawful-lock, lawful-step, lawful-waiting}
 use Rattle.rds_sync.proofs.RunLemmas.{run-due, run-early}
 use Rattle.rds_sync.proofs.steps.advance.Goals as goal

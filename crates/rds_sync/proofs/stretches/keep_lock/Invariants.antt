@@ -1,13 +1,4 @@
-use Rattle.std.proofs.Common.{◌≡◌, ◌≤◌, ◌-◌, ℕ, List, []}
-use Rattle.rds_stream.specs.Recording.{Signal}
-use Rattle.rds_sync.specs.declared.item.Block.{Block}
-use Rattle.rds_sync.specs.declared.lock.Lock.{Lock}
-use Rattle.rds_sync.specs.declared.state.State.{State}
-use Rattle.rds_sync.specs.declared.state.State.TheVariants.{Locked}
-use Rattle.rds_sync.specs.Lawful.{IsLawfulLock}
-use Rattle.rds_sync.specs.Inside.Locks.{IsInProgress}
-use Rattle.rds_sync.specs.Rules.{RuleNumbers}
-use Rattle.rds_sync.specs.Step.{run}
+use Rattle.rds_sync.proofs.Names.{◌≡◌, ◌≤◌, ◌-◌, ℕ, List, [], Signal, Block, Lock, State, Locked, IsLawfulLock, IsInProgress, RuleNumbers, run}
 use Rattle.rds_sync.proofs.stretches.keep_lock.Given as goal
 
 -- the run from state s is in this lock before the bit at some place, with the blocks of its group, and gave nothing; what was read

@@ -1,17 +1,4 @@
-use Rattle.std.proofs.Common.{◌≡◌, ◌≤◌, ◌<◌, ◌+◌, ◌-◌, ℕ, true, false, List, Some, None, refl, ap, sym, subst, ◌∙◌, arith, inl, inr}
-use Rattle.std.specs.List.{list_any, range_with_len}
-use Rattle.std.proofs.lemmas.Bool.{cases_lt}
-use Rattle.rds_code.specs.declared.offset.Offset.{Offset}
-use Rattle.rds_stream.specs.Recording.{Signal, heard, offset_at}
-use Rattle.rds_stream.specs.ValidWindows.{WindowsLeft, GivesFirst, NoneValid}
-use Rattle.rds_sync.specs.declared.item.Item.{Item}
-use Rattle.rds_sync.specs.declared.lock.Lock.{Lock}
-use Rattle.rds_sync.specs.declared.state.State.{State}
-use Rattle.rds_sync.specs.declared.state.State.TheVariants.{Searching, Locked}
-use Rattle.rds_sync.specs.Acquiring.{acquired, has_partner}
-use Rattle.rds_sync.specs.Lawful.{IsLawful}
-use Rattle.rds_sync.specs.Rules.{RuleNumbers}
-use Rattle.rds_sync.specs.Step.{step}
+use Rattle.rds_sync.proofs.Names.{◌≡◌, ◌≤◌, ◌<◌, ◌+◌, ◌-◌, ℕ, true, false, List, Some, None, refl, ap, sym, subst, ◌∙◌, arith, inl, inr, list_any, range_with_len, cases_lt, Offset, Signal, heard, offset_at, WindowsLeft, GivesFirst, NoneValid, Item, Lock, State, Searching, Locked, acquired, has_partner, IsLawful, RuleNumbers, step}
 use Rattle.rds_sync.proofs.ItemLemmas.{some_given}
 use Rattle.rds_sync.proofs.RunLemmas.{step-acquiring, items-acquiring, run-found, run-quiet, run-unfound}
 use Rattle.rds_sync.proofs.LawfulLemmas.{acquired-none, lawful-step, off-place}

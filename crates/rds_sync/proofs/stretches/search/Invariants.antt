@@ -1,8 +1,4 @@
-use Rattle.std.proofs.Common.{◌≡◌, ◌≤◌, ◌<◌, ℕ, None}
-use Rattle.rds_stream.specs.Recording.{Signal}
-use Rattle.rds_stream.specs.ValidWindows.{WindowsLeft}
-use Rattle.rds_sync.specs.Acquiring.{acquired}
-use Rattle.rds_sync.specs.Rules.{RuleNumbers}
+use Rattle.rds_sync.proofs.Names.{◌≡◌, ◌≤◌, ◌<◌, ℕ, None, Signal, WindowsLeft, acquired, RuleNumbers}
 use Rattle.rds_sync.proofs.stretches.search.Given as goal
 
 -- no place from the one up to the windows that are left acquires; what is read is the recording

@@ -1,7 +1,4 @@
-use Rattle.std.proofs.Common.{ℕ, ◌-◌, sym, subst}
-use Rattle.rds_sync.specs.declared.state.State.{State}
-use Rattle.rds_sync.specs.Hop.{IsHop}
-use Rattle.rds_sync.specs.Lawful.{IsLawful, IsLawfulLock}
+use Rattle.rds_sync.proofs.Names.{ℕ, ◌-◌, sym, subst, State, IsHop, IsLawful, IsLawfulLock}
 use Rattle.rds_sync.proofs.HopLemmas.{kept-hop, sought-hop}
 use Rattle.rds_sync.proofs.tape_run.hop.Goals as goal
 

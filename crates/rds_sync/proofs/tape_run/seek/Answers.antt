@@ -1,13 +1,4 @@
-use Rattle.std.proofs.Common.{◌≡◌, ◌≤◌, ◌+◌, ◌-◌, ℕ, List, Some, ap, sym, subst, ◌∙◌, arith}
-use Rattle.rds_stream.specs.Recording.{Signal}
-use Rattle.rds_sync.specs.Acquiring.{acquired}
-use Rattle.rds_sync.specs.Inside.Counts.{CountOf, added}
-use Rattle.rds_sync.specs.Lawful.{IsLawful}
-use Rattle.rds_sync.specs.Step.{step, items_at, lock_after}
-use Rattle.rds_sync.specs.declared.item.Item.{Item}
-use Rattle.rds_sync.specs.declared.lock.Lock.{Lock}
-use Rattle.rds_sync.specs.declared.state.State.{State}
-use Rattle.rds_sync.specs.declared.state.State.TheVariants.{Searching, Locked}
+use Rattle.rds_sync.proofs.Names.{◌≡◌, ◌≤◌, ◌+◌, ◌-◌, ℕ, List, Some, ap, sym, subst, ◌∙◌, arith, Signal, acquired, CountOf, added, IsLawful, step, items_at, lock_after, Item, Lock, State, Searching, Locked}
 use Rattle.rds_sync.proofs.CountLemmas.{added-nothing}
 use Rattle.rds_sync.proofs.LawfulLemmas.{lawful-step}
 use Rattle.rds_sync.proofs.RunLemmas.{run-found, run-searching, step-acquiring}

@@ -1,5 +1,4 @@
-use Rattle.std.proofs.Common.{◌≡◌, ◌≤◌, ◌<◌, ◌+◌, ◌-◌, ◌*◌, ℕ, None}
-use Rattle.rds_sync.specs.Acquiring.{acquired}
+use Rattle.rds_sync.proofs.Names.{◌≡◌, ◌≤◌, ◌<◌, ◌+◌, ◌-◌, ◌*◌, ℕ, None, acquired}
 use Rattle.rds_sync.proofs.tape_run.seek.Given as goal
 
 abbrev pub invariant-loop-here : goal.invariant-loop-here

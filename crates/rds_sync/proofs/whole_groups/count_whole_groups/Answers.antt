@@ -1,19 +1,4 @@
-use Rattle.std.proofs.Common.{◌≡◌, ℕ, ◌+◌, ◌-◌, ◌<◌, ◌≤◌, List, [], ◌∷◌, ◌++◌, false, sym, ap, ap₂, subst, ◌∙◌, arith}
-use Rattle.rds_stream.specs.Recording.{Signal}
-use Rattle.rds_sync.specs.declared.lock.Lock.{Lock}
-use Rattle.rds_sync.specs.declared.item.Item.{Item}
-use Rattle.rds_sync.specs.declared.item.Item.TheVariants.{Group}
-use Rattle.rds_sync.specs.declared.loss.Loss.{Loss}
-use Rattle.rds_sync.specs.declared.state.State.{State}
-use Rattle.rds_sync.specs.declared.state.State.TheVariants.{Locked}
-use Rattle.rds_sync.specs.Groups.{group}
-use Rattle.rds_sync.specs.Inside.CountRuns.{HasCountedOn}
-use Rattle.rds_sync.specs.Inside.Counts.{CountOf, added, joined, group_count}
-use Rattle.rds_sync.specs.Inside.Outcomes.{Outcome, bad_over}
-use Rattle.rds_sync.specs.Inside.Words.{blocks_in}
-use Rattle.rds_sync.specs.Loss.{IsLawfulBad, are_too_many}
-use Rattle.rds_sync.specs.Rules.{RuleNumbers}
-use Rattle.rds_sync.specs.Step.{run, lock_of}
+use Rattle.rds_sync.proofs.Names.{◌≡◌, ℕ, ◌+◌, ◌-◌, ◌<◌, ◌≤◌, List, [], ◌∷◌, ◌++◌, false, sym, ap, ap₂, subst, ◌∙◌, arith, Signal, Lock, Item, Group, Loss, State, Locked, group, HasCountedOn, CountOf, added, joined, group_count, Outcome, bad_over, blocks_in, IsLawfulBad, are_too_many, RuleNumbers, run, lock_of}
 use Rattle.rds_sync.proofs.CountLemmas.{added-further, group-added}
 use Rattle.rds_sync.proofs.GroupOutcomes.{outcomes}
 use Rattle.rds_sync.proofs.RunLemmas.{run-append}

@@ -1,9 +1,4 @@
-use Rattle.std.proofs.Common.{◌≡◌, ◌≤◌, ℕ, ◌^◌, ◌<◌}
-use Rattle.rds_stream.specs.Recording.{Signal}
-use Rattle.rds_sync.specs.declared.lock.Lock.{Lock}
-use Rattle.rds_sync.specs.Inside.Counts.{CountOf}
-use Rattle.rds_sync.specs.Inside.CountRuns.{HasCountedOn}
-use Rattle.rds_sync.specs.Rules.{RuleNumbers}
+use Rattle.rds_sync.proofs.Names.{◌≡◌, ◌≤◌, ℕ, ◌^◌, ◌<◌, Signal, Lock, CountOf, HasCountedOn, RuleNumbers}
 use Rattle.rds_sync.proofs.whole_groups.count_whole_groups.Given as goal
 
 -- whole groups were passed, by a reader of the recording

@@ -1,15 +1,4 @@
-use Rattle.std.proofs.Common.{◌≡◌, ℕ, ◌+◌, ◌-◌, ◌<◌, ◌≤◌, List, [], ◌∷◌, ◌++◌, length, length-append, append_assoc, refl, sym, ap, ap₂, subst, ◌∙◌, arith}
-use Rattle.rds_stream.specs.Recording.{Signal}
-use Rattle.rds_sync.specs.declared.lock.Lock.{Lock}
-use Rattle.rds_sync.specs.declared.item.Group.{Group as GroupRecord}
-use Rattle.rds_sync.specs.declared.item.Item.{Item}
-use Rattle.rds_sync.specs.declared.item.Item.TheVariants.{Group}
-use Rattle.rds_sync.specs.declared.state.State.{State}
-use Rattle.rds_sync.specs.declared.state.State.TheVariants.{Locked}
-use Rattle.rds_sync.specs.Groups.{group}
-use Rattle.rds_sync.specs.Inside.WholeGroups.{HasGiven, HasPushed, IsWhole}
-use Rattle.rds_sync.specs.Rules.{RuleNumbers}
-use Rattle.rds_sync.specs.Step.{run, lock_of}
+use Rattle.rds_sync.proofs.Names.{◌≡◌, ℕ, ◌+◌, ◌-◌, ◌<◌, ◌≤◌, List, [], ◌∷◌, ◌++◌, length, length-append, append_assoc, refl, sym, ap, ap₂, subst, ◌∙◌, arith, Signal, Lock, GroupRecord, Item, Group, State, Locked, group, HasGiven, HasPushed, IsWhole, RuleNumbers, run, lock_of}
 use Rattle.rds_sync.proofs.RunLemmas.{run-append}
 use Rattle.rds_sync.proofs.WholeGroupLemmas.{whole_group}
 use Rattle.rds_sync.proofs.whole_groups.push_whole_groups.Goals as goal

@@ -1,10 +1,4 @@
-use Rattle.std.proofs.Common.{◌≡◌, ℕ, ◌-◌, ◌^◌, ◌<◌, ◌≤◌, List, length}
-use Rattle.std.specs.Prelude.{vec_capacity}
-use Rattle.rds_stream.specs.Recording.{Signal}
-use Rattle.rds_sync.specs.declared.lock.Lock.{Lock}
-use Rattle.rds_sync.specs.declared.item.Item.{Item}
-use Rattle.rds_sync.specs.Inside.WholeGroups.{HasGiven}
-use Rattle.rds_sync.specs.Rules.{RuleNumbers}
+use Rattle.rds_sync.proofs.Names.{◌≡◌, ℕ, ◌-◌, ◌^◌, ◌<◌, ◌≤◌, List, length, vec_capacity, Signal, Lock, Item, HasGiven, RuleNumbers}
 use Rattle.rds_sync.proofs.whole_groups.push_whole_groups.Given as goal
 
 -- whole groups were given, by a reader of the recording

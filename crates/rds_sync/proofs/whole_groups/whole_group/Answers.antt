@@ -1,18 +1,4 @@
-use Rattle.std.proofs.Common.{◌≡◌, ◌≤◌, ◌<◌, ◌+◌, ◌-◌, ℕ, Some, None, List, [], ◌∷◌, false, sym, ap, ap₂, subst, ◌∙◌, arith, inr}
-use Rattle.rds_stream.specs.Recording.{Signal}
-use Rattle.rds_sync.specs.declared.item.Item.{Item}
-use Rattle.rds_sync.specs.declared.item.Item.TheVariants.{Group}
-use Rattle.rds_sync.specs.declared.lock.Lock.{Lock}
-use Rattle.rds_sync.specs.declared.state.State.{State}
-use Rattle.rds_sync.specs.declared.state.State.TheVariants.{Locked}
-use Rattle.rds_sync.specs.declared.step.Step.{Step}
-use Rattle.rds_sync.specs.Groups.{group}
-use Rattle.rds_sync.specs.Lawful.{IsLawful}
-use Rattle.rds_sync.specs.Inside.Outcomes.{bad_over}
-use Rattle.rds_sync.specs.Loss.{IsLawfulBad, are_too_many}
-use Rattle.rds_sync.specs.Rules.{RuleNumbers}
-use Rattle.rds_sync.specs.Step.{run, lock_of}
-use Rattle.rds_sync.specs.Stretch.{IsStretch}
+use Rattle.rds_sync.proofs.Names.{◌≡◌, ◌≤◌, ◌<◌, ◌+◌, ◌-◌, ℕ, Some, None, List, [], ◌∷◌, false, sym, ap, ap₂, subst, ◌∙◌, arith, inr, Signal, Item, Group, Lock, State, Locked, Step, group, IsLawful, bad_over, IsLawfulBad, are_too_many, RuleNumbers, run, lock_of, IsStretch}
 use Rattle.rds_sync.proofs.GroupOutcomes.{outcomes}
 use Rattle.rds_sync.proofs.LawfulLemmas.{lawful-lock_after}
 use Rattle.rds_sync.proofs.WholeGroupLemmas.{whole_group, whole_quiet}

@@ -1,8 +1,4 @@
-use Rattle.std.proofs.Common.{◌≡◌, ℕ, rules, sym, subst, arith}
-use Rattle.std.specs.Prelude.{count_ones}
-use Rattle.rds_code.specs.Bursts.{burst_length}
-use Rattle.rds_sync.specs.Inside.Outcomes.{corrected, outcome_of}
-use Rattle.rds_sync.specs.Inside.Words.{IsShort}
+use Rattle.rds_sync.proofs.Names.{◌≡◌, ℕ, rules, sym, subst, arith, count_ones, burst_length, corrected, outcome_of, IsShort}
 use Rattle.rds_sync.proofs.ShortOutcomes.{burst-short}
 use Rattle.rds_sync.proofs.words.nibble.Goals as goal
 

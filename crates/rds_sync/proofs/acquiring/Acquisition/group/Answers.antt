@@ -1,7 +1,4 @@
-use Rattle.std.proofs.Common.{ℕ, Option, ap, ◌∙◌}
-use Rattle.rds_stream.specs.Recording.{reading_heard}
-use Rattle.rds_code.specs.declared.reading.Wanted.TheVariants.{Either}
-use Rattle.rds_sync.specs.declared.item.Block.TheVariants.{Read}
+use Rattle.rds_sync.proofs.Names.{ℕ, Option, ap, ◌∙◌, reading_heard, Either, Read}
 use Rattle.rds_sync.proofs.GroupBlocks.{group-alone}
 use Rattle.rds_sync.proofs.acquiring.Acquisition.group.Goals as goal
 

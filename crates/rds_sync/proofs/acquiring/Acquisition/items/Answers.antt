@@ -1,8 +1,4 @@
-use Rattle.std.proofs.Common.{◌≡◌, ℕ, List, [], ◌∷◌, ap, ap₂, sym, ◌∙◌, arith}
-use Rattle.rds_sync.specs.declared.item.Group.{Group as GroupRecord}
-use Rattle.rds_sync.specs.declared.item.Item.{Item}
-use Rattle.rds_sync.specs.declared.item.Item.TheVariants.{Acquired, Group}
-use Rattle.rds_sync.specs.Step.{completed_group}
+use Rattle.rds_sync.proofs.Names.{◌≡◌, ℕ, List, [], ◌∷◌, ap, ap₂, sym, ◌∙◌, arith, GroupRecord, Item, Acquired, Group, completed_group}
 use Rattle.rds_sync.proofs.acquiring.Acquisition.items.Goals as goal
 
 pub returns-then-number-eq4 : goal.returns-then-number-eq4

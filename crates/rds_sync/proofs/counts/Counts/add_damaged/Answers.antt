@@ -1,9 +1,4 @@
-use Rattle.std.proofs.Common.{◌≡◌, ◌%◌, ◌/◌, [], ◌∷◌, ap, ◌∙◌, arith}
-use Rattle.std.specs.Prelude.{if◌then◌else◌}
-use Rattle.std.specs.List.{list_all}
-use Rattle.rds_sync.specs.Inside.Counts.{CountOf, joined, group_count}
-use Rattle.rds_sync.specs.Inside.Outcomes.{has_info}
-use Rattle.rds_sync.specs.Inside.Words.{outcome_at}
+use Rattle.rds_sync.proofs.Names.{◌≡◌, ◌%◌, ◌/◌, [], ◌∷◌, ap, ◌∙◌, arith, if◌then◌else◌, list_all, CountOf, joined, group_count, has_info, outcome_at}
 use Rattle.rds_sync.proofs.LaneLemmas.{are-more, counted-group}
 use Rattle.rds_sync.proofs.counts.Counts.add_damaged.Goals as goal
 

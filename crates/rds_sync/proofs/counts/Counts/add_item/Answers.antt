@@ -1,7 +1,4 @@
-use Rattle.std.proofs.Common.{[], ◌∷◌, sym, ap, ◌∙◌}
-use Rattle.rds_sync.specs.declared.item.Item.{Item}
-use Rattle.rds_sync.specs.Inside.Counts.{count_of, joined}
-use Rattle.rds_sync.specs.Inside.Words.{blocks_in}
+use Rattle.rds_sync.proofs.Names.{[], ◌∷◌, sym, ap, ◌∙◌, Item, count_of, joined, blocks_in}
 use Rattle.rds_sync.proofs.CountLemmas.{group-added}
 use Rattle.rds_sync.proofs.counts.Counts.add_item.Goals as goal
 

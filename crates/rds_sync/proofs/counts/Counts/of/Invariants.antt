@@ -1,5 +1,4 @@
-use Rattle.std.proofs.Common.{◌≡◌, take}
-use Rattle.rds_sync.specs.Inside.Counts.{count_of}
+use Rattle.rds_sync.proofs.Names.{◌≡◌, take, count_of}
 use Rattle.rds_sync.proofs.counts.Counts.of.Given as goal
 
 abbrev pub invariant-loop-item : goal.invariant-loop-item

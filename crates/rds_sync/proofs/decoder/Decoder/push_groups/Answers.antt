@@ -1,6 +1,4 @@
-use Rattle.std.proofs.Common.{◌≡◌, ◌-◌, ◌++◌, ◌<◌, Option, None, ap, sym, ◌∙◌, arith, rules}
-use Rattle.rds_sync.specs.declared.item.Item.{Item}
-use Rattle.rds_sync.specs.declared.state.State.TheVariants.{Locked}
+use Rattle.rds_sync.proofs.Names.{◌≡◌, ◌-◌, ◌++◌, ◌<◌, Option, None, ap, sym, ◌∙◌, arith, rules, Item, Locked}
 use Rattle.rds_sync.proofs.DecoderLemmas.{left_of, groups-items, groups-end}
 use Rattle.rds_sync.proofs.decoder.Decoder.push_groups.Goals as goal
 

@@ -1,5 +1,4 @@
-use Rattle.std.proofs.Common.{◌≡◌, ◌-◌, ◌++◌, ◌≤◌, length}
-use Rattle.std.specs.Prelude.{vec_capacity}
+use Rattle.rds_sync.proofs.Names.{◌≡◌, ◌-◌, ◌++◌, ◌≤◌, length, vec_capacity}
 use Rattle.rds_sync.proofs.decoder.Decoder.push_until.Given as goal
 
 abbrev pub invariant-loop-self : goal.invariant-loop-self

@@ -1,6 +1,4 @@
-use Rattle.std.proofs.Common.{◌≡◌, [], ◌∷◌, length, get_or, Option, ap, subst, sym, ◌∙◌, rules}
-use Rattle.rds_sync.specs.declared.item.Item.{Item}
-use Rattle.rds_sync.specs.Decoding.{GivesNext}
+use Rattle.rds_sync.proofs.Names.{◌≡◌, [], ◌∷◌, length, get_or, Option, ap, subst, sym, ◌∙◌, rules, Item, GivesNext}
 use Rattle.rds_sync.proofs.DecoderLemmas.{left_of, gives-first, gives-second, goes-on, two_slots, none_ready}
 use Rattle.rds_sync.proofs.decoder.DecoderIterator.next.Goals as goal
 

@@ -1,6 +1,4 @@
-use Rattle.std.proofs.Common.{List, All, sym, subst, arith}
-use Rattle.rds_sync.specs.declared.span.Start.{Start}
-use Rattle.rds_sync.specs.Inside.Spans.{IsStart}
+use Rattle.rds_sync.proofs.Names.{List, All, sym, subst, arith, Start, IsStart}
 use Rattle.rds_sync.proofs.StartLemmas.{found_at}
 use Rattle.rds_sync.proofs.indexed_items.IndexedItems.spans_from.Goals as goal
 

@@ -1,6 +1,4 @@
-use Rattle.std.proofs.Common.{◌≡◌, ◌-◌, ◌++◌, ◌≤◌, ℕ, List, length, take, ap, sym, ◌∙◌, rules}
-use Rattle.rds_sync.specs.declared.item.Item.{Item}
-use Rattle.rds_sync.specs.Inside.Spans.{items_in}
+use Rattle.rds_sync.proofs.Names.{◌≡◌, ◌-◌, ◌++◌, ◌≤◌, ℕ, List, length, take, ap, sym, ◌∙◌, rules, Item, items_in}
 use Rattle.rds_sync.proofs.FillLemmas.{part_taken}
 use Rattle.rds_sync.proofs.item_iter.ItemIter.fill.Goals as goal
 

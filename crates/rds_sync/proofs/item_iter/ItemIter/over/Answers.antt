@@ -1,7 +1,5 @@
-use Rattle.std.proofs.Common.{◌<◌, List, ◌++◌, drop, length, length-drop, ap, ◌∙◌, arith}
-use Rattle.std.proofs.lemmas.List.{drop-drop}
-use Rattle.rds_sync.specs.declared.item.Item.{Item}
-use Rattle.rds_sync.specs.Inside.Spans.{items_in}
+use Rattle.std.proofs.Common.{length-drop}
+use Rattle.rds_sync.proofs.Names.{◌<◌, List, ◌++◌, drop, length, ap, ◌∙◌, arith, drop-drop, Item, items_in}
 use Rattle.rds_sync.proofs.SpanLemmas.{gives_some}
 use Rattle.rds_sync.proofs.item_iter.ItemIter.over.Goals as goal
 

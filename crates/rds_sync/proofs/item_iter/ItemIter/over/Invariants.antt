@@ -1,5 +1,4 @@
-use Rattle.std.proofs.Common.{◌≡◌, ◌++◌, All, drop}
-use Rattle.rds_sync.specs.Inside.Spans.{IsSpan, items_in}
+use Rattle.rds_sync.proofs.Names.{◌≡◌, ◌++◌, All, drop, IsSpan, items_in}
 use Rattle.rds_sync.proofs.item_iter.ItemIter.over.Given as goal
 
 -- this many items were passed over

@@ -1,10 +1,4 @@
-use Rattle.std.proofs.Common.{◌≡◌, List, ◌++◌, ap, ap₂, sym, ◌∙◌, arith}
-use Rattle.rds_stream.specs.Recording.{Signal}
-use Rattle.rds_sync.specs.declared.item.Item.{Item}
-use Rattle.rds_sync.specs.declared.span.Span.{Span}
-use Rattle.rds_sync.specs.Decoding.{ItemsOf, listed}
-use Rattle.rds_sync.specs.Inside.Spans.{items_in}
-use Rattle.rds_sync.specs.Rules.{RuleNumbers}
+use Rattle.rds_sync.proofs.Names.{◌≡◌, List, ◌++◌, ap, ap₂, sym, ◌∙◌, arith, Signal, Item, Span, ItemsOf, listed, items_in, RuleNumbers}
 use Rattle.rds_sync.proofs.SpanLemmas.{items_in-append, spans-behind, over}
 use Rattle.rds_sync.proofs.items.Items.append.Goals as goal
 

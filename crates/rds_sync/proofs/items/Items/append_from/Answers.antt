@@ -1,10 +1,4 @@
-use Rattle.std.proofs.Common.{◌≡◌, List, ◌++◌, drop, ap, ap₂, sym, subst, ◌∙◌, arith}
-use Rattle.rds_stream.specs.Recording.{Signal}
-use Rattle.rds_sync.specs.declared.item.Item.{Item}
-use Rattle.rds_sync.specs.declared.span.Span.{Span}
-use Rattle.rds_sync.specs.Decoding.{ItemsOf, listed}
-use Rattle.rds_sync.specs.Inside.Spans.{AreSpans, items_in}
-use Rattle.rds_sync.specs.Rules.{RuleNumbers}
+use Rattle.rds_sync.proofs.Names.{◌≡◌, List, ◌++◌, drop, ap, ap₂, sym, subst, ◌∙◌, arith, Signal, Item, Span, ItemsOf, listed, AreSpans, items_in, RuleNumbers}
 use Rattle.rds_sync.proofs.SpanLemmas.{over}
 use Rattle.rds_sync.proofs.PastLemmas.{items_after, spans_after}
 use Rattle.rds_sync.proofs.items.Items.append_from.Goals as goal

@@ -1,12 +1,4 @@
-use Rattle.std.proofs.Common.{List, ◌++◌, ap, sym, subst, ◌∙◌, arith}
-use Rattle.rds_stream.specs.Recording.{length_of}
-use Rattle.rds_sync.specs.declared.item.Item.{Item}
-use Rattle.rds_sync.specs.declared.span.Span.{Span}
-use Rattle.rds_sync.specs.declared.span.Span.TheVariants.{End}
-use Rattle.rds_sync.specs.Decoding.{ItemsOf, listed}
-use Rattle.rds_sync.specs.Inside.Spans.{IsSpan, items_in}
-use Rattle.rds_sync.specs.Lawful.{IsLawful}
-use Rattle.rds_sync.specs.Step.{items_of_end}
+use Rattle.rds_sync.proofs.Names.{List, ◌++◌, ap, sym, subst, ◌∙◌, arith, length_of, Item, Span, End, ItemsOf, listed, IsSpan, items_in, IsLawful, items_of_end}
 use Rattle.rds_sync.proofs.SpanLemmas.{items_in-push, spans-push}
 use Rattle.rds_sync.proofs.items.Items.close.Goals as goal
 

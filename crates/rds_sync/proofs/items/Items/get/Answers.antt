@@ -1,7 +1,4 @@
-use Rattle.std.proofs.Common.{List, length, ap, subst, arith}
-use Rattle.std.specs.Iterator.{YieldsFirst}
-use Rattle.rds_sync.specs.declared.item.Item.{Item}
-use Rattle.rds_sync.specs.Decoding.{ItemsOf}
+use Rattle.rds_sync.proofs.Names.{List, length, ap, subst, arith, YieldsFirst, Item, ItemsOf}
 use Rattle.rds_sync.proofs.RangeLemmas.{range_first, range_past}
 use Rattle.rds_sync.proofs.items.Items.get.Goals as goal
 

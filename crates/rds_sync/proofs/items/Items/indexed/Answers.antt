@@ -1,7 +1,4 @@
-use Rattle.std.proofs.Common.{◌≡◌, ℕ, List, All, length, sym, subst, ap, ◌∙◌, arith}
-use Rattle.rds_sync.specs.declared.span.Span.{Span}
-use Rattle.rds_sync.specs.Decoding.{ItemsOf}
-use Rattle.rds_sync.specs.Inside.Spans.{AreSpans, IsStart}
+use Rattle.rds_sync.proofs.Names.{◌≡◌, ℕ, List, All, length, sym, subst, ap, ◌∙◌, arith, Span, ItemsOf, AreSpans, IsStart}
 use Rattle.rds_sync.proofs.items.Items.indexed.Goals as goal
 
 pub invariant_of-result : goal.invariant_of-result

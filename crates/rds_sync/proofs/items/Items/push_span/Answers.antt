@@ -1,10 +1,5 @@
-use Rattle.std.proofs.Common.{◌-◌, List, ◌++◌, ap, sym, subst, ◌∙◌, arith}
-use Rattle.rds_sync.specs.declared.item.Item.{Item}
-use Rattle.rds_sync.specs.declared.span.Span.{Span}
+use Rattle.rds_sync.proofs.Names.{◌-◌, List, ◌++◌, ap, sym, subst, ◌∙◌, arith, Item, Span, ItemsOf, listed, IsSpan, items_in, run}
 use Rattle.rds_sync.specs.declared.span.Span.TheVariants.{Run}
-use Rattle.rds_sync.specs.Decoding.{ItemsOf, listed}
-use Rattle.rds_sync.specs.Inside.Spans.{IsSpan, items_in}
-use Rattle.rds_sync.specs.Step.{run}
 use Rattle.rds_sync.proofs.SpanLemmas.{items_in-push, spans-push}
 use Rattle.rds_sync.proofs.items.Items.push_span.Goals as goal
 

@@ -1,7 +1,4 @@
-use Rattle.std.proofs.Common.{◌≡◌, ◌*◌, ◌+◌, ◌%◌, ◌^◌, ℕ, true, false, ap, sym, subst, ◌∙◌, arith}
-use Rattle.std.specs.Prelude.{nat_le, count_ones}
-use Rattle.rds_sync.specs.declared.loss.Loss.{Loss}
-use Rattle.rds_sync.specs.Loss.{bad_after, are_too_many}
+use Rattle.rds_sync.proofs.Names.{◌≡◌, ◌*◌, ◌+◌, ◌%◌, ◌^◌, ℕ, true, false, ap, sym, subst, ◌∙◌, arith, nat_le, count_ones, Loss, bad_after, are_too_many}
 use Rattle.rds_sync.specs.Ranges.{IsLossInRange}
 use Rattle.rds_sync.proofs.ShortLockLemmas.{share-of-one}
 use Rattle.rds_sync.proofs.loss.Loss.loses_by_one.Goals as goal

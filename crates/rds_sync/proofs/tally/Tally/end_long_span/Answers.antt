@@ -1,9 +1,4 @@
-use Rattle.std.proofs.Common.{ap, sym, subst}
-use Rattle.rds_stream.specs.Recording.{Signal}
-use Rattle.rds_sync.specs.Decoding.{ItemsOf}
-use Rattle.rds_sync.specs.Inside.Counts.{CountOf}
-use Rattle.rds_sync.specs.Inside.Tally.{IsTally}
-use Rattle.rds_sync.specs.Rules.{RuleNumbers}
+use Rattle.rds_sync.proofs.Names.{ap, sym, subst, Signal, ItemsOf, CountOf, IsTally, RuleNumbers}
 use Rattle.rds_sync.proofs.TallyRuns.{tally-cut}
 use Rattle.rds_sync.proofs.tally.Tally.end_long_span.Goals as goal
 

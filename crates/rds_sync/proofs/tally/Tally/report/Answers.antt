@@ -1,10 +1,4 @@
-use Rattle.std.proofs.Common.{◌+◌, ◌-◌, ◌*◌, ◌^◌, length-append, ap, ◌∙◌, arith}
-use Rattle.rds_sync.specs.declared.totals.Totals.{Totals}
-use Rattle.rds_sync.specs.Counting.{plus}
-use Rattle.rds_sync.specs.Inside.Counts.{CountOf}
-use Rattle.rds_sync.specs.Step.{run}
-use Rattle.rds_sync.specs.Tally.{TallyOf}
-use Rattle.rds_sync.specs.Totals.{totals_of}
+use Rattle.rds_sync.proofs.Names.{◌+◌, ◌-◌, ◌*◌, ◌^◌, length-append, ap, ◌∙◌, arith, Totals, plus, CountOf, run, TallyOf, totals_of}
 use Rattle.rds_sync.proofs.TotalsLemmas.{IsAtMost-more}
 use Rattle.rds_sync.proofs.tally.Tally.report.Goals as goal
 

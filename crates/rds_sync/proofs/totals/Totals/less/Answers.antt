@@ -1,6 +1,4 @@
-use Rattle.std.proofs.Common.{ap, arith}
-use Rattle.std.specs.Prelude.{slice_index}
-use Rattle.rds_sync.specs.declared.totals.Totals.{Totals}
+use Rattle.rds_sync.proofs.Names.{ap, arith, slice_index, Totals}
 use Rattle.rds_sync.proofs.TotalsLemmas.{rest_is}
 use Rattle.rds_sync.proofs.totals.Totals.less.Goals as goal
 

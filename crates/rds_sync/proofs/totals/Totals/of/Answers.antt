@@ -1,8 +1,4 @@
-use Rattle.std.proofs.Common.{◌≡◌, ◌+◌, ◌*◌, ◌^◌, List, ◌++◌, length, ap, ap₂, arith, sym, ◌∙◌, append_assoc, length-append}
-use Rattle.rds_sync.specs.declared.item.Item.{Item}
-use Rattle.rds_sync.specs.Counting.{plus}
-use Rattle.rds_sync.specs.Inside.Counts.{CountOf}
-use Rattle.rds_sync.specs.Totals.{totals_of}
+use Rattle.rds_sync.proofs.Names.{◌≡◌, ◌+◌, ◌*◌, ◌^◌, List, ◌++◌, length, ap, ap₂, arith, sym, ◌∙◌, append_assoc, length-append, Item, plus, CountOf, totals_of}
 use Rattle.rds_sync.proofs.TotalsLemmas.{IsAtMost-more, totals_of-append}
 use Rattle.rds_sync.proofs.totals.Totals.of.Goals as goal
 

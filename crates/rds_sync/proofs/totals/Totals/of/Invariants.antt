@@ -1,8 +1,4 @@
-use Rattle.std.proofs.Common.{◌≡◌, ◌*◌, ◌^◌, List, ◌++◌, length}
-use Rattle.rds_sync.specs.declared.item.Item.{Item}
-use Rattle.rds_sync.specs.declared.totals.Totals.{Totals}
-use Rattle.rds_sync.specs.Counting.{IsAtMost}
-use Rattle.rds_sync.specs.Totals.{totals_of}
+use Rattle.rds_sync.proofs.Names.{◌≡◌, ◌*◌, ◌^◌, List, ◌++◌, length, Item, Totals, IsAtMost, totals_of}
 use Rattle.rds_sync.proofs.totals.Totals.of.Given as goal
 
 -- the first items were counted
