@@ -8,7 +8,6 @@ use Rattle.rds_tool.specs.CommandLine.{number_of, report_job_of, request_of, str
 use Rattle.rds_tool.specs.declared.job.Input.{Input}
 use Rattle.rds_tool.specs.declared.job.Job.{Job}
 use Rattle.rds_tool.specs.declared.job.Job.TheVariants.{Encode, Scan}
-use Rattle.rds_tool.specs.declared.job.Request.TheVariants.{Follow}
 
 module _ (name : Text) (rows : List Row) (input : Input) where
   pub of_scan : name ≡ codes "scan" → (read workers : Option ℕ) → read ≡ number_of (codes "workers") rows → read ≡ workers

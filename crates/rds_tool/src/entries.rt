@@ -1,7 +1,7 @@
 //! From the entries of a parsed command line to the job or stream that they ask for.
 ghost use Rattle.std.specs.Prelude.{◌≡◌, ◌⊎◌, IfErr, IfOk, None, Some, codes};
 ghost use Rattle.clap.specs.Words.{found_of, one_of, rows_of, subcommand_rows_of};
-ghost use Rattle.rds_tool.specs.CommandLine.{Gives, asked_by as the_asked_by, asked_with, flag_of, gaps_asked_for, if_given, ignored_by, is_given as the_words_give, job_with as the_job_with, loss_of, margin_of, misuse_by, number_of, report_job_of, request_of as the_request_of, request_with as the_request_with, rules_of, settings_of, stream_of};
+ghost use Rattle.rds_tool.specs.CommandLine.{Gives, asked_by as the_asked_by, flag_of, gaps_asked_for, if_given, ignored_by, is_given as the_words_give, job_with as the_job_with, loss_of, margin_of, misuse_by, number_of, report_job_of, request_of as the_request_of, request_with as the_request_with, rules_of, settings_of, stream_of};
 
 use crate::fault::NoJob;
 use crate::gap_text::gaps_of;

@@ -1,5 +1,5 @@
 //! Gaps as a command line names them.
-ghost use Rattle.std.specs.Prelude.{◌==◌, ◌≡◌, ◌∷◌, ℕ, IfOk, List, Option, if◌then◌else◌, map};
+ghost use Rattle.std.specs.Prelude.{◌==◌, ◌≡◌, IfOk, Option, if◌then◌else◌, map};
 ghost use Rattle.std.specs.List.{slice_split};
 ghost use Rattle.std.specs.Option.{option_map};
 ghost use Rattle.std.specs.Str.{all_ascii_digits};

@@ -1,5 +1,5 @@
 //! The listing of items: their rows, and then those of their totals.
-ghost use Rattle.std.specs.Prelude.{◌+◌, ◌++◌, ◌*◌, ◌<◌, ◌^◌, ◌≡◌, ◌≤◌, [], List, length, ℕ};
+ghost use Rattle.std.specs.Prelude.{◌+◌, ◌++◌, ◌<◌, ◌^◌, ◌≡◌, ◌≤◌, [], List, length, ℕ};
 ghost use Rattle.std.specs.List.{flat_map};
 ghost use Rattle.std.specs.Thread.{IsSync};
 ghost use Rattle.rds_rows.specs.Sheets.{left_of, size_of, text_of};

@@ -1,5 +1,5 @@
 //! By which rules, by how many workers and in which pieces a recording is decoded.
-ghost use Rattle.std.specs.Prelude.{◌&&◌, ◌<◌, ◌==◌, ◌≡◌, ◌≢◌, ◌≤◌, ◌⊎◌, Err, IfErr, IfOk, IsErrOf, List, Ok, OnOk, false, length, true};
+ghost use Rattle.std.specs.Prelude.{◌<◌, ◌==◌, ◌≡◌, ◌≤◌, ◌⊎◌, Err, IfErr, IfOk, Ok, OnOk, false, true};
 ghost use Rattle.rds_pieces.specs.Cutting.{IsCutting};
 ghost use Rattle.rds_sync.specs.Decoding.{listed};
 ghost use Rattle.rds_sync.specs.Report.{report_items};

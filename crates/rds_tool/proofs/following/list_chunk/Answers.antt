@@ -1,4 +1,4 @@
-use Rattle.std.proofs.Common.{◌≡◌, ◌++◌, List, subst, sym, ℕ}
+use Rattle.std.proofs.Common.{◌≡◌, ◌++◌, List, subst, sym}
 use Rattle.std.specs.List.{flat_map}
 use Rattle.rds_live.specs.Listing.{ListerOf}
 use Rattle.rds_live.specs.StreamDecoder.{HasHeard, complete}
