@@ -1,5 +1,5 @@
 -- What is heard and written of symbols that are pushed.
-use Rattle.std.proofs.Common.{◌≡◌, ◌+◌, ◌-◌, ◌*◌, ◌/◌, ◌^◌, ◌<◌, ◌≤◌, ◌++◌, ◌⊎◌, ◌∙◌, ℕ, List, ap, ap₂, arith, drop, inl, inr, length, map, min, subst, sym, take}
+use Rattle.std.proofs.Common.{◌≡◌, ◌+◌, ◌-◌, ◌*◌, ◌/◌, ◌^◌, ◌<◌, ◌≤◌, ◌++◌, ◌⊎◌, ◌∙◌, ℕ, List, ap, ap₂, arith, drop, inl, inr, length, map, min, refl, subst, sym, take}
 use Rattle.std.specs.Prelude.{ℤ}
 use Rattle.std.proofs.lemmas.Bool.{cases_lt}
 use Rattle.std.proofs.lemmas.List.{drop-append-le, drop-drop, length-append, length-drop, length-map, length-take, take-take, take_all}
@@ -33,46 +33,79 @@ use Rattle.rds_abi.proofs.SoftItems.{AreSymbolsOf, items-same, run-inside}
 use Rattle.rds_abi.proofs.SoftStreams.{bytes-join, erasures, kept-on, part-symbols, symbols-alike}
 use Rattle.rds_abi.proofs.SoftSymbols.{byte_count_of}
 
--- ---- by the gaps near the bytes, and by all
+-- ---- the piece that is taken
 
-module _ (all near : Terms) (s : RdsStream) (bytes : List ℕ) (from len kept few : ℕ) (near_is : IsNear all near from len) (from_is : from ≡ s.place - 8 * kept)
-    (len_is : len ≡ 8 * (kept + few)) (keeps : kept ≡ min most_kept (s.place / 8)) (many : few ≡ length bytes) (small : few ≤ 960) where
-  is : IsNear all near (s.place - 8 * kept) (8 * (kept + few))
+-- these are the piece and its bytes, and the gaps near its part of the stream
+pub record IsTaken (symbols : List ℤ) (room : ℕ) (all near : Terms) (s : RdsStream) (piece : List ℤ) (bytes : List ℕ) (from len : ℕ) : Type 0 where
+  pub piece_is : piece ≡ piece_of symbols room
+  pub count : (length piece - 1) / 8 ≡ byte_count symbols room
+  pub bytes_are : bytes ≡ bytes_of piece
+  pub near_is : IsNear all near from len
+  pub from_is : from ≡ s.place - 8 * min most_kept (s.place / 8)
+  pub len_is : len ≡ 8 * (min most_kept (s.place / 8) + length bytes)
+
+module _ {symbols : List ℤ} {room : ℕ} {all near : Terms} {s : RdsStream} {piece : List ℤ} {bytes : List ℕ} {from len : ℕ}
+    (t : IsTaken symbols room all near s piece bytes from len) where
+  pub piece-bytes : bytes ≡ bytes_of (piece_of symbols room)
+  piece-bytes = t.bytes_are ∙ ap bytes_of t.piece_is
+
+  pub piece-many : length bytes ≡ byte_count symbols room
+  piece-many = omega (arith, ap (λ (bs : List ℕ). length bs) t.bytes_are, byte_count_of piece, t.count)
+
+  few : length bytes ≤ 960
+  few = omega (arith, piece-many)
+
+  pub piece-taken : (count : ℕ) → length bytes ≡ count → piece ≡ take (8 * count + 1) symbols
+  piece-taken count is = t.piece_is ∙ ap (λ (n : ℕ). take (8 * n + 1) symbols) (sym piece-many ∙ is)
+
+  pub piece-long : 0 < length symbols → length piece ≡ 8 * length bytes + 1
+  piece-long some =
+      omega (arith, some, ap (λ (xs : List ℤ). length xs) (piece-taken (length bytes) refl), length-take (8 * length bytes + 1) symbols, piece-many)
+
+  pub piece-first : take 1 piece ≡ take 1 symbols
+  piece-first = ap (take 1) (piece-taken (length bytes) refl) ∙ take-take 1 (8 * length bytes + 1) symbols (omega arith)
+
+  -- ---- by the gaps near it, and by all
+
+  abbrev held : ℕ
+  held = min most_kept (s.place / 8)
+
+  is : IsNear all near (s.place - 8 * held) (8 * (held + length bytes))
   is =
-      subst (λ (n : ℕ). IsNear all near (s.place - 8 * kept) n) len_is
-      (subst (λ (p : ℕ). IsNear all near p len) from_is near_is)
+      subst (λ (n : ℕ). IsNear all near (s.place - 8 * held) n) t.len_is
+      (subst (λ (p : ℕ). IsNear all near p len) t.from_is t.near_is)
 
-  most : few ≡ min 8589934592 (length bytes)
-  most = omega (arith, many, small)
+  most : length bytes ≡ min 8589934592 (length bytes)
+  most = omega (arith, few)
 
   every : take (length bytes) bytes ≡ bytes
   every = take_all (length bytes) bytes (omega arith)
 
-  pub all-left : (t : RdsStream) → IsLeft near t → IsLeft all t
-  all-left t = left-near all near t (s.place - 8 * kept) (8 * (kept + few)) is
+  pub all-left : (new : RdsStream) → IsLeft near new → IsLeft all new
+  all-left new = left-near all near new (s.place - 8 * held) (8 * (held + length bytes)) is
 
   module _ (left : IsLeft near s) (fits : place_after s bytes ≤ 2 ^ 36) where
     pub all-completed : completed (stream_of near s) bytes ≡ completed (stream_of all s) bytes
     all-completed =
         subst (λ (xs : List ℕ). completed (stream_of near s) xs ≡ completed (stream_of all s) xs) every
-        (pushed-completed all near s bytes kept few is keeps most left fits (length bytes))
+        (pushed-completed all near s bytes held (length bytes) is refl most left fits (length bytes))
 
     pub all-after : (new : RdsStream) → stream_of near new ≡ live_next (stream_of near s) bytes → stream_of all new ≡ live_next (stream_of all s) bytes
     all-after new after =
         subst (λ (xs : List ℕ). stream_of all new ≡ live_next (stream_of all s) xs) every
-        (pushed-after all near s bytes kept few is keeps most left fits (length bytes) new
+        (pushed-after all near s bytes held (length bytes) is refl most left fits (length bytes) new
         (subst (λ (xs : List ℕ). stream_of near new ≡ live_next (stream_of near s) xs) (sym every) after))
 
-  pub all-refused : (r : Refusal) (room count : ℕ) (Same : Type 0)
-      → (IsLeft near s × (place_after s bytes ≤ 2 ^ 36) × IsTooMuch (map item_in_c (completed (stream_of near s) bytes)) room r count)
+  pub all-refused : (r : Refusal) (space count : ℕ) (Same : Type 0)
+      → (IsLeft near s × (place_after s bytes ≤ 2 ^ 36) × IsTooMuch (map item_in_c (completed (stream_of near s) bytes)) space r count)
       ⊎ ((RefusesStream near s r ⊎ (IsLeft near s × (2 ^ 36 < place_after s bytes) × (r ≡ TooLong))) × Same)
-      → (IsLeft all s × (place_after s bytes ≤ 2 ^ 36) × IsTooMuch (map item_in_c (completed (stream_of all s) bytes)) room r count)
+      → (IsLeft all s × (place_after s bytes ≤ 2 ^ 36) × IsTooMuch (map item_in_c (completed (stream_of all s) bytes)) space r count)
       ⊎ ((RefusesStream all s r ⊎ (IsLeft all s × (2 ^ 36 < place_after s bytes) × (r ≡ TooLong))) × Same)
-  all-refused r room count Same (inl (left, fits, much)) =
-      inl (all-left s left, fits, subst (λ (items : List Item). IsTooMuch (map item_in_c items) room r count) (all-completed left fits) much)
-  all-refused r room count Same (inr (inl refused, same)) =
-      inr (inl (refused-near all near s (s.place - 8 * kept) (8 * (kept + few)) is r refused), same)
-  all-refused r room count Same (inr (inr (left, long, too), same)) = inr (inr (all-left s left, long, too), same)
+  all-refused r space count Same (inl (left, fits, much)) =
+      inl (all-left s left, fits, subst (λ (items : List Item). IsTooMuch (map item_in_c items) space r count) (all-completed left fits) much)
+  all-refused r space count Same (inr (inl refused, same)) =
+      inr (inl (refused-near all near s (s.place - 8 * held) (8 * (held + length bytes)) is r refused), same)
+  all-refused r space count Same (inr (inr (left, long, too), same)) = inr (inr (all-left s left, long, too), same)
 
 -- a margin that was looked at first
 pub with-margin : (rules : RdsRules) (gaps : List RdsGap) (margin : ℕ) (s : RdsSoft) (bytes : List ℕ) (r : Refusal) (TooMany Same : Type 0) → IsMargin margin
@@ -189,28 +222,6 @@ module _ (law : NextIsHeard) (all : Terms) (s : RdsSoft) (piece : List ℤ) (byt
         let again = items-same part (signal_of all.gaps (bytes_of W)) P W margin end d (alike part part_long gaps) soft_item_in_c (run_next live bytes (8 * length bytes)).1
         (run-inside late steps (part_with live bytes (8 * length bytes)) all.rules range.loss.0 (moved_back d live.state) (8 * length live.tail) (8 * length bytes) lawful) in
         subst (λ (items : List RdsItem). IsFilled items old new) again here
-
--- ---- the piece that is taken
-
-module _ (symbols : List ℤ) (room : ℕ) (piece : List ℤ) (bytes : List ℕ) (piece_is : piece ≡ piece_of symbols room)
-    (count : (length piece - 1) / 8 ≡ byte_count symbols room) (bytes_are : bytes ≡ bytes_of piece) where
-  pub piece-bytes : bytes ≡ bytes_of (piece_of symbols room)
-  piece-bytes = bytes_are ∙ ap bytes_of piece_is
-
-  pub piece-many : length bytes ≡ byte_count symbols room
-  piece-many = omega (arith, ap (λ (bs : List ℕ). length bs) bytes_are, byte_count_of piece, count)
-
-  pub piece-few : length bytes ≤ 960
-  piece-few = omega (arith, piece-many)
-
-  pub piece-taken : piece ≡ take (8 * length bytes + 1) symbols
-  piece-taken = piece_is ∙ ap (λ (n : ℕ). take (8 * n + 1) symbols) (sym piece-many)
-
-  pub piece-long : 0 < length symbols → length piece ≡ 8 * length bytes + 1
-  piece-long some = omega (arith, some, ap (λ (xs : List ℤ). length xs) piece-taken, length-take (8 * length bytes + 1) symbols, piece-many)
-
-  pub piece-first : take 1 piece ≡ take 1 symbols
-  piece-first = ap (take 1) piece-taken ∙ take-take 1 (8 * length bytes + 1) symbols (omega arith)
 
 -- room for sixteen items is never too little
 pub roomy-soft : RunsGiveFewItems → (terms : Terms) (s : RdsStream) (symbols : List ℤ) (bytes : List ℕ) (room count : ℕ) (r : Refusal) (Same : Type 0)

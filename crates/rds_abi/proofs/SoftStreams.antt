@@ -6,24 +6,16 @@ use Rattle.std.specs.Int.Digits.{number_from_digits}
 use Rattle.std.proofs.lemmas.Bool.{cases_lt, lt-ltb}
 use Rattle.std.proofs.lemmas.List.{drop-append-le, drop-drop, ext_get_or, get_or-append_right, get_or-take, get_or_append_left, length-append, length-drop, length-replicate, length-take, take-append-le}
 use Rattle.std.proofs.Math.Seq.{drop-append-add, take-append-add, take-append_seam}
-use Rattle.std.proofs.lemmas.List.FromFn.{get_or-map-range_with_len, length-map-range_with_len}
+use Rattle.std.proofs.lemmas.List.FromFn.{get_or-map-range_with_len}
 use Rattle.rds_stream.specs.Recording.{AreGaps, Signal, is_touched_by, length_of, touched}
 use Rattle.rds_live.specs.Gaps.{gaps_within}
 use Rattle.rds_live.proofs.GapParts.{part-touched}
 use Rattle.rds_soft.specs.Symbols.{hard_bit, sign}
 use Rattle.rds_abi.specs.Soft.{byte_of, bytes_of, symbols_kept}
-use Rattle.rds_abi.proofs.SoftSymbols.{byte_count_of}
+use Rattle.rds_abi.proofs.SoftSymbols.{byte_count_of, same-tables}
 use Rattle.rds_abi.proofs.SoftItems.{AreSymbolsOf}
 
 -- ---- bytes
-
--- two tables that say the same
-same-tables : (f g : ℕ → ℕ) (a c n : ℕ) → ((j : ℕ) → j < n → f (a + j) ≡ g (c + j)) → map f (range_with_len a n) ≡ map g (range_with_len c n)
-same-tables f g a c n same =
-    ext_get_or 0 (map f (range_with_len a n)) (map g (range_with_len c n))
-    (length-map-range_with_len f a n ∙ sym (length-map-range_with_len g c n)) (λ j inside.
-    let within : j < n = omega (arith, inside, length-map-range_with_len f a n) in
-    get_or-map-range_with_len f a n j (a + j) 0 within refl ∙ same j within ∙ sym (get_or-map-range_with_len g c n j (c + j) 0 within refl))
 
 -- bytes of symbols that are alike there
 same-byte : (xs ys : List ℤ) (a c : ℕ) → ((j : ℕ) → j < 9 → get_or xs (a + j) (pos 0) ≡ get_or ys (c + j) (pos 0)) → byte_of xs a ≡ byte_of ys c

@@ -1,21 +1,45 @@
 -- Symbols as bytes of bits: of more symbols in a row, and of the symbols that are kept.
-use Rattle.std.proofs.Common.{◌≡◌, ◌+◌, ◌-◌, ◌*◌, ◌/◌, ◌<◌, ℕ, List, arith, length, map, refl, take}
+use Rattle.std.proofs.Common.{◌≡◌, ◌+◌, ◌-◌, ◌*◌, ◌/◌, ◌%◌, ◌<◌, ◌≤◌, ◌∙◌, ℕ, List, ap, ap₂, arith, get_or, length, map, refl, sym, take}
 use Rattle.std.specs.Prelude.{ℤ}
 use Rattle.std.specs.List.{range_with_len}
+use Rattle.std.specs.Int.{bit_at}
 use Rattle.std.specs.Int.Digits.{number_from_digits}
-use Rattle.std.proofs.lemmas.Int.Digits.{number_more}
+use Rattle.std.proofs.lemmas.List.{ext_get_or, get_or-take, length-take}
 use Rattle.std.proofs.lemmas.List.FromFn.{get_or-map-range_with_len, length-map-range_with_len}
+use Rattle.rds_stream.specs.Recording.{packed_bit}
 use Rattle.rds_soft.specs.Symbols.{hard_bit}
 use Rattle.rds_abi.specs.Soft.{byte_of, bytes_of}
 
--- one bit more of a byte
-pub bits_more : (symbols : List ℤ) (first i : ℕ) → i < 8
-    → number_from_digits 2 (take (i + 1) (map (hard_bit symbols) (range_with_len first 8)))
-    ≡ 2 * number_from_digits 2 (take i (map (hard_bit symbols) (range_with_len first 8))) + hard_bit symbols (first + i)
-bits_more symbols first i within =
-    let bits : List ℕ = map (hard_bit symbols) (range_with_len first 8) in
-    let more = number_more 2 bits i (omega (arith, within, length-map-range_with_len (hard_bit symbols) first 8)) in
-    omega (arith, more, get_or-map-range_with_len (hard_bit symbols) first 8 i (first + i) 0 within refl)
+-- two tables that say the same
+pub same-tables : (f g : ℕ → ℕ) (a c n : ℕ) → ((j : ℕ) → j < n → f (a + j) ≡ g (c + j)) → map f (range_with_len a n) ≡ map g (range_with_len c n)
+same-tables f g a c n same =
+    ext_get_or 0 (map f (range_with_len a n)) (map g (range_with_len c n))
+    (length-map-range_with_len f a n ∙ sym (length-map-range_with_len g c n)) (λ j inside.
+    let within : j < n = omega (arith, inside, length-map-range_with_len f a n) in
+    get_or-map-range_with_len f a n j (a + j) 0 within refl ∙ same j within ∙ sym (get_or-map-range_with_len g c n j (c + j) 0 within refl))
+
+-- a byte is the number of its bits
+byte-of-bits : (byte : ℕ) → byte < 256 → number_from_digits 2 (map (λ j. bit_at byte (7 - j)) (range_with_len 0 8)) ≡ byte
+byte-of-bits byte small = omega (arith, small)
 
 pub byte_count_of : (symbols : List ℤ) → length (bytes_of symbols) ≡ (length symbols - 1) / 8
 byte_count_of symbols = length-map-range_with_len (λ k. byte_of symbols (8 * k)) 0 ((length symbols - 1) / 8)
+
+-- the whole bytes of the bits of symbols, if these bytes have the bits
+module _ (bytes : List ℕ) (symbols : List ℤ) (small : (k : ℕ) → get_or bytes k 0 < 256) (enough : length symbols ≤ 8 * length bytes + 1)
+    (bits : (i : ℕ) → i + 1 < length symbols → packed_bit bytes i ≡ hard_bit symbols i) where
+  byte-at : (k : ℕ) → k < (length symbols - 1) / 8 → get_or bytes k 0 ≡ byte_of symbols (8 * k)
+  byte-at k inside =
+      sym (byte-of-bits (get_or bytes k 0) (small k))
+      ∙ ap (number_from_digits 2) (same-tables (λ j. bit_at (get_or bytes k 0) (7 - j)) (hard_bit symbols) 0 (8 * k) 8 (λ j within.
+      let this : (8 * k + j) / 8 ≡ k = omega (arith, within) in
+      let there : 7 - (8 * k + j) % 8 ≡ 7 - (0 + j) = omega (arith, within) in
+      sym (ap₂ (λ (n i : ℕ). bit_at (get_or bytes n 0) i) this there) ∙ bits (8 * k + j) (omega (arith, inside, within))))
+
+  pub packed-bytes : take ((length symbols - 1) / 8) bytes ≡ bytes_of symbols
+  packed-bytes =
+      let n : ℕ = (length symbols - 1) / 8 in
+      ext_get_or 0 (take n bytes) (bytes_of symbols) (omega (arith, length-take n bytes, byte_count_of symbols, enough)) (λ k inside.
+      let within : k < n = omega (arith, inside, length-take n bytes) in
+      get_or-take n bytes k 0 within ∙ byte-at k within
+      ∙ sym (get_or-map-range_with_len (λ i. byte_of symbols (8 * i)) 0 n k k 0 within (omega arith)))

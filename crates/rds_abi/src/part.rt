@@ -1,6 +1,6 @@
 //! The part of a recording that a run over a range hears, and states in it.
 
-ghost use Rattle.std.specs.Prelude.{◌≡◌, ◌+◌, ◌-◌, ◌*◌, ◌<◌, ◌≤◌, ◌^◌, ℕ, IfOk, length};
+ghost use Rattle.std.specs.Prelude.{◌≡◌, ◌+◌, ◌-◌, ◌*◌, ◌<◌, ◌≤◌, ◌^◌, ℕ, IfOk};
 ghost use Rattle.rds_stream.specs.Recording.{AreGaps, length_of};
 ghost use Rattle.rds_live.specs.Gaps.{gaps_within as the_gaps_within, part_of_gap as the_part_of_gap};
 ghost use Rattle.rds_live.specs.Moving.{IsPartHeard, moved_state};

@@ -1,18 +1,16 @@
 //! A stream of symbols, whose bits are followed, and whose groups are read again from the symbols.
 
-ghost use Rattle.std.specs.Prelude.{◌≡◌, ◌++◌, ◌<◌, ◌≤◌, ◌⊎◌, ◌+◌, ◌-◌, ◌*◌, ◌/◌, ◌^◌, ℕ, ℤ, List, IfErr, IfOk, OnErr, OnOk, bit_xor, drop, length, map, min, take};
-ghost use Rattle.std.specs.List.{range_with_len};
-ghost use Rattle.rds_stream.specs.Recording.{AreGaps, Signal, length_of};
-ghost use Rattle.rds_sync.specs.Ranges.{IsInRange};
+ghost use Rattle.std.specs.Prelude.{◌≡◌, ◌++◌, ◌<◌, ◌≤◌, ◌⊎◌, ◌+◌, ◌-◌, ◌*◌, ◌/◌, ◌^◌, ℕ, ℤ, List, IfErr, IfOk, OnErr, OnOk, drop, length, map, min, take};
+ghost use Rattle.rds_stream.specs.Recording.{AreGaps, length_of, packed_bit};
 ghost use Rattle.rds_live.specs.Gaps.{gaps_within as the_gaps_within};
 ghost use Rattle.rds_live.specs.StreamDecoder.{most_kept};
 ghost use Rattle.rds_live.specs.Next.{completed, live_next};
-ghost use Rattle.rds_soft.specs.Symbols.{sign};
+ghost use Rattle.rds_soft.specs.Symbols.{hard_bit};
 ghost use Rattle.rds_soft.specs.declared.soft_item.SoftItem.TheVariants.{Group as InSoft};
 ghost use Rattle.rds_soft.specs.ReadAgain.{group_again, symbols_of};
 ghost use Rattle.rds_abi.specs.Asked.{IsFilled, IsTooMuch, gaps_of};
 ghost use Rattle.rds_abi.specs.Stream.{IsFollowed, IsLeft, RefusesStream, place_after, stream_in_c as the_stream_in_c, stream_of as the_stream_of, terms_of};
-ghost use Rattle.rds_abi.specs.Soft.{AreReadAgain, HasHeardSoft, IsMargin, IsPushed, IsWrittenAgain, RefusesMargin, RefusesSoft, again_in as the_again_in, byte_count, byte_of as the_byte_of, bytes_of as the_bytes_of, piece_of as the_piece_of};
+ghost use Rattle.rds_abi.specs.Soft.{AreReadAgain, HasHeardSoft, IsMargin, IsPushed, IsWrittenAgain, RefusesMargin, RefusesSoft, again_in as the_again_in, byte_count, bytes_of as the_bytes_of, piece_of as the_piece_of};
 ghost use Rattle.rds_abi.specs.Layout.{item_in_c, soft_item_in_c as the_soft_item_in_c};
 ghost use Rattle.rds_abi.specs.declared.refusal.Refusal.TheVariants.{OutOfMemory, SmallRoom, TooLong};
 
@@ -27,7 +25,7 @@ use crate::stream::{
 use rds_live::StreamDecoder;
 use rds_live::laws::next_is_heard;
 use rds_soft::laws::{items_are_read_again_alike, items_are_read_again_so};
-use rds_soft::{Margin, Search, SoftGroup, SoftItem};
+use rds_soft::{Margin, Search, SoftGroup, SoftItem, pack_bits};
 use rds_stream::Recording;
 use rds_sync::{Group, Item, laws};
 use std::alloc::{AllocError, Global};
@@ -63,33 +61,18 @@ fn piece_of(symbols: &[i8], room: usize) -> &[i8]
 fn bytes_of(alloc: Global, symbols: &[i8]) -> Result<Vec<u8>, AllocError>
     ensures { IfOk result (λ bytes. bytes.items ≡ the_bytes_of symbols.now) }
 {
-    let count = symbols.len().saturating_sub(1) / 8;
-    let mut bytes = Vec::with_capacity(alloc, count)?;
-    for k in 0..count {
-        bytes.push(byte_of(symbols, 8 * k))?;
-    }
-    Ok(bytes)
+    let raw = raw_of(alloc, symbols)?;
+    let packed = pack_bits(alloc, &raw)?;
+    Vec::from_slice(alloc, whole_bytes(&packed, symbols))
 }
 
-/// The eight bits between the symbols from number `first` on.
-fn byte_of(symbols: &[i8], first: usize) -> u8
-    requires { first + 8 < length symbols.now }
-    ensures { result ≡ the_byte_of symbols.now first }
+/// The whole bytes of the packed bits of symbols.
+fn whole_bytes<'a>(packed: &'a [u8], symbols: &[i8]) -> &'a [u8]
+    requires enough { length symbols.now ≤ 8 * length packed.now + 1 }
+    requires bits { (i : ℕ) → i + 1 < length symbols.now → packed_bit packed.now i ≡ hard_bit symbols.now i }
+    ensures { result.now ≡ the_bytes_of symbols.now }
 {
-    let mut byte = 0;
-    for i in 0..8usize {
-        byte = 2 * byte + bit_between(symbols[first + i], symbols[first + i + 1]);
-    }
-    byte
-}
-
-/// The bit between two symbols in a row.
-#[inline(always)]
-fn bit_between(before: i8, after: i8) -> u8
-    ensures value { result ≡ bit_xor (sign before) (sign after) }
-    ensures digit { result < 2 }
-{
-    u8::from(before.is_positive()) ^ u8::from(after.is_positive())
+    &packed[..symbols.len().saturating_sub(1) / 8]
 }
 
 /// The symbols that are kept, and these after them.

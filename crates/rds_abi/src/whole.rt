@@ -1,6 +1,6 @@
 //! A recording that is handed over whole.
 
-ghost use Rattle.std.specs.Prelude.{◌≡◌, ◌++◌, ◌<◌, ◌≤◌, ◌⊎◌, IfErr, IfOk, OnErr, OnOk, drop, length, map};
+ghost use Rattle.std.specs.Prelude.{◌≡◌, ◌<◌, ◌≤◌, ◌⊎◌, IfErr, IfOk, OnErr, OnOk, length, map};
 ghost use Rattle.rds_abi.specs.Asked.{IsFilled, IsLawful, IsTooMuch, Refuses, asked, items_asked, totals_asked};
 ghost use Rattle.rds_abi.specs.Layout.{item_in_c};
 

@@ -1,13 +1,22 @@
-use Rattle.std.proofs.Common.{◌*◌, ◌++◌, ◌∷◌, [], ◌∙◌, ℕ, List, ap₂, arith, sym}
-use Rattle.std.proofs.lemmas.List.FromFn.{map-range_with_len_more}
-use Rattle.rds_abi.specs.Soft.{byte_of}
+use Rattle.std.proofs.Common.{◌≡◌, ◌∙◌, ℕ, List, ap, arith, length, sym}
+use Rattle.std.specs.Prelude.{ℤ}
+use Rattle.std.specs.Int.{cast_signed, w8}
+use Rattle.std.proofs.lemmas.List.{length-map}
+use Rattle.rds_stream.specs.Recording.{packed_bit}
+use Rattle.rds_soft.specs.ReadAgain.{symbols_of}
+use Rattle.rds_soft.specs.Symbols.{hard_bit}
 use Rattle.rds_abi.proofs.soft.bytes_of.Goals as goal
 
-pub loop-k-preserved : goal.loop-k-preserved
-loop-k-preserved c =
-    let symbols = c.args.symbols.now in
-    record {
-      each = c.in_ok-push.ensures.items
-          ∙ ap₂ (λ (xs : List ℕ) (b : ℕ). xs ++ b ∷ []) c.loop-k.invariant.each c.byte_of.ensures
-          ∙ sym (map-range_with_len_more (λ (k : ℕ). byte_of symbols (8 * k)) 0 c.loop-k.k c.loop-k.k (omega arith));
-    }
+long : (raw : List ℕ) (symbols : List ℤ) → symbols_of raw ≡ symbols → length raw ≡ length symbols
+long raw symbols same = sym (length-map raw (cast_signed w8)) ∙ ap (λ (xs : List ℤ). length xs) same
+
+pub whole_bytes-requires-clause-enough : goal.whole_bytes-requires-clause-enough
+whole_bytes-requires-clause-enough c =
+    let same = ap symbols_of c.deref.ensures.value ∙ c.in_ok-raw.ensures in
+    omega (arith, c.in_ok-packed.ensures.enough, long c.deref.result.now c.args.symbols.now same, c.deref-2.ensures.len)
+
+pub whole_bytes-requires-clause-bits : goal.whole_bytes-requires-clause-bits
+whole_bytes-requires-clause-bits c = λ i within.
+    let same = ap symbols_of c.deref.ensures.value ∙ c.in_ok-raw.ensures in
+    ap (λ (xs : List ℕ). packed_bit xs i) c.deref-2.ensures.value
+    ∙ c.in_ok-packed.ensures.bits i (omega (arith, within, long c.deref.result.now c.args.symbols.now same)) ∙ ap (λ (xs : List ℤ). hard_bit xs i) same
