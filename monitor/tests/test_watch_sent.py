@@ -242,7 +242,7 @@ class Books:
         )
 
 
-@pytest.mark.parametrize(("seed", "burst"), enumerate([0.0, 12.0]))
+@pytest.mark.parametrize(("seed", "burst"), enumerate([0.0, 2.0, 12.0]))
 def test_every_second_is_accounted_for(
     tmp_path: Path, seed: int, burst: float, monkeypatch: pytest.MonkeyPatch
 ) -> None:
