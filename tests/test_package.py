@@ -492,16 +492,8 @@ def test_an_unpacked_release(release: Path, tmp_path: Path, cases: Cases) -> Non
         wrote(CC, "-o", tmp_path / "program", tmp_path / "first.c", *found)
         assert said(tmp_path / "program", data=SAMPLE, env={"LD_LIBRARY_PATH": f"{release}/lib"}) == COUNTS
     (wheel,) = release.glob("rds_monitor-*.whl")
-    words = [
-        "--no-index",
-        "--no-deps",
-        "--quiet",
-        "--disable-pip-version-check",
-        "--target",
-        tmp_path / "python",
-        wheel,
-    ]
-    wrote(sys.executable, "-m", "pip", "install", *words)
+    words = "-m pip install --no-index --no-deps --quiet --disable-pip-version-check --target".split()
+    wrote(sys.executable, *words, tmp_path / "python", wheel)
     path["PYTHONPATH"] = str(tmp_path / "python")
     monitor = [sys.executable, tmp_path / "python/bin/rds-monitor"]
     assert "\ndecoder: librds 0.2.0" in said(*monitor, "--version", env=path)
@@ -537,14 +529,8 @@ def test_what_was_built_is_used_without_the_toolchain(
 ) -> None:
     """Nothing is built anew; that it is older than the sources is said in one line."""
     cases(5)
-    words = [
-        "make",
-        "-s",
-        "--no-print-directory",
-        f"DESTDIR={copied}/root",
-        "PREFIX=/usr",
-        "ZSH_COMPLETIONS=/usr/zsh",
-    ]
+    words = ["make", "-s", "--no-print-directory", f"DESTDIR={copied}/root", "PREFIX=/usr"]
+    words.append("ZSH_COMPLETIONS=/usr/zsh")
     for target in ("all", "install", "install-lib", "deb", "dist"):
         refused = run(*words, target, cwd=copied, env=WITHOUT_RT)
         assert refused.status == 2 and re.search(

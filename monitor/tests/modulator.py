@@ -123,7 +123,7 @@ def mpx(
     random = numpy.random.default_rng(seed)
     shape = sent(data, rate, clock_offset)
     times = numpy.arange(shape.size) / rate
-    jumps = numpy.radians(jump) * numpy.floor(4 * times)
+    jumps = numpy.radians(jump) * numpy.floor(4 * times) if jump else 0.0
     carrier = 2 * numpy.pi * (CARRIER_HZ + carrier_offset) * times + numpy.radians(phase) + 3 * jumps
     rds = shape * numpy.sin(carrier) * level
     # White noise has its power spread evenly up to half of the sample rate.

@@ -284,10 +284,7 @@ def test_a_full_disk(folders: Any) -> None:
     mount = 'mount -t tmpfs -o size=64k none "$0"'
     inside = mount + ' && "$@"; s=$?; ls -A "$0" >&2; exit $s'
     words_ = [
-        "unshare",
-        "--mount",
-        "sh",
-        "-c",
+        *"unshare --mount sh -c".split(),
         inside,
         str(folders[1]),
         *COMMAND,

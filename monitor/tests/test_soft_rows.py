@@ -155,17 +155,7 @@ def test_errors_have_a_column_more(path: Path, listed: bytes, tmp_path: Path) ->
     assert "soft" not in output("errors", data=encode(words(4, 30)))
 
 
-COMMANDS = (
-    "info",
-    "json",
-    "table",
-    "groups",
-    "types",
-    "programmes",
-    "corrected",
-    "outages",
-    "report",
-)
+COMMANDS = ("info", "json", "table", "groups", "types", "programmes", "corrected", "outages", "report")
 
 
 @pytest.mark.parametrize("command", COMMANDS)

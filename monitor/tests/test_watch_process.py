@@ -377,18 +377,10 @@ def test_it_opens_no_socket(tmp_path: Path) -> None:
 
 def test_the_demonstration(tmp_path: Path) -> None:
     """Three simulated stations are on a page, and four of one capture on another, beside a picture of it. The addresses are printed."""
-    words = [
-        sys.executable,
-        str(STATION.parent / "run.py"),
-        "--folder",
-        str(tmp_path / "demo"),
-        "--seconds",
-        "2",
-    ]
+    demo = tmp_path / "demo"
+    words = [sys.executable, STATION.parent / "run.py", "--folder", demo, "--seconds", "2"]
     done = subprocess.run(words, stdout=subprocess.PIPE, stderr=subprocess.DEVNULL, timeout=3 * PATIENCE)
-    pages = [
-        tmp_path / "demo" / name for name in ("pages/index.html", "capture.html", "capture/pages/index.html")
-    ]
+    pages = [demo / name for name in ("pages/index.html", "capture.html", "capture/pages/index.html")]
     assert done.returncode == 0 and done.stdout.decode() == "".join(f"{page.as_uri()}\n" for page in pages)
     assert all(
         text in page.read_text() for page in pages[1:] for text in ("DELTA", "EPSILON", "ZETA", "ETA FM")

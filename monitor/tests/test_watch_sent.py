@@ -249,12 +249,8 @@ def test_every_second_is_accounted_for(
     books = Books(tmp_path, seed, burst)
     books.all(monkeypatch)
     books.write(tmp_path / "sent.json")
-    words = [
-        sys.executable,
-        Path(__file__).with_name("accountant.py"),
-        tmp_path / "sent.json",
-        tmp_path / "watch.db",
-    ]
+    accountant = Path(__file__).with_name("accountant.py")
+    words = [sys.executable, accountant, tmp_path / "sent.json", tmp_path / "watch.db"]
     done = ran(words)
     assert done.returncode == 0, done.stdout + done.stderr
     data, end = sqlite3.connect(tmp_path / "watch.db"), books.net.times.utc
