@@ -1,11 +1,12 @@
 #!/usr/bin/env python3
 """Random edits of rds-monitor, packaging and completions, one at a time in a copy of the tree: which ones no test sees.
 
-    RDS=build/rds tests/mutants.py [--seed N] [--count N] [--jobs N] [--files PATTERN..] [--tests FILE..] [--near N] [--unseen N]
+    RDS=build/rds tests/mutants.py [--seed N..] [--count N] [--jobs N] [--files PATTERN..] [--tests FILE..] [--near N] [--seconds N]
 
-The tests that import the edited file, or name it, run first, then all others of monitor/tests; with --near only the N nearest that are quick.
-A test that fails counts if it passes without the edit. mutants.tsv has the edits that change nothing, with
-a reason each. Status 1: more than --unseen others survived.
+A seed draws by the texts of files, lines and edits, so that a change of the tree changes few draws. The tests that import the edited file,
+or name it, run first, then all others of monitor/tests; with --near only the N nearest that are quick. A test that fails counts if it
+passes without the edit. mutants.tsv has the edits that change nothing, with a reason each, and edits that only a far test sees, with that
+test, which then runs first. Status 1: others survived.
 """
 
 from __future__ import annotations
@@ -13,8 +14,10 @@ from __future__ import annotations
 import argparse
 import ast
 import functools
+import hashlib
+import itertools
 import os
-import random
+import queue
 import re
 import resource
 import shutil
@@ -29,7 +32,7 @@ from typing import Any, Iterator, NamedTuple
 TOP = Path(__file__).resolve().parents[1]
 # What a copy has for itself; all else is linked. The roots below which a test finds what it imports.
 COPIED, ROOTS = "monitor packaging completions tests pyproject.toml", "monitor monitor/tests tests packaging"
-# The seconds and the bytes of memory that the tests of one edit may take: it may loop.
+# The seconds by the clock and the bytes of memory that the tests of one edit may take: it may loop.
 SECONDS, MEMORY = 1800, 4 << 30
 PAIRS = "Lt LtE, Gt GtE, Eq NotEq, Is IsNot, In NotIn, And Or, Add Sub, Mult FloorDiv, BitAnd BitOr, RShift LShift, USub UAdd"
 OTHER = dict(pair for one, two in map(str.split, PAIRS.split(", ")) for pair in ((one, two), (two, one)))
@@ -122,7 +125,7 @@ def texts_of(text: str) -> Iterator[str]:
         for found in re.finditer(pattern, text):
             if found.start() not in comments:
                 yield text[: found.start()] + (new or str(int(found[0]) + 1)) + text[found.end() :]
-    for found in ENTRIES.finditer(text):
+    for found in (found for found in ENTRIES.finditer(text) if found.start() not in comments):
         (key, _, one), (other_key, _, other) = (entry.partition(" ") for entry in found.groups())
         new = f"{key} {other}; {other_key} {one}" if one and other else f"{found[2]}; {found[1]}"
         yield text[: found.start()] + new + text[found.end() :]
@@ -236,10 +239,16 @@ def tests_of(edited: Path, near: int | None) -> list[str]:
     else:
         every = [*of_monitor, *sorted((TOP / "tests").glob("test_*.py"))]
         steps = {path: 1 for path in every if names(path, edited)}
-    is_other = lambda path: edited.stem not in path.stem and edited.parent.name not in path.stem
-    is_slow = lambda path: near is not None and path.stem.removeprefix("test_") in SLOW
-    tests = sorted(steps, key=lambda path: (is_slow(path), steps[path], is_other(path)))
-    return [str(path.relative_to(TOP)) for path in tests[:near]]
+    of_edited = re.compile(f"_({edited.stem}|{edited.parent.name})(_|$)")
+    is_other = lambda path: not of_edited.search(path.stem)
+    # or of a file beside it
+    beside = {f"test_{path.stem}" for path in edited.parent.glob("*.py")}
+    is_slow = lambda path: near is not None and path.stem.removeprefix("test_") in SLOW and is_other(path)
+    far = lambda path: (is_slow(path), steps[path], is_other(path), path.stem not in beside)
+    tests = sorted(steps, key=far)
+    # the widest test: whole texts of each command
+    rich = [path for path in tests if path.stem == "test_rich"][: near is not None]
+    return [str(path.relative_to(TOP)) for path in dict.fromkeys([*tests[:near], *rich])]
 
 
 def names(test: Path, edited: Path) -> bool:
@@ -261,12 +270,17 @@ def copy_to(top: Path) -> None:
             shutil.copy2(path, top)
 
 
-def failing(top: Path, tests: list[str], passed_over: list[str]) -> str:
-    """The first test of a tree that fails, or "no end"; empty if all pass."""
-    words = [sys.executable, *"-m pytest -x -q -rfE -n 0 --rootdir=.".split(), *tests]
+def compiled(top: Path) -> None:
+    """Two versions of a file may have one size and one time: bytecode is that of a text by its hash."""
+    words = "-m compileall -q --invalidation-mode checked-hash monitor tests packaging".split()
+    subprocess.run([sys.executable, *words], cwd=top, stdout=subprocess.DEVNULL)
+
+
+def failing(top: Path, tests: list[str], passed_over: list[str], most: str = "1") -> list[str]:
+    """The first tests of a tree that fail, or "no end"."""
+    words = [sys.executable, *f"-m pytest --maxfail={most} -q -rfE -n 0 --rootdir=.".split(), *tests]
     words += [f"--deselect={name}" for name in passed_over]
-    # two versions of a file may have one size and one time
-    variables = {**os.environ, "PYTHONDONTWRITEBYTECODE": "1", "RDS_COUNTS_OF_ALONE": "/dev/null"}
+    variables = {**os.environ, "RDS_COUNTS_OF_ALONE": "/dev/null"}
     options: dict[str, Any] = {"stdout": subprocess.PIPE, "stderr": subprocess.STDOUT, "text": True}
     options["preexec_fn"] = lambda: resource.setrlimit(resource.RLIMIT_DATA, (MEMORY, MEMORY))
     with subprocess.Popen(words, cwd=top, env=variables, start_new_session=True, **options) as ran:
@@ -274,71 +288,142 @@ def failing(top: Path, tests: list[str], passed_over: list[str]) -> str:
             text = ran.communicate(timeout=SECONDS)[0]
         except subprocess.TimeoutExpired:
             os.killpg(ran.pid, signal.SIGKILL)
-            return "no end"
-    found = re.search(r"^(?:FAILED|ERROR) (\S+\.py(?:::\w+)*)", text, re.M)
-    if not found and "MemoryError" in text:
-        return "no end"
+            return ["no end"]
+    found = [
+        # a parameter with a blank is left out
+        name if " " not in name else name.partition("[")[0]
+        for name in re.findall(r"^(?:FAILED|ERROR) (\S+\.py.*?)(?: - .*)?$", text, re.M)
+    ]
+    if not found and ("MemoryError" in text or ran.returncode < 0):
+        return ["no end"]
     assert found or ran.returncode in (0, 5), text
-    return found[1] if found else ""
+    return [*dict.fromkeys(found)]
 
 
-def seen_by(path: str, edited: str, unedited: str, tests: list[str]) -> str:
-    """The first test that fails for the edit alone, or ""."""
-    passed_over: list[str] = []
-    with tempfile.TemporaryDirectory() as folder:
-        copy_to(Path(folder))
-        while True:
-            (Path(folder) / path).write_text(edited)
-            name = failing(Path(folder), tests, passed_over)
-            (Path(folder) / path).write_text(unedited)
-            if name in ("", "no end") or not failing(Path(folder), [name], []):
-                return name
+class Trial(NamedTuple):
+    """An edit that is tried: its name, its file, its text with the edit and without it, and the tests that may see it."""
+
+    name: str
+    path: str
+    edited: str
+    unedited: str
+    tests: list[str]
+
+    def seen_by(self, top: Path, passed_over: list[str]) -> str:
+        """The first test of a copy that fails, or ""."""
+        (top / self.path).write_text(self.edited)
+        found = failing(top, self.tests, passed_over)
+        (top / self.path).write_text(self.unedited)
+        return "".join(found[:1])
+
+    def seen_alone(self, top: Path, failed: list[str]) -> str:
+        """The first test that fails for the edit alone, or "", where these fail without it."""
+        passed_over = [*failed]
+        while name := self.seen_by(top, passed_over):
+            if name == "no end" or not failing(top, [name], []):
+                break
             passed_over.append(name)
+        return name
 
 
-def chosen(seed: int, count: int, patterns: list[str]) -> list[Edit | LineEdit]:
-    """Edits by the seed: of each a file first, then a line, so that long tables do not crowd out the rest."""
-    generator, found = random.Random(seed), list[Edit | LineEdit]()
-    by_file: list[dict[int, list[Edit | LineEdit]]] = []
-    for path in sorted(path for pattern in patterns for path in TOP.glob(pattern) if path.is_file()):
-        lines: dict[int, list[Edit | LineEdit]] = {}
-        for edit in edits_of(path):
-            lines.setdefault(edit.line, []).append(edit)
-        by_file += [lines] * bool(lines)
-    while by_file and len(found) < count:
-        lines = generator.choice(by_file)
-        line = generator.choice([*lines])
-        found.append(generator.choice(lines.pop(line)))
-        by_file = [lines for lines in by_file if lines]
-    return found
+def tried(trials: list[Trial], jobs: int) -> Iterator[tuple[Trial, str]]:
+    """Each trial with the test that sees it, or "": at first all, then the tests that failed, without an edit."""
+    with tempfile.TemporaryDirectory() as folder, ThreadPoolExecutor(jobs) as pool:
+        copies = queue.Queue[Path]()
+        for number in range(min(jobs, len(trials))):
+            copies.put(copy := Path(folder) / str(number))
+            copy.mkdir()
+            copy_to(copy)
+            compiled(copy)
+
+        def in_a_copy(trial: Trial, passed_over: list[str] | None = None) -> str:
+            copy, before = copies.get(), spent()
+            name = trial.seen_by(copy, []) if passed_over is None else trial.seen_alone(copy, passed_over)
+            copies.put(copy)
+            shown = f"{trial.path}\t{name or 'not seen'}\t{spent() - before:.1f} s"
+            print(shown, file=sys.stderr, flush=True)
+            return name
+
+        found = [*pool.map(in_a_copy, trials)]
+        names = [name for name in dict.fromkeys(found) if name not in ("", "no end")]
+        failed = failing(copies.queue[0], names, [], "99") if names else []
+        for trial, name in zip(trials, found):
+            yield trial, in_a_copy(trial, failed) if name in failed else name
+
+
+def spent() -> float:
+    """The processor seconds of all tests so far."""
+    return sum(resource.getrusage(resource.RUSAGE_CHILDREN)[:2])
+
+
+def rank(*words: object) -> bytes:
+    return hashlib.sha256("\0".join(map(str, words)).encode()).digest()
+
+
+def of_file(seed: int, path: Path) -> Iterator[Edit | LineEdit]:
+    """The edits of a file by the seed, one of each line, so that long tables do not crowd out the rest."""
+    lines, by_line = path.read_text().splitlines(), dict[str, list[Edit | LineEdit]]()
+    for edit in edits_of(path):
+        by_line.setdefault(lines[edit.line - 1], []).append(edit)
+    for text in sorted(by_line, key=lambda text: rank(seed, path.name, text)):
+        yield min(by_line[text], key=lambda edit: rank(seed, edit.name()))
+
+
+def chosen(seed: int, patterns: list[str]) -> Iterator[Edit | LineEdit]:
+    """Edits by the seed, one of each file before the next of each."""
+    paths = {path for pattern in patterns for path in TOP.glob(pattern) if path.is_file()}
+    edits = [
+        of_file(seed, path) for path in sorted(paths, key=lambda path: rank(seed, path.relative_to(TOP)))
+    ]
+    while edits:
+        for one in [*edits]:
+            edit = next(one, None)
+            if edit:
+                yield edit
+            else:
+                edits.remove(one)
+
+
+def table() -> dict[str, str]:
+    """The reasons of mutants.tsv by edits."""
+    rows = (TOP / "tests/mutants.tsv").read_text().splitlines()
+    return {edit: reason for edit, _, reason in (row.partition("\t") for row in rows)}
+
+
+def trials_of(seed: int, words: argparse.Namespace) -> Iterator[Trial]:
+    """Edits that change the code, and are not known to change nothing."""
+    known, is_test = table(), re.compile(r"\S+\.py(::\S+)?$")
+    for edit in chosen(seed, words.files):
+        edited, unedited = edit.texts()
+        reason = known.get(edit.name(), "")
+        first = [reason] if is_test.match(reason) else []
+        if edited != unedited and (first or not reason):
+            tests = words.tests or [*dict.fromkeys([*first, *tests_of(TOP / edit.path, words.near)])]
+            yield Trial(edit.name(), edit.path, edited, unedited, tests)
 
 
 def main() -> int:
     parser = argparse.ArgumentParser(
         description=__doc__, formatter_class=argparse.RawDescriptionHelpFormatter
     )
-    for name, number in {"--seed": 0, "--count": 12, "--jobs": 1, "--unseen": 0}.items():
+    parser.add_argument("--seed", type=int, nargs="+", default=[0])
+    for name, number in {"--count": 12, "--jobs": 1, "--seconds": SECONDS}.items():
         parser.add_argument(name, type=int, default=number)
     parser.add_argument("--near", type=int)
-    usual = ["monitor/rds_monitor/**/*.py", "packaging/*", "completions/*"]
+    usual = ["monitor/rds_monitor/**/*.py", "packaging/[!c]*", "completions/*"]
     parser.add_argument("--files", nargs="+", default=usual)
     parser.add_argument("--tests", nargs="+", help="only these, in this order")
     words = parser.parse_args()
-    known = {line.partition("\t")[0] for line in (TOP / "tests/mutants.tsv").read_text().splitlines()}
-    edits = [edit for edit in chosen(words.seed, words.count, words.files) if edit.name() not in known]
+    # of each process by itself, since it is passed on to all
+    resource.setrlimit(resource.RLIMIT_CPU, (words.seconds, words.seconds))
     # of all edits at first: jobs that edit one tree at once would be in each other's way
-    texts = [(edit.name(), edit.path, *edit.texts()) for edit in edits]
-
-    def is_seen(text: tuple[str, str, str, str]) -> bool:
-        name = seen_by(*text[1:], words.tests or tests_of(TOP / text[1], words.near))
-        print(f"{text[0]}\t{name or 'NOT SEEN'}", flush=True)
-        return bool(name)
-
-    with ThreadPoolExecutor(words.jobs) as pool:
-        unseen = [*pool.map(is_seen, texts)].count(False)
-    spent = sum(resource.getrusage(resource.RUSAGE_CHILDREN)[:2])
-    print(f"{len(edits) - unseen} of {len(edits)} edits are seen, in {spent:.0f} processor seconds")
-    return int(unseen > words.unseen)
+    trials = [trial for seed in words.seed for trial in itertools.islice(trials_of(seed, words), words.count)]
+    unseen = 0
+    for trial, name in tried(trials, words.jobs):
+        unseen += not name
+        print(f"{trial.name}\t{name or 'NOT SEEN'}", flush=True)
+    print(f"{len(trials) - unseen} of {len(trials)} edits are seen, in {spent():.0f} processor seconds")
+    return int(unseen > 0)
 
 
 if __name__ == "__main__":

@@ -495,16 +495,22 @@ def test_random_edit(test: str, status: int) -> None:
     assert ended.status == status and (b"NOT SEEN" in ended.out) == (status == 1), ended
 
 
+# Seeds whose edits were all tried: no day alone turns the gate red. Others are for `tests/mutants.py` by hand.
+SEEDS = (6, 7, 8)
+
+
 def test_random_edits_of_the_day(rds: str, librds: str, cases: Cases) -> None:
-    """Of 6 edits, others each day, the nearest tests see one. build/mutants has them; by all tests `tests/mutants.py` tries more."""
+    """Each of 12 edits, by another seed each day, is seen by a near test, or mutants.tsv says why not. A change of the tree changes few of
+    them. build/mutants has them."""
     variables = {**os.environ, "RDS": rds, "RDS_LIBRARY": f"{librds}/librds.so.0", "PYTEST_ADDOPTS": ""}
-    # Two near tests miss up to half of the edits, and one in ten changes nothing: six unseen ones are no chance.
-    words = f"--seed {time.strftime('%Y%m%d')} --count 6 --near 2 --unseen 5".split()
+    seed = SEEDS[int(time.time() // 86400) % len(SEEDS)]
+    words = f"--seed {seed} --count 12 --near 3 --seconds 120".split()
     ended = run(sys.executable, TOP / "tests" / "mutants.py", *words, env=variables, timeout=1800)
     (TOP / "build").mkdir(exist_ok=True)
     (TOP / "build" / "mutants").write_bytes(ended.out)
-    assert ended.status == 0 and b" edits are seen" in ended.out, ended
-    cases(6)
+    unseen = [line for line in ended.out.decode().splitlines() if line.endswith("NOT SEEN")]
+    assert not unseen and ended.status == 0 and b"12 of 12 edits are seen" in ended.out, (unseen, ended)
+    cases(12)
 
 
 # ---- the tools
@@ -755,5 +761,8 @@ def test_commit_that_passed(gate: Gate, cases: Cases) -> None:
     tests.write_text(
         f"{tests.read_text()}\necho three >{gate.top}/file; git -C {gate.top} -c user.name=a -c user.email=a commit -qam three\n"
     )
-    assert gate.make_test().status == 0 and passed.read_text().split() == [first] != [second]
+    # the tree is clean at the begin
+    third = commit("tests that commit")
+    assert gate.make_test().status == 0 and passed.read_text().split() == [first]
+    assert said("git", "rev-parse", "HEAD", cwd=gate.top) not in (first, second, third)
     cases(4)
