@@ -239,12 +239,13 @@ def tests_of(edited: Path, near: int | None) -> list[str]:
     else:
         every = [*of_monitor, *sorted((TOP / "tests").glob("test_*.py"))]
         steps = {path: 1 for path in every if names(path, edited)}
-    of_edited = re.compile(f"_({edited.stem}|{edited.parent.name})(_|$)")
-    is_other = lambda path: not of_edited.search(path.stem)
+    named = lambda path, name: re.search(f"_{name}(_|$)", path.stem) is not None
+    is_other = lambda path: not named(path, edited.stem) and not named(path, edited.parent.name)
     # or of a file beside it
     beside = {f"test_{path.stem}" for path in edited.parent.glob("*.py")}
     is_slow = lambda path: near is not None and path.stem.removeprefix("test_") in SLOW and is_other(path)
-    far = lambda path: (is_slow(path), steps[path], is_other(path), path.stem not in beside)
+    ranks = lambda path: (not named(path, edited.stem), is_other(path), path.stem not in beside)
+    far = lambda path: (is_slow(path), steps[path], *ranks(path))
     tests = sorted(steps, key=far)
     # the widest test: whole texts of each command
     rich = [path for path in tests if path.stem == "test_rich"][: near is not None]

@@ -161,6 +161,13 @@ def test_the_first_bad_row_is_told(station_listing: bytes) -> None:
     assert refused(b"\n".join(lines)).startswith("row 501: its block 1")
 
 
+def test_the_first_eighty_signs_of_a_bad_row_are_told(station_listing: bytes) -> None:
+    row = "lost," + "".join(chr(33 + k) for k in range(90))
+    assert refused(station_listing[:4000].rpartition(b"\n")[0] + f"\n{row}\n".encode()).endswith(
+        f": {row[:80]!r}"
+    )
+
+
 # Beginnings of inputs, with the fault of each.
 NO_INPUTS = {
     "group,1".encode("utf-16"): "UTF-16",

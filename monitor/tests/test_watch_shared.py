@@ -8,6 +8,7 @@ import subprocess
 import time
 from pathlib import Path
 from typing import Any, Callable, Dict, List
+from unittest import mock
 
 import pytest
 from captures import PROGRAMMES, SMALL_CENTRE, SMALL_RATE, small_capture
@@ -17,8 +18,18 @@ from network import START, Air, Network, Plan, Programme, SharedAir, asked, stat
 
 from rds_monitor.rows.items import Fault
 from rds_monitor.watch.receiver import Process
-from rds_monitor.watch.shared import demodulator
+from rds_monitor.watch.shared import Tap, demodulator
 from rds_monitor.watch.table import ReceiverTable, table_of
+
+
+@pytest.mark.parametrize("left, ended", [(left, ended) for left in (False, True) for ended in (False, True)])
+def test_a_station_that_left_while_others_go_on_does_not_run(left: bool, ended: bool) -> None:
+    """The receiver still runs, or is about to end."""
+    tap = Tap.__new__(Tap)
+    tap.is_stopped = left
+    tap._shared = mock.Mock(is_stopped=ended, **{"keeper.is_running": True})
+    assert tap.is_running is not (left and not ended)
+
 
 # Two receivers of fifteen stations each.
 COUNT = 15
