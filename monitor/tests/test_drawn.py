@@ -36,11 +36,12 @@ CHANGES = [
 
 
 def counts(seconds: int, random: Any) -> Any:
-    """Blocks by the second, no two kinds alike, and stretches without any."""
+    """Blocks by the second, no two kinds alike, and stretches without any, and in which none was read."""
     rows = numpy.zeros((seconds, 5), "i8")
     rows[:, 0] = random.integers(30, 60, seconds)
     rows[:, 2:] = random.integers(0, [9, 6, 4], (seconds, 3))
     rows[random.random(seconds) < 0.05, 2:] = 0
+    rows[seconds // 2 : seconds // 2 + 90, 2:] = rows[seconds // 2 : seconds // 2 + 90, :1] * [0, 0, 1]
     rows[seconds // 3 : seconds // 3 + 90] = 0
     rows[:, 1] = rows[:, 0] - rows[:, 2:].sum(1)
     return rows
