@@ -109,6 +109,16 @@ def test_block_errors() -> None:
     assert judged.found[0][2] == 6 and judged.found[1][2] == 15
     assert Judged("[station.alarms]", "errors = false").minutes(*[99.0] * 9).found == []
     assert Judged().minutes(*[30.0] * 9).found == []
+    # It ends below four fifths of the limit.
+    judged = Judged().minutes(*[31.0] * 3, *[24.0] * 9)
+    assert [begins for _, begins, _ in judged.found] == [True]
+    assert [begins for _, begins, _ in judged.minutes(*[23.9] * 9).found] == [True, False]
+
+
+@pytest.mark.parametrize("pace, found", [(1.01, []), (0.99, []), (1.0101, ["fast"]), (0.9899, ["slow"])])
+def test_a_pace_that_is_off_by_a_hundredth_is_none(pace: float, found: List[str]) -> None:
+    judged = Judged("[station.alarms]", "fast = 60", "slow = 60").seconds(90, pace=pace)
+    assert [name for name, _, _ in judged.found] == found
 
 
 def test_another_pi() -> None:

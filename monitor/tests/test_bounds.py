@@ -1,0 +1,89 @@
+"""Values at each bound, which are taken, and just past it, which are refused."""
+
+from __future__ import annotations
+
+import argparse
+from typing import Any, Callable, List, Tuple
+
+import pytest
+
+from network import stations
+from rds_monitor.measures.errors import interval_of
+from rds_monitor.measures.measure import count_of
+from rds_monitor.measures.outages import share_of
+from rds_monitor.rows.clock import number_of, rate_of, start_of
+from rds_monitor.rows.inputs import bits_of, gaps_of, margin_of
+from rds_monitor.rows.items import Fault
+from rds_monitor.watch.check import Reception, limits_of, percent_of, seen_in
+from rds_monitor.watch.table import table_of
+
+# Of an option: values that are taken, and values that are not.
+OPTIONS: List[Tuple[Callable[[str], Any], str, str]] = [
+    (percent_of, "0 100", "100.000000001 -0"),
+    (share_of, "0 100", "100.000000001 -1"),
+    (number_of, "0 999999999999.999999999", "1000000000000 0.0000000001 -1"),
+    (interval_of, "1 999999999999", "0 0.999999999"),
+    (count_of, "0 1000000000000", "-1 1.0"),
+    (rate_of, "1068.01 1187.5 1306.99", "1068 1307 0 -1187.5"),
+    (
+        start_of,
+        "1970-01-01T00:00:00Z 9990-12-31T23:59:59.999999Z",
+        "1969-12-31T23:59:59Z 9991-01-01T00:00:00Z 2026-02-29T00:00:00Z",
+    ),
+    (bits_of, "0 68719476736", "68719476737 -1"),
+    (margin_of, "1 127", "0 128 -1"),
+    (gaps_of, "0-999999999999 0-1,1-2", "0-1000000000000 -1-2"),
+]
+
+
+@pytest.mark.parametrize("judge, taken, refused", OPTIONS, ids=[of[0].__name__ for of in OPTIONS])
+def test_options(judge: Callable[[str], Any], taken: str, refused: str) -> None:
+    for text in taken.split():
+        judge(text)
+    for text in refused.split():
+        with pytest.raises(argparse.ArgumentTypeError):
+            judge(text)
+
+
+# Of a key of a table: values that are taken, and values that are not, beside other keys.
+IQ = ('form = "iq"', 'raw = "u8"')
+KEYS = {
+    "patience": ("0 999999999999.9", "-0.1 1e12", ()),
+    "frequency": ("0 999999999999.9", "-0.1 1e12", ()),
+    "rate": ("128000 20000000", "127999 20000001", ('form = "mpx"', 'raw = "s16"')),
+    "offset": ("-2999999.5 2999999.5", "-3e6 3e6", (*IQ, "rate = 20000000")),
+    "af": ("[0.11] [107.9]", "[0.1] [108]", ()),
+}
+
+
+@pytest.mark.parametrize("key", KEYS)
+def test_keys_of_a_table(key: str) -> None:
+    taken, refused, beside = KEYS[key]
+    lines = lambda value: stations('name = "A"', 'command = ["a"]', *beside, f"{key} = {value}")
+    for value in taken.split():
+        table_of(lines(value))
+    for value in refused.split():
+        with pytest.raises(Fault):
+            table_of(lines(value))
+
+
+@pytest.mark.parametrize(
+    "limits, fits", [((50, 50, 10, 10), True), ((49.9, 50, 0, 0), False), ((0, 0, 10.1, 10), False)]
+)
+def test_limits_may_be_equal(limits: Tuple[float, ...], fits: bool) -> None:
+    given = argparse.Namespace(**dict(zip("wcWC", limits)))
+    if fits:
+        assert limits_of(given) == limits
+        return
+    with pytest.raises(Fault, match="no warning would come"):
+        limits_of(given)
+
+
+# How long ago a file was written to, and of 20 s with whole groups how many per cent are valid.
+@pytest.mark.parametrize("quiet, valid", [(0, 100), (4.999, 100), (5, 80), (20, 50)])
+def test_a_pause_of_five_seconds_is_no_reception(quiet: float, valid: float) -> None:
+    reception = Reception(1187.5, False)
+    reception.end = reception.whole_until = 23750
+    reception.valid = 23750 // 26
+    told = seen_in(reception, quiet, 1187.5)
+    assert told.valid == pytest.approx(valid, abs=0.1) and told.age == pytest.approx(quiet, abs=0.001)
