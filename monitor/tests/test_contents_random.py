@@ -17,7 +17,7 @@ from rds_monitor.rows.clock import Clock
 from rds_monitor.rows.items import CORRECTED, LOST
 from sent import Damage, Words, group
 
-# With 50 seeds each item is told fifteen times or more. A quarter of the blocks is bad.
+# By so many seeds each item is told fifteen times or more, from blocks of which a quarter is bad.
 SEEDS, GROUPS = 50, 500
 # How long a name, a text or a list may be told after it was sent: turns that are joined, as groups of the station.
 KEPT = 700
