@@ -105,7 +105,7 @@ proofs: edits
 # The library for C over the crates that `proofs` has just built: `lib` would prove all of them once more. The one for arm64 is made if
 # there is a compiler for it, over the proof of rds_c that the first one keeps.
 archives:
-	@for it in amd64 $(if $(shell command -v $(TOOLS_arm64)gcc),arm64); do $(MAKE) --no-print-directory archive-$$it || exit 1; done
+	@for arch in amd64 $(if $(shell command -v $(TOOLS_arm64)gcc),arm64); do $(MAKE) --no-print-directory archive-$$arch || exit 1; done
 
 wrong-bodies:
 	nice tests/wrong_bodies.py $(WHEN)

@@ -6,7 +6,7 @@ _rds_options() {
   case $1 in
     scan) echo "$input $crew --help" ;;
     list | totals) echo "$input $rules --pieces $crew --soft --margin --help" ;;
-    follow) echo "$part $rules --workers --help" ;;
+    follow) echo "$part $rules --workers --soft --margin --help" ;;
     encode) echo '--hex --help' ;;
     '') echo 'scan list follow totals encode help --help --version' ;;
   esac

@@ -2,10 +2,11 @@
 """Random edits of rds-monitor, packaging and completions, one at a time in a copy of the tree: which ones no test sees.
 
     RDS=build/rds tests/mutants.py [--seed N..] [--count N] [--jobs N] [--files PATTERN..] [--tests FILE..] [--near N] [--seconds N]
+        [--comparators]
 
 A seed draws by the texts of files, lines and edits, so that a change of the tree changes few draws. The tests that import the edited file,
-or name it, run first, then all others of monitor/tests; with --near only the N nearest that are quick. A test that fails counts if it
-passes without the edit. mutants.tsv has the edits that change nothing, with a reason each, and edits that only a far test sees, with that
+or name it, run first, then all others of monitor/tests; with --near only the N nearest that are quick. With --comparators each edit is <
+for <=, > for >=, or back. A test that fails counts if it passes without the edit. mutants.tsv has the edits that change nothing, with a reason each, and edits that only a far test sees, with that
 test, which then runs first. Status 1: others survived.
 """
 
@@ -137,8 +138,10 @@ def fields_of(node: Any) -> Iterator[tuple[str, Any]]:
         small = [node.value + 1, node.value - 1] if node.value < 10 or isinstance(node.value, int) else []
         others = [not node.value] if isinstance(node.value, bool) else small or [node.value * 10]
         yield from (("value", other) for other in others)
-    elif isinstance(node, ast.Compare) and type(node.ops[0]).__name__ in OTHER:
-        yield "ops", [getattr(ast, OTHER[type(node.ops[0]).__name__])(), *node.ops[1:]]
+    elif isinstance(node, ast.Compare):
+        for k, op in enumerate(node.ops):
+            if type(op).__name__ in OTHER:
+                yield "ops", [*node.ops[:k], getattr(ast, OTHER[type(op).__name__])(), *node.ops[k + 1 :]]
     elif isinstance(node, (ast.BinOp, ast.BoolOp, ast.UnaryOp, ast.AugAssign)):
         if type(node.op).__name__ in OTHER:
             yield "op", getattr(ast, OTHER[type(node.op).__name__])()
@@ -357,24 +360,34 @@ def spent() -> float:
     return sum(resource.getrusage(resource.RUSAGE_CHILDREN)[:2])
 
 
+def is_comparator(edit: Edit | LineEdit) -> bool:
+    """Whether an edit is < for <=, > for >=, or one of these the other way round."""
+    if not isinstance(edit, Edit) or edit.field != "ops":
+        return False
+    changed = [new for old, new in zip(edit.node.ops, edit.value) if new is not old]
+    return isinstance(changed[0], (ast.Lt, ast.LtE, ast.Gt, ast.GtE))
+
+
 def rank(*words: object) -> bytes:
     return hashlib.sha256("\0".join(map(str, words)).encode()).digest()
 
 
-def of_file(seed: int, path: Path) -> Iterator[Edit | LineEdit]:
+def of_file(seed: int, path: Path, of_comparators: bool) -> Iterator[Edit | LineEdit]:
     """The edits of a file by the seed, one of each line, so that long tables do not crowd out the rest."""
     lines, by_line = path.read_text().splitlines(), dict[str, list[Edit | LineEdit]]()
     for edit in edits_of(path):
-        by_line.setdefault(lines[edit.line - 1], []).append(edit)
+        if not of_comparators or is_comparator(edit):
+            by_line.setdefault(lines[edit.line - 1], []).append(edit)
     for text in sorted(by_line, key=lambda text: rank(seed, path.name, text)):
         yield min(by_line[text], key=lambda edit: rank(seed, edit.name()))
 
 
-def chosen(seed: int, patterns: list[str]) -> Iterator[Edit | LineEdit]:
+def chosen(seed: int, patterns: list[str], of_comparators: bool = False) -> Iterator[Edit | LineEdit]:
     """Edits by the seed, one of each file before the next of each."""
     paths = {path for pattern in patterns for path in TOP.glob(pattern) if path.is_file()}
     edits = [
-        of_file(seed, path) for path in sorted(paths, key=lambda path: rank(seed, path.relative_to(TOP)))
+        of_file(seed, path, of_comparators)
+        for path in sorted(paths, key=lambda path: rank(seed, path.relative_to(TOP)))
     ]
     while edits:
         for one in [*edits]:
@@ -394,7 +407,7 @@ def table() -> dict[str, str]:
 def trials_of(seed: int, words: argparse.Namespace) -> Iterator[Trial]:
     """Edits that change the code, and are not known to change nothing."""
     known, is_test = table(), re.compile(r"\S+\.py(::\S+)?$")
-    for edit in chosen(seed, words.files):
+    for edit in chosen(seed, words.files, words.comparators):
         edited, unedited = edit.texts()
         reason = known.get(edit.name(), "")
         first = [reason] if is_test.match(reason) else []
@@ -414,6 +427,7 @@ def main() -> int:
     usual = ["monitor/rds_monitor/**/*.py", "packaging/[!c]*", "completions/*"]
     parser.add_argument("--files", nargs="+", default=usual)
     parser.add_argument("--tests", nargs="+", help="only these, in this order")
+    parser.add_argument("--comparators", action="store_true", help="only < for <=, > for >= and back")
     words = parser.parse_args()
     # of each process by itself, since it is passed on to all
     resource.setrlimit(resource.RLIMIT_CPU, (words.seconds, words.seconds))

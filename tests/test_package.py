@@ -6,15 +6,19 @@ removed. docs/LIBRARY.md's first program in C is linked with both forms of the i
 
 from __future__ import annotations
 
+import email
 import fnmatch
 import glob
 import gzip
+import io
 import json
 import os
 import re
 import shutil
 import sys
-from hashlib import sha256
+import tarfile
+import zipfile
+from hashlib import sha1, sha256
 from pathlib import Path
 from typing import Any, Callable
 
@@ -112,6 +116,15 @@ def test_what_zsh_shows(rds: str, command: str, cases: Cases) -> None:
     cases(len(parted))
 
 
+def test_which_word_zsh_completes(cases: Cases) -> None:
+    """Of those after `rds`, since each command has options of its own."""
+    needs("zsh")
+    script = ZSH.replace('print -l -- "$@"', "print -- $CURRENT $words", 1)
+    for command in COMMANDS:
+        assert said("zsh", "-fc", script, "zsh", "rds", command, "--x", "", cwd=TOP) == f"3 {command} --x"
+    cases(len(COMMANDS))
+
+
 def test_options_that_exclude_each_other(rds: str, cases: Cases) -> None:
     for words in (["--loss", "3", "--share", "3"], ["--loss", "3", "--of", "3"]):
         assert b"ignored" in run(rds, "list", *words).err
@@ -177,7 +190,7 @@ def newest_libc(path: str) -> str:
 
 @of_packages
 def test_fields_of_packages(packages: Packages, cases: Cases) -> None:
-    cases(2)
+    cases(3)
     settings = (TOP / "bindings/python/pyproject.toml").read_text()
     python = re.findall(r'^requires-python = ">=(.*)"$', settings, re.M)[0]
     form = "${Package}, ${Section}, ${Multi-Arch}: ${Depends}; ${Recommends}\n"
@@ -191,6 +204,23 @@ def test_fields_of_packages(packages: Packages, cases: Cases) -> None:
         f"rds, hamradio, no: libc6 (>= {newest_libc(packages.rds)}); rds-monitor",
         f"rds-monitor, hamradio, no: python3 (>= {python}), python3-numpy, python3-librds (= {version}) | rds (= {version}); rds, libjs-d3, python3-jinja2",
     }
+    suggested = "parallel python3-pandas python3-pyfftw python3-scipy python3-soundfile python3-tomli python3-zstandard rtl-sdr"
+    common = [
+        "dpkg-deb",
+        "--show",
+        "--showformat=${Maintainer}, ${Priority}, ${source:Package}: ${Suggests}\n",
+    ]
+    maintainer = "Paxolidu maintainers <maintainers@users.noreply.paxolidu.example>, optional, rds:"
+    assert {said(*common, path) for path in packages.files} == {
+        f"{maintainer} ",
+        f"{maintainer} {', '.join(suggested.split())}",
+    }
+    for path in packages.files:
+        rows = [line.split() for line in said("dpkg-deb", "--contents", path).splitlines()]
+        kib = sum(int(row[2]) for row in rows if row[0][0] == "-") / 1024
+        told = int(said("dpkg-deb", "--field", path, "Installed-Size"))
+        # its folders count, too
+        assert kib <= told <= kib + 4.5 * len(rows), (path, kib, told)
     pages = (TOP / "README.md").read_text()
     described = said("dpkg-deb", "--field", packages.files[-1], "Description")
     assert {*re.findall("x86-64-v[0-9]", described)} == {*re.findall("x86-64-v[0-9]", pages)} != set()
@@ -208,7 +238,7 @@ def test_packages_are_the_same_again(packages: Packages, tmp_path: Path) -> None
 
 @of_packages
 def test_installed_files(packages: Packages, cases: Cases) -> None:
-    cases(4)
+    cases(9)
     listed = [wrote("dpkg-deb", "--contents", path).decode().splitlines() for path in packages.installed]
     names = [re.sub(r".* \./|( -> .*)$", "/", line) for lines in listed for line in lines if line[0] != "d"]
     assert sorted(name.rstrip("/") for name in names) == packages.there()
@@ -231,6 +261,16 @@ def test_installed_files(packages: Packages, cases: Cases) -> None:
         pkgconfig/rds.pc""".split()
     owned = [path for path in packages.there() if path.startswith((f"{libdir}/", "/usr/include/"))]
     assert owned == ["/usr/include/rds.h", *(f"{libdir}/{name}" for name in library)]
+    # what dpkg runs, and what the loader is told
+    control = packages.root / "var/lib/dpkg/info"
+    for name in ("postinst", "prerm"):
+        script = TOP / f"packaging/rds-monitor.{name}"
+        assert (control / script.name).read_bytes() == script.read_bytes()
+        assert os.access(control / script.name, os.X_OK)
+    told = {kind: [*control.glob(f"librds0*.{kind}")] for kind in ("triggers", "shlibs", "symbols")}
+    texts = {kind: paths[0].read_text().splitlines()[0] for kind, paths in told.items()}
+    assert texts["triggers"] == "activate-noawait ldconfig" and texts["symbols"].startswith("librds.so.0 ")
+    assert texts["shlibs"] == f"librds 0 librds0 (>= {packages.version.rpartition('-')[0]})"
 
 
 INSTALLED = """packaging/* bindings/c/* examples/* completions/* docs/*.md rds.1 README.md CHANGELOG.md lib/rds.h monitor/WATCHING.md
@@ -244,6 +284,7 @@ def test_files_that_no_package_has(packages: Packages, tmp_path: Path) -> None:
     read = {".gz": lambda path: gzip.decompress(path.read_bytes())}
     held = {read.get(path.suffix, Path.read_bytes)(path) for path in small}
     files = {Path(path) for pattern in INSTALLED.split() for path in glob.glob(f"{TOP}/{pattern}")}
+    files = {path for path in files if "__pycache__" not in path.parts}
     files.update(tmp_path.iterdir())
     missing = {path for path in files if path.is_file() and path.read_bytes() not in held}
     pages = {f"docs/{name}.md" for name in "ARCHITECTURE CHANGING DECISIONS MODEL PROOFS TESTING".split()}
@@ -377,7 +418,7 @@ def test_nothing_is_left_of_removed_packages(packages: Packages) -> None:
 
 def test_install_and_uninstall(rds: str, librds: str, tmp_path: Path, cases: Cases) -> None:
     """Below a folder with a blank in its name. What others have there stays."""
-    cases(3)
+    cases(5)
     root = tmp_path / "a root"
     other = root / "usr/share/man/man3/other.3"
     other.parent.mkdir(parents=True)
@@ -387,6 +428,11 @@ def test_install_and_uninstall(rds: str, librds: str, tmp_path: Path, cases: Cas
     there = files_below(root)
     assert {"usr/bin/rds", "usr/bin/rds-monitor", "usr/include/rds.h", "usr/lib/librds.so"} <= there
     assert {*map(str, root.rglob("*.3"))} >= {str(root / "usr/share/man/man3/rds_push.3")}
+    completions = {"usr/share/bash-completion/completions/rds", "usr/share/zsh/site-functions/_rds"}
+    scripts = {f"usr/share/rds/examples/{path.name}" for path in (TOP / "examples").glob("*.sh")}
+    programs = {"usr/bin/rds", "usr/bin/rds-monitor", "usr/lib/librds.so", "usr/lib/librds.so.0"}
+    assert {path for path in there if os.access(root / path, os.X_OK)} == programs | scripts
+    assert completions | {"usr/share/man/man1/rds.1", "usr/share/rds/examples/station.bin"} <= there
     wrote("make", "-s", "uninstall", *names[2:], cwd=TOP, timeout=300)
     assert files_below(root) == {"usr/share/man/man3/other.3"}
     assert [path for path in root.rglob("*rds*")] == []
@@ -430,7 +476,13 @@ def release(rds: str, librds: str, copied: Path, tmp_path_factory: Any) -> Path:
     made_here = distributed(TOP, rds, librds, folder / "one")
     again = distributed(copied, rds, librds, folder / "other")
     assert made_here.read_bytes() == again.read_bytes() and made_here.name == again.name
-    wrote("tar", "-x", "-C", folder, data=zstandard.decompress(made_here.read_bytes()))
+    packed = zstandard.decompress(made_here.read_bytes())
+    with tarfile.open(fileobj=io.BytesIO(packed)) as tar:
+        entries = tar.getmembers()
+    owners = {(one.uid, one.gid, one.uname, one.gname, one.mtime) for one in entries}
+    assert owners == {(0, 0, "root", "root", 1700000000)}
+    assert {(one.mode, one.isdir()) for one in entries} == {(0o755, True), (0o755, False), (0o644, False)}
+    wrote("tar", "-x", "-C", folder, data=packed)
     return folder / made_here.name.removesuffix(".tar.zst")
 
 
@@ -440,7 +492,7 @@ LINK = re.compile(r"\]\(([^)#\s]+)")
 
 @of_release
 def test_files_of_a_release(release: Path, rds: str, cases: Cases) -> None:
-    cases(5)
+    cases(10)
     version = said(rds, "--version").removeprefix("rds ")
     assert release.name == f"rds-{version}-x86_64" and (release / "TOOLCHAIN").read_text() == f"{LINE}\n"
     there = files_below(release)
@@ -456,10 +508,51 @@ def test_files_of_a_release(release: Path, rds: str, cases: Cases) -> None:
     assert len({*ids}) == len(ids) and bill["spdxVersion"] == "SPDX-2.3"
     ends = {row[end] for row in bill["relationships"] for end in ("spdxElementId", "relatedSpdxElement")}
     assert ends == {*ids}
-    linked = {
-        row["relatedSpdxElement"] for row in bill["relationships"] if row["relationshipType"] == "STATIC_LINK"
+    related = [
+        tuple(
+            row[key].removeprefix("SPDXRef-")
+            for key in ("spdxElementId", "relationshipType", "relatedSpdxElement")
+        )
+        for row in bill["relationships"]
+    ]
+    linked = [("rds", "STATIC_LINK", name) for name in "atomic_table clap csv hex itoa thiserror".split()]
+    needed = [("rds", "DEPENDS_ON", "glibc"), ("rds", "DEPENDS_ON", "python3-numpy")]
+    of_rds = [("DOCUMENT", "DESCRIBES", "rds"), ("rattle", "BUILD_TOOL_OF", "rds"), *linked, *needed]
+    held = [("rds", "CONTAINS", entry["SPDXID"].removeprefix("SPDXRef-")) for entry in bill["files"]]
+    assert sorted(related) == sorted([*of_rds, *held])
+    assert bill["creationInfo"]["created"] == "2023-11-14T22:13:20Z" and bill["name"] == release.name
+    versions = {entry["name"]: entry.get("versionInfo") for entry in bill["packages"]}
+    assert versions == {"rds": version, "rattle": LINE, "glibc": None, "python3-numpy": None} | {
+        name: LINE for _, _, name in linked
     }
-    assert linked == {f"SPDXRef-{name}" for name in "atomic_table clap csv hex itoa thiserror".split()}
+    # by SPDX 2.3, clause 7.9
+    first = sorted(
+        row["checksumValue"]
+        for entry in bill["files"]
+        for row in entry["checksums"]
+        if row["algorithm"] == "SHA1"
+    )
+    code = bill["packages"][0]["packageVerificationCode"]["packageVerificationCodeValue"]
+    assert code == sha1("".join(first).encode()).hexdigest()
+    assert told["bin/rds"][0] == {
+        "algorithm": "SHA1",
+        "checksumValue": sha1((release / "bin/rds").read_bytes()).hexdigest(),
+    }
+
+
+@of_release
+def test_needs_of_the_wheel_of_a_release(release: Path) -> None:
+    """Those of monitor/pyproject.toml but librds, which is in it."""
+    (wheel,) = release.glob("rds_monitor-*.whl")
+    with zipfile.ZipFile(wheel) as packed:
+        (name,) = (name for name in packed.namelist() if name.endswith("/METADATA"))
+        says = email.message_from_bytes(packed.read(name))
+    needs_of = {"captures": ["pyfftw"], "parquet": ["pandas", "pyarrow"], "report": ["jinja2"]}
+    wanted = [f"{need}; extra == '{extra}'" for extra, needed in needs_of.items() for need in needed]
+    tomli = "tomli; python_version < '3.11' and extra == 'watch'"
+    assert says.get_all("Requires-Dist") == ["numpy", *wanted, tomli]
+    assert says.get_all("Provides-Extra") == ["recordings", *needs_of, "watch"]
+    assert says["Requires-Python"] == ">=3.9" and says["Name"] == "rds-monitor"
 
 
 @of_release

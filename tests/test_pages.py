@@ -224,6 +224,21 @@ def test_errors_and_rows(program: Program, faults: Faults) -> None:
     faults.same("docs/USING.md, refusals in the text", set(), using.named - program.refusals)
 
 
+def test_manual_of_an_installation(faults: Faults) -> None:
+    """Its files are where `make install` puts them, and its exit statuses and processor those of the other pages."""
+    manual, folder = read("rds.1"), re.findall(r"^PREFIX \?= (.*)$", read("Makefile"), re.M)[0]
+    paths = re.findall(r"^\.It Pa (\S+)$", manual, re.M)
+    faults.same("rds.1, folder of the examples", [f"{folder}/share/rds/examples"], paths)
+    statuses = re.findall(r"^\.It (\d)$", between(manual, ".Sh EXIT STATUS", "The errors are:"), re.M)
+    faults.same("rds.1, exit statuses", Using().statuses, statuses)
+    for page, what, pattern in (
+        ("README.md", "processor", r"x86-64-v\d"),
+        ("docs/MODEL.md", "standard", r"IEC \d+"),
+    ):
+        found = [{*re.findall(pattern, text)} for text in (read(page), manual)]
+        faults.same(f"rds.1, {what} as in {page}", *found)
+
+
 def test_errors_of_scripts(program: Program, faults: Faults) -> None:
     """The errors that docs/TROUBLES.md names, and the exit statuses that it tells apart."""
     part = between(read("docs/TROUBLES.md"), "| Ended | Do |", "\n\n")
@@ -370,10 +385,12 @@ def test_claims(faults: Faults) -> None:
 
 
 def test_whole_proofs_by_hand() -> None:
-    # a proof by hand could set a history to anything, so there are two: of how a history begins, and of how it grows
+    # a proof by hand could set a history to anything, so each has two: of how it begins, and of how it grows
     found = sorted(path for path in (TOP / "crates").resolve().glob("*/proofs/**/Proof.antt"))
     assert [str(path).split("/crates/")[1] for path in found] == [
-        f"rds_tool/proofs/trace/Trace/{name}/Proof.antt" for name in ("new", "note")
+        f"{history}/{name}/Proof.antt"
+        for history in ("rds_soft/proofs/history/History", "rds_tool/proofs/trace/Trace")
+        for name in ("new", "note")
     ]
 
 

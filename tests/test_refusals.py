@@ -13,8 +13,10 @@ import subprocess
 from pathlib import Path
 from typing import Any, Callable, Iterator, NamedTuple
 
+import numpy as np
 import pytest
 from inputs import make_refuse
+from plain_soft import random_symbols
 from running import LIMIT, TOP, Ran, wrote
 
 Cases = Callable[[int], None]
@@ -23,6 +25,8 @@ ZERO = b"00003f000019800005a00001b4"
 ZERO_BYTES = bytes.fromhex(ZERO.decode())
 STATION = (TOP / "examples" / "station.bin").read_bytes()
 LINES = b"1234 2540 5244 5320\n0000 0800 0000 0000\n"
+# of which one in ten is wrong, so that there is work for several workers
+SYMBOLS = random_symbols(np.random.default_rng(5), STATION[:12000], 12)
 
 
 class Job(NamedTuple):
@@ -66,6 +70,10 @@ JOBS = [
     Job("list --hex --pieces 2 --workers 2", b"12341a89501ac52449594c83fb\n00003f02002c10000d400001b4\n"),
     # a stream that ends in a byte, with a gap in its last block
     Job("follow --bits 101 --gaps 1-2,99-101", ZERO_BYTES),
+    # symbols whose groups are read again by three workers, and by one; and a stream of two reads and the end
+    Job("list --soft --workers 3", SYMBOLS, 2),
+    Job("totals --soft --workers 1 --gaps 1000-1001", SYMBOLS),
+    Job("follow --soft", SYMBOLS),
 ]
 
 

@@ -1,4 +1,4 @@
-"""Streams of symbols through the library, against the report of their bits, whose groups a plain search reads again (plain_soft.py)."""
+"""Streams of symbols, against the report of their bits, whose groups a plain search reads again (plain_soft.py)."""
 
 from __future__ import annotations
 
@@ -6,7 +6,9 @@ import ctypes
 import importlib
 import os
 import sys
+from contextlib import suppress
 from pathlib import Path
+from subprocess import PIPE, Popen
 from types import ModuleType
 from typing import Any, Callable, Iterator, NamedTuple
 
@@ -14,7 +16,7 @@ import numpy as np
 import plain
 import pytest
 from plain_soft import Window, spelled
-from running import TOP, said, wrote
+from running import LIMIT, TOP, said, wrote
 
 # Symbols of at least this size: seven of them weigh more than the top and the greatest margin here.
 LEAST = 23
@@ -93,7 +95,7 @@ def wanted_rows(stream: Stream) -> list[list[object]]:
     """The rows of the report, read again."""
     signs = stream.symbols > 0
     bits = np.packbits(signs[:-1] != signs[1:]).tobytes()
-    items = plain.report(plain.Recording(bits, None, stream.gaps), stream.rules)
+    items = plain.report(plain.Recording(bits, len(stream.symbols) - 1, stream.gaps), stream.rules)
     return [(group_again(item, stream) if item.what == "group" else item).fields() for item in items]
 
 
@@ -231,3 +233,70 @@ def test_errors(module: ModuleType) -> None:
     with pytest.raises(module.Refused, match=f"refused {UNLAWFUL_STATE} "):
         follower.push(bytes(100))
     assert bytes(follower._soft)[-240:] == bytes(240)
+
+
+# ---- the program
+
+
+def options_of(stream: Stream) -> list[str]:
+    """The options of `rds` for a stream."""
+    gaps = ",".join(f"{begin}-{end}" for begin, end in stream.gaps)
+    rules = ["--reach", str(stream.rules.reach), "--loss", str(stream.rules.bad)]
+    return ["--soft", "--margin", str(stream.margin), *rules, *(["--gaps", gaps] if gaps else [])]
+
+
+def in_parts(symbols: bytes, numbers: np.random.Generator) -> Iterator[bytes]:
+    while symbols:
+        count = int(numbers.choice([1, 2, 27, 100, 5000]))
+        yield symbols[:count]
+        symbols = symbols[count:]
+
+
+def fed(rds: str, options: list[str], parts: Iterator[bytes]) -> bytes:
+    """The output of `rds follow`, whose input comes part by part through a pipe."""
+    with Popen([rds, "follow", *options], stdin=PIPE, stdout=PIPE) as running:
+        assert running.stdin
+        # with --bits it may end before its input does
+        with suppress(BrokenPipeError):
+            for part in parts:
+                running.stdin.write(part)
+                running.stdin.flush()
+        return running.communicate(timeout=LIMIT)[0]
+
+
+@pytest.mark.parametrize("seed", range(30))
+def test_program(rds: str, seed: int, cases: Callable[[int], None]) -> None:
+    """`rds follow --soft` of symbols that are cut anyhow writes what `rds list --soft` writes: the report, read again."""
+    numbers = np.random.default_rng(seed)
+    whole = random_stream(numbers)
+    count = len(whole.symbols) - int(numbers.integers(8))
+    gaps = [gap for gap in whole.gaps if gap[1] < count]
+    stream = whole._replace(symbols=whole.symbols[:count], gaps=gaps)
+    symbols, options = stream.symbols.tobytes(), options_of(stream)
+    listed = wrote(rds, "list", *options, data=symbols)
+    assert fed(rds, options, in_parts(symbols, numbers)) == listed
+    limited = [*options, f"--bits={count - 1}"]
+    assert fed(rds, limited, in_parts(whole.symbols.tobytes(), numbers)) == listed
+    rows = [row.split(",") for row in listed.decode().splitlines()]
+    wanted = wanted_rows(stream)
+    assert [row for row in rows if row[0] != "total"] == [[*map(str, row)] for row in wanted]
+    cases(len(wanted))
+
+
+def test_rows_at_once(rds: str) -> None:
+    """A row is written once the symbol that completes its group was read, in the middle of a byte of bits too."""
+    words = np.random.default_rng(1).integers(0, 1 << 16, (9, 4)).tolist()
+    blocks = [block for group in words for block in plain.encode(group)]
+    bits = [block >> 25 - place & 1 for block in blocks for place in range(plain.BLOCK)]
+    signs = np.cumsum([0, *bits]) % 2 == 1
+    symbols = np.where(signs, 100, -100).astype(np.int8).tobytes()
+    with Popen([rds, "follow", "--soft"], stdin=PIPE, stdout=PIPE) as running:
+        assert running.stdin and running.stdout
+        running.stdin.write(symbols[:53])
+        running.stdin.flush()
+        assert running.stdout.readline() == b"acquired,51,2,-,-,-,-,-\n"
+        for number in range(9):
+            running.stdin.write(symbols[max(53, 104 * number + 1) : 104 * number + 105])
+            running.stdin.flush()
+            assert running.stdout.readline().startswith(b"group,%d," % (104 * number or 26))
+        running.communicate(timeout=LIMIT)

@@ -1,6 +1,7 @@
 """rds-monitor's packages on a machine: a real systemd installs, starts, reloads, upgrades, kills, stops and removes the service.
 
 system/boot.sh starts that machine, with the files of this one, and system/inside.py takes the steps. Here is what each has to do.
+The scripts of the package are tried in any case, over programs that only note their words.
 """
 
 from __future__ import annotations
@@ -120,3 +121,48 @@ def test_user_of_the_service(tmp_path: Path) -> None:
     assert [line.split(":")[3] for line in groups.splitlines() if line.startswith("plugdev")] == [
         "rds-monitor"
     ]
+
+
+# A script of the package with its word; the folder of systemd and the program that makes users, if they are there, and DPKG_ROOT; and
+# what is called.
+USERS, RELOAD = "systemd-sysusers rds-monitor.conf", "systemctl --system daemon-reload"
+STOP = "deb-systemd-invoke stop rds-monitor-watch.service"
+CALLS: list[tuple[str, str, str, list[str]]] = [
+    ("postinst configure", "systemd systemd-sysusers", "", [USERS, RELOAD]),
+    ("postinst configure", "systemd-sysusers", "", [USERS]),
+    ("postinst configure", "systemd", "", [RELOAD]),
+    ("postinst configure", "systemd systemd-sysusers", "/other", []),
+    ("postinst abort-upgrade", "systemd systemd-sysusers", "", []),
+    ("prerm remove", "systemd", "", [STOP]),
+    ("prerm remove", "", "", []),
+    ("prerm remove", "systemd", "/other", []),
+    ("prerm upgrade", "systemd", "", []),
+]
+
+
+def test_scripts_of_the_package(tmp_path: Path, cases: Any) -> None:
+    """A service that cannot be told is no fault of the package, and a user that cannot be made is one."""
+    noted, tools = tmp_path / "noted", tmp_path / "tools"
+    for number, (words, there, other_root, called) in enumerate(CALLS):
+        for failing in ("none", *(call.split()[0] for call in called)):
+            noted.write_text("")
+            shutil.rmtree(tools, ignore_errors=True)
+            tools.mkdir()
+            if "systemd" in there.split():
+                (tools / "systemd").mkdir()
+            for tool in {"systemctl", "deb-systemd-invoke", *there.split()} - {"systemd"}:
+                (tools / tool).write_text(f'#!/bin/sh\necho "{tool} $*" >>{noted}\n[ {tool} != {failing} ]\n')
+                (tools / tool).chmod(0o755)
+            name, word = words.split()
+            script = (
+                (TOP / f"packaging/rds-monitor.{name}")
+                .read_text()
+                .replace("/run/systemd/system", f"{tools}/systemd")
+            )
+            ended = run(
+                "/bin/sh", "-c", script, name, word, env={"PATH": str(tools), "DPKG_ROOT": other_root}
+            )
+            is_fault = failing == "systemd-sysusers"
+            assert (ended.status, ended.out, ended.err) == (int(is_fault), b"", b""), (number, failing, ended)
+            assert noted.read_text().splitlines() == called[: 1 if is_fault else None], (number, failing)
+    cases(sum(1 + len(called) for *_, called in CALLS))

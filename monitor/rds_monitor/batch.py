@@ -127,9 +127,8 @@ def job_text(arguments: argparse.Namespace, program: str) -> str:
 
 def copies(arguments: argparse.Namespace) -> bool:
     """Whether recordings are copied to other machines."""
-    return not arguments.shared and any(
-        re.match(r"-S|--ssh-?login|--slf", word) for word in arguments.parallel
-    )
+    names = re.compile(r"-S|--ssh-?login|--slf")
+    return not arguments.shared and any(map(names.match, arguments.parallel))
 
 
 def parallel_words(arguments: argparse.Namespace, text: str) -> List[str]:
@@ -244,9 +243,8 @@ def run_batch(arguments: argparse.Namespace) -> int:
     if not shutil.which("parallel"):
         raise Fault("there is no GNU parallel: install Debian's package parallel")
     if copies(arguments) and not shutil.which("rsync"):
-        raise Fault(
-            "there is no rsync, which copies recordings: install Debian's package rsync, or say --shared"
-        )
+        cure = "install Debian's package rsync, or say --shared"
+        raise Fault(f"there is no rsync, which copies recordings: {cure}")
     if not os.path.isdir(arguments.recordings):
         raise Fault(f"there is no folder {arguments.recordings!r}")
     os.makedirs(arguments.listings, exist_ok=True)

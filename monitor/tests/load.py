@@ -1,15 +1,16 @@
 #!/usr/bin/env python3
-"""What a watch of 30 stations takes: monitor/tests/load.py [bits|live|program|mpx|week ..], by default all but week
+"""What a watch of 30 stations takes: monitor/tests/load.py [bits|live|program|mpx|soft|week ..], by default all but week
 
 bits  packed bits at 100 times real time, in ticks of 50 seconds: processor seconds
 live  the command with 30 simulated receivers in real time: processor share, memory and descriptors
 program  the same with a process `rds follow` per station
 mpx   MPX of 192,000 samples per second in real time, in ticks of half a second: processor share, memory
+soft  what soft decisions add to that, by the reception: processor share
 week  30 stations over a week, in ticks of ten minutes: memory and the size of the folder, day by day
 
 The signals are made before the clock runs. RDS names the program, RDS_LIBRARY the library. The exit status says whether all is within its
-limit: a processor's whole time for `bits`, nine tenths of two processors' for `mpx`, 50 MB and 30 descriptors per station, 120 MB for
-`week`.
+limit: a processor's whole time for `bits`, nine tenths of two processors' for `mpx`, a tenth of one for `soft`, 50 MB and 30 descriptors
+per station, 120 MB for `week`.
 """
 
 from __future__ import annotations
@@ -26,6 +27,7 @@ from typing import Callable, Dict, List
 
 import conftest  # noqa: F401 - it names the library
 import modulator
+import numpy
 from network import START, Air, Network, Plan, Programme, Simulated, decoders_of
 from station import GROUPS_PER_SECOND, RATE
 
@@ -117,11 +119,12 @@ class MpxAir:
     """Seconds of MPX, over and over."""
 
     RATE = 192000
+    TABLE = 'form = "mpx"', 'raw = "s16"', f"rate = {RATE}"
 
-    def __init__(self) -> None:
+    def __init__(self, snr: float = 30, groups: int = 120) -> None:
         programme = Programme(0xD318, "ALPHA", "Now: nothing")
-        data = conftest.encode([programme.group(n) for n in range(120)])
-        self._data = modulator.stored(modulator.mpx(data, self.RATE), "s16")
+        data = conftest.encode([programme.group(n) for n in range(groups)])
+        self._data = modulator.stored(modulator.mpx(data, self.RATE, snr=snr), "s16")
         self.begin = START
 
     def at(self, seconds: float) -> int:
@@ -133,8 +136,7 @@ class MpxAir:
 
 def mpx(folder: Path) -> int:
     air, seconds = MpxAir(), 30
-    text = table(COUNT, 'form = "mpx"', 'raw = "s16"', f"rate = {MpxAir.RATE}")
-    network = Network(folder, text, {name: air for name in names(COUNT)})  # type: ignore[misc]
+    network = Network(folder, table(COUNT, *MpxAir.TABLE), {name: air for name in names(COUNT)})  # type: ignore[misc]
     network.run(5)
     begin = cpu_seconds()
     network.run(seconds)
@@ -143,6 +145,33 @@ def mpx(folder: Path) -> int:
     within = used <= 1.8 and memory_mb() <= MEMORY_MB * COUNT
     text = f"mpx: {COUNT} stations, {100 * used:.0f} % of a processor, limit 180 %"
     return said(f"{text}; {memory_mb():.0f} MB", within)
+
+
+def ticks(folder: Path, air: MpxAir) -> List[List[float]]:
+    """The processor's seconds of ticks of a station, by hard decisions and by soft ones, in turn."""
+    networks = []
+    for name, *lines in (("hard", "soft = false"), ("soft",)):
+        (folder / name).mkdir(parents=True)
+        networks.append(Network(folder / name, table(1, *MpxAir.TABLE, *lines), {"S00": air}))  # type: ignore[dict-item]
+        networks[-1].run(6, 0.5)
+    return [[used_by_tick(network) for network in networks] for _ in range(240)]
+
+
+def used_by_tick(network: Network) -> float:
+    begin = time.thread_time()
+    network.run(0.5, 0.5)
+    return time.thread_time() - begin
+
+
+def soft(folder: Path) -> int:
+    """By the medians of what ticks take, and of their differences: other work on the machine makes some longer."""
+    failed = 0
+    for snr in (20, -1, -3):
+        found = numpy.array(ticks(folder / str(snr), MpxAir(snr, 1500)))
+        hard, more = (2 * COUNT * numpy.median(of) for of in (found[:, 0], found[:, 1] - found[:, 0]))
+        text = f"soft: {snr} dB, {100 * more:.1f} % of a processor more than {100 * hard:.0f} %, limit 10 %"
+        failed += said(text, more <= 0.1)
+    return failed
 
 
 class Endless:
@@ -195,13 +224,13 @@ def week(folder: Path) -> int:
     return said(f"week: {most[-1] - most[0]:+.1f} MB from the first day to the last", within)
 
 
-KINDS = {"bits": bits, "live": live, "program": program, "mpx": mpx, "week": week}
+KINDS = {"bits": bits, "live": live, "program": program, "mpx": mpx, "soft": soft, "week": week}
 
 
 def main(words: List[str]) -> int:
     failed = 0
     Simulated.keeps = False
-    for name in words or ["bits", "live", "program", "mpx"]:
+    for name in words or ["bits", "live", "program", "mpx", "soft"]:
         with tempfile.TemporaryDirectory() as folder:
             failed += KINDS[name](Path(folder))
     return min(failed, 1)

@@ -12,10 +12,12 @@ from rds_monitor.measures.errors import interval_of
 from rds_monitor.measures.measure import count_of
 from rds_monitor.measures.outages import share_of
 from rds_monitor.rows.clock import number_of, rate_of, start_of
-from rds_monitor.rows.inputs import bits_of, gaps_of, margin_of
-from rds_monitor.rows.items import Fault
+from rds_monitor.rows.inputs import bits_of, gaps_of, input_options, margin_of, rules_of
+from rds_monitor.rows.items import Fault, Misuse
+from rds_monitor.signal.filters import at_least, fast_size
 from rds_monitor.watch.check import Reception, limits_of, percent_of, seen_in
 from rds_monitor.watch.table import table_of
+from rds_monitor.watch.verdict import CRITICAL, OK, WARNING, Limits, Seen, Verdict
 
 # Of an option: values that are taken, and values that are not.
 OPTIONS: List[Tuple[Callable[[str], Any], str, str]] = [
@@ -43,6 +45,34 @@ def test_options(judge: Callable[[str], Any], taken: str, refused: str) -> None:
     for text in refused.split():
         with pytest.raises(argparse.ArgumentTypeError):
             judge(text)
+
+
+# By options: burst, reach, loss, the blocks of a share, and margin; or the options that do not go together.
+RULES: List[Tuple[str, Any]] = [
+    ("", (2, 3, 10, 0, 0)),
+    ("--burst 0 --reach 8 --loss 5", (0, 8, 5, 0, 0)),
+    ("--share 5", (2, 3, 5, 64, 0)),
+    ("--share 5 --of 9", (2, 3, 5, 9, 0)),
+    ("--soft", (2, 3, 10, 0, 32)),
+    ("--soft --margin 1 --loss 9", (2, 3, 9, 0, 1)),
+    ("--loss 5 --share 5", "--loss and --share"),
+    ("--of 9", "--of needs --share"),
+    ("--margin 9", "--margin needs --soft"),
+    ("--soft --burst 2", "--burst and --soft"),
+    ("--soft --hex", "--hex and --soft"),
+]
+
+
+@pytest.mark.parametrize("words, told", RULES)
+def test_rules_of_a_decoder(words: str, told: Any) -> None:
+    parser = argparse.ArgumentParser()
+    input_options(parser)
+    given = parser.parse_args(words.split())
+    if isinstance(told, tuple):
+        assert rules_of(given) == told
+        return
+    with pytest.raises(Misuse, match=f"^{told}"):
+        rules_of(given)
 
 
 # Of a key of a table: values that are taken, and values that are not, beside other keys.
@@ -87,3 +117,36 @@ def test_a_pause_of_five_seconds_is_no_reception(quiet: float, valid: float) -> 
     reception.valid = 23750 // 26
     told = seen_in(reception, quiet, 1187.5)
     assert told.valid == pytest.approx(valid, abs=0.1) and told.age == pytest.approx(quiet, abs=0.001)
+
+
+# Per cent of valid blocks, and the seconds since the last whole group.
+@pytest.mark.parametrize(
+    "valid, age, status",
+    [
+        (90, 10, OK),
+        (89.99, 10, WARNING),
+        (50, 0, WARNING),
+        (49.99, 0, CRITICAL),
+        (100, 10.01, WARNING),
+        (100, 60, WARNING),
+        (100, 60.01, CRITICAL),
+    ],
+)
+def test_a_verdict_at_its_limits(valid: float, age: float, status: int) -> None:
+    verdict = Verdict()
+    verdict.judge(Seen(valid, 0.0, age, None, []), Limits(90, 50, 10, 60), None, [])
+    assert verdict.status == status
+
+
+def has_small_factors(number: int) -> bool:
+    """Whether it divides a power of 30."""
+    return 30**20 % number == 0
+
+
+@pytest.mark.parametrize("number", [0.5, 1, 2, 3, 64, 64.1, 448, 449, 1024, 1025, 12288.5])
+def test_sizes_of_transforms(number: float) -> None:
+    """A power of two; and 64 times a product of 2, 3 and 5."""
+    assert at_least(number) == min(1 << k for k in range(20) if 1 << k >= number)
+    assert fast_size(number) == min(
+        64 * k for k in range(1, 999) if has_small_factors(k) and 64 * k >= number
+    )

@@ -356,6 +356,50 @@ def test_dark_and_light(opened: Any) -> None:
     assert colours == ["rgb(0, 0, 0)", "rgb(255, 255, 255)"]
 
 
+# By page and medium: elements, and what the style makes of them.
+HELD, ALARM = "rgb(255, 255, 255)", "rgb(192, 57, 43)"
+STYLES = {
+    ("one", "screen"): [
+        (".chart text.held", "fill", HELD),
+        (".chart", "overflow-x", "hidden"),
+        (".chart svg", "display", "block"),
+        (".chart rect", "shape-rendering", "crispedges"),
+        (".clock path, .axis path", "fill", "none"),
+        (".controls", "display", "flex"),
+        (".wide", "overflow-x", "auto"),
+        (".wide td", "white-space", "nowrap"),
+        (".wide td.text", "white-space", "normal"),
+        ("bdi", "overflow-x", "hidden"),
+        ("caption", "text-align", "left"),
+    ],
+    ("one", "print"): [(".controls", "display", "none"), (".chart", "break-inside", "avoid")],
+    ("three", "print"): [
+        ("section + section", "break-before", "page"),
+        (".tiles li", "break-inside", "avoid"),
+        ("rect", "print-color-adjust", "exact"),
+    ],
+    ("three", "screen"): [
+        (".tiles", "display", "flex"),
+        (".tiles a.alarm", "border-top-color", ALARM),
+        (".tiles a.alarm strong", "color", ALARM),
+        (".tiles .text", "text-overflow", "ellipsis"),
+        (".tiles .text", "white-space", "nowrap"),
+        (".tiles polyline", "stroke", ALARM),
+        (".tiles polyline", "fill", "none"),
+    ],
+}
+
+
+@pytest.mark.parametrize("name, medium", STYLES)
+def test_styles(opened: Any, name: str, medium: str) -> None:
+    page, wanted = opened(name), STYLES[name, medium]
+    page.execute_cdp_cmd("Emulation.setEmulatedMedia", {"media": medium})
+    read = "return arguments[0].map(([of, name]) => getComputedStyle(document.querySelector(of)).getPropertyValue(name))"
+    found = page.execute_script(read, [row[:2] for row in wanted])
+    page.execute_cdp_cmd("Emulation.setEmulatedMedia", {"media": ""})
+    assert [(*row[:2], value) for row, value in zip(wanted, found)] == wanted
+
+
 def test_it_prints_on_a4(opened: Any) -> None:
     page = opened("one")
     paper = base64.b64decode(page.execute_cdp_cmd("Page.printToPDF", {"preferCSSPageSize": True})["data"])

@@ -4,6 +4,7 @@ from __future__ import annotations
 
 import fnmatch
 import gzip
+import io
 import lzma
 import os
 import subprocess
@@ -15,8 +16,10 @@ import pytest
 import zstandard
 
 from conftest import COMMAND, encode, monitor, ran, rds
+from rds_monitor import ITSELF, __version__
 from rds_monitor.rows.items import LOST
 from made import group_row, listing, lock, run, split
+from rds_monitor.watch.check import _tail
 from rds_monitor.watch.verdict import Limits, Seen, Verdict
 
 VALID = "99.99 % of the blocks valid, last valid group 0.007 s ago"
@@ -120,6 +123,14 @@ def test_compressed_files(suffix: str, sample, listed) -> None:
     packed[1].write_bytes(compress(b"".join(half[:900])))
     listed.write_bytes(b"".join(half[900:]))
     judged(0, "RDS OK - 100.00 % *", "--last", 100, packed[1], listed)
+
+
+def test_the_words_that_run_it_from_anywhere() -> None:
+    """Whatever the paths of the process are that says them."""
+    done = ran([*ITSELF, "--version"], cwd="/", env={"PATH": os.environ["PATH"]})
+    assert (done.returncode, done.stderr) == (0, "") and done.stdout.startswith(
+        f"rds-monitor {__version__}\n"
+    )
 
 
 def test_the_process_ends_in_the_status(sample) -> None:
@@ -241,6 +252,12 @@ def test_only_the_end_of_a_long_file_is_read(tmp_path) -> None:
 
 
 # ---- the length, and names
+
+
+@pytest.mark.parametrize("most, kept", [(65535, 65536), (65536, 69632), (69632, 69632)])
+def test_the_end_of_a_compressed_file(most: int, kept: int) -> None:
+    """Of 4,096 and 65,536 bytes: one more than asked for tells whether a line begins there."""
+    assert len(_tail(bytes(4096), io.BytesIO(bytes(65536)), most).getvalue()) == kept
 
 
 def test_a_dead_tail(listed, station: bytes) -> None:

@@ -3,8 +3,6 @@
 from __future__ import annotations
 
 import argparse
-import gzip
-import lzma
 import os
 import re
 import shutil
@@ -13,10 +11,8 @@ import sys
 from itertools import chain
 from pathlib import Path
 from typing import List
-from unittest import mock
 
 import pytest
-import zstandard
 
 from conftest import COMMAND, PROGRAM, STATION, TOP, monitor, ran, rds
 from made import damaged, on_a_terminal, peak_memory, run, said
@@ -54,7 +50,6 @@ demod --raw s16                            --raw needs --rate
 demod --rate fast --raw s16                invalid int value: 'fast'
 demod --raw s16 --rate 171000 --channel 1  --channel is for MPX in a file with a header
 demod --offset 5                           --offset and --no-equaliser are for --iq
-demod --raw s16 --rate 171000 --every 0    --every is a number of seconds above 0
 demod --raw s8 --rate 171000               invalid choice: 's8'
 pack                                       required: --from
 pack --from nothing                        invalid choice: 'nothing'
@@ -369,29 +364,3 @@ def test_numbers_on_the_manual_page_of_rds() -> None:
     assert all(claim in page and claim in help_of_all for claim in of_both)
     assert all(claim in page for claim in ("At most twice a second", "in seven hex digits", last_bit))
     assert "0 The output is complete, or" in " ".join(re.sub(r"^\.It ", "", MANUAL, flags=re.M).split())
-
-
-COMPRESSED = {
-    "gzip": gzip.compress,
-    "xz": lzma.compress,
-    "zstd": lambda data: zstandard.ZstdCompressor().compress(data),
-}
-
-
-@pytest.mark.parametrize("name", COMPRESSED)
-def test_compressed_inputs_are_read(name: str, station: bytes, station_listing: bytes) -> None:
-    compress = COMPRESSED[name]
-    for data in (station, station_listing):
-        expected = said("errors", data=data)
-        assert said("errors", data=compress(data)) == expected
-        # Several streams in a row are one, as `cat` makes them.
-        assert said("errors", data=compress(data[:999]) + compress(data[999:])) == expected
-        for cut, fault in ((compress(data)[:-9], "ends early"), (compress(data)[:99] + bytes(999), "")):
-            done = run("errors", data=cut)
-            assert done.status == 1 and f"the {name} data" in done.err and fault in done.err
-
-
-def test_zstd_without_its_module_is_said(station: bytes) -> None:
-    with mock.patch.dict(sys.modules, {"zstandard": None}):
-        done = run("errors", data=COMPRESSED["zstd"](station))
-    assert done.status == 1 and "python3-zstandard" in done.err

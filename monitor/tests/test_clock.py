@@ -3,6 +3,7 @@
 from __future__ import annotations
 
 import datetime
+from typing import List, Sequence
 
 import numpy
 import pytest
@@ -10,7 +11,7 @@ from hypothesis import given, settings, strategies as st
 
 from conftest import STATION
 from made import group_row, listing, run, said
-from rds_monitor.measures.clock import Tick, fit, go_together, ticks_of
+from rds_monitor.measures.clock import Tick, fit, go_together, slope_of, stretches_of, ticks_of
 from rds_monitor.rows.clock import Clock, start_of, utc_text, utc_texts
 from rds_monitor.rows.items import Fault
 
@@ -115,6 +116,20 @@ def test_a_recording_that_is_too_short(station_listing: bytes) -> None:
         fit([])
 
 
+def test_ticks_of_one_minute() -> None:
+    """Two that say the same minute tell no rate, but those before them do."""
+    ticks = [Tick(71250 * minute, 60 * minute) for minute in range(12)]
+    assert fit([*ticks, Tick(71250 * 11 + 104, 660)]).clock.rate == pytest.approx(1187.5)
+
+
+def test_the_error_of_a_rate() -> None:
+    """That of a straight line through the ticks, by numpy."""
+    ticks = [Tick(71250 * minute + n * n % 7 * 40, 60 * minute) for n, minute in enumerate(range(3, 20, 2))]
+    places, times = zip(*ticks)
+    line, covariance = numpy.polyfit(times, places, 1, cov=True)
+    assert slope_of([ticks]) == pytest.approx((line[0], covariance[0][0] ** 0.5))
+
+
 def test_clock_times_that_are_none() -> None:
     good = minute_group(1000, int(start_of("2026-03-29T00:31:00Z")))
     assert ticks_of(good) == [Tick(1000, int(start_of("2026-03-29T00:31:00Z")))]
@@ -136,3 +151,34 @@ def test_places_and_times(start: float, rate: float, place: int) -> None:
     text = clock.utc(place)[0]
     assert abs(start_of(text) - start - clock.seconds(place)) < 0.002
     assert utc_text(start_of(text)) == text
+
+
+def minutes(*numbers: int, late: int = 0) -> List[Tick]:
+    """Ticks of these minutes, some bits late."""
+    return [Tick(71250 * n + late, 60 * n) for n in numbers]
+
+
+@pytest.mark.parametrize(
+    "numbers, fits", [((0, 5, 10), True), ((0, 10), False), (range(10), False), (range(11), True)]
+)
+def test_three_ticks_over_ten_minutes_are_enough(numbers: Sequence[int], fits: bool) -> None:
+    if fits:
+        assert fit(minutes(*numbers)).clock.rate == pytest.approx(1187.5)
+        return
+    with pytest.raises(Fault, match="go together over ten minutes"):
+        fit(minutes(*numbers))
+
+
+@pytest.mark.parametrize("numbers, steps", [((12,), []), ((12, 13), [-2.0])])
+def test_two_ticks_tell_a_step(numbers: Sequence[int], steps: List[float]) -> None:
+    found = fit(minutes(*range(12)) + minutes(*numbers, late=2375))
+    assert [seconds for _, seconds in found.steps()] == pytest.approx(steps)
+
+
+@pytest.mark.parametrize("strays, lengths", [(8, [13]), (9, [7, 6])])
+def test_a_stretch_goes_on_after_strays(strays: int, lengths: List[int]) -> None:
+    """After eight, each a day before the last one; so that a long recording takes no longer, no more are passed over."""
+    wrong = [Tick(71250 * (6 + k), 60 * (6 + k) - 86400 * (k + 1)) for k in range(strays)]
+    ticks = minutes(*range(6)) + wrong + minutes(*range(20, 27))
+    found = sorted((len(one) for one in stretches_of(ticks, 1187.5, 1e-4)), reverse=True)
+    assert [length for length in found if length > 1] == lengths

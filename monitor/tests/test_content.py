@@ -12,9 +12,10 @@ from conftest import encode
 from rds_monitor.content.decoder import ITEMS, Decoder, Event
 from rds_monitor.content.looks import name_of
 from rds_monitor.content.networks import FrequencyList
+from rds_monitor.rows.items import CORRECTED
 from rds_monitor.rows.opening import open_source
 from sent import Words, clock, eon, eon_name, events_of, group, label, name, oda, segments, tags, text, told
-from sent import type_name
+from sent import Damage, rows_of, type_name
 
 TEXT_32 = "A text of 32 characters in all.."
 LONG = b"The first text, of the standard's length for once, all 64 of it."
@@ -188,6 +189,12 @@ CASES: Dict[str, Case] = {
         {"eon:D312.pty": 17, "eon:D312.ta": True},
         texts={"eon:D312.pty": "17 Finance"},
     ),
+    "14A: PTY of RBDS": Case(
+        [eon(13, 17 << 11)],
+        {"eon:D312.pty": 17},
+        {"rbds": True},
+        {"eon:D312.pty": "17 Soft rhythm and blues"},
+    ),
     "14A: PIN": Case([eon(14, 2 << 11 | 7 << 6 | 8)], {"eon:D312.pin": "02 07:08"}),
     "14B: TA": Case([group("14B", 0x18, 0, 0xD312)], {"eon:D312.tp": True, "eon:D312.ta": True}),
     "14B: no TA": Case([group("14B", 0x10, 0, 0xD312)], {"eon:D312.tp": True, "eon:D312.ta": False}),
@@ -266,6 +273,17 @@ CASES: Dict[str, Case] = {
         [group("0A", k % 4, pair, 0x2020) for k, pair in enumerate([0xF901, *range(0x0203, 0x1A00, 0x0202)])],
         {"af": [*range(87600, 90001, 100)]},
     ),
+    **{
+        f"a list in {turns} turns": Case(
+            [
+                group("0A", 0, pair)
+                for k in range(turns)
+                for pair in (0xE101 + 0x200 * turns, 0x0203 + 0x0202 * k)
+            ],
+            {"af": [*range(87600, 87700 + 200 * turns, 100)] if turns == 8 else None},
+        )
+        for turns in (8, 9)
+    },
     "a list that does not end": Case(name(b"PAXO 318", [0xE501, 0x6A02, 0x7CCD]), {"af": None}),
     "long and medium wave": Case(
         name(b"PAXO 318", [0xE401, 0xFA0F, 0xFA10, 0xFA87]),
@@ -333,6 +351,20 @@ def test_a_change_of_ps_is_an_event_with_its_place() -> None:
     ]
 
 
+@pytest.mark.parametrize("size", [1, 2, 3, 99])
+def test_corrected_blocks_alone_say_nothing(size: int) -> None:
+    """However rows are cut into chunks. Block 2 of two groups has another programme type, and then that of a valid one."""
+    groups = [group("6A", n, pty=11 if n in (3, 4, 6) else 10) for n in range(9)]
+    damage = [(n, Damage(2, CORRECTED)) for n in (3, 4)]
+    rows, decoder = rows_of(groups, damage), Decoder()
+    events = [event for at in range(0, len(rows), size) for event in decoder.feed(rows[at : at + size])]
+    assert [(event.place, event.value) for event in events if event.item == "pty"] == [
+        (0, 10),
+        (6 * 104, 11),
+        (7 * 104, 10),
+    ]
+
+
 def test_dynamic_ps_is_no_mixture() -> None:
     frames = [b"Now on a", b"ir: the ", b"news    "]
     groups = [entry for frame in 3 * frames for entry in name(frame)]
@@ -384,6 +416,63 @@ SEQUENCES: Dict[str, Tuple[List[Words], str, List[Any]]] = {
 def test_values_in_their_order(title: str) -> None:
     groups, item, expected = SEQUENCES[title]
     assert values(groups, item) == expected
+
+
+# ---- the bounds of the rules by which names and texts are told, at each and past it
+
+
+def without(groups: Sequence[Words], gone: Sequence[int]) -> sent.Damages:
+    """The characters of these groups are lost."""
+    return [(number, sent.Damage(block, sent.LOST)) for number in gone for block in (3, 4)]
+
+
+@pytest.mark.parametrize("turns, names", [(4, ["PAXO 318"]), (5, [])])
+def test_for_how_many_turns_a_pair_of_a_name_counts(turns: int, names: List[str]) -> None:
+    """The first of them has one pair, and the last one the others."""
+    groups = (turns + 1) * name(b"PAXO 318")
+    gone = {*range(1, len(groups))} - {4 * turns - k for k in (1, 2, 3)}
+    assert told(events_of(groups, without(groups, sorted(gone))), "ps") == names
+
+
+@pytest.mark.parametrize("bits, texts", [(60 * 1187.5, ["A text"]), (60 * 1187.5 + 208, [])])
+def test_for_how_long_a_pair_of_a_text_counts(bits: float, texts: List[str]) -> None:
+    """The first turn has the first segment, and the last one the other, before the group at that bit."""
+    count = int(bits // 208) * 2 + 1
+    groups = text(b"A text\r") * (count // 2) + text(b"A text\r")[:1]
+    gone = [*range(1, count - 2), count - 1]
+    assert told(events_of(groups, without(groups, gone)), "rt") == texts
+
+
+@pytest.mark.parametrize("missing, names", [(113, ["PAXO 318"]), (114, ["PAXO 318", None, "PAXO 318"])])
+def test_after_how_long_an_outage_a_name_is_told_again(missing: int, names: List[Any]) -> None:
+    """If more than ten seconds are from the begin of one group to that of the next."""
+    assert (104 * (missing + 1) > 10 * 1187.5) == (names[1:] != [])
+    rows = sent.rows_of(name(b"PAXO 318") + missing * [group("6A", 0)] + name(b"PAXO 318"))
+    decoder = Decoder(lapses=True)
+    assert told([*decoder.feed(rows[:5]), *decoder.feed(rows[-4:])], "ps") == names
+
+
+LONG_ONCE = text(LONG)
+
+
+@pytest.mark.parametrize("singles, is_told", [(2, True), (3, False)])
+def test_how_many_pairs_of_a_turn_may_be_corrected(singles: int, is_told: bool) -> None:
+    """The last 16 pairs are valid."""
+    wrong = [(number, sent.Damage(4, sent.CORRECTED)) for number in range(2, 2 + singles)]
+    assert bool(told(events_of(LONG_ONCE, wrong), "rt")) == is_told
+
+
+@pytest.mark.parametrize(
+    "singles, valid, is_told", [(2, 14, True), (2, 13, False), (1, 6, True), (1, 5, False)]
+)
+def test_how_many_pairs_have_to_be_valid_for_single_ones(singles: int, valid: int, is_told: bool) -> None:
+    """Of the last 16 pairs, all of which came in the turn before too, but for the single ones."""
+    lost = [(15 - k, sent.Damage(4, sent.LOST)) for k in range(singles)]
+    last = sorted(range(32, 64), key=lambda pair: (pair % 2 == 0 or pair < 64 - 2 * singles, pair))
+    wrong = [(pair // 2, sent.Damage(3 + pair % 2, sent.CORRECTED)) for pair in last if pair >= 48][
+        : 16 - valid
+    ]
+    assert bool(told(events_of(LONG_ONCE * 2, lost + wrong), "rt")) == is_told
 
 
 @pytest.mark.parametrize("segments", [(3, 4), (4, 5)])

@@ -15,7 +15,7 @@ import pytest
 from conftest import TOP, encode, monitor, rds
 from hypothesis import given, settings
 from hypothesis import strategies as st
-from made import on_a_terminal, peak_memory
+from made import on_a_terminal, peak_memory, run
 from measure_demod import TABLES, Words, bits_of, right, whole_groups
 from modulator import Array, dropped, iq, mpx, stored, wav, words
 
@@ -442,6 +442,12 @@ def test_json_at_times_and_at_the_end(signal: Array) -> None:
     done = monitor("demod", *S16, "--json", "--every", 0.8, data=stored(signal, "s16") * 3)
     times = [json.loads(line)["seconds"] for line in done.stderr.splitlines()]
     assert len(times) >= 4 and all(after - before >= 0.8 for before, after in zip(times, times[1:-1]))
+
+
+@pytest.mark.parametrize("every", ["0", "-1", "nan"])
+def test_reports_that_would_never_come(every: str) -> None:
+    done = run("demod", *S16, "--every", every)
+    assert done.status == 2 and "--every is a number of seconds above 0" in done.err
 
 
 @pytest.mark.parametrize("rate,said", [(192000, 171000), (171000, 250000), (228500, 240000)])

@@ -168,6 +168,9 @@ def compare_colours(seen: Dict[str, Any], view: View) -> None:
     assert [*types] == geometry.types_of(view.data) and len({*types.values()}) == len(types)
     kinds = [*"valid corrected lost missing outage session".split()]
     assert len({legend[name] for name in kinds}) == len(kinds)
+    # red, green and blue; corrected ones are yellow
+    shown = [[int(part) for part in re.findall(r"\d+", legend[name])] for name in kinds]
+    assert [int(numpy.argmax(shown[at])) for at in (2, 0, 3)] == [0, 1, 2] and min(shown[1][:2]) > 150
     assert all(row[6] == legend[row[0]] for row in seen["rects"] if row[0] in kinds)
     drawn = [row[6] for row in seen["rects"] if row[0] == "mix"]
     assert drawn == [types[name] for name, _ in geometry.mix(view)]

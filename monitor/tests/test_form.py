@@ -18,6 +18,7 @@ from hypothesis import strategies as st
 from made import output as rds_monitor
 from modulator import Array, iq, mpx, stored, wav, words
 
+from rds_monitor.signal import form
 from rds_monitor.signal.pack import READERS, Conversion, bits_of, packed_of
 
 STATION_BYTES = STATION.read_bytes()
@@ -258,7 +259,8 @@ ENCODINGS: Dict[str, Callable[[Array], bytes]] = {
     "s8": lambda bits: (2 * bits.astype("i1") - 1).tobytes(),
     "s16": lambda bits: (2 * bits.astype("<i2") - 1).tobytes(),
     "f32": lambda bits: (2 * bits.astype("<f4") - 1).tobytes(),
-    "wav": lambda bits: wav(ENCODINGS["s16"](bits), "s16", 1187),
+    # samples that no power of two divides
+    "wav": lambda bits: wav(stored(6.0 * bits - 3, "s24"), "s24", 1187),
     "soft": lambda bits: ENCODINGS["s8"](before(bits)),
     "soft-f32": lambda bits: ENCODINGS["f32"](before(bits)),
 }
@@ -290,3 +292,18 @@ def test_what_was_written_in_a_form_is_read(
         parts, counts = zip(*packed_of(bits_of(stream, form, change)))
     if set(sent.tolist()) == {0, 1}:
         assert (b"".join(parts), sum(counts)) == (b"\x5a" + data, bits.size)
+
+
+@pytest.mark.parametrize("size, begin", [(64, 0), (95, 0), (96, 16), (384, 160)])
+def test_what_is_looked_at_of_a_long_signal(
+    size: int, begin: int, tmp_path: Path, monkeypatch: pytest.MonkeyPatch
+) -> None:
+    """The middle, from a whole frame on, of which the longest have eight bytes."""
+    monkeypatch.setattr(form, "SIGNAL_BYTES", 64)
+    data = bytes(7 * n % 256 for n in range(size))
+    whole, part = tmp_path / "whole", tmp_path / "part"
+    whole.write_bytes(data)
+    part.write_bytes(data[begin : begin + 64])
+    for raw, is_iq in (("u8", False), ("s16", True)):
+        found, wanted = (form.signal_of(str(path), raw, is_iq) for path in (whole, part))
+        assert found.size == 64 // (4 if is_iq else 1) and (found == wanted).all()

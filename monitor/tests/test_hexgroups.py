@@ -15,7 +15,8 @@ from conftest import STATION, encode, monitor, rds
 from rds_monitor.measures.groups import text_of
 from rds_monitor.rows.group_lines import GroupLines
 from rds_monitor.rows.heads import is_groups
-from rds_monitor.rows.items import BLOCKS, GROUP, LOST, VALID, Fault, Totals
+from rds_monitor.rows.items import BLOCKS, GROUP, LOST, UNKNOWN_TYPE, VALID, VERSION_A, VERSION_B
+from rds_monitor.rows.items import VERSION_UNKNOWN, Fault, Totals
 from rds_monitor.rows.listing import groups_in
 from made import output as said
 from sent import group, name, text
@@ -95,6 +96,23 @@ def test_a_log_of_rds_spy() -> None:
     assert rows["what"].tolist() == [1, 2, 2, 2, 3, 1, 2]
     assert (source.start, source.length) == (1774744200.09, last + 104)
     assert source.totals == Totals(12, (0,) * 5, 4, 0, groups=4, complete=2, acquired=2, losses=1)
+
+
+@pytest.mark.parametrize(
+    "line, number, version",
+    [
+        ("D318 0000 0000 1234", 0, VERSION_A),
+        ("D318 F800 D318 1234", 15, VERSION_B),
+        ("---- 0800 ---- ----", 0, VERSION_B),
+        ("D318 ---- 0000 1234", UNKNOWN_TYPE, VERSION_A),
+        ("0000 ---- 0000 1234", UNKNOWN_TYPE, VERSION_B),
+        ("D318 ---- ---- 1234", UNKNOWN_TYPE, VERSION_UNKNOWN),
+    ],
+)
+def test_types_of_lines(line: str, number: int, version: int) -> None:
+    """By the bits of block 2, or by whether block 3 is the PI again (IEC 62106, clause 3.1.3)."""
+    _, rows = read(line.encode())
+    assert (rows["number"][1], rows["version"][1]) == (number, version)
 
 
 @pytest.mark.parametrize("late, losses", [(1.2, 0), (1.4, 1)])

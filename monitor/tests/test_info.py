@@ -90,6 +90,9 @@ def test_no_station() -> None:
 def test_rbds() -> None:
     assert "10 Country" in said("info", "--rbds", data=bits(*name(b"PAXO 318")))
     assert '"10 Country"' in said("json", "--rbds", data=bits(*name(b"PAXO 318")))
+    found = lines(said("json", "--redsea", "--rbds", data=bits(*name(b"PAXO 318"), eon(13, 17 << 11))))
+    assert found[-1]["prog_type"] == "Country"
+    assert found[-1]["other_network"]["prog_type"] == "Soft rhythm and blues"
 
 
 # ---- strings from strangers
@@ -268,7 +271,9 @@ RARE: List[Tuple[Words, Dict[str, Any]]] = [
     (eon(9, 0x0110), {"kilohertz": 531}),
     (eon(12, 0x8042), {"has_linkage": True, "linkage_set": 0x42}),
     (eon(12, 0x0042), {"has_linkage": False}),
+    (eon(13, 0), {"ta": False, "prog_type": "No PTY"}),
     (eon(14, PIN), {"prog_item_number": PIN, "prog_item_started": {"day": 15, "time": "20:30"}}),
+    (group("6A", 0, pty=0), {"prog_type": "No PTY"}),
 ]
 
 

@@ -127,8 +127,8 @@ def test_places_and_gaps(station: bytes) -> None:
 def test_memory_is_by_the_bytes() -> None:
     code = (
         "import resource, librds; resource.setrlimit(resource.RLIMIT_AS, (1 << 30,) * 2)\n"
-        "try: librds.items_array(b'x', 2**36)\nexcept librds.Refused as it: print(it.number)\n"
-        "try: list(librds.items(b'x', 2**36))\nexcept librds.Refused as it: print(it.number)"
+        "try: librds.items_array(b'x', 2**36)\nexcept librds.Refused as error: print(error.number)\n"
+        "try: list(librds.items(b'x', 2**36))\nexcept librds.Refused as error: print(error.number)"
     )
     done = ran([sys.executable, "-c", code])
     assert done.stdout == "4\n4\n", done.stderr

@@ -3,16 +3,21 @@ row."""
 
 from __future__ import annotations
 
+import gzip
 import io
+import lzma
+import sys
 from collections import defaultdict
 from typing import Any, List, Optional
+from unittest import mock
 
 import numpy
 import pytest
+import zstandard
 from hypothesis import HealthCheck, given, settings, strategies as st
 
 from conftest import encode, rds
-from made import acquired_row, block, damaged, group_row, joined, listing, lock, loss_row, read
+from made import acquired_row, block, damaged, group_row, joined, listing, lock, loss_row, read, run, said
 from rds_monitor.rows import listing as of_listing
 from rds_monitor.rows.heads import HEADER
 from rds_monitor.rows.items import BLOCKS, GROUP, VALID, Fault, Reading, Rows, Rules, totals_of
@@ -57,11 +62,18 @@ def test_a_listing_is_read_and_written_again(noisy: bytes, options: str) -> None
 
 
 @pytest.mark.usefixtures("decoder")
-def test_a_recording_and_its_listing_are_the_same_rows(noisy: bytes, tmp_path) -> None:
+@pytest.mark.parametrize(
+    "options, rules",
+    [("", Rules()), ("--burst 5 --reach 8 --loss 64", Rules(5, 8, 64))],
+    ids=["usual", "wide"],
+)
+def test_a_recording_and_its_listing_are_the_same_rows(
+    options: str, rules: Rules, noisy: bytes, tmp_path
+) -> None:
     path = tmp_path / "noisy.bin"
     path.write_bytes(noisy)
-    text = rds("list", "--burst", 5, "--reach", 8, "--loss", 64, data=noisy)
-    source = open_source(str(path), Reading(rules=Rules(5, 8, 64)))
+    text = rds("list", *options.split(), data=noisy)
+    source = open_source(str(path), Reading(rules))
     assert written(source) == text
     assert source.length == 8 * len(noisy) and source.totals == totals_of(read(text))
 
@@ -258,6 +270,9 @@ def test_the_length_of_the_recording(station_listing: bytes) -> None:
     assert "past the 199888 bits" in refused(station_listing, length=199888)
     assert "the length is wrong" in refused(station_listing, length=1600000)
     assert len(read(station_listing, length=1600000, trust_length=True)) == 1924
+    # A minute of 71,250 bits, and a tenth of the 520 bits with rows, are not too long yet.
+    few = listing(lock(0, [(0xD318, 0x0548, 0xE0CD, 0x4E4F)] * 5, lost=False))
+    assert len(read(few, length=71250 + 572)) == 6 and "is wrong" in refused(few, length=71250 + 573)
 
 
 # ---- random listings
@@ -373,3 +388,32 @@ def test_a_long_listing_is_read_in_chunks(station: bytes) -> None:
     assert all((many[f"kind{number}"] == VALID).all() for number in BLOCKS)
     sizes = [len(chunk) for chunk in source_of(listing([acquired_row(129, 1), many])).chunks()]
     assert max(sizes) <= 65536 and sum(sizes) == 40001 and len(sizes) > 2
+
+
+# ---- compressed inputs
+
+
+COMPRESSED = {
+    "gzip": gzip.compress,
+    "xz": lzma.compress,
+    "zstd": lambda data: zstandard.ZstdCompressor().compress(data),
+}
+
+
+@pytest.mark.parametrize("name", COMPRESSED)
+def test_compressed_inputs_are_read(name: str, station: bytes, station_listing: bytes) -> None:
+    compress = COMPRESSED[name]
+    for data in (station, station_listing):
+        expected = said("errors", data=data)
+        assert said("errors", data=compress(data)) == expected
+        # Several streams in a row are one, as `cat` makes them.
+        assert said("errors", data=compress(data[:999]) + compress(data[999:])) == expected
+        for cut, fault in ((compress(data)[:-9], "ends early"), (compress(data)[:99] + bytes(999), "")):
+            done = run("errors", data=cut)
+            assert done.status == 1 and f"the {name} data" in done.err and fault in done.err
+
+
+def test_zstd_without_its_module_is_said(station: bytes) -> None:
+    with mock.patch.dict(sys.modules, {"zstandard": None}):
+        done = run("errors", data=COMPRESSED["zstd"](station))
+    assert done.status == 1 and "python3-zstandard" in done.err

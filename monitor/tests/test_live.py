@@ -2,6 +2,7 @@
 
 from __future__ import annotations
 
+import io
 import os
 import select
 import statistics
@@ -12,7 +13,9 @@ from typing import Any, List
 import numpy
 import pytest
 
-from conftest import COMMAND, PROGRAM
+from conftest import COMMAND, PROGRAM, encode
+from made import symbols
+from rds_monitor.rows import pipe
 
 PIPE = subprocess.PIPE
 GROUP = 13  # bytes: the groups of the sample begin with its first bit
@@ -115,6 +118,29 @@ def test_no_sync_is_said_after_two_seconds_and_sync_once(station: bytes) -> None
     assert chain.says(20).startswith("rds-monitor: sync after ")
     chain.send(station[1300:2600])
     assert chain.end() == ""
+
+
+@pytest.mark.parametrize("soft", [False, True])
+def test_blocks_are_counted_until_two_seconds_have_passed(
+    soft: bool, monkeypatch: pytest.MonkeyPatch, capsys: pytest.CaptureFixture[str]
+) -> None:
+    """Ten groups between zeros, as bits, or as symbols of which those below zero are not known."""
+    data = bytes(10) + encode([(0xD318, 0x0548, 0xE0CD, 0x4E00 + n) for n in range(10)]) + bytes(10)
+    now, bits = [100.0], 8 * len(data)
+    if soft:
+        data = numpy.maximum(numpy.frombuffer(symbols(data, 0.1), "i1"), 0).tobytes()
+    monkeypatch.setattr(pipe.time, "monotonic", lambda: now[0])
+    stream = pipe.Pipe(io.BytesIO())
+    for at, given, synced, said in (
+        (101.999, b"", False, ""),
+        (102.0, data, False, f"rds-monitor: no sync yet: 40 valid blocks in {bits:,} bits\n"),
+        (103.0, data, False, ""),
+        (103.5, data, True, "rds-monitor: sync after 3.5 s\n"),
+        (110.0, data, False, ""),
+    ):
+        now[0] = at
+        stream.decode(given, synced, soft)
+        assert capsys.readouterr().err == said, at
 
 
 def test_no_input_is_said() -> None:

@@ -11,7 +11,8 @@ import re
 import sqlite3
 from collections import Counter
 from pathlib import Path
-from typing import Any, Dict, List
+from types import SimpleNamespace
+from typing import Any, Dict, List, Tuple
 
 import numpy
 import pytest
@@ -20,6 +21,7 @@ from made import peak_memory
 from rds_monitor.page.html import told_of
 from rds_monitor.page.line import COUNTS, Counted, Lanes, TimeLine, bad_percent, encoded, said
 from rds_monitor.page.overview import Span, last_minute, line_of, polyline, tile_of
+from rds_monitor.page.stored import StoredStation
 
 import rich
 from years import MINUTES, OUTAGE, RATE, make_year
@@ -108,6 +110,10 @@ def test_long_lists_have_a_row_per_step() -> None:
     assert few.events == [[5.0, "PS", "X"]] and few.more == 180
     assert few.lanes == {"PS": [(0, 10800, "X")], "RT": [(0, 3600, "60"), (3600, 10800, "several texts")]}
     assert few.fewer(3600, 20).told(0) == few.told(0) and line.fewer(60).told(0) == line.told(0)
+    # As many rows as a list may have are left as they are.
+    whole, cut = line.fewer(3600, 181), line.fewer(3600, 180)
+    assert (whole.outages, whole.events, whole.more) == (line.outages, line.events, 0)
+    assert (cut.mix, cut.clock, cut.lanes) == (line.mix, line.clock, line.lanes) and len(cut.outages) == 4
 
 
 def test_lanes() -> None:
@@ -320,6 +326,23 @@ def test_a_database_tells_what_its_recording_does(tmp_path: Path) -> None:
     assert stored["clock"] == [
         [60 + 60 * k, pytest.approx(sum(offsets[k : k + 2]) / 2, abs=1e-3)] for k in range(0, 14, 2)
     ]
+
+
+@pytest.mark.parametrize(
+    "stored, told",
+    [
+        ([(0, 100), (100, 150)], [[0, 150, 150]]),
+        ([(0, 100), (101, 150)], [[0, 100, 100], [101, 150, 49]]),
+        ([(50, 150), (60, 70)], [[50, 150, 100]]),
+        ([(-50, 20), (990, 2000), (3000, 4000)], [[0, 20, 20], [990, 1000, 10]]),
+    ],
+)
+def test_outages_that_meet_are_one(stored: List[Tuple[int, int]], told: List[Any]) -> None:
+    """Those of two parts, or of two recordings of one time; of all of them what is between 0 and 1000 s."""
+    line, session = TimeLine(), SimpleNamespace(quiet=None, at=float)
+    station = StoredStation.__new__(StoredStation)
+    station._add_outages(line, session, stored, 0.0, 1000.0)  # type: ignore[arg-type]
+    assert line.outages == told
 
 
 @pytest.fixture(scope="module")

@@ -82,6 +82,7 @@ command = ["n"]
 raw = "u8"
 rate = 2400000
 centre = 98.0
+soft = false
 
 [[station]]
 name = "Beta <b>"
@@ -137,7 +138,7 @@ def folder(tmp_path_factory: pytest.TempPathFactory) -> Iterator[Path]:
         Path(f"{of.name}.bin").write_bytes(of.bits())
         Path(f"{of.name}.csv").write_bytes(rds("list", data=of.bits()))
         *clock, recording = CLOCKS[f"@{of.name}"].split()
-        output("db", "--station", "Alpha", *clock, "rich.db", recording)
+        output("db", "--groups", "--station", "Alpha", *clock, "rich.db", recording)
     Path("both.csv").write_bytes(Path("one.csv").read_bytes() + Path("two.csv").read_bytes())
     Path("one.hex").write_text(ONE.bits()[:20000].hex())
     Path("one.text").write_text("".join(f"{byte:08b}" for byte in ONE.bits()[:20000]))
@@ -384,6 +385,27 @@ def test_types_are_those_sent() -> None:
             found[row["type"], row["version"], False] += int(row["groups"])
             found[row["type"], row["version"], True] += int(row["corrected"])
     assert +found == +wanted and len({key[:2] for key in wanted}) == 32
+
+
+def test_groups_of_a_database_are_those_sent() -> None:
+    """All that are not whole, and the first ones: each known block has the word sent, and the bits that were wrong are corrected."""
+    (part,) = re.findall(r"FROM groups .*\n((?:\w+\.bin\|.*\n)+)", (TEXTS / "database.txt").read_text())
+    whole, wrong = 0, {of.name: {one[:2] for one in of.damages} for of in (ONE, TWO)}
+    for name, _, _, place, utc, seconds, kind, version, valid, *blocks in csv.reader(
+        part.splitlines(), delimiter="|"
+    ):
+        of, at = ONE if name == "one.bin" else TWO, int(place)
+        assert (utc, float(seconds)) == (utc_text(of.start + at / rich.RATE), at / rich.RATE)
+        number = [*of.begins()].index(at) if at in of.begins() else None
+        told = [re.fullmatch(r"(?:A|B|Cx?|D):(\w{4})(~\w+)?", block) for block in blocks]
+        assert int(valid) == sum(found is not None and not found[2] for found in told)
+        if number is not None and any(told):
+            words, whole = of.groups[number], whole + 1
+            assert all(int(found[1], 16) == word for found, word in zip(told, words) if found)
+            known = [bool(found and not found[2]) for found in told]
+            assert known == [(number, block) not in wrong[of.name] for block in range(4)] or number == 0
+            assert not told[1] or (kind, version) == (str(words[1] >> 12), "AB"[words[1] >> 11 & 1])
+    assert whole > 50
 
 
 def test_programmes_are_those_sent() -> None:

@@ -5,6 +5,7 @@ from __future__ import annotations
 import csv
 import io
 import random
+import re
 from pathlib import Path
 from typing import Any
 
@@ -14,6 +15,7 @@ from made import joined, lock, output, read, run, said, symbols
 from modulator import words
 
 from rds_monitor.rows.decoders import decoder_of
+from rds_monitor.rows.hours import Hour
 from rds_monitor.rows.items import CORRECTED, GROUP, Fault, Reading, Rules, totals_of
 from rds_monitor.rows.listing import Listing, text_of, totals_text
 from rds_monitor.rows.opening import open_source
@@ -153,6 +155,22 @@ def test_errors_have_a_column_more(path: Path, listed: bytes, tmp_path: Path) ->
     assert tuple(sum(int(row[name]) for row in rows) for name in ("valid", "soft", "lost")) == counts
     assert {row["corrected"] for row in rows} == {"0"} and min(counts) > 5
     assert "soft" not in output("errors", data=encode(words(4, 30)))
+
+
+def test_hours_of_a_watch_tell_it_by_their_names(listed: bytes, tmp_path: Path) -> None:
+    """The files of a session but the last one have no totals. A page counts apart what each session corrected."""
+    rows, hard = listed[: listed.index(b"total,")], rds("list", data=encode(words(4, 30)))
+    heads = []
+    for is_soft in (True, False):
+        path = tmp_path / Hour(0, 0, is_soft=is_soft).name
+        path.write_bytes(rows)
+        heads.append(output("errors", path).partition("\n")[0])
+        assert ('<th scope="col">soft</th>' in output("report", path)) == is_soft
+    assert [head.split(",")[4:6] for head in heads] == [["corrected", "soft"], ["corrected", "lost"]]
+    (tmp_path / "both.csv").write_bytes(listed + hard)
+    page = output("report", tmp_path / "both.csv")
+    sent, valid, corrected, soft, *_ = re.findall(r"<td>(\d+)</td>", page.partition("<caption>Blocks")[2])
+    assert corrected == "0" and int(soft) == sum(line.count(b"~") for line in rows.splitlines())
 
 
 COMMANDS = ("info", "json", "table", "groups", "types", "programmes", "corrected", "outages", "report")

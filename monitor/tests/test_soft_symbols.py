@@ -5,15 +5,16 @@ from __future__ import annotations
 import json
 import math
 from pathlib import Path
-from typing import Callable, Dict, List
+from typing import Callable, Dict, List, Tuple
 
 import numpy
 import pytest
 from captures import Sent, alone, captured
-from conftest import encode, monitor
+from conftest import encode, monitor, rds
 from measure_demod import bits_of
-from modulator import Array, dropped, iq, mpx, stored, words
+from modulator import Array, dropped, iq, mpx, stored, wav, words
 
+from rds_monitor.rows.blocks import BlockCounter
 from rds_monitor.signal.receiver import Capture
 from rds_monitor.signal.soft import SoftSymbols
 
@@ -134,6 +135,33 @@ def test_lost_symbols_are_erasures() -> None:
     assert lost.size == round(61_234 / RATE * 1187.5) % 104 and lost[-1] - lost[0] == lost.size - 1
 
 
+@pytest.mark.parametrize("count", [1, 2, 5])
+def test_bits_that_are_not_known_are_odd_or_even(count: int) -> None:
+    """If they are in one block, of which each place is tried here."""
+    bits = numpy.unpackbits(numpy.frombuffer(SENT, "u1"))
+    found = []
+    for place in range(1040, 1144):
+        counter = BlockCounter()
+        counter.push(bits[:place])
+        parity = counter.parity_over(count, bits[place + count :])
+        is_inside = place % 26 + count <= 26
+        assert parity in (None, *([bits[place : place + count].sum() % 2] if is_inside else ()))
+        found.append(parity is not None)
+    assert sum(found) >= 60
+    early = BlockCounter()
+    assert early.parity_over(1, bits) is None
+    early.push(bits[:1045])
+    assert early.parity_over(count, bits[1045 + count : 1065]) is early.parity_over(6, bits[1051:]) is None
+
+
+def test_the_sign_goes_on_after_a_jump() -> None:
+    """Else each second time a bit alone would be wrong, which flips of few symbols do not mend."""
+    signal = dropped(mpx(SENT, RATE, snr=10), 100, RATE)
+    (symbols,) = bits_of(Capture(RATE, soft=True), signal)
+    text = rds("list", "--soft", data=symbols.tobytes()).decode()
+    assert numpy.flatnonzero(symbols == 0).size >= 3 and "total,lost,0," in text
+
+
 # ---- the command
 
 S16 = ("--raw", "s16", "--rate", RATE)
@@ -148,6 +176,38 @@ def test_the_command() -> None:
     assert json.loads(done.stderr)["symbols"] == symbols.size and b"bits" not in done.stderr
     done = monitor("demod", *S16, "--soft", "--unpacked", data=data)
     assert done.returncode == 2 and b"--soft and --unpacked contradict each other" in done.stderr
+
+
+# Of a weak signal a file, or the name and options of raw samples.
+INPUTS: Dict[str, Tuple[str, ...]] = {
+    "WAV": (),
+    "IQ in WAV": ("--iq",),
+    "raw f32": ("--raw", "f32"),
+    "raw IQ u8": ("--raw", "u8", "--iq"),
+}
+
+
+@pytest.mark.parametrize("name", INPUTS)
+def test_more_groups_than_by_bits(name: str, tmp_path: Path) -> None:
+    """Of 60 groups, by `demod --soft` and `rds list --soft`; sync is the same."""
+    options = INPUTS[name]
+    signal = iq(mpx(SENT, RATE, snr=60), RATE, cnr=12.5, seed=3) if "--iq" in options else SIGNALS["weak"]
+    data, path = stored(signal, dict(zip(options, options[1:])).get("--raw", "s16"), 4.0), tmp_path / "it"
+    path.write_bytes(data if "--raw" in options else wav(data, "s16", RATE, 1 + ("--iq" in options)))
+    words_ = ("demod", *options, *(["--rate", RATE] if "--raw" in options else []), path)
+    found = []
+    for kind, how in ((["--soft"], ["--soft"]), ([], ["--burst", "2"])):
+        text = rds("list", *how, data=monitor(*words_, *kind).stdout).decode()
+        groups = [line.split(",")[4:] for line in text.splitlines() if line.startswith("group,")]
+        read = {
+            tuple(int(cell.split(":")[1][:4], 16) for cell in cells) for cells in groups if is_whole(cells)
+        }
+        found.append(len(read & {*words(5, 60)}))
+    assert found[0] >= max(45, found[1] + 5)
+
+
+def is_whole(cells: List[str]) -> bool:
+    return all(":" in cell for cell in cells)
 
 
 def test_symbols_of_stations(tmp_path: Path) -> None:

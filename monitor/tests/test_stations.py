@@ -17,10 +17,12 @@ from made import peak_memory, run
 from measure_demod import whole_groups
 from modulator import stored, wav
 
+from rds_monitor.capture.picture import picture_of
+from rds_monitor.capture.stations import HEAD
 from rds_monitor.rows.items import Fault
-from rds_monitor.signal.centre import centre_in_name, frequency_of, frequency_text, sigmf_of
+from rds_monitor.signal.centre import centre_in_auxi, centre_in_name, frequency_of, frequency_text, sigmf_of
 from rds_monitor.signal.found import Spectrum, candidates, with_rds
-from rds_monitor.signal.several import LineWriter
+from rds_monitor.signal.several import LineWriter, TunedStations, Tuning
 
 pytestmark = pytest.mark.xdist_group("stations")
 RATE, SECONDS = SMALL_RATE, SMALL_SECONDS
@@ -158,6 +160,16 @@ def test_a_picture_and_its_names(page: str) -> None:
     assert re.findall(r'class="mark" [^>]* y1="0" y2="(\d+)"', page) == ["320", "320"]
 
 
+def test_names_in_a_picture() -> None:
+    """The PS, or else the PI, each in the line below that of its neighbour, of which there are three."""
+    rows = [("97.9M", "-9.0", "20.0", "D317", "-")]
+    rows += [(f"98.{n}M", "-9.0", "20.0", "D318", f" PS{n} ") for n in range(3)]
+    spectrum = Spectrum(numpy.ones(96), numpy.arange(-48e4, 48e4, 1e4))
+    page = picture_of(spectrum, Tuning(98e6, 960000), [-1e5, 0.0, 1e5, 2e5], HEAD, rows)
+    names = re.findall(r'<text x="[\d.]+" y="(\d+)">([^<]*)</text>', page)
+    assert names == [("12", "D317"), ("24", "PS0"), ("36", "PS1"), ("12", "PS2")]
+
+
 def test_how_high_a_hump_is() -> None:
     """Of power within 50 kHz its window has 0.919, and those beside it 0.5. As strong as noise it is a hump, 28 % high; one of 1.2 % is noise."""
     offsets = numpy.arange(-400e3, 400e3, 2000.0)
@@ -236,6 +248,14 @@ def test_names(name: str, centre: Any) -> None:
     assert centre_in_name(f"/somewhere/10MHz/{name}") == centre
 
 
+def test_the_chunk_of_spectravue() -> None:
+    """Two times, the centre, and other fields; XML that names no centre is none, however long."""
+    centre = struct.pack("<I", 97950000)
+    assert centre_in_auxi(bytes(32) + centre) == centre_in_auxi(AUXI[8:]) == 97950000
+    for body in (bytes(32) + centre[:3], bytes(36), b"<a>" + bytes(29) + centre, b""):
+        assert centre_in_auxi(body) is None
+
+
 def test_the_chunk_of_sdr_console(capture: bytes, tmp_path: Path) -> None:
     text = '<SDR-XML-Root><Definition RadioCenterFreq="97950000"/></SDR-XML-Root>'.encode("utf-16-le")
     path = tmp_path / "capture.wav"
@@ -275,6 +295,16 @@ def test_two_that_are_too_near() -> None:
     ]
     assert with_rds(SimpleNamespace(receivers=receivers), offsets) == [1, 2, 4]  # type: ignore[arg-type]
     assert with_rds(SimpleNamespace(receivers=receivers[1::-1]), offsets[:2]) == [0]  # type: ignore[arg-type]
+
+
+def test_no_more_is_read_than_is_looked_at() -> None:
+    """Of parts of 0.1 s two are 0.2 s."""
+    parts = iter([numpy.zeros(12800, "c8")] * 4)
+    source = SimpleNamespace(rate=128000, full_scale=1.0, blocks=lambda: parts)
+    heard = SimpleNamespace(push=lambda bits, last=False: None)
+    stations = TunedStations(source, Tuning(0.0, 128000), lambda station: heard, [0.0])  # type: ignore[arg-type]
+    stations.run(0.2)
+    assert stations.seconds == 0.2 and len([*parts]) == 2
 
 
 def test_lines_have_all_whole_bytes(capsys: pytest.CaptureFixture[str]) -> None:

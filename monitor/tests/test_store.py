@@ -7,6 +7,7 @@ import os
 import sqlite3
 import subprocess
 import sys
+from contextlib import closing
 from pathlib import Path
 from typing import Any, List
 
@@ -16,6 +17,7 @@ import pytest
 from conftest import COMMAND, encode, monitor, ran, rds
 from made import group_row, listing, lock, run, said, split
 from rds_monitor.db import schema, store
+from rds_monitor.db.standing import availability
 from rds_monitor.rows.items import Fault
 
 WORDS = (0xD393, 0x0548, 0xE0CD, 0x5041)
@@ -174,7 +176,7 @@ def test_the_views_of_written_rows(database) -> None:
     change(
         database,
         "INSERT INTO recordings VALUES(1, 'first', 'X'), (2, 'second', 'X')",
-        "INSERT INTO sessions VALUES(1, 1, 0, 86340, 1000, 60000, 0, 100000, 1, NULL),"
+        "INSERT INTO sessions VALUES(1, 1, 0, 86340, 1000, 60500, 0, 100000, 1, NULL),"
         "(2, 2, 0, 86440, 3000, 180000, 0, 120000, 0, 117000)",
         *(
             f"INSERT INTO minute_rows(session, minute, sent, valid, corrected, lost, missing, more) VALUES({row})"
@@ -191,20 +193,19 @@ def test_the_views_of_written_rows(database) -> None:
     day, next_day = "1970-01-01T23:59:", "1970-01-02T00:0"
     assert asked(database, "SELECT begin_utc, begin_s, sent, valid, bad_percent FROM minutes") == [
         (day + "00.000Z", 0.0, 2300, 2000, 13.04),
-        (next_day + "0:00.000Z", 60.0, 1530, 1500, 1.96),
+        (next_day + "0:00.500Z", 60.5, 1530, 1500, 1.96),
         (next_day + "0:40.000Z", 0.0, 3000, 2400, 20.0),
     ]
-    assert asked(
-        database, "SELECT begin_utc, end_utc, ROUND(length_s, 6) FROM outages ORDER BY begin_utc"
-    ) == [
-        (day + "10.000Z", day + "11.000Z", 1.0),
-        (day + "12.000Z", day + "14.500Z", 2.5),
-        (day + "14.700Z", day + "15.000Z", 0.3),
-        (next_day + "0:38.500Z", next_day + "0:40.000Z", 1.5),
-        (next_day + "0:40.000Z", next_day + "0:41.500Z", 1.5),
-        (next_day + "0:41.550Z", next_day + "0:43.000Z", 1.45),
-        (next_day + "1:00.000Z", next_day + "1:01.000Z", 1.000333),
-        (next_day + "1:19.000Z", None, 1.0),
+    query = "SELECT begin_place, end_place, begin_utc, end_utc, ROUND(length_s, 6) FROM outages ORDER BY begin_utc"
+    assert asked(database, query) == [
+        (10000, 11000, day + "10.000Z", day + "11.000Z", 1.0),
+        (12000, 14500, day + "12.000Z", day + "14.500Z", 2.5),
+        (14700, 15000, day + "14.700Z", day + "15.000Z", 0.3),
+        (98500, 100000, next_day + "0:38.500Z", next_day + "0:40.000Z", 1.5),
+        (0, 4500, next_day + "0:40.000Z", next_day + "0:41.500Z", 1.5),
+        (4650, 9000, next_day + "0:41.550Z", next_day + "0:43.000Z", 1.45),
+        (60000, 63001, next_day + "1:00.000Z", next_day + "1:01.000Z", 1.000333),
+        (117000, None, next_day + "1:19.000Z", None, 1.0),
     ]
     # Those less than 0.1 s apart are one; 10 s before the first session, 20 s after the second, and a stretch without any.
     assert asked(database, "SELECT begin_utc, end_utc, length_s, kind FROM station_outages") == [
@@ -223,6 +224,19 @@ def test_the_views_of_written_rows(database) -> None:
         ("X", "1970-01-01", 0.02, 2300, 2000, 86.96, 56.2, 3.8, 10.0, 86330.0),
         ("X", "1970-01-02", 0.02, 4530, 3900, 86.09, 73.55, 6.45, 21.5, 86298.5),
     ]
+
+    # All of its sessions: when it was watched for longer; for 20 seconds of them; and when another one has the same time.
+    looks = {
+        (86330, 86520): (129.75, 10.25, 31.5, 18.5),
+        (86340, 86480): (129.75, 10.25, 0, 0),
+        (86340, 86479.5): (129.75, 9.75, 0, 0),
+    }
+    changes = ["DELETE FROM watched_rows", "INSERT INTO watched_rows VALUES(1, 'X', 86400, 86420)"]
+    changes.append("INSERT INTO sessions VALUES(3, 2, 1, 86340, 1000, 60000, 0, 140000, 1, NULL)")
+    for number, (times, seconds) in enumerate(looks.items()):
+        with closing(sqlite3.connect(database)) as data:
+            assert availability(data, "X", *times) == pytest.approx(seconds, abs=0.001), times
+        change(database, *(changes[:2], changes[2:], [])[number])
 
 
 def test_a_name_that_scrolls_is_cut(database) -> None:
@@ -321,6 +335,18 @@ def test_migrations(database, station: bytes, monkeypatch) -> None:
     assert done.status == 1
     assert "already exists" in done.err
     assert asked(database, "PRAGMA user_version") == [len(schema.MIGRATIONS) + 1]
+
+
+def test_a_database_of_this_version_is_only_looked_at(tmp_path, monkeypatch) -> None:
+    """While another process writes it can be opened. Other programs know it by the letters RDSm."""
+    path = tmp_path / "it.db"
+    store.Store(str(path)).close()
+    monkeypatch.setattr(store, "WAIT", 0.05)
+    writer = sqlite3.connect(path, isolation_level=None)
+    assert writer.execute("PRAGMA application_id").fetchone() == (int.from_bytes(b"RDSm", "big"),)
+    writer.execute("BEGIN IMMEDIATE")
+    store.Store(str(path)).close()
+    writer.close()
 
 
 def test_what_each_version_brought() -> None:

@@ -148,6 +148,8 @@ def test_alternative_frequencies() -> None:
     lists = Judged("af = [98.1, 89.3]", "[station.alarms]", "af = 30").seconds(10)
     lists.held["af:98.1"] = {"tuned": 98100, "same": [89300], "regional": []}
     assert lists.seconds(60).found == []
+    lists.held["af:98.1"]["regional"] = [91500]
+    assert lists.seconds(60).texts == ["AF 89.3 91.5 98.1 in place of 89.3 98.1"]
     assert [text for text in Judged("af = [98.1]").seconds(302).texts] == ["AF none in place of 98.1"]
 
 
@@ -161,13 +163,34 @@ def test_no_clock_time() -> None:
     assert Judged().seconds(4000).found == []
 
 
+def test_a_clock_time_counts_from_when_it_was_sent() -> None:
+    """As long as its bits took to come."""
+    judged = Judged("[station.alarms]", "ct_absent = 150").seconds(100)
+    judged.alarms.take([], [], [Tick(TIMING.place(70), 70)], TIMING, 0.0)
+    assert judged.seconds(200).found == [("ct_absent", True, 220.0)]
+
+
+def test_a_pause_of_two_seconds_is_none() -> None:
+    judged = Judged("[station.alarms]", "silent = 1", "no_rds = 1").seconds(5).seconds(1, quiet=2, age=2)
+    assert judged.found == []
+    assert [name for name, _, _ in judged.seconds(1, quiet=2.25, age=2.25).found] == ["silent", "no_rds"]
+
+
+def test_a_receiver_that_writes_in_bursts() -> None:
+    """Each five seconds: what a burst brings counts for the seconds before it."""
+    judged = Judged("[station.alarms]", "rt_stuck = 100", "silent = false").seconds(1, rt="One")
+    for _ in range(30):
+        judged.seconds(4, quiet=1).seconds(1)
+    assert judged.found == [("rt_stuck", True, 101.0)]
+
+
 def test_a_receiver_that_flaps() -> None:
-    """More than four sessions an hour, until only two of the last hour are left."""
-    judged = Judged("[station.alarms]", "flapping = 4")
-    for _ in range(6):
+    """More than ten sessions an hour, until only five of the last hour are left."""
+    judged = Judged()
+    for _ in range(12):
         judged.alarms.begin_session(judged.now)
-        judged.seconds(600)
-    assert judged.found == [("flapping", True, 2401.0)] and judged.texts == ["5 sessions in an hour"]
+        judged.seconds(300)
+    assert judged.found == [("flapping", True, 3001.0)] and judged.texts == ["11 sessions in an hour"]
     judged.seconds(3600)
     assert judged.found[1:] == [("flapping", False, 5400.0)]
 
@@ -307,3 +330,4 @@ def test_words_of_a_command(text: str) -> None:
         ["page", "{station}: {alarm} {state}", "{text}", "{other}"], "Alpha", Change("pi", True, text)
     )
     assert words == ("page", "Alpha: pi begin", text, "{other}")
+    assert words_for(["{state}", "{text}"], "Alpha", Change("pi", False, text)) == ("end", text)

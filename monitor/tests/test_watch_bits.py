@@ -34,6 +34,13 @@ def cut(data: bytes, seed: int) -> List[bytes]:
     return found
 
 
+def right(bits: bytes) -> int:
+    """How many of the groups are received as they were sent."""
+    rows = decode(bits)[0]
+    found = [tuple(int(row[f"info{block}"]) for block in (1, 2, 3, 4)) for row in rows[rows["what"] == 2]]
+    return len([group for group in found if group in GROUPS])
+
+
 def test_packed_bits_are_left_alone() -> None:
     source = bit_source(station())
     assert source.take(b"\x01\x02") == b"\x01\x02"
@@ -52,7 +59,7 @@ FORMS: Dict[str, Tuple[str, ...]] = {
 
 @pytest.mark.parametrize("name", FORMS)
 def test_a_signal(name: str) -> None:
-    one = station(*FORMS[name])
+    one = station(*FORMS[name], "soft = false")
     assert one.rate is not None and one.raw is not None
     signal = mpx(encode(GROUPS), one.rate, snr=40)
     if one.form == "iq":
@@ -60,18 +67,26 @@ def test_a_signal(name: str) -> None:
     else:
         data = stored(signal, one.raw)
     source = bit_source(one)
-    bits = b"".join([source.take(piece) for piece in cut(data, 3)]) + source.finish()
-    rows = decode(bits)[0]
-    found = [tuple(int(row[f"info{block}"]) for block in (1, 2, 3, 4)) for row in rows[rows["what"] == 2]]
-    assert len([group for group in found if group in GROUPS]) >= 50
+    assert right(b"".join([source.take(piece) for piece in cut(data, 3)]) + source.finish()) >= 50
     assert 0.5 < source.delay < 3 and source.strength is not None
     assert source.strength.snr_db is not None and source.strength.snr_db > 15
+
+
+def test_multipath_is_undone_if_the_table_says_so() -> None:
+    """A second path of 30 µs; of a receiver's only station it is undone by default."""
+    signal = iq(mpx(encode(GROUPS[:30]), 256000, snr=40), 256000, paths=[(30, 0.7, 90, 0)], cnr=30)
+    found = []
+    for more in ((), ("equaliser = false",)):
+        hard = station('form = "iq"', 'raw = "s16"', "rate = 256000", "soft = false", *more)
+        source = bit_source(hard)
+        found.append(right(source.take(stored(signal, "s16")) + source.finish()))
+    assert found[0] >= 24 > 10 >= found[1]
 
 
 @pytest.mark.parametrize("name", FORMS)
 def test_symbols_of_a_signal(name: str) -> None:
     """Their bits are those that a station without soft decisions has, and they come some 0.2 s later."""
-    hard, soft = (station(*FORMS[name], *more) for more in (["soft = false"], ["soft = true"]))
+    hard, soft = (station(*FORMS[name], *more) for more in (["soft = false"], []))
     assert hard.rate is not None and hard.raw is not None and not hard.same_receiver(soft)
     signal = mpx(encode(GROUPS), hard.rate, snr=10)
     data = stored(
@@ -89,7 +104,7 @@ def test_symbols_of_a_signal(name: str) -> None:
 
 
 def test_lines_of_symbols() -> None:
-    text = '[[receiver]]\nname = "r"\ncommand = ["r"]\nraw = "u8"\nrate = 3200000\ncentre = 97\nsoft = true\n'
+    text = '[[receiver]]\nname = "r"\ncommand = ["r"]\nraw = "u8"\nrate = 3200000\ncentre = 97\n'
     one = table_of(text + stations('name = "A"', 'receiver = "r"', "frequency = 97.2")).stations[0]
     source = bit_source(one)
     told = [{"seconds": at, "symbols": "7f81" * 50, "level_dbfs": -20.0, "snr_db": 3.0} for at in (2.0, 2.5)]

@@ -215,7 +215,9 @@ def test_a_decoder_that_is_killed(tmp_path: Path) -> None:
     numbers = [number for number, _ in numbers_in(hours_in(tmp_path, "Alpha"))]
     assert numbers == sorted(set(numbers)) and len(numbers) > 3
     texts = [path.read_bytes() for path in sorted((tmp_path / "listings" / "Alpha").iterdir())]
-    assert [b"total,losses," in text for text in texts] == [False, True]
+    # three files if an hour began meanwhile
+    assert len(texts) > 1
+    assert [b"total,losses," in text for text in texts] == [False] * (len(texts) - 1) + [True]
 
 
 def test_no_decoder_outlives_its_watch(tmp_path: Path) -> None:

@@ -2,11 +2,15 @@
 
 from __future__ import annotations
 
+import gzip
 import os
 import time
+from itertools import accumulate
 from pathlib import Path
+from typing import Callable
 
 import pytest
+import zstandard
 from hypothesis import given
 from hypothesis import strategies as st
 
@@ -14,6 +18,8 @@ from made import run
 from rds_monitor.db.parts import EventRow, MinuteRow, Told
 from rds_monitor.measures.errors import Interval
 from rds_monitor.rows.hours import Hour, hour_of
+from rds_monitor.rows.listing import text_of
+from rds_monitor.watch.compress import compress
 from rds_monitor.watch.live import Append
 from rds_monitor.watch.records import (
     AlarmChanged,
@@ -25,6 +31,7 @@ from rds_monitor.watch.records import (
     RunBegan,
     RunEnded,
 )
+from rds_monitor.watch.recover import rows_of
 from rds_monitor.watch.repair import make_whole
 from rds_monitor.watch.retention import tidy
 from rds_monitor.watch.table import Keep
@@ -34,15 +41,21 @@ from rds_monitor.watch.writer import Batch, Writer, WriterThread
 HOUR = 1795748400.0
 
 
-@given(st.integers(0, 4 * 10**5), st.integers(0, 4 * 10**12), st.integers(11_000_000, 12_900_000))
-def test_names(hour: int, start: int, rate: int) -> None:
-    one = Hour(hour * 3600.0, start / 1000, rate / 1e4)
+@given(
+    st.integers(0, 4 * 10**5),
+    st.integers(0, 4 * 10**12),
+    st.integers(11_000_000, 12_900_000),
+    st.booleans(),
+)
+def test_names(hour: int, start: int, rate: int, soft: bool) -> None:
+    one = Hour(hour * 3600.0, start / 1000, rate / 1e4, soft)
     assert hour_of("/some/folder/" + one.name) == one
 
 
 def test_names_are_in_order() -> None:
     early = Hour(HOUR, HOUR - 86400.5).name
     assert early == "2026-11-27T03Z_20261126T025959.500Z.csv"
+    assert Hour(HOUR, HOUR, 1187.5, True).name == "2026-11-27T03Z_20261127T030000.000Z_soft.csv"
     later = [Hour(HOUR, HOUR - 3), Hour(HOUR, HOUR + 7), Hour(HOUR + 3600, HOUR - 86400, 1187.6)]
     names = [early, *(hour.name for hour in later)]
     assert names == sorted(set(names))
@@ -59,7 +72,7 @@ def test_every_end_of_a_file(station_listing: bytes, tmp_path: Path) -> None:
     """Wherever it is cut, and whatever a power failure left there, the whole rows are kept."""
     text = station_listing[: station_listing.index(b"total,")][:3000]
     path = tmp_path / "hour.csv"
-    for end in range(len(text) - 130, len(text)):
+    for end in (1, 20, *range(len(text) - 90, len(text))):
         for rest in (b"", b"\0" * 40, b"\0" * 10 + b"\n", b"xyz\n"):
             path.write_bytes(text[:end] + rest)
             whole = text[: text[:end].rfind(b"\n") + 1]
@@ -73,11 +86,44 @@ def test_a_whole_file_is_left_alone(station_listing: bytes, tmp_path: Path) -> N
         assert make_whole(str(path)) == len(text) and path.read_bytes() == text
 
 
+@pytest.mark.parametrize("pack", [bytes, gzip.compress])
+def test_the_rows_of_an_hour(pack: Callable[[bytes], bytes], station_listing: bytes, tmp_path: Path) -> None:
+    """One for each line, and where that ends; none of an empty file."""
+    path = tmp_path / "hour.csv"
+    for text in (station_listing[: station_listing.index(b"total,")], b""):
+        path.write_bytes(pack(text))
+        rows, ends = rows_of(str(path))
+        assert text_of(rows) == text
+        assert ends == [*accumulate(len(line) for line in text.splitlines(keepends=True))]
+
+
+def test_an_hour_that_is_compressed(tmp_path: Path) -> None:
+    """In place of the listing, with its time, and the database knows it. A second call finds nothing to do."""
+    records, key, path = Records(str(tmp_path / "watch.db")), PartKey("Alpha", 0), "hours/it.csv"
+    plain = tmp_path / path
+    plain.parent.mkdir()
+    plain.write_bytes(b"row\n" * 9)
+    os.utime(plain, (HOUR, HOUR))
+    records.write([PartOpened(key, "Alpha", Timing(HOUR), 0, path)])
+    for _ in range(2):
+        compress(str(tmp_path), path, records)
+    (made,) = plain.parent.iterdir()
+    assert records.path_of(key) == f"{path}.zst" == f"hours/{made.name}" and made.stat().st_mtime == HOUR
+    assert zstandard.ZstdDecompressor().decompress(made.read_bytes()) == b"row\n" * 9
+    records.close()
+
+
 def test_options_say_more_than_a_name(station_listing: bytes, tmp_path: Path) -> None:
     path = tmp_path / Hour(HOUR, HOUR + 12.5).name
     path.write_bytes(station_listing[: station_listing.rindex(b"group,")])
     assert "2026-11-27T03:01:12.500Z" in run("errors", path).out
     assert "2026-01-01T00:01:00.000Z" in run("errors", "--start", "2026-01-01T00:00:00Z", path).out
+    # a minute by the rate of the name, or of the options
+    faster = tmp_path / Hour(HOUR, HOUR + 12.5, 1200).name
+    faster.write_bytes(path.read_bytes())
+    for words, rate in (((), 1200), (("--rate", 1150), 1150)):
+        sent = [int(row.split(",")[2]) for row in run("errors", *words, faster).out.splitlines()[2:3]]
+        assert sent == [pytest.approx(60 * rate / 26, abs=1)]
     other = tmp_path / "monday.csv"
     os.rename(path, other)
     assert run("errors", other).status == 1
@@ -85,10 +131,12 @@ def test_options_say_more_than_a_name(station_listing: bytes, tmp_path: Path) ->
 
 def test_a_writer_ends_with_its_last_rows(tmp_path: Path) -> None:
     records = Records(str(tmp_path / "watch.db"))
+    # In milliseconds, for another writer.
+    assert records.database.execute("PRAGMA busy_timeout").fetchone() == (1000,)
     thread = WriterThread(Writer(str(tmp_path), records, lambda *said: None))
     thread.start()
     thread.give(Batch([Append("listings/Alpha/it.csv", b"row\n", True)], [], []))
-    while not thread.is_idle:
+    while thread.is_alive() and not thread.is_idle:
         time.sleep(0.01)
     thread.end(20)
     assert not thread.is_alive() and thread.crash is None
@@ -130,6 +178,8 @@ def test_by_size(tmp_path: Path) -> None:
     """The oldest go first; the last hours stay, however large."""
     assert kept(tmp_path, Keep(listings_gb=300e-9), 100, 100, 100, 100, 100) == [2, 3, 4]
     assert kept(tmp_path / "less", Keep(listings_gb=50e-9), 100, 100, 100, 100, 100) == [3, 4]
+    # of 1,000,000,000 bytes each
+    assert kept(tmp_path / "decimal", Keep(listings_gb=290e-9), 100, 100, 100, 100, 100) == [3, 4]
     assert len(list((tmp_path / "listings" / "Alpha").glob("*.csv"))) == 3
 
 
@@ -140,15 +190,17 @@ def test_one_that_is_being_written(tmp_path: Path) -> None:
 def test_old_rows_of_the_database(tmp_path: Path) -> None:
     """Parts that ended before go, with all that belongs to them, and facts that nothing names. What lasts, or ended later, stays."""
     records = Records(str(tmp_path / "watch.db"))
-    for name, begin, ps in (("old", HOUR - 10 * 86400, "OLD"), ("new", HOUR - 3600, "NEW")):
-        key = PartKey(f"Alpha {name}", 0)
+    # The part of the new one began before what goes, and ends after it.
+    for name, begin, days in (("old", HOUR - 10 * 86400, 1), ("new", HOUR - 3600, 3)):
+        key, ps = PartKey(f"Alpha {name}", 0), name.upper()
         minute = MinuteRow(0, Interval(0, 71250, 2740, 2740, 0, 0, 0), {"0A": 1}, {"ps": ps}, None, 0)
         told = Told([minute], [EventRow(104, 0, "rt", f"text of {name}")], [(0, 2000)], [], [])
         alarm = AlarmChanged("Alpha", name, True, begin, "")
-        part = PartOpened(key, "Alpha", Timing(begin), 0, f"{name}.csv"), PartTold(key, told)
+        start = Timing(begin - days * 86400)
+        part = PartOpened(key, "Alpha", start, 0, f"{name}.csv"), PartTold(key, told)
         run_ = RunBegan("Alpha", begin), RunEnded("Alpha", begin + 9, name)
         ended = alarm._replace(begins=False, utc=begin + 1)
-        records.write([*part, PartGrew(key, 71250, 0, True), alarm, ended, *run_])
+        records.write([*part, PartGrew(key, start.place(begin), 0, True), alarm, ended, *run_])
     lasting, late = (AlarmChanged("Alpha", name, True, HOUR - 9 * 86400, "") for name in ("lasting", "late"))
     records.write([lasting, late, late._replace(begins=False, utc=HOUR)])
     records.write([RunBegan("Alpha", HOUR - 9 * 86400), RunEnded("Alpha", HOUR, "late")])

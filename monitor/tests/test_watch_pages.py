@@ -17,7 +17,7 @@ from rds_monitor.watch.alarms import NAMES
 from rds_monitor.watch.metrics import METRICS, metrics_text
 from rds_monitor.db.standing import Availability, standing_of
 from rds_monitor.watch.pages import Bar, bars_of, overview, picture, station_page, worst_first, write_pages
-from rds_monitor.watch.records import AlarmChanged, PartKey, PartOpened, PartTold, Records
+from rds_monitor.watch.records import AlarmChanged, PartGrew, PartKey, PartOpened, PartTold, Records
 from rds_monitor.watch.times import Timing
 
 UTC = 1795748400.0
@@ -104,6 +104,8 @@ def test_a_picture_is_in_proportion() -> None:
     pattern = r'class="(\w+)" x="0" y="([\d.]+)" width="1" height="([\d.]+)"'
     drawn = re.findall(pattern, picture([Bar(100, 70, 20)], 40, "Alpha"))
     assert drawn == [("fine", "12.0", "28.0"), ("fixed", "4.0", "8.0"), ("bad", "0.0", "4.0")]
+    # What there is none of is not drawn.
+    assert re.findall(pattern, picture([Bar(100, 100, 0)], 40, "Alpha")) == [("fine", "0.0", "40.0")]
 
 
 def test_stations_with_an_alarm_are_counted_once() -> None:
@@ -180,6 +182,26 @@ def test_pages_of_a_database(tmp_path: Path) -> None:
         str(tmp_path / "pages"), {f"S{n}": state() for n in range(30)}, {}, {}, UTC, records.database, 60
     )
     assert time.process_time() - begin < 10
+    records.close()
+
+
+def test_how_much_of_the_past_a_page_has(tmp_path: Path) -> None:
+    """The last 30 alarms, and of the last four sessions the last 40 changes."""
+    records = Records(str(tmp_path / "watch.db"))
+    for n in range(31):
+        alarm = AlarmChanged("Alpha", "ta", True, UTC - 3600 + n, f"alarm {n}")
+        records.write([alarm, alarm._replace(begins=False, utc=alarm.utc + 0.5)])
+    found = []
+    for n, count in enumerate((9, 9, 9, 9, 9, 20)):
+        key, events = PartKey(f"Alpha {n}", 0), [EventRow(104 * k, 0, "ps", f"{n} {k}") for k in range(count)]
+        records.write([PartOpened(key, "Alpha", Timing(UTC - 1000 + 60 * n), 0, f"{n}.csv")])
+        records.write([PartTold(key, Told([], events, [], [], [])), PartGrew(key, 71250, 0, True)])
+        write_pages(str(tmp_path), {"Alpha": state()}, {}, {}, UTC, records.database, 60)
+        tables = (tmp_path / "Alpha.html").read_text().split("<h2>")[-2:]
+        found.append([re.findall(r"<bdi>(alarm \d+|\d \d+)</bdi>", table) for table in tables])
+    assert found[-1][0] == [f"alarm {n}" for n in range(30, 0, -1)]
+    assert [len(changes) for _, changes in found] == [9, 18, 27, 36, 36, 40]
+    assert (found[4][1][0], found[4][1][-1]) == ("4 8", "1 0") and found[5][1][0] == "5 19"
     records.close()
 
 

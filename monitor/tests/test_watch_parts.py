@@ -8,7 +8,7 @@ import time
 from collections import deque
 from pathlib import Path
 from types import BuiltinFunctionType, FunctionType, ModuleType
-from typing import Any, List, Optional
+from typing import Any, List, Optional, Sequence
 
 import pytest
 
@@ -17,12 +17,15 @@ from load import Endless
 from network import START, Air, Plan, Simulated
 from rds_monitor.content.decoder import Event
 from rds_monitor.db.parts import Contents, Part
+from rds_monitor.db.standing import Availability
 from rds_monitor.rows.clock import Clock
-from rds_monitor.watch import loop, records, writer
+from rds_monitor.rows.items import Fault
+from rds_monitor.watch import asked, loop, records, writer
 from rds_monitor.watch.live import Append
 from rds_monitor.watch.loop import Hooks
 from rds_monitor.watch.receiver import Keeper, Process
 from rds_monitor.watch.records import Records, RunBegan
+from rds_monitor.watch.verdict import Limits
 from rds_monitor.watch.writer import Batch, Writer, WriterThread
 from test_watch_network import ALPHA, TABLE, network
 
@@ -51,6 +54,45 @@ def test_the_last_bytes_of_a_receiver() -> None:
     assert keeper.reason == "ended with status 0" and not keeper.is_running
 
 
+class Brief(Process):
+    """A command that writes what is left, and ends when it is told to."""
+
+    def __init__(self, *left: bytes) -> None:
+        self.has_ended, self._left = False, [*left]
+
+    def read(self) -> Optional[bytes]:
+        return self._left.pop() if self._left else b""
+
+    def ended(self) -> Optional[str]:
+        return "ended" if self.has_ended else None
+
+    def kill(self) -> None:
+        ...
+
+    close = kill
+
+
+@pytest.mark.parametrize("lasted, left, pause", [(59.9, [b"x"], 60.0), (60.0, [b"x"], 1.0), (60.0, [], 60.0)])
+def test_pauses_grow(lasted: float, left: List[bytes], pause: float) -> None:
+    """After a run of a minute in which a byte came, if only at its begin, the next one is a second again."""
+    runs: List[Brief] = []
+
+    def launch(words: Sequence[str], through: Sequence[str]) -> Brief:
+        runs.append(Brief(*(left if len(runs) == 8 else [b"x"])))
+        return runs[-1]
+
+    keeper, begin = Keeper(["it"], 1e9, launch, 0.0), 0.0
+    for number, wanted in enumerate([1, 2, 4, 8, 16, 32, 60, 60, pause], 1):
+        assert [keeper.read(begin), keeper.read(begin) == b"x"] == [b"", number < 9 or left != []]
+        runs[-1].has_ended = True
+        end = begin + (lasted if number == 9 else 0.5)
+        assert keeper.read(end) is None
+        begin = end + wanted
+        assert keeper.read(begin - 0.1) == b"" and len(runs) == number
+    keeper.read(begin)
+    assert len(runs) == 10
+
+
 def test_the_last_batch_of_a_writer(tmp_path: Path) -> None:
     """It was given before the end, and is written."""
     records = Records(str(tmp_path / "watch.db"))
@@ -61,6 +103,32 @@ def test_the_last_batch_of_a_writer(tmp_path: Path) -> None:
     thread.end(10.0)
     assert (tmp_path / "listings" / "Alpha" / "it.csv").read_bytes() == b"row\n" and not thread.is_alive()
     records.close()
+
+
+@pytest.mark.parametrize(
+    "quiet, runs, told",
+    [
+        (60.0, None, "100.00 % of the blocks of the last minute valid"),
+        (60.1, None, "rds-monitor watch does not run"),
+        (60.1, 60.0, "rds-monitor watch has just begun"),
+        (60.1, 60.1, "disk: nothing was written for 60 s"),
+    ],
+)
+def test_a_minute_without_news(
+    quiet: float, runs: Optional[float], told: str, monkeypatch: pytest.MonkeyPatch
+) -> None:
+    """By how long ago the station was looked at, and for how long a watch has run, if it does."""
+    minute = {"sent": 2740, "valid": 2740, "corrected": 0}
+    state = {"utc": 1000.0, "session_utc": 1.0, "last_group_utc": 999.0, "held": {}, "alarms": {}}
+    known = (1000.0, {**state, "minute": minute}, "", Availability(0, 0, 0, 0))
+    monkeypatch.setattr(asked, "known_of", lambda path, name: known)
+    monkeypatch.setattr(asked, "runs_for", lambda folder: runs)
+    monkeypatch.setattr(asked.time, "time", lambda: 1000.0 + quiet)
+    try:
+        said = asked.judge_station(["it.db"], "A", Limits(90, 50, 10, 60), None, []).said
+    except Fault as fault:
+        said = [str(fault)]
+    assert told in said[0]
 
 
 def test_commands_in_their_order(tmp_path: Path, monkeypatch: pytest.MonkeyPatch) -> None:

@@ -292,23 +292,26 @@ def test_receivers_that_are_none(tmp_path: Path) -> None:
     assert process.end() == 0
 
 
-@pytest.mark.parametrize("soft", ["false", "true"])
+@pytest.mark.parametrize("soft", ["soft = false", ""])
 def test_mpx_is_demodulated(soft: str, tmp_path: Path) -> None:
-    """The tests' modulator makes six seconds, which a receiver repeats."""
+    """The tests' modulator makes six seconds, which a receiver repeats. Soft decisions are the default, and SIGHUP takes them."""
     programme = Programme(0xD318, "ALPHA", "Now: nothing")
     data = encode([programme.group(n) for n in range(6, 6 + 72)])
     (tmp_path / "mpx").write_bytes(stored(mpx(data, 192000), "s16"))
     words = ["sh", "-c", f"while cat {tmp_path}/mpx; do sleep 6; done"]
-    keys = ['form = "mpx"', 'raw = "s16"', "rate = 192000", f"soft = {soft}"]
+    keys = ['form = "mpx"', 'raw = "s16"', "rate = 192000", soft]
     process = Process(tmp_path, table(tmp_path, *keys, command=words))
     process.receives(1000)
-    if soft == "false":
-        table(tmp_path, *keys[:-1], "soft = true", command=words)
+    if soft:
+        table(tmp_path, *keys[:-1], command=words)
         process.it.send_signal(signal.SIGHUP)
-        process.says("the old table holds: soft decisions need a restart")
+        process.says("the table is read again")
+        process.receives(1000)
     assert process.end() == 0
-    listings = b"".join(path.read_bytes() for path in sorted((tmp_path / "listings" / "Alpha").iterdir()))
-    assert (b"total,soft6," in listings) == (soft == "true")
+    paths = sorted((tmp_path / "listings" / "Alpha").iterdir(), key=lambda path: path.stat().st_mtime)
+    assert [path.stem.endswith("_soft") for path in paths] == [False, True][-len(paths) :]
+    for path in paths:
+        assert (b"total,soft6," in path.read_bytes()) == path.stem.endswith("_soft")
     texts = asked(tmp_path, "SELECT DISTINCT value FROM events WHERE item IN ('pi', 'ps') ORDER BY 1")
     assert texts == [("ALPHA",), ("D318",)]
 

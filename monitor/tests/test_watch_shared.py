@@ -44,6 +44,10 @@ def frequency(receiver: str, number: int) -> float:
     return round(RECEIVERS[receiver] - 1.4 + 0.2 * number, 1)
 
 
+# What a simulated receiver gives is bits.
+HARD = "soft = false"
+
+
 def receiver(name: str, *more: str) -> str:
     lines = [f'name = "{name}"', f'command = ["{name}"]', 'raw = "u8"', "rate = 3200000", *more]
     return "[[receiver]]\n" + "\n".join(lines) + "\n"
@@ -52,7 +56,7 @@ def receiver(name: str, *more: str) -> str:
 QUIET = "[defaults.alarms]\nsilent = false\nno_rds = false\nslow = false\n"
 SHARED = (
     QUIET
-    + "".join(receiver(name, f"centre = {centre}") for name, centre in RECEIVERS.items())
+    + "".join(receiver(name, f"centre = {centre}", HARD) for name, centre in RECEIVERS.items())
     + "".join(
         stations(f'name = "{name_of(of, n)}"', f'receiver = "{of}"', f"frequency = {frequency(of, n)}")
         for of in RECEIVERS
@@ -125,7 +129,7 @@ def few(count: int, more: str = "") -> str:
         stations(f'name = "A{n}"', 'receiver = "north"', f"frequency = {96.5 + 0.4 * n}")
         for n in range(count)
     )
-    return more + receiver("north", "centre = 97.0") + "".join(lines)
+    return more + receiver("north", "centre = 97.0", HARD) + "".join(lines)
 
 
 def test_a_changed_table(tmp_path: Path) -> None:
@@ -175,12 +179,12 @@ def until(holds: Callable[[], Any], seconds: float = 60.0) -> Any:
 
 
 @pytest.mark.xdist_group("stations")
-@pytest.mark.parametrize("soft", ["false", "true"])
+@pytest.mark.parametrize("soft", [HARD, ""])
 def test_the_hours_are_those_of_a_receiver_for_each(soft: str, tmp_path: Path) -> None:
     """A receiver gives a capture and ends: of each station the whole session is there, as by a receiver of its own."""
     (tmp_path / "capture").write_bytes(small_capture())
     command = json.dumps(["cat", str(tmp_path / "capture")])
-    of = f'command = {command}\nraw = "s16"\nrate = {SMALL_RATE}\nsoft = {soft}\n'
+    of = f'command = {command}\nraw = "s16"\nrate = {SMALL_RATE}\n{soft}\n'
     text = f'[[receiver]]\nname = "north"\ncentre = {SMALL_CENTRE / 1e6}\n{of}'
     for hertz in PROGRAMMES:
         text += f'[[station]]\nname = "S{hertz}"\nreceiver = "north"\nfrequency = {hertz / 1e6}\n'
@@ -198,7 +202,7 @@ def test_the_hours_are_those_of_a_receiver_for_each(soft: str, tmp_path: Path) -
     for hertz, groups in PROGRAMMES.items():
         first = [min((tmp_path / "listings" / f"{of}{hertz}").iterdir()).read_bytes() for of in "SO"]
         assert first[0] == first[1] and b"total,complete,2" in first[0]
-        assert (b"total,soft6," in first[0]) == (soft == "true")
+        assert (b"total,soft6," in first[0]) == (not soft)
         assert first[0].decode().count(f",A:{groups[0][0]:04X},") >= 18
 
 
@@ -252,7 +256,7 @@ def test_a_station_of_a_receiver() -> None:
     beta = ("--", 'name = "B"', 'receiver = "north"', "frequency = 96.6", "equaliser = true")
     one, other = table_of(defaults + NORTH + stations(*STATION, *beta)).stations
     assert one.receiver is not None and one.receiver == other.receiver
-    assert (one.form, one.raw, one.rate, one.patience) == ("iq", "u8", 3200000, 10)
+    assert (one.form, one.raw, one.rate, one.patience, one.soft) == ("iq", "u8", 3200000, 10, True)
     assert [tuple(tuned) for tuned in one.receiver.tuned] == [(96600000, True), (97400000, False)]
     own = ('name = "C"', 'command = ["c"]', 'form = "iq"', 'raw = "u8"', "rate = 240000")
     assert table_of(stations(*own)).stations[0].equaliser
@@ -294,5 +298,8 @@ def test_a_spike_in_a_channel(tmp_path: Path, centre: float, warns: bool) -> Non
         + stations(*STATION).replace("north", "cat")
     )
     done = run("watch", "--check", path)
-    assert done.status == 0 and done.out == f"receiver cat: {centre} MHz, cat\nA: iq, receiver cat\n"
+    assert (
+        done.status == 0
+        and done.out == f"receiver cat: {centre} MHz, cat\nA: iq, soft decisions, receiver cat\n"
+    )
     assert ("A: the centre of receiver cat" in done.err and "spike at 0 Hz" in done.err) == warns

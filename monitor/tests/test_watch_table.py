@@ -8,13 +8,14 @@ import sys
 import syslog
 import tomllib
 from pathlib import Path
-from typing import Any, List
+from typing import Any, List, Tuple
 
 import pytest
 
 from conftest import TOP
 from made import run
 from network import stations
+from rds_monitor.rows.decoders import ByProgram
 from rds_monitor.rows.items import Fault
 from rds_monitor.watch import alarms, asked, journal, loop, receiver, service as watch, table, times
 from rds_monitor.watch.table import AlarmLimits, Keep, StationTable, table_of
@@ -52,6 +53,57 @@ def test_all_of_it() -> None:
     assert one.alarms == AlarmLimits(silent=30, ta=None, errors_percent=5) and other.alarms.silent == 20
     assert other.form == "iq" and other.rate == 171000 and other.offset == -1e5 and one.rt == ("*",)
     assert one.same_receiver(one) and not one.same_receiver(other)
+    assert one.soft and other.soft and not found.needs_soft
+
+
+NORTH = '[[receiver]]\nname = "north"\ncommand = ["n"]\nraw = "u8"\nrate = 2400000\ncentre = 98.0\n'
+MPX = ('form = "mpx"', 'raw = "s16"', "rate = 171000")
+
+
+@pytest.mark.parametrize(
+    ("before", "lines", "soft", "needed"),
+    [
+        ("", (), False, False),
+        ("", MPX, True, False),
+        ("", (*MPX, "soft = false"), False, False),
+        ("", (*MPX, "soft = true"), True, True),
+        ("[defaults]\nsoft = false\n", MPX, False, False),
+        ("[defaults]\nsoft = true\n", MPX, True, True),
+        (NORTH, ('receiver = "north"', "frequency = 97.3"), True, False),
+        (NORTH + "soft = true\n", ('receiver = "north"', "frequency = 97.3"), True, True),
+        (NORTH + "soft = false\n", ('receiver = "north"', "frequency = 97.3"), False, False),
+    ],
+)
+def test_soft_decisions(before: str, lines: Tuple[str, ...], soft: bool, needed: bool) -> None:
+    """They are the default for MPX and IQ, and needed only if the table says so."""
+    words = ALPHA[:1] if before.startswith(NORTH) else ALPHA
+    found = table_of(before + stations(*words, *lines))
+    (one,) = found.stations
+    assert (one.soft, found.needs_soft) == (soft, needed)
+    assert one.receiver is None or one.receiver.soft == soft and found.receivers == (one.receiver,)
+    hard = found.hard()
+    assert not hard.stations[0].soft and [of.soft for of in hard.receivers] == [False] * len(found.receivers)
+    assert one.same_receiver(hard.stations[0]) == (not soft)
+
+
+def test_soft_decisions_of_the_decoder(monkeypatch: pytest.MonkeyPatch, capsys: Any) -> None:
+    """One that has none does without those by default, says so, and is an error if the table needs them."""
+    asked: List[Any] = []
+
+    def decoder_of(program: Any, jobs: Any = ()) -> Any:
+        asked.append((program, *jobs))
+        if jobs:
+            raise Fault("it has no soft decisions")
+        return ByProgram, "/usr/bin/rds"
+
+    monkeypatch.setattr(watch, "decoder_of", decoder_of)
+    bits, soft, needed = (table_of(stations(*ALPHA, *lines)) for lines in ((), MPX, (*MPX, "soft = true")))
+    assert watch.decoding_of("rds", bits) == ("rds", ByProgram, "/usr/bin/rds", bits) and asked == [("rds",)]
+    assert watch.decoding_of(None, soft) == (None, ByProgram, "/usr/bin/rds", soft.hard())
+    assert "/usr/bin/rds has no soft decisions: blocks are corrected by bursts" in capsys.readouterr().err
+    assert asked[1:] == [(None, "follow"), (None,)]
+    with pytest.raises(Fault, match="it has no soft decisions"):
+        watch.decoding_of(None, needed)
 
 
 @pytest.mark.parametrize(

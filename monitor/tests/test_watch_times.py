@@ -57,6 +57,14 @@ def test_the_first_second_corrects_the_start() -> None:
     assert arrivals.timing is not None and abs(arrivals.timing.start - BEGIN - 0.01) < 1e-3
 
 
+@pytest.mark.parametrize("seconds, start", [(1, 0), (30, -29), (60, -59), (100, -60.5)])
+def test_bits_from_before_a_receiver_was_started(seconds: int, start: float) -> None:
+    """A second after that it gives them all at once. It had those of a minute, or a second more, and no others."""
+    arrivals = Arrivals(began=BEGIN)
+    arrivals.take(int(seconds * RATE), BEGIN + 1)
+    assert arrivals.timing is not None and abs(arrivals.timing.start - BEGIN - start) <= 0.5
+
+
 def test_dropped_samples_make_the_time_jump_forward() -> None:
     """Bits that come two seconds late for good. A read that is late once changes nothing."""
     arrivals = Arrivals()

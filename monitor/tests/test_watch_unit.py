@@ -16,7 +16,7 @@ from conftest import TOP, ran
 from network import stations
 from rds_monitor.watch.alarms import NAMES
 from rds_monitor.watch.metrics import METRICS
-from rds_monitor.watch.table import table_of
+from rds_monitor.watch.table import read_table, table_of
 
 PACKAGING = TOP / "packaging"
 UNIT = "rds-monitor-watch.service"
@@ -224,4 +224,22 @@ def test_the_page_names_all_alarms_and_their_defaults() -> None:
     for name in NAMES:
         (row,) = [line for line in page.splitlines() if line.startswith(f"| `{name}` |")]
         value = getattr(limits, name)
-        assert row.split("|")[3].split(",")[0].strip() == ("off" if value is None else f"{value:g}")
+        more = {"errors": f", {limits.errors_percent:g} %", "ct": f", {limits.ct_offset:g} s"}.get(name, "")
+        assert row.split("|")[3].strip() == ("off" if value is None else f"{value:g}") + more
+
+
+# The options of the receiver's program: its rate and its frequency are those of the station.
+RTL_FM = {"-d": "0", "-M": "fm", "-l": "0", "-A": "std", "-p": "0", "-s": "171k", "-F": "9", "-f": "98.1M"}
+
+
+def test_the_table_of_the_package() -> None:
+    """Its station is as its receiver is tuned, and it keeps as much as the one of the page."""
+    page = (TOP / "monitor" / "WATCHING.md").read_text()
+    (alpha,) = (table := read_table(str(PACKAGING / "stations.toml"))).stations
+    program, *words = alpha.command
+    assert (program, dict(zip(words[::2], words[1::2]))) == ("rtl_fm", RTL_FM)
+    assert (alpha.name, alpha.form, alpha.raw, alpha.rate) == ("Alpha", "mpx", "s16", 171000)
+    assert (alpha.frequency, alpha.pi, alpha.ps) == (98.1, ("D318",), ("ALPHA*",))
+    told = dict(re.findall(r"^    (listings_days|listings_gb|database_days) = (\d+)", page, re.M))
+    assert table.keep._asdict() == {**{name: float(text) for name, text in told.items()}, "compress": False}
+    assert table.folder is None and len(told) == 3

@@ -1,5 +1,5 @@
 -- From devices with no history to those that a run leaves.
-use Rattle.std.proofs.Common.{◌++◌, ◌*◌, ◌<◌, ◌≤◌, ◌≡◌, ◌≢◌, ◌⊎◌, ◌∙◌, [], ℕ, ap, arith, Bool, Err, false, inl, inr, length, List, None, Ok, Option, refl, Result, Some, subst, sym, true}
+use Rattle.std.proofs.Common.{◌++◌, ◌+◌, ◌*◌, ◌<◌, ◌≤◌, ◌≡◌, ◌≢◌, ◌⊎◌, ◌∙◌, [], ℕ, ap, arith, Bool, Err, false, inl, inr, length, List, None, Ok, Option, refl, Result, Some, subst, sym, true}
 use Rattle.std.specs.Prelude.{◌↔◌, IfErr, IsErrOf, OnOk}
 use Rattle.rds_live.specs.StreamDecoder.{Terms}
 use Rattle.rds_rows.specs.declared.sink.Sink.{Ghosts as Sink}
@@ -17,7 +17,9 @@ use Rattle.rds_tool.specs.declared.devices.Source.{Ghosts as Source}
 use Rattle.rds_tool.specs.declared.error.ToolError.{ToolError}
 use Rattle.rds_tool.specs.declared.error.ToolError.TheVariants.{BadGaps, BitsPastBytes, BurstRange, CrewRange, LossRange, OutOfMemory, ReachRange, Read, ShareRange, TooLong, Write}
 use Rattle.rds_tool.specs.declared.job.Job.{Job}
-use Rattle.rds.specs.Session.{IsDone, IsFollowed, RefusesRules, RefusesWorkers}
+use Rattle.rds_tool.specs.SoftFollowing.{AreAsked, IsSoftFollowed, SoftBreaksOff}
+use Rattle.rds_soft.specs.SoftStream.{SoftTerms}
+use Rattle.rds.specs.Session.{IsDone, IsFollowed, IsSoftlyFollowed, RefusesRules, RefusesTerms, RefusesWorkers}
 
 -- the bytes given are all bytes given since the reader was made
 gave_all : (given' : List ℕ) (P : List ℕ → Type 0) → Gave [] given' P → P given'
@@ -222,18 +224,18 @@ rules_refused T rules sync.OutOfMemory burst reach loss share = inl refl
 rules_refused T rules sync.ShareRange burst reach loss share = inr (share refl)
 
 -- no device was used
-at_once : (terms : Terms) (bits : Option ℕ) (workers : ℕ) (e : ToolError) → IsFollowed [] false 0 [] false 0 (Err e) terms bits workers
+at_once : (P : List ℕ → Bool → ℕ → List ℕ → Bool → ℕ → Result (Unit {0}) ToolError → Type 0) (e : ToolError) → P [] false 0 [] false 0 (Err e)
     → (given : List ℕ) (ended : Bool) (reads : ℕ) (taken : List ℕ) (flushed : Bool) (writes : ℕ) (answer : Result (Unit {0}) ToolError)
     → answer ≡ Err e → given ≡ [] → ended ≡ false → reads ≡ 0 → taken ≡ [] → flushed ≡ false → writes ≡ 0
-    → IsFollowed given ended reads taken flushed writes answer terms bits workers
-at_once terms bits workers x all given ended reads taken flushed writes answer a g e r t f w =
-    subst (λ y. IsFollowed y ended reads taken flushed writes answer terms bits workers) (sym g)
-    (subst (λ y. IsFollowed [] y reads taken flushed writes answer terms bits workers) (sym e)
-    (subst (λ y. IsFollowed [] false y taken flushed writes answer terms bits workers) (sym r)
-    (subst (λ y. IsFollowed [] false 0 y flushed writes answer terms bits workers) (sym t)
-    (subst (λ y. IsFollowed [] false 0 [] y writes answer terms bits workers) (sym f)
-    (subst (λ y. IsFollowed [] false 0 [] false y answer terms bits workers) (sym w)
-    (subst (λ y. IsFollowed [] false 0 [] false 0 y terms bits workers) (sym a) all))))))
+    → P given ended reads taken flushed writes answer
+at_once P x all given ended reads taken flushed writes answer a g e r t f w =
+    subst (λ y. P y ended reads taken flushed writes answer) (sym g)
+    (subst (λ y. P [] y reads taken flushed writes answer) (sym e)
+    (subst (λ y. P [] false y taken flushed writes answer) (sym r)
+    (subst (λ y. P [] false 0 y flushed writes answer) (sym t)
+    (subst (λ y. P [] false 0 [] y writes answer) (sym f)
+    (subst (λ y. P [] false 0 [] false y answer) (sym w)
+    (subst (λ y. P [] false 0 [] false 0 y) (sym a) all))))))
 
 pub refused_by_rules : (T : Type 0) (terms : Terms) (bits : Option ℕ) (workers : ℕ) (x : SyncError)
     → (IsRefused T x sync.BurstRange → RefusesRules terms.rules BurstRange) → (IsRefused T x sync.ReachRange → RefusesRules terms.rules ReachRange)
@@ -242,12 +244,112 @@ pub refused_by_rules : (T : Type 0) (terms : Terms) (bits : Option ℕ) (workers
     → answer ≡ Err (of_sync x) → given ≡ [] → ended ≡ false → reads ≡ 0 → taken ≡ [] → flushed ≡ false → writes ≡ 0
     → IsFollowed given ended reads taken flushed writes answer terms bits workers
 refused_by_rules T terms bits workers x burst reach loss share =
-    at_once terms bits workers (of_sync x) (stream_refused terms bits workers (of_sync x) (no_break terms.rules workers x (rules_refused T terms.rules x burst reach loss share)) (is_of_rules x))
+    at_once (λ given ended reads taken flushed writes answer. IsFollowed given ended reads taken flushed writes answer terms bits workers) (of_sync x) (stream_refused terms bits workers (of_sync x) (no_break terms.rules workers x (rules_refused T terms.rules x burst reach loss share)) (is_of_rules x))
 
 pub refused_by_workers : (terms : Terms) (bits : Option ℕ) (workers : ℕ) → (AreWorkers workers → ⊥)
     → (given : List ℕ) (ended : Bool) (reads : ℕ) (taken : List ℕ) (flushed : Bool) (writes : ℕ) (answer : Result (Unit {0}) ToolError)
     → answer ≡ Err CrewRange → given ≡ [] → ended ≡ false → reads ≡ 0 → taken ≡ [] → flushed ≡ false → writes ≡ 0
     → IsFollowed given ended reads taken flushed writes answer terms bits workers
 refused_by_workers terms bits workers outside =
-    at_once terms bits workers CrewRange (stream_refused terms bits workers CrewRange (inr (inr (refl, outside)))
+    at_once (λ given ended reads taken flushed writes answer. IsFollowed given ended reads taken flushed writes answer terms bits workers) CrewRange (stream_refused terms bits workers CrewRange (inr (inr (refl, outside)))
     (λ k is among. none_of CrewRange k (sym is) among (λ p. cc p) (λ p. cc p) (λ p. cc p) (λ p. cc p) (λ p. cc p)))
+
+-- ---- a stream of symbols
+
+not_read : (rules : RuleNumbers) (workers : ℕ) → RefusesTerms rules workers Read → ⊥
+not_read rules workers (inl p) = cc p
+not_read rules workers (inr (inl r)) = r
+not_read rules workers (inr (inr w)) = let p = w.0 in cc p
+
+not_write : (rules : RuleNumbers) (workers : ℕ) → RefusesTerms rules workers Write → ⊥
+not_write rules workers (inl p) = cc p
+not_write rules workers (inr (inl r)) = r
+not_write rules workers (inr (inr w)) = let p = w.0 in cc p
+
+not_long : (rules : RuleNumbers) (workers : ℕ) → RefusesTerms rules workers TooLong → ⊥
+not_long rules workers (inl p) = cc p
+not_long rules workers (inr (inl r)) = r
+not_long rules workers (inr (inr w)) = let p = w.0 in cc p
+
+not_past : (rules : RuleNumbers) (workers : ℕ) → RefusesTerms rules workers BitsPastBytes → ⊥
+not_past rules workers (inl p) = cc p
+not_past rules workers (inr (inl r)) = r
+not_past rules workers (inr (inr w)) = let p = w.0 in cc p
+
+not_gaps : (rules : RuleNumbers) (workers : ℕ) → RefusesTerms rules workers BadGaps → ⊥
+not_gaps rules workers (inl p) = cc p
+not_gaps rules workers (inr (inl r)) = r
+not_gaps rules workers (inr (inr w)) = let p = w.0 in cc p
+
+asked_none : (bits : Option ℕ) → AreAsked bits []
+asked_none None = tt
+asked_none (Some n) = let e : 0 ≤ n + 1 = omega arith in e
+
+broke_of : (rules : RuleNumbers) (workers : ℕ) (e : ToolError) → RefusesTerms rules workers e → MayBreakOff e ⊎ (RefusesRules rules e ⊎ RefusesWorkers workers e)
+broke_of rules workers e (inl memory) = inl (inl memory)
+broke_of rules workers e (inr why) = inr why
+
+module _ (terms : SoftTerms) (bits : Option ℕ) (workers : ℕ) where
+  softly_refused : (e : ToolError) → RefusesTerms terms.rules workers e → IsSoftlyFollowed [] false 0 [] false 0 (Err e) terms bits workers
+  softly_refused e why =
+      let is : (k : ToolError) → (RefusesTerms terms.rules workers k → ⊥) → (e ≡ k) → ⊥ = λ k none p. none (subst (λ x. RefusesTerms terms.rules workers x) p why) in
+      let read = is Read (not_read terms.rules workers) in
+      let write = is Write (not_write terms.rules workers) in
+      record {
+        done = tt;
+        devices = record {
+          read = (λ p. absurd (read (same_error _ _ p)), λ some. absurd (none_less some));
+          write = (λ p. absurd (write (same_error _ _ p)), λ some. absurd (none_less some));
+        };
+        refused = broke_of terms.rules workers e why;
+        broke_off = record {
+          heard = [];
+          last = [];
+          few = omega arith;
+          gave = refl;
+          asked = asked_none bits;
+          prompt = λ p. absurd (read p);
+          between = λ _. refl;
+          within = λ p. absurd (write p);
+          too_long = λ p. absurd (is TooLong (not_long terms.rules workers) p);
+          past = λ p. absurd (is BitsPastBytes (not_past terms.rules workers) p);
+          bad_gaps = λ p. absurd (is BadGaps (not_gaps terms.rules workers) p);
+        };
+      }
+
+  pub refused_softly : (e : ToolError) → RefusesTerms terms.rules workers e
+      → (given : List ℕ) (ended : Bool) (reads : ℕ) (taken : List ℕ) (flushed : Bool) (writes : ℕ) (answer : Result (Unit {0}) ToolError)
+      → answer ≡ Err e → given ≡ [] → ended ≡ false → reads ≡ 0 → taken ≡ [] → flushed ≡ false → writes ≡ 0
+      → IsSoftlyFollowed given ended reads taken flushed writes answer terms bits workers
+  refused_softly e why =
+      at_once (λ given ended reads taken flushed writes answer. IsSoftlyFollowed given ended reads taken flushed writes answer terms bits workers) e (softly_refused e why)
+
+  pub softly_followed : (given given' : List ℕ) (ended : Bool) (read' reads : ℕ) (old : Option (List ℕ)) (taken : List ℕ) (flushed : Bool) (written' writes : ℕ) (answer : Result (Unit {0}) ToolError)
+      → given ≡ [] → read' ≡ 0 → old ≡ Some [] → written' ≡ 0
+      → OnOk answer (IsSoftFollowed terms bits given given' ended old (Some taken) flushed) → IsErrOf answer Read ↔ (read' < reads) → IsErrOf answer Write ↔ (written' < writes)
+      → IfErr answer MayBreakOff → IfErr answer (SoftBreaksOff terms bits given given' ended old (Some taken) flushed)
+      → IsSoftlyFollowed given' ended reads taken flushed writes answer terms bits workers
+  softly_followed given given' ended read' reads old taken flushed written' writes answer fresh unfailed none sound ok read write refused broke = record {
+    done = subst (λ o. OnOk answer (IsSoftFollowed terms bits [] given' ended o (Some taken) flushed)) none
+        (subst (λ g. OnOk answer (IsSoftFollowed terms bits g given' ended old (Some taken) flushed)) fresh ok);
+    devices = record {
+      read = subst (λ n. IsErrOf answer Read ↔ (n < reads)) unfailed read;
+      write = subst (λ n. IsErrOf answer Write ↔ (n < writes)) sound write;
+    };
+    refused = any answer refused;
+    broke_off = subst (λ o. IfErr answer (SoftBreaksOff terms bits [] given' ended o (Some taken) flushed)) none
+        (subst (λ g. IfErr answer (SoftBreaksOff terms bits g given' ended old (Some taken) flushed)) fresh broke);
+  } where
+    any : (answer : Result (Unit {0}) ToolError) → IfErr answer MayBreakOff → IfErr answer (λ error. MayBreakOff error ⊎ (RefusesRules terms.rules error ⊎ RefusesWorkers workers error))
+    any (Ok x) h = tt
+    any (Err e) h = inl h
+
+-- the terms are refused by what the rules are
+pub terms_refused : (T : Type 0) (rules : RuleNumbers) (workers : ℕ) (x : SyncError)
+    → (IsRefused T x sync.BurstRange → RefusesRules rules BurstRange) → (IsRefused T x sync.ReachRange → RefusesRules rules ReachRange)
+    → (IsRefused T x sync.LossRange → RefusesRules rules LossRange) → (IsRefused T x sync.ShareRange → RefusesRules rules ShareRange)
+    → let e : ToolError = of_sync x in RefusesTerms rules workers e
+terms_refused T rules workers x burst reach loss share = by (rules_refused T rules x burst reach loss share) where
+  by : IsRefusal rules x → let e : ToolError = of_sync x in RefusesTerms rules workers e
+  by (inl memory) = inl (ap of_sync memory)
+  by (inr refused) = inr (inl refused)

@@ -2,18 +2,20 @@
 -- functions that it calls cite it.
 use Rattle.std.specs.Prelude.{◌++◌, ◌<◌, ◌≡◌, ◌≢◌, ◌≤◌, ◌⊎◌, ◌↔◌, [], ℕ, Bool, Err, IfErr, IsErrOf, List, Ok, OnOk, Option, Result, Some, false, length, true}
 use Rattle.rds_live.specs.StreamDecoder.{Terms}
+use Rattle.rds_soft.specs.SoftStream.{SoftTerms}
 use Rattle.rds_sync.specs.Ranges.{IsRunOutside, IsShareOutside, farthest_reach, longest_burst}
 use Rattle.rds_sync.specs.Rules.{RuleNumbers}
 use Rattle.rds_tool.specs.Ends.{given_by, has_ended, is_flushed, read_failures, taken_by, write_failures}
 use Rattle.rds_tool.specs.Following.{BreaksOff, IsHeardOut, MayBreakOff, listed, most_read}
+use Rattle.rds_tool.specs.SoftFollowing.{IsSoftFollowed, SoftBreaksOff}
 use Rattle.rds_tool.specs.Plans.{AreWorkers}
 use Rattle.rds_tool.specs.Outcome.{IsOutside, result_of_job}
 use Rattle.rds_tool.specs.Tasks.{task_of}
 use Rattle.rds_tool.specs.declared.error.ToolError.{ToolError}
-use Rattle.rds_tool.specs.declared.error.ToolError.TheVariants.{BurstRange, CrewRange, LossRange, NoWorker, ReachRange, Read, ShareRange, TooManyTurns, Write}
+use Rattle.rds_tool.specs.declared.error.ToolError.TheVariants.{BurstRange, CrewRange, LossRange, NoWorker, OutOfMemory, ReachRange, Read, ShareRange, TooManyTurns, Write}
 use Rattle.rds_tool.specs.declared.job.Job.{Job}
 use Rattle.rds_tool.specs.declared.job.Request.{Request}
-use Rattle.rds_tool.specs.declared.job.Request.TheVariants.{Follow, Job as Work}
+use Rattle.rds_tool.specs.declared.job.Request.TheVariants.{Follow, FollowSoft, Job as Work}
 use Rattle.rds.specs.declared.session.Session.{Session}
 
 -- rules are refused by this error: the number that it names is out of its range
@@ -27,6 +29,10 @@ RefusesRules rules other = ⊥
 -- so is a number of workers
 abbrev pub RefusesWorkers : ℕ → ToolError → Type 0
 RefusesWorkers workers error = (error ≡ CrewRange) × (AreWorkers workers → ⊥)
+
+-- so are both, or memory, before anything is read
+abbrev pub RefusesTerms : RuleNumbers → ℕ → ToolError → Type 0
+RefusesTerms rules workers error = (error ≡ OutOfMemory) ⊎ (RefusesRules rules error ⊎ RefusesWorkers workers error)
 
 -- an error of a device is answered exactly if the device failed
 pub record BlamesDevices (failed_reads failed_writes : ℕ) (answer : Result (Unit {0}) ToolError) : Type 0 where
@@ -58,6 +64,13 @@ module _ (given : List ℕ) (ended : Bool) (failed_reads : ℕ) (taken : List �
     pub refused : IfErr answer (λ error. MayBreakOff error ⊎ (RefusesRules terms.rules error ⊎ RefusesWorkers workers error))
     pub broke_off : IfErr answer (BreaksOff (most_read workers) terms bits [] given ended (Some []) (Some taken) flushed)
 
+  -- the same of a stream of symbols
+  pub record IsSoftlyFollowed (terms : SoftTerms) (bits : Option ℕ) (workers : ℕ) : Type 0 where
+    pub done : OnOk answer (IsSoftFollowed terms bits [] given ended (Some []) (Some taken) flushed)
+    pub devices : BlamesDevices failed_reads failed_writes answer
+    pub refused : IfErr answer (λ error. MayBreakOff error ⊎ (RefusesRules terms.rules error ⊎ RefusesWorkers workers error))
+    pub broke_off : IfErr answer (SoftBreaksOff terms bits [] given ended (Some []) (Some taken) flushed)
+
 -- the job was done by this session
 abbrev pub HasDone : Job → Session → Type 0
 HasDone job s =
@@ -70,12 +83,20 @@ HasFollowed terms bits workers s =
     IsFollowed (given_by s.reader.device) (has_ended s.reader.device) (read_failures s.reader.device) (taken_by s.writer.device) (is_flushed s.writer.device)
     (write_failures s.writer.device) s.answer terms bits workers
 
+abbrev pub HasFollowedSoftly : SoftTerms → Option ℕ → ℕ → Session → Type 0
+HasFollowedSoftly terms bits workers s =
+    IsSoftlyFollowed (given_by s.reader.device) (has_ended s.reader.device) (read_failures s.reader.device) (taken_by s.writer.device)
+    (is_flushed s.writer.device) (write_failures s.writer.device) s.answer terms bits workers
+
 -- the request was done by this session
 abbrev pub DoesAsked : Request → Session → Type 0
 DoesAsked (Work job progress) s = HasDone job s
 DoesAsked (Follow input rules workers) s = HasFollowed (record { rules = rules; gaps = input.gaps }) input.bits workers s
+DoesAsked (FollowSoft input rules margin workers) s =
+    HasFollowedSoftly (record { rules = rules; gaps = input.gaps; margin = margin }) input.bits workers s
 
 -- the request asks for the progress of its job
 abbrev pub asks_for_progress : Request → Bool
 asks_for_progress (Work job progress) = progress
 asks_for_progress (Follow input rules workers) = false
+asks_for_progress (FollowSoft input rules margin workers) = false

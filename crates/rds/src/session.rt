@@ -2,17 +2,18 @@
 //!
 //! No contract can name the bytes that the system will give or keep. So a session returns both devices with their
 //! histories: the bytes that reads gave, and the bytes that writes took.
-ghost use Rattle.std.specs.Prelude.{◌≡◌, Err, IfErr};
+ghost use Rattle.std.specs.Prelude.{◌≡◌, Err, IfErr, IfOk};
 ghost use Rattle.rds.specs.Fresh.{IsUnread, IsUnwritten};
-ghost use Rattle.rds.specs.Session.{DoesAsked, HasDone, HasFollowed, RefusesWorkers};
+ghost use Rattle.rds.specs.Session.{DoesAsked, HasDone, HasFollowed, HasFollowedSoftly, RefusesTerms, RefusesWorkers};
 
 use crate::progress::{Console, Progress, Reporting, Teller};
 use crate::sealed::Sealed;
 use rds_crew::MOST_WORKERS;
+use rds_soft::Margin;
 use rds_sync::Rules;
 use rds_tool::{
-    FromRead, Input, Job, Request, RuleNumbers, ToWrite, ToolError, follow, transcribe,
-    transcribe_gated,
+    FromRead, Input, Job, Request, RuleNumbers, ToWrite, ToolError, follow, follow_soft,
+    transcribe, transcribe_gated,
 };
 use std::alloc::Global;
 use std::rt::{Stdin, Stdout};
@@ -52,6 +53,12 @@ pub fn do_request<C: Threads + Sync, T: Console>(
         Request::Follow(input, rules, workers) => run_stream(
             alloc, crew, reader, writer, input, *rules, *workers,
         ),
+        Request::FollowSoft {
+            input,
+            rules,
+            margin,
+            workers,
+        } => run_soft_stream(alloc, reader, writer, input, *rules, *margin, *workers),
     }
 }
 
@@ -170,6 +177,73 @@ fn follow_by<C: Threads + Sync>(
         bits,
         gaps,
         workers,
+    );
+    Session {
+        reader,
+        writer,
+        answer,
+    }
+}
+
+/// Lists a stream of symbols as it comes, if its rules and the number of workers are within their ranges.
+fn run_soft_stream(
+    alloc: Global,
+    reader: Sealed<FromRead<Stdin>>,
+    writer: Sealed<ToWrite<Stdout>>,
+    input: &Input,
+    numbers: RuleNumbers,
+    margin: Margin,
+    workers: u32,
+) -> Session
+    requires reader { IsUnread reader }
+    requires writer { IsUnwritten writer }
+    ensures { HasFollowedSoftly (record { rules = numbers; gaps = input.now.gaps; margin = margin }) input.now.bits workers result }
+{
+    match rules_for(alloc, numbers, workers) {
+        Ok(rules) => follow_softly(alloc, reader, writer, input, &rules, margin, workers),
+        Err(error) => refused_session(reader, writer, error),
+    }
+}
+
+/// The rules of these numbers, unless they or the number of workers are out of range.
+fn rules_for(alloc: Global, asked: RuleNumbers, workers: u32) -> Result<Rules, ToolError>
+    ensures numbers { IfOk result (λ rules. rules ≡ asked) }
+    ensures refused { IfErr result (RefusesTerms asked workers) }
+{
+    match Rules::of(alloc, asked) {
+        Ok(rules) => {
+            check_workers(workers)?;
+            Ok(rules)
+        }
+        Err(error) => Err(ToolError::from(error)),
+    }
+}
+
+/// Follows a stream of symbols by these rules.
+fn follow_softly(
+    alloc: Global,
+    mut reader: Sealed<FromRead<Stdin>>,
+    mut writer: Sealed<ToWrite<Stdout>>,
+    input: &Input,
+    rules: &Rules,
+    margin: Margin,
+    workers: u32,
+) -> Session
+    requires reader { IsUnread reader }
+    requires writer { IsUnwritten writer }
+    ensures { HasFollowedSoftly (record { rules = rules.now; gaps = input.now.gaps; margin = margin }) input.now.bits workers result }
+{
+    let _ = workers;
+    let claimed = input.bits;
+    let gaps = input.gaps.as_slice();
+    let answer = follow_soft(
+        alloc,
+        &mut reader,
+        &mut writer,
+        rules,
+        margin,
+        claimed,
+        gaps,
     );
     Session {
         reader,

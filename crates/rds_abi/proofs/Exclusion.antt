@@ -1,24 +1,11 @@
 -- The refusals of a call exclude each other.
-use Rattle.std.proofs.Common.{◌≡◌, ◌∙◌, ◌^◌, ◌<◌, ◌≤◌, ◌⊎◌, ℕ, List, arith, inl, inr, refl, sym}
-use Rattle.rds_sync.specs.Ranges.{IsInRange, IsLossInRange, IsRunOutside, IsShareOutside}
-use Rattle.rds_sync.specs.Rules.{RuleNumbers}
+use Rattle.rds_abi.proofs.Shared.{◌≡◌, ◌∙◌, ◌^◌, ◌<◌, ◌≤◌, ◌⊎◌, ℕ, List, arith, inl, inr, refl, sym, IsInRange, IsLossInRange, IsRunOutside, IsShareOutside, RuleNumbers, Terms, AreGiven, AreReserved, Asked, IsLawful, IsRecording, Refuses, RefusesGiven, RefusesRecording, RefusesRules, rules_of, RefusesCorrection, AreLast, IsFollowed, IsLeft, RefusesEnd, RefusesFollowed, RefusesLast, RefusesPush, RefusesStream, place_after, terms_of, IsLeftState, IsRun, RefusesPlaces, RefusesRun, RdsGap, RdsRules, RdsState, RdsStream, Refusal, BadGaps, BitsPastBytes, BlockRange, BurstRange, LossRange, MarginRange, NoRefusal, OffsetRange, OutOfMemory, PlaceRange, ReachRange, ReservedField, ShareRange, SmallRoom, TooLong, UnlawfulState}
 use Rattle.rds_sync.specs.declared.loss.Loss.{Loss}
 use Rattle.rds_sync.specs.declared.loss.Loss.TheVariants.{Run, Share}
-use Rattle.rds_live.specs.StreamDecoder.{Terms}
-use Rattle.rds_abi.specs.Asked.{AreGiven, AreReserved, Asked, IsLawful, IsRecording, Refuses, RefusesGiven, RefusesRecording, RefusesRules, rules_of}
-use Rattle.rds_abi.specs.Blocks.{RefusesCorrection}
 use Rattle.rds_abi.specs.Exclusion.{Exclude, ReasonsExclude, WithRoom}
-use Rattle.rds_abi.specs.Stream.{AreLast, IsFollowed, IsLeft, RefusesEnd, RefusesFollowed, RefusesLast, RefusesPush, RefusesStream, place_after, terms_of}
 use Rattle.rds_abi.specs.Soft.{IsMargin, IsPushed, RefusesSoft}
-use Rattle.rds_abi.specs.Ranges.{IsLeftState, IsRun, RefusesPlaces, RefusesRun}
 use Rattle.rds_abi.specs.Names.{RefusesName}
-use Rattle.rds_abi.specs.declared.layout.RdsGap.{RdsGap}
-use Rattle.rds_abi.specs.declared.layout.RdsRules.{RdsRules}
 use Rattle.rds_abi.specs.declared.layout.RdsSoft.{RdsSoft}
-use Rattle.rds_abi.specs.declared.layout.RdsState.{RdsState}
-use Rattle.rds_abi.specs.declared.layout.RdsStream.{RdsStream}
-use Rattle.rds_abi.specs.declared.refusal.Refusal.{Refusal}
-use Rattle.rds_abi.specs.declared.refusal.Refusal.TheVariants.{BadGaps, BitsPastBytes, BlockRange, BurstRange, LossRange, MarginRange, NoRefusal, OffsetRange, OutOfMemory, PlaceRange, ReachRange, ReservedField, ShareRange, SmallRoom, TooLong, UnlawfulState}
 
 -- what is lawful can be refused only for lack of memory
 abbrev pub Leaves : Type 0 → (Refusal → Type 0) → Type 0

@@ -1,23 +1,9 @@
 -- Bytes that are taken piece by piece, as many as have room.
-use Rattle.std.proofs.Common.{◌≡◌, ◌+◌, ◌-◌, ◌*◌, ◌/◌, ◌^◌, ◌<◌, ◌≤◌, ◌++◌, ◌⊎◌, ◌∙◌, ℕ, List, [], ap, ap₂, append_assoc, arith, drop, inl, inr, length, map, max, refl, subst, sym, take}
+use Rattle.rds_abi.proofs.Shared.{◌≡◌, ◌+◌, ◌-◌, ◌*◌, ◌/◌, ◌^◌, ◌<◌, ◌≤◌, ◌++◌, ◌⊎◌, ◌∙◌, ℕ, List, [], ap, ap₂, append_assoc, arith, drop, inl, inr, length, map, max, refl, subst, sym, take, append-nil, drop_all, drop-drop, drop-take, length-append, length-map, length-take, map-append, take-append-drop, take-take, take_all, RunsGiveFewItems, IsInRange, run, Item, IsStreamDecoder, LiveOf, Terms, moved_item, PiecesJoin, before_tail, completed, live_next, moved_back, part_with, run_next, IsFilled, IsTooMuch, IsLeft, IsMostTaken, RefusesStream, place_after, stream_of, RdsStream, Refusal, SmallRoom, TooLong, item_in_c, RdsItem}
 use borrow.Rule.Slice.PartMut.{put_mid}
-use Rattle.std.proofs.lemmas.List.{append-nil, drop_all, drop-drop, drop-take, length-append, length-drop, length-map, length-take, map-append, take-append-drop, take-take, take_all}
+use Rattle.std.proofs.lemmas.List.{length-drop}
 use Rattle.std.proofs.Math.Seq.{drop-append_seam, take-append_seam}
-use Rattle.rds_sync.specs.Laws.{RunsGiveFewItems}
-use Rattle.rds_sync.specs.Ranges.{IsInRange}
-use Rattle.rds_sync.specs.Step.{run}
-use Rattle.rds_sync.specs.declared.item.Item.{Item}
-use Rattle.rds_live.specs.StreamDecoder.{IsStreamDecoder, LiveOf, Terms}
-use Rattle.rds_live.specs.Moving.{moved_item}
-use Rattle.rds_live.specs.Next.{PiecesJoin, before_tail, completed, live_next, moved_back, part_with, run_next}
-use Rattle.rds_abi.specs.Asked.{IsFilled, IsTooMuch}
-use Rattle.rds_abi.specs.Stream.{IsLeft, IsMostTaken, RefusesStream, place_after, stream_of}
 use Rattle.rds_abi.specs.Refusals.{number_of}
-use Rattle.rds_abi.specs.declared.layout.RdsStream.{RdsStream}
-use Rattle.rds_abi.specs.declared.refusal.Refusal.{Refusal}
-use Rattle.rds_abi.specs.declared.refusal.Refusal.TheVariants.{SmallRoom, TooLong}
-use Rattle.rds_abi.specs.Layout.{item_in_c}
-use Rattle.rds_abi.specs.declared.layout.RdsItem.{RdsItem}
 
 -- a byte completes at most sixteen items
 pub few-completed : RunsGiveFewItems → (live : LiveOf) (bytes : List ℕ) → length (completed live bytes) ≤ 16 * length bytes

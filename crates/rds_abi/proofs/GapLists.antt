@@ -1,14 +1,7 @@
 -- Gaps as C has them, and as a recording does.
-use Rattle.std.proofs.Common.{◌≡◌, ◌∙◌, ℕ, zero, suc, ◌+◌, ◌-◌, ◌<◌, ◌≤◌, List, [], ◌∷◌, true, false, Option, None, ap, arith, drop, get_or, leb, leb-true, length, ltb, min, refl, sym, take}
-use Rattle.std.specs.List.{All, AllAdjacentBelow, cons_option, filter_map}
+use Rattle.rds_abi.proofs.Shared.{◌≡◌, ◌∙◌, ℕ, zero, suc, ◌+◌, ◌-◌, ◌<◌, ◌≤◌, List, [], ◌∷◌, true, false, Option, None, ap, arith, drop, get_or, leb, leb-true, length, ltb, min, refl, sym, take, All, AllAdjacentBelow, cons_option, filter_map, le-ltb, ltb-false, get_or-drop, get_or-map, get_or-take, length-map, length-take, IsNonDecreasingBy-from_all_adjacent, AreGaps, gaps_within, part_of_gap, gap_of, gaps_of, RdsGap}
 use Rattle.std.specs.List.Sorted.{IsNonDecreasingBy, IsPartitionPoint}
-use Rattle.std.proofs.lemmas.Bool.{le-ltb, ltb-false}
-use Rattle.std.proofs.lemmas.List.{get_or-drop, get_or-map, get_or-take, length-drop, length-map, length-take}
-use Rattle.std.proofs.lemmas.List.Sorted.{IsNonDecreasingBy-from_all_adjacent}
-use Rattle.rds_stream.specs.Recording.{AreGaps}
-use Rattle.rds_live.specs.Gaps.{gaps_within, part_of_gap}
-use Rattle.rds_abi.specs.Asked.{gap_of, gaps_of}
-use Rattle.rds_abi.specs.declared.layout.RdsGap.{RdsGap}
+use Rattle.std.proofs.lemmas.List.{length-drop}
 
 -- those of a part, gap by gap
 pub parts-of-gaps : (d n : ℕ) (gaps : List RdsGap) → filter_map (λ (gap : RdsGap). part_of_gap d n (gap_of gap)) gaps ≡ gaps_within (gaps_of gaps) d n

@@ -1,3 +1,4 @@
+mod Shared
 pub mod Rooms
 pub mod Streams
 pub mod GapLists

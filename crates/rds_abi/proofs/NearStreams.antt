@@ -1,24 +1,7 @@
 -- A stream by the gaps near the part that is heard, in place of all of them.
-use Rattle.std.proofs.Common.{◌≡◌, ◌+◌, ◌-◌, ◌*◌, ◌/◌, ◌^◌, ◌<◌, ◌≤◌, ◌++◌, ◌⊎◌, ℕ, List, ap, ap₂, arith, inl, inr, length, map, min, refl, subst, sym, take, ◌∙◌}
-use Rattle.std.proofs.lemmas.List.{length-take}
+use Rattle.rds_abi.proofs.Shared.{◌≡◌, ◌+◌, ◌-◌, ◌*◌, ◌/◌, ◌^◌, ◌<◌, ◌≤◌, ◌++◌, ◌⊎◌, ℕ, List, ap, ap₂, arith, inl, inr, length, map, min, refl, subst, sym, take, ◌∙◌, length-take, RuleNumbers, run, totals_of, Item, gaps_within, HasHeard, LiveOf, Terms, last_bytes, most_kept, signal_at, moved_items, moved_state, NextIsHeard, before_tail, completed, live_next, moved_back, IsInRange, AreCompleted, IsLeft, IsMostTaken, IsNear, RefusesStream, place_after, stream_in_c, stream_of, totals_from_c, unheard, IsTooMuch, state_of, item_in_c, RdsStream, Refusal, BadGaps, OutOfMemory, TooLong, UnlawfulState}
 use Rattle.rds_sync.specs.Counting.{plus}
 use Rattle.rds_sync.specs.Lawful.{IsLawful}
-use Rattle.rds_sync.specs.Rules.{RuleNumbers}
-use Rattle.rds_sync.specs.Step.{run}
-use Rattle.rds_sync.specs.Totals.{totals_of}
-use Rattle.rds_sync.specs.declared.item.Item.{Item}
-use Rattle.rds_live.specs.Gaps.{gaps_within}
-use Rattle.rds_live.specs.StreamDecoder.{HasHeard, LiveOf, Terms, last_bytes, most_kept, signal_at}
-use Rattle.rds_live.specs.Moving.{moved_items, moved_state}
-use Rattle.rds_live.specs.Next.{NextIsHeard, before_tail, completed, live_next, moved_back}
-use Rattle.rds_sync.specs.Ranges.{IsInRange}
-use Rattle.rds_abi.specs.Stream.{AreCompleted, IsLeft, IsMostTaken, IsNear, RefusesStream, place_after, stream_in_c, stream_of, totals_from_c, unheard}
-use Rattle.rds_abi.specs.Asked.{IsTooMuch}
-use Rattle.rds_abi.specs.Ranges.{state_of}
-use Rattle.rds_abi.specs.Layout.{item_in_c}
-use Rattle.rds_abi.specs.declared.layout.RdsStream.{RdsStream}
-use Rattle.rds_abi.specs.declared.refusal.Refusal.{Refusal}
-use Rattle.rds_abi.specs.declared.refusal.Refusal.TheVariants.{BadGaps, BitsPastBytes, BlockRange, BurstRange, LossRange, MarginRange, NoRefusal, OffsetRange, OutOfMemory, PlaceRange, ReachRange, ReservedField, ShareRange, SmallRoom, TooLong, UnlawfulState}
 
 -- terms of the same rules are laid out alike
 same-laid : (one other : LiveOf) → one.terms.rules ≡ other.terms.rules → other ≡ record { terms = other.terms; tail = one.tail; place = one.place; state = one.state; totals = one.totals } → (s : RdsStream)
@@ -61,19 +44,7 @@ module _ (all near : Terms) (s : RdsStream) (before len : ℕ) (is : IsNear all 
   refused-near BadGaps bad = absurd (bad is.some)
   refused-near UnlawfulState unlawful = (is.may, λ left. unlawful.1 (near-left left))
   refused-near OutOfMemory memory = tt
-  refused-near BurstRange none = absurd none
-  refused-near ReachRange none = absurd none
-  refused-near LossRange none = absurd none
-  refused-near BitsPastBytes none = absurd none
-  refused-near TooLong none = absurd none
-  refused-near ShareRange none = absurd none
-  refused-near SmallRoom none = absurd none
-  refused-near PlaceRange none = absurd none
-  refused-near BlockRange none = absurd none
-  refused-near OffsetRange none = absurd none
-  refused-near NoRefusal none = absurd none
-  refused-near ReservedField none = absurd none
-  refused-near MarginRange none = absurd none
+  refused-near other none = absurd none
 
   -- bytes that are in the part
   module _ (bytes : List ℕ) (begins : before ≡ before_tail (stream_of all s))

@@ -1,25 +1,7 @@
 -- A run over a part of a recording is the run over the whole there.
-use Rattle.std.proofs.Common.{◌≡◌, ℕ, ◌+◌, ◌-◌, ◌*◌, ◌≤◌, ◌⊎◌, ◌∙◌, List, ap, ap₂, arith, drop, length, subst, sym, take}
-use Rattle.std.specs.List.{slice_range}
-use Rattle.std.proofs.lemmas.List.{get_or-drop, get_or-take, length-drop, length-take, take-append-drop}
-use Rattle.rds_stream.specs.Recording.{AreGaps, Signal, bits_of, length_of}
-use Rattle.rds_sync.specs.declared.state.State.{State}
-use Rattle.rds_sync.specs.declared.state.State.TheVariants.{Locked, Searching}
+use Rattle.rds_abi.proofs.Shared.{◌≡◌, ℕ, ◌+◌, ◌-◌, ◌*◌, ◌≤◌, ◌⊎◌, ◌∙◌, List, ap, ap₂, arith, drop, length, subst, sym, take, slice_range, get_or-drop, get_or-take, length-take, take-append-drop, AreGaps, Signal, bits_of, length_of, State, IsInRange, RuleNumbers, items_of_end, run, gaps_within, signal_at, EndsMove, IsPartHeard, RunsMove, moved_items, moved_state, most_behind, part-touched, IsPartOf, bits-begin, bits-heard, asked, recording_of, rules_of, IsRun, run_asked, run_in_part, state_of, RdsGap, RdsRules, RdsState}
+use Rattle.std.proofs.lemmas.List.{length-drop}
 use Rattle.rds_sync.specs.Lawful.{IsLawful}
-use Rattle.rds_sync.specs.Ranges.{IsInRange}
-use Rattle.rds_sync.specs.Rules.{RuleNumbers}
-use Rattle.rds_sync.specs.Step.{items_of_end, run}
-use Rattle.rds_live.specs.Gaps.{gaps_within}
-use Rattle.rds_live.specs.StreamDecoder.{signal_at}
-use Rattle.rds_live.specs.Moving.{EndsMove, IsPartHeard, RunsMove, moved_items, moved_state, most_behind}
-use Rattle.rds_live.specs.Places.{is_due_from}
-use Rattle.rds_live.proofs.GapParts.{part-touched}
-use Rattle.rds_live.proofs.Parts.{IsPartOf, bits-begin, bits-heard}
-use Rattle.rds_abi.specs.Asked.{asked, recording_of, rules_of}
-use Rattle.rds_abi.specs.Ranges.{IsRun, run_asked, run_in_part, state_of}
-use Rattle.rds_abi.specs.declared.layout.RdsGap.{RdsGap}
-use Rattle.rds_abi.specs.declared.layout.RdsRules.{RdsRules}
-use Rattle.rds_abi.specs.declared.layout.RdsState.{RdsState}
 
 -- the first bits of bytes are those of as many bytes as hold them
 pub bits-of-first : (bytes : List ℕ) (k bits : ℕ) → bits ≤ 8 * length (take k bytes) → bits_of (take k bytes) bits ≡ bits_of bytes bits
@@ -54,11 +36,6 @@ module _ (moves : RunsMove) (whole part : Signal) (rules : RuleNumbers) (before 
       sym (moves whole part rules before s (from - before) (to - before - (from - before)) range.loss.0 range.reach lawful heard (omega (arith, begins, order, long)))
       ∙ ap₂ (λ (t : State) (p : ℕ). run whole rules t p (to - before - (from - before))) is there
       ∙ ap (λ (n : ℕ). run whole rules state from n) many
-
--- a block that is waited for at a place is due no earlier
-pub due-from : (rules : RuleNumbers) (d place : ℕ) (s : State) → IsLawful rules place s → d ≤ place → is_due_from d s
-due-from rules d place Searching lawful order = tt
-due-from rules d place (Locked lock) lawful order = omega (arith, lawful.soon, order)
 
 -- the group in progress at the end of the whole
 pub end-in-part : EndsMove → (whole part : Signal) (rules : RuleNumbers) (before : ℕ) (s state : State) → moved_state before s ≡ state

@@ -1,7 +1,5 @@
 -- A room that is written from its beginning on.
-use Rattle.std.proofs.Common.{◌≡◌, ◌∙◌, ◌+◌, ◌-◌, ◌<◌, ◌++◌, ◌∷◌, ℕ, List, [], ap, append_assoc, arith, drop, get_or, length, map, refl, set, sym, take}
-use Rattle.std.proofs.lemmas.Grind.{take-set_at, take_at_read}
-use Rattle.std.proofs.lemmas.List.{drop-drop, drop-set-lt, drop_more, length-append, map-append, set-append_right}
+use Rattle.rds_abi.proofs.Shared.{◌≡◌, ◌∙◌, ◌+◌, ◌-◌, ◌<◌, ◌++◌, ◌∷◌, ℕ, List, [], ap, append_assoc, arith, drop, get_or, length, map, refl, set, sym, take, take-set_at, take_at_read, drop-drop, drop-set-lt, map-append}
 
 -- one more of a list is written after those before it
 pub one_written : {A B : Type 0} (f : A → B) (xs : List A) (room : List B) (i : ℕ) (none : A) → i < length xs → i < length room
@@ -24,19 +22,3 @@ still_kept room old i y kept =
     ∙ sym (drop-drop 1 i room)
     ∙ ap (λ rest. drop 1 rest) kept
     ∙ drop-drop 1 i old
-
--- one more after those that were written from the beginning on
-pub one_behind : {B : Type 0} (written room new : List B) (i : ℕ) (y : B) → i ≡ length written → i < length room
-    → new ≡ written ++ drop (length written) room → set new i y ≡ (written ++ y ∷ []) ++ drop (length (written ++ y ∷ [])) room
-one_behind written room new i y at fits is =
-    ap (λ all. set all i y) (is ∙ ap (λ n. written ++ drop n room) (sym at) ∙ ap (λ rest. written ++ rest) (drop_more room i y fits))
-    ∙ set-append_right written (get_or room i y ∷ drop (i + 1) room) i i y (sym at) (omega arith)
-    ∙ ap (λ n. written ++ set (get_or room i y ∷ drop (i + 1) room) n y) same
-    ∙ sym (append_assoc written (y ∷ []) (drop (i + 1) room))
-    ∙ ap (λ n. (written ++ y ∷ []) ++ drop n room) behind
-  where
-    same : i - i ≡ 0
-    same = omega arith
-
-    behind : i + 1 ≡ length (written ++ y ∷ [])
-    behind = omega (arith, at, length-append written (y ∷ []))

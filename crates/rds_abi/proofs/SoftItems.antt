@@ -1,272 +1,30 @@
--- The groups of a run end inside the part that the run is over, so they are read again there as in the whole.
-use Rattle.std.proofs.Common.{◌≡◌, ℕ, zero, suc, ◌+◌, ◌-◌, ◌*◌, ◌<◌, ◌≤◌, ◌∙◌, List, [], ◌∷◌, ◌++◌, Bool, true, false, Option, Some, None, ap, ap₂, arith, inl, inr, map, refl, subst}
-use Rattle.std.specs.Prelude.{⊤, ◌==◌, ℤ}
-use Rattle.std.proofs.lemmas.Bool.{eqb-true}
-use Rattle.rds_code.specs.declared.reading.Reading.TheVariants.{Valid, Corrected, Lost}
-use Rattle.rds_code.specs.declared.reading.Wanted.{Wanted}
-use Rattle.rds_code.specs.declared.reading.Wanted.TheVariants.{Either}
+-- The items of a stream are read again in a part of it as in the whole.
+use Rattle.std.proofs.Common.{◌≡◌, ◌∙◌, ℕ, ◌+◌, ◌-◌, List, [], ◌∷◌, ap, ap₂, arith, get_or, map, refl, sym}
+use Rattle.std.specs.Prelude.{ℤ}
 use Rattle.rds_stream.specs.Recording.{Signal}
-use Rattle.rds_sync.specs.declared.lock.Lock.{Lock}
-use Rattle.rds_sync.specs.declared.state.State.{State}
-use Rattle.rds_sync.specs.declared.state.State.TheVariants.{Searching, Locked}
-use Rattle.rds_sync.specs.declared.item.Block.{Block}
-use Rattle.rds_sync.specs.declared.item.Block.TheVariants.{Missing, Read}
 use Rattle.rds_sync.specs.declared.item.Item.{Item}
 use Rattle.rds_sync.specs.declared.item.Item.TheVariants.{Acquired, Group, LostLock}
-use Rattle.rds_sync.specs.Acquiring.{acquired}
-use Rattle.rds_sync.specs.Groups.{block_in, blocks_at, group}
-use Rattle.rds_sync.specs.Lawful.{AreInOrder, IsLawful}
-use Rattle.rds_sync.specs.Laws.{AcquisitionsAreLate, StepsAreLawful}
-use Rattle.rds_sync.specs.Loss.{IsLossRule, are_too_many}
-use Rattle.rds_sync.specs.Rules.{RuleNumbers}
-use Rattle.rds_sync.specs.Step.{completed_group, history_after_block, items_at, lock_after, run, step}
 use Rattle.rds_live.specs.Moving.{moved_item, moved_items}
-use Rattle.rds_soft.specs.declared.soft_item.SoftBlock.{SoftBlock}
-use Rattle.rds_soft.specs.declared.soft_item.SoftBlock.TheVariants as Again
 use Rattle.rds_soft.specs.declared.soft_item.SoftItem.{SoftItem}
-use Rattle.rds_soft.specs.declared.soft_item.SoftItem.TheVariants.{Group as InSoft}
-use Rattle.rds_soft.specs.Again.{first_bit, symbols_heard, was_read}
-use Rattle.rds_soft.specs.ReadAgain.{block_again, group_again, item_again, reading_heard}
-use Rattle.rds_soft.specs.SoftGroups.{group_of, wanted_beside}
+use Rattle.rds_soft.specs.Inside.Streams.{moved_again}
+use Rattle.rds_soft.specs.ReadAgain.{item_again}
+use Rattle.rds_soft.proofs.InsideLemmas.{AllInside, AreSymbolsOf, ItemInside, items-same as again-same}
 use Rattle.rds_abi.specs.Soft.{again_in}
 
--- ---- where blocks end
-
--- block y of these, if it was read, ends before this place
-abbrev Ends : ℕ → ℕ → List Block → ℕ → Type 0
-Ends end place blocks y = was_read (block_in blocks y) ≡ 1 → first_bit place blocks y + 25 < end
-
-pub record IsInside (end place : ℕ) (blocks : List Block) : Type 0 where
-  pub one : Ends end place blocks 1
-  pub two : Ends end place blocks 2
-  pub three : Ends end place blocks 3
-  pub four : Ends end place blocks 4
-
-abbrev pub ItemInside : ℕ → Item → Type 0
-ItemInside end (Acquired a x) = ⊤
-ItemInside end (LostLock a) = ⊤
-ItemInside end (Group g) = IsInside end g.place g.blocks
-
-abbrev pub AllInside : ℕ → List Item → Type 0
-AllInside end [] = ⊤
-AllInside end (item ∷ items) = ItemInside end item × AllInside end items
-
--- a later end
-later-item : (end more : ℕ) (item : Item) → end ≤ more → ItemInside end item → ItemInside more item
-later-item end more (Acquired a x) order h = tt
-later-item end more (LostLock a) order h = tt
-later-item end more (Group g) order h = record {
-  one = λ read. omega (arith, order, h.one read);
-  two = λ read. omega (arith, order, h.two read);
-  three = λ read. omega (arith, order, h.three read);
-  four = λ read. omega (arith, order, h.four read);
-}
-
-later : (end more : ℕ) (items : List Item) → end ≤ more → AllInside end items → AllInside more items
-later end more [] order h = tt
-later end more (item ∷ items) order h = (later-item end more item order h.0, later end more items order h.1)
-
-both : (end : ℕ) (xs ys : List Item) → AllInside end xs → AllInside end ys → AllInside end (xs ++ ys)
-both end [] ys h k = k
-both end (x ∷ xs) ys h k = (h.0, both end xs ys h.1 k)
-
--- ---- the groups of a run
-
-module _ (b : Signal) (rules : RuleNumbers) (i : ℕ) where
-  of_blocks : (f x : ℕ) → 1 ≤ f → f ≤ x → x ≤ 4 → 26 * (x - f) + 25 ≤ i → IsInside (i + 1) (i - 26 * (x - f) - 25) (blocks_at b rules f x i)
-  of_blocks zero x low order high room = absurd (omega (arith, low))
-  of_blocks (suc zero) zero low order high room = absurd (omega (arith, order))
-  of_blocks (suc zero) (suc zero) low order high room = record {
-    one = λ read. omega (arith, room);
-    two = λ none. omega (arith, none);
-    three = λ none. omega (arith, none);
-    four = λ none. omega (arith, none);
-  }
-  of_blocks (suc zero) (suc (suc zero)) low order high room = record {
-    one = λ read. omega (arith, room);
-    two = λ read. omega (arith, room);
-    three = λ none. omega (arith, none);
-    four = λ none. omega (arith, none);
-  }
-  of_blocks (suc zero) (suc (suc (suc zero))) low order high room = record {
-    one = λ read. omega (arith, room);
-    two = λ read. omega (arith, room);
-    three = λ read. omega (arith, room);
-    four = λ none. omega (arith, none);
-  }
-  of_blocks (suc zero) (suc (suc (suc (suc zero)))) low order high room = record {
-    one = λ read. omega (arith, room);
-    two = λ read. omega (arith, room);
-    three = λ read. omega (arith, room);
-    four = λ read. omega (arith, room);
-  }
-  of_blocks (suc zero) (suc (suc (suc (suc (suc n))))) low order high room = absurd (omega (arith, high))
-  of_blocks (suc (suc zero)) zero low order high room = absurd (omega (arith, order))
-  of_blocks (suc (suc zero)) (suc zero) low order high room = absurd (omega (arith, order))
-  of_blocks (suc (suc zero)) (suc (suc zero)) low order high room = record {
-    one = λ none. omega (arith, none);
-    two = λ read. omega (arith, room);
-    three = λ none. omega (arith, none);
-    four = λ none. omega (arith, none);
-  }
-  of_blocks (suc (suc zero)) (suc (suc (suc zero))) low order high room = record {
-    one = λ none. omega (arith, none);
-    two = λ read. omega (arith, room);
-    three = λ read. omega (arith, room);
-    four = λ none. omega (arith, none);
-  }
-  of_blocks (suc (suc zero)) (suc (suc (suc (suc zero)))) low order high room = record {
-    one = λ none. omega (arith, none);
-    two = λ read. omega (arith, room);
-    three = λ read. omega (arith, room);
-    four = λ read. omega (arith, room);
-  }
-  of_blocks (suc (suc zero)) (suc (suc (suc (suc (suc n))))) low order high room = absurd (omega (arith, high))
-  of_blocks (suc (suc (suc zero))) zero low order high room = absurd (omega (arith, order))
-  of_blocks (suc (suc (suc zero))) (suc zero) low order high room = absurd (omega (arith, order))
-  of_blocks (suc (suc (suc zero))) (suc (suc zero)) low order high room = absurd (omega (arith, order))
-  of_blocks (suc (suc (suc zero))) (suc (suc (suc zero))) low order high room = record {
-    one = λ none. omega (arith, none);
-    two = λ none. omega (arith, none);
-    three = λ read. omega (arith, room);
-    four = λ none. omega (arith, none);
-  }
-  of_blocks (suc (suc (suc zero))) (suc (suc (suc (suc zero)))) low order high room = record {
-    one = λ none. omega (arith, none);
-    two = λ none. omega (arith, none);
-    three = λ read. omega (arith, room);
-    four = λ read. omega (arith, room);
-  }
-  of_blocks (suc (suc (suc zero))) (suc (suc (suc (suc (suc n))))) low order high room = absurd (omega (arith, high))
-  of_blocks (suc (suc (suc (suc zero)))) zero low order high room = absurd (omega (arith, order))
-  of_blocks (suc (suc (suc (suc zero)))) (suc zero) low order high room = absurd (omega (arith, order))
-  of_blocks (suc (suc (suc (suc zero)))) (suc (suc zero)) low order high room = absurd (omega (arith, order))
-  of_blocks (suc (suc (suc (suc zero)))) (suc (suc (suc zero))) low order high room = absurd (omega (arith, order))
-  of_blocks (suc (suc (suc (suc zero)))) (suc (suc (suc (suc zero)))) low order high room = record {
-    one = λ none. omega (arith, none);
-    two = λ none. omega (arith, none);
-    three = λ none. omega (arith, none);
-    four = λ read. omega (arith, room);
-  }
-  of_blocks (suc (suc (suc (suc zero)))) (suc (suc (suc (suc (suc n))))) low order high room = absurd (omega (arith, high))
-  of_blocks (suc (suc (suc (suc (suc n))))) x low order high room = absurd (omega (arith, order, high))
-
-  group-inside : (f x : ℕ) → 1 ≤ f → f ≤ x → x ≤ 4 → 26 * (x - f) + 25 ≤ i → ItemInside (i + 1) (Group (group b rules f x i))
-  unfolding group
-  group-inside f x low order high room = of_blocks f x low order high room
-
-  completed-inside : (f x : ℕ) → 1 ≤ f → f ≤ x → x ≤ 4 → 26 * (x - f) + 25 ≤ i → AllInside (i + 1) (completed_group b rules f x i)
-  completed-inside f x low order high room = by (x == 4) where
-    by : (q : Bool) → AllInside (i + 1) (elim q as (λ _. List Item) [ true ↦ Group (group b rules f x i) ∷ [] | false ↦ [] ])
-    by true = (group-inside f x low order high room, tt)
-    by false = tt
-
-  search-inside : (found : Option ℕ) → ((x : ℕ) → found ≡ Some x → (51 ≤ i) × (1 ≤ x) × (x ≤ 4))
-      → AllInside (i + 1) (elim found as (λ _. State × List Item) [
-        | None ↦ (Searching, [])
-        | Some x ↦ (Locked (lock_after i x 0 x), Acquired i x ∷ completed_group b rules x x i)
-      ]).1
-  search-inside None late = tt
-  search-inside (Some x) late =
-      let is = late x refl in
-      (tt, completed-inside x x is.1 (omega arith) is.2 (omega (arith, is.0)))
-
-  ordered : (f x : ℕ) → AreInOrder f x → (1 ≤ f) × (f ≤ x) × (x ≤ 4)
-  ordered f x (inl h) = (omega (arith, h.0, h.1), omega (arith, h.0, h.1), omega (arith, h.0, h.1))
-  ordered f x (inr h) = (h.0, omega (arith, h.1), h.2)
-
-  lock-inside : (lock : Lock) → IsLawful rules i (Locked lock) → (is_due lost : Bool) → (lock.due == i) ≡ is_due
-      → AllInside (i + 1) (elim is_due as (λ _. State × List Item) [
-        | false ↦ (Locked lock, [])
-        | true ↦ elim lost as (λ _. State × List Item) [
-          | false ↦
-              (Locked (lock_after i lock.number (history_after_block b rules i lock.number lock.bad) lock.first), completed_group b rules lock.first lock.number i)
-          | true ↦ (Searching, Group (group b rules lock.first lock.number i) ∷ LostLock i ∷ [])
-        ]
-      ]).1
-  lock-inside lock lawful false lost is = tt
-  lock-inside lock lawful true lost is =
-      let due : lock.due ≡ i = eqb-true lock.due i is in
-      let order = ordered lock.first lock.number lawful.in_order in
-      let room : 26 * (lock.number - lock.first) + 25 ≤ i = omega (arith, lawful.enough_bits, due) in
-      by lost order.0 order.1 order.2 room where
-        by : (lost : Bool) → 1 ≤ lock.first → lock.first ≤ lock.number → lock.number ≤ 4 → 26 * (lock.number - lock.first) + 25 ≤ i
-            → AllInside (i + 1) (elim lost as (λ _. State × List Item) [
-              | false ↦
-                  (Locked (lock_after i lock.number (history_after_block b rules i lock.number lock.bad) lock.first), completed_group b rules lock.first lock.number i)
-              | true ↦ (Searching, Group (group b rules lock.first lock.number i) ∷ LostLock i ∷ [])
-            ]).1
-        by false low order high room = completed-inside lock.first lock.number low order high room
-        by true low order high room = (group-inside lock.first lock.number low order high room, (tt, tt))
-
-  bit-inside : AcquisitionsAreLate → (s : State) → IsLawful rules i s → AllInside (i + 1) (items_at b rules i s)
-  bit-inside late Searching lawful = search-inside (acquired b rules i) (late b rules i)
-  bit-inside late (Locked lock) lawful =
-      lock-inside lock lawful (lock.due == i) (are_too_many rules.loss (history_after_block b rules i lock.number lock.bad)) refl
-
-pub run-inside : AcquisitionsAreLate → StepsAreLawful → (b : Signal) (rules : RuleNumbers) → IsLossRule rules.loss
-    → (s : State) (a bits : ℕ) → IsLawful rules a s → AllInside (a + bits) (run b rules s a bits).1
-run-inside late steps b rules loss s a zero lawful = tt
-run-inside late steps b rules loss s a (suc bits) lawful =
-    let end : a + 1 + bits ≡ a + suc bits = omega arith in
-    both (a + suc bits) (items_at b rules a s) (run b rules (step b rules a s) (a + 1) bits).1
-    (later (a + 1) (a + suc bits) (items_at b rules a s) (omega arith) (bit-inside b rules a late s lawful))
-    (subst (λ (e : ℕ). AllInside e (run b rules (step b rules a s) (a + 1) bits).1) end
-    (run-inside late steps b rules loss (step b rules a s) (a + 1) bits (steps b rules loss a s lawful)))
-
--- ---- read again
-
--- the symbols of blocks inside the part are those of the whole, d places further
-abbrev pub AreSymbolsOf : Signal → List ℤ → ℕ → Signal → List ℤ → ℕ → Type 0
-AreSymbolsOf part P end whole W d = (first : ℕ) → first + 25 < end → symbols_heard part P first ≡ symbols_heard whole W (first + d)
-
--- a block whose symbols count only if it was read
-same-block : (heard other : Option (List ℤ)) (x : ℕ) (wanted : Wanted) (margin : ℕ) (block : Block) → (was_read block ≡ 1 → heard ≡ other)
-    → block_again heard x wanted margin block ≡ block_again other x wanted margin block
-same-block heard other x wanted margin Missing same = refl
-same-block heard other x wanted margin (Read (Valid o info)) same = refl
-same-block heard other x wanted margin (Read (Corrected o info e)) same =
-    ap (λ (h : Option (List ℤ)). Again.Read (reading_heard h x wanted margin)) (same refl)
-same-block heard other x wanted margin (Read Lost) same =
-    ap (λ (h : Option (List ℤ)). Again.Read (reading_heard h x wanted margin)) (same refl)
-
 module _ (part whole : Signal) (P W : List ℤ) (margin end d : ℕ) (are : AreSymbolsOf part P end whole W d) where
-  block-same : (place : ℕ) (blocks : List Block) (y x : ℕ) (wanted : Wanted) → Ends end place blocks y
-      → block_again (symbols_heard part P (first_bit place blocks y)) x wanted margin (block_in blocks y)
-      ≡ block_again (symbols_heard whole W (first_bit (place + d) blocks y)) x wanted margin (block_in blocks y)
-  block-same place blocks y x wanted ends =
-      same-block (symbols_heard part P (first_bit place blocks y)) (symbols_heard whole W (first_bit (place + d) blocks y)) x wanted margin
-      (block_in blocks y) (λ read. are (first_bit place blocks y) (ends read) ∙ ap (λ (p : ℕ). symbols_heard whole W p) there) where
-        there : first_bit place blocks y + d ≡ first_bit (place + d) blocks y
-        there = omega arith
-
-  group-same : (place : ℕ) (blocks : List Block) → IsInside end place blocks
-      → InSoft (record (group_again part P margin place blocks) { place = place + d }) ≡ InSoft (group_again whole W margin (place + d) blocks)
-  group-same place blocks inside =
-      let one = block-same place blocks 1 1 Either inside.one in
-      let two = block-same place blocks 2 2 Either inside.two in
-      let second : SoftBlock = block_again (symbols_heard part P (first_bit place blocks 2)) 2 Either margin (block_in blocks 2) in
-      let three = block-same place blocks 3 3 (wanted_beside second) inside.three in
-      let four = block-same place blocks 4 4 Either inside.four in
-      let all : ℕ → SoftBlock → SoftBlock → SoftBlock → SoftBlock → SoftItem =
-      λ p a b c e. InSoft (group_of p (a ∷ b ∷ c ∷ e ∷ [])) in
-      ap (λ (a : SoftBlock). all (place + d) a second (block_again (symbols_heard part P (first_bit place blocks 3)) 3 (wanted_beside second) margin (block_in blocks 3))
-      (block_again (symbols_heard part P (first_bit place blocks 4)) 4 Either margin (block_in blocks 4))) one
-      ∙ ap (λ (c : SoftBlock). all (place + d) (block_again (symbols_heard whole W (first_bit (place + d) blocks 1)) 1 Either margin (block_in blocks 1)) second c
-      (block_again (symbols_heard part P (first_bit place blocks 4)) 4 Either margin (block_in blocks 4))) three
-      ∙ ap (λ (e : SoftBlock). all (place + d) (block_again (symbols_heard whole W (first_bit (place + d) blocks 1)) 1 Either margin (block_in blocks 1)) second
-      (block_again (symbols_heard whole W (first_bit (place + d) blocks 3)) 3 (wanted_beside second) margin (block_in blocks 3)) e) four
-      ∙ ap (λ (b : SoftBlock). all (place + d) (block_again (symbols_heard whole W (first_bit (place + d) blocks 1)) 1 Either margin (block_in blocks 1)) b
-      (block_again (symbols_heard whole W (first_bit (place + d) blocks 3)) 3 (wanted_beside b) margin (block_in blocks 3))
-      (block_again (symbols_heard whole W (first_bit (place + d) blocks 4)) 4 Either margin (block_in blocks 4))) two
+  -- an item of the part, read again by its place in the stream
+  moved-there : (item : Item) → again_in part P d margin (moved_item d item) ≡ moved_again d (item_again part P margin item)
+  unfolding item_again
+  moved-there (Acquired a x) = refl
+  moved-there (LostLock a) = refl
+  moved-there (Group g) =
+      let there : g.place + d - d ≡ g.place = omega arith in
+      rw there refl
 
   item-same : (item : Item) → ItemInside end item → again_in part P d margin (moved_item d item) ≡ item_again whole W margin (moved_item d item)
-  unfolding item_again
-  item-same (Acquired a x) inside = refl
-  item-same (LostLock a) inside = refl
-  item-same (Group g) inside =
-      let there : g.place + d - d ≡ g.place = omega arith in
-      rw there (group-same g.place g.blocks inside)
+  item-same item inside =
+      let other : SoftItem = item_again whole W margin (moved_item d item) in
+      moved-there item ∙ ap (λ (xs : List SoftItem). get_or xs 0 other) (again-same part whole P W margin end d are (item ∷ []) (inside, tt))
 
   pub items-same : {A : Type 0} (f : SoftItem → A) (items : List Item) → AllInside end items
       → map (λ item. f (again_in part P d margin item)) (moved_items d items) ≡ map f (map (item_again whole W margin) (moved_items d items))

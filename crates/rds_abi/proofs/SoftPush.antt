@@ -29,7 +29,8 @@ use Rattle.rds_abi.specs.declared.refusal.Refusal.TheVariants.{SmallRoom, TooLon
 use Rattle.rds_abi.specs.Refusals.{number_of}
 use Rattle.rds_abi.proofs.Fitting.{few-completed}
 use Rattle.rds_abi.proofs.NearStreams.{are-completed, heard-next, left-near, pushed-after, pushed-completed, refused-near}
-use Rattle.rds_abi.proofs.SoftItems.{AreSymbolsOf, items-same, run-inside}
+use Rattle.rds_soft.proofs.InsideLemmas.{AreSymbolsOf, run-inside}
+use Rattle.rds_abi.proofs.SoftItems.{items-same}
 use Rattle.rds_abi.proofs.SoftStreams.{bytes-join, erasures, kept-on, part-symbols, symbols-alike}
 use Rattle.rds_abi.proofs.SoftSymbols.{byte_count_of}
 

@@ -13,7 +13,7 @@ use Rattle.rds_live.proofs.GapParts.{part-touched}
 use Rattle.rds_soft.specs.Symbols.{hard_bit, sign}
 use Rattle.rds_abi.specs.Soft.{byte_of, bytes_of, symbols_kept}
 use Rattle.rds_abi.proofs.SoftSymbols.{byte_count_of, same-tables}
-use Rattle.rds_abi.proofs.SoftItems.{AreSymbolsOf}
+use Rattle.rds_soft.proofs.InsideLemmas.{AreSymbolsOf}
 
 -- ---- bytes
 

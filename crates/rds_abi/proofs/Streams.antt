@@ -1,21 +1,7 @@
 -- A stream as a decoder has it, and as its numbers say it.
-use Rattle.std.proofs.Common.{◌≡◌, ◌+◌, ◌*◌, ◌/◌, ◌^◌, ◌<◌, ◌≤◌, ◌++◌, ◌⊎◌, ℕ, List, Option, Some, None, ap, arith, inl, inr, length, min, refl, subst, sym, take, ◌∙◌}
-use Rattle.std.proofs.lemmas.List.{length-map}
-use Rattle.rds_sync.specs.Advance.{group_item}
+use Rattle.rds_abi.proofs.Shared.{◌≡◌, ◌+◌, ◌*◌, ◌/◌, ◌^◌, ◌<◌, ◌≤◌, ◌++◌, ◌⊎◌, ℕ, List, Option, Some, None, ap, arith, inl, inr, length, min, refl, subst, sym, take, ◌∙◌, length-map, group_item, Item, HasHeard, LiveOf, Terms, complete, most_kept, report_at, report_of, AreClosed, AreLeft, AreTooMany, IsFollowed, IsLeft, RefusesEnd, RefusesFollowed, RefusesLast, RefusesPush, RefusesStream, place_after, stream_of, terms_of, AreGiven, state_of, item_in_c, totals_in_c, RdsGap, RdsRules, RdsStream, RdsState, Refusal, SmallRoom, TooLong}
 use Rattle.rds_sync.specs.declared.item.Group.{Group as GroupRecord}
-use Rattle.rds_sync.specs.declared.item.Item.{Item}
-use Rattle.rds_live.specs.StreamDecoder.{HasHeard, LiveOf, Terms, complete, most_kept, report_at, report_of}
-use Rattle.rds_abi.specs.Stream.{AreClosed, AreLeft, AreTooMany, IsFollowed, IsLeft, RefusesEnd, RefusesFollowed, RefusesLast, RefusesPush, RefusesStream, place_after, stream_of, terms_of}
-use Rattle.rds_abi.specs.Asked.{AreGiven}
-use Rattle.rds_abi.specs.Ranges.{state_of}
-use Rattle.rds_abi.specs.Layout.{item_in_c, totals_in_c}
-use Rattle.rds_abi.specs.declared.layout.RdsGap.{RdsGap}
-use Rattle.rds_abi.specs.declared.layout.RdsRules.{RdsRules}
-use Rattle.rds_abi.specs.declared.layout.RdsStream.{RdsStream}
-use Rattle.rds_abi.specs.declared.layout.RdsState.{RdsState}
 use Rattle.rds_abi.specs.declared.layout.RdsTotals.{RdsTotals}
-use Rattle.rds_abi.specs.declared.refusal.Refusal.{Refusal}
-use Rattle.rds_abi.specs.declared.refusal.Refusal.TheVariants.{SmallRoom, TooLong}
 
 -- what was laid out says what it was laid out of
 pub laid_out : (live : LiveOf) (magic version : ℕ) (rules : RdsRules) (place : ℕ) (state : RdsState) (totals : RdsTotals) (tail : List ℕ)

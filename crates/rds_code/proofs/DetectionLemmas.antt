@@ -7,7 +7,7 @@ use Rattle.rds_code.proofs.CorrectionLemmas.{became}
 use Rattle.rds_code.proofs.BurstLemmas.{burst_is_one, longer, limit_is_among, among_limit_is, bursts_differ}
 use Rattle.rds_code.proofs.ReadingLemmas.{one_fits, corrections_one, reads_corrected, reading_is, only_A, only_B, only_D, third}
 use Rattle.rds_code.proofs.EncodingLemmas.{rem-parts}
-use Rattle.rds_code.proofs.Membership.{is_among, all_below, passes_below, among_map, among_contains, contains_among, from_map, differ_map, differ_pairs}
+use Rattle.rds_code.proofs.Membership.{is_among, all_below, passes_below, each_below, among_map, among_contains, contains_among, from_map, differ_map, differ_pairs}
 
 -- whether the pattern, shifted up, is past a block or has another remainder than this
 shows : ℕ → ℕ → ℕ → Bool
@@ -153,13 +153,7 @@ near_distinct o limit few = differ_pairs (remainders_near o limit) (differ_map (
     (sym (twice (word o) (rem x)) ∙ ap (bit_xor (word o)) same ∙ twice (word o) (rem y))))
 
 near_many : (o : Offset) (limit : ℕ) → limit ≤ 5 → length (remainders_near o limit) ≡ get_or burst_counts limit 0
-near_many o zero few = refl
-near_many o (suc zero) few = refl
-near_many o (suc (suc zero)) few = refl
-near_many o (suc (suc (suc zero))) few = refl
-near_many o (suc (suc (suc (suc zero)))) few = refl
-near_many o (suc (suc (suc (suc (suc zero))))) few = refl
-near_many o (suc (suc (suc (suc (suc (suc n)))))) few = absurd (omega arith)
+near_many o limit few = each_below (λ l. length (remainders_near o l) ≡ get_or burst_counts l 0) 6 (refl, (refl, (refl, (refl, (refl, (refl, tt)))))) limit (omega (arith, few))
 
 wanted_alone : (o : Offset) → (wanted_offsets (number o) (alone o) ≡ o ∷ []) × (1 ≤ number o) × (number o ≤ 4)
 wanted_alone A = (refl, omega arith, omega arith)

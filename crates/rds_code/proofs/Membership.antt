@@ -1,5 +1,6 @@
 -- Lists of numbers, by a test of membership that computes.
 use Rattle.rds_code.proofs.Names.{◌≡◌, ◌≢◌, ◌⊎◌, ℕ, zero, suc, ◌<◌, List, [], ◌∷◌, ◌++◌, length, get_or, Bool, true, false, cond, map, refl, sym, ap, ◌∙◌, arith, inl, inr, eqb, filter, Contains, AllPairs, cases_Bool, eq-eqb, cases_eq, ne_eqb}
+use Rattle.std.specs.Prelude.{⊤}
 use Rattle.std.proofs.lemmas.List.Elements.{Contains-append_left, Contains-append_right, Contains-append_cases}
 
 -- whether x is among the numbers
@@ -64,6 +65,16 @@ passes_below p zero i all h = absurd (omega arith)
 passes_below p (suc n) i all h =
     let parts = both_pass (p n) (all_below p n) all in
     elim (cases_eq i n) [ inl here ↦ ap p here ∙ parts.0 | inr other ↦ passes_below p n i parts.1 (omega arith) ]
+
+-- P of each number below n
+abbrev pub EachBelow : (ℕ → Type 0) → ℕ → Type 0
+EachBelow P zero = ⊤
+EachBelow P (suc n) = P 0 × EachBelow (λ i. P (suc i)) n
+
+pub each_below : (P : ℕ → Type 0) (n : ℕ) → EachBelow P n → (i : ℕ) → i < n → P i
+each_below P zero all i h = absurd (omega arith)
+each_below P (suc n) all zero h = all.0
+each_below P (suc n) all (suc i) h = each_below (λ j. P (suc j)) n all.1 i (omega arith)
 
 -- whether each of the numbers passes
 abbrev pub all_pass : (ℕ → Bool) → List ℕ → Bool

@@ -3,7 +3,7 @@
 use Rattle.rds_code.proofs.Names.{◌≡◌, ◌≢◌, ◌⊎◌, ℕ, zero, suc, ◌+◌, ◌-◌, ◌*◌, ◌^◌, ◌<◌, ◌≤◌, List, [], ◌∷◌, ◌++◌, length, get_or, map, Bool, true, false, cond, not, ◌&&◌, refl, sym, ap, ap₂, ◌∙◌, arith, inl, inr, eqb, leb, subst, bit_xor, lit<, bit_at, filter, pow-suc, xor_assoc, xor_self, xor_zero_r, xor_shifted, count_leading_zeros, count_trailing_zeros, ones, ones-le, get_or_append_left, get_or-append-add, xor_comm, xor_lt, cases_Bool, cases_eq, cases_lt, eq-eqb, ne_eqb, le-leb, leb-true, Offset, A, B, C, Cx, D, Wanted, Either, Reading, Corrected, rem, word, number, offset_of, burst_length, IsBurst, bursts, information, IsValid, wanted_offsets, corrections, by_only, reading, IsBlockOf, alone, other_third_offset, error_masks, is_miscorrection, miscorrections, miscorrected, miscorrected_third, miscorrected_either, CountsAllMiscorrections}
 use Rattle.std.proofs.Math.Pow.{pow_pos}
 use Rattle.rds_code.proofs.RemainderLemmas.{rem-short, rem-xor, twice}
-use Rattle.rds_code.proofs.Membership.{is_among, all_below, passes_below, among_map, from_map, filter_agree}
+use Rattle.rds_code.proofs.Membership.{is_among, all_below, passes_below, EachBelow, each_below, among_map, from_map, filter_agree}
 use Rattle.rds_code.proofs.BurstLemmas.{burst_is_one, longer, limit_is_among, among_limit_is}
 use Rattle.rds_code.proofs.CorrectionLemmas.{undone, damaged, became, word_offset, alone_wanted, own_or_other, other_number}
 use Rattle.rds_code.proofs.ReadingLemmas.{NoneFits, OneFits, fitting, fits_or_not, corrections_none, corrections_one, corrections_two, fits_by_remainder, wanted_remainder, wanted_remainder-lt, reads_valid, reads_corrected, valid_or_not, only_A, only_B, only_D, wanted_1, wanted_2, wanted_4}
@@ -81,15 +81,9 @@ one_of false b another = b
 either_test : ℕ → ℕ → ℕ → Bool
 either_test limit r n = cond (eqb r 0) false (cond (eqb r 0x238) false (one_of (is_near limit r) (is_near limit (bit_xor r 0x238)) (not (leb n limit))))
 
-near_zero : (limit : ℕ) → is_near limit 0 ≡ false
+near_zero : (limit : ℕ) → limit ≤ 5 → is_near limit 0 ≡ false
 unfolding is_near near
-near_zero zero = refl
-near_zero (suc zero) = refl
-near_zero (suc (suc zero)) = refl
-near_zero (suc (suc (suc zero))) = refl
-near_zero (suc (suc (suc (suc zero)))) = refl
-near_zero (suc (suc (suc (suc (suc zero))))) = refl
-near_zero (suc (suc (suc (suc (suc (suc limit)))))) = refl
+near_zero limit few = each_below (λ l. is_near l 0 ≡ false) 6 (refl, (refl, (refl, (refl, (refl, (refl, tt)))))) limit (omega (arith, few))
 
 -- ---- the reading of a damaged block
 
@@ -156,7 +150,7 @@ module _ (w info e limit : ℕ) (o : Offset) (h : IsBlockOf w info o) (inside : 
           | inl here ↦ read ∙ sym (ap (λ (b : Bool). cond b false (cond (is_near limit (rem e)) (not (leb (burst_length e) limit)) false)) (eq-eqb (rem e) s here))
           | inr other ↦ elim (leaves some.0 some.1) [
             | inl zero_left ↦
-                let far : is_near limit (rem e) ≡ false = ap (is_near limit) zero_left ∙ near_zero limit in
+                let far : is_near limit (rem e) ≡ false = ap (is_near limit) zero_left ∙ near_zero limit few in
                 read
                 ∙ sym (ap (λ (b : Bool). cond b false (cond (is_near limit (rem e)) (not (leb (burst_length e) limit)) false)) (ne_eqb (rem e) s other)
                 ∙ ap (λ (b : Bool). cond b (not (leb (burst_length e) limit)) false) far)
@@ -477,13 +471,8 @@ four_bits : walked all_tests 4 block_bits 0 0 ≡ all_row 2
 unfolding all_row own_row all_tests all_limits block_bits walked add own_test either_test one_of is_near near count_leading_zeros count_trailing_zeros
 four_bits = refl
 
-walked_counts : (n : ℕ) → 2 ≤ n → n ≤ 4 → walked all_tests n block_bits 0 0 ≡ all_row (n - 2)
-walked_counts zero least most = absurd (omega arith)
-walked_counts (suc zero) least most = absurd (omega arith)
-walked_counts (suc (suc zero)) least most = two_bits
-walked_counts (suc (suc (suc zero))) least most = three_bits
-walked_counts (suc (suc (suc (suc zero)))) least most = four_bits
-walked_counts (suc (suc (suc (suc (suc n))))) least most = absurd (omega arith)
+walked_counts : (k : ℕ) → k ≤ 2 → walked all_tests (2 + k) block_bits 0 0 ≡ all_row k
+walked_counts k few = each_below (λ n. walked all_tests (2 + n) block_bits 0 0 ≡ all_row n) 3 (two_bits, (three_bits, (four_bits, tt))) k (omega (arith, few))
 
 from_zero : (es : List ℕ) → map (λ d. 0 + d) es ≡ es
 from_zero [] = refl
@@ -492,21 +481,18 @@ from_zero (e ∷ es) = ap₂ (λ (x : ℕ) (xs : List ℕ). x ∷ xs) (omega ari
 -- how many masks each test passes
 all_counts : (n : ℕ) → 2 ≤ n → n ≤ 4 → map (passed (error_masks n 26)) all_tests ≡ all_row (n - 2)
 all_counts n least most =
+    let errors : n ≡ 2 + (n - 2) = omega (arith, least) in
     ap (λ (es : List ℕ). map (passed es) all_tests) (sym (from_zero (error_masks n 26)))
     ∙ sym (walked_are all_tests n 26 0 0 (no_carry_zero 26) (sym (rem-short 0 (lit< tt))))
     ∙ ap (λ (bits : List (ℕ × ℕ)). walked all_tests n bits 0 0) bits_are
-    ∙ walked_counts n least most
+    ∙ ap (λ (m : ℕ). walked all_tests m block_bits 0 0) errors
+    ∙ walked_counts (n - 2) (omega (arith, most))
 
 -- the count of one test is its own of all of them
 own_passed : (es : List ℕ) (limit : ℕ) → limit ≤ 5 → passed es (own_test 0 limit) ≡ get_or (map (passed es) all_tests) limit 0
 unfolding all_tests all_limits
-own_passed es zero few = refl
-own_passed es (suc zero) few = refl
-own_passed es (suc (suc zero)) few = refl
-own_passed es (suc (suc (suc zero))) few = refl
-own_passed es (suc (suc (suc (suc zero)))) few = refl
-own_passed es (suc (suc (suc (suc (suc zero))))) few = refl
-own_passed es (suc (suc (suc (suc (suc (suc limit)))))) few = absurd (omega arith)
+own_passed es limit few =
+    each_below (λ l. passed es (own_test 0 l) ≡ get_or (map (passed es) all_tests) l 0) 6 (refl, (refl, (refl, (refl, (refl, (refl, tt)))))) limit (omega (arith, few))
 
 third_passed : (es : List ℕ) → passed es (own_test 0x238 5) ≡ get_or (map (passed es) all_tests) 6 0
 unfolding all_tests all_limits
@@ -514,23 +500,13 @@ third_passed es = refl
 
 either_passed : (es : List ℕ) (limit : ℕ) → limit ≤ 5 → passed es (either_test limit) ≡ get_or (map (passed es) all_tests) (7 + limit) 0
 unfolding all_tests all_limits
-either_passed es zero few = refl
-either_passed es (suc zero) few = refl
-either_passed es (suc (suc zero)) few = refl
-either_passed es (suc (suc (suc zero))) few = refl
-either_passed es (suc (suc (suc (suc zero)))) few = refl
-either_passed es (suc (suc (suc (suc (suc zero))))) few = refl
-either_passed es (suc (suc (suc (suc (suc (suc limit)))))) few = absurd (omega arith)
+either_passed es limit few =
+    each_below (λ l. passed es (either_test l) ≡ get_or (map (passed es) all_tests) (7 + l) 0) 6 (refl, (refl, (refl, (refl, (refl, (refl, tt)))))) limit (omega (arith, few))
 
 -- up to four bits no burst takes block 3 over to the other version
 other_far : (limit : ℕ) → limit ≤ 4 → is_near limit 0x238 ≡ false
 unfolding is_near near
-other_far zero few = refl
-other_far (suc zero) few = refl
-other_far (suc (suc zero)) few = refl
-other_far (suc (suc (suc zero))) few = refl
-other_far (suc (suc (suc (suc zero)))) few = refl
-other_far (suc (suc (suc (suc (suc limit))))) few = absurd (omega arith)
+other_far limit few = each_below (λ l. is_near l 0x238 ≡ false) 5 (refl, (refl, (refl, (refl, (refl, tt))))) limit (omega (arith, few))
 
 third_alike : (limit r n : ℕ) → limit ≤ 4 → own_test 0x238 limit r n ≡ own_test 0 limit r n
 unfolding own_test
@@ -542,23 +518,17 @@ third_alike limit r n few =
           let apart : r ≡ 0 → ⊥ = λ none. absurd (omega (arith, here, none)) in
           ap (λ (b : Bool). cond b false rest) (eq-eqb r 0x238 here) ∙ sym (ap (λ (b : Bool). cond b false rest) (ne_eqb r 0 apart) ∙ far 0x238 here (other_far limit few))
       | inr other ↦ elim (cases_eq r 0) [
-        | inl none ↦ ap (λ (b : Bool). cond b false rest) (ne_eqb r 0x238 other) ∙ far 0 none (near_zero limit) ∙ sym (ap (λ (b : Bool). cond b false rest) (eq-eqb r 0 none))
+        | inl none ↦ ap (λ (b : Bool). cond b false rest) (ne_eqb r 0x238 other) ∙ far 0 none (near_zero limit (omega (arith, few))) ∙ sym (ap (λ (b : Bool). cond b false rest) (eq-eqb r 0 none))
         | inr some ↦ ap (λ (b : Bool). cond b false rest) (ne_eqb r 0x238 other ∙ sym (ne_eqb r 0 some))
       ]
     ]
 
 six : (k : ℕ) → k ≤ 2 → length (get_or miscorrected k []) ≡ 6
-six zero few = refl
-six (suc zero) few = refl
-six (suc (suc zero)) few = refl
-six (suc (suc (suc k))) few = absurd (omega arith)
+six k few = each_below (λ i. length (get_or miscorrected i []) ≡ 6) 3 (refl, (refl, (refl, tt))) k (omega (arith, few))
 
 seven : (k : ℕ) → k ≤ 2 → length (own_row k) ≡ 7
 unfolding own_row
-seven zero few = refl
-seven (suc zero) few = refl
-seven (suc (suc zero)) few = refl
-seven (suc (suc (suc k))) few = absurd (omega arith)
+seven k few = each_below (λ i. length (own_row i) ≡ 7) 3 (refl, (refl, (refl, tt))) k (omega (arith, few))
 
 own_place : (k limit : ℕ) → k ≤ 2 → limit ≤ 5 → get_or (all_row k) limit 0 ≡ get_or (get_or miscorrected k []) limit 0
 unfolding all_row own_row
@@ -568,10 +538,7 @@ own_place k limit few short =
 
 third_place : (k : ℕ) → k ≤ 2 → get_or (all_row k) 6 0 ≡ get_or (get_or miscorrected_third k []) 5 0
 unfolding all_row own_row
-third_place zero few = refl
-third_place (suc zero) few = refl
-third_place (suc (suc zero)) few = refl
-third_place (suc (suc (suc k))) few = absurd (omega arith)
+third_place k few = each_below (λ i. get_or (all_row i) 6 0 ≡ get_or (get_or miscorrected_third i []) 5 0) 3 (refl, (refl, (refl, tt))) k (omega (arith, few))
 
 either_place : (k limit : ℕ) → k ≤ 2 → get_or (all_row k) (7 + limit) 0 ≡ get_or (get_or miscorrected_either k []) limit 0
 unfolding all_row
@@ -581,29 +548,11 @@ either_place k limit few =
 
 -- the rows agree below the last limit
 rows_agree : (k limit : ℕ) → k ≤ 2 → limit ≤ 4 → get_or (get_or miscorrected k []) limit 0 ≡ get_or (get_or miscorrected_third k []) limit 0
-rows_agree zero limit few short = agree_0 limit short
-  where
-    agree_0 : (limit : ℕ) → limit ≤ 4 → get_or (get_or miscorrected 0 []) limit 0 ≡ get_or (get_or miscorrected_third 0 []) limit 0
-    agree_0 limit short = refl
-rows_agree (suc zero) limit few short = agree_1 limit short
-  where
-    agree_1 : (limit : ℕ) → limit ≤ 4 → get_or (get_or miscorrected 1 []) limit 0 ≡ get_or (get_or miscorrected_third 1 []) limit 0
-    agree_1 zero short = refl
-    agree_1 (suc zero) short = refl
-    agree_1 (suc (suc zero)) short = refl
-    agree_1 (suc (suc (suc zero))) short = refl
-    agree_1 (suc (suc (suc (suc zero)))) short = refl
-    agree_1 (suc (suc (suc (suc (suc limit))))) short = absurd (omega arith)
-rows_agree (suc (suc zero)) limit few short = agree_2 limit short
-  where
-    agree_2 : (limit : ℕ) → limit ≤ 4 → get_or (get_or miscorrected 2 []) limit 0 ≡ get_or (get_or miscorrected_third 2 []) limit 0
-    agree_2 zero short = refl
-    agree_2 (suc zero) short = refl
-    agree_2 (suc (suc zero)) short = refl
-    agree_2 (suc (suc (suc zero))) short = refl
-    agree_2 (suc (suc (suc (suc zero)))) short = refl
-    agree_2 (suc (suc (suc (suc (suc limit))))) short = absurd (omega arith)
-rows_agree (suc (suc (suc k))) limit few short = absurd (omega arith)
+rows_agree k limit few short =
+    each_below (λ l. get_or (get_or miscorrected k []) l 0 ≡ get_or (get_or miscorrected_third k []) l 0) 5
+    (each_below (λ i. EachBelow (λ l. get_or (get_or miscorrected i []) l 0 ≡ get_or (get_or miscorrected_third i []) l 0) 5) 3
+    ((refl, (refl, (refl, (refl, (refl, tt))))), ((refl, (refl, (refl, (refl, (refl, tt))))), ((refl, (refl, (refl, (refl, (refl, tt))))), tt))) k (omega (arith, few)))
+    limit (omega (arith, short))
 
 -- ---- the law
 

@@ -3,6 +3,7 @@ use Rattle.rds_code.proofs.Names.{◌≡◌, ℕ, zero, suc, ◌<◌, ◌≤◌,
 use Rattle.std.proofs.Math.Seq.{get_or-append_seam}
 use Rattle.rds_code.specs.Inside.Outcomes.{HasBurst}
 use Rattle.rds_code.proofs.RemainderLemmas.{twice}
+use Rattle.rds_code.proofs.Membership.{each_below}
 use Rattle.rds_code.proofs.BurstLemmas.{rem-burst, longer}
 use Rattle.rds_code.proofs.SpanLemmas.{ones_pos, ones-le_span}
 use Rattle.rds_code.proofs.CorrectionLemmas.{valid_word, word_offset}
@@ -48,13 +49,8 @@ alike r s same = sym (twice r s) ∙ ap (bit_xor r) same ∙ xor_zero_r r
 
 -- no burst of up to five bits has a outcome above 13
 outcome_most : (s n : ℕ) → s ≤ 5 → n ≤ s → burst_outcome s n ≤ 13
-outcome_most zero n few within = omega (arith, within)
-outcome_most (suc zero) n few within = omega (arith, within)
-outcome_most (suc (suc zero)) n few within = omega (arith, within)
-outcome_most (suc (suc (suc zero))) n few within = omega (arith, within)
-outcome_most (suc (suc (suc (suc zero)))) n few within = omega (arith, within)
-outcome_most (suc (suc (suc (suc (suc zero))))) n few within = omega (arith, within)
-outcome_most (suc (suc (suc (suc (suc (suc s)))))) n few within = absurd (omega (arith, few))
+outcome_most s n few within =
+    each_below (λ s. n ≤ s → burst_outcome s n ≤ 13) 6 (omega arith, (omega arith, (omega arith, (omega arith, (omega arith, (omega arith, tt)))))) s (omega (arith, few)) within
 
 pub at_most_13 : (limit d k : ℕ) → limit ≤ 5 → IsOutcome limit d k → k ≤ 13
 at_most_13 limit d k few (inl h) = omega (arith, h.1)

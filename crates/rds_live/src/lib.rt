@@ -43,6 +43,8 @@
 //! - [`StreamCounter`]: a decoder whose items are only counted, by several workers. [`StreamCounter::count`] takes a chunk of any
 //!   length, and [`StreamCounter::into_decoder`] is the decoder that has heard them all.
 //! - [`may_have_gaps`]: the test of gaps that these make.
+//! - [`run_part`], [`finish_part`], [`gaps_of_part`]: the run over a part of a stream that its caller makes, for one whose bits don't come
+//!   in bytes.
 //! - [`laws`]: a run depends only on the bits heard, and bytes in two pieces give the same as at once.
 //!
 //! # What callers may rely on
@@ -80,6 +82,7 @@ mod listed_halves; // Bytes that are listed by halves.
 mod halves; // Bytes that are counted by halves.
 mod room; // The last bytes, and those that come after them.
 mod gaps; // The gaps of a stream, and those of a part of it.
+mod part; // A part of a stream, and the run over it.
 mod moved; // States and items whose places are counted from elsewhere.
 mod kept; // The numbers that a decoder may be made of.
 pub mod laws; // The laws of following.
@@ -88,6 +91,7 @@ mod error; // Why a decoder that was kept as numbers is refused.
 pub use error::ResumeError;
 pub use gaps::may_have_gaps;
 pub use item_rows::ItemRows;
+pub use part::{finish_part, gaps_of_part, run_part};
 pub use stream_counter::StreamCounter;
 pub use stream_decoder::{MOST_ITEMS, StreamDecoder, StreamEnd};
 pub use stream_lister::StreamLister;

@@ -641,7 +641,7 @@ fn take_next(
 
 /// Gives the items of the run from `state` over the bits at `from` to `to` - 1, in place of those of `items`, which has room
 /// for two a bit. Answers the state at its end.
-fn fill_from(
+pub(crate) fn fill_from(
     part: &Recording,
     rules: &Rules,
     state: State,

@@ -1,19 +1,5 @@
 -- No place before that of the run that is ahead is a meeting.
-use Rattle.std.proofs.Common.{◌≡◌, ℕ, zero, suc, ◌+◌, ◌-◌, ◌<◌, ◌≤◌, ◌⊎◌, List, sym, ap, ◌∙◌, subst, arith, inl, inr}
-use Rattle.std.proofs.lemmas.Bool.{cases_lt}
-use Rattle.rds_stream.specs.Recording.{Signal}
-use Rattle.rds_sync.specs.declared.lock.Lock.{Lock}
-use Rattle.rds_sync.specs.declared.state.State.{State}
-use Rattle.rds_sync.specs.declared.state.State.TheVariants.{Searching, Locked}
-use Rattle.rds_sync.specs.declared.item.Item.{Item}
-use Rattle.rds_sync.specs.Rules.{RuleNumbers}
-use Rattle.rds_sync.specs.Lawful.{IsLawful, IsLawfulLock, IsBetweenGroups}
-use Rattle.rds_sync.specs.Loss.{IsLossRule}
-use Rattle.rds_sync.specs.Step.{run, step}
-use Rattle.rds_sync.specs.Hop.{IsHop}
-use Rattle.rds_pieces.specs.Meeting.{MeetAt}
-use Rattle.rds_pieces.specs.Inside.RunLaws.{RunLaws}
-use Rattle.rds_pieces.specs.Inside.Beside.{IsFirst}
+use Rattle.rds_pieces.proofs.Names.{◌≡◌, ℕ, zero, suc, ◌+◌, ◌-◌, ◌<◌, ◌≤◌, ◌⊎◌, List, sym, ap, ◌∙◌, subst, arith, inl, inr, cases_lt, Signal, Lock, State, Searching, Locked, Item, RuleNumbers, IsLawful, IsLawfulLock, IsBetweenGroups, IsLossRule, run, step, IsHop, MeetAt, RunLaws, IsFirst}
 use Rattle.rds_pieces.proofs.HopFacts.{entered, run-last}
 
 -- the state of a run from s before bit q
@@ -34,8 +20,8 @@ pub record IsApart (b : Signal) (rules : RuleNumbers) (s t : State) (from to a :
   pub other : y ≡ at_bit b rules t from c
   pub apart : (q : ℕ) → (q < a) ⊎ (q < c) → ¬ MeetAt b rules s t from to q
 
-pub swap : (b : Signal) (rules : RuleNumbers) (s t : State) (from to a : ℕ) (x : State) (c : ℕ) (y : State) → IsApart b rules s t from to a x c y → IsApart b rules t s from to c y a x
-swap b rules s t from to a x c y h = record {
+pub swap : {b : Signal} {rules : RuleNumbers} {s t x y : State} {from to a c : ℕ} → IsApart b rules s t from to a x c y → IsApart b rules t s from to c y a x
+swap {b} {rules} {s} {t} {from = from} {to = to} h = record {
   inside = (h.inside.2, h.inside.3, h.inside.0, h.inside.1);
   own = h.other;
   other = h.own;
@@ -47,7 +33,7 @@ module _ (laws : RunLaws) (b : Signal) (rules : RuleNumbers) where
   at_next s from q h =
       let bits : q + 1 - from ≡ q - from + 1 = omega arith in
       let place : from + (q - from) ≡ q = omega arith in
-      ap (λ (n : ℕ). (run b rules s from n).0) bits ∙ run-last b rules laws s from (q - from) ∙ ap (λ (p : ℕ). step b rules p (at_bit b rules s from q)) place
+      ap (λ (n : ℕ). (run b rules s from n).0) bits ∙ run-last b rules s from (q - from) ∙ ap (λ (p : ℕ). step b rules p (at_bit b rules s from q)) place
 
   -- a run in two parts
   pub at_on : (s : State) (from a k : ℕ) → from ≤ a → at_bit b rules s from (a + k) ≡ (run b rules (at_bit b rules s from a) a k).0
@@ -94,9 +80,9 @@ module _ (laws : RunLaws) (b : Signal) (rules : RuleNumbers) where
         })
 
     -- after a hop of the run that is first
-    pub apart_hop : IsLossRule rules.loss → IsLawful rules from s → (a : ℕ) (x : State) (c : ℕ) (y : State) (next : ℕ) (after : State) (reads : ℕ) → IsApart b rules s t from to a x c y
+    pub apart_hop : IsLossRule rules.loss → IsLawful rules from s → {a c next reads : ℕ} {x y after : State} → IsApart b rules s t from to a x c y
         → ¬ ((a ≡ c) × (x ≡ y) × IsBetweenGroups x) → IsFirst a x c → IsHop b rules x a c to next after reads → IsApart b rules s t from to next after c y
-    apart_hop some lawful a x c y next after reads h other first hop = record {
+    apart_hop some lawful {a} {c} {next} {reads} {x} {y} {after} h other first hop = record {
       inside = (let m = hop.moved in let i = h.inside in omega (arith, m, i), hop.moved.1, h.inside.2, h.inside.3);
       own = hop.state_is ∙ ap (λ (u : State). (run b rules u a (next - a)).0) h.own ∙ on;
       other = h.other;

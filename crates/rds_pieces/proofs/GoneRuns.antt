@@ -1,10 +1,5 @@
 -- A run that goes on, part by part, is one run.
-use Rattle.std.proofs.Common.{◌≡◌, ℕ, ◌-◌, ◌≤◌, List, ◌++◌, sym, ap, ◌∙◌, arith, append_assoc, append-nil}
-use Rattle.rds_sync.specs.declared.item.Item.{Item}
-use Rattle.rds_sync.specs.declared.state.State.{State}
-use Rattle.rds_sync.specs.Step.{run}
-use Rattle.rds_sync.specs.Tally.{TallyOf, gone_on}
-use Rattle.rds_pieces.specs.Inside.RunLaws.{RunLaws}
+use Rattle.rds_pieces.proofs.Names.{◌≡◌, ℕ, ◌-◌, ◌≤◌, List, ◌++◌, sym, ap, ◌∙◌, arith, append_assoc, append-nil, Item, State, run, TallyOf, gone_on, RunLaws}
 
 -- one that has not gone on
 pub gone-none : (t : TallyOf) → gone_on t t.place ≡ t

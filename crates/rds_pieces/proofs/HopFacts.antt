@@ -1,19 +1,6 @@
 -- Facts about a hop, from a bit and the place of the next block.
-use Rattle.std.proofs.Common.{◌≡◌, ℕ, ◌+◌, ◌≤◌, ◌⊎◌, List, Option, Some, None, refl, sym, ap, ◌∙◌, arith, inl, inr}
-use Rattle.std.proofs.lemmas.Bool.{cases_eq, cases_Bool}
-use Rattle.rds_stream.specs.Recording.{Signal}
-use Rattle.rds_sync.specs.declared.lock.Lock.{Lock}
-use Rattle.rds_sync.specs.declared.state.State.{State}
-use Rattle.rds_sync.specs.declared.state.State.TheVariants.{Searching, Locked}
-use Rattle.rds_sync.specs.declared.item.Item.{Item}
-use Rattle.rds_sync.specs.Rules.{RuleNumbers}
-use Rattle.rds_sync.specs.Acquiring.{acquired}
-use Rattle.rds_sync.specs.Hop.{mark}
-use Rattle.rds_sync.specs.Lawful.{IsLawful}
-use Rattle.rds_sync.specs.Loss.{are_too_many}
-use Rattle.rds_sync.specs.Step.{run, step, history_after_block}
-use Rattle.rds_pieces.specs.Inside.RunLaws.{RunLaws}
-use Rattle.rds_pieces.proofs.RunFacts.{step-acquiring, step-searching, step-waiting, step-keeping, step-losing, run_state-append}
+use Rattle.rds_pieces.proofs.Names.{◌≡◌, ℕ, ◌+◌, ◌≤◌, ◌⊎◌, Option, Some, None, refl, sym, ap, ◌∙◌, arith, inl, inr, cases_eq, cases_Bool, Signal, Lock, State, Searching, Locked, RuleNumbers, acquired, mark, IsLawful, are_too_many, run, step, history_after_block}
+use Rattle.rds_sync.proofs.RunLemmas.{step-acquiring, step-searching, step-waiting, step-keeping, step-losing, run_state-append}
 
 module _ (b : Signal) (rules : RuleNumbers) where
   -- a lock was there before the bit, or its block is due 26 places after it
@@ -34,8 +21,8 @@ module _ (b : Signal) (rules : RuleNumbers) where
         ]
   ]
 
-  pub run-last : RunLaws → (s : State) (a n : ℕ) → (run b rules s a (n + 1)).0 ≡ step b rules (a + n) (run b rules s a n).0
-  run-last laws s a n = run_state-append laws b rules s a n 1 ∙ ap (λ (r : State × List Item). r.0) (laws.one_bit b rules (run b rules s a n).0 (a + n))
+  pub run-last : (s : State) (a n : ℕ) → (run b rules s a (n + 1)).0 ≡ step b rules (a + n) (run b rules s a n).0
+  run-last s a n = run_state-append b rules s a n 1
 
 -- the block of a lawful state is due 25 places on at most
 pub lawful-mark : (rules : RuleNumbers) (place : ℕ) (s : State) → IsLawful rules place s → (place ≤ mark place s) × (mark place s ≤ place + 25)

@@ -1,20 +1,5 @@
 -- Two runs that follow each other are the run of both ranges.
-use Rattle.std.proofs.Common.{◌≡◌, ℕ, ◌-◌, ◌^◌, ◌≤◌, List, ◌++◌, refl, sym, ap, ap₂, ◌∙◌, subst, arith}
-use Rattle.rds_stream.specs.Recording.{Signal, length_of}
-use Rattle.rds_sync.specs.declared.item.Item.{Item}
-use Rattle.rds_sync.specs.declared.state.State.{State}
-use Rattle.rds_sync.specs.declared.state.State.TheVariants.{Searching}
-use Rattle.rds_sync.specs.declared.totals.Totals.{Totals}
-use Rattle.rds_sync.specs.Counting.{FitTogether, plus}
-use Rattle.rds_sync.specs.Decoding.{ItemsOf, listed}
-use Rattle.rds_sync.specs.Ranges.{IsInRange}
-use Rattle.rds_sync.specs.Rules.{RuleNumbers}
-use Rattle.rds_sync.specs.Step.{run}
-use Rattle.rds_sync.specs.Totals.{totals_of}
-use Rattle.rds_pieces.specs.Guess.{guess}
-use Rattle.rds_pieces.specs.Inside.RunInside.{IsKept}
-use Rattle.rds_pieces.specs.Inside.RunLaws.{RunLaws}
-use Rattle.rds_pieces.specs.RunOf.{run_over}
+use Rattle.rds_pieces.proofs.Names.{◌≡◌, ℕ, ◌-◌, ◌^◌, ◌≤◌, List, ◌++◌, refl, sym, ap, ap₂, ◌∙◌, subst, arith, Signal, length_of, Item, State, Searching, Totals, FitTogether, plus, ItemsOf, listed, IsInRange, RuleNumbers, run, totals_of, guess, IsKept, RunLaws, run_over}
 use Rattle.rds_pieces.proofs.SmallTotals.{totals_of_two}
 
 module _ (laws : RunLaws) (b : Signal) (rules : RuleNumbers) (range : IsInRange rules) (from middle to : ℕ) (low : from ≤ middle) (high : middle ≤ to) (inside : to ≤ length_of b) (few : length_of b ≤ 2 ^ 36) where

@@ -1,5 +1,5 @@
+mod Names
 mod CuttingLemmas
-mod RunFacts
 mod SoonLemmas
 mod SmallTotals
 mod SewnLemmas

@@ -1,21 +1,19 @@
 -- Where the next mark of a run is: after the next stretch that gives an item. The marks of a run are those that a walk
 -- bit by bit finds.
-use Rattle.std.proofs.Common.{◌≡◌, ◌≢◌, ℕ, zero, suc, ◌+◌, ◌-◌, Bool, List, [], ◌∷◌, ◌++◌, length, map, filter, cond, nat_lt, true, false, refl, sym, ap, ap₂, ◌∙◌, arith, append_assoc, length-append}
-use Rattle.std.proofs.lemmas.Bool.{le-ltb, lt-ltb}
-use Rattle.std.specs.List.{range_with_len}
-use Rattle.rds_stream.specs.Recording.{Signal}
-use Rattle.rds_sync.specs.declared.item.Item.{Item}
+use Rattle.rds_pieces.proofs.Names.{◌≡◌, ◌≢◌, ℕ, zero, suc, ◌+◌, ◌-◌, Bool, List, [], ◌∷◌, ◌++◌, length, map, filter, cond, nat_lt, true, false, refl, sym, ap, ap₂, ◌∙◌, arith, append_assoc, length-append, le-ltb, lt-ltb, range_with_len, Signal, Item, State, items_in, RuleNumbers, run, step, items_at, mark_where, mark_at, marks_on}
 use Rattle.rds_pieces.specs.declared.mark.Mark.{Mark}
-use Rattle.rds_sync.specs.declared.state.State.{State}
 use Rattle.rds_sync.specs.declared.step.Step.{Step}
-use Rattle.rds_sync.specs.Advance.{items_in}
-use Rattle.rds_sync.specs.Rules.{RuleNumbers}
-use Rattle.rds_sync.specs.Step.{run, step, items_at}
 use Rattle.rds_sync.specs.Stretch.{IsStretch}
-use Rattle.rds_pieces.specs.Inside.RunLaws.{RunLaws}
 use Rattle.rds_pieces.specs.Marks.{mark_after_bits, gave_item, marks_of}
-use Rattle.rds_pieces.specs.Inside.MarkInside.{mark_where, mark_at, marks_on}
-use Rattle.rds_pieces.proofs.RunFacts.{none_first, none_rest, run-append}
+use Rattle.rds_sync.proofs.RunLemmas.{run-append, run-one}
+
+none_first : {A : Type 0} → (xs ys : List A) → xs ++ ys ≡ [] → xs ≡ []
+none_first [] ys e = refl
+none_first (x ∷ xs) ys e = cc
+
+none_rest : {A : Type 0} → (xs ys : List A) → xs ++ ys ≡ [] → ys ≡ []
+none_rest [] ys e = e
+none_rest (x ∷ xs) ys e = cc
 
 -- there is a mark if items were given
 mark_there : (given : List Item) (mark : Mark) → given ≢ [] → mark_where given mark ≡ mark ∷ []
@@ -88,45 +86,44 @@ module _ (b : Signal) (rules : RuleNumbers) where
       rw (← last, state, items) (marks_on-next s t a c m n quiet (λ none. some (items ∙ none)))
 
   -- the run over one more bit
-  run_more : RunLaws → (s : State) (a m : ℕ) → let before : State × List Item = run b rules s a m in
+  run_more : (s : State) (a m : ℕ) → let before : State × List Item = run b rules s a m in
       run b rules s a (m + 1) ≡ (step b rules (a + m) before.0, before.1 ++ items_at b rules (a + m) before.0)
-  run_more laws s a m =
-      run-append laws b rules s a m 1
-      ∙ ap (λ (r : State × List Item). (r.0, (run b rules s a m).1 ++ r.1)) (laws.one_bit b rules (run b rules s a m).0 (a + m))
+  run_more s a m =
+      run-append b rules s a m 1 ∙ ap (λ (r : State × List Item). (r.0, (run b rules s a m).1 ++ r.1)) (run-one b rules (run b rules s a m).0 (a + m))
 
   -- after bits that give nothing, a run is that of its last bit
-  run-last : RunLaws → (s t : State) (a m : ℕ) → run b rules s a m ≡ (t, []) → run b rules s a (m + 1) ≡ (step b rules (a + m) t, items_at b rules (a + m) t)
-  run-last laws s t a m quiet =
-      run_more laws s a m ∙ ap (λ (r : State × List Item). (step b rules (a + m) r.0, r.1 ++ items_at b rules (a + m) r.0)) quiet
+  run-last : (s t : State) (a m : ℕ) → run b rules s a m ≡ (t, []) → run b rules s a (m + 1) ≡ (step b rules (a + m) t, items_at b rules (a + m) t)
+  run-last s t a m quiet =
+      run_more s a m ∙ ap (λ (r : State × List Item). (step b rules (a + m) r.0, r.1 ++ items_at b rules (a + m) r.0)) quiet
 
   -- the marks after the first m bits are those of a walk from there
-  marks_from : RunLaws → (s : State) (a m n : ℕ) → map (mark_after_bits b rules s a) (filter (gave_item b rules s a) (range_with_len (m + 1) n))
+  marks_from : (s : State) (a m n : ℕ) → map (mark_after_bits b rules s a) (filter (gave_item b rules s a) (range_with_len (m + 1) n))
       ≡ marks_on b rules (run b rules s a m).0 (a + m) (length (run b rules s a m).1) n
-  marks_from laws s a m zero = refl
-  marks_from laws s a m (suc n) =
+  marks_from s a m zero = refl
+  marks_from s a m (suc n) =
       let f : ℕ → Mark = mark_after_bits b rules s a in
       let ks : List ℕ = filter (gave_item b rules s a) (range_with_len (m + 1 + 1) n) in
       let before : State × List Item = run b rules s a m in
       let given : List Item = items_at b rules (a + m) before.0 in
       let next : State = step b rules (a + m) before.0 in
-      let more = run_more laws s a m in
+      let more = run_more s a m in
       let back : m + 1 - 1 ≡ m = omega arith in
       let spot : a + (m + 1) ≡ a + m + 1 = omega arith in
       let count : length (before.1 ++ given) ≡ length before.1 + length given = length-append before.1 given in
       let up : gave_item b rules s a (m + 1) ≡ nat_lt (length before.1) (length before.1 + length given) = ap₂ (λ (k c : ℕ). nat_lt (f k).items c) back (ap (λ (r : State × List Item). length r.1) more ∙ count) in
       ap (λ (t : Bool). map f (cond t ((m + 1) ∷ ks) ks)) up
       ∙ mark_counted f (m + 1) (length before.1) given ks
-      ∙ ap (λ (ms : List Mark). mark_where given (f (m + 1)) ++ ms) (marks_from laws s a (m + 1) n)
+      ∙ ap (λ (ms : List Mark). mark_where given (f (m + 1)) ++ ms) (marks_from s a (m + 1) n)
       ∙ ap (λ (r : State × List Item). mark_where given (mark_at r.0 (a + (m + 1)) (length r.1)) ++ marks_on b rules r.0 (a + (m + 1)) (length r.1) n) more
       ∙ ap₂ (λ (p c : ℕ). mark_where given (mark_at next p c) ++ marks_on b rules next p c n) spot count
 
   -- all marks of a run are those of a walk from its first place
-  pub marks_of-by_bits : RunLaws → (s : State) (a bits : ℕ) → marks_of b rules s a bits ≡ mark_at s a 0 ∷ marks_on b rules s a 0 bits
-  marks_of-by_bits laws s a bits =
+  pub marks_of-by_bits : (s : State) (a bits : ℕ) → marks_of b rules s a bits ≡ mark_at s a 0 ∷ marks_on b rules s a 0 bits
+  marks_of-by_bits s a bits =
       let spot : a + 0 ≡ a = omega arith in
-      ap (λ (ms : List Mark). mark_at s a 0 ∷ ms) (marks_from laws s a 0 bits ∙ ap (λ (p : ℕ). marks_on b rules s p 0 bits) spot)
+      ap (λ (ms : List Mark). mark_at s a 0 ∷ ms) (marks_from s a 0 bits ∙ ap (λ (p : ℕ). marks_on b rules s p 0 bits) spot)
 
-  module _ (laws : RunLaws) (s : State) (place to before : ℕ) (reached : Step) (is : IsStretch b rules s place to reached) where
+  module _ (s : State) (place to before : ℕ) (reached : Step) (is : IsStretch b rules s place to reached) where
     -- over a stretch that gives items
     pub marks_on-stretch : items_in reached.items ≢ []
         → let count : ℕ = before + length (items_in reached.items) in
@@ -140,7 +137,7 @@ module _ (b : Signal) (rules : RuleNumbers) where
         let last : place + m + 1 ≡ reached.place = omega arith in
         let rest : m + suc (to - reached.place) ≡ to - place = omega arith in
         let quiet : run b rules s place m ≡ (t, []) = ap (λ (is : List Item). (t, is)) is.quiet in
-        let whole = rw bits at (run-last laws s t place m quiet) in
+        let whole = rw bits at (run-last s t place m quiet) in
         let state : reached.state ≡ step b rules (place + m) t = is.state ∙ ap (λ (r : State × List Item). r.0) whole in
         let items : items_in reached.items ≡ items_at b rules (place + m) t = is.items ∙ ap (λ (r : State × List Item). r.1) whole in
         let all = marks_on-came s t reached.state place before m (to - reached.place) reached.place (items_in reached.items) quiet last state items some in

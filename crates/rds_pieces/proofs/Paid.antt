@@ -1,14 +1,6 @@
 -- How many windows both runs asked for: 26 times that many are paid for by 26 (reach + 1) a place of a search, and 4 a place that the marks of
 -- the two went on.
-use Rattle.std.proofs.Common.{◌≡◌, ℕ, ◌+◌, ◌-◌, ◌*◌, ◌≤◌, ap, arith, inl, inr}
-use Rattle.std.proofs.lemmas.Nat.{mul-le}
-use Rattle.rds_stream.specs.Recording.{Signal}
-use Rattle.rds_sync.specs.declared.state.State.{State}
-use Rattle.rds_sync.specs.declared.state.State.TheVariants.{Searching, Locked}
-use Rattle.rds_sync.specs.Rules.{RuleNumbers}
-use Rattle.rds_sync.specs.Lawful.{IsLawful}
-use Rattle.rds_sync.specs.Hop.{mark}
-use Rattle.rds_sync.specs.Hop.{IsHop}
+use Rattle.rds_pieces.proofs.Names.{◌≡◌, ℕ, ◌+◌, ◌-◌, ◌*◌, ◌≤◌, ap, arith, inl, inr, mul-le, Signal, State, Searching, Locked, RuleNumbers, IsLawful, mark, IsHop}
 use Rattle.rds_pieces.proofs.HopFacts.{lawful-mark}
 
 mul_more : (r n k : ℕ) → r * (n + k) ≡ r * n + r * k
@@ -19,8 +11,8 @@ pub record IsPaid (rules : RuleNumbers) (from a : ℕ) (x : State) (c : ℕ) (y 
   pub within : (from + searched ≤ a) × (from + searched ≤ c)
   pub paid : 26 * reads + 8 * from + 100 ≤ 26 * ((rules.reach + 1) * searched) + 4 * mark a x + 4 * mark c y
 
-pub paid_swap : (rules : RuleNumbers) (from a : ℕ) (x : State) (c : ℕ) (y : State) (reads : ℕ) → IsPaid rules from a x c y reads → IsPaid rules from c y a x reads
-paid_swap rules from a x c y reads h = let p = h.paid in record {
+pub paid_swap : {rules : RuleNumbers} {from a c reads : ℕ} {x y : State} → IsPaid rules from a x c y reads → IsPaid rules from c y a x reads
+paid_swap h = let p = h.paid in record {
   searched = h.searched;
   within = (h.within.1, h.within.0);
   paid = omega (arith, p);
@@ -34,9 +26,9 @@ paid_start rules from s lawful = let m = lawful-mark rules from s lawful in let 
   paid = omega (arith, m, none);
 }
 
-pub paid_hop : (b : Signal) (rules : RuleNumbers) (from to a : ℕ) (x : State) (c : ℕ) (y : State) (next : ℕ) (after : State) (reads cost : ℕ) → IsPaid rules from a x c y reads
+pub paid_hop : {b : Signal} {rules : RuleNumbers} {from to a c next reads cost : ℕ} (x : State) {y after : State} → IsPaid rules from a x c y reads
     → IsHop b rules x a c to next after cost → IsPaid rules from next after c y (reads + cost)
-paid_hop b rules from to a Searching c y next after reads cost h hop =
+paid_hop {rules = rules} {a = a} {next = next} Searching h hop =
     let m = hop.moved in
     let f = hop.paid in
     let w = h.within in
@@ -47,7 +39,7 @@ paid_hop b rules from to a Searching c y next after reads cost h hop =
       within = (omega (arith, w, m), omega (arith, w, m, f.0));
       paid = omega (arith, p, more, f.1, f.2);
     }
-paid_hop b rules from to a (Locked lock) c y next after reads cost h hop =
+paid_hop {next = next} (Locked lock) {after = after} h hop =
     let m = hop.moved in
     let w = h.within in
     let p = h.paid in
@@ -73,5 +65,5 @@ paid_most rules from d a x c y reads some one two near_a near_c h =
     omega (arith, m1, m2, p, grows, all, some, near_a, near_c)
 
 -- fewer are paid for too
-pub paid_less : (rules : RuleNumbers) (from a : ℕ) (x : State) (c : ℕ) (y : State) (reads fewer : ℕ) → fewer ≤ reads → IsPaid rules from a x c y reads → IsPaid rules from a x c y fewer
-paid_less rules from a x c y reads fewer less h = let p = h.paid in record { searched = h.searched; within = h.within; paid = omega (arith, p, less) }
+pub paid_less : {rules : RuleNumbers} {from a c reads fewer : ℕ} {x y : State} → fewer ≤ reads → IsPaid rules from a x c y reads → IsPaid rules from a x c y fewer
+paid_less less h = let p = h.paid in record { searched = h.searched; within = h.within; paid = omega (arith, p, less) }

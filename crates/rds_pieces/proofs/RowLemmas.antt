@@ -1,11 +1,6 @@
 -- Runs that follow each other: those of a cutting, and those where two neighbours are joined.
-use Rattle.std.proofs.Common.{◌≡◌, ℕ, zero, suc, ◌+◌, ◌-◌, List, [], ◌∷◌, length, map, get_or, refl, ap, ◌∙◌, subst, arith}
-use Rattle.std.specs.List.{range_with_len}
-use Rattle.rds_stream.specs.Recording.{Signal, length_of}
-use Rattle.rds_sync.specs.Rules.{RuleNumbers}
-use Rattle.rds_pieces.specs.Cutting.{IsCutting, pieces_of}
+use Rattle.rds_pieces.proofs.Names.{◌≡◌, ℕ, zero, suc, ◌+◌, ◌-◌, List, [], ◌∷◌, length, map, get_or, refl, ap, ◌∙◌, subst, arith, range_with_len, Signal, length_of, RuleNumbers, IsCutting, pieces_of, RunOf, run_over, run_at, FollowEachOther}
 use Rattle.rds_pieces.specs.Laws.{PiecesAreFew, PiecesFollow, JoinedRunsFollow}
-use Rattle.rds_pieces.specs.RunOf.{RunOf, run_over, run_at, FollowEachOther}
 use Rattle.rds_pieces.proofs.CuttingLemmas.{piece_inside, pieces_at_most}
 
 pub pieces_few : PiecesAreFew

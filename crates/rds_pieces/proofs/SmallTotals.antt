@@ -1,63 +1,22 @@
 -- The totals of a run's items are small: a bit gives one group at most, and a block has 26 bits.
-use Rattle.std.proofs.Common.{◌≡◌, ℕ, zero, suc, ◌+◌, ◌-◌, ◌*◌, ◌^◌, ◌<◌, ◌≤◌, Bool, true, false, List, [], ◌∷◌, ◌++◌, Option, Some, None, refl, sym, subst, arith, lit≤, inl, inr}
+use Rattle.rds_pieces.proofs.Names.{◌≡◌, ℕ, zero, suc, ◌+◌, ◌-◌, ◌*◌, ◌^◌, ◌<◌, ◌≤◌, Bool, true, false, List, [], ◌∷◌, ◌++◌, Option, Some, None, refl, sym, subst, arith, lit≤, inl, inr, cases_Bool, cases_eq, ones_le_self, Signal, heard, reading_heard, reading_at, State, Searching, Locked, Item, Acquired, GroupItem, LostLock, Totals, acquired, plus, TotalsJoin, IsAtMost, FitTogether, group, block_at, wanted_beside, are_complete, RuleNumbers, are_too_many, run, step, items_at, completed_group, history_after_block, totals_of, is_valid, is_lost, is_corrected_by, bits_corrected}
 use Rattle.std.specs.Prelude.{sum_by, if◌then◌else◌, ◌==◌, nat_le, ◌&&◌}
-use Rattle.std.proofs.lemmas.Bool.{cases_Bool, cases_eq}
-use Rattle.std.proofs.lemmas.Nat.{ones_le_self}
 use Rattle.rds_code.specs.declared.reading.Wanted.{Wanted}
 use Rattle.rds_code.specs.declared.reading.Wanted.TheVariants.{Either}
 use Rattle.rds_code.specs.declared.reading.Reading.{Reading}
 use Rattle.rds_code.specs.declared.reading.Reading.TheVariants.{Valid, Corrected, Lost}
 use Rattle.rds_code.specs.Laws.{ReadsByRule}
 use Rattle.rds_code.specs.Reading.{reading, IsReading}
-use Rattle.rds_stream.specs.Recording.{Signal, heard, reading_heard, reading_at}
-use Rattle.rds_sync.specs.declared.state.State.{State}
-use Rattle.rds_sync.specs.declared.state.State.TheVariants.{Searching, Locked}
 use Rattle.rds_sync.specs.declared.item.Block.{Block}
 use Rattle.rds_sync.specs.declared.item.Block.TheVariants.{Missing, Read}
 use Rattle.rds_sync.specs.declared.item.Group.{Group}
-use Rattle.rds_sync.specs.declared.item.Item.{Item}
-use Rattle.rds_sync.specs.declared.item.Item.TheVariants.{Acquired, Group as GroupItem, LostLock}
-use Rattle.rds_sync.specs.declared.totals.Totals.{Totals}
-use Rattle.rds_sync.specs.Acquiring.{acquired}
-use Rattle.rds_sync.specs.Counting.{plus, TotalsJoin, IsAtMost, FitTogether}
-use Rattle.rds_sync.specs.Groups.{group, block_at, wanted_beside, are_complete}
-use Rattle.rds_sync.specs.Rules.{RuleNumbers}
-use Rattle.rds_sync.specs.Loss.{are_too_many}
-use Rattle.rds_sync.specs.Step.{run, step, items_at, completed_group, history_after_block}
-use Rattle.rds_pieces.proofs.RunFacts.{items-searching, items-acquiring, items-waiting, items-keeping, items-losing}
-use Rattle.rds_sync.specs.Totals.{totals_of, is_valid, is_lost, is_corrected_by, bits_corrected}
+use Rattle.rds_sync.proofs.RunLemmas.{items-searching, items-acquiring, items-waiting, items-keeping, items-losing}
 
 pub at_most_more : (m n : ℕ) (t : Totals) → m ≤ n → IsAtMost m t → IsAtMost n t
-at_most_more m n t h a = record {
-  valid = omega (arith, a.valid);
-  burst1 = omega (arith, a.burst1);
-  burst2 = omega (arith, a.burst2);
-  burst3 = omega (arith, a.burst3);
-  burst4 = omega (arith, a.burst4);
-  burst5 = omega (arith, a.burst5);
-  lost = omega (arith, a.lost);
-  bits = omega (arith, a.bits);
-  groups = omega (arith, a.groups);
-  complete = omega (arith, a.complete);
-  acquired = omega (arith, a.acquired);
-  losses = omega (arith, a.losses);
-}
+at_most_more m n t h a = omega (arith, a)
 
 at_most-plus : (m n : ℕ) (t u : Totals) → IsAtMost m t → IsAtMost n u → IsAtMost (m + n) (plus t u)
-at_most-plus m n t u a b = record {
-  valid = omega (arith, a.valid, b.valid);
-  burst1 = omega (arith, a.burst1, b.burst1);
-  burst2 = omega (arith, a.burst2, b.burst2);
-  burst3 = omega (arith, a.burst3, b.burst3);
-  burst4 = omega (arith, a.burst4, b.burst4);
-  burst5 = omega (arith, a.burst5, b.burst5);
-  lost = omega (arith, a.lost, b.lost);
-  bits = omega (arith, a.bits, b.bits);
-  groups = omega (arith, a.groups, b.groups);
-  complete = omega (arith, a.complete, b.complete);
-  acquired = omega (arith, a.acquired, b.acquired);
-  losses = omega (arith, a.losses, b.losses);
-}
+at_most-plus m n t u a b = omega (arith, a, b)
 
 -- so small is what one bit gives
 abbrev pub per_bit : ℕ
@@ -77,47 +36,28 @@ group_at_most g a b c d e h i j k =
     let few : (p : Block → Bool) → 0 + sum_by (λ block. if p block then 1 else 0) g.blocks ≤ 4 * 1 =
     λ p. sum_of_four (λ block. if p block then 1 else 0) 1 g.blocks a b c d e (one_or_none (p a)) (one_or_none (p b)) (one_or_none (p c)) (one_or_none (p d)) in
     let bits : 0 + sum_by bits_corrected g.blocks ≤ 4 * (2 ^ 26 - 1) = sum_of_four bits_corrected (2 ^ 26 - 1) g.blocks a b c d e (omega arith) (omega arith) (omega arith) (omega arith) in
-    record {
-      valid = omega (arith, few is_valid);
-      burst1 = omega (arith, few (is_corrected_by 1));
-      burst2 = omega (arith, few (is_corrected_by 2));
-      burst3 = omega (arith, few (is_corrected_by 3));
-      burst4 = omega (arith, few (is_corrected_by 4));
-      burst5 = omega (arith, few (is_corrected_by 5));
-      lost = omega (arith, few is_lost);
-      bits = omega (arith, bits);
-      groups = omega arith;
-      complete = omega (arith, one_or_none (are_complete g.blocks));
-      acquired = omega arith;
-      losses = omega arith;
-    }
+    omega (
+      arith,
+      few is_valid,
+      few (is_corrected_by 1),
+      few (is_corrected_by 2),
+      few (is_corrected_by 3),
+      few (is_corrected_by 4),
+      few (is_corrected_by 5),
+      few is_lost,
+      bits,
+      one_or_none (are_complete g.blocks),
+    )
 
 -- items of no block
-few_at_most : (n acquired losses : ℕ) → acquired ≤ n → losses ≤ n
-    → IsAtMost n (record { valid = 0; bursts = 0 ∷ 0 ∷ 0 ∷ 0 ∷ 0 ∷ []; lost = 0; bits = 0; groups = 0; complete = 0; acquired = acquired; losses = losses })
-few_at_most n acquired losses some others = record {
-  valid = omega arith;
-  burst1 = omega arith;
-  burst2 = omega arith;
-  burst3 = omega arith;
-  burst4 = omega arith;
-  burst5 = omega arith;
-  lost = omega arith;
-  bits = omega arith;
-  groups = omega arith;
-  complete = omega arith;
-  acquired = some;
-  losses = others;
-}
-
 acquired_at_most : (i x : ℕ) → IsAtMost 1 (totals_of (Acquired i x ∷ []))
-acquired_at_most i x = few_at_most 1 1 0 (omega arith) (omega arith)
+acquired_at_most i x = omega arith
 
 lost_at_most : (i : ℕ) → IsAtMost 1 (totals_of (LostLock i ∷ []))
-lost_at_most i = few_at_most 1 0 1 (omega arith) (omega arith)
+lost_at_most i = omega arith
 
 none_at_most : (n : ℕ) → IsAtMost n (totals_of [])
-none_at_most n = few_at_most n 0 0 (omega arith) (omega arith)
+none_at_most n = omega arith
 
 -- a burst is inside a block
 reading_small : ReadsByRule → (w x : ℕ) (wanted : Wanted) (limit : ℕ) → 1 ≤ x → x ≤ 4 → limit ≤ 5 → bits_corrected (Read (reading w x wanted limit)) < 2 ^ 26

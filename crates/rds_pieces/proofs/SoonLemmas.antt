@@ -1,17 +1,6 @@
 -- Two runs meet by the end of a sound range inside their range: there both are in the state that all runs come into.
-use Rattle.std.proofs.Common.{◌≡◌, ℕ, ◌+◌, ◌-◌, ◌*◌, ◌≤◌, List, Option, Some, None, refl, sym, ap, ◌∙◌, subst, arith, inl, inr}
-use Rattle.std.proofs.lemmas.Bool.{cases_lt}
-use Rattle.rds_stream.specs.Recording.{Signal}
-use Rattle.rds_sync.specs.declared.state.State.{State}
-use Rattle.rds_sync.specs.declared.state.State.TheVariants.{Locked}
-use Rattle.rds_sync.specs.declared.item.Item.{Item}
-use Rattle.rds_sync.specs.Rules.{RuleNumbers}
+use Rattle.rds_pieces.proofs.Names.{◌≡◌, ℕ, ◌+◌, ◌-◌, ◌*◌, ◌≤◌, List, Option, Some, None, refl, sym, ap, ◌∙◌, subst, arith, inl, inr, cases_lt, Signal, State, Locked, Item, RuleNumbers, IsLawful, IsBetweenGroups, IsLossRule, run, lock_of, MeetAt, IsMeeting, RunLaws}
 use Rattle.rds_sync.specs.Convergence.{sound_bits, SoundRangesHaveFours, RunsConverge}
-use Rattle.rds_sync.specs.Lawful.{IsLawful, IsBetweenGroups}
-use Rattle.rds_sync.specs.Loss.{IsLossRule}
-use Rattle.rds_sync.specs.Step.{run, lock_of}
-use Rattle.rds_pieces.specs.Meeting.{MeetAt, IsMeeting}
-use Rattle.rds_pieces.specs.Inside.RunLaws.{RunLaws}
 use Rattle.rds_pieces.specs.Soon.{IsSoonMet, MeetSoon}
 
 module _ (b : Signal) (rules : RuleNumbers) (one other : State) (from to : ℕ) where

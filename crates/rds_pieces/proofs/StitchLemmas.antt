@@ -1,24 +1,5 @@
 -- A run that is carried over runs that follow each other, from place 0 to the recording's end.
-use Rattle.std.proofs.Common.{◌≡◌, ◌≢◌, ℕ, ◌+◌, ◌-◌, ◌*◌, ◌<◌, ◌≤◌, ◌^◌, List, [], ◌∷◌, ◌++◌, length, get_or, drop, Option, Some, None, refl, sym, ap, ap₂, ◌∙◌, subst, arith, append-nil}
-use Rattle.std.proofs.lemmas.Nat.{mul-le}
-use Rattle.std.proofs.lemmas.List.{drop_more, drop_all, nil_from_length}
-use Rattle.rds_stream.specs.Recording.{Signal, length_of}
-use Rattle.rds_sync.specs.declared.state.State.{State}
-use Rattle.rds_sync.specs.declared.state.State.TheVariants.{Searching, Locked}
-use Rattle.rds_sync.specs.declared.item.Item.{Item}
-use Rattle.rds_sync.specs.declared.totals.Totals.{Totals}
-use Rattle.rds_sync.specs.Counting.{IsAtMost, FitTogether}
-use Rattle.rds_sync.specs.Totals.{totals_of}
-use Rattle.rds_sync.specs.Rules.{RuleNumbers}
-use Rattle.rds_sync.specs.Ranges.{IsInRange}
-use Rattle.rds_sync.specs.Lawful.{IsLawful, IsBetweenGroups}
-use Rattle.rds_sync.specs.Report.{report_items}
-use Rattle.rds_sync.specs.Loss.{IsLossRule}
-use Rattle.rds_sync.specs.Step.{run, items_of_end}
-use Rattle.rds_pieces.specs.Meeting.{IsMeeting, MeetAt, distance}
-use Rattle.rds_pieces.specs.RunOf.{RunOf, FollowEachOther}
-use Rattle.rds_pieces.specs.Inside.RunLaws.{RunLaws}
-use Rattle.rds_pieces.specs.Seams.{seam_reads, IsSumOfReads}
+use Rattle.rds_pieces.proofs.Names.{◌≡◌, ◌≢◌, ℕ, ◌+◌, ◌-◌, ◌*◌, ◌<◌, ◌≤◌, ◌^◌, List, [], ◌∷◌, ◌++◌, length, get_or, drop, Option, Some, None, refl, sym, ap, ap₂, ◌∙◌, subst, arith, append-nil, mul-le, drop_more, drop_all, nil_from_length, Signal, length_of, State, Searching, Locked, Item, Totals, IsAtMost, FitTogether, totals_of, RuleNumbers, IsInRange, IsLawful, IsBetweenGroups, report_items, IsLossRule, run, items_of_end, IsMeeting, MeetAt, distance, RunOf, FollowEachOther, RunLaws, seam_reads, IsSumOfReads}
 use Rattle.rds_pieces.proofs.SmallTotals.{per_bit, at_most_more, run_at_most}
 
 -- runs that follow each other are between the places
@@ -86,7 +67,8 @@ module _ (b : Signal) (rules : RuleNumbers) (runs : List RunOf) where
     left_to_read = λ n h. (n, h, omega arith);
   }
 
-  module _ (base k : ℕ) (state : State) (items : List Item) (reads : ℕ) (done : IsStitched base k state items reads) (r d : RunOf) (inside : k < length runs) (is : r ≡ get_or runs k d) where
+module _ {b : Signal} {rules : RuleNumbers} {runs : List RunOf} {base k : ℕ} {state : State} {items : List Item} {reads : ℕ} (done : IsStitched b rules runs base k state items reads) where
+  module _ {r : RunOf} (d : RunOf) (inside : k < length runs) (is : r ≡ get_or runs k d) where
     -- the runs that are left begin with run k
     left : drop k runs ≡ r ∷ drop (k + 1) runs
     left = drop_more runs k d inside ∙ ap (λ (x : RunOf). x ∷ drop (k + 1) runs) (sym is)
@@ -155,7 +137,7 @@ module _ (b : Signal) (rules : RuleNumbers) (runs : List RunOf) where
     pub stitched_on : RunLaws → IsInRange rules → (after : State) (items2 : List Item) (reads2 : ℕ) (met : Option ℕ)
         → after ≡ (run b rules state r.from (r.to - r.from)).0 → items2 ≡ items ++ (run b rules state r.from (r.to - r.from)).1
         → IsMeeting b rules state Searching r.from r.to met → reads2 ≤ reads + seam_reads rules r.from r.to met → reads2 ≤ reads + 20 * (r.to - r.from)
-        → ((met : Option ℕ) → IsMeeting b rules state Searching r.from r.to met → reads2 ≤ reads + seam_reads rules r.from r.to met) → IsStitched base (k + 1) after items2 reads2
+        → ((met : Option ℕ) → IsMeeting b rules state Searching r.from r.to met → reads2 ≤ reads + seam_reads rules r.from r.to met) → IsStitched b rules runs base (k + 1) after items2 reads2
     stitched_on laws range after items2 reads2 met after_is items2_are meeting read few way =
         let n = next_follows.1 in
         let f = from_is in
@@ -184,7 +166,7 @@ module _ (b : Signal) (rules : RuleNumbers) (runs : List RunOf) where
         }
 
     -- a run over no place is passed over
-    pub stitched_past : RunLaws → IsInRange rules → r.from ≡ r.to → IsStitched base (k + 1) state items reads
+    pub stitched_past : RunLaws → IsInRange rules → r.from ≡ r.to → IsStitched b rules runs base (k + 1) state items reads
     stitched_past laws range none =
         let no_bits : 0 ≡ r.to - r.from = omega (arith, none) in
         let meeting = meeting_at_once b rules state r.from r.to none in
@@ -192,7 +174,7 @@ module _ (b : Signal) (rules : RuleNumbers) (runs : List RunOf) where
         (sym (append-nil items) ∙ ap (λ (n : ℕ). items ++ (run b rules state r.from n).1) no_bits) meeting.1 (omega arith) (omega arith) (λ met first. omega arith)
 
   -- once it was carried over all
-  module _ (base k : ℕ) (state : State) (items : List Item) (reads : ℕ) (done : IsStitched base k state items reads) (all : length runs ≤ k) where
+  module _ (all : length runs ≤ k) where
     none_left : drop k runs ≡ []
     none_left = drop_all k runs all
 
@@ -230,8 +212,8 @@ module _ (b : Signal) (rules : RuleNumbers) (runs : List RunOf) where
         let e : done.sum + 0 ≡ done.sum = omega arith in
         subst (λ (t : ℕ). IsSumOfReads b rules Searching runs t) e (done.sums 0 (subst (λ (rs : List RunOf). IsSumOfReads b rules state rs 0) (sym none_left) refl))
 
-  pub stitched_few : (base k : ℕ) (state : State) (items : List Item) (reads : ℕ) → IsStitched base k state items reads → length_of b ≤ 2 ^ 36 → base ≤ 2 ^ 61 → reads ≤ 2 ^ 62
-  stitched_few base k state items reads done bits room =
+  pub stitched_few : length_of b ≤ 2 ^ 36 → base ≤ 2 ^ 61 → reads ≤ 2 ^ 62
+  stitched_few bits room =
       let t = follow_inside b rules done.place (length_of b) (drop k runs) done.follow in
       let l = done.few in
       omega (arith, t, l)

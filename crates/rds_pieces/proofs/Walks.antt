@@ -1,21 +1,6 @@
 -- Two runs of one range side by side, of which the one at the lesser place hops: they meet at the least
 -- place, and read few windows.
-use Rattle.std.proofs.Common.{◌≡◌, ◌≢◌, ℕ, ◌+◌, ◌-◌, ◌*◌, ◌<◌, ◌≤◌, ◌^◌, ◌⊎◌, Option, Some, None, refl, sym, ap, ◌∙◌, subst, arith, inl, inr}
-use Rattle.std.proofs.lemmas.Bool.{cases_lt}
-use Rattle.std.proofs.lemmas.Nat.{mul-le}
-use Rattle.rds_stream.specs.Recording.{Signal}
-use Rattle.rds_sync.specs.declared.state.State.{State}
-use Rattle.rds_sync.specs.declared.state.State.TheVariants.{Searching, Locked}
-use Rattle.rds_sync.specs.Hop.{IsHop}
-use Rattle.rds_sync.specs.Rules.{RuleNumbers}
-use Rattle.rds_sync.specs.Lawful.{IsLawful, IsBetweenGroups}
-use Rattle.rds_sync.specs.Ranges.{IsInRange}
-use Rattle.rds_sync.specs.Step.{run}
-use Rattle.rds_sync.specs.Tally.{TallyOf, tally_at, gone_on}
-use Rattle.rds_pieces.specs.Inside.Beside.{IsFirst, IsStep, Meet}
-use Rattle.rds_pieces.specs.Inside.RunLaws.{RunLaws}
-use Rattle.rds_pieces.specs.Meeting.{MeetAt, MeetFirstAt, IsMeeting}
-use Rattle.rds_pieces.specs.Seams.{seam_reads}
+use Rattle.rds_pieces.proofs.Names.{◌≡◌, ◌≢◌, ℕ, ◌+◌, ◌-◌, ◌*◌, ◌<◌, ◌≤◌, ◌^◌, ◌⊎◌, Option, Some, None, refl, sym, ap, ◌∙◌, subst, arith, inl, inr, cases_lt, mul-le, Signal, State, Searching, Locked, IsHop, RuleNumbers, IsLawful, IsBetweenGroups, IsInRange, run, TallyOf, tally_at, gone_on, IsFirst, IsStep, Meet, RunLaws, MeetAt, MeetFirstAt, IsMeeting, seam_reads}
 use Rattle.rds_pieces.proofs.Apart.{IsApart, at_bit, swap, apart_hop}
 use Rattle.rds_pieces.proofs.GoneRuns.{gone-none, gone-again}
 use Rattle.rds_pieces.proofs.Paid.{IsPaid, paid_swap, paid_start, paid_hop, paid_most, paid_less}
@@ -69,67 +54,55 @@ pub record IsBeside (b : Signal) (rules : RuleNumbers) (s : State) (from to : �
   pub apart : IsApart b rules s Searching from to own.place own.state guess.place guess.state
   pub paid : IsPaid rules from own.place own.state guess.place guess.state reads
 
-module _ (laws : RunLaws) (b : Signal) (rules : RuleNumbers) (range : IsInRange rules) (s : State) (from to : ℕ) (one : IsLawful rules from s) where
-  abbrev Beside : TallyOf → TallyOf → ℕ → Type 0
-  Beside = IsBeside b rules s from to
+pub beside_start : {b : Signal} {rules : RuleNumbers} {s : State} {from to : ℕ} → IsLawful rules from s → from ≤ to
+    → IsBeside b rules s from to (tally_at b rules from s) (tally_at b rules from Searching) 0
+beside_start {b} {rules} {s} {from} one h = record {
+  own_is = sym (gone-none (tally_at b rules from s));
+  guess_is = sym (gone-none (tally_at b rules from Searching));
+  apart = record {
+    inside = (omega arith, h, omega arith, h);
+    own = begins s;
+    other = begins Searching;
+    apart = λ q behind m. let i = m.inside.0 in elim behind [ inl less ↦ absurd (omega (arith, i, less)) | inr less ↦ absurd (omega (arith, i, less)) ];
+  };
+  paid = paid_start rules from s one;
+} where
+  begins : (u : State) → u ≡ at_bit b rules u from from
+  begins u = let none : from - from ≡ 0 = omega arith in ap (λ (n : ℕ). (run b rules u from n).0) (sym none)
 
-  pub beside_start : from ≤ to → Beside (tally_at b rules from s) (tally_at b rules from Searching) 0
-  beside_start h = record {
-    own_is = sym (gone-none (tally_at b rules from s));
-    guess_is = sym (gone-none (tally_at b rules from Searching));
-    apart = record {
-      inside = (omega arith, h, omega arith, h);
-      own = begins s;
-      other = begins Searching;
-      apart = λ q behind m. let i = m.inside.0 in elim behind [ inl less ↦ absurd (omega (arith, i, less)) | inr less ↦ absurd (omega (arith, i, less)) ];
-    };
-    paid = paid_start rules from s one;
-  } where
-    begins : (u : State) → u ≡ at_bit b rules u from from
-    begins u = let none : from - from ≡ 0 = omega arith in ap (λ (n : ℕ). (run b rules u from n).0) (sym none)
+-- a run that went on by a hop
+gone : RunLaws → {b : Signal} {rules : RuleNumbers} {from near to cost : ℕ} (u : State) {old new : TallyOf} → from ≤ old.place → old ≡ gone_on (tally_at b rules from u) old.place → new ≡ gone_on old new.place
+    → IsHop b rules old.state old.place near to new.place new.state cost → new ≡ gone_on (tally_at b rules from u) new.place
+gone laws {b} {rules} {from} u {old} {new} low is on hop =
+    let m = hop.moved in
+    on ∙ ap (λ (t : TallyOf). gone_on t new.place) is ∙ gone-again laws (tally_at b rules from u) old.place new.place low (omega (arith, m))
 
-  -- a run that went on by a hop
-  gone : (u : State) (old new : TallyOf) (near : ℕ) (cost : ℕ) → from ≤ old.place → old ≡ gone_on (tally_at b rules from u) old.place → new ≡ gone_on old new.place
-      → IsHop b rules old.state old.place near to new.place new.state cost → new ≡ gone_on (tally_at b rules from u) new.place
-  gone u old new near cost low is on hop =
-      let m = hop.moved in
-      on ∙ ap (λ (t : TallyOf). gone_on t new.place) is ∙ gone-again laws (tally_at b rules from u) old.place new.place low (omega (arith, m))
-
-  pub own_hops : (own guess new : TallyOf) (reads cost more : ℕ) → Beside own guess reads → ¬ Meet own guess → IsFirst own.place own.state guess.place
-      → new ≡ gone_on own new.place → IsHop b rules own.state own.place guess.place to new.place new.state cost → more ≤ reads + cost → Beside new guess more
-  own_hops own guess new reads cost more h other first on hop few = record {
-    own_is = gone s own new guess.place cost h.apart.inside.0 h.own_is on hop;
+module _ (laws : RunLaws) {b : Signal} {rules : RuleNumbers} (range : IsInRange rules) {s : State} {from to : ℕ} (one : IsLawful rules from s) where
+  own_hops : {own guess new : TallyOf} {reads cost more : ℕ} → IsBeside b rules s from to own guess reads → ¬ Meet own guess → IsFirst own.place own.state guess.place
+      → new ≡ gone_on own new.place → IsHop b rules own.state own.place guess.place to new.place new.state cost → more ≤ reads + cost → IsBeside b rules s from to new guess more
+  own_hops {own} h other first on hop few = record {
+    own_is = gone laws s h.apart.inside.0 h.own_is on hop;
     guess_is = h.guess_is;
-    apart = apart_hop laws b rules s Searching from to range.loss.0 one own.place own.state guess.place guess.state new.place new.state cost h.apart other first hop;
-    paid = paid_less rules from new.place new.state guess.place guess.state (reads + cost) more few
-        (paid_hop b rules from to own.place own.state guess.place guess.state new.place new.state reads cost h.paid hop);
+    apart = apart_hop laws b rules s Searching from to range.loss.0 one h.apart other first hop;
+    paid = paid_less few (paid_hop own.state h.paid hop);
   }
 
-  pub guess_hops : (own guess new : TallyOf) (reads cost more : ℕ) → Beside own guess reads → ¬ Meet own guess → ¬ IsFirst own.place own.state guess.place
-      → new ≡ gone_on guess new.place → IsHop b rules guess.state guess.place own.place to new.place new.state cost → more ≤ reads + cost → Beside own new more
-  guess_hops own guess new reads cost more h other not_first on hop few =
-      let first = then_first own.place own.state guess.place guess.state other not_first in
-      let turned = swap b rules s Searching from to own.place own.state guess.place guess.state h.apart in
-      let apart = apart_hop laws b rules Searching s from to range.loss.0 tt guess.place guess.state own.place own.state new.place new.state cost turned
-      (λ m. other (sym m.0, sym m.1, subst (λ (u : State). IsBetweenGroups u) m.1 m.2)) first hop in
-      record {
-        own_is = h.own_is;
-        guess_is = gone Searching guess new own.place cost h.apart.inside.2 h.guess_is on hop;
-        apart = swap b rules Searching s from to new.place new.state own.place own.state apart;
-        paid = paid_less rules from own.place own.state new.place new.state (reads + cost) more few
-            (paid_swap rules from new.place new.state own.place own.state (reads + cost)
-            (paid_hop b rules from to guess.place guess.state own.place own.state new.place new.state reads cost
-            (paid_swap rules from own.place own.state guess.place guess.state reads h.paid) hop));
-      }
+  guess_hops : {own guess new : TallyOf} {reads cost more : ℕ} → IsBeside b rules s from to own guess reads → ¬ Meet own guess → ¬ IsFirst own.place own.state guess.place
+      → new ≡ gone_on guess new.place → IsHop b rules guess.state guess.place own.place to new.place new.state cost → more ≤ reads + cost → IsBeside b rules s from to own new more
+  guess_hops {own} {guess} h other not_first on hop few = record {
+    own_is = h.own_is;
+    guess_is = gone laws Searching h.apart.inside.2 h.guess_is on hop;
+    apart = swap (apart_hop laws b rules Searching s from to range.loss.0 tt (swap h.apart) (λ m. other (sym m.0, sym m.1, subst (λ (u : State). IsBetweenGroups u) m.1 m.2))
+        (then_first own.place own.state guess.place guess.state other not_first) hop);
+    paid = paid_less few (paid_swap (paid_hop guess.state (paid_swap h.paid) hop));
+  }
 
-  pub hops_first : (own guess own2 guess2 : TallyOf) (reads cost more : ℕ) → Beside own guess reads → ¬ Meet own guess
-      → IsStep b rules to own guess own2 guess2 cost → more ≤ reads + cost → Beside own2 guess2 more
-  hops_first own guess own2 guess2 reads cost more h other (inl (first, hopped, stays)) few =
-      subst (λ (t : TallyOf). Beside own2 t more) (sym stays) (own_hops own guess own2 reads cost more h other first hopped.gone hopped.hop few)
-  hops_first own guess own2 guess2 reads cost more h other (inr (not_first, hopped, stays)) few =
-      subst (λ (t : TallyOf). Beside t guess2 more) (sym stays) (guess_hops own guess guess2 reads cost more h other not_first hopped.gone hopped.hop few)
+  pub hops_first : {own guess own2 guess2 : TallyOf} {reads cost more : ℕ} → IsBeside b rules s from to own guess reads → ¬ Meet own guess
+      → IsStep b rules to own guess own2 guess2 cost → more ≤ reads + cost → IsBeside b rules s from to own2 guess2 more
+  hops_first h other (inl (first, hopped, stays)) few = rw stays (own_hops h other first hopped.gone hopped.hop few)
+  hops_first h other (inr (not_first, hopped, stays)) few = rw stays (guess_hops h other not_first hopped.gone hopped.hop few)
 
-  module _ (own guess : TallyOf) (reads : ℕ) (h : Beside own guess reads) where
+  module _ {own guess : TallyOf} {reads : ℕ} (h : IsBeside b rules s from to own guess reads) where
     -- the state of a run is lawful
     lawful_at : (u : State) (a : ℕ) (x : State) → IsLawful rules from u → from ≤ a → x ≡ at_bit b rules u from a → IsLawful rules a x
     lawful_at u a x lawful low is = subst (λ (v : State). IsLawful rules a v) (sym is) (laws.lawful_runs b rules range.loss.0 u from a low lawful)
@@ -187,9 +160,9 @@ module _ (laws : RunLaws) (b : Signal) (rules : RuleNumbers) (range : IsInRange 
     ]
 
 -- a step goes on
-pub step_moves : (b : Signal) (rules : RuleNumbers) (to : ℕ) (own guess own2 guess2 : TallyOf) (reads : ℕ) → IsStep b rules to own guess own2 guess2 reads
+pub step_moves : {b : Signal} {rules : RuleNumbers} {to : ℕ} {own guess own2 guess2 : TallyOf} {reads : ℕ} → IsStep b rules to own guess own2 guess2 reads
     → own.place ≤ to → guess.place ≤ to → (to - own2.place) + (to - guess2.place) < (to - own.place) + (to - guess.place)
-step_moves b rules to own guess own2 guess2 reads (inl (first, hopped, stays)) one two =
+step_moves (inl (first, hopped, stays)) one two =
     let m = hopped.hop.moved in let e = ap (λ (t : TallyOf). t.place) stays in omega (arith, m, e, one, two)
-step_moves b rules to own guess own2 guess2 reads (inr (not_first, hopped, stays)) one two =
+step_moves (inr (not_first, hopped, stays)) one two =
     let m = hopped.hop.moved in let e = ap (λ (t : TallyOf). t.place) stays in omega (arith, m, e, two, one)

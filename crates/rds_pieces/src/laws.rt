@@ -27,11 +27,7 @@ pub(crate) fn run_laws()
 {
     laws::runs_are_reports();
     laws::runs_join();
-    laws::steps_are_lawful();
     laws::runs_are_lawful();
-    laws::one_bit_runs();
-    laws::locks_wait();
-    laws::items_mark_changes();
     laws::totals_join();
     code_laws::readings_follow_the_rule();
 }

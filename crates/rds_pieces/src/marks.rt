@@ -7,7 +7,6 @@ ghost use Rattle.std.specs.Iterator.{YieldsFirst, item_count};
 ghost use Rattle.rds_pieces.specs.Inside.MarkInside.{IsMarkIn, marks_on};
 ghost use Rattle.rds_pieces.specs.Marks.{marks_of};
 
-use crate::laws::run_laws;
 use crate::mark::Mark;
 use rds_stream::{Reader, Recording};
 use rds_sync::{Item, Rules, State, stretch};
@@ -49,7 +48,6 @@ impl<'a> Marks<'a> {
         requires within { to ≤ length_of rec.now }
         ensures { result ≡ marks_of rec.now rules.now State.Searching from (to - from) }
     {
-        run_laws();
         let first = Mark {
             place: from,
             state: State::Searching,
@@ -91,8 +89,6 @@ fn mark_after(reader: &mut Reader<'_>, rules: &Rules, now: Mark, to: u64) -> Opt
     ensures inside { IfSome result (IsMarkIn rules.now to) }
     ensures same { reader.new ≡ reader.old }
 {
-    // The items of a stretch are those of its last bit.
-    run_laws();
     prove!(to <= reader.recording().len());
     if now.place == to {
         return None;

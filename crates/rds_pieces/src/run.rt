@@ -13,7 +13,6 @@ ghost use Rattle.rds_pieces.specs.declared.error.PieceError.TheVariants.{OutOfMe
 
 use crate::cutting::Cutting;
 use crate::error::PieceError;
-use crate::laws::run_laws;
 use crate::marks::Marks;
 use rds_stream::Recording;
 use rds_sync::{ItemIter, Items, Report, Rules, Spans, State, Totals, run_report};
@@ -183,7 +182,6 @@ pub(crate) fn speculate_into(
     ensures ok { IfOk result (λ r. r ≡ run_at rec.now rules.now cutting.now j) }
     ensures err { IsOkUnless result OutOfMemory }
 {
-    run_laws();
     let (from, to) = range_of(rec, cutting, j);
     let len = rec.len();
     prove!(to <= len);

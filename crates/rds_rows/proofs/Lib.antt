@@ -1,3 +1,4 @@
+mod Names
 pub mod Steps
 pub mod Parts
 mod Promises

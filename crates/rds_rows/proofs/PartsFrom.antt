@@ -1,9 +1,5 @@
 -- Parts from one number on, and how they are written.
-use Rattle.std.proofs.Common.{◌+◌, ◌++◌, ◌-◌, ◌<◌, ◌≡◌, ◌≤◌, ◌∙◌, ℕ, List, Option, [], ap, append_assoc, arith, subst, suc, sym, zero}
-use Rattle.std.proofs.lemmas.List.{append-nil}
-use Rattle.rds_rows.specs.Parts.{first_parts}
-use Rattle.rds_rows.specs.Rounds.{parts_from}
-use Rattle.rds_rows.specs.Writes.{AppendsBut, AppendsPrefix}
+use Rattle.rds_rows.proofs.Names.{◌+◌, ◌++◌, ◌-◌, ◌<◌, ◌≡◌, ◌≤◌, ◌∙◌, ℕ, List, Option, [], ap, append_assoc, arith, subst, suc, sym, zero, append-nil, first_parts, parts_from, AppendsBut, AppendsPrefix}
 use Rattle.rds_rows.proofs.Steps.{but_more, but_prefix_more, prefix_wider}
 
 -- and the next

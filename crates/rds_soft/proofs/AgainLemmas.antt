@@ -1,6 +1,11 @@
--- A list of four blocks.
-use Rattle.std.proofs.Common.{◌≡◌, List, [], ◌∷◌, length, get_or, refl, arith}
+-- A list of four blocks, and blocks that are valid.
+use Rattle.std.proofs.Common.{◌≡◌, ℕ, List, [], ◌∷◌, length, get_or, refl, sym, subst, arith}
+use Rattle.std.specs.Prelude.{Option, ℤ}
+use Rattle.rds_code.specs.declared.reading.Wanted.{Wanted}
 use Rattle.rds_sync.specs.declared.item.Block.{Block}
+use Rattle.rds_soft.specs.declared.soft_item.SoftBlock.{SoftBlock}
+use Rattle.rds_soft.specs.Again.{IsBlockAgain}
+use Rattle.rds_soft.specs.Inside.ValidBlocks.{IsValidBlock}
 
 pub list_of_four : (xs : List Block) (a b c d : Block) → length xs ≡ 4
     → xs ≡ get_or xs 0 a ∷ get_or xs 1 b ∷ get_or xs 2 c ∷ get_or xs 3 d ∷ []
@@ -10,3 +15,8 @@ list_of_four (w ∷ x ∷ []) a b c d long = absurd (omega (arith, long))
 list_of_four (w ∷ x ∷ y ∷ []) a b c d long = absurd (omega (arith, long))
 list_of_four (w ∷ x ∷ y ∷ z ∷ []) a b c d long = refl
 list_of_four (w ∷ x ∷ y ∷ z ∷ v ∷ rest) a b c d long = absurd (omega (arith, long))
+
+-- a valid block stays as it is, whatever was heard and whichever offsets are wanted
+pub valid_stays : (heard : Option (List ℤ)) (x : ℕ) (wanted : Wanted) (margin : ℕ) (block : Block) (again : SoftBlock) → IsValidBlock block again
+    → IsBlockAgain heard x wanted margin block again
+valid_stays heard x wanted margin block again h = subst (λ (b : Block). IsBlockAgain heard x wanted margin b again) (sym h.was) h.is

@@ -13,3 +13,6 @@ pub mod AgainLemmas
 pub mod ReadAgainLaws
 pub mod TotalsLemmas
 pub mod PackLemmas
+pub mod InsideLemmas
+pub mod PartLemmas
+pub mod StreamLemmas

@@ -18,6 +18,21 @@ pub record IsRead (rows : List (List ℕ)) (confidences : List ℕ) (s n left fl
   pub kept_is : kept ≡ slice_index (get_or rows n []) left
   pub base_is : base ≡ slice_index (get_or rows n []) (bit_xor left e)
 
+pub is_read : {rows : List (List ℕ)} {confidences : List ℕ} {s n left flips spent others e kept base c : ℕ} → AreRows effect (confidence confidences) rows
+    → n < 27 → IsWalk effect (confidence confidences) s (n + 1) left flips spent others → e ≡ effect n → e < 1024
+    → c ≡ slice_index confidences (26 - n) → kept ≡ slice_index (get_or rows n []) left → base ≡ slice_index (get_or rows n []) (bit_xor left e)
+    → IsRead rows confidences s n left flips spent others e kept base c
+is_read rows_are place walk effect_is effect_small confidence_is kept_is base_is = record {
+  rows_are = rows_are;
+  place = place;
+  walk = walk;
+  effect_is = effect_is;
+  effect_small = effect_small;
+  confidence_is = confidence_is;
+  kept_is = kept_is;
+  base_is = base_is;
+}
+
 turned_small : (left e : ℕ) → left < 1024 → e < 1024 → bit_xor left e < 1024
 turned_small left e h g = xor_lt 10 left e h g
 

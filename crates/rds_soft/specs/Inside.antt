@@ -3,3 +3,5 @@ pub mod Lightest
 pub mod Rows
 pub mod Nearer
 pub mod Packed
+pub mod Streams
+pub mod ValidBlocks

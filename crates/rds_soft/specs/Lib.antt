@@ -4,6 +4,7 @@ pub mod SoftGroups
 pub mod Again
 pub mod ReadAgain
 pub mod SoftTotals
+pub mod SoftStream
 pub mod Laws
 pub mod Inside
 pub mod Examples

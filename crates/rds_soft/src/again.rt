@@ -1,6 +1,7 @@
 //! Items of a report, read again from the symbols of its recording.
-ghost use Rattle.std.specs.Prelude.{◌≡◌, ◌+◌, ◌*◌, ◌≤◌, Some, None, drop, length, nat_lt, take, if◌then◌else◌};
+ghost use Rattle.std.specs.Prelude.{◌≡◌, ◌+◌, ◌*◌, ◌≤◌, IfSome, Some, None, drop, length, nat_lt, take, if◌then◌else◌};
 ghost use Rattle.rds_soft.specs.ReadAgain.{symbols_of};
+ghost use Rattle.rds_soft.specs.Inside.ValidBlocks.{AreValid, IsValidBlock};
 ghost use Rattle.rds_soft.specs.Again.{IsBlockAgain, IsGroupAgain, symbols_heard as the_symbols_heard, was_read as the_was_read};
 
 use crate::lightest::SYMBOLS;
@@ -51,8 +52,23 @@ struct Source<'a> {
     place: u64,
 }
 
-/// The group of these blocks, read again.
+/// The group of these blocks, read again. If all four are valid, as in most groups, they stay as they are.
 fn group_again(
+    search: &mut Search,
+    source: &Source<'_>,
+    margin: Margin,
+    blocks: &[Block; 4],
+) -> SoftGroup
+    ensures { IsGroupAgain source.now.recording.now (symbols_of source.now.symbols.now) margin source.now.place blocks.now result }
+{
+    match valid_blocks(blocks) {
+        Some(valid) => SoftGroup::of_blocks(source.place, valid),
+        None => searched_group(search, source, margin, blocks),
+    }
+}
+
+/// The same of any blocks, of which those that are not valid are searched.
+fn searched_group(
     search: &mut Search,
     source: &Source<'_>,
     margin: Margin,
@@ -101,6 +117,33 @@ fn group_again(
         Wanted::Either,
     );
     SoftGroup::of_blocks(source.place, [first, second, third, fourth])
+}
+
+/// The blocks as they are, if all four are valid.
+#[inline(always)]
+fn valid_blocks(blocks: &[Block; 4]) -> Option<[SoftBlock; 4]>
+    ensures { IfSome result (λ valid. AreValid blocks.now valid) }
+{
+    let [one, two, three, four] = blocks;
+    Some([
+        valid_block(one)?,
+        valid_block(two)?,
+        valid_block(three)?,
+        valid_block(four)?,
+    ])
+}
+
+/// The block as it is, if it is valid.
+#[inline(always)]
+fn valid_block(block: &Block) -> Option<SoftBlock>
+    ensures { IfSome result (IsValidBlock block.now) }
+{
+    match *block {
+        Block::Read(Reading::Valid { offset, info }) => {
+            Some(SoftBlock::Read(SoftReading::Valid { offset, info }))
+        }
+        _ => None,
+    }
 }
 
 /// 1 if the block was read.

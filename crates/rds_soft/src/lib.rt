@@ -21,6 +21,8 @@
 //! - [`Search::read`]: 27 symbols, read as a block, a [`SoftReading`]: valid, corrected or lost. [`mask_of`]: the bits that flips
 //!   invert.
 //! - [`Search::read_again`]: an item of a report, read again from the symbols of its recording, a [`SoftItem`].
+//! - [`SoftStream`]: a stream of symbols, heard as it comes. [`SoftStream::take`] gives the items that the next symbols complete, and
+//!   [`SoftStream::finish`] a [`SoftEnd`]: the group in progress, and the totals.
 //! - [`pack_bits`]: the packed bits of symbols. [`SoftTotals`]: the totals of items that were read again.
 //! - [`laws`]: at most one block is nearest, which blocks are corrected to what was sent, and that items are read again in one way.
 //!
@@ -49,6 +51,9 @@ mod soft_item; // Items as symbols tell them.
 mod again; // Items read again.
 mod soft_totals; // Their totals.
 mod pack; // Symbols as the bits between them.
+mod history; // The symbols that a stream has heard, for contracts alone.
+mod near; // The part of a stream that is known.
+mod soft_stream; // A stream of symbols.
 pub mod laws; // The laws of the nearest block.
 
 pub use correction::Correction;
@@ -57,4 +62,5 @@ pub use nearest::Search;
 pub use pack::pack_bits;
 pub use soft_item::{SoftBlock, SoftGroup, SoftItem};
 pub use soft_reading::{SoftReading, mask_of};
+pub use soft_stream::{SoftEnd, SoftStream};
 pub use soft_totals::SoftTotals;

@@ -1,12 +1,13 @@
 //! Symbols as the packed bits between them.
 ghost use Rattle.std.specs.Prelude.{◌≡◌, ◌+◌, ◌*◌, ◌-◌, ◌<◌, ◌≤◌, ℕ, IfOk, length};
-ghost use Rattle.std.specs.Int.{bit_at, cast_signed, w8};
+ghost use Rattle.std.specs.Int.{bit_at};
 ghost use Rattle.rds_stream.specs.Recording.{packed_bit};
 ghost use Rattle.rds_soft.specs.ReadAgain.{symbols_of};
-ghost use Rattle.rds_soft.specs.Symbols.{hard_bit, sign};
-ghost use Rattle.rds_soft.specs.Inside.Packed.{sign_at, word_of};
+ghost use Rattle.rds_soft.specs.Symbols.{hard_bit};
+ghost use Rattle.rds_soft.specs.Inside.Packed.{sign_at};
 
 use std::alloc::{AllocError, Global};
+use std::simd::prelude::*;
 
 /// The bits of symbols, whose bytes are signed, packed eight to a byte, the first one highest: one bit fewer than there are
 /// symbols.
@@ -15,70 +16,86 @@ pub fn pack_bits(alloc: Global, symbols: &[u8]) -> Result<Vec<u8>, AllocError>
     ensures bits { IfOk result (λ bytes. (i : ℕ) → i + 1 < length symbols.now
         → packed_bit bytes.items i ≡ hard_bit (symbols_of symbols.now) i) }
 {
-    let mut bytes = Vec::with_capacity(alloc, symbols.len() / 8 + 1)?;
+    let mut bytes = Vec::with_capacity(alloc, symbols.len() / 8 + 8)?;
     let mut left = symbols;
     while left.len() > 1 {
-        bytes.push(byte_of(left))?;
-        left = &left[left.len().min(8)..];
+        bytes.extend_from_slice(&bytes_of(left))?;
+        left = &left[left.len().min(64)..];
     }
     Ok(bytes)
 }
 
-/// The bits between the first nine symbols, or fewer.
+/// The bits between the first 65 symbols, or fewer.
 #[inline(always)]
-fn byte_of(symbols: &[u8]) -> u8
-    ensures { (i : ℕ) → i < 8 → i + 1 < length symbols.now → bit_at result (7 - i) ≡ hard_bit (symbols_of symbols.now) i }
+fn bytes_of(symbols: &[u8]) -> [u8; 8]
+    ensures { (i : ℕ) → i < 64 → i + 1 < length symbols.now → packed_bit result i ≡ hard_bit (symbols_of symbols.now) i }
 {
     match symbols.first_chunk() {
-        Some(chunk) => byte_between(chunk),
-        None => last_byte(symbols),
+        Some(chunk) => bytes_between(chunk),
+        None => last_bytes(symbols),
     }
 }
 
-/// The same of fewer than nine symbols.
+/// The same of fewer than 65 symbols.
 #[inline(never)]
-fn last_byte(symbols: &[u8]) -> u8
-    requires { length symbols.now < 9 }
-    ensures { (i : ℕ) → i < 8 → i + 1 < length symbols.now → bit_at result (7 - i) ≡ hard_bit (symbols_of symbols.now) i }
+fn last_bytes(symbols: &[u8]) -> [u8; 8]
+    requires { length symbols.now < 65 }
+    ensures { (i : ℕ) → i < 64 → i + 1 < length symbols.now → packed_bit result i ≡ hard_bit (symbols_of symbols.now) i }
 {
-    let mut chunk = [0; 9];
+    let mut chunk = [0; 65];
     for i in 0..symbols.len() {
         chunk[i] = symbols[i];
     }
-    byte_between(&chunk)
+    bytes_between(&chunk)
 }
 
-/// The eight bits between nine symbols, the first one highest.
+/// The 64 bits between 65 symbols, packed eight to a byte, the first one highest.
 #[inline(always)]
-fn byte_between(symbols: &[u8; 9]) -> u8
-    ensures { (i : ℕ) → i < 8 → bit_at result (7 - i) ≡ hard_bit (symbols_of symbols.now) i }
+fn bytes_between(symbols: &[u8; 65]) -> [u8; 8]
+    ensures { (i : ℕ) → i < 64 → packed_bit result i ≡ hard_bit (symbols_of symbols.now) i }
 {
-    let signs = signs_of(symbols);
-    ((signs ^ signs / 2) % 256) as u8
+    let a = bits_from(symbols, 0);
+    let b = bits_from(symbols, 16);
+    let c = bits_from(symbols, 32);
+    let d = bits_from(symbols, 48);
+    [
+        (a / 256 % 256) as u8,
+        (a % 256) as u8,
+        (b / 256 % 256) as u8,
+        (b % 256) as u8,
+        (c / 256 % 256) as u8,
+        (c % 256) as u8,
+        (d / 256 % 256) as u8,
+        (d % 256) as u8,
+    ]
 }
 
-/// The signs of nine symbols, a word of nine bits, the first one highest.
+/// The sixteen bits from a symbol on, the first one highest.
 #[inline(always)]
-fn signs_of(symbols: &[u8; 9]) -> u16
-    ensures { result ≡ word_of (sign_at symbols.now) }
+fn bits_from(symbols: &[u8; 65], from: usize) -> u64
+    requires { from + 17 ≤ 65 }
+    ensures { (k : ℕ) → k < 16 → bit_at result (15 - k) ≡ hard_bit (symbols_of symbols.now) (from + k) }
 {
-    let [a, b, c, d, e, f, g, h, i] = *symbols;
-    256 * sign_of(a)
-        + 128 * sign_of(b)
-        + 64 * sign_of(c)
-        + 32 * sign_of(d)
-        + 16 * sign_of(e)
-        + 8 * sign_of(f)
-        + 4 * sign_of(g)
-        + 2 * sign_of(h)
-        + sign_of(i)
+    signs_from(symbols, from) ^ signs_from(symbols, from + 1)
 }
 
-/// 1 if the symbol is above 0.
+/// The signs of sixteen symbols from one on, the first one highest.
 #[inline(always)]
-fn sign_of(symbol: u8) -> u16
-    ensures value { result ≡ sign (cast_signed w8 symbol) }
-    ensures digit { result < 2 }
+fn signs_from(symbols: &[u8], from: usize) -> u64
+    requires { from + 16 ≤ length symbols.now }
+    ensures { (k : ℕ) → k < 16 → bit_at result (15 - k) ≡ sign_at symbols.now (from + k) }
 {
-    u16::from(symbol.cast_signed().is_positive())
+    signs_of(u8x16::from_slice(&symbols[from..]))
+}
+
+/// The signs of sixteen symbols, the first one highest.
+#[inline(always)]
+fn signs_of(symbols: u8x16) -> u64
+    ensures { (k : ℕ) → k < 16 → bit_at result (15 - k) ≡ sign_at symbols k }
+{
+    let last_first = symbols.swizzle([15, 14, 13, 12, 11, 10, 9, 8, 7, 6, 5, 4, 3, 2, 1, 0]);
+    // A signed byte is above 0 if one less is below 127: 0 gives 255.
+    (last_first - u8x16::splat(1))
+        .simd_lt(u8x16::splat(127))
+        .to_bitmask()
 }

@@ -25,6 +25,17 @@ impl SoftTotals {
         flipped: [0; 6],
     };
 
+    /// The totals of a group of four valid blocks, as most are.
+    const CLEAN: SoftTotals = SoftTotals {
+        totals: Totals {
+            valid: 4,
+            groups: 1,
+            complete: 1,
+            ..Totals::NONE
+        },
+        flipped: [0; 6],
+    };
+
     /// The totals of one item.
     pub fn of_item(item: &SoftItem) -> SoftTotals
         ensures value { result ≡ soft_totals_of (item.now ∷ []) }
@@ -55,10 +66,14 @@ impl SoftTotals {
         ensures small { AreAtMost (2 ^ 10) result }
     {
         let [one, two, three, four] = &group.blocks;
+        let valid = valid_in(one) + valid_in(two) + valid_in(three) + valid_in(four);
+        if valid == 4 {
+            return SoftTotals::CLEAN;
+        }
         let is_complete = is_known(one) && is_known(two) && is_known(three) && is_known(four);
         SoftTotals {
             totals: Totals {
-                valid: valid_in(one) + valid_in(two) + valid_in(three) + valid_in(four),
+                valid,
                 bursts: [0; 5],
                 lost: lost_in(one) + lost_in(two) + lost_in(three) + lost_in(four),
                 bits: bits_in(one) + bits_in(two) + bits_in(three) + bits_in(four),

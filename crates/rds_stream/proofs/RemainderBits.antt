@@ -76,73 +76,47 @@ rem_bit linear (suc n) w s within small =
       same,
     )
 
-sum_0 : (f : ℕ → ℕ) → dot 26 0 f ≡ f 0 + f 10 + f 12 + f 13 + f 14 + f 15 + f 16 + f 21 + f 22 + f 23 + f 24 + f 25
+-- bit s of the remainder of a block, as the sum of some of its bits
+sums : (f : ℕ → ℕ) → (dot 26 0 f ≡ f 0 + f 10 + f 12 + f 13 + f 14 + f 15 + f 16 + f 21 + f 22 + f 23 + f 24 + f 25)
+    × (dot 26 1 f ≡ f 1 + f 11 + f 13 + f 14 + f 15 + f 16 + f 17 + f 22 + f 23 + f 24 + f 25)
+    × (dot 26 2 f ≡ f 2 + f 12 + f 14 + f 15 + f 16 + f 17 + f 18 + f 23 + f 24 + f 25)
+    × (dot 26 3 f ≡ f 3 + f 10 + f 12 + f 14 + f 17 + f 18 + f 19 + f 21 + f 22 + f 23)
+    × (dot 26 4 f ≡ f 4 + f 10 + f 11 + f 12 + f 14 + f 16 + f 18 + f 19 + f 20 + f 21 + f 25)
+    × (dot 26 5 f ≡ f 5 + f 10 + f 11 + f 14 + f 16 + f 17 + f 19 + f 20 + f 23 + f 24 + f 25)
+    × (dot 26 6 f ≡ f 6 + f 11 + f 12 + f 15 + f 17 + f 18 + f 20 + f 21 + f 24 + f 25)
+    × (dot 26 7 f ≡ f 7 + f 10 + f 14 + f 15 + f 18 + f 19 + f 23 + f 24)
+    × (dot 26 8 f ≡ f 8 + f 10 + f 11 + f 12 + f 13 + f 14 + f 19 + f 20 + f 21 + f 22 + f 23)
+    × (dot 26 9 f ≡ f 9 + f 11 + f 12 + f 13 + f 14 + f 15 + f 20 + f 21 + f 22 + f 23 + f 24)
 unfolding dot power powers
-sum_0 f = omega arith
-
-sum_1 : (f : ℕ → ℕ) → dot 26 1 f ≡ f 1 + f 11 + f 13 + f 14 + f 15 + f 16 + f 17 + f 22 + f 23 + f 24 + f 25
-unfolding dot power powers
-sum_1 f = omega arith
-
-sum_2 : (f : ℕ → ℕ) → dot 26 2 f ≡ f 2 + f 12 + f 14 + f 15 + f 16 + f 17 + f 18 + f 23 + f 24 + f 25
-unfolding dot power powers
-sum_2 f = omega arith
-
-sum_3 : (f : ℕ → ℕ) → dot 26 3 f ≡ f 3 + f 10 + f 12 + f 14 + f 17 + f 18 + f 19 + f 21 + f 22 + f 23
-unfolding dot power powers
-sum_3 f = omega arith
-
-sum_4 : (f : ℕ → ℕ) → dot 26 4 f ≡ f 4 + f 10 + f 11 + f 12 + f 14 + f 16 + f 18 + f 19 + f 20 + f 21 + f 25
-unfolding dot power powers
-sum_4 f = omega arith
-
-sum_5 : (f : ℕ → ℕ) → dot 26 5 f ≡ f 5 + f 10 + f 11 + f 14 + f 16 + f 17 + f 19 + f 20 + f 23 + f 24 + f 25
-unfolding dot power powers
-sum_5 f = omega arith
-
-sum_6 : (f : ℕ → ℕ) → dot 26 6 f ≡ f 6 + f 11 + f 12 + f 15 + f 17 + f 18 + f 20 + f 21 + f 24 + f 25
-unfolding dot power powers
-sum_6 f = omega arith
-
-sum_7 : (f : ℕ → ℕ) → dot 26 7 f ≡ f 7 + f 10 + f 14 + f 15 + f 18 + f 19 + f 23 + f 24
-unfolding dot power powers
-sum_7 f = omega arith
-
-sum_8 : (f : ℕ → ℕ) → dot 26 8 f ≡ f 8 + f 10 + f 11 + f 12 + f 13 + f 14 + f 19 + f 20 + f 21 + f 22 + f 23
-unfolding dot power powers
-sum_8 f = omega arith
-
-sum_9 : (f : ℕ → ℕ) → dot 26 9 f ≡ f 9 + f 11 + f 12 + f 13 + f 14 + f 15 + f 20 + f 21 + f 22 + f 23 + f 24
-unfolding dot power powers
-sum_9 f = omega arith
+sums f = (omega arith, omega arith, omega arith, omega arith, omega arith, omega arith, omega arith, omega arith, omega arith, omega arith)
 
 -- bit r of the remainder of a window, whose first place is that of g 0, from bit r + 1 of the next window's
 down_8 : (g : ℕ → ℕ) → dot 26 8 (λ t. g (25 - t)) % 2 ≡ (dot 26 9 (λ t. g (26 - t))) % 2
-down_8 g = omega (arith, sum_8 (λ t. g (25 - t)), sum_9 (λ t. g (26 - t)))
+down_8 g = omega (arith, (sums (λ t. g (25 - t))).8, (sums (λ t. g (26 - t))).9)
 
 down_7 : (g : ℕ → ℕ) → dot 26 7 (λ t. g (25 - t)) % 2 ≡ (dot 26 8 (λ t. g (26 - t)) + dot 26 9 (λ t. g (25 - t))) % 2
-down_7 g = omega (arith, sum_7 (λ t. g (25 - t)), sum_8 (λ t. g (26 - t)), sum_9 (λ t. g (25 - t)))
+down_7 g = omega (arith, (sums (λ t. g (25 - t))).7, (sums (λ t. g (26 - t))).8, (sums (λ t. g (25 - t))).9)
 
 down_6 : (g : ℕ → ℕ) → dot 26 6 (λ t. g (25 - t)) % 2 ≡ (dot 26 7 (λ t. g (26 - t)) + dot 26 9 (λ t. g (25 - t)) + g 0) % 2
-down_6 g = let start : g (25 - 25) ≡ g 0 = refl in omega (arith, sum_6 (λ t. g (25 - t)), sum_7 (λ t. g (26 - t)), sum_9 (λ t. g (25 - t)), start)
+down_6 g = let start : g (25 - 25) ≡ g 0 = refl in omega (arith, (sums (λ t. g (25 - t))).6, (sums (λ t. g (26 - t))).7, (sums (λ t. g (25 - t))).9, start)
 
 down_5 : (g : ℕ → ℕ) → dot 26 5 (λ t. g (25 - t)) % 2 ≡ (dot 26 6 (λ t. g (26 - t)) + g 0) % 2
-down_5 g = let start : g (25 - 25) ≡ g 0 = refl in omega (arith, sum_5 (λ t. g (25 - t)), sum_6 (λ t. g (26 - t)), start)
+down_5 g = let start : g (25 - 25) ≡ g 0 = refl in omega (arith, (sums (λ t. g (25 - t))).5, (sums (λ t. g (26 - t))).6, start)
 
 down_4 : (g : ℕ → ℕ) → dot 26 4 (λ t. g (25 - t)) % 2 ≡ (dot 26 5 (λ t. g (26 - t)) + dot 26 9 (λ t. g (25 - t)) + g 0) % 2
-down_4 g = let start : g (25 - 25) ≡ g 0 = refl in omega (arith, sum_4 (λ t. g (25 - t)), sum_5 (λ t. g (26 - t)), sum_9 (λ t. g (25 - t)), start)
+down_4 g = let start : g (25 - 25) ≡ g 0 = refl in omega (arith, (sums (λ t. g (25 - t))).4, (sums (λ t. g (26 - t))).5, (sums (λ t. g (25 - t))).9, start)
 
 down_3 : (g : ℕ → ℕ) → dot 26 3 (λ t. g (25 - t)) % 2 ≡ (dot 26 4 (λ t. g (26 - t)) + dot 26 9 (λ t. g (25 - t))) % 2
-down_3 g = omega (arith, sum_3 (λ t. g (25 - t)), sum_4 (λ t. g (26 - t)), sum_9 (λ t. g (25 - t)))
+down_3 g = omega (arith, (sums (λ t. g (25 - t))).3, (sums (λ t. g (26 - t))).4, (sums (λ t. g (25 - t))).9)
 
 down_2 : (g : ℕ → ℕ) → dot 26 2 (λ t. g (25 - t)) % 2 ≡ (dot 26 3 (λ t. g (26 - t)) + dot 26 9 (λ t. g (25 - t)) + g 0) % 2
-down_2 g = let start : g (25 - 25) ≡ g 0 = refl in omega (arith, sum_2 (λ t. g (25 - t)), sum_3 (λ t. g (26 - t)), sum_9 (λ t. g (25 - t)), start)
+down_2 g = let start : g (25 - 25) ≡ g 0 = refl in omega (arith, (sums (λ t. g (25 - t))).2, (sums (λ t. g (26 - t))).3, (sums (λ t. g (25 - t))).9, start)
 
 down_1 : (g : ℕ → ℕ) → dot 26 1 (λ t. g (25 - t)) % 2 ≡ (dot 26 2 (λ t. g (26 - t)) + g 0) % 2
-down_1 g = let start : g (25 - 25) ≡ g 0 = refl in omega (arith, sum_1 (λ t. g (25 - t)), sum_2 (λ t. g (26 - t)), start)
+down_1 g = let start : g (25 - 25) ≡ g 0 = refl in omega (arith, (sums (λ t. g (25 - t))).1, (sums (λ t. g (26 - t))).2, start)
 
 down_0 : (g : ℕ → ℕ) → dot 26 0 (λ t. g (25 - t)) % 2 ≡ (dot 26 1 (λ t. g (26 - t)) + g 0) % 2
-down_0 g = let start : g (25 - 25) ≡ g 0 = refl in omega (arith, sum_0 (λ t. g (25 - t)), sum_1 (λ t. g (26 - t)), start)
+down_0 g = let start : g (25 - 25) ≡ g 0 = refl in omega (arith, (sums (λ t. g (25 - t))).0, (sums (λ t. g (26 - t))).1, start)
 
 -- bit e of p is bit s of the remainder of the window that begins at bit e of v
 abbrev pub Sums : ℕ → ℕ → ℕ → Type 0
@@ -224,7 +198,7 @@ plane_9 v e =
       shr_at (fives v) 9 e 1,
       fives_at v e 1 3 4 5 refl refl refl,
       fives_at v e 10 12 13 14 refl refl refl,
-      sum_9 (λ t. bit_at v (e + (25 - t))),
+      (sums (λ t. bit_at v (e + (25 - t)))).9,
     )
 
 -- a plane has the bit of the remainder
@@ -233,35 +207,29 @@ shows linear v s p k block sums window =
     sums k
     ∙ sym (rem_bit linear 26 block s (omega arith) window.block ∙ ap (λ x. x % 2) (dot_same 26 s (bit_at block) (λ t. bit_at v (k + (25 - t))) window.bits))
 
+-- a fact about each number below ten
+ten : (P : ℕ → Type 0) → P 0 → P 1 → P 2 → P 3 → P 4 → P 5 → P 6 → P 7 → P 8 → P 9 → (r : ℕ) → r < 10 → P r
+ten P x0 x1 x2 x3 x4 x5 x6 x7 x8 x9 zero l = x0
+ten P x0 x1 x2 x3 x4 x5 x6 x7 x8 x9 (suc zero) l = x1
+ten P x0 x1 x2 x3 x4 x5 x6 x7 x8 x9 (suc (suc zero)) l = x2
+ten P x0 x1 x2 x3 x4 x5 x6 x7 x8 x9 (suc (suc (suc zero))) l = x3
+ten P x0 x1 x2 x3 x4 x5 x6 x7 x8 x9 (suc (suc (suc (suc zero)))) l = x4
+ten P x0 x1 x2 x3 x4 x5 x6 x7 x8 x9 (suc (suc (suc (suc (suc zero))))) l = x5
+ten P x0 x1 x2 x3 x4 x5 x6 x7 x8 x9 (suc (suc (suc (suc (suc (suc zero)))))) l = x6
+ten P x0 x1 x2 x3 x4 x5 x6 x7 x8 x9 (suc (suc (suc (suc (suc (suc (suc zero))))))) l = x7
+ten P x0 x1 x2 x3 x4 x5 x6 x7 x8 x9 (suc (suc (suc (suc (suc (suc (suc (suc zero)))))))) l = x8
+ten P x0 x1 x2 x3 x4 x5 x6 x7 x8 x9 (suc (suc (suc (suc (suc (suc (suc (suc (suc zero))))))))) l = x9
+ten P x0 x1 x2 x3 x4 x5 x6 x7 x8 x9 (suc (suc (suc (suc (suc (suc (suc (suc (suc (suc r)))))))))) l = absurd (omega arith)
+
 -- the bits of a lane of ten vectors in a row
 pub in_lane : (j k block : ℕ) (a b c d f g h i m n : List ℕ) → bit_at (get_or a j 0) k ≡ bit_at (rem block) 0 → bit_at (get_or b j 0) k ≡ bit_at (rem block) 1
     → bit_at (get_or c j 0) k ≡ bit_at (rem block) 2 → bit_at (get_or d j 0) k ≡ bit_at (rem block) 3 → bit_at (get_or f j 0) k ≡ bit_at (rem block) 4
     → bit_at (get_or g j 0) k ≡ bit_at (rem block) 5 → bit_at (get_or h j 0) k ≡ bit_at (rem block) 6 → bit_at (get_or i j 0) k ≡ bit_at (rem block) 7
     → bit_at (get_or m j 0) k ≡ bit_at (rem block) 8 → bit_at (get_or n j 0) k ≡ bit_at (rem block) 9
     → (r : ℕ) → r < 10 → bit_at (lane (a ∷ b ∷ c ∷ d ∷ f ∷ g ∷ h ∷ i ∷ m ∷ n ∷ []) r j) k ≡ bit_at (rem block) r
-in_lane j k block a b c d f g h i m n x0 x1 x2 x3 x4 x5 x6 x7 x8 x9 zero l = x0
-in_lane j k block a b c d f g h i m n x0 x1 x2 x3 x4 x5 x6 x7 x8 x9 (suc zero) l = x1
-in_lane j k block a b c d f g h i m n x0 x1 x2 x3 x4 x5 x6 x7 x8 x9 (suc (suc zero)) l = x2
-in_lane j k block a b c d f g h i m n x0 x1 x2 x3 x4 x5 x6 x7 x8 x9 (suc (suc (suc zero))) l = x3
-in_lane j k block a b c d f g h i m n x0 x1 x2 x3 x4 x5 x6 x7 x8 x9 (suc (suc (suc (suc zero)))) l = x4
-in_lane j k block a b c d f g h i m n x0 x1 x2 x3 x4 x5 x6 x7 x8 x9 (suc (suc (suc (suc (suc zero))))) l = x5
-in_lane j k block a b c d f g h i m n x0 x1 x2 x3 x4 x5 x6 x7 x8 x9 (suc (suc (suc (suc (suc (suc zero)))))) l = x6
-in_lane j k block a b c d f g h i m n x0 x1 x2 x3 x4 x5 x6 x7 x8 x9 (suc (suc (suc (suc (suc (suc (suc zero))))))) l = x7
-in_lane j k block a b c d f g h i m n x0 x1 x2 x3 x4 x5 x6 x7 x8 x9 (suc (suc (suc (suc (suc (suc (suc (suc zero)))))))) l = x8
-in_lane j k block a b c d f g h i m n x0 x1 x2 x3 x4 x5 x6 x7 x8 x9 (suc (suc (suc (suc (suc (suc (suc (suc (suc zero))))))))) l = x9
-in_lane j k block a b c d f g h i m n x0 x1 x2 x3 x4 x5 x6 x7 x8 x9 (suc (suc (suc (suc (suc (suc (suc (suc (suc (suc r)))))))))) l = absurd (omega arith)
+in_lane j k block a b c d f g h i m n = ten (λ r. bit_at (lane (a ∷ b ∷ c ∷ d ∷ f ∷ g ∷ h ∷ i ∷ m ∷ n ∷ []) r j) k ≡ bit_at (rem block) r)
 
 -- the bits of ten words in a row
 pub ten_words : (k remainder w0 w1 w2 w3 w4 w5 w6 w7 w8 w9 : ℕ) → bit_at w0 k ≡ bit_at remainder 0 → bit_at w1 k ≡ bit_at remainder 1 → bit_at w2 k ≡ bit_at remainder 2 → bit_at w3 k ≡ bit_at remainder 3 → bit_at w4 k ≡ bit_at remainder 4 → bit_at w5 k ≡ bit_at remainder 5 → bit_at w6 k ≡ bit_at remainder 6 → bit_at w7 k ≡ bit_at remainder 7 → bit_at w8 k ≡ bit_at remainder 8 → bit_at w9 k ≡ bit_at remainder 9
     → (r : ℕ) → r < 10 → bit_at (get_or (w0 ∷ w1 ∷ w2 ∷ w3 ∷ w4 ∷ w5 ∷ w6 ∷ w7 ∷ w8 ∷ w9 ∷ []) r 0) k ≡ bit_at remainder r
-ten_words k remainder w0 w1 w2 w3 w4 w5 w6 w7 w8 w9 x0 x1 x2 x3 x4 x5 x6 x7 x8 x9 zero l = x0
-ten_words k remainder w0 w1 w2 w3 w4 w5 w6 w7 w8 w9 x0 x1 x2 x3 x4 x5 x6 x7 x8 x9 (suc zero) l = x1
-ten_words k remainder w0 w1 w2 w3 w4 w5 w6 w7 w8 w9 x0 x1 x2 x3 x4 x5 x6 x7 x8 x9 (suc (suc zero)) l = x2
-ten_words k remainder w0 w1 w2 w3 w4 w5 w6 w7 w8 w9 x0 x1 x2 x3 x4 x5 x6 x7 x8 x9 (suc (suc (suc zero))) l = x3
-ten_words k remainder w0 w1 w2 w3 w4 w5 w6 w7 w8 w9 x0 x1 x2 x3 x4 x5 x6 x7 x8 x9 (suc (suc (suc (suc zero)))) l = x4
-ten_words k remainder w0 w1 w2 w3 w4 w5 w6 w7 w8 w9 x0 x1 x2 x3 x4 x5 x6 x7 x8 x9 (suc (suc (suc (suc (suc zero))))) l = x5
-ten_words k remainder w0 w1 w2 w3 w4 w5 w6 w7 w8 w9 x0 x1 x2 x3 x4 x5 x6 x7 x8 x9 (suc (suc (suc (suc (suc (suc zero)))))) l = x6
-ten_words k remainder w0 w1 w2 w3 w4 w5 w6 w7 w8 w9 x0 x1 x2 x3 x4 x5 x6 x7 x8 x9 (suc (suc (suc (suc (suc (suc (suc zero))))))) l = x7
-ten_words k remainder w0 w1 w2 w3 w4 w5 w6 w7 w8 w9 x0 x1 x2 x3 x4 x5 x6 x7 x8 x9 (suc (suc (suc (suc (suc (suc (suc (suc zero)))))))) l = x8
-ten_words k remainder w0 w1 w2 w3 w4 w5 w6 w7 w8 w9 x0 x1 x2 x3 x4 x5 x6 x7 x8 x9 (suc (suc (suc (suc (suc (suc (suc (suc (suc zero))))))))) l = x9
-ten_words k remainder w0 w1 w2 w3 w4 w5 w6 w7 w8 w9 x0 x1 x2 x3 x4 x5 x6 x7 x8 x9 (suc (suc (suc (suc (suc (suc (suc (suc (suc (suc r)))))))))) l = absurd (omega arith)
+ten_words k remainder w0 w1 w2 w3 w4 w5 w6 w7 w8 w9 = ten (λ r. bit_at (get_or (w0 ∷ w1 ∷ w2 ∷ w3 ∷ w4 ∷ w5 ∷ w6 ∷ w7 ∷ w8 ∷ w9 ∷ []) r 0) k ≡ bit_at remainder r)

@@ -27,3 +27,5 @@ pub mod Alike
 pub mod WellFormed
 pub mod HexDigits
 pub mod Softly
+pub mod SoftFollowed
+pub mod ReadTogether

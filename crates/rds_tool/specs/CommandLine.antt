@@ -33,7 +33,7 @@ use Rattle.rds_tool.specs.declared.job.Ignored.TheVariants as ignored
 use Rattle.rds_tool.specs.declared.job.Input.{Input}
 use Rattle.rds_tool.specs.declared.job.Job.{Job}
 use Rattle.rds_tool.specs.declared.job.Request.{Request}
-use Rattle.rds_tool.specs.declared.job.Request.TheVariants.{Job as AskedJob, Follow}
+use Rattle.rds_tool.specs.declared.job.Request.TheVariants.{Job as AskedJob, Follow, FollowSoft}
 use Rattle.rds_tool.specs.declared.job.Settings.{Settings}
 use Rattle.rds_tool.specs.declared.job.Job.TheVariants.{Encode, List as ListJob, Scan, Soft, Totals}
 
@@ -95,7 +95,7 @@ report_options =
 
 -- `follow` reads raw bytes as they arrive, by one thread unless more are asked for
 abbrev pub follow_options : List Rule
-follow_options = bits_and_gaps ++ sync_options ++ number_rule (codes "workers") (codes "1" ∷ []) ∷ []
+follow_options = bits_and_gaps ++ sync_options ++ number_rule (codes "workers") (codes "1" ∷ []) ∷ soft_options
 
 -- the command `name` with these options
 abbrev pub command_shape : Text → List Rule → Shape
@@ -215,9 +215,16 @@ abbrev pub report_job_of : List Row → Bool → Input → Option Job
 report_job_of rows has_rows input =
     option_and_then (λ settings. option_map (job_with has_rows input settings) (margin_of rows)) (settings_of rows)
 
+-- the stream of these numbers; of symbols if there is a margin
+abbrev pub stream_with : Input → RuleNumbers → ℕ → Option ℕ → Request
+stream_with input rules workers None = Follow input rules workers
+stream_with input rules workers (Some margin) = FollowSoft input rules margin workers
+
 -- the stream of its entries
 abbrev pub stream_of : Input → List Row → Option Request
-stream_of input rows = option_and_then (λ rules. option_map (Follow input rules) (number_of (codes "workers") rows)) (rules_of rows)
+stream_of input rows =
+    option_and_then (λ rules. option_and_then (λ workers. option_map (stream_with input rules workers) (margin_of rows))
+    (number_of (codes "workers") rows)) (rules_of rows)
 
 -- the job or stream of a command and its entries, over this input
 abbrev pub request_of : Text → List Row → Input → Option Request
@@ -263,6 +270,7 @@ HasBadGaps entries = asked_by entries ≡ Err no.Gaps
 abbrev pub job_in : Request → Option Job
 job_in (AskedJob job progress) = Some job
 job_in (Follow input rules workers) = None
+job_in (FollowSoft input rules margin workers) = None
 
 -- the job that a command and its entries ask for, if any
 abbrev pub job_by : Option (Text × List Row) → Option Job

@@ -16,6 +16,7 @@ pub mod Tasks
 pub mod Transcribed
 pub mod Ends
 pub mod Following
+pub mod SoftFollowing
 pub mod Laws
 pub mod WellFormed
 pub mod Inside

@@ -66,7 +66,9 @@ fn job_in(alloc: Global, request: Request) -> Result<Job, CliFault>
 {
     match request {
         Request::Job { job, progress: _ } => Ok(job),
-        Request::Follow(_, _, _) => Err(words_fault(alloc, "error: a stream is no job\n")),
+        Request::Follow(_, _, _) | Request::FollowSoft { .. } => {
+            Err(words_fault(alloc, "error: a stream is no job\n"))
+        }
     }
 }
 

@@ -1,7 +1,7 @@
 //! From the entries of a parsed command line to the job or stream that they ask for.
 ghost use Rattle.std.specs.Prelude.{◌≡◌, ◌⊎◌, IfErr, IfOk, None, Some, codes};
 ghost use Rattle.clap.specs.Words.{found_of, one_of, rows_of, subcommand_rows_of};
-ghost use Rattle.rds_tool.specs.CommandLine.{Gives, asked_by as the_asked_by, flag_of, gaps_asked_for, if_given, ignored_by, is_given as the_words_give, job_with as the_job_with, loss_of, margin_of, misuse_by, number_of, report_job_of, request_of as the_request_of, request_with as the_request_with, rules_of, settings_of, stream_of};
+ghost use Rattle.rds_tool.specs.CommandLine.{Gives, asked_by as the_asked_by, flag_of, gaps_asked_for, if_given, ignored_by, is_given as the_words_give, job_with as the_job_with, loss_of, margin_of, misuse_by, number_of, report_job_of, request_of as the_request_of, request_with as the_request_with, rules_of, settings_of, stream_of, stream_with as the_stream_with};
 
 use crate::fault::NoJob;
 use crate::gap_text::gaps_of;
@@ -124,7 +124,22 @@ fn stream_in(entries: &ArgMatches<'_>, input: Input) -> Option<Request>
 {
     let rules = rules_in(entries)?;
     let workers = number_in(entries, "workers")?;
-    Some(Request::Follow(input, rules, workers))
+    let margin = soft_in(entries)?;
+    Some(stream_with(input, rules, workers, margin))
+}
+
+fn stream_with(input: Input, rules: RuleNumbers, workers: u32, margin: Option<Margin>) -> Request
+    ensures { result ≡ the_stream_with input rules workers margin }
+{
+    match margin {
+        Some(margin) => Request::FollowSoft {
+            input,
+            rules,
+            margin,
+            workers,
+        },
+        None => Request::Follow(input, rules, workers),
+    }
 }
 
 fn gaps_in(alloc: Global, entries: &ArgMatches<'_>) -> Result<Vec<(u64, u64)>, NoJob>

@@ -190,7 +190,7 @@ fn read_by(workers: u32) -> usize
 }
 
 /// Refuses more bits than a stream may have.
-fn check_claim(bits: Option<u64>) -> Result<(), ToolError>
+pub(crate) fn check_claim(bits: Option<u64>) -> Result<(), ToolError>
     ensures fits { OnOk result (IsShortEnough bits) }
     ensures too_long { IfErr result (λ error. (error ≡ ToolError.TooLong) × IsLong bits) }
 {
@@ -225,7 +225,11 @@ fn bits_left(bits: Option<u64>, place: u64) -> u64
 }
 
 /// One read of at most `room` bytes, and none if that is 0. Answers how many bytes it gave.
-fn read_once<S: Source>(reader: &mut S, buf: &mut [u8], room: usize) -> Result<usize, ToolError>
+pub(crate) fn read_once<S: Source>(
+    reader: &mut S,
+    buf: &mut [u8],
+    room: usize,
+) -> Result<usize, ToolError>
     requires count { S.failed reader.old < 2 ^ 63 }
     requires room { 0 < length buf.old }
     ensures within { IfOk result (λ count. (count ≤ length buf.new) × (count ≤ room)) }

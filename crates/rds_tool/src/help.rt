@@ -95,7 +95,7 @@ pub const FOLLOW_AFTER: &str =
     "After each read, writes the rows of 'rds list' that are complete. When the input
 ends, or the bits that --bits asks for, the last group and the totals follow.
 The whole output is that of 'rds list' for the same bytes. Memory does not grow
-with the stream. More workers help if reads give 32 KiB or more.
+with the stream. More workers help if reads give 32 KiB or more, without --soft.
 
 'rds --help' lists the errors.";
 

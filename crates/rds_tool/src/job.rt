@@ -112,10 +112,21 @@ pub struct Asked {
 #[derive(Debug, PartialEq, Eq, Drop)]
 pub enum Request {
     /// A job, and whether the program is to tell how far it is. The job's text doesn't depend on it.
-    Job { job: Job, progress: bool },
+    Job {
+        job: Job,
+        progress: bool,
+    },
     /// To follow a stream by these rules and at most this number of threads, each in the range that [`Settings`] has for it. The input
     /// is the bytes themselves, so `hex` is off.
     Follow(Input, RuleNumbers, u32),
+    /// To follow a stream of symbols, which the bytes are, each a signed byte, by these rules and this margin. The number of threads is in
+    /// the same range, and one does the work.
+    FollowSoft {
+        input: Input,
+        rules: RuleNumbers,
+        margin: Margin,
+        workers: u32,
+    },
 }
 
 /// An option of the rule of loss that the rule asked for leaves out.

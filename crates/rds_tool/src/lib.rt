@@ -23,7 +23,7 @@
 //! - [`transcribe`]: reads all bytes of a [`Source`], works, by threads if there are pieces and workers for
 //!   them, and writes the whole text to a [`Sink`]. [`transcribe_gated`] is the same with a gate, by which a
 //!   caller hears of the workers.
-//! - [`follow`]: the same listing of a stream, row by row as its bytes come.
+//! - [`follow`]: the same listing of a stream, row by row as its bytes come. [`follow_soft`]: the soft listing of a stream of symbols.
 //! - [`FromRead`] and [`ToWrite`]: a source and a sink of a reader and a writer of std. [`Trace`]: the bytes that
 //!   one gave or took, for contracts alone.
 //! - [`ToolError`]: the refusals 1 to 16.
@@ -45,6 +45,7 @@
 //!   The last call was a flush that succeeded. Whenever it is refused, the rows of all that was given but the
 //!   last read were taken, each once. If a read fails, the rows of all bytes before it were taken and
 //!   flushed.
+//!   `follow_soft` promises the same of the soft listing of symbols.
 //! - If `asked_of` answers `Ok`, the request holds the entries that `clap` read, defaults too, and its gaps
 //!   are the pairs that `--gaps` spells. If it answers a fault, help or the version was asked for, or `clap`
 //!   finds a fault in the words, or neither a job nor a stream has their entries, or memory was refused.
@@ -78,6 +79,7 @@ mod taker; // Where the bytes of a reader go.
 mod counting; // Totals that are counted as the bytes come.
 mod one_pass; // A list by one worker, written while it is decoded.
 mod lister; // The listing of its items.
+mod reading_again; // Items that are read again, by several workers.
 mod soft_lister; // The same of items that are read again.
 mod text; // The text that a task writes.
 mod listing_rows; // The rows of a report, from any on.
@@ -92,6 +94,7 @@ mod group_lines; // Groups from lines of digits.
 mod encode; // Groups as blocks.
 mod stream_rows; // Rows of a stream.
 mod following; // From a reader to a writer, as the bytes come.
+mod soft_following; // The same of symbols.
 mod error; // Why a transcription is refused.
 pub mod laws; // The laws of jobs and their texts.
 
@@ -105,4 +108,5 @@ pub use job::{Asked, Cuts, Ignored, Input, Job, Request, Settings};
 pub use rds_rows::{Failed, Sink, write_all};
 pub use rds_soft::Margin;
 pub use rds_sync::{Loss, RuleNumbers};
+pub use soft_following::follow_soft;
 pub use trace::Trace;

@@ -26,6 +26,9 @@ const PART: usize = 2048;
 /// How many rows come last at most: that of the group in progress, and those of the totals.
 const LAST: usize = 19;
 
+/// How many items a lister is given at once at most.
+pub const MOST_ITEMS: usize = PART + LAST;
+
 /// Decodes a recording and writes its listing, part by part. Memory that can be refused is taken before the
 /// first byte: room for a part of the items and for the longest rows that these may have.
 pub fn write_in_one_pass<R: Threads + Sync, K: Sink, L: Lister>(

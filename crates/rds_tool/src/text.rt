@@ -173,7 +173,7 @@ fn write_softly<R: Threads + Sync, K: Sink>(
         → AppendsPrefix (K.contents writer.old) (K.contents writer.new)
         (soft_text has_rows plan.now.rules source.now.margin source.now.symbols.items source.now.recording) }
 {
-    let mut lister = SoftLister::new(alloc, source, has_rows)?;
+    let mut lister = SoftLister::new(alloc, source, has_rows, plan.workers())?;
     write_in_one_pass(
         rt,
         alloc,

@@ -8,8 +8,9 @@ use Rattle.rds_sync.specs.Rules.{RuleNumbers}
 use Rattle.rds_tool.specs.Cuts.{cuts_bits}
 use Rattle.rds_tool.specs.Input.{and_then, recording_of}
 use Rattle.rds_tool.specs.Laws.{EncodedGroupsAreListed, ListsEndWithTotals, groups_in, sent_listing, whole_input}
+use Rattle.rds_tool.specs.Listing.{scan_text}
 use Rattle.rds_tool.specs.Outcome.{result_of_job, list_text, text_of_task, Writes, WritesPrefix}
-use Rattle.rds_tool.specs.Plans.{crew_of}
+use Rattle.rds_tool.specs.Plans.{crew_of, workers_of}
 use Rattle.rds_tool.specs.Rules.{rules_of}
 use Rattle.rds_tool.specs.declared.error.ToolError.{ToolError}
 use Rattle.rds_tool.specs.declared.error.ToolError.TheVariants.{BadCutting}
@@ -18,7 +19,7 @@ use Rattle.rds_tool.specs.declared.job.Job.{Job}
 use Rattle.rds_tool.specs.declared.job.Job.TheVariants as job
 use Rattle.rds_tool.specs.declared.job.Settings.{Settings}
 use Rattle.rds_tool.specs.declared.task.Task.TheVariants as task
-use Rattle.rds_uses.specs.Jobs.{all_bits, plain, IsListBy}
+use Rattle.rds_uses.specs.Jobs.{all_bits, plain, IsListBy, IsScan}
 
 abbrev is_text : List ℕ → Result (List ℕ) ToolError
 is_text text = Ok text
@@ -96,6 +97,23 @@ module _ (bytes new : List ℕ) (few : 8 * length bytes ≤ 2 ^ 36) (rules : Rul
   listed (job.Totals input settings) by is = absurd by
   listed (job.Encode hex) by is = absurd by
   listed (job.Soft input settings margin rows) by is = absurd by
+
+module _ (input : Input) (recorded : Signal) (bytes text : List ℕ) (is_recording : recording_of input bytes ≡ Ok recorded) where
+  -- the text of a scan, if there are workers
+  scan-text : (crew : Result ℕ ToolError)
+      → and_then (and_then crew (λ workers. Ok (task.Scan input workers))) (λ task. text_of_task task bytes) ≡ Ok text → text ≡ scan_text recorded
+  scan-text (Ok workers) is = let made = rw is_recording at is in cc
+  scan-text (Err e) is = let none : Err e ≡ Ok text = is in cc
+
+module _ (bytes new : List ℕ) (few : 8 * length bytes ≤ 2 ^ 36) where
+  -- what a scan writes into an empty writer
+  pub scanned : (asked : Job) → IsScan asked → result_of_job asked bytes ≡ Ok new → new ≡ scan_text (all_bits bytes)
+  scanned (job.Scan input workers) by is =
+      scan-text plain (all_bits bytes) bytes new (all_bits-few bytes few) (workers_of workers) (rw by at is)
+  scanned (job.List input settings) by is = absurd by
+  scanned (job.Totals input settings) by is = absurd by
+  scanned (job.Encode hex) by is = absurd by
+  scanned (job.Soft input settings margin rows) by is = absurd by
 
 -- ---- laws of jobs
 

@@ -7,6 +7,8 @@ ghost use Rattle.rds_tool.specs.declared.job.Cuts.TheVariants.{Even};
 use rds_tool::{Asked, CliFault, FaultKind, Ignored, Job, Request, asked_of, job_of};
 use std::alloc::Global;
 
+static SCAN_WITH_A_GAP: [&str; 4] = ["rds", "scan", "--gaps", "104-105"];
+
 static SCAN_WITH_BAD_GAPS: [&str; 4] = ["rds", "scan", "--gaps", "5"];
 
 static LIST_BY_TWO_LOSSES: [&str; 6] = ["rds", "list", "--share", "2", "--loss", "10"];
@@ -16,6 +18,14 @@ static FOLLOW_WITH_A_GAP: [&str; 8] = [
 ];
 
 static HELP_OF_LIST: [&str; 3] = ["rds", "list", "--help"];
+
+/// `rds scan --gaps 104-105` asks for a scan with this gap.
+pub fn scan_with_a_gap(alloc: Global) -> Result<Asked, CliFault>
+    ensures { IfOk result (λ asked. asked.request
+        ≡ Request.Job (AJob.Scan (record { hex = false; bits = None; gaps = (104, 105) ∷ [] }) 4) false) }
+{
+    asked_of(alloc, SCAN_WITH_A_GAP.as_slice())
+}
 
 /// `rds scan --gaps 5` asks for nothing: it is told that the gaps are bad, or memory was refused.
 pub fn scan_with_bad_gaps(alloc: Global) -> Result<Asked, CliFault>

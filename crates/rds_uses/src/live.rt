@@ -1,17 +1,22 @@
 //! Promises to a user of the decoder of a stream.
-ghost use Rattle.std.specs.Prelude.{◌≡◌, ◌<◌, ◌≤◌, ◌↔◌, ◌+◌, ◌*◌, ◌/◌, ◌^◌, ◌++◌, [], List, ℕ, Err, IfOk, IsErrOf, IsOkUnless, OnErr, OnOk, length, min, take, vec_capacity};
-ghost use Rattle.rds_stream.specs.Recording.{AreGaps};
+ghost use Rattle.std.specs.Prelude.{◌≡◌, ◌<◌, ◌≤◌, ◌↔◌, ◌+◌, ◌*◌, ◌/◌, ◌^◌, ◌++◌, [], List, ℕ, Err, IfOk, IsErrOf, IsOkUnless, OnErr, OnOk, length, min, take, true, vec_capacity};
+ghost use Rattle.rds_live.specs.Moving.{moved_state};
+ghost use Rattle.rds_stream.specs.Recording.{AreGaps, length_of};
 ghost use Rattle.rds_sync.specs.Advance.{group_item};
 ghost use Rattle.rds_sync.specs.Counting.{plus};
 ghost use Rattle.rds_sync.specs.Ranges.{IsInRange};
+ghost use Rattle.rds_sync.specs.Step.{run};
 ghost use Rattle.rds_sync.specs.Totals.{totals_of};
+ghost use Rattle.rds_sync.specs.declared.state.State.TheVariants.{Searching};
 ghost use Rattle.rds_live.specs.Next.{completed, group_next, items_next, live_next};
 ghost use Rattle.rds_live.specs.StreamDecoder.{HasHeard, by_rules, complete, live_of, report_of};
 
-use rds_live::{ResumeError, StreamCounter, StreamDecoder, StreamEnd, laws};
-use rds_stream::StreamError;
-use rds_sync::{Item, Rules, Totals};
-use std::alloc::Global;
+use rds_live::{
+    ResumeError, StreamCounter, StreamDecoder, StreamEnd, finish_part, gaps_of_part, laws, run_part,
+};
+use rds_stream::{Recording, StreamError};
+use rds_sync::{Item, Rules, State, Totals};
+use std::alloc::{AllocError, Global};
 use std::thread::Threads;
 
 /// A decoder of a stream without gaps, which has heard nothing yet. Only memory can be refused.
@@ -180,4 +185,21 @@ pub fn refused_chunk<R: Threads + Sync>(
     ensures same { counter.new ≡ counter.old }
 {
     counter.count(rt, alloc, bytes)
+}
+
+/// A part that begins with the stream is gone over as a recording of its own, from a search on.
+pub fn run_from_start(part: &Recording, rules: &Rules, items: &mut Vec<Item>) -> State
+    requires { 2 * length_of part.now ≤ vec_capacity items.old }
+    ensures items { items.new.items ≡ (run part.now rules.now Searching 0 (length_of part.now)).1 }
+    ensures state { result ≡ moved_state 0 (run part.now rules.now Searching 0 (length_of part.now)).0 }
+{
+    run_part(part, 0, rules, State::Searching, 0, items)
+}
+
+/// After a search no group is in progress, and a stream without gaps has none in a part.
+pub fn search_ends(alloc: Global, part: &Recording, rules: &Rules) -> Result<bool, AllocError>
+    ensures { IfOk result (λ none. none ≡ true) }
+{
+    let gaps = gaps_of_part(alloc, &[], 0, part.len())?;
+    Ok(gaps.is_empty() && finish_part(part, 0, rules, State::Searching).is_none())
 }

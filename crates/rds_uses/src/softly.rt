@@ -1,28 +1,29 @@
 //! Facts about soft decisions that a user of `rds_soft` relies on: which block is nearest, how symbols are read, and what a
 //! report read again keeps.
-ghost use Rattle.std.specs.Prelude.{◌≡◌, ◌≢◌, ℕ, ◌+◌, ◌*◌, ◌<◌, ◌≤◌, ◌^◌, None, Some, IfOk, IfSome, slice_index, true, IsTrue, ◌∷◌, [], drop, length, take};
+ghost use Rattle.std.specs.Prelude.{◌≡◌, ◌≢◌, ℕ, ◌+◌, ◌-◌, ◌*◌, ◌<◌, ◌≤◌, ◌^◌, ◌++◌, None, Some, IfOk, IfSome, slice_index, true, IsTrue, ◌∷◌, [], drop, length, take};
 ghost use Rattle.rds_code.specs.declared.offset.Offset.{Offset as AnOffset};
 ghost use Rattle.rds_code.specs.Offsets.{number as number_of, word};
 ghost use Rattle.rds_code.specs.Remainder.{rem};
 ghost use Rattle.rds_code.specs.Reading.{IsValid, allows, information};
-ghost use Rattle.rds_soft.specs.Nearest.{Turns, top, weight};
+ghost use Rattle.rds_soft.specs.Nearest.{IsNearest, Turns, top, weight};
 ghost use Rattle.rds_soft.specs.Symbols.{hard_bit, hard_bits, hard_window};
 ghost use Rattle.rds_code.specs.declared.reading.Wanted.{Wanted as WantedHard};
-ghost use Rattle.rds_stream.specs.Recording.{length_of, reading_at, touched};
+ghost use Rattle.rds_stream.specs.Recording.{AreGaps, length_of, reading_at, touched};
 ghost use Rattle.rds_sync.specs.declared.item.Block.TheVariants.{Read};
 ghost use Rattle.rds_soft.specs.declared.soft_item.SoftBlock.TheVariants.{Missing as SoftMissing, Read as SoftRead};
 ghost use Rattle.rds_soft.specs.SoftGroups.{group_of};
 ghost use Rattle.rds_soft.specs.Again.{IsBlockAgain, IsReadingHeard, symbols_heard};
 ghost use Rattle.rds_soft.specs.ReadAgain.{item_again, symbols_of};
+ghost use Rattle.rds_soft.specs.SoftStream.{complete, report_of};
 ghost use Rattle.rds_soft.specs.SoftTotals.{soft_totals_of};
 
 use rds_code::{BlockNumber, BurstLimit, Offset, Reading, Wanted};
 use rds_soft::{
-    Correction, Margin, Search, SoftBlock, SoftItem, SoftReading, SoftTotals, laws, mask_of,
-    pack_bits,
+    Correction, Margin, Search, SoftBlock, SoftItem, SoftReading, SoftStream, SoftTotals, laws,
+    mask_of, pack_bits,
 };
-use rds_stream::Recording;
-use rds_sync::{Block, Group, Item, Version};
+use rds_stream::{Recording, StreamError};
+use rds_sync::{Block, Group, Item, Rules, Version};
 use std::alloc::{AllocError, Global};
 
 // ---- the nearest block
@@ -37,6 +38,22 @@ pub fn margin_of(weight: u8) -> u8
         Some(margin) => margin.weight(),
         None => 0,
     }
+}
+
+/// A window that no flips turn by the rule is not corrected.
+pub fn nothing_near(
+    search: &mut Search,
+    w: u32,
+    confidences: &[u8; 27],
+    number: BlockNumber,
+    wanted: Wanted,
+    margin: Margin,
+) -> Option<Correction>
+    requires window { w < 2 ^ 26 }
+    requires none { (o : AnOffset) (flips : ℕ) → IsNearest w number wanted confidences.now margin o flips → ⊥ }
+    ensures { result ≡ None }
+{
+    search.nearest(w, confidences, number, wanted, margin)
 }
 
 /// A block whose wrong symbols weigh little is corrected to what was sent, by just these symbols. No flips weigh nothing.
@@ -84,6 +101,13 @@ pub fn nothing_is_flipped(
 {
     laws::sure_symbols_stay();
     search.nearest(w, confidences, number, wanted, margin)
+}
+
+/// A flip at place 4 from the last symbol inverts the two bits beside it.
+pub fn mask_of_one_flip() -> u32
+    ensures { result ≡ 0x18 }
+{
+    mask_of(0x10)
 }
 
 // ---- readings
@@ -229,4 +253,51 @@ pub fn totals_of_two(one: &SoftItem, other: &SoftItem) -> SoftTotals
 {
     laws::soft_totals_join();
     SoftTotals::of_item(one).plus(SoftTotals::of_item(other))
+}
+
+// ---- a stream
+
+/// Items of two reads, one after the other, are those that both complete. What comes later changes none of them.
+pub fn of_two_reads(
+    alloc: Global,
+    stream: &mut SoftStream<'_>,
+    first: &[u8],
+    second: &[u8],
+) -> Result<(Vec<SoftItem>, Vec<SoftItem>), StreamError>
+    ensures { IfOk result (λ items. complete stream.old.terms (stream.old.symbols ++ first.now ++ second.now)
+        ≡ complete stream.old.terms stream.old.symbols ++ items.0.items ++ items.1.items) }
+{
+    let one = stream.take(alloc, first)?;
+    let other = stream.take(alloc, second)?;
+    Ok((one, other))
+}
+
+/// The totals of a stream of these symbols are those of its report, read again. `None` stands for one more gap than it may have.
+pub fn totals_of_stream(
+    alloc: Global,
+    rules: &Rules,
+    gaps: &[(u64, u64)],
+    margin: Margin,
+    symbols: &[u8],
+) -> Result<Option<SoftTotals>, StreamError>
+    ensures totals { IfOk result (λ totals. IfSome totals (λ totals. totals
+        ≡ soft_totals_of (report_of (record { rules = rules.now; gaps = gaps.now; margin = margin }) symbols.now))) }
+    ensures none { IfOk result (λ totals. totals ≡ None → AreGaps (length symbols.now - 1) gaps.now → ⊥) }
+{
+    let mut stream = SoftStream::new(alloc, rules, gaps, margin)?;
+    stream.take(alloc, symbols)?;
+    if !stream.may_end() {
+        return Ok(None);
+    }
+    let end = stream.finish(alloc)?;
+    Ok(Some(end.totals))
+}
+
+/// More symbols than a stream may have are not heard.
+pub fn too_many_symbols(alloc: Global, stream: &mut SoftStream<'_>, symbols: &[u8]) -> bool
+    requires { 2 ^ 36 + 1 < length stream.old.symbols + length symbols.now }
+    ensures told { result ≡ true }
+    ensures still { stream.new ≡ stream.old }
+{
+    stream.take(alloc, symbols).is_err()
 }

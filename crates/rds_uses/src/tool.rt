@@ -4,12 +4,13 @@ ghost use Rattle.std.specs.Prelude.{◌≡◌, ◌≢◌, ℕ, ◌*◌, ◌<◌,
 ghost use Rattle.std.specs.Io.KnownBytes.{Consumes, IsAtEnd, Appends};
 ghost use Rattle.rds_sync.specs.Report.{report_items};
 ghost use Rattle.rds_sync.specs.Totals.{totals_of};
-ghost use Rattle.rds_tool.specs.Listing.{report_text};
+ghost use Rattle.rds_tool.specs.Listing.{report_text, scan_text};
 ghost use Rattle.rds_tool.specs.Outcome.{IsOutside, WritesPrefix, result_of_job, Writes};
 ghost use Rattle.rds_tool.specs.Tasks.{task_of};
-ghost use Rattle.rds_tool.specs.declared.error.ToolError.TheVariants.{NoWorker, Read, TooManyTurns, Write};
-ghost use Rattle.rds_uses.specs.Jobs.{IsListBy, all_bits};
+ghost use Rattle.rds_tool.specs.declared.error.ToolError.TheVariants.{BurstRange, NoWorker, Read, TooManyTurns, Write};
+ghost use Rattle.rds_uses.specs.Jobs.{IsListBy, IsScan, all_bits};
 ghost use Rattle.rds_tool.specs.Ends.{given_by, has_ended, is_flushed, taken_by};
+ghost use Rattle.rds_tool.specs.SoftFollowing.{soft_listed, soft_rows_so_far};
 ghost use Rattle.rds_tool.specs.Following.{IsFlushedAfter, IsHeardOut, listed, rows_so_far};
 ghost use Rattle.rds_tool.specs.History.{Gave};
 ghost use Rattle.rds_stream.specs.Recording.{Signal, length_of};
@@ -21,9 +22,11 @@ ghost use Rattle.rds_tool.specs.declared.job.Input.{Input as AnInput};
 ghost use Rattle.rds_tool.specs.declared.job.Settings.{Settings as SomeSettings};
 
 use rds_crew::Gate;
+use rds_soft::Margin;
 use rds_sync::Rules;
 use rds_tool::{
-    FromRead, Job, Sink, Source, ToWrite, ToolError, follow, laws, transcribe, transcribe_gated,
+    FromRead, Input, Job, Settings, Sink, Source, ToWrite, ToolError, follow, follow_soft, laws,
+    transcribe, transcribe_gated,
 };
 use std::alloc::Global;
 use std::rt::{Stdin, Stdout};
@@ -46,6 +49,15 @@ pub fn listing<R: Threads + Sync>(
     written(rt, alloc, bytes, job)
 }
 
+/// The rows of the valid windows of the bytes of a recording.
+pub fn windows<R: Threads + Sync>(rt: &R, alloc: Global, bytes: &[u8], job: &Job) -> Option<Vec<u8>>
+    requires few { 8 * length bytes.now ≤ 2 ^ 36 }
+    requires job { IsScan job.now }
+    ensures { IfSome result (λ text. text.items ≡ scan_text (all_bits bytes.now)) }
+{
+    written(rt, alloc, bytes, job)
+}
+
 /// The text that a job writes for bytes, if nothing is refused: its outcome.
 pub(crate) fn written<R: Threads + Sync>(
     rt: &R,
@@ -62,6 +74,24 @@ pub(crate) fn written<R: Threads + Sync>(
 }
 
 /// At any devices, with a gate too: the text that is written is the outcome of the bytes that were read. After success the reader has
+/// Settings out of their range are refused as such, and nothing is read.
+pub fn refused_unread<R: Threads + Sync, S: Source, K: Sink>(
+    rt: &R,
+    alloc: Global,
+    reader: &mut S,
+    writer: &mut K,
+    input: Input,
+    settings: Settings,
+) -> Result<(), ToolError>
+    requires reads { S.failed reader.old < 2 ^ 63 }
+    requires writes { K.failed writer.old < 2 ^ 63 }
+    requires burst { 5 < settings.burst }
+    ensures refused { result ≡ Err BurstRange }
+    ensures unread { reader.new ≡ reader.old }
+{
+    transcribe(rt, alloc, reader, writer, &Job::List(input, settings))
+}
+
 /// answered its end, and the last call was a flush that succeeded. A failed call of either device is answered; 13
 /// comes only if 16,777,216 bytes or more were read; 14 never comes; any other refusal if the job and the bytes call for it.
 /// Settings out of their range are refused before anything is read. Nothing was written after any refusal but that of the
@@ -171,6 +201,29 @@ pub fn heard_live<R: Threads + Sync, S: Source, K: Sink>(
         × IsFlushedAfter bytes (K.is_flushed writer.new)) }
 {
     follow(rt, alloc, reader, writer, rules, bits, &[], workers)
+}
+
+/// A stream of symbols at any devices: the text that is written is the soft listing of the symbols that were read. If a read fails, the
+/// rows of all symbols before it were taken and flushed.
+pub fn symbols_heard_live<S: Source, K: Sink>(
+    alloc: Global,
+    reader: &mut S,
+    writer: &mut K,
+    rules: &Rules,
+    margin: Margin,
+    bits: Option<u64>,
+) -> Result<(), ToolError>
+    requires reads { S.failed reader.old < 2 ^ 63 }
+    requires writes { K.failed writer.old < 2 ^ 63 }
+    ensures text { OnOk result
+        (Gave (S.given reader.old) (S.given reader.new)
+        (λ symbols. Writes (K.contents writer.old) (K.contents writer.new)
+        (soft_listed (record { rules = rules.now; gaps = []; margin = margin }) bits symbols))) }
+    ensures prompt { IsErrOf result Read → Gave (S.given reader.old) (S.given reader.new) (λ symbols.
+        Appends (K.contents writer.old) (K.contents writer.new)
+        (soft_rows_so_far (record { rules = rules.now; gaps = []; margin = margin }) symbols)) }
+{
+    follow_soft(alloc, reader, writer, rules, margin, bits, &[])
 }
 
 // ---- rows of lists

@@ -65,9 +65,8 @@ class KeptBits:
 
 def options_stations(parser: argparse.ArgumentParser) -> None:
     parser.description, parser.epilog = DESCRIPTION, EXAMPLES
-    parser.add_argument(
-        "input", nargs="?", default="-", metavar="CAPTURE", help="the capture (default: standard input)"
-    )
+    text = "the capture (default: standard input)"
+    parser.add_argument("input", nargs="?", default="-", metavar="CAPTURE", help=text)
     text = "raw samples, low byte first: f32 floating point, s16 integers, u8 around 127.5"
     parser.add_argument("--raw", choices=RAW_FORMS, help=text)
     text = "samples per second: of raw samples, or in place of the header's"

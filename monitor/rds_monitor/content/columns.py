@@ -136,9 +136,7 @@ class Groups:
     def values(self, name: str, rows: Array) -> Array:
         """A field in these groups."""
         field = FIELDS[name]
-        words = [
-            word[rows] if number in field.blocks else word for number, word in zip(BLOCKS, self.alike.words)
-        ]
+        words = [word[rows] if of in field.blocks else word for of, word in zip(BLOCKS, self.alike.words)]
         value: Array = field.of(words)
         return value
 

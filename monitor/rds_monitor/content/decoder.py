@@ -39,12 +39,8 @@ class Programme:
         self.pi, self._teller = pi, teller
         plain = (*features.PLAIN, networks.Frequencies, *texts.PLAIN)
         takers: List[Taker] = [taker(teller) for taker in plain]
-        takers += [
-            features.Flags(teller, rbds),
-            features.SlowLabels(teller, pi),
-            features.Features(teller, data),
-        ]
-        takers.append(networks.OtherNetworks(teller, rbds))
+        takers += [features.Flags(teller, rbds), features.SlowLabels(teller, pi)]
+        takers += [features.Features(teller, data), networks.OtherNetworks(teller, rbds)]
         self._takers = [[one for one in takers if kind in one.kinds] for kind in range(max(Kind) + 1)]
         kinds = [kind for kind in Kind if self._takers[kind]]
         self._received = Received(everything, kinds, teller.lapses)

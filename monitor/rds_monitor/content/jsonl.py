@@ -33,9 +33,8 @@ def options_json(parser: argparse.ArgumentParser) -> None:
         "rds-monitor json --redsea monday.bin",
     )
     input_options(parser)
-    parser.add_argument(
-        "--rbds", action="store_true", help="RBDS: its names of programme types, and call letters by the PI"
-    )
+    text = "RBDS: its names of programme types, and call letters by the PI"
+    parser.add_argument("--rbds", action="store_true", help=text)
     form = parser.add_mutually_exclusive_group()
     help_of_rows = "a line per row of the listing, with the blocks of groups, and the totals"
     form.add_argument("--rows", action="store_true", help=help_of_rows)

@@ -138,10 +138,7 @@ TEXTS = (
     TextLook(Kind.ERT, "ODA", Shape(32, 2, True, wide=True), *_ERT, coding=0, applications=(ENHANCED_RT,)),
 )
 # Features whose presence is told: the group type, and the assignments that leave it to them.
-PRESENT: Dict[str, Tuple[int, ...]] = {
-    "8A": (-1, *TMC),
-    **{name: (-1,) for name in "5A 5B 6A 6B 7A 13A".split()},
-}
+PRESENT: Dict[str, Tuple[int, ...]] = {"8A": (-1, *TMC), **dict.fromkeys("5A 5B 6A 6B 7A 13A".split(), (-1,))}
 
 
 def code_of(name: str) -> int:

@@ -85,9 +85,8 @@ class Messages:
         for one, start, end in zip(names.tolist(), starts.tolist(), [*starts[1:].tolist(), rows.size]):
             chosen = ((number >= start) & (number < end)).nonzero()[0] if look.message else slice(None)
             of = at[chosen]
-            part = Segments(
-                groups.place[of], number[chosen] - start, heard.run[of], generation[chosen], said[start:end]
-            )
+            rest = heard.run[of], generation[chosen], said[start:end]
+            part = Segments(groups.place[of], number[chosen] - start, *rest)
             coding = one if look.coding is None else look.coding
             for row, codes in self._message(look, one).take(part):
                 yield TextChange(int(of[row]), look.kind, coding, codes)

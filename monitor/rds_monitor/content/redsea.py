@@ -240,13 +240,10 @@ class Redsea:
             found["open_data_app"] = {"oda_group": held["group"], "app_name": name, "message": words[2]}
         service = self._held.get("tmc_service")
         if words[3] in TMC and service:
-            keys = {
-                "location_table": "location_table",
-                "is_on_alt_freqs": "alternative_frequencies",
-                "scope": "scope",
-            }
-            info = {key: service[of] for key, of in keys.items()}
-            found["tmc"] = {"system_info": {"is_encrypted": service["location_table"] == 0, **info}}
+            table = service["location_table"]
+            info = {"is_encrypted": table == 0, "location_table": table}
+            info.update(is_on_alt_freqs=service["alternative_frequencies"], scope=service["scope"])
+            found["tmc"] = {"system_info": info}
 
     def _clock(self, found: Object, words: Words) -> None:
         own = clock_time((words[1] & 3) << 32 | words[2] << 16 | words[3])

@@ -311,9 +311,8 @@ class Message:
         other = turns.said.others(told, self._length == told.size)[turns.number[begin:end]]
         cuts = turns.restarts
         if cuts.size:
-            cuts = cuts[
-                (cuts >= begin) & (cuts < end) & ((turns.before[cuts] + 1) * self._shape.pairs < told.size)
-            ]
+            is_early = (turns.before[cuts] + 1) * self._shape.pairs < told.size
+            cuts = cuts[(cuts >= begin) & (cuts < end) & is_early]
         if cuts.size:
             other[cuts[~self._are_kept(turns, slice(begin, end), cuts, told)] - begin] = True
         first = int(other.argmax())

@@ -33,11 +33,8 @@ def merge(database: sqlite3.Connection) -> None:
 
 
 def columns_of(database: sqlite3.Connection, table: str) -> List[str]:
-    return [
-        row[1]
-        for row in database.execute(f"PRAGMA main.table_info({table})")
-        if row[1] not in ("id", "session")
-    ]
+    names = (row[1] for row in database.execute(f"PRAGMA main.table_info({table})"))
+    return [name for name in names if name not in ("id", "session")]
 
 
 def _join_facts(database: sqlite3.Connection) -> None:
@@ -85,10 +82,8 @@ def _join_rows(database: sqlite3.Connection, table: str) -> None:
     values = ", ".join(fact.format(column) if column in FACTS else f"told.{column}" for column in columns)
     theirs = f"SELECT ours, {values} FROM other.{table} AS told JOIN temp.session_of ON theirs = told.session WHERE is_new = "
     ours = f"SELECT session, {', '.join(columns)} FROM main.{table} WHERE session IN (SELECT ours FROM temp.session_of WHERE NOT is_new)"
-    query = (
-        f"SELECT * FROM ({theirs}0 EXCEPT {ours}) UNION ALL SELECT * FROM ({ours} EXCEPT {theirs}0) LIMIT 1"
-    )
-    for session, *_ in database.execute(query):
+    query = f"SELECT * FROM ({theirs}0 EXCEPT {ours}) UNION ALL SELECT * FROM ({ours} EXCEPT {theirs}0)"
+    for session, *_ in database.execute(f"{query} LIMIT 1"):
         find = "SELECT name, number FROM main.sessions JOIN main.recordings ON recordings.id = recording WHERE sessions.id = ?"
         raise Fault(_differs(*database.execute(find, (session,)).fetchone()))
     database.execute(f"INSERT INTO main.{table}(session, {', '.join(columns)}) {theirs}1")
@@ -101,14 +96,11 @@ def _join_stations(database: sqlite3.Connection, table: str, key: str) -> None:
     differs = " OR ".join(f"ours.{name} IS NOT theirs.{name}" for name in names if name not in keys)
     both = f"FROM other.{table} AS theirs JOIN main.{table} AS ours ON {same} WHERE {differs} LIMIT 1"
     for *words, begin in database.execute(f"SELECT {', '.join(f'ours.{name}' for name in keys)} {both}"):
-        kind = table.partition("_")[0]
-        raise Fault(
-            f"the {kind} {' '.join(map(repr, words))} of {utc_text(begin)} is in both, and not the same"
-        )
+        what = f"{table.partition('_')[0]} {' '.join(map(repr, words))}"
+        raise Fault(f"the {what} of {utc_text(begin)} is in both, and not the same")
     missing = f"NOT EXISTS (SELECT 1 FROM main.{table} AS ours WHERE {same})"
-    database.execute(
-        f"INSERT INTO main.{table}({columns}) SELECT {columns} FROM other.{table} AS theirs WHERE {missing}"
-    )
+    theirs = f"SELECT {columns} FROM other.{table} AS theirs WHERE {missing}"
+    database.execute(f"INSERT INTO main.{table}({columns}) {theirs}")
 
 
 def _join_watched(database: sqlite3.Connection) -> None:

@@ -184,10 +184,11 @@ def counts_of(mix: Rows) -> Dict[str, int]:
 
 
 class Session:
-    """A session of an input as one part; `totals` are known once it is closed, if they are at all."""
+    """A session of an input as one part; `totals` are known once it is closed, if they are at all, and so is whether soft decisions
+    corrected its blocks."""
 
-    def __init__(self, number: int, clock: Clock, begin: int = 0):
-        self.number, self.clock = number, clock
+    def __init__(self, number: int, clock: Clock, is_soft: bool, begin: int = 0):
+        self.number, self.clock, self.is_soft = number, clock, is_soft
         self.part = Part(clock, begin, Contents(clock.rate), 60 * clock.rate)
         self.totals: Optional[Totals] = None
         self.closed = False
@@ -196,6 +197,7 @@ class Session:
         """It has ended: with its recording, if the length of that is known, or else with its last row."""
         self.part.close(self.part.end if length is None else length, last=True)
         self.totals, self.closed = totals, True
+        self.is_soft |= bool(totals and totals.soft)
         return self
 
 
@@ -214,9 +216,10 @@ def sessions_of(source: Source, clock: Clock) -> Iterator[Tuple[Session, Rows]]:
             session = None
         if not session:
             begin = int(begins_of(rows[:1])[0]) if listing and listing.is_part and not number else 0
-            session = Session(number, Clock(None, clock.rate) if number else clock, begin)
+            session = Session(number, Clock(None, clock.rate) if number else clock, source.is_soft, begin)
         session.part.add(rows)
         progress.at(session.part.end)
         yield session, rows
     progress.close()
-    yield (session or Session(0, clock)).close(source.length, source.totals), numpy.zeros(0, ITEM)
+    session = session or Session(0, clock, source.is_soft)
+    yield session.close(source.length, source.totals), numpy.zeros(0, ITEM)

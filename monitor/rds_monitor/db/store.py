@@ -11,8 +11,9 @@ import json
 import os
 import sqlite3
 import time
+from contextlib import contextmanager
 from itertools import chain
-from typing import Any, Dict, Iterable, List, NamedTuple, Optional, Sequence, Tuple
+from typing import Any, Dict, Iterable, Iterator, List, NamedTuple, Optional, Sequence, Tuple
 
 from ..rows.clock import clock_options
 from ..rows.hours import clock_of_hour, hour_of
@@ -28,6 +29,23 @@ WAIT = 600.0
 # Groups that are read go here first, so that nobody waits while they are decoded.
 READ = "CREATE TEMP TABLE groups(session, place, type, version, valid, block1, block2, block3, block4)"
 MOST_FACTS = 20000
+
+
+@contextmanager
+def transaction(database: sqlite3.Connection) -> Iterator[None]:
+    """All that is written in it, or nothing."""
+    database.execute("BEGIN IMMEDIATE")
+    try:
+        yield
+        database.execute("COMMIT")
+    except BaseException:
+        roll_back(database)
+        raise
+
+
+def roll_back(database: sqlite3.Connection) -> None:
+    if database.in_transaction:
+        database.execute("ROLLBACK")
 
 
 class SessionRows:
@@ -104,7 +122,7 @@ class Store:
             except sqlite3.OperationalError as error:
                 if "locked" not in str(error) or time.monotonic() > end:
                     raise
-            self._roll_back()
+            roll_back(self._database)
             time.sleep(0.02)
 
     def _prepare(self, path: str) -> None:
@@ -150,10 +168,6 @@ class Store:
         row = self._database.execute(query, given).fetchone()
         return None if row is None else row[0]
 
-    def _roll_back(self) -> None:
-        if self._database.in_transaction:
-            self._database.execute("ROLLBACK")
-
     def close(self) -> None:
         self._database.close()
 
@@ -163,13 +177,8 @@ class Store:
         """A recording, given as by `sessions_of`, under this name, in place of the one that had it."""
         try:
             sessions = self._read(chunks, groups)
-            self._database.execute("BEGIN IMMEDIATE")
-            try:
+            with transaction(self._database):
                 self._write(name, station, sessions)
-                self._database.execute("COMMIT")
-            except BaseException:
-                self._roll_back()
-                raise
         except sqlite3.Error as error:
             raise Fault(f"the database: {error}") from None
 
@@ -177,13 +186,8 @@ class Store:
         """Adds all of another database, which is brought up to date, or nothing."""
         try:
             self._database.execute("ATTACH ? AS other", (os.path.abspath(path),))
-            self._database.execute("BEGIN IMMEDIATE")
-            try:
+            with transaction(self._database):
                 merge(self._database)
-                self._database.execute("COMMIT")
-            except BaseException:
-                self._roll_back()
-                raise
         except sqlite3.Error as error:
             raise Fault(f"the database: {error}") from None
 

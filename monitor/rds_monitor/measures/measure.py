@@ -78,12 +78,10 @@ def options_programmes(parser: argparse.ArgumentParser) -> None:
         "rds-monitor programmes --least 10 monday.bin",
     )
     input_options(parser)
-    of_least, of_pause = (
-        "the shortest stretch told (3): noise gives some of 1",
-        "a longer one without the PI ends a stretch (10)",
-    )
-    parser.add_argument("--least", type=count_of, default=3, metavar="GROUPS", help=of_least)
-    parser.add_argument("--pause", type=number_of, default=10.0, metavar="SECONDS", help=of_pause)
+    text = "the shortest stretch told (3): noise gives some of 1"
+    parser.add_argument("--least", type=count_of, default=3, metavar="GROUPS", help=text)
+    text = "a longer one without the PI ends a stretch (10)"
+    parser.add_argument("--pause", type=number_of, default=10.0, metavar="SECONDS", help=text)
     clock_options(parser)
 
 

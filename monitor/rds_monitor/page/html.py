@@ -61,9 +61,8 @@ def page_of(title: str, stations: Sequence[Station], **more: Any) -> str:
     safe = dict(parts, data=data.replace("<", "\\u003c").replace("&", "\\u0026"))
     markup: Any = importlib.import_module("markupsafe")
     known: Dict[str, Any] = {name: markup.Markup(text) for name, text in safe.items()}
-    known.update(
-        title=printable(title), stations=stations, policy=policy, polyline=polyline, links=(), table=None
-    )
+    known.update(title=printable(title), stations=stations, policy=policy, polyline=polyline)
+    known.update(links=(), table=None)
     return str(template.render({**known, **more}))
 
 

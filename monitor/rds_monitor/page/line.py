@@ -156,9 +156,8 @@ class TimeLine:
                 return number(value)
             return round(value, 3) if isinstance(value, float) else value
 
-        parts = [
-            {"at": round(at - origin, 3), "step": step, **encoded(rows)} for at, step, rows in self.parts
-        ]
+        times = [{"at": round(part.at - origin, 3), "step": part.step} for part in self.parts]
+        parts = [{**of, **encoded(part.counts)} for of, part in zip(times, self.parts)]
         told: Dict[str, Any] = {"parts": parts, "more": self.more, "clock": moved(self.clock, 1)}
         told.update((name, moved(getattr(self, name), 2)) for name in ("sessions", "outages", "mix"))
         told["lanes"] = [[lane, moved(self.lanes[lane], 2)] for lane in LANES if self.lanes.get(lane)]

@@ -77,10 +77,8 @@ def whole_of(stored: StoredStation, step: int) -> Station:
     origin = stored.begin // step * step
     whole = stored.line(origin, stored.end, step)
     available = stored.available(whole, stored.begin, stored.end)
-    start = None if stored.unknown else origin
-    return told_of(
-        stored.name, whole.fewer(step), (origin, stored.end), start, stored.held, stored.tile(), available
-    )
+    start, times = None if stored.unknown else origin, (origin, stored.end)
+    return told_of(stored.name, whole.fewer(step), times, start, stored.held, stored.tile(), available)
 
 
 class RecordedLine:
@@ -92,6 +90,8 @@ class RecordedLine:
         self._session: Optional[Session] = None
         # Where the session in progress and its last whole group begin; where all ends.
         self._at, self._whole, self._end = 0.0, 0.0, 0.0
+        # How many blocks soft decisions corrected, if they are taken.
+        self._soft: Optional[int] = None
 
     def add(self, session: Session, rows: Any) -> None:
         if session is not self._session:
@@ -137,6 +137,8 @@ class RecordedLine:
         self._lanes.end(self._end)
         counts = numpy.array([row[2:] for row in self._seconds.intervals(begin, end)], "i8").reshape(-1, 5)
         self._line.parts.append(Counted(self._begin, 1, counts))
+        if session.is_soft:
+            self._soft = (self._soft or 0) + int(counts[:, 2].sum())
         times = [self._begin, self._end, self._end - self._begin]
         self._line.sessions.append([*times, *counts.sum(0)[:2].tolist()])
 
@@ -147,4 +149,7 @@ class RecordedLine:
         tile = tile_of(spans, self._end, max(0.0, self._end - self._whole))
         interval = max(1, math.ceil(seconds / MOST_INTERVALS))
         line = line.fewer(max(interval, self._end / MOST_LISTED), interval=interval)
-        return told_of(name, line, (0.0, self._end), self._clock.start, self._held, tile)
+        told = told_of(name, line, (0.0, self._end), self._clock.start, self._held, tile)
+        if self._soft is not None:
+            told["totals"].update(corrected=told["totals"]["corrected"] - self._soft, soft=self._soft)
+        return told

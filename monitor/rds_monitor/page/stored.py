@@ -20,6 +20,7 @@ from ..rows.items import Fault
 from .line import CUT, MOST_LISTED, SEVERAL, Counted, Lanes, Said, TimeLine, add_mix, join, said
 from .overview import DAY, Span, tile_of
 
+Pairs = Iterable[Tuple[int, int]]
 MAGIC = b"SQLite format 3\0"
 # Seconds of an interval of a page. In two minutes there is one that is stored, though the sampler's clock is off.
 STEPS = (120, 3600, DAY)
@@ -144,10 +145,8 @@ class StoredStation:
             query = "SELECT alarm, text FROM alarm_rows WHERE station IN (?, '') AND end_at IS NULL ORDER BY begin_at"
             alarms = {alarm: printable(told) for alarm, told in rows(query, self.name)}
             self._stands = standing_of({**json.loads(text), "alarms": alarms})
-            return [
-                (end, end),
-                *rows("SELECT begin_at, end_at FROM watched_rows WHERE station = ?", self.name),
-            ]
+            query = "SELECT begin_at, end_at FROM watched_rows WHERE station = ?"
+            return [(end, end), *rows(query, self.name)]
         return []
 
     def available(self, line: TimeLine, begin: float, end: float) -> Availability:
@@ -159,18 +158,17 @@ class StoredStation:
 
     def tile(self) -> Dict[str, Any]:
         """By the minutes of the last day."""
-        spans, query = (
-            [],
-            "SELECT minute, sent, valid FROM minute_rows WHERE session = ? AND minute >= ? ORDER BY minute",
+        spans = []
+        query = (
+            "SELECT minute, sent, valid FROM minute_rows WHERE session = ? AND minute >= ? ORDER BY minute"
         )
         for session in self.sessions:
             if session.end > self.end - DAY:
                 first = int((self.end - DAY - session.start) / session.minute)
                 rows = numpy.array(self._stored.rows(query, session.number, first), "i8").reshape(-1, 3)
                 if len(rows):
-                    spans.append(
-                        Span(session.start + rows[0, 0] * session.minute, 60, rows[:, 1], rows[:, 2])
-                    )
+                    begin = session.start + rows[0, 0] * session.minute
+                    spans.append(Span(begin, 60, rows[:, 1], rows[:, 2]))
         return tile_of(spans, self.end, None, self._stands)
 
     def line(self, begin: float, end: float, step: int) -> TimeLine:
@@ -183,9 +181,8 @@ class StoredStation:
         sessions = list(itertools.takewhile(lambda one: one.begin < end, self.sessions[self._done :]))
         numbers = json.dumps([session.number for session in sessions])
         busy = self._busy(line, numbers, step)
-        outages, events = self._rows_of(OUTAGES, numbers), self._rows_of(
-            EVENTS, numbers, json.dumps(busy.facts)
-        )
+        outages = self._rows_of(OUTAGES, numbers)
+        events = self._rows_of(EVENTS, numbers, json.dumps(busy.facts))
         for session in sessions:
             if session.recording != self._run:
                 self._lanes.end(self._heard)
@@ -247,10 +244,8 @@ class StoredStation:
 
     def _hear_last(self, session: StoredSession, end: float, lanes: Sequence[str]) -> None:
         """What the last minute says that has groups: not each change is stored. Busy items go on in the next line."""
-        query = (
-            f"SELECT {', '.join(HELD)} FROM minute_rows WHERE session = ? AND minute < ? AND mix NOTNULL"
-            " ORDER BY minute DESC LIMIT 1"
-        )
+        before = "WHERE session = ? AND minute < ? AND mix NOTNULL ORDER BY minute DESC LIMIT 1"
+        query = f"SELECT {', '.join(HELD)} FROM minute_rows {before}"
         after = math.ceil((end - session.start) / session.minute)
         for facts in self._stored.rows(query, session.number, after):
             for item, what in ((item, self._stored.fact(fact)) for item, fact in zip(HELD, facts) if fact):
@@ -288,12 +283,7 @@ class StoredStation:
         line.sessions.append(row)
 
     def _add_outages(
-        self,
-        line: TimeLine,
-        session: StoredSession,
-        rows: Iterable[Tuple[int, int]],
-        begin: float,
-        end: float,
+        self, line: TimeLine, session: StoredSession, rows: Pairs, begin: float, end: float
     ) -> None:
         lasting = [] if session.quiet is None else [(session.quiet, session.place(session.end))]
         for first, after in [*rows, *lasting]:
@@ -304,14 +294,7 @@ class StoredStation:
             if high > low:
                 line.outages.append([low, high, high - low])
 
-    def _hear(
-        self,
-        line: TimeLine,
-        session: StoredSession,
-        rows: Iterable[Tuple[int, int]],
-        begin: float,
-        end: float,
-    ) -> None:
+    def _hear(self, line: TimeLine, session: StoredSession, rows: Pairs, begin: float, end: float) -> None:
         for place, fact in rows:
             at, what = session.at(place), self._stored.fact(fact)
             if begin <= at < end:

@@ -110,9 +110,8 @@ class Folder:
             told = self._add_year(station, year, [month for month in months if month.year == year])
         if months:
             tile = {key: told[key] for key in ("name", "held", "bad_percent")}
-            self._tiles.append(
-                {**tile, "tile": station.tile(), "page": file_of(station.name, months[-1].year)}
-            )
+            page = file_of(station.name, months[-1].year)
+            self._tiles.append({**tile, "tile": station.tile(), "page": page})
 
     def _add_year(self, station: StoredStation, year: int, months: List[CalendarMonth]) -> Station:
         """The pages of a year and its months; what the year's page tells."""
@@ -124,17 +123,13 @@ class Folder:
             line = line.fewer(HOUR)
             if line.sessions or row.down_s:
                 file = file_of(station.name, month)
-                beside = [
-                    (str(one), file_of(station.name, one))
-                    for one in (month.last, month.next)
-                    if one in months
-                ]
+                near = (one for one in (month.last, month.next) if one in months)
+                beside = [(str(one), file_of(station.name, one)) for one in near]
                 self._tell(file, station, [month], line, links=[*links, *beside])
             self._months.append(row)
             cells[month.number - 1] = f"{row.received_percent:.2f} %", file
-            rows.append(
-                [(str(month), file), *(("" if value is None else str(value), "") for value in row[2:])]
-            )
+            texts = ("" if value is None else str(value) for value in row[2:])
+            rows.append([(str(month), file), *((text, "") for text in texts)])
             whole.extend(line.fewer(DAY, MOST_LISTED // 12))
         self._years.append([(printable(station.name), links[1][1]), (str(year), ""), *cells])
         table = LinkTable("Availability by month", ["month", *HEAD], rows)

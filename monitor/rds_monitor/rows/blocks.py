@@ -26,6 +26,7 @@ class BlockCounter:
     """Counts bits, and those in blocks with an offset word beside a block with the offset word that belongs there."""
 
     KEPT = 3 * BLOCK_BITS - 1  # a block with those before and after it, less one bit
+    MOST_UNKNOWN = 5  # bits of a block, of which few combinations have an offset word by chance
 
     def __init__(self) -> None:
         self._columns = numpy.array(REMAINDERS, "u2")
@@ -54,6 +55,22 @@ class BlockCounter:
             self.phase, self._last = int(numpy.bincount(phases % GROUP_BITS).argmax()), self.bits
         elif self.bits > self._last + 2 * GROUP_BITS:
             self.phase = None
+
+    def parity_over(self, count: int, after: NDArray[numpy.uint8]) -> Optional[int]:
+        """The sum modulo 2 of the next `count` bits, which are not known, by the block that they are in: with the bits before and after
+        them it has the offset word of its place by one of these sums alone."""
+        if self.phase is None or count > self.MOST_UNKNOWN:
+            return None
+        begun = (self.bits - self.phase) % BLOCK_BITS
+        window = numpy.concatenate([self._rest[self._rest.size - begun :], numpy.zeros(count, "u1"), after])
+        if window.size < BLOCK_BITS or begun + count > BLOCK_BITS:
+            return None
+        known = numpy.bitwise_xor.reduce(window[:BLOCK_BITS] * self._columns)
+        number = (self.bits - begun - self.phase) % GROUP_BITS // BLOCK_BITS
+        unknown = numpy.unpackbits(numpy.arange(1 << count, dtype="u1")[:, None], axis=1)[:, 8 - count :]
+        rests = known ^ numpy.bitwise_xor.reduce(unknown * self._columns[begun : begun + count], axis=1)
+        sums = {*(unknown[NUMBERS[rests] == number].sum(axis=1) % 2).tolist()}
+        return sums.pop() if len(sums) == 1 else None
 
     @property
     def share(self) -> float:

@@ -63,9 +63,9 @@ class Extent:
 
     @property
     def is_soft(self) -> bool:
-        """Whether blocks were corrected by soft decisions, as the totals tell. It counts after the last chunk."""
+        """Whether blocks were corrected by soft decisions, as the totals tell too. It counts after the last chunk."""
         totals = self._source.totals
-        return getattr(self._source, "is_soft", False) or bool(totals and totals.soft)
+        return self._source.is_soft or bool(totals and totals.soft)
 
 
 def write_table(names: Sequence[str], rows: Iterable[Sequence[Any]]) -> int:

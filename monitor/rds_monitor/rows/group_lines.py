@@ -62,6 +62,7 @@ class GroupLines:
     """
 
     SLACK = 1.25
+    is_soft = False
 
     def __init__(self, stream: Readable, head: bytes) -> None:
         self.length: Optional[int] = None

@@ -11,25 +11,27 @@ from typing import List, NamedTuple, Optional
 from .clock import RATE, Clock
 
 NAME = re.compile(
-    r"(\d{4}-\d\d-\d\dT\d\d)Z_(\d{8}T\d{6}\.\d{3})Z(?:_(\d{4}\.\d{4}))?\.csv(?:\.(?:gz|xz|zst))?"
+    r"(\d{4}-\d\d-\d\dT\d\d)Z_(\d{8}T\d{6}\.\d{3})Z(?:_(\d{4}\.\d{4}))?(_soft)?\.csv(?:\.(?:gz|xz|zst))?"
 )
 HOUR = 3600
 EPOCH = datetime.datetime(1970, 1, 1)
 
 
 class Hour(NamedTuple):
-    """An hour's file: the UTC at which its hour begins, and the start and the rate by which its positions are times."""
+    """An hour's file: the UTC at which its hour begins, the start and the rate by which its positions are times, and whether its blocks
+    were corrected by soft decisions, which only the last file of a session tells by its totals."""
 
     begin: float
     start: float
     rate: float = RATE
+    is_soft: bool = False
 
     @property
     def name(self) -> str:
         hour = EPOCH + datetime.timedelta(seconds=self.begin)
         start = EPOCH + datetime.timedelta(milliseconds=round(self.start * 1000))
-        of_rate = "" if self.rate == RATE else f"_{self.rate:.4f}"
-        return f"{hour:%Y-%m-%dT%HZ}_{start:%Y%m%dT%H%M%S}.{start.microsecond // 1000:03d}Z{of_rate}.csv"
+        more = ("" if self.rate == RATE else f"_{self.rate:.4f}") + "_soft" * self.is_soft
+        return f"{hour:%Y-%m-%dT%HZ}_{start:%Y%m%dT%H%M%S}.{start.microsecond // 1000:03d}Z{more}.csv"
 
 
 def hour_of(path: str) -> Optional[Hour]:
@@ -42,7 +44,8 @@ def hour_of(path: str) -> Optional[Hour]:
         start = datetime.datetime.strptime(match[2] + "000", "%Y%m%dT%H%M%S.%f")
     except ValueError:
         return None
-    return Hour((hour - EPOCH).total_seconds(), (start - EPOCH).total_seconds(), float(match[3] or RATE))
+    first, begun = ((time - EPOCH).total_seconds() for time in (hour, start))
+    return Hour(first, begun, float(match[3] or RATE), match[4] is not None)
 
 
 def take_hour(arguments: argparse.Namespace) -> None:

@@ -7,6 +7,7 @@ import os
 import re
 from typing import Optional, Sequence, Tuple
 
+from .hours import hour_of
 from .items import LONGEST, MARGIN, Fault, Misuse, Reading, Rules, Source
 from .opening import open_source
 
@@ -105,5 +106,8 @@ def open_input(arguments: argparse.Namespace, path: Optional[str] = None, sessio
     """The source that the options name: of `path`, by default of INPUT."""
     named = {name: getattr(arguments, name) for name in ("gaps", "bits", "hex", "trust_length")}
     length = None if arguments.length is None else length_of(arguments.length)
+    path = arguments.input if path is None else path
+    hour = hour_of(path)
     named.update(unfinished_ok=arguments.unfinished, length=length, sessions=sessions)
-    return open_source(arguments.input if path is None else path, Reading(rules_of(arguments), **named))
+    named.update(is_soft=hour is not None and hour.is_soft)
+    return open_source(path, Reading(rules_of(arguments), **named))

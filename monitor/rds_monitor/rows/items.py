@@ -73,7 +73,8 @@ class Rules(NamedTuple):
 class Reading(NamedTuple):
     """How an input is read: the rules, gaps and bits of a recording, and whether it is hexadecimal text. A listing may be a part
     of one, without its first rows, its last ones or its totals (`unfinished_ok`), or several, one after the other
-    (`sessions`). `length` is how many bits its recording has, and may be far past its last row (`trust_length`).
+    (`sessions`), or have been read by soft decisions (`is_soft`), which its totals tell too. `length` is how many bits its recording has,
+    and may be far past its last row (`trust_length`).
     """
 
     rules: Rules = Rules()
@@ -84,6 +85,7 @@ class Reading(NamedTuple):
     length: Optional[int] = None
     trust_length: bool = False
     sessions: bool = False
+    is_soft: bool = False
 
 
 class Totals(NamedTuple):
@@ -137,11 +139,13 @@ class Source(Protocol):
     """An input: its rows in chunks of at most some 65,536.
 
     `length` is how many bits the recording has, if that is known; of a recording it is, after the last chunk. `totals`
-    are known after the last chunk, but for a listing that has none: it is unfinished, or a part of one.
+    are known after the last chunk, but for a listing that has none: it is unfinished, or a part of one. `is_soft` says that soft
+    decisions correct its blocks, whether or not there are totals.
     """
 
     length: Optional[int]
     totals: Optional[Totals]
+    is_soft: bool
 
     def chunks(self) -> Iterator[Rows]:
         ...

@@ -36,7 +36,7 @@ class Listing:
     """
 
     def __init__(self, stream: Readable, head: bytes, how: Reading = Reading()):
-        self.length, self.session = how.length, 0
+        self.length, self.session, self.is_soft = how.length, 0, how.is_soft
         # A part tells nothing of what was before its first row.
         self.is_part = how.unfinished_ok
         # Of the session before, and of this one once they were read.

@@ -26,7 +26,9 @@ class Recording:
         pipe: Optional[Pipe] = None,
     ):
         self.is_soft = how.rules.margin > 0
-        self.length = how.bits if how.bits is not None or size is None or how.hex else self._bits_in(size)
+        self.length = how.bits
+        if how.bits is None and size is not None and not how.hex:
+            self.length = max(0, size - 1) if self.is_soft else 8 * size
         self.totals: Optional[Totals] = None
         self._stream, self._head, self._bits, self._hex = stream, head, how.bits, how.hex
         self._gaps, self._pipe = how.gaps, pipe
@@ -34,9 +36,6 @@ class Recording:
         # The program would end with its last bit, and symbols come one by one.
         bits = None if self.is_soft else how.bits
         self._decoder = decoder_of(soft=SOFT_JOBS if self.is_soft else ())[0](how.rules, how.gaps, bits)
-
-    def _bits_in(self, size: int) -> int:
-        return max(0, size - 1) if self.is_soft else 8 * size
 
     def chunks(self) -> Iterator[Rows]:
         return self._of_symbols() if self.is_soft else self._of_bits()

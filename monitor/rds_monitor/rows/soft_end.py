@@ -4,18 +4,8 @@ from __future__ import annotations
 
 import numpy
 
-from .items import (
-    BLOCK_BITS,
-    BLOCKS,
-    CORRECTED,
-    GROUP,
-    GROUP_BITS,
-    Rows,
-    Totals,
-    add_totals,
-    chosen,
-    totals_of,
-)
+from .items import BLOCK_BITS, BLOCKS, CORRECTED, GROUP, GROUP_BITS
+from .items import Rows, Totals, add_totals, chosen, totals_of
 from .listing import SOFT_NAMES, ends_of, groups_in, kinds_of, places_of
 from .parse import read_pattern, set_types
 

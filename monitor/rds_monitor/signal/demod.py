@@ -138,9 +138,8 @@ def receive(source: SampleSource, capture: Capture, writer: BitWriter, teller: Q
 
 def run_demod(arguments: argparse.Namespace) -> int:
     judge_options(arguments)
-    source = open_samples(
-        arguments.input, raw=arguments.raw, rate=arguments.rate, channel=arguments.channel, is_iq=arguments.iq
-    )
+    how = {name: getattr(arguments, name) for name in ("raw", "rate", "channel")}
+    source = open_samples(arguments.input, **how, is_iq=arguments.iq)
     if source.rate not in RATES:
         raise Fault(f"a sample rate of {source.rate} is not {RATES[0]} to {RATES[-1]}")
     if arguments.stations:

@@ -77,11 +77,8 @@ def sentence(told: Dict[str, Any]) -> str:
     if told["snr_db"] is not None:
         parts.append(f"signal to noise {told['snr_db']} dB")
     parts.append(f"carrier {told['carrier_offset_hz']:+} Hz, clock {told['clock_offset_ppm']:+} ppm")
-    levels = {
-        "rds_khz": "deviation {} kHz",
-        "rds_to_pilot_db": "level {} dB relative to the pilot",
-        "rds_dbfs": "level {} dBFS",
-    }
+    levels = {"rds_khz": "deviation {} kHz", "rds_to_pilot_db": "level {} dB relative to the pilot"}
+    levels["rds_dbfs"] = "level {} dBFS"
     parts += [text.format(told[name]) for name, text in levels.items() if told[name] is not None][:1]
     return "; ".join(parts)
 

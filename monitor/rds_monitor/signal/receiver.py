@@ -120,9 +120,8 @@ class Quality:
         signal, noise, locked, power, count = (now - self._told).tolist()
         self._told = now
         channel = _decibels(power / count / self.full_scale**2) if count else None
-        return Strength(
-            channel, _decibels(signal / (2 * noise * CHANNEL_HZ / BIT_RATE)) if locked and noise else None
-        )
+        snr = _decibels(signal / (2 * noise * CHANNEL_HZ / BIT_RATE)) if locked and noise else None
+        return Strength(channel, snr)
 
     @property
     def channel_dbfs(self) -> Optional[float]:
@@ -164,6 +163,7 @@ class Receiver:
         self._begin = self._size = 0
         self._end: Optional[float] = None
         self._held: Complexes = numpy.zeros(0, complex)
+        self._sign = 1  # of the symbols since the last jump, so that they go on with the sign of those before
         self._decoder = DifferentialDecoder()
         self._soft = SoftSymbols() if soft else None
 
@@ -194,7 +194,7 @@ class Receiver:
             if number:
                 found.append(self._finished())
                 self._end = self._begin + self._chains[0].end
-                self._begin, self._size = self._begin + self._size, 0
+                self._begin, self._size, self._sign = self._begin + self._size, 0, 1
                 self._chains = [SymbolChain(self._rate) for _ in self._chains]
             self._size += part.shape[1]
             found.append(self._of_symbols([chain.push(row) for chain, row in zip(self._chains, part)], HELD))
@@ -206,12 +206,13 @@ class Receiver:
     def _of_symbols(self, found: List[Symbols], least: int) -> Bits:
         """After a jump the first symbols wait until there are `least`, which tell how many were lost."""
         self.quality.add(found[0], found[-1])
-        self._held = numpy.append(self._held, found[0].symbols)
+        self._held = numpy.append(self._held, self._sign * found[0].symbols)
         if self._end is not None:
             if self._held.size < max(1, least):
                 return numpy.zeros(0, "u1")
-            self._held = numpy.append(numpy.zeros(self._missing(self._end)), self._held)
-            self._end = None
+            missing = self._missing(self._end)
+            self._sign = self._sign_after(missing)
+            self._held, self._end = numpy.append(numpy.zeros(missing), self._sign * self._held), None
         symbols, self._held = self._held, self._held[:0]
         bits = self._decoder.push(symbols.real)
         self.quality.received.push(bits)
@@ -227,6 +228,14 @@ class Receiver:
             return (before.phase - before.bits - 1 - after.phase) % GROUP_BITS
         apart = (self._begin + self._chains[0].begin - end) / self._rate * BIT_RATE
         return max(0, math.ceil(apart - EARLY))
+
+    def _sign_after(self, missing: int) -> int:
+        """By which factor the symbols after a jump go on: the carrier's phase is known but for its sign. The bit there would be wrong
+        by chance, and no flip of a single symbol is a wrong bit alone."""
+        after = self._held.real
+        parity = self.quality.received.parity_over(missing + 1, DifferentialDecoder().push(after))
+        is_other = self._decoder.is_above != (after[0] > 0)
+        return 1 if parity is None or parity == is_other else -1
 
 
 class Capture:

@@ -29,9 +29,8 @@ FORMS = {
     "s16": (2, 2.0**15),
     "s24": (3, 2.0**31),
     "s32": (4, 2.0**31),
-    "f32": (4, 1.0),
-    "f64": (8, 1.0),
 }
+FORMS.update(f32=(4, 1.0), f64=(8, 1.0))
 RAW_FORMS = ("f32", "s16", "u8")
 # By the format code, 1 for integers and 3 for floating point, and bits per sample.
 WAV_FORMS = {(1, 8): "u8", (1, 16): "s16", (1, 24): "s24", (1, 32): "s32", (3, 32): "f32", (3, 64): "f64"}
@@ -99,10 +98,8 @@ def wav_layout(stream: BinaryIO) -> Layout:
     if code == WAV_EXTENSIBLE and len(described) >= 26:
         code = struct.unpack_from("<H", described, 24)[0]
     if (code, width) not in WAV_FORMS:
-        raise Fault(
-            f"WAV samples of format {code} with {width} bits are not read: integers of 8 to 32 bits are, and floating "
-            "point of 32 or 64"
-        )
+        read = "integers of 8 to 32 bits are, and floating point of 32 or 64"
+        raise Fault(f"WAV samples of format {code} with {width} bits are not read: {read}")
     if channels == 0:
         raise Fault("the WAV file has no channel")
     known = None if length in UNKNOWN_LENGTH else length

@@ -32,9 +32,8 @@ class Tuning:
     def offsets_of(self, text: str) -> List[float]:
         """Of frequencies with commas between them."""
         if not self.is_known:
-            raise Fault(
-                "the centre of the capture is not known: name it by --centre, or 0 if --at has offsets from it"
-            )
+            cure = "name it by --centre, or 0 if --at has offsets from it"
+            raise Fault(f"the centre of the capture is not known: {cure}")
         found = [frequency_of(word) - self.centre for word in text.split(",")]
         for offset in found:
             if found.count(offset) > 1:
@@ -67,13 +66,9 @@ class LineWriter:
         self.written += bits.size
         data = self._packer.push(bits)
         if data:
-            heard = self._receiver.quality.recent()._asdict()
-            line = {
-                "frequency": self._frequency,
-                "seconds": round(self._seconds(), 3),
-                "symbols" if self._receiver.is_soft else "bits": data.hex(),
-                **heard,
-            }
+            line: Dict[str, Any] = {"frequency": self._frequency, "seconds": round(self._seconds(), 3)}
+            line["symbols" if self._receiver.is_soft else "bits"] = data.hex()
+            line.update(self._receiver.quality.recent()._asdict())
             print(json.dumps(line, separators=(",", ":")), flush=True)
 
 
@@ -154,10 +149,8 @@ class TunedStations:
             self._finish()
 
     def _candidates(self, first: Sequence[Signal]) -> List[float]:
-        source = self._source
-        self.spectrum = spectrum_of(
-            numpy.concatenate([numpy.zeros(0, "c8"), *first]), source.rate, source.full_scale
-        )
+        source, samples = self._source, numpy.concatenate([numpy.zeros(0, "c8"), *first])
+        self.spectrum = spectrum_of(samples, source.rate, source.full_scale)
         return candidates(self.spectrum, self._tuning.centre)
 
     def _begin(self, offsets: Sequence[float]) -> None:
@@ -234,9 +227,8 @@ def run_stations(source: SampleSource, arguments: argparse.Namespace) -> int:
     def tell(station: TunedStation) -> None:
         tellers[station.name].tell(station.receiver.quality.seconds, station.report)
 
-    named, equalised = (
-        tuning.offsets_of(text) if text else [] for text in (arguments.at, arguments.equalise)
-    )
+    asked = arguments.at, arguments.equalise
+    named, equalised = (tuning.offsets_of(text) if text else [] for text in asked)
     stations = TunedStations(source, tuning, writer_of, named, equalised, arguments.soft)
     try:
         stations.run(each=tell)

@@ -295,3 +295,8 @@ class DifferentialDecoder:
         self._last = signs[-1:]
         bits: Bits = (signs[1:] != signs[:-1]).astype(numpy.uint8)
         return bits
+
+    @property
+    def is_above(self) -> bool:
+        """Whether the last symbol was above 0."""
+        return bool(self._last.any())

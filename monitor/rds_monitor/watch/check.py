@@ -281,12 +281,8 @@ def options_check(parser: argparse.ArgumentParser) -> None:
         "  rds-monitor check --station Alpha /var/lib/rds-monitor/watch.db"
     )
     setattr(parser, "on_error", misused)
-    parser.add_argument(
-        "input",
-        nargs="+",
-        metavar="INPUT",
-        help="a recording or a listing, or several files that follow one another",
-    )
+    text = "a recording or a listing, or several files that follow one another"
+    parser.add_argument("input", nargs="+", metavar="INPUT", help=text)
     text = "judge the last seconds of a file that is being written"
     parser.add_argument("--last", type=number_of, metavar="SECONDS", help=text)
     text = "judge this station by the database of `rds-monitor watch`"
@@ -312,9 +308,8 @@ def options_check(parser: argparse.ArgumentParser) -> None:
     recording_options(parser)
     listing = parser.add_argument_group("for a listing")
     listing.add_argument("--length", metavar="FILE|BITS", help="its recording, or how many bits that has")
-    parser.add_argument(
-        "--rate", type=rate_of, default=RATE, metavar="BITS", help="bits per second (%(default)s)"
-    )
+    text = "bits per second (%(default)s)"
+    parser.add_argument("--rate", type=rate_of, default=RATE, metavar="BITS", help=text)
 
 
 def misused(message: str) -> NoReturn:

@@ -136,7 +136,7 @@ class LiveSession:
         hour = timing.utc(at) // HOUR * HOUR
         self._cut = timing.place(hour + HOUR)
         self.part, self._timing = Part(Clock(*timing), begin, self.contents), timing
-        name = Hour(hour, timing.start, timing.rate).name
+        name = Hour(hour, timing.start, timing.rate, self._decoder.is_soft).name
         self._path, self._size = os.path.join("listings", self._station, name), 0
         self.records.append(PartOpened(self._key, self._station, timing, begin, self._path))
 

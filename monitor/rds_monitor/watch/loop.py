@@ -214,10 +214,9 @@ class Watch:
     def _give(self) -> None:
         if not self._writer.is_idle:
             if self._writer.fault is not None:
-                self._writer.hear(one for one in self._records if isinstance(one, (AlarmChanged, StateSeen)))
-                self._records = [
-                    one for one in self._records if not isinstance(one, (AlarmChanged, StateSeen))
-                ]
+                seen = AlarmChanged, StateSeen
+                self._writer.hear(one for one in self._records if isinstance(one, seen))
+                self._records = [one for one in self._records if not isinstance(one, seen)]
             self._records = last_states(self._records)
             return
         after: List[Callable[[Records], None]] = []

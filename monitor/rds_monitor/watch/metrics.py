@@ -48,18 +48,13 @@ def metrics_text(
     # The last alarm is of the watch.
     samples.append(("rds_alarm", {"alarm": NAMES[-1]}, float(NAMES[-1] in lasting)))
     samples.append(("rds_watch_timestamp_seconds", {}, utc))
-    return "".join(
-        _text(metric, [sample for sample in samples if sample[0] == metric.name]) for metric in METRICS
-    )
+    return "".join(_text(one, [sample for sample in samples if sample[0] == one.name]) for one in METRICS)
 
 
 def _text(metric: Metric, samples: Iterable[Sample]) -> str:
     lines: List[str] = [f"{name}{_labels(labels)} {value:.15g}\n" for name, labels, value in samples]
-    return (
-        f"# HELP {metric.name} {metric.help}\n# TYPE {metric.name} {metric.kind}\n" + "".join(lines)
-        if lines
-        else ""
-    )
+    head = f"# HELP {metric.name} {metric.help}\n# TYPE {metric.name} {metric.kind}\n"
+    return head + "".join(lines) if lines else ""
 
 
 def _labels(labels: Dict[str, str]) -> str:

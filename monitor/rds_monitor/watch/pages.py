@@ -38,6 +38,10 @@ HASH = base64.b64encode(hashlib.sha256(STYLE.encode()).digest()).decode()
 POLICY = f"default-src 'none'; style-src 'sha256-{HASH}'; base-uri 'none'; form-action 'none'"
 
 
+# By the names of stations.
+States = Dict[str, Dict[str, Any]]
+
+
 class Bar(NamedTuple):
     """Some minutes of a station: blocks sent, valid, corrected. Without a session none was sent."""
 
@@ -46,7 +50,7 @@ class Bar(NamedTuple):
     corrected: int
 
 
-def worst_first(states: Dict[str, Dict[str, Any]]) -> List[str]:
+def worst_first(states: States) -> List[str]:
     """The names of stations: by alarms, then by bad blocks."""
     order = ("critical", "warning", "fine")
 
@@ -59,7 +63,7 @@ def worst_first(states: Dict[str, Dict[str, Any]]) -> List[str]:
 
 def write_pages(
     folder: str,
-    states: Dict[str, Dict[str, Any]],
+    states: States,
     days: Dict[str, Availability],
     lasting: Dict[str, str],
     utc: float,
@@ -183,11 +187,7 @@ def _signal(state: Dict[str, Any]) -> str:
 
 
 def overview(
-    states: Dict[str, Dict[str, Any]],
-    bars: Dict[str, List[Bar]],
-    utc: float,
-    refresh: int,
-    lasting: Mapping[str, str] = {},
+    states: States, bars: Dict[str, List[Bar]], utc: float, refresh: int, lasting: Mapping[str, str] = {}
 ) -> str:
     tiles = "\n".join(_tile(name, states[name], bars[name], utc) for name in worst_first(states))
     count = sum(bool(state["alarms"]) for state in states.values())

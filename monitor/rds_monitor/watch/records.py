@@ -7,7 +7,7 @@ import sqlite3
 from typing import Any, Dict, List, NamedTuple, Optional, Sequence, Tuple, Union
 
 from ..db.parts import MINUTE_BITS, Told
-from ..db.store import SessionRows, Store
+from ..db.store import SessionRows, Store, transaction
 from ..rows.items import Totals
 from .times import Timing
 
@@ -136,16 +136,13 @@ class Records:
 
     def write(self, records: Sequence[Record]) -> None:
         """All of them, or none with an error of sqlite3."""
-        self.database.execute("BEGIN IMMEDIATE")
         try:
-            for record in records:
-                self._write(record)
-            self.database.execute("COMMIT")
+            with transaction(self.database):
+                for record in records:
+                    self._write(record)
         except BaseException:
             # Its notes are not there.
             self.forget()
-            if self.database.in_transaction:
-                self.database.execute("ROLLBACK")
             raise
 
     def forget(self) -> None:

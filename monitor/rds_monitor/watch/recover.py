@@ -51,9 +51,8 @@ def _open(folder: str, station: str, path: str, records: Records) -> None:
     if len(rows):
         timing = Timing(hour.start, hour.rate)
         begin = max(0, int(rows["place"][0]) - BLOCK_BITS)
-        records.write(
-            [PartOpened(PartKey(f"{station} {os.path.basename(path)}", 0), station, timing, begin, path)]
-        )
+        key = PartKey(f"{station} {os.path.basename(path)}", 0)
+        records.write([PartOpened(key, station, timing, begin, path)])
 
 
 def rows_of(path: str) -> Tuple[Rows, List[int]]:
@@ -87,13 +86,8 @@ def replay(folder: str, opened: OpenPart, records: Records) -> None:
     part.add(rows[told:])
     end = max(opened.end, int(ends_of(rows[-1:])[0]) if len(rows) else 0)
     part.close(end, last=True)
-    records.write(
-        [
-            PartTold(opened.key, known),
-            PartTold(opened.key, part.taken()),
-            PartGrew(opened.key, end, size, closed=True),
-        ]
-    )
+    told_again = [PartTold(opened.key, one) for one in (known, part.taken())]
+    records.write([*told_again, PartGrew(opened.key, end, size, closed=True)])
 
 
 def _before(folder: str, part: OpenPart, records: Records) -> Iterator[Rows]:

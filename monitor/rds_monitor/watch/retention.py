@@ -72,9 +72,8 @@ def _forget(records: Records, oldest: float) -> None:
         data.execute("DELETE FROM watched_rows WHERE end_at < ?", (oldest,))
         data.execute("UPDATE watched_rows SET begin_at = MAX(begin_at, ?)", (oldest,))
         if gone:
-            data.execute(
-                "DELETE FROM recordings WHERE NOT EXISTS (SELECT 1 FROM sessions WHERE recording = recordings.id)"
-            )
+            used = "SELECT 1 FROM sessions WHERE recording = recordings.id"
+            data.execute(f"DELETE FROM recordings WHERE NOT EXISTS ({used})")
             named = " UNION ".join(f"SELECT {item} FROM minute_rows WHERE {item} NOT NULL" for item in HELD)
             data.execute(f"DELETE FROM facts WHERE id NOT IN (SELECT fact FROM event_rows UNION {named})")
         data.execute("COMMIT")

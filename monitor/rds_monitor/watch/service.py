@@ -8,7 +8,7 @@ import os
 import shutil
 import signal
 import time
-from typing import Any, Tuple
+from typing import Any, NamedTuple, Optional
 
 from ..rows.clock import RATE, number_of
 from ..rows.decoders import NewDecoder, decoder_of
@@ -45,9 +45,8 @@ def options_watch(parser: argparse.ArgumentParser) -> None:
     parser.add_argument("--folder", metavar="FOLDER", help=text)
     text = "decode by processes of this program rds (default: by librds, or by rds if that is missing)"
     parser.add_argument("--program", metavar="PROGRAM", help=text)
-    parser.add_argument(
-        "--check", action="store_true", help="check the table and that its commands exist, and end"
-    )
+    text = "check the table and that its commands exist, and end"
+    parser.add_argument("--check", action="store_true", help=text)
     text = "let the clock go N times as fast, for tests and demonstrations"
     parser.add_argument("--speed", type=number_of, default=1.0, metavar="N", help=text)
 
@@ -61,12 +60,33 @@ def run_watch(arguments: argparse.Namespace) -> int:
     folder = arguments.folder or table.folder or os.environ.get("STATE_DIRECTORY", "").split(":")[0]
     if not folder:
         raise Fault("there is no folder to write to: name it by --folder, or 'folder' in the table")
-    decoder = decoder_of(arguments.program or table.program, ["follow"] if has_soft(table) else [])
-    return Service(arguments.table, table, os.path.abspath(folder), arguments.speed, decoder).run()
+    decoding = decoding_of(arguments.program or table.program, table)
+    return Service(arguments.table, decoding, os.path.abspath(folder), arguments.speed).run()
+
+
+class Decoding(NamedTuple):
+    """The program that was asked for, the decoder, its name, and the table as far as it can do that."""
+
+    program: Optional[str]
+    new: NewDecoder
+    name: str
+    table: Table
 
 
 def has_soft(table: Table) -> bool:
     return any(station.soft for station in table.stations)
+
+
+def decoding_of(program: Optional[str], table: Table) -> Decoding:
+    """Of a decoder without soft decisions, these are not taken by default."""
+    try:
+        return Decoding(program, *decoder_of(program, ["follow"] if has_soft(table) else []), table)
+    except Fault:
+        if table.needs_soft or not has_soft(table):
+            raise
+    decoding = Decoding(program, *decoder_of(program), table.hard())
+    say("notice", f"{decoding.name} has no soft decisions: blocks are corrected by bursts")
+    return decoding
 
 
 def check_table(table: Table) -> int:
@@ -77,7 +97,8 @@ def check_table(table: Table) -> int:
         commands.append((f"receiver {receiver.name}", receiver.command[0]))
     for station in table.stations:
         shared, own = station.receiver, () if station.receiver else station.command
-        print(f"{station.name}: {station.form}, {f'receiver {shared.name}' if shared else ' '.join(own)}")
+        form = f"{station.form}, soft decisions" if station.soft else station.form
+        print(f"{station.name}: {form}, {f'receiver {shared.name}' if shared else ' '.join(own)}")
         commands += [(station.name, words[0]) for words in (own, station.alarm_command) if words]
         warn_of_the_centre(station)
         allowed = min(pause for pause in (station.patience, station.alarms.silent) if pause is not None)
@@ -104,10 +125,9 @@ def warn_of_the_centre(station: StationTable) -> None:
 class Service:
     """The watch as a process: its signals, its pace, and its words to systemd."""
 
-    def __init__(self, path: str, table: Table, folder: str, speed: float, decoder: Tuple[NewDecoder, str]):
-        self._path, (new_decoder, self._decoded_by) = path, decoder
+    def __init__(self, path: str, decoding: Decoding, folder: str, speed: float):
+        self._path, self._decoding, table = path, decoding, decoding.table
         self._ending = self._rereading = False
-        self._has_soft = has_soft(table)
         os.makedirs(folder, exist_ok=True)
         self._lock = self._only_one(folder)
         self._records = Records(os.path.join(folder, "watch.db"))
@@ -121,7 +141,7 @@ class Service:
         self._records.end_runs(times.now().utc)
         self._writer = Writer(folder, self._records, say)
         self._thread = WriterThread(self._writer)
-        self._watch = Watch(table, folder, times, Process, new_decoder, self._thread, self._records, say)
+        self._watch = Watch(table, folder, times, Process, decoding.new, self._thread, self._records, say)
 
     @staticmethod
     def _only_one(folder: str) -> int:
@@ -141,7 +161,7 @@ class Service:
         # A reader of standard error that leaves must not end the watch.
         signal.signal(signal.SIGPIPE, signal.SIG_IGN)
         self._thread.start()
-        say("info", f"{len(self._watch.stations)} stations are watched, decoded by {self._decoded_by}")
+        say("info", f"{len(self._watch.stations)} stations are watched, decoded by {self._decoding.name}")
         notify("READY=1")
         try:
             self._go_on()
@@ -174,14 +194,20 @@ class Service:
     def _read_table(self) -> None:
         notify(f"RELOADING=1\nMONOTONIC_USEC={time.monotonic_ns() // 1000}")
         try:
-            table = read_table(self._path)
-            if has_soft(table) and not self._has_soft:
-                raise Fault("soft decisions need a restart")
-            self._watch.reload(table)
+            self._watch.reload(self._fitted(read_table(self._path)))
             say("notice", f"the table is read again: {len(self._watch.stations)} stations")
         except Fault as error:
             say("error", f"the old table holds: {error}")
         notify("READY=1")
+
+    def _fitted(self, table: Table) -> Table:
+        """As far as the decoder can do it."""
+        if not has_soft(table):
+            return table
+        decoding = decoding_of(self._decoding.program, table)
+        if decoding.name != self._decoding.name:
+            raise Fault(f"soft decisions by {decoding.name} need a restart")
+        return decoding.table
 
     def _leave(self) -> int:
         """Ends the sessions and writes them, for some seconds at most."""

@@ -4,7 +4,7 @@ from __future__ import annotations
 
 import re
 from collections import deque
-from typing import Deque, Dict, List, Optional, Tuple
+from typing import Any, Deque, Dict, List, Optional, Tuple
 
 from .. import ITSELF
 from .receiver import Keeper, Launch
@@ -68,6 +68,14 @@ class SharedReceiver:
             self.keeper.stop(now, reason)
 
 
+def of_keeper(name: str) -> Any:
+    """What the keeper of all stations has by this name."""
+    return property(
+        lambda tap: getattr(tap._shared.keeper, name),
+        lambda tap, value: setattr(tap._shared.keeper, name, value),
+    )
+
+
 class Tap:
     """A station's part of a shared receiver, as if that were the keeper of a command of its own."""
 
@@ -85,35 +93,14 @@ class Tap:
             self.last_byte = now
         return data
 
-    @property
-    def patience(self) -> float:
-        return self._shared.keeper.patience
-
-    @patience.setter
-    def patience(self, seconds: float) -> None:
-        self._shared.keeper.patience = seconds
-
-    @property
-    def starts(self) -> int:
-        return self._shared.keeper.starts
-
-    @property
-    def reason(self) -> str:
-        return self._shared.keeper.reason
-
-    @reason.setter
-    def reason(self, text: str) -> None:
-        self._shared.keeper.reason = text
+    patience, reason = of_keeper("patience"), of_keeper("reason")
+    starts, is_stopping = of_keeper("starts"), of_keeper("is_stopping")
 
     @property
     def is_running(self) -> bool:
         """For a station that left while others go on, it does not."""
         goes_on_without = self.is_stopped and not self._shared.is_stopped
         return self._shared.keeper.is_running and not goes_on_without
-
-    @property
-    def is_stopping(self) -> bool:
-        return self._shared.keeper.is_stopping
 
     def stop_run(self, now: float, reason: str) -> None:
         """The run of all stations ends."""

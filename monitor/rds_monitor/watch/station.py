@@ -242,12 +242,8 @@ class Station:
         for minute in told.minutes:
             for name in self._blocks:
                 self._blocks[name] += getattr(minute.blocks, name)
-            self._last_minute = {
-                "utc": timing.utc(minute.blocks.begin),
-                "sent": minute.blocks.sent,
-                "valid": minute.blocks.valid,
-                "corrected": minute.blocks.corrected,
-            }
+            counts = {name: getattr(minute.blocks, name) for name in ("sent", "valid", "corrected")}
+            self._last_minute = {"utc": timing.utc(minute.blocks.begin), **counts}
             self._clock_s = minute.clock_s if minute.clock_s is not None else self._clock_s
 
     # ---- its state

@@ -5,7 +5,7 @@ from __future__ import annotations
 import importlib
 import re
 from dataclasses import dataclass, field, fields, replace
-from typing import Any, Callable, Dict, NamedTuple, Optional, Set, Tuple
+from typing import Any, Callable, Dict, Iterable, NamedTuple, Optional, Set, Tuple
 
 from ..rows.compressed import zstandard
 from ..rows.items import Fault
@@ -56,7 +56,7 @@ class ReceiverTable:
     rate: int
     centre: float
     form: str = "iq"
-    soft: bool = False
+    soft: bool = True
     patience: float = 10
     tuned: Tuple[Tuned, ...] = ()
 
@@ -116,6 +116,14 @@ class Table(NamedTuple):
     # that decodes, in place of librds
     program: Optional[str] = None
     receivers: Tuple[ReceiverTable, ...] = ()
+    # Whether it says `soft = true`: soft decisions by default need no decoder that has them.
+    needs_soft: bool = False
+
+    def hard(self) -> Table:
+        """The same without soft decisions."""
+        receivers = {one.name: replace(one, soft=False) for one in self.receivers}
+        hard = (replace(one, soft=False) for one in self.stations)
+        return self._replace(stations=_received(hard, receivers), receivers=tuple(receivers.values()))
 
 
 # ---- values
@@ -176,9 +184,7 @@ def _words(value: Any, of: str) -> Tuple[str, ...]:
 
 
 _text = _rule(_is_text, "a text is", str)
-_number = _rule(
-    lambda value: _is_number(value) and 0 <= value < 1e12, "a number that is not below 0 is", float
-)
+_number = _rule(lambda one: _is_number(one) and 0 <= one < 1e12, "a number that is not below 0 is", float)
 _patterns = _rule(
     lambda value: value != [] and all(isinstance(text, str) and text.strip() for text in _texts(value)),
     "a pattern or a list of patterns is",
@@ -282,7 +288,8 @@ def table_of(text: str) -> Table:
     if kept.compress:
         zstandard("keep.compress needs zstd: install python3-zstandard")
     found = {station.receiver.name: station.receiver for station in stations if station.receiver}
-    return Table(folder, kept, stations, program, tuple(found.values()))
+    needs_soft = any(one.get("soft") for one in (defaults, *listed, *given.get("receiver", [])))
+    return Table(folder, kept, stations, program, tuple(found.values()), needs_soft)
 
 
 def _known(given: Any, names: Set[str], of: str) -> Dict[str, Any]:
@@ -307,9 +314,8 @@ def _receivers(listed: Any) -> Dict[str, ReceiverTable]:
         for key in ("name", "command", "raw", "rate", "centre"):
             if key not in values:
                 raise Fault(f"{of} has no {key!r}")
-        receiver = ReceiverTable(
-            **{key: RECEIVER_JUDGES[key](value, f"{key} of {of}") for key, value in values.items()}
-        )
+        judged = {key: RECEIVER_JUDGES[key](value, f"{key} of {of}") for key, value in values.items()}
+        receiver = ReceiverTable(**judged)
         if receiver.name in found:
             raise Fault(f"there are two receivers {receiver.name!r}")
         found[receiver.name] = receiver
@@ -330,10 +336,14 @@ def _tuned(
             if one.hertz == other.hertz:
                 raise Fault(f"receiver {name!r} has two stations at {one.hertz / 1e6:g} MHz")
         whole[name] = replace(receiver, tuned=tuned)
-    return tuple(
-        replace(station, receiver=whole[station.receiver.name]) if station.receiver else station
-        for station in stations
-    )
+    return _received(stations, whole)
+
+
+def _received(
+    stations: Iterable[StationTable], receivers: Dict[str, ReceiverTable]
+) -> Tuple[StationTable, ...]:
+    """With the receivers of these names."""
+    return tuple(replace(one, receiver=one.receiver and receivers[one.receiver.name]) for one in stations)
 
 
 def _station(
@@ -356,6 +366,7 @@ def _station(
     elif "equaliser" not in found:
         # Of a receiver's only station.
         found["equaliser"] = found.get("form") == "iq"
+    found.setdefault("soft", found.get("form", "bits") != "bits")
     station = StationTable(**found, alarms=replace(AlarmLimits(), **limits))
     _judge_form(station, of)
     return station
@@ -377,9 +388,8 @@ def _of_receiver(
     if not is_inside(receiver.offset(frequency), receiver.rate):
         reach = (receiver.rate / 2 - HALF_CHANNEL_HZ) / 1e6
         band = f"{receiver.centre - reach:.10g} to {receiver.centre + reach:.10g} MHz"
-        raise Fault(
-            f"{of}: {frequency:g} MHz is not in the band of receiver {receiver.name!r}: that has {band}"
-        )
+        text = f"{of}: {frequency:g} MHz is not in the band of receiver {receiver.name!r}"
+        raise Fault(f"{text}: that has {band}")
     common = {"command": list(receiver.command), "form": receiver.form, "patience": receiver.patience}
     common.update(raw=receiver.raw, rate=receiver.rate, soft=receiver.soft)
     return {**{key: value for key, value in merged.items() if key not in OF_RECEIVER}, **common}

@@ -28,10 +28,8 @@ class Times:
         self._steady, self.begin = time.monotonic(), time.time()
 
     def now(self) -> Now:
-        steady, utc = time.monotonic(), time.time()
-        return Now(
-            self._steady + (steady - self._steady) * self.speed, self.begin + (utc - self.begin) * self.speed
-        )
+        begins, now = (self._steady, self.begin), (time.monotonic(), time.time())
+        return Now(*(begin + (at - begin) * self.speed for begin, at in zip(begins, now)))
 
 
 class SteadyUtc:

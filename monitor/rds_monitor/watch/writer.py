@@ -166,9 +166,7 @@ class Writer:
 def last_states(records: Sequence[Record]) -> List[Record]:
     """Without the states of stations that a later one replaces."""
     last = {record.station: record for record in records if isinstance(record, StateSeen)}
-    return [
-        record for record in records if not isinstance(record, StateSeen) or last[record.station] is record
-    ]
+    return [one for one in records if not isinstance(one, StateSeen) or last[one.station] is one]
 
 
 def newest(records: List[Record]) -> List[Record]:

@@ -14,31 +14,19 @@ abbrev pub b : Signal
 b = ungapped (bits_of (zero_group ++ zero_group) 208)
 
 -- an acquisition and a group
-pub end_of_the_first : (guess b default_rules 0 104).0 ≡ Locked (lock_of 129 1 0 1)
+pub the_first : ((guess b default_rules 0 104).0 ≡ Locked (lock_of 129 1 0 1)) × (length (guess b default_rules 0 104).1 ≡ 2)
 unfolding acquired has_number group rem window touched heard offset_at
-end_of_the_first = refl
-
-pub items_of_the_first : length (guess b default_rules 0 104).1 ≡ 2
-unfolding acquired has_number group rem window touched heard offset_at
-items_of_the_first = refl
+the_first = (refl, refl)
 
 -- its windows look before the cut, so its first block is known
-pub acquired_at_the_cut : (guess b default_rules 104 26).0 ≡ Locked (lock_of 155 2 0 1)
+pub the_second : ((guess b default_rules 104 26).0 ≡ Locked (lock_of 155 2 0 1)) × (length (guess b default_rules 104 104).1 ≡ 2)
 unfolding acquired has_number group rem window touched heard offset_at
-acquired_at_the_cut = refl
-
-pub items_of_the_second : length (guess b default_rules 104 104).1 ≡ 2
-unfolding acquired has_number group rem window touched heard offset_at
-items_of_the_second = refl
+the_second = (refl, refl)
 
 -- joined, the acquisition of the second is not among them
-pub end_of_both : (guess b default_rules 0 208).0 ≡ Locked (lock_of 233 1 0 1)
+pub both : ((guess b default_rules 0 208).0 ≡ Locked (lock_of 233 1 0 1)) × (length (guess b default_rules 0 208).1 ≡ 3)
 unfolding acquired has_number group rem window touched heard offset_at
-end_of_both = refl
-
-pub items_of_both : length (guess b default_rules 0 208).1 ≡ 3
-unfolding acquired has_number group rem window touched heard offset_at
-items_of_both = refl
+both = (refl, refl)
 
 pub marks_of_the_first : marks_of b default_rules Searching 0 104 ≡
     record { place = 0; state = Searching; items = 0 }

@@ -2,16 +2,11 @@
 -- call, has them at hand; no public call cites it.
 use Rattle.rds_code.specs.Laws.{ReadsByRule}
 use Rattle.rds_sync.specs.Counting.{TotalsJoin}
-use Rattle.rds_sync.specs.Laws.{RunsAreReports, RunsJoin, StepsAreLawful, RunsAreLawful, OneBitRuns, LocksWait}
-use Rattle.rds_sync.specs.Laws.{ItemsMarkChanges}
+use Rattle.rds_sync.specs.Laws.{RunsAreReports, RunsJoin, RunsAreLawful}
 
 pub record RunLaws : Type 0 where
   pub reports : RunsAreReports
   pub join : RunsJoin
-  pub lawful_steps : StepsAreLawful
   pub lawful_runs : RunsAreLawful
-  pub one_bit : OneBitRuns
-  pub wait : LocksWait
-  pub changes : ItemsMarkChanges
   pub totals : TotalsJoin
   pub readings : ReadsByRule

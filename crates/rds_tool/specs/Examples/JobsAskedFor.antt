@@ -20,7 +20,7 @@ use Rattle.rds_tool.specs.declared.job.Ignored.TheVariants as ignored
 use Rattle.rds_tool.specs.declared.job.Job.{Job}
 use Rattle.rds_tool.specs.declared.job.Job.TheVariants.{Encode, List as ListJob, Scan, Totals}
 use Rattle.rds_tool.specs.declared.job.Request.{Request}
-use Rattle.rds_tool.specs.declared.job.Request.TheVariants.{Job as AskedJob, Follow}
+use Rattle.rds_tool.specs.declared.job.Request.TheVariants.{Job as AskedJob, Follow, FollowSoft}
 use Rattle.rds_tool.specs.Examples.CommandLines.{each_option}
 use Rattle.rds_tool.specs.Examples.Words.{default_settings, hex_bits, raw_bits, raw_input, settings_of, share_settings}
 
@@ -76,6 +76,8 @@ pub streams : AskFor (
     (codes "follow" ∷ [], only (Follow raw_input default_rules 1))
     ∷ (codes "follow" ∷ codes "--share=9" ∷ codes "--of" ∷ codes "12" ∷ [], only (Follow raw_input (record default_rules { loss = Share 9 12 }) 1))
     ∷ (codes "follow" ∷ codes "--workers=4" ∷ [], only (Follow raw_input default_rules 4))
+    ∷ (codes "follow" ∷ codes "--soft" ∷ codes "--workers=4" ∷ [], only (FollowSoft raw_input default_rules 32 4))
+    ∷ (codes "follow" ∷ codes "--margin=20" ∷ codes "--soft" ∷ [], only (FollowSoft raw_input default_rules 20 1))
     ∷ []
     )
 unfolding walked

@@ -1,5 +1,5 @@
 -- Items that were counted.
-use Rattle.std.specs.Prelude.{◌≡◌, ◌*◌, ◌^◌, Bool, List, length, map, ℕ}
+use Rattle.std.specs.Prelude.{◌≡◌, ◌*◌, ◌^◌, ◌<◌, Bool, List, length, map, slice_index_or, ℕ}
 use Rattle.rds_soft.specs.SoftTotals.{AreAtMost, soft_totals_of}
 use Rattle.rds_soft.specs.declared.soft_item.SoftItem.{SoftItem}
 use Rattle.rds_soft.specs.declared.soft_totals.SoftTotals.{SoftTotals}
@@ -32,3 +32,7 @@ row_of_source has_rows source = row_again has_rows source.recording source.symbo
 -- the rows of its totals
 abbrev pub totals_of_source : SoftSource → List Item → List ℕ
 totals_of_source source = totals_again source.recording source.symbols.items source.margin
+
+-- place i of this room has the item read again
+abbrev pub IsReadAt : (Item → SoftItem) → List SoftItem → ℕ → Item → Type 0
+IsReadAt again room i item = (i < length room) × ((other : SoftItem) → slice_index_or room i other ≡ again item)

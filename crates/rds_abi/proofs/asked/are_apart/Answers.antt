@@ -1,7 +1,4 @@
-use Rattle.std.proofs.Common.{sym, ◌∙◌, leb, leb-true, rules, Bool, true≢false, inl, inr}
-use Rattle.std.proofs.lemmas.Bool.{MatchBool-at_true, MatchBool-at_false, cases_Bool, le-leb}
-use Rattle.std.proofs.lemmas.List.Sorted.{answers_always}
-use Rattle.rds_abi.specs.declared.layout.RdsGap.{RdsGap}
+use Rattle.rds_abi.proofs.Shared.{sym, ◌∙◌, leb, leb-true, rules, Bool, true≢false, inl, inr, MatchBool-at_true, MatchBool-at_false, cases_Bool, le-leb, answers_always, RdsGap}
 use Rattle.rds_abi.proofs.asked.are_apart.Goals as goal
 
 pub returns : goal.returns

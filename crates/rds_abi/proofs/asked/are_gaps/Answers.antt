@@ -1,5 +1,4 @@
-use Rattle.std.proofs.Common.{sym, ◌∙◌}
-use Rattle.std.proofs.lemmas.Bool.{false≢true}
+use Rattle.rds_abi.proofs.Shared.{sym, ◌∙◌, false≢true}
 use Rattle.rds_abi.proofs.GapLists.{are-gaps, gaps-apart, gaps-lie}
 use Rattle.rds_abi.proofs.asked.are_gaps.Goals as goal
 

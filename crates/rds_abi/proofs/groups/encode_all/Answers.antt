@@ -1,6 +1,4 @@
-use Rattle.std.proofs.Common.{arith, ◌∙◌}
-use Rattle.std.proofs.lemmas.List.{length-set}
-use Rattle.rds_abi.specs.Blocks.{packed}
+use Rattle.rds_abi.proofs.Shared.{arith, ◌∙◌, length-set, packed}
 use Rattle.rds_abi.proofs.Rooms.{one_written, still_kept}
 use Rattle.rds_abi.proofs.groups.encode_all.Goals as goal
 

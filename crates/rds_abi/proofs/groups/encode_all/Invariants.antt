@@ -1,5 +1,4 @@
-use Rattle.std.proofs.Common.{◌≡◌, drop, length, map, take}
-use Rattle.rds_abi.specs.Blocks.{packed}
+use Rattle.rds_abi.proofs.Shared.{◌≡◌, drop, length, map, take, packed}
 use Rattle.rds_abi.proofs.groups.encode_all.Given as goal
 
 abbrev pub invariant-loop-i : goal.invariant-loop-i

@@ -1,10 +1,6 @@
-use Rattle.std.proofs.Common.{rules, tests, ◌∙◌}
+use Rattle.rds_abi.proofs.Shared.{rules, tests, ◌∙◌, IfOk-weaker, part_of_gap, gap_of, RdsGap}
 use Rattle.std.proofs.lemmas.Iterator.{YieldsList-from_slice, items_from_collect}
 use Rattle.std.proofs.lemmas.Iterator.Consumers.{YieldsList-from_filter_map}
-use Rattle.std.proofs.lemmas.Result.{IfOk-weaker}
-use Rattle.rds_live.specs.Gaps.{part_of_gap}
-use Rattle.rds_abi.specs.Asked.{gap_of}
-use Rattle.rds_abi.specs.declared.layout.RdsGap.{RdsGap}
 use Rattle.rds_abi.proofs.GapLists.{parts-of-gaps}
 use Rattle.rds_abi.proofs.part.gaps_within.Goals as goal
 

@@ -1,9 +1,4 @@
-use Rattle.std.proofs.Common.{◌≡◌, ◌-◌, ◌^◌, List, arith, drop, leb, length, length-drop, ltb, rules, subst, sym, take}
-use Rattle.std.proofs.lemmas.List.{take_all}
-use Rattle.std.proofs.lemmas.List.Sorted.{IsPartitionPoint-from_clause, IsPartitionedBy-leb, IsPartitionedBy-ltb}
-use Rattle.rds_stream.specs.Recording.{AreGaps}
-use Rattle.rds_abi.specs.Asked.{gaps_of}
-use Rattle.rds_abi.specs.declared.layout.RdsGap.{RdsGap}
+use Rattle.rds_abi.proofs.Shared.{◌≡◌, ◌-◌, ◌^◌, List, arith, drop, leb, length, length-drop, ltb, rules, subst, sym, take, take_all, IsPartitionPoint-from_clause, IsPartitionedBy-leb, IsPartitionedBy-ltb, AreGaps, gaps_of, RdsGap}
 use Rattle.rds_abi.proofs.GapLists.{begins-rise, ends-rise, near-same, some-gaps}
 use Rattle.rds_abi.proofs.part.near.Goals as goal
 

@@ -1,10 +1,4 @@
-use Rattle.std.proofs.Common.{◌≡◌, ◌-◌, ◌*◌, ◌/◌, ◌≤◌, ◌⊎◌, ℕ, List, ap, ap₂, arith, inl, inr, refl, ◌∙◌}
-use Rattle.std.proofs.lemmas.Bool.{cases_lt, false≢true}
-use Rattle.rds_stream.specs.Recording.{Signal, length_of}
-use Rattle.rds_live.specs.StreamDecoder.{signal_at}
-use Rattle.rds_live.proofs.GapParts.{found-of-part}
-use Rattle.rds_live.proofs.Parts.{length-at}
-use Rattle.rds_abi.specs.Asked.{gaps_of}
+use Rattle.rds_abi.proofs.Shared.{◌≡◌, ◌-◌, ◌*◌, ◌/◌, ◌≤◌, ◌⊎◌, ℕ, List, ap, ap₂, arith, inl, inr, refl, ◌∙◌, cases_lt, false≢true, Signal, length_of, signal_at, found-of-part, length-at, gaps_of}
 use Rattle.rds_abi.proofs.PartRuns.{slice-heard}
 use Rattle.rds_abi.proofs.part.part_of.Goals as goal
 

@@ -1,13 +1,6 @@
-use Rattle.std.proofs.Common.{◌+◌, ◌^◌, ◌<◌, ◌∷◌, [], ◌∙◌, arith, ap, sym, subst, zero, List}
-use Rattle.std.specs.List.{All}
-use Rattle.rds_stream.specs.Recording.{length_of}
+use Rattle.rds_abi.proofs.Shared.{◌+◌, ◌^◌, ◌<◌, ◌∷◌, [], ◌∙◌, arith, ap, sym, subst, zero, List, All, length_of, Item, group_item, items_of_end, place_of, due-soon, end-early}
 use Rattle.rds_stream.specs.Tape.{TapeState}
-use Rattle.rds_sync.specs.declared.item.Item.{Item}
 use Rattle.rds_sync.specs.declared.item.Item.TheVariants.{Group}
-use Rattle.rds_sync.specs.Advance.{group_item}
-use Rattle.rds_sync.specs.Step.{items_of_end}
-use Rattle.rds_live.specs.Places.{place_of}
-use Rattle.rds_live.proofs.ItemPlaces.{due-soon, end-early}
 use Rattle.rds_abi.proofs.ranges.end_of.Goals as goal
 
 pub overflow_add-result : goal.overflow_add-result

@@ -1,12 +1,5 @@
-use Rattle.std.proofs.Common.{◌≡◌, ◌++◌, ◌+◌, ◌^◌, ◌<◌, ◌∷◌, ◌∙◌, List, ap, arith, length, map, rules, subst, sym, take}
-use Rattle.std.specs.List.{All}
-use Rattle.std.specs.Prelude.{slice_set}
+use Rattle.rds_abi.proofs.Shared.{◌≡◌, ◌++◌, ◌+◌, ◌^◌, ◌<◌, ◌∷◌, ◌∙◌, List, ap, arith, length, map, rules, subst, sym, take, All, slice_set, Item, moved_item, moved_items, place_of, item_in_c, RdsItem}
 use Rattle.std.proofs.lemmas.List.Elements.{All-tail}
-use Rattle.rds_sync.specs.declared.item.Item.{Item}
-use Rattle.rds_live.specs.Moving.{moved_item, moved_items}
-use Rattle.rds_live.specs.Places.{place_of}
-use Rattle.rds_abi.specs.Layout.{item_in_c}
-use Rattle.rds_abi.specs.declared.layout.RdsItem.{RdsItem}
 use Rattle.rds_abi.proofs.Rooms.{before_rest, still_kept}
 use Rattle.rds_abi.proofs.ranges.fill_run.Goals as goal
 

@@ -1,9 +1,4 @@
-use Rattle.std.proofs.Common.{◌≡◌, ◌++◌, ◌+◌, ◌<◌, ◌^◌, drop, length, map, take}
-use Rattle.std.specs.List.{All}
-use Rattle.rds_sync.specs.declared.item.Item.{Item}
-use Rattle.rds_live.specs.Moving.{moved_items}
-use Rattle.rds_live.specs.Places.{place_of}
-use Rattle.rds_abi.specs.Layout.{item_in_c}
+use Rattle.rds_abi.proofs.Shared.{◌≡◌, ◌++◌, ◌+◌, ◌<◌, ◌^◌, drop, length, map, take, All, Item, moved_items, place_of, item_in_c}
 use Rattle.rds_abi.proofs.ranges.fill_run.Given as goal
 
 abbrev pub invariant-loop-item : goal.invariant-loop-item

@@ -1,14 +1,7 @@
-use Rattle.std.proofs.Common.{◌-◌, ◌<◌, ◌^◌, ap, arith, refl, subst, sym, ◌∙◌}
-use Rattle.std.specs.List.{All}
-use Rattle.rds_sync.specs.declared.item.Item.{Item}
-use Rattle.rds_live.specs.Places.{place_of}
+use Rattle.rds_abi.proofs.Shared.{◌-◌, ◌<◌, ◌^◌, ap, arith, refl, subst, sym, ◌∙◌, All, Item, place_of, State, moved_state, run-early, state_in_c}
 use Rattle.rds_sync.specs.Decoding.{DecoderOf}
 use Rattle.rds_sync.specs.Lawful.{IsLawful}
-use Rattle.rds_sync.specs.declared.state.State.{State}
-use Rattle.rds_live.specs.Moving.{moved_state}
 use Rattle.rds_live.proofs.Following.{lawful-on}
-use Rattle.rds_live.proofs.ItemPlaces.{run-early}
-use Rattle.rds_abi.specs.Ranges.{state_in_c}
 use Rattle.rds_abi.proofs.ranges.go_on.Goals as goal
 
 pub fill_run-requires-clause-early : goal.fill_run-requires-clause-early

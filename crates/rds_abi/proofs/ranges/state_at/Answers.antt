@@ -1,4 +1,4 @@
-use Rattle.std.proofs.Common.{inl, inr, refl, ⊎_elim}
+use Rattle.rds_abi.proofs.Shared.{inl, inr, refl, ⊎_elim}
 use Rattle.rds_abi.proofs.ranges.state_at.Goals as goal
 
 pub returns-then-to-from-clause-refused : goal.returns-then-to-from-clause-refused

@@ -1,9 +1,4 @@
-use Rattle.std.proofs.Common.{◌≡◌, ◌<◌, ◌==◌, ℕ, arith, if◌then◌else◌, inl, inr, sym, ◌∙◌}
-use Rattle.rds_sync.specs.Lawful.{AreInOrder}
-use Rattle.rds_sync.specs.Step.{lock_of}
-use Rattle.rds_sync.specs.declared.state.State.{State}
-use Rattle.rds_sync.specs.declared.state.State.TheVariants.{Locked, Searching}
-use Rattle.rds_abi.specs.Ranges.{state_of}
+use Rattle.rds_abi.proofs.Shared.{◌≡◌, ◌<◌, ◌==◌, ℕ, arith, if◌then◌else◌, inl, inr, sym, ◌∙◌, AreInOrder, lock_of, State, Locked, Searching, state_of}
 use Rattle.rds_abi.proofs.ranges.state_in_c.Goals as goal
 
 -- a lawful lock waits for a block that has a number

@@ -1,11 +1,4 @@
-use Rattle.std.proofs.Common.{◌≡◌, ℕ, List, ap, inl, length, subst, sym, ◌∙◌}
-use Rattle.std.proofs.lemmas.Result.{err_from_is_err_and}
-use Rattle.rds_sync.specs.Advance.{group_item}
-use Rattle.rds_sync.specs.Totals.{totals_of}
-use Rattle.rds_live.specs.StreamDecoder.{HasHeard, LiveOf, report_of}
-use Rattle.rds_abi.specs.Stream.{AreClosed, AreTooMany}
-use Rattle.rds_abi.specs.Layout.{totals_in_c}
-use Rattle.rds_abi.specs.declared.refusal.Refusal.{Refusal}
+use Rattle.rds_abi.proofs.Shared.{◌≡◌, ℕ, List, ap, inl, length, subst, sym, ◌∙◌, err_from_is_err_and, group_item, totals_of, HasHeard, LiveOf, report_of, AreClosed, AreTooMany, totals_in_c, Refusal}
 use Rattle.rds_abi.proofs.Streams.{closed, too_many}
 use Rattle.rds_abi.proofs.stream.close.Goals as goal
 

@@ -1,8 +1,4 @@
-use Rattle.std.proofs.Common.{◌≡◌, ◌+◌, ◌*◌, ◌/◌, ◌%◌, ◌++◌, ◌∙◌, ℕ, List, ap, ap₂, append_assoc, arith, drop, length, take}
-use Rattle.std.proofs.lemmas.List.{length-append, take-append-drop}
-use Rattle.rds_live.specs.StreamDecoder.{Terms, complete, report_at}
-use Rattle.rds_sync.specs.declared.item.Item.{Item}
-use Rattle.rds_sync.specs.Totals.{totals_of}
+use Rattle.rds_abi.proofs.Shared.{◌≡◌, ◌+◌, ◌*◌, ◌/◌, ◌%◌, ◌++◌, ◌∙◌, ℕ, List, ap, ap₂, append_assoc, arith, drop, length, take, length-append, take-append-drop, Terms, complete, report_at, Item, totals_of}
 use Rattle.rds_abi.proofs.stream.end_of_stream.Goals as goal
 
 -- the whole bytes are taken first, and then the bits of the one that is left

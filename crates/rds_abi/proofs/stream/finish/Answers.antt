@@ -1,4 +1,4 @@
-use Rattle.std.proofs.lemmas.Result.{IfErr-weaker}
+use Rattle.rds_abi.proofs.Shared.{IfErr-weaker}
 use Rattle.rds_abi.proofs.Streams.{refused_end}
 use Rattle.rds_abi.proofs.stream.finish.Goals as goal
 

@@ -1,7 +1,4 @@
-use Rattle.std.proofs.Common.{inl, length, subst, sym}
-use Rattle.std.proofs.lemmas.Result.{err_from_is_err_and}
-use Rattle.rds_abi.specs.Stream.{AreLeft, AreTooMany, terms_of}
-use Rattle.rds_abi.specs.declared.refusal.Refusal.{Refusal}
+use Rattle.rds_abi.proofs.Shared.{inl, length, subst, sym, err_from_is_err_and, AreLeft, AreTooMany, terms_of, Refusal}
 use Rattle.rds_abi.proofs.Streams.{too_many}
 use Rattle.rds_abi.proofs.stream.finish_with.Goals as goal
 

@@ -1,9 +1,4 @@
-use Rattle.std.proofs.Common.{◌≡◌, ◌<◌, arith, inl, inr, length, refl, subst, take}
-use Rattle.std.proofs.lemmas.List.{length-map}
-use Rattle.rds_live.specs.StreamDecoder.{LiveOf}
-use Rattle.rds_live.specs.Next.{completed}
-use Rattle.rds_abi.specs.Stream.{stream_in_c, stream_of}
-use Rattle.rds_abi.specs.Layout.{item_in_c}
+use Rattle.rds_abi.proofs.Shared.{◌≡◌, ◌<◌, arith, inl, inr, length, refl, subst, take, length-map, LiveOf, completed, stream_in_c, stream_of, item_in_c}
 use Rattle.rds_abi.proofs.stream.go_on.Goals as goal
 
 pub returns-in-Ok-clause-after : goal.returns-in-Ok-clause-after

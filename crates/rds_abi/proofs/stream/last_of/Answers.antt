@@ -1,6 +1,4 @@
-use Rattle.std.proofs.Common.{◌≡◌, ◌++◌, ◌+◌, ◌*◌, ℕ, List, length, subst}
-use Rattle.rds_sync.specs.Totals.{totals_of}
-use Rattle.rds_live.specs.StreamDecoder.{HasHeard, LiveOf, report_at}
+use Rattle.rds_abi.proofs.Shared.{◌≡◌, ◌++◌, ◌+◌, ◌*◌, ℕ, List, length, subst, totals_of, HasHeard, LiveOf, report_at}
 use Rattle.rds_abi.proofs.Streams.{left}
 use Rattle.rds_abi.proofs.stream.last_of.Goals as goal
 

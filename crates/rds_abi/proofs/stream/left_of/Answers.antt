@@ -1,4 +1,4 @@
-use Rattle.std.proofs.lemmas.Result.{IfErr-weaker}
+use Rattle.rds_abi.proofs.Shared.{IfErr-weaker}
 use Rattle.rds_abi.proofs.Streams.{refused_last}
 use Rattle.rds_abi.proofs.stream.left_of.Goals as goal
 

@@ -1,14 +1,4 @@
-use Rattle.std.proofs.Common.{◌∙◌, ◌/◌, ◌^◌, List, ap, arith, length, map, min, refl, subst, take}
-use Rattle.std.proofs.lemmas.List.{length-take}
-use Rattle.std.proofs.lemmas.Result.{err_from_is_err_and}
-use Rattle.rds_live.specs.Next.{completed}
-use Rattle.rds_live.specs.StreamDecoder.{most_kept}
-use Rattle.rds_sync.specs.declared.item.Item.{Item}
-use Rattle.rds_abi.specs.Asked.{IsFilled, gaps_of}
-use Rattle.rds_abi.specs.Stream.{stream_in_c, stream_of, terms_of, totals_from_c}
-use Rattle.rds_sync.specs.Rules.{RuleNumbers}
-use Rattle.rds_abi.specs.Ranges.{state_of}
-use Rattle.rds_abi.specs.Layout.{item_in_c}
+use Rattle.rds_abi.proofs.Shared.{◌∙◌, ◌/◌, ◌^◌, List, ap, arith, length, map, min, refl, subst, take, length-take, err_from_is_err_and, completed, most_kept, Item, IsFilled, gaps_of, stream_in_c, stream_of, terms_of, totals_from_c, RuleNumbers, state_of, item_in_c}
 use Rattle.rds_abi.proofs.Fitting.{few-completed, roomy}
 use Rattle.rds_abi.proofs.NearStreams.{are-completed, heard-next, left-near, pushed-after, pushed-completed, pushed-most, pushed-refused}
 use Rattle.rds_abi.proofs.Streams.{refused_push}

@@ -1,7 +1,5 @@
-use Rattle.std.proofs.Common.{◌++◌, List, ap, ◌∙◌}
+use Rattle.rds_abi.proofs.Shared.{◌++◌, List, ap, ◌∙◌, group_item, Item}
 use Rattle.std.specs.Prelude.{Some}
-use Rattle.rds_sync.specs.Advance.{group_item}
-use Rattle.rds_sync.specs.declared.item.Item.{Item}
 use Rattle.rds_abi.proofs.stream.push_end.Goals as goal
 
 pub returns-in_ok-push : goal.returns-in_ok-push

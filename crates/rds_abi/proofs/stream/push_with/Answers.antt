@@ -1,6 +1,4 @@
-use Rattle.std.proofs.Common.{◌++◌, ◌∙◌, List, ap, append_assoc, sym}
-use Rattle.rds_sync.specs.Advance.{group_item}
-use Rattle.rds_sync.specs.declared.item.Item.{Item}
+use Rattle.rds_abi.proofs.Shared.{◌++◌, ◌∙◌, List, ap, append_assoc, sym, group_item, Item}
 use Rattle.rds_abi.proofs.stream.push_with.Goals as goal
 
 pub returns-clause-items : goal.returns-clause-items

@@ -1,4 +1,4 @@
-use Rattle.std.proofs.Common.{arith, inl, inr, refl, rules}
+use Rattle.rds_abi.proofs.Shared.{arith, inl, inr, refl, rules}
 use Rattle.rds_abi.proofs.stream.refuse_last.Goals as goal
 
 pub returns-then-bits-place-clause-refused : goal.returns-then-bits-place-clause-refused

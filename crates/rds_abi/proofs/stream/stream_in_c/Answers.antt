@@ -1,5 +1,4 @@
-use Rattle.std.proofs.Common.{ap, ◌∙◌}
-use Rattle.rds_abi.specs.Layout.{totals_in_c}
+use Rattle.rds_abi.proofs.Shared.{ap, ◌∙◌, totals_in_c}
 use Rattle.rds_abi.proofs.Streams.{laid_out}
 use Rattle.rds_abi.proofs.stream.stream_in_c.Goals as goal
 

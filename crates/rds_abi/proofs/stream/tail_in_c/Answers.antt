@@ -1,5 +1,4 @@
-use Rattle.std.proofs.Common.{◌++◌, ℕ, List, ap, drop, length, replicate, ◌∙◌}
-use Rattle.std.proofs.lemmas.List.{drop-replicate}
+use Rattle.rds_abi.proofs.Shared.{◌++◌, ℕ, List, ap, drop, length, replicate, ◌∙◌, drop-replicate}
 use Rattle.rds_abi.proofs.stream.tail_in_c.Goals as goal
 
 pub returns-clause-laid : goal.returns-clause-laid

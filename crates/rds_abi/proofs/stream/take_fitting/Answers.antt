@@ -1,8 +1,5 @@
-use Rattle.std.proofs.Common.{◌≡◌, ◌-◌, ◌+◌, ◌<◌, ◌≤◌, ◌∙◌, ℕ, List, ap, arith, drop, inl, length, refl, subst, take}
-use Rattle.std.proofs.lemmas.List.{length-drop, length-take}
-use Rattle.rds_live.specs.StreamDecoder.{LiveOf, Terms}
-use Rattle.rds_live.specs.Next.{completed, live_next}
-use Rattle.rds_abi.specs.Stream.{stream_of}
+use Rattle.rds_abi.proofs.Shared.{◌≡◌, ◌-◌, ◌+◌, ◌<◌, ◌≤◌, ◌∙◌, ℕ, List, ap, arith, drop, inl, length, refl, subst, take, length-take, LiveOf, Terms, completed, live_next, stream_of}
+use Rattle.std.proofs.lemmas.List.{length-drop}
 use Rattle.rds_abi.proofs.Fitting.{all-taken, filled-long, filled-piece, joined-count, joined-items, joined-next}
 use Rattle.rds_abi.proofs.stream.take_fitting.Goals as goal
 

@@ -1,9 +1,4 @@
-use Rattle.std.proofs.Common.{length, ◌-◌, ◌≡◌, ◌<◌, ◌≤◌, map, take, vec_capacity}
-use Rattle.rds_live.specs.StreamDecoder.{IsStreamDecoder}
-use Rattle.rds_live.specs.Next.{completed, live_next}
-use Rattle.rds_abi.specs.Asked.{IsFilled}
-use Rattle.rds_abi.specs.Stream.{stream_in_c, stream_of}
-use Rattle.rds_abi.specs.Layout.{item_in_c}
+use Rattle.rds_abi.proofs.Shared.{length, ◌-◌, ◌≡◌, ◌<◌, ◌≤◌, map, take, vec_capacity, IsStreamDecoder, completed, live_next, IsFilled, stream_in_c, stream_of, item_in_c}
 use Rattle.rds_abi.proofs.stream.take_fitting.Given as goal
 
 abbrev pub invariant-loop-rest : goal.invariant-loop-rest

@@ -1,6 +1,4 @@
-use Rattle.std.proofs.Common.{◌≡◌, ◌+◌, ◌++◌, ℕ, List, [], arith, drop, length, map, take}
-use Rattle.std.proofs.lemmas.Grind.{common_steps}
-use Rattle.rds_abi.specs.Layout.{item_in_c}
+use Rattle.rds_abi.proofs.Shared.{◌≡◌, ◌+◌, ◌++◌, ℕ, List, [], arith, drop, length, map, take, common_steps, item_in_c}
 use Rattle.rds_abi.proofs.whole.fill.Goals as goal
 
 -- once none is left, all are written, and the rest is as it was

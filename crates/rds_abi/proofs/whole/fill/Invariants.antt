@@ -1,5 +1,4 @@
-use Rattle.std.proofs.Common.{◌≡◌, ◌++◌, ◌+◌, drop, length, map, take}
-use Rattle.rds_abi.specs.Layout.{item_in_c}
+use Rattle.rds_abi.proofs.Shared.{◌≡◌, ◌++◌, ◌+◌, drop, length, map, take, item_in_c}
 use Rattle.rds_abi.proofs.whole.fill.Given as goal
 
 abbrev pub invariant-loop-item : goal.invariant-loop-item

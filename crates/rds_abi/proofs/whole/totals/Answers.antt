@@ -1,5 +1,4 @@
-use Rattle.std.proofs.Common.{ap, refl, ◌∙◌}
-use Rattle.rds_abi.specs.Layout.{totals_in_c}
+use Rattle.rds_abi.proofs.Shared.{ap, refl, ◌∙◌, totals_in_c}
 use Rattle.rds_abi.proofs.whole.totals.Goals as goal
 
 pub returns-in-Ok-clause-found : goal.returns-in-Ok-clause-found

@@ -1,10 +1,7 @@
-use Rattle.std.proofs.Common.{◌≡◌, ◌≤◌, ℕ, Option, ◌-◌, refl, sym, ap, ◌∙◌, subst, arith}
-use Rattle.rds_stream.specs.Recording.{Signal, length_of}
-use Rattle.rds_sync.specs.declared.state.State.TheVariants.{Searching}
-use Rattle.rds_sync.specs.Tally.{TallyOf, tally_at, gone_on}
-use Rattle.rds_pieces.specs.Inside.Beside.{IsStep, Meet, come_to}
-use Rattle.rds_pieces.specs.Meeting.{IsMeeting}
+use Rattle.rds_pieces.proofs.Names.{◌≡◌, ◌≤◌, ℕ, Option, ◌-◌, refl, sym, ap, ◌∙◌, subst, arith, Signal, length_of, Searching, TallyOf, tally_at, gone_on, IsStep, come_to}
 use Rattle.rds_pieces.proofs.Walks.{IsBeside, beside_start, hops_first, few_in_range, few_to_meeting, room_for, met_least, never_met, step_moves}
+use Rattle.rds_pieces.proofs.beside.go_beside.Given.{Over}
+use Rattle.rds_pieces.proofs.beside.go_beside.Goals.{After-hop_first}
 use Rattle.rds_pieces.proofs.beside.go_beside.Goals as goal
 
 pub along-init : goal.along-init
@@ -13,16 +10,11 @@ along-init g c =
     let rules = c.args.rules.now in
     let from : ℕ = c.args.from in
     let base : ℕ = g.T.Tape.reads_made c.args.tape.now in
-    let start = beside_start c.run_laws.ensures b rules c.reach.ensures.range c.args.state from c.args.to c.requires.lawful c.requires.order in
+    let start : IsBeside b rules c.args.state from c.args.to (tally_at b rules from c.args.state) (tally_at b rules from Searching) 0 = beside_start c.requires.lawful c.requires.order in
     let none : base - base ≡ 0 = omega arith in
     let own_is : c.new-own.result ≡ tally_at b rules from c.args.state = c.new-own.ensures ∙ ap (λ (x : Signal). tally_at x rules from c.args.state) c.source.ensures in
     let guess_is : c.new-guess.result ≡ tally_at b rules from Searching = c.new-guess.ensures ∙ ap (λ (x : Signal). tally_at x rules from Searching) c.source-2.ensures in
-    record {
-      beside = subst (λ (t : TallyOf). IsBeside b rules c.args.state from c.args.to t c.new-guess.result (base - base)) (sym own_is)
-          (subst (λ (t : TallyOf). IsBeside b rules c.args.state from c.args.to (tally_at b rules from c.args.state) t (base - base)) (sym guess_is)
-          (subst (λ (n : ℕ). IsBeside b rules c.args.state from c.args.to (tally_at b rules from c.args.state) (tally_at b rules from Searching) n) (sym none) start));
-      same = refl;
-    }
+    record { beside = rw (own_is, guess_is, none) start; same = refl }
 
 pub hop_first-requires-clause-sources : goal.hop_first-requires-clause-sources
 hop_first-requires-clause-sources g c =
@@ -49,44 +41,28 @@ hop_first-requires-clause-within g c = subst (λ (x : Signal). c.args.to ≤ len
 
 pub hop_first-requires-clause-counted : goal.hop_first-requires-clause-counted
 hop_first-requires-clause-counted g c =
+    room_for c.run_laws.ensures c.reach.ensures.range c.requires.lawful c.along.invariant.beside (g.T.Tape.reads_made c.along.tape) (g.T.Tape.reads_made c.args.tape.now) refl
+    (omega (arith, c.len.ensures, c.requires.within)) c.requires.room
+
+-- both are side by side after a hop, too
+hopped : (g : Over) (c : After-hop_first g)
+    → IsBeside (g.T.Tape.signal c.args.tape.now) c.args.rules.now c.args.state c.args.from c.args.to c.hop_first.new.own c.hop_first.new.guess (g.T.Tape.reads_made c.hop_first.new.tape - g.T.Tape.reads_made c.args.tape.now)
+hopped g c =
     let l = c.along in
-    let high = c.len.ensures in
-    let within = c.requires.within in
-    room_for c.run_laws.ensures (g.T.Tape.signal c.args.tape.now) c.args.rules.now c.reach.ensures.range c.args.state c.args.from c.args.to c.requires.lawful l.own l.guess
-    (g.T.Tape.reads_made l.tape - g.T.Tape.reads_made c.args.tape.now) l.invariant.beside (g.T.Tape.reads_made l.tape) (g.T.Tape.reads_made c.args.tape.now) refl
-    (omega (arith, high.value, high.limit, within)) c.requires.room
+    let new = c.hop_first.new in
+    hops_first c.run_laws.ensures c.reach.ensures.range c.requires.lawful l.invariant.beside (λ m. (let t = c.meet.ensures.1 m in let f = c.if-meet.false in cc))
+    (subst (λ (x : Signal). IsStep x c.args.rules.now c.args.to l.own l.guess new.own new.guess (g.T.Tape.reads_made new.tape - g.T.Tape.reads_made l.tape)) l.invariant.same c.hop_first.ensures.step)
+    (omega arith)
 
 pub along-preserved : goal.along-preserved
-along-preserved g c =
-    let b = g.T.Tape.signal c.args.tape.now in
-    let rules = c.args.rules.now in
-    let l = c.along in
-    let new = c.hop_first.new in
-    let base : ℕ = g.T.Tape.reads_made c.args.tape.now in
-    let before : ℕ = g.T.Tape.reads_made l.tape in
-    let now : ℕ = g.T.Tape.reads_made new.tape in
-    let other : ¬ Meet l.own l.guess = λ m. (let t = c.meet.ensures.1 m in let f = c.if-meet.false in cc) in
-    record {
-      beside = hops_first c.run_laws.ensures b rules c.reach.ensures.range c.args.state c.args.from c.args.to c.requires.lawful l.own l.guess new.own new.guess
-          (before - base) (now - before) (now - base) l.invariant.beside other
-          (subst (λ (x : Signal). IsStep x rules c.args.to l.own l.guess new.own new.guess (now - before)) l.invariant.same c.hop_first.ensures.step) (omega arith);
-      same = c.hop_first.ensures.same ∙ l.invariant.same;
-    }
+along-preserved g c = record { beside = hopped g (goal.at.along-preserved g c).After-hop_first; same = c.hop_first.ensures.same ∙ c.along.invariant.same }
 
 pub along-smaller : goal.along-smaller
-along-smaller g c =
-    let l = c.along in
-    let i = l.invariant.beside.apart.inside in
-    let new = c.hop_first.new in
-    step_moves (g.T.Tape.signal l.tape) c.args.rules.now c.args.to l.own l.guess new.own new.guess (g.T.Tape.reads_made new.tape - g.T.Tape.reads_made l.tape) c.hop_first.ensures.step i.1 i.3
+along-smaller g c = let i = c.along.invariant.beside.apart.inside in step_moves c.hop_first.ensures.step i.1 i.3
 
 pub returns-then-meet-clause-met : goal.returns-then-meet-clause-met
 returns-then-meet-clause-met g c =
-    let b = g.T.Tape.signal c.args.tape.now in
-    let l = c.along in
-    subst (λ (met : Option ℕ). IsMeeting b c.args.rules.now c.args.state Searching c.args.from c.args.to met) (sym c.met_here.ensures.met)
-    (met_least c.run_laws.ensures b c.args.rules.now c.reach.ensures.range c.args.state c.args.from c.args.to c.requires.lawful l.own l.guess
-    (g.T.Tape.reads_made l.tape - g.T.Tape.reads_made c.args.tape.now) l.invariant.beside (c.meet.ensures.0 c.if-meet.true))
+    rw c.met_here.ensures.met (met_least c.run_laws.ensures c.reach.ensures.range c.requires.lawful c.along.invariant.beside (c.meet.ensures.0 c.if-meet.true))
 
 pub returns-then-meet-clause-own : goal.returns-then-meet-clause-own
 returns-then-meet-clause-own g c =
@@ -100,25 +76,16 @@ returns-then-meet-clause-guess g c =
     ∙ ap (λ (met : Option ℕ). gone_on start (come_to c.args.to met)) (sym c.met_here.ensures.met)
 
 pub returns-then-meet-clause-reads_way : goal.returns-then-meet-clause-reads_way
-returns-then-meet-clause-reads_way g c = λ met meeting. (
-    let l = c.along in
-    let few = few_to_meeting c.run_laws.ensures (g.T.Tape.signal c.args.tape.now) c.args.rules.now c.reach.ensures.range c.args.state c.args.from c.args.to c.requires.lawful l.own l.guess
-    (g.T.Tape.reads_made l.tape - g.T.Tape.reads_made c.args.tape.now) l.invariant.beside met meeting in
-    omega (arith, few))
+returns-then-meet-clause-reads_way g c = λ met meeting.
+    omega (arith, few_to_meeting c.run_laws.ensures c.reach.ensures.range c.requires.lawful c.along.invariant.beside met meeting)
 
 pub returns-then-meet-clause-reads_most : goal.returns-then-meet-clause-reads_most
-returns-then-meet-clause-reads_most g c =
-    let l = c.along in
-    let few = few_in_range c.run_laws.ensures (g.T.Tape.signal c.args.tape.now) c.args.rules.now c.reach.ensures.range c.args.state c.args.from c.args.to c.requires.lawful l.own l.guess
-    (g.T.Tape.reads_made l.tape - g.T.Tape.reads_made c.args.tape.now) l.invariant.beside in
-    omega (arith, few)
+returns-then-meet-clause-reads_most g c = omega (arith, few_in_range c.run_laws.ensures c.reach.ensures.range c.requires.lawful c.along.invariant.beside)
 
 pub returns-then-are_at_end-clause-met : goal.returns-then-are_at_end-clause-met
 returns-then-are_at_end-clause-met g c =
-    let l = c.along in
     let end = c.are_at_end.ensures.0 c.if-are_at_end.true in
-    never_met c.run_laws.ensures (g.T.Tape.signal c.args.tape.now) c.args.rules.now c.reach.ensures.range c.args.state c.args.from c.args.to c.requires.lawful l.own l.guess
-    (g.T.Tape.reads_made l.tape - g.T.Tape.reads_made c.args.tape.now) l.invariant.beside (λ m. (let t = c.meet.ensures.1 m in let f = c.if-meet.false in cc)) end.0 end.1
+    never_met c.run_laws.ensures c.reach.ensures.range c.requires.lawful c.along.invariant.beside (λ m. (let t = c.meet.ensures.1 m in let f = c.if-meet.false in cc)) end.0 end.1
 
 pub returns-then-are_at_end-clause-own : goal.returns-then-are_at_end-clause-own
 returns-then-are_at_end-clause-own g c =
@@ -131,47 +98,16 @@ returns-then-are_at_end-clause-guess g c =
     c.along.invariant.beside.guess_is ∙ ap (λ (p : ℕ). gone_on start p) (c.are_at_end.ensures.0 c.if-are_at_end.true).1
 
 pub returns-then-are_at_end-clause-reads_way : goal.returns-then-are_at_end-clause-reads_way
-returns-then-are_at_end-clause-reads_way g c = λ met meeting. (
-    let l = c.along in
-    let few = few_to_meeting c.run_laws.ensures (g.T.Tape.signal c.args.tape.now) c.args.rules.now c.reach.ensures.range c.args.state c.args.from c.args.to c.requires.lawful l.own l.guess
-    (g.T.Tape.reads_made l.tape - g.T.Tape.reads_made c.args.tape.now) l.invariant.beside met meeting in
-    omega (arith, few))
+returns-then-are_at_end-clause-reads_way g c = λ met meeting.
+    omega (arith, few_to_meeting c.run_laws.ensures c.reach.ensures.range c.requires.lawful c.along.invariant.beside met meeting)
 
 pub returns-then-are_at_end-clause-reads_most : goal.returns-then-are_at_end-clause-reads_most
-returns-then-are_at_end-clause-reads_most g c =
-    let l = c.along in
-    let few = few_in_range c.run_laws.ensures (g.T.Tape.signal c.args.tape.now) c.args.rules.now c.reach.ensures.range c.args.state c.args.from c.args.to c.requires.lawful l.own l.guess
-    (g.T.Tape.reads_made l.tape - g.T.Tape.reads_made c.args.tape.now) l.invariant.beside in
-    omega (arith, few)
+returns-then-are_at_end-clause-reads_most g c = omega (arith, few_in_range c.run_laws.ensures c.reach.ensures.range c.requires.lawful c.along.invariant.beside)
 
 pub returns-in_err-hop_first-clause-reads_way : goal.returns-in_err-hop_first-clause-reads_way
-returns-in_err-hop_first-clause-reads_way g c = λ met meeting. (
-    let b = g.T.Tape.signal c.args.tape.now in
-    let rules = c.args.rules.now in
-    let l = c.along in
-    let new = c.hop_first.new in
-    let base : ℕ = g.T.Tape.reads_made c.args.tape.now in
-    let before : ℕ = g.T.Tape.reads_made l.tape in
-    let now : ℕ = g.T.Tape.reads_made new.tape in
-    let other : ¬ Meet l.own l.guess = λ m. (let t = c.meet.ensures.1 m in let f = c.if-meet.false in cc) in
-    let beside = hops_first c.run_laws.ensures b rules c.reach.ensures.range c.args.state c.args.from c.args.to c.requires.lawful l.own l.guess new.own new.guess
-    (before - base) (now - before) (now - base) l.invariant.beside other
-    (subst (λ (x : Signal). IsStep x rules c.args.to l.own l.guess new.own new.guess (now - before)) l.invariant.same c.hop_first.ensures.step) (omega arith) in
-    let few = few_to_meeting c.run_laws.ensures b rules c.reach.ensures.range c.args.state c.args.from c.args.to c.requires.lawful new.own new.guess (now - base) beside met meeting in
-    omega (arith, few))
+returns-in_err-hop_first-clause-reads_way g c = λ met meeting.
+    omega (arith, few_to_meeting c.run_laws.ensures c.reach.ensures.range c.requires.lawful (hopped g (goal.at.returns-in_err-hop_first-clause-reads_way g c).After-hop_first) met meeting)
 
 pub returns-in_err-hop_first-clause-reads_most : goal.returns-in_err-hop_first-clause-reads_most
 returns-in_err-hop_first-clause-reads_most g c =
-    let b = g.T.Tape.signal c.args.tape.now in
-    let rules = c.args.rules.now in
-    let l = c.along in
-    let new = c.hop_first.new in
-    let base : ℕ = g.T.Tape.reads_made c.args.tape.now in
-    let before : ℕ = g.T.Tape.reads_made l.tape in
-    let now : ℕ = g.T.Tape.reads_made new.tape in
-    let other : ¬ Meet l.own l.guess = λ m. (let t = c.meet.ensures.1 m in let f = c.if-meet.false in cc) in
-    let beside = hops_first c.run_laws.ensures b rules c.reach.ensures.range c.args.state c.args.from c.args.to c.requires.lawful l.own l.guess new.own new.guess
-    (before - base) (now - before) (now - base) l.invariant.beside other
-    (subst (λ (x : Signal). IsStep x rules c.args.to l.own l.guess new.own new.guess (now - before)) l.invariant.same c.hop_first.ensures.step) (omega arith) in
-    let few = few_in_range c.run_laws.ensures b rules c.reach.ensures.range c.args.state c.args.from c.args.to c.requires.lawful new.own new.guess (now - base) beside in
-    omega (arith, few)
+    omega (arith, few_in_range c.run_laws.ensures c.reach.ensures.range c.requires.lawful (hopped g (goal.at.returns-in_err-hop_first-clause-reads_most g c).After-hop_first))

@@ -1,4 +1,4 @@
-use Rattle.std.proofs.Common.{◌≡◌, ◌+◌, ◌-◌}
+use Rattle.rds_pieces.proofs.Names.{◌≡◌, ◌+◌, ◌-◌}
 use Rattle.rds_pieces.proofs.Walks.{IsBeside}
 use Rattle.rds_pieces.proofs.beside.go_beside.Given as goal
 

@@ -1,5 +1,4 @@
-use Rattle.std.proofs.Common.{◌<◌, ℕ, ◌-◌, refl, sym, subst, inl}
-use Rattle.rds_sync.specs.Hop.{IsHop}
+use Rattle.rds_pieces.proofs.Names.{◌<◌, ℕ, ◌-◌, refl, sym, subst, inl, IsHop}
 use Rattle.rds_pieces.proofs.Walks.{first_ahead, first_behind}
 use Rattle.rds_pieces.proofs.beside.hop_first.Goals as goal
 

@@ -1,7 +1,4 @@
-use Rattle.std.proofs.Common.{◌≡◌, ◌≢◌, ◌-◌, ◌+◌, ℕ, [], ◌∷◌, length, inl, inr, ap, sym, ◌∙◌, arith}
-use Rattle.std.proofs.lemmas.List.{nil_from_length}
-use Rattle.rds_sync.specs.Advance.{items_in}
-use Rattle.rds_pieces.specs.Inside.MarkInside.{mark_at, marks_on}
+use Rattle.rds_pieces.proofs.Names.{◌≡◌, ◌≢◌, ◌-◌, ◌+◌, ℕ, [], ◌∷◌, length, inl, inr, ap, sym, ◌∙◌, arith, nil_from_length, items_in, mark_at, marks_on}
 use Rattle.rds_pieces.proofs.MarkLemmas.{marks_on-stretch, marks_on-none}
 use Rattle.rds_pieces.proofs.marks.mark_after.Goals as goal
 
@@ -12,7 +9,7 @@ returns-then-count-eq0-clause-next c =
     let reached = c.stretch-step.ensures.reached in
     let none : items_in step.items ≡ [] = nil_from_length (items_in step.items) (omega (arith, c.count_of-count.ensures.value, c.if-count-eq0.true)) in
     elim reached.ended [
-      | inl end ↦ marks_on-none c.args.reader.now c.args.rules.now c.run_laws.ensures now.state now.place c.args.to now.items step reached none end
+      | inl end ↦ marks_on-none c.args.reader.now c.args.rules.now now.state now.place c.args.to now.items step reached none end
       | inr some ↦ absurd (some none)
     ]
 
@@ -24,5 +21,5 @@ returns-clause-next c =
     let step = c.stretch-step.result in
     let count = c.count_of-count.ensures.value in
     let some : items_in step.items ≢ [] = λ none. omega (arith, ap length none, count, c.if-count-eq0.false) in
-    marks_on-stretch b rules c.run_laws.ensures now.state now.place c.args.to now.items step c.stretch-step.ensures.reached some
+    marks_on-stretch b rules now.state now.place c.args.to now.items step c.stretch-step.ensures.reached some
     ∙ ap (λ (n : ℕ). mark_at step.state step.place (now.items + n) ∷ marks_on b rules step.state step.place (now.items + n) (c.args.to - step.place)) (sym count)

@@ -1,5 +1,4 @@
-use Rattle.std.proofs.Common.{arith}
-use Rattle.rds_stream.specs.Recording.{length_of}
+use Rattle.rds_pieces.proofs.Names.{arith, length_of}
 use Rattle.rds_pieces.proofs.CuttingLemmas.{range_inside}
 use Rattle.rds_pieces.proofs.run.range_of.Goals as goal
 

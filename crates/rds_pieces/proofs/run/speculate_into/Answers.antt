@@ -1,7 +1,4 @@
-use Rattle.std.proofs.Common.{sym, subst, arith}
-use Rattle.rds_sync.specs.Decoding.{ItemsOf}
-use Rattle.rds_pieces.specs.Inside.RunInside.{IsKept}
-use Rattle.rds_pieces.specs.RunOf.{run_over}
+use Rattle.rds_pieces.proofs.Names.{sym, subst, arith, ItemsOf, IsKept, run_over}
 use Rattle.rds_pieces.proofs.run.speculate_into.Goals as goal
 
 pub prove-unreachable-requires : goal.prove-unreachable-requires

@@ -1,10 +1,4 @@
-use Rattle.std.proofs.Common.{List, ◌++◌, sym, ap, ap₂, ◌∙◌, subst}
-use Rattle.rds_stream.specs.Recording.{Signal}
-use Rattle.rds_sync.specs.declared.item.Item.{Item}
-use Rattle.rds_sync.specs.declared.totals.Totals.{Totals}
-use Rattle.rds_sync.specs.Rules.{RuleNumbers}
-use Rattle.rds_sync.specs.Counting.{FitTogether, plus}
-use Rattle.rds_sync.specs.Decoding.{ItemsOf, listed}
+use Rattle.rds_pieces.proofs.Names.{List, ◌++◌, sym, ap, ap₂, ◌∙◌, subst, Signal, Item, Totals, RuleNumbers, FitTogether, plus, ItemsOf, listed}
 use Rattle.rds_pieces.proofs.stitching.carry_over.Goals as goal
 
 pub append-requires-clause-source : goal.append-requires-clause-source

@@ -1,13 +1,4 @@
-use Rattle.std.proofs.Common.{◌≡◌, ◌≢◌, List, ◌++◌, ◌-◌, length, refl, sym, ap, ap₂, ◌∙◌, subst, arith}
-use Rattle.rds_stream.specs.Recording.{Signal}
-use Rattle.rds_sync.specs.declared.state.State.TheVariants.{Searching}
-use Rattle.rds_sync.specs.declared.item.Item.{Item}
-use Rattle.rds_sync.specs.declared.totals.Totals.{Totals}
-use Rattle.rds_sync.specs.Counting.{plus}
-use Rattle.rds_sync.specs.Decoding.{ItemsOf, listed}
-use Rattle.rds_sync.specs.Totals.{totals_of}
-use Rattle.rds_sync.specs.Step.{run}
-use Rattle.rds_pieces.specs.Meeting.{IsMeeting}
+use Rattle.rds_pieces.proofs.Names.{◌≡◌, ◌≢◌, List, ◌++◌, ◌-◌, length, refl, sym, ap, ap₂, ◌∙◌, subst, arith, Signal, Searching, Item, Totals, plus, ItemsOf, listed, totals_of, run, IsMeeting}
 use Rattle.rds_pieces.proofs.StitchLemmas.{stitched_start, source_is, rules_are, lawful_here, fits_next, stitched_on, stitched_past, seam_few, stitched_few, seam_within, read_at_end, sum_at_end, whole_at_end, small_at_end, lawful_at_end}
 use Rattle.rds_pieces.proofs.stitching.carry_over_all.Goals as goal
 
@@ -21,26 +12,22 @@ loop-run-init g c = record {
 
 pub carry_over-requires-clause-lawful : goal.carry_over-requires-clause-lawful
 carry_over-requires-clause-lawful g c =
-    lawful_here (g.T.Tape.signal c.args.tape.now) c.args.rules.now c.args.runs.now (g.T.Tape.reads_made c.args.tape.now) c.loop-run.run-index c.loop-run.state c.loop-run.report.items.list
-    (g.T.Tape.reads_made c.loop-run.tape) c.loop-run.invariant.stitched c.run-item.result c.run-item.result c.loop-run-test.true c.run-item.is
+    lawful_here c.loop-run.invariant.stitched c.run-item.result c.loop-run-test.true c.run-item.is
 
 pub carry_over-requires-clause-source : goal.carry_over-requires-clause-source
 carry_over-requires-clause-source g c =
-    source_is (g.T.Tape.signal c.args.tape.now) c.args.rules.now c.args.runs.now (g.T.Tape.reads_made c.args.tape.now) c.loop-run.run-index c.loop-run.state c.loop-run.report.items.list
-    (g.T.Tape.reads_made c.loop-run.tape) c.loop-run.invariant.stitched c.run-item.result c.run-item.result c.loop-run-test.true c.run-item.is
+    source_is c.loop-run.invariant.stitched c.run-item.result c.loop-run-test.true c.run-item.is
     ∙ sym c.loop-run.invariant.same
 
 pub carry_over-requires-clause-rules : goal.carry_over-requires-clause-rules
 carry_over-requires-clause-rules g c =
-    rules_are (g.T.Tape.signal c.args.tape.now) c.args.rules.now c.args.runs.now (g.T.Tape.reads_made c.args.tape.now) c.loop-run.run-index c.loop-run.state c.loop-run.report.items.list
-    (g.T.Tape.reads_made c.loop-run.tape) c.loop-run.invariant.stitched c.run-item.result c.run-item.result c.loop-run-test.true c.run-item.is
+    rules_are c.loop-run.invariant.stitched c.run-item.result c.loop-run-test.true c.run-item.is
 
 pub carry_over-requires-clause-room : goal.carry_over-requires-clause-room
 carry_over-requires-clause-room g c =
     let l = c.len-len.ensures.limit in
     let v = c.len-len.ensures.value in
-    stitched_few (g.T.Tape.signal c.args.tape.now) c.args.rules.now c.args.runs.now (g.T.Tape.reads_made c.args.tape.now) c.loop-run.run-index c.loop-run.state c.loop-run.report.items.list
-    (g.T.Tape.reads_made c.loop-run.tape) c.loop-run.invariant.stitched (omega (arith, l, v)) c.requires.room
+    stitched_few c.loop-run.invariant.stitched (omega (arith, l, v)) c.requires.room
 
 pub carry_over-requires-clause-same_source : goal.carry_over-requires-clause-same_source
 carry_over-requires-clause-same_source g c = ap (λ (x : ItemsOf). x.source) c.loop-run.invariant.named ∙ sym c.loop-run.invariant.same
@@ -53,8 +40,7 @@ carry_over-requires-clause-fit g c =
     let r = c.run-item.result in
     let l = c.len-len.ensures.limit in
     let v = c.len-len.ensures.value in
-    fits_next (g.T.Tape.signal c.args.tape.now) c.args.rules.now c.args.runs.now (g.T.Tape.reads_made c.args.tape.now) c.loop-run.run-index c.loop-run.state c.loop-run.report.items.list
-    (g.T.Tape.reads_made c.loop-run.tape) c.loop-run.invariant.stitched c.run-item.result c.run-item.result c.loop-run-test.true c.run-item.is c.run_laws.ensures c.reach-reach.ensures.range (omega (arith, l, v)) c.loop-run.report.totals
+    fits_next c.loop-run.invariant.stitched c.run-item.result c.loop-run-test.true c.run-item.is c.run_laws.ensures c.reach-reach.ensures.range (omega (arith, l, v)) c.loop-run.report.totals
     (totals_of (run (g.T.Tape.signal c.loop-run.tape) c.args.rules.now c.loop-run.state r.from (r.to - r.from)).1) c.loop-run.invariant.counted
     (ap (λ (x : Signal). totals_of (run x c.args.rules.now c.loop-run.state r.from (r.to - r.from)).1) c.loop-run.invariant.same)
 
@@ -71,15 +57,13 @@ loop-run-preserved g c =
     let meeting = subst (λ (x : Signal). IsMeeting x rules here Searching r.from r.to step.reads.0) same step.reads.1 in
     let some : r.from ≢ r.to = λ same. omega (arith, same, c.if-from-to.false, c.from.ensures.value, c.to.ensures) in
     record {
-      stitched = stitched_on (g.T.Tape.signal c.args.tape.now) c.args.rules.now c.args.runs.now (g.T.Tape.reads_made c.args.tape.now) c.loop-run.run-index c.loop-run.state c.loop-run.report.items.list
-          (g.T.Tape.reads_made c.loop-run.tape) c.loop-run.invariant.stitched c.run-item.result c.run-item.result c.loop-run-test.true c.run-item.is c.run_laws.ensures c.reach-reach.ensures.range
+      stitched = stitched_on c.loop-run.invariant.stitched c.run-item.result c.loop-run-test.true c.run-item.is c.run_laws.ensures c.reach-reach.ensures.range
           c.in_ok-state.state c.carry_over.new.report.items.list (g.T.Tape.reads_made c.carry_over.new.tape) step.reads.0
           (step.end ∙ ap (λ (x : Signal). (run x rules here r.from (r.to - r.from)).0) same)
           (more ∙ ap (λ (x : Signal). first ++ (run x rules here r.from (r.to - r.from)).1) same)
           meeting
           step.reads.2
-          (seam_few (g.T.Tape.signal c.args.tape.now) c.args.rules.now c.args.runs.now (g.T.Tape.reads_made c.args.tape.now) c.loop-run.run-index c.loop-run.state c.loop-run.report.items.list
-          (g.T.Tape.reads_made c.loop-run.tape) c.loop-run.invariant.stitched c.run-item.result c.run-item.result c.loop-run-test.true c.run-item.is c.reach-reach.ensures.range some
+          (seam_few c.loop-run.invariant.stitched c.run-item.result c.loop-run-test.true c.run-item.is c.reach-reach.ensures.range some
           (g.T.Tape.reads_made c.carry_over.new.tape) step.reads.0 meeting step.reads.2)
           (λ met first. c.carry_over.ensures.reads_way met (subst (λ (x : Signal). IsMeeting x rules here Searching r.from r.to met) (sym same) first));
       counted = step.totals
@@ -91,8 +75,7 @@ loop-run-preserved g c =
 
 pub loop-run-preserved-then-from-to : goal.loop-run-preserved-then-from-to
 loop-run-preserved-then-from-to g c = record {
-  stitched = stitched_past (g.T.Tape.signal c.args.tape.now) c.args.rules.now c.args.runs.now (g.T.Tape.reads_made c.args.tape.now) c.loop-run.run-index c.loop-run.state c.loop-run.report.items.list
-      (g.T.Tape.reads_made c.loop-run.tape) c.loop-run.invariant.stitched c.run-item.result c.run-item.result c.loop-run-test.true c.run-item.is c.run_laws.ensures c.reach-reach.ensures.range
+  stitched = stitched_past c.loop-run.invariant.stitched c.run-item.result c.loop-run-test.true c.run-item.is c.run_laws.ensures c.reach-reach.ensures.range
       (omega (arith, c.if-from-to.true, c.from.ensures.value, c.to.ensures));
   counted = c.loop-run.invariant.counted;
   named = c.loop-run.invariant.named;
@@ -103,44 +86,37 @@ pub returns-clause-reads : goal.returns-clause-reads
 returns-clause-reads g c =
     let done = c.loop-run.invariant.stitched in (
       done.sum,
-      sum_at_end (g.T.Tape.signal c.args.tape.now) c.args.rules.now c.args.runs.now (g.T.Tape.reads_made c.args.tape.now) c.loop-run.run-index c.loop-run.state c.loop-run.report.items.list
-          (g.T.Tape.reads_made c.loop-run.tape) done c.loop-run-test.false,
+      sum_at_end done c.loop-run-test.false,
       done.reads_most,
     )
 
 pub returns-clause-whole : goal.returns-clause-whole
 returns-clause-whole g c =
-    whole_at_end (g.T.Tape.signal c.args.tape.now) c.args.rules.now c.args.runs.now (g.T.Tape.reads_made c.args.tape.now) c.loop-run.run-index c.loop-run.state c.loop-run.report.items.list
-    (g.T.Tape.reads_made c.loop-run.tape) c.loop-run.invariant.stitched c.loop-run-test.false c.run_laws.ensures
+    whole_at_end c.loop-run.invariant.stitched c.loop-run-test.false c.run_laws.ensures
     (let r = c.reach-reach.ensures.range.loss.0 in r)
 
 pub returns-clause-small : goal.returns-clause-small
 returns-clause-small g c =
     let l = c.len-len.ensures.limit in
     let v = c.len-len.ensures.value in
-    small_at_end (g.T.Tape.signal c.args.tape.now) c.args.rules.now c.args.runs.now (g.T.Tape.reads_made c.args.tape.now) c.loop-run.run-index c.loop-run.state c.loop-run.report.items.list
-    (g.T.Tape.reads_made c.loop-run.tape) c.loop-run.invariant.stitched c.loop-run-test.false c.run_laws.ensures c.reach-reach.ensures.range (omega (arith, l, v)) c.loop-run.report.totals
+    small_at_end c.loop-run.invariant.stitched c.loop-run-test.false c.run_laws.ensures c.reach-reach.ensures.range (omega (arith, l, v)) c.loop-run.report.totals
     c.loop-run.invariant.counted
 
 pub returns-clause-lawful : goal.returns-clause-lawful
 returns-clause-lawful g c =
-    lawful_at_end (g.T.Tape.signal c.args.tape.now) c.args.rules.now c.args.runs.now (g.T.Tape.reads_made c.args.tape.now) c.loop-run.run-index c.loop-run.state c.loop-run.report.items.list
-    (g.T.Tape.reads_made c.loop-run.tape) c.loop-run.invariant.stitched c.loop-run-test.false
+    lawful_at_end c.loop-run.invariant.stitched c.loop-run-test.false
 
 pub returns-clause-room : goal.returns-clause-room
 returns-clause-room g c =
-    let few = stitched_few (g.T.Tape.signal c.args.tape.now) c.args.rules.now c.args.runs.now (g.T.Tape.reads_made c.args.tape.now) c.loop-run.run-index c.loop-run.state c.loop-run.report.items.list
-    (g.T.Tape.reads_made c.loop-run.tape) c.loop-run.invariant.stitched (let l = c.len-len.ensures.limit in let v = c.len-len.ensures.value in omega (arith, l, v)) c.requires.room in
+    let few = stitched_few c.loop-run.invariant.stitched (let l = c.len-len.ensures.limit in let v = c.len-len.ensures.value in omega (arith, l, v)) c.requires.room in
     omega (arith, few)
 
 pub returns-in_err-state-clause-reads_way : goal.returns-in_err-state-clause-reads_way
 returns-in_err-state-clause-reads_way g c =
     let r = c.run-item.result in
-    seam_within (g.T.Tape.signal c.args.tape.now) c.args.rules.now c.args.runs.now (g.T.Tape.reads_made c.args.tape.now) c.loop-run.run-index c.loop-run.state c.loop-run.report.items.list
-    (g.T.Tape.reads_made c.loop-run.tape) c.loop-run.invariant.stitched c.run-item.result c.run-item.result c.loop-run-test.true c.run-item.is (g.T.Tape.reads_made c.carry_over.new.tape)
+    seam_within c.loop-run.invariant.stitched c.run-item.result c.loop-run-test.true c.run-item.is (g.T.Tape.reads_made c.carry_over.new.tape)
     (λ met first. c.carry_over.ensures.reads_way met (subst (λ (x : Signal). IsMeeting x c.args.rules.now c.loop-run.state Searching r.from r.to met) (sym c.loop-run.invariant.same) first))
 
 pub returns-clause-reads_way : goal.returns-clause-reads_way
 returns-clause-reads_way g c =
-    read_at_end (g.T.Tape.signal c.args.tape.now) c.args.rules.now c.args.runs.now (g.T.Tape.reads_made c.args.tape.now) c.loop-run.run-index c.loop-run.state c.loop-run.report.items.list
-    (g.T.Tape.reads_made c.loop-run.tape) c.loop-run.invariant.stitched c.loop-run-test.false
+    read_at_end c.loop-run.invariant.stitched c.loop-run-test.false

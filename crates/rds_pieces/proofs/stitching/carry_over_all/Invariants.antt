@@ -1,6 +1,4 @@
-use Rattle.std.proofs.Common.{◌≡◌}
-use Rattle.rds_sync.specs.Decoding.{listed}
-use Rattle.rds_sync.specs.Totals.{totals_of}
+use Rattle.rds_pieces.proofs.Names.{◌≡◌, listed, totals_of}
 use Rattle.rds_pieces.proofs.StitchLemmas.{IsStitched}
 use Rattle.rds_pieces.proofs.stitching.carry_over_all.Given as goal
 

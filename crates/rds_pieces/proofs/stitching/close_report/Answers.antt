@@ -1,10 +1,4 @@
-use Rattle.std.proofs.Common.{◌++◌, List, sym, ap, ap₂, ◌∙◌}
-use Rattle.rds_sync.specs.declared.item.Item.{Item}
-use Rattle.rds_sync.specs.declared.totals.Totals.{Totals}
-use Rattle.rds_sync.specs.Counting.{plus}
-use Rattle.rds_sync.specs.Decoding.{ItemsOf, listed}
-use Rattle.rds_sync.specs.Step.{items_of_end}
-use Rattle.rds_sync.specs.Totals.{totals_of}
+use Rattle.rds_pieces.proofs.Names.{◌++◌, List, sym, ap, ap₂, ◌∙◌, Item, Totals, plus, ItemsOf, listed, items_of_end, totals_of}
 use Rattle.rds_pieces.proofs.stitching.close_report.Goals as goal
 
 pub returns-clause-items : goal.returns-clause-items

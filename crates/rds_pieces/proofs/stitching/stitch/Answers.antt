@@ -1,8 +1,4 @@
-use Rattle.std.proofs.Common.{◌++◌, ◌≡◌, ◌∙◌, IfOk, List, ap, subst}
-use Rattle.rds_stream.specs.Recording.{Signal}
-use Rattle.rds_sync.specs.declared.item.Item.{Item}
-use Rattle.rds_sync.specs.Step.{items_of_end}
-use Rattle.rds_sync.specs.Totals.{totals_of}
+use Rattle.rds_pieces.proofs.Names.{◌++◌, ◌≡◌, ◌∙◌, IfOk, List, ap, subst, Signal, Item, items_of_end, totals_of}
 use Rattle.rds_pieces.proofs.stitching.stitch.Goals as goal
 
 pub returns-clause-totals : goal.returns-clause-totals

@@ -1,9 +1,7 @@
-use Rattle.std.proofs.Common.{◌≡◌, arith, rules, subst}
-use Rattle.rds_rows.specs.Gathered.{kept_in}
-use Rattle.rds_rows.specs.Parts.{first_parts}
-use Rattle.rds_rows.specs.Writes.{AppendsBut}
+use Rattle.rds_rows.proofs.Names.{◌≡◌, arith, rules, subst, kept_in, first_parts, AppendsBut}
 use Rattle.rds_rows.proofs.PartsFrom.{but_round, prefix_round}
-use Rattle.rds_rows.proofs.Steps.{but_prefix, but_rest, on_err, on_ok}
+use Rattle.std.proofs.lemmas.Result.{on_err_weaker, on_ok_weaker}
+use Rattle.rds_rows.proofs.Steps.{but_prefix, but_rest}
 use Rattle.rds_rows.proofs.rounds.by_rounds.Given.{Over}
 use Rattle.rds_rows.proofs.rounds.by_rounds.Goals.{After-write_kept}
 use Rattle.rds_rows.proofs.rounds.by_rounds.Goals as goal
@@ -38,8 +36,8 @@ all_but_kept g c =
 
 pub returns-clause-ok : goal.returns-clause-ok
 returns-clause-ok g c =
-    on_ok c.write_kept.result.1 (but_rest _ _ _ _ _ (all_but_kept g (goal.at.returns-clause-ok g c).After-write_kept)) c.write_kept.ensures.ok
+    on_ok_weaker c.write_kept.result.1 (but_rest _ _ _ _ _ (all_but_kept g (goal.at.returns-clause-ok g c).After-write_kept)) c.write_kept.ensures.ok
 
 pub returns-clause-prefix : goal.returns-clause-prefix
 returns-clause-prefix g c =
-    on_err c.write_kept.result.1 (but_prefix _ _ _ _ _ (all_but_kept g (goal.at.returns-clause-prefix g c).After-write_kept)) c.write_kept.ensures.prefix
+    on_err_weaker c.write_kept.result.1 (but_prefix _ _ _ _ _ (all_but_kept g (goal.at.returns-clause-prefix g c).After-write_kept)) c.write_kept.ensures.prefix

@@ -1,8 +1,4 @@
-use Rattle.std.proofs.Common.{◌-◌, ◌≡◌, ◌≤◌, All}
-use Rattle.rds_rows.specs.Gathered.{kept_in}
-use Rattle.rds_rows.specs.Parts.{first_parts}
-use Rattle.rds_rows.specs.Sheets.{size_of}
-use Rattle.rds_rows.specs.Writes.{AppendsBut}
+use Rattle.rds_rows.proofs.Names.{◌-◌, ◌≡◌, ◌≤◌, All, kept_in, first_parts, size_of, AppendsBut}
 use Rattle.rds_rows.proofs.rounds.by_rounds.Given as goal
 
 abbrev pub invariant-rounds : goal.invariant-rounds

@@ -1,5 +1,4 @@
-use Rattle.std.proofs.Common.{arith, rules}
-use Rattle.rds_rows.specs.Gathered.{kept_in}
+use Rattle.rds_rows.proofs.Names.{arith, rules, kept_in}
 use Rattle.rds_rows.proofs.PartsFrom.{but_next, prefix_next}
 use Rattle.rds_rows.proofs.rounds.gather.Goals as goal
 

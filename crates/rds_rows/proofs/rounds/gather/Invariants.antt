@@ -1,8 +1,4 @@
-use Rattle.std.proofs.Common.{◌≡◌, ◌++◌, ◌-◌}
-use Rattle.rds_rows.specs.Gathered.{kept_in}
-use Rattle.rds_rows.specs.Rounds.{parts_from}
-use Rattle.rds_rows.specs.Sheets.{size_of}
-use Rattle.rds_rows.specs.Writes.{AppendsBut}
+use Rattle.rds_rows.proofs.Names.{◌≡◌, ◌++◌, ◌-◌, kept_in, parts_from, size_of, AppendsBut}
 use Rattle.rds_rows.proofs.rounds.gather.Given as goal
 
 abbrev pub invariant-loop-k : goal.invariant-loop-k

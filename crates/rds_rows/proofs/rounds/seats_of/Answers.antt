@@ -1,6 +1,5 @@
-use Rattle.std.proofs.Common.{◌≡◌, rules}
+use Rattle.rds_rows.proofs.Names.{◌≡◌, rules, size_of}
 use Rattle.std.proofs.lemmas.List.Elements.{All-rest}
-use Rattle.rds_rows.specs.Sheets.{size_of}
 use Rattle.rds_rows.proofs.rounds.seats_of.Goals as goal
 
 pub loop-sheet-preserved : goal.loop-sheet-preserved

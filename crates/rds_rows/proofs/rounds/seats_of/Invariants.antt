@@ -1,6 +1,5 @@
-use Rattle.std.proofs.Common.{◌≡◌, ◌+◌, ◌≤◌, All, length, vec_len, vec_capacity}
+use Rattle.rds_rows.proofs.Names.{◌≡◌, ◌+◌, ◌≤◌, All, length, vec_len, vec_capacity, size_of}
 use Rattle.std.specs.Vec.Iter.{into_iter_items, into_iter_len}
-use Rattle.rds_rows.specs.Sheets.{size_of}
 use Rattle.rds_rows.proofs.rounds.seats_of.Given as goal
 
 abbrev pub invariant-loop-sheet : goal.invariant-loop-sheet

@@ -1,4 +1,4 @@
-use Rattle.rds_rows.specs.Parts.{part_of}
+use Rattle.rds_rows.proofs.Names.{part_of}
 use Rattle.rds_rows.proofs.write.by_value.Given as goal
 
 abbrev pub ghosts-write_by_handoffs : goal.ghosts-write_by_handoffs

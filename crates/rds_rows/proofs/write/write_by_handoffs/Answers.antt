@@ -1,8 +1,4 @@
-use Rattle.std.proofs.Common.{◌≡◌, ◌∙◌, ap, subst}
-use Rattle.std.specs.Io.KnownBytes.{Appends}
-use Rattle.std.specs.List.{concat}
-use Rattle.rds_rows.specs.Parts.{first_parts}
-use Rattle.rds_rows.specs.Writes.{AppendsPrefix}
+use Rattle.rds_rows.proofs.Names.{◌≡◌, ◌∙◌, ap, subst, Appends, concat, first_parts, AppendsPrefix}
 use Rattle.rds_rows.proofs.Parts.{all_rows}
 use Rattle.rds_rows.proofs.Promises.{all_written, write_failed}
 use Rattle.rds_rows.proofs.write.write_by_handoffs.Given.{Over}

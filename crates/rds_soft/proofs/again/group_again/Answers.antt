@@ -1,55 +1,29 @@
-use Rattle.std.proofs.Common.{◌≡◌, ℕ, ◌+◌, ◌*◌, List, [], ◌∷◌, get_or, sym, subst, arith}
+use Rattle.std.proofs.Common.{ℕ, List, [], ◌∷◌, ◌∙◌, ap, sym, subst}
 use Rattle.std.specs.Prelude.{ℤ}
-use Rattle.rds_code.specs.declared.reading.Wanted.{Wanted}
 use Rattle.rds_code.specs.declared.reading.Wanted.TheVariants.{Either}
-use Rattle.rds_stream.specs.Recording.{Signal}
 use Rattle.rds_sync.specs.declared.item.Block.{Block}
-use Rattle.rds_soft.specs.declared.soft_item.SoftBlock.{SoftBlock}
-use Rattle.rds_soft.specs.Again.{symbols_heard, was_read, IsBlockAgain, IsGroupAgain}
+use Rattle.rds_soft.specs.Again.{symbols_heard, first_bit, IsGroupAgain}
 use Rattle.rds_soft.specs.ReadAgain.{symbols_of}
-use Rattle.rds_soft.specs.SoftGroups.{wanted_beside}
-use Rattle.rds_soft.proofs.AgainLemmas.{list_of_four}
+use Rattle.rds_soft.specs.SoftGroups.{wanted_beside, group_of}
+use Rattle.rds_soft.proofs.AgainLemmas.{valid_stays}
 use Rattle.rds_soft.proofs.again.group_again.Goals as goal
 
--- the same block after as many others
-after : (b : Signal) (s : List ℤ) (place n m x : ℕ) (wanted : Wanted) (margin : ℕ) (block : Block) (again : SoftBlock) → n ≡ m
-    → IsBlockAgain (symbols_heard b s (place + 26 * n)) x wanted margin block again
-    → IsBlockAgain (symbols_heard b s (place + 26 * m)) x wanted margin block again
-after b s place n m x wanted margin block again same h =
-    subst (λ (k : ℕ). IsBlockAgain (symbols_heard b s (place + 26 * k)) x wanted margin block again) same h
-
-pub returns : goal.returns
-returns c =
+pub returns-in-Some : goal.returns-in-Some
+returns-in-Some c =
     let b = c.args.source.now.recording.now in
     let s : List ℤ = symbols_of c.args.source.now.symbols.now in
     let place : ℕ = c.args.source.now.place in
     let margin : ℕ = c.args.margin in
-    let one : Block = get_or c.args.blocks.now 0 c.index-blocks-0.result in
-    let two : Block = get_or c.args.blocks.now 1 c.index-blocks-1.result in
-    let three : Block = get_or c.args.blocks.now 2 c.index-blocks-2.result in
-    let four : Block = get_or c.args.blocks.now 3 c.index-blocks-3.result in
-    let first : SoftBlock = c.block_again-first.result in
-    let second : SoftBlock = c.block_again-second.result in
-    let third : SoftBlock = c.block_again-third.result in
-    let fourth : SoftBlock = c.block_again-fourth.result in
-    let are : c.args.blocks.now ≡ one ∷ two ∷ three ∷ four ∷ [] =
-    list_of_four c.args.blocks.now c.index-blocks-0.result c.index-blocks-1.result c.index-blocks-2.result c.index-blocks-3.result c.type_inv.blocks in
-    let before_three : c.was_read.result + c.was_read-2.result ≡ 0 + was_read one + was_read two =
-    omega (arith, c.was_read.ensures.value, c.was_read-2.ensures.value) in
-    let beside : IsBlockAgain (symbols_heard b s (place + 26 * (c.was_read.result + c.was_read-2.result))) 3 (wanted_beside second) margin three third =
-    subst (λ (w : Wanted). IsBlockAgain (symbols_heard b s (place + 26 * (c.was_read.result + c.was_read-2.result))) 3 w margin three third)
-    c.wanted_beside-wanted.ensures c.block_again-third.ensures in
-    subst (λ (blocks : List Block). IsGroupAgain b s margin place blocks c.of_blocks.result) (sym are) (record {
-      one = first;
-      two = second;
-      three = third;
-      four = fourth;
-      first = c.block_again-first.ensures;
-      second = after b s place c.was_read-4.result (0 + was_read one) 2 Either margin two second
-          (omega (arith, c.was_read-4.ensures.value)) c.block_again-second.ensures;
-      third = after b s place (c.was_read.result + c.was_read-2.result) (0 + was_read one + was_read two) 3 (wanted_beside second) margin three third
-          before_three beside;
-      fourth = after b s place (c.was_read.result + c.was_read-2.result + c.was_read-3.result) (0 + was_read one + was_read two + was_read three) 4 Either
-          margin four fourth (omega (arith, before_three, c.was_read-3.ensures.value)) c.block_again-fourth.ensures;
-      told = c.of_blocks.ensures;
+    let v = c.in-Some.ensures in
+    let blocks : List Block = v.one ∷ v.two ∷ v.three ∷ v.four ∷ [] in
+    subst (λ (all : List Block). IsGroupAgain b s margin place all c.of_blocks.result) (sym v.were) (record {
+      one = v.one_again;
+      two = v.two_again;
+      three = v.three_again;
+      four = v.four_again;
+      first = valid_stays (symbols_heard b s (first_bit place blocks 1)) 1 Either margin v.one v.one_again v.first;
+      second = valid_stays (symbols_heard b s (first_bit place blocks 2)) 2 Either margin v.two v.two_again v.second;
+      third = valid_stays (symbols_heard b s (first_bit place blocks 3)) 3 (wanted_beside v.two_again) margin v.three v.three_again v.third;
+      fourth = valid_stays (symbols_heard b s (first_bit place blocks 4)) 4 Either margin v.four v.four_again v.fourth;
+      told = c.of_blocks.ensures ∙ ap (group_of place) v.are;
     })

@@ -1,6 +1,6 @@
 use Rattle.std.proofs.Common.{◌+◌, ◌-◌, ◌^◌, ◌<◌, arith}
 use Rattle.std.proofs.lemmas.Nat.{xor_lt}
-use Rattle.rds_soft.proofs.StepLemmas.{IsRead, step_turned, step_kept, spent_small, flips_small, kept_small, base_small, power_is}
+use Rattle.rds_soft.proofs.StepLemmas.{is_read, step_turned, step_kept, spent_small, flips_small, kept_small, base_small, power_is}
 use Rattle.rds_soft.proofs.look_back.one_back.Goals as goal
 
 pub bounds-rows-turned : goal.bounds-rows-turned
@@ -8,69 +8,29 @@ bounds-rows-turned c = xor_lt 10 c.args.walk.left c.effect.result c.requires.wal
 
 pub overflow_add-result : goal.overflow_add-result
 overflow_add-result c =
-    let read : IsRead c.args.rows.now c.args.confidences.now c.args.sum c.args.n c.args.walk.left c.args.walk.flips c.args.walk.weight
-    c.args.walk.others c.effect.result c.from-kept_weight.result c.from.result c.from-confidence.result =
-    record {
-      rows_are = c.requires.least;
-      place = c.requires.place;
-      walk = c.requires.walk;
-      effect_is = c.effect.ensures.value;
-      effect_small = c.effect.ensures.small;
-      confidence_is = c.from-confidence.ensures;
-      kept_is = c.from-kept_weight.ensures;
-      base_is = c.from.ensures;
-    } in
+    let read = is_read c.requires.least c.requires.place c.requires.walk c.effect.ensures.value c.effect.ensures.small
+    c.from-confidence.ensures c.from-kept_weight.ensures c.from.ensures in
     let next = step_turned _ _ _ _ _ _ _ _ _ _ _ _ read c.if-turned_weight-kept_weight.true in
     let small : c.args.walk.flips + 2 ^ c.args.n < 2 ^ 27 = flips_small _ _ _ _ _ _ _ next in
     omega (arith, small, power_is c.args.walk.flips c.args.n small)
 
 pub overflow_add-result-then-turned_weight-kept_weight : goal.overflow_add-result-then-turned_weight-kept_weight
 overflow_add-result-then-turned_weight-kept_weight c =
-    let read : IsRead c.args.rows.now c.args.confidences.now c.args.sum c.args.n c.args.walk.left c.args.walk.flips c.args.walk.weight
-    c.args.walk.others c.effect.result c.from-kept_weight.result c.from.result c.from-confidence.result =
-    record {
-      rows_are = c.requires.least;
-      place = c.requires.place;
-      walk = c.requires.walk;
-      effect_is = c.effect.ensures.value;
-      effect_small = c.effect.ensures.small;
-      confidence_is = c.from-confidence.ensures;
-      kept_is = c.from-kept_weight.ensures;
-      base_is = c.from.ensures;
-    } in
+    let read = is_read c.requires.least c.requires.place c.requires.walk c.effect.ensures.value c.effect.ensures.small
+    c.from-confidence.ensures c.from-kept_weight.ensures c.from.ensures in
     let next = step_turned _ _ _ _ _ _ _ _ _ _ _ _ read c.if-turned_weight-kept_weight.true in
     omega (arith, spent_small _ _ _ _ _ _ _ next)
 
 pub overflow_add-walk : goal.overflow_add-walk
 overflow_add-walk c =
-    let read : IsRead c.args.rows.now c.args.confidences.now c.args.sum c.args.n c.args.walk.left c.args.walk.flips c.args.walk.weight
-    c.args.walk.others c.effect.result c.from-kept_weight.result c.from.result c.from-confidence.result =
-    record {
-      rows_are = c.requires.least;
-      place = c.requires.place;
-      walk = c.requires.walk;
-      effect_is = c.effect.ensures.value;
-      effect_small = c.effect.ensures.small;
-      confidence_is = c.from-confidence.ensures;
-      kept_is = c.from-kept_weight.ensures;
-      base_is = c.from.ensures;
-    } in
+    let read = is_read c.requires.least c.requires.place c.requires.walk c.effect.ensures.value c.effect.ensures.small
+    c.from-confidence.ensures c.from-kept_weight.ensures c.from.ensures in
     omega (arith, spent_small _ _ _ _ _ _ _ c.requires.walk, kept_small _ _ _ _ _ _ _ _ _ _ _ _ read)
 
 pub overflow_add-walk-else-turned_weight-kept_weight : goal.overflow_add-walk-else-turned_weight-kept_weight
 overflow_add-walk-else-turned_weight-kept_weight c =
-    let read : IsRead c.args.rows.now c.args.confidences.now c.args.sum c.args.n c.args.walk.left c.args.walk.flips c.args.walk.weight
-    c.args.walk.others c.effect.result c.from-kept_weight.result c.from.result c.from-confidence.result =
-    record {
-      rows_are = c.requires.least;
-      place = c.requires.place;
-      walk = c.requires.walk;
-      effect_is = c.effect.ensures.value;
-      effect_small = c.effect.ensures.small;
-      confidence_is = c.from-confidence.ensures;
-      kept_is = c.from-kept_weight.ensures;
-      base_is = c.from.ensures;
-    } in
+    let read = is_read c.requires.least c.requires.place c.requires.walk c.effect.ensures.value c.effect.ensures.small
+    c.from-confidence.ensures c.from-kept_weight.ensures c.from.ensures in
     omega (
       arith,
       spent_small _ _ _ _ _ _ _ c.requires.walk,
@@ -81,34 +41,14 @@ overflow_add-walk-else-turned_weight-kept_weight c =
 
 pub returns-then-turned_weight-kept_weight : goal.returns-then-turned_weight-kept_weight
 returns-then-turned_weight-kept_weight c =
-    let read : IsRead c.args.rows.now c.args.confidences.now c.args.sum c.args.n c.args.walk.left c.args.walk.flips c.args.walk.weight
-    c.args.walk.others c.effect.result c.from-kept_weight.result c.from.result c.from-confidence.result =
-    record {
-      rows_are = c.requires.least;
-      place = c.requires.place;
-      walk = c.requires.walk;
-      effect_is = c.effect.ensures.value;
-      effect_small = c.effect.ensures.small;
-      confidence_is = c.from-confidence.ensures;
-      kept_is = c.from-kept_weight.ensures;
-      base_is = c.from.ensures;
-    } in
+    let read = is_read c.requires.least c.requires.place c.requires.walk c.effect.ensures.value c.effect.ensures.small
+    c.from-confidence.ensures c.from-kept_weight.ensures c.from.ensures in
     let next = step_turned _ _ _ _ _ _ _ _ _ _ _ _ read c.if-turned_weight-kept_weight.true in
     let small : c.args.walk.flips + 2 ^ c.args.n < 2 ^ 27 = flips_small _ _ _ _ _ _ _ next in
     rw (power_is c.args.walk.flips c.args.n small, c.min.ensures) next
 
 pub returns-else-turned_weight-kept_weight : goal.returns-else-turned_weight-kept_weight
 returns-else-turned_weight-kept_weight c =
-    let read : IsRead c.args.rows.now c.args.confidences.now c.args.sum c.args.n c.args.walk.left c.args.walk.flips c.args.walk.weight
-    c.args.walk.others c.effect.result c.from-kept_weight.result c.from.result c.from-confidence.result =
-    record {
-      rows_are = c.requires.least;
-      place = c.requires.place;
-      walk = c.requires.walk;
-      effect_is = c.effect.ensures.value;
-      effect_small = c.effect.ensures.small;
-      confidence_is = c.from-confidence.ensures;
-      kept_is = c.from-kept_weight.ensures;
-      base_is = c.from.ensures;
-    } in
+    let read = is_read c.requires.least c.requires.place c.requires.walk c.effect.ensures.value c.effect.ensures.small
+    c.from-confidence.ensures c.from-kept_weight.ensures c.from.ensures in
     rw c.min-else-turned_weight-kept_weight.ensures (step_kept _ _ _ _ _ _ _ _ _ _ _ _ read c.if-turned_weight-kept_weight.false)

@@ -1,4 +1,4 @@
-use Rattle.std.proofs.Common.{◌≡◌, ◌+◌, ◌*◌, ◌<◌, ◌∙◌, ℕ, List, [], ◌∷◌, length-append, ap, sym, subst, length}
+use Rattle.std.proofs.Common.{◌≡◌, ◌+◌, ◌*◌, ◌<◌, ◌∙◌, ℕ, List, length-append, rules, ap, sym, subst, length}
 use Rattle.std.proofs.lemmas.List.{take_rest}
 use Rattle.rds_stream.specs.Recording.{packed_bit}
 use Rattle.rds_soft.specs.ReadAgain.{symbols_of}
@@ -11,10 +11,12 @@ loop-left-preserved c =
     let symbols : List ℕ = c.args.symbols.now in
     let left : List ℕ = c.loop-left.left.now in
     let bytes : List ℕ = c.loop-left.bytes.items in
-    let pushed = c.in_ok-push.ensures.items in
-    let more : length c.push.new.self.items ≡ length bytes + 1 = ap length pushed ∙ length-append bytes (c.byte_of.result ∷ []) in
+    let pushed = c.in_ok-extend_from_slice.ensures.items in
+    let eight : length c.bytes_of.result ≡ 8 = search (rules, c.bytes_of.type_inv, c.bytes_of.auto) in
+    let more : length c.extend_from_slice.new.self.items ≡ length bytes + 8 =
+    ap length pushed ∙ length-append bytes c.bytes_of.result ∙ ap (λ (n : ℕ). length bytes + n) eight in
     record {
-      rest = take_rest left c.min.result ∙ next_rest symbols left (length bytes) c.min.result (length c.push.new.self.items) c.loop-left.invariant.rest c.min.ensures more;
+      rest = take_rest left c.min.result ∙ next_rest symbols left (length bytes) c.min.result (length c.extend_from_slice.new.self.items) c.loop-left.invariant.rest c.min.ensures more;
       bits = subst (λ (xs : List ℕ). (i : ℕ) → i < 8 * length xs → i + 1 < length symbols → packed_bit xs i ≡ hard_bit (symbols_of symbols) i) (sym pushed)
-          (bits_more symbols left bytes c.byte_of.result c.loop-left.invariant.rest c.loop-left.invariant.bits c.byte_of.ensures);
+          (bits_more symbols left bytes c.bytes_of.result eight c.loop-left.invariant.rest c.loop-left.invariant.bits c.bytes_of.ensures);
     }

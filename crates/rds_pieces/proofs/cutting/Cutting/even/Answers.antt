@@ -1,8 +1,4 @@
-use Rattle.std.proofs.Common.{◌≡◌, ℕ, ◌++◌, ◌∷◌, [], List, ◌*◌, ◌∙◌, sym, ap, map, arith}
-use Rattle.std.specs.Int.{div_ceil}
-use Rattle.std.specs.List.{range_with_len}
-use Rattle.std.proofs.lemmas.List.FromFn.{map-range_with_len_more}
-use Rattle.rds_pieces.specs.Cutting.{even_places, every}
+use Rattle.rds_pieces.proofs.Names.{◌≡◌, ℕ, ◌++◌, ◌∷◌, [], List, ◌*◌, ◌∙◌, sym, ap, map, arith, div_ceil, range_with_len, map-range_with_len_more, even_places, every}
 use Rattle.rds_pieces.proofs.CuttingLemmas.{even_is_cutting, is_own_cutting, multiple_inside}
 use Rattle.rds_pieces.proofs.cutting.Cutting.even.Goals as goal
 use Rattle.rds_pieces.proofs.cutting.Cutting.even.Goals.{then-len-eq0, else-len-eq0}

@@ -1,5 +1,4 @@
-use Rattle.std.proofs.Common.{◌≡◌, ◌*◌, map}
-use Rattle.std.specs.List.{range_with_len}
+use Rattle.rds_pieces.proofs.Names.{◌≡◌, ◌*◌, map, range_with_len}
 use Rattle.rds_pieces.proofs.cutting.Cutting.even.Given as goal
 
 abbrev pub invariant-loop-piece : goal.invariant-loop-piece

@@ -1,7 +1,4 @@
-use Rattle.std.proofs.Common.{◌-◌, ap, ◌∙◌}
-use Rattle.rds_sync.specs.Totals.{totals_of}
-use Rattle.rds_pieces.specs.Guess.{guess}
-use Rattle.rds_pieces.specs.RunOf.{RunOf}
+use Rattle.rds_pieces.proofs.Names.{◌-◌, ap, ◌∙◌, totals_of, guess, RunOf}
 use Rattle.rds_pieces.proofs.run.PieceRun.totals.Goals as goal
 
 pub returns : goal.returns

@@ -1,5 +1,4 @@
-use Rattle.std.proofs.Common.{◌≡◌}
-use Rattle.rds_rows.specs.Sheets.{size_of}
+use Rattle.rds_rows.proofs.Names.{◌≡◌, size_of}
 use Rattle.rds_rows.proofs.handoff.Handoff.take.Given as goal
 
 abbrev pub invariant-loop : goal.invariant-loop

@@ -1,4 +1,4 @@
-use Rattle.std.proofs.Common.{◌+◌, ◌++◌, ◌≡◌, ◌≤◌, List, take}
+use Rattle.std.proofs.Common.{◌+◌, ◌++◌, ◌≡◌, ◌≤◌, List, length, map, take, true}
 use Rattle.std.specs.List.{flat_map}
 use Rattle.rds_rows.specs.Sheets.{left_of, size_of, text_of}
 use Rattle.rds_sync.specs.declared.item.Item.{Item}
@@ -9,6 +9,8 @@ abbrev pub invariant-loop-item : goal.invariant-loop-item
 invariant-loop-item g l = record {
   source : l.self.source.now ≡ l.initial.self.source.now;
   has_rows : l.self.has_rows ≡ l.initial.self.has_rows;
+  at : l.i ≡ l.item-index;
+  read : l.is_read ≡ true → take (length l.items) l.self.again.items ≡ map (again_of l.initial.self.source.now) l.items;
   counted : (before : List Item) → HasCountedAgain (again_of l.initial.self.source.now) before l.initial.self.totals
       → HasCountedAgain (again_of l.initial.self.source.now) (before ++ take l.item-index l.items) l.self.totals;
   rows : text_of l.sheet ≡ text_of l.initial.sheet

@@ -1,0 +1,21 @@
+use Rattle.std.proofs.Common.{◌∙◌, Err, ap, subst}
+use Rattle.rds_tool.specs.Ends.{given_by, has_ended, is_flushed, read_failures, taken_by, write_failures}
+use Rattle.rds_sync.specs.Rules.{RuleNumbers}
+use Rattle.rds.specs.Session.{HasFollowedSoftly}
+use Rattle.rds.proofs.Sessions.{refused_softly}
+use Rattle.rds.proofs.session.run_soft_stream.Goals as goal
+
+pub returns-in-Ok : goal.returns-in-Ok
+returns-in-Ok c =
+    subst (λ (r : RuleNumbers). HasFollowedSoftly (record { rules = r; gaps = c.args.input.now.gaps; margin = c.args.margin }) c.args.input.now.bits c.args.workers c.follow_softly.result)
+    c.in-Ok.ensures.numbers c.follow_softly.ensures
+
+pub returns-in-Err : goal.returns-in-Err
+returns-in-Err c =
+    let kept = c.refused_session.ensures in
+    let r = c.requires.reader in
+    let w = c.requires.writer in
+    refused_softly _ _ c.args.workers c.in-Err.error c.in-Err.ensures.refused
+    _ _ _ _ _ _ _ kept.answer
+    (ap (λ sealed. given_by sealed.device) kept.reader ∙ r.given) (ap (λ sealed. has_ended sealed.device) kept.reader ∙ r.ended) (ap (λ sealed. read_failures sealed.device) kept.reader ∙ r.failures)
+    (ap (λ sealed. taken_by sealed.device) kept.writer ∙ w.taken) (ap (λ sealed. is_flushed sealed.device) kept.writer ∙ w.flushed) (ap (λ sealed. write_failures sealed.device) kept.writer ∙ w.failures)

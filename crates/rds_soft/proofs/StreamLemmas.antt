@@ -1,0 +1,378 @@
+-- A stream of symbols after further ones, and at its end.
+use Rattle.std.proofs.Common.{◌≡◌, ◌+◌, ◌-◌, ◌*◌, ◌^◌, ◌<◌, ◌≤◌, ◌++◌, ◌⊎◌, ◌∙◌, ℕ, List, [], ◌∷◌, ap, ap₂, arith, drop, inl, inr, length, map, refl, subst, sym}
+use Rattle.std.specs.List.{All}
+use Rattle.std.proofs.lemmas.Bool.{cases_lt}
+use Rattle.std.proofs.lemmas.List.{append-nil, drop-append-le, drop-drop, length-append, length-drop, map-append}
+use Rattle.rds_stream.specs.Recording.{AreGaps, Signal, length_of}
+use Rattle.rds_sync.specs.Laws.{AcquisitionsAreLate, RunsAreLawful, RunsAreReports, RunsGiveFewItems, RunsJoin, StepsAreLawful}
+use Rattle.rds_sync.specs.Lawful.{IsLawful}
+use Rattle.rds_sync.specs.Ranges.{IsInRange}
+use Rattle.rds_sync.specs.Rules.{RuleNumbers}
+use Rattle.rds_sync.specs.Step.{items_of_end, run}
+use Rattle.rds_sync.specs.declared.item.Item.{Item}
+use Rattle.rds_sync.specs.declared.item.Item.TheVariants as hard
+use Rattle.rds_sync.specs.declared.state.State.{State}
+use Rattle.rds_sync.specs.declared.state.State.TheVariants.{Searching}
+use Rattle.rds_live.specs.Moving.{EndsMove, IsPartHeard, RunsMove, most_behind, moved_items, moved_state}
+use Rattle.rds_live.specs.Next.{moved_back}
+use Rattle.rds_live.specs.Places.{place_of}
+use Rattle.rds_live.proofs.Following.{at-most-more as hard-at-most-more, lawful-back, still-items, still-state}
+use Rattle.rds_live.proofs.GapParts.{part-touched, start-touched}
+use Rattle.rds_live.proofs.ItemPlaces.{run-early}
+use Rattle.rds_live.proofs.Pieces.{back-on}
+use Rattle.rds_soft.specs.Laws.{SymbolsHaveWindows}
+use Rattle.rds_soft.specs.ReadAgain.{item_again, symbols_of}
+use Rattle.rds_soft.specs.SoftStream.{SoftTerms, complete, read_again, report_of, run_of, signal_of}
+use Rattle.rds_soft.specs.Inside.Streams.{Knows, again_in, last_symbols, most_kept, moved_again, part_of, place_again}
+use Rattle.rds_soft.specs.SoftTotals.{AreAtMost}
+use Rattle.rds_soft.specs.declared.soft_totals.SoftTotals.{SoftTotals}
+use Rattle.rds_soft.specs.declared.soft_item.SoftItem.{SoftItem}
+use Rattle.rds_soft.specs.declared.soft_item.SoftItem.TheVariants.{Acquired, Group, LostLock}
+use Rattle.rds_soft.proofs.InsideLemmas.{AllInside, end-inside, items-same, run-inside}
+use Rattle.rds_soft.proofs.PartLemmas.{length-bits, length-symbols, part-heard, part-symbols}
+
+-- moved by nothing
+still-again : (item : SoftItem) → moved_again 0 item ≡ item
+still-again (Acquired a x) = let e : a + 0 ≡ a = omega arith in ap (λ (p : ℕ). Acquired p x) e
+still-again (Group g) = let e : g.place + 0 ≡ g.place = omega arith in ap (λ (p : ℕ). Group (record g { place = p })) e
+still-again (LostLock a) = let e : a + 0 ≡ a = omega arith in ap (λ (p : ℕ). LostLock p) e
+
+still-all : (f : Item → SoftItem) (items : List Item) → map (λ item. moved_again 0 (f item)) items ≡ map f items
+still-all f [] = refl
+still-all f (item ∷ items) = ap₂ (λ (x : SoftItem) (xs : List SoftItem). x ∷ xs) (still-again (f item)) (still-all f items)
+
+-- ---- the symbols that are kept
+
+module _ (symbols : List ℕ) where
+  abbrev pub kept : List ℕ
+  kept = last_symbols symbols
+
+  abbrev pub d : ℕ
+  d = length symbols - length kept
+
+  abbrev pub from : ℕ
+  from = length kept - 1
+
+  kept-long : length kept ≡ length symbols - (length symbols - most_kept)
+  kept-long = length-drop (length symbols - most_kept) symbols
+
+  pub from-there : from + d ≡ length symbols - 1
+  from-there = omega (arith, kept-long)
+
+  pub early-enough : (d ≡ 0) ⊎ (most_behind ≤ from)
+  early-enough = elim (cases_lt (length symbols) 241) [
+    | inl few ↦ inl (omega (arith, kept-long, few))
+    | inr many ↦ inr (omega (arith, kept-long, many))
+  ]
+
+  last-of : drop d symbols ≡ kept
+  last-of = let cut : d ≡ length symbols - most_kept = omega (arith, kept-long) in ap (λ (n : ℕ). drop n symbols) cut
+
+module _ (late : AcquisitionsAreLate) (steps : StepsAreLawful) (lawfuls : RunsAreLawful) (windows : SymbolsHaveWindows) (terms : SoftTerms)
+    (range : IsInRange terms.rules) (are : AreGaps (2 ^ 36) terms.gaps) (symbols : List ℕ) where
+  abbrev rules : RuleNumbers
+  rules = terms.rules
+
+  abbrev state : State
+  state = (run_of terms symbols).0
+
+  abbrev local : State
+  local = moved_back (d symbols) state
+
+  pub state-lawful : IsLawful rules (length symbols - 1) state
+  state-lawful =
+      let all : length symbols - 1 - 0 ≡ length symbols - 1 = omega arith in
+      subst (λ (n : ℕ). IsLawful rules (length symbols - 1) (run (signal_of terms symbols) rules Searching 0 n).0) all
+      (lawfuls (signal_of terms symbols) rules range.loss.0 Searching 0 (length symbols - 1) (omega arith) tt)
+
+  local-is : moved_state (d symbols) local ≡ state
+  local-is = back-on rules (d symbols) (length symbols - 1) state state-lawful (omega (arith, kept-long symbols))
+
+  pub local-lawful : IsLawful rules (from symbols) local
+  local-lawful = lawful-back rules (d symbols) (from symbols) (length symbols - 1) local state local-is state-lawful (from-there symbols) (early-enough symbols)
+
+  bits-long : length_of (signal_of terms symbols) ≡ length symbols - 1
+  bits-long = length-bits (symbols_of symbols) ∙ ap (λ (n : ℕ). n - 1) (length-symbols symbols)
+
+  run-in : AllInside (length symbols - 1) (run_of terms symbols).1
+  run-in =
+      let all : 0 + (length symbols - 1) ≡ length symbols - 1 = omega arith in
+      subst (λ (n : ℕ). AllInside n (run_of terms symbols).1) all
+      (run-inside late steps (signal_of terms symbols) rules range.loss.0 Searching 0 (length symbols - 1) tt)
+
+  -- ---- after further symbols
+
+  module _ (joins : RunsJoin) (moves : RunsMove) (more : List ℕ) where
+    abbrev all : List ℕ
+    all = symbols ++ more
+
+    abbrev P : List ℕ
+    P = kept symbols ++ more
+
+    abbrev part : Signal
+    part = part_of terms.gaps (d symbols) P
+
+    abbrev whole : Signal
+    whole = signal_of terms (symbols ++ more)
+
+    abbrev bits : ℕ
+    bits = length_of part - from symbols
+
+    abbrev found : State × List Item
+    found = run part rules local (from symbols) bits
+
+    long : length P ≡ length (kept symbols) + length more
+    long = length-append (kept symbols) more
+
+    longer : length all ≡ length symbols + length more
+    longer = length-append symbols more
+
+    part-long : length_of part ≡ length P - 1
+    part-long = length-bits (symbols_of P) ∙ ap (λ (n : ℕ). n - 1) (length-symbols P)
+
+    pub ordered : from symbols ≤ length_of part
+    ordered = omega (arith, part-long, long)
+
+    split : drop (d symbols) all ≡ P ++ []
+    split = drop-append-le (d symbols) symbols more (omega arith) ∙ ap (λ (xs : List ℕ). xs ++ more) (last-of symbols) ∙ sym (append-nil P)
+
+    reach : d symbols + length P ≤ length all
+    reach = omega (arith, long, longer, kept-long symbols)
+
+    heard : IsPartHeard whole part (d symbols) (from symbols)
+    heard =
+        part-heard windows terms.gaps part.gaps P all [] (d symbols) (part-touched (2 ^ 36) (d symbols) (length P - 1) terms.gaps are) split reach
+        (from symbols) (early-enough symbols)
+
+    here : drop 0 all ≡ symbols ++ more
+    here = refl
+
+    begins : 0 + length symbols ≤ length all
+    begins = omega (arith, longer)
+
+    heard-before : IsPartHeard whole (signal_of terms symbols) 0 0
+    heard-before =
+        part-heard windows terms.gaps terms.gaps symbols all more 0 (start-touched (length symbols - 1) terms.gaps) here begins 0 (inl refl)
+
+    run-before : run whole rules Searching 0 (length symbols - 1) ≡ run_of terms symbols
+    run-before =
+        moves whole (signal_of terms symbols) rules 0 Searching 0 (length symbols - 1) range.loss.0 range.reach tt heard-before (omega (arith, bits-long))
+        ∙ ap₂ (λ (s : State) (items : List Item). (s, items)) (still-state state) (still-items (run_of terms symbols).1)
+
+    run-here : run whole rules state (length symbols - 1) bits ≡ (moved_state (d symbols) found.0, moved_items (d symbols) found.1)
+    run-here =
+        ap₂ (λ (s : State) (n : ℕ). run whole rules s n bits) (sym local-is) (sym (from-there symbols))
+        ∙ moves whole part rules (d symbols) local (from symbols) bits range.loss.0 range.reach local-lawful heard (omega (arith, ordered))
+
+    run-after : run_of terms all ≡ (moved_state (d symbols) found.0, (run_of terms symbols).1 ++ moved_items (d symbols) found.1)
+    run-after =
+        let total : length all - 1 - 0 ≡ length all - 1 = omega arith in
+        let front : length symbols - 1 - 0 ≡ length symbols - 1 = omega arith in
+        let rest : length all - 1 - (length symbols - 1) ≡ bits = omega (arith, part-long, long, longer, kept-long symbols) in
+        ap (λ (n : ℕ). run whole rules Searching 0 n) (sym total)
+        ∙ joins whole rules Searching 0 (length symbols - 1) (length all - 1) (omega arith) (omega (arith, longer))
+        ∙ ap₂ (λ (a b : ℕ). (
+          (run whole rules (run whole rules Searching 0 a).0 (length symbols - 1) b).0,
+          (run whole rules Searching 0 a).1 ++ (run whole rules (run whole rules Searching 0 a).0 (length symbols - 1) b).1,
+        )) front rest
+        ∙ ap (λ (r : State × List Item). ((run whole rules r.0 (length symbols - 1) bits).0, r.1 ++ (run whole rules r.0 (length symbols - 1) bits).1)) run-before
+        ∙ ap (λ (r : State × List Item). (r.0, (run_of terms symbols).1 ++ r.1)) run-here
+
+    pub state-after : moved_state (d symbols) found.0 ≡ (run_of terms all).0
+    state-after = sym (ap (λ (r : State × List Item). r.0) run-after)
+
+    again-before : read_again terms all (run_of terms symbols).1 ≡ complete terms symbols
+    again-before =
+        ap (read_again terms all) (sym (still-items (run_of terms symbols).1))
+        ∙ sym (items-same (signal_of terms symbols) whole (symbols_of symbols) (symbols_of all) terms.margin (length symbols - 1) 0
+        (part-symbols windows terms.gaps terms.gaps symbols all more 0 (start-touched (length symbols - 1) terms.gaps) here begins)
+        (run_of terms symbols).1 run-in)
+        ∙ still-all (item_again (signal_of terms symbols) (symbols_of symbols) terms.margin) (run_of terms symbols).1
+
+    found-in : AllInside (length P - 1) found.1
+    found-in =
+        let end : from symbols + bits ≡ length P - 1 = omega (arith, ordered, part-long) in
+        subst (λ (n : ℕ). AllInside n found.1) end (run-inside late steps part rules range.loss.0 local (from symbols) bits local-lawful)
+
+    again-after : read_again terms all (moved_items (d symbols) found.1) ≡ map (again_in part P terms.margin (d symbols)) found.1
+    again-after =
+        sym (items-same part whole (symbols_of P) (symbols_of all) terms.margin (length P - 1) (d symbols)
+        (part-symbols windows terms.gaps part.gaps P all [] (d symbols) (part-touched (2 ^ 36) (d symbols) (length P - 1) terms.gaps are) split reach)
+        found.1 found-in)
+
+    pub complete-after : complete terms all ≡ complete terms symbols ++ map (again_in part P terms.margin (d symbols)) found.1
+    complete-after =
+        ap (λ (r : State × List Item). read_again terms all r.1) run-after
+        ∙ map-append (item_again whole (symbols_of all) terms.margin) (run_of terms symbols).1 (moved_items (d symbols) found.1)
+        ∙ ap₂ (λ (xs ys : List SoftItem). xs ++ ys) again-before again-after
+
+    pub few-found : RunsGiveFewItems → length found.1 ≤ 2 * length more
+    few-found few =
+        omega (arith, few part rules local (from symbols) (length_of part) ordered, part-long, long)
+
+    pub found-early : length all ≤ 2 ^ 36 + 1 → All (λ (item : Item). place_of item < 2 ^ 37) found.1
+    found-early limit = run-early part rules (2 ^ 37) local (from symbols) bits (omega (arith, ordered, part-long, long, longer, limit, kept-long symbols))
+
+  -- ---- at the end
+
+  module _ (reports : RunsAreReports) (ends : EndsMove) where
+    abbrev last : List ℕ
+    last = kept symbols ++ []
+
+    abbrev near : Signal
+    near = part_of terms.gaps (d symbols) last
+
+    last-is : last ≡ kept symbols
+    last-is = append-nil (kept symbols)
+
+    last-long : length last ≡ length (kept symbols)
+    last-long = ap (λ (xs : List ℕ). length xs) last-is
+
+    pub near-long : length_of near ≡ from symbols
+    near-long = length-bits (symbols_of last) ∙ ap (λ (n : ℕ). n - 1) (length-symbols last ∙ last-long)
+
+    near-lawful : IsLawful rules (length_of near) local
+    near-lawful = subst (λ (n : ℕ). IsLawful rules n local) (sym near-long) local-lawful
+
+    end-split : drop (d symbols) symbols ≡ last ++ []
+    end-split = last-of symbols ∙ sym last-is ∙ sym (append-nil last)
+
+    end-reach : d symbols + length last ≤ length symbols
+    end-reach = omega (arith, last-long, kept-long symbols)
+
+    end-heard : IsPartHeard (signal_of terms symbols) near (d symbols) (length_of near)
+    end-heard =
+        part-heard windows terms.gaps near.gaps last symbols [] (d symbols) (part-touched (2 ^ 36) (d symbols) (length last - 1) terms.gaps are) end-split end-reach
+        (length_of near) (subst (λ (n : ℕ). (d symbols ≡ 0) ⊎ (most_behind ≤ n)) (sym near-long) (early-enough symbols))
+
+    end-moved : items_of_end (signal_of terms symbols) rules state ≡ moved_items (d symbols) (items_of_end near rules local)
+    end-moved =
+        ap (items_of_end (signal_of terms symbols) rules) (sym local-is)
+        ∙ ends (signal_of terms symbols) near rules (d symbols) local near-lawful end-heard
+
+    end-in : AllInside (length last - 1) (items_of_end near rules local)
+    end-in =
+        let n : length_of near ≡ length last - 1 = omega (arith, near-long, last-long) in
+        subst (λ (i : ℕ). AllInside i (items_of_end near rules local)) n (end-inside near rules (length_of near) local near-lawful)
+
+    end-again : read_again terms symbols (items_of_end (signal_of terms symbols) rules state)
+        ≡ map (again_in near last terms.margin (d symbols)) (items_of_end near rules local)
+    end-again =
+        ap (read_again terms symbols) end-moved
+        ∙ sym (items-same near (signal_of terms symbols) (symbols_of last) (symbols_of symbols) terms.margin (length last - 1) (d symbols)
+        (part-symbols windows terms.gaps near.gaps last symbols [] (d symbols) (part-touched (2 ^ 36) (d symbols) (length last - 1) terms.gaps are) end-split end-reach)
+        (items_of_end near rules local) end-in)
+
+    pub report-closed : complete terms symbols ++ map (again_in near last terms.margin (d symbols)) (items_of_end near rules local) ≡ report_of terms symbols
+    report-closed =
+        let b = signal_of terms symbols in
+        ap (λ (xs : List SoftItem). complete terms symbols ++ xs) (sym end-again)
+        ∙ sym (map-append (item_again b (symbols_of symbols) terms.margin) (run_of terms symbols).1 (items_of_end b rules state))
+        ∙ ap (read_again terms symbols)
+        (ap (λ (n : ℕ). (run b rules Searching 0 n).1 ++ items_of_end b rules (run b rules Searching 0 n).0) (sym bits-long)
+        ∙ reports b rules range.loss.0)
+
+-- ---- by the numbers of a decoder
+
+module _ {terms : SoftTerms} {symbols kept_now : List ℕ} {count : ℕ} {now : State} {totals : SoftTotals} (k : Knows terms symbols kept_now count now totals) where
+  pub before-is : count - length kept_now ≡ d symbols
+  before-is = omega (arith, k.count_is, ap (λ (xs : List ℕ). length xs) k.kept_is)
+
+  pub from-is : length kept_now - 1 ≡ from symbols
+  from-is = omega (arith, ap (λ (xs : List ℕ). length xs) k.kept_is)
+
+  -- the run over the part is that of the stream's symbols
+  pub run-is : (more : List ℕ) (part : Signal) (from_now before : ℕ) → from_now ≡ length kept_now - 1 → before ≡ count - length kept_now
+      → part ≡ part_of terms.gaps before (kept_now ++ more)
+      → run part terms.rules (moved_back before now) from_now (length_of part - from_now)
+      ≡ run (part_of terms.gaps (d symbols) (kept symbols ++ more)) terms.rules (moved_back (d symbols) (run_of terms symbols).0) (from symbols)
+      (length_of (part_of terms.gaps (d symbols) (kept symbols ++ more)) - from symbols)
+  run-is more part from_now before f b is =
+      let whole : part ≡ part_of terms.gaps (d symbols) (kept symbols ++ more) =
+      is ∙ ap₂ (λ (n : ℕ) (xs : List ℕ). part_of terms.gaps n (xs ++ more)) (b ∙ before-is) k.kept_is in
+      ap₂ (λ (p : Signal) (n : ℕ). run p terms.rules (moved_back before now) n (length_of p - n)) whole (f ∙ from-is)
+      ∙ ap₂ (λ (n : ℕ) (s : State). run (part_of terms.gaps (d symbols) (kept symbols ++ more)) terms.rules (moved_back n s) (from symbols)
+      (length_of (part_of terms.gaps (d symbols) (kept symbols ++ more)) - from symbols)) (b ∙ before-is) k.state_is
+
+  pub early-is : (from_now before : ℕ) → from_now ≡ length kept_now - 1 → before ≡ count - length kept_now → (before ≡ 0) ⊎ (most_behind ≤ from_now)
+  early-is from_now before f b =
+      subst (λ (n : ℕ). (before ≡ 0) ⊎ (most_behind ≤ n)) (sym (f ∙ from-is))
+      (subst (λ (n : ℕ). (n ≡ 0) ⊎ (most_behind ≤ from symbols)) (sym (b ∙ before-is)) (early-enough symbols))
+
+  pub lawful-is : AcquisitionsAreLate → StepsAreLawful → RunsAreLawful → SymbolsHaveWindows → IsInRange terms.rules → (from_now before : ℕ)
+      → from_now ≡ length kept_now - 1 → before ≡ count - length kept_now → IsLawful terms.rules (from_now + before) now
+  lawful-is late steps lawfuls windows range from_now before f b =
+      let place : length symbols - 1 ≡ from_now + before = omega (arith, f ∙ from-is, b ∙ before-is, from-there symbols) in
+      subst (λ (s : State). IsLawful terms.rules (from_now + before) s) (sym k.state_is)
+      (subst (λ (n : ℕ). IsLawful terms.rules n (run_of terms symbols).0) place (state-lawful late steps lawfuls windows terms range k.gaps symbols))
+
+  pub part-longer : (more xs : List ℕ) (part : Signal) (from_now before : ℕ) → from_now ≡ length kept_now - 1 → xs ≡ kept_now
+      → part ≡ part_of terms.gaps before (xs ++ more) → from_now ≤ length_of part
+  part-longer more xs part from_now before f same is =
+      omega (
+        arith,
+        f,
+        ap (λ (b : Signal). length_of b) is,
+        length-bits (symbols_of (xs ++ more)),
+        length-symbols (xs ++ more),
+        length-append xs more,
+        ap (λ (ys : List ℕ). length ys) same,
+      )
+
+  -- the part that is kept
+  pub end-long : (xs : List ℕ) (part : Signal) (before : ℕ) → xs ≡ kept_now → part ≡ part_of terms.gaps before (xs ++ []) → length_of part ≡ length kept_now - 1
+  end-long xs part before same is =
+      omega (
+        arith,
+        ap (λ (b : Signal). length_of b) is,
+        length-bits (symbols_of (xs ++ [])),
+        length-symbols (xs ++ []),
+        length-append xs [],
+        ap (λ (ys : List ℕ). length ys) same,
+      )
+
+  -- the items and the group in progress, read again in that part, are the report's
+  pub closed : AcquisitionsAreLate → StepsAreLawful → RunsAreLawful → SymbolsHaveWindows → IsInRange terms.rules → RunsAreReports → EndsMove
+      → (part : Signal) (xs : List ℕ) (before : ℕ) → before ≡ count - length kept_now → part ≡ part_of terms.gaps before (kept_now ++ []) → xs ≡ kept_now ++ []
+      → complete terms symbols ++ map (again_in part xs terms.margin before) (items_of_end part terms.rules (moved_back before now)) ≡ report_of terms symbols
+  closed late steps lawfuls windows range reports ends part xs before b is xs_is =
+      let last : List ℕ = kept symbols ++ [] in
+      let whole : part ≡ part_of terms.gaps (d symbols) last =
+      is ∙ ap₂ (λ (n : ℕ) (ys : List ℕ). part_of terms.gaps n (ys ++ [])) (b ∙ before-is) k.kept_is in
+      let near : Signal = part_of terms.gaps (d symbols) last in
+      ap₂ (λ (p : Signal) (n : ℕ). complete terms symbols ++ map (again_in p xs terms.margin n) (items_of_end p terms.rules (moved_back n now))) whole (b ∙ before-is)
+      ∙ ap₂ (λ (ys : List ℕ) (s : State). complete terms symbols ++ map (again_in near ys terms.margin (d symbols)) (items_of_end near terms.rules (moved_back (d symbols) s)))
+      (xs_is ∙ ap (λ (ys : List ℕ). ys ++ []) k.kept_is) k.state_is
+      ∙ report-closed late steps lawfuls windows terms range k.gaps symbols reports ends
+
+  -- the last symbols after further ones
+  pub kept-after : (more : List ℕ) → last_symbols (kept_now ++ more) ≡ last_symbols (symbols ++ more)
+  kept-after more =
+      let n : ℕ = length symbols - most_kept in
+      let cut : drop n (symbols ++ more) ≡ drop n symbols ++ more = drop-append-le n symbols more (omega arith) in
+      let left : n + (length (drop n symbols ++ more) - most_kept) ≡ length (symbols ++ more) - most_kept =
+      omega (arith, length-append symbols more, length-append (drop n symbols) more, length-drop n symbols) in
+      ap (λ (xs : List ℕ). last_symbols (xs ++ more)) k.kept_is
+      ∙ ap (drop (length (drop n symbols ++ more) - most_kept)) (sym cut)
+      ∙ drop-drop (length (drop n symbols ++ more) - most_kept) n (symbols ++ more)
+      ∙ ap (λ (m : ℕ). drop m (symbols ++ more)) left
+
+-- counts that are at most a number are at most a greater one
+pub at-most-more : (m n : ℕ) (t : SoftTotals) → m ≤ n → AreAtMost m t → AreAtMost n t
+at-most-more m n t more few = record {
+  totals = hard-at-most-more m n t.totals more few.totals;
+  flipped1 = omega (arith, few.flipped1, more);
+  flipped2 = omega (arith, few.flipped2, more);
+  flipped3 = omega (arith, few.flipped3, more);
+  flipped4 = omega (arith, few.flipped4, more);
+  flipped5 = omega (arith, few.flipped5, more);
+  flipped6 = omega (arith, few.flipped6, more);
+}
+
+-- ---- places
+
+pub place-stays : (b : Signal) (symbols : List ℕ) (margin : ℕ) (item : Item) → place_again (item_again b (symbols_of symbols) margin item) ≡ place_of item
+unfolding item_again
+place-stays b symbols margin (hard.Acquired a x) = refl
+place-stays b symbols margin (hard.Group g) = refl
+place-stays b symbols margin (hard.LostLock a) = refl

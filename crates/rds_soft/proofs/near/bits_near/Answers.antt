@@ -1,0 +1,24 @@
+use Rattle.std.proofs.Common.{◌≡◌, ◌-◌, ◌^◌, ◌∙◌, ℕ, List, ap, ap₂, arith, length, refl}
+use Rattle.std.proofs.lemmas.Bool.{false≢true}
+use Rattle.rds_live.specs.Gaps.{gaps_within}
+use Rattle.rds_live.proofs.GapParts.{found-of-part}
+use Rattle.rds_soft.proofs.PartLemmas.{bits-are}
+use Rattle.rds_soft.proofs.near.bits_near.Goals as goal
+
+pub unreachable-requires : goal.unreachable-requires
+unreachable-requires c =
+    let n : ℕ = c.saturating_sub-len.result in
+    absurd (false≢true (c.in-Err.ensures.taken.1 (
+      omega (arith, c.requires.limit, c.saturating_sub-len.ensures),
+      omega (arith, c.in_ok-packed.ensures.enough, c.saturating_sub-len.ensures, c.in_ok-packed.packed.ok),
+      found-of-part (2 ^ 36) c.args.before n n c.args.gaps.now c.in_ok-found.found.items c.requires.gaps c.in_ok-found.ensures refl,
+    )))
+
+pub returns : goal.returns
+returns c =
+    let n : ℕ = c.saturating_sub-len.result in
+    let is : n ≡ length c.args.symbols.now - 1 = omega (arith, c.saturating_sub-len.ensures) in
+    c.in-Ok.ensures.held
+    ∙ ap₂ (λ (bits : List ℕ) (gaps : List (ℕ × ℕ)). record { bits = bits; gaps = gaps })
+    (bits-are c.in_ok-packed.packed.items c.args.symbols.now n is c.in_ok-packed.ensures.bits)
+    (c.in_ok-found.ensures ∙ ap (gaps_within c.args.gaps.now c.args.before) is)

@@ -1,0 +1,7 @@
+use Rattle.std.proofs.Common.{rules}
+use Rattle.rds_soft.specs.ReadAgain.{item_again}
+use Rattle.rds_soft.proofs.near.group_in.Goals as goal
+
+pub unreachable-requires : goal.unreachable-requires
+unfolding item_again
+unreachable-requires c = search rules

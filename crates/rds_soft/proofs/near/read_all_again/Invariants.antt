@@ -1,0 +1,8 @@
+use Rattle.std.proofs.Common.{◌≡◌, map, take}
+use Rattle.rds_soft.specs.Inside.Streams.{again_in}
+use Rattle.rds_soft.proofs.near.read_all_again.Given as goal
+
+abbrev pub invariant-loop-item : goal.invariant-loop-item
+invariant-loop-item l = record {
+  same : l.again.items ≡ map (again_in l.near.recording l.near.symbols.items l.margin l.near.before) (take l.item-index l.items);
+}

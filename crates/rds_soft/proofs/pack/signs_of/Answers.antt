@@ -1,0 +1,31 @@
+use Rattle.std.proofs.Common.{◌≡◌, ℕ, ◌+◌, ◌-◌, ◌%◌, ◌<◌, ◌++◌, List, Bool, Fits, false, cond, ltb, get_or, map, replicate, refl, ap, ◌∙◌, arith, w8}
+use Rattle.std.specs.Int.{bit_at}
+use lib.Lanes.{pick_l, zip2}
+use Rattle.std.proofs.lemmas.List.{get_or_append_left}
+use Rattle.std.proofs.lemmas.Simd.{Each1-get_or, bit_mask_l, bitmask_splat}
+use Rattle.rds_soft.proofs.LaneLemmas.{at_place}
+use Rattle.rds_soft.proofs.PackLemmas.{last_first, sign_by_test}
+use Rattle.rds_soft.proofs.pack.signs_of.Goals as goal
+
+abbrev less_one : ℕ → ℕ → ℕ
+less_one a b = (a + (256 - b)) % 256
+
+abbrev is_up : ℕ → Bool
+is_up x = ltb x 127
+
+-- the lanes that are compared
+abbrev lanes : List ℕ → List ℕ
+lanes xs = zip2 less_one (pick_l 0 (xs ++ xs) last_first) (replicate 16 1)
+
+lane : (xs : List ℕ) (k : ℕ) → k < 16 → get_or (map is_up (lanes xs)) (15 - k) false ≡ ltb ((get_or (xs ++ xs) k 0 + 255) % 256) 127
+lane xs =
+    at_place (λ (k : ℕ). get_or (map is_up (lanes xs)) (15 - k) false ≡ ltb ((get_or (xs ++ xs) k 0 + 255) % 256) 127) refl refl refl refl refl refl refl refl refl refl refl refl refl refl refl refl
+
+pub returns : goal.returns
+returns c k less =
+    let xs : List ℕ = c.args.symbols in
+    ap (λ (n : ℕ). bit_at n (15 - k)) (bitmask_splat w8 ltb (lanes xs) 16 127 refl (omega arith))
+    ∙ bit_mask_l (map is_up (lanes xs)) (15 - k)
+    ∙ ap (λ (b : Bool). cond {A = ℕ} b 1 0) (lane xs k less)
+    ∙ ap (λ (x : ℕ). cond {A = ℕ} (ltb ((x + 255) % 256) 127) 1 0) (get_or_append_left xs xs 0 k (omega (arith, c.fits-symbols.0)))
+    ∙ sign_by_test (get_or xs k 0) (Each1-get_or (Fits w8) xs k 0 (omega (arith, less, c.fits-symbols.0)) c.fits-symbols.1).fits

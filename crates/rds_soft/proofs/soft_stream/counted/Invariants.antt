@@ -1,0 +1,10 @@
+use Rattle.std.proofs.Common.{◌≡◌, ◌++◌, ◌+◌, ◌*◌, ◌^◌, ℕ, List, take}
+use Rattle.rds_soft.specs.SoftTotals.{AreAtMost, soft_totals_of}
+use Rattle.rds_soft.specs.declared.soft_item.SoftItem.{SoftItem}
+use Rattle.rds_soft.proofs.soft_stream.counted.Given as goal
+
+abbrev pub invariant-loop-item : goal.invariant-loop-item
+invariant-loop-item l = record {
+  value : (before : List SoftItem) → l.fn.totals ≡ soft_totals_of before → l.sum ≡ soft_totals_of (before ++ take l.item-index l.items);
+  small : (most : ℕ) → AreAtMost most l.fn.totals → AreAtMost (most + 2 ^ 10 * l.item-index) l.sum;
+}

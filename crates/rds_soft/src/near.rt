@@ -1,0 +1,201 @@
+//! The part of a stream that its last symbols and the next ones are.
+
+ghost use Rattle.std.specs.Prelude.{◌≡◌, ◌++◌, ◌-◌, ◌+◌, ◌*◌, ◌^◌, ◌<◌, ◌≤◌, ◌⊎◌, ℕ, All, IfOk, OnOk, length, map};
+ghost use Rattle.rds_live.specs.Moving.{most_behind, moved_state};
+ghost use Rattle.rds_live.specs.Next.{moved_back};
+ghost use Rattle.rds_live.specs.Places.{place_of};
+ghost use Rattle.rds_stream.specs.Recording.{AreGaps, Signal, length_of};
+ghost use Rattle.rds_sync.specs.Lawful.{IsLawful};
+ghost use Rattle.rds_sync.specs.Step.{items_of_end, run};
+ghost use Rattle.rds_soft.specs.SoftStream.{group_item};
+ghost use Rattle.rds_soft.specs.declared.soft_item.SoftItem.TheVariants.{Group as InSoft};
+ghost use Rattle.rds_soft.specs.ReadAgain.{item_again, symbols_of};
+ghost use Rattle.rds_soft.specs.Inside.Streams.{again_in, last_symbols, moved_again, part_of, place_again};
+
+use crate::laws::{items_are_read_again_alike, items_are_read_again_so};
+use crate::margin::Margin;
+use crate::nearest::Search;
+use crate::pack::pack_bits;
+use crate::soft_item::{SoftGroup, SoftItem};
+use rds_live::{finish_part, gaps_of_part, run_part};
+use rds_stream::{MOST_BITS, Recording};
+use rds_sync::{Group, Item, Rules, State};
+use std::alloc::{AllocError, Global};
+
+/// How many of the last symbols are kept.
+const MOST_KEPT: usize = 240;
+
+/// A part of a stream: its symbols, signed bytes, and the bits between them.
+#[derive(Drop)]
+pub(crate) struct Near {
+    pub(crate) recording: Recording,
+    pub(crate) symbols: Vec<u8>,
+    /// The place of the part's first bit in the stream, and number of its first symbol.
+    pub(crate) before: u64,
+}
+
+/// The part of a stream that begins with symbol number `before`: the symbols that are kept, and these after them. Takes memory for both,
+/// their bits, and the gaps among them.
+pub(crate) fn near_of(
+    alloc: Global,
+    gaps: &[(u64, u64)],
+    before: u64,
+    kept: &[u8],
+    symbols: &[u8],
+) -> Result<Near, AllocError>
+    requires gaps { AreGaps (2 ^ 36) gaps.now }
+    requires limit { length kept.now + length symbols.now ≤ 2 ^ 36 + 1 }
+    ensures symbols { IfOk result (λ near. near.symbols.items ≡ kept.now ++ symbols.now) }
+    ensures part { IfOk result (λ near. near.recording ≡ part_of gaps.now before (kept.now ++ symbols.now)) }
+    ensures before { IfOk result (λ near. near.before ≡ before) }
+{
+    let mut all = Vec::with_capacity(alloc, kept.len() + symbols.len())?;
+    all.extend_from_slice(kept)?;
+    all.extend_from_slice(symbols)?;
+    let recording = bits_near(alloc, gaps, before, &all)?;
+    Ok(Near {
+        recording,
+        symbols: all,
+        before,
+    })
+}
+
+/// The bits of a part of a stream, with the gaps in it.
+fn bits_near(
+    alloc: Global,
+    gaps: &[(u64, u64)],
+    before: u64,
+    symbols: &[u8],
+) -> Result<Recording, AllocError>
+    requires gaps { AreGaps (2 ^ 36) gaps.now }
+    requires limit { length symbols.now ≤ 2 ^ 36 + 1 }
+    ensures { IfOk result (λ part. part ≡ part_of gaps.now before symbols.now) }
+{
+    let len = (symbols.len() as u64).saturating_sub(1);
+    let packed = pack_bits(alloc, symbols)?;
+    let found = gaps_of_part(alloc, gaps, before, len)?;
+    match Recording::with_gaps(packed, len, found) {
+        Ok(recording) => Ok(recording),
+        Err(_) => unreachable!(),
+    }
+}
+
+/// The last of these symbols, as many as are kept.
+pub(crate) fn last_of(alloc: Global, symbols: &[u8]) -> Result<Vec<u8>, AllocError>
+    ensures { IfOk result (λ last. last.items ≡ last_symbols symbols.now) }
+{
+    Vec::from_slice(alloc, &symbols[symbols.len().saturating_sub(MOST_KEPT)..])
+}
+
+/// The items of the run over a part from place `from` on, by their places in it, and the state after them.
+pub(crate) fn run_near(
+    alloc: Global,
+    near: &Near,
+    rules: &Rules,
+    state: State,
+    from: u64,
+) -> Result<(Vec<Item>, State), AllocError>
+    requires lawful { IsLawful rules.now (from + near.now.before) state }
+    requires early { (near.now.before ≡ 0) ⊎ (most_behind ≤ from) }
+    requires order { from ≤ length_of near.now.recording }
+    requires limit { near.now.before ≤ 2 ^ 36 }
+    ensures items { IfOk result (λ found. found.0.items ≡ (run near.now.recording rules.now (moved_back near.now.before state) from
+        (length_of near.now.recording - from)).1) }
+    ensures state { IfOk result (λ found. found.1 ≡ moved_state near.now.before
+        (run near.now.recording rules.now (moved_back near.now.before state) from (length_of near.now.recording - from)).0) }
+{
+    let count = near.recording.len() - from;
+    let mut items = Vec::with_capacity(alloc, 2 * count as usize)?;
+    let end = run_part(&near.recording, near.before, rules, state, from, &mut items);
+    Ok((items, end))
+}
+
+/// These items of a part, each read again from its symbols.
+pub(crate) fn read_all_again(
+    alloc: Global,
+    search: &mut Search,
+    near: &Near,
+    margin: Margin,
+    items: &[Item],
+) -> Result<Vec<SoftItem>, AllocError>
+    requires limit { near.now.before ≤ 2 ^ 36 }
+    requires places { All (λ item. place_of item < 2 ^ 37) items.now }
+    ensures { IfOk result (λ again. again.items
+        ≡ map (again_in near.now.recording near.now.symbols.items margin near.now.before) items.now) }
+{
+    let mut again = Vec::with_capacity(alloc, items.len())?;
+    for item in items {
+        again.push(item_in(search, near, margin, item))?;
+    }
+    Ok(again)
+}
+
+/// The group in progress at the end of a part, in this state of the stream, read again from the part's symbols.
+pub(crate) fn end_near(
+    search: &mut Search,
+    near: &Near,
+    rules: &Rules,
+    margin: Margin,
+    state: State,
+) -> Option<SoftGroup>
+    requires lawful { IsLawful rules.now (length_of near.now.recording + near.now.before) state }
+    requires early { (near.now.before ≡ 0) ⊎ (most_behind ≤ length_of near.now.recording) }
+    requires limit { near.now.before ≤ 2 ^ 36 }
+    ensures { group_item result ≡ map (again_in near.now.recording near.now.symbols.items margin near.now.before)
+        (items_of_end near.now.recording rules.now (moved_back near.now.before state)) }
+{
+    prove!(near.recording.len() <= MOST_BITS);
+    match finish_part(&near.recording, near.before, rules, state) {
+        Some(group) => Some(group_in(search, near, margin, group)),
+        None => None,
+    }
+}
+
+/// A group of a part, read again from its symbols.
+fn group_in(search: &mut Search, near: &Near, margin: Margin, group: Group) -> SoftGroup
+    requires limit { near.now.before ≤ 2 ^ 36 }
+    requires place { group.place < 2 ^ 37 }
+    ensures { InSoft result ≡ again_in near.now.recording near.now.symbols.items margin near.now.before (Item.Group group) }
+{
+    match item_in(search, near, margin, &Item::Group(group)) {
+        SoftItem::Group(again) => again,
+        _ => unreachable!(),
+    }
+}
+
+/// An item of a part, read again from its symbols, by its place in the stream.
+fn item_in(search: &mut Search, near: &Near, margin: Margin, item: &Item) -> SoftItem
+    requires limit { near.now.before ≤ 2 ^ 36 }
+    requires place { place_of item.now < 2 ^ 37 }
+    ensures { result ≡ again_in near.now.recording near.now.symbols.items margin near.now.before item.now }
+{
+    moved_on(item_there(search, near, margin, item), near.before)
+}
+
+/// An item of a part, read again from its symbols.
+fn item_there(search: &mut Search, near: &Near, margin: Margin, item: &Item) -> SoftItem
+    ensures { result ≡ item_again near.now.recording (symbols_of near.now.symbols.items) margin item.now }
+{
+    items_are_read_again_so();
+    items_are_read_again_alike();
+    let _range = margin.weight();
+    search.read_again(&near.recording, near.symbols.as_slice(), margin, item)
+}
+
+/// The item, moved on by `by` places.
+fn moved_on(item: SoftItem, by: u64) -> SoftItem
+    requires { place_again item + by < 2 ^ 64 }
+    ensures { result ≡ moved_again by item }
+{
+    match item {
+        SoftItem::Acquired { place, number } => SoftItem::Acquired {
+            place: place + by,
+            number,
+        },
+        SoftItem::LostLock { place } => SoftItem::LostLock { place: place + by },
+        SoftItem::Group(group) => SoftItem::Group(SoftGroup {
+            place: group.place + by,
+            ..group
+        }),
+    }
+}

@@ -1,0 +1,18 @@
+-- Items that are read again together, and then one by one from their room.
+use Rattle.std.proofs.Common.{◌≡◌, ℕ, ◌<◌, ◌∙◌, List, ap, arith, get_or, length, length-take, map, sym, take}
+use Rattle.std.proofs.lemmas.List.{get_or-map, get_or-take, length-map}
+use Rattle.rds_soft.specs.declared.soft_item.SoftItem.{SoftItem}
+use Rattle.rds_sync.specs.declared.item.Item.{Item}
+use Rattle.rds_tool.specs.Inside.Listers.{IsReadAt}
+
+-- each is at its place
+pub read_at : (again : Item → SoftItem) (items : List Item) (room : List SoftItem) (i : ℕ) (item : Item)
+    → take (length items) room ≡ map again items → i < length items → get_or items i item ≡ item → IsReadAt again room i item
+read_at again items room i item all inside at = (
+  omega (arith, inside, ap length all, length-take (length items) room, length-map items again),
+  λ other.
+      sym (get_or-take (length items) room i other inside)
+      ∙ ap (λ (xs : List SoftItem). get_or xs i other) all
+      ∙ get_or-map again items i item other inside
+      ∙ ap again at,
+)

@@ -1,0 +1,286 @@
+//! From a reader of symbols to a writer, as the symbols come.
+ghost use Rattle.std.specs.Prelude.{◌++◌, ◌+◌, ◌-◌, ◌<◌, ◌^◌, ◌≡◌, ◌≢◌, ◌≤◌, ◌⊎◌, ◌↔◌, [], IfErr, IfOk, IfSome, IsErrOf, List, None, Ok, OnOk, length, true, ℕ};
+ghost use Rattle.std.specs.Io.KnownBytes.{Appends, Consumes};
+ghost use Rattle.std.specs.List.{flat_map};
+ghost use Rattle.rds_soft.specs.SoftStream.{group_item};
+ghost use Rattle.rds_stream.specs.Recording.{AreGaps};
+ghost use Rattle.rds_tool.specs.Following.{IsLong, MayBreakEarly, MayBreakOff};
+ghost use Rattle.rds_tool.specs.SoftFollowing.{IsSoftFollowed, SoftBreaksOff, most_symbols, soft_rows_so_far, soft_stream_text};
+ghost use Rattle.rds_tool.specs.History.{Gave};
+ghost use Rattle.rds_tool.specs.Inside.SoftStreams.{IsDone, IsHeard, IsShort};
+ghost use Rattle.rds_tool.specs.Inside.Streams.{IsShortEnough};
+ghost use Rattle.rds_tool.specs.Outcome.{WritesPrefix};
+ghost use Rattle.rds_tool.specs.Soft.{soft_row, soft_totals_text};
+
+use crate::engine::zeros;
+use crate::following::{check_claim, read_once};
+use crate::rows::RowWriter;
+use crate::text::write_flushed;
+use crate::totals::{flips_with_names, totals_with_names};
+use crate::{Sink, Source, ToolError};
+use rds_soft::{Margin, SoftEnd, SoftItem, SoftStream, SoftTotals};
+use rds_sync::{Rules, laws};
+use std::alloc::{AllocError, Global};
+
+/// How many symbols a read asks for at most.
+const CHUNK: usize = 4096;
+
+/// Follows a stream of symbols, each a signed byte, by these rules and this margin, from the reader's next byte to its end: after each
+/// read it writes and flushes the rows that are complete, and at the end of input the rest of the listing. The text that was written
+/// then is, byte by byte, that of a soft list of all symbols that were read. That rows are written so is this project's rule.
+///
+/// With `bits` the stream ends after that number of bits, one fewer than its symbols: no symbol after theirs is read. The gaps are those
+/// of [`Input`](crate::Input). A read that gives less than was asked for is decoded as it is, to its last symbol, so no row waits for
+/// symbols after it. Of a stream no more is kept than the last read and 240 symbols.
+///
+/// Refusals: `TooLong` past 2^36 bits, before anything is read if `bits` says so; `BitsPastBytes` if the input ends before `bits`;
+/// `BadGaps`, before anything is read if no recording may have such gaps, and else at the end; `Read` and `Write` if a device failed; and
+/// `OutOfMemory`. None takes back the text that was written. Reader and writer have counted fewer than 2^63 failures before.
+pub fn follow_soft<S: Source, K: Sink>(
+    alloc: Global,
+    reader: &mut S,
+    writer: &mut K,
+    rules: &Rules,
+    margin: Margin,
+    bits: Option<u64>,
+    gaps: &[(u64, u64)],
+) -> Result<(), ToolError>
+    requires reads { S.failed reader.old < 2 ^ 63 }
+    requires writes { K.failed writer.old < 2 ^ 63 }
+
+    // Just the symbols that count were read, and the text that a soft list makes of them was written.
+    ensures ok { OnOk result (IsSoftFollowed (record { rules = rules.now; gaps = gaps.now; margin = margin }) bits
+        (S.given reader.old) (S.given reader.new) (S.has_ended reader.new)
+        (K.contents writer.old) (K.contents writer.new) (K.is_flushed writer.new)) }
+
+    // What it gave was taken from what it held, if that is known.
+    ensures took { Gave (S.given reader.old) (S.given reader.new) (Consumes (S.remaining reader.old) (S.remaining reader.new)) }
+
+    // A refusal for a device's sake comes exactly if it failed.
+    ensures read { IsErrOf result ToolError.Read ↔ (S.failed reader.old < S.failed reader.new) }
+    ensures write { IsErrOf result ToolError.Write ↔ (K.failed writer.old < K.failed writer.new) }
+    ensures refused { IfErr result MayBreakOff }
+
+    // When each other refusal comes, and the writer's contents after it.
+    ensures broke_off { IfErr result (SoftBreaksOff (record { rules = rules.now; gaps = gaps.now; margin = margin }) bits
+        (S.given reader.old) (S.given reader.new) (S.has_ended reader.new)
+        (K.contents writer.old) (K.contents writer.new) (K.is_flushed writer.new)) }
+{
+    laws::runs_are_reports();
+    let stream = follow_symbols(alloc, reader, writer, rules, margin, bits, gaps)?;
+    let rows = rows_of_end(alloc, stream, bits)?;
+    write_flushed(writer, rows.as_slice())
+}
+
+/// Follows the symbols of a stream that count, to its end at most.
+fn follow_symbols<'r, S: Source, K: Sink>(
+    alloc: Global,
+    reader: &mut S,
+    writer: &mut K,
+    rules: &'r Rules,
+    margin: Margin,
+    bits: Option<u64>,
+    gaps: &'r [(u64, u64)],
+) -> Result<SoftStream<'r>, ToolError>
+    requires reads { S.failed reader.old < 2 ^ 63 }
+    requires writes { K.failed writer.old < 2 ^ 63 }
+    ensures heard { IfOk result (IsHeard (record { rules = rules.now; gaps = gaps.now; margin = margin }) bits
+        (S.given reader.old) (S.given reader.new) (S.remaining reader.old) (S.remaining reader.new)
+        (K.contents writer.old) (K.contents writer.new) (K.is_flushed writer.new)) }
+    ensures done { IfOk result (λ stream. IsDone bits (length stream.symbols) (S.has_ended reader.new)) }
+    ensures took { Gave (S.given reader.old) (S.given reader.new) (Consumes (S.remaining reader.old) (S.remaining reader.new)) }
+    ensures claims { OnOk result (IsShortEnough bits) }
+    ensures reads { OnOk result (S.failed reader.new ≡ S.failed reader.old) }
+    ensures writes { OnOk result (K.failed writer.new ≡ K.failed writer.old) }
+    ensures read { IsErrOf result ToolError.Read ↔ (S.failed reader.old < S.failed reader.new) }
+    ensures write { IsErrOf result ToolError.Write ↔ (K.failed writer.old < K.failed writer.new) }
+    ensures refused { IfErr result MayBreakEarly }
+    ensures broke_off { IfErr result (SoftBreaksOff (record { rules = rules.now; gaps = gaps.now; margin = margin }) bits
+        (S.given reader.old) (S.given reader.new) (S.has_ended reader.new)
+        (K.contents writer.old) (K.contents writer.new) (K.is_flushed writer.new)) }
+{
+    prove!(1 <= rules.reach());
+    laws::runs_are_reports();
+    let (begun, mut buf) = begin(alloc, rules, margin, bits, gaps)?;
+    let mut stream = begun;
+    'reads: loop {
+        let room = symbols_left(bits, stream.count());
+        let count = read_once(reader, buf.as_mut_slice(), room)?;
+        if count == 0 {
+            break;
+        }
+        follow_next(alloc, writer, &mut stream, &buf[..count])?;
+    }
+    Ok(stream)
+}
+
+/// A stream of which nothing was heard yet, that may have `bits` bits and these gaps, and room for a read.
+fn begin<'r>(
+    alloc: Global,
+    rules: &'r Rules,
+    margin: Margin,
+    bits: Option<u64>,
+    gaps: &'r [(u64, u64)],
+) -> Result<(SoftStream<'r>, Vec<u8>), ToolError>
+    ensures stream { IfOk result (λ begun. begun.0 ≡ record {
+      terms = record { rules = rules.now; gaps = gaps.now; margin = margin };
+      symbols = [];
+    }) }
+    ensures room { IfOk result (λ begun. length begun.1.items ≡ most_symbols) }
+    ensures claims { OnOk result (IsShortEnough bits) }
+    ensures too_long { IsErrOf result ToolError.TooLong → IsLong bits }
+    ensures bad_gaps { IsErrOf result ToolError.BadGaps → AreGaps (2 ^ 36) gaps.now → ⊥ }
+    ensures kinds { IfErr result (λ error. (error ≡ ToolError.OutOfMemory)
+        ⊎ ((error ≡ ToolError.TooLong) ⊎ (error ≡ ToolError.BadGaps))) }
+{
+    check_claim(bits)?;
+    let stream = SoftStream::new(alloc, rules, gaps, margin)?;
+    let buf = zeros(alloc, CHUNK)?;
+    Ok((stream, buf))
+}
+
+/// How many symbols the next read may ask for: none if those of all bits that count were heard.
+fn symbols_left(bits: Option<u64>, count: u64) -> usize
+    requires claims { IsShortEnough bits }
+    requires asked { IfSome bits (λ bits. count ≤ bits + 1) }
+    ensures within { IfSome bits (λ bits. count + result ≤ bits + 1) }
+    ensures none { result ≡ 0 → IfSome bits (λ bits. count ≡ bits + 1) × (bits ≢ None) }
+{
+    match bits {
+        Some(bits) => (bits + 1 - count).min(CHUNK as u64) as usize,
+        None => CHUNK,
+    }
+}
+
+/// Takes the next symbols of a stream, and writes and flushes the rows that they complete.
+fn follow_next<K: Sink>(
+    alloc: Global,
+    writer: &mut K,
+    stream: &mut SoftStream<'_>,
+    symbols: &[u8],
+) -> Result<(), ToolError>
+    requires { K.failed writer.old < 2 ^ 63 }
+    ensures heard { OnOk result (stream.new.symbols ≡ stream.old.symbols ++ symbols.now) }
+    ensures terms { stream.new.terms ≡ stream.old.terms }
+    ensures rows { OnOk result ((rows : List ℕ)
+        × (soft_rows_so_far stream.old.terms (stream.old.symbols ++ symbols.now)
+        ≡ soft_rows_so_far stream.old.terms stream.old.symbols ++ rows)
+        × Appends (K.contents writer.old) (K.contents writer.new) rows) }
+    ensures count { OnOk result (K.failed writer.new ≡ K.failed writer.old) }
+    ensures flushed { OnOk result (K.is_flushed writer.new ≡ true) }
+    ensures fits { OnOk result (length stream.old.symbols + length symbols.now ≤ 2 ^ 36 + 1) }
+    ensures write { IsErrOf result ToolError.Write ↔ (K.failed writer.old < K.failed writer.new) }
+    ensures too_long { IsErrOf result ToolError.TooLong
+        → 2 ^ 36 + 1 < length stream.old.symbols + length symbols.now }
+    ensures kinds { IfErr result (λ error. (error ≡ ToolError.OutOfMemory)
+        ⊎ ((error ≡ ToolError.Write) ⊎ (error ≡ ToolError.TooLong))) }
+    ensures untouched { IfErr result (λ error. error ≢ ToolError.Write → writer.new ≡ writer.old) }
+    ensures prefix { IsErrOf result ToolError.Write → (rows : List ℕ)
+        × (soft_rows_so_far stream.old.terms (stream.old.symbols ++ symbols.now)
+        ≡ soft_rows_so_far stream.old.terms stream.old.symbols ++ rows)
+        × WritesPrefix (K.contents writer.old) (K.contents writer.new) (Ok rows) }
+{
+    let rows = rows_of_next(alloc, stream, symbols)?;
+    write_flushed(writer, rows.as_slice())
+}
+
+/// Takes the next symbols of a stream, and makes the rows that they complete.
+fn rows_of_next(
+    alloc: Global,
+    stream: &mut SoftStream<'_>,
+    symbols: &[u8],
+) -> Result<Vec<u8>, ToolError>
+    ensures heard { OnOk result (stream.new.symbols ≡ stream.old.symbols ++ symbols.now) }
+    ensures terms { stream.new.terms ≡ stream.old.terms }
+    ensures rows { IfOk result (λ rows. soft_rows_so_far stream.old.terms (stream.old.symbols ++ symbols.now)
+        ≡ soft_rows_so_far stream.old.terms stream.old.symbols ++ rows.items) }
+    ensures fits { OnOk result (length stream.old.symbols + length symbols.now ≤ 2 ^ 36 + 1) }
+    ensures too_long { IsErrOf result ToolError.TooLong
+        → 2 ^ 36 + 1 < length stream.old.symbols + length symbols.now }
+    ensures kinds { IfErr result (λ error. (error ≡ ToolError.OutOfMemory) ⊎ (error ≡ ToolError.TooLong)) }
+{
+    let items = stream.take(alloc, symbols)?;
+    let mut rows = Vec::new(alloc);
+    push_soft_items(&mut RowWriter::new(), &mut rows, items.as_slice())?;
+    let _fits = stream.count();
+    Ok(rows)
+}
+
+/// Appends the rows of these items.
+fn push_soft_items(
+    pen: &mut RowWriter,
+    text: &mut Vec<u8>,
+    items: &[SoftItem],
+) -> Result<(), AllocError>
+    ensures { OnOk result (text.new.items ≡ text.old.items ++ flat_map soft_row items.now) }
+{
+    for item in items {
+        pen.write_soft_item(item);
+        text.extend_from_slice(pen.as_bytes())?;
+    }
+    Ok(())
+}
+
+/// The rest of the listing of a stream that ends here: the row of the group in progress, if there is one, and those of the totals.
+fn rows_of_end(
+    alloc: Global,
+    stream: SoftStream<'_>,
+    bits: Option<u64>,
+) -> Result<Vec<u8>, ToolError>
+    ensures rows { IfOk result (λ rows. soft_stream_text stream.entry.terms stream.entry.symbols
+        ≡ soft_rows_so_far stream.entry.terms stream.entry.symbols ++ rows.items) }
+    ensures enough { OnOk result (IsShort bits (length stream.entry.symbols) → ⊥) }
+    ensures gaps { OnOk result (AreGaps (length stream.entry.symbols - 1) stream.entry.terms.gaps) }
+    ensures fits { OnOk result (length stream.entry.symbols ≤ 2 ^ 36 + 1) }
+    ensures past { IsErrOf result ToolError.BitsPastBytes → IsShort bits (length stream.entry.symbols) }
+    ensures bad_gaps { IsErrOf result ToolError.BadGaps → (IsShort bits (length stream.entry.symbols) → ⊥)
+        × (AreGaps (length stream.entry.symbols - 1) stream.entry.terms.gaps → ⊥) }
+    ensures kinds { IfErr result (λ error. (error ≡ ToolError.OutOfMemory)
+        ⊎ ((error ≡ ToolError.BitsPastBytes) ⊎ (error ≡ ToolError.BadGaps))) }
+{
+    if is_short(bits, stream.count()) {
+        return Err(ToolError::BitsPastBytes);
+    }
+    if !stream.may_end() {
+        return Err(ToolError::BadGaps);
+    }
+    let end = stream.finish(alloc)?;
+    Ok(rows_to_end(alloc, &end)?)
+}
+
+/// Whether this number of symbols has fewer bits between them than are claimed.
+fn is_short(bits: Option<u64>, count: u64) -> bool
+    ensures { (result ≡ true) ↔ IsShort bits count }
+{
+    match bits {
+        Some(bits) => count.saturating_sub(1) < bits,
+        None => false,
+    }
+}
+
+/// The row of the group in progress, if there is one, and those of the totals.
+fn rows_to_end(alloc: Global, end: &SoftEnd) -> Result<Vec<u8>, AllocError>
+    ensures { IfOk result (λ rows. rows.items ≡ flat_map soft_row (group_item end.now.group) ++ soft_totals_text end.now.totals) }
+{
+    let mut rows = Vec::new(alloc);
+    let mut pen = RowWriter::new();
+    if let Some(group) = end.group {
+        push_soft_items(&mut pen, &mut rows, [SoftItem::Group(group)].as_slice())?;
+    }
+    push_soft_totals(&mut pen, &mut rows, &end.totals)?;
+    Ok(rows)
+}
+
+/// Appends the rows of all totals.
+fn push_soft_totals(
+    pen: &mut RowWriter,
+    text: &mut Vec<u8>,
+    totals: &SoftTotals,
+) -> Result<(), AllocError>
+    ensures { OnOk result (text.new.items ≡ text.old.items ++ soft_totals_text totals.now) }
+{
+    pen.write_totals(totals_with_names(&totals.totals).as_slice());
+    text.extend_from_slice(pen.as_bytes())?;
+    pen.write_totals(flips_with_names(totals).as_slice());
+    text.extend_from_slice(pen.as_bytes())
+}
