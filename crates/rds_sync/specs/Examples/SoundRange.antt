@@ -1,4 +1,4 @@
--- Eight zero groups: a sound range of 260 bits, if one bad block loses a lock and three rivals have one place modulo 26.
+-- How long a sound range is by both rules of loss, and eight zero groups: a sound range of 260 bits, if one bad block loses a lock and three rivals have one place modulo 26.
 use Rattle.std.specs.Prelude.{◌≡◌, ◌≢◌, ℕ, ◌+◌, ◌-◌, ◌*◌, ◌/◌, ◌%◌, ◌<◌, ◌≤◌, ◌⊎◌, ◌==◌, ◌&&◌, ◌||◌, not, Bool, true, false, List, [], ◌∷◌, length, Option, Some, None, is_some, refl}
 use Rattle.std.specs.List.{filter, list_all, range_with_len}
 use Rattle.std.proofs.Common.{sym, subst, ◌∙◌, inl, inr, get_or, arith}
@@ -6,16 +6,15 @@ use Rattle.std.proofs.lemmas.Bool.{eqb-true, false≢true, cases_lt}
 use Rattle.std.proofs.lemmas.List.FromFn.{get_or-range_with_len, length-range_with_len}
 use Rattle.std.proofs.lemmas.List.Sums.{AllPass-from_list_all}
 use Rattle.rds_code.specs.Cycle.{number_after}
-use Rattle.rds_code.specs.Remainder.{rem}
-use Rattle.rds_stream.specs.Recording.{Signal, bits_of, ungapped, window, touched, heard, offset_at}
+use Rattle.rds_stream.specs.Recording.{Signal, offset_at}
+use Rattle.rds_sync.specs.declared.loss.Loss.TheVariants.{Run, Share}
 use Rattle.rds_sync.specs.Rules.{RuleNumbers}
 use Rattle.rds_sync.specs.Acquiring.{acquired, has_number}
-use Rattle.rds_sync.specs.Convergence.{IsSound, IsRival, AreRivals}
-use Rattle.rds_sync.specs.Examples.Words.{rules_of}
-use Rattle.rds_sync.specs.Examples.EightZeroGroups.{bytes}
+use Rattle.rds_sync.specs.Convergence.{sound_bits, IsSound, IsRival, AreRivals}
+use Rattle.rds_sync.specs.Examples.Words.{first, zero_groups, rules_of, computed}
 
 abbrev pub b : Signal
-b = ungapped (bits_of bytes 832)
+b = first 832 (zero_groups 8)
 
 abbrev pub rules : RuleNumbers
 rules = rules_of 2 3 1
@@ -23,7 +22,7 @@ rules = rules_of 2 3 1
 -- the windows that are valid by chance: three at place 19 modulo 26, two at place 18
 pub valid_by_chance : filter (λ r. is_some (offset_at b r) && not (r % 26 == 25)) (range_with_len 104 260)
     ≡ 123 ∷ 200 ∷ 227 ∷ 304 ∷ 331 ∷ []
-unfolding rem window touched heard offset_at
+unfolding computed
 valid_by_chance = refl
 
 -- the condition at each place of the range, as a test
@@ -32,14 +31,14 @@ is_as_told r = (r % 26 == 25) || (not (is_some (acquired b rules r)) &&
     (not (is_some (offset_at b r)) || (r % 104 == 19) || (r % 104 == 96)))
 
 all_as_told : list_all is_as_told (range_with_len 104 260) ≡ true
-unfolding is_as_told acquired has_number rem window touched heard offset_at
+unfolding is_as_told computed
 all_as_told = refl
 
 unfoldable is_block : ℕ → Bool
 is_block k = has_number b (129 + 26 * k) (number_after 1 k)
 
 all_blocks : list_all is_block (range_with_len 0 10) ≡ true
-unfolding is_block has_number rem window touched heard offset_at
+unfolding is_block computed
 all_blocks = refl
 
 -- a test that all places of a range pass, each passes
@@ -116,3 +115,9 @@ is_sound =
       none_acquires = λ r is. (rival r is).0;
       few = few;
     }
+
+-- ---- how long a sound range is: by default, and if two rivals have one place modulo 26; by a share, of which one decides: the losses, or
+-- the blocks that are looked at
+pub lengths : (sound_bits (Run 10) 0 ≡ 416) × (sound_bits (Run 10) 2 ≡ 936)
+    × (sound_bits (Share 2 4) 4 ≡ 416) × (sound_bits (Share 2 64) 0 ≡ 1820)
+lengths = (refl, refl, refl, refl)

@@ -1,0 +1,168 @@
+-- Stretches of a run; lawful states at the limits, and states just past them.
+use Rattle.std.specs.Prelude.{◌≢◌, Option}
+use Rattle.std.proofs.Common.{inl, inr, arith, rules}
+use Rattle.rds_sync.specs.declared.step.Step.{Step}
+use Rattle.rds_sync.specs.Advance.{items_in}
+use Rattle.rds_sync.specs.Groups.{group}
+use Rattle.rds_sync.specs.Lawful.{IsBetweenGroups, IsLawful}
+use Rattle.rds_sync.specs.Rules.{RuleNumbers}
+use Rattle.rds_sync.specs.Stretch.{IsStretch}
+use Rattle.rds_sync.specs.Examples.Words.{◌≡◌, ℕ, List, [], ◌∷◌, Some, None, refl, Signal, State, Searching, Locked, lock_of, Item, Acquired, Group, computed, first, zero_group, rules_of, rules_with_share, default_rules, due_1}
+
+-- ---- how far a stretch of a run goes: the zero group is searched up to the place that acquires, and then read up to its end
+
+abbrev pub b : Signal
+b = first 104 zero_group
+
+abbrev pub reached : ℕ → State → List (Option Item) → Step
+reached place state items = record { place = place; state = state; items = items }
+
+-- the bit that acquires, and the one that closes the group
+abbrev pub acquires : List (Option Item)
+acquires = Some (Acquired 51 2) ∷ None ∷ []
+
+abbrev pub closes : List (Option Item)
+closes = Some (Group (group b default_rules 2 4 103)) ∷ None ∷ []
+
+abbrev pub nothing : List (Option Item)
+nothing = None ∷ None ∷ []
+
+-- the search ends after the bit that acquires
+pub to_the_acquisition : IsStretch b default_rules Searching 0 104 (reached 52 (Locked (lock_of 77 3 0 2)) acquires)
+unfolding computed
+to_the_acquisition = record {
+  forward = omega arith;
+  limit = omega arith;
+  state = refl;
+  items = refl;
+  quiet = refl;
+  ended = inr (λ none. cc);
+  lawful = search (rules, arith);
+}
+
+-- not one bit before, as nothing was given yet and the range continues
+pub not_before : IsStretch b default_rules Searching 0 104 (reached 51 Searching nothing) → ⊥
+unfolding computed
+not_before stretch = elim stretch.ended [ inl end ↦ omega (arith, end) | inr some ↦ some refl ]
+
+-- and not one bit after it, though the state is that of the run
+pub not_behind : IsStretch b default_rules Searching 0 104 (reached 53 (Locked (lock_of 77 3 0 2)) acquires) → ⊥
+unfolding computed
+not_behind stretch = let quiet : Acquired 51 2 ∷ [] ≡ [] = stretch.quiet in cc
+
+-- if nothing is given it extends to the end of its range
+pub to_the_end : IsStretch b default_rules Searching 0 51 (reached 51 Searching nothing)
+unfolding computed
+to_the_end = record {
+  forward = omega arith;
+  limit = omega arith;
+  state = refl;
+  items = refl;
+  quiet = refl;
+  ended = inl refl;
+  lawful = tt;
+}
+
+-- a lock is read up to and including the block that closes its group
+pub to_the_group : IsStretch b default_rules (Locked (lock_of 77 3 0 2)) 52 104 (reached 104 (due_1 129) closes)
+unfolding computed
+to_the_group = record {
+  forward = omega arith;
+  limit = omega arith;
+  state = refl;
+  items = refl;
+  quiet = refl;
+  ended = inl refl;
+  lawful = search (rules, arith);
+}
+
+-- ---- lawful states
+
+-- before the bit at the place, a lock with the block that is due, its number, the bad blocks and the first block
+abbrev pub IsLawfulAt : RuleNumbers → ℕ → ℕ → ℕ → ℕ → ℕ → Type 0
+IsLawfulAt numbers place due number bad first = IsLawful numbers place (Locked (lock_of due number bad first))
+
+-- ---- which place a block may be due at: this place, and the last of the next 26
+
+pub search_at_0 : IsLawful default_rules 0 Searching
+search_at_0 = tt
+
+pub due_now : IsLawfulAt default_rules 129 129 1 9 1
+due_now = search (rules, arith)
+
+pub due_last : IsLawfulAt default_rules 104 129 1 0 1
+due_last = grind arith
+
+pub due_before : IsLawfulAt default_rules 130 129 1 0 1 → ⊥
+due_before lawful = omega arith
+
+pub due_after_27 : IsLawfulAt default_rules 103 129 1 0 1 → ⊥
+due_after_27 lawful = omega arith
+
+-- ---- how many bad blocks there may be; and which masks, by a share of two of four
+
+pub all_but_one_of_64 : IsLawfulAt (rules_of 2 3 64) 129 129 1 63 1
+all_but_one_of_64 = record {
+  soon = (omega arith, omega arith);
+  late = omega arith;
+  few_bad = omega arith;
+  enough_bits = omega arith;
+  in_order = inl (refl, refl);
+}
+
+pub lost : IsLawfulAt default_rules 129 129 1 10 1 → ⊥
+lost lawful = omega arith
+
+pub oldest_of_four : IsLawfulAt (rules_with_share 2 4) 129 129 1 8 1
+unfolding computed
+oldest_of_four = search (rules, arith)
+
+pub fifth_of_four : IsLawfulAt (rules_with_share 2 4) 129 129 1 16 1 → ⊥
+fifth_of_four lawful = omega arith
+
+pub two_of_four : IsLawfulAt (rules_with_share 2 4) 129 129 1 3 1 → ⊥
+unfolding computed
+two_of_four lawful = omega arith
+
+-- ---- where its group may begin
+
+-- the first block of the group ends at place 25, the least
+pub least_start : IsLawfulAt default_rules 78 103 4 0 1
+least_start = search (rules, arith)
+
+pub before_the_start : IsLawfulAt default_rules 77 102 4 0 1 → ⊥
+before_the_start lawful = omega arith
+
+-- the block after one that acquires at place 51, the least
+pub due_first : IsLawfulAt default_rules 52 77 2 0 1
+due_first = grind arith
+
+pub before_any_acquires : IsLawfulAt default_rules 51 76 2 0 1 → ⊥
+before_any_acquires lawful = omega arith
+
+-- whose block would be the recording's first
+pub first_of_all : IsLawfulAt default_rules 0 25 1 0 1 → ⊥
+first_of_all lawful = omega arith
+
+-- ---- which numbers it may have
+
+pub last_of_a_group : IsLawfulAt default_rules 129 129 4 0 3
+last_of_a_group = search (rules, arith)
+
+pub past_4 : IsLawfulAt default_rules 129 129 5 0 1 → ⊥
+past_4 lawful = omega arith
+
+-- no first block before block 2, except block 1
+pub first_is_due : IsLawfulAt default_rules 129 129 2 0 2 → ⊥
+first_is_due lawful = omega arith
+
+pub new_group_after_2 : IsLawfulAt default_rules 129 129 1 0 2 → ⊥
+new_group_after_2 lawful = omega arith
+
+-- ---- groups in progress
+
+pub between_at_1 : IsBetweenGroups (Locked (lock_of 129 1 3 1)) × IsBetweenGroups Searching
+between_at_1 = (refl, tt)
+
+pub in_progress_at_2 : IsBetweenGroups (Locked (lock_of 155 2 0 1)) → ⊥
+in_progress_at_2 between = omega arith
