@@ -1,5 +1,5 @@
 -- Bad blocks in a row, and good ones in a row, by the loss history: for both rules of loss.
-use Rattle.rds_sync.proofs.Names.{◌≡◌, ℕ, zero, suc, ◌+◌, ◌*◌, ◌%◌, ◌/◌, ◌^◌, ◌<◌, ◌≤◌, true, false, refl, sym, ap, ap₂, ◌∙◌, subst, arith, pow-suc, mul-le-mul_right, pow_pos, lt-leb, ones_step, count_ones, ⊤, Loss, Run, Share, IsLossRule, IsLawfulBad, bad_after, are_too_many, sound_blocks, bad_over, blocks_in}
+use Rattle.rds_sync.proofs.Names.{common_steps, ◌≡◌, ℕ, zero, suc, ◌+◌, ◌*◌, ◌%◌, ◌/◌, ◌^◌, ◌<◌, ◌≤◌, true, false, refl, sym, ap, ap₂, ◌∙◌, subst, arith, pow-suc, mul-le-mul_right, pow_pos, lt-leb, ones_step, count_ones, ⊤, Loss, Run, Share, IsLossRule, IsLawfulBad, bad_after, are_too_many, sound_blocks, bad_over, blocks_in}
 use Rattle.rds_sync.proofs.LossLemmas.{double, ones_below, ones_zero}
 
 -- the lowest j digits of m are all f
@@ -9,20 +9,12 @@ Lows f (suc j) m = (m % 2 ≡ f) × Lows f j (m / 2)
 
 -- a remainder by a power of two, by its lowest digit
 split : (v m : ℕ) → m % 2 ^ suc v ≡ 2 * ((m / 2) % 2 ^ v) + m % 2
-split v m =
-    let power : 2 ^ suc v ≡ 2 * 2 ^ v = omega (arith, pow-suc 2 v) in
-    let some : 1 ≤ 2 ^ v = omega (arith, pow_pos v) in
-    let digits : m ≡ 2 * (m / 2) + m % 2 = omega arith in
-    ap₂ (λ (n d : ℕ). n % d) digits power ∙ double (m / 2) (m % 2) (2 ^ v) (omega arith) some
+split v m = grind (arith, common_steps, pow-suc, pow_pos, double)
 
 lows_below : (f j v m : ℕ) → j ≤ v → Lows f j m → Lows f j (m % 2 ^ v)
 lows_below f zero v m h l = tt
 lows_below f (suc j) zero m h l = absurd (omega arith)
-lows_below f (suc j) (suc v) m h l =
-    let rest : ℕ = (m / 2) % 2 ^ v in
-    let low : (2 * rest + m % 2) % 2 ≡ f = omega (arith, l.0) in
-    let high : rest ≡ (2 * rest + m % 2) / 2 = omega arith in
-    subst (λ (n : ℕ). Lows f (suc j) n) (sym (split v m)) (low, subst (λ (n : ℕ). Lows f j n) high (lows_below f j v (m / 2) (omega arith) l.1))
+lows_below f (suc j) (suc v) m h l = grind (arith, common_steps, split, lows_below f j v (m / 2) (omega arith) l.1)
 
 lows_more : (f j v m : ℕ) → f ≤ 1 → suc j ≤ v → Lows f j m → Lows f (suc j) ((2 * m + f) % 2 ^ v)
 lows_more f j v m small h l =
@@ -52,18 +44,12 @@ lows_start (suc i) m h = absurd (omega arith)
 -- a remainder has no more ones
 ones_fewer : (v m : ℕ) → count_ones (m % 2 ^ v) ≤ count_ones m
 ones_fewer zero m = let none : m % 1 ≡ 0 = omega arith in let e : count_ones (m % 1) ≡ 0 = ap count_ones none ∙ ones_zero in omega (arith, e)
-ones_fewer (suc v) m =
-    let s : count_ones m ≡ m % 2 + count_ones (m / 2) = ones_step m in
-    let e : count_ones (m % 2 ^ suc v) ≡ count_ones ((m / 2) % 2 ^ v) + m % 2 = ap count_ones (split v m) ∙ ones_below ((m / 2) % 2 ^ v) (m % 2) (omega arith) in
-    omega (arith, s, e, ones_fewer v (m / 2))
+ones_fewer (suc v) m = grind (arith, common_steps, count_ones, ones_step, split, ones_below, ones_fewer v (m / 2))
 
 -- a good block loses no lock
 pub good_keeps : (loss : Loss) (bad : ℕ) → IsLawfulBad loss bad → are_too_many loss (bad_after loss true bad) ≡ false
 good_keeps (Run n) row h = lt-leb n 0 (omega (arith, h))
-good_keeps (Share n v) m h =
-    let shifted : count_ones (2 * m + 0) ≡ count_ones m + 0 = ones_below m 0 (omega arith) in
-    let fewer = ones_fewer v (2 * m + 0) in
-    lt-leb n (count_ones ((2 * m + 0) % 2 ^ v)) (omega (arith, shifted, fewer, h.1))
+good_keeps (Share n v) m h = grind (arith, common_steps, count_ones, ones_below, ones_fewer, lt-leb)
 
 -- how many bad blocks lose a lock, and how many good ones leave nothing of the bad ones
 abbrev pub needed : Loss → ℕ

@@ -1,5 +1,5 @@
 -- Items counted one after the other.
-use Rattle.rds_sync.proofs.Names.{◌≡◌, ℕ, ◌+◌, ◌<◌, List, [], ◌∷◌, ◌++◌, length, take, get_or, map, refl, sym, ap, ap₂, ◌∙◌, arith, append_assoc, append-nil, length-append, take_more, GroupRecord, Item, Group, LostLock, Totals, plus, CountOf, count_of, joined, group_count, loss_count, added, Outcome, outcome_of}
+use Rattle.rds_sync.proofs.Names.{common_steps, ◌≡◌, ℕ, ◌+◌, ◌<◌, List, [], ◌∷◌, ◌++◌, length, take, get_or, map, refl, sym, ap, ap₂, ◌∙◌, arith, append_assoc, append-nil, length-append, take_more, GroupRecord, Item, Group, LostLock, Totals, plus, CountOf, count_of, joined, group_count, loss_count, added, Outcome, outcome_of}
 use Rattle.rds_sync.proofs.OutcomeTotals.{group-tells}
 use Rattle.rds_sync.proofs.TotalsLemmas.{same_counts, totals_of-append}
 
@@ -17,9 +17,7 @@ added-nothing before xs none = ap (λ (is : List Item). added before is) (sym no
 
 -- a group, by how its blocks came out
 pub group-added : (before : CountOf) (g : GroupRecord) (os : List Outcome) → os ≡ map outcome_of g.blocks → joined before (group_count os) ≡ added before (Group g ∷ [])
-group-added before g os is =
-    ap (λ (outcomes : List Outcome). joined before (group_count outcomes)) is
-    ∙ ap (λ (t : Totals). joined before (record { totals = t; items = 1 })) (sym (group-tells g))
+group-added before g os is = grind (arith, common_steps, joined, group_count, group-tells)
 
 -- and the loss that it closes with
 pub lost-added : (before mid after : CountOf) (g : GroupRecord) (os : List Outcome) (place : ℕ) → os ≡ map outcome_of g.blocks
@@ -33,16 +31,10 @@ count-append xs ys = ap₂ (λ (t : Totals) (n : ℕ). record { totals = t; item
 -- one item more of a list
 pub count-next : (items : List Item) (n : ℕ) (d item : Item) → n < length items → get_or items n d ≡ item → (now after : CountOf) → now ≡ count_of (take n items)
     → after ≡ joined now (count_of (item ∷ [])) → after ≡ count_of (take (n + 1) items)
-count-next items n d item within is now after before more =
-    more
-    ∙ ap (λ (k : CountOf). joined k (count_of (item ∷ []))) before
-    ∙ count-append (take n items) (item ∷ [])
-    ∙ ap (λ (some : List Item). count_of some) (ap (λ (i : Item). take n items ++ i ∷ []) (sym is) ∙ sym (take_more items n d within))
+count-next items n d item within is now after before more = grind (arith, common_steps, joined, count_of, count-append, take_more)
 
 plus-assoc : (t u w : Totals) → plus t (plus u w) ≡ plus (plus t u) w
-plus-assoc t u w =
-    same_counts (omega arith) (omega arith) (omega arith) (omega arith) (omega arith) (omega arith)
-    (omega arith) (omega arith) (omega arith) (omega arith) (omega arith) (omega arith)
+plus-assoc t u w = grind (arith, common_steps, same_counts)
 
 joined-assoc : (a k m : CountOf) → joined a (joined k m) ≡ joined (joined a k) m
 joined-assoc a k m = ap₂ (λ (t : Totals) (n : ℕ). record { totals = t; items = n }) (plus-assoc a.totals k.totals m.totals) (omega arith)

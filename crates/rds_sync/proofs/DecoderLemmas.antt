@@ -1,5 +1,5 @@
 -- A decoder: the items of the next stretch come before those of the rest.
-use Rattle.rds_sync.proofs.Names.{◌≡◌, ◌≢◌, ℕ, ◌+◌, ◌-◌, ◌<◌, List, [], ◌∷◌, ◌++◌, append_assoc, length, get_or, Option, Some, None, refl, sym, ap, ap₂, ◌∙◌, arith, inl, inr, ⊤, MakesProgress, YieldsFirst, item_count, Signal, Item, State, Locked, Step, DecoderOf, GivesNext, Lock, HasGiven, RuleNumbers, run, IsStretch}
+use Rattle.rds_sync.proofs.Names.{common_steps, ◌≡◌, ◌≢◌, ℕ, ◌+◌, ◌-◌, ◌<◌, List, [], ◌∷◌, ◌++◌, append_assoc, length, get_or, Option, Some, None, refl, sym, ap, ap₂, ◌∙◌, arith, inl, inr, ⊤, MakesProgress, YieldsFirst, item_count, Signal, Item, State, Locked, Step, DecoderOf, GivesNext, Lock, HasGiven, RuleNumbers, run, IsStretch}
 use Rattle.rds_sync.specs.Advance.{items_in}
 use Rattle.rds_sync.proofs.RunLemmas.{run-places}
 
@@ -13,29 +13,17 @@ module _ (b : Signal) (rules : RuleNumbers) (s : State) (place to : ℕ) (step :
   rest = run b rules step.state step.place (to - step.place)
 
   onwards : run b rules s place (to - place) ≡ (rest.0, items_in step.items ++ rest.1)
-  onwards =
-      run-places b rules s place step.place to (omega (arith, went.forward)) went.limit
-      ∙ ap₂ (λ (t : State) (is : List Item). ((run b rules t step.place (to - step.place)).0, is ++ (run b rules t step.place (to - step.place)).1))
-      (sym went.state) (sym went.items)
+  onwards = grind (arith, common_steps, run-places, run)
 
   nothing_left : items_in step.items ≡ [] → rest.1 ≡ []
-  nothing_left none = elim went.ended [
-    | inl ended ↦
-        let bits : to - step.place ≡ 0 = omega (arith, ended) in
-        ap (λ (n : ℕ). (run b rules step.state step.place n).1) bits
-    | inr given ↦ absurd (given none)
-  ]
+  nothing_left none = grind (arith, common_steps, run)
 
   module _ (old : DecoderOf) (old_is : old ≡ left_of b rules None s place to) (read : Signal) (same : read ≡ b) (second : Option Item) where
     old_items : (first : Option Item) → step.items ≡ first ∷ second ∷ [] → old.items ≡ items_in (first ∷ second ∷ []) ++ rest.1
-    old_items first are =
-        ap (λ (d : DecoderOf). d.items) old_is ∙ ap (λ (r : State × List Item). r.1) onwards
-        ∙ ap (λ (slots : List (Option Item)). items_in slots ++ rest.1) are
+    old_items first are = grind (arith, common_steps, onwards, items_in)
 
     end_is : (ready : Option Item) → (left_of read rules ready step.state step.place to).end ≡ old.end
-    end_is ready =
-        ap (λ (signal : Signal). (run signal rules step.state step.place (to - step.place)).0) same
-        ∙ sym (ap (λ (d : DecoderOf). d.end) old_is ∙ ap (λ (r : State × List Item). r.0) onwards)
+    end_is ready = grind (arith, common_steps, run, onwards)
 
     left_is : (ready : Option Item) → items_in (ready ∷ []) ++ rest.1 ≡ (left_of read rules ready step.state step.place to).items
     left_is ready = ap (λ (signal : Signal). items_in (ready ∷ []) ++ (run signal rules step.state step.place (to - step.place)).1) (sym same)
@@ -98,12 +86,7 @@ module _ (b read : Signal) (rules : RuleNumbers) (s : State) (place to : ℕ) (l
       ∙ ap (λ (t : State). ((run b rules t (now.due - 25) (to - (now.due - 25))).0, passed.1 ++ (run b rules t (now.due - 25) (to - (now.due - 25))).1)) given.state
 
   pub groups-items : before ++ old.items ≡ after ++ (left_of read rules None (Locked now) (now.due - 25) to).items
-  groups-items =
-      ap (λ (d : DecoderOf). before ++ d.items) old_is ∙ ap (λ (r : State × List Item). before ++ r.1) over
-      ∙ sym (append_assoc before passed.1 behind.1) ∙ ap (λ (is : List Item). is ++ behind.1) (sym given.items)
-      ∙ ap (λ (signal : Signal). after ++ (run signal rules (Locked now) (now.due - 25) (to - (now.due - 25))).1) (sym same)
+  groups-items = grind (arith, common_steps, over, run)
 
   pub groups-end : (left_of read rules None (Locked now) (now.due - 25) to).end ≡ old.end
-  groups-end =
-      ap (λ (signal : Signal). (run signal rules (Locked now) (now.due - 25) (to - (now.due - 25))).0) same
-      ∙ sym (ap (λ (d : DecoderOf). d.end) old_is ∙ ap (λ (r : State × List Item). r.0) over)
+  groups-end = grind (arith, common_steps, run, over)

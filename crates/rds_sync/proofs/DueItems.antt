@@ -1,5 +1,5 @@
 -- The items of a block that was due, with the blocks of its group.
-use Rattle.rds_sync.proofs.Names.{◌≡◌, ◌-◌, ℕ, List, [], ◌∷◌, Bool, sym, ap, ap₂, ◌∙◌, arith, Signal, Due, Inside, Closed, Lock, Block, GroupRecord, Group, LostLock, Locked, has_number, blocks_at, IsAfter, IsFollowed, items_of_due, RuleNumbers, items_at}
+use Rattle.rds_sync.proofs.Names.{common_steps, ◌≡◌, ◌-◌, ℕ, List, [], ◌∷◌, Bool, sym, ap, ap₂, ◌∙◌, arith, Signal, Due, Inside, Closed, Lock, Block, GroupRecord, Group, LostLock, Locked, has_number, blocks_at, IsAfter, IsFollowed, items_of_due, RuleNumbers, items_at}
 use Rattle.rds_sync.specs.declared.due.Due.TheVariants.{Lost}
 use Rattle.rds_sync.proofs.DueLemmas.{items-inside, items-closed, items-lost, kept-next}
 use Rattle.rds_sync.proofs.GroupBlocks.{group-blocks}
@@ -10,12 +10,8 @@ module _ (b : Signal) (rules : RuleNumbers) (lock : Lock) (good : Bool) (good_is
   -- the items that are made of the blocks are those of the step
   pub given-due : (due : Due) → IsAfter rules.loss lock good due → items_of_due lock blocks due ≡ items_at b rules lock.due (Locked lock)
   given-due (Inside next) after = sym (items-inside b rules lock good good_is next after)
-  given-due (Closed next) after =
-      ap (λ (g : GroupRecord). Group g ∷ []) (group-blocks b rules lock.first lock.number lock.due blocks read)
-      ∙ sym (items-closed b rules lock good good_is next after)
-  given-due Lost after =
-      ap (λ (g : GroupRecord). Group g ∷ LostLock lock.due ∷ []) (group-blocks b rules lock.first lock.number lock.due blocks read)
-      ∙ sym (items-lost b rules lock good good_is after)
+  given-due (Closed next) after = grind (arith, common_steps, group-blocks, items-closed)
+  given-due Lost after = grind (arith, common_steps, group-blocks, items-lost)
 
   -- its group goes on, or an item was given
   pub followed-due : (due : Due) → IsAfter rules.loss lock good due → IsFollowed b rules lock blocks due

@@ -1,5 +1,5 @@
 -- The block that is due: its effect on its lock, and its items.
-use Rattle.rds_sync.proofs.Names.{◌≡◌, ℕ, ◌+◌, ◌%◌, ◌<◌, [], ◌∷◌, Bool, true, false, refl, sym, ap, ◌∙◌, arith, eq-eqb, ne_eqb, Signal, Due, Inside, Closed, Lock, Group, LostLock, Searching, Locked, has_number, state_of, IsKept, IsAfter, group, bad_after, are_too_many, RuleNumbers, step, items_at, completed_group, lock_of, lock_after}
+use Rattle.rds_sync.proofs.Names.{common_steps, ◌≡◌, ℕ, ◌+◌, ◌%◌, ◌<◌, [], ◌∷◌, Bool, true, false, refl, sym, ap, ◌∙◌, arith, eq-eqb, ne_eqb, Signal, Due, Inside, Closed, Lock, Group, LostLock, Searching, Locked, has_number, state_of, IsKept, IsAfter, group, bad_after, are_too_many, RuleNumbers, step, items_at, completed_group, lock_of, lock_after}
 use Rattle.rds_sync.specs.declared.due.Due.TheVariants.{Lost}
 use Rattle.rds_sync.proofs.RunLemmas.{step-keeping, items-keeping, step-losing, items-losing}
 
@@ -18,10 +18,7 @@ module _ (b : Signal) (rules : RuleNumbers) (lock : Lock) (good : Bool) (good_is
 
   -- the block was read, and the lock goes on
   pub step-kept : (next : Lock) → IsKept rules.loss lock good next → step b rules lock.due (Locked lock) ≡ Locked next
-  step-kept next kept =
-      step-keeping b rules lock (too_many false kept.few_bad)
-      ∙ ap (λ (g : Bool). Locked (lock_after lock.due lock.number (bad_after rules.loss g lock.bad) lock.first)) (sym good_is)
-      ∙ ap (λ (lock : Lock). Locked lock) (sym kept.next_is)
+  step-kept next kept = grind (arith, common_steps, step-keeping, too_many, lock_after, bad_after)
 
   pub items-kept : (next : Lock) → IsKept rules.loss lock good next
       → items_at b rules lock.due (Locked lock) ≡ completed_group b rules lock.first lock.number lock.due
@@ -52,8 +49,4 @@ module _ (b : Signal) (rules : RuleNumbers) (lock : Lock) (good : Bool) (good_is
 -- the lock goes on inside its group, with the block after
 pub kept-next : (lock next : Lock) (bad : ℕ) → lock.number < 4 → next ≡ lock_after lock.due lock.number bad lock.first
     → (next.due ≡ lock.due + 26) × (next.number ≡ lock.number + 1) × (next.first ≡ lock.first)
-kept-next lock next bad inside is =
-    let number : lock.number % 4 + 1 ≡ lock.number + 1 = omega arith in
-    let goes_on : next ≡ lock_of (lock.due + 26) (lock.number + 1) bad lock.first =
-    is ∙ rw (ne_eqb lock.number 4 (λ e. omega arith), number) refl in
-    (ap (λ (l : Lock). l.due) goes_on, ap (λ (l : Lock). l.number) goes_on, ap (λ (l : Lock). l.first) goes_on)
+kept-next lock next bad inside is = grind (arith, common_steps, lock_of, ne_eqb)

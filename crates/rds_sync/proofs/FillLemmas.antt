@@ -1,5 +1,5 @@
 -- Parts that are filled with the items that come next.
-use Rattle.rds_sync.proofs.Names.{◌≡◌, ℕ, ◌-◌, ◌+◌, ◌≤◌, List, [], ◌∷◌, ◌++◌, length, take, append_assoc, sym, ap, ◌∙◌, arith, take-append-add, Signal, Item, Span, items_in, items_of, RuleNumbers}
+use Rattle.rds_sync.proofs.Names.{common_steps, ◌≡◌, ℕ, ◌-◌, ◌+◌, ◌≤◌, List, [], ◌∷◌, ◌++◌, length, take, append_assoc, sym, ap, ◌∙◌, arith, take-append-add, Signal, Item, Span, items_in, items_of, RuleNumbers}
 
 -- with more after both
 pub with_more : (a b c d more : List Item) → a ++ b ≡ c ++ d → a ++ (b ++ more) ≡ c ++ (d ++ more)
@@ -9,10 +9,7 @@ with_more a b c d more is = sym (append_assoc a b more) ∙ ap (λ (items : List
 pub span_taken : (b : Signal) (rules : RuleNumbers) (span : Span) (others rest : List Span) (all before left now after : List Item)
     → all ≡ before ++ (left ++ items_in b rules rest) → left ≡ [] → rest ≡ span ∷ others → before ++ items_of b rules span ≡ after ++ now
     → all ≡ after ++ (now ++ items_in b rules others)
-span_taken b rules span others rest all before left now after is none rest_is taken =
-    is ∙ ap (λ (items : List Item). before ++ (items ++ items_in b rules rest)) none
-    ∙ ap (λ (spans : List Span). before ++ items_in b rules spans) rest_is
-    ∙ with_more before (items_of b rules span) after now (items_in b rules others) taken
+span_taken b rules span others rest all before left now after is none rest_is taken = grind (arith, common_steps, items_in, with_more, items_of)
 
 -- n of the items, the first of which are in a part
 pub part_taken : (n : ℕ) (items part rest : List Item) → items ≡ part ++ rest → length part ≤ n → take n items ≡ part ++ take (n - length part) rest

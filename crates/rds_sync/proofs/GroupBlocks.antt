@@ -1,5 +1,5 @@
 -- The blocks of a group: read one by one, counted, and read on by one.
-use Rattle.rds_sync.proofs.Names.{◌≡◌, ◌≢◌, ℕ, zero, suc, ◌+◌, ◌-◌, ◌*◌, ◌<◌, ◌≤◌, ◌⊎◌, Option, List, [], ◌∷◌, refl, sym, ap, ap₂, ◌∙◌, arith, set, inl, inr, cond, leb, ltb, and-false, le-leb, lt-leb, le-ltb, lt-ltb, cases_lt, ◌&&◌, Wanted, Either, Signal, heard, reading_heard, reading_at, Block, Missing, Read, block_at, blocks_at, group, group_of, wanted_beside, RuleNumbers}
+use Rattle.rds_sync.proofs.Names.{common_steps, ◌≡◌, ◌≢◌, ℕ, zero, suc, ◌+◌, ◌-◌, ◌*◌, ◌<◌, ◌≤◌, ◌⊎◌, Option, List, [], ◌∷◌, refl, sym, ap, ap₂, ◌∙◌, arith, set, inl, inr, cond, leb, ltb, and-false, le-leb, lt-leb, le-ltb, lt-ltb, cases_lt, ◌&&◌, Wanted, Either, Signal, heard, reading_heard, reading_at, Block, Missing, Read, block_at, blocks_at, group, group_of, wanted_beside, RuleNumbers}
 
 module _ (b : Signal) (rules : RuleNumbers) (f x p : ℕ) where
   -- a block that was read is the window heard at its place, read
@@ -34,40 +34,19 @@ below_all (suc (suc (suc (suc zero)))) from to = refl
 below_all (suc (suc (suc (suc (suc x))))) from to = absurd (omega arith)
 
 is_earlier-below : (f x y : ℕ) → f ≤ x → is_earlier f x y + below f y ≡ below x y
-is_earlier-below f x y order = elim (cases_lt y f) [
-  | inl early ↦ let later : y < x = omega arith in rw (lt-leb f y early, lt-ltb y f early, lt-ltb y x later) refl
-  | inr late ↦ elim (cases_lt y x) [
-    | inl before ↦ rw (le-leb f y late, le-ltb y f late, lt-ltb y x before) refl
-    | inr past ↦ rw (le-leb f y late, le-ltb y f late, le-ltb y x past) refl
-  ]
-]
+is_earlier-below f x y order = grind (arith, common_steps, cases_lt, lt-leb, lt-ltb, le-leb, le-ltb)
 
 -- the blocks before the last, counted one by one
 pub blocks_before : (f x : ℕ) → 1 ≤ f → f ≤ x → x ≤ 4
     → is_earlier f x 1 + is_earlier f x 2 + is_earlier f x 3 + is_earlier f x 4 ≡ x - f
-blocks_before f x from order to =
-    let all : is_earlier f x 1 + is_earlier f x 2 + is_earlier f x 3 + is_earlier f x 4 + (f - 1) ≡ x - 1 =
-    omega (
-      arith,
-      is_earlier-below f x 1 order,
-      is_earlier-below f x 2 order,
-      is_earlier-below f x 3 order,
-      is_earlier-below f x 4 order,
-      below_all f from (omega arith),
-      below_all x (omega arith) to,
-    ) in
-    omega arith
+blocks_before f x from order to = grind (arith, common_steps, is_earlier-below, below_all)
 
 -- the blocks of a group, read one by one
 pub blocks_at-read : (b : Signal) (rules : RuleNumbers) (f x p : ℕ) (one two three four : Block)
     → one ≡ block_at b rules f x p Either 1 → two ≡ block_at b rules f x p Either 2
     → three ≡ block_at b rules f x p (wanted_beside two) 3 → four ≡ block_at b rules f x p Either 4
     → one ∷ two ∷ three ∷ four ∷ [] ≡ blocks_at b rules f x p
-blocks_at-read b rules f x p one two three four is_one is_two is_three is_four =
-    let third : three ≡ block_at b rules f x p (wanted_beside (block_at b rules f x p Either 2)) 3 =
-    is_three ∙ ap (λ (second : Block). block_at b rules f x p (wanted_beside second) 3) is_two in
-    ap₂ (λ (first_read second_read : Block). first_read ∷ second_read ∷ three ∷ four ∷ []) is_one is_two
-    ∙ ap₂ (λ (third_read last_read : Block). block_at b rules f x p Either 1 ∷ block_at b rules f x p Either 2 ∷ third_read ∷ last_read ∷ []) third is_four
+blocks_at-read b rules f x p one two three four is_one is_two is_three is_four = grind (arith, common_steps, block_at, wanted_beside)
 
 -- the group of these blocks
 pub group-blocks : (b : Signal) (rules : RuleNumbers) (f x p : ℕ) (blocks : List Block) → blocks ≡ blocks_at b rules f x p
@@ -78,9 +57,7 @@ group-blocks b rules f x p blocks are = ap (group_of (p - 26 * (x - f) - 25)) ar
 -- a block before the last one is that of the group one block shorter
 block_at-earlier : (b : Signal) (rules : RuleNumbers) (f x p : ℕ) (wanted : Wanted) (y : ℕ) → y < x
     → block_at b rules f (x - 1) (p - 26) wanted y ≡ block_at b rules f x p wanted y
-block_at-earlier b rules f x p wanted y before =
-    let place : p - 26 - 26 * (x - 1 - y) ≡ p - 26 * (x - y) = omega arith in
-    rw (le-leb y (x - 1) (omega arith), le-leb y x (omega arith), place) refl
+block_at-earlier b rules f x p wanted y before = grind (arith, common_steps, le-leb)
 
 block_at-later_both : (b : Signal) (rules : RuleNumbers) (f x p : ℕ) (one other : Wanted) (y : ℕ) → x < y
     → block_at b rules f (x - 1) (p - 26) one y ≡ block_at b rules f x p other y

@@ -1,5 +1,5 @@
 -- The facts of a group, read off its blocks.
-use Rattle.rds_sync.proofs.Names.{◌≡◌, ◌≢◌, ℕ, zero, suc, ◌+◌, ◌-◌, ◌*◌, ◌<◌, ◌≤◌, ◌⊎◌, List, [], ◌∷◌, Bool, true, false, Option, Some, None, refl, sym, ap, ◌∙◌, arith, inl, inr, cases_Bool, cases_lt, eqb-true, ◌==◌, ◌&&◌, is_some, slice_get, Offset, OA, OB, C, Cx, D, Wanted, OnlyC, OnlyCx, Either, Reading, Valid, Corrected, Lost, number, offset_of, reading, by_only, corrections, wanted_offsets, information, rem, Signal, heard, reading_heard, reading_at, Version, Unknown, Block, Missing, Read, RuleNumbers, info_of, version_of_bit, version_of_offset, version_by_bit, first_known, version, differ, in_conflict, are_complete, wanted_beside, block_at, blocks_at, group_of, group}
+use Rattle.rds_sync.proofs.Names.{common_steps, ◌≡◌, ◌≢◌, ℕ, zero, suc, ◌+◌, ◌-◌, ◌*◌, ◌<◌, ◌≤◌, ◌⊎◌, List, [], ◌∷◌, Bool, true, false, Option, Some, None, refl, sym, ap, ◌∙◌, arith, inl, inr, cases_Bool, cases_lt, eqb-true, ◌==◌, ◌&&◌, is_some, slice_get, Offset, OA, OB, C, Cx, D, Wanted, OnlyC, OnlyCx, Either, Reading, Valid, Corrected, Lost, number, offset_of, reading, by_only, corrections, wanted_offsets, information, rem, Signal, heard, reading_heard, reading_at, Version, Unknown, Block, Missing, Read, RuleNumbers, info_of, version_of_bit, version_of_offset, version_by_bit, first_known, version, differ, in_conflict, are_complete, wanted_beside, block_at, blocks_at, group_of, group}
 use Rattle.rds_code.specs.Reading.{corrected}
 use Rattle.rds_sync.specs.declared.item.Version.TheVariants.{A, B}
 use Rattle.rds_sync.specs.declared.item.Group.{Group}
@@ -7,23 +7,14 @@ use Rattle.rds_sync.proofs.GroupBlocks.{block_at-read, block_at-missing}
 use Rattle.rds_sync.specs.GroupLaws.{VersionIsRead, VersionsDiffer, GroupIsRead}
 
 -- the choice of C or C' matters only for block 3
-reading-wanted_1 : (h : Option ℕ) (limit : ℕ) (wanted : Wanted) → reading_heard h 1 Either limit ≡ reading_heard h 1 wanted limit
-reading-wanted_1 None limit wanted = refl
-reading-wanted_1 (Some w) limit OnlyC = refl
-reading-wanted_1 (Some w) limit OnlyCx = refl
-reading-wanted_1 (Some w) limit Either = refl
+abbrev AreAlike : Option ℕ → ℕ → Wanted → ℕ → Type 0
+AreAlike h limit wanted x = reading_heard h x Either limit ≡ reading_heard h x wanted limit
 
-reading-wanted_2 : (h : Option ℕ) (limit : ℕ) (wanted : Wanted) → reading_heard h 2 Either limit ≡ reading_heard h 2 wanted limit
-reading-wanted_2 None limit wanted = refl
-reading-wanted_2 (Some w) limit OnlyC = refl
-reading-wanted_2 (Some w) limit OnlyCx = refl
-reading-wanted_2 (Some w) limit Either = refl
-
-reading-wanted_4 : (h : Option ℕ) (limit : ℕ) (wanted : Wanted) → reading_heard h 4 Either limit ≡ reading_heard h 4 wanted limit
-reading-wanted_4 None limit wanted = refl
-reading-wanted_4 (Some w) limit OnlyC = refl
-reading-wanted_4 (Some w) limit OnlyCx = refl
-reading-wanted_4 (Some w) limit Either = refl
+reading-wanted : (h : Option ℕ) (limit : ℕ) (wanted : Wanted) → AreAlike h limit wanted 1 × AreAlike h limit wanted 2 × AreAlike h limit wanted 4
+reading-wanted None limit wanted = (refl, refl, refl)
+reading-wanted (Some w) limit OnlyC = (refl, refl, refl)
+reading-wanted (Some w) limit OnlyCx = (refl, refl, refl)
+reading-wanted (Some w) limit Either = (refl, refl, refl)
 
 -- a block that was corrected is not valid
 by_only-valid : (w : ℕ) (pairs : List (Offset × ℕ)) (o : Offset) (info : ℕ) → by_only w pairs ≢ Valid o info
@@ -192,19 +183,11 @@ module _ (one two three four : Block) where
 
   is_known : (y : ℕ) (block : Block) → slice_get blocks (y - 1) ≡ Some block
       → ((block : Block) × (word : ℕ) × (slice_get blocks (y - 1) ≡ Some block) × (info_of block ≡ Some word)) → known block ≡ true
-  is_known y block e h =
-      let same : Some h.0 ≡ Some block = sym h.2 ∙ e in
-      let block_is : h.0 ≡ block = cc same in
-      ap known (sym block_is) ∙ ap is_some h.3
+  is_known y block e h = grind (arith, common_steps, is_some)
 
   says_complete : ((y : ℕ) → 1 ≤ y → y ≤ 4 → (block : Block) × (word : ℕ) × (slice_get blocks (y - 1) ≡ Some block) × (info_of block ≡ Some word))
       → are_complete blocks ≡ true
-  says_complete h =
-      let k1 = is_known 1 one refl (h 1 (omega arith) (omega arith)) in
-      let k2 = is_known 2 two refl (h 2 (omega arith) (omega arith)) in
-      let k3 = is_known 3 three refl (h 3 (omega arith) (omega arith)) in
-      let k4 = is_known 4 four refl (h 4 (omega arith) (omega arith)) in
-      rw (k1, k2, k3, k4) refl
+  says_complete h = grind (arith, common_steps, is_known)
 
 -- blocks
 
@@ -220,24 +203,15 @@ module _ (b : Signal) (rules : RuleNumbers) (f x p : ℕ) where
 
   -- block 3 was read as number 3
   third_number : (o : Offset) (info : ℕ) → third ≡ Read (Valid o info) → number o ≡ 3
-  third_number o info e = elim (cases_lt 3 f) [
-    | inl early ↦ let none : Missing ≡ Read (Valid o info) = sym (block_at-missing b rules f x p (wanted_beside second) 3 (inl early)) ∙ e in cc none
-    | inr after ↦ elim (cases_lt x 3) [
-      | inl late ↦ let none : Missing ≡ Read (Valid o info) = sym (block_at-missing b rules f x p (wanted_beside second) 3 (inr late)) ∙ e in cc none
-      | inr before ↦
-          let is : Read (reading_at b (p - 26 * (x - 3)) 3 (wanted_beside second) rules.burst) ≡ Read (Valid o info) =
-          sym (block_at-read b rules f x p (wanted_beside second) 3 after before) ∙ e in
-          heard-number (heard b (p - 26 * (x - 3))) 3 rules.burst (wanted_beside second) o info (cc is)
-    ]
-  ]
+  third_number o info e = grind (arith, common_steps, cases_lt, block_at-missing, wanted_beside, reading_at, block_at-read, heard-number, heard)
 
   read_as : 1 ≤ f → x ≤ 4 → (y : ℕ) → f ≤ y → y ≤ x
       → slice_get the_group.blocks (y - 1) ≡ Some (Read (reading_at b (p - 26 * (x - y)) y (wanted_beside second) rules.burst))
   read_as low high zero after before = absurd (omega arith)
-  read_as low high (suc zero) after before = ap Some (block_at-read b rules f x p Either 1 after before ∙ ap Read (reading-wanted_1 _ rules.burst (wanted_beside second)))
-  read_as low high (suc (suc zero)) after before = ap Some (block_at-read b rules f x p Either 2 after before ∙ ap Read (reading-wanted_2 _ rules.burst (wanted_beside second)))
+  read_as low high (suc zero) after before = ap Some (block_at-read b rules f x p Either 1 after before ∙ ap Read (reading-wanted (heard b (p - 26 * (x - 1))) rules.burst (wanted_beside second)).0)
+  read_as low high (suc (suc zero)) after before = ap Some (block_at-read b rules f x p Either 2 after before ∙ ap Read (reading-wanted (heard b (p - 26 * (x - 2))) rules.burst (wanted_beside second)).1)
   read_as low high (suc (suc (suc zero))) after before = ap Some (block_at-read b rules f x p (wanted_beside second) 3 after before)
-  read_as low high (suc (suc (suc (suc zero)))) after before = ap Some (block_at-read b rules f x p Either 4 after before ∙ ap Read (reading-wanted_4 _ rules.burst (wanted_beside second)))
+  read_as low high (suc (suc (suc (suc zero)))) after before = ap Some (block_at-read b rules f x p Either 4 after before ∙ ap Read (reading-wanted (heard b (p - 26 * (x - 4))) rules.burst (wanted_beside second)).2)
   read_as low high (suc (suc (suc (suc (suc y))))) after before = absurd (omega arith)
 
   is_missing : (y : ℕ) → 1 ≤ y → y ≤ 4 → (y < f) ⊎ (x < y) → slice_get the_group.blocks (y - 1) ≡ Some Missing

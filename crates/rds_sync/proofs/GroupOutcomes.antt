@@ -1,5 +1,5 @@
 -- How the blocks of a group came out says which of them were valid.
-use Rattle.rds_sync.proofs.Names.{◌≡◌, ℕ, zero, suc, ◌-◌, ◌*◌, ◌≤◌, List, Bool, refl, sym, ap, ap₂, ◌∙◌, arith, le-leb, ◌&&◌, if◌then◌else◌, Wanted, Either, Signal, heard, reading_at, Missing, Read, has_number, RuleNumbers, HaveRoom, block_at, wanted_beside, group, Outcome, outcome_of, was_valid, good_at}
+use Rattle.rds_sync.proofs.Names.{[], ◌∷◌, true, missing, valid, lost, corrected, ◌≡◌, ℕ, zero, suc, ◌-◌, ◌*◌, ◌≤◌, List, Bool, refl, sym, ap, ap₂, ◌∙◌, arith, le-leb, ◌&&◌, if◌then◌else◌, Wanted, Either, Signal, heard, reading_at, Missing, Read, has_number, RuleNumbers, HaveRoom, block_at, wanted_beside, group, Outcome, outcome_of, was_valid, good_at}
 use Rattle.std.specs.Prelude.{map}
 use Rattle.rds_sync.specs.declared.item.Group.{Group}
 use Rattle.rds_sync.proofs.HeardLemmas.{good-reading}
@@ -27,3 +27,16 @@ module _ (b : Signal) (rules : RuleNumbers) (f x p : ℕ) where
   good-at (suc (suc (suc zero))) one low high four room = good_block (wanted_beside (block_at b rules f x p Either 2)) 3 low high room
   good-at (suc (suc (suc (suc zero)))) one low high four room = good_block Either 4 low high room
   good-at (suc (suc (suc (suc (suc y))))) one low high four room = absurd (omega arith)
+
+pub valid-only : (o : Outcome) → was_valid o ≡ true → o ≡ valid
+valid-only missing h = cc
+valid-only valid h = refl
+valid-only lost h = cc
+valid-only (corrected s n) h = cc
+
+-- only a valid block 4
+pub last-alone : (b : Signal) (rules : RuleNumbers) (p : ℕ) → 25 ≤ p → has_number b p 4 ≡ true → outcomes (group b rules 4 4 p) ≡ missing ∷ missing ∷ missing ∷ valid ∷ []
+unfolding group
+last-alone b rules p late there =
+    let place : p - 26 * (4 - 4) ≡ p = omega arith in
+    ap (λ (o : Outcome). missing ∷ missing ∷ missing ∷ o ∷ []) (valid-only _ (good-at b rules 4 4 p 4 (omega arith) (omega arith) (omega arith) (omega arith) (omega arith) ∙ ap (λ (q : ℕ). has_number b q 4) place ∙ there))

@@ -1,15 +1,12 @@
 -- The blocks of a group of which all four were heard, and its word.
-use Rattle.rds_sync.proofs.Names.{◌≡◌, ◌+◌, ◌-◌, ◌*◌, ◌≤◌, ℕ, List, [], ◌∷◌, Option, None, get_or, map, refl, sym, ap, ◌∙◌, arith, outcome_number, Wanted, Either, Reading, Valid, Corrected, Lost, Signal, reading_heard, reading_at, Read, block_at, blocks_at, wanted_beside, outcome_of, nibble, word_of_blocks, RuleNumbers}
+use Rattle.rds_sync.proofs.Names.{common_steps, ◌≡◌, ◌+◌, ◌-◌, ◌*◌, ◌≤◌, ℕ, List, [], ◌∷◌, Option, None, get_or, map, refl, sym, ap, ◌∙◌, arith, outcome_number, Wanted, Either, Reading, Valid, Corrected, Lost, Signal, reading_heard, reading_at, Read, block_at, blocks_at, wanted_beside, outcome_of, nibble, word_of_blocks, RuleNumbers}
 use Rattle.rds_stream.specs.InARow.{four_heard}
 use Rattle.rds_sync.proofs.GroupBlocks.{block_at-read, blocks_at-read}
 
 -- a block that was read from the window heard at its place
 read-there : (b : Signal) (rules : RuleNumbers) (due p y : ℕ) (wanted : Wanted) (read : Reading) → 1 ≤ y → y ≤ 4 → p ≡ due + 78 - 26 * (4 - y)
     → read ≡ reading_at b p y wanted rules.burst → Read read ≡ block_at b rules 1 4 (due + 78) wanted y
-read-there b rules due p y wanted read low high place is =
-    ap (λ (r : Reading). Read r) is
-    ∙ ap (λ (q : ℕ). Read (reading_at b q y wanted rules.burst)) place
-    ∙ sym (block_at-read b rules 1 4 (due + 78) wanted y low high)
+read-there b rules due p y wanted read low high place is = grind (arith, common_steps, reading_at, block_at-read)
 
 -- the four blocks of a group that ends 78 places after block 1
 pub heard-blocks : (b : Signal) (rules : RuleNumbers) (due : ℕ) (hs : List (Option ℕ)) → hs ≡ four_heard b due → (wanted : Wanted) (one two three four : Reading)

@@ -1,5 +1,5 @@
 -- Whole groups that were heard at once.
-use Rattle.rds_sync.proofs.Names.{◌≡◌, ◌+◌, ◌-◌, ◌*◌, ◌<◌, ◌≤◌, ℕ, zero, suc, List, [], ◌∷◌, ◌++◌, Bool, false, map, refl, sym, ap, ap₂, subst, ◌∙◌, arith, Signal, Block, Item, GroupItem, Loss, blocks_at, group, group_of, Outcome, was_valid, outcome_of, bad_over, HasPushed, IsWhole, outcomes_at, IsLawfulBad, are_too_many, bad_after, RuleNumbers, is_valid}
+use Rattle.rds_sync.proofs.Names.{common_steps, ◌≡◌, ◌+◌, ◌-◌, ◌*◌, ◌<◌, ◌≤◌, ℕ, zero, suc, List, [], ◌∷◌, ◌++◌, Bool, false, map, refl, sym, ap, ap₂, subst, ◌∙◌, arith, Signal, Block, Item, GroupItem, Loss, blocks_at, group, group_of, Outcome, was_valid, outcome_of, bad_over, HasPushed, IsWhole, outcomes_at, IsLawfulBad, are_too_many, bad_after, RuleNumbers, is_valid}
 use Rattle.rds_sync.specs.declared.item.Group.{Group}
 use Rattle.rds_sync.proofs.OutcomeTotals.{valid_is}
 
@@ -17,23 +17,12 @@ pub whole-is : (b : Signal) (rules : RuleNumbers) (due : ℕ) (loss : Loss) (pla
     → after ≡ bad_over loss os before 1 4 → IsLawfulBad loss after → ((k : ℕ) → k < 4 → are_too_many loss (bad_over loss os before 1 (k + 1)) ≡ false)
     → IsWhole b rules due before given after
 unfolding group
-whole-is b rules due loss place bs os before after given late place_is bs_are os_are loss_is given_is after_is lawful kept =
-    let there : place ≡ due + 78 - 26 * (4 - 1) - 25 = omega (arith, late, place_is) in
-    record {
-      given_is = given_is ∙ ap₂ (λ (p : ℕ) (blocks : List Block). group_of p blocks) there bs_are;
-      bad_is = after_is ∙ ap₂ (λ (l : Loss) (outcomes : List Outcome). bad_over l outcomes before 1 4) loss_is os_are;
-      lawful = subst (λ (l : Loss). IsLawfulBad l after) loss_is lawful;
-      few = subst (λ (outcomes : List Outcome). (k : ℕ) → k < 4 → are_too_many rules.loss (bad_over rules.loss outcomes before 1 (k + 1)) ≡ false) os_are
-          (subst (λ (l : Loss). (k : ℕ) → k < 4 → are_too_many l (bad_over l os before 1 (k + 1)) ≡ false) loss_is kept);
-    }
+whole-is b rules due loss place bs os before after given late place_is bs_are os_are loss_is given_is after_is lawful kept = grind (arith, common_steps, group_of, bad_over, are_too_many)
 
 -- that group, appended
 pub pushed-is : (b : Signal) (rules : RuleNumbers) (due before after : ℕ) (given : Group) (items more : List Item)
     → IsWhole b rules due before given after → more ≡ items ++ GroupItem given ∷ [] → HasPushed b rules due before items more after
-pushed-is b rules due before after given items more whole is = (
-  record { given_is = refl; bad_is = whole.bad_is; lawful = whole.lawful; few = whole.few },
-  is ∙ ap (λ (g : Group). items ++ GroupItem g ∷ []) whole.given_is,
-)
+pushed-is b rules due before after given items more whole is = grind (arith, common_steps)
 
 -- the loss history after each of these four
 module _ (loss : Loss) (bs : List Block) (a b c d : Block) (are : bs ≡ a ∷ b ∷ c ∷ d ∷ []) (g h i j : Bool) (bad one two three four : ℕ)

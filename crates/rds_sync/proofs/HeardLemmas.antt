@@ -1,5 +1,5 @@
 -- The windows heard in a recording determine offsets, acquiring, and the reading of a block.
-use Rattle.rds_sync.proofs.Names.{◌≡◌, ℕ, suc, ◌+◌, ◌-◌, ◌*◌, ◌<◌, ◌≤◌, List, [], ◌∷◌, Bool, true, false, Option, Some, None, refl, sym, ap, ap₂, ◌∙◌, arith, eqb, le-ltb, lt-ltb, list_any, range_with_len, Offset, Wanted, Reading, Valid, number, offset_of, reading, read_from, information, corrections, wanted_offsets, by_only, rem, Signal, heard, offset_heard, reading_heard, offset_at, Read, acquired, has_number, has_partner, is_in_step, is_numbered, RuleNumbers, is_valid}
+use Rattle.rds_sync.proofs.Names.{common_steps, ◌≡◌, ℕ, suc, ◌+◌, ◌-◌, ◌*◌, ◌<◌, ◌≤◌, List, [], ◌∷◌, Bool, true, false, Option, Some, None, refl, sym, ap, ap₂, ◌∙◌, arith, eqb, le-ltb, lt-ltb, list_any, range_with_len, Offset, Wanted, Reading, Valid, number, offset_of, reading, read_from, information, corrections, wanted_offsets, by_only, rem, Signal, heard, offset_heard, reading_heard, offset_at, Read, acquired, has_number, has_partner, is_in_step, is_numbered, RuleNumbers, is_valid}
 use Rattle.rds_code.specs.Reading.{corrected}
 use Rattle.rds_sync.proofs.LawfulLemmas.{acquired-none, acquired-some}
 
@@ -48,16 +48,12 @@ good-heard b i x h good late heard_is good_is =
 -- a block is valid where its place has its number
 pub good-reading : (b : Signal) (i x : ℕ) (h : Option ℕ) (wanted : Wanted) (limit : ℕ) (read : Reading) → 25 ≤ i → h ≡ heard b i
     → read ≡ reading_heard h x wanted limit → is_valid (Read read) ≡ has_number b i x
-good-reading b i x h wanted limit read late heard_is read_is =
-    ap (λ (r : Reading). is_valid (Read r)) read_is ∙ valid-heard h x wanted limit
-    ∙ ap (λ (w : Option ℕ). is_numbered (offset_heard w) x) heard_is ∙ sym (has_number-heard b i x late)
+good-reading b i x h wanted limit read late heard_is read_is = grind (arith, common_steps, is_valid, valid-heard, is_numbered, offset_heard, has_number-heard)
 
 -- a test that fails at the first place of a range is left to the others
 pub any-later : (p : ℕ → Bool) (k end : ℕ) → k < end → p k ≡ false
     → list_any p (range_with_len k (end - k)) ≡ list_any p (range_with_len (k + 1) (end - (k + 1)))
-any-later p k end within fails =
-    let more : end - k ≡ suc (end - (k + 1)) = omega arith in
-    rw (more, fails) refl
+any-later p k end within fails = grind (arith, common_steps)
 
 pub acquired-early : (b : Signal) (rules : RuleNumbers) (i : ℕ) → i < 25 → acquired b rules i ≡ None
 acquired-early b rules i early = acquired-none b rules i (off-early b i early)
@@ -66,10 +62,7 @@ acquired-early b rules i early = acquired-none b rules i (off-early b i early)
 pub acquired-offset : (b : Signal) (rules : RuleNumbers) (i n : ℕ) (o : Offset) (found answer : Bool) → offset_at b i ≡ Some o → n ≡ number o
     → found ≡ list_any (has_partner b i n) (range_with_len 1 rules.reach) → found ≡ answer
     → acquired b rules i ≡ elim answer as (λ _. Option ℕ) [ true ↦ Some n | false ↦ None ]
-acquired-offset b rules i n o found answer here is_number is_found answered =
-    acquired-some b rules i o here
-    ∙ sym (ap₂ (λ (t : Bool) (x : ℕ). elim t as (λ _. Option ℕ) [ true ↦ Some x | false ↦ None ])
-    (sym answered ∙ is_found ∙ ap (λ (x : ℕ). list_any (has_partner b i x) (range_with_len 1 rules.reach)) is_number) is_number)
+acquired-offset b rules i n o found answer here is_number is_found answered = grind (arith, common_steps, acquired-some, has_partner)
 
 -- before place 25 there is no partner
 pub has_partner-early : (b : Signal) (i x k : ℕ) → i - 26 * k < 25 → has_partner b i x k ≡ false

@@ -1,5 +1,5 @@
 -- How many items a run gives, and that they are the report's.
-use Rattle.rds_sync.proofs.Names.{◌≡◌, ◌≢◌, ℕ, zero, suc, ◌+◌, ◌-◌, ◌*◌, ◌≤◌, List, [], ◌∷◌, ◌++◌, length, Option, Some, None, ap, ap₂, ◌∙◌, refl, arith, length-append, inl, inr, eq-eqb, ne_eqb, cases_Bool, cases_eq, Signal, length_of, acquired, IsLossRule, are_too_many, report_items, history_after_block, step, run, items_at, items_of_end, completed_group, Item, State, Searching, Locked, RuleNumbers}
+use Rattle.rds_sync.proofs.Names.{common_steps, ◌≡◌, ◌≢◌, ℕ, zero, suc, ◌+◌, ◌-◌, ◌*◌, ◌≤◌, List, [], ◌∷◌, ◌++◌, length, Option, Some, None, ap, ap₂, ◌∙◌, refl, arith, length-append, inl, inr, eq-eqb, ne_eqb, cases_Bool, cases_eq, Signal, length_of, acquired, IsLossRule, are_too_many, report_items, history_after_block, step, run, items_at, items_of_end, completed_group, Item, State, Searching, Locked, RuleNumbers}
 use Rattle.rds_sync.proofs.RunIsReport.{run_is_report}
 use Rattle.rds_sync.proofs.RunLemmas.{items-keeping, items-losing, items-searching, items-acquiring, items-waiting}
 
@@ -26,13 +26,7 @@ items_at-few b rules i (Locked lock) = elim (cases_eq lock.due i) [
 -- so a run gives at most two a bit
 pub run_items-few : (b : Signal) (rules : RuleNumbers) (s : State) (a n : ℕ) → length (run b rules s a n).1 ≤ 2 * n
 run_items-few b rules s a zero = omega arith
-run_items-few b rules s a (suc n) =
-    omega (
-      arith,
-      items_at-few b rules a s,
-      run_items-few b rules (step b rules a s) (a + 1) n,
-      length-append (items_at b rules a s) (run b rules (step b rules a s) (a + 1) n).1,
-    )
+run_items-few b rules s a (suc n) = grind (arith, common_steps, items_at-few, step, length-append, items_at, run, run_items-few b rules (step b rules a s) (a + 1) n)
 
 -- a list with a first item is not empty
 pub some_given : (given : List Item) (item : Item) (others : List Item) → given ≡ item ∷ others → given ≢ []

@@ -1,5 +1,5 @@
 -- Counts in lanes of a number.
-use Rattle.rds_sync.proofs.Names.{◌≡◌, ℕ, ◌+◌, ◌*◌, ◌/◌, ◌%◌, ◌^◌, ◌≤◌, ◌<◌, Bool, true, false, [], ◌∷◌, ap₂, arith, if◌then◌else◌, list_all, Totals, in_lanes, AreLanes, counted, joined, group_count, Outcome, was_valid, was_lost, has_span, bits_inverted, has_info}
+use Rattle.rds_sync.proofs.Names.{common_steps, ◌≡◌, ℕ, ◌+◌, ◌*◌, ◌/◌, ◌%◌, ◌^◌, ◌≤◌, ◌<◌, Bool, true, false, [], ◌∷◌, ap₂, arith, if◌then◌else◌, list_all, Totals, in_lanes, AreLanes, counted, joined, group_count, Outcome, was_valid, was_lost, has_span, bits_inverted, has_info}
 use Rattle.rds_sync.proofs.TotalsLemmas.{same_counts}
 
 -- the lanes of a number
@@ -18,16 +18,7 @@ in_row a b c d e f g h = a + 2 ^ 16 * b + 2 ^ 32 * c + 2 ^ 48 * d + 2 ^ 64 * e +
 
 pub lanes-of : (n a b c d e f g h : ℕ) → n ≡ in_row a b c d e f g h
     → a < 65536 → b < 65536 → c < 65536 → d < 65536 → e < 65536 → f < 65536 → g < 65536 → h < 65536 → HasLanes n a b c d e f g h
-lanes-of n a b c d e f g h is la lb lc ld le lf lg lh = record {
-  valid = omega arith;
-  burst1 = omega arith;
-  burst2 = omega arith;
-  burst3 = omega arith;
-  burst4 = omega arith;
-  burst5 = omega arith;
-  lost = omega arith;
-  bits = omega arith;
-}
+lanes-of n a b c d e f g h is la lb lc ld le lf lg lh = grind (arith, common_steps)
 
 -- a group more
 module _ (n groups d : ℕ) (o p q r : Outcome) (are : AreLanes n (20 * groups)) (few : groups < 3004) (d_is : d ≡ in_lanes o + in_lanes p + in_lanes q + in_lanes r)
@@ -78,8 +69,4 @@ module _ (n groups d : ℕ) (o p q r : Outcome) (are : AreLanes n (20 * groups))
   -- and its totals
   pub counted-group : (clean complete acquired losses whole : ℕ) → whole ≡ (if list_all has_info (o ∷ p ∷ q ∷ r ∷ []) then 1 else 0)
       → counted (n + d) clean (groups + 1) (complete + whole) acquired losses ≡ joined (counted n clean groups complete acquired losses) (group_count (o ∷ p ∷ q ∷ r ∷ []))
-  counted-group clean complete acquired losses whole whole_is =
-      let l = lanes-more in
-      ap₂ (λ (t : Totals) (k : ℕ). record { totals = t; items = k })
-      (same_counts (omega (arith, l.valid)) (omega (arith, l.burst1)) (omega (arith, l.burst2)) (omega (arith, l.burst3)) (omega (arith, l.burst4)) (omega (arith, l.burst5))
-      (omega (arith, l.lost)) (omega (arith, l.bits)) (omega arith) (omega (arith, whole_is)) (omega arith) (omega arith)) (omega arith)
+  counted-group clean complete acquired losses whole whole_is = grind (arith, common_steps, lanes-more, same_counts)

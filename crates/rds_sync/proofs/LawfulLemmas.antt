@@ -1,5 +1,5 @@
 -- Where a place acquires, and the states that follow on a lawful one.
-use Rattle.rds_sync.proofs.Names.{◌≡◌, ℕ, zero, suc, ◌+◌, ◌-◌, ◌*◌, ◌%◌, ◌<◌, ◌≤◌, Bool, true, false, Option, Some, None, refl, sym, ap, subst, ◌∙◌, arith, inl, inr, ⊎_elim, ne_eqb, eq-eqb, cases_eq, cases_lt, cases_Bool, eqb-true, lt-ltb, ◌==◌, list_any, range_with_len, Offset, A, B, C, Cx, D, number_after, number, Signal, offset_at, Lock, State, Searching, Locked, RuleNumbers, IsLossRule, IsLawfulBad, are_too_many, acquired, has_number, has_partner, is_numbered, with_partner, IsLawful, IsLawfulLock, run, step, history_after_block, lock_of, lock_after}
+use Rattle.rds_sync.proofs.Names.{common_steps, ◌≡◌, ℕ, zero, suc, ◌+◌, ◌-◌, ◌*◌, ◌%◌, ◌<◌, ◌≤◌, Bool, true, false, Option, Some, None, refl, sym, ap, subst, ◌∙◌, arith, inl, inr, ⊎_elim, ne_eqb, eq-eqb, cases_eq, cases_lt, cases_Bool, eqb-true, lt-ltb, ◌==◌, list_any, range_with_len, Offset, A, B, C, Cx, D, number_after, number, Signal, offset_at, Lock, State, Searching, Locked, RuleNumbers, IsLossRule, IsLawfulBad, are_too_many, acquired, has_number, has_partner, is_numbered, with_partner, IsLawful, IsLawfulLock, run, step, history_after_block, lock_of, lock_after}
 use Rattle.rds_sync.proofs.LossLemmas.{lawful_none, lawful_kept}
 use Rattle.rds_sync.proofs.RunLemmas.{step-acquiring, step-searching, step-waiting, step-keeping, step-losing}
 
@@ -15,10 +15,7 @@ module _ (b : Signal) where
   -- no window ends before place 25
   pub off-place : (i : ℕ) (o : Offset) → offset_at b i ≡ Some o → 25 ≤ i
   unfolding offset_at
-  off-place i o e = elim (cases_lt i 25) [
-    | inl early ↦ let t : None ≡ Some o = rw (lt-ltb i 25 early, offset_at) at e in cc t
-    | inr late ↦ late
-  ]
+  off-place i o e = grind (arith, common_steps, cases_lt, lt-ltb, offset_at)
 
   -- a partner, as a fact
   pub has_partner-offset : (i x k : ℕ) → has_partner b i x k ≡ true → (o : Offset) × (offset_at b (i - 26 * k) ≡ Some o) × (number_after (number o) k ≡ x)
@@ -104,17 +101,7 @@ module _ (b : Signal) (rules : RuleNumbers) where
 -- the lock after block x was read at place i, or acquired there
 pub lawful-lock_after : (rules : RuleNumbers) (i x bad first : ℕ) → IsLawfulBad rules.loss bad → 51 ≤ i → 26 * (x - first) + 25 ≤ i → 1 ≤ first → first ≤ x → x ≤ 4
     → IsLawful rules (i + 1) (Locked (lock_after i x bad first))
-lawful-lock_after rules i x bad first few late enough low order high = elim (cases_eq x 4) [
-  | inl four ↦
-      let e : Locked (lock_after i x bad first) ≡ Locked (lock_of (i + 26) 1 bad 1) = rw four refl in
-      subst (λ (s : State). IsLawful rules (i + 1) s) (sym e)
-      (record { soon = (omega arith, omega arith); late = omega arith; few_bad = few; enough_bits = omega arith; in_order = inl (refl, refl) })
-  | inr less ↦
-      let n : x % 4 + 1 ≡ x + 1 = omega arith in
-      let e : Locked (lock_after i x bad first) ≡ Locked (lock_of (i + 26) (x + 1) bad first) = rw (ne_eqb x 4 less, n) refl in
-      subst (λ (s : State). IsLawful rules (i + 1) s) (sym e)
-      (record { soon = (omega arith, omega arith); late = omega arith; few_bad = few; enough_bits = omega arith; in_order = inr (low, omega arith, omega arith) })
-]
+lawful-lock_after rules i x bad first few late enough low order high = grind (arith, common_steps, cases_eq, lock_after, lock_of, ne_eqb)
 
 -- the numbers of a lawful lock
 pub lawful-numbers : (rules : RuleNumbers) (place : ℕ) (lock : Lock) → IsLawfulLock rules place lock
@@ -153,15 +140,10 @@ module _ (b : Signal) (rules : RuleNumbers) where
   -- a run leads from a lawful state to a lawful state
   pub lawful-run : IsLossRule rules.loss → (s : State) (a n : ℕ) → IsLawful rules a s → IsLawful rules (a + n) (run b rules s a n).0
   lawful-run loss s a zero lawful = let e : a ≡ a + 0 = omega arith in subst (λ (p : ℕ). IsLawful rules p s) e lawful
-  lawful-run loss s a (suc n) lawful =
-      let e : a + 1 + n ≡ a + suc n = omega arith in
-      subst (λ (p : ℕ). IsLawful rules p (run b rules (step b rules a s) (a + 1) n).0) e
-      (lawful-run loss (step b rules a s) (a + 1) n (lawful-step loss a s lawful))
+  lawful-run loss s a (suc n) lawful = grind (arith, common_steps, run, step, lawful-step, lawful-run loss (step b rules a s) (a + 1) n (lawful-step loss a s lawful))
 
   pub lawful-run_places : IsLossRule rules.loss → (s : State) (from to : ℕ) → from ≤ to → IsLawful rules from s → IsLawful rules to (run b rules s from (to - from)).0
-  lawful-run_places loss s from to order lawful =
-      let e : from + (to - from) ≡ to = omega arith in
-      subst (λ (p : ℕ). IsLawful rules p (run b rules s from (to - from)).0) e (lawful-run loss s from (to - from) lawful)
+  lawful-run_places loss s from to order lawful = grind (arith, common_steps, run, lawful-run)
 
 -- a state that is a lawful lock
 pub lawful-lock : (rules : RuleNumbers) (s : State) (place : ℕ) (lock : Lock) → s ≡ Locked lock → IsLawful rules place s → IsLawfulLock rules place lock
@@ -170,9 +152,7 @@ lawful-lock rules s place lock is lawful = subst (λ (t : State). IsLawful rules
 -- a lawful lock stays lawful while its block is waited for
 pub lawful-waiting : (rules : RuleNumbers) (place later : ℕ) (lock : Lock) → IsLawfulLock rules place lock
     → place ≤ later → later ≤ lock.due → IsLawfulLock rules later lock
-lawful-waiting rules place later lock lawful order before =
-    let soon = lawful.soon in
-    record { soon = (before, omega (arith, soon.1)); late = lawful.late; few_bad = lawful.few_bad; enough_bits = lawful.enough_bits; in_order = lawful.in_order }
+lawful-waiting rules place later lock lawful order before = grind (arith, common_steps)
 
 -- the state after the block that is due is lawful
 pub lawful-due : (b : Signal) (rules : RuleNumbers) (place : ℕ) (lock : Lock) → IsLossRule rules.loss → IsLawfulLock rules place lock

@@ -1,5 +1,5 @@
 -- A lock from block to block: its state once block k was read, and the items of the run up to the next.
-use Rattle.rds_sync.proofs.Names.{◌≡◌, ◌≢◌, ℕ, suc, ◌+◌, ◌-◌, ◌*◌, ◌%◌, ◌≤◌, List, [], ◌∷◌, ◌++◌, Bool, true, false, refl, sym, ◌∙◌, arith, inl, inr, cond, ne_eqb, cases_eq, cases_lt, le-leb, lt-leb, eq-eqb, ◌==◌, number_after, Signal, Lock, State, Searching, Locked, Item, Group, LostLock, RuleNumbers, group, are_too_many, bad_at, is_good, loses_at, first_of_group, items_of_end, completed_group, lock_of, lock_after}
+use Rattle.rds_sync.proofs.Names.{common_steps, ◌≡◌, ◌≢◌, ℕ, suc, ◌+◌, ◌-◌, ◌*◌, ◌%◌, ◌≤◌, List, [], ◌∷◌, ◌++◌, Bool, true, false, refl, sym, ◌∙◌, arith, inl, inr, cond, ne_eqb, cases_eq, cases_lt, le-leb, lt-leb, eq-eqb, ◌==◌, number_after, Signal, Lock, State, Searching, Locked, Item, Group, LostLock, RuleNumbers, group, are_too_many, bad_at, is_good, loses_at, first_of_group, items_of_end, completed_group, lock_of, lock_after}
 use Rattle.rds_sync.proofs.LossLemmas.{loses_is}
 use Rattle.rds_sync.proofs.RunLemmas.{items-keeping, step-keeping, items-losing, step-losing}
 use Rattle.rds_sync.proofs.WholeRuns.{whole, goes, skip, skip_to_end}
@@ -40,16 +40,7 @@ module _ (b : Signal) (rules : RuleNumbers) (a x : ℕ) where
   closes k = completed_group b rules (first_of_group b rules a x k) (number_after x k) (a + 26 * k)
 
   first_next : 1 ≤ x → (k : ℕ) → cond (number_after x k == 4) 1 (first_of_group b rules a x k) ≡ first_of_group b rules a x (suc k)
-  first_next low k = elim (cases_lt (x + k) 4) [
-    | inl less ↦
-        let n : number_after x k ≢ 4 = λ e. omega arith in
-        rw (ne_eqb (number_after x k) 4 n, le-leb (x + k) 4 (omega arith), le-leb (x + suc k) 4 (omega arith)) refl
-    | inr more ↦ elim (cases_eq (x + k) 4) [
-      | inl same ↦ let n : number_after x k ≡ 4 = omega arith in
-          rw (eq-eqb (number_after x k) 4 n, lt-leb (x + suc k) 4 (omega arith)) refl
-      | inr other ↦ rw (lt-leb (x + k) 4 (omega arith), lt-leb (x + suc k) 4 (omega arith)) (cond_same (number_after x k == 4) 1)
-    ]
-  ]
+  first_next low k = grind (arith, common_steps, cases_lt, number_after, ne_eqb, le-leb, cases_eq, eq-eqb, lt-leb, cond_same)
 
   pub S_is : 1 ≤ x → (k : ℕ) → Locked (lock_after (a + 26 * k) (number_after x k) (bad k) (first_of_group b rules a x k)) ≡ S k
   S_is low k =
@@ -57,38 +48,22 @@ module _ (b : Signal) (rules : RuleNumbers) (a x : ℕ) where
       rw (due, number_next k, first_next low k) refl
 
   wait : (k bits : ℕ) → whole b rules (S k) (a + 26 * k + 1) (25 + suc bits) ≡ whole b rules (S k) (a + 26 * suc k) (suc bits)
-  wait k bits =
-      let due : a + 26 * k + 1 + 25 ≡ a + 26 * suc k = omega arith in
-      rw due at (skip b rules (lock_behind k) (a + 26 * k + 1) 25 (suc bits) (omega arith))
+  wait k bits = grind (arith, common_steps, skip)
 
   pub block_good : 1 ≤ x → (k bits : ℕ) → are_too_many rules.loss (bad (suc k)) ≡ false
       → whole b rules (S k) (a + 26 * k + 1) (25 + suc bits) ≡ closes (suc k) ++ whole b rules (S (suc k)) (a + 26 * suc k + 1) bits
-  block_good low k bits h = wait k bits ∙ goes b rules (S k) (S (suc k)) (closes (suc k)) (a + 26 * suc k) bits
-      (items-keeping b rules (lock_behind k) h)
-      (step-keeping b rules (lock_behind k) h ∙ S_is low (suc k))
+  block_good low k bits h = grind (arith, common_steps, wait, goes, items-keeping, step-keeping, S_is)
 
   pub block_lost : (k bits : ℕ) → are_too_many rules.loss (bad (suc k)) ≡ true
       → whole b rules (S k) (a + 26 * k + 1) (25 + suc bits) ≡ G (suc k) ∷ LostLock (a + 26 * suc k) ∷ whole b rules Searching (a + 26 * suc k + 1) bits
-  block_lost k bits h = wait k bits ∙ goes b rules (S k) Searching (G (suc k) ∷ LostLock (a + 26 * suc k) ∷ []) (a + 26 * suc k) bits
-      (items-losing b rules (lock_behind k) h)
-      (step-losing b rules (lock_behind k) h)
+  block_lost k bits h = grind (arith, common_steps, wait, goes, items-losing, step-losing)
 
   pub block_end : (k bits : ℕ) → bits ≤ 25 → whole b rules (S k) (a + 26 * k + 1) bits ≡ items_of_end b rules (S k)
   block_end k bits h = skip_to_end b rules (lock_behind k) (a + 26 * k + 1) bits (omega arith)
 
   -- at the end of the recording the group in progress is closed
   pub last_group : 1 ≤ x → (k : ℕ) → closes k ++ items_of_end b rules (S k) ≡ G k ∷ []
-  last_group low k = elim (cases_eq (number_after x k) 4) [
-    | inl four ↦ let next : number_after x (suc k) ≡ 1 = omega (arith, number_next k) in
-        rw (eq-eqb (number_after x k) 4 four, next, completed_group, items_of_end) refl
-    | inr other ↦
-        let next : number_after x (suc k) ≡ number_after x k + 1 = omega (arith, number_next k) in
-        let ne : number_after x (suc k) ≢ 1 = λ e. omega arith in
-        let back : number_after x (suc k) - 1 ≡ number_after x k = omega arith in
-        let place : a + 26 * suc k - 26 ≡ a + 26 * k = omega arith in
-        let f : first_of_group b rules a x k ≡ first_of_group b rules a x (suc k) = rw (ne_eqb (number_after x k) 4 other) at (first_next low k) in
-        rw (ne_eqb (number_after x k) 4 other, ne_eqb (number_after x (suc k)) 1 ne, back, place, f, completed_group, items_of_end) refl
-  ]
+  last_group low k = grind (arith, common_steps, cases_eq, number_after, number_next, eq-eqb, completed_group, items_of_end, first_of_group, ne_eqb, first_next)
 
   pub first_first : x ≤ 4 → first_of_group b rules a x 0 ≡ x
   first_first high = rw (le-leb (x + 0) 4 (omega arith)) refl

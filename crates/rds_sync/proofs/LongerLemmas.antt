@@ -1,5 +1,5 @@
 -- A longer recording that begins with another one: the run over the bits of both is one, and the group at the end goes on.
-use Rattle.rds_sync.proofs.Names.{◌≡◌, ◌≢◌, ℕ, zero, suc, ◌+◌, ◌-◌, ◌*◌, ◌%◌, ◌<◌, ◌≤◌, ◌⊎◌, List, [], ◌∷◌, ◌++◌, length, take, drop, map, Bool, true, false, cond, Option, Some, None, refl, sym, ap, ap₂, subst, ◌∙◌, arith, inl, inr, append_assoc, length-append, ◌||◌, ◌&&◌, ◌==◌, nat_le, nat_lt, if◌then◌else◌, filter, slice_get, slice_index, sum_by, is_some, list_any, range_with_len, number_from_digits, cases_Bool, cases_eq, cases_lt, lt-ltb, le-ltb, lt-leb, eq-eqb, ne_eqb, drop-append-le, take-append-le, take-append-drop, length-take, length-drop, sum_by-append, sum_by-cons, slice_get_within, get_or_from_slice_get, Offset, Wanted, Either, number, Signal, length_of, window, is_touched_by, touched, heard, offset_heard, reading_heard, reading_at, offset_at, Block, Missing, Read, GroupOf, Item, Acquired, Group, LostLock, Lock, State, Searching, Locked, acquired, has_number, has_partner, with_partner, is_in_step, is_numbered, block_at, blocks_at, group, group_of, info_of, wanted_beside, IsLawful, IsLawfulLock, IsLossRule, bad_after, are_too_many, report_items, RuleNumbers, run, step, items_at, after_bit, items_of_end, history_after_block, completed_group, lock_after, lock_of, totals_of, sum_blocks, count_blocks, is_valid, is_lost, is_corrected_by, bits_corrected, is_group, is_complete, is_acquired, is_sync_loss}
+use Rattle.rds_sync.proofs.Names.{common_steps, ◌≡◌, ◌≢◌, ℕ, zero, suc, ◌+◌, ◌-◌, ◌*◌, ◌%◌, ◌<◌, ◌≤◌, ◌⊎◌, List, [], ◌∷◌, ◌++◌, length, take, drop, map, Bool, true, false, cond, Option, Some, None, refl, sym, ap, ap₂, subst, ◌∙◌, arith, inl, inr, append_assoc, length-append, ◌||◌, ◌&&◌, ◌==◌, nat_le, nat_lt, if◌then◌else◌, filter, slice_get, slice_index, sum_by, is_some, list_any, range_with_len, number_from_digits, cases_Bool, cases_eq, cases_lt, lt-ltb, le-ltb, lt-leb, eq-eqb, ne_eqb, drop-append-le, take-append-le, take-append-drop, length-take, length-drop, sum_by-append, sum_by-cons, slice_get_within, get_or_from_slice_get, Offset, Wanted, Either, number, Signal, length_of, window, is_touched_by, touched, heard, offset_heard, reading_heard, reading_at, offset_at, Block, Missing, Read, GroupOf, Item, Acquired, Group, LostLock, Lock, State, Searching, Locked, acquired, has_number, has_partner, with_partner, is_in_step, is_numbered, block_at, blocks_at, group, group_of, info_of, wanted_beside, IsLawful, IsLawfulLock, IsLossRule, bad_after, are_too_many, report_items, RuleNumbers, run, step, items_at, after_bit, items_of_end, history_after_block, completed_group, lock_after, lock_of, totals_of, sum_blocks, count_blocks, is_valid, is_lost, is_corrected_by, bits_corrected, is_group, is_complete, is_acquired, is_sync_loss}
 use Rattle.std.specs.Prelude.{min}
 use Rattle.std.proofs.lemmas.List.Folds.{list_all_at}
 use Rattle.rds_sync.specs.Longer.{BeginsWith, BeginningsBegin, GoesOn, EndGoesOn, OnlyAddsItems, LongerRecordingsAddItems, AreNoLess, TotalsOnlyGrow}
@@ -12,10 +12,7 @@ use Rattle.rds_sync.proofs.RunLemmas.{run-append, run-waiting, run-reading, step
 
 window-begin : (bits more : List ℕ) (i : ℕ) → i < length bits → window (bits ++ more) i ≡ window bits i
 unfolding window
-window-begin bits more i within =
-    let from : drop (i - 25) (bits ++ more) ≡ drop (i - 25) bits ++ more = drop-append-le (i - 25) bits more (omega arith) in
-    ap (number_from_digits 2)
-    (ap (take (i + 1 - (i - 25))) from ∙ take-append-le (i + 1 - (i - 25)) (drop (i - 25) bits) more (omega (arith, within, length-drop (i - 25) bits)))
+window-begin bits more i within = grind (arith, common_steps, drop-append-le, number_from_digits, take-append-le, length-drop)
 
 -- a test of each number of a range, by another that says the same there
 any-alike : (p q : ℕ → Bool) (k n : ℕ) → ((j : ℕ) → p j ≡ q j) → list_any p (range_with_len k n) ≡ list_any q (range_with_len k n)
@@ -25,9 +22,7 @@ any-alike p q k (suc n) same = ap₂ ◌||◌ (same k) (any-alike p q (k + 1) n 
 module _ (longer shorter : Signal) (begins : BeginsWith longer shorter) where
   heard-alike : (i : ℕ) → i < length_of shorter → heard longer i ≡ heard shorter i
   unfolding heard
-  heard-alike i within =
-      ap₂ (λ (t : Bool) (w : ℕ). elim t as (λ _. Option ℕ) [ true ↦ None | false ↦ Some w ]) (begins.gaps i within)
-      (ap (λ (bits : List ℕ). window bits i) begins.bits ∙ window-begin shorter.bits begins.more i within)
+  heard-alike i within = grind (arith, common_steps, window, window-begin)
 
   off-alike : (i : ℕ) → i < length_of shorter → offset_at longer i ≡ offset_at shorter i
   unfolding offset_at
@@ -40,17 +35,7 @@ module _ (longer shorter : Signal) (begins : BeginsWith longer shorter) where
   module _ (rules : RuleNumbers) where
     acquired-alike : (i : ℕ) → i < length_of shorter → acquired longer rules i ≡ acquired shorter rules i
     unfolding acquired
-    acquired-alike i within =
-        let partners : (x : ℕ) → list_any (has_partner longer i x) (range_with_len 1 rules.reach) ≡ list_any (has_partner shorter i x) (range_with_len 1 rules.reach) =
-        λ x. any-alike (has_partner longer i x) (has_partner shorter i x) 1 rules.reach (λ k. ap (λ (o : Option Offset). is_in_step o x k) (off-alike (i - 26 * k) (omega (arith, within)))) in
-        let by_number : (o : Option Offset) → elim o as (λ _. Option ℕ) [ None ↦ None | Some p ↦ with_partner longer rules i (number p) ]
-        ≡ elim o as (λ _. Option ℕ) [ None ↦ None | Some p ↦ with_partner shorter rules i (number p) ] =
-        λ o. elim o as (λ w. elim w as (λ _. Option ℕ) [ None ↦ None | Some p ↦ with_partner longer rules i (number p) ]
-        ≡ elim w as (λ _. Option ℕ) [ None ↦ None | Some p ↦ with_partner shorter rules i (number p) ]) [
-          | None ↦ refl
-          | Some p ↦ ap (λ (t : Bool). elim t as (λ _. Option ℕ) [ true ↦ Some (number p) | false ↦ None ]) (partners (number p))
-        ] in
-        by_number (offset_at longer i) ∙ ap (λ (o : Option Offset). elim o as (λ _. Option ℕ) [ None ↦ None | Some p ↦ with_partner shorter rules i (number p) ]) (off-alike i within)
+    acquired-alike i within = grind (arith, common_steps, has_partner, any-alike, is_in_step, off-alike, with_partner, number, offset_at)
 
     -- ---- a group
 
@@ -60,14 +45,7 @@ module _ (longer shorter : Signal) (begins : BeginsWith longer shorter) where
 
     group-alike : (f x p : ℕ) → p < length_of shorter → group longer rules f x p ≡ group shorter rules f x p
     unfolding group
-    group-alike f x p within =
-        let third : block_at longer rules f x p (wanted_beside (block_at longer rules f x p Either 2)) 3 ≡ block_at shorter rules f x p (wanted_beside (block_at shorter rules f x p Either 2)) 3 =
-        ap (λ (second : Block). block_at longer rules f x p (wanted_beside second) 3) (block-alike f x p Either 2 within)
-        ∙ block-alike f x p (wanted_beside (block_at shorter rules f x p Either 2)) 3 within in
-        ap (λ (blocks : List Block). group_of (p - 26 * (x - f) - 25) blocks)
-        (ap₂ (λ (a : Block) (rest : List Block). a ∷ rest) (block-alike f x p Either 1 within)
-        (ap₂ (λ (a : Block) (rest : List Block). a ∷ rest) (block-alike f x p Either 2 within)
-        (ap₂ (λ (a c : Block). a ∷ c ∷ []) third (block-alike f x p Either 4 within))))
+    group-alike f x p within = grind (arith, common_steps, block_at, wanted_beside, block-alike, group_of)
 
     after-alike : (f x i : ℕ) → i < length_of shorter → completed_group longer rules f x i ≡ completed_group shorter rules f x i
     after-alike f x i within = ap (λ (g : GroupOf). elim (x == 4) as (λ _. List Item) [ true ↦ Group g ∷ [] | false ↦ [] ]) (group-alike f x i within)
@@ -75,40 +53,12 @@ module _ (longer shorter : Signal) (begins : BeginsWith longer shorter) where
     -- ---- the run
 
     bit-alike : (i : ℕ) (s : State) → i < length_of shorter → after_bit longer rules i s ≡ after_bit shorter rules i s
-    bit-alike i Searching within =
-        let by_case : (w : Option ℕ) → elim w as (λ _. State × List Item) [ None ↦ (Searching, []) | Some x ↦ (Locked (lock_after i x 0 x), Acquired i x ∷ completed_group longer rules x x i) ]
-        ≡ elim w as (λ _. State × List Item) [ None ↦ (Searching, []) | Some x ↦ (Locked (lock_after i x 0 x), Acquired i x ∷ completed_group shorter rules x x i) ] =
-        λ w. elim w as (λ w. elim w as (λ _. State × List Item) [ None ↦ (Searching, []) | Some x ↦ (Locked (lock_after i x 0 x), Acquired i x ∷ completed_group longer rules x x i) ]
-        ≡ elim w as (λ _. State × List Item) [ None ↦ (Searching, []) | Some x ↦ (Locked (lock_after i x 0 x), Acquired i x ∷ completed_group shorter rules x x i) ]) [
-          | None ↦ refl
-          | Some x ↦ ap (λ (is : List Item). (Locked (lock_after i x 0 x), Acquired i x ∷ is)) (after-alike x x i within)
-        ] in
-        by_case (acquired longer rules i)
-        ∙ ap (λ (w : Option ℕ). elim w as (λ _. State × List Item) [ None ↦ (Searching, []) | Some x ↦ (Locked (lock_after i x 0 x), Acquired i x ∷ completed_group shorter rules x x i) ]) (acquired-alike i within)
-    bit-alike i (Locked lock) within =
-        let x : ℕ = lock.number in
-        let f : ℕ = lock.first in
-        let bad : history_after_block longer rules i x lock.bad ≡ history_after_block shorter rules i x lock.bad = ap (λ (good : Bool). bad_after rules.loss good lock.bad) (number-alike i x within) in
-        ap (λ (d : ℕ). elim (lock.due == i) as (λ _. State × List Item) [
-          | false ↦ (Locked lock, [])
-          | true ↦ elim (are_too_many rules.loss d) as (λ _. State × List Item) [
-            | false ↦ (Locked (lock_after i x d f), completed_group longer rules f x i)
-            | true ↦ (Searching, Group (group longer rules f x i) ∷ LostLock i ∷ [])
-          ]
-        ]) bad
-        ∙ ap₂ (λ (g : GroupOf) (is : List Item). elim (lock.due == i) as (λ _. State × List Item) [
-          | false ↦ (Locked lock, [])
-          | true ↦ elim (are_too_many rules.loss (history_after_block shorter rules i x lock.bad)) as (λ _. State × List Item) [
-            | false ↦ (Locked (lock_after i x (history_after_block shorter rules i x lock.bad) f), is)
-            | true ↦ (Searching, Group g ∷ LostLock i ∷ [])
-          ]
-        ]) (group-alike f x i within) (after-alike f x i within)
+    bit-alike i Searching within = grind (arith, common_steps, lock_after, completed_group, after-alike, acquired, acquired-alike)
+    bit-alike i (Locked lock) within = grind (arith, common_steps, history_after_block, bad_after, number-alike, are_too_many, lock_after, completed_group, group, group-alike, after-alike)
 
     pub run-alike : (s : State) (a m : ℕ) → a + m ≤ length_of shorter → run longer rules s a m ≡ run shorter rules s a m
     run-alike s a zero fits = refl
-    run-alike s a (suc m) fits =
-        ap (λ (r : State × List Item). ((run longer rules r.0 (a + 1) m).0, r.1 ++ (run longer rules r.0 (a + 1) m).1)) (bit-alike a s (omega (arith, fits)))
-        ∙ ap (λ (r : State × List Item). (r.0, items_at shorter rules a s ++ r.1)) (run-alike (step shorter rules a s) (a + 1) m (omega (arith, fits)))
+    run-alike s a (suc m) fits = grind (arith, common_steps, run, bit-alike, items_at, step, run-alike (step shorter rules a s) (a + 1) m (omega (arith, fits)))
 
 -- ---- the group in progress
 
@@ -143,12 +93,7 @@ module _ (b : Signal) (rules : RuleNumbers) where
 
   -- one block more
   one_on : (f x p : ℕ) (items : List Item) → 1 ≤ x → Opens f x p items → (q : ℕ) → q + 26 ≡ p → Opens f (x - 1) q items
-  one_on f x p items some o q at = record {
-    y = o.y;
-    rest = o.rest;
-    order = (omega (arith, o.order), o.order.1);
-    is = o.is ∙ ap (λ (r : ℕ). Group (group b rules f o.y r) ∷ o.rest) (omega (arith, o.order, at, some));
-  }
+  one_on f x p items some o q at = grind (arith, common_steps, group)
 
   module _ (loss : IsLossRule rules.loss) where
     opens : (k : ℕ) (lock : Lock) (place m : ℕ) → IsLawfulLock rules place lock → lock.number ≢ 1 → 4 < lock.number + k
@@ -226,21 +171,11 @@ module _ (b : Signal) (rules : RuleNumbers) (f x y p : ℕ) (low : 1 ≤ f) (ord
   later_place = p + 26 * (y - x)
 
   same_block : (wanted : Wanted) (q : ℕ) → q ≤ x → block_at b rules f y later_place wanted q ≡ block_at b rules f x p wanted q
-  same_block wanted q within = elim (cases_lt q f) [
-    | inl early ↦ block_at-missing b rules f y later_place wanted q (inl early) ∙ sym (block_at-missing b rules f x p wanted q (inl early))
-    | inr late ↦
-        let at : later_place - 26 * (y - q) ≡ p - 26 * (x - q) = omega (arith, more, within) in
-        block_at-read b rules f y later_place wanted q late (omega (arith, within, more))
-        ∙ ap (λ (i : ℕ). Read (reading_at b i q wanted rules.burst)) at
-        ∙ sym (block_at-read b rules f x p wanted q late within)
-  ]
+  same_block wanted q within = grind (arith, common_steps, cases_lt, block_at-missing, block_at-read, reading_at)
 
   block_goes_on : (one two : Wanted) (q : ℕ) → (q ≤ x → one ≡ two)
       → (Some (block_at b rules f x p one q) ≡ Some Missing) ⊎ (Some (block_at b rules f y later_place two q) ≡ Some (block_at b rules f x p one q))
-  block_goes_on one two q same = elim (cases_lt x q) [
-    | inl late ↦ inl (ap (λ (block : Block). Some block) (block_at-missing b rules f x p one q (inr late)))
-    | inr within ↦ inr (ap (λ (block : Block). Some block) (ap (λ (w : Wanted). block_at b rules f y later_place w q) (sym (same within)) ∙ same_block one q within))
-  ]
+  block_goes_on one two q same = grind (arith, common_steps, cases_lt, block_at-missing, block_at, same_block)
 
   group_goes_on : x < 4 → GoesOn (group b rules f x p) (group b rules f y later_place)
   unfolding group
@@ -323,10 +258,7 @@ longer_recordings_add_items longer shorter rules loss begins = adds_items longer
 -- ---- a beginning
 
 clipped_touch : (n i : ℕ) (gap : ℕ × ℕ) → i < n → is_touched_by i (gap.0, min gap.1 n) ≡ is_touched_by i gap
-clipped_touch n i gap within = ap (λ (t : Bool). nat_le gap.0 i && t) (elim (cases_lt (i - 25) gap.1) [
-  | inl some ↦ lt-ltb (i - 25) (min gap.1 n) (omega (arith, some, within)) ∙ sym (lt-ltb (i - 25) gap.1 some)
-  | inr none ↦ le-ltb (i - 25) (min gap.1 n) (omega (arith, none)) ∙ sym (le-ltb (i - 25) gap.1 none)
-])
+clipped_touch n i gap within = grind (arith, common_steps, nat_le, cases_lt, lt-ltb, le-ltb)
 
 clipped_all : (n i : ℕ) (gaps : List (ℕ × ℕ)) → i < n
     → list_any (is_touched_by i) gaps ≡ list_any (is_touched_by i) (map (λ (gap : ℕ × ℕ). (gap.0, min gap.1 n)) (filter (λ (gap : ℕ × ℕ). nat_lt gap.0 n) gaps))
@@ -385,15 +317,7 @@ ends_grow w more (LostLock a ∷ end) later goes = absurd goes
 
 module _ (shorter longer : List Item) (adds : OnlyAddsItems shorter longer) where
   grows : (w : Item → ℕ) → ((g h : GroupOf) → GoesOn g h → w (Group g) ≤ w (Group h)) → sum_by w shorter ≤ sum_by w longer
-  grows w more =
-      omega (
-        arith,
-        ap (λ (is : List Item). sum_by w is) adds.shorter_is,
-        ap (λ (is : List Item). sum_by w is) adds.longer_is,
-        sum_by-append w adds.common adds.end,
-        sum_by-append w adds.common adds.later,
-        ends_grow w more adds.end adds.later adds.goes_on,
-      )
+  grows w more = grind (arith, common_steps, sum_by-append, ends_grow)
 
   blocks_grow : (f : Block → ℕ) → f Missing ≡ 0 → sum_blocks f shorter ≤ sum_blocks f longer
   blocks_grow f none = grows (λ (item : Item). elim item as (λ _. ℕ) [ Acquired a x ↦ 0 | Group g ↦ sum_by f g.blocks | LostLock a ↦ 0 ]) (λ g h goes. sum_goes_on f none g.blocks h.blocks goes.blocks)

@@ -1,5 +1,5 @@
 -- A lock's loss history says when it is lost.
-use Rattle.rds_sync.proofs.Names.{◌≡◌, ℕ, zero, suc, ◌+◌, ◌-◌, ◌*◌, ◌%◌, ◌/◌, ◌^◌, ◌<◌, ◌≤◌, min, List, [], ◌∷◌, ◌++◌, Bool, true, false, refl, sym, ap, ap₂, ◌∙◌, arith, inl, inr, cond, ◌⊎◌, div-add-mod, mod-lt, mod-eq_of_lt, pow-suc, mod-mul-add, and-false, pow_pos, cases_Bool, cases_eq, cases_lt, le-leb, lt-leb, le-ltb, lt-ltb, sum_by_push, ones, ones_step, bit_at-zero, bit_at_lowest, bit_at-suc, bit_at, nat_le, nat_lt, not, count_by, count_ones, list_all, range_with_len, Loss, Run, Share, MasksTellBlocks, IsLossRule, IsLawfulBad, bad_at, bad_after, are_too_many, last_blocks, loses}
+use Rattle.rds_sync.proofs.Names.{common_steps, ◌≡◌, ℕ, zero, suc, ◌+◌, ◌-◌, ◌*◌, ◌%◌, ◌/◌, ◌^◌, ◌<◌, ◌≤◌, min, List, [], ◌∷◌, ◌++◌, Bool, true, false, refl, sym, ap, ap₂, ◌∙◌, arith, inl, inr, cond, ◌⊎◌, div-add-mod, mod-lt, mod-eq_of_lt, pow-suc, mod-mul-add, and-false, pow_pos, cases_Bool, cases_eq, cases_lt, le-leb, lt-leb, le-ltb, lt-ltb, sum_by_push, ones, ones_step, bit_at-zero, bit_at_lowest, bit_at-suc, bit_at, nat_le, nat_lt, not, count_by, count_ones, list_all, range_with_len, Loss, Run, Share, MasksTellBlocks, IsLossRule, IsLawfulBad, bad_at, bad_after, are_too_many, last_blocks, loses}
 
 all_pass : (p : ℕ → Bool) (c d : ℕ) → ((j : ℕ) → c ≤ j → j < c + d → p j ≡ true) → list_all p (range_with_len c d) ≡ true
 all_pass p c zero h = refl
@@ -19,17 +19,10 @@ range_push a (suc n) c e = ap (λ (js : List ℕ). a ∷ js) (range_push (a + 1)
 
 -- a digit more below: the remainder by twice the number keeps it
 pub double : (m f d : ℕ) → f ≤ 1 → 1 ≤ d → (2 * m + f) % (2 * d) ≡ 2 * (m % d) + f
-double m f d small some =
-    let whole : d * (m / d) + m % d ≡ m = div-add-mod m d in
-    let below : m % d < d = mod-lt m some in
-    let parts : 2 * m + f ≡ (m / d) * (2 * d) + (2 * (m % d) + f) = omega (arith, whole) in
-    rw parts (mod-mul-add (m / d) (2 * d) (2 * (m % d) + f) (omega (arith, below)))
+double m f d small some = grind (arith, common_steps, div-add-mod, mod-lt, mod-mul-add)
 
 pub ones_below : (m f : ℕ) → f ≤ 1 → count_ones (2 * m + f) ≡ count_ones m + f
-ones_below m f small =
-    let low : (2 * m + f) % 2 ≡ f = omega arith in
-    let high : (2 * m + f) / 2 ≡ m = omega arith in
-    ones_step (2 * m + f) ∙ ap₂ (λ (l h : ℕ). l + ones h) low high ∙ omega arith
+ones_below m f small = grind (arith, common_steps, ones_step, ones)
 
 module _ (is_good : ℕ → Bool) where
   -- the bad blocks in a row up to block k
@@ -49,10 +42,7 @@ module _ (is_good : ℕ → Bool) where
 
   row_le : (k : ℕ) → row k ≤ k
   row_le zero = omega arith
-  row_le (suc k) = elim (cases_Bool (is_good (suc k))) [
-    | inl good ↦ rw (row_good k good) (omega arith)
-    | inr ill ↦ rw (row_more k ill) (omega (arith, row_le k))
-  ]
+  row_le (suc k) = grind (arith, common_steps, cases_Bool, row_good, row_more, row_le k)
 
   row_back : (k j : ℕ) → k < j + row k → j ≤ k → is_good j ≡ false
   row_back zero j l u = absurd (omega arith)
@@ -72,10 +62,7 @@ module _ (is_good : ℕ → Bool) where
   ]
 
   row_loses : (n k : ℕ) → n ≤ row k → loses (Run n) is_good k ≡ true
-  row_loses n k h = let within = row_le k in
-      rw (le-leb n k (omega arith))
-      (all_pass (λ j. not (is_good j)) (k + 1 - n) n
-      (λ j l u. let ill : is_good j ≡ false = row_back k j (omega arith) (omega arith) in rw ill refl))
+  row_loses n k h = grind (arith, common_steps, row_le, le-leb, all_pass, row_back)
 
   row_keeps : (n k : ℕ) → row k < n → loses (Run n) is_good k ≡ false
   row_keeps n k h = elim (cases_lt k n) [
@@ -92,10 +79,7 @@ module _ (is_good : ℕ → Bool) where
   flag k = cond (is_good k) 0 1
 
   flag_le : (k : ℕ) → flag k ≤ 1
-  flag_le k = elim (cases_Bool (is_good k)) [
-    | inl good ↦ rw good (omega arith)
-    | inr ill ↦ rw ill (omega arith)
-  ]
+  flag_le k = grind (arith, common_steps, cases_Bool)
 
   -- the mask of the last v blocks
   abbrev mask : ℕ → ℕ → ℕ
@@ -108,12 +92,7 @@ module _ (is_good : ℕ → Bool) where
 
   -- the mask of one block more, from the shorter one before it
   mask_next : (v k : ℕ) → mask (suc v) k % 2 ^ v ≡ mask v k → mask (suc v) (suc k) ≡ 2 * mask v k + flag (suc k)
-  mask_next v k half =
-      let power : 2 ^ suc v ≡ 2 * 2 ^ v = omega (arith, pow-suc 2 v) in
-      let some : 1 ≤ 2 ^ v = omega (arith, pow_pos v) in
-      ap (λ (d : ℕ). (2 * mask (suc v) k + flag (suc k)) % d) power
-      ∙ double (mask (suc v) k) (flag (suc k)) (2 ^ v) (flag_le (suc k)) some
-      ∙ ap (λ (m : ℕ). 2 * m + flag (suc k)) half
+  mask_next v k half = grind (arith, common_steps, pow-suc, pow_pos, double, flag_le)
 
   mask_half : (v k : ℕ) → mask (suc v) k % 2 ^ v ≡ mask v k
   mask_half v zero = let some : 1 ≤ 2 ^ v = omega (arith, pow_pos v) in mod-eq_of_lt {n = 0} {m = 2 ^ v} some
@@ -130,16 +109,10 @@ module _ (is_good : ℕ → Bool) where
   ones_are zero zero = refl
   ones_are zero (suc k) = let none : (2 * mask 0 k + flag (suc k)) % 1 ≡ 0 = omega arith in ap count_ones none
   ones_are (suc v) zero = refl
-  ones_are (suc v) (suc k) =
-      ap count_ones (mask_next v k (mask_half v k))
-      ∙ ones_below (mask v k) (flag (suc k)) (flag_le (suc k))
-      ∙ ap (λ (n : ℕ). n + flag (suc k)) (ones_are v k)
+  ones_are (suc v) (suc k) = grind (arith, common_steps, count_ones, mask_next, mask_half, ones_below, flag_le, ones_are v k)
 
   last_more : (v k : ℕ) → last_blocks (suc v) (suc k) ≡ last_blocks v k ++ suc k ∷ []
-  last_more v k =
-      let many : min (suc v) (suc k) ≡ suc (min v k) = omega arith in
-      let start : suc k + 1 - suc (min v k) ≡ k + 1 - min v k = omega arith in
-      rw (many, start) (range_push (k + 1 - min v k) (min v k) (suc k) (omega arith))
+  last_more v k = grind (arith, common_steps, range_push)
 
   bads_are : (v k : ℕ) → count_by (λ j. not (is_good j)) (last_blocks v k) ≡ bads v k
   bads_are zero k = let none : min 0 k ≡ 0 = omega arith in ap (λ (n : ℕ). count_by (λ j. not (is_good j)) (range_with_len (k + 1 - n) n)) none
@@ -241,10 +214,7 @@ unfolding ones
 ones_zero = refl
 
 few_from : (n m : ℕ) → nat_le n m ≡ false → m < n
-few_from n m e = elim (cases_lt m n) [
-  | inl few ↦ few
-  | inr many ↦ let t : nat_le n m ≡ true = le-leb n m many in let no : true ≡ false = sym t ∙ e in cc no
-]
+few_from n m e = grind (arith, common_steps, cases_lt, nat_le, le-leb)
 
 -- a good block leaves none
 pub none-kept : (loss : Loss) → bad_after loss true 0 ≡ 0

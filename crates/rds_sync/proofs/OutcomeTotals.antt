@@ -1,5 +1,5 @@
 -- The totals of a group, from how its blocks came out.
-use Rattle.rds_sync.proofs.Names.{◌≡◌, ℕ, ◌+◌, List, [], ◌∷◌, Bool, refl, sym, ap, ap₂, ◌∙◌, add-zero, sum_by, if◌then◌else◌, is_some, ◌&&◌, list_all, sum_by-cons, Valid, Corrected, Lost, Block, Missing, Read, GroupRecord, Item, Acquired, Group, LostLock, info_of, Outcome, outcome_of, was_valid, was_lost, has_span, bits_inverted, has_info, group_totals, totals_of, sum_blocks, count_blocks, is_valid, is_lost, is_corrected_by, bits_corrected, is_complete}
+use Rattle.rds_sync.proofs.Names.{common_steps, arith, ◌≡◌, ℕ, ◌+◌, List, [], ◌∷◌, Bool, refl, sym, ap, ap₂, ◌∙◌, add-zero, sum_by, if◌then◌else◌, is_some, ◌&&◌, list_all, sum_by-cons, Valid, Corrected, Lost, Block, Missing, Read, GroupRecord, Item, Acquired, Group, LostLock, info_of, Outcome, outcome_of, was_valid, was_lost, has_span, bits_inverted, has_info, group_totals, totals_of, sum_blocks, count_blocks, is_valid, is_lost, is_corrected_by, bits_corrected, is_complete}
 use Rattle.std.specs.Prelude.{map}
 use Rattle.rds_sync.proofs.TotalsLemmas.{same_counts}
 
@@ -14,10 +14,7 @@ all-through p q k e [] = refl
 all-through p q k e (x ∷ xs) = ap₂ (λ (s t : Bool). s && t) (e x) (all-through p q k e xs)
 
 sum_is : (f : Block → ℕ) (h : Outcome → ℕ) → ((b : Block) → f b ≡ h (outcome_of b)) → (g : GroupRecord) → sum_blocks f (Group g ∷ []) ≡ sum_by h (map outcome_of g.blocks)
-sum_is f h e g =
-    sum_by-cons (λ (item : Item). elim item as (λ _. ℕ) [ Acquired a x ↦ 0 | Group g ↦ sum_by f g.blocks | LostLock a ↦ 0 ]) (Group g) []
-    ∙ add-zero (sum_by f g.blocks)
-    ∙ sum-through f h outcome_of e g.blocks
+sum_is f h e g = grind (arith, common_steps, sum_by-cons, add-zero, sum-through, outcome_of)
 
 -- 1 where the test passes
 abbrev one_if : Bool → ℕ

@@ -1,5 +1,5 @@
 -- Spans of which some items are passed over.
-use Rattle.rds_sync.proofs.Names.{◌≡◌, ℕ, ◌+◌, ◌-◌, ◌<◌, List, [], ◌∷◌, ◌++◌, All, length, drop, Option, None, Some, sym, ap, subst, ◌∙◌, arith, append_assoc, YieldsFirst, length-drop, drop-append-le, All-cons, All-head, All-tail, Signal, Item, Span, items_of, items_in, IsSpan, AreSpans, IsAt, IsPast, AreBehind, IsInFirst, RuleNumbers}
+use Rattle.rds_sync.proofs.Names.{common_steps, ◌≡◌, ℕ, ◌+◌, ◌-◌, ◌<◌, List, [], ◌∷◌, ◌++◌, All, length, drop, Option, None, Some, sym, ap, subst, ◌∙◌, arith, append_assoc, YieldsFirst, length-drop, drop-append-le, All-cons, All-head, All-tail, Signal, Item, Span, items_of, items_in, IsSpan, AreSpans, IsAt, IsPast, AreBehind, IsInFirst, RuleNumbers}
 use Rattle.rds_sync.proofs.SpanLemmas.{items_in-append, spans-behind}
 
 -- where an item is asked for, all but the first are left
@@ -31,10 +31,7 @@ module _ (b : Signal) (rules : RuleNumbers) where
   pub items_after : (spans theirs rest after : List Span) (first left : ℕ) → IsAt b rules theirs first rest left
       → AreBehind b rules spans after (drop left (items_in b rules rest))
       → items_in b rules after ≡ items_in b rules spans ++ drop first (items_in b rules theirs)
-  items_after spans theirs rest after first left at behind =
-      ap (λ (ss : List Span). items_in b rules ss) behind.same
-      ∙ items_in-append b rules spans behind.more
-      ∙ ap (λ (is : List Item). items_in b rules spans ++ is) (behind.given ∙ at.same)
+  items_after spans theirs rest after first left at behind = grind (arith, common_steps, items_in, items_in-append)
 
   pub spans_after : (spans theirs rest after : List Span) (len others n total first left : ℕ) → AreSpans b rules spans len
       → AreSpans b rules theirs others → IsAt b rules theirs first rest left

@@ -1,5 +1,5 @@
 -- How many places of one phase of a sound range have an offset.
-use Rattle.rds_sync.proofs.Names.{◌≡◌, ◌≢◌, ℕ, zero, suc, [], ◌∷◌, ◌+◌, ◌*◌, ◌%◌, ◌<◌, ◌≤◌, List, Bool, length, get_or, refl, ap, arith, is_some, count_by, All-filter, filter_passes, length-filter, Signal, offset_at, RuleNumbers, IsSound, IsRival, sound_blocks}
+use Rattle.rds_sync.proofs.Names.{common_steps, ◌≡◌, ◌≢◌, ℕ, zero, suc, [], ◌∷◌, ◌+◌, ◌*◌, ◌%◌, ◌<◌, ◌≤◌, List, Bool, length, get_or, refl, ap, arith, is_some, count_by, All-filter, filter_passes, length-filter, Signal, offset_at, RuleNumbers, IsSound, IsRival, sound_blocks}
 use Rattle.std.specs.List.{All, filter}
 use Rattle.std.specs.List.Sorted.{IsStrictlyIncreasing}
 use Rattle.std.proofs.lemmas.List.Kept.{IsStrictlyIncreasing-filter}
@@ -16,16 +16,10 @@ length_every_26 first (suc n) = ap suc (length_every_26 (first + 26) n)
 nth_every_26 : (first n i d : ℕ) → i < n → get_or (every_26 first n) i d ≡ first + 26 * i
 nth_every_26 first zero i d h = absurd (omega arith)
 nth_every_26 first (suc n) zero d h = omega arith
-nth_every_26 first (suc n) (suc i) d h =
-    let rest = nth_every_26 (first + 26) n i d (omega arith) in
-    omega (arith, rest)
+nth_every_26 first (suc n) (suc i) d h = grind (arith, common_steps, nth_every_26 (first + 26) n i d (omega arith))
 
 every_26_rises : (first n : ℕ) → IsStrictlyIncreasing (every_26 first n)
-every_26_rises first n k h =
-    let few = length_every_26 first n in
-    let low = nth_every_26 first n k 0 (omega (arith, h, few)) in
-    let high = nth_every_26 first n (k + 1) 0 (omega (arith, h, few)) in
-    omega (arith, low, high)
+every_26_rises first n k h = grind (arith, common_steps, length_every_26, nth_every_26)
 
 module _ (b : Signal) (rules : RuleNumbers) (j s p c : ℕ) (sound : IsSound b rules j s p c) where
   -- no more places of another phase than the sequence's have an offset than rivals share one

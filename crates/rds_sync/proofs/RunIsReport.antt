@@ -1,5 +1,5 @@
 -- The items of the run from Searching are those of the locks, one after the other: the run is the report.
-use Rattle.rds_sync.proofs.Names.{◌≡◌, ◌≢◌, ℕ, zero, suc, ◌+◌, ◌-◌, ◌*◌, ◌≤◌, List, [], ◌∷◌, ◌++◌, Bool, true, false, Option, Some, None, refl, sym, ap, ◌∙◌, arith, append_assoc, add-one, one-add, inl, inr, ne_eqb, cases_Bool, cases_eq, eq-eqb, MatchOption, filter_map, find, range_with_len, number_after, Signal, length_of, Searching, Locked, Item, Acquired, LostLock, RuleNumbers, acquired, IsLossRule, are_too_many, is_good, loses_at, block_count, end, read_blocks, group_closed_by, loss_items, items_of_lock, first_lock, items_from, report_items, run, items_of_end, completed_group, lock_after}
+use Rattle.rds_sync.proofs.Names.{common_steps, ◌≡◌, ◌≢◌, ℕ, zero, suc, ◌+◌, ◌-◌, ◌*◌, ◌≤◌, List, [], ◌∷◌, ◌++◌, Bool, true, false, Option, Some, None, refl, sym, ap, ◌∙◌, arith, append_assoc, add-one, one-add, inl, inr, ne_eqb, cases_Bool, cases_eq, eq-eqb, MatchOption, filter_map, find, range_with_len, number_after, Signal, length_of, Searching, Locked, Item, Acquired, LostLock, RuleNumbers, acquired, IsLossRule, are_too_many, is_good, loses_at, block_count, end, read_blocks, group_closed_by, loss_items, items_of_lock, first_lock, items_from, report_items, run, items_of_end, completed_group, lock_after}
 use Rattle.rds_sync.proofs.LawfulLemmas.{acquired-range}
 use Rattle.rds_sync.proofs.LockBlocks.{bad, keeps, loses_here, number_first, first_first, S, G, closes, S_is, block_good, block_lost, block_end, last_group}
 use Rattle.rds_sync.proofs.LossLemmas.{never_0}
@@ -39,16 +39,10 @@ module _ (b : Signal) (rules : RuleNumbers) (a x : ℕ) where
   groups_from k r = filter_map (group_closed_by b rules a x) (range_with_len k r)
 
   groups_step : (k r : ℕ) → k + 1 ≢ read_blocks b rules a x → groups_from k (suc r) ≡ closes b rules a x k ++ groups_from (suc k) r
-  groups_step k r other = elim (cases_eq (number_after x k) 4) [
-    | inl four ↦ rw (← add-one k, eq-eqb (number_after x k) 4 four, completed_group) refl
-    | inr fewer ↦ rw (← add-one k, ne_eqb (number_after x k) 4 fewer, ne_eqb (k + 1) (read_blocks b rules a x) other, completed_group) refl
-  ]
+  groups_step k r other = grind (arith, common_steps, cases_eq, number_after, eq-eqb, completed_group, ne_eqb, read_blocks)
 
   groups_last : (k r : ℕ) → k + 1 ≡ read_blocks b rules a x → groups_from k (suc r) ≡ G b rules a x k ∷ groups_from (suc k) r
-  groups_last k r same = elim (cases_eq (number_after x k) 4) [
-    | inl four ↦ rw (← add-one k, eq-eqb (number_after x k) 4 four) refl
-    | inr fewer ↦ rw (← add-one k, ne_eqb (number_after x k) 4 fewer, eq-eqb (k + 1) (read_blocks b rules a x) same) refl
-  ]
+  groups_last k r same = grind (arith, common_steps, cases_eq, number_after, eq-eqb, ne_eqb, read_blocks)
 
   -- the items after this lock
   abbrev rest : ℕ → List Item

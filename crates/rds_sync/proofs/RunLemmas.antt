@@ -1,5 +1,5 @@
 -- Runs: over ranges in a row, while a block is waited for, up to the next block, and through a search.
-use Rattle.rds_sync.proofs.Names.{◌≡◌, ◌≢◌, ℕ, zero, suc, ◌+◌, ◌-◌, ◌<◌, ◌≤◌, List, [], ◌∷◌, ◌++◌, true, false, Some, None, refl, sym, ap, ap₂, ◌∙◌, arith, append_assoc, append-nil, add-zero, zero-add, suc-add, ne_eqb, eq-eqb, Signal, Lock, State, Searching, Locked, Item, Acquired, Group, LostLock, RuleNumbers, are_too_many, acquired, group, run, step, after_bit, items_at, history_after_block, completed_group, lock_after}
+use Rattle.rds_sync.proofs.Names.{common_steps, ◌≡◌, ◌≢◌, ℕ, zero, suc, ◌+◌, ◌-◌, ◌<◌, ◌≤◌, List, [], ◌∷◌, ◌++◌, true, false, Some, None, refl, sym, ap, ap₂, ◌∙◌, arith, append_assoc, append-nil, add-zero, zero-add, suc-add, ne_eqb, eq-eqb, Signal, Lock, State, Searching, Locked, Item, Acquired, Group, LostLock, RuleNumbers, are_too_many, acquired, group, run, step, after_bit, items_at, history_after_block, completed_group, lock_after}
 
 module _ (b : Signal) (rules : RuleNumbers) where
   -- one bit
@@ -100,18 +100,12 @@ module _ (b : Signal) (rules : RuleNumbers) where
   -- while a block is waited for, a run changes nothing and gives nothing
   pub run-waiting : (lock : Lock) (a n : ℕ) → a + n ≤ lock.due → run b rules (Locked lock) a n ≡ (Locked lock, [])
   run-waiting lock a zero h = refl
-  run-waiting lock a (suc n) h =
-      let late : lock.due ≢ a = λ e. absurd (omega arith) in
-      run-first (Locked lock) (Locked lock) [] a n (step-waiting lock a late) (items-waiting lock a late)
-      ∙ run-waiting lock (a + 1) n (omega arith)
+  run-waiting lock a (suc n) h = grind (arith, common_steps, run-first, step-waiting, items-waiting, run-waiting lock (a + 1) n (omega arith))
 
   -- a run up to and including the block that is due is that of its last bit
   pub run-reading : (lock : Lock) (a n : ℕ) → a + n ≡ lock.due
       → run b rules (Locked lock) a (n + 1) ≡ (step b rules lock.due (Locked lock), items_at b rules lock.due (Locked lock))
-  run-reading lock a n e =
-      run-append (Locked lock) a n 1
-      ∙ ap₂ (λ (r : State × List Item) (p : ℕ). ((run b rules r.0 p 1).0, r.1 ++ (run b rules r.0 p 1).1)) (run-waiting lock a n (omega arith)) e
-      ∙ run-one (Locked lock) lock.due
+  run-reading lock a n e = grind (arith, common_steps, run-append, run, run-waiting, run-one)
 
   -- a search goes on where no place acquires
   pub run-searching : (a n : ℕ) → ((i : ℕ) → a ≤ i → i < a + n → acquired b rules i ≡ None) → run b rules Searching a n ≡ (Searching, [])
@@ -126,9 +120,7 @@ module _ (b : Signal) (rules : RuleNumbers) (s : State) (place after : ℕ) wher
   module _ (lock : Lock) (is : s ≡ Locked lock) where
     pub run-due : place ≤ lock.due → after ≡ lock.due + 1
         → run b rules s place (after - place) ≡ (step b rules lock.due (Locked lock), items_at b rules lock.due (Locked lock))
-    run-due order next =
-        let bits : after - place ≡ (lock.due - place) + 1 = omega arith in
-        rw (is, bits) (run-reading b rules lock place (lock.due - place) (omega arith))
+    run-due order next = grind (arith, common_steps, run-reading)
 
     pub run-early : place ≤ after → after ≤ lock.due → run b rules s place (after - place) ≡ (Locked lock, [])
     run-early order before = rw is (run-waiting b rules lock place (after - place) (omega arith))
@@ -138,10 +130,7 @@ pub run-further : (b : Signal) (rules : RuleNumbers) (s now t : State) (items fo
     → from ≤ place → place ≤ after → run b rules s from (place - from) ≡ (now, items)
     → t ≡ (run b rules now place (after - place)).0 → found ≡ (run b rules now place (after - place)).1
     → run b rules s from (after - from) ≡ (t, items ++ found)
-run-further b rules s now t items found from place after low high so_far state_is found_is =
-    run-places b rules s from place after low high
-    ∙ ap (λ (r : State × List Item). ((run b rules r.0 place (after - place)).0, r.1 ++ (run b rules r.0 place (after - place)).1)) so_far
-    ∙ ap₂ (λ (u : State) (is : List Item). (u, items ++ is)) (sym state_is) (sym found_is)
+run-further b rules s now t items found from place after low high so_far state_is found_is = grind (arith, common_steps, run-places, run)
 
 -- a search up to and including one place
 pub run-found : (b : Signal) (rules : RuleNumbers) (place here : ℕ) → place ≤ here → ((j : ℕ) → place ≤ j → j < here → acquired b rules j ≡ None)

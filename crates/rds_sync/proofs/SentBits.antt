@@ -1,8 +1,10 @@
--- The bits of groups that were encoded: their windows are the blocks.
-use Rattle.rds_sync.proofs.Names.{◌≡◌, ℕ, zero, suc, ◌+◌, ◌-◌, ◌*◌, ◌/◌, ◌%◌, ◌^◌, ◌<◌, List, [], ◌∷◌, ◌++◌, length, Some, refl, sym, ap, ap₂, subst, ◌∙◌, arith, inl, get_or, take, drop, append-nil, append_assoc, length-append, pow-suc, drop-append_seam, take-append_seam, xor_zero_r, number_from_digits, Offset, A, B, D, IsBlockOf, encoded, third_offset, HasOneBlock, ungapped, heard, touched, window, IsHeardFrom, GroupIsHeard, AreHeard, binary, group_bits, bits_sent, EncodedGroupsAreHeard, EncodedGroupsAreListed}
+-- The bits of groups that were encoded, and then damaged or not: their windows are the blocks with their damage.
+use Rattle.rds_sync.proofs.Names.{Signal, AreWords, ◌≡◌, ℕ, zero, suc, ◌+◌, ◌-◌, ◌*◌, ◌/◌, ◌%◌, ◌^◌, ◌<◌, List, [], ◌∷◌, ◌++◌, length, Some, refl, sym, ap, ap₂, subst, ◌∙◌, arith, inl, get_or, take, drop, append-nil, append_assoc, length-append, pow-suc, drop-append_seam, take-append_seam, xor_zero_r, number_from_digits, Offset, A, B, D, IsBlockOf, encoded, third_offset, HasOneBlock, ungapped, heard, touched, window, IsHeardFrom, GroupIsHeard, AreHeard, binary, group_bits, bits_sent, EncodedGroupsAreHeard, EncodedGroupsAreListed, ◌⊎◌, inr, bit_xor, flat_map, xor_lt, IsBurst, SentGroup, AreHeardDamaged, IsCorrectable, AreCorrectable, bits_with_damage, DamagedGroupsAreHeard, DamagedBitsAreDecoded}
+use Rattle.std.specs.Prelude.{map}
 use Rattle.std.proofs.lemmas.Int.Digits.{number_push}
+use Rattle.std.proofs.lemmas.List.{length-map}
 use Rattle.rds_sync.proofs.SentGroups.{CodeLaws}
-use Rattle.rds_sync.proofs.SentRuns.{sent_groups_are_listed}
+use Rattle.rds_sync.proofs.SentRuns.{damaged_groups_are_listed, sent_groups_are_listed, undamaged}
 
 pub length-binary : (n w : ℕ) → length (binary n w) ≡ n
 unfolding binary
@@ -28,43 +30,52 @@ window_there xs ys w small =
     ∙ ap (number_from_digits 2) (ap (λ (n : ℕ). take n (binary 26 w ++ ys)) (sym (length-binary 26 w)) ∙ take-append_seam (binary 26 w) ys)
     ∙ number_binary 26 w small
 
-pub heard_there : (xs ys : List ℕ) (w : ℕ) → w < 2 ^ 26 → heard (ungapped (xs ++ (binary 26 w ++ ys))) (length xs + 25) ≡ Some w
+heard_there : (xs ys : List ℕ) (w : ℕ) → w < 2 ^ 26 → heard (ungapped (xs ++ (binary 26 w ++ ys))) (length xs + 25) ≡ Some w
 unfolding heard touched
 heard_there xs ys w small = ap (λ (v : ℕ). Some v) (window_there xs ys w small)
 
 longer : (w : ℕ) (zs : List ℕ) (n : ℕ) → length zs ≡ n → length (binary 26 w ++ zs) ≡ 26 + n
 longer w zs n e = length-append (binary 26 w) zs ∙ ap₂ (λ (l m : ℕ). l + m) (length-binary 26 w) e
 
-pub four_long : (a b c d : ℕ) → length (binary 26 a ++ (binary 26 b ++ (binary 26 c ++ (binary 26 d ++ [])))) ≡ 104
+four_long : (a b c d : ℕ) → length (binary 26 a ++ (binary 26 b ++ (binary 26 c ++ (binary 26 d ++ [])))) ≡ 104
 four_long a b c d = longer a _ 78 (longer b _ 52 (longer c _ 26 (longer d [] 0 refl)))
 
-group_long : (words : List ℕ) → length (group_bits words) ≡ 104
-group_long words = four_long (encoded (get_or words 0 0) A) (encoded (get_or words 1 0) B) (encoded (get_or words 2 0) (third_offset (get_or words 1 0))) (encoded (get_or words 3 0) D)
+damage_small : (limit e : ℕ) → (e ≡ 0) ⊎ IsBurst limit e → e < 2 ^ 26
+damage_small limit e (inl none) = omega (arith, none)
+damage_small limit e (inr burst) = burst.is_block
 
-groups_long : (groups : List (List ℕ)) → length (bits_sent groups) ≡ 104 * length groups
+group_long : (g : SentGroup) → length (bits_with_damage g) ≡ 104
+group_long g =
+    let e : ℕ → ℕ = λ y. get_or g.damages y 0 in
+    let w : ℕ → ℕ = λ y. get_or g.words y 0 in
+    four_long (bit_xor (encoded (w 0) A) (e 0)) (bit_xor (encoded (w 1) B) (e 1)) (bit_xor (encoded (w 2) (third_offset (w 1))) (e 2)) (bit_xor (encoded (w 3) D) (e 3))
+
+pub groups_long : (groups : List SentGroup) → length (flat_map bits_with_damage groups) ≡ 104 * length groups
 groups_long [] = refl
-groups_long (words ∷ groups) = length-append (group_bits words) (bits_sent groups) ∙ omega (arith, group_long words, groups_long groups)
+groups_long (g ∷ groups) = length-append (bits_with_damage g) (flat_map bits_with_damage groups) ∙ omega (arith, group_long g, groups_long groups)
 
-module _ (one : HasOneBlock) where
-  block_there : (bits xs ys : List ℕ) (place info : ℕ) (o : Offset) → info < 2 ^ 16 → xs ++ (binary 26 (encoded info o) ++ ys) ≡ bits → length xs + 25 ≡ place
-      → IsHeardFrom (ungapped bits) 0 place info o 0
-  block_there bits xs ys place info o small are at =
+module _ (one : HasOneBlock) (limit : ℕ) where
+  block_there : (bits xs ys : List ℕ) (place info : ℕ) (o : Offset) (e : ℕ) → info < 2 ^ 16 → (e ≡ 0) ⊎ IsBurst limit e
+      → xs ++ (binary 26 (bit_xor (encoded info o) e) ++ ys) ≡ bits → length xs + 25 ≡ place → IsHeardFrom (ungapped bits) limit place info o e
+  block_there bits xs ys place info o e small damage are at =
       let w : ℕ = encoded info o in
       let is : IsBlockOf w info o = (one w info o small).1 refl in record {
         sent = w;
         block = is;
-        heard_is = ap₂ (λ (bs : List ℕ) (p : ℕ). heard (ungapped bs) p) (sym are) (sym at) ∙ heard_there xs ys w is.is_block ∙ ap (λ (v : ℕ). Some v) (sym (xor_zero_r w));
-        damage = inl refl;
+        heard_is = ap₂ (λ (bs : List ℕ) (p : ℕ). heard (ungapped bs) p) (sym are) (sym at) ∙ heard_there xs ys (bit_xor w e) (xor_lt 26 w e is.is_block (damage_small limit e damage));
+        damage = damage;
       }
 
-  group_there : (xs ys words : List ℕ) → ((y : ℕ) → get_or words y 0 < 2 ^ 16) → GroupIsHeard (ungapped (xs ++ (group_bits words ++ ys))) 0 1 (length xs + 103) words []
-  group_there xs ys words small =
-      let b0 : List ℕ = binary 26 (encoded (get_or words 0 0) A) in
-      let b1 : List ℕ = binary 26 (encoded (get_or words 1 0) B) in
-      let b2 : List ℕ = binary 26 (encoded (get_or words 2 0) (third_offset (get_or words 1 0))) in
-      let b3 : List ℕ = binary 26 (encoded (get_or words 3 0) D) in
-      let bits : List ℕ = xs ++ (group_bits words ++ ys) in
-      let all : group_bits words ++ ys ≡ b0 ++ (b1 ++ (b2 ++ (b3 ++ ys))) =
+  group_there : (xs ys : List ℕ) (g : SentGroup) → IsCorrectable limit g → GroupIsHeard (ungapped (xs ++ (bits_with_damage g ++ ys))) limit 1 (length xs + 103) g.words g.damages
+  group_there xs ys g h =
+      let e : ℕ → ℕ = λ y. get_or g.damages y 0 in
+      let w : ℕ → ℕ = λ y. get_or g.words y 0 in
+      let b0 : List ℕ = binary 26 (bit_xor (encoded (w 0) A) (e 0)) in
+      let b1 : List ℕ = binary 26 (bit_xor (encoded (w 1) B) (e 1)) in
+      let b2 : List ℕ = binary 26 (bit_xor (encoded (w 2) (third_offset (w 1))) (e 2)) in
+      let b3 : List ℕ = binary 26 (bit_xor (encoded (w 3) D) (e 3)) in
+      let bits : List ℕ = xs ++ (bits_with_damage g ++ ys) in
+      let all : bits_with_damage g ++ ys ≡ b0 ++ (b1 ++ (b2 ++ (b3 ++ ys))) =
       append_assoc b0 (b1 ++ (b2 ++ (b3 ++ []))) ys
       ∙ ap (λ (zs : List ℕ). b0 ++ zs) (append_assoc b1 (b2 ++ (b3 ++ [])) ys ∙ ap (λ (zs : List ℕ). b1 ++ zs) (append_assoc b2 (b3 ++ []) ys ∙ ap (λ (zs : List ℕ). b2 ++ zs) (append_assoc b3 [] ys))) in
       let at0 : xs ++ (b0 ++ (b1 ++ (b2 ++ (b3 ++ ys)))) ≡ bits = ap (λ (zs : List ℕ). xs ++ zs) (sym all) in
@@ -72,31 +83,71 @@ module _ (one : HasOneBlock) where
       let at2 : ((xs ++ b0) ++ b1) ++ (b2 ++ (b3 ++ ys)) ≡ bits = append_assoc (xs ++ b0) b1 _ ∙ at1 in
       let at3 : (((xs ++ b0) ++ b1) ++ b2) ++ (b3 ++ ys) ≡ bits = append_assoc ((xs ++ b0) ++ b1) b2 _ ∙ at2 in
       let l1 : length (xs ++ b0) ≡ length xs + 26 = length-append xs b0 ∙ ap (λ (n : ℕ). length xs + n) (length-binary 26 _) in
-      let l2 : length ((xs ++ b0) ++ b1) ≡ length xs + 52 = length-append (xs ++ b0) b1 ∙ omega (arith, l1, length-binary 26 (encoded (get_or words 1 0) B)) in
-      let l3 : length (((xs ++ b0) ++ b1) ++ b2) ≡ length xs + 78 = length-append ((xs ++ b0) ++ b1) b2 ∙ omega (arith, l2, length-binary 26 (encoded (get_or words 2 0) (third_offset (get_or words 1 0)))) in
+      let l2 : length ((xs ++ b0) ++ b1) ≡ length (xs ++ b0) + 26 = length-append (xs ++ b0) b1 ∙ ap (λ (n : ℕ). length (xs ++ b0) + n) (length-binary 26 _) in
+      let l3 : length (((xs ++ b0) ++ b1) ++ b2) ≡ length ((xs ++ b0) ++ b1) + 26 = length-append ((xs ++ b0) ++ b1) b2 ∙ ap (λ (n : ℕ). length ((xs ++ b0) ++ b1) + n) (length-binary 26 _) in
       record {
-        one = λ _. block_there bits xs _ (length xs + 103 - 78) (get_or words 0 0) A (small 0) at0 (omega arith);
-        two = block_there bits (xs ++ b0) _ (length xs + 103 - 52) (get_or words 1 0) B (small 1) at1 (omega (arith, l1));
-        three = block_there bits ((xs ++ b0) ++ b1) _ (length xs + 103 - 26) (get_or words 2 0) (third_offset (get_or words 1 0)) (small 2) at2 (omega (arith, l2));
-        four = block_there bits (((xs ++ b0) ++ b1) ++ b2) ys (length xs + 103) (get_or words 3 0) D (small 3) at3 (omega (arith, l3));
-        no_version_burst = λ five same. absurd (omega (arith, same));
+        one = λ _. block_there bits xs _ (length xs + 103 - 78) (w 0) A (e 0) (h.words 0) (h.damages 0) at0 (omega arith);
+        two = block_there bits (xs ++ b0) _ (length xs + 103 - 52) (w 1) B (e 1) (h.words 1) (h.damages 1) at1 (omega (arith, l1));
+        three = block_there bits ((xs ++ b0) ++ b1) _ (length xs + 103 - 26) (w 2) (third_offset (w 1)) (e 2) (h.words 2) (h.damages 2) at2 (omega (arith, l1, l2));
+        four = block_there bits (((xs ++ b0) ++ b1) ++ b2) ys (length xs + 103) (w 3) D (e 3) (h.words 3) (h.damages 3) at3 (omega (arith, l1, l2, l3));
+        no_version_burst = h.no_version_burst;
       }
 
-  pub groups_there : EncodedGroupsAreHeard
-  groups_there before after [] small = tt
-  groups_there before after (words ∷ groups) small =
-      let g : List ℕ = group_bits words in
-      let rest : List ℕ = bits_sent groups ++ after in
-      let parts : g ++ rest ≡ bits_sent (words ∷ groups) ++ after = sym (append_assoc g (bits_sent groups) after) in
-      let later : (before ++ g) ++ rest ≡ before ++ (bits_sent (words ∷ groups) ++ after) = append_assoc before g rest ∙ ap (λ (zs : List ℕ). before ++ zs) parts in
-      let long : length (before ++ g) ≡ length before + 104 = length-append before g ∙ ap (λ (n : ℕ). length before + n) (group_long words) in (
-        subst (λ (zs : List ℕ). GroupIsHeard (ungapped (before ++ zs)) 0 1 (length before + 103) words []) parts (group_there before rest words (λ y. small 0 y)),
-        subst (λ (p : ℕ). AreHeard (ungapped (before ++ (bits_sent (words ∷ groups) ++ after))) p groups) long
-            (subst (λ (zs : List ℕ). AreHeard (ungapped zs) (length (before ++ g)) groups) later (groups_there (before ++ g) after groups (λ k y. small (suc k) y))),
+  pub groups_there : (before after : List ℕ) (groups : List SentGroup) → AreCorrectable limit groups
+      → AreHeardDamaged (ungapped (before ++ (flat_map bits_with_damage groups ++ after))) limit (length before) groups
+  groups_there before after [] h = tt
+  groups_there before after (g ∷ groups) h =
+      let own : List ℕ = bits_with_damage g in
+      let rest : List ℕ = flat_map bits_with_damage groups ++ after in
+      let parts : own ++ rest ≡ flat_map bits_with_damage (g ∷ groups) ++ after = sym (append_assoc own (flat_map bits_with_damage groups) after) in
+      let later : (before ++ own) ++ rest ≡ before ++ (flat_map bits_with_damage (g ∷ groups) ++ after) = append_assoc before own rest ∙ ap (λ (zs : List ℕ). before ++ zs) parts in
+      let long : length (before ++ own) ≡ length before + 104 = length-append before own ∙ ap (λ (n : ℕ). length before + n) (group_long g) in (
+        subst (λ (zs : List ℕ). GroupIsHeard (ungapped (before ++ zs)) limit 1 (length before + 103) g.words g.damages) parts (group_there before rest g h.0),
+        subst (λ (p : ℕ). AreHeardDamaged (ungapped (before ++ (flat_map bits_with_damage (g ∷ groups) ++ after))) limit p groups) long
+            (subst (λ (zs : List ℕ). AreHeardDamaged (ungapped zs) limit (length (before ++ own)) groups) later (groups_there (before ++ own) after groups h.1)),
       )
+
+pub damaged_groups_are_heard : HasOneBlock → DamagedGroupsAreHeard
+damaged_groups_are_heard one before after limit groups h = groups_there one limit before after groups h
+
+pub damaged_bits_are_decoded : HasOneBlock → CodeLaws → DamagedBitsAreDecoded
+damaged_bits_are_decoded one laws rules g groups loss reach few h whole1 whole2 keep =
+    let bits : List ℕ = flat_map bits_with_damage (g ∷ groups) in
+    damaged_groups_are_listed laws (ungapped bits) rules g groups loss reach few (groups_long (g ∷ groups))
+    (subst (λ (zs : List ℕ). AreHeardDamaged (ungapped zs) rules.burst 0 (g ∷ groups)) (append-nil bits) (groups_there one rules.burst [] [] (g ∷ groups) h))
+    whole1 whole2 keep
+
+-- ---- without damage
+
+none : (y : ℕ) → get_or {A = ℕ} [] y 0 ≡ 0
+none zero = refl
+none (suc y) = refl
+
+correctable : (groups : List (List ℕ)) → AreWords groups → AreCorrectable 0 (map undamaged groups)
+correctable [] small = tt
+correctable (words ∷ groups) small =
+    (record { words = small 0; damages = λ y. inl (none y); no_version_burst = λ five same. absurd (omega (arith, five)) }, correctable groups (λ k. small (suc k)))
+
+own_bits : (words : List ℕ) → bits_with_damage (undamaged words) ≡ group_bits words
+own_bits words = simp xor_zero_r
+
+bits_undamaged : (groups : List (List ℕ)) → flat_map bits_with_damage (map undamaged groups) ≡ bits_sent groups
+bits_undamaged [] = refl
+bits_undamaged (words ∷ groups) = ap₂ (λ (own rest : List ℕ). own ++ rest) (own_bits words) (bits_undamaged groups)
+
+are_heard : (b : Signal) (place : ℕ) (groups : List (List ℕ)) → AreHeardDamaged b 0 place (map undamaged groups) → AreHeard b place groups
+are_heard b place [] h = tt
+are_heard b place (words ∷ groups) h = (h.0, are_heard b (place + 104) groups h.1)
+
+pub encoded_groups_are_heard : HasOneBlock → EncodedGroupsAreHeard
+encoded_groups_are_heard one before after groups small =
+    are_heard _ (length before) groups
+    (subst (λ (bits : List ℕ). AreHeardDamaged (ungapped (before ++ (bits ++ after))) 0 (length before) (map undamaged groups)) (bits_undamaged groups)
+    (groups_there one 0 before after (map undamaged groups) (correctable groups small)))
 
 pub encoded_groups_are_listed : HasOneBlock → CodeLaws → EncodedGroupsAreListed
 encoded_groups_are_listed one laws rules words groups loss reach few small =
-    let bits : List ℕ = bits_sent (words ∷ groups) in
-    sent_groups_are_listed laws (ungapped bits) rules words groups loss reach few (groups_long (words ∷ groups))
-    (subst (λ (zs : List ℕ). AreHeard (ungapped zs) 0 (words ∷ groups)) (append-nil bits) (groups_there one [] [] (words ∷ groups) small))
+    let all : List (List ℕ) = words ∷ groups in
+    let long : length (bits_sent all) ≡ 104 * length all = ap length (sym (bits_undamaged all)) ∙ groups_long (map undamaged all) ∙ ap (λ (n : ℕ). 104 * n) (length-map all undamaged) in
+    sent_groups_are_listed laws (ungapped (bits_sent all)) rules words groups loss reach few long
+    (subst (λ (zs : List ℕ). AreHeard (ungapped zs) 0 all) (append-nil (bits_sent all)) (encoded_groups_are_heard one [] [] all small))

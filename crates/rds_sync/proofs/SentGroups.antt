@@ -1,5 +1,5 @@
 -- A group that was sent is read as it was sent, where its blocks are damaged by no more than a burst each.
-use Rattle.rds_sync.proofs.Names.{◌≡◌, ◌≢◌, ℕ, zero, suc, ◌-◌, ◌*◌, ◌≤◌, [], ◌∷◌, Option, Some, Bool, false, refl, sym, ap, ap₂, ◌∙◌, arith, inl, inr, ◌⊎◌, get_or, bit_xor, bit_at, xor_zero_r, count_leading_zeros, count_trailing_zeros, if◌then◌else◌, nat_le, ◌==◌, cases_eq, ne_eqb, cases_lt, le-leb, lt-leb, Offset, A, B, C, Cx, D, Wanted, OnlyC, OnlyCx, Either, Reading, IsBurst, burst_length, number, reading, offset_by_version, third_offset, Signal, reading_heard, reading_at, Block, Missing, Read, Version, VA, VB, Unknown, version_of_offset, first_known, differ, block_at, group_of, wanted_beside, version, in_conflict, info_of, type_in, version_of_bit, IsHeardFrom, block_sent, GroupsAreCorrected}
+use Rattle.rds_sync.proofs.Names.{common_steps, ◌≡◌, ◌≢◌, ℕ, zero, suc, ◌-◌, ◌*◌, ◌≤◌, [], ◌∷◌, Option, Some, Bool, false, refl, sym, ap, ap₂, ◌∙◌, arith, inl, inr, ◌⊎◌, get_or, bit_xor, bit_at, xor_zero_r, count_leading_zeros, count_trailing_zeros, if◌then◌else◌, nat_le, ◌==◌, cases_eq, ne_eqb, cases_lt, le-leb, lt-leb, Offset, A, B, C, Cx, D, Wanted, OnlyC, OnlyCx, Either, Reading, IsBurst, burst_length, number, reading, offset_by_version, third_offset, Signal, reading_heard, reading_at, Block, Missing, Read, Version, VA, VB, Unknown, version_of_offset, first_known, differ, block_at, group_of, wanted_beside, version, in_conflict, info_of, type_in, version_of_bit, IsHeardFrom, block_sent, GroupsAreCorrected}
 use Rattle.rds_code.specs.Correction.{alone, version_burst, ReadsAsSent, CorrectsBurst, CorrectsThird}
 use Rattle.rds_sync.proofs.GroupBlocks.{block_at-read, block_at-missing, blocks_at-read, group-blocks}
 
@@ -21,10 +21,7 @@ module _ (laws : CodeLaws) (b : Signal) where
   read_heard limit place info x o e wanted h = ap (λ (w : Option ℕ). reading_heard w x wanted limit) h.heard_is
 
   undamaged : (limit place info : ℕ) (o : Offset) (wanted : Wanted) → IsHeardFrom b limit place info o 0 → Read (reading_at b place (number o) wanted limit) ≡ block_sent o info 0
-  undamaged limit place info o wanted h =
-      ap (λ (r : Reading). Read r) (read_heard limit place info (number o) o 0 wanted h
-      ∙ ap (λ (w : ℕ). reading w (number o) wanted limit) (xor_zero_r h.sent)
-      ∙ laws.sent h.sent info o wanted limit h.block)
+  undamaged limit place info o wanted h = grind (arith, common_steps, read_heard, number, reading, xor_zero_r)
 
   some_burst : (limit e : ℕ) → (suc e ≡ 0) ⊎ IsBurst limit (suc e) → IsBurst limit (suc e)
   some_burst limit e (inl none) = absurd (omega (arith, none))

@@ -1,17 +1,18 @@
 -- The items of a run over groups that were sent: in a lock, and from the first bit of a recording on.
-use Rattle.rds_sync.proofs.Names.{◌≡◌, ℕ, zero, suc, ◌+◌, ◌-◌, ◌*◌, ◌<◌, ◌≤◌, List, [], ◌∷◌, ◌++◌, length, Option, Some, None, Bool, true, false, refl, sym, ap, ap₂, subst, ◌∙◌, arith, inl, append-nil, bit_xor, get_or, flat_map, xor_zero_r, ◌||◌, ◌==◌, list_any, range_with_len, eq-eqb, ne_eqb, Offset, A, B, C, Cx, D, third_offset, number, word, offset_of, rem, Signal, length_of, offset_heard, offset_at, Block, GroupOf, Item, Acquired, Group, State, Searching, Locked, Totals, acquired, has_number, has_partner, is_in_step, is_numbered, plus, group, Outcome, outcome_of, was_valid, bad_over, good_at, IsLossRule, are_too_many, bad_after, report_items, RuleNumbers, IsHeardFrom, GroupIsHeard, AreHeard, block_sent, group_sent, items_sent, SentGroup, four_damages, AreHeardDamaged, items_damaged, bad_after_blocks, KeepLock, SentGroupsAreListed, LockedGroupsAreListed, DamagedGroupsAreListed, SoundSignalIsDecoded, run, items_of_end, lock_of, totals_of, is_valid}
+use Rattle.rds_sync.proofs.Names.{Loss, ◌≡◌, ℕ, zero, suc, ◌+◌, ◌-◌, ◌*◌, ◌<◌, ◌≤◌, List, [], ◌∷◌, ◌++◌, length, Option, Some, None, Bool, true, false, refl, sym, ap, ap₂, subst, ◌∙◌, arith, inl, append-nil, bit_xor, get_or, flat_map, xor_zero_r, ◌||◌, ◌==◌, list_any, range_with_len, eq-eqb, ne_eqb, Offset, A, B, C, Cx, D, third_offset, number, word, offset_of, rem, Signal, length_of, offset_heard, offset_at, Block, GroupOf, Item, Acquired, Group, State, Searching, Locked, Totals, acquired, has_number, has_partner, is_in_step, is_numbered, plus, group, Outcome, outcome_of, was_valid, bad_over, good_at, IsLossRule, are_too_many, bad_after, report_items, RuleNumbers, IsHeardFrom, GroupIsHeard, AreHeard, block_sent, group_sent, items_sent, SentGroup, four_damages, AreHeardDamaged, items_damaged, bad_after_blocks, KeepLock, SentGroupsAreListed, LockedGroupsAreListed, DamagedGroupsAreListed, SoundSignalIsDecoded, run, items_of_end, lock_of, totals_of, is_valid}
 use Rattle.rds_sync.proofs.BadRows.{good_keeps}
-use Rattle.rds_sync.proofs.CleanGroups.{AreValid, all_valid, clean-outcomes}
+use Rattle.std.specs.Prelude.{map}
+use Rattle.std.proofs.lemmas.List.{length-map}
 use Rattle.rds_sync.proofs.Converge.{runs_converge}
 use Rattle.rds_sync.proofs.GroupOutcomes.{outcomes, good-at}
-use Rattle.rds_sync.proofs.HeardGroups.{each-of-four, all-four, kept-each}
-use Rattle.rds_sync.proofs.HeardLemmas.{off-heard, good-heard}
+use Rattle.rds_sync.proofs.HeardGroups.{all-four, kept-each}
+use Rattle.rds_sync.proofs.HeardLemmas.{off-heard}
 use Rattle.rds_sync.proofs.LawfulLemmas.{acquired-place, acquired-some}
 use Rattle.rds_sync.proofs.LossLemmas.{lawful_none, none-kept}
 use Rattle.rds_sync.proofs.OutcomeTotals.{valid_is}
 use Rattle.rds_sync.proofs.RunIsReport.{run_is_report}
 use Rattle.rds_sync.proofs.RunLemmas.{run-append, run-found, run-places, step-acquiring, items-acquiring}
-use Rattle.rds_sync.proofs.SentGroups.{CodeLaws, groups_are_corrected, third_number}
+use Rattle.rds_sync.proofs.SentGroups.{CodeLaws, groups_are_corrected}
 use Rattle.rds_sync.proofs.TotalsLemmas.{totals_of-append, same_counts}
 use Rattle.rds_sync.proofs.WholeGroupLemmas.{block-then, whole_group}
 
@@ -30,11 +31,6 @@ module _ (b : Signal) where
 
   sent_off : (limit place info : ℕ) (o : Offset) → 25 ≤ place → IsHeardFrom b limit place info o 0 → offset_at b place ≡ Some o
   sent_off limit place info o late h = off-heard b place late ∙ ap offset_heard h.heard_is ∙ heard_offset limit place info o h
-
-  sent_number : (limit place info x : ℕ) (o : Offset) → 25 ≤ place → number o ≡ x → IsHeardFrom b limit place info o 0 → has_number b place x ≡ true
-  sent_number limit place info x o late own h =
-      sym (good-heard b place x (Some (bit_xor h.sent 0)) true late (sym h.heard_is)
-      (sym (ap (λ (w : Option Offset). is_numbered w x) (heard_offset limit place info o h) ∙ eq-eqb (number o) x own)))
 
   widened : (limit place info : ℕ) (o : Offset) → IsHeardFrom b 0 place info o 0 → IsHeardFrom b limit place info o 0
   widened limit place info o h = record { sent = h.sent; block = h.block; heard_is = h.heard_is; damage = inl refl }
@@ -63,135 +59,12 @@ module _ (b : Signal) (rules : RuleNumbers) where
   any_first p zero some h = absurd (omega arith)
   any_first p (suc n) some h = ap (λ (t : Bool). t || list_any p (range_with_len 2 n)) h
 
-  -- block 2 acquires, as block 1 is its partner
-  acquires : (words : List ℕ) → 1 ≤ rules.reach → GroupIsHeard b 0 1 103 words [] → acquired b rules 51 ≡ Some 2
-  acquires words reach h =
-      let partner : has_partner b 51 2 1 ≡ true = ap (λ (w : Option Offset). is_in_step w 2 1) (sent_off b 0 25 _ A (omega arith) (h.one (omega arith))) in
-      acquired-some b rules 51 B (sent_off b 0 51 _ B (omega arith) h.two)
-      ∙ ap (λ (t : Bool). elim t as (λ _. Option ℕ) [ true ↦ Some 2 | false ↦ None ]) (any_first (has_partner b 51 2) rules.reach reach partner)
-
-  -- and nothing before it
+  -- nothing acquires before place 51
   quiet : (i : ℕ) → 0 ≤ i → i < 51 → acquired b rules i ≡ None
   quiet i low early = at_case (acquired b rules i) refl where
     at_case : (w : Option ℕ) → acquired b rules i ≡ w → w ≡ None
     at_case None e = refl
     at_case (Some x) e = absurd (omega (arith, acquired-place b rules i x e))
-
-  module _ (laws : CodeLaws) (loss : IsLossRule rules.loss) (few : rules.burst ≤ 5) where
-    abbrev L : ℕ → ℕ
-    L bad = bad_after rules.loss true bad
-
-    none : L 0 ≡ 0
-    none = none-kept rules.loss
-
-    none2 : L (L 0) ≡ 0
-    none2 = ap L none ∙ none
-
-    none3 : L (L (L 0)) ≡ 0
-    none3 = ap L none2 ∙ none
-
-    none4 : L (L (L (L 0))) ≡ 0
-    none4 = ap L none3 ∙ none
-
-    kept : (bad : ℕ) → bad ≡ 0 → are_too_many rules.loss bad ≡ false
-    kept bad e = ap (are_too_many rules.loss) (e ∙ sym none) ∙ good_keeps rules.loss 0 (lawful_none rules.loss loss)
-
-    sent_group : (first p place : ℕ) (words : List ℕ) → 1 ≤ first → first ≤ 2 → p - 26 * (4 - first) - 25 ≡ place → GroupIsHeard b 0 1 p words []
-        → group b rules first 4 p ≡ group_sent first place words []
-    sent_group first p place words low high at h =
-        groups_are_corrected laws b rules first p words [] low high few (wider b rules.burst first p words low h)
-        ∙ ap (λ (q : ℕ). group_sent first q words []) at
-
-    -- one whole group
-    one_group : (place : ℕ) (words : List ℕ) → GroupIsHeard b 0 1 (place + 103) words []
-        → run b rules (Locked (lock_of (place + 25) 1 0 1)) place 104 ≡ (Locked (lock_of (place + 104 + 25) 1 0 1), Group (group_sent 1 place words []) ∷ [])
-    one_group place words h =
-        let due : ℕ = place + 25 in
-        let late : 25 ≤ due = omega arith in
-        let at1 : place + 103 - 78 ≡ due = omega arith in
-        let at2 : place + 103 - 52 ≡ due + 26 = omega arith in
-        let at3 : place + 103 - 26 ≡ due + 52 = omega arith in
-        let at4 : place + 103 ≡ due + 78 = omega arith in
-        let valid : AreValid b due = record {
-          one = subst (λ (q : ℕ). has_number b q 1 ≡ true) at1 (sent_number b 0 (place + 103 - 78) _ 1 A (omega arith) refl (h.one (omega arith)));
-          two = subst (λ (q : ℕ). has_number b q 2 ≡ true) at2 (sent_number b 0 (place + 103 - 52) _ 2 B (omega arith) refl h.two);
-          three = subst (λ (q : ℕ). has_number b q 3 ≡ true) at3 (sent_number b 0 (place + 103 - 26) _ 3 (third_offset _) (omega arith) (third_number _) h.three);
-          four = subst (λ (q : ℕ). has_number b q 4 ≡ true) at4 (sent_number b 0 (place + 103) _ 4 D (omega arith) refl h.four);
-        } in
-        let os : List Outcome = outcomes (group b rules 1 4 (due + 78)) in
-        let clean : os ≡ all_valid = clean-outcomes b rules due late valid in
-        let fewer : (k : ℕ) → k < 4 → are_too_many rules.loss (bad_over rules.loss os 0 1 (k + 1)) ≡ false =
-        subst (λ (o : List Outcome). (k : ℕ) → k < 4 → are_too_many rules.loss (bad_over rules.loss o 0 1 (k + 1)) ≡ false) (sym clean)
-        (each-of-four (λ (k : ℕ). are_too_many rules.loss (bad_over rules.loss all_valid 0 1 (k + 1)) ≡ false) (kept (L 0) none) (kept (L (L 0)) none2) (kept (L (L (L 0))) none3) (kept (L (L (L (L 0)))) none4)) in
-        let bad : bad_over rules.loss os 0 1 4 ≡ 0 = ap (λ (o : List Outcome). bad_over rules.loss o 0 1 4) clean ∙ none4 in
-        let back : due - 25 ≡ place = omega arith in
-        let next : due + 104 ≡ place + 104 + 25 = omega arith in
-        let own : group b rules 1 4 (due + 78) ≡ group_sent 1 place words [] = ap (λ (q : ℕ). group b rules 1 4 q) (sym at4) ∙ sent_group 1 (place + 103) place words (omega arith) (omega arith) (omega arith) h in
-        ap (λ (q : ℕ). run b rules (Locked (lock_of due 1 0 1)) q 104) (sym back)
-        ∙ whole_group b rules due 0 late fewer
-        ∙ ap₂ (λ (q d : ℕ). (Locked (lock_of q 1 d 1), Group (group b rules 1 4 (due + 78)) ∷ [])) next bad
-        ∙ ap (λ (g : _). (Locked (lock_of (place + 104 + 25) 1 0 1), Group g ∷ [])) own
-
-    -- and any number of them
-    pub groups_listed : (place : ℕ) (groups : List (List ℕ)) → AreHeard b place groups
-        → run b rules (Locked (lock_of (place + 25) 1 0 1)) place (104 * length groups) ≡ (Locked (lock_of (place + 104 * length groups + 25) 1 0 1), items_sent place groups)
-    groups_listed place [] h =
-        let end : place + 25 ≡ place + 104 * 0 + 25 = omega arith in
-        ap (λ (q : ℕ). (Locked (lock_of q 1 0 1), [])) end
-    groups_listed place (words ∷ groups) h =
-        let n : ℕ = length groups in
-        let bits : 104 * suc n ≡ 104 + 104 * n = omega arith in
-        let end : place + 104 + 104 * n + 25 ≡ place + 104 * suc n + 25 = omega arith in
-        ap (λ (m : ℕ). run b rules (Locked (lock_of (place + 25) 1 0 1)) place m) bits
-        ∙ run-then (Locked (lock_of (place + 25) 1 0 1)) _ _ _ _ place 104 (104 * n) (one_group place words h.0) (groups_listed (place + 104) groups h.1)
-        ∙ ap (λ (q : ℕ). (Locked (lock_of q 1 0 1), items_sent place (words ∷ groups))) end
-
-    -- the first group of a recording
-    first_group : (words : List ℕ) → 1 ≤ rules.reach → GroupIsHeard b 0 1 103 words []
-        → run b rules Searching 0 104 ≡ (Locked (lock_of 129 1 0 1), Acquired 51 2 ∷ Group (group_sent 2 26 words []) ∷ [])
-    first_group words reach h =
-        let here = acquires words reach h in
-        let search : run b rules Searching 0 52 ≡ (Locked (lock_of 77 3 0 2), Acquired 51 2 ∷ []) =
-        run-found b rules 0 51 (omega arith) quiet ∙ ap₂ (λ (t : State) (is : List Item). (t, is)) (step-acquiring b rules 51 2 here) (items-acquiring b rules 51 2 here) in
-        let third = block-then b rules 77 3 0 2 true 26 (omega arith) (sent_number b 0 77 _ 3 (third_offset _) (omega arith) (third_number _) h.three) (kept (L 0) none) in
-        let fourth = block-then b rules 103 4 (L 0) 2 true 0 (omega arith) (sent_number b 0 103 _ 4 D (omega arith) refl h.four) (kept (L (L 0)) none2) in
-        let two : run b rules (Locked (lock_of 77 3 0 2)) 52 52 ≡ (Locked (lock_of 129 1 0 1), Group (group_sent 2 26 words []) ∷ []) =
-        third ∙ fourth
-        ∙ ap₂ (λ (d : ℕ) (g : _). (Locked (lock_of 129 1 d 1), Group g ∷ [])) none2 (sent_group 2 103 26 words (omega arith) (omega arith) refl h) in
-        run-then Searching _ _ _ _ 0 52 52 search two
-
--- ---- the report
-
--- the totals of whole groups
-totals_whole : ℕ → Totals
-totals_whole n = record { valid = 4 * n; bursts = 0 ∷ 0 ∷ 0 ∷ 0 ∷ 0 ∷ []; lost = 0; bits = 0; groups = n; complete = n; acquired = 0; losses = 0 }
-
-totals_listed : (place : ℕ) (groups : List (List ℕ)) → totals_of (items_sent place groups) ≡ totals_whole (length groups)
-unfolding totals_whole
-totals_listed place [] = refl
-totals_listed place (words ∷ groups) =
-    totals_of-append (Group (group_sent 1 place words []) ∷ []) (items_sent (place + 104) groups)
-    ∙ ap (plus (totals_of (Group (group_sent 1 place words []) ∷ []))) (totals_listed (place + 104) groups)
-    ∙ same_counts (omega arith) refl refl refl refl refl refl refl (omega arith) (omega arith) refl refl
-
-pub sent_groups_are_listed : CodeLaws → SentGroupsAreListed
-unfolding totals_whole
-sent_groups_are_listed laws b rules words groups loss reach few long h =
-    let n : ℕ = length groups in
-    let items : List Item = Acquired 51 2 ∷ Group (group_sent 2 26 words []) ∷ items_sent 104 groups in
-    let first = first_group b rules laws loss few words reach h.0 in
-    let rest = groups_listed b rules laws loss few 104 groups h.1 in
-    let bits : 104 + 104 * n ≡ length_of b = omega (arith, long) in
-    let whole : run b rules Searching 0 (length_of b) ≡ (Locked (lock_of (104 + 104 * n + 25) 1 0 1), items) =
-    ap (λ (m : ℕ). run b rules Searching 0 m) (sym bits) ∙ run-then b rules Searching _ _ _ _ 0 104 (104 * n) first rest in
-    let report : report_items b rules ≡ items =
-    sym (run_is_report b rules loss) ∙ ap (λ (r : State × List Item). r.1 ++ items_of_end b rules r.0) whole ∙ append-nil items in (
-      report,
-      ap totals_of report
-          ∙ totals_of-append (Acquired 51 2 ∷ Group (group_sent 2 26 words []) ∷ []) (items_sent 104 groups)
-          ∙ ap (plus (totals_of (Acquired 51 2 ∷ Group (group_sent 2 26 words []) ∷ []))) (totals_listed 104 groups)
-          ∙ same_counts (omega arith) refl refl refl refl refl refl refl (omega arith) (omega arith) refl refl,
-    )
 
 -- ---- with damage
 
@@ -332,3 +205,60 @@ damaged_groups_are_listed laws b rules g groups loss reach few long h whole1 who
     let bits : 104 + 104 * n ≡ length_of b = omega (arith, long) in
     let whole = ap (λ (m : ℕ). run b rules Searching 0 m) (sym bits) ∙ run-then b rules Searching _ _ _ _ 0 104 (104 * n) first rest in
     sym (run_is_report b rules loss) ∙ ap (λ (ends : State × List Item). ends.1 ++ items_of_end b rules ends.0) whole ∙ append-nil items
+
+-- ---- without damage
+
+abbrev pub undamaged : List ℕ → SentGroup
+undamaged words = record { words = words; damages = [] }
+
+heard_undamaged : (b : Signal) (limit place : ℕ) (groups : List (List ℕ)) → AreHeard b place groups → AreHeardDamaged b limit place (map undamaged groups)
+heard_undamaged b limit place [] h = tt
+heard_undamaged b limit place (words ∷ groups) h = (wider b limit 1 (place + 103) words (omega arith) h.0, heard_undamaged b limit (place + 104) groups h.1)
+
+items_undamaged : (place : ℕ) (groups : List (List ℕ)) → items_damaged place (map undamaged groups) ≡ items_sent place groups
+items_undamaged place [] = refl
+items_undamaged place (words ∷ groups) = ap (λ (is : List Item). Group (group_sent 1 place words []) ∷ is) (items_undamaged (place + 104) groups)
+
+-- no block is bad
+module _ (loss : Loss) (is : IsLossRule loss) where
+  next_none : (bad : ℕ) → bad ≡ 0 → bad_after loss true bad ≡ 0
+  next_none bad none = ap (bad_after loss true) none ∙ none-kept loss
+
+  keeps : (bad : ℕ) → bad ≡ 0 → are_too_many loss (bad_after loss true bad) ≡ false
+  keeps bad none = ap (λ (n : ℕ). are_too_many loss (bad_after loss true n)) none ∙ good_keeps loss 0 (lawful_none loss is)
+
+  keep_undamaged : (groups : List (List ℕ)) (bad : ℕ) → bad ≡ 0 → KeepLock loss bad (flat_map four_damages (map undamaged groups))
+  keep_undamaged [] bad none = tt
+  keep_undamaged (words ∷ groups) bad none =
+      let one = next_none bad none in
+      let two = next_none _ one in
+      let three = next_none _ two in
+      (keeps bad none, (keeps _ one, (keeps _ two, (keeps _ three, keep_undamaged groups _ (next_none _ three)))))
+
+-- the totals of whole groups
+totals_whole : ℕ → Totals
+totals_whole n = record { valid = 4 * n; bursts = 0 ∷ 0 ∷ 0 ∷ 0 ∷ 0 ∷ []; lost = 0; bits = 0; groups = n; complete = n; acquired = 0; losses = 0 }
+
+totals_listed : (place : ℕ) (groups : List (List ℕ)) → totals_of (items_sent place groups) ≡ totals_whole (length groups)
+unfolding totals_whole
+totals_listed place [] = refl
+totals_listed place (words ∷ groups) =
+    totals_of-append (Group (group_sent 1 place words []) ∷ []) (items_sent (place + 104) groups)
+    ∙ ap (plus (totals_of (Group (group_sent 1 place words []) ∷ []))) (totals_listed (place + 104) groups)
+    ∙ same_counts (omega arith) refl refl refl refl refl refl refl (omega arith) (omega arith) refl refl
+
+pub sent_groups_are_listed : CodeLaws → SentGroupsAreListed
+unfolding totals_whole
+sent_groups_are_listed laws b rules words groups loss reach few long h =
+    let one = next_none rules.loss loss 0 refl in
+    let report : report_items b rules ≡ Acquired 51 2 ∷ Group (group_sent 2 26 words []) ∷ items_sent 104 groups =
+    damaged_groups_are_listed laws b rules (undamaged words) (map undamaged groups) loss reach few (long ∙ ap (λ (n : ℕ). 104 * suc n) (sym (length-map groups undamaged)))
+    (heard_undamaged b rules.burst 0 (words ∷ groups) h) refl refl
+    (keeps rules.loss loss 0 refl, (keeps rules.loss loss _ one, keep_undamaged rules.loss loss groups _ (next_none rules.loss loss _ one)))
+    ∙ ap (λ (is : List Item). Acquired 51 2 ∷ Group (group_sent 2 26 words []) ∷ is) (items_undamaged 104 groups) in (
+      report,
+      ap totals_of report
+          ∙ totals_of-append (Acquired 51 2 ∷ Group (group_sent 2 26 words []) ∷ []) (items_sent 104 groups)
+          ∙ ap (plus (totals_of (Acquired 51 2 ∷ Group (group_sent 2 26 words []) ∷ []))) (totals_listed 104 groups)
+          ∙ same_counts (omega arith) refl refl refl refl refl refl refl (omega arith) (omega arith) refl refl,
+    )

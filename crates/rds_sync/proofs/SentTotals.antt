@@ -1,6 +1,6 @@
 -- The totals of a recording of damaged groups, by the error masks of its blocks.
 use Rattle.rds_sync.proofs.Names.{◌≡◌, ℕ, zero, suc, ◌+◌, ◌*◌, ◌≤◌, List, [], ◌∷◌, Bool, true, false, length, refl, sym, ap, subst, ◌∙◌, arith, append-nil, get_or, flat_map, cond, eqb, lit<, sum_by, count_by, count_ones, count_leading_zeros, count_trailing_zeros, ones-le, mul-suc, ne_eqb, sum_by-append, sum_by-cons, Offset, A, B, D, burst_length, third_offset, HasOneBlock, ungapped, Block, Missing, GroupOf, Item, Acquired, Group, LostLock, SentGroup, block_sent, group_sent, items_damaged, four_damages, masks_read, totals_damaged, bits_with_damage, AreHeardDamaged, DamageTellsTotals, DamagedBitsTellTotals, totals_of, sum_blocks, is_valid, is_lost, is_corrected_by, bits_corrected, is_group, is_complete, is_acquired, is_sync_loss}
-use Rattle.rds_sync.proofs.SentDamage.{groups_long, groups_there}
+use Rattle.rds_sync.proofs.SentBits.{groups_long, groups_there}
 use Rattle.rds_sync.proofs.SentGroups.{CodeLaws, info_is}
 use Rattle.rds_sync.proofs.SentRuns.{good_sent, damaged_groups_are_listed}
 use Rattle.rds_sync.proofs.TotalsLemmas.{same_counts}

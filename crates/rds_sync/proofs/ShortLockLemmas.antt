@@ -1,10 +1,9 @@
 -- The group of a lock that its second block loses, and the run over it.
-use Rattle.rds_sync.proofs.Names.{◌≡◌, ◌≢◌, ℕ, zero, suc, ◌+◌, ◌-◌, ◌*◌, ◌%◌, ◌<◌, ◌≤◌, ◌⊎◌, List, [], ◌∷◌, ◌++◌, Bool, true, false, Some, None, map, refl, sym, ap, ◌∙◌, arith, inl, inr, mod-eq_of_lt, pow-suc, pow_pos, ones, nat_le, count_ones, outcome_number, Wanted, Either, Reading, Valid, Corrected, Lost, Signal, heard, reading_at, Block, Read, Item, Group, LostLock, State, Searching, Locked, acquired, has_number, block_at, blocks_at, group, wanted_beside, CountOf, joined, group_count, loss_count, added, Outcome, outcome_of, IsLostAtOnce, wanted_behind, first_behind, word_of_two, nibble, word_of_blocks, blocks_in, HaveRoom, bad_after, are_too_many, RuleNumbers, items_at, run, history_after_block, lock_after, lock_of, is_valid}
+use Rattle.rds_sync.proofs.Names.{common_steps, ◌≡◌, ◌≢◌, ℕ, zero, suc, ◌+◌, ◌-◌, ◌*◌, ◌%◌, ◌<◌, ◌≤◌, ◌⊎◌, List, [], ◌∷◌, ◌++◌, Bool, true, false, Some, None, map, refl, sym, ap, ◌∙◌, arith, inl, inr, mod-eq_of_lt, pow-suc, pow_pos, ones, nat_le, count_ones, outcome_number, Wanted, Either, Reading, Valid, Corrected, Lost, Signal, heard, reading_at, Block, Read, Item, Group, LostLock, State, Searching, Locked, acquired, has_number, block_at, blocks_at, group, wanted_beside, CountOf, joined, group_count, loss_count, added, Outcome, outcome_of, IsLostAtOnce, wanted_behind, first_behind, word_of_two, nibble, word_of_blocks, blocks_in, HaveRoom, bad_after, are_too_many, RuleNumbers, items_at, run, history_after_block, lock_after, lock_of, is_valid}
 use Rattle.std.specs.Prelude.{◌^◌}
-use Rattle.rds_sync.proofs.CleanGroups.{valid-only}
 use Rattle.rds_sync.proofs.CountLemmas.{lost-added}
 use Rattle.rds_sync.proofs.GroupBlocks.{block_at-read, block_at-missing}
-use Rattle.rds_sync.proofs.GroupOutcomes.{good_block}
+use Rattle.rds_sync.proofs.GroupOutcomes.{valid-only, good_block}
 use Rattle.rds_sync.proofs.HeardBlocks.{outcome-nibble}
 use Rattle.rds_sync.proofs.HeardLemmas.{good-reading}
 use Rattle.rds_sync.proofs.RunLemmas.{step-acquiring, step-losing, items-losing, run-due, run-found, run-further}
@@ -13,11 +12,7 @@ use Rattle.rds_sync.proofs.RunLemmas.{step-acquiring, step-losing, items-losing,
 pub share-of-one : (of : ℕ) → 1 ≤ of → nat_le 1 (count_ones ((2 * 0 + 1) % 2 ^ of)) ≡ true
 unfolding ones
 share-of-one zero some = absurd (omega arith)
-share-of-one (suc v) some =
-    let power : 2 ^ suc v ≡ 2 * 2 ^ v = omega (arith, pow-suc 2 v) in
-    let more : 1 ≤ 2 ^ v = omega (arith, pow_pos v) in
-    let one : 1 % 2 ^ suc v ≡ 1 = mod-eq_of_lt {n = 1} {m = 2 ^ suc v} (omega arith) in
-    ap (λ (m : ℕ). nat_le 1 (count_ones m)) one
+share-of-one (suc v) some = grind (arith, common_steps, pow-suc, pow_pos, mod-eq_of_lt, nat_le, count_ones)
 
 -- a block of another outcome than a valid one's is bad
 bad-outcome : (r : Reading) → outcome_number r ≢ 1 → is_valid (Read r) ≡ false
@@ -38,11 +33,7 @@ word-sum o p q r k l m n first second third fourth = omega (arith, first, second
 module _ (b : Signal) (rules : RuleNumbers) (f n p : ℕ) where
   -- the four bits of the last block, of one that is missing, and of a valid one
   last-is : (wanted : Wanted) (k : ℕ) → f ≤ n → k ≡ outcome_number (reading_at b p n wanted rules.burst) → nibble (outcome_of (block_at b rules f n p wanted n)) ≡ k
-  last-is wanted k low is =
-      let place : p - 26 * (n - n) ≡ p = omega arith in
-      ap (λ (block : Block). nibble (outcome_of block)) (block_at-read b rules f n p wanted n low (omega arith))
-      ∙ ap (λ (q : ℕ). nibble (outcome_of (Read (reading_at b q n wanted rules.burst)))) place
-      ∙ sym (is ∙ outcome-nibble (reading_at b p n wanted rules.burst))
+  last-is wanted k low is = grind (arith, common_steps, nibble, outcome_of, block_at-read, reading_at, outcome-nibble)
 
   missing-is : (wanted : Wanted) (y : ℕ) → (y < f) ⊎ (n < y) → nibble (outcome_of (block_at b rules f n p wanted y)) ≡ 0
   missing-is wanted y outside = ap (λ (block : Block). nibble (outcome_of block)) (block_at-missing b rules f n p wanted y outside)
@@ -58,10 +49,7 @@ word-are : (b : Signal) (rules : RuleNumbers) (f n p k l m r : ℕ) → nibble (
     → nibble (outcome_of (block_at b rules f n p (wanted_beside (block_at b rules f n p Either 2)) 3)) ≡ m
     → nibble (outcome_of (block_at b rules f n p Either 4)) ≡ r
     → k + 16 * l + 256 * m + 4096 * r ≡ word_of_blocks (map outcome_of (blocks_at b rules f n p))
-word-are b rules f n p k l m r first second third fourth =
-    word-sum (outcome_of (block_at b rules f n p Either 1)) (outcome_of (block_at b rules f n p Either 2))
-    (outcome_of (block_at b rules f n p (wanted_beside (block_at b rules f n p Either 2)) 3))
-    (outcome_of (block_at b rules f n p Either 4)) k l m r first second third fourth
+word-are b rules f n p k l m r first second third fourth = grind (arith, common_steps, word-sum, outcome_of, block_at, wanted_beside)
 
 -- the word of a valid block and the next one
 pub two-are : (b : Signal) (rules : RuleNumbers) (place x k : ℕ) → 25 ≤ place → 1 ≤ x → x ≤ 4 → has_number b place x ≡ true

@@ -1,21 +1,16 @@
 -- Spans: those that are passed over, and those of a list with more after them.
-use Rattle.rds_sync.proofs.Names.{◌≡◌, ◌≢◌, ℕ, ◌+◌, ◌-◌, ◌<◌, ◌≤◌, List, [], ◌∷◌, ◌++◌, All, length, drop, Option, Some, None, refl, sym, ap, subst, ◌∙◌, arith, length-append, append_assoc, append-nil, MatchOption, YieldsFirst, drop-append-add, All-append, All-cons, All-nil, Signal, Item, Span, items_of, items_in, IsSpan, AreSpans, RuleNumbers}
+use Rattle.rds_sync.proofs.Names.{common_steps, ◌≡◌, ◌≢◌, ℕ, ◌+◌, ◌-◌, ◌<◌, ◌≤◌, List, [], ◌∷◌, ◌++◌, All, length, drop, Option, Some, None, refl, sym, ap, subst, ◌∙◌, arith, length-append, append_assoc, append-nil, MatchOption, YieldsFirst, drop-append-add, All-append, All-cons, All-nil, Signal, Item, Span, items_of, items_in, IsSpan, AreSpans, RuleNumbers}
 
 module _ (b : Signal) (rules : RuleNumbers) where
   -- the items of spans in two rows
   pub items_in-append : (xs ys : List Span) → items_in b rules (xs ++ ys) ≡ items_in b rules xs ++ items_in b rules ys
   items_in-append [] ys = refl
-  items_in-append (x ∷ xs) ys =
-      ap (λ (is : List Item). items_of b rules x ++ is) (items_in-append xs ys)
-      ∙ sym (append_assoc (items_of b rules x) (items_in b rules xs) (items_in b rules ys))
+  items_in-append (x ∷ xs) ys = grind (arith, common_steps, items_of, items_in, items_in-append xs ys)
 
   -- past the first span
   pub past_first : (span : Span) (rest : List Span) (n : ℕ) → length (items_of b rules span) ≤ n
       → drop (n - length (items_of b rules span)) (items_in b rules rest) ≡ drop n (items_in b rules (span ∷ rest))
-  past_first span rest n far =
-      let own = items_of b rules span in
-      let e : n ≡ length own + (n - length own) = omega arith in
-      sym (ap (λ (k : ℕ). drop k (own ++ items_in b rules rest)) e ∙ drop-append-add own (items_in b rules rest) (n - length own))
+  past_first span rest n far = grind (arith, common_steps, items_of, items_in, drop-append-add)
 
 -- where nothing is given, there was nothing
 pub gives_none : (items left : List Item) (given : Option Item) → ((item : Item) → given ≢ Some item) → YieldsFirst (λ (is : List Item). is) items given left
@@ -38,18 +33,7 @@ module _ (b : Signal) (rules : RuleNumbers) where
   -- spans with those of a list after them
   pub spans-behind : (spans more after : List Span) (len n total : ℕ) → AreSpans b rules spans len → All (IsSpan b rules) more → after ≡ spans ++ more
       → total ≡ len + n → n ≡ length (items_in b rules more) → AreSpans b rules after total
-  spans-behind spans more after len n total are all after_is total_is n_is = subst (λ (ss : List Span). AreSpans b rules ss total) (sym after_is) (record {
-    all = All-append (IsSpan b rules) spans more are.all all;
-    count = omega (
-      arith,
-      total_is,
-      n_is,
-      are.count,
-      ap (λ (is : List Item). length is) (items_in-append b rules spans more),
-      length-append (items_in b rules spans) (items_in b rules more),
-    );
-    range = are.range;
-  })
+  spans-behind spans more after len n total are all after_is total_is n_is = grind (arith, common_steps, items_in-append, length-append, items_in)
 
   -- and with one after them
   pub spans-push : (spans after : List Span) (span : Span) (len n total : ℕ) → AreSpans b rules spans len → IsSpan b rules span → after ≡ spans ++ span ∷ []

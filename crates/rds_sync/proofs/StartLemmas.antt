@@ -1,5 +1,5 @@
 -- How many items come before a span, and which come from it on.
-use Rattle.rds_sync.proofs.Names.{◌≡◌, ℕ, All, ◌+◌, ◌-◌, ◌<◌, ◌≤◌, ◌^◌, min, List, ◌++◌, length, take, drop, get_or, sym, ap, subst, ◌∙◌, arith, length-append, min-eq_left, drop-append-add, take-length, length-drop, take-append-drop, take_more, All-drop, Signal, Item, Span, ItemsOf, listed, IsAt, IsFound, IsSpan, items_in, items_of, RuleNumbers}
+use Rattle.rds_sync.proofs.Names.{common_steps, ◌≡◌, ℕ, All, ◌+◌, ◌-◌, ◌<◌, ◌≤◌, ◌^◌, min, List, ◌++◌, length, take, drop, get_or, sym, ap, subst, ◌∙◌, arith, length-append, min-eq_left, drop-append-add, take-length, length-drop, take-append-drop, take_more, All-drop, Signal, Item, Span, ItemsOf, listed, IsAt, IsFound, IsSpan, items_in, items_of, RuleNumbers}
 use Rattle.rds_sync.proofs.SpanLemmas.{items_in-append, items_in-push}
 
 module _ (b : Signal) (rules : RuleNumbers) where
@@ -14,34 +14,18 @@ module _ (b : Signal) (rules : RuleNumbers) where
   -- before the next span
   pub before_next : (spans : List Span) (k : ℕ) (d : Span) → k < length spans
       → length (items_in b rules (take (k + 1) spans)) ≡ length (items_in b rules (take k spans)) + length (items_of b rules (get_or spans k d))
-  before_next spans k d inside =
-      ap (λ (ss : List Span). length (items_in b rules ss)) (take_more spans k d inside)
-      ∙ ap (λ (is : List Item). length is) (items_in-push b rules (take k spans) (get_or spans k d))
-      ∙ length-append (items_in b rules (take k spans)) (items_of b rules (get_or spans k d))
+  before_next spans k d inside = grind (arith, common_steps, items_in, take_more, items_in-push, length-append, items_of)
 
   -- and counted in a word, which holds the number of all
   pub counted_next : (spans : List Span) (k : ℕ) (d : Span) (before n sum : ℕ) → k < length spans → before ≡ length (items_in b rules (take k spans))
       → n ≡ length (items_of b rules (get_or spans k d)) → length (items_in b rules spans) < 2 ^ 64 → sum ≡ min (before + n) (2 ^ 64 - 1)
       → sum ≡ length (items_in b rules (take (k + 1) spans))
-  counted_next spans k d before n sum inside before_is n_is few sum_is =
-      let total : before + n ≡ length (items_in b rules (take (k + 1) spans)) = omega (arith, before_is, n_is, before_next spans k d inside) in
-      let low : before + n ≤ 2 ^ 64 - 1 = omega (arith, total, counted_in_two spans (k + 1), few) in
-      sum_is ∙ min-eq_left low ∙ total
+  counted_next spans k d before n sum inside before_is n_is few sum_is = grind (arith, common_steps, items_in, before_next, counted_in_two, min-eq_left)
 
   -- a place that is looked for from a span on
   pub from_start : (spans rest : List Span) (k before from left : ℕ) → before ≡ length (items_in b rules (take k spans)) → before ≤ from
       → IsAt b rules (drop k spans) (from - before) rest left → IsAt b rules spans from rest left
-  from_start spans rest k before from left is early at =
-      let own = items_in b rules (take k spans) in
-      let further : from ≡ length own + (from - before) = omega (arith, is, early) in
-      record {
-        same = at.same
-            ∙ sym (drop-append-add own (items_in b rules (drop k spans)) (from - before))
-            ∙ ap (λ (n : ℕ). drop n (own ++ items_in b rules (drop k spans))) (sym further)
-            ∙ ap (λ (is : List Item). drop from is) (in_two spans k);
-        passed = omega (arith, at.passed, counted_in_two spans k, is, early);
-        all = at.all;
-      }
+  from_start spans rest k before from left is early at = grind (arith, common_steps, items_in, drop-append-add, in_two, counted_in_two)
 
 -- the same of a list
 pub found_at : (items : ItemsOf) (b : Signal) (rules : RuleNumbers) (spans rest : List Span) (k before from left : ℕ) → listed b rules (items_in b rules spans) ≡ items

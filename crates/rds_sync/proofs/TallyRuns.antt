@@ -11,7 +11,7 @@ stretch-over {read = read} {rules = rules} {s = s} {place = place} {to = to} {be
     subst (λ (signal : Signal). IsCountStretch signal rules s place to before reached after) (sym source)
     (subst (λ (n : RuleNumbers). IsCountStretch read n s place to before reached after) (sym same) came)
 
-module _ (b : Signal) (rules : RuleNumbers) (list : List Item) (a : ℕ) (s : State) (place : ℕ) (t : State) (first counts : CountOf)
+module _ {b : Signal} {rules : RuleNumbers} {list : List Item} {a : ℕ} {s : State} {place : ℕ} {t : State} {first counts : CountOf}
     (is : IsTally b rules list a s place t first counts) where
   abbrev so_far : State × List Item
   so_far = run b rules s a (place - a)
@@ -36,22 +36,21 @@ module _ (b : Signal) (rules : RuleNumbers) (list : List Item) (a : ℕ) (s : St
       }
 
   -- the run at a later place
-  module _ (to next : ℕ) (u : State) (after : CountOf) (low : place ≤ next) (gone_is : u ≡ (run b rules t place (next - place)).0) where
+  module _ {to : ℕ} {reached : ℕ × State} {after : CountOf} (came : IsCountStretch b rules t place to counts reached after) where
     abbrev more : List Item
-    more = (run b rules t place (next - place)).1
+    more = (run b rules t place (reached.0 - place)).1
 
-    all-is : run b rules s a (next - a) ≡ (u, so_far.1 ++ more)
-    all-is = run-further b rules s t u so_far.1 more a place next is.order low (ap (λ (v : State). (v, so_far.1)) (sym is.state)) gone_is refl
+    all-is : run b rules s a (reached.0 - a) ≡ (reached.1, so_far.1 ++ more)
+    all-is = run-further b rules s t reached.1 so_far.1 more a place reached.0 is.order (omega (arith, came.forward)) (ap (λ (v : State). (v, so_far.1)) (sym is.state)) came.state refl
 
-    pub list-gone : list ++ (run b rules s a (next - a)).1 ≡ (list ++ so_far.1) ++ more
+    list-gone : list ++ (run b rules s a (reached.0 - a)).1 ≡ (list ++ so_far.1) ++ more
     list-gone = ap (λ (r : State × List Item). list ++ r.1) all-is ∙ sym (append_assoc list so_far.1 more)
 
-    pub tally-gone : IsCountStretch b rules t place to counts (next, u) after → to ≤ length_of b → to ≤ 2 ^ 36
-        → (first2 counts2 : CountOf) → joined first2 counts2 ≡ joined first after → counts2.items ≤ 3000 → IsAtMost (2 ^ 10 * first2.items) first2.totals
-        → IsTally b rules list a s next u first2 counts2
-    tally-gone came within near first2 counts2 joined_is few small = record {
+    pub tally-gone : to ≤ length_of b → to ≤ 2 ^ 36 → (first2 counts2 : CountOf) → joined first2 counts2 ≡ joined first after → counts2.items ≤ 3000
+        → IsAtMost (2 ^ 10 * first2.items) first2.totals → IsTally b rules list a s reached.0 reached.1 first2 counts2
+    tally-gone within near first2 counts2 joined_is few small = record {
       start = is.start;
-      order = omega (arith, is.order, low);
+      order = omega (arith, is.order, came.forward);
       within = omega (arith, came.limit, within);
       near = omega (arith, came.limit, near);
       state = sym (ap (λ (r : State × List Item). r.0) all-is);
@@ -59,19 +58,21 @@ module _ (b : Signal) (rules : RuleNumbers) (list : List Item) (a : ℕ) (s : St
       count = joined_is ∙ ap (λ (k : CountOf). joined first k) came.counts
           ∙ counted-together first counts (list ++ so_far.1) more is.count
           ∙ ap (λ (is : List Item). count_of is) (sym list-gone);
-      few = subst (λ (is : List Item). length is ≤ 2 * next) (sym list-gone)
-          (omega (arith, length-append (list ++ so_far.1) more, is.few, run_items-few b rules t place (next - place), low));
+      few = subst (λ (is : List Item). length is ≤ 2 * reached.0) (sym list-gone)
+          (omega (arith, length-append (list ++ so_far.1) more, is.few, run_items-few b rules t place (reached.0 - place), came.forward));
       counted = few;
       small = small;
     }
 
--- the state of a run that went on
-pub gone-is : (old new : TallyOf) (place : ℕ) (u : State) (list : List Item) → new ≡ record old { place = place; state = u; list = list }
-    → u ≡ (run old.source old.rules old.state old.place (place - old.place)).0 → list ≡ old.list ++ (run old.source old.rules old.state old.place (place - old.place)).1
-    → new ≡ gone_on old new.place
-gone-is old new place u list new_is state_is list_is =
-    new_is ∙ ap₂ (λ (v : State) (is : List Item). record old { place = place; state = v; list = is }) state_is list_is
-    ∙ ap (λ (p : ℕ). gone_on old p) (sym (ap (λ (t : TallyOf). t.place) new_is))
+    -- as callers see it: `old` is the run before, and `new` at the later place
+    pub view-gone : (old new : TallyOf) → record { source = b; rules = rules; place = place; state = t; list = list ++ so_far.1 } ≡ old
+        → new ≡ record { source = b; rules = rules; place = reached.0; state = reached.1; list = list ++ (run b rules s a (reached.0 - a)).1 }
+        → new ≡ gone_on old new.place
+    view-gone old new old_is new_is =
+        let now : TallyOf = record { source = b; rules = rules; place = place; state = t; list = list ++ so_far.1 } in
+        new_is ∙ ap₂ (λ (v : State) (is : List Item). record now { place = reached.0; state = v; list = is }) came.state list-gone
+        ∙ ap (λ (p : ℕ). gone_on now p) (sym (ap (λ (t : TallyOf). t.place) new_is))
+        ∙ ap (λ (v : TallyOf). gone_on v new.place) old_is
 
 -- a run that has not gone on
 pub gone-none : (t : TallyOf) → gone_on t t.place ≡ t

@@ -1,6 +1,6 @@
 -- Runs to the end of a recording, with the item of the end: what they give up to the first place that acquires, and up to the next
 -- block of a lock.
-use Rattle.rds_sync.proofs.Names.{◌≡◌, ◌≢◌, ℕ, zero, suc, ◌+◌, ◌<◌, ◌≤◌, List, [], ◌++◌, Option, Some, None, refl, ap, ap₂, ◌∙◌, arith, append_assoc, add-zero, zero-add, suc-add, MatchOption, Signal, Lock, State, Searching, Locked, Item, RuleNumbers, acquired, run, step, items_at, items_of_end, first_lock}
+use Rattle.rds_sync.proofs.Names.{common_steps, ◌≡◌, ◌≢◌, ℕ, zero, suc, ◌+◌, ◌<◌, ◌≤◌, List, [], ◌++◌, Option, Some, None, refl, ap, ap₂, ◌∙◌, arith, append_assoc, add-zero, zero-add, suc-add, MatchOption, Signal, Lock, State, Searching, Locked, Item, RuleNumbers, acquired, run, step, items_at, items_of_end, first_lock}
 use Rattle.rds_sync.proofs.RunLemmas.{items-searching, step-searching, items-waiting, step-waiting}
 
 module _ (b : Signal) (rules : RuleNumbers) where
@@ -11,9 +11,7 @@ module _ (b : Signal) (rules : RuleNumbers) where
 
   pub whole_is : (s : State) (a bits : ℕ) → (run b rules s a bits).1 ++ items_of_end b rules (run b rules s a bits).0 ≡ whole s a bits
   whole_is s a zero = refl
-  whole_is s a (suc bits) =
-      append_assoc (items_at b rules a s) (run b rules (step b rules a s) (a + 1) bits).1 _
-      ∙ ap (λ (t : List Item). items_at b rules a s ++ t) (whole_is (step b rules a s) (a + 1) bits)
+  whole_is s a (suc bits) = grind (arith, common_steps, items_at, run, step, whole_is (step b rules a s) (a + 1) bits)
 
   -- the result of a search for a lock before place `total`, if the items from there are w
   abbrev pub Found : List Item → ℕ → ℕ → ℕ × ℕ → Type 0
@@ -44,9 +42,7 @@ module _ (b : Signal) (rules : RuleNumbers) where
 
   -- nothing happens before the next block
   late_step : (lock : Lock) (p bits : ℕ) → p < lock.due → whole (Locked lock) p (suc bits) ≡ whole (Locked lock) (p + 1) bits
-  late_step lock p bits early =
-      let late : lock.due ≢ p = λ e. absurd (omega arith) in
-      goes (Locked lock) (Locked lock) [] p bits (items-waiting b rules lock p late) (step-waiting b rules lock p late)
+  late_step lock p bits early = grind (arith, common_steps, goes, items-waiting, step-waiting)
 
   pub skip : (lock : Lock) (p d bits : ℕ) → p + d ≤ lock.due → whole (Locked lock) p (d + bits) ≡ whole (Locked lock) (p + d) bits
   skip lock p zero bits early = rw (add-zero, zero-add) refl

@@ -68,7 +68,13 @@ impl Rules {
             ↔ ((numbers.burst ≤ longest_burst) × (1 ≤ numbers.reach) × (numbers.reach ≤ farthest_reach)
             × IsShareOutside numbers.loss) }
     {
-        let limit = limit_of(numbers)?;
+        let Some(limit) = BurstLimit::new(numbers.burst) else {
+            return Err(SyncError::BurstRange);
+        };
+        if numbers.reach < 1 || numbers.reach > FARTHEST_REACH {
+            return Err(SyncError::ReachRange);
+        }
+        numbers.loss.check()?;
         let table = BurstTable::new(alloc)?;
         let outcomes = Outcomes::new(alloc, &table, limit)?;
         Ok(Rules {
@@ -204,29 +210,4 @@ impl Rules {
             None => u16::from(Outcomes::LOST),
         }
     }
-}
-
-/// The limit of the bursts of these numbers.
-///
-/// Refuses a burst, then a reach, then a loss or a share out of its range.
-fn limit_of(numbers: RuleNumbers) -> Result<BurstLimit, SyncError>
-    ensures ok { IfOk result (λ limit. IsInRange numbers × (limit ≡ numbers.burst)) }
-    ensures burst_range { IsErrOf result SyncError.BurstRange ↔ (longest_burst < numbers.burst) }
-    ensures reach_range { IsErrOf result SyncError.ReachRange
-        ↔ ((numbers.burst ≤ longest_burst) × ((numbers.reach < 1) ⊎ (farthest_reach < numbers.reach))) }
-    ensures loss_range { IsErrOf result SyncError.LossRange
-        ↔ ((numbers.burst ≤ longest_burst) × (1 ≤ numbers.reach) × (numbers.reach ≤ farthest_reach)
-        × IsRunOutside numbers.loss) }
-    ensures share_range { IsErrOf result SyncError.ShareRange
-        ↔ ((numbers.burst ≤ longest_burst) × (1 ≤ numbers.reach) × (numbers.reach ≤ farthest_reach)
-        × IsShareOutside numbers.loss) }
-{
-    let Some(limit) = BurstLimit::new(numbers.burst) else {
-        return Err(SyncError::BurstRange);
-    };
-    if numbers.reach < 1 || numbers.reach > FARTHEST_REACH {
-        return Err(SyncError::ReachRange);
-    }
-    numbers.loss.check()?;
-    Ok(limit)
 }

@@ -1,4 +1,4 @@
-use Rattle.rds_sync.proofs.Names.{◌≡◌, ◌≤◌, ℕ, Bool, true, false, Option, Some, None, ap, sym, ◌∙◌, list_any, range_with_len, Offset, number, Signal, heard, offset_heard, offset_at, RuleNumbers, acquired, has_partner}
+use Rattle.rds_sync.proofs.Names.{common_steps, arith, ◌≡◌, ◌≤◌, ℕ, Bool, true, false, Option, Some, None, ap, sym, ◌∙◌, list_any, range_with_len, Offset, number, Signal, heard, offset_heard, offset_at, RuleNumbers, acquired, has_partner}
 use Rattle.rds_sync.proofs.LawfulLemmas.{acquired-none}
 use Rattle.rds_sync.proofs.HeardLemmas.{off-heard, acquired-early, acquired-offset}
 use Rattle.rds_sync.proofs.acquiring.acquire.Goals as goal
@@ -14,11 +14,7 @@ returns-then-place-lt-FIRST_WINDOW-clause-number g c =
     sym (acquired-early (g.T.Tape.signal c.args.tape.now) c.args.rules.now c.args.place c.if-place-lt-FIRST_WINDOW.true)
 
 pub returns-in_default-clause-number : goal.returns-in_default-clause-number
-returns-in_default-clause-number g c =
-    let b = g.T.Tape.signal c.args.tape.now in
-    let none = offset_is b c.args.place c.window-heard.result c.offset_heard.result None
-    c.if-place-lt-FIRST_WINDOW.false c.window-heard.ensures.value c.offset_heard.ensures c.in_default.is in
-    sym (acquired-none b c.args.rules.now c.args.place none)
+returns-in_default-clause-number g c = grind (arith, common_steps, offset_is, acquired-none)
 
 -- whether the place acquires, by whether there is a partner
 answer : (b later : Signal) (rules : RuleNumbers) (place n : ℕ) (o : Offset) (found is_found : Bool) → offset_at b place ≡ Some o → n ≡ number o

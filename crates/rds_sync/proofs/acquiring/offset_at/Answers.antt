@@ -1,4 +1,4 @@
-use Rattle.rds_sync.proofs.Names.{ℕ, Option, ap, sym, ◌∙◌, offset_heard}
+use Rattle.rds_sync.proofs.Names.{common_steps, arith, ℕ, Option, ap, sym, ◌∙◌, offset_heard}
 use Rattle.rds_sync.proofs.HeardLemmas.{off-early, off-heard}
 use Rattle.rds_sync.proofs.acquiring.offset_at.Goals as goal
 
@@ -6,8 +6,4 @@ pub returns-then-place-lt-FIRST_WINDOW-clause-value : goal.returns-then-place-lt
 returns-then-place-lt-FIRST_WINDOW-clause-value g c = sym (off-early (g.T.Tape.signal c.args.tape.now) c.args.place c.if-place-lt-FIRST_WINDOW.true)
 
 pub returns-else-place-lt-FIRST_WINDOW-clause-value : goal.returns-else-place-lt-FIRST_WINDOW-clause-value
-returns-else-place-lt-FIRST_WINDOW-clause-value g c =
-    let b = g.T.Tape.signal c.args.tape.now in
-    c.offset_heard.ensures
-    ∙ ap (λ (h : Option ℕ). offset_heard h) c.window.ensures.value
-    ∙ sym (off-heard b c.args.place c.if-place-lt-FIRST_WINDOW.false)
+returns-else-place-lt-FIRST_WINDOW-clause-value g c = grind (arith, common_steps, offset_heard, off-heard)

@@ -1,16 +1,11 @@
-use Rattle.rds_sync.proofs.Names.{◌≡◌, ◌-◌, ℕ, List, Option, get_or, set, ap, ◌∙◌, arith, reading_heard, Block, Read, Either, block_at, wanted_beside}
+use Rattle.rds_sync.proofs.Names.{common_steps, ◌≡◌, ◌-◌, ℕ, List, Option, get_or, set, ap, ◌∙◌, arith, reading_heard, Block, Read, Either, block_at, wanted_beside}
 use Rattle.rds_sync.proofs.GroupBlocks.{blocks_at-next}
 use Rattle.rds_sync.proofs.HeardLemmas.{good-reading}
 use Rattle.rds_sync.proofs.follow.read_due.Goals as goal
 use Rattle.rds_sync.proofs.follow.read_due.Goals.{then-lock-eq3, else-lock-eq3}
 
 pub returns-clause-valid : goal.returns-clause-valid
-returns-clause-valid g c =
-    let reading_is : c.read-reading.result ≡ reading_heard c.window.result c.args.lock.number c.if-lock-eq3.wanted c.args.rules.now.burst =
-    c.read-reading.ensures ∙ ap (λ (n : ℕ). reading_heard c.window.result n c.if-lock-eq3.wanted c.args.rules.now.burst) c.in-Some.ensures.number in
-    c.is_valid-valid.ensures
-    ∙ good-reading (g.T.Tape.signal c.args.tape.now) c.args.lock.due c.args.lock.number c.window.result c.if-lock-eq3.wanted c.args.rules.now.burst c.read-reading.result
-    (omega arith) c.window.ensures.value reading_is
+returns-clause-valid g c = grind (arith, common_steps, reading_heard, good-reading)
 
 pub returns-clause-blocks : goal.returns-clause-blocks
 returns-clause-blocks g c =

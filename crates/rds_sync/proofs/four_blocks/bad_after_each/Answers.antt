@@ -1,13 +1,6 @@
 use Rattle.rds_sync.proofs.Names.{◌≡◌, ◌+◌, ◌<◌, ℕ, zero, suc, List, Bool, false, sym, ap, ◌∙◌, arith, are_too_many, bad_after, Outcome, bad_over, good_at, blocks_in}
+use Rattle.rds_sync.proofs.HeardGroups.{each-of-four}
 use Rattle.rds_sync.proofs.four_blocks.bad_after_each.Goals as goal
-
--- a property of 0, 1, 2 and 3 is one of each number below 4
-each-of-four : (P : ℕ → Type 0) → P 0 → P 1 → P 2 → P 3 → (k : ℕ) → k < 4 → P k
-each-of-four P one two three four zero h = one
-each-of-four P one two three four (suc zero) h = two
-each-of-four P one two three four (suc (suc zero)) h = three
-each-of-four P one two three four (suc (suc (suc zero))) h = four
-each-of-four P one two three four (suc (suc (suc (suc k)))) h = absurd (omega (arith, h))
 
 pub returns-clause-kept : goal.returns-clause-kept
 returns-clause-kept c =

@@ -8,14 +8,11 @@ pub stretches-preserved : goal.stretches-preserved
 stretches-preserved c =
     let now = c.stretches in
     let inv = now.invariant in
-    let (next, state) = c.count_stretch.result in
-    let counts = c.count_stretch.new.counts in
-    let came = subst (λ (b : Signal). IsCountStretch b c.args.rules.now now.now now.place c.args.to now.counts (next, state) counts) inv.same c.count_stretch.ensures.reached in
+    let came = subst (λ (b : Signal). IsCountStretch b c.args.rules.now now.now now.place c.args.to now.counts c.count_stretch.result c.count_stretch.new.counts) inv.same c.count_stretch.ensures.reached in
     record {
       same = c.count_stretch.ensures.same ∙ inv.same;
       limit = came.limit;
-      tally = tally-gone c.args.rec.now c.args.rules.now _ c.args.from c.args.state now.place now.now (record { totals = now.totals; items = now.added }) now.counts inv.tally
-          c.args.to next state counts (omega (arith, came.forward)) came.state came c.requires.within (omega (arith, c.if-prove.false, c.len.ensures.limit))
+      tally = tally-gone inv.tally came c.requires.within (omega (arith, c.if-prove.false, c.len.ensures.limit))
           (record { totals = c.settle.new.totals; items = c.settle.new.added }) c.settle.new.counts c.settle.ensures.same c.settle.ensures.few c.settle.ensures.small;
     }
 

@@ -1,4 +1,4 @@
-use Rattle.rds_sync.proofs.Names.{◌≡◌, ◌≤◌, ◌<◌, ◌+◌, ◌-◌, ℕ, true, false, List, Some, None, refl, ap, sym, subst, ◌∙◌, arith, inl, inr, list_any, range_with_len, cases_lt, Offset, Signal, heard, offset_at, WindowsLeft, GivesFirst, NoneValid, Item, Lock, State, Searching, Locked, acquired, has_partner, IsLawful, RuleNumbers, step}
+use Rattle.rds_sync.proofs.Names.{common_steps, ◌≡◌, ◌≤◌, ◌<◌, ◌+◌, ◌-◌, ℕ, true, false, List, Some, None, refl, ap, sym, subst, ◌∙◌, arith, inl, inr, list_any, range_with_len, cases_lt, Offset, Signal, heard, offset_at, WindowsLeft, GivesFirst, NoneValid, Item, Lock, State, Searching, Locked, acquired, has_partner, IsLawful, RuleNumbers, step}
 use Rattle.rds_sync.proofs.ItemLemmas.{some_given}
 use Rattle.rds_sync.proofs.RunLemmas.{step-acquiring, items-acquiring, run-found, run-quiet, run-unfound}
 use Rattle.rds_sync.proofs.LawfulLemmas.{acquired-none, lawful-step, off-place}
@@ -10,26 +10,11 @@ module _ (b read : Signal) (rules : RuleNumbers) (place to : ℕ) (old : Windows
     (searched : HasSearched b read rules place to old) where
   -- no place acquires up to one before which no window is valid
   none_before : (p : ℕ) → NoneValid old.signal old.next p → (j : ℕ) → place ≤ j → j < p → acquired b rules j ≡ None
-  none_before p none j low high = elim (cases_lt j old.next) [
-    | inl earlier ↦ searched.none j low earlier
-    | inr late ↦ acquired-none b rules j (subst (λ (bits : Signal). offset_at bits j ≡ None) searched.signal (none j late high))
-  ]
+  none_before p none j low high = grind (arith, common_steps, cases_lt, acquired-none, offset_at)
 
   -- the window that is given next does not acquire
   one_more : (found : ℕ × Offset) (new : WindowsLeft) → GivesFirst old (Some found) new → acquired b rules found.0 ≡ None → HasSearched b read rules place to new
-  one_more found new gives this =
-      subst (λ (left : WindowsLeft). HasSearched b read rules place to left) (sym gives.4) (record {
-        same = searched.same;
-        signal = searched.signal;
-        end = searched.end;
-        from_on = omega (arith, searched.from_on, gives.0);
-        none = λ j low high. elim (cases_lt j found.0) [
-          | inl earlier ↦ none_before found.0 gives.2 j low earlier
-          | inr late ↦
-              let same : found.0 ≡ j = omega (arith, high) in
-              subst (λ (i : ℕ). acquired b rules i ≡ None) same this
-        ];
-      })
+  one_more found new gives this = grind (arith, common_steps, cases_lt, none_before, acquired)
 
   offset_is : (found : ℕ × Offset) (new : WindowsLeft) → GivesFirst old (Some found) new → offset_at b found.0 ≡ Some found.1
   offset_is found new gives = subst (λ (bits : Signal). offset_at bits found.0 ≡ Some found.1) searched.signal gives.3
@@ -57,17 +42,10 @@ loop-here-preserved c =
     (tt, tt, one_more b c.loop-here.reader rules c.args.place c.args.to old searched (here, offset) c.next.new.self given none)
 
 pub window-requires-clause-first : goal.window-requires-clause-first
-window-requires-clause-first c =
-    off-place c.args.reader.now c.in-Some.here c.in-Some.offset
-    (offset_is c.args.reader.now c.loop-here.reader c.args.rules.now c.args.place c.args.to c.loop-here.here-iterator
-    c.loop-here.invariant.2 (c.in-Some.here, c.in-Some.offset) c.next.new.self c.in-Some.ensures.steps)
+window-requires-clause-first c = grind (arith, common_steps, off-place, offset_is)
 
 pub items-requires : goal.items-requires
-items-requires c =
-    let late = off-place c.args.reader.now c.in-Some.here c.in-Some.offset
-    (offset_is c.args.reader.now c.loop-here.reader c.args.rules.now c.args.place c.args.to c.loop-here.here-iterator
-    c.loop-here.invariant.2 (c.in-Some.here, c.in-Some.offset) c.next.new.self c.in-Some.ensures.steps) in
-    record { block = (late, c.window.ensures.block) }
+items-requires c = grind (arith, common_steps, off-place, offset_is)
 
 pub returns-then-has_partner_in-clause-reached : goal.returns-then-has_partner_in-clause-reached
 returns-then-has_partner_in-clause-reached c =
@@ -123,18 +101,4 @@ returns-clause-reached c =
     }
 
 pub loop-here-init : goal.loop-here-init
-loop-here-init c =
-    let left = c.into_iter-here-iterator.result in
-    let is = c.into_iter-here-iterator.ensures.into_iter_gives ∙ c.new-here-items.ensures in
-    let next : left.next ≡ c.args.place = ap (λ (windows : WindowsLeft). windows.next) is in
-    let end : left.end ≡ c.args.to = ap (λ (windows : WindowsLeft). windows.end) is in (
-      tt,
-      tt,
-      record {
-        same = refl;
-        signal = ap (λ (windows : WindowsLeft). windows.signal) is ∙ c.recording-rec.ensures;
-        end = end;
-        from_on = omega (arith, next);
-        none = λ j low high. absurd (omega (arith, low, high, next));
-      },
-    )
+loop-here-init c = grind (arith, common_steps)

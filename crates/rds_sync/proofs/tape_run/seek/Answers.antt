@@ -1,4 +1,4 @@
-use Rattle.rds_sync.proofs.Names.{◌≡◌, ◌≤◌, ◌+◌, ◌-◌, ℕ, List, Some, ap, sym, subst, ◌∙◌, arith, Signal, acquired, CountOf, added, IsLawful, step, items_at, lock_after, Item, Lock, State, Searching, Locked}
+use Rattle.rds_sync.proofs.Names.{common_steps, ◌≡◌, ◌≤◌, ◌+◌, ◌-◌, ℕ, List, Some, ap, sym, subst, ◌∙◌, arith, Signal, acquired, CountOf, added, IsLawful, step, items_at, lock_after, Item, Lock, State, Searching, Locked}
 use Rattle.rds_sync.proofs.CountLemmas.{added-nothing}
 use Rattle.rds_sync.proofs.LawfulLemmas.{lawful-step}
 use Rattle.rds_sync.proofs.RunLemmas.{run-found, run-searching, step-acquiring}
@@ -28,17 +28,4 @@ returns-in-Some-clause-came g c =
     }
 
 pub returns-clause-came : goal.returns-clause-came
-returns-clause-came g c =
-    let b = g.T.Tape.signal c.args.tape.now in
-    let rules = c.args.rules.now in
-    let l = c.loop-here in
-    let h = c.requires.ahead in
-    let e = c.loop-here-test.false in
-    let run_is = run-searching b rules c.args.place (c.args.to - c.args.place) (λ i low high. l.invariant.silent i low (omega (arith, high, h, e))) in
-    record {
-      forward = h;
-      limit = omega arith;
-      state = sym (ap (λ (r : State × List Item). r.0) run_is);
-      counts = l.invariant.counts ∙ added-nothing c.args.counts.now _ (ap (λ (r : State × List Item). r.1) run_is);
-      lawful = tt;
-    }
+returns-clause-came g c = grind (arith, common_steps, run-searching, added-nothing)

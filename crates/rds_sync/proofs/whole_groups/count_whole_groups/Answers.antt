@@ -1,8 +1,7 @@
 use Rattle.rds_sync.proofs.Names.{◌≡◌, ℕ, ◌+◌, ◌-◌, ◌<◌, ◌≤◌, List, [], ◌∷◌, ◌++◌, false, sym, ap, ap₂, subst, ◌∙◌, arith, Signal, Lock, Item, Group, Loss, State, Locked, group, HasCountedOn, CountOf, added, joined, group_count, Outcome, bad_over, blocks_in, IsLawfulBad, are_too_many, RuleNumbers, run, lock_of}
 use Rattle.rds_sync.proofs.CountLemmas.{added-further, group-added}
 use Rattle.rds_sync.proofs.GroupOutcomes.{outcomes}
-use Rattle.rds_sync.proofs.RunLemmas.{run-append}
-use Rattle.rds_sync.proofs.WholeGroupLemmas.{whole_group}
+use Rattle.rds_sync.proofs.WholeGroupLemmas.{one_more}
 use Rattle.rds_sync.proofs.whole_groups.count_whole_groups.Goals as goal
 
 -- one whole group more
@@ -12,44 +11,23 @@ module _ (b : Signal) (rules : RuleNumbers) (lock now : Lock) (to : ℕ) (before
     (bad_is : bad ≡ bad_over rules.loss (blocks_in word) now.bad 1 4) (lawful : IsLawfulBad rules.loss bad)
     (few : (k : ℕ) → k < 4 → are_too_many rules.loss (bad_over rules.loss (blocks_in word) now.bad 1 (k + 1)) ≡ false)
     (pushed : after ≡ joined counts (group_count (blocks_in word))) where
-  abbrev so_far : State × List Item
-  so_far = run b rules (Locked lock) (lock.due - 25) (now.due - lock.due)
-
-  abbrev the_group : Item
-  the_group = Group (group b rules 1 4 (now.due + 78))
-
-  late : 25 ≤ now.due
-  late = omega (arith, start, passed.from_on)
-
-  here : run b rules (Locked (lock_of now.due 1 now.bad 1)) (now.due - 25) 104 ≡ (Locked (lock_of (now.due + 104) 1 bad 1), the_group ∷ [])
-  here =
-      whole_group b rules now.due now.bad late
-      (subst (λ (os : List Outcome). (k : ℕ) → k < 4 → are_too_many rules.loss (bad_over rules.loss os now.bad 1 (k + 1)) ≡ false) word_is few)
-      ∙ ap (λ (c : ℕ). (Locked (lock_of (now.due + 104) 1 c 1), the_group ∷ []))
-      (ap (λ (os : List Outcome). bad_over rules.loss os now.bad 1 4) (sym word_is) ∙ sym bad_is)
-
-  total : run b rules (Locked lock) (lock.due - 25) (now.due + 104 - lock.due) ≡ (Locked (lock_of (now.due + 104) 1 bad 1), so_far.1 ++ the_group ∷ [])
-  total =
-      let count : now.due + 104 - lock.due ≡ now.due - lock.due + 104 = omega (arith, passed.from_on) in
-      let place : lock.due - 25 + (now.due - lock.due) ≡ now.due - 25 = omega (arith, start, passed.from_on) in
-      let state : so_far.0 ≡ Locked (lock_of now.due 1 now.bad 1) = passed.state ∙ ap₂ (λ (x f : ℕ). Locked (lock_of now.due x now.bad f)) passed.between.0 passed.between.1 in
-      ap (λ (n : ℕ). run b rules (Locked lock) (lock.due - 25) n) count
-      ∙ run-append b rules (Locked lock) (lock.due - 25) (now.due - lock.due) 104
-      ∙ ap₂ (λ (t : State) (p : ℕ). ((run b rules t p 104).0, so_far.1 ++ (run b rules t p 104).1)) state place
-      ∙ ap (λ (r : State × List Item). (r.0, so_far.1 ++ r.1)) here
-
   pub further : HasCountedOn b rules lock to before (record { due = now.due + 104; number = now.number; bad = bad; first = now.first }) after
-  further = record {
-    between = passed.between;
-    few_bad = lawful;
-    from_on = omega (arith, passed.from_on);
-    limit = λ more. omega (arith, room);
-    far = λ more. omega (arith, passed.from_on);
-    state = ap (λ (r : State × List Item). r.0) total ∙ sym (ap₂ (λ (x f : ℕ). Locked (lock_of (now.due + 104) x bad f)) passed.between.0 passed.between.1);
-    counts = added-further before counts after so_far.1 (the_group ∷ []) passed.counts
-        (pushed ∙ group-added counts (group b rules 1 4 (now.due + 78)) (blocks_in word) word_is)
-        ∙ ap (λ (r : State × List Item). added before r.1) (sym total);
-  }
+  further =
+      let the_group = group b rules 1 4 (now.due + 78) in
+      let total = one_more b rules lock now bad start passed.from_on passed.between passed.state
+      (subst (λ (os : List Outcome). (k : ℕ) → k < 4 → are_too_many rules.loss (bad_over rules.loss os now.bad 1 (k + 1)) ≡ false) word_is few)
+      (bad_is ∙ ap (λ (os : List Outcome). bad_over rules.loss os now.bad 1 4) word_is) in
+      record {
+        between = passed.between;
+        few_bad = lawful;
+        from_on = omega (arith, passed.from_on);
+        limit = λ more. omega (arith, room);
+        far = λ more. omega (arith, passed.from_on);
+        state = ap (λ (r : State × List Item). r.0) total;
+        counts = added-further before counts after (run b rules (Locked lock) (lock.due - 25) (now.due - lock.due)).1 (Group the_group ∷ []) passed.counts
+            (pushed ∙ group-added counts the_group (blocks_in word) word_is)
+            ∙ ap (λ (r : State × List Item). added before r.1) (sym total);
+      }
 
 pub loop-items-preserved : goal.loop-items-preserved
 loop-items-preserved c =

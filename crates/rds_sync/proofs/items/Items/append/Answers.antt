@@ -1,4 +1,4 @@
-use Rattle.rds_sync.proofs.Names.{◌≡◌, List, ◌++◌, ap, ap₂, sym, ◌∙◌, arith, Signal, Item, Span, ItemsOf, listed, items_in, RuleNumbers}
+use Rattle.rds_sync.proofs.Names.{common_steps, ◌≡◌, List, ◌++◌, ap, ap₂, sym, ◌∙◌, arith, Signal, Item, Span, ItemsOf, listed, items_in, RuleNumbers}
 use Rattle.rds_sync.proofs.SpanLemmas.{items_in-append, spans-behind, over}
 use Rattle.rds_sync.proofs.items.Items.append.Goals as goal
 
@@ -15,16 +15,4 @@ invariant_of-self-2 c =
     (omega (arith, c.in-Some.ensures)) theirs.count
 
 pub returns-clause-ok : goal.returns-clause-ok
-returns-clause-ok c =
-    let s = c.self.inside in
-    let o = c.other.inside in
-    let b = s.source.value in
-    let source = ap (λ (items : ItemsOf). items.source) c.other.view_is ∙ c.requires.source ∙ sym (ap (λ (items : ItemsOf). items.source) c.self.view_is) in
-    let rules = ap (λ (items : ItemsOf). items.rules) c.other.view_is ∙ c.requires.rules ∙ sym (ap (λ (items : ItemsOf). items.rules) c.self.view_is) in
-    let theirs : items_in b s.rules o.spans.items ≡ c.args.other.list =
-    ap₂ (λ (signal : Signal) (numbers : RuleNumbers). items_in signal numbers o.spans.items) (sym source) (sym rules) ∙ ap (λ (items : ItemsOf). items.list) c.other.view_is in
-    ap (λ (spans : List Span). listed b s.rules (items_in b s.rules spans))
-    c.in_ok-append_spans.ensures.ok
-    ∙ ap (λ (is : List Item). listed b s.rules is) (items_in-append b s.rules s.spans.items o.spans.items
-    ∙ ap (λ (is : List Item). items_in b s.rules s.spans.items ++ is) theirs)
-    ∙ ap (λ (items : ItemsOf). listed items.source items.rules (items.list ++ c.args.other.list)) c.self.view_is
+returns-clause-ok c = grind (arith, common_steps, items_in, listed, items_in-append)

@@ -1,4 +1,4 @@
-use Rattle.rds_sync.proofs.Names.{List, ◌++◌, ap, sym, subst, ◌∙◌, arith, length_of, Item, Span, End, ItemsOf, listed, IsSpan, items_in, IsLawful, items_of_end}
+use Rattle.rds_sync.proofs.Names.{common_steps, List, ◌++◌, ap, sym, subst, ◌∙◌, arith, length_of, Item, Span, End, ItemsOf, listed, IsSpan, items_in, IsLawful, items_of_end}
 use Rattle.rds_sync.proofs.SpanLemmas.{items_in-push, spans-push}
 use Rattle.rds_sync.proofs.items.Items.close.Goals as goal
 
@@ -12,9 +12,4 @@ invariant_of-self-2 c =
     c.in_ok-push.ensures.items (omega (arith, c.in-Some.ensures)) (c.len.ensures b s.rules is)
 
 pub returns-clause-ok : goal.returns-clause-ok
-returns-clause-ok c =
-    let s = c.self.inside in
-    let b = s.source.value in
-    ap (λ (spans : List Span). listed b s.rules (items_in b s.rules spans)) c.in_ok-push.ensures.items
-    ∙ ap (λ (is : List Item). listed b s.rules is) (items_in-push b s.rules s.spans.items (End c.args.state))
-    ∙ ap (λ (items : ItemsOf). listed items.source items.rules (items.list ++ items_of_end items.source items.rules c.args.state)) c.self.view_is
+returns-clause-ok c = grind (arith, common_steps, listed, items_in, items_in-push, items_of_end)

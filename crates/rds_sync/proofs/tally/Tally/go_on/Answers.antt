@@ -1,5 +1,5 @@
-use Rattle.rds_sync.proofs.Names.{◌-◌, ◌++◌, ◌≤◌, ap, sym, subst, ◌∙◌, arith, Signal, length_of, IsCountStretch, run, TallyOf, gone_on}
-use Rattle.rds_sync.proofs.TallyRuns.{tally-gone, list-gone, gone-is, stretch-over}
+use Rattle.rds_sync.proofs.Names.{◌≤◌, ap, sym, subst, ◌∙◌, arith, Signal, length_of, IsCountStretch, TallyOf}
+use Rattle.rds_sync.proofs.TallyRuns.{tally-gone, view-gone, stretch-over}
 use Rattle.rds_sync.proofs.tally.Tally.go_on.Goals as goal
 use Rattle.rds_sync.proofs.tally.Tally.go_on.Goals.{After-count_stretch-place}
 
@@ -11,28 +11,10 @@ came c =
 
 pub invariant_of-self : goal.invariant_of-self
 invariant_of-self c =
-    let t = c.self.inside in
-    let part = came (goal.at.invariant_of-self c).After-count_stretch-place in
-    let within : c.args.to ≤ length_of t.items.source = subst (λ (b : Signal). c.args.to ≤ length_of b) (sym (ap (λ (v : TallyOf). v.source) c.self.view_is ∙ c.requires.source)) c.requires.within in
-    tally-gone t.items.source t.items.rules t.items.list t.start_place t.start_state t.place t.state (record { totals = t.totals; items = t.added }) t.counts c.self.invariant
-    c.args.to c.count_stretch-place.result.0 c.count_stretch-place.result.1 c.count_stretch-place.new.counts (omega (arith, part.forward)) part.state part within (omega (arith, c.if-prove.false, c.len.ensures.limit))
+    let within : c.args.to ≤ length_of c.self.inside.items.source = subst (λ (b : Signal). c.args.to ≤ length_of b) (sym (ap (λ (v : TallyOf). v.source) c.self.view_is ∙ c.requires.source)) c.requires.within in
+    tally-gone c.self.invariant (came (goal.at.invariant_of-self c).After-count_stretch-place) within (omega (arith, c.if-prove.false, c.len.ensures.limit))
     (record { totals = c.settle.new.totals; items = c.settle.new.added }) c.settle.new.counts c.settle.ensures.same c.settle.ensures.few c.settle.ensures.small
 
 pub returns-clause-state : goal.returns-clause-state
 returns-clause-state c =
-    let t = c.self.inside in
-    let next = c.count_stretch-place.result.0 in
-    let u = c.count_stretch-place.result.1 in
-    let part = came (goal.at.returns-clause-state c).After-count_stretch-place in
-    let old : TallyOf = record {
-      source = t.items.source;
-      rules = t.items.rules;
-      place = t.place;
-      state = t.state;
-      list = t.items.list ++ (run t.items.source t.items.rules t.start_state t.start_place (t.place - t.start_place)).1;
-    } in
-    gone-is old c.end_long_span.new.self next u (t.items.list ++ (run t.items.source t.items.rules t.start_state t.start_place (next - t.start_place)).1)
-    c.end_long_span.ensures.same part.state
-    (list-gone t.items.source t.items.rules t.items.list t.start_place t.start_state t.place t.state (record { totals = t.totals; items = t.added }) t.counts c.self.invariant
-    c.args.to next u c.count_stretch-place.new.counts (omega (arith, part.forward)) part.state)
-    ∙ ap (λ (v : TallyOf). gone_on v c.end_long_span.new.self.place) c.self.view_is
+    view-gone c.self.invariant (came (goal.at.returns-clause-state c).After-count_stretch-place) c.args.self.now c.end_long_span.new.self c.self.view_is c.end_long_span.ensures.same

@@ -1,5 +1,5 @@
 use Rattle.std.proofs.Common.{refl, arith}
-use Rattle.rds_sync.proofs.rules.limit_of.Goals as goal
+use Rattle.rds_sync.proofs.rules.Rules.of.Goals as goal
 
 pub returns-in_default-clause-burst_range : goal.returns-in_default-clause-burst_range
 returns-in_default-clause-burst_range c = (λ _. grind arith, λ _. refl)
