@@ -1,5 +1,5 @@
 -- Bad blocks in a row, and good ones in a row, by the loss history: for both rules of loss.
-use Rattle.rds_sync.proofs.Names.{common_steps, ◌≡◌, ℕ, zero, suc, ◌+◌, ◌*◌, ◌%◌, ◌/◌, ◌^◌, ◌<◌, ◌≤◌, true, false, refl, sym, ap, ap₂, ◌∙◌, subst, arith, pow-suc, mul-le-mul_right, pow_pos, lt-leb, ones_step, count_ones, ⊤, Loss, Run, Share, IsLossRule, IsLawfulBad, bad_after, are_too_many, sound_blocks, bad_over, blocks_in}
+use Rattle.rds_sync.proofs.Names.{common_steps, ◌≡◌, ℕ, zero, suc, ◌+◌, ◌*◌, ◌%◌, ◌/◌, ◌^◌, ◌<◌, ◌≤◌, true, false, refl, ap, ◌∙◌, subst, arith, pow-suc, mul-le-mul_right, pow_pos, lt-leb, ones_step, count_ones, ⊤, Loss, Run, Share, IsLossRule, IsLawfulBad, bad_after, are_too_many, sound_blocks, bad_over, blocks_in}
 use Rattle.rds_sync.proofs.LossLemmas.{double, ones_below, ones_zero}
 
 -- the lowest j digits of m are all f

@@ -1,5 +1,5 @@
 -- A decoder: the items of the next stretch come before those of the rest.
-use Rattle.rds_sync.proofs.Names.{common_steps, ◌≡◌, ◌≢◌, ℕ, ◌+◌, ◌-◌, ◌<◌, List, [], ◌∷◌, ◌++◌, append_assoc, length, get_or, Option, Some, None, refl, sym, ap, ap₂, ◌∙◌, arith, inl, inr, ⊤, MakesProgress, YieldsFirst, item_count, Signal, Item, State, Locked, Step, DecoderOf, GivesNext, Lock, HasGiven, RuleNumbers, run, IsStretch}
+use Rattle.rds_sync.proofs.Names.{common_steps, ◌≡◌, ◌≢◌, ℕ, ◌+◌, ◌-◌, ◌<◌, List, [], ◌∷◌, ◌++◌, length, get_or, Option, Some, None, refl, sym, ap, ap₂, ◌∙◌, arith, ⊤, MakesProgress, YieldsFirst, item_count, Signal, Item, State, Locked, Step, DecoderOf, GivesNext, Lock, HasGiven, RuleNumbers, run, IsStretch}
 use Rattle.rds_sync.specs.Advance.{items_in}
 use Rattle.rds_sync.proofs.RunLemmas.{run-places}
 

@@ -1,5 +1,5 @@
 -- The items of a block that was due, with the blocks of its group.
-use Rattle.rds_sync.proofs.Names.{common_steps, ◌≡◌, ◌-◌, ℕ, List, [], ◌∷◌, Bool, sym, ap, ap₂, ◌∙◌, arith, Signal, Due, Inside, Closed, Lock, Block, GroupRecord, Group, LostLock, Locked, has_number, blocks_at, IsAfter, IsFollowed, items_of_due, RuleNumbers, items_at}
+use Rattle.rds_sync.proofs.Names.{common_steps, ◌≡◌, ◌-◌, ℕ, List, Bool, sym, ap, ap₂, ◌∙◌, arith, Signal, Due, Inside, Closed, Lock, Block, Locked, has_number, blocks_at, IsAfter, IsFollowed, items_of_due, RuleNumbers, items_at}
 use Rattle.rds_sync.specs.declared.due.Due.TheVariants.{Lost}
 use Rattle.rds_sync.proofs.DueLemmas.{items-inside, items-closed, items-lost, kept-next}
 use Rattle.rds_sync.proofs.GroupBlocks.{group-blocks}

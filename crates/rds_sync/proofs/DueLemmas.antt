@@ -1,5 +1,5 @@
 -- The block that is due: its effect on its lock, and its items.
-use Rattle.rds_sync.proofs.Names.{common_steps, ◌≡◌, ℕ, ◌+◌, ◌%◌, ◌<◌, [], ◌∷◌, Bool, true, false, refl, sym, ap, ◌∙◌, arith, eq-eqb, ne_eqb, Signal, Due, Inside, Closed, Lock, Group, LostLock, Searching, Locked, has_number, state_of, IsKept, IsAfter, group, bad_after, are_too_many, RuleNumbers, step, items_at, completed_group, lock_of, lock_after}
+use Rattle.rds_sync.proofs.Names.{common_steps, ◌≡◌, ℕ, ◌+◌, ◌<◌, [], ◌∷◌, Bool, true, false, refl, sym, ap, ◌∙◌, arith, eq-eqb, ne_eqb, Signal, Due, Inside, Closed, Lock, Group, LostLock, Searching, Locked, has_number, state_of, IsKept, IsAfter, group, bad_after, are_too_many, RuleNumbers, step, items_at, completed_group, lock_of, lock_after}
 use Rattle.rds_sync.specs.declared.due.Due.TheVariants.{Lost}
 use Rattle.rds_sync.proofs.RunLemmas.{step-keeping, items-keeping, step-losing, items-losing}
 

@@ -1,5 +1,5 @@
 -- The blocks of a group of which all four were heard, and its word.
-use Rattle.rds_sync.proofs.Names.{common_steps, ◌≡◌, ◌+◌, ◌-◌, ◌*◌, ◌≤◌, ℕ, List, [], ◌∷◌, Option, None, get_or, map, refl, sym, ap, ◌∙◌, arith, outcome_number, Wanted, Either, Reading, Valid, Corrected, Lost, Signal, reading_heard, reading_at, Read, block_at, blocks_at, wanted_beside, outcome_of, nibble, word_of_blocks, RuleNumbers}
+use Rattle.rds_sync.proofs.Names.{common_steps, ◌≡◌, ◌+◌, ◌-◌, ◌*◌, ◌≤◌, ℕ, List, [], ◌∷◌, Option, None, get_or, map, refl, ap, ◌∙◌, arith, outcome_number, Wanted, Either, Reading, Valid, Corrected, Lost, Signal, reading_heard, reading_at, Read, block_at, blocks_at, wanted_beside, outcome_of, nibble, word_of_blocks, RuleNumbers}
 use Rattle.rds_stream.specs.InARow.{four_heard}
 use Rattle.rds_sync.proofs.GroupBlocks.{block_at-read, blocks_at-read}
 

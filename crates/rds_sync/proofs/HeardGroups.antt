@@ -1,5 +1,5 @@
 -- Whole groups that were heard at once.
-use Rattle.rds_sync.proofs.Names.{common_steps, ◌≡◌, ◌+◌, ◌-◌, ◌*◌, ◌<◌, ◌≤◌, ℕ, zero, suc, List, [], ◌∷◌, ◌++◌, Bool, false, map, refl, sym, ap, ap₂, subst, ◌∙◌, arith, Signal, Block, Item, GroupItem, Loss, blocks_at, group, group_of, Outcome, was_valid, outcome_of, bad_over, HasPushed, IsWhole, outcomes_at, IsLawfulBad, are_too_many, bad_after, RuleNumbers, is_valid}
+use Rattle.rds_sync.proofs.Names.{common_steps, ◌≡◌, ◌+◌, ◌-◌, ◌<◌, ◌≤◌, ℕ, zero, suc, List, [], ◌∷◌, ◌++◌, Bool, false, map, refl, sym, ap, ap₂, subst, ◌∙◌, arith, Signal, Block, Item, GroupItem, Loss, blocks_at, group, group_of, Outcome, was_valid, outcome_of, bad_over, HasPushed, IsWhole, outcomes_at, IsLawfulBad, are_too_many, bad_after, RuleNumbers, is_valid}
 use Rattle.rds_sync.specs.declared.item.Group.{Group}
 use Rattle.rds_sync.proofs.OutcomeTotals.{valid_is}
 

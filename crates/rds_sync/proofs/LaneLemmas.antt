@@ -1,5 +1,5 @@
 -- Counts in lanes of a number.
-use Rattle.rds_sync.proofs.Names.{common_steps, ◌≡◌, ℕ, ◌+◌, ◌*◌, ◌/◌, ◌%◌, ◌^◌, ◌≤◌, ◌<◌, Bool, true, false, [], ◌∷◌, ap₂, arith, if◌then◌else◌, list_all, Totals, in_lanes, AreLanes, counted, joined, group_count, Outcome, was_valid, was_lost, has_span, bits_inverted, has_info}
+use Rattle.rds_sync.proofs.Names.{common_steps, ◌≡◌, ℕ, ◌+◌, ◌*◌, ◌/◌, ◌%◌, ◌^◌, ◌≤◌, ◌<◌, Bool, true, false, [], ◌∷◌, arith, if◌then◌else◌, list_all, in_lanes, AreLanes, counted, joined, group_count, Outcome, was_valid, was_lost, has_span, bits_inverted, has_info}
 use Rattle.rds_sync.proofs.TotalsLemmas.{same_counts}
 
 -- the lanes of a number

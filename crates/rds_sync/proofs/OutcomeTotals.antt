@@ -1,5 +1,5 @@
 -- The totals of a group, from how its blocks came out.
-use Rattle.rds_sync.proofs.Names.{common_steps, arith, ◌≡◌, ℕ, ◌+◌, List, [], ◌∷◌, Bool, refl, sym, ap, ap₂, ◌∙◌, add-zero, sum_by, if◌then◌else◌, is_some, ◌&&◌, list_all, sum_by-cons, Valid, Corrected, Lost, Block, Missing, Read, GroupRecord, Item, Acquired, Group, LostLock, info_of, Outcome, outcome_of, was_valid, was_lost, has_span, bits_inverted, has_info, group_totals, totals_of, sum_blocks, count_blocks, is_valid, is_lost, is_corrected_by, bits_corrected, is_complete}
+use Rattle.rds_sync.proofs.Names.{common_steps, arith, ◌≡◌, ℕ, ◌+◌, List, [], ◌∷◌, Bool, refl, sym, ap, ap₂, ◌∙◌, add-zero, sum_by, if◌then◌else◌, is_some, ◌&&◌, list_all, sum_by-cons, Valid, Corrected, Lost, Block, Missing, Read, GroupRecord, Item, Group, info_of, Outcome, outcome_of, was_valid, was_lost, has_span, bits_inverted, has_info, group_totals, totals_of, sum_blocks, count_blocks, is_valid, is_lost, is_corrected_by, bits_corrected, is_complete}
 use Rattle.std.specs.Prelude.{map}
 use Rattle.rds_sync.proofs.TotalsLemmas.{same_counts}
 

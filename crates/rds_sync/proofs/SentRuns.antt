@@ -1,5 +1,5 @@
 -- The items of a run over groups that were sent: in a lock, and from the first bit of a recording on.
-use Rattle.rds_sync.proofs.Names.{Loss, ◌≡◌, ℕ, zero, suc, ◌+◌, ◌-◌, ◌*◌, ◌<◌, ◌≤◌, List, [], ◌∷◌, ◌++◌, length, Option, Some, None, Bool, true, false, refl, sym, ap, ap₂, subst, ◌∙◌, arith, inl, append-nil, bit_xor, get_or, flat_map, xor_zero_r, ◌||◌, ◌==◌, list_any, range_with_len, eq-eqb, ne_eqb, Offset, A, B, C, Cx, D, third_offset, number, word, offset_of, rem, Signal, length_of, offset_heard, offset_at, Block, GroupOf, Item, Acquired, Group, State, Searching, Locked, Totals, acquired, has_number, has_partner, is_in_step, is_numbered, plus, group, Outcome, outcome_of, was_valid, bad_over, good_at, IsLossRule, are_too_many, bad_after, report_items, RuleNumbers, IsHeardFrom, GroupIsHeard, AreHeard, block_sent, group_sent, items_sent, SentGroup, four_damages, AreHeardDamaged, items_damaged, bad_after_blocks, KeepLock, SentGroupsAreListed, LockedGroupsAreListed, DamagedGroupsAreListed, SoundSignalIsDecoded, run, items_of_end, lock_of, totals_of, is_valid}
+use Rattle.rds_sync.proofs.Names.{Loss, ◌≡◌, ℕ, zero, suc, ◌+◌, ◌-◌, ◌*◌, ◌<◌, ◌≤◌, List, [], ◌∷◌, ◌++◌, length, Option, Some, None, Bool, true, false, refl, sym, ap, ap₂, subst, ◌∙◌, arith, inl, append-nil, bit_xor, get_or, flat_map, xor_zero_r, ◌||◌, ◌==◌, list_any, range_with_len, ne_eqb, Offset, A, B, C, Cx, D, third_offset, word, offset_of, rem, Signal, length_of, offset_heard, offset_at, Block, GroupOf, Item, Acquired, Group, State, Searching, Locked, Totals, acquired, has_number, has_partner, is_in_step, plus, group, outcome_of, was_valid, good_at, IsLossRule, are_too_many, bad_after, report_items, RuleNumbers, IsHeardFrom, GroupIsHeard, AreHeard, block_sent, group_sent, items_sent, SentGroup, four_damages, AreHeardDamaged, items_damaged, bad_after_blocks, KeepLock, SentGroupsAreListed, LockedGroupsAreListed, DamagedGroupsAreListed, SoundSignalIsDecoded, run, items_of_end, lock_of, totals_of, is_valid}
 use Rattle.rds_sync.proofs.BadRows.{good_keeps}
 use Rattle.std.specs.Prelude.{map}
 use Rattle.std.proofs.lemmas.List.{length-map}

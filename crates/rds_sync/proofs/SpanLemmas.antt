@@ -1,5 +1,5 @@
 -- Spans: those that are passed over, and those of a list with more after them.
-use Rattle.rds_sync.proofs.Names.{common_steps, ◌≡◌, ◌≢◌, ℕ, ◌+◌, ◌-◌, ◌<◌, ◌≤◌, List, [], ◌∷◌, ◌++◌, All, length, drop, Option, Some, None, refl, sym, ap, subst, ◌∙◌, arith, length-append, append_assoc, append-nil, MatchOption, YieldsFirst, drop-append-add, All-append, All-cons, All-nil, Signal, Item, Span, items_of, items_in, IsSpan, AreSpans, RuleNumbers}
+use Rattle.rds_sync.proofs.Names.{common_steps, ◌≡◌, ◌≢◌, ℕ, ◌+◌, ◌-◌, ◌<◌, ◌≤◌, List, [], ◌∷◌, ◌++◌, All, length, drop, Option, Some, None, refl, sym, ap, subst, ◌∙◌, arith, length-append, append-nil, MatchOption, YieldsFirst, drop-append-add, All-cons, All-nil, Signal, Item, Span, items_of, items_in, IsSpan, AreSpans, RuleNumbers}
 
 module _ (b : Signal) (rules : RuleNumbers) where
   -- the items of spans in two rows

@@ -1,6 +1,6 @@
 -- Runs to the end of a recording, with the item of the end: what they give up to the first place that acquires, and up to the next
 -- block of a lock.
-use Rattle.rds_sync.proofs.Names.{common_steps, ◌≡◌, ◌≢◌, ℕ, zero, suc, ◌+◌, ◌<◌, ◌≤◌, List, [], ◌++◌, Option, Some, None, refl, ap, ap₂, ◌∙◌, arith, append_assoc, add-zero, zero-add, suc-add, MatchOption, Signal, Lock, State, Searching, Locked, Item, RuleNumbers, acquired, run, step, items_at, items_of_end, first_lock}
+use Rattle.rds_sync.proofs.Names.{common_steps, ◌≡◌, ℕ, zero, suc, ◌+◌, ◌<◌, ◌≤◌, List, [], ◌++◌, Option, Some, None, refl, ap₂, ◌∙◌, arith, add-zero, zero-add, suc-add, MatchOption, Signal, Lock, State, Searching, Locked, Item, RuleNumbers, acquired, run, step, items_at, items_of_end, first_lock}
 use Rattle.rds_sync.proofs.RunLemmas.{items-searching, step-searching, items-waiting, step-waiting}
 
 module _ (b : Signal) (rules : RuleNumbers) where

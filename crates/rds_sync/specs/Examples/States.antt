@@ -1,8 +1,7 @@
 -- Stretches of a run; lawful states at the limits, and states just past them.
-use Rattle.std.specs.Prelude.{◌≢◌, Option}
+use Rattle.std.specs.Prelude.{Option}
 use Rattle.std.proofs.Common.{inl, inr, arith, rules}
 use Rattle.rds_sync.specs.declared.step.Step.{Step}
-use Rattle.rds_sync.specs.Advance.{items_in}
 use Rattle.rds_sync.specs.Groups.{group}
 use Rattle.rds_sync.specs.Lawful.{IsBetweenGroups, IsLawful}
 use Rattle.rds_sync.specs.Rules.{RuleNumbers}
@@ -82,16 +81,21 @@ to_the_group = record {
 abbrev pub IsLawfulAt : RuleNumbers → ℕ → ℕ → ℕ → ℕ → ℕ → Type 0
 IsLawfulAt numbers place due number bad first = IsLawful numbers place (Locked (lock_of due number bad first))
 
--- ---- which place a block may be due at: this place, and the last of the next 26
-
-pub search_at_0 : IsLawful default_rules 0 Searching
-search_at_0 = tt
-
-pub due_now : IsLawfulAt default_rules 129 129 1 9 1
-due_now = search (rules, arith)
-
-pub due_last : IsLawfulAt default_rules 104 129 1 0 1
-due_last = grind arith
+pub are_lawful : IsLawful default_rules 0 Searching
+    -- a block may be due at this place, and at the last of the next 26
+    × IsLawfulAt default_rules 129 129 1 9 1
+    × IsLawfulAt default_rules 104 129 1 0 1
+    -- all but one of 64 blocks may be bad, and by a share of two of four the oldest
+    × IsLawfulAt (rules_of 2 3 64) 129 129 1 63 1
+    × IsLawfulAt (rules_with_share 2 4) 129 129 1 8 1
+    -- the first block of the group ends at place 25, the least
+    × IsLawfulAt default_rules 78 103 4 0 1
+    -- the block after one that acquires at place 51, the least
+    × IsLawfulAt default_rules 52 77 2 0 1
+    -- the last of a group
+    × IsLawfulAt default_rules 129 129 4 0 3
+unfolding computed
+are_lawful = search (rules, arith)
 
 pub due_before : IsLawfulAt default_rules 130 129 1 0 1 → ⊥
 due_before lawful = omega arith
@@ -99,23 +103,8 @@ due_before lawful = omega arith
 pub due_after_27 : IsLawfulAt default_rules 103 129 1 0 1 → ⊥
 due_after_27 lawful = omega arith
 
--- ---- how many bad blocks there may be; and which masks, by a share of two of four
-
-pub all_but_one_of_64 : IsLawfulAt (rules_of 2 3 64) 129 129 1 63 1
-all_but_one_of_64 = record {
-  soon = (omega arith, omega arith);
-  late = omega arith;
-  few_bad = omega arith;
-  enough_bits = omega arith;
-  in_order = inl (refl, refl);
-}
-
 pub lost : IsLawfulAt default_rules 129 129 1 10 1 → ⊥
 lost lawful = omega arith
-
-pub oldest_of_four : IsLawfulAt (rules_with_share 2 4) 129 129 1 8 1
-unfolding computed
-oldest_of_four = search (rules, arith)
 
 pub fifth_of_four : IsLawfulAt (rules_with_share 2 4) 129 129 1 16 1 → ⊥
 fifth_of_four lawful = omega arith
@@ -124,18 +113,8 @@ pub two_of_four : IsLawfulAt (rules_with_share 2 4) 129 129 1 3 1 → ⊥
 unfolding computed
 two_of_four lawful = omega arith
 
--- ---- where its group may begin
-
--- the first block of the group ends at place 25, the least
-pub least_start : IsLawfulAt default_rules 78 103 4 0 1
-least_start = search (rules, arith)
-
 pub before_the_start : IsLawfulAt default_rules 77 102 4 0 1 → ⊥
 before_the_start lawful = omega arith
-
--- the block after one that acquires at place 51, the least
-pub due_first : IsLawfulAt default_rules 52 77 2 0 1
-due_first = grind arith
 
 pub before_any_acquires : IsLawfulAt default_rules 51 76 2 0 1 → ⊥
 before_any_acquires lawful = omega arith
@@ -143,11 +122,6 @@ before_any_acquires lawful = omega arith
 -- whose block would be the recording's first
 pub first_of_all : IsLawfulAt default_rules 0 25 1 0 1 → ⊥
 first_of_all lawful = omega arith
-
--- ---- which numbers it may have
-
-pub last_of_a_group : IsLawfulAt default_rules 129 129 4 0 3
-last_of_a_group = search (rules, arith)
 
 pub past_4 : IsLawfulAt default_rules 129 129 5 0 1 → ⊥
 past_4 lawful = omega arith

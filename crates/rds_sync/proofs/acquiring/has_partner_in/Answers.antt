@@ -1,4 +1,4 @@
-use Rattle.rds_sync.proofs.Names.{common_steps, ◌+◌, sym, ◌∙◌, arith, has_partner}
+use Rattle.rds_sync.proofs.Names.{common_steps, arith, has_partner}
 use Rattle.rds_sync.proofs.HeardLemmas.{any-later}
 use Rattle.rds_sync.proofs.acquiring.has_partner_in.Goals as goal
 

@@ -1,4 +1,4 @@
-use Rattle.rds_sync.proofs.Names.{common_steps, ◌<◌, ◌*◌, ◌-◌, sym, ◌∙◌, arith, lt-leb}
+use Rattle.rds_sync.proofs.Names.{common_steps, arith, lt-leb}
 use Rattle.rds_sync.proofs.HeardLemmas.{has_partner-early}
 use Rattle.rds_sync.proofs.acquiring.is_partner_in.Goals as goal
 

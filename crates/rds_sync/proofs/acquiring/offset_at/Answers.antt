@@ -1,4 +1,4 @@
-use Rattle.rds_sync.proofs.Names.{common_steps, arith, ℕ, Option, ap, sym, ◌∙◌, offset_heard}
+use Rattle.rds_sync.proofs.Names.{common_steps, arith, sym, offset_heard}
 use Rattle.rds_sync.proofs.HeardLemmas.{off-early, off-heard}
 use Rattle.rds_sync.proofs.acquiring.offset_at.Goals as goal
 

@@ -1,4 +1,4 @@
-use Rattle.rds_sync.proofs.Names.{common_steps, arith, Loss, subst, sym, IsAfter}
+use Rattle.rds_sync.proofs.Names.{common_steps, arith}
 use Rattle.rds_sync.proofs.DueLemmas.{step-due}
 use Rattle.rds_sync.proofs.DueItems.{given-due, followed-due}
 use Rattle.rds_sync.proofs.follow.follow.Goals as goal

@@ -1,4 +1,4 @@
-use Rattle.rds_sync.proofs.Names.{common_steps, arith, List, ap, ◌-◌, ◌*◌, ◌∙◌, Block, group_of}
+use Rattle.rds_sync.proofs.Names.{common_steps, arith, group_of}
 use Rattle.rds_sync.proofs.follow.group_so_far.Goals as goal
 
 pub returns-clause-group : goal.returns-clause-group

@@ -1,4 +1,4 @@
-use Rattle.rds_sync.proofs.Names.{◌≡◌, ◌+◌, ◌<◌, ℕ, zero, suc, List, Bool, false, sym, ap, ◌∙◌, arith, are_too_many, bad_after, Outcome, bad_over, good_at, blocks_in}
+use Rattle.rds_sync.proofs.Names.{◌≡◌, ◌+◌, ℕ, List, Bool, false, sym, ap, ◌∙◌, are_too_many, bad_after, Outcome, bad_over, good_at, blocks_in}
 use Rattle.rds_sync.proofs.HeardGroups.{each-of-four}
 use Rattle.rds_sync.proofs.four_blocks.bad_after_each.Goals as goal
 

@@ -1,4 +1,4 @@
-use Rattle.rds_sync.proofs.Names.{common_steps, arith, subst, Loss, IsLossRule}
+use Rattle.rds_sync.proofs.Names.{common_steps, arith}
 use Rattle.rds_sync.proofs.BadRows.{clean_kept}
 use Rattle.rds_sync.proofs.four_blocks.bad_after_four.Goals as goal
 

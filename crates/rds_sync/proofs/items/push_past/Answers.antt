@@ -1,4 +1,4 @@
-use Rattle.rds_sync.proofs.Names.{common_steps, arith, List, ◌++◌, ap, ◌∙◌, Span}
+use Rattle.rds_sync.proofs.Names.{common_steps, arith}
 use Rattle.rds_sync.proofs.PastLemmas.{behind-past}
 use Rattle.rds_sync.proofs.items.push_past.Goals as goal
 

@@ -1,4 +1,4 @@
-use Rattle.rds_sync.proofs.Names.{common_steps, ◌≡◌, ◌≤◌, ◌+◌, ◌-◌, ℕ, List, Some, ap, sym, subst, ◌∙◌, arith, Signal, acquired, CountOf, added, IsLawful, step, items_at, lock_after, Item, Lock, State, Searching, Locked}
+use Rattle.rds_sync.proofs.Names.{common_steps, ◌≡◌, ◌≤◌, ◌+◌, ℕ, List, Some, ap, sym, subst, ◌∙◌, arith, Signal, acquired, CountOf, added, IsLawful, step, items_at, lock_after, Item, Lock, State, Searching, Locked}
 use Rattle.rds_sync.proofs.CountLemmas.{added-nothing}
 use Rattle.rds_sync.proofs.LawfulLemmas.{lawful-step}
 use Rattle.rds_sync.proofs.RunLemmas.{run-found, run-searching, step-acquiring}

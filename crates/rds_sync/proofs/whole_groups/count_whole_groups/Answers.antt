@@ -1,4 +1,4 @@
-use Rattle.rds_sync.proofs.Names.{◌≡◌, ℕ, ◌+◌, ◌-◌, ◌<◌, ◌≤◌, List, [], ◌∷◌, ◌++◌, false, sym, ap, ap₂, subst, ◌∙◌, arith, Signal, Lock, Item, Group, Loss, State, Locked, group, HasCountedOn, CountOf, added, joined, group_count, Outcome, bad_over, blocks_in, IsLawfulBad, are_too_many, RuleNumbers, run, lock_of}
+use Rattle.rds_sync.proofs.Names.{◌≡◌, ℕ, ◌+◌, ◌-◌, ◌<◌, ◌≤◌, List, [], ◌∷◌, false, sym, ap, subst, ◌∙◌, arith, Signal, Lock, Item, Group, Loss, State, Locked, group, HasCountedOn, CountOf, added, joined, group_count, Outcome, bad_over, blocks_in, IsLawfulBad, are_too_many, RuleNumbers, run}
 use Rattle.rds_sync.proofs.CountLemmas.{added-further, group-added}
 use Rattle.rds_sync.proofs.GroupOutcomes.{outcomes}
 use Rattle.rds_sync.proofs.WholeGroupLemmas.{one_more}

@@ -1,4 +1,4 @@
-use Rattle.rds_sync.proofs.Names.{◌≡◌, ℕ, ◌+◌, ◌-◌, ◌<◌, ◌≤◌, List, [], ◌∷◌, ◌++◌, length, length-append, append_assoc, refl, sym, ap, ap₂, subst, ◌∙◌, arith, Signal, Lock, GroupRecord, Item, Group, State, Locked, group, HasGiven, HasPushed, IsWhole, RuleNumbers, run, lock_of}
+use Rattle.rds_sync.proofs.Names.{◌≡◌, ℕ, ◌+◌, ◌-◌, ◌<◌, ◌≤◌, List, [], ◌∷◌, ◌++◌, length, length-append, append_assoc, refl, sym, ap, subst, ◌∙◌, arith, Signal, Lock, Item, Group, State, Locked, group, HasGiven, HasPushed, RuleNumbers, run}
 use Rattle.rds_sync.proofs.WholeGroupLemmas.{one_more}
 use Rattle.rds_sync.proofs.whole_groups.push_whole_groups.Goals as goal
 

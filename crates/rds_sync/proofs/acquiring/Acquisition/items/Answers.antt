@@ -1,4 +1,4 @@
-use Rattle.rds_sync.proofs.Names.{common_steps, ◌≡◌, ℕ, List, [], ◌∷◌, ap, ap₂, sym, ◌∙◌, arith, GroupRecord, Item, Acquired, Group, completed_group}
+use Rattle.rds_sync.proofs.Names.{common_steps, arith, completed_group}
 use Rattle.rds_sync.proofs.acquiring.Acquisition.items.Goals as goal
 
 pub returns-then-number-eq4 : goal.returns-then-number-eq4

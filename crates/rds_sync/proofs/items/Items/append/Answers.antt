@@ -1,4 +1,4 @@
-use Rattle.rds_sync.proofs.Names.{common_steps, ◌≡◌, List, ◌++◌, ap, ap₂, sym, ◌∙◌, arith, Signal, Item, Span, ItemsOf, listed, items_in, RuleNumbers}
+use Rattle.rds_sync.proofs.Names.{common_steps, ap, sym, ◌∙◌, arith, ItemsOf, listed, items_in}
 use Rattle.rds_sync.proofs.SpanLemmas.{items_in-append, spans-behind, over}
 use Rattle.rds_sync.proofs.items.Items.append.Goals as goal
 

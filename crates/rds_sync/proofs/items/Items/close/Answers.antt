@@ -1,4 +1,4 @@
-use Rattle.rds_sync.proofs.Names.{common_steps, List, ◌++◌, ap, sym, subst, ◌∙◌, arith, length_of, Item, Span, End, ItemsOf, listed, IsSpan, items_in, IsLawful, items_of_end}
+use Rattle.rds_sync.proofs.Names.{common_steps, sym, subst, arith, length_of, End, ItemsOf, listed, IsSpan, items_in, IsLawful, items_of_end}
 use Rattle.rds_sync.proofs.SpanLemmas.{items_in-push, spans-push}
 use Rattle.rds_sync.proofs.items.Items.close.Goals as goal
 

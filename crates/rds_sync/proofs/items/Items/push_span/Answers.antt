@@ -1,4 +1,4 @@
-use Rattle.rds_sync.proofs.Names.{common_steps, ◌-◌, List, ◌++◌, ap, sym, subst, ◌∙◌, arith, Item, Span, ItemsOf, listed, IsSpan, items_in, run}
+use Rattle.rds_sync.proofs.Names.{common_steps, sym, subst, arith, Span, ItemsOf, listed, IsSpan, items_in, run}
 use Rattle.rds_sync.specs.declared.span.Span.TheVariants.{Run}
 use Rattle.rds_sync.proofs.SpanLemmas.{items_in-push, spans-push}
 use Rattle.rds_sync.proofs.items.Items.push_span.Goals as goal

@@ -1,5 +1,4 @@
-use Rattle.rds_sync.proofs.Names.{common_steps, ◌≡◌, ◌*◌, ◌+◌, ◌%◌, ◌^◌, ℕ, true, false, ap, sym, subst, ◌∙◌, arith, nat_le, count_ones, Loss, bad_after, are_too_many}
-use Rattle.rds_sync.specs.Ranges.{IsLossInRange}
+use Rattle.rds_sync.proofs.Names.{common_steps, arith, nat_le, count_ones, bad_after, are_too_many}
 use Rattle.rds_sync.proofs.ShortLockLemmas.{share-of-one}
 use Rattle.rds_sync.proofs.loss.Loss.loses_by_one.Goals as goal
 

@@ -1,4 +1,4 @@
-use Rattle.rds_sync.proofs.Names.{common_steps, ◌+◌, ◌-◌, ◌*◌, ◌^◌, length-append, ap, ◌∙◌, arith, Totals, plus, CountOf, run, TallyOf, totals_of}
+use Rattle.rds_sync.proofs.Names.{common_steps, length-append, arith, plus, run, totals_of}
 use Rattle.rds_sync.proofs.TotalsLemmas.{IsAtMost-more}
 use Rattle.rds_sync.proofs.tally.Tally.report.Goals as goal
 
