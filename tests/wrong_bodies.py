@@ -60,7 +60,7 @@ CRATES = f"{TOP}/crates"
 # The table with the false claim of each edit that only lines of answers refuse.
 TOLD = "tests/wrong_bodies.answers"
 # The time limit of one check, in seconds; beside other proofs a check takes some minutes.
-LIMIT = 1800
+LIMIT = 3600
 # The line that ends the log of `rt ci`.
 ENDED = re.compile(r"^proofs: ended$", re.M)
 # A body that calls nothing is in no cycle of calls.

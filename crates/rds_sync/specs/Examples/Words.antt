@@ -1,5 +1,6 @@
 -- Short words for the examples, and what they import from elsewhere.
-use Rattle.std.specs.Prelude.{Option, ⊤, Bool, drop, flat_map}
+use Rattle.std.specs.Prelude.{◌≡◌, ◌==◌, ◌+◌, ◌*◌, ℕ, Bool, List, [], ◌∷◌, ◌++◌, Option, Some, None, ⊤, drop, false, flat_map, map, refl, replicate, true}
+use Rattle.std.specs.List.{range_with_len}
 use Rattle.std.specs.Int.{to_be_bytes, w128}
 use Rattle.std.specs.Int.Count.{count_leading_zeros, ones, count_trailing_zeros}
 use Rattle.rds_code.specs.Remainder.{rem}
@@ -17,8 +18,6 @@ use Rattle.rds_sync.specs.Report.{report_items}
 use Rattle.rds_sync.specs.Rules.{RuleNumbers}
 use Rattle.rds_sync.specs.Sent.{binary}
 use Rattle.rds_sync.specs.Totals.{totals_of}
-pub use Rattle.std.specs.Prelude.{◌≡◌, ◌==◌, ◌+◌, ◌*◌, ℕ, List, [], ◌∷◌, ◌++◌, map, replicate, Some, None, true, false, refl}
-pub use Rattle.std.specs.List.{range_with_len}
 pub use Rattle.rds_code.specs.declared.offset.Offset.TheVariants.{A as OA, B as OB, C, Cx, D}
 pub use Rattle.rds_stream.specs.Recording.{Signal, bits_of, ungapped}
 pub use Rattle.rds_sync.specs.declared.item.Item.{Item}
