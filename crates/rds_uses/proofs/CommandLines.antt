@@ -1,20 +1,17 @@
 -- Command lines as `clap` reads them.
-use Rattle.std.proofs.Common.{◌≡◌, ◌⊎◌, ◌∙◌, sym, List, [], ◌∷◌, OnOk, IfOk, Result, Ok, Err, Some, None, codes, false, refl, ap, inl, inr}
-use Rattle.std.specs.Result.{result_ok}
+use Rattle.rds_uses.proofs.Names.{Err, IfOk, Job, List, None, Ok, OnOk, Result, Share, Some, [], ap, codes, false, inl, inr, refl, result_ok, sym, ◌∙◌, ◌∷◌, ◌≡◌, ◌⊎◌}
 use Rattle.clap.specs.Faults.{defaults_fault, flags_fault, walk_fault}
 use Rattle.clap.specs.Takes.{flags_pass, walk_passes}
 use Rattle.clap.specs.Walk.{bundle_met, walked}
 use Rattle.clap.specs.Words.{Text}
 use Rattle.clap.specs.declared.error.kind.ErrorKind.{ErrorKind}
 use Rattle.clap.specs.declared.error.kind.ErrorKind.TheVariants as kind
-use Rattle.rds_sync.specs.declared.loss.Loss.TheVariants.{Share}
 use Rattle.rds_tool.specs.CommandLine.{HasBadGaps, MayAnswer, asked_by, entries_of, faults_of, job_by}
 use Rattle.rds_tool.specs.declared.fault.FaultKind.{FaultKind}
 use Rattle.rds_tool.specs.declared.fault.FaultKind.TheVariants.{Help, Memory, Version, Words}
 use Rattle.rds_tool.specs.declared.job.Asked.{Asked}
 use Rattle.rds_tool.specs.declared.job.Cuts.TheVariants as cuts
 use Rattle.rds_tool.specs.declared.job.Ignored.TheVariants as ignored
-use Rattle.rds_tool.specs.declared.job.Job.{Job}
 use Rattle.rds_tool.specs.declared.job.Job.TheVariants as job
 use Rattle.rds_tool.specs.declared.job.Request.TheVariants as request
 

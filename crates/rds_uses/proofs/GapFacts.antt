@@ -1,9 +1,5 @@
 -- What is heard if a gap is touched, and if none is.
-use Rattle.std.proofs.Common.{◌≡◌, ℕ, ◌≤◌, Bool, true, false, Option, Some, None, refl, ap, ◌∙◌, inl, inr}
-use Rattle.std.proofs.lemmas.Bool.{cases_lt, le-ltb, lt-ltb}
-use Rattle.rds_stream.specs.Recording.{Signal, window, touched, heard, offset_heard, offset_at}
-use Rattle.rds_sync.specs.Acquiring.{acquired}
-use Rattle.rds_sync.specs.Rules.{RuleNumbers}
+use Rattle.rds_uses.proofs.Names.{Bool, None, Option, RuleNumbers, Signal, Some, acquired, ap, cases_lt, false, heard, inl, inr, le-ltb, lt-ltb, offset_at, offset_heard, refl, touched, true, window, ℕ, ◌∙◌, ◌≡◌, ◌≤◌}
 
 pub heard-touched : (b : Signal) (i : ℕ) → touched b i ≡ true → heard b i ≡ None
 unfolding heard

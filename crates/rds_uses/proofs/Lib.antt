@@ -1,9 +1,7 @@
+mod Names
 pub mod Outcomes
 pub mod CommandLines
-pub mod Rests
 pub mod SoundSignal
 pub mod GapFacts
 pub mod Wholes
-pub mod NumberedStreams
 pub mod SentAndHeard
-pub mod WrittenLists

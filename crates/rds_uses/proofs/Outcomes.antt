@@ -1,25 +1,15 @@
 -- The outcomes of jobs over the bits of bytes.
-use Rattle.std.proofs.Common.{◌≡◌, ℕ, ◌*◌, ◌^◌, ◌≤◌, List, [], Bool, true, false, Option, IfSome, OnOk, None, Some, Result, Ok, Err, cond, length, refl, sym, ap, ap₂, arith, subst, ◌++◌, ◌∷◌, ◌∙◌}
+use Rattle.rds_uses.proofs.Names.{BadCutting, Bool, Err, Input, Job, List, ListsEndWithTotals, None, Ok, PlanOf, Result, RuleNumbers, Settings, Signal, Some, ToolError, Writes, WritesPrefix, [], and_then, ap, append-nil, ap₂, arith, cond, crew_of, false, groups_in, length, length_of, list_text, plan_of, refl, result_of_job, result_unwrap_or, rows_so_far, sent_listing, stream_input, subst, sym, text_of_task, true, whole_input, workers_of, ℕ, ◌*◌, ◌++◌, ◌^◌, ◌∙◌, ◌∷◌, ◌≡◌, ◌≤◌}
 use Rattle.std.proofs.lemmas.Bool.Decides.{nat_tests}
-use Rattle.std.proofs.lemmas.List.{append-nil}
-use Rattle.std.specs.Result.{result_unwrap_or}
-use Rattle.rds_stream.specs.Recording.{Signal, length_of}
-use Rattle.rds_sync.specs.Rules.{RuleNumbers}
 use Rattle.rds_tool.specs.Cuts.{cuts_bits}
-use Rattle.rds_tool.specs.Input.{and_then, recording_of}
-use Rattle.rds_tool.specs.Laws.{EncodedGroupsAreListed, ListsEndWithTotals, groups_in, sent_listing, whole_input}
+use Rattle.rds_tool.specs.Input.{recording_of}
+use Rattle.rds_tool.specs.Laws.{EncodedGroupsAreListed}
 use Rattle.rds_tool.specs.Listing.{scan_text}
-use Rattle.rds_tool.specs.Outcome.{result_of_job, list_text, text_of_task, Writes, WritesPrefix}
-use Rattle.rds_tool.specs.Plans.{crew_of, workers_of}
 use Rattle.rds_tool.specs.Rules.{rules_of}
-use Rattle.rds_tool.specs.declared.error.ToolError.{ToolError}
-use Rattle.rds_tool.specs.declared.error.ToolError.TheVariants.{BadCutting}
-use Rattle.rds_tool.specs.declared.job.Input.{Input}
-use Rattle.rds_tool.specs.declared.job.Job.{Job}
+use Rattle.rds_uses.specs.Jobs.{IsListBy, IsScan, all_bits, plain}
+use Rattle.rds_tool.specs.WellFormed.{DifferInGaps, GapsHideBits, IsWellFormed, ListsAreWellFormed, RowsBeginLists}
 use Rattle.rds_tool.specs.declared.job.Job.TheVariants as job
-use Rattle.rds_tool.specs.declared.job.Settings.{Settings}
 use Rattle.rds_tool.specs.declared.task.Task.TheVariants as task
-use Rattle.rds_uses.specs.Jobs.{all_bits, plain, IsListBy, IsScan}
 
 abbrev is_text : List ℕ → Result (List ℕ) ToolError
 is_text text = Ok text
@@ -27,20 +17,11 @@ is_text text = Ok text
 pub all_bits-few : (bytes : List ℕ) → 8 * length bytes ≤ 2 ^ 36 → recording_of plain bytes ≡ Ok (all_bits bytes)
 all_bits-few bytes few = grind (arith, nat_tests)
 
--- a property of any text holds of it if there is one
-pub if-some : {A : Type 0} {P Q : A → Type 0} (found : Option A) → ((a : A) → P a → Q a) → IfSome found P → IfSome found Q
-if-some (Some a) also is = also a is
-if-some None also is = is
-
 -- what a writer holds afterwards is what it held before and the text
 pub added : (result_of_job : Result (List ℕ) ToolError) (old new : List ℕ) → Writes (Some old) (Some new) result_of_job
     → (more : List ℕ) × (result_of_job ≡ Ok more) × (new ≡ old ++ more)
 added (Ok text) old new is = (text, refl, is)
 added (Err e) old new is = absurd is
-
-pub on-ok : {A E P Q : Type 0} (result : Result A E) → (P → Q) → OnOk result P → OnOk result Q
-on-ok (Ok a) also is = also is
-on-ok (Err e) also is = is
 
 -- what an empty writer holds afterwards is the text
 pub written : (result_of_job : Result (List ℕ) ToolError) (new : List ℕ) → Writes (Some []) (Some new) result_of_job → result_of_job ≡ Ok new
@@ -143,3 +124,28 @@ before-totals law input settings list totals held listing counts first next list
           ∙ ap (λ (made : Result (List ℕ) ToolError). and_then made (λ text. Ok (ends.0 ++ text)))
           (sym (ap (λ (asked : Job). result_of_job asked held) next) ∙ counted)),
     )
+
+-- ---- lists that were written, by the laws of their rows
+
+pub well-formed : ListsAreWellFormed → (asked : Job) (held listing : List ℕ) → result_of_job asked held ≡ Ok listing
+    → (input : Input) (settings : Settings) → asked ≡ job.List input settings
+    → (recording : Signal) × (recording_of input held ≡ Ok recording) × IsWellFormed (length_of recording) listing
+well-formed law asked held listing written input settings is =
+    law input settings held listing (subst (λ (j : Job). result_of_job j held ≡ Ok listing) is written)
+
+pub alike : GapsHideBits → (asked : Job) (input : Input) (settings : Settings) (held other one two : List ℕ) → asked ≡ job.List input settings → input.hex ≡ false
+    → DifferInGaps input.gaps held other → result_of_job asked held ≡ Ok one → result_of_job asked other ≡ Ok two → one ≡ two
+alike law asked input settings held other one two is bytes differ first second =
+    same-text one two
+    (sym (subst (λ (j : Job). result_of_job j held ≡ Ok one) is first)
+    ∙ sym (law input settings held other bytes differ).0 ∙ subst (λ (j : Job). result_of_job j other ≡ Ok two) is second)
+
+pub begun : RowsBeginLists → (asked : Job) (held listing : List ℕ) → result_of_job asked held ≡ Ok listing
+    → (settings : Settings) (plan : PlanOf) (gaps : List (ℕ × ℕ)) (heard more : List ℕ) → asked ≡ job.List (stream_input None gaps) settings
+    → plan_of settings ≡ Ok plan → held ≡ heard ++ more
+    → (rest : List ℕ) × (listing ≡ rows_so_far (record { rules = plan.rules; gaps = gaps }) heard ++ rest)
+begun law asked held listing written settings plan gaps heard more is planned split =
+    let here = subst (λ (bytes : List ℕ). result_of_job (job.List (stream_input None gaps) settings) bytes ≡ Ok listing) split
+    (subst (λ (j : Job). result_of_job j held ≡ Ok listing) is written) in
+    let rows = law settings plan gaps heard more listing planned here in
+    (_, rows.1)

@@ -1,24 +1,8 @@
 -- Short lemmas for the callers of `sent`.
-use Rattle.std.proofs.Common.{arith, inl, inr, get_or, slice_index, length, List, [], ◌∷◌, ◌<◌, ◌^◌, ◌≡◌, ℕ, zero, suc, Result, Ok, Err, IfOk, Some, ◌≤◌, ◌∙◌, ap, refl}
-use Rattle.rds_code.specs.declared.offset.Offset.{Offset}
-use Rattle.rds_code.specs.declared.offset.Offset.TheVariants.{A, B, C, Cx, D}
-use Rattle.std.proofs.lemmas.Bool.{cases_lt}
-use Rattle.std.proofs.lemmas.List.{get_or_past}
-use Rattle.rds_code.specs.Offsets.{number, offset_of, word}
-use Rattle.rds_code.specs.Remainder.{rem}
-use Rattle.rds_stream.specs.Recording.{Signal, heard, offset_at, offset_heard, ungapped}
-use Rattle.rds_sync.specs.Groups.{info_of}
+use Rattle.rds_uses.proofs.Names.{A, AreWords, B, C, Cx, D, List, Offset, RuleNumbers, Signal, Some, [], ap, arith, bits_sent, block_sent, cases_lt, get_or, get_or_past, heard, info_of, inl, inr, length, number, offset_at, offset_heard, offset_of, refl, rem, report_items, report_sent, slice_index, suc, totals_of, totals_sent, ungapped, word, zero, ℕ, ◌<◌, ◌^◌, ◌∙◌, ◌∷◌, ◌≡◌, ◌≤◌}
 use Rattle.rds_sync.specs.Ranges.{IsInRange}
-use Rattle.rds_sync.specs.Report.{report_items}
-use Rattle.rds_sync.specs.Rules.{RuleNumbers}
-use Rattle.rds_sync.specs.Sent.{AreWords, EncodedGroupsAreListed, bits_sent, block_sent, totals_sent}
-use Rattle.rds_sync.specs.Totals.{totals_of}
-use Rattle.rds_uses.specs.Received.{report_sent}
+use Rattle.rds_sync.specs.Sent.{EncodedGroupsAreListed}
 use Rattle.rds_uses.proofs.GapFacts.{off-heard}
-
-pub if-ok : {A E : Type 0} {P Q : A → Type 0} (result : Result A E) → ((a : A) → P a → Q a) → IfOk result P → IfOk result Q
-if-ok (Ok a) also is = also a is
-if-ok (Err e) also is = is
 
 -- a block 1 has the offset A
 pub first-offset : (o : Offset) → number o ≡ 1 → o ≡ A

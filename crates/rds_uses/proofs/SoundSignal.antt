@@ -1,16 +1,7 @@
 -- On sound signal from a piece's first place on, a run meets the guess within 416 bits, if ten bad blocks
 -- lose a lock.
-use Rattle.std.proofs.Common.{◌≡◌, ◌⊎◌, ℕ, ◌+◌, ◌-◌, ◌*◌, ◌<◌, ◌≤◌, Option, Some, None, ap, inl, inr, arith}
-use Rattle.std.proofs.lemmas.Bool.{cases_lt}
-use Rattle.std.proofs.lemmas.Nat.{mul-le}
-use Rattle.rds_stream.specs.Recording.{Signal}
+use Rattle.rds_uses.proofs.Names.{IsMeeting, IsSoonMet, IsSound, MeetFirstAt, MeetSoon, None, Option, RuleNumbers, Run, Signal, Some, State, ap, arith, cases_lt, distance, inl, inr, mul-le, sound_bits, ℕ, ◌*◌, ◌+◌, ◌-◌, ◌<◌, ◌≡◌, ◌≤◌, ◌⊎◌}
 use Rattle.rds_sync.specs.declared.loss.Loss.{Loss}
-use Rattle.rds_sync.specs.declared.loss.Loss.TheVariants.{Run}
-use Rattle.rds_sync.specs.declared.state.State.{State}
-use Rattle.rds_sync.specs.Convergence.{IsSound, sound_bits}
-use Rattle.rds_sync.specs.Rules.{RuleNumbers}
-use Rattle.rds_pieces.specs.Meeting.{IsMeeting, MeetFirstAt, distance}
-use Rattle.rds_pieces.specs.Soon.{IsSoonMet, MeetSoon}
 
 module _ (b : Signal) (rules : RuleNumbers) (from to : ℕ) (loss : rules.loss ≡ Run 10)
     (sound : (p : ℕ) × (c : ℕ) × IsSound b rules 0 from p c) (inside : from + 416 ≤ to) where

@@ -43,19 +43,11 @@ pub fn six_bits_refused(alloc: Global, bytes: &[u8], reach: u32) -> Option<Refus
 }
 
 /// How many items the parts of a list have.
-#[derive(Clone, Copy)]
+#[derive(Clone, Copy, Default)]
 pub struct Counts {
     pub first: u64,
     pub second: u64,
     pub end: u64,
-}
-
-impl Counts {
-    const NONE: Counts = Counts {
-        first: 0,
-        second: 0,
-        end: 0,
-    };
 }
 
 /// A recording in two ranges, and the items that its end closes: together the items of the whole.
@@ -76,7 +68,7 @@ pub fn in_two_ranges(
 {
     laws::runs_join();
     laws::runs_are_reports();
-    let mut n = Counts::NONE;
+    let mut n = Counts::default();
     let mut state = RdsState::SEARCHING;
     let (early, late) = ((0, middle), (middle, bits));
     run(
@@ -197,7 +189,7 @@ pub fn in_two_chunks(
     ensures totals { IfOk result
         (λ r. r.1 ≡ totals_in_c (totals_of (report_of (terms_of rules gaps.now) (early.now ++ late.now)))) }
 {
-    let mut n = Counts::NONE;
+    let mut n = Counts::default();
     let mut totals = RdsTotals::NONE;
     let mut stream = RdsStream::UNHEARD;
     push_all(alloc, early, gaps, rules, &mut stream, first, &mut n.first)?;

@@ -73,7 +73,6 @@ pub(crate) fn written<R: Threads + Sync>(
     }
 }
 
-/// At any devices, with a gate too: the text that is written is the outcome of the bytes that were read. After success the reader has
 /// Settings out of their range are refused as such, and nothing is read.
 pub fn refused_unread<R: Threads + Sync, S: Source, K: Sink>(
     rt: &R,
@@ -92,6 +91,7 @@ pub fn refused_unread<R: Threads + Sync, S: Source, K: Sink>(
     transcribe(rt, alloc, reader, writer, &Job::List(input, settings))
 }
 
+/// At any devices, with a gate too: the text that is written is the outcome of the bytes that were read. After success the reader has
 /// answered its end, and the last call was a flush that succeeded. A failed call of either device is answered; 13
 /// comes only if 16,777,216 bytes or more were read; 14 never comes; any other refusal if the job and the bytes call for it.
 /// Settings out of their range are refused before anything is read. Nothing was written after any refusal but that of the

@@ -1,5 +1,4 @@
-use Rattle.std.proofs.Common.{arith}
-use Rattle.std.proofs.lemmas.Nat.{xor_lt}
+use Rattle.rds_uses.proofs.Names.{arith, xor_lt}
 use Rattle.rds_uses.proofs.code.damaged.Goals as goal
 
 pub returns-clause-block : goal.returns-clause-block

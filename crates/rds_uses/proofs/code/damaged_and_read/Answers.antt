@@ -1,5 +1,4 @@
-use Rattle.std.proofs.Common.{arith}
-use Rattle.rds_code.specs.declared.reading.Wanted.TheVariants.{Either}
+use Rattle.rds_uses.proofs.Names.{Either, arith}
 use Rattle.rds_uses.proofs.code.damaged_and_read.Goals as goal
 
 pub returns : goal.returns

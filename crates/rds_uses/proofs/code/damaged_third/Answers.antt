@@ -1,5 +1,4 @@
-use Rattle.std.proofs.Common.{arith, refl}
-use Rattle.rds_code.specs.declared.offset.Offset.TheVariants.{C}
+use Rattle.rds_uses.proofs.Names.{C, arith, refl}
 use Rattle.rds_uses.proofs.code.damaged_third.Goals as goal
 
 pub returns : goal.returns

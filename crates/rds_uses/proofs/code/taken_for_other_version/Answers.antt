@@ -1,5 +1,4 @@
-use Rattle.std.proofs.Common.{refl}
-use Rattle.rds_code.specs.declared.offset.Offset.TheVariants.{C}
+use Rattle.rds_uses.proofs.Names.{C, refl}
 use Rattle.rds_uses.proofs.code.taken_for_other_version.Goals as goal
 
 pub returns : goal.returns

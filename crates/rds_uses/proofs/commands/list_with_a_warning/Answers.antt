@@ -1,5 +1,4 @@
-use Rattle.std.proofs.Common.{◌≡◌, map, rules}
-use Rattle.std.proofs.lemmas.Result.{IfOk-weaker}
+use Rattle.rds_uses.proofs.Names.{IfOk-weaker, map, rules, ◌≡◌}
 use Rattle.rds_uses.proofs.CommandLines.{ignores_the_loss, list_by_two_losses}
 use Rattle.rds_uses.proofs.commands.list_with_a_warning.Goals as goal
 

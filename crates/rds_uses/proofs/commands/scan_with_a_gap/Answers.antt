@@ -1,5 +1,4 @@
-use Rattle.std.proofs.Common.{◌≡◌, map, rules}
-use Rattle.std.proofs.lemmas.Result.{IfOk-weaker}
+use Rattle.rds_uses.proofs.Names.{IfOk-weaker, map, rules, ◌≡◌}
 use Rattle.rds_uses.proofs.CommandLines.{scans_with_the_gap, scan_with_a_gap}
 use Rattle.rds_uses.proofs.commands.scan_with_a_gap.Goals as goal
 

@@ -1,5 +1,4 @@
-use Rattle.std.proofs.Common.{◌≡◌, map, rules}
-use Rattle.std.proofs.lemmas.Result.{IfErr-weaker, IfOk-weaker}
+use Rattle.rds_uses.proofs.Names.{IfErr-weaker, IfOk-weaker, map, rules, ◌≡◌}
 use Rattle.rds_uses.proofs.CommandLines.{follow_with_a_gap, never, no_job_of_stream, words_or_memory}
 use Rattle.rds_uses.proofs.commands.stream_is_no_job.Goals as goal
 

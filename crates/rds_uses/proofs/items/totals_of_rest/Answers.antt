@@ -1,7 +1,12 @@
-use Rattle.std.proofs.Common.{drop}
-use Rattle.rds_sync.specs.Totals.{totals_of}
-use Rattle.rds_uses.proofs.Rests.{totals_rest}
+use Rattle.rds_uses.proofs.Names.{Item, List, drop, subst, take, take-append-drop, totals_of, ℕ}
+use Rattle.rds_sync.specs.Counting.{IsRest, TotalsJoin}
 use Rattle.rds_uses.proofs.items.totals_of_rest.Goals as goal
+
+-- the totals of the rest of a list are those of all, less those of its first items
+totals_rest : (items : List Item) (n : ℕ) → TotalsJoin → IsRest (totals_of (take n items)) (totals_of items) (totals_of (drop n items))
+totals_rest items n join =
+    subst (λ (whole : List Item). IsRest (totals_of (take n items)) (totals_of whole) (totals_of (drop n items))) (take-append-drop n items)
+    (join (take n items) (drop n items))
 
 pub less-requires : goal.less-requires
 less-requires c =

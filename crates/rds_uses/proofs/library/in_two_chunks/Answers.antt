@@ -1,6 +1,5 @@
-use Rattle.std.proofs.Common.{◌++◌, [], refl}
-use Rattle.rds_abi.specs.Stream.{terms_of}
-use Rattle.rds_uses.proofs.NumberedStreams.{in_chunks}
+use Rattle.rds_uses.proofs.Names.{[], refl, terms_of, ◌++◌}
+use Rattle.rds_uses.proofs.Wholes.{in_chunks}
 use Rattle.rds_uses.proofs.library.in_two_chunks.Goals as goal
 
 pub returns-clause-items : goal.returns-clause-items

@@ -1,7 +1,4 @@
-use Rattle.std.proofs.Common.{◌++◌, ℕ, List, subst}
-use Rattle.std.proofs.lemmas.List.{take_all}
-use Rattle.rds_live.specs.StreamDecoder.{HasHeard}
-use Rattle.rds_abi.specs.Stream.{AreCompleted, AreWritten, stream_of, terms_of}
+use Rattle.rds_uses.proofs.Names.{AreCompleted, AreWritten, HasHeard, List, stream_of, subst, take_all, terms_of, ℕ, ◌++◌}
 use Rattle.rds_uses.proofs.library.push_all.Goals as goal
 
 pub returns-clause-heard : goal.returns-clause-heard

@@ -1,6 +1,4 @@
-use Rattle.std.proofs.Common.{◌≡◌, [], ◌++◌, ap, sym, subst, ◌∙◌}
-use Rattle.rds_sync.specs.Totals.{totals_of}
-use Rattle.rds_live.specs.StreamDecoder.{HasHeard, LiveOf, Terms, live_of, report_of}
+use Rattle.rds_uses.proofs.Names.{HasHeard, LiveOf, Terms, [], ap, live_of, report_of, subst, sym, totals_of, ◌++◌, ◌∙◌, ◌≡◌}
 use Rattle.rds_uses.proofs.live.counted_in_two.Goals as goal
 
 nothing_heard : (live : LiveOf) (r : Terms) → live ≡ live_of r [] → HasHeard live []

@@ -1,6 +1,4 @@
-use Rattle.std.proofs.Common.{◌++◌, ◌∙◌, List, ap, ap₂}
-use Rattle.rds_sync.specs.declared.item.Item.{Item}
-use Rattle.rds_live.specs.StreamDecoder.{LiveOf}
+use Rattle.rds_uses.proofs.Names.{Item, List, LiveOf, ap, ap₂, ◌++◌, ◌∙◌}
 use Rattle.rds_live.specs.Next.{completed, live_next}
 use Rattle.rds_uses.proofs.live.in_two_chunks.Goals as goal
 

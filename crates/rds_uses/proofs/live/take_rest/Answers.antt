@@ -1,8 +1,5 @@
-use Rattle.std.proofs.Common.{◌≡◌, ◌++◌, List, ℕ, ap, sym, subst, ◌∙◌}
-use Rattle.rds_sync.specs.declared.item.Item.{Item}
+use Rattle.rds_uses.proofs.Names.{Item, List, Terms, ap, complete, report_of, subst, sym, totals_of, ℕ, ◌++◌, ◌∙◌, ◌≡◌}
 use Rattle.rds_sync.specs.Advance.{group_item}
-use Rattle.rds_sync.specs.Totals.{totals_of}
-use Rattle.rds_live.specs.StreamDecoder.{Terms, complete, report_of}
 use Rattle.rds_uses.proofs.live.take_rest.Goals as goal
 
 -- what decoders by these terms give for the rest of a stream, and at its end

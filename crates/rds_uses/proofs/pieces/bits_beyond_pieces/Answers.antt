@@ -1,5 +1,4 @@
-use Rattle.std.proofs.Common.{arith}
-use Rattle.rds_stream.specs.Recording.{length_of}
+use Rattle.rds_uses.proofs.Names.{arith, length_of}
 use Rattle.rds_uses.proofs.pieces.bits_beyond_pieces.Goals as goal
 
 pub returns : goal.returns

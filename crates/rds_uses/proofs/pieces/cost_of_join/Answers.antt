@@ -1,15 +1,5 @@
-use Rattle.std.proofs.Common.{◌≡◌, ℕ, ◌+◌, ◌*◌, ◌≤◌, Option, Ok, Err, arith}
-use Rattle.std.specs.Result.{OnOk}
-use Rattle.rds_stream.specs.Recording.{Signal}
-use Rattle.rds_sync.specs.Convergence.{IsSound}
-use Rattle.rds_sync.specs.Rules.{RuleNumbers}
-use Rattle.rds_sync.specs.declared.loss.Loss.TheVariants.{Run}
-use Rattle.rds_sync.specs.declared.state.State.{State}
-use Rattle.rds_sync.specs.declared.state.State.TheVariants.{Searching}
-use Rattle.rds_pieces.specs.Meeting.{IsMeeting}
-use Rattle.rds_pieces.specs.RunOf.{RunOf}
+use Rattle.rds_uses.proofs.Names.{Err, IsMeeting, IsSound, MeetSoon, Ok, OnOk, Option, RuleNumbers, Run, RunOf, Searching, Signal, State, arith, ℕ, ◌*◌, ◌+◌, ◌≡◌, ◌≤◌}
 use Rattle.rds_pieces.specs.Seams.{seam_reads}
-use Rattle.rds_pieces.specs.Soon.{MeetSoon}
 use Rattle.rds_pieces.specs.declared.error.PieceError.{PieceError}
 use Rattle.rds_uses.proofs.SoundSignal.{cost_within}
 use Rattle.rds_uses.proofs.pieces.cost_of_join.Goals as goal

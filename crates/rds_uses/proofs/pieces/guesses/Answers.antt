@@ -1,6 +1,4 @@
-use Rattle.std.proofs.Common.{arith}
-use Rattle.std.proofs.lemmas.List.FromFn.{map-range_with_len_more}
-use Rattle.rds_pieces.specs.RunOf.{run_at}
+use Rattle.rds_uses.proofs.Names.{arith, map-range_with_len_more, run_at}
 use Rattle.rds_uses.proofs.pieces.guesses.Goals as goal
 
 pub loop-j-preserved : goal.loop-j-preserved

@@ -1,6 +1,5 @@
-use Rattle.std.proofs.Common.{◌≡◌, map}
+use Rattle.rds_uses.proofs.Names.{map, run_at, ◌≡◌}
 use Rattle.std.specs.List.{range_with_len}
-use Rattle.rds_pieces.specs.RunOf.{run_at}
 use Rattle.rds_uses.proofs.pieces.guesses.Given as goal
 
 abbrev pub invariant-loop-j : goal.invariant-loop-j

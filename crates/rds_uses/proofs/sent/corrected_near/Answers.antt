@@ -1,6 +1,4 @@
-use Rattle.std.proofs.Common.{◌≡◌, arith}
-use Rattle.rds_code.specs.declared.offset.Offset.TheVariants.{A}
-use Rattle.rds_code.specs.declared.reading.Wanted.TheVariants.{Either}
+use Rattle.rds_uses.proofs.Names.{A, Either, arith, ◌≡◌}
 use Rattle.rds_code.specs.declared.reading.Reading.TheVariants.{Corrected}
 use Rattle.rds_code.specs.Reading.{reading}
 use Rattle.rds_uses.proofs.SentAndHeard.{first-offset}

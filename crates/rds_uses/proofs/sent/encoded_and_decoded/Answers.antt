@@ -1,8 +1,5 @@
-use Rattle.std.proofs.Common.{ap, ◌∙◌}
-use Rattle.rds_stream.specs.Recording.{Signal}
+use Rattle.rds_uses.proofs.Names.{Signal, ap, report_items, totals_of, ◌∙◌}
 use Rattle.rds_sync.specs.Decoding.{ItemsOf}
-use Rattle.rds_sync.specs.Report.{report_items}
-use Rattle.rds_sync.specs.Totals.{totals_of}
 use Rattle.rds_uses.proofs.SentAndHeard.{sent-report}
 use Rattle.rds_uses.proofs.sent.encoded_and_decoded.Goals as goal
 

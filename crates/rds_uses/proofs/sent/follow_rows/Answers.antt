@@ -1,5 +1,4 @@
-use Rattle.std.proofs.Common.{◌≡◌, []}
-use Rattle.rds_live.specs.StreamDecoder.{Terms}
+use Rattle.rds_uses.proofs.Names.{Terms, [], ◌≡◌}
 use Rattle.rds_tool.specs.Following.{listed}
 use Rattle.rds_uses.proofs.Outcomes.{given_back, written}
 use Rattle.rds_uses.proofs.sent.follow_rows.Goals as goal

@@ -1,6 +1,5 @@
-use Rattle.std.proofs.Common.{sym, ◌∙◌, eq-eqb}
+use Rattle.rds_uses.proofs.Names.{eq-eqb, eqb-true, false≢true, sym, ◌∙◌}
 use Rattle.std.specs.Int.Count.{ones}
-use Rattle.std.proofs.lemmas.Bool.{eqb-true, false≢true}
 use Rattle.rds_uses.proofs.sent.has_two_errors.Goals as goal
 
 pub returns-then-is_block : goal.returns-then-is_block

@@ -1,10 +1,9 @@
-use Rattle.std.proofs.Common.{◌∙◌}
-use Rattle.rds_uses.proofs.SentAndHeard.{if-ok}
+use Rattle.rds_uses.proofs.Names.{IfOk-weaker, ◌∙◌}
 use Rattle.rds_uses.proofs.sent.heard_and_decoded.Goals as goal
 
 pub returns : goal.returns
 returns c =
     let range = c.loss-loss.ensures.range in
-    if-ok c.decode_plain.result (λ report counted words groups whole heard.
+    IfOk-weaker c.decode_plain.result _ _ (λ report counted words groups whole heard.
     counted ∙ (c.sent_groups_are_listed.ensures c.args.recording.now c.args.rules.now words groups range.loss.0 range.some_reach range.burst whole heard).1)
     c.decode_plain.ensures.totals

@@ -1,8 +1,5 @@
-use Rattle.std.proofs.Common.{◌+◌, Some, ap, sym, ◌∙◌, arith, length, ◌++◌, ◌∷◌}
+use Rattle.rds_uses.proofs.Names.{D, Signal, Some, ap, arith, bits_sent, length, offset_at, sym, ungapped, ◌++◌, ◌+◌, ◌∙◌, ◌∷◌}
 use Rattle.std.specs.Int.Bits.{xor_zero_r}
-use Rattle.rds_code.specs.declared.offset.Offset.TheVariants.{D}
-use Rattle.rds_stream.specs.Recording.{Signal, offset_at, ungapped}
-use Rattle.rds_sync.specs.Sent.{bits_sent}
 use Rattle.rds_uses.proofs.SentAndHeard.{offset-heard}
 use Rattle.rds_uses.proofs.sent.offset_of_last_block.Goals as goal
 

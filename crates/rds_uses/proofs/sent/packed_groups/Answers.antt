@@ -1,7 +1,4 @@
-use Rattle.std.proofs.Common.{◌≡◌, ℕ, [], List, ◌++◌, ap, ap₂, sym, ◌∙◌, arith, inl, inr, flat_map, take, get_or}
-use Rattle.std.proofs.lemmas.Bool.{cases_lt}
-use Rattle.std.proofs.lemmas.List.{flat_map_more, take_more}
-use Rattle.rds_sync.specs.Sent.{packed_group}
+use Rattle.rds_uses.proofs.Names.{List, [], ap, ap₂, arith, cases_lt, flat_map, flat_map_more, get_or, inl, inr, packed_group, sym, take, take_more, ℕ, ◌++◌, ◌∙◌, ◌≡◌}
 use Rattle.rds_uses.proofs.SentAndHeard.{all-small, four-small}
 use Rattle.rds_uses.proofs.sent.packed_groups.Goals as goal
 

@@ -1,5 +1,4 @@
-use Rattle.std.proofs.Common.{◌≡◌, ℕ, [], ◌<◌, ◌^◌, flat_map, take, get_or, slice_index}
-use Rattle.rds_sync.specs.Sent.{packed_group}
+use Rattle.rds_uses.proofs.Names.{[], flat_map, get_or, packed_group, slice_index, take, ℕ, ◌<◌, ◌^◌, ◌≡◌}
 use Rattle.rds_uses.proofs.sent.packed_groups.Given as goal
 
 abbrev pub invariant-loop-group : goal.invariant-loop-group

@@ -1,7 +1,4 @@
-use Rattle.std.proofs.Common.{◌≡◌, Some, bit_xor, refl}
-use Rattle.std.proofs.lemmas.Bool.{ne_eqb}
-use Rattle.rds_code.specs.Offsets.{number, offset_of}
-use Rattle.rds_code.specs.Remainder.{rem}
+use Rattle.rds_uses.proofs.Names.{Some, bit_xor, ne_eqb, number, offset_of, refl, rem, ◌≡◌}
 use Rattle.rds_uses.proofs.sent.shows_two_bits.Goals as goal
 
 pub returns-in-Some : goal.returns-in-Some

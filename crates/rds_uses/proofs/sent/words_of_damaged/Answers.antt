@@ -1,12 +1,7 @@
-use Rattle.std.proofs.Common.{◌≡◌, ℕ, List, Some, ap, ◌∙◌, ◌++◌, ◌∷◌, [], arith, flat_map, get_or, slice_index, subst, sym}
-use Rattle.rds_code.specs.declared.offset.Offset.TheVariants.{A, B, D}
+use Rattle.rds_uses.proofs.Names.{A, B, D, GroupIsHeard, List, Signal, Some, [], ap, arith, bits_with_damage, flat_map, four_words, get_or, info_of, slice_index, subst, sym, ungapped, ℕ, ◌++◌, ◌∙◌, ◌∷◌, ◌≡◌}
 use Rattle.rds_code.specs.Encoding.{third_offset}
-use Rattle.rds_stream.specs.Recording.{Signal, ungapped}
-use Rattle.rds_sync.specs.Groups.{info_of}
-use Rattle.rds_sync.specs.Sent.{GroupIsHeard, bits_with_damage}
 use Rattle.rds_sync.specs.declared.item.Block.{Block}
 use Rattle.rds_sync.specs.declared.item.Group.{Group}
-use Rattle.rds_uses.specs.Received.{four_words}
 use Rattle.rds_uses.proofs.SentAndHeard.{word-sent}
 use Rattle.rds_uses.proofs.sent.words_of_damaged.Goals.{After-info-4}
 use Rattle.rds_uses.proofs.sent.words_of_damaged.Goals as goal
@@ -17,18 +12,12 @@ words-read c words damages heard =
     let read = c.damaged_groups_are_corrected.ensures c.args.recording.now c.args.rules.now 1 c.args.place words damages (omega arith) (omega arith)
     (omega (arith, c.burst.ensures.range.burst)) heard in
     let blocks = ap (λ (g : Group). g.blocks) (c.requires ∙ read) in
-    let one : c.info.result ≡ Some (slice_index words 0) =
-    c.info.ensures ∙ ap (λ (all : List Block). info_of (get_or all 0 c.index-group-0.result)) blocks
-    ∙ word-sent A (slice_index words 0) (slice_index damages 0) in
-    let two : c.info-2.result ≡ Some (slice_index words 1) =
-    c.info-2.ensures ∙ ap (λ (all : List Block). info_of (get_or all 1 c.index-group-1.result)) blocks
-    ∙ word-sent B (slice_index words 1) (slice_index damages 1) in
+    let read_at = λ (k : ℕ) (other : Block). ap (λ (all : List Block). info_of (get_or all k other)) blocks in
+    let one : c.info.result ≡ Some (slice_index words 0) = c.info.ensures ∙ read_at 0 c.index-group-0.result ∙ word-sent A (slice_index words 0) (slice_index damages 0) in
+    let two : c.info-2.result ≡ Some (slice_index words 1) = c.info-2.ensures ∙ read_at 1 c.index-group-1.result ∙ word-sent B (slice_index words 1) (slice_index damages 1) in
     let three : c.info-3.result ≡ Some (slice_index words 2) =
-    c.info-3.ensures ∙ ap (λ (all : List Block). info_of (get_or all 2 c.index-group-2.result)) blocks
-    ∙ word-sent (third_offset (slice_index words 1)) (slice_index words 2) (slice_index damages 2) in
-    let four : c.info-4.result ≡ Some (slice_index words 3) =
-    c.info-4.ensures ∙ ap (λ (all : List Block). info_of (get_or all 3 c.index-group-3.result)) blocks
-    ∙ word-sent D (slice_index words 3) (slice_index damages 3) in
+    c.info-3.ensures ∙ read_at 2 c.index-group-2.result ∙ word-sent (third_offset (slice_index words 1)) (slice_index words 2) (slice_index damages 2) in
+    let four : c.info-4.result ≡ Some (slice_index words 3) = c.info-4.ensures ∙ read_at 3 c.index-group-3.result ∙ word-sent D (slice_index words 3) (slice_index damages 3) in
     cc
 
 pub returns-clause-heard : goal.returns-clause-heard

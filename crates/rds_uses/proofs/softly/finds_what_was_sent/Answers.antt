@@ -1,11 +1,4 @@
-use Rattle.std.proofs.Common.{◌≡◌, ℕ, ◌≤◌, List, Option, None, Some, sym, subst, arith, bit_xor}
-use mathlib.Core.Path.{ap₂}
-use Rattle.std.proofs.lemmas.Nat.{xor_lt}
-use Rattle.rds_code.specs.declared.offset.Offset.{Offset}
-use Rattle.rds_code.specs.declared.reading.Wanted.{Wanted}
-use Rattle.rds_soft.specs.declared.correction.Correction.{Correction}
-use Rattle.rds_soft.specs.Laws.{HasOneNearest}
-use Rattle.rds_soft.specs.Nearest.{IsNearest, IsCorrection}
+use Rattle.rds_uses.proofs.Names.{Correction, HasOneNearest, IsCorrection, IsNearest, List, None, Offset, Option, Some, Wanted, ap₂, arith, bit_xor, subst, sym, xor_lt, ℕ, ◌≡◌, ◌≤◌}
 use Rattle.rds_uses.proofs.softly.finds_what_was_sent.Goals as goal
 
 found_is : HasOneNearest → (w x : ℕ) (wanted : Wanted) (confidences : List ℕ) (margin : ℕ) (o : Offset) (wrong : ℕ) (found : Option Correction) → 1 ≤ margin

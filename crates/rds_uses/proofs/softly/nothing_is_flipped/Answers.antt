@@ -1,8 +1,4 @@
-use Rattle.std.proofs.Common.{◌≡◌, ℕ, ◌<◌, List, Option, None, Some, IfSome, slice_index}
-use Rattle.rds_code.specs.declared.reading.Wanted.{Wanted}
-use Rattle.rds_soft.specs.declared.correction.Correction.{Correction}
-use Rattle.rds_soft.specs.Laws.{SureSymbolsStay}
-use Rattle.rds_soft.specs.Nearest.{IsCorrection, top}
+use Rattle.rds_uses.proofs.Names.{Correction, IfSome, IsCorrection, List, None, Option, Some, SureSymbolsStay, Wanted, slice_index, top, ℕ, ◌<◌, ◌≡◌}
 use Rattle.rds_uses.proofs.softly.nothing_is_flipped.Goals as goal
 
 none_flipped : SureSymbolsStay → (w x : ℕ) (wanted : Wanted) (confidences : List ℕ) (margin : ℕ) (found : Option Correction)

@@ -1,5 +1,4 @@
-use Rattle.std.proofs.Common.{◌≡◌, ℕ, None, Option, Some, ap, ◌∙◌}
-use Rattle.rds_stream.specs.Recording.{Signal, heard, reading_heard, window}
+use Rattle.rds_uses.proofs.Names.{None, Option, Signal, Some, ap, heard, reading_heard, window, ℕ, ◌∙◌, ◌≡◌}
 use Rattle.rds_uses.proofs.GapFacts.{heard-clear, heard-touched}
 use Rattle.rds_uses.proofs.stream.block_with_gaps.Goals.{After-read_heard-read}
 use Rattle.rds_uses.proofs.stream.block_with_gaps.Goals as goal

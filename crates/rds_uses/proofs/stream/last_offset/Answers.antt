@@ -1,5 +1,4 @@
-use Rattle.std.proofs.Common.{◌≡◌, ◌-◌, ℕ, Option, ap, sym, ◌∙◌, arith}
-use Rattle.rds_stream.specs.Recording.{heard, length_of, offset_heard}
+use Rattle.rds_uses.proofs.Names.{Option, ap, arith, heard, length_of, offset_heard, sym, ℕ, ◌-◌, ◌∙◌, ◌≡◌}
 use Rattle.rds_uses.proofs.GapFacts.{off-heard}
 use Rattle.rds_uses.proofs.stream.last_offset.Goals as goal
 

@@ -1,10 +1,4 @@
-use Rattle.std.proofs.Common.{◌≡◌, ◌+◌, ◌-◌, ℕ, List, [], ap, refl, true, ◌∙◌, arith}
-use Rattle.rds_sync.specs.declared.item.Item.{Item}
-use Rattle.rds_sync.specs.declared.state.State.{State}
-use Rattle.rds_sync.specs.declared.state.State.TheVariants.{Searching}
-use Rattle.rds_sync.specs.Step.{run, step, items_at, after_bit}
-use Rattle.rds_stream.specs.Recording.{Signal, touched}
-use Rattle.rds_sync.specs.Rules.{RuleNumbers}
+use Rattle.rds_uses.proofs.Names.{Item, List, RuleNumbers, Searching, Signal, State, [], after_bit, ap, arith, items_at, refl, run, step, touched, true, ℕ, ◌+◌, ◌-◌, ◌∙◌, ◌≡◌}
 use Rattle.rds_uses.proofs.GapFacts.{acquired-touched}
 use Rattle.rds_uses.proofs.stream.nothing_acquired_in_gap.Goals as goal
 

@@ -1,5 +1,4 @@
-use Rattle.std.proofs.Common.{ℕ, Option, ap, sym, ◌∙◌}
-use Rattle.rds_stream.specs.Recording.{heard, offset_heard}
+use Rattle.rds_uses.proofs.Names.{Option, ap, heard, offset_heard, sym, ℕ, ◌∙◌}
 use Rattle.rds_stream.specs.Tape.{TapeState}
 use Rattle.rds_uses.proofs.GapFacts.{off-heard}
 use Rattle.rds_uses.proofs.stream.offset_on_tape.Goals as goal

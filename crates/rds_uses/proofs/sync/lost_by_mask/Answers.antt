@@ -1,5 +1,4 @@
-use Rattle.std.proofs.Common.{◌≡◌, ℕ, ◌-◌, ◌∙◌, Bool, ap₂, arith, cond, min}
-use Rattle.std.proofs.lemmas.Bool.{lt-ltb}
+use Rattle.rds_uses.proofs.Names.{Bool, ap₂, arith, cond, lt-ltb, min, ℕ, ◌-◌, ◌∙◌, ◌≡◌}
 use Rattle.rds_uses.proofs.sync.lost_by_mask.Goals as goal
 
 pub returns-clause-newest : goal.returns-clause-newest

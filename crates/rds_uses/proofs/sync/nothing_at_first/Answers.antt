@@ -1,7 +1,4 @@
-use Rattle.std.proofs.Common.{◌≡◌, ℕ, ◌<◌, ◌≤◌, Option, None, Some, refl, arith}
-use Rattle.rds_stream.specs.Recording.{Signal}
-use Rattle.rds_sync.specs.Acquiring.{acquired}
-use Rattle.rds_sync.specs.Rules.{RuleNumbers}
+use Rattle.rds_uses.proofs.Names.{None, Option, RuleNumbers, Signal, Some, acquired, arith, refl, ℕ, ◌<◌, ◌≡◌, ◌≤◌}
 use Rattle.rds_uses.proofs.sync.nothing_at_first.Goals as goal
 
 none_early : (b : Signal) (rules : RuleNumbers) (i : ℕ) (found : Option ℕ) → i < 51 → ((x : ℕ) → found ≡ Some x → 51 ≤ i) → found ≡ None

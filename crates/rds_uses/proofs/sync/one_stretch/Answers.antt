@@ -1,5 +1,4 @@
-use Rattle.std.proofs.Common.{◌≤◌, ℕ, sym, subst}
-use Rattle.std.proofs.lemmas.Bool.{le-leb}
+use Rattle.rds_uses.proofs.Names.{le-leb, subst, sym, ℕ, ◌≤◌}
 use Rattle.rds_uses.proofs.sync.one_stretch.Goals as goal
 
 pub returns-clause-no_further : goal.returns-clause-no_further

@@ -1,4 +1,4 @@
-use Rattle.rds_uses.proofs.WrittenLists.{alike}
+use Rattle.rds_uses.proofs.Outcomes.{alike}
 use Rattle.rds_uses.proofs.tool.listed_alike.Goals as goal
 
 pub returns : goal.returns

@@ -1,5 +1,6 @@
-use Rattle.rds_uses.proofs.Outcomes.{if-some, listed}
+use Rattle.rds_uses.proofs.Names.{IfSome_then}
+use Rattle.rds_uses.proofs.Outcomes.{listed}
 use Rattle.rds_uses.proofs.tool.listing.Goals as goal
 
 pub returns : goal.returns
-returns g c = if-some c.written.result (λ text is. listed c.args.bytes.now text.items c.requires.few c.args.rules.now c.args.job.now c.requires.job is) c.written.ensures
+returns g c = IfSome_then c.written.result c.written.ensures (λ text is. listed c.args.bytes.now text.items c.requires.few c.args.rules.now c.args.job.now c.requires.job is)

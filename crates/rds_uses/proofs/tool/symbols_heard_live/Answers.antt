@@ -1,13 +1,9 @@
-use Rattle.std.proofs.Common.{◌≡◌, ◌≢◌, ◌++◌, ◌∙◌, [], ap, Err, List, Ok, Option, refl, Result, Some, subst, ℕ, Bool}
-use Rattle.std.specs.Prelude.{IfErr, OnOk}
+use Rattle.rds_uses.proofs.Names.{Bool, Err, List, Ok, OnOk, Option, Read, Result, ToolError, Write, Writes, ap, append-nil, refl, subst, ℕ, ◌++◌, ◌∙◌, ◌≡◌}
+use Rattle.std.specs.Prelude.{IfErr}
 use Rattle.std.specs.Io.KnownBytes.{Appends}
-use Rattle.std.proofs.lemmas.List.{append-nil}
 use Rattle.rds_soft.specs.SoftStream.{SoftTerms}
 use Rattle.rds_tool.specs.History.{Gave}
-use Rattle.rds_tool.specs.Outcome.{Writes}
 use Rattle.rds_tool.specs.SoftFollowing.{IsSoftFollowed, SoftBreaksOff, soft_listed, soft_rows_so_far}
-use Rattle.rds_tool.specs.declared.error.ToolError.{ToolError}
-use Rattle.rds_tool.specs.declared.error.ToolError.TheVariants.{Read, Write}
 use Rattle.rds_tool.proofs.Followed.{differ}
 use Rattle.rds_uses.proofs.tool.symbols_heard_live.Goals as goal
 
