@@ -13,6 +13,7 @@ import pytest
 
 from browser import LACKING, wait_until
 from conftest import monitor
+from geometry import LEFT, RIGHT
 from rds_monitor.content.charset import printable
 from rds_monitor.page.html import page_of
 from test_report import EVIL, station, told_line
@@ -144,7 +145,7 @@ def test_zoom_by_keys(opened: Any) -> None:
     page = opened("one")
     whole, chart = seconds_in_view(page), all_of(page, ".chart")[0]
     page.execute_script("arguments[0].focus()", chart)
-    chart.send_keys("++")
+    chart.send_keys("+=")
     assert abs(seconds_in_view(page) - whole / 4) <= 1
     chart.send_keys("-")
     assert abs(seconds_in_view(page) - whole / 2) <= 1
@@ -155,10 +156,22 @@ def test_zoom_by_keys(opened: Any) -> None:
     assert begin_of_view(page) == middle
     chart.send_keys(Keys.HOME)
     assert seconds_in_view(page) == whole
+    # With a further key they are the browser's own.
+    press = "arguments[0].dispatchEvent(new KeyboardEvent('keydown', {key: '+', [arguments[1]]: true}))"
+    for name in ("ctrlKey", "metaKey", "altKey"):
+        page.execute_script(press, chart, name)
+        assert seconds_in_view(page) == whole
+    # By the wheel the second below the pointer stays where it is.
+    left, width = page.execute_script(
+        "const it = arguments[0].getBoundingClientRect(); return [it.left, it.width]", chart
+    )
+    pointed, begin = whole * (300 - left - LEFT) / (width - LEFT - RIGHT), begin_of_view(page)
     for up, share in ((-1, 0.8), (1, 1.0)):
         wheel = "arguments[0].dispatchEvent(new WheelEvent('wheel', {deltaY: arguments[1], clientX: 300}))"
         page.execute_script(wheel, chart, up)
         assert abs(seconds_in_view(page) - share * whole) <= 1
+        moved = datetime.fromisoformat(begin_of_view(page)[:19]) - datetime.fromisoformat(begin[:19])
+        assert abs(moved.total_seconds() - (1 - share) * pointed) < 5 and pointed > 500
     for name, seconds in (("minute", 60), ("hour", 3600), ("day", whole)):
         click(page, name)
         assert seconds_in_view(page) == seconds
@@ -284,6 +297,7 @@ def test_it_is_read_aloud(opened: Any) -> None:
         assert "blocks sent are valid" in chart.get_attribute("aria-label")
         assert chart.get_attribute("tabindex") == "0"
     assert all(element.get_attribute("aria-label") for element in all_of(page, "section"))
+    assert len(all_of(page, "output[aria-live=polite]")) == 3
     assert all(element.text for element in all_of(page, "caption")) and len(all_of(page, "html[lang]")) == 1
 
 
@@ -300,14 +314,14 @@ def test_dark_and_light(opened: Any) -> None:
 
 
 # By page and medium: elements, and what the style makes of them.
-HELD, ALARM = "rgb(255, 255, 255)", "rgb(192, 57, 43)"
+HELD, ALARM, MISSING = "rgb(255, 255, 255)", "rgb(192, 57, 43)", "rgb(48, 96, 160)"
 STYLES = {
     ("one", "screen"): [
         (".chart text.held", "fill", HELD),
         (".chart", "overflow-x", "hidden"),
         (".chart svg", "display", "block"),
         (".chart rect", "shape-rendering", "crispedges"),
-        (".clock path, .axis path", "fill", "none"),
+        (".axis path", "fill", "none"),
         (".controls", "display", "flex"),
         (".wide", "overflow-x", "auto"),
         (".wide td", "white-space", "nowrap"),
@@ -315,6 +329,7 @@ STYLES = {
         ("bdi", "overflow-x", "hidden"),
         ("caption", "text-align", "left"),
     ],
+    ("years/Alpha-2025", "screen"): [(".clock path", "fill", "none"), (".clock path", "stroke", MISSING)],
     ("one", "print"): [(".controls", "display", "none"), (".chart", "break-inside", "avoid")],
     ("three", "print"): [
         ("section + section", "break-before", "page"),
