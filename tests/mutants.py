@@ -149,7 +149,7 @@ def fields_of(node: Any) -> Iterator[tuple[str, Any]]:
             yield "operand", negated(node.operand)
     elif isinstance(node, (ast.Tuple, ast.List, ast.Call, ast.Dict)):
         field = {ast.Call: "args", ast.Dict: "values"}.get(type(node), "elts")
-        if getattr(getattr(node, "func", None), "id", "") not in ("max", "min"):
+        if not re.fullmatch(r"(numpy\.)?(max|min)(imum)?", ast.unparse(getattr(node, "func", node))):
             yield from ((field, values) for values in swapped(getattr(node, field)))
     elif isinstance(node, (ast.IfExp, ast.If, ast.While)):
         yield "test", negated(node.test)

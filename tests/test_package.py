@@ -378,8 +378,9 @@ foreach(other 0.1 0.1...0.2 0.2...<1)
 endforeach()
 find_package(rds 0.2 REQUIRED)
 find_package(rds 0.2.0 EXACT REQUIRED)
-if(NOT rds_VERSION VERSION_EQUAL 0.2)
-  message(FATAL_ERROR "version ${rds_VERSION}")
+get_target_property(kind rds::static TYPE)
+if(NOT rds_VERSION VERSION_EQUAL 0.2 OR NOT kind STREQUAL "STATIC_LIBRARY" OR DEFINED _rds_libdir OR DEFINED _rds_includedir)
+  message(FATAL_ERROR "version ${rds_VERSION}, ${kind}, ${_rds_libdir} ${_rds_includedir}")
 endif()
 foreach(kind static rds)
   add_executable(${kind} first.c)
@@ -394,8 +395,9 @@ def test_programs_by_cmake(packages: Packages, tmp_path: Path, cases: Cases) -> 
     needs("cmake")
     (tmp_path / "first.c").write_text(first_program("c"))
     (tmp_path / "CMakeLists.txt").write_text(CMAKE)
-    # the folders of the packages are not where they were made for
-    folder = f"{packages.root}{packages.libdir}/cmake/rds"
+    # the folders of the packages are not where they were made for, and are reached by a link, as Debian has /lib
+    (tmp_path / "lib").symlink_to(packages.root / "usr/lib")
+    folder = f"{tmp_path}{packages.libdir.removeprefix('/usr')}/cmake/rds"
     wrote("cmake", "-S", tmp_path, "-B", tmp_path / "made", f"-Drds_DIR={folder}", timeout=300)
     wrote("cmake", "--build", tmp_path / "made", timeout=300)
     assert [packages.run_program(tmp_path / "made" / kind) for kind in ("static", "rds")] == [COUNTS, COUNTS]

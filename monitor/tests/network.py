@@ -214,7 +214,7 @@ class Network:
         self.watch = Watch(table, str(self.folder), *given)
 
     def _say(self, priority: str, text: str) -> None:
-        self.said.append(text)
+        self.said.append(f"{priority}: {text}")
 
     def _launch(self, words: Sequence[str], through: Sequence[str] = ()) -> Simulated:
         plans = self.plans.get(words[0], [])

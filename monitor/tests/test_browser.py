@@ -12,10 +12,10 @@ from typing import Any, Iterator, List
 import pytest
 
 from browser import LACKING, wait_until
-from conftest import encode, monitor
+from conftest import monitor
+from geometry import LEFT, RIGHT
 from rds_monitor.content.charset import printable
 from rds_monitor.page.html import page_of
-from sent import clock, group
 from test_report import EVIL, station, told_line
 from years import make_year
 
@@ -30,18 +30,6 @@ Keys: Any = None if LACKING else importlib.import_module("selenium.webdriver.com
 START = ("--start", "2026-03-29T00:30:00Z")
 SENT = "\u202eabc <img src=x onerror=alert(1)> A" + "\u0301" * 64 + "\x1b[31m 'q\" &lt;"
 HOSTILE = printable(SENT)
-
-
-def told_the_time(seconds: int, slow: float) -> bytes:
-    """A station whose minutes are longer than those of its bits by a share. It begins at 00:30 of 2026-03-29."""
-    groups, minute = [], 31
-    for n in range(int(seconds * 1187.5 / 104)):
-        if (n + 1) * 104 / 1187.5 >= (minute - 30) * 60 * (1 + slow):
-            groups.append(clock(61128, minute // 60, minute % 60, 0))
-            minute += 1
-        else:
-            groups.append(group("0A", n % 4, 0xE0E0, 0x4141))
-    return encode(groups)
 
 
 @pytest.fixture(scope="module")
@@ -61,8 +49,6 @@ def folder(tmp_path_factory: Any) -> Path:
     write(made, "year", "year.db")
     make_year(made / "years.db", ["Alpha"])
     assert monitor("report", "--into", "years", "years.db", cwd=made).returncode == 0
-    (made / "clock.bin").write_bytes(told_the_time(600, 0.001))
-    write(made, "clock", *START, "clock.bin")
     mix = {f"{n}A": 10 * n for n in range(1, 13)}
     events = [[10 + 30 * n, "pty", str(n + 1)] for n in range(210)]
     counted = told_line(
@@ -129,21 +115,6 @@ def follow(driver: Any, link: Any, end: str) -> None:
     )
 
 
-def test_zoom_by_buttons(opened: Any) -> None:
-    page = opened("one")
-    whole = seconds_in_view(page)
-    assert 7000 < whole < 7300
-    click(page, "in")
-    assert abs(seconds_in_view(page) - whole / 2) <= 1
-    click(page, "minute")
-    assert seconds_in_view(page) == 60
-    click(page, "left")
-    click(page, "out")
-    assert seconds_in_view(page) == 120
-    click(page, "whole")
-    assert seconds_in_view(page) == whole
-
-
 def test_zoom_from_a_year_to_a_minute(opened: Any) -> None:
     """At each zoom bars of blocks are drawn; the page of a year says 11 months of it."""
     page = opened("year")
@@ -174,7 +145,7 @@ def test_zoom_by_keys(opened: Any) -> None:
     page = opened("one")
     whole, chart = seconds_in_view(page), all_of(page, ".chart")[0]
     page.execute_script("arguments[0].focus()", chart)
-    chart.send_keys("++")
+    chart.send_keys("+=")
     assert abs(seconds_in_view(page) - whole / 4) <= 1
     chart.send_keys("-")
     assert abs(seconds_in_view(page) - whole / 2) <= 1
@@ -185,27 +156,25 @@ def test_zoom_by_keys(opened: Any) -> None:
     assert begin_of_view(page) == middle
     chart.send_keys(Keys.HOME)
     assert seconds_in_view(page) == whole
+    # With a further key they are the browser's own.
+    press = "arguments[0].dispatchEvent(new KeyboardEvent('keydown', {key: '+', [arguments[1]]: true}))"
+    for name in ("ctrlKey", "metaKey", "altKey"):
+        page.execute_script(press, chart, name)
+        assert seconds_in_view(page) == whole
+    # By the wheel the second below the pointer stays where it is.
+    left, width = page.execute_script(
+        "const it = arguments[0].getBoundingClientRect(); return [it.left, it.width]", chart
+    )
+    pointed, begin = whole * (300 - left - LEFT) / (width - LEFT - RIGHT), begin_of_view(page)
     for up, share in ((-1, 0.8), (1, 1.0)):
         wheel = "arguments[0].dispatchEvent(new WheelEvent('wheel', {deltaY: arguments[1], clientX: 300}))"
         page.execute_script(wheel, chart, up)
         assert abs(seconds_in_view(page) - share * whole) <= 1
+        moved = datetime.fromisoformat(begin_of_view(page)[:19]) - datetime.fromisoformat(begin[:19])
+        assert abs(moved.total_seconds() - (1 - share) * pointed) < 5 and pointed > 500
     for name, seconds in (("minute", 60), ("hour", 3600), ("day", whole)):
         click(page, name)
         assert seconds_in_view(page) == seconds
-
-
-def test_an_outage_is_seen_at_any_zoom(opened: Any) -> None:
-    page = opened("one")
-    rows = all_of(page, ".outages tbody tr")
-    assert len(rows) == 1 and 1.9 < float(rows[0].text.split()[-1]) < 2.3
-    for _ in range(3):
-        # Of two columns each may have another share.
-        assert len(all_of(page, "rect.outage")) in (1, 2) and sum(drawn(page, "outage")) >= 2
-        click(page, "in")
-        # It is in the middle of the second half.
-        click(page, "right")
-        if not all_of(page, "rect.outage"):
-            click(page, "left")
 
 
 def drawn(page: Any, kind: str, part: str = "width") -> List[float]:
@@ -269,9 +238,7 @@ while (texts.nextNode()) {
 return found;"""
 
 
-@pytest.mark.parametrize(
-    "name", ["years/index", "years/Alpha-2025", "years/Alpha-2025-03", "counted", "clock"]
-)
+@pytest.mark.parametrize("name", ["years/index", "years/Alpha-2025", "years/Alpha-2025-03", "counted"])
 def test_on_a_phone_no_word_breaks(opened: Any, name: str) -> None:
     page = opened(name)
     size = {"width": 360, "height": 740, "deviceScaleFactor": 1, "mobile": True}
@@ -283,17 +250,6 @@ def test_on_a_phone_no_word_breaks(opened: Any, name: str) -> None:
         assert page.execute_script("return document.documentElement.scrollWidth") == 360
     finally:
         page.execute_cdp_cmd("Emulation.clearDeviceMetricsOverride", {})
-
-
-def test_the_stations_clock(opened: Any) -> None:
-    """A lane shows how far it is from that of the recording: by a minute's 60 ms more each minute."""
-    page = opened("clock")
-    names = [element.text for element in all_of(page, ".chart svg > text")]
-    assert "station's clock, less that of the recording" in names
-    ((line,), (title,)) = all_of(page, ".clock path"), all_of(page, ".clock title")
-    assert len(re.findall("[ML]", line.get_attribute("d"))) + line.get_attribute("d").count(",") > 8
-    first, last = map(float, re.findall(r"(-?[\d.]+) s", title.get_attribute("textContent")))
-    assert -0.72 < first < -0.5 and -0.15 < last <= 0
 
 
 def test_local_time(opened: Any) -> None:
@@ -341,6 +297,7 @@ def test_it_is_read_aloud(opened: Any) -> None:
         assert "blocks sent are valid" in chart.get_attribute("aria-label")
         assert chart.get_attribute("tabindex") == "0"
     assert all(element.get_attribute("aria-label") for element in all_of(page, "section"))
+    assert len(all_of(page, "output[aria-live=polite]")) == 3
     assert all(element.text for element in all_of(page, "caption")) and len(all_of(page, "html[lang]")) == 1
 
 
@@ -357,14 +314,14 @@ def test_dark_and_light(opened: Any) -> None:
 
 
 # By page and medium: elements, and what the style makes of them.
-HELD, ALARM = "rgb(255, 255, 255)", "rgb(192, 57, 43)"
+HELD, ALARM, MISSING = "rgb(255, 255, 255)", "rgb(192, 57, 43)", "rgb(48, 96, 160)"
 STYLES = {
     ("one", "screen"): [
         (".chart text.held", "fill", HELD),
         (".chart", "overflow-x", "hidden"),
         (".chart svg", "display", "block"),
         (".chart rect", "shape-rendering", "crispedges"),
-        (".clock path, .axis path", "fill", "none"),
+        (".axis path", "fill", "none"),
         (".controls", "display", "flex"),
         (".wide", "overflow-x", "auto"),
         (".wide td", "white-space", "nowrap"),
@@ -372,6 +329,7 @@ STYLES = {
         ("bdi", "overflow-x", "hidden"),
         ("caption", "text-align", "left"),
     ],
+    ("years/Alpha-2025", "screen"): [(".clock path", "fill", "none"), (".clock path", "stroke", MISSING)],
     ("one", "print"): [(".controls", "display", "none"), (".chart", "break-inside", "avoid")],
     ("three", "print"): [
         ("section + section", "break-before", "page"),

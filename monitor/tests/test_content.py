@@ -534,10 +534,11 @@ def test_the_same_frequencies_in_another_order_are_the_same_list() -> None:
 
 
 def test_another_method_replaces_the_list() -> None:
-    held = {}
-    for event in events_of([group("0A", 8, pair, 0) for pair in 3 * A + 3 * [0xE312, 0x1278]]):
-        held[event.item] = event.value
-    assert held["af"] is None and held["af:89.3"]["same"] == [99500]
+    other = 3 * [0xE312, 0x1278]
+    for pairs, of_a, of_b in ((3 * A + other, None, by_b(89300, [99500])), (other + 3 * A, ALL_OF_A, None)):
+        events = events_of([group("0A", 8, pair, 0) for pair in pairs])
+        held = {event.item: event.value for event in events}
+        assert (held["af"], held["af:89.3"]) == (of_a, of_b)
 
 
 def test_a_wrong_pair_does_not_stay() -> None:

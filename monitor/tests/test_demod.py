@@ -352,6 +352,9 @@ def test_the_equaliser_is_on_by_default(echo: Array) -> None:
     assert equalised >= 24 > 10 >= plain
 
 
+TOLD = {"seconds": 8.1, "received": 0.262, "locked": 0.259, "first_lock_s": 6.0, "snr_db": 20.5}
+TOLD |= {"carrier_offset_hz": -3.2, "clock_offset_ppm": 0.0}
+SAID = "8.1 s, 26.2 % of its bits in valid blocks; coherent for 25.9 % of it, from 6.0 s on; signal to noise 20.5 dB; carrier -3.2 Hz"
 LEVELS = {"rds_khz": 2.25, "rds_to_pilot_db": -9.5, "rds_dbfs": -30.5}
 
 
@@ -362,13 +365,12 @@ LEVELS = {"rds_khz": 2.25, "rds_to_pilot_db": -9.5, "rds_dbfs": -30.5}
         ("rds_to_pilot_db rds_dbfs", "; level -9.5 dB relative to the pilot"),
         ("rds_dbfs", "; level -30.5 dBFS"),
         # A signal that is coherent only when it is equalised.
-        ("", ", clock +0.0 ppm"),
+        ("", ""),
     ],
 )
 def test_the_first_level_that_is_known_is_told(known: str, end: str) -> None:
-    told = received(mpx(SENT, RATE))[1]
-    told.update({name: value if name in known.split() else None for name, value in LEVELS.items()})
-    assert sentence({**told, "clock_offset_ppm": 0.0}).endswith(end)
+    levels = {name: value if name in known.split() else None for name, value in LEVELS.items()}
+    assert sentence({**TOLD, **levels}) == f"{SAID}, clock +0.0 ppm{end}"
 
 
 @pytest.mark.parametrize("form,level", [("s16", -40.0), ("f32", -30.5), ("u8", -40.0)])

@@ -45,10 +45,16 @@ def test_a_buffer_of_bytes_is_needed(station: bytes) -> None:
     every_second = numpy.repeat(flat, 2)[::2]
     parts = memoryview(station + b"x")[:-1], view.cast("c"), every_second
     assert all(librds.totals(data) == wanted for data in (bytearray(station), view, flat, *parts))
-    for data in (25000, "text", [1, 2], None, numpy.zeros(8, "i8"), numpy.zeros(8, bool)):
+    for data in (25000, "text", [1, 2], None, *(numpy.zeros(8, form) for form in "?hHiIlLefd")):
         for call in (librds.totals, librds.Follower().push):
             with pytest.raises(TypeError):
                 call(data)
+
+
+def test_no_room_is_lent_twice() -> None:
+    """Calls of several threads run at the same time."""
+    with librds._lent_room(0) as one, librds._lent_room(0) as other:
+        assert one is not other
 
 
 def refusal(call: Callable[[], object]) -> int:

@@ -2,6 +2,7 @@
 
 from __future__ import annotations
 
+import json
 from typing import Any, Iterator, List
 
 import numpy
@@ -12,7 +13,7 @@ from made import read
 from rds_monitor.content.decoder import Decoder
 from rds_monitor.content.redsea import Redsea
 from rds_monitor.rows.clock import Clock
-from rds_monitor.rows.items import CORRECTED, Rows
+from rds_monitor.rows.items import CORRECTED, LOST, Rows
 from sent import Damage, group, label, name, rows_of, text
 
 
@@ -71,8 +72,12 @@ def test_the_text_of_a_group_is_made_once(rows: Rows, monkeypatch: Any) -> None:
     ids=["country", "tmc_id", "language", "pin"],
 )
 def test_a_group_before_its_item_counts(words: Any, key: str) -> None:
-    """A corrected one tells no item at first, and the item that a valid one told since."""
-    sent = [*name(b"NAME") * 5, words, words, words]
+    """A corrected one tells no item at first, and the item that a valid one told since. One that is not whole tells its block 2."""
+    sent = [*name(b"NAME") * 5, words, words, words, words]
     block = 4 if key == "prog_item_started" else 3
-    damage = [(number, Damage(block, CORRECTED)) for number in (20, 22)]
-    assert [key in line for line in [*lines(rows_of(sent, damage), [])][-3:]] == [False, True, True]
+    damage = [
+        (number, Damage(block, kind)) for number, kind in ((20, CORRECTED), (22, CORRECTED), (23, LOST))
+    ]
+    found = [*lines(rows_of(sent, damage), [])][-4:]
+    assert [key in line for line in found] == [False, True, True, False]
+    assert [*json.loads(found[3])] == ["pi", "group", "tp", "prog_type"]

@@ -9,7 +9,6 @@ import json
 import os
 import re
 import sqlite3
-from collections import Counter
 from pathlib import Path
 from types import SimpleNamespace
 from typing import Any, Dict, List, Tuple
@@ -23,7 +22,6 @@ from rds_monitor.page.line import COUNTS, Counted, Lanes, TimeLine, bad_percent,
 from rds_monitor.page.overview import Span, last_minute, line_of, polyline, tile_of
 from rds_monitor.page.stored import StoredStation
 
-import rich
 from years import MINUTES, OUTAGE, RATE, make_year
 
 pytest.importorskip("jinja2")
@@ -258,7 +256,7 @@ def test_stations_of_a_database(tmp_path: Path, station: bytes) -> None:
     bad.write_bytes(station[:10000] + bytes(2000) + station[12000:])
     for name, path, start in (
         ("Alpha", good, "00:30:00"),
-        ("Alpha", bad, "01:30:00"),
+        ("Alpha", bad, "19:30:00"),
         ("Beta <b>", bad, "02:30:00"),
     ):
         words = (
@@ -275,7 +273,10 @@ def test_stations_of_a_database(tmp_path: Path, station: bytes) -> None:
     told = {datum["name"]: datum for datum in data_of(page(database))}
     assert sorted(told) == ["Alpha", "Beta <b>"]
     alpha, alone = told["Alpha"], data_of(page(good))[0]
-    assert [row[0] for row in alpha["sessions"]] == [0, 3600]
+    assert [row[0] for row in alpha["sessions"]] == [0, 68400]
+    # The day of the tile ends with the second one.
+    first = int((86400 - alpha["end"]) // 900)
+    assert [at for at, bad in enumerate(alpha["tile"]["line"]) if bad is not None] == [first, 95]
     counts = [alone["totals"]["sent"], alone["totals"]["valid"]]
     assert alpha["sessions"][0] == [0, *alone["sessions"][0][1:3], *counts]
     events = events_of(alone)
@@ -283,49 +284,9 @@ def test_stations_of_a_database(tmp_path: Path, station: bytes) -> None:
     assert alpha["held"]["PS"] == "PAXOLIDU" and alpha["held"]["CT"].endswith("s from the recording's clock")
     outages = data_of(page(bad))[0]["outages"]
     assert alpha["outages"] == [
-        [pytest.approx(row[0] + 3600), pytest.approx(row[1] + 3600), row[2]] for row in outages
+        [pytest.approx(row[0] + 68400), pytest.approx(row[1] + 68400), row[2]] for row in outages
     ]
     assert outages
-
-
-SAME = "start end totals bad_percent outages outage_count sessions events texts lanes more".split()
-
-
-@needs_d3
-def test_a_database_tells_what_its_recording_does(tmp_path: Path) -> None:
-    """All but its steps of two minutes, whose counts, group mix and clock are those of the seconds and minutes in it."""
-    data, words = rich.one().bits(), ("--start", "2026-03-29T02:30:00Z", "--rate", str(rich.RATE))
-    (tmp_path / "it.bin").write_bytes(data)
-    assert monitor("db", *words, tmp_path / "it.db", tmp_path / "it.bin").returncode == 0
-    stored, alone = (
-        data_of(page(*asked))[0] for asked in ([tmp_path / "it.db"], [*words, tmp_path / "it.bin"])
-    )
-    assert {name: stored[name] for name in SAME} == {name: alone[name] for name in SAME}
-    assert stored["tile"]["line"] == alone["tile"]["line"] and stored["more"] == 4
-    assert len({*stored["totals"].values()}) == 5 and stored["outage_count"] == 3
-    noise, length = sum(row[2] for row in stored["outages"]), 8 * len(data) / rich.RATE
-    known = {"received": length - noise, "noise": noise, "down": 0.0, "unknown": 0.0}
-    assert stored["available"] == pytest.approx(known, abs=2e-3)
-    assert {**stored["held"], "CT": ""} == {**alone["held"], "CT": ""} and stored["held"]["PS"] == "SCROLL 9"
-    with sqlite3.connect(tmp_path / "it.db") as database:
-        database.execute("UPDATE sessions SET quiet_place = end_place - 2 * rate")
-    lasting = data_of(page(tmp_path / "it.db"))[0]["outages"][3:]
-    assert lasting == [[pytest.approx(value, abs=1e-3) for value in (length - 2, length, 2)]]
-    counted = [dict(told["parts"][0], at=0) for told in (stored, alone)]
-    for name in ("sent", "corrected", "lost", "missing"):
-        steps, seconds = (
-            numpy.frombuffer(base64.b64decode(part[name]), f"<u{part['bytes']}").astype("i8")
-            for part in counted
-        )
-        assert steps.tolist() == numpy.add.reduceat(seconds, range(0, len(seconds), 120)).tolist(), name
-    for k, (at, after, mix) in enumerate(stored["mix"]):
-        assert (at, after) == (120 * k, 120 * k + 120)
-        assert Counter(mix) == sum((Counter(told) for *_, told in alone["mix"][2 * k : 2 * k + 2]), Counter())
-    times, offsets = zip(*alone["clock"])
-    assert times == tuple(60 * k + 60 for k in range(14)) and min(offsets) < max(offsets)
-    assert stored["clock"] == [
-        [60 + 60 * k, pytest.approx(sum(offsets[k : k + 2]) / 2, abs=1e-3)] for k in range(0, 14, 2)
-    ]
 
 
 @pytest.mark.parametrize(

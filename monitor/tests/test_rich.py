@@ -17,7 +17,7 @@ import shutil
 import sqlite3
 from collections import Counter
 from pathlib import Path
-from typing import Dict, Iterator, List, Tuple
+from typing import Any, Dict, Iterator, List, Tuple
 from unittest import mock
 
 import numpy
@@ -172,12 +172,16 @@ def watched(folder: Path) -> Iterator[None]:
 # ---- commands
 
 
-def data_of(page: str) -> List[str]:
-    """What a page's script shows, a line per list."""
+def stations_of(page: str) -> List[Dict[str, Any]]:
+    """What a page's script shows."""
     found = re.search(r'<script type="application/json" id="data">(.*?)</script>', page, re.S)
-    assert found
+    return list(json.loads(found[1])) if found else []
+
+
+def data_of(page: str) -> List[str]:
+    """The same, a line per list."""
     lines = []
-    for station in json.loads(found[1]):
+    for station in stations_of(page):
         for part in station["parts"]:
             part.update(
                 {name: len(text) for name, text in part.items() if isinstance(text, str) and name != "bytes"}
@@ -211,7 +215,7 @@ def shown(words: List[str]) -> List[str]:
         done = run(*words[1:], data=data)
     lines = done.out.splitlines()
     if done.out.startswith("<!"):
-        lines = [*text_of(done.out), *(data_of(done.out) if 'id="data"' in done.out else [])]
+        lines = [*text_of(done.out), *data_of(done.out)]
     return [
         *lines,
         *(f"! {line}" for line in done.err.splitlines()),
@@ -287,10 +291,7 @@ def test_a_watch_judges_as_its_listing_does(tmp_path: Path) -> None:
 
 def test_seconds_of_the_page(folder: Path) -> None:
     """The page's script has them as numbers of a byte each."""
-    page = output("report", *CLOCKS["@one"].split())
-    found = re.search(r'<script type="application/json" id="data">(.*?)</script>', page, re.S)
-    assert found
-    (part,) = json.loads(found[1])[0]["parts"]
+    (part,) = stations_of(output("report", *CLOCKS["@one"].split()))[0]["parts"]
     read = {name: list(base64.b64decode(part[name])) for name in ("sent", "corrected", "lost", "missing")}
     valid = [sent - sum(others) for sent, *others in zip(*read.values())]
     wanted = ONE.counts(1)
@@ -321,23 +322,30 @@ def test_the_page_of_a_database_is_that_of_its_recording(of: rich.Recording, fol
     clock = ["--start", utc_text(of.start // 120 * 120), "--rate", str(rich.RATE)]
     path = f"{of.name}-alone.db"
     output("db", "--station", f"{of.name}.bin", *clock, path, f"{of.name}.bin")
-    pages = output("report", *clock, f"{of.name}.bin"), output("report", path)
-    found = [
-        re.search(r'<script type="application/json" id="data">(.*?)</script>', page, re.S) for page in pages
-    ]
-    recorded, stored = (json.loads(one[1])[0] for one in found if one)
+    recorded, stored = (
+        stations_of(output("report", *words))[0] for words in ([*clock, f"{of.name}.bin"], [path])
+    )
     ((seconds,), (minutes,)) = (told.pop("parts") for told in (recorded, stored))
     assert by_minutes(counts_of(seconds), 120) == by_minutes(counts_of(minutes), 1)
     mixes = [told.pop("mix") for told in (recorded, stored)]
-    assert by_minutes([mix for _, _, mix in mixes[0]], 2) == by_minutes([mix for _, _, mix in mixes[1]], 1)
-    offsets = [[value for _, value in told.pop("clock")] for told in (recorded, stored)]
-    assert numpy.mean(offsets[0][:2]) == pytest.approx(offsets[1][0], abs=0.001)
+    assert by_minutes([mix for _, _, mix in mixes[0]], 2) == [mix for _, _, mix in mixes[1]]
+    assert [row[:2] for row in mixes[1]] == [[120 * k, 120 * k + 120] for k in range(len(mixes[1]))]
+    offsets: Dict[int, List[float]] = {}
+    for at, offset in recorded.pop("clock"):
+        offsets.setdefault(int(at - 1) // 120, []).append(offset)
+    wanted = [[120 * k + 60, pytest.approx(numpy.mean(told), abs=0.001)] for k, told in offsets.items()]
+    assert stored.pop("clock") == wanted
     assert recorded["held"].pop("CT")[:4] == "2026" and "from the recording" in stored["held"].pop("CT")
     available = stored.pop("available")
     assert recorded.pop("available") is None and round(sum(available.values()), 3) == recorded["end"]
     assert available["noise"] == pytest.approx(sum(length for *_, length in recorded["outages"]), abs=0.002)
     assert recorded.pop("tile")["line"] == stored.pop("tile")["line"]
     assert recorded == stored and len(stored) >= 12
+    with sqlite3.connect(path) as database:
+        database.execute("UPDATE sessions SET quiet_place = end_place - 2 * rate")
+    end, last = recorded["end"], recorded["outages"][-1]
+    lasting = stations_of(output("report", path))[0]["outages"][-1]
+    assert lasting == pytest.approx([end - 2, end, 2] if last[1] < end - 2 else last, abs=0.001)
 
 
 def test_intervals_of_a_database(folder: Path) -> None:

@@ -158,7 +158,7 @@ def test_bytes_that_came_just_before_a_stop(tmp_path: Path) -> None:
         assert (tmp_path / path).stat().st_size == size
     steps = ("forward by 100.0 s", "back by 50.0 s")
     told = [text for text in one.said if "clock was set" in text]
-    assert told == [f"the machine's clock was set {step}" for step in steps]
+    assert told == [f"warning: the machine's clock was set {step}" for step in steps]
 
 
 def test_the_last_minute_of_a_station(tmp_path: Path) -> None:
