@@ -1,7 +1,5 @@
 -- A decoder of a stream after further bytes.
-use Rattle.rds_live.proofs.Names.{◌≡◌, ℕ, ◌+◌, ◌-◌, ◌*◌, ◌/◌, ◌^◌, ◌≤◌, ◌⊎◌, List, [], ◌∷◌, ◌++◌, length, drop, min, refl, sym, ap, ap₂, subst, ◌∙◌, arith, inl, inr, cases_lt, length-drop, length-append, drop-append-le, drop-drop, AreGaps, Signal, length_of, State, Searching, Locked, Item, Acquired, Group, LostLock, RuleNumbers, IsInRange, IsLawful, RunsJoin, Totals, IsAtMost, TotalsJoin, plus, totals_of, run, RunsMove, IsPartHeard, moved_state, moved_item, moved_items, most_behind, gaps_within, LiveOf, Terms, signal_of, run_of, complete, last_bytes, live_of, most_kept}
-use Rattle.rds_live.proofs.GapParts.{part-touched, start-touched}
-use Rattle.rds_live.proofs.Parts.{length-signal, bits-heard, first-part, last-part}
+use Rattle.rds_live.proofs.Names.{◌≡◌, ℕ, ◌+◌, ◌-◌, ◌*◌, ◌/◌, ◌≤◌, ◌⊎◌, List, [], ◌∷◌, ◌++◌, length, drop, min, refl, sym, ap, ap₂, subst, ◌∙◌, arith, inl, inr, cases_lt, length-drop, length-append, drop-append-le, drop-drop, State, Searching, Locked, Item, Acquired, Group, LostLock, RuleNumbers, IsLawful, Totals, IsAtMost, TotalsJoin, plus, totals_of, moved_state, moved_item, moved_items, most_behind, last_bytes, most_kept}
 
 -- moved by nothing
 pub still-state : (s : State) → moved_state 0 s ≡ s

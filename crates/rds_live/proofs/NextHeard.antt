@@ -1,5 +1,5 @@
 -- The items and the state that a decoder of a heard stream gives next are those of that stream.
-use Rattle.rds_live.proofs.Names.{◌≡◌, ℕ, ◌+◌, ◌*◌, ◌^◌, ◌≤◌, List, [], ◌++◌, get_or, length, refl, sym, ap, ap₂, subst, ◌∙◌, arith, inl, length-append, AreGaps, Signal, length_of, State, Searching, Item, Totals, IsLawful, IsInRange, RunsAreLawful, RunsAreReports, RunsJoin, TotalsJoin, plus, totals_of, items_of_end, run, gaps_within, HasHeard, IsStreamDecoder, LiveOf, Terms, complete, last_bytes, live_of, report_at, signal_at, EndsMove, IsPartHeard, RunsMove, moved_items, moved_state, PiecesJoin, completed, group_next, items_next, live_next, part_with, run_next}
+use Rattle.rds_live.proofs.Names.{◌≡◌, ℕ, ◌+◌, ◌*◌, ◌^◌, ◌≤◌, List, [], ◌++◌, length, refl, sym, ap, ap₂, subst, ◌∙◌, arith, inl, length-append, AreGaps, Signal, length_of, State, Searching, Item, IsLawful, IsInRange, RunsAreLawful, RunsAreReports, RunsJoin, TotalsJoin, plus, totals_of, items_of_end, run, gaps_within, LiveOf, Terms, complete, last_bytes, live_of, report_at, signal_at, EndsMove, IsPartHeard, RunsMove, PiecesJoin, completed, group_next, items_next, live_next, part_with, run_next}
 use Rattle.rds_live.proofs.Following.{still-items, still-state}
 use Rattle.rds_live.proofs.GapParts.{part-touched}
 use Rattle.rds_live.proofs.Nexts.{live-next}

@@ -1,5 +1,5 @@
 -- The part that is decoded next, only by the numbers of a decoder.
-use Rattle.rds_live.proofs.Names.{◌≡◌, ℕ, ◌+◌, ◌-◌, ◌*◌, ◌≤◌, List, [], ◌++◌, append_assoc, drop, length, refl, subst, take, sym, ap, ap₂, ◌∙◌, arith, append-nil, length-append, take-append-drop, Signal, bits_of, State, Item, Totals, TotalsJoin, plus, RuleNumbers, run, items_of_end, totals_of, gaps_within, HasHeard, LiveOf, complete, last_bytes, report_at, report_of, signal_at, signal_of, IsPartHeard, RunsMove, moved_items, moved_state, EndsAreReports, IsStart, before_tail, completed, group_next, items_next, live_next, part_with, run_next, Start}
+use Rattle.rds_live.proofs.Names.{◌≡◌, ℕ, ◌+◌, ◌*◌, ◌≤◌, List, [], ◌++◌, append_assoc, drop, length, refl, subst, take, sym, ap, ap₂, ◌∙◌, arith, append-nil, length-append, take-append-drop, Signal, bits_of, State, Item, Totals, TotalsJoin, plus, RuleNumbers, run, items_of_end, totals_of, gaps_within, HasHeard, LiveOf, complete, last_bytes, report_at, report_of, signal_at, signal_of, IsPartHeard, RunsMove, moved_items, moved_state, EndsAreReports, IsStart, before_tail, completed, group_next, items_next, live_next, part_with, run_next, Start}
 use Rattle.rds_live.proofs.Following.{totals-moved}
 use Rattle.rds_live.proofs.Parts.{bits-begin, length-at}
 use Rattle.rds_live.proofs.Rooms.{run-in-room}

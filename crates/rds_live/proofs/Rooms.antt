@@ -1,7 +1,6 @@
 -- The windows heard in the room of a stream's last bytes.
-use Rattle.rds_live.proofs.Names.{◌≡◌, ℕ, ◌+◌, ◌-◌, ◌*◌, ◌<◌, ◌≤◌, List, ◌++◌, length, drop, take, Bool, true, false, Option, Some, None, refl, sym, ap, ap₂, subst, ◌∙◌, arith, inl, length-append, length-drop, drop-append-le, take-append-le, length-map-range_with_len, number_from_digits, AreGaps, Signal, bits_of, packed_bit, window, touched, heard, length_of, State, Item, IsInRange, RuleNumbers, IsLawful, run, RunsMove, IsPartHeard, gaps_within, signal_of, filled_up}
+use Rattle.rds_live.proofs.Names.{◌≡◌, ℕ, ◌+◌, ◌-◌, ◌*◌, ◌<◌, ◌≤◌, List, ◌++◌, length, drop, take, Bool, true, false, Option, Some, None, refl, sym, ap, ap₂, ◌∙◌, arith, inl, length-drop, drop-append-le, take-append-le, length-map-range_with_len, number_from_digits, AreGaps, Signal, bits_of, packed_bit, window, touched, heard, length_of, State, Item, IsInRange, RuleNumbers, IsLawful, run, RunsMove, IsPartHeard, gaps_within, signal_of, filled_up}
 use Rattle.rds_live.proofs.GapParts.{filled-up-touched}
-use Rattle.rds_live.proofs.Parts.{length-signal}
 use Rattle.rds_live.proofs.Following.{still-state, still-items}
 
 -- a window of a list that goes on

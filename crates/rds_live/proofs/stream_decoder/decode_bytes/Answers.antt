@@ -1,4 +1,4 @@
-use Rattle.rds_live.proofs.Names.{◌≡◌, ◌++◌, ◌∙◌, List, ap, arith, length, length-drop, refl, sym, ℕ, append-nil, take_rest, Item, LiveOf, completed, live_next}
+use Rattle.rds_live.proofs.Names.{◌++◌, ◌∙◌, List, ap, arith, length, length-drop, refl, sym, ℕ, append-nil, take_rest, Item, LiveOf, completed, live_next}
 use Rattle.rds_live.proofs.Taking.{no-rest}
 use Rattle.rds_live.proofs.stream_decoder.decode_bytes.Goals as goal
 

@@ -1,4 +1,4 @@
-use Rattle.rds_live.proofs.Names.{◌≡◌, ◌*◌, ap, length, subst, sym, ◌∙◌, ℕ, LiveOf, guessed, live_next}
+use Rattle.rds_live.proofs.Names.{ap, ◌∙◌, LiveOf, live_next}
 use Rattle.rds_live.proofs.Sewing.{both-within, guessed-there}
 use Rattle.rds_live.proofs.stream_decoder.StreamDecoder.sew.Goals as goal
 

@@ -1,4 +1,4 @@
-use Rattle.rds_live.proofs.Names.{◌++◌, List, ap, subst, sym, ℕ, ListerOf, completed, HasHeard, LiveOf}
+use Rattle.rds_live.proofs.Names.{◌++◌, ap, subst, sym, ListerOf, completed, HasHeard, LiveOf}
 use Rattle.rds_live.proofs.stream_lister.StreamLister.list.Goals as goal
 
 pub returns-in-Ok-clause-heard : goal.returns-in-Ok-clause-heard

@@ -1,4 +1,4 @@
-use Rattle.rds_live.proofs.Names.{◌≡◌, ◌+◌, ◌-◌, ◌*◌, ◌∙◌, List, [], ap, arith, drop, length, refl, subst, sym, take, ℕ, length-drop, length-take-le, take-append-drop, take_rest, Item, ListerOf, lister_next, completed, live_next, most_counted}
+use Rattle.rds_live.proofs.Names.{◌≡◌, ◌+◌, ◌-◌, ◌*◌, ◌∙◌, List, [], ap, arith, drop, length, subst, sym, take, ℕ, length-drop, length-take-le, take-append-drop, take_rest, Item, ListerOf, lister_next, completed, live_next, most_counted}
 use Rattle.rds_live.proofs.Following.{at-most-more}
 use Rattle.rds_live.proofs.Listers.{lists-join, lists-still}
 use Rattle.rds_live.proofs.Taking.{no-rest}
