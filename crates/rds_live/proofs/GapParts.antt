@@ -1,14 +1,5 @@
 -- The gaps of a part of a stream may be gaps there, and touch the same windows.
-use Rattle.std.proofs.Common.{◌≡◌, ℕ, zero, suc, ◌+◌, ◌-◌, ◌*◌, ◌<◌, ◌≤◌, List, [], ◌∷◌, ◌++◌, append_assoc, drop, get_or, map, Bool, true, false, Option, Some, None, length, min, refl, sym, ap, ap₂, subst, ◌∙◌, arith, inl, inr}
-use Rattle.std.specs.Prelude.{⊤, nat_le, nat_lt, ◌&&◌, ◌||◌, slice_index_or}
-use Rattle.std.specs.List.{All, AllAdjacentBelow, cons_option, list_any, range_with_len}
-use Rattle.std.proofs.lemmas.Bool.{cases_lt, false≢true, le-leb, leb-true, lt-leb, le-ltb, lt-ltb, ltb-true}
-use Rattle.std.proofs.lemmas.List.Elements.{All-cons, All-head, All-nil, All-tail}
-use Rattle.std.proofs.lemmas.List.{drop_more, length-append}
-use Rattle.std.proofs.lemmas.List.FromFn.{length-map-range_with_len}
-use Rattle.rds_stream.specs.Recording.{AreGaps, is_touched_by}
-use Rattle.rds_live.specs.Gaps.{gaps_within, part_of_gap}
-use Rattle.rds_live.specs.Room.{filled_up, spare}
+use Rattle.rds_live.proofs.Names.{◌≡◌, ℕ, zero, suc, ◌+◌, ◌-◌, ◌*◌, ◌<◌, ◌≤◌, List, [], ◌∷◌, ◌++◌, append_assoc, drop, get_or, map, Bool, true, false, Option, Some, None, length, min, refl, sym, ap, ap₂, subst, ◌∙◌, arith, inl, inr, ⊤, nat_le, nat_lt, ◌&&◌, ◌||◌, slice_index_or, All, AllAdjacentBelow, cons_option, list_any, range_with_len, cases_lt, false≢true, le-leb, leb-true, lt-leb, le-ltb, lt-ltb, ltb-true, All-cons, All-head, All-nil, All-tail, drop_more, length-append, length-map-range_with_len, AreGaps, is_touched_by, gaps_within, part_of_gap, filled_up, spare}
 
 -- ---- gaps, one after another
 

@@ -22,9 +22,8 @@ use Rattle.rds_sync.specs.Acquiring.{acquired, has_number, has_partner, with_par
 use Rattle.rds_sync.specs.declared.item.Block.{Block}
 use Rattle.rds_sync.specs.Groups.{group, group_of, block_at, blocks_at, wanted_beside}
 use Rattle.rds_sync.specs.Ranges.{farthest_reach}
-use Rattle.rds_sync.specs.Step.{items_of_end, run, step, items_at, history_after_block, completed_group, lock_of, lock_after}
+use Rattle.rds_sync.specs.Step.{after_bit, items_of_end, run, step, items_at, history_after_block, completed_group, lock_of, lock_after}
 use Rattle.rds_sync.specs.Laws.{AcquisitionsAreLate, StepsAreLawful}
-use Rattle.rds_live.proofs.Bits.{step-searching, items-searching, step-acquiring, items-acquiring, step-waiting, items-waiting, step-keeping, items-keeping, step-losing, items-losing}
 use Rattle.rds_live.specs.Moving.{IsPartHeard, moved_state, moved_item, moved_items}
 
 -- a test of each number of a range, by another that says the same there
@@ -147,80 +146,44 @@ module _ (whole part : Signal) (d from : ℕ) (h : IsPartHeard whole part d from
     history_after_block-moved : (i x bad : ℕ) → from ≤ i → i < length_of part → history_after_block whole rules (i + d) x bad ≡ history_after_block part rules i x bad
     history_after_block-moved i x bad order within = ap (λ (good : Bool). bad_after rules.loss good bad) (number-moved i x order within)
 
+    -- the state after a bit, and the items that it gives
+    abbrev moved : State × List Item → State × List Item
+    moved r = (moved_state d r.0, moved_items d r.1)
+
     module _ (reach : rules.reach ≤ farthest_reach) (late : AcquisitionsAreLate) (i : ℕ) (order : from ≤ i) (within : i < length_of part) where
-      step_search-moved : step whole rules (i + d) Searching ≡ moved_state d (step part rules i Searching)
-      step_search-moved = at_case (acquired part rules i) refl where
-        at_case : (w : Option ℕ) → acquired part rules i ≡ w → step whole rules (i + d) Searching ≡ moved_state d (step part rules i Searching)
+      search-moved : after_bit whole rules (i + d) Searching ≡ moved (after_bit part rules i Searching)
+      search-moved = at_case (acquired part rules i) refl where
+        at_case : (w : Option ℕ) → acquired part rules i ≡ w → after_bit whole rules (i + d) Searching ≡ moved (after_bit part rules i Searching)
         at_case None e =
-            step-searching whole rules (i + d) (acquired-moved reach i order within ∙ e) ∙ ap (moved_state d) (sym (step-searching part rules i e))
+            let there = acquired-moved reach i order within ∙ e in
+            rw (there, e, after_bit) refl
         at_case (Some x) e =
-            step-acquiring whole rules (i + d) x (acquired-moved reach i order within ∙ e)
-            ∙ locked-moved i x 0 x
-            ∙ ap (moved_state d) (sym (step-acquiring part rules i x e))
-
-      items_search-moved : items_at whole rules (i + d) Searching ≡ moved_items d (items_at part rules i Searching)
-      items_search-moved = at_case (acquired part rules i) refl where
-        at_case : (w : Option ℕ) → acquired part rules i ≡ w → items_at whole rules (i + d) Searching ≡ moved_items d (items_at part rules i Searching)
-        at_case None e =
-            items-searching whole rules (i + d) (acquired-moved reach i order within ∙ e) ∙ ap (moved_items d) (sym (items-searching part rules i e))
-        at_case (Some x) e =
+            let there = acquired-moved reach i order within ∙ e in
             let place : 51 ≤ i = (late part rules i x e).0 in
-            items-acquiring whole rules (i + d) x (acquired-moved reach i order within ∙ e)
-            ∙ ap (λ (items : List Item). Acquired (i + d) x ∷ items) (completed_group-moved x x i (omega arith) within)
-            ∙ ap (moved_items d) (sym (items-acquiring part rules i x e))
+            rw (there, e, after_bit) (ap₂ (λ (s : State) (items : List Item). (s, Acquired (i + d) x ∷ items)) (locked-moved i x 0 x) (completed_group-moved x x i (omega arith) within))
 
-      module _ (x bad f : ℕ) (room : 26 * (x - f) + 25 ≤ i) where
-        step_due-moved : step whole rules (i + d) (Locked (lock_of (i + d) x bad f)) ≡ moved_state d (step part rules i (Locked (lock_of i x bad f)))
-        step_due-moved =
-            at_case (are_too_many rules.loss (history_after_block part rules i x bad)) refl where
-              at_case : (t : Bool) → are_too_many rules.loss (history_after_block part rules i x bad) ≡ t → step whole rules (i + d) (Locked (lock_of (i + d) x bad f)) ≡ moved_state d (step part rules i (Locked (lock_of i x bad f)))
-              at_case true e =
-                  let there : are_too_many rules.loss (history_after_block whole rules (i + d) x bad) ≡ true = ap (λ (b : ℕ). are_too_many rules.loss b) (history_after_block-moved i x bad order within) ∙ e in
-                  step-losing whole rules (lock_of (i + d) x bad f) there ∙ ap (moved_state d) (sym (step-losing part rules (lock_of i x bad f) e))
-              at_case false e =
-                  let there : are_too_many rules.loss (history_after_block whole rules (i + d) x bad) ≡ false = ap (λ (b : ℕ). are_too_many rules.loss b) (history_after_block-moved i x bad order within) ∙ e in
-                  step-keeping whole rules (lock_of (i + d) x bad f) there
-                  ∙ ap (λ (b : ℕ). Locked (lock_after (i + d) x b f)) (history_after_block-moved i x bad order within)
-                  ∙ locked-moved i x (history_after_block part rules i x bad) f
-                  ∙ ap (moved_state d) (sym (step-keeping part rules (lock_of i x bad f) e))
+      due-moved : (x bad f : ℕ) → 26 * (x - f) + 25 ≤ i → after_bit whole rules (i + d) (Locked (lock_of (i + d) x bad f)) ≡ moved (after_bit part rules i (Locked (lock_of i x bad f)))
+      due-moved x bad f room = at_case (are_too_many rules.loss (history_after_block part rules i x bad)) refl where
+        at_case : (t : Bool) → are_too_many rules.loss (history_after_block part rules i x bad) ≡ t
+            → after_bit whole rules (i + d) (Locked (lock_of (i + d) x bad f)) ≡ moved (after_bit part rules i (Locked (lock_of i x bad f)))
+        at_case true e =
+            rw (eq-eqb (i + d) (i + d) refl, eq-eqb i i refl, history_after_block-moved i x bad order within, e, after_bit)
+            (ap (λ (item : Item). (Searching, item ∷ LostLock (i + d) ∷ [])) (group-moved f x i room within))
+        at_case false e =
+            rw (eq-eqb (i + d) (i + d) refl, eq-eqb i i refl, history_after_block-moved i x bad order within, e, after_bit)
+            (ap₂ (λ (s : State) (items : List Item). (s, items))
+            (ap (λ (b : ℕ). Locked (lock_after (i + d) x b f)) (history_after_block-moved i x bad order within) ∙ locked-moved i x (history_after_block part rules i x bad) f)
+            (completed_group-moved f x i room within))
 
-        items_due-moved : items_at whole rules (i + d) (Locked (lock_of (i + d) x bad f)) ≡ moved_items d (items_at part rules i (Locked (lock_of i x bad f)))
-        items_due-moved =
-            at_case (are_too_many rules.loss (history_after_block part rules i x bad)) refl where
-              at_case : (t : Bool) → are_too_many rules.loss (history_after_block part rules i x bad) ≡ t → items_at whole rules (i + d) (Locked (lock_of (i + d) x bad f)) ≡ moved_items d (items_at part rules i (Locked (lock_of i x bad f)))
-              at_case true e =
-                  let there : are_too_many rules.loss (history_after_block whole rules (i + d) x bad) ≡ true = ap (λ (b : ℕ). are_too_many rules.loss b) (history_after_block-moved i x bad order within) ∙ e in
-                  items-losing whole rules (lock_of (i + d) x bad f) there
-                  ∙ ap (λ (item : Item). item ∷ LostLock (i + d) ∷ []) (group-moved f x i room within)
-                  ∙ ap (moved_items d) (sym (items-losing part rules (lock_of i x bad f) e))
-              at_case false e =
-                  let there : are_too_many rules.loss (history_after_block whole rules (i + d) x bad) ≡ false = ap (λ (b : ℕ). are_too_many rules.loss b) (history_after_block-moved i x bad order within) ∙ e in
-                  items-keeping whole rules (lock_of (i + d) x bad f) there
-                  ∙ completed_group-moved f x i room within
-                  ∙ ap (moved_items d) (sym (items-keeping part rules (lock_of i x bad f) e))
-
-      step-moved : (s : State) → IsLawful rules i s → step whole rules (i + d) (moved_state d s) ≡ moved_state d (step part rules i s)
-      step-moved Searching lawful = step_search-moved
-      step-moved (Locked lock) lawful = elim (cases_eq lock.due i) [
+      bit-moved : (s : State) → IsLawful rules i s → after_bit whole rules (i + d) (moved_state d s) ≡ moved (after_bit part rules i s)
+      bit-moved Searching lawful = search-moved
+      bit-moved (Locked lock) lawful = elim (cases_eq lock.due i) [
         | inl now ↦
-            let room : 26 * (lock.number - lock.first) + 25 ≤ i = omega (arith, lawful.enough_bits) in
-            subst (λ (p : ℕ). step whole rules (i + d) (moved_state d (Locked (record lock { due = p }))) ≡ moved_state d (step part rules i (Locked (record lock { due = p }))))
-            (sym now) (step_due-moved lock.number lock.bad lock.first room)
+            subst (λ (p : ℕ). after_bit whole rules (i + d) (moved_state d (Locked (record lock { due = p }))) ≡ moved (after_bit part rules i (Locked (record lock { due = p }))))
+            (sym now) (due-moved lock.number lock.bad lock.first (omega (arith, lawful.enough_bits)))
         | inr later ↦
             let there : lock.due + d ≢ i + d = λ e. later (omega arith) in
-            step-waiting whole rules (record lock { due = lock.due + d }) (i + d) there ∙ ap (moved_state d) (sym (step-waiting part rules lock i later))
-      ]
-
-      items-moved : (s : State) → IsLawful rules i s → items_at whole rules (i + d) (moved_state d s) ≡ moved_items d (items_at part rules i s)
-      items-moved Searching lawful = items_search-moved
-      items-moved (Locked lock) lawful = elim (cases_eq lock.due i) [
-        | inl now ↦
-            let room : 26 * (lock.number - lock.first) + 25 ≤ i = omega (arith, lawful.enough_bits) in
-            subst (λ (p : ℕ). items_at whole rules (i + d) (moved_state d (Locked (record lock { due = p }))) ≡ moved_items d (items_at part rules i (Locked (record lock { due = p }))))
-            (sym now) (items_due-moved lock.number lock.bad lock.first room)
-        | inr later ↦
-            let there : lock.due + d ≢ i + d = λ e. later (omega arith) in
-            items-waiting whole rules (record lock { due = lock.due + d }) (i + d) there ∙ ap (moved_items d) (sym (items-waiting part rules lock i later))
+            rw (ne_eqb (lock.due + d) (i + d) there, ne_eqb lock.due i later, after_bit) refl
       ]
 
     module _ (reach : rules.reach ≤ farthest_reach) (late : AcquisitionsAreLate) (lawful_steps : StepsAreLawful) (loss : IsLossRule rules.loss) where
@@ -228,8 +191,9 @@ module _ (whole part : Signal) (d from : ℕ) (h : IsPartHeard whole part d from
           → run whole rules (moved_state d s) (a + d) bits ≡ (moved_state d (run part rules s a bits).0, moved_items d (run part rules s a bits).1)
       run-moved s a zero order within lawful = refl
       run-moved s a (suc bits) order within lawful =
-          let here : step whole rules (a + d) (moved_state d s) ≡ moved_state d (step part rules a s) = step-moved reach late a order (omega arith) s lawful in
-          let found : items_at whole rules (a + d) (moved_state d s) ≡ moved_items d (items_at part rules a s) = items-moved reach late a order (omega arith) s lawful in
+          let bit = bit-moved reach late a order (omega arith) s lawful in
+          let here : step whole rules (a + d) (moved_state d s) ≡ moved_state d (step part rules a s) = ap (λ (r : State × List Item). r.0) bit in
+          let found : items_at whole rules (a + d) (moved_state d s) ≡ moved_items d (items_at part rules a s) = ap (λ (r : State × List Item). r.1) bit in
           let next : a + d + 1 ≡ a + 1 + d = omega arith in
           let rest = run-moved (step part rules a s) (a + 1) bits (omega arith) (omega arith) (lawful_steps part rules loss a s lawful) in
           let more : run whole rules (step whole rules (a + d) (moved_state d s)) (a + d + 1) bits

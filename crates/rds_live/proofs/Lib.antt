@@ -1,11 +1,10 @@
-pub mod Bits
+pub mod Names
 pub mod HeardParts
 pub mod ItemPlaces
 pub mod GapParts
 pub mod NearGaps
 pub mod Parts
 pub mod Following
-pub mod Ending
 pub mod Nexts
 pub mod NextHeard
 pub mod Pieces

@@ -1,14 +1,5 @@
 -- Listers that take bytes in pieces.
-use Rattle.std.proofs.Common.{◌≡◌, ◌++◌, ◌∙◌, Err, List, Ok, Result, [], ap, ap₂, append_assoc, sym, ℕ}
-use Rattle.std.specs.Prelude.{IfOk}
-use Rattle.std.specs.List.{flat_map}
-use Rattle.std.proofs.lemmas.Grind.{flat_map-append}
-use Rattle.std.proofs.lemmas.List.{append-nil}
-use Rattle.rds_sync.specs.Ranges.{IsInRange}
-use Rattle.rds_sync.specs.declared.item.Item.{Item}
-use Rattle.rds_live.specs.Listing.{ListerOf, lister_next}
-use Rattle.rds_live.specs.Next.{PiecesJoin, completed, live_next}
-use Rattle.rds_live.specs.StreamDecoder.{IsStreamDecoder, LiveOf}
+use Rattle.rds_live.proofs.Names.{◌≡◌, ◌++◌, ◌∙◌, Err, List, Ok, Result, [], ap, ap₂, append_assoc, sym, ℕ, IfOk, flat_map, flat_map-append, append-nil, IsInRange, Item, ListerOf, lister_next, PiecesJoin, completed, live_next, IsStreamDecoder, LiveOf}
 
 -- bytes in two pieces give the same as at once
 pub lists-join : PiecesJoin → (row : Item → List ℕ) (lister : ListerOf) (first second : List ℕ) → IsInRange lister.live.terms.rules → IsStreamDecoder lister.live

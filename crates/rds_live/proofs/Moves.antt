@@ -1,7 +1,5 @@
 -- Items that are moved one by one, in their place.
-use Rattle.std.proofs.Common.{◌≡◌, ◌∙◌, ◌+◌, ◌<◌, ◌++◌, ◌∷◌, ℕ, List, [], ap, arith, drop, get_or, length, map, refl, set, sym, take}
-use Rattle.std.proofs.lemmas.Grind.{take-set_at, take_at_read}
-use Rattle.std.proofs.lemmas.List.{drop-drop, drop-set-lt, get_or-drop, map-append}
+use Rattle.rds_live.proofs.Names.{◌≡◌, ◌∙◌, ◌+◌, ◌<◌, ◌++◌, ◌∷◌, ℕ, List, [], ap, arith, drop, get_or, length, map, refl, set, sym, take, take-set_at, take_at_read, drop-drop, drop-set-lt, get_or-drop, map-append}
 
 -- one more is changed after those before it
 pub one-changed : {A : Type 0} (f : A → A) (old now : List A) (i : ℕ) (none : A) → i < length old → i < length now

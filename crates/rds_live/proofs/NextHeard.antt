@@ -1,69 +1,83 @@
 -- The items and the state that a decoder of a heard stream gives next are those of that stream.
-use Rattle.std.proofs.Common.{◌≡◌, ℕ, ◌+◌, ◌-◌, ◌*◌, List, ◌++◌, length, refl, sym, ap, ◌∙◌, arith}
-use Rattle.std.proofs.lemmas.List.{length-append}
-use Rattle.rds_stream.specs.Recording.{Signal, length_of}
-use Rattle.rds_sync.specs.declared.state.State.{State}
-use Rattle.rds_sync.specs.declared.item.Item.{Item}
-use Rattle.rds_sync.specs.Ranges.{IsInRange}
-use Rattle.rds_sync.specs.Laws.{RunsJoin}
-use Rattle.rds_sync.specs.Counting.{TotalsJoin, plus}
-use Rattle.rds_sync.specs.Totals.{totals_of}
-use Rattle.rds_sync.specs.Step.{run}
-use Rattle.rds_live.specs.Gaps.{gaps_within}
-use Rattle.rds_live.specs.StreamDecoder.{HasHeard, IsStreamDecoder, LiveOf, complete, last_bytes, signal_of}
-use Rattle.rds_live.specs.Moving.{RunsMove, moved_items, moved_state}
-use Rattle.rds_live.specs.Next.{before_tail, completed, live_next, moved_back, run_next}
-use Rattle.rds_live.proofs.Following.{IsPrepared, complete-after, heard-after, prepared, state-in-part}
-use Rattle.rds_live.proofs.Nexts.{count-next, part-next, run-next}
-use Rattle.rds_live.proofs.Parts.{length-signal}
-use Rattle.rds_live.proofs.Pieces.{back-on}
+use Rattle.rds_live.proofs.Names.{◌≡◌, ℕ, ◌+◌, ◌*◌, ◌^◌, ◌≤◌, List, [], ◌++◌, length, refl, sym, ap, ap₂, subst, ◌∙◌, arith, inl, length-append, AreGaps, Signal, length_of, State, Searching, Item, IsLawful, IsInRange, RunsAreLawful, RunsAreReports, RunsJoin, TotalsJoin, plus, totals_of, items_of_end, run, gaps_within, LiveOf, Terms, complete, last_bytes, live_of, report_at, signal_at, EndsMove, IsPartHeard, RunsMove, PiecesJoin, completed, group_next, items_next, live_next, part_with, run_next}
+use Rattle.rds_live.proofs.Following.{still-items, still-state}
+use Rattle.rds_live.proofs.GapParts.{part-touched}
+use Rattle.rds_live.proofs.Nexts.{live-next}
+use Rattle.rds_live.proofs.Parts.{bits-heard, length-at, whole-part}
+use Rattle.rds_live.proofs.Pieces.{group-both, items-both, lawful-after}
+use Rattle.rds_live.proofs.Rooms.{run-in-room}
+use Rattle.rds_live.proofs.Sewing.{first-is}
 
-module _ (joins : RunsJoin) (moves : RunsMove) (live : LiveOf) (before bytes : List ℕ) (range : IsInRange live.terms.rules) (known : IsStreamDecoder live) (heard : HasHeard live before) where
-  abbrev bits : ℕ
-  bits = 8 * length bytes
+start-heard : (gaps : List (ℕ × ℕ)) (bytes : List ℕ) (bits m : ℕ) → AreGaps (2 ^ 36) gaps → bits ≤ 8 * length bytes → m ≡ bits
+    → IsPartHeard (signal_at gaps bytes bits) (signal_at (gaps_within gaps 0 m) bytes m) 0 0
+start-heard gaps bytes bits m are held is =
+    subst (λ (n : ℕ). IsPartHeard (signal_at gaps bytes bits) (signal_at (gaps_within gaps 0 n) bytes n) 0 0) (sym is)
+    (bits-heard bytes bytes 0 (whole-part bytes) bits bits held (omega arith) gaps (gaps_within gaps 0 bits) (part-touched (2 ^ 36) 0 bits gaps are) 0 (inl refl))
 
-  abbrev from : ℕ
-  from = 8 * length live.tail
+-- a decoder that has heard nothing, after the first bits of these bytes
+module _ (moves : RunsMove) (terms : Terms) (range : IsInRange terms.rules) (are : AreGaps (2 ^ 36) terms.gaps) (bytes : List ℕ) (bits : ℕ) (held : bits ≤ 8 * length bytes) where
+  abbrev whole : Signal
+  whole = signal_at terms.gaps bytes bits
 
-  abbrev at : ℕ
-  at = before_tail live
-
-  abbrev local : State
-  local = moved_back at live.state
+  abbrev first : LiveOf
+  first = live_of terms []
 
   abbrev part : Signal
-  part = signal_of (gaps_within live.terms.gaps at (8 * length (live.tail ++ bytes))) (live.tail ++ bytes)
+  part = part_with first bytes bits
 
-  abbrev found : State × List Item
-  found = run part live.terms.rules local from (length_of part - from)
+  heard : IsPartHeard whole part 0 0
+  heard = start-heard terms.gaps bytes bits (0 + bits) are held (omega arith)
 
-  local-is : moved_state at local ≡ live.state
-  local-is = back-on live.terms.rules at live.place live.state known.lawful (omega arith)
+  long : length_of part ≡ 0 + bits
+  long = length-at (gaps_within terms.gaps 0 (0 + bits)) bytes (0 + bits)
 
-  long : length_of part ≡ from + bits
-  long =
-      omega (arith, length-signal (gaps_within live.terms.gaps at (8 * length (live.tail ++ bytes))) (live.tail ++ bytes), length-append live.tail bytes)
+  run-first : run_next first bytes bits ≡ run whole terms.rules Searching 0 bits
+  run-first = sym (run-in-room moves whole part terms.rules Searching 0 bits range heard tt (omega (arith, long)))
 
-  ready : IsPrepared live.terms range known.gaps joins moves before bytes live.tail live.place from at local part
-  ready =
-      prepared live.terms range known.gaps joins moves before bytes live.tail live.place from at local part live.state live.totals heard refl refl refl local-is
-      (state-in-part live.tail live.place from known.kept known.whole refl live.terms.rules local live.state local-is known.lawful)
+  items-first : items_next first bytes bits ≡ (run whole terms.rules Searching 0 bits).1
+  items-first = still-items (run_next first bytes bits).1 ∙ ap (λ (r : State × List Item). r.1) run-first
 
-  found-is : found ≡ run_next live bytes bits
-  found-is =
-      run-next live bytes bits from at local refl refl refl part (length_of part - from)
-      (part-next live bytes bits from at local refl refl refl part (8 * length (live.tail ++ bytes)) (omega (arith, length-append live.tail bytes)) refl)
-      (omega (arith, long))
+  report-first : RunsAreLawful → EndsMove → RunsAreReports → items_next first bytes bits ++ group_next first bytes bits ≡ report_at terms bytes bits
+  report-first lawfuls ends reports =
+      let last : State = (run_next first bytes bits).0 in
+      let lawful = subst (λ (m : ℕ). IsLawful terms.rules m last) (sym long) (lawful-after lawfuls part terms.rules Searching 0 bits range tt) in
+      let at_end : group_next first bytes bits ≡ items_of_end whole terms.rules (run whole terms.rules Searching 0 bits).0 =
+      sym (ends whole part terms.rules 0 last lawful (record { heard_same = heard.heard_same; early = inl refl }))
+      ∙ ap (λ (s : State). items_of_end whole terms.rules s) (still-state last)
+      ∙ ap (λ (r : State × List Item). items_of_end whole terms.rules r.0) run-first in
+      ap₂ (λ (xs ys : List Item). xs ++ ys) items-first at_end
+      ∙ ap (λ (n : ℕ). (run whole terms.rules Searching 0 n).1 ++ items_of_end whole terms.rules (run whole terms.rules Searching 0 n).0) (sym (length-at terms.gaps bytes bits))
+      ∙ reports whole terms.rules range.loss.0
 
-  pub next-heard : TotalsJoin → HasHeard (live_next live bytes) (before ++ bytes)
-  next-heard join =
-      heard-after live.terms range known.gaps joins moves before bytes live.tail live.place from at local part ready
-      (last_bytes (live.tail ++ bytes)) (live.place + bits) (run_next live bytes bits).0 (moved_state at (run_next live bytes bits).0)
-      join live.totals (totals_of (completed live bytes)) (plus live.totals (totals_of (completed live bytes)))
-      refl (omega (arith, long, known.kept, known.whole)) (sym (ap (λ (r : State × List Item). r.0) found-is)) refl (ap (λ (l : LiveOf). l.totals) heard)
-      (sym (ap (λ (r : State × List Item). totals_of r.1) found-is ∙ count-next live bytes bits join)) refl
+-- the decoder that has heard these bytes
+module _ (moves : RunsMove) (join : TotalsJoin) (terms : Terms) (range : IsInRange terms.rules) (are : AreGaps (2 ^ 36) terms.gaps) where
+  complete-is : (bytes : List ℕ) → complete terms bytes ≡ completed (live_of terms []) bytes
+  complete-is bytes = sym (items-first moves terms range are bytes (8 * length bytes) (omega arith))
 
-  pub next-complete : complete live.terms before ++ completed live bytes ≡ complete live.terms (before ++ bytes)
-  next-complete =
-      sym (complete-after live.terms range known.gaps joins moves before bytes live.tail live.place from at local part ready (completed live bytes)
-      (sym (ap (λ (r : State × List Item). moved_items at r.1) found-is)))
+  live-is : (bytes : List ℕ) → live_of terms bytes ≡ live_next (live_of terms []) bytes
+  live-is bytes =
+      let nothing : LiveOf = live_of terms [] in
+      let run_is = run-first moves terms range are bytes (8 * length bytes) (omega arith) in
+      live-next nothing bytes (last_bytes bytes) (8 * length bytes) (live_of terms bytes).state (live_of terms bytes).totals refl (omega arith)
+      (sym (still-state (run_next nothing bytes (8 * length bytes)).0 ∙ ap (λ (r : State × List Item). r.0) run_is))
+      ((join [] (complete terms bytes)).joined ∙ ap (λ (items : List Item). plus (totals_of []) (totals_of items)) (complete-is bytes))
+
+  pub next-heard : PiecesJoin → (live : LiveOf) (before bytes : List ℕ) → live ≡ live_of terms before
+      → (live_next live bytes ≡ live_of terms (before ++ bytes)) × (complete terms before ++ completed live bytes ≡ complete terms (before ++ bytes))
+  next-heard pieces live before bytes heard =
+      let both = pieces (live_of terms []) before bytes range (first-is terms are) in
+      let is = heard ∙ live-is before in (
+        ap (λ (l : LiveOf). live_next l bytes) is ∙ both.0 ∙ sym (live-is (before ++ bytes)),
+        ap₂ (λ (xs ys : List Item). xs ++ ys) (complete-is before) (ap (λ (l : LiveOf). completed l bytes) is) ∙ both.1 ∙ sym (complete-is (before ++ bytes)),
+      )
+
+  -- and if it ends with the first bits of these
+  pub report-heard : RunsJoin → RunsAreLawful → EndsMove → RunsAreReports → (live : LiveOf) (before bytes : List ℕ) (bits : ℕ) → live ≡ live_of terms before → bits ≤ 8 * length bytes
+      → complete terms before ++ items_next live bytes bits ++ group_next live bytes bits ≡ report_at terms (before ++ bytes) (8 * length before + bits)
+  report-heard joins lawfuls ends reports live before bytes bits heard held =
+      let nothing : LiveOf = live_of terms [] in
+      let is = heard ∙ live-is before in
+      ap₂ (λ (xs ys : List Item). xs ++ ys)
+      (ap₂ (λ (xs ys : List Item). xs ++ ys) (complete-is before) (ap (λ (l : LiveOf). items_next l bytes bits) is) ∙ items-both joins lawfuls moves nothing before bytes bits held range (first-is terms are))
+      (ap (λ (l : LiveOf). group_next l bytes bits) is ∙ group-both joins lawfuls moves nothing before bytes bits held range (first-is terms are) ends)
+      ∙ report-first moves terms range are (before ++ bytes) (8 * length before + bits) (omega (arith, held, length-append before bytes)) lawfuls ends reports

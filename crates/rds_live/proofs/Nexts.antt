@@ -1,48 +1,12 @@
 -- The part that is decoded next, only by the numbers of a decoder.
-use Rattle.std.proofs.Common.{◌≡◌, ℕ, ◌+◌, ◌-◌, ◌*◌, ◌≤◌, List, ◌++◌, append_assoc, drop, length, take, sym, ap, ap₂, ◌∙◌, arith}
-use Rattle.std.proofs.lemmas.List.{length-append, take-append-drop}
-use Rattle.rds_stream.specs.Recording.{Signal, bits_of}
-use Rattle.rds_sync.specs.declared.state.State.{State}
-use Rattle.rds_sync.specs.declared.item.Item.{Item}
-use Rattle.rds_sync.specs.declared.totals.Totals.{Totals}
-use Rattle.rds_sync.specs.Counting.{TotalsJoin, plus}
-use Rattle.rds_sync.specs.Step.{run, items_of_end}
-use Rattle.rds_sync.specs.Totals.{totals_of}
-use Rattle.rds_live.specs.Gaps.{gaps_within}
-use Rattle.rds_live.specs.StreamDecoder.{LiveOf, last_bytes, signal_at}
-use Rattle.rds_live.specs.Moving.{moved_items, moved_state}
-use Rattle.rds_live.specs.Next.{before_tail, completed, group_next, items_next, live_next, moved_back, part_with, run_next}
+use Rattle.rds_live.proofs.Names.{◌≡◌, ℕ, ◌+◌, ◌*◌, ◌≤◌, List, [], ◌++◌, append_assoc, drop, length, refl, subst, take, sym, ap, ap₂, ◌∙◌, arith, append-nil, length-append, take-append-drop, Signal, bits_of, State, Item, Totals, TotalsJoin, plus, RuleNumbers, run, items_of_end, totals_of, gaps_within, HasHeard, LiveOf, complete, last_bytes, report_at, report_of, signal_at, signal_of, IsPartHeard, RunsMove, moved_items, moved_state, EndsAreReports, IsStart, before_tail, completed, group_next, items_next, live_next, part_with, run_next, Start}
 use Rattle.rds_live.proofs.Following.{totals-moved}
-use Rattle.rds_live.proofs.Parts.{bits-begin}
+use Rattle.rds_live.proofs.Parts.{bits-begin, length-at}
+use Rattle.rds_live.proofs.Rooms.{run-in-room}
 
-module _ (live : LiveOf) (more : List ℕ) (bits : ℕ) where
-  -- where the run begins, by the numbers that a body has
-  module _ (from at : ℕ) (local : State) (from_is : from ≡ 8 * length live.tail) (at_is : at ≡ live.place - from) (local_is : local ≡ moved_back at live.state) where
-    pub there : at ≡ before_tail live
-    there = omega (arith, at_is, from_is)
-
-    -- the part that is decoded
-    pub part-next : (part : Signal) (n : ℕ) → n ≡ 8 * length live.tail + bits → part ≡ signal_at (gaps_within live.terms.gaps at n) (live.tail ++ more) n → part ≡ part_with live more bits
-    part-next part n long is =
-        is ∙ ap₂ (λ (d m : ℕ). signal_at (gaps_within live.terms.gaps d m) (live.tail ++ more) m) there long
-
-    -- the run over it
-    pub run-next : (part : Signal) (n : ℕ) → part ≡ part_with live more bits → n ≡ bits → run part live.terms.rules local from n ≡ run_next live more bits
-    run-next part n part_is n_is =
-        ap (λ (b : Signal). run b live.terms.rules local from n) part_is
-        ∙ ap (λ (s : State). run (part_with live more bits) live.terms.rules s from n) (local_is ∙ ap (λ (d : ℕ). moved_back d live.state) there)
-        ∙ ap₂ (λ (p q : ℕ). run (part_with live more bits) live.terms.rules (moved_back (before_tail live) live.state) p q) from_is n_is
-
-    -- the group in progress after it
-    pub group-next : (part : Signal) (end : State) (last : List Item) → part ≡ part_with live more bits → end ≡ (run_next live more bits).0
-        → last ≡ moved_items at (items_of_end part live.terms.rules end) → last ≡ group_next live more bits
-    group-next part end last part_is end_is is =
-        is ∙ ap₂ (λ (b : Signal) (s : State). moved_items at (items_of_end b live.terms.rules s)) part_is end_is
-        ∙ ap (λ (d : ℕ). moved_items d (items_of_end (part_with live more bits) live.terms.rules (run_next live more bits).0)) there
-
-  -- the items do not count otherwise where they are moved
-  pub count-next : TotalsJoin → totals_of (run_next live more bits).1 ≡ totals_of (items_next live more bits)
-  count-next join = sym (totals-moved join (before_tail live) (run_next live more bits).1)
+-- the items do not count otherwise where they are moved
+count-next : TotalsJoin → (live : LiveOf) (more : List ℕ) (bits : ℕ) → totals_of (run_next live more bits).1 ≡ totals_of (items_next live more bits)
+count-next join live more bits = sym (totals-moved join (before_tail live) (run_next live more bits).1)
 
 -- no byte after the last bit is heard
 pub part-begin : (live : LiveOf) (bytes : List ℕ) (count bits : ℕ) → bits ≤ 8 * length (take count bytes) → part_with live (take count bytes) bits ≡ part_with live bytes bits
@@ -60,3 +24,73 @@ live-next live more tail place state totals tail_is place_is state_is totals_is 
     ap (λ (xs : List ℕ). record { terms = live.terms; tail = xs; place = place; state = state; totals = totals }) tail_is
     ∙ ap (λ (n : ℕ). record { terms = live.terms; tail = last_bytes (live.tail ++ more); place = n; state = state; totals = totals }) place_is
     ∙ ap₂ (λ (s : State) (t : Totals). record { terms = live.terms; tail = last_bytes (live.tail ++ more); place = live.place + 8 * length more; state = s; totals = t }) state_is totals_is
+
+-- what a body has of the bytes that it decodes next
+module _ (live : LiveOf) (start : Start) (is : IsStart live start) where
+  abbrev gaps : List (ℕ × ℕ)
+  gaps = live.terms.gaps
+
+  abbrev rules : RuleNumbers
+  rules = live.terms.rules
+
+  -- the part that is decoded up to a bit of these bytes
+  pub part-is : (part : Signal) (bytes held : List ℕ) (count bits n : ℕ) → bits ≤ 8 * length (take count bytes) → n ≡ start.from + bits → held ≡ live.tail ++ take count bytes
+      → part ≡ signal_at (gaps_within gaps start.before n) held n → part ≡ part_with live bytes bits
+  part-is part bytes held count bits n few n_is held_is part_is =
+      part_is ∙ ap₂ (λ (d m : ℕ). signal_at (gaps_within gaps d m) held m) is.before (n_is ∙ ap (λ (from : ℕ). from + bits) is.from)
+      ∙ ap (λ (xs : List ℕ). signal_at (gaps_within gaps (before_tail live) (8 * length live.tail + bits)) xs (8 * length live.tail + bits)) held_is ∙ part-begin live bytes count bits few
+
+  -- the run over it
+  pub run-is : (bytes : List ℕ) (part : Signal) (bits n : ℕ) → part ≡ part_with live bytes bits → n ≡ bits → run part rules start.state start.from n ≡ run_next live bytes bits
+  run-is bytes part bits n part_is n_is =
+      ap₂ (λ (b : Signal) (m : ℕ). run b rules start.state start.from m) part_is n_is
+      ∙ ap₂ (λ (s : State) (p : ℕ). run (part_with live bytes bits) rules s p bits) is.state is.from
+
+  -- and over the room in which it is heard
+  pub run-heard : RunsMove → (more held : List ℕ) (room : Signal) (n : ℕ) → held ≡ live.tail ++ more → n ≡ 8 * length more
+      → IsPartHeard room (signal_of (gaps_within gaps start.before (8 * length held)) held) 0 0 → run room rules start.state start.from n ≡ run_next live more (8 * length more)
+  run-heard moves more held room n held_is n_is heard =
+      let bits : ℕ = 8 * length live.tail + 8 * length more in
+      let long : 8 * length held ≡ bits = omega (arith, ap length held_is, length-append live.tail more) in
+      let part_is : signal_of (gaps_within gaps start.before (8 * length held)) held ≡ part_with live more (8 * length more) =
+      ap₂ (λ (d m : ℕ). signal_at (gaps_within gaps d m) held m) is.before long ∙ ap (λ (xs : List ℕ). signal_at (gaps_within gaps (before_tail live) bits) xs bits) held_is in
+      run-in-room moves room (part_with live more (8 * length more)) rules start.state start.from n is.range (subst (λ (b : Signal). IsPartHeard room b 0 0) part_is heard) is.lawful
+      (omega (arith, length-at (gaps_within gaps (before_tail live) bits) (live.tail ++ more) bits, is.from, n_is))
+      ∙ run-is more (part_with live more (8 * length more)) (8 * length more) n refl n_is
+
+  -- the items that it completes
+  pub items-are : (items found : List Item) (bytes : List ℕ) (bits : ℕ) → items ≡ moved_items start.before found → found ≡ (run_next live bytes bits).1 → items ≡ items_next live bytes bits
+  items-are items found bytes bits moved found_are = moved ∙ ap₂ moved_items is.before found_are
+
+  -- and the group in progress after it
+  pub group-is : (part : Signal) (bytes : List ℕ) (bits : ℕ) (end : State) (last : List Item) → part ≡ part_with live bytes bits → end ≡ (run_next live bytes bits).0
+      → last ≡ moved_items start.before (items_of_end part rules end) → last ≡ group_next live bytes bits
+  group-is part bytes bits end last part_is end_is last_is =
+      last_is ∙ ap₂ (λ (b : Signal) (s : State). moved_items start.before (items_of_end b rules s)) part_is end_is
+      ∙ ap (λ (d : ℕ). moved_items d (items_of_end (part_with live bytes bits) rules (run_next live bytes bits).0)) is.before
+
+  -- the totals of the items
+  pub totals-are : TotalsJoin → (bytes : List ℕ) (bits : ℕ) (found sum : Totals) → found ≡ totals_of (run_next live bytes bits).1 → sum ≡ plus live.totals found
+      → sum ≡ plus live.totals (totals_of (items_next live bytes bits))
+  totals-are join bytes bits found sum found_is sum_is = sum_is ∙ ap (plus live.totals) (found_is ∙ count-next join live bytes bits)
+
+  -- the decoder after bytes that it has taken
+  module _ (more held tail : List ℕ) (place : ℕ) (end state : State) (found totals : Totals) (held_is : held ≡ live.tail ++ more) (tail_is : tail ≡ last_bytes held)
+      (place_is : place ≡ start.before + (start.from + 8 * length more)) (end_is : end ≡ (run_next live more (8 * length more)).0) (state_is : state ≡ moved_state start.before end)
+      (found_is : found ≡ totals_of (run_next live more (8 * length more)).1) (sum_is : totals ≡ plus live.totals found) where
+    pub next-is : TotalsJoin → record { terms = live.terms; tail = tail; place = place; state = state; totals = totals } ≡ live_next live more
+    next-is join =
+        live-next live more tail place state totals (tail_is ∙ ap last_bytes held_is) (omega (arith, place_is, is.before, is.from, is.known.kept, is.known.whole))
+        (state_is ∙ ap₂ moved_state is.before end_is) (totals-are join more (8 * length more) found totals found_is sum_is)
+
+  -- if the stream ends after the bytes that were heard
+  pub report-now : EndsAreReports → (bytes : List ℕ) → HasHeard live bytes → complete live.terms bytes ++ group_next live [] 0 ≡ report_of live.terms bytes
+  report-now reports bytes heard =
+      let none : 8 * length bytes + 0 ≡ 8 * length bytes = omega arith in
+      ap (λ (xs : List Item). xs ++ group_next live [] 0) (sym (append-nil (complete live.terms bytes)))
+      ∙ reports live bytes [] 0 is.range is.known heard (omega arith) ∙ ap₂ (report_at live.terms) (append-nil bytes) none
+
+-- the totals of a report
+pub totals-end : TotalsJoin → (so_far sum : Totals) (items last report : List Item) → so_far ≡ totals_of items → sum ≡ plus so_far (totals_of last) → items ++ last ≡ report → sum ≡ totals_of report
+totals-end join so_far sum items last report so_far_is sum_is all =
+    sum_is ∙ ap (λ (t : Totals). plus t (totals_of last)) so_far_is ∙ sym (join items last).joined ∙ ap (λ (xs : List Item). totals_of xs) all

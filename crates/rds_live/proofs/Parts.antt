@@ -1,14 +1,5 @@
 -- A part of a stream, cut at a byte.
-use Rattle.std.proofs.Common.{◌≡◌, ℕ, zero, suc, ◌+◌, ◌-◌, ◌*◌, ◌⊎◌, ◌/◌, ◌%◌, ◌<◌, ◌≤◌, List, ◌∷◌, ◌++◌, length, get_or, map, take, drop, Bool, Option, Some, None, true, false, refl, sym, ap, ap₂, subst, ◌∙◌, arith}
-use Rattle.std.proofs.lemmas.List.{length-drop, length-append, get_or-drop, drop-append-le}
-use Rattle.std.proofs.Math.ListN.{get_or-append}
-use Rattle.std.proofs.lemmas.List.FromFn.{length-map-range_with_len, take-map-range_with_len}
-use Rattle.std.specs.List.{range_with_len, slice_range}
-use Rattle.std.specs.Int.{bit_at}
-use Rattle.std.specs.Int.Digits.{number_from_digits}
-use Rattle.rds_stream.specs.Recording.{bits_of, packed_bit, window, touched, heard, length_of}
-use Rattle.rds_live.specs.Moving.{IsPartHeard, most_behind}
-use Rattle.rds_live.specs.StreamDecoder.{signal_at, signal_of, last_bytes, most_kept}
+use Rattle.rds_live.proofs.Names.{◌≡◌, ℕ, zero, suc, ◌+◌, ◌-◌, ◌*◌, ◌⊎◌, ◌/◌, ◌%◌, ◌<◌, ◌≤◌, List, ◌∷◌, ◌++◌, length, get_or, map, take, drop, Bool, Option, Some, None, true, false, refl, sym, ap, ap₂, subst, ◌∙◌, arith, length-drop, length-append, get_or-drop, drop-append-le, get_or-append, length-map-range_with_len, take-map-range_with_len, range_with_len, slice_range, bit_at, number_from_digits, bits_of, packed_bit, window, touched, heard, length_of, IsPartHeard, most_behind, signal_at, signal_of, last_bytes, most_kept}
 use Rattle.rds_live.proofs.GapParts.{TouchAlike}
 
 pub length-signal : (gaps : List (ℕ × ℕ)) (bytes : List ℕ) → length_of (signal_of gaps bytes) ≡ 8 * length bytes
@@ -93,6 +84,10 @@ module _ (whole part : List ℕ) (k : ℕ) (h : IsPartOf whole part k) where
         early = early;
       }
 
+-- all of the bytes
+pub whole-part : (bytes : List ℕ) → IsPartOf bytes bytes 0
+whole-part bytes = record { within = omega arith; same = λ j h. let e : j ≡ 0 + j = omega arith in ap (λ (p : ℕ). get_or bytes p 0) e }
+
 -- the bytes so far are the beginning of all
 pub first-part : (bytes more : List ℕ) → IsPartOf (bytes ++ more) bytes 0
 first-part bytes more = record {
@@ -109,12 +104,6 @@ last-part bytes more =
       within = omega (arith, length-append bytes more, length-append (drop k bytes) more, length-drop k bytes);
       same = λ j h. ap (λ (xs : List ℕ). get_or xs j 0) (sym is) ∙ get_or-drop k (bytes ++ more) j 0;
     }
-
--- the last bytes are the end
-pub end-part : (bytes : List ℕ) → IsPartOf bytes (last_bytes bytes) (length bytes - most_kept)
-end-part bytes =
-    let k = length bytes - most_kept in
-    record { within = omega (arith, length-drop k bytes); same = λ j h. get_or-drop k bytes j 0 }
 
 -- the first bits of bytes that go on
 pub bits-begin : (bytes more : List ℕ) (n : ℕ) → n ≤ 8 * length bytes → bits_of bytes n ≡ bits_of (bytes ++ more) n

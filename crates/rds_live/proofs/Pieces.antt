@@ -1,26 +1,5 @@
 -- Bytes that a decoder takes in two pieces give the same as at once.
-use Rattle.std.proofs.Common.{◌≡◌, ℕ, ◌+◌, ◌-◌, ◌*◌, ◌^◌, ◌≤◌, ◌⊎◌, List, [], ◌∷◌, ◌++◌, append_assoc, drop, length, refl, sym, ap, ap₂, subst, ◌∙◌, arith, inl, inr}
-use Rattle.std.specs.Prelude.{slice_index}
-use Rattle.std.specs.List.{list_any}
-use Rattle.std.proofs.lemmas.Bool.{cases_lt}
-use Rattle.std.proofs.lemmas.List.{append-nil, length-append, length-drop, map-append}
-use Rattle.rds_stream.specs.Recording.{AreGaps, Signal, is_touched_by}
-use Rattle.rds_sync.specs.declared.state.State.{State}
-use Rattle.rds_sync.specs.declared.state.State.TheVariants.{Searching, Locked}
-use Rattle.rds_sync.specs.declared.item.Item.{Item}
-use Rattle.rds_sync.specs.declared.item.Item.TheVariants.{Acquired, Group, LostLock}
-use Rattle.rds_sync.specs.declared.totals.Totals.{Totals}
-use Rattle.rds_sync.specs.Rules.{RuleNumbers}
-use Rattle.rds_sync.specs.Ranges.{IsInRange}
-use Rattle.rds_sync.specs.Lawful.{IsLawful}
-use Rattle.rds_sync.specs.Laws.{RunsAreLawful, RunsJoin}
-use Rattle.rds_sync.specs.Counting.{TotalsJoin, plus}
-use Rattle.rds_sync.specs.Totals.{totals_of}
-use Rattle.rds_sync.specs.Step.{run}
-use Rattle.rds_live.specs.Gaps.{gaps_within}
-use Rattle.rds_live.specs.StreamDecoder.{IsStreamDecoder, LiveOf, last_bytes, most_kept, signal_at}
-use Rattle.rds_live.specs.Moving.{IsPartHeard, RunsMove, moved_item, moved_items, moved_state, most_behind}
-use Rattle.rds_live.specs.Next.{before_tail, completed, live_next, moved_back, part_with, run_next}
+use Rattle.rds_live.proofs.Names.{◌≡◌, ℕ, ◌+◌, ◌-◌, ◌*◌, ◌^◌, ◌≤◌, ◌⊎◌, List, [], ◌∷◌, ◌++◌, append_assoc, drop, length, refl, sym, ap, ap₂, subst, ◌∙◌, arith, inl, inr, slice_index, list_any, cases_lt, append-nil, length-append, length-drop, map-append, AreGaps, Signal, is_touched_by, length_of, State, Searching, Locked, Item, Acquired, Group, LostLock, Totals, RuleNumbers, IsInRange, IsLawful, RunsAreLawful, RunsJoin, TotalsJoin, plus, totals_of, items_of_end, run, gaps_within, IsStreamDecoder, LiveOf, last_bytes, most_kept, signal_at, EndsMove, IsPartHeard, RunsMove, moved_item, moved_items, moved_state, most_behind, before_tail, completed, group_next, items_next, live_next, moved_back, part_with, run_next}
 use Rattle.rds_live.proofs.Following.{last-bytes, lawful-back, state-in-part}
 use Rattle.rds_live.proofs.GapParts.{TouchAlike, part-touched}
 use Rattle.rds_live.proofs.Nexts.{live-next}
@@ -74,7 +53,15 @@ plus-assoc t a b =
     let losses : t.losses + a.losses + b.losses ≡ t.losses + (a.losses + b.losses) = omega arith in
     rw (valid, at 0, at 1, at 2, at 3, at 4, lost, bits, groups, complete, acquired, losses) refl
 
-module _ (joins : RunsJoin) (lawfuls : RunsAreLawful) (moves : RunsMove) (live : LiveOf) (first second : List ℕ) (range : IsInRange live.terms.rules) (known : IsStreamDecoder live) where
+-- a run leads from a lawful state to a lawful state
+pub lawful-after : RunsAreLawful → (b : Signal) (rules : RuleNumbers) (s : State) (from n : ℕ) → IsInRange rules → IsLawful rules from s → IsLawful rules (from + n) (run b rules s from n).0
+lawful-after lawfuls b rules s from n range lawful =
+    let count : from + n - from ≡ n = omega arith in
+    subst (λ (m : ℕ). IsLawful rules (from + n) (run b rules s from m).0) count (lawfuls b rules range.loss.0 s from (from + n) (omega arith) lawful)
+
+-- the last piece up to any of its bits
+module _ (joins : RunsJoin) (lawfuls : RunsAreLawful) (moves : RunsMove) (live : LiveOf) (first second : List ℕ) (n2 : ℕ) (held : n2 ≤ 8 * length second) (range : IsInRange live.terms.rules)
+    (known : IsStreamDecoder live) where
   abbrev rules : RuleNumbers
   rules = live.terms.rules
 
@@ -90,11 +77,8 @@ module _ (joins : RunsJoin) (lawfuls : RunsAreLawful) (moves : RunsMove) (live :
   abbrev n1 : ℕ
   n1 = 8 * length first
 
-  abbrev n2 : ℕ
-  n2 = 8 * length second
-
   abbrev n : ℕ
-  n = 8 * length (first ++ second)
+  n = n1 + n2
 
   abbrev local : State
   local = moved_back d live.state
@@ -118,8 +102,13 @@ module _ (joins : RunsJoin) (lawfuls : RunsAreLawful) (moves : RunsMove) (live :
   abbrev f1 : ℕ
   f1 = 8 * length next.tail
 
-  all : n ≡ n1 + n2
-  all = omega (arith, length-append first second)
+  -- the state before the second
+  abbrev here : State
+  here = moved_back (before_tail next) next.state
+
+  -- and after it
+  abbrev last : State
+  last = (run_next next second n2).0
 
   kept : length next.tail ≡ length (live.tail ++ first) - k
   kept = length-drop k (live.tail ++ first)
@@ -144,54 +133,54 @@ module _ (joins : RunsJoin) (lawfuls : RunsAreLawful) (moves : RunsMove) (live :
       state-in-part live.tail live.place f known.kept known.whole refl rules local live.state (back-on rules d live.place live.state known.lawful (omega arith)) known.lawful
 
   end-lawful : IsLawful rules (f + n1) (run_next live first n1).0
-  end-lawful =
-      let count : f + n1 - f ≡ n1 = omega arith in
-      subst (λ (m : ℕ). IsLawful rules (f + n1) (run one rules local f m).0) count (lawfuls one rules range.loss.0 local f (f + n1) (omega arith) lawful)
+  end-lawful = lawful-after lawfuls one rules local f n1 range lawful
+
+  -- the whole with the bytes in two
+  same-whole : signal_at (gaps_within gaps d (f + n)) ((live.tail ++ first) ++ second) (f + n) ≡ whole
+  same-whole = ap (λ (xs : List ℕ). signal_at (gaps_within gaps d (f + n)) xs (f + n)) (append_assoc live.tail first second)
 
   first-heard : IsPartHeard whole one 0 0
   first-heard =
-      let heard : IsPartHeard (signal_at (gaps_within gaps d (f + n)) ((live.tail ++ first) ++ second) (f + n)) (signal_at (gaps_within gaps (d + 0) (f + n1)) (live.tail ++ first) (f + n1)) (8 * 0) 0 =
-      bits-heard ((live.tail ++ first) ++ second) (live.tail ++ first) 0 (first-part (live.tail ++ first) second) (f + n1) (f + n) (omega (arith, both)) (omega (arith, all))
-      (gaps_within gaps d (f + n)) (gaps_within gaps (d + 0) (f + n1)) (within-touched d 0 (f + n1) (f + n) gaps known.gaps (omega (arith, all))) 0 (inl refl) in
       let none : d + 0 ≡ d = omega arith in
+      let heard = bits-heard ((live.tail ++ first) ++ second) (live.tail ++ first) 0 (first-part (live.tail ++ first) second) (f + n1) (f + n) (omega (arith, both)) (omega arith)
+      (gaps_within gaps d (f + n)) (gaps_within gaps (d + 0) (f + n1)) (within-touched d 0 (f + n1) (f + n) gaps known.gaps (omega arith)) 0 (inl refl) in
       subst (λ (m : ℕ). IsPartHeard whole (signal_at (gaps_within gaps m (f + n1)) (live.tail ++ first) (f + n1)) 0 0) none
-      (subst (λ (xs : List ℕ). IsPartHeard (signal_at (gaps_within gaps d (f + n)) xs (f + n)) (signal_at (gaps_within gaps (d + 0) (f + n1)) (live.tail ++ first) (f + n1)) 0 0)
-      (append_assoc live.tail first second) heard)
+      (subst (λ (b : Signal). IsPartHeard b (signal_at (gaps_within gaps (d + 0) (f + n1)) (live.tail ++ first) (f + n1)) 0 0) same-whole heard)
 
   second-heard : IsPartHeard whole two (8 * k) f1
   second-heard =
       let tail : List ℕ = last_bytes (live.tail ++ first) in
-      let heard : IsPartHeard (signal_at (gaps_within gaps d (f + n)) ((live.tail ++ first) ++ second) (f + n)) (signal_at (gaps_within gaps (d + 8 * k) (f1 + n2)) (tail ++ second) (f1 + n2)) (8 * k) f1 =
-      bits-heard ((live.tail ++ first) ++ second) (tail ++ second) k (last-part (live.tail ++ first) second) (f1 + n2) (f + n) (omega (arith, length-append tail second)) (omega (arith, f-next, all))
-      (gaps_within gaps d (f + n)) (gaps_within gaps (d + 8 * k) (f1 + n2)) (within-touched d (8 * k) (f1 + n2) (f + n) gaps known.gaps (omega (arith, f-next, all))) f1 early in
+      let heard = bits-heard ((live.tail ++ first) ++ second) (tail ++ second) k (last-part (live.tail ++ first) second) (f1 + n2) (f + n) (omega (arith, length-append tail second, held)) (omega (arith, f-next))
+      (gaps_within gaps d (f + n)) (gaps_within gaps (d + 8 * k) (f1 + n2)) (within-touched d (8 * k) (f1 + n2) (f + n) gaps known.gaps (omega (arith, f-next))) f1 early in
       subst (λ (m : ℕ). IsPartHeard whole (signal_at (gaps_within gaps m (f1 + n2)) (tail ++ second) (f1 + n2)) (8 * k) f1) d-next
-      (subst (λ (xs : List ℕ). IsPartHeard (signal_at (gaps_within gaps d (f + n)) xs (f + n)) (signal_at (gaps_within gaps (d + 8 * k) (f1 + n2)) (tail ++ second) (f1 + n2)) (8 * k) f1)
-      (append_assoc live.tail first second) heard)
+      (subst (λ (b : Signal). IsPartHeard b (signal_at (gaps_within gaps (d + 8 * k) (f1 + n2)) (tail ++ second) (f1 + n2)) (8 * k) f1) same-whole heard)
 
   run-first : run whole rules local f n1 ≡ run_next live first n1
   run-first =
       run-in-room moves whole one rules local f n1 range first-heard lawful
       (omega (arith, length-at (gaps_within gaps d (f + n1)) (live.tail ++ first) (f + n1)))
 
-  state-there : moved_state (8 * k) (moved_back (before_tail next) next.state) ≡ (run_next live first n1).0
+  state-there : moved_state (8 * k) here ≡ (run_next live first n1).0
   state-there = on-back rules d (8 * k) (before_tail next) (f + n1) (run_next live first n1).0 end-lawful (omega (arith, f-next)) d-next
 
-  run-second : run whole rules (run_next live first n1).0 (f + n1) n2 ≡ (moved_state (8 * k) (run_next next second n2).0, moved_items (8 * k) (run_next next second n2).1)
-  run-second =
-      let here : State = moved_back (before_tail next) next.state in
-      let next_lawful = lawful-back rules (8 * k) f1 (f + n1) here (run_next live first n1).0 state-there end-lawful f-next early in
-      ap₂ (λ (s : State) (p : ℕ). run whole rules s p n2) (sym state-there) (sym f-next)
-      ∙ moves whole two rules (8 * k) here f1 n2 range.loss.0 range.reach next_lawful second-heard
-      (omega (arith, length-at (gaps_within gaps (before_tail next) (f1 + n2)) (next.tail ++ second) (f1 + n2)))
+  here-lawful : IsLawful rules f1 here
+  here-lawful = lawful-back rules (8 * k) f1 (f + n1) here (run_next live first n1).0 state-there end-lawful f-next early
 
-  run-both : run_next live (first ++ second) n
-      ≡ (moved_state (8 * k) (run_next next second n2).0, (run_next live first n1).1 ++ moved_items (8 * k) (run_next next second n2).1)
+  long-two : length_of two ≡ f1 + n2
+  long-two = length-at (gaps_within gaps (before_tail next) (f1 + n2)) (next.tail ++ second) (f1 + n2)
+
+  run-second : run whole rules (run_next live first n1).0 (f + n1) n2 ≡ (moved_state (8 * k) last, moved_items (8 * k) (run_next next second n2).1)
+  run-second =
+      ap₂ (λ (s : State) (p : ℕ). run whole rules s p n2) (sym state-there) (sym f-next)
+      ∙ moves whole two rules (8 * k) here f1 n2 range.loss.0 range.reach here-lawful second-heard (omega (arith, long-two))
+
+  run-both : run_next live (first ++ second) n ≡ (moved_state (8 * k) last, (run_next live first n1).1 ++ moved_items (8 * k) (run_next next second n2).1)
   run-both =
       let total : f + n - f ≡ n = omega arith in
       let front : f + n1 - f ≡ n1 = omega arith in
-      let rest : f + n - (f + n1) ≡ n2 = omega (arith, all) in
+      let rest : f + n - (f + n1) ≡ n2 = omega arith in
       ap (λ (m : ℕ). run whole rules local f m) (sym total)
-      ∙ joins whole rules local f (f + n1) (f + n) (omega arith) (omega (arith, all))
+      ∙ joins whole rules local f (f + n1) (f + n) (omega arith) (omega arith)
       ∙ ap₂ (λ (a b : ℕ). (
         (run whole rules (run whole rules local f a).0 (f + n1) b).0,
         (run whole rules local f a).1 ++ (run whole rules (run whole rules local f a).0 (f + n1) b).1,
@@ -199,21 +188,45 @@ module _ (joins : RunsJoin) (lawfuls : RunsAreLawful) (moves : RunsMove) (live :
       ∙ ap (λ (r : State × List Item). ((run whole rules r.0 (f + n1) n2).0, r.1 ++ (run whole rules r.0 (f + n1) n2).1)) run-first
       ∙ ap (λ (r : State × List Item). (r.0, (run_next live first n1).1 ++ r.1)) run-second
 
-  pub completed-both : completed live first ++ completed next second ≡ completed live (first ++ second)
-  completed-both =
+  pub state-both : moved_state d (run_next live (first ++ second) n).0 ≡ moved_state (before_tail next) last
+  state-both = ap (λ (r : State × List Item). moved_state d r.0) run-both ∙ state-twice d (8 * k) (before_tail next) last d-next
+
+  pub items-both : completed live first ++ items_next next second n2 ≡ items_next live (first ++ second) n
+  items-both =
       sym (ap (λ (r : State × List Item). moved_items d r.1) run-both
       ∙ map-append (moved_item d) (run_next live first n1).1 (moved_items (8 * k) (run_next next second n2).1)
       ∙ ap (λ (xs : List Item). completed live first ++ xs) (items-twice d (8 * k) (before_tail next) (run_next next second n2).1 d-next))
 
-  pub next-both : TotalsJoin → live_next next second ≡ live_next live (first ++ second)
+  pub group-both : EndsMove → group_next next second n2 ≡ group_next live (first ++ second) n
+  group-both ends =
+      let heard : IsPartHeard whole two (8 * k) (length_of two) =
+      record { heard_same = second-heard.heard_same; early = (elim early [ inl none ↦ inl none | inr far ↦ inr (omega (arith, far, long-two)) ]) } in
+      let there = subst (λ (m : ℕ). IsLawful rules m last) (sym long-two) (lawful-after lawfuls two rules here f1 n2 range here-lawful) in
+      sym (ap (λ (r : State × List Item). moved_items d (items_of_end whole rules r.0)) run-both
+      ∙ ap (moved_items d) (ends whole two rules (8 * k) last there heard)
+      ∙ items-twice d (8 * k) (before_tail next) (items_of_end two rules last) d-next)
+
+-- both pieces as a whole
+module _ (joins : RunsJoin) (lawfuls : RunsAreLawful) (moves : RunsMove) (live : LiveOf) (first second : List ℕ) (range : IsInRange live.terms.rules) (known : IsStreamDecoder live) where
+  abbrev after : LiveOf
+  after = live_next live first
+
+  all : 8 * length first + 8 * length second ≡ 8 * length (first ++ second)
+  all = omega (arith, length-append first second)
+
+  pub completed-both : completed live first ++ completed after second ≡ completed live (first ++ second)
+  completed-both =
+      items-both joins lawfuls moves live first second (8 * length second) (omega arith) range known ∙ ap (λ (m : ℕ). items_next live (first ++ second) m) all
+
+  pub next-both : TotalsJoin → live_next after second ≡ live_next live (first ++ second)
   next-both join =
-      live-next live (first ++ second) (last_bytes (next.tail ++ second)) (next.place + n2) (moved_state (before_tail next) (run_next next second n2).0) (plus next.totals (totals_of (completed next second)))
+      live-next live (first ++ second) (last_bytes (after.tail ++ second)) (after.place + 8 * length second) (live_next after second).state (live_next after second).totals
       (last-bytes (live.tail ++ first) second ∙ ap last_bytes (append_assoc live.tail first second))
       (omega (arith, all))
-      (sym (ap (λ (r : State × List Item). moved_state d r.0) run-both ∙ state-twice d (8 * k) (before_tail next) (run_next next second n2).0 d-next))
-      (plus-assoc live.totals (totals_of (completed live first)) (totals_of (completed next second))
+      (sym (state-both joins lawfuls moves live first second (8 * length second) (omega arith) range known) ∙ ap (λ (m : ℕ). moved_state (before_tail live) (run_next live (first ++ second) m).0) all)
+      (plus-assoc live.totals (totals_of (completed live first)) (totals_of (completed after second))
       ∙ ap (λ (t : Totals). plus live.totals t)
-      (sym (join (completed live first) (completed next second)).joined ∙ ap (λ (items : List Item). totals_of items) completed-both))
+      (sym (join (completed live first) (completed after second)).joined ∙ ap (λ (items : List Item). totals_of items) completed-both))
 
 -- ---- no bytes
 

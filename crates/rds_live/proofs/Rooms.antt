@@ -1,21 +1,6 @@
 -- The windows heard in the room of a stream's last bytes.
-use Rattle.std.proofs.Common.{◌≡◌, ℕ, ◌+◌, ◌-◌, ◌*◌, ◌<◌, ◌≤◌, List, ◌++◌, length, drop, take, Bool, true, false, Option, Some, None, refl, sym, ap, ap₂, subst, ◌∙◌, arith, inl}
-use Rattle.std.proofs.lemmas.List.{length-append, length-drop, drop-append-le, take-append-le}
-use Rattle.std.proofs.lemmas.List.FromFn.{length-map-range_with_len}
-use Rattle.std.specs.Int.Digits.{number_from_digits}
-use Rattle.rds_stream.specs.Recording.{AreGaps, Signal, bits_of, packed_bit, window, touched, heard, length_of}
-use Rattle.rds_sync.specs.declared.state.State.{State}
-use Rattle.rds_sync.specs.declared.item.Item.{Item}
-use Rattle.rds_sync.specs.Ranges.{IsInRange}
-use Rattle.rds_sync.specs.Rules.{RuleNumbers}
-use Rattle.rds_sync.specs.Lawful.{IsLawful}
-use Rattle.rds_sync.specs.Step.{run}
-use Rattle.rds_live.specs.Moving.{RunsMove, IsPartHeard}
-use Rattle.rds_live.specs.Gaps.{gaps_within}
-use Rattle.rds_live.specs.StreamDecoder.{signal_of}
-use Rattle.rds_live.specs.Room.{filled_up}
+use Rattle.rds_live.proofs.Names.{◌≡◌, ℕ, ◌+◌, ◌-◌, ◌*◌, ◌<◌, ◌≤◌, List, ◌++◌, length, drop, take, Bool, true, false, Option, Some, None, refl, sym, ap, ap₂, ◌∙◌, arith, inl, length-drop, drop-append-le, take-append-le, length-map-range_with_len, number_from_digits, AreGaps, Signal, bits_of, packed_bit, window, touched, heard, length_of, State, Item, IsInRange, RuleNumbers, IsLawful, run, RunsMove, IsPartHeard, gaps_within, signal_of, filled_up}
 use Rattle.rds_live.proofs.GapParts.{filled-up-touched}
-use Rattle.rds_live.proofs.Parts.{length-signal}
 use Rattle.rds_live.proofs.Following.{still-state, still-items}
 
 -- a window of a list that goes on
@@ -61,22 +46,3 @@ run-in-room moves room part rules s from n range heard lawful within =
     ∙ ap (λ (t : State). run room rules t (from + 0) n) (sym (still-state s))
     ∙ moves room part rules 0 s from n range.loss.0 range.reach lawful (record { heard_same = heard.heard_same; early = inl refl }) within
     ∙ ap₂ (λ (t : State) (items : List Item). (t, items)) (still-state there.0) (still-items there.1)
-
--- over all that is heard after a place
-pub run-all : (moves : RunsMove) (room part : Signal) (rules : RuleNumbers) (s : State) (from n : ℕ) → IsInRange rules → IsPartHeard room part 0 0 → IsLawful rules from s
-    → length_of part ≡ from + n → run room rules s from n ≡ run part rules s from (length_of part - from)
-run-all moves room part rules s from n range heard lawful long =
-    let left : n ≡ length_of part - from = omega (arith, long) in
-    run-in-room moves room part rules s from n range heard lawful (omega (arith, long)) ∙ ap (λ (k : ℕ). run part rules s from k) left
-
--- the bytes that a room holds are heard in its recording
-pub heard-again : (room recording : Signal) (gaps : List (ℕ × ℕ)) (before : ℕ) (held bytes : List ℕ) → recording ≡ room → held ≡ bytes
-    → IsPartHeard room (signal_of (gaps_within gaps before (8 * length held)) held) 0 0
-    → IsPartHeard recording (signal_of (gaps_within gaps before (8 * length bytes)) bytes) 0 0
-heard-again room recording gaps before held bytes same bytes_are heard =
-    subst (λ (b : Signal). IsPartHeard b (signal_of (gaps_within gaps before (8 * length bytes)) bytes) 0 0) (sym same)
-    (subst (λ (xs : List ℕ). IsPartHeard room (signal_of (gaps_within gaps before (8 * length xs)) xs) 0 0) bytes_are heard)
-
--- how long the part is
-pub long-part : (gaps : List (ℕ × ℕ)) (tail more : List ℕ) (from count : ℕ) → from ≡ 8 * length tail → length more ≡ count → length_of (signal_of gaps (tail ++ more)) ≡ from + (from + 8 * count - from)
-long-part gaps tail more from count from_is few = omega (arith, length-signal gaps (tail ++ more), length-append tail more, from_is, few)

@@ -1,15 +1,5 @@
 -- A decoder that takes over the count of a guess.
-use Rattle.std.proofs.Common.{◌≡◌, ◌+◌, ◌-◌, ◌*◌, ◌^◌, ◌≤◌, ◌++◌, ◌∙◌, List, [], ap, arith, drop, length, refl, subst, sym, take, ℕ}
-use Rattle.std.specs.Prelude.{slice_index}
-use Rattle.std.proofs.lemmas.List.{drop-drop, drop_at, length-append, take_rest}
-use Rattle.rds_stream.specs.Recording.{AreGaps}
-use Rattle.rds_sync.specs.Counting.{IsAtMost, plus}
-use Rattle.rds_sync.specs.Ranges.{IsInRange}
-use Rattle.rds_sync.specs.Totals.{totals_of}
-use Rattle.rds_sync.specs.declared.state.State.{State}
-use Rattle.rds_sync.specs.declared.totals.Totals.{Totals}
-use Rattle.rds_live.specs.Next.{IsWithin, NextIsHeard, PiecesJoin, completed, guessed, live_next}
-use Rattle.rds_live.specs.StreamDecoder.{HasHeard, IsStreamDecoder, LiveOf, Terms, last_bytes, live_of, most_counted, most_kept}
+use Rattle.rds_live.proofs.Names.{◌≡◌, ◌+◌, ◌-◌, ◌*◌, ◌^◌, ◌≤◌, ◌++◌, ◌∙◌, List, [], ap, arith, drop, length, refl, subst, sym, take, ℕ, slice_index, drop-drop, drop_at, length-append, take_rest, AreGaps, IsAtMost, plus, IsInRange, totals_of, State, Totals, IsWithin, NextIsHeard, PiecesJoin, completed, guessed, live_next, HasHeard, IsStreamDecoder, LiveOf, Terms, last_bytes, live_of, most_counted, most_kept}
 use Rattle.rds_live.proofs.Following.{at-most-more}
 
 -- the last bytes of a stream are those of its end, if that is long enough
@@ -92,7 +82,7 @@ within-all m k first last same is = subst (λ (n : ℕ). IsWithin n first last) 
 -- ---- a stream that is heard on
 
 -- the decoder that has heard nothing
-first-is : (terms : Terms) → AreGaps (2 ^ 36) terms.gaps → IsStreamDecoder (live_of terms [])
+pub first-is : (terms : Terms) → AreGaps (2 ^ 36) terms.gaps → IsStreamDecoder (live_of terms [])
 first-is terms gaps = record { whole = refl; limit = omega arith; kept = refl; lawful = tt; small = none-counted; gaps = gaps }
 
 -- whether or not these are numbers of a decoder

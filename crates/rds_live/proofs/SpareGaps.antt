@@ -1,10 +1,5 @@
 -- The spare gaps of a room, which stay where no others are put in their place.
-use Rattle.std.proofs.Common.{◌≡◌, ℕ, ◌+◌, ◌-◌, ◌≤◌, List, ◌++◌, append_assoc, drop, length, map, sym, ap, ap₂, ◌∙◌, arith}
-use Rattle.std.proofs.Math.Seq.{drop-append_seam}
-use Rattle.std.specs.List.{range_with_len}
-use Rattle.std.proofs.lemmas.List.{drop-drop, length-append, take-append-drop}
-use Rattle.std.proofs.lemmas.List.FromFn.{length-map-range_with_len, take-map-range_with_len}
-use Rattle.rds_live.specs.Room.{AreSpareFrom, filled_up, spare}
+use Rattle.rds_live.proofs.Names.{◌≡◌, ℕ, ◌+◌, ◌-◌, ◌≤◌, List, ◌++◌, append_assoc, drop, length, map, sym, ap, ap₂, ◌∙◌, arith, drop-append_seam, range_with_len, drop-drop, length-append, take-append-drop, length-map-range_with_len, take-map-range_with_len, AreSpareFrom, filled_up, spare}
 use Rattle.rds_live.proofs.GapParts.{length-filled-up}
 use Rattle.rds_live.proofs.Parts.{drop-table}
 

@@ -1,19 +1,21 @@
 -- The next items and the next state of a decoder of a stream, only by its numbers: by those that a decoder
 -- was left with, and by others that are lawful and of no stream. `take`, `take_all`, `finish` and
 -- `finish_with` of `StreamDecoder` cite it. This project's rule.
-use Rattle.std.specs.Prelude.{◌≡◌, ℕ, ◌+◌, ◌-◌, ◌*◌, List, [], ◌++◌, length}
+use Rattle.std.specs.Prelude.{◌≡◌, ℕ, ◌≤◌, ◌+◌, ◌-◌, ◌*◌, List, [], ◌++◌, length}
 use Rattle.rds_stream.specs.Recording.{Signal}
 use Rattle.rds_sync.specs.declared.state.State.{State}
 use Rattle.rds_sync.specs.declared.state.State.TheVariants.{Searching, Locked}
 use Rattle.rds_sync.specs.declared.item.Item.{Item}
 use Rattle.rds_sync.specs.declared.totals.Totals.{Totals}
 use Rattle.rds_sync.specs.Counting.{IsAtMost, plus}
+use Rattle.rds_sync.specs.Lawful.{IsLawful}
 use Rattle.rds_sync.specs.Ranges.{IsInRange}
 use Rattle.rds_sync.specs.Step.{run, items_of_end}
 use Rattle.rds_sync.specs.Totals.{totals_of}
 use Rattle.rds_live.specs.Gaps.{gaps_within}
-use Rattle.rds_live.specs.StreamDecoder.{HasHeard, IsStreamDecoder, LiveOf, complete, last_bytes, most_counted, signal_at}
+use Rattle.rds_live.specs.StreamDecoder.{HasHeard, IsStreamDecoder, LiveOf, complete, last_bytes, most_counted, report_at, signal_at}
 use Rattle.rds_live.specs.Moving.{moved_items, moved_state}
+use Rattle.rds_live.specs.declared.kept.Start.{Start}
 
 -- the state, with all places moved back by d
 abbrev pub moved_back : ℕ → State → State
@@ -64,6 +66,15 @@ live_next live bytes = record {
 abbrev pub guessed : LiveOf → State → LiveOf
 guessed live state = record live { state = state; totals = totals_of [] }
 
+-- where the run over the next bytes begins, by the places of the bytes that are kept
+pub record IsStart (live : LiveOf) (start : Start) : Type 0 where
+  pub before : start.before ≡ before_tail live
+  pub from : start.from ≡ 8 * length live.tail
+  pub state : start.state ≡ moved_back (before_tail live) live.state
+  pub known : IsStreamDecoder live
+  pub range : IsInRange live.terms.rules
+  pub lawful : IsLawful live.terms.rules start.from start.state
+
 -- no count grew by more than this number of bits may give
 pub record IsWithin (bits : ℕ) (before after : Totals) : Type 0 where
   pub within : (n : ℕ) → IsAtMost n before → IsAtMost (n + most_counted bits) after
@@ -83,3 +94,10 @@ NextIsHeard = (live : LiveOf) (before bytes : List ℕ) → IsInRange live.terms
     → HasHeard live before
     → HasHeard (live_next live bytes) (before ++ bytes)
     × (complete live.terms before ++ completed live bytes ≡ complete live.terms (before ++ bytes))
+
+-- a heard stream that ends with the first bits of these bytes has this report
+abbrev pub EndsAreReports : Type 0
+EndsAreReports = (live : LiveOf) (before bytes : List ℕ) (bits : ℕ) → IsInRange live.terms.rules
+    → IsStreamDecoder live → HasHeard live before → bits ≤ 8 * length bytes
+    → complete live.terms before ++ items_next live bytes bits ++ group_next live bytes bits
+    ≡ report_at live.terms (before ++ bytes) (8 * length before + bits)

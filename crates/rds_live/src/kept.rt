@@ -26,6 +26,15 @@ pub(crate) struct Kept {
     pub totals: Totals,
 }
 
+/// Where the run over the next bytes begins: how many bits come before the bytes that are kept, how many these have, and the state
+/// by their places.
+#[derive(Clone, Copy)]
+pub(crate) struct Start {
+    pub before: u64,
+    pub from: u64,
+    pub state: State,
+}
+
 /// Whether a decoder of a stream can have these numbers, by these rules and whichever gaps: whole bytes were heard, no more
 /// than a recording may hold, the tail has as many of them as are kept, the state is lawful, and the totals are small.
 pub(crate) fn can_be_live(

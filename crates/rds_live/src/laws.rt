@@ -2,7 +2,7 @@
 //! is a law, which the check of this crate proves, and which a proof above it may cite.
 
 ghost use Rattle.rds_live.specs.Moving.{EndsMove, RunsMove};
-ghost use Rattle.rds_live.specs.Next.{NextIsHeard, PiecesJoin};
+ghost use Rattle.rds_live.specs.Next.{EndsAreReports, NextIsHeard, PiecesJoin};
 
 use rds_sync::laws;
 
@@ -35,7 +35,19 @@ pub fn pieces_join()
 pub fn next_is_heard()
     ensures { NextIsHeard }
 {
+    laws::totals_join();
+    pieces_join();
+    runs_move();
+}
+
+/// The items that the last bits of a heard stream complete, and the group in progress after them, are the rest of its report.
+pub fn ends_are_reports()
+    ensures { EndsAreReports }
+{
+    laws::runs_are_lawful();
+    laws::runs_are_reports();
     laws::runs_join();
     laws::totals_join();
     runs_move();
+    ends_move();
 }

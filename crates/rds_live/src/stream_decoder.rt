@@ -10,15 +10,15 @@ ghost use Rattle.rds_sync.specs.Step.{run, items_of_end};
 ghost use Rattle.rds_sync.specs.Totals.{totals_of};
 ghost use Rattle.rds_live.specs.Moving.{moved_items};
 ghost use Rattle.rds_live.specs.StreamDecoder.{HasHeard, IsStreamDecoder, Terms, by_rules, complete, last_bytes, live_of, live_with, most_counted, most_kept, report_at, report_of, signal_of};
-ghost use Rattle.rds_live.specs.Next.{IsWithin, completed, group_next, guessed, items_next, live_next};
+ghost use Rattle.rds_live.specs.Next.{IsStart, IsWithin, completed, group_next, guessed, items_next, live_next};
 ghost use Rattle.rds_live.specs.Places.{place_of};
 ghost use Rattle.rds_live.specs.Room.{slots_of};
 ghost use Rattle.rds_live.specs.Keeping.{IsKept, live_kept};
 
 use crate::error::ResumeError;
 use crate::gaps::may_have_gaps;
-use crate::kept::{Kept, MOST_KEPT, can_be_live};
-use crate::laws::{ends_move, pieces_join, runs_move};
+use crate::kept::{Kept, MOST_KEPT, Start, can_be_live};
+use crate::laws::{ends_are_reports, next_is_heard, pieces_join, runs_move};
 use crate::moved::{move_on, moved_back, moved_group, moved_on};
 use crate::room::{AT_ONCE, Room};
 use rds_stream::{Counted, MOST_BITS, Recording, StreamError, are_gaps};
@@ -280,25 +280,12 @@ impl<'r> StreamDecoder<'r> {
         if bytes.len() as u64 > (MOST_BITS - self.place) / 8 {
             return Err(StreamError::TooLong);
         }
-        prove!(1 <= self.rules.reach());
-        laws::runs_join();
-        laws::totals_join();
-        runs_move();
+        self.is_known();
+        next_is_heard();
         let count = bytes
             .len()
             .min(AT_ONCE.min(items.capacity() / ITEMS_A_BYTE));
-        let from = 8 * self.room.bytes().len() as u64;
-        let before = self.place - from;
-        let to = from + 8 * count as u64;
-        self.room.push(&bytes[..count]);
-        self.room.listen(self.gaps, before);
-        let state = moved_back(self.state, before);
-        let end = fill_from(self.room.recording(), self.rules, state, from, to, items);
-        self.totals = self.totals.plus(Totals::of(items));
-        move_on(items.as_mut_slice(), before);
-        self.room.keep_last();
-        self.place = before + to;
-        self.state = moved_on(end, before);
+        self.take_part(&bytes[..count], items);
         Ok(count)
     }
 
@@ -326,6 +313,8 @@ impl<'r> StreamDecoder<'r> {
         if bytes.len() as u64 > (MOST_BITS - self.place) / 8 {
             return Err(StreamError::TooLong);
         }
+        self.is_known();
+        next_is_heard();
         let before = self.kept_numbers();
         match decode_bytes(alloc, self, bytes) {
             Ok(items) => Ok(items),
@@ -353,27 +342,64 @@ impl<'r> StreamDecoder<'r> {
         self.is_still();
     }
 
-    /// The same of as many bytes as are decoded at once.
+    /// Takes as many of these bytes as are decoded at once, and gives the items that they complete in place of those of `items`.
+    fn take_part(&mut self, bytes: &[u8], items: &mut Vec<Item>)
+        requires few { length bytes.now ≤ 960 }
+        requires room { 16 * length bytes.now ≤ vec_capacity items.old }
+        requires fits { self.old.place + 8 * length bytes.now ≤ 2 ^ 36 }
+        ensures next { self.new ≡ live_next self.old bytes.now }
+        ensures completed { items.new.items ≡ completed self.old bytes.now }
+        ensures small { IsWithin (8 * length bytes.now) self.old.totals self.new.totals }
+        ensures room { vec_capacity items.new ≡ vec_capacity items.old }
+    {
+        laws::totals_join();
+        runs_move();
+        let start = self.next_start();
+        let to = start.from + 8 * bytes.len() as u64;
+        self.room.push(bytes);
+        self.room.listen(self.gaps, start.before);
+        let part = self.room.recording();
+        let end = fill_from(part, self.rules, start.state, start.from, to, items);
+        self.totals = self.totals.plus(Totals::of(items));
+        move_on(items.as_mut_slice(), start.before);
+        self.room.keep_last();
+        self.place = start.before + to;
+        self.state = moved_on(end, start.before);
+    }
+
+    /// The same, but only counts the items.
     fn count_part(&mut self, bytes: &[u8])
         requires few { length bytes.now ≤ 960 }
         requires fits { self.old.place + 8 * length bytes.now ≤ 2 ^ 36 }
         ensures next { self.new ≡ live_next self.old bytes.now }
         ensures small { IsWithin (8 * length bytes.now) self.old.totals self.new.totals }
     {
-        prove!(1 <= self.rules.reach());
         laws::totals_join();
         runs_move();
-        let from = 8 * self.room.bytes().len() as u64;
-        let before = self.place - from;
-        let to = from + 8 * bytes.len() as u64;
+        let start = self.next_start();
+        let to = start.from + 8 * bytes.len() as u64;
         self.room.push(bytes);
-        self.room.listen(self.gaps, before);
-        let state = moved_back(self.state, before);
-        let (end, totals) = run_totals(self.room.recording(), self.rules, state, from, to);
+        self.room.listen(self.gaps, start.before);
+        let part = self.room.recording();
+        let (end, totals) = run_totals(part, self.rules, start.state, start.from, to);
         self.totals = self.totals.plus(totals);
         self.room.keep_last();
-        self.place = before + to;
-        self.state = moved_on(end, before);
+        self.place = start.before + to;
+        self.state = moved_on(end, start.before);
+    }
+
+    /// Where the run over the next bytes begins, by the places of the bytes that are kept.
+    fn next_start(&self) -> Start
+        ensures { IsStart self.now result }
+    {
+        prove!(1 <= self.rules.reach());
+        let from = 8 * self.room.bytes().len() as u64;
+        let before = self.place - from;
+        Start {
+            before,
+            from,
+            state: moved_back(self.state, before),
+        }
     }
 
     /// A decoder that searched after the bytes of `front`, and then heard the seam, in which it has counted nothing: its state is a
@@ -500,18 +526,19 @@ impl<'r> StreamDecoder<'r> {
         ensures closed { group_item result.group ≡ group_next self.entry [] 0 }
         ensures counted { result.totals ≡ plus self.entry.totals (totals_of (group_next self.entry [] 0)) }
     {
-        prove!(1 <= self.rules.reach());
-        laws::runs_are_reports();
         laws::totals_join();
+        ends_are_reports();
+        let start = self.next_start();
         let StreamDecoder {
             rules,
             gaps,
             room,
-            place,
-            state,
+            place: _,
+            state: _,
             totals,
         } = self;
-        let group = group_at_end(rules, gaps, room, place, state);
+        let part = room.into_recording(gaps, start.before, start.from);
+        let group = moved_end(&part, rules, start.state, start.before);
         stream_end_of(totals, group)
     }
 
@@ -549,30 +576,25 @@ impl<'r> StreamDecoder<'r> {
         if bits > MOST_BITS - self.place {
             return Err(StreamError::TooLong);
         }
-        prove!(1 <= self.rules.reach());
-        laws::runs_join();
-        laws::runs_are_reports();
         laws::totals_join();
-        runs_move();
-        ends_move();
+        ends_are_reports();
+        let start = self.next_start();
         let StreamDecoder {
             rules,
             gaps,
             room,
-            place,
-            state,
+            place: _,
+            state: _,
             totals,
         } = self;
         let mut room = room;
-        let from = 8 * room.bytes().len() as u64;
-        let before = place - from;
+        let to = start.from + bits;
         room.push(&bytes[..bits.div_ceil(8) as usize]);
-        let part = room.into_recording(gaps, before, from + bits);
-        let state = moved_back(state, before);
-        let end = fill_from(&part, rules, state, from, from + bits, items);
+        let part = room.into_recording(gaps, start.before, to);
+        let end = fill_from(&part, rules, start.state, start.from, to, items);
         let totals = totals.plus(Totals::of(items));
-        move_on(items.as_mut_slice(), before);
-        let group = moved_end(&part, rules, end, before);
+        move_on(items.as_mut_slice(), start.before);
+        let group = moved_end(&part, rules, end, start.before);
         Ok(stream_end_of(totals, group))
     }
 }
@@ -584,11 +606,7 @@ fn decode_bytes(
     bytes: &[u8],
 ) -> Result<Vec<Item>, AllocError>
     requires fits { live.old.place + 8 * length bytes.now ≤ 2 ^ 36 }
-    ensures heard { OnOk result ((before : List ℕ) → HasHeard live.old before
-        → HasHeard live.new (before ++ bytes.now)) }
     ensures terms { live.new.terms ≡ live.old.terms }
-    ensures items { IfOk result (λ items. (before : List ℕ) → HasHeard live.old before
-        → complete live.old.terms (before ++ bytes.now) ≡ complete live.old.terms before ++ items.items) }
     ensures next { OnOk result (live.new ≡ live_next live.old bytes.now) }
     ensures completed { IfOk result (λ items. items.items ≡ completed live.old bytes.now) }
 {
@@ -615,13 +633,7 @@ fn take_next(
     requires room { 16 ≤ vec_capacity some.old }
     requires fits { live.old.place + 8 * length bytes.now ≤ 2 ^ 36 }
     ensures some { IfOk result (λ count. (0 < count) × (count ≤ length bytes.now)) }
-    ensures heard { IfOk result (λ count. (before : List ℕ) → HasHeard live.old before
-        → HasHeard live.new (before ++ take count bytes.now)) }
     ensures terms { live.new.terms ≡ live.old.terms }
-    ensures place { IfOk result (λ count. live.new.place ≡ live.old.place + 8 * count) }
-    ensures items { IfOk result (λ count. (before : List ℕ) (given : List Item) → HasHeard live.old before
-        → complete live.old.terms before ≡ given ++ items.old.items
-        → complete live.old.terms (before ++ take count bytes.now) ≡ given ++ items.new.items) }
     ensures next { IfOk result (λ count. live_next live.new (drop count bytes.now)
         ≡ live_next live.old bytes.now) }
     ensures completed { IfOk result (λ count. items.new.items ++ completed live.new (drop count bytes.now)
@@ -693,32 +705,6 @@ fn totals_of_end(group: &Option<Group>) -> Totals
     ensures small { IsAtMost (2 ^ 10) result }
 {
     Totals::of_end(*group)
-}
-
-/// The group in progress after the last bytes of a stream with these gaps, in this state.
-fn group_at_end(
-    rules: &Rules,
-    gaps: &[(u64, u64)],
-    room: Room,
-    place: u64,
-    state: State,
-) -> Option<Group>
-    requires kept { length room.bytes ≡ min most_kept (place / 8) }
-    requires whole { place ≡ 8 * (place / 8) }
-    requires limit { place ≤ 2 ^ 36 }
-    requires lawful { IsLawful rules.now place state }
-    requires are { AreGaps (2 ^ 36) gaps.now }
-    requires slots { min (length gaps.now) 7920 ≤ slots_of room }
-    ensures heard { (bytes : List ℕ) → room.bytes ≡ last_bytes bytes → place ≡ 8 * length bytes
-        → group_item result ≡ items_of_end (signal_of gaps.now bytes) rules.now state }
-    ensures closed { (totals : Totals)
-        → group_item result ≡ group_next (live_with rules.now gaps.now room.bytes place state totals) [] 0 }
-{
-    ends_move();
-    let bits = 8 * room.bytes().len() as u64;
-    let before = place - bits;
-    let part = room.into_recording(gaps, before, bits);
-    moved_end(&part, rules, moved_back(state, before), before)
 }
 
 /// The group in progress at the end of a recording, in this state, moved on by `by` places.

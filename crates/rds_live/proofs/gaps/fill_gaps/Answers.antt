@@ -1,6 +1,4 @@
-use Rattle.std.proofs.Common.{◌+◌, ◌^◌, ◌∷◌, ◌++◌, [], drop, length, ap, sym, ◌∙◌, arith}
-use Rattle.std.proofs.lemmas.List.{length-append}
-use Rattle.rds_live.specs.Gaps.{gaps_within}
+use Rattle.rds_live.proofs.Names.{◌+◌, ◌^◌, ◌∷◌, ◌++◌, [], drop, length, ap, sym, ◌∙◌, arith, length-append, gaps_within}
 use Rattle.rds_live.proofs.GapParts.{few-of-part, one-found}
 use Rattle.rds_live.proofs.gaps.fill_gaps.Goals as goal
 

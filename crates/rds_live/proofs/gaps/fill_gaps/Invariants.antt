@@ -1,6 +1,4 @@
-use Rattle.std.proofs.Common.{◌≡◌, ◌++◌, drop, length}
-use Rattle.std.specs.Prelude.{vec_capacity}
-use Rattle.rds_live.specs.Gaps.{gaps_within}
+use Rattle.rds_live.proofs.Names.{◌≡◌, ◌++◌, drop, length, vec_capacity, gaps_within}
 use Rattle.rds_live.proofs.gaps.fill_gaps.Given as goal
 
 abbrev pub invariant-loop-gap : goal.invariant-loop-gap

@@ -1,8 +1,4 @@
-use Rattle.std.proofs.Common.{◌≡◌, ◌≤◌, ◌+◌, ◌-◌, ◌∷◌, ◌++◌, ℕ, List, [], append_assoc, length, map, refl, ap, sym, ◌∙◌, arith}
-use Rattle.std.proofs.lemmas.List.{length-append}
-use Rattle.std.proofs.lemmas.List.FromFn.{map-range_with_len_more}
-use Rattle.std.specs.List.{range_with_len}
-use Rattle.rds_live.specs.Room.{spare}
+use Rattle.rds_live.proofs.Names.{◌≡◌, ◌≤◌, ◌+◌, ◌-◌, ◌∷◌, ◌++◌, ℕ, List, [], append_assoc, length, map, refl, ap, sym, ◌∙◌, arith, length-append, map-range_with_len_more, range_with_len, spare}
 use Rattle.rds_live.proofs.gaps.fill_up.Goals as goal
 
 -- one more

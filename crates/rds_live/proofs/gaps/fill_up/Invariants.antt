@@ -1,7 +1,4 @@
-use Rattle.std.proofs.Common.{◌≡◌, ◌≤◌, ◌-◌, ◌++◌, length, map}
-use Rattle.std.specs.Prelude.{vec_capacity}
-use Rattle.std.specs.List.{range_with_len}
-use Rattle.rds_live.specs.Room.{spare}
+use Rattle.rds_live.proofs.Names.{◌≡◌, ◌≤◌, ◌-◌, ◌++◌, length, map, vec_capacity, range_with_len, spare}
 use Rattle.rds_live.proofs.gaps.fill_up.Given as goal
 
 abbrev pub invariant-loop-number : goal.invariant-loop-number

@@ -1,6 +1,4 @@
-use Rattle.std.proofs.Common.{◌≡◌, ◌-◌, ◌^◌, ℕ, drop, length, length-drop, take, leb, ltb, arith, rules}
-use Rattle.std.proofs.lemmas.List.{take_all}
-use Rattle.std.proofs.lemmas.List.Sorted.{IsPartitionPoint-from_clause, IsPartitionedBy-leb, IsPartitionedBy-ltb}
+use Rattle.rds_live.proofs.Names.{◌≡◌, ◌-◌, ◌^◌, ℕ, drop, length, length-drop, take, leb, ltb, arith, rules, take_all, IsPartitionPoint-from_clause, IsPartitionedBy-leb, IsPartitionedBy-ltb}
 use Rattle.rds_live.proofs.NearGaps.{begins-rise, ends-rise, near-gaps}
 use Rattle.rds_live.proofs.gaps.near.Goals as goal
 

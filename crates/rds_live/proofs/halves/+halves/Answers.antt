@@ -1,8 +1,4 @@
-use Rattle.std.proofs.Common.{◌≡◌, ◌+◌, ◌*◌, ◌∙◌, List, ap, arith, length, sym, ℕ}
-use Rattle.std.proofs.lemmas.List.{length-append}
-use Rattle.rds_sync.specs.declared.state.State.{State}
-use Rattle.rds_live.specs.StreamDecoder.{LiveOf}
-use Rattle.rds_live.specs.Next.{guessed, live_next}
+use Rattle.rds_live.proofs.Names.{◌≡◌, ◌+◌, ◌*◌, ◌∙◌, List, ap, arith, length, sym, ℕ, length-append, State, LiveOf, guessed, live_next}
 use Rattle.rds_live.proofs.Sewing.{both-within, from-none, within-all}
 use Rattle.rds_live.proofs.halves.+halves.Goals as goal
 

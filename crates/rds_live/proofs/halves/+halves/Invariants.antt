@@ -1,4 +1,4 @@
-use Rattle.std.proofs.Common.{◌+◌, ◌-◌, ◌*◌}
+use Rattle.rds_live.proofs.Names.{◌+◌, ◌-◌, ◌*◌}
 use Rattle.rds_live.proofs.halves.+halves.Given as goal
 
 abbrev pub decreases-count_by : goal.decreases-count_by

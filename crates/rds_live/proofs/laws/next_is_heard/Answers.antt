@@ -1,8 +1,6 @@
-use Rattle.rds_live.proofs.NextHeard.{next-complete, next-heard}
+use Rattle.rds_live.proofs.NextHeard.{next-heard}
 use Rattle.rds_live.proofs.laws.next_is_heard.Goals as goal
 
 pub returns : goal.returns
-returns c live before bytes range known heard = (
-  next-heard c.runs_join.ensures c.runs_move.ensures live before bytes range known heard c.totals_join.ensures,
-  next-complete c.runs_join.ensures c.runs_move.ensures live before bytes range known heard,
-)
+returns c live before bytes range known heard =
+    next-heard c.runs_move.ensures c.totals_join.ensures live.terms range known.gaps c.pieces_join.ensures live before bytes heard

@@ -1,4 +1,4 @@
-use Rattle.std.proofs.Common.{arith}
+use Rattle.rds_live.proofs.Names.{arith}
 use Rattle.rds_live.proofs.HeardParts.{run-moved}
 use Rattle.rds_live.proofs.laws.runs_move.Goals as goal
 

@@ -1,10 +1,4 @@
-use Rattle.std.proofs.Common.{◌≡◌, ◌+◌, ◌*◌, ◌∙◌, List, ap, arith, length, sym, ℕ}
-use Rattle.std.proofs.lemmas.List.{length-append}
-use Rattle.rds_sync.specs.declared.item.Item.{Item}
-use Rattle.rds_sync.specs.declared.state.State.{State}
-use Rattle.rds_live.specs.Listing.{ListerOf, lister_next, lister_of}
-use Rattle.rds_live.specs.Next.{guessed, live_next}
-use Rattle.rds_live.specs.StreamDecoder.{LiveOf}
+use Rattle.rds_live.proofs.Names.{◌≡◌, ◌+◌, ◌*◌, ◌∙◌, List, ap, arith, length, sym, ℕ, length-append, Item, State, ListerOf, lister_next, lister_of, guessed, live_next, LiveOf}
 use Rattle.rds_live.proofs.Listers.{lists-join, on-ok-both}
 use Rattle.rds_live.proofs.Sewing.{both-within, from-none, within-all}
 use Rattle.rds_live.proofs.listed_halves.+listed_halves.Goals as goal

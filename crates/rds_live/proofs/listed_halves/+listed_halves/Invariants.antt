@@ -1,4 +1,4 @@
-use Rattle.std.proofs.Common.{◌+◌, ◌-◌, ◌*◌}
+use Rattle.rds_live.proofs.Names.{◌+◌, ◌-◌, ◌*◌}
 use Rattle.rds_live.proofs.listed_halves.+listed_halves.Given as goal
 
 abbrev pub decreases-list_by : goal.decreases-list_by

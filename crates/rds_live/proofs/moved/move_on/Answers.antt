@@ -1,8 +1,4 @@
-use Rattle.std.proofs.Common.{◌+◌, ◌<◌, ◌^◌, ◌∙◌, ap, subst, sym, arith}
-use Rattle.std.proofs.lemmas.List.{length-set}
-use Rattle.rds_sync.specs.declared.item.Item.{Item}
-use Rattle.rds_live.specs.Moving.{moved_item}
-use Rattle.rds_live.specs.Places.{place_of}
+use Rattle.rds_live.proofs.Names.{◌+◌, ◌<◌, ◌^◌, ◌∙◌, ap, subst, sym, arith, length-set, Item, moved_item, place_of}
 use Rattle.rds_live.proofs.Moves.{one-changed, still-left, same-read}
 use Rattle.rds_live.proofs.moved.move_on.Goals as goal
 

@@ -1,5 +1,4 @@
-use Rattle.std.proofs.Common.{◌≡◌, drop, length, take}
-use Rattle.rds_live.specs.Moving.{moved_items}
+use Rattle.rds_live.proofs.Names.{◌≡◌, drop, length, take, moved_items}
 use Rattle.rds_live.proofs.moved.move_on.Given as goal
 
 abbrev pub invariant-loop-i : goal.invariant-loop-i

@@ -1,9 +1,4 @@
-use Rattle.std.proofs.Common.{◌++◌, ◌∙◌, ◌<◌, ◌^◌, List, ap, arith, subst, sym}
-use Rattle.std.specs.List.{All}
-use Rattle.std.proofs.lemmas.List.{get_or_append_left, length-append}
-use Rattle.rds_sync.specs.declared.item.Item.{Item}
-use Rattle.rds_sync.specs.Decoding.{DecoderOf}
-use Rattle.rds_live.specs.Places.{place_of}
+use Rattle.rds_live.proofs.Names.{◌++◌, ◌∙◌, ◌<◌, ◌^◌, List, ap, arith, subst, sym, All, get_or_append_left, length-append, Item, DecoderOf, place_of}
 use Rattle.rds_live.proofs.ItemPlaces.{run-early}
 use Rattle.rds_live.proofs.stream_decoder.fill_from.Goals as goal
 

@@ -1,12 +1,4 @@
-use Rattle.std.proofs.Common.{◌+◌, ◌^◌, ◌<◌, ◌∷◌, [], ◌∙◌, arith, ap, sym, subst, zero, List}
-use Rattle.std.specs.List.{All}
-use Rattle.rds_stream.specs.Recording.{length_of}
-use Rattle.rds_stream.specs.Tape.{TapeState}
-use Rattle.rds_sync.specs.declared.item.Item.{Item}
-use Rattle.rds_sync.specs.declared.item.Item.TheVariants.{Group}
-use Rattle.rds_sync.specs.Advance.{group_item}
-use Rattle.rds_sync.specs.Step.{items_of_end}
-use Rattle.rds_live.specs.Places.{place_of}
+use Rattle.rds_live.proofs.Names.{◌+◌, ◌^◌, ◌<◌, ◌∷◌, [], ◌∙◌, arith, ap, sym, subst, zero, List, All, length_of, TapeState, Item, Group, group_item, items_of_end, place_of}
 use Rattle.rds_live.proofs.ItemPlaces.{due-soon, end-early}
 use Rattle.rds_live.proofs.stream_decoder.moved_end.Goals as goal
 

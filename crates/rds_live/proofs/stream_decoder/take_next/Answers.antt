@@ -1,16 +1,5 @@
-use Rattle.std.proofs.Common.{◌++◌, ◌∙◌, ℕ, List, ap, ap₂, append_assoc, drop, sym, take}
-use Rattle.std.proofs.lemmas.List.{take-append-drop}
-use Rattle.rds_sync.specs.declared.item.Item.{Item}
-use Rattle.rds_live.specs.StreamDecoder.{LiveOf}
-use Rattle.rds_live.specs.Next.{completed, live_next}
+use Rattle.rds_live.proofs.Names.{◌++◌, ◌∙◌, ℕ, List, ap, ap₂, append_assoc, drop, sym, take, take-append-drop, Item, LiveOf, completed, live_next}
 use Rattle.rds_live.proofs.stream_decoder.take_next.Goals as goal
-
-pub returns-clause-items : goal.returns-clause-items
-returns-clause-items c before given h e =
-    let old = c.args.items.now.items in
-    let some = c.take.new.items.items in
-    let all = ap (λ xs. old ++ xs) (sym c.deref.ensures.value) ∙ sym c.in_ok-extend_from_slice-in-Ok.ensures.items in
-    c.in-Ok.ensures.items before h ∙ ap (λ xs. xs ++ some) e ∙ append_assoc given old some ∙ ap (λ xs. given ++ xs) all
 
 pub returns-clause-next : goal.returns-clause-next
 returns-clause-next c =

@@ -1,6 +1,4 @@
-use Rattle.std.proofs.Common.{◌*◌, ◌^◌, ◌≤◌, length, ap, arith, refl}
-use Rattle.std.proofs.lemmas.Bool.{false≢true}
-use Rattle.rds_live.specs.Room.{RoomOf}
+use Rattle.rds_live.proofs.Names.{◌*◌, ◌^◌, ◌≤◌, length, ap, arith, refl, false≢true, RoomOf}
 use Rattle.rds_live.proofs.GapParts.{found-of-part}
 use Rattle.rds_live.proofs.room.Room.into_recording.Goals as goal
 

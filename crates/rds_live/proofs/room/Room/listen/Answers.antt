@@ -1,12 +1,4 @@
-use Rattle.std.proofs.Common.{◌≡◌, ◌≤◌, ◌-◌, ◌*◌, ◌^◌, ◌++◌, ◌∙◌, ℕ, List, ap, ap₂, arith, drop, length, length-drop, map, min, subst, sym}
-use Rattle.std.specs.List.{range_with_len}
-use Rattle.std.proofs.lemmas.List.{length-append}
-use Rattle.std.proofs.lemmas.List.FromFn.{length-map-range_with_len}
-use Rattle.rds_stream.specs.Recording.{AreGaps, Signal, bits_of, length_of, packed_bit}
-use Rattle.rds_live.specs.Gaps.{gaps_within}
-use Rattle.rds_live.specs.StreamDecoder.{signal_of}
-use Rattle.rds_live.specs.Moving.{IsPartHeard}
-use Rattle.rds_live.specs.Room.{AreSpareFrom, filled_up, slots_of, spare}
+use Rattle.rds_live.proofs.Names.{◌≡◌, ◌≤◌, ◌-◌, ◌*◌, ◌^◌, ◌++◌, ◌∙◌, ℕ, List, ap, ap₂, arith, drop, length, length-drop, map, min, subst, sym, range_with_len, length-append, length-map-range_with_len, AreGaps, Signal, bits_of, length_of, packed_bit, gaps_within, signal_of, IsPartHeard, AreSpareFrom, filled_up, slots_of, spare}
 use Rattle.rds_live.proofs.GapParts.{few-of-part, gaps-of-part, gaps-filled-up, length-filled-up}
 use Rattle.rds_live.proofs.Rooms.{heard-filled}
 use Rattle.rds_live.proofs.SpareGaps.{filled-on, spare-behind}

@@ -1,8 +1,4 @@
-use Rattle.std.proofs.Common.{◌≡◌, ◌≤◌, ◌∙◌, ℕ, List, [], ap, arith, length, subst, sym}
-use Rattle.std.proofs.lemmas.Bool.{false≢true}
-use Rattle.std.proofs.lemmas.List.FromFn.{length-map-range_with_len}
-use Rattle.rds_stream.specs.Recording.{AreGaps, Signal, length_of, packed_bit}
-use Rattle.rds_live.specs.Room.{AreSpareFrom, filled_up}
+use Rattle.rds_live.proofs.Names.{◌≡◌, ◌≤◌, ◌∙◌, ℕ, List, [], ap, arith, length, subst, sym, false≢true, length-map-range_with_len, AreGaps, Signal, length_of, packed_bit, AreSpareFrom, filled_up}
 use Rattle.rds_live.proofs.GapParts.{gaps-filled-up, length-filled-up}
 use Rattle.rds_live.proofs.SpareGaps.{spare-behind}
 use Rattle.rds_live.proofs.room.Room.new.Goals as goal

@@ -1,8 +1,4 @@
-use Rattle.std.proofs.Common.{◌≡◌, ◌^◌, ◌++◌, List, ap, subst, sym, ◌∙◌, ℕ}
-use Rattle.rds_stream.specs.Recording.{AreGaps}
-use Rattle.rds_sync.specs.Ranges.{IsInRange}
-use Rattle.rds_live.specs.Next.{NextIsHeard, PiecesJoin, live_next}
-use Rattle.rds_live.specs.StreamDecoder.{HasHeard, IsStreamDecoder, LiveOf}
+use Rattle.rds_live.proofs.Names.{◌≡◌, ◌^◌, ◌++◌, List, ap, subst, sym, ◌∙◌, ℕ, AreGaps, IsInRange, NextIsHeard, PiecesJoin, live_next, HasHeard, IsStreamDecoder, LiveOf}
 use Rattle.rds_live.proofs.Sewing.{heard-on}
 use Rattle.rds_live.proofs.stream_counter.StreamCounter.count.Goals as goal
 

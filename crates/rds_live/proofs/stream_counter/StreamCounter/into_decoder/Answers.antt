@@ -1,5 +1,4 @@
-use Rattle.std.proofs.Common.{List, ap, ◌∙◌, ℕ}
-use Rattle.rds_live.specs.Next.{live_next}
+use Rattle.rds_live.proofs.Names.{List, ap, ◌∙◌, ℕ, live_next}
 use Rattle.rds_live.proofs.stream_counter.StreamCounter.into_decoder.Goals as goal
 
 pub returns : goal.returns

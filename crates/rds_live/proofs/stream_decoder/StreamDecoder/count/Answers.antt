@@ -1,7 +1,4 @@
-use Rattle.std.proofs.Common.{◌≡◌, ◌+◌, ◌-◌, ◌*◌, ◌++◌, ◌∙◌, List, ap, arith, length, refl, sym, ℕ}
-use Rattle.std.proofs.lemmas.List.{length-append}
-use Rattle.rds_live.specs.StreamDecoder.{LiveOf, most_counted}
-use Rattle.rds_live.specs.Next.{live_next}
+use Rattle.rds_live.proofs.Names.{◌≡◌, ◌+◌, ◌-◌, ◌*◌, ◌++◌, ◌∙◌, List, ap, arith, length, refl, sym, ℕ, length-append, LiveOf, most_counted, live_next}
 use Rattle.rds_live.proofs.Following.{at-most-more}
 use Rattle.rds_live.proofs.Taking.{no-rest}
 use Rattle.rds_live.proofs.stream_decoder.StreamDecoder.count.Goals as goal

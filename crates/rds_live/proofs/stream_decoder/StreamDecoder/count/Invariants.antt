@@ -1,5 +1,4 @@
-use Rattle.std.proofs.Common.{◌≡◌, ◌+◌, ◌-◌, ◌*◌, ◌≤◌, length}
-use Rattle.rds_live.specs.Next.{IsWithin, live_next}
+use Rattle.rds_live.proofs.Names.{◌≡◌, ◌+◌, ◌-◌, ◌*◌, ◌≤◌, length, IsWithin, live_next}
 use Rattle.rds_live.proofs.stream_decoder.StreamDecoder.count.Given as goal
 
 abbrev pub invariant-loop-rest : goal.invariant-loop-rest

@@ -1,8 +1,4 @@
-use Rattle.std.proofs.Common.{◌+◌, ◌-◌, ◌*◌, [], ap, drop, length, refl, take, ◌∙◌, ℕ}
-use Rattle.rds_sync.specs.Totals.{totals_of}
-use Rattle.rds_sync.specs.declared.state.State.TheVariants.{Searching}
-use Rattle.rds_live.specs.StreamDecoder.{LiveOf, most_kept}
-use Rattle.rds_live.specs.Next.{guessed, live_next}
+use Rattle.rds_live.proofs.Names.{◌+◌, ◌-◌, ◌*◌, [], ap, drop, length, refl, take, ◌∙◌, ℕ, totals_of, Searching, LiveOf, most_kept, guessed, live_next}
 use Rattle.rds_live.proofs.Sewing.{end-kept, guess-is}
 use Rattle.rds_live.proofs.stream_decoder.StreamDecoder.guess_after.Goals as goal
 

@@ -1,6 +1,4 @@
-use Rattle.std.proofs.Common.{◌≡◌, [], subst}
-use Rattle.rds_live.specs.StreamDecoder.{LiveOf, Terms}
-use Rattle.rds_live.specs.Next.{live_next}
+use Rattle.rds_live.proofs.Names.{◌≡◌, [], subst, LiveOf, Terms, live_next}
 use Rattle.rds_live.proofs.Pieces.{none-next}
 use Rattle.rds_live.proofs.stream_decoder.StreamDecoder.is_still.Goals as goal
 

@@ -1,6 +1,4 @@
-use Rattle.std.proofs.Common.{rules, ◌^◌, ◌∙◌, sym}
-use Rattle.std.proofs.lemmas.Bool.{false≢true}
-use Rattle.rds_stream.specs.Recording.{AreGaps}
+use Rattle.rds_live.proofs.Names.{rules, ◌^◌, ◌∙◌, sym, false≢true, AreGaps}
 use Rattle.rds_live.proofs.stream_decoder.StreamDecoder.resume.Goals as goal
 
 pub returns-then-not-can_be_live-clause-unlawful :

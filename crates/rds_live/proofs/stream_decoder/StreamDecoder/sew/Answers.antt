@@ -1,6 +1,4 @@
-use Rattle.std.proofs.Common.{◌≡◌, ◌*◌, ap, length, subst, sym, ◌∙◌, ℕ}
-use Rattle.rds_live.specs.StreamDecoder.{LiveOf}
-use Rattle.rds_live.specs.Next.{guessed, live_next}
+use Rattle.rds_live.proofs.Names.{ap, ◌∙◌, LiveOf, live_next}
 use Rattle.rds_live.proofs.Sewing.{both-within, guessed-there}
 use Rattle.rds_live.proofs.stream_decoder.StreamDecoder.sew.Goals as goal
 

@@ -1,7 +1,4 @@
-use Rattle.std.proofs.Common.{◌≡◌, ◌*◌, ap, length, refl, rules, subst, sym, ◌∙◌, ℕ}
-use Rattle.rds_sync.specs.Counting.{IsAtMost}
-use Rattle.rds_live.specs.StreamDecoder.{LiveOf, most_counted}
-use Rattle.rds_live.specs.Next.{guessed, live_next}
+use Rattle.rds_live.proofs.Names.{◌*◌, ap, length, refl, subst, sym, ◌∙◌, ℕ, IsAtMost, LiveOf, most_counted, guessed, live_next}
 use Rattle.rds_live.proofs.Sewing.{sewn}
 use Rattle.rds_live.proofs.stream_decoder.StreamDecoder.take_over.Goals as goal
 

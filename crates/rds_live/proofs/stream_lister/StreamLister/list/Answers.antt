@@ -1,7 +1,4 @@
-use Rattle.std.proofs.Common.{◌++◌, List, ap, subst, sym, ℕ}
-use Rattle.rds_live.specs.Listing.{ListerOf}
-use Rattle.rds_live.specs.Next.{completed}
-use Rattle.rds_live.specs.StreamDecoder.{HasHeard, LiveOf}
+use Rattle.rds_live.proofs.Names.{◌++◌, ap, subst, sym, ListerOf, completed, HasHeard, LiveOf}
 use Rattle.rds_live.proofs.stream_lister.StreamLister.list.Goals as goal
 
 pub returns-in-Ok-clause-heard : goal.returns-in-Ok-clause-heard

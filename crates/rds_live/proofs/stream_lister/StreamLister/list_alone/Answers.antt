@@ -1,9 +1,4 @@
-use Rattle.std.proofs.Common.{◌≡◌, ◌+◌, ◌-◌, ◌*◌, ◌∙◌, List, [], ap, arith, drop, length, refl, subst, sym, take, ℕ}
-use Rattle.std.proofs.lemmas.List.{length-drop, length-take-le, take-append-drop, take_rest}
-use Rattle.rds_sync.specs.declared.item.Item.{Item}
-use Rattle.rds_live.specs.Listing.{ListerOf, lister_next}
-use Rattle.rds_live.specs.Next.{completed, live_next}
-use Rattle.rds_live.specs.StreamDecoder.{most_counted}
+use Rattle.rds_live.proofs.Names.{◌≡◌, ◌+◌, ◌-◌, ◌*◌, ◌∙◌, List, [], ap, arith, drop, length, subst, sym, take, ℕ, length-drop, length-take-le, take-append-drop, take_rest, Item, ListerOf, lister_next, completed, live_next, most_counted}
 use Rattle.rds_live.proofs.Following.{at-most-more}
 use Rattle.rds_live.proofs.Listers.{lists-join, lists-still}
 use Rattle.rds_live.proofs.Taking.{no-rest}

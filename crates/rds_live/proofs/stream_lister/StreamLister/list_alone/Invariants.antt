@@ -1,6 +1,4 @@
-use Rattle.std.proofs.Common.{◌≡◌, ◌+◌, ◌-◌, ◌*◌, ◌≤◌, length}
-use Rattle.rds_live.specs.Listing.{lister_next}
-use Rattle.rds_live.specs.Next.{IsWithin}
+use Rattle.rds_live.proofs.Names.{◌≡◌, ◌+◌, ◌-◌, ◌*◌, ◌≤◌, length, lister_next, IsWithin}
 use Rattle.rds_live.proofs.stream_lister.StreamLister.list_alone.Given as goal
 
 abbrev pub invariant-loop-rest : goal.invariant-loop-rest

@@ -1,9 +1,4 @@
-use Rattle.std.proofs.Common.{◌++◌, ◌∙◌, List, ap, ap₂, take, ℕ}
-use Rattle.std.specs.List.{flat_map}
-use Rattle.rds_sync.specs.declared.item.Item.{Item}
-use Rattle.rds_live.specs.Listing.{ListerOf}
-use Rattle.rds_live.specs.Next.{completed, live_next}
-use Rattle.rds_live.specs.StreamDecoder.{LiveOf}
+use Rattle.rds_live.proofs.Names.{◌++◌, ◌∙◌, List, ap, ap₂, take, ℕ, flat_map, Item, ListerOf, completed, live_next, LiveOf}
 use Rattle.rds_live.proofs.stream_lister.StreamLister.list_some.Goals as goal
 
 pub returns-clause-next : goal.returns-clause-next

@@ -1,9 +1,4 @@
-use Rattle.std.proofs.Common.{◌≡◌, ◌∙◌, List, ap, ap₂, sym, ℕ}
-use Rattle.rds_sync.specs.declared.item.Item.{Item}
-use Rattle.rds_sync.specs.declared.state.State.{State}
-use Rattle.rds_live.specs.Listing.{ListerOf, lister_next, lister_of}
-use Rattle.rds_live.specs.Next.{guessed}
-use Rattle.rds_live.specs.StreamDecoder.{LiveOf}
+use Rattle.rds_live.proofs.Names.{◌≡◌, ◌∙◌, List, ap, ap₂, sym, ℕ, Item, State, ListerOf, lister_next, lister_of, guessed, LiveOf}
 use Rattle.rds_live.proofs.Listers.{on-ok}
 use Rattle.rds_live.proofs.Sewing.{both-within}
 use Rattle.rds_live.proofs.stream_lister.StreamLister.sew.Goals as goal

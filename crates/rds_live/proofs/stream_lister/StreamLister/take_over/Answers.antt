@@ -1,9 +1,4 @@
-use Rattle.std.proofs.Common.{◌*◌, ◌++◌, ◌∙◌, List, ap, ap₂, length, subst, sym, ℕ}
-use Rattle.std.specs.List.{flat_map}
-use Rattle.rds_sync.specs.declared.item.Item.{Item}
-use Rattle.rds_live.specs.Listing.{ListerOf}
-use Rattle.rds_live.specs.Next.{IsWithin, completed, guessed, live_next}
-use Rattle.rds_live.specs.StreamDecoder.{LiveOf}
+use Rattle.rds_live.proofs.Names.{◌*◌, ◌++◌, ◌∙◌, List, ap, ap₂, length, subst, sym, ℕ, flat_map, Item, ListerOf, IsWithin, completed, guessed, live_next, LiveOf}
 use Rattle.rds_live.proofs.stream_lister.StreamLister.take_over.Goals as goal
 
 pub take_over-requires-clause-guess : goal.take_over-requires-clause-guess
