@@ -696,7 +696,7 @@ def test_a_database_that_nothing_is_written_to(tmp_path: Path) -> None:
 
 
 def test_a_listing_that_is_deleted(tmp_path: Path) -> None:
-    """The rows that come after are in a new file."""
+    """The rows that come after are in a new file. Without it the next watch begins, too."""
     net = network(tmp_path, Air(ALPHA, START, 100))
     net.run(10)
     ((hour, _),) = net.hours("Alpha")
@@ -704,6 +704,9 @@ def test_a_listing_that_is_deleted(tmp_path: Path) -> None:
     net.run(10)
     ((again, rows),) = net.hours("Alpha")
     assert again == hour and 8 < (rows["place"].max() - rows["place"].min()) / RATE <= 10
+    (tmp_path / "listings" / "Alpha" / hour.name).unlink()
+    net.restart(5, kill=True)
+    assert net.recovered == [f"listings/Alpha/{hour.name}"]
     net.end()
 
 
