@@ -16,3 +16,4 @@ pub mod PackLemmas
 pub mod InsideLemmas
 pub mod PartLemmas
 pub mod StreamLemmas
+mod Names
