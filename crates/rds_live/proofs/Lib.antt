@@ -11,6 +11,5 @@ pub mod Pieces
 pub mod SpareGaps
 pub mod Rooms
 pub mod Moves
-pub mod Taking
 pub mod Sewing
 pub mod Listers

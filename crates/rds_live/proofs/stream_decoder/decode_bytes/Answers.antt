@@ -1,5 +1,6 @@
+use Rattle.std.proofs.Common.{eqb-true}
+use Rattle.std.proofs.lemmas.List.{nil_from_length}
 use Rattle.rds_live.proofs.Names.{◌++◌, ◌∙◌, List, ap, arith, length, length-drop, refl, sym, ℕ, append-nil, take_rest, Item, LiveOf, completed, live_next}
-use Rattle.rds_live.proofs.Taking.{no-rest}
 use Rattle.rds_live.proofs.stream_decoder.decode_bytes.Goals as goal
 
 pub loop-rest-init : goal.loop-rest-init
@@ -30,7 +31,7 @@ pub returns-clause-next : goal.returns-clause-next
 returns-clause-next c =
     let rest = c.loop-rest.rest.now in
     let live = c.loop-rest.live in
-    let none = no-rest rest (sym c.is_empty.ensures ∙ c.loop-rest-test.false) in
+    let none = nil_from_length rest (eqb-true (length rest) 0 (sym c.is_empty.ensures ∙ c.loop-rest-test.false)) in
     sym c.is_still.ensures.known ∙ ap (λ (xs : List ℕ). live_next live xs) (sym none) ∙ c.loop-rest.invariant.next
 
 pub returns-clause-completed : goal.returns-clause-completed
@@ -38,6 +39,6 @@ returns-clause-completed c =
     let rest = c.loop-rest.rest.now in
     let live = c.loop-rest.live in
     let items = c.loop-rest.items.items in
-    let none = no-rest rest (sym c.is_empty.ensures ∙ c.loop-rest-test.false) in
+    let none = nil_from_length rest (eqb-true (length rest) 0 (sym c.is_empty.ensures ∙ c.loop-rest-test.false)) in
     sym (append-nil items) ∙ ap (λ (xs : List Item). items ++ xs) (sym c.is_still.ensures.none) ∙ ap (λ (xs : List ℕ). items ++ completed live xs) (sym none)
     ∙ c.loop-rest.invariant.completed

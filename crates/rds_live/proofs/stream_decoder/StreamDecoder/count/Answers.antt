@@ -1,6 +1,8 @@
+use Rattle.std.proofs.Common.{eqb-true}
+use Rattle.std.proofs.lemmas.List.{nil_from_length}
 use Rattle.rds_live.proofs.Names.{◌≡◌, ◌+◌, ◌-◌, ◌*◌, ◌++◌, ◌∙◌, List, ap, arith, length, refl, sym, ℕ, length-append, LiveOf, most_counted, live_next}
 use Rattle.rds_live.proofs.Following.{at-most-more}
-use Rattle.rds_live.proofs.Taking.{no-rest}
+use Rattle.rds_live.proofs.Sewing.{both-within, within-all}
 use Rattle.rds_live.proofs.stream_decoder.StreamDecoder.count.Goals as goal
 
 pub loop-rest-init : goal.loop-rest-init
@@ -24,17 +26,13 @@ loop-rest-preserved c =
           ∙ ap (λ (xs : List ℕ). live_next loop.self xs) (sym parted) ∙ loop.invariant.next;
       place = omega (arith, ap (λ (l : LiveOf). l.place) gone, long, loop.invariant.place);
       few = omega (arith, long, loop.invariant.few);
-      small = record {
-        within = λ n few.
-            let before : ℕ = n + most_counted (8 * (length c.args.bytes.now - length loop.rest.now)) in
-            at-most-more (before + most_counted (8 * length part)) (n + most_counted (8 * (length c.args.bytes.now - length others))) c.count_part.new.self.totals
-            (omega (arith, long, loop.invariant.few)) (c.count_part.ensures.small.within before (loop.invariant.small.within n few));
-      };
+      small = within-all (8 * (length c.args.bytes.now - length loop.rest.now) + 8 * length part) (8 * (length c.args.bytes.now - length others)) c.args.self.now.totals c.count_part.new.self.totals
+          (omega (arith, long, loop.invariant.few)) (both-within _ _ _ _ _ loop.invariant.small c.count_part.ensures.small);
     }
 
 pub returns-clause-next : goal.returns-clause-next
 returns-clause-next c =
-    let none = no-rest c.loop-rest.rest.now (sym c.is_empty.ensures ∙ c.loop-rest-test.false) in
+    let none = nil_from_length c.loop-rest.rest.now (eqb-true (length c.loop-rest.rest.now) 0 (sym c.is_empty.ensures ∙ c.loop-rest-test.false)) in
     sym c.is_still.ensures.known ∙ ap (λ (xs : List ℕ). live_next c.loop-rest.self xs) (sym none) ∙ c.loop-rest.invariant.next
 
 pub returns-clause-small : goal.returns-clause-small

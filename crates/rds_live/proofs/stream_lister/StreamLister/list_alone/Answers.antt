@@ -1,7 +1,8 @@
+use Rattle.std.proofs.Common.{eqb-true}
+use Rattle.std.proofs.lemmas.List.{nil_from_length}
 use Rattle.rds_live.proofs.Names.{◌≡◌, ◌+◌, ◌-◌, ◌*◌, ◌∙◌, List, [], ap, arith, drop, length, subst, sym, take, ℕ, length-drop, length-take-le, take-append-drop, take_rest, Item, ListerOf, lister_next, completed, live_next, most_counted}
 use Rattle.rds_live.proofs.Following.{at-most-more}
 use Rattle.rds_live.proofs.Listers.{lists-join, lists-still}
-use Rattle.rds_live.proofs.Taking.{no-rest}
 use Rattle.rds_live.proofs.stream_lister.StreamLister.list_alone.Goals as goal
 
 pub loop-rest-preserved : goal.loop-rest-preserved
@@ -35,7 +36,7 @@ pub returns : goal.returns
 returns g c =
     let row : Item → List ℕ = g.T.ItemRows.row_of in
     let loop = c.loop-rest in
-    let none = no-rest loop.rest.now (sym c.is_empty.ensures ∙ c.loop-rest-test.false) in
+    let none = nil_from_length loop.rest.now (eqb-true (length loop.rest.now) 0 (sym c.is_empty.ensures ∙ c.loop-rest-test.false)) in
     let still = subst (λ (l : ListerOf). live_next l.live [] ≡ l.live) c.lister-2.view_is c.is_still.ensures.known in
     let empty = subst (λ (l : ListerOf). completed l.live [] ≡ []) c.lister-2.view_is c.is_still.ensures.none in
     record {
