@@ -2,12 +2,12 @@
 //! loses a lock, and within 416 if two of four do.
 ghost use Rattle.std.specs.Prelude.{◌≡◌};
 
-use crate::decoder::meetings::guess_from;
+use crate::decoder::meetings::{guess_from, meeting_from};
 use crate::decoder::samples::Sample;
-use rds_pieces::{PieceRun, seam};
-use rds_stream::Counted;
+use rds_pieces::PieceRun;
 use rds_sync::{Lock, Loss, State};
 use std::alloc::Global;
+use std::test::Fail;
 
 /// A rule of loss, the histories of bad blocks that do not lose a lock by it, within how many bits a guess is met, and
 /// how many lawful states there are.
@@ -41,16 +41,8 @@ fn met(alloc: Global, sample: &Sample, guess: &PieceRun, within: u64, state: Sta
     requires source { guess.now.source ≡ sample.now.recording }
     requires rules { guess.now.rules ≡ sample.now.rules }
 {
-    let from = guess.from();
-    if !state.is_lawful(&sample.rules, from) {
-        return 0;
-    }
-    let mut tape = Counted::new(&sample.recording);
-    let Ok(seam) = seam(alloc, &mut tape, &sample.rules, state, guess) else {
-        return 0;
-    };
-    match seam.met_at {
-        Some(place) if place <= from.saturating_add(within) => 1,
+    match meeting_from(alloc, sample, guess, state) {
+        Some((Some(place), _)) if place <= guess.from().saturating_add(within) => 1,
         _ => 0,
     }
 }
@@ -107,18 +99,12 @@ fn first_apart(alloc: Global, sample: &Sample, law: &Law) -> u64 {
     208
 }
 
-/// That of eight zero groups, or 0 if there is no memory for them.
-fn first_apart_of_groups(alloc: Global, law: &Law) -> u64 {
-    match Sample::of_groups(alloc, 8, 3, law.loss) {
-        Ok(sample) => first_apart(alloc, &sample, law),
-        Err(_) => 0,
-    }
-}
-
 #[test]
-fn all_lawful_states_come_into_one(rt: HostRuntime) {
+fn all_lawful_states_come_into_one(rt: HostRuntime) -> Result<(), Fail> {
     for law in &LAWS {
-        let cut = first_apart_of_groups(rt.alloc(), law);
+        let sample = Sample::of_groups(rt.alloc(), 8, 3, law.loss)?;
+        let cut = first_apart(rt.alloc(), &sample, law);
         assert!(rt; cut == 208, "{} states at a cut at {cut}", law.states);
     }
+    Ok(())
 }

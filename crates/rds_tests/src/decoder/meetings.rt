@@ -1,11 +1,12 @@
 //! Where a run meets the guess of the piece after a cut, and how many windows are read up to there.
 ghost use Rattle.std.specs.Prelude.{◌≡◌, ◌<◌, IfOk};
 
-use crate::decoder::samples::Sample;
+use crate::decoder::samples::{Sample, USUAL};
 use rds_pieces::{PieceError, PieceRun, seam, speculate};
 use rds_stream::{Counted, Tape};
-use rds_sync::{Decoder, Item, Lock, Loss, RuleNumbers, State};
-use std::alloc::{AllocError, Global};
+use rds_sync::{Decoder, Item, Lock, Loss, State};
+use std::alloc::Global;
+use std::test::Fail;
 
 /// The guess of the second of two pieces, cut there.
 pub fn guess_from(alloc: Global, sample: &Sample, cut: u64) -> Result<PieceRun, PieceError>
@@ -19,8 +20,28 @@ pub fn guess_from(alloc: Global, sample: &Sample, cut: u64) -> Result<PieceRun, 
     speculate(alloc, &sample.recording, &sample.rules, &cutting, 1)
 }
 
-/// Where a run has to meet a guess, if at all, and how many windows may be read up to there.
+/// Where a run meets a guess, if at all, and how many windows are read up to there. Of a wanted meeting: at most how many.
 pub type Meeting = (Option<u64>, u64);
+
+/// How the run from that state meets a guess, if the state is lawful and there is memory.
+pub fn meeting_from(
+    alloc: Global,
+    sample: &Sample,
+    guess: &PieceRun,
+    state: State,
+) -> Option<Meeting>
+    requires source { guess.now.source ≡ sample.now.recording }
+    requires rules { guess.now.rules ≡ sample.now.rules }
+{
+    if !state.is_lawful(&sample.rules, guess.from()) {
+        return None;
+    }
+    let mut tape = Counted::new(&sample.recording);
+    match seam(alloc, &mut tape, &sample.rules, state, guess) {
+        Ok(seam) => Some((seam.met_at, tape.reads())),
+        Err(_) => None,
+    }
+}
 
 /// Whether the run from that state meets a guess so.
 pub fn meets_from(
@@ -33,19 +54,10 @@ pub fn meets_from(
     requires source { guess.now.source ≡ sample.now.recording }
     requires rules { guess.now.rules ≡ sample.now.rules }
 {
-    if !state.is_lawful(&sample.rules, guess.from()) {
-        return false;
+    match meeting_from(alloc, sample, guess, state) {
+        Some((met_at, reads)) => met_at == wanted.0 && reads <= wanted.1,
+        None => false,
     }
-    let mut tape = Counted::new(&sample.recording);
-    let Ok(seam) = seam(alloc, &mut tape, &sample.rules, state, guess) else {
-        return false;
-    };
-    is_so(wanted, seam.met_at, tape.reads())
-}
-
-/// Whether a meeting there, after this number of windows, is the wanted one.
-fn is_so(wanted: Meeting, met_at: Option<u64>, reads: u64) -> bool {
-    met_at == wanted.0 && reads <= wanted.1
 }
 
 /// Whether the run from that state meets the guess after a cut so.
@@ -90,6 +102,9 @@ const FALSE_LOCK: Lock = Lock {
     first: 1,
 };
 
+/// Two bad blocks of four lose the lock.
+const HALF: Loss = Loss::Share { bad: 2, of: 4 };
+
 /// Seams over zero groups: the cut, the lock before it if it is not that of the true run, and the meeting.
 static SEAMS: [(Cut, Option<Lock>, Meeting); 10] = [
     // The guess locks on a false phase: by a reach of four for good.
@@ -106,21 +121,9 @@ static SEAMS: [(Cut, Option<Lock>, Meeting); 10] = [
     ((2, 3, Loss::Run(10), 104), None, (Some(208), 525)),
     ((2, 3, Loss::Run(10), 116), None, (Some(208), 465)),
     ((2, 3, Loss::Run(10), 129), None, (Some(208), 400)),
-    (
-        (2, 3, Loss::Share { bad: 2, of: 4 }, 104),
-        None,
-        (Some(208), 525),
-    ),
-    (
-        (2, 3, Loss::Share { bad: 2, of: 4 }, 116),
-        None,
-        (Some(208), 465),
-    ),
-    (
-        (2, 3, Loss::Share { bad: 2, of: 4 }, 129),
-        None,
-        (Some(208), 400),
-    ),
+    ((2, 3, HALF, 104), None, (Some(208), 525)),
+    ((2, 3, HALF, 116), None, (Some(208), 465)),
+    ((2, 3, HALF, 129), None, (Some(208), 400)),
 ];
 
 #[test]
@@ -130,28 +133,19 @@ fn a_run_over_zero_groups_meets_the_guess_where_their_phases_agree(rt: HostRunti
     }
 }
 
-/// Whether the guess after a cut first acquires at block 1 of the second of two zero groups.
-fn acquires_the_second(alloc: Global, cut: u64) -> bool {
-    match Sample::of_groups(alloc, 2, 3, Loss::Run(10)) {
-        Ok(sample) => {
-            let first = run_over(&sample, cut, 208).next();
-            matches!(
-                first,
-                Some(Item::Acquired {
-                    place: 129,
-                    number: 1
-                })
-            )
-        }
-        Err(_) => false,
-    }
-}
-
+// It is block 1 of the second group.
 #[test]
-fn a_guess_cut_off_in_a_block_acquires_it(rt: HostRuntime) {
+fn a_guess_cut_off_in_a_block_acquires_it(rt: HostRuntime) -> Result<(), Fail> {
+    let sample = Sample::of_groups(rt.alloc(), 2, 3, Loss::Run(10))?;
+    let (place, number) = (129, 1);
     for cut in [104, 116, 129] {
-        assert!(rt; acquires_the_second(rt.alloc(), cut), "a cut at {cut}");
+        let first = run_over(&sample, cut, 208).next();
+        assert!(rt;
+            first == Some(Item::Acquired { place, number }),
+            "a cut at {cut}"
+        );
     }
+    Ok(())
 }
 
 /// The bytes of three groups, none of whose windows but those of the blocks is valid: the words D393 0548 E100 5041,
@@ -161,16 +155,6 @@ static STATION: [u8; 39] = [
     0x41, 0x52, 0x4B, 0x9E, 0x10, 0x02, 0x2D, 0x61, 0x3D, 0xA3, 0xD3, 0x93, 0x46, 0x41, 0x52, 0xA7,
     0x2E, 0x10, 0x02, 0x2D, 0x31, 0x25, 0xF7,
 ];
-
-/// Those groups, read by the default rules.
-fn station(alloc: Global) -> Result<Sample, AllocError> {
-    let numbers = RuleNumbers {
-        burst: 2,
-        reach: 3,
-        loss: Loss::Run(10),
-    };
-    Sample::of(STATION.to_vec(alloc)?, 312, numbers)
-}
 
 /// Where the seam at a cut has to meet: while the decoder searches, at the cut itself; else right after the
 /// group of the first block that ends there or later, which the guess acquires.
@@ -184,26 +168,17 @@ fn met_by_rule(cut: u64) -> u64
     (acquired / 104 + 1) * 104
 }
 
-/// The first cut below 208 whose seam meets elsewhere, or 208.
-fn first_unruly_cut(alloc: Global, sample: &Sample) -> u64 {
-    for cut in 1..208u64 {
-        if !meets_at(alloc, sample, cut, (Some(met_by_rule(cut)), u64::MAX)) {
-            return cut;
-        }
-    }
-    208
-}
-
-/// That of the station, or 0 if there is no memory for it.
-fn first_unruly_cut_of_station(alloc: Global) -> u64 {
-    match station(alloc) {
-        Ok(sample) => first_unruly_cut(alloc, &sample),
-        Err(_) => 0,
-    }
-}
-
 #[test]
-fn a_station_cut_at_any_place_of_its_groups_is_met_at_the_cut_or_behind_the_group(rt: HostRuntime) {
-    let cut = first_unruly_cut_of_station(rt.alloc());
-    assert!(rt; cut == 208, "a cut at {cut}");
+fn a_station_cut_at_any_place_of_its_groups_is_met_at_the_cut_or_behind_the_group(
+    rt: HostRuntime,
+) -> Result<(), Fail> {
+    let sample = Sample::of(STATION.to_vec(rt.alloc())?, 312, USUAL)?;
+    for cut in 1..208u64 {
+        let wanted = (Some(met_by_rule(cut)), u64::MAX);
+        assert!(rt;
+            meets_at(rt.alloc(), &sample, cut, wanted),
+            "a cut at {cut}"
+        );
+    }
+    Ok(())
 }

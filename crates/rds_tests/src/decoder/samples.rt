@@ -23,6 +23,13 @@ fn zero_bytes(alloc: Global, bits: u64) -> Result<Vec<u8>, AllocError> {
     Ok(bytes)
 }
 
+/// The default rules.
+pub const USUAL: RuleNumbers = RuleNumbers {
+    burst: 2,
+    reach: 3,
+    loss: Loss::Run(10),
+};
+
 /// A recording, and the rules that it is read by.
 #[derive(Drop)]
 pub struct Sample {
@@ -63,21 +70,15 @@ impl Sample {
     pub fn cut(&self, alloc: Global, inner: &[u64]) -> Result<Cutting, PieceError>
         ensures { IfOk result (λ c. IsCutting (length_of self.now.recording) c) }
     {
-        cutting_at(alloc, self.recording.len(), inner)
+        let len = self.recording.len();
+        match Cutting::new(places_of(alloc, len, inner)?, len) {
+            Ok(cutting) => Ok(cutting),
+            Err((error, _places)) => Err(error),
+        }
     }
 }
 
 /// The places 0 and `len`, and these between them.
 fn places_of(alloc: Global, len: u64, inner: &[u64]) -> Result<Vec<u64>, AllocError> {
     [&[0], inner, &[len]].concat(alloc)
-}
-
-fn cutting_at(alloc: Global, len: u64, inner: &[u64]) -> Result<Cutting, PieceError>
-    ensures { IfOk result (λ c. IsCutting len c) }
-{
-    let places = places_of(alloc, len, inner)?;
-    match Cutting::new(places, len) {
-        Ok(cutting) => Ok(cutting),
-        Err((error, _places)) => Err(error),
-    }
 }

@@ -4,6 +4,7 @@ use rds_code::Offset;
 use rds_stream::{Recording, scan};
 use rds_sync::Loss;
 use std::alloc::Global;
+use std::test::Fail;
 
 /// The valid windows of three zero groups, by their last places: four blocks a group, and two windows inside blocks.
 static WINDOWS: [(u64, Offset); 17] = [
@@ -56,22 +57,12 @@ fn first_missed(alloc: Global, recording: &Recording, from: u64) -> Option<u64> 
     (from..=300).find(|to| !is_scanned(alloc, recording, from, *to))
 }
 
-/// Whether all ranges up to place 300 are.
-fn are_scanned(alloc: Global) -> bool {
-    match Sample::of_groups(alloc, 3, 3, Loss::Run(10)) {
-        Ok(sample) => {
-            for from in 0..=300 {
-                if first_missed(alloc, &sample.recording, from).is_some() {
-                    return false;
-                }
-            }
-            true
-        }
-        Err(_) => false,
-    }
-}
-
 #[test]
-fn each_range_up_to_300_is_scanned(rt: HostRuntime) {
-    assert!(rt; are_scanned(rt.alloc()));
+fn each_range_up_to_300_is_scanned(rt: HostRuntime) -> Result<(), Fail> {
+    let sample = Sample::of_groups(rt.alloc(), 3, 3, Loss::Run(10))?;
+    for from in 0..=300 {
+        let missed = first_missed(rt.alloc(), &sample.recording, from);
+        assert!(rt; missed.is_none(), "a range from {from}");
+    }
+    Ok(())
 }

@@ -5,11 +5,12 @@ ghost use Rattle.rds_pieces.specs.Cutting.{IsCutting};
 ghost use Rattle.rds_pieces.specs.RunOf.{runs_of};
 
 use crate::decoder::meetings::meets_from;
-use crate::decoder::samples::Sample;
+use crate::decoder::samples::{Sample, USUAL};
 use rds_pieces::{Cutting, PieceError, PieceRun, laws, speculate, stitch};
 use rds_stream::{Counted, Tape};
-use rds_sync::{Loss, RuleNumbers, State};
+use rds_sync::{Loss, State};
 use std::alloc::{AllocError, Global};
+use std::test::Fail;
 
 /// The guesses of all pieces, in order.
 fn guesses(alloc: Global, sample: &Sample, cutting: &Cutting) -> Result<Vec<PieceRun>, PieceError>
@@ -34,82 +35,51 @@ fn stitched(alloc: Global, sample: &Sample, cutting: &Cutting) -> Result<(usize,
     Ok((report.items.len(), tape.reads()))
 }
 
-/// The same of zero groups that are cut at 190.
+/// The same of eight zero groups that are cut at 190. The first is acquired, which is an item too.
 fn stitched_of_groups(alloc: Global, reach: u32) -> Result<(usize, u64), PieceError> {
     let sample = Sample::of_groups(alloc, 8, reach, Loss::Run(10))?;
-    stitched_at(alloc, &sample)
-}
-
-fn stitched_at(alloc: Global, sample: &Sample) -> Result<(usize, u64), PieceError> {
     let cutting = sample.cut(alloc, &[190])?;
-    stitched(alloc, sample, &cutting)
-}
-
-/// Whether the report of the eight groups, whose first is acquired, is stitched by at most `most` windows.
-fn is_stitched_within(alloc: Global, reach: u32, most: u64) -> bool {
-    match stitched_of_groups(alloc, reach) {
-        Ok((items, reads)) => items == 9 && reads <= most,
-        Err(_) => false,
-    }
+    stitched(alloc, &sample, &cutting)
 }
 
 #[test]
-fn a_report_of_two_guesses_costs_little_more_than_their_seam(rt: HostRuntime) {
-    assert!(rt; is_stitched_within(rt.alloc(), 4, 3_867) && is_stitched_within(rt.alloc(), 3, 103));
+fn a_report_of_two_guesses_costs_little_more_than_their_seam(rt: HostRuntime) -> Result<(), Fail> {
+    for (reach, most) in [(4, 3_867), (3, 103)] {
+        let (items, reads) = stitched_of_groups(rt.alloc(), reach)?;
+        assert!(rt;
+            items == 9 && reads <= most,
+            "{reads} windows at a reach of {reach}"
+        );
+    }
+    Ok(())
 }
 
 /// Zero bytes, in which no window is valid.
 fn silence(alloc: Global, bytes: u32) -> Result<Sample, AllocError> {
-    let numbers = RuleNumbers {
-        burst: 2,
-        reach: 3,
-        loss: Loss::Run(10),
-    };
     let zeros = vec![in alloc; 0u8; bytes as usize]?;
-    Sample::of(zeros, 8 * u64::from(bytes), numbers)
+    Sample::of(zeros, 8 * u64::from(bytes), USUAL)
 }
 
-/// Whether a search meets a guess at its first place, and reads nothing.
-fn is_met_at_once(alloc: Global, sample: &Sample, cutting: &Cutting, j: u64) -> bool
+/// The first piece whose guess a search does not meet at its first place, by no window, or their number.
+fn first_met_late(alloc: Global, sample: &Sample, cutting: &Cutting) -> Result<u64, PieceError>
     requires { IsCutting (length_of sample.now.recording) cutting.now }
 {
-    if j >= cutting.pieces() {
-        return false;
-    }
-    match speculate(alloc, &sample.recording, &sample.rules, cutting, j) {
-        Ok(run) => meets_from(alloc, sample, &run, State::Searching, (Some(run.from()), 0)),
-        Err(_) => false,
-    }
-}
-
-/// The first of a thousand pieces whose guess is not, or 1,000 if there is none.
-fn first_met_late(alloc: Global, sample: &Sample, cutting: &Cutting) -> u64
-    requires { IsCutting (length_of sample.now.recording) cutting.now }
-{
-    for j in 0..1_000u64 {
-        if !is_met_at_once(alloc, sample, cutting, j) {
-            return j;
+    for j in 0..cutting.pieces() {
+        let run = speculate(alloc, &sample.recording, &sample.rules, cutting, j)?;
+        if !meets_from(alloc, sample, &run, State::Searching, (Some(run.from()), 0)) {
+            return Ok(j);
         }
     }
-    1_000
-}
-
-/// Whether a thousand pieces have no item, and no seam of them reads a window.
-fn is_silent(alloc: Global, sample: &Sample) -> Result<bool, PieceError> {
-    let cutting = Cutting::even(alloc, sample.recording.len(), 1_000)?;
-    let late = first_met_late(alloc, sample, &cutting);
-    Ok(late == 1_000 && stitched(alloc, sample, &cutting)? == (0, 0))
-}
-
-/// Whether a million zero bytes are.
-fn silence_costs_nothing(alloc: Global) -> bool {
-    match silence(alloc, 1_000_000) {
-        Ok(sample) => matches!(is_silent(alloc, &sample), Ok(true)),
-        Err(_) => false,
-    }
+    Ok(cutting.pieces())
 }
 
 #[test]
-fn a_thousand_pieces_without_a_group_are_stitched_by_no_window(rt: HostRuntime) {
-    assert!(rt; silence_costs_nothing(rt.alloc()));
+fn a_thousand_pieces_without_a_group_are_stitched_by_no_window(
+    rt: HostRuntime,
+) -> Result<(), Fail> {
+    let sample = silence(rt.alloc(), 1_000_000)?;
+    let cutting = Cutting::even(rt.alloc(), sample.recording.len(), 1_000)?;
+    assert_eq!(rt; first_met_late(rt.alloc(), &sample, &cutting)?, 1_000);
+    assert_eq!(rt; stitched(rt.alloc(), &sample, &cutting)?, (0, 0));
+    Ok(())
 }

@@ -5,6 +5,7 @@ use crate::rows::stored::{Known, Stored};
 use rds_rows::{Failed, Rows, RowsError, Sheet, Sink, write_rows};
 use std::alloc::Global;
 use std::sync::atomic::{AtomicUsize, Ordering};
+use std::test::Fail;
 use std::thread::Threads;
 
 /// The turns after which a writer no longer waits.
@@ -142,21 +143,13 @@ fn first_wrong<R: Sync + Threads>(rt: &R, alloc: Global, known: &Known, workers:
     13
 }
 
-/// That of four parts per worker, or 0 if there is no memory for them.
-fn first_wrong_of_four<R: Sync + Threads>(rt: &R, alloc: Global, workers: u32) -> usize
-    requires some { 0 < workers }
-    requires few { workers ≤ 256 }
-{
-    match Known::new(alloc, 4 * workers as usize * PART) {
-        Ok(known) => first_wrong(rt, alloc, &known, workers),
-        Err(_) => 0,
-    }
-}
-
 #[test]
-fn a_writer_may_fail_in_a_part_while_all_others_are_made(rt: HostRuntime) {
+fn a_writer_may_fail_in_a_part_while_all_others_are_made(rt: HostRuntime) -> Result<(), Fail> {
     for workers in [2, 3, 8, 64, 256] {
-        let after = first_wrong_of_four(&rt, rt.alloc(), workers);
+        // four parts per worker
+        let known = Known::new(rt.alloc(), 4 * workers as usize * PART)?;
+        let after = first_wrong(&rt, rt.alloc(), &known, workers);
         assert!(rt; after == 13, "{workers} workers, after {after} bytes");
     }
+    Ok(())
 }

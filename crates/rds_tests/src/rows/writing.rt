@@ -5,6 +5,7 @@ use crate::rows::stored::{Known, LONGEST};
 use crate::writer::{Failure, SlowWriter};
 use rds_rows::write_rows;
 use std::alloc::Global;
+use std::test::Fail;
 use std::thread::Threads;
 
 /// Whether a writer has this text, and was handed `large` bytes or more at a time, except the last.
@@ -49,18 +50,12 @@ fn are_written_by_all<R: Sync + Threads>(rt: &R, alloc: Global, known: &Known) -
         && are_written(rt, alloc, known, 256, 256, 256 * LONGEST)
 }
 
-/// Whether there is memory for the rows, and they are.
-fn many_are_written<R: Sync + Threads>(rt: &R, alloc: Global) -> bool {
-    match Known::new(alloc, ROWS) {
-        Ok(known) => are_written_by_all(rt, alloc, &known),
-        Err(_) => false,
-    }
-}
-
 // A write has 64 KiB, or the bytes of a part of the longest rows.
 #[test]
-fn many_rows_go_in_large_writes(rt: HostRuntime) {
-    assert!(rt; many_are_written(&rt, rt.alloc()));
+fn many_rows_go_in_large_writes(rt: HostRuntime) -> Result<(), Fail> {
+    let known = Known::new(rt.alloc(), ROWS)?;
+    assert!(rt; are_written_by_all(&rt, rt.alloc(), &known));
+    Ok(())
 }
 
 /// The first of these sizes in parts of which one worker or three do not write the rows so, or 0 if all do.
@@ -75,17 +70,11 @@ fn first_small<R: Sync + Threads>(rt: &R, alloc: Global, known: &Known) -> usize
     0
 }
 
-/// That of many rows. If there is no memory for them it is the first.
-fn first_small_of_many<R: Sync + Threads>(rt: &R, alloc: Global) -> usize {
-    match Known::new(alloc, ROWS) {
-        Ok(known) => first_small(rt, alloc, &known),
-        Err(_) => 10_923,
-    }
-}
-
 // Parts of all sizes from a row to more than a write, which 64 KiB are.
 #[test]
-fn parts_of_any_size_go_in_large_writes(rt: HostRuntime) {
-    let most = first_small_of_many(&rt, rt.alloc());
+fn parts_of_any_size_go_in_large_writes(rt: HostRuntime) -> Result<(), Fail> {
+    let known = Known::new(rt.alloc(), ROWS)?;
+    let most = first_small(&rt, rt.alloc(), &known);
     assert!(rt; most == 0, "parts of {most}");
+    Ok(())
 }

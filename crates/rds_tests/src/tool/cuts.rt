@@ -1,10 +1,10 @@
 //! Lists of recordings that are cut at given places: each piece is decoded, and no list is refused if memory is there.
 use crate::tool::devices::{gives, gives_for};
-use crate::tool::jobs::ungapped;
+use crate::tool::jobs::list_of_digits;
 use crate::tool::workers::{DIGITS, LIST};
 use rds_crew::Gate;
 use rds_pieces::PieceRun;
-use rds_tool::{Cuts, FromRead, Job, Loss, Settings, ToolError};
+use rds_tool::{Cuts, FromRead, ToolError};
 use std::alloc::{AllocError, Global};
 use std::sync::atomic::{AtomicU64, Ordering};
 use std::thread::Threads;
@@ -35,18 +35,6 @@ impl Gate for Count {
     fn done(&self, _j: u64, _run: &PieceRun) {}
 }
 
-/// The list of digits by this number of workers, of a recording that is cut at these places.
-fn list_cut_at(alloc: Global, workers: u32, cuts: Vec<u64>) -> Job {
-    let settings = Settings {
-        burst: 2,
-        reach: 3,
-        loss: Loss::Run(10),
-        workers,
-        cuts: Cuts::At(cuts),
-    };
-    Job::List(ungapped(alloc, true, None), settings)
-}
-
 /// Whether the two groups are listed by this number of workers in this number of pieces, if they are cut at these places.
 fn is_listed<R: Threads + Sync>(
     rt: &R,
@@ -55,7 +43,7 @@ fn is_listed<R: Threads + Sync>(
     cuts: Vec<u64>,
     pieces: u64,
 ) -> bool {
-    let job = list_cut_at(alloc, workers, cuts);
+    let job = list_of_digits(alloc, workers, Cuts::At(cuts));
     let gate = Count::new();
     gives_for(rt, alloc, &job, DIGITS, &gate, LIST) && gate.is(pieces)
 }
@@ -99,7 +87,7 @@ fn no_cut_is_one_piece(rt: HostRuntime) {
 fn are_refused<R: Threads + Sync>(rt: &R, alloc: Global, first: u64, end: u64) -> bool {
     match places(alloc, first, end) {
         Ok(cuts) => {
-            let job = list_cut_at(alloc, 4, cuts);
+            let job = list_of_digits(alloc, 4, Cuts::At(cuts));
             let gate = Count::new();
             let mut reader = FromRead::new(DIGITS);
             let refusal = Err(ToolError::BadCutting);

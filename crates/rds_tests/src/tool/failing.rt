@@ -4,6 +4,7 @@ use crate::tool::jobs::Scan;
 use crate::writer::{Failure, SlowWriter};
 use rds_tool::{FromRead, ToolError, transcribe};
 use std::alloc::{AllocError, Global};
+use std::test::Fail;
 use std::thread::Threads;
 
 const ZERO_GROUP: &[u8] = b"00003f000019800005a00001b4";
@@ -34,22 +35,19 @@ fn hands_on<R: Threads + Sync>(
         && under.handed_on == handed_on
 }
 
-/// Whether a scan that writes nothing is refused if the flush fails.
-fn is_refused_unflushed<R: Threads + Sync>(rt: &R, alloc: Global) -> bool {
-    let withholding = Withholding::new(alloc, true);
-    let (answer, failures, under) = written_to(rt, alloc, Scan::Nothing, b"", withholding);
-    answer == Err(ToolError::Write) && failures == 1 && under.held.is_empty()
-}
-
 #[test]
 fn a_failing_flush_is_a_refusal_of_an_empty_text_too(rt: HostRuntime) {
-    assert!(rt; is_refused_unflushed(&rt, rt.alloc()));
+    let under = Withholding::new(rt.alloc(), true);
+    let (answer, failures, under) = written_to(&rt, rt.alloc(), Scan::Nothing, b"", under);
+    assert!(rt; answer == Err(ToolError::Write) && failures == 1 && under.held.is_empty());
 }
 
 // One byte per read has to end within 16,777,216 reads; a read that gives all that it may takes 64 KiB.
 #[test]
-fn a_reader_without_an_end_is_left(rt: HostRuntime) {
-    assert!(rt; long_reader_is_left(&rt, rt.alloc()));
+fn a_reader_without_an_end_is_left(rt: HostRuntime) -> Result<(), Fail> {
+    let zeros = zeros(rt.alloc(), 17_000_000)?;
+    assert!(rt; is_left_in_time(&rt, rt.alloc(), zeros.as_slice()));
+    Ok(())
 }
 
 /// Zero bytes.
@@ -57,15 +55,7 @@ fn zeros(alloc: Global, count: usize) -> Result<Vec<u8>, AllocError> {
     vec![in alloc; 0u8; count]
 }
 
-/// Whether there is memory for 17,000,000 bytes, and a reader of them is left in time.
-fn long_reader_is_left<R: Threads + Sync>(rt: &R, alloc: Global) -> bool {
-    match zeros(alloc, 17_000_000) {
-        Ok(zeros) => is_left_in_time(rt, alloc, zeros.as_slice()),
-        Err(_) => false,
-    }
-}
-
-/// Whether that holds of a reader of these bytes, and of one of 16,777,215 and of 16,777,216 of them.
+/// Whether a reader of these bytes is left in time, and one of 16,777,215 and of 16,777,216 of them.
 fn is_left_in_time<R: Threads + Sync>(rt: &R, alloc: Global, bytes: &[u8]) -> bool {
     let (Some(few), Some(many)) = (bytes.get(..16_777_215), bytes.get(..16_777_216)) else {
         return false;

@@ -3,6 +3,7 @@ use crate::tool::devices::{SlowReader, Withholding};
 use rds_sync::Rules;
 use rds_tool::{ToWrite, ToolError, follow};
 use std::alloc::Global;
+use std::test::Fail;
 use std::thread::Threads;
 
 const NO_GAPS: &[(u64, u64)] = &[];
@@ -54,23 +55,15 @@ fn are_flushed_after<R: Threads + Sync>(
 }
 
 #[test]
-fn rows_come_with_the_read_that_completes_them(rt: HostRuntime) {
+fn rows_come_with_the_read_that_completes_them(rt: HostRuntime) -> Result<(), Fail> {
+    let rules = Rules::new(rt.alloc(), 2, 3, 10)?;
     for bytes in 0..27u8 {
+        let by_one = are_flushed_after(&rt, rt.alloc(), &rules, bytes, 1);
+        let by_four = are_flushed_after(&rt, rt.alloc(), &rules, bytes, 4);
         assert!(rt;
-            come_after(&rt, rt.alloc(), bytes, 1),
-            "after {bytes} bytes"
-        );
-        assert!(rt;
-            come_after(&rt, rt.alloc(), bytes, 4),
-            "after {bytes} bytes, by four workers"
+            by_one && by_four,
+            "after {bytes} bytes, by one worker: {by_one}"
         );
     }
-}
-
-/// Whether there is memory for the rules, and by them these rows are flushed in time.
-fn come_after<R: Threads + Sync>(rt: &R, alloc: Global, bytes: u8, workers: u32) -> bool {
-    match Rules::new(alloc, 2, 3, 10) {
-        Ok(rules) => are_flushed_after(rt, alloc, &rules, bytes, workers),
-        Err(_) => false,
-    }
+    Ok(())
 }

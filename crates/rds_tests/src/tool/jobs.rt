@@ -1,14 +1,26 @@
 //! Jobs that several tests ask for.
-use rds_tool::{Input, Job};
+use rds_tool::{Cuts, Input, Job, Loss, Settings};
 use std::alloc::Global;
 
 /// A recording without gaps.
-pub fn ungapped(alloc: Global, hex: bool, bits: Option<u64>) -> Input {
+fn ungapped(alloc: Global, hex: bool, bits: Option<u64>) -> Input {
     Input {
         hex,
         bits,
         gaps: Vec::new(alloc),
     }
+}
+
+/// A list of hexadecimal text by the default rules.
+pub fn list_of_digits(alloc: Global, workers: u32, cuts: Cuts) -> Job {
+    let settings = Settings {
+        burst: 2,
+        reach: 3,
+        loss: Loss::Run(10),
+        workers,
+        cuts,
+    };
+    Job::List(ungapped(alloc, true, None), settings)
 }
 
 /// The input of a scan.

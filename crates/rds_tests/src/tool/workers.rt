@@ -1,15 +1,13 @@
 //! How many workers there are at once: as many as are asked for and have pieces. No contract says that any two run at
 //! the same time.
-use crate::decoder::crew::gates::Watch;
+use crate::decoder::crew::gates::{Meeting, Watch};
 use crate::decoder::crew::journal::Journal;
 use crate::tool::devices::gives_for;
-use crate::tool::jobs::ungapped;
+use crate::tool::jobs::list_of_digits;
 use rds_crew::Gate;
 use rds_pieces::PieceRun;
-use rds_tool::{Cuts, Job, Loss, Settings};
+use rds_tool::Cuts;
 use std::alloc::Global;
-use std::sync::Wait;
-use std::sync::atomic::{AtomicU64, Ordering};
 use std::thread::Threads;
 
 /// The group of four zero words, twice, in hexadecimal digits.
@@ -40,47 +38,20 @@ fn are_listed<R: Threads + Sync, G: Gate + Sync>(
     pieces: u64,
     gate: &G,
 ) -> bool {
-    let settings = Settings {
-        burst: 2,
-        reach: 3,
-        loss: Loss::Run(10),
-        workers,
-        cuts: Cuts::Even(pieces),
-    };
-    let job = Job::List(ungapped(alloc, true, None), settings);
+    let job = list_of_digits(alloc, workers, Cuts::Even(pieces));
     gives_for(rt, alloc, &job, DIGITS, gate, LIST)
 }
 
-/// The turns after which a worker no longer waits for the others.
-const MOST_TURNS: u64 = 1_000_000_000;
-
-/// A gate at which each piece waits until `wanted` are begun, and notes a miss if they never are.
+/// A gate at which each piece waits until as many are begun as the meeting wants.
 #[derive(Drop)]
 struct Barrier {
-    wanted: u64,
-    begun: AtomicU64,
-    misses: AtomicU64,
-}
-
-impl Barrier {
-    fn new(wanted: u64) -> Barrier {
-        Barrier {
-            wanted,
-            begun: AtomicU64::new(0),
-            misses: AtomicU64::new(0),
-        }
-    }
+    begun: Meeting,
 }
 
 impl Gate for Barrier {
     fn begin(&self, _j: u64) {
-        self.begun.fetch_add(1, Ordering::SeqCst);
-        for _ in 0..MOST_TURNS {
-            if self.begun.load(Ordering::SeqCst) >= self.wanted {
-                return;
-            }
-        }
-        self.misses.fetch_add(1, Ordering::SeqCst);
+        self.begun.come();
+        self.begun.wait();
     }
 
     fn done(&self, _j: u64, _run: &PieceRun) {}
@@ -95,8 +66,10 @@ fn work_at_once<R: Sync + Threads>(
     pieces: u64,
     at_once: u64,
 ) -> bool {
-    let barrier = Barrier::new(at_once);
-    are_listed(rt, alloc, workers, pieces, &barrier) && barrier.misses.load(Ordering::SeqCst) == 0
+    let barrier = Barrier {
+        begun: Meeting::of(at_once),
+    };
+    are_listed(rt, alloc, workers, pieces, &barrier) && !barrier.begun.was_missed()
 }
 
 /// Workers, pieces, and how many of these are begun before the first is done.
@@ -120,14 +93,10 @@ fn as_many_workers_as_asked_for_run_at_the_same_time(rt: HostRuntime) {
     }
 }
 
-/// Whether a gate hears two workers make the halves of two groups for a list, one beside the other.
-fn both_are_heard<R: Sync + Threads + Wait>(rt: &R, alloc: Global) -> bool {
-    let journal = Journal::new(rt, alloc);
-    let watch = Watch::new(&journal);
-    are_listed(rt, alloc, 2, 2, &watch) && watch.heard_both()
-}
-
+// Two workers make the halves of two groups, one beside the other.
 #[test]
 fn the_gate_of_a_list_hears_of_each_piece(rt: HostRuntime) {
-    assert!(rt; both_are_heard(&rt, rt.alloc()));
+    let journal = Journal::new(&rt, rt.alloc());
+    let watch = Watch::new(&journal);
+    assert!(rt; are_listed(&rt, rt.alloc(), 2, 2, &watch) && watch.heard_both());
 }

@@ -40,9 +40,7 @@ fn are_dealt<R: Threads + Sync>(rt: &R, alloc: Global, pieces: u32, seats: u32) 
     ) else {
         return false;
     };
-    let closed = dealer.close(rested);
-    let all = u64::from(pieces);
-    closed.drawn == all && closed.finished == all
+    is_closed_with(dealer, rested, u64::from(pieces))
 }
 
 /// Many seats, and as many as there may be.

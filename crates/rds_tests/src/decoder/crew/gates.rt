@@ -1,13 +1,11 @@
 //! The calls that a crew makes of gates and works. No contract says it: neither that workers run at the same
 //! time, nor when a gate is called, nor whose runs make the report.
 ghost use Rattle.std.specs.Prelude.{◌≡◌, IfSome};
-ghost use Rattle.rds_stream.specs.Recording.{length_of};
-ghost use Rattle.rds_pieces.specs.Cutting.{IsCutting};
 
 use crate::decoder::crew::journal::{Event, Journal, Noted};
 use crate::decoder::samples::Sample;
 use rds_crew::{Gate, decode_crew};
-use rds_pieces::{PieceRun, RecordingWork, Work};
+use rds_pieces::{PieceRun, RecordingWork};
 use rds_sync::{Loss, Report, Totals, decode_plain};
 use std::alloc::Global;
 use std::sync::Wait;
@@ -17,7 +15,7 @@ use std::thread::Threads;
 /// The turns after which a worker no longer waits for others.
 const MOST_TURNS: u64 = 1_000_000_000;
 
-/// One worker waits here until `wanted` others have come.
+/// Workers wait here until `wanted` have come.
 #[derive(Drop)]
 pub struct Meeting {
     wanted: u64,
@@ -38,10 +36,10 @@ impl Meeting {
         self.come.fetch_add(1, Ordering::SeqCst);
     }
 
-    /// Turns until the others have come, and notes a miss at the limit.
+    /// Turns until they have come, and notes a miss at the limit.
     pub fn wait(&self) {
         for _ in 0..MOST_TURNS {
-            if self.come.load(Ordering::SeqCst) == self.wanted {
+            if self.come.load(Ordering::SeqCst) >= self.wanted {
                 return;
             }
         }
@@ -116,24 +114,6 @@ static EVENTS: [Event; 10] = [
     Event::Reported,
 ];
 
-/// Has a crew of `workers` workers make a work's report, if it did.
-fn decode<R: Threads + Sync, W: Work + Sync, G: Gate + Sync>(
-    rt: &R,
-    alloc: Global,
-    work: &W,
-    workers: u32,
-    gate: &G,
-) -> Option<Report>
-    requires { IsCutting (length_of (W.recording work.now)) (W.places work.now) }
-    ensures source { IfSome result (λ report. report.items.source ≡ W.recording work.now) }
-    ensures rules { IfSome result (λ report. report.items.rules ≡ W.rule_set work.now) }
-{
-    match decode_crew(rt, alloc, work, workers, gate) {
-        Ok(report) => Some(report),
-        Err(_) => None,
-    }
-}
-
 /// The totals of zero groups: the first is acquired at its block 2, and all others are complete.
 fn totals_of_zeros(groups: u8) -> Totals {
     let groups = u64::from(groups);
@@ -161,31 +141,24 @@ fn note_cut<'a, R: Sync + Threads + Wait, G: Gate + Sync>(
     ensures source { IfSome result (λ report. report.items.source ≡ sample.now.recording) }
     ensures rules { IfSome result (λ report. report.items.rules ≡ sample.now.rules) }
 {
-    let Ok(cutting) = sample.cut(alloc, cuts) else {
-        return None;
-    };
+    let cutting = sample.cut(alloc, cuts).ok()?;
     let work = Noted {
         journal,
         inner: RecordingWork::new(&sample.recording, &sample.rules, &cutting),
     };
-    decode(journal.rt, alloc, &work, workers, gate)
+    decode_crew(journal.rt, alloc, &work, workers, gate).ok()
 }
 
-/// Whether this report of a sample has the items and totals of one decoder's.
-fn is_plain(alloc: Global, sample: &Sample, report: &Report) -> bool
+/// Whether this report of a sample has the items and totals of one decoder's, if there is memory for these.
+fn is_plain(alloc: Global, sample: &Sample, report: &Report) -> Option<bool>
     requires source { report.now.items.source ≡ sample.now.recording }
     requires rules { report.now.items.rules ≡ sample.now.rules }
 {
-    let Ok(plain) = decode_plain(alloc, &sample.recording, &sample.rules) else {
-        return false;
-    };
-    let Ok(wanted) = plain.items.to_vec(alloc, &sample.recording, &sample.rules) else {
-        return false;
-    };
-    match report.items.to_vec(alloc, &sample.recording, &sample.rules) {
-        Ok(items) => items == wanted && report.totals == plain.totals,
-        Err(_) => false,
-    }
+    let (recording, rules) = (&sample.recording, &sample.rules);
+    let plain = decode_plain(alloc, recording, rules).ok()?;
+    let wanted = plain.items.to_vec(alloc, recording, rules).ok()?;
+    let items = report.items.to_vec(alloc, recording, rules).ok()?;
+    Some(items == wanted && report.totals == plain.totals)
 }
 
 /// Has a crew decode `groups` zero groups, cut so, by such a work: whether the report has one decoder's items, and counts the groups.
@@ -197,14 +170,15 @@ pub fn note_groups<R: Sync + Threads + Wait, G: Gate + Sync>(
     journal: &Journal<'_, R>,
     gate: &G,
 ) -> bool {
-    match Sample::of_groups(alloc, groups, 3, Loss::Run(10)) {
-        Ok(sample) => match note_cut(alloc, &sample, cuts, workers, journal, gate) {
-            Some(report) => {
-                report.totals == totals_of_zeros(groups) && is_plain(alloc, &sample, &report)
-            }
-            None => false,
-        },
-        Err(_) => false,
+    let Ok(sample) = Sample::of_groups(alloc, groups, 3, Loss::Run(10)) else {
+        return false;
+    };
+    match note_cut(alloc, &sample, cuts, workers, journal, gate) {
+        Some(report) => {
+            report.totals == totals_of_zeros(groups)
+                && is_plain(alloc, &sample, &report) == Some(true)
+        }
+        None => false,
     }
 }
 
@@ -232,19 +206,15 @@ impl Gate for HeldBack {
 /// The pieces of two zero groups that are cut at 52, 104 and 156.
 const QUARTERS: [(u64, u64); 4] = [(0, 52), (52, 104), (104, 156), (156, 208)];
 
-/// Whether of two workers one makes all others while one is held back at piece 0.
-fn others_come<R: Sync + Threads + Wait>(rt: &R, alloc: Global) -> bool {
-    let journal = Journal::new(rt, alloc);
-    let gate = HeldBack {
-        others: Meeting::of(3),
-    };
-    note_groups(alloc, 2, &[52, 104, 156], 2, &journal, &gate) && !gate.others.was_missed()
-}
-
 // Fixed shares would miss: there piece 2 waits until piece 0 is done.
 #[test]
 fn a_worker_makes_all_else_while_another_is_held_back(rt: HostRuntime) {
-    assert!(rt; others_come(&rt, rt.alloc()));
+    let journal = Journal::new(&rt, rt.alloc());
+    let gate = HeldBack {
+        others: Meeting::of(3),
+    };
+    assert!(rt; note_groups(rt.alloc(), 2, &[52, 104, 156], 2, &journal, &gate));
+    assert!(rt; !gate.others.was_missed());
 }
 
 /// Whether each event happened once, and the workers' runs make the report.
@@ -255,29 +225,19 @@ fn shows_both_workers<R: Wait>(journal: &Journal<'_, R>) -> bool {
         && journal.has_runs_of(Event::Reported, &[Event::JoinDone(1, 0)])
 }
 
-/// Whether two workers meet at two pieces, and the journal shows both.
-fn two_workers_meet<R: Sync + Threads + Wait>(rt: &R, alloc: Global) -> bool {
-    let journal = Journal::new(rt, alloc);
-    let watch = Watch::new(&journal);
-    note_groups(alloc, 2, HALVES, 2, &journal, &watch)
-        && watch.heard_both()
-        && shows_both_workers(&journal)
-}
-
 // One thread that makes both pieces in turn would miss, since piece 0 waits for piece 1. A crew that drops the runs of
 // its workers would guess or join again, or report of runs that are not joined.
 #[test]
 fn two_workers_run_at_the_same_time_and_their_runs_make_the_report(rt: HostRuntime) {
-    assert!(rt; two_workers_meet(&rt, rt.alloc()));
-}
-
-/// Whether one worker does its steps with two pieces in order.
-fn one_worker_is_seen<R: Sync + Threads + Wait>(rt: &R, alloc: Global) -> bool {
-    let journal = Journal::new(rt, alloc);
-    note_groups(alloc, 2, HALVES, 1, &journal, &journal) && journal.has(0, &EVENTS)
+    let journal = Journal::new(&rt, rt.alloc());
+    let watch = Watch::new(&journal);
+    assert!(rt; note_groups(rt.alloc(), 2, HALVES, 2, &journal, &watch));
+    assert!(rt; watch.heard_both() && shows_both_workers(&journal));
 }
 
 #[test]
 fn the_gate_is_called_before_and_after_each_piece(rt: HostRuntime) {
-    assert!(rt; one_worker_is_seen(&rt, rt.alloc()));
+    let journal = Journal::new(&rt, rt.alloc());
+    assert!(rt; note_groups(rt.alloc(), 2, HALVES, 1, &journal, &journal));
+    assert!(rt; journal.has(0, &EVENTS));
 }

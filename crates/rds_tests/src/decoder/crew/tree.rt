@@ -3,9 +3,7 @@ use crate::decoder::crew::gates::{Meeting, note_groups};
 use crate::decoder::crew::journal::{Event, Journal};
 use rds_crew::Gate;
 use rds_pieces::PieceRun;
-use std::alloc::Global;
 use std::sync::Wait;
-use std::thread::Threads;
 
 /// A gate at which join 0 of level 1 waits until join 1 of that level is begun.
 #[derive(Drop)]
@@ -27,19 +25,15 @@ impl Gate for BesideEachOther {
     }
 }
 
-/// Whether two workers meet at the two joins of four pieces.
-fn joins_meet<R: Sync + Threads + Wait>(rt: &R, alloc: Global) -> bool {
-    let journal = Journal::new(rt, alloc);
-    let gate = BesideEachOther {
-        second: Meeting::of(1),
-    };
-    note_groups(alloc, 4, &[104, 208, 312], 2, &journal, &gate) && !gate.second.was_missed()
-}
-
 // Joins that are made one after the other would miss.
 #[test]
 fn the_joins_of_a_level_are_made_at_the_same_time(rt: HostRuntime) {
-    assert!(rt; joins_meet(&rt, rt.alloc()));
+    let journal = Journal::new(&rt, rt.alloc());
+    let gate = BesideEachOther {
+        second: Meeting::of(1),
+    };
+    assert!(rt; note_groups(rt.alloc(), 4, &[104, 208, 312], 2, &journal, &gate));
+    assert!(rt; !gate.second.was_missed());
 }
 
 /// The cuts between five zero groups.
@@ -85,13 +79,9 @@ fn shows_all_joins<R: Wait>(journal: &Journal<'_, R>) -> bool {
         && journal.has_runs_of(Event::Reported, &[Event::JoinDone(3, 0)])
 }
 
-/// Whether one worker makes all joins of five pieces so.
-fn all_joins_are_seen<R: Sync + Threads + Wait>(rt: &R, alloc: Global) -> bool {
-    let journal = Journal::new(rt, alloc);
-    note_groups(alloc, 5, BETWEEN, 1, &journal, &journal) && shows_all_joins(&journal)
-}
-
 #[test]
 fn neighbours_are_joined_level_by_level_and_the_last_goes_up_as_it_is(rt: HostRuntime) {
-    assert!(rt; all_joins_are_seen(&rt, rt.alloc()));
+    let journal = Journal::new(&rt, rt.alloc());
+    assert!(rt; note_groups(rt.alloc(), 5, BETWEEN, 1, &journal, &journal));
+    assert!(rt; shows_all_joins(&journal));
 }
