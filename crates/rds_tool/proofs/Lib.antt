@@ -29,3 +29,4 @@ pub mod HexDigits
 pub mod Softly
 pub mod SoftFollowed
 pub mod ReadTogether
+mod Names

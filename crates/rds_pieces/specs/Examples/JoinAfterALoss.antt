@@ -9,7 +9,7 @@ use Rattle.rds_sync.specs.declared.state.State.TheVariants.{Searching, Locked}
 use Rattle.rds_sync.specs.Acquiring.{acquired, has_number}
 use Rattle.rds_sync.specs.Groups.{group}
 use Rattle.rds_sync.specs.Rules.{RuleNumbers}
-use Rattle.rds_sync.specs.Examples.LostAndFound.{bytes}
+use Rattle.rds_sync.specs.Examples.Reports.{one_bad}
 use Rattle.rds_sync.specs.Examples.Words.{rules_of, totals}
 use Rattle.rds_sync.specs.Step.{lock_of, run}
 use Rattle.rds_sync.specs.Totals.{totals_of}
@@ -19,7 +19,7 @@ use Rattle.rds_pieces.specs.RunOf.{run_over, end_of}
 use Rattle.rds_pieces.specs.Examples.Meetings.{number_due}
 
 abbrev pub b : Signal
-b = ungapped (bits_of bytes 208)
+b = ungapped (bits_of one_bad 208)
 
 abbrev pub rules : RuleNumbers
 rules = rules_of 2 3 1
