@@ -16,4 +16,3 @@ pub mod PackLemmas
 pub mod InsideLemmas
 pub mod PartLemmas
 pub mod StreamLemmas
-mod Names

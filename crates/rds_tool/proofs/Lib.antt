@@ -29,4 +29,3 @@ pub mod HexDigits
 pub mod Softly
 pub mod SoftFollowed
 pub mod ReadTogether
-mod Names

@@ -1,7 +1,19 @@
 -- The recording of symbols' bits, packed.
-use Rattle.rds_tool.proofs.Names.{◌≡◌, ◌≤◌, ◌<◌, ◌+◌, ◌-◌, ◌*◌, ◌^◌, ◌∙◌, ℕ, Bool, List, Result, Ok, Err, arith, length, map, sym, IfOk, nat_lt, unwrap_or, range_with_len, le-ltb, ext_get_or, get_or-map-range_with_len, length-map-range_with_len, symbols_of, hard_bit, bits_of, packed_bit, first_bits, may_be_gaps, claimed_of, first_bits_of, ToolError, BadGaps, BitsPastBytes, TooLong}
+use Rattle.std.proofs.Common.{◌≡◌, ◌≤◌, ◌<◌, ◌+◌, ◌-◌, ◌*◌, ◌^◌, ◌∙◌, ℕ, Bool, List, Result, Ok, Err, arith, length, map, sym}
 use mathlib.Core.Path.{ap₂}
-use Rattle.std.specs.Prelude.{None, Option, Some, if◌then◌else◌, not}
+use Rattle.std.specs.Prelude.{IfOk, None, Option, Some, if◌then◌else◌, nat_lt, not}
+use Rattle.std.specs.Option.{unwrap_or}
+use Rattle.std.specs.List.{range_with_len}
+use Rattle.std.proofs.lemmas.Bool.{le-ltb}
+use Rattle.std.proofs.lemmas.List.{ext_get_or}
+use Rattle.std.proofs.lemmas.List.FromFn.{get_or-map-range_with_len, length-map-range_with_len}
+use Rattle.rds_soft.specs.ReadAgain.{symbols_of}
+use Rattle.rds_soft.specs.Symbols.{hard_bit}
+use Rattle.rds_stream.specs.Recording.{bits_of, packed_bit}
+use Rattle.rds_tool.specs.Input.{first_bits, may_be_gaps}
+use Rattle.rds_tool.specs.Soft.{claimed_of, first_bits_of}
+use Rattle.rds_tool.specs.declared.error.ToolError.{ToolError}
+use Rattle.rds_tool.specs.declared.error.ToolError.TheVariants.{BadGaps, BitsPastBytes, TooLong}
 
 -- the bits are those between the symbols
 same_bits : (n : ℕ) (symbols packed : List ℕ) → n ≤ length symbols - 1

@@ -1,4 +1,4 @@
-use Rattle.rds.proofs.Names.{◌≡◌, Bor, List, map, string_bytes, take, ℕ}
+use Rattle.std.proofs.Common.{◌≡◌, Bor, List, map, string_bytes, take, ℕ}
 use Rattle.rds.proofs.command_line.words_of.Given as goal
 
 abbrev pub invariant-loop-word : goal.invariant-loop-word

@@ -1,4 +1,4 @@
-use Rattle.rds.proofs.Names.{Some, ap, refl}
+use Rattle.std.proofs.Common.{Some, ap, refl}
 use Rattle.rds.proofs.Sessions.{job_done}
 use Rattle.rds.proofs.session.run_untold.Goals as goal
 

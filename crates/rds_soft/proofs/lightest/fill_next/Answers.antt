@@ -1,4 +1,4 @@
-use Rattle.rds_soft.proofs.Names.{◌≡◌, ℕ, ◌+◌, List, slice_index, bit_xor, min, ◌∙◌}
+use Rattle.std.proofs.Common.{◌≡◌, ℕ, ◌+◌, List, slice_index, bit_xor, min, ◌∙◌}
 use Rattle.rds_soft.proofs.LaneLemmas.{block_more}
 use Rattle.rds_soft.proofs.lightest.fill_next.Goals as goal
 

@@ -1,4 +1,4 @@
-use Rattle.rds_soft.proofs.Names.{◌≡◌, ◌<◌, ◌+◌, ◌*◌, length, slice_index, bit_xor, min, ℕ}
+use Rattle.std.proofs.Common.{◌≡◌, ◌<◌, ◌+◌, ◌*◌, length, slice_index, bit_xor, min, ℕ}
 use Rattle.rds_soft.proofs.lightest.fill_next.Given as goal
 
 abbrev pub invariant-loop-block : goal.invariant-loop-block

@@ -1,4 +1,4 @@
-use Rattle.rds_soft.proofs.Names.{the_effect, confidence}
+use Rattle.rds_soft.specs.Inside.Lightest.{effect as the_effect, confidence}
 use Rattle.rds_soft.proofs.WalkLemmas.{walk_begins}
 use Rattle.rds_soft.proofs.look_back.walk_back.Goals as goal
 

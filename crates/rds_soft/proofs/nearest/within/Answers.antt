@@ -1,4 +1,4 @@
-use Rattle.rds_soft.proofs.Names.{◌≡◌, arith, ◌∙◌}
+use Rattle.std.proofs.Common.{◌≡◌, arith, ◌∙◌}
 use Rattle.rds_soft.proofs.NearestLemmas.{is_nearest, none_past_top, none_beside}
 use Rattle.rds_soft.proofs.nearest.within.Goals as goal
 

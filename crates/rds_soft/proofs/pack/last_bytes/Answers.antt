@@ -1,4 +1,4 @@
-use Rattle.rds_soft.proofs.Names.{◌+◌, ◌∙◌, arith}
+use Rattle.std.proofs.Common.{◌+◌, ◌∙◌, arith}
 use Rattle.rds_soft.proofs.PackLemmas.{same_bit}
 use Rattle.rds_soft.proofs.pack.last_bytes.Goals as goal
 

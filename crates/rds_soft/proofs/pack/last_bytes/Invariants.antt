@@ -1,4 +1,4 @@
-use Rattle.rds_soft.proofs.Names.{◌≡◌, ℕ, ◌<◌, length, slice_index}
+use Rattle.std.proofs.Common.{◌≡◌, ℕ, ◌<◌, length, slice_index}
 use Rattle.rds_soft.proofs.pack.last_bytes.Given as goal
 
 abbrev pub invariant-loop-i : goal.invariant-loop-i

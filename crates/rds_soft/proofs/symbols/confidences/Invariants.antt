@@ -1,4 +1,5 @@
-use Rattle.rds_soft.proofs.Names.{◌≡◌, ℕ, ◌<◌, length, slice_index, pos, slice_index_or}
+use Rattle.std.proofs.Common.{◌≡◌, ℕ, ◌<◌, length, slice_index}
+use Rattle.std.specs.Prelude.{pos, slice_index_or}
 use Rattle.rds_soft.specs.Symbols.{confidence}
 use Rattle.rds_soft.proofs.symbols.confidences.Given as goal
 

@@ -1,4 +1,5 @@
-use Rattle.rds_tool.proofs.Names.{drop, app_of_row, with_option}
+use Rattle.std.proofs.Common.{drop}
+use Rattle.rds_tool.specs.Inside.Commands.{app_of_row, with_option}
 use Rattle.rds_tool.proofs.Options.{HasRest}
 use Rattle.rds_tool.proofs.commands.command_of.Given as goal
 

@@ -1,4 +1,4 @@
-use Rattle.rds_tool.proofs.Names.{IfOk-weaker}
+use Rattle.std.proofs.lemmas.Result.{IfOk-weaker}
 use Rattle.rds_tool.proofs.Options.{with_one_command}
 use Rattle.rds_tool.proofs.commands.with_command.Goals as goal
 

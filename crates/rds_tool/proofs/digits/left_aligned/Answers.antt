@@ -1,4 +1,4 @@
-use Rattle.rds_tool.proofs.Names.{arith}
+use Rattle.std.proofs.Common.{arith}
 use Rattle.rds_tool.proofs.Decimals.{aligned, aligned_one, spelled}
 use Rattle.rds_tool.proofs.digits.left_aligned.Goals as goal
 

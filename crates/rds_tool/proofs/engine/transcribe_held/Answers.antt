@@ -1,4 +1,4 @@
-use Rattle.rds_tool.proofs.Names.{bytes_of}
+use Rattle.rds_tool.specs.Inside.Texts.{bytes_of}
 use Rattle.rds_tool.proofs.Passing.{passed}
 use Rattle.rds_tool.proofs.Texts.{no_failure}
 use Rattle.rds_tool.proofs.Transcribing.{at_bytes, at_read, at_writer}

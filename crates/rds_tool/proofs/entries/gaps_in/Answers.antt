@@ -1,4 +1,4 @@
-use Rattle.rds_tool.proofs.Names.{found_of}
+use Rattle.clap.specs.Words.{found_of}
 use Rattle.rds_tool.proofs.Getters.{no_gaps, read_gaps, unread_gaps}
 use Rattle.rds_tool.proofs.entries.gaps_in.Goals as goal
 

@@ -1,4 +1,4 @@
-use Rattle.rds_tool.proofs.Names.{found_of}
+use Rattle.clap.specs.Words.{found_of}
 use Rattle.rds_tool.proofs.Getters.{number_rows}
 use Rattle.rds_tool.proofs.entries.number_in.Goals as goal
 

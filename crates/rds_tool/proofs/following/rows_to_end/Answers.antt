@@ -1,4 +1,4 @@
-use Rattle.rds_tool.proofs.Names.{◌++◌, ◌∙◌, ◌≡◌, List, [], append_assoc, ap, ℕ}
+use Rattle.std.proofs.Common.{◌++◌, ◌∙◌, ◌≡◌, List, [], append_assoc, ap, ℕ}
 use Rattle.rds_tool.proofs.following.rows_to_end.Goals as goal
 
 -- what was appended to nothing one after another was appended together

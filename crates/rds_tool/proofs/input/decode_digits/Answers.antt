@@ -1,4 +1,4 @@
-use Rattle.rds_tool.proofs.Names.{◌≡◌, ◌∙◌, List, Option, arith, ℕ, sym}
+use Rattle.std.proofs.Common.{◌≡◌, ◌∙◌, List, Option, arith, ℕ, sym}
 use Rattle.rds_tool.proofs.HexDigits.{HasDecoded, all_decoded, begun, decoded_none, ended, few_decoded}
 use Rattle.rds_tool.proofs.input.decode_digits.Goals.{in-None, in-Some-high}
 use Rattle.rds_tool.proofs.input.decode_digits.Goals as goal

@@ -1,4 +1,4 @@
-use Rattle.rds_tool.proofs.Names.{◌∙◌, Err, ap, sym}
+use Rattle.std.proofs.Common.{◌∙◌, Err, ap, sym}
 use Rattle.rds_tool.proofs.HexDigits.{even_text, odd_text, strange_text}
 use Rattle.rds_tool.proofs.Passing.{passes}
 use Rattle.rds_tool.proofs.input.decode_in_place.Goals as goal

@@ -1,4 +1,4 @@
-use Rattle.rds_tool.proofs.Names.{Err, ap, ◌∙◌}
+use Rattle.std.proofs.Common.{Err, ap, ◌∙◌}
 use Rattle.rds_tool.proofs.Recorded.{made_is, refused_is}
 use Rattle.rds_tool.proofs.input.first_bits.Goals as goal
 

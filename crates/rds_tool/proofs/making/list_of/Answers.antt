@@ -1,4 +1,4 @@
-use Rattle.rds_tool.proofs.Names.{rules}
+use Rattle.std.proofs.Common.{rules}
 use Rattle.rds_tool.proofs.Texts.{list_made, once_made}
 use Rattle.rds_tool.proofs.making.list_of.Goals as goal
 

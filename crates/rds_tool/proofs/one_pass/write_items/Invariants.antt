@@ -1,4 +1,9 @@
-use Rattle.rds_tool.proofs.Names.{◌≡◌, ◌++◌, ℕ, List, Option, length, flat_map, vec_capacity, Appends, size_of, Item}
+use Rattle.std.proofs.Common.{◌≡◌, ◌++◌, ℕ, List, Option, length}
+use Rattle.std.specs.List.{flat_map}
+use Rattle.std.specs.Prelude.{vec_capacity}
+use Rattle.std.specs.Io.KnownBytes.{Appends}
+use Rattle.rds_rows.specs.Sheets.{size_of}
+use Rattle.rds_sync.specs.declared.item.Item.{Item}
 use Rattle.rds_tool.proofs.one_pass.write_items.Given as goal
 
 -- of these items some are done: they were listed, and their rows written

@@ -1,4 +1,6 @@
-use Rattle.rds_tool.proofs.Names.{◌++◌, ◌∙◌, ℕ, List, ap, refl, flat_map, Item}
+use Rattle.std.proofs.Common.{◌++◌, ◌∙◌, ℕ, List, ap, refl}
+use Rattle.std.specs.List.{flat_map}
+use Rattle.rds_sync.specs.declared.item.Item.{Item}
 use Rattle.rds_tool.proofs.Passes.{err_more, prefix_first, report_rows, same_end}
 use Rattle.rds_tool.proofs.Passing.{on_any_err}
 use Rattle.rds_tool.proofs.one_pass.write_report.Goals as goal

@@ -1,4 +1,4 @@
-use Rattle.rds_tool.proofs.Names.{rules, ◌∙◌}
+use Rattle.std.proofs.Common.{rules, ◌∙◌}
 use Rattle.std.proofs.lemmas.Nat.{le_bytes_8}
 use Rattle.rds_tool.proofs.page.in_a_register.Goals as goal
 

@@ -1,4 +1,4 @@
-use Rattle.rds_tool.proofs.Names.{◌+◌, ◌*◌, length}
+use Rattle.std.proofs.Common.{◌+◌, ◌*◌, length}
 use Rattle.rds_tool.proofs.reading_again.+halves.Given as goal
 
 abbrev pub decreases-read_all : goal.decreases-read_all

@@ -1,4 +1,5 @@
-use Rattle.rds_tool.proofs.Names.{◌≡◌, length, map, take, again_of}
+use Rattle.std.proofs.Common.{◌≡◌, length, map, take}
+use Rattle.rds_tool.specs.Inside.Listers.{again_of}
 use Rattle.rds_tool.proofs.reading_again.read_alone.Given as goal
 
 abbrev pub invariant-loop-i : goal.invariant-loop-i

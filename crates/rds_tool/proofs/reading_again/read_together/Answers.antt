@@ -1,4 +1,6 @@
-use Rattle.rds_tool.proofs.Names.{length, ap, ◌∙◌, length-map, take_at, again_of}
+use Rattle.std.proofs.Common.{length, ap, ◌∙◌}
+use Rattle.std.proofs.lemmas.List.{length-map, take_at}
+use Rattle.rds_tool.specs.Inside.Listers.{again_of}
 use Rattle.rds_tool.proofs.reading_again.read_together.Goals as goal
 
 pub returns : goal.returns

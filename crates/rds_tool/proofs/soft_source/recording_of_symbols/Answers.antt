@@ -1,4 +1,7 @@
-use Rattle.rds_tool.proofs.Names.{◌≡◌, ◌∙◌, ◌-◌, ℕ, List, Ok, ap, arith, length, subst, sym, IfOk, InputOf, claimed_of, first_bits_of, the_recording_of}
+use Rattle.std.proofs.Common.{◌≡◌, ◌∙◌, ◌-◌, ℕ, List, Ok, ap, arith, length, subst, sym}
+use Rattle.std.specs.Prelude.{IfOk}
+use Rattle.rds_tool.specs.InputOf.{InputOf}
+use Rattle.rds_tool.specs.Soft.{claimed_of, first_bits_of, recording_of_symbols as the_recording_of}
 use Rattle.rds_tool.proofs.Softly.{claimed_is, is_asked, same_recording}
 use Rattle.rds_tool.proofs.soft_source.recording_of_symbols.Goals as goal
 

@@ -1,4 +1,4 @@
-use Rattle.rds_tool.proofs.Names.{length}
+use Rattle.std.proofs.Common.{length}
 use Rattle.rds_tool.proofs.stream_rows.+write_parts.Given as goal
 
 abbrev pub decreases-write_parts : goal.decreases-write_parts

@@ -1,4 +1,4 @@
-use Rattle.rds_tool.proofs.Names.{∥∥₁_map}
+use Rattle.std.proofs.Math.Logic.{∥∥₁_map}
 use Rattle.rds_tool.proofs.Tied.{appends_more, appends_kept}
 use Rattle.rds_tool.proofs.devices.ToWriteSink.write.Goals as goal
 

@@ -1,4 +1,4 @@
-use Rattle.rds_tool.proofs.Names.{inr}
+use Rattle.std.proofs.Common.{inr}
 use Rattle.rds_tool.proofs.Encoding.{faulty_line, faulty_text, fine_text}
 use Rattle.rds_tool.proofs.group_lines.GroupLines.finish.Goals as goal
 use Rattle.rds_tool.proofs.group_lines.GroupLines.finish.Goals.{else-branch-via-then-branch+else-not-is_faulty, else-branch-via-else-branch}

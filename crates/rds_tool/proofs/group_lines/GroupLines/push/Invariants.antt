@@ -1,4 +1,4 @@
-use Rattle.rds_tool.proofs.Names.{◌++◌, ◌≡◌, take}
+use Rattle.std.proofs.Common.{◌++◌, ◌≡◌, take}
 use Rattle.rds_tool.proofs.group_lines.GroupLines.push.Given as goal
 
 abbrev pub invariant-loop-byte : goal.invariant-loop-byte

@@ -1,5 +1,6 @@
-use Rattle.rds_tool.proofs.Names.{◌≡◌, ◌+◌, ◌++◌, ◌*◌, ◌^◌, ◌∙◌, ℕ, List, ap₂, arith, length, length-append, subst, sym, Item}
+use Rattle.std.proofs.Common.{◌≡◌, ◌+◌, ◌++◌, ◌*◌, ◌^◌, ◌∙◌, ℕ, List, ap₂, arith, length, length-append, subst, sym}
 use Rattle.rds_sync.specs.Counting.{IsAtMost, plus}
+use Rattle.rds_sync.specs.declared.item.Item.{Item}
 use Rattle.rds_tool.proofs.lister.HardListerLister.fill.Goals as goal
 
 pub returns-clause-listed : goal.returns-clause-listed

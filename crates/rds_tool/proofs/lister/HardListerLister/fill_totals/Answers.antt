@@ -1,4 +1,8 @@
-use Rattle.rds_tool.proofs.Names.{◌≡◌, ◌++◌, ◌∙◌, ℕ, List, Bor, ap, map, flat_map, text_of, Totals, total_row, totals_text}
+use Rattle.std.proofs.Common.{◌≡◌, ◌++◌, ◌∙◌, ℕ, List, Bor, ap, map}
+use Rattle.std.specs.List.{flat_map}
+use Rattle.rds_rows.specs.Sheets.{text_of}
+use Rattle.rds_sync.specs.declared.totals.Totals.{Totals}
+use Rattle.rds_tool.specs.Listing.{total_row, totals_text}
 use Rattle.rds_tool.proofs.lister.HardListerLister.fill_totals.Goals as goal
 
 pub returns-clause-rows : goal.returns-clause-rows

@@ -1,4 +1,4 @@
-use Rattle.rds_tool.proofs.Names.{rules}
+use Rattle.std.proofs.Common.{rules}
 use Rattle.rds_tool.proofs.Decimals.{in_two_parts}
 use Rattle.rds_tool.proofs.page.Page.put_front.Goals as goal
 

@@ -1,4 +1,4 @@
-use Rattle.rds_tool.proofs.Names.{◌++◌, ◌∙◌, ◌∷◌, ap, arith, rules}
+use Rattle.std.proofs.Common.{◌++◌, ◌∙◌, ◌∷◌, ap, arith, rules}
 use Rattle.rds_tool.proofs.Decimals.{one_digit, spelled}
 use Rattle.rds_tool.proofs.RowText.{decimal_plain}
 use Rattle.rds_tool.proofs.page.Page.put_kind.Goals as goal

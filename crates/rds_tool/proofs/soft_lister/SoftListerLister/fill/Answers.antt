@@ -1,7 +1,14 @@
-use Rattle.rds_tool.proofs.Names.{◌≡◌, ◌+◌, ◌++◌, ◌∷◌, ◌∙◌, ℕ, Bool, List, [], ap, append_assoc, arith, get_or, length, length-append, subst, sym, take, flat_map, take_all, take_more, flat_map-append, text_of, Item, HasCountedAgain, IsReadAt, again_of, row_of_source, SoftItem, SoftSource}
-use Rattle.std.proofs.Common.{append-nil, length-take}
+use Rattle.std.proofs.Common.{◌≡◌, ◌+◌, ◌++◌, ◌∷◌, ◌∙◌, ℕ, Bool, List, [], ap, append-nil, append_assoc, arith, get_or, length, length-append, length-take, subst, sym, take}
 use mathlib.Core.Path.{ap₂}
+use Rattle.std.specs.List.{flat_map}
+use Rattle.std.proofs.lemmas.List.{take_all, take_more}
+use Rattle.std.proofs.lemmas.Grind.{flat_map-append}
+use Rattle.rds_rows.specs.Sheets.{text_of}
+use Rattle.rds_sync.specs.declared.item.Item.{Item}
+use Rattle.rds_tool.specs.Inside.Listers.{HasCountedAgain, IsReadAt, again_of, row_of_source}
+use Rattle.rds_soft.specs.declared.soft_item.SoftItem.{SoftItem}
 use Rattle.rds_tool.proofs.ReadTogether.{read_at}
+use Rattle.rds_tool.specs.declared.soft_source.SoftSource.{SoftSource}
 use Rattle.rds_tool.proofs.soft_lister.SoftListerLister.fill.Goals as goal
 
 pub list-requires-clause-few : goal.list-requires-clause-few

@@ -1,4 +1,8 @@
-use Rattle.rds_tool.proofs.Names.{◌+◌, ◌++◌, ◌≡◌, ◌≤◌, List, length, map, take, true, flat_map, left_of, size_of, text_of, Item, HasCountedAgain, again_of, row_of_source}
+use Rattle.std.proofs.Common.{◌+◌, ◌++◌, ◌≡◌, ◌≤◌, List, length, map, take, true}
+use Rattle.std.specs.List.{flat_map}
+use Rattle.rds_rows.specs.Sheets.{left_of, size_of, text_of}
+use Rattle.rds_sync.specs.declared.item.Item.{Item}
+use Rattle.rds_tool.specs.Inside.Listers.{HasCountedAgain, again_of, row_of_source}
 use Rattle.rds_tool.proofs.soft_lister.SoftListerLister.fill.Given as goal
 
 abbrev pub invariant-loop-item : goal.invariant-loop-item

@@ -1,4 +1,9 @@
-use Rattle.rds_tool.proofs.Names.{◌≡◌, ◌++◌, ◌∙◌, ℕ, List, Bor, ap, append_assoc, arith, length, map, flat_map, text_of, SoftTotals, total_row, totals_text, named_flips, soft_totals_text}
+use Rattle.std.proofs.Common.{◌≡◌, ◌++◌, ◌∙◌, ℕ, List, Bor, ap, append_assoc, arith, length, map}
+use Rattle.std.specs.List.{flat_map}
+use Rattle.rds_rows.specs.Sheets.{text_of}
+use Rattle.rds_soft.specs.declared.soft_totals.SoftTotals.{SoftTotals}
+use Rattle.rds_tool.specs.Listing.{total_row, totals_text}
+use Rattle.rds_tool.specs.Soft.{named_flips, soft_totals_text}
 use Rattle.rds_tool.proofs.soft_lister.SoftListerLister.fill_totals.Goals as goal
 
 pub fill_totals-requires-2-clause-room : goal.fill_totals-requires-2-clause-room

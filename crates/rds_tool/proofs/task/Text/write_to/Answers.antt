@@ -1,4 +1,6 @@
-use Rattle.rds_tool.proofs.Names.{[], sym, append-nil, bytes_of}
+use Rattle.std.proofs.Common.{[], sym}
+use Rattle.std.proofs.lemmas.List.{append-nil}
+use Rattle.rds_tool.specs.Inside.Texts.{bytes_of}
 use Rattle.rds_tool.proofs.Followed.{on_any_ok}
 use Rattle.rds_tool.proofs.Tied.{appends_kept}
 use Rattle.rds_tool.proofs.task.Text.write_to.Goals as goal
