@@ -66,9 +66,9 @@ PROGRAMS = {
     "takes_any_line": '[ "$1" != encode ] || { "$rds" "$@"; exit 0; }; exec "$rds" "$@"',
     "progress_short": '[[ $* == *--progress* ]] || exec "$rds" "$@"; "$rds" "$@" | head -c -1; exit "${PIPESTATUS[0]}"',
     "no_progress": '"$rds" "$@" 2>/dev/null',
-    # a time that grows with the square of the input; slow from the second size on, or only at the third
-    "squared": """size=$(($(stat -L -c %s /dev/stdin) / 5000))
-        for ((k = 0; k < size * size; k++)); do :; done
+    # a time that grows with the cube of the input; slow from the second size on, or only at the third
+    "cubed": """size=$(($(stat -L -c %s /dev/stdin) / 30000))
+        for ((k = 0; k < size ** 3; k++)); do :; done
         exec "$rds" "$@" """,
     "slow_second": """(( $(stat -L -c %s /dev/stdin) < 500000 )) || for ((k = 0; k < 80000; k++)); do :; done
         exec "$rds" "$@" """,
@@ -207,7 +207,7 @@ SEEN: list[tuple[str, str, Callable[[str, Path], object]]] = [
     ("silent", "bytes written, where", lambda rds, at: work(rds, at, "empty list --workers 1")),
     ("hanging", "", lambda rds, at: work(rds, at, "sample scan --workers 4")),
     ("silent", "is not done", lambda rds, at: ways(rds, at, "lines.1", "encode", "encode --hex")),
-    ("squared slow_second slow_third", "CPU-milliseconds", lambda rds, at: growth(rds, at)),
+    ("cubed slow_second slow_third", "CPU-milliseconds", lambda rds, at: growth(rds, at)),
     (f"{DIFFERING} {OF_LINES}", "seed", lambda rds, _: differ(rds)),
     ("noisy other_status hanging", "'17 of 17'", lambda rds, _: differ(rds)),
     (DIFFERING, "seed", lambda rds, _: stream(rds)),
@@ -258,8 +258,8 @@ BENCHES = {
     "other_words": ("[ $1 != scan ] || found=windows", "places scan", "scan: no time and count"),
     "miscounting": ("[ $1 != divided ] || found=8", "divided places", "divided finds 8, and places 7"),
     "fast": ("times[items]=1", "items guess", "1 ns, less than 150 % of the 1 ns of guess"),
-    "squared": (
-        "n=$(($(stat -L -c %s /dev/stdin) / 6000)); [ $1 != windows ] || for ((k = 0; k < n * n; k++)); do :; done",
+    "cubed": (
+        "n=$(($(stat -L -c %s /dev/stdin) / 30000)); [ $1 != windows ] || for ((k = 0; k < n ** 3; k++)); do :; done",
         "windows",
         "CPU-milliseconds",
     ),
