@@ -385,12 +385,10 @@ def test_claims(faults: Faults) -> None:
 
 
 def test_whole_proofs_by_hand() -> None:
-    # a proof by hand could set a history to anything, so each has two: of how it begins, and of how it grows
+    # a proof by hand could set a history to anything, so it has two: of how it begins, and of how it grows
     found = sorted(path for path in (TOP / "crates").resolve().glob("*/proofs/**/Proof.antt"))
     assert [str(path).split("/crates/")[1] for path in found] == [
-        f"{history}/{name}/Proof.antt"
-        for history in ("rds_soft/proofs/history/History", "rds_tool/proofs/trace/Trace")
-        for name in ("new", "note")
+        f"rds_stream/proofs/trace/Trace/{name}/Proof.antt" for name in ("new", "note")
     ]
 
 

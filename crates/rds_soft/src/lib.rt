@@ -51,7 +51,6 @@ mod soft_item; // Items as symbols tell them.
 mod again; // Items read again.
 mod soft_totals; // Their totals.
 mod pack; // Symbols as the bits between them.
-mod history; // The symbols that a stream has heard, for contracts alone.
 mod near; // The part of a stream that is known.
 mod soft_stream; // A stream of symbols.
 pub mod laws; // The laws of the nearest block.

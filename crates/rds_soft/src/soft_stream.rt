@@ -6,7 +6,6 @@ ghost use Rattle.rds_soft.specs.SoftStream.{complete, group_item, report_of};
 ghost use Rattle.rds_soft.specs.SoftTotals.{AreAtMost, soft_totals_of};
 ghost use Rattle.rds_soft.specs.declared.soft_item.SoftItem.{SoftItem as AnItem};
 
-use crate::history::History;
 use crate::laws::soft_totals_join;
 use crate::margin::Margin;
 use crate::near::{end_near, last_of, near_of, read_all_again, run_near};
@@ -15,7 +14,7 @@ use crate::soft_item::{SoftGroup, SoftItem};
 use crate::soft_totals::SoftTotals;
 use rds_live::laws::{ends_move, runs_move};
 use rds_live::may_have_gaps;
-use rds_stream::{MOST_BITS, StreamError, are_gaps};
+use rds_stream::{MOST_BITS, StreamError, Trace, are_gaps};
 use rds_sync::{Rules, State, laws};
 use std::alloc::{AllocError, Global};
 use std::marker::Model;
@@ -38,7 +37,7 @@ pub struct SoftStream<'r> {
     state: State,
     /// The totals of the items that are complete.
     totals: SoftTotals,
-    history: History,
+    history: Trace,
 }
 
 impl<'r> Model for SoftStream<'r> {
@@ -49,11 +48,11 @@ impl<'r> Model for SoftStream<'r> {
 
     ghost view = { λ s. record {
       terms = record { rules = s.rules.now; gaps = s.gaps.now; margin = s.margin };
-      symbols = s.history.symbols;
+      symbols = s.history.bytes;
     } };
 
     ghost invariant = { λ s. Knows (record { rules = s.rules.now; gaps = s.gaps.now; margin = s.margin })
-        s.history.symbols s.kept.items s.count s.state s.totals };
+        s.history.bytes s.kept.items s.count s.state s.totals };
 }
 
 /// The result of the end of a stream of symbols.
@@ -96,7 +95,7 @@ impl<'r> SoftStream<'r> {
                 count: 0,
                 state: State::Searching,
                 totals: SoftTotals::NONE,
-                history: History::new(),
+                history: Trace::new(),
             }),
             Err(_) => Err(StreamError::OutOfMemory),
         }

@@ -9,9 +9,9 @@ ghost use Rattle.rds_tool.specs.Inside.Counters.{claimed_by, whole};
 
 use crate::input::decode_digits;
 use crate::taker::Taker;
-use crate::{Input, ToolError, Trace};
+use crate::{Input, ToolError};
 use rds_live::{StreamCounter, StreamDecoder};
-use rds_stream::MOST_BITS;
+use rds_stream::{MOST_BITS, Trace};
 use rds_sync::{Rules, Totals};
 use std::alloc::{AllocError, Global};
 use std::marker::Model;

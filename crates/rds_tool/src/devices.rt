@@ -3,8 +3,8 @@ ghost use Rattle.std.specs.Prelude.{◌≡◌, ℕ, ◌+◌, ◌++◌, ◌^◌, 
 ghost use Rattle.std.specs.Io.KnownBytes.{Appends, ReadConsumes};
 ghost use Rattle.rds_tool.specs.Devices.{answers_end, failures_of_read, known_or_none, moved};
 
-use crate::trace::Trace;
 use rds_rows::{Failed, Sink};
+use rds_stream::Trace;
 use std::io::{Read, Write};
 use std::snapshot::Snapshot;
 

@@ -7,7 +7,7 @@ ghost use Rattle.rds_tool.specs.Refusals.{IsMemoryOrErrOf};
 
 use crate::ToolError;
 use crate::taker::Taker;
-use crate::trace::Trace;
+use rds_stream::Trace;
 use std::alloc::{AllocError, Global};
 use std::marker::Model;
 use std::thread::Threads;

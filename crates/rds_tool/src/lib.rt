@@ -69,7 +69,6 @@ mod gap_text; // Gaps as a command line names them.
 mod job; // The jobs that can be asked for.
 mod engine; // From a reader to a writer.
 mod devices; // The two ends of that.
-mod trace; // The bytes that went through them, for contracts alone.
 mod task; // A job whose settings were looked at, and the text that it writes.
 mod making; // From a job to its task, and on to its text.
 mod plan; // Rules, workers and pieces.
@@ -107,6 +106,6 @@ pub use following::follow;
 pub use job::{Asked, Cuts, Ignored, Input, Job, Request, Settings};
 pub use rds_rows::{Failed, Sink, write_all};
 pub use rds_soft::Margin;
+pub use rds_stream::Trace;
 pub use rds_sync::{Loss, RuleNumbers};
 pub use soft_following::follow_soft;
-pub use trace::Trace;

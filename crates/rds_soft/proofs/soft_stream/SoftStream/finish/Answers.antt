@@ -27,7 +27,7 @@ module _ (c : After-end_near-group) where
   terms = record { rules = c.self.inside.rules.now; gaps = c.self.inside.gaps.now; margin = c.self.inside.margin }
 
   abbrev symbols : List ℕ
-  symbols = c.self.inside.history.symbols
+  symbols = c.self.inside.history.bytes
 
   report_is : complete terms symbols ++ group_item c.end_near-group.result ≡ report_of terms symbols
   report_is =

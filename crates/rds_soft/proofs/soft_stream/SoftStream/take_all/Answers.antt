@@ -35,7 +35,7 @@ run_near-requires-clause-order c =
 pub read_all_again-requires-clause-places : goal.read_all_again-requires-clause-places
 read_all_again-requires-clause-places c =
     let know = c.self.invariant in
-    let symbols : List ℕ = c.self.inside.history.symbols in
+    let symbols : List ℕ = c.self.inside.history.bytes in
     let more : List ℕ = c.args.symbols.now in
     let terms : SoftTerms = record { rules = c.self.inside.rules.now; gaps = c.self.inside.gaps.now; margin = c.self.inside.margin } in
     let found_is = run-is know more c.in_ok-near.near.recording c.saturating_sub-from.result c.in_ok-near.near.before
@@ -53,7 +53,7 @@ module _ (c : After-deref-4) where
   terms = record { rules = c.self.inside.rules.now; gaps = c.self.inside.gaps.now; margin = c.self.inside.margin }
 
   abbrev symbols : List ℕ
-  symbols = c.self.inside.history.symbols
+  symbols = c.self.inside.history.bytes
 
   abbrev more : List ℕ
   more = c.args.symbols.now

@@ -25,12 +25,12 @@ use denote.Triple.Entry.{on_entry}
 use denote.Triple.Spec.{Meets, triple_of}
 use denote.Triple.Table.{entered}
 use denote.Triple.Walked.{says, Stays, stay_ref, walk_of, AllGo, Goes-ref, Walks, ends_at, walked, walk_Meets}
-use Rattle.rds_soft.specs.declared.history.History.{History}
-use Rattle.rds_soft.specs.contracts.history.History as T
-use Rattle.rds_soft.specs.contracts.history.History.note.Key.{name as #it}
-use Rattle.rds_soft.specs.contracts.history.History.note as it
-use Rattle.rds_soft.proofs.history.History.note.Statement as stated
-use Rattle.rds_soft.proofs.history.History.note.Code as code
+use Rattle.rds_stream.specs.declared.trace.Trace.{Trace}
+use Rattle.rds_stream.specs.contracts.trace.Trace as T
+use Rattle.rds_stream.specs.contracts.trace.Trace.note.Key.{name as #it}
+use Rattle.rds_stream.specs.contracts.trace.Trace.note as it
+use Rattle.rds_stream.proofs.trace.Trace.note.Statement as stated
+use Rattle.rds_stream.proofs.trace.Trace.note.Code as code
 use denote.Ref.{Bor}
 use denote.Builtin.{u8}
 use denote.Exit.{yes}
@@ -39,19 +39,19 @@ use denote.Triple.Walked.{stay_none_slice, Goes-none_slice}
 use Rattle.std.proofs.Common.{◌<◌, ◌^◌, length}
 
 abbrev Arg : Type 0
-Arg = MutBor History × (Bor (List ℕ) × Unit {0})
+Arg = MutBor Trace × (Bor (List ℕ) × Unit {0})
 
 abbrev stayed : Stays (it.ended).signature.params (it.ended).kept
 stayed = (stay_ref (0 ∷ []) tt (plain (λ _. T.the_row)), (stay_none_slice (1 ∷ []) tt (plain (λ _. u8)) yes, tt))
 
-module _ {M : Type 1} {𝓤 : Ura M} (𝓛 : Logic 𝓤) (at_mem : Memory → SProp 𝓤) (run : Routine → Fun 𝓤) (κ κ' : Lft) (q q' : Share) (b o : ℕ) (γ : GName) (h : History) (s : Bor (List ℕ)) where
+module _ {M : Type 1} {𝓤 : Ura M} (𝓛 : Logic 𝓤) (at_mem : Memory → SProp 𝓤) (run : Routine → Fun 𝓤) (κ κ' : Lft) (q q' : Share) (b o : ℕ) (γ : GName) (h : Trace) (s : Bor (List ℕ)) where
   open 𝓛 use {H, A}
 
   abbrev x : Arg
   x = (record { ref_ptr = (b, o); ghost_name = γ; now = h }, (s, tt))
 
-  abbrev h' : History
-  h' = record { marker = h.marker; symbols = h.symbols ++ s.now }
+  abbrev h' : Trace
+  h' = record { marker = h.marker; bytes = h.bytes ++ s.now }
 
   abbrev at : List Val × (List Val × Unit {0})
   at = (vptr b o ∷ [], (slice_val s.ref_ptr (length s.now) ∷ [], tt))

@@ -1,4 +1,4 @@
--- `new` makes a value of no symbols, at the empty list.
+-- `new` makes a value of no bytes, at the empty list.
 use mathlib.Core.Path.{refl}
 use mathlib.Core.List.{[], ◌∷◌}
 use seplogic.Ra.Ura.{Ura}
@@ -21,18 +21,18 @@ use denote.Triple.Entry.{on_entry}
 use denote.Triple.Spec.{Meets, triple_of}
 use denote.Triple.Table.{entered}
 use denote.Triple.Walked.{says, ends_at, walked, walk_Meets}
-use Rattle.rds_soft.specs.declared.history.History.{History}
-use Rattle.rds_soft.specs.contracts.history.History as T
-use Rattle.rds_soft.specs.contracts.history.History.new.Key.{name as #it}
-use Rattle.rds_soft.specs.contracts.history.History.new as it
-use Rattle.rds_soft.proofs.history.History.new.Statement as stated
-use Rattle.rds_soft.proofs.history.History.new.Code as code
+use Rattle.rds_stream.specs.declared.trace.Trace.{Trace}
+use Rattle.rds_stream.specs.contracts.trace.Trace as T
+use Rattle.rds_stream.specs.contracts.trace.Trace.new.Key.{name as #it}
+use Rattle.rds_stream.specs.contracts.trace.Trace.new as it
+use Rattle.rds_stream.proofs.trace.Trace.new.Statement as stated
+use Rattle.rds_stream.proofs.trace.Trace.new.Code as code
 
 abbrev v : Val
 v = vstruct (vcons (vstruct vnil) vnil)
 
-abbrev r : History
-r = record { marker = record {}; symbols = [] }
+abbrev r : Trace
+r = record { marker = record {}; bytes = [] }
 
 meets : {M : Type 1} {𝓤 : Ura M} (𝓛 : Logic 𝓤) → (at_mem : Memory → SProp 𝓤) (run : Routine → Fun 𝓤) (𝓣 : Tables 𝓤 𝓛.H)
     → Meets 𝓛 it.signature (WpFn 𝓤 𝓛.H 𝓣.C 𝓣.Λ code.function) (it.spec 𝓛 at_mem run)
