@@ -57,7 +57,8 @@ def comment(text: str) -> list[tuple[str, str]]:
         last, end = lines[-1 - count], "".join("".join(lines[len(lines) - count :]).split())
         if end in ENDS and text.count(last) == 1:
             *first, before = ENDS[end]
-            return [*zip(lines, [*first, f"{before}{{-{lines[len(first)]}"]), (last, f"{last} -}}")]
+            heads = [line for line in lines if line]
+            return [*zip(heads, [*first, f"{before}{{-{heads[len(first)]}"]), (last, f"{last} -}}")]
     return []
 
 

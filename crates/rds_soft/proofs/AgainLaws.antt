@@ -1,33 +1,11 @@
 -- The laws of symbols read as blocks, and of items read again.
-use Rattle.std.proofs.Common.{◌≡◌, ℕ, ◌+◌, ◌-◌, ◌<◌, ◌≤◌, Bool, true, false, List, [], ◌∷◌, length, get_or, take, drop, refl, sym, ap, ◌∙◌, subst, arith, bit_xor, length-take, length-drop, Option, Some, None}
+use Rattle.rds_soft.proofs.Names.{◌≡◌, ℕ, ◌+◌, ◌-◌, ◌<◌, ◌≤◌, Bool, true, false, List, [], ◌∷◌, length, get_or, take, drop, refl, sym, ap, ◌∙◌, subst, arith, bit_xor, length-take, length-drop, Option, Some, None, ℤ, pos, nat_lt, not, ◌&&◌, if◌then◌else◌, number_from_digits, lt-ltb, ext_get_or, get_or-take, get_or-drop, Offset, Wanted, Either, HardValid, HardCorrected, HardLost, IsValid, IsReading, information, reading, ReadsByRule, Signal, reading_at, window, heard, touched, length_of, Block, Missing, Read, Acquired, Group, LostLock, block_in, SoftBlock, SoftGroup, SoftAcquired, InSoft, SoftLostLock, mask_of, group_of, wanted_beside, sign, hard_bit, hard_bits, hard_window, confidences, IsSoftReading, symbols_heard, IsReadingHeard, IsBlockAgain, IsGroupAgain, first_bit, HasOneSoftReading, HasOneItemAgain, SymbolsHaveWindows, ReadsFromSymbols}
 use mathlib.Core.Path.{ap₂}
-use Rattle.std.specs.Prelude.{ℤ, pos, nat_lt, not, ◌&&◌, if◌then◌else◌}
-use Rattle.std.specs.Int.Digits.{number_from_digits}
-use Rattle.std.proofs.lemmas.Bool.{lt-ltb}
-use Rattle.std.proofs.lemmas.List.{ext_get_or, get_or-take, get_or-drop}
-use Rattle.rds_code.specs.declared.offset.Offset.{Offset}
-use Rattle.rds_code.specs.declared.reading.Wanted.{Wanted}
-use Rattle.rds_code.specs.declared.reading.Wanted.TheVariants.{Either}
 use Rattle.rds_code.specs.declared.reading.Reading.{Reading}
-use Rattle.rds_code.specs.declared.reading.Reading.TheVariants.{Valid as HardValid, Corrected as HardCorrected, Lost as HardLost}
-use Rattle.rds_code.specs.Reading.{IsValid, IsReading, information, reading}
-use Rattle.rds_code.specs.Laws.{ReadsByRule}
-use Rattle.rds_stream.specs.Recording.{Signal, reading_at, reading_heard, window, heard, touched, length_of}
-use Rattle.rds_sync.specs.declared.item.Block.{Block}
-use Rattle.rds_sync.specs.declared.item.Block.TheVariants.{Missing, Read}
-use Rattle.rds_sync.specs.declared.item.Item.TheVariants.{Acquired, Group, LostLock}
-use Rattle.rds_sync.specs.Groups.{block_in}
+use Rattle.rds_stream.specs.Recording.{reading_heard}
 use Rattle.rds_soft.specs.declared.soft_reading.SoftReading.{SoftReading}
 use Rattle.rds_soft.specs.declared.soft_reading.SoftReading.TheVariants.{Valid, Corrected, Lost}
-use Rattle.rds_soft.specs.declared.soft_item.SoftBlock.{SoftBlock}
 use Rattle.rds_soft.specs.declared.soft_item.SoftBlock.TheVariants.{Missing as SoftMissing, Read as SoftRead}
-use Rattle.rds_soft.specs.declared.soft_item.SoftGroup.{SoftGroup}
-use Rattle.rds_soft.specs.declared.soft_item.SoftItem.TheVariants.{Acquired as SoftAcquired, Group as InSoft, LostLock as SoftLostLock}
-use Rattle.rds_soft.specs.Nearest.{mask_of}
-use Rattle.rds_soft.specs.SoftGroups.{group_of, wanted_beside}
-use Rattle.rds_soft.specs.Symbols.{sign, hard_bit, hard_bits, hard_window, confidences, IsSoftReading}
-use Rattle.rds_soft.specs.Again.{symbols_heard, IsReadingHeard, IsBlockAgain, IsGroupAgain, first_bit}
-use Rattle.rds_soft.specs.Laws.{HasOneSoftReading, HasOneItemAgain, SymbolsHaveWindows, ReadsFromSymbols}
 use Rattle.rds_soft.proofs.NearestLaws.{has_one_nearest}
 use Rattle.rds_soft.proofs.SymbolLemmas.{bit_of, bit_count}
 

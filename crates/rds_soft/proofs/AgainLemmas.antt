@@ -1,10 +1,5 @@
 -- A list of four blocks, and blocks that are valid.
-use Rattle.std.proofs.Common.{◌≡◌, ℕ, List, [], ◌∷◌, length, get_or, refl, sym, subst, arith}
-use Rattle.std.specs.Prelude.{Option, ℤ}
-use Rattle.rds_code.specs.declared.reading.Wanted.{Wanted}
-use Rattle.rds_sync.specs.declared.item.Block.{Block}
-use Rattle.rds_soft.specs.declared.soft_item.SoftBlock.{SoftBlock}
-use Rattle.rds_soft.specs.Again.{IsBlockAgain}
+use Rattle.rds_soft.proofs.Names.{◌≡◌, ℕ, List, [], ◌∷◌, length, get_or, refl, sym, subst, arith, Option, ℤ, Wanted, Block, SoftBlock, IsBlockAgain}
 use Rattle.rds_soft.specs.Inside.ValidBlocks.{IsValidBlock}
 
 pub list_of_four : (xs : List Block) (a b c d : Block) → length xs ≡ 4

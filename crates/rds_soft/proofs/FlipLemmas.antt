@@ -1,11 +1,5 @@
 -- Flips of symbols, by the remainder of their mask: the sum of the effects.
-use Rattle.std.proofs.Common.{◌≡◌, ℕ, zero, suc, ◌+◌, ◌*◌, ◌/◌, ◌%◌, ◌^◌, ◌<◌, List, sym, ap, ◌∙◌, arith, bit_xor, inl, inr}
-use Rattle.std.specs.Int.Bits.{xor_self, xor_assoc, xor_shifted}
-use Rattle.std.proofs.lemmas.Nat.{xor_comm, xor_shr, xor_mod}
-use Rattle.rds_code.specs.Remainder.{rem}
-use Rattle.rds_code.specs.Laws.{IsLinear}
-use Rattle.rds_soft.specs.Nearest.{mask_of, weight}
-use Rattle.rds_soft.specs.Inside.Lightest.{effect, confidence, sum_of, weigh, least, lightest, second, Leads, AreLightest}
+use Rattle.rds_soft.proofs.Names.{◌≡◌, ℕ, zero, suc, ◌+◌, ◌*◌, ◌/◌, ◌%◌, ◌^◌, ◌<◌, List, sym, ap, ◌∙◌, arith, bit_xor, inl, inr, xor_self, xor_assoc, xor_shifted, xor_comm, xor_shr, xor_mod, rem, IsLinear, mask_of, weight, effect, confidence, sum_of, weigh, least, lightest, second, Leads, AreLightest}
 use Rattle.rds_soft.proofs.LightestLemmas.{Reach, IsSplit, split_word, sum_without, sum_with, least_below}
 use Rattle.rds_soft.proofs.SecondLemmas.{Weighs, lightest_reached, others_weigh, second_reached}
 

@@ -1,34 +1,9 @@
 -- The groups of a run end inside the part that the run is over, so they are read again there as in the whole.
-use Rattle.std.proofs.Common.{◌≡◌, ℕ, zero, suc, ◌+◌, ◌-◌, ◌*◌, ◌<◌, ◌≤◌, ◌∙◌, List, [], ◌∷◌, ◌++◌, Bool, true, false, Option, Some, None, ap, ap₂, arith, inl, inr, map, refl, subst, sym}
-use Rattle.std.specs.Prelude.{⊤, ◌==◌, ℤ}
-use Rattle.std.proofs.lemmas.Bool.{eq-eqb, eqb-true, false≢true}
-use Rattle.rds_code.specs.declared.reading.Reading.TheVariants.{Valid, Corrected, Lost}
-use Rattle.rds_code.specs.declared.reading.Wanted.{Wanted}
-use Rattle.rds_code.specs.declared.reading.Wanted.TheVariants.{Either}
-use Rattle.rds_stream.specs.Recording.{Signal}
+use Rattle.rds_soft.proofs.Names.{◌≡◌, ℕ, zero, suc, ◌+◌, ◌-◌, ◌*◌, ◌<◌, ◌≤◌, ◌∙◌, List, [], ◌∷◌, ◌++◌, Bool, true, false, Option, Some, None, ap, ap₂, arith, inl, inr, map, refl, subst, sym, ⊤, ◌==◌, ℤ, eq-eqb, eqb-true, false≢true, Valid, Corrected, Lost, Wanted, Either, Signal, State, Searching, Locked, Block, Missing, Read, Item, Acquired, Group, LostLock, block_in, blocks_at, group, AreInOrder, IsLawful, AcquisitionsAreLate, StepsAreLawful, RuleNumbers, completed_group, history_after_block, items_at, items_of_end, lock_after, run, step, moved_item, moved_items, SoftBlock, SoftItem, InSoft, first_bit, symbols_heard, was_read, block_again, group_again, item_again, reading_heard, group_of, wanted_beside, moved_again}
 use Rattle.rds_sync.specs.declared.lock.Lock.{Lock}
-use Rattle.rds_sync.specs.declared.state.State.{State}
-use Rattle.rds_sync.specs.declared.state.State.TheVariants.{Searching, Locked}
-use Rattle.rds_sync.specs.declared.item.Block.{Block}
-use Rattle.rds_sync.specs.declared.item.Block.TheVariants.{Missing, Read}
-use Rattle.rds_sync.specs.declared.item.Item.{Item}
-use Rattle.rds_sync.specs.declared.item.Item.TheVariants.{Acquired, Group, LostLock}
 use Rattle.rds_sync.specs.Acquiring.{acquired}
-use Rattle.rds_sync.specs.Groups.{block_in, blocks_at, group}
-use Rattle.rds_sync.specs.Lawful.{AreInOrder, IsLawful}
-use Rattle.rds_sync.specs.Laws.{AcquisitionsAreLate, StepsAreLawful}
 use Rattle.rds_sync.specs.Loss.{IsLossRule, are_too_many}
-use Rattle.rds_sync.specs.Rules.{RuleNumbers}
-use Rattle.rds_sync.specs.Step.{completed_group, history_after_block, items_at, items_of_end, lock_after, run, step}
-use Rattle.rds_live.specs.Moving.{moved_item, moved_items}
-use Rattle.rds_soft.specs.declared.soft_item.SoftBlock.{SoftBlock}
 use Rattle.rds_soft.specs.declared.soft_item.SoftBlock.TheVariants as Again
-use Rattle.rds_soft.specs.declared.soft_item.SoftItem.{SoftItem}
-use Rattle.rds_soft.specs.declared.soft_item.SoftItem.TheVariants.{Group as InSoft}
-use Rattle.rds_soft.specs.Again.{first_bit, symbols_heard, was_read}
-use Rattle.rds_soft.specs.ReadAgain.{block_again, group_again, item_again, reading_heard}
-use Rattle.rds_soft.specs.SoftGroups.{group_of, wanted_beside}
-use Rattle.rds_soft.specs.Inside.Streams.{moved_again}
 
 -- ---- where blocks end
 

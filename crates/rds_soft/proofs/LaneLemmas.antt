@@ -1,12 +1,5 @@
 -- Lanes of sixteen weights.
-use Rattle.std.specs.Int.Bits.{xor_assoc}
-use Rattle.std.proofs.Common.{◌++◌, length, ◌≡◌, ℕ, zero, suc, ◌+◌, ◌*◌, ◌/◌, ◌%◌, ◌^◌, ◌<◌, ◌≤◌, List, false, true, Bool, cond, ltb, get_or, sym, ap, subst, ◌∙◌, arith, rules, bit_xor, min, refl, ◌-◌, inl, inr}
-use Rattle.std.proofs.Math.Nat.{min-eq_left, min-eq_right}
-use Rattle.std.proofs.lemmas.Bool.{cases_lt}
-use lib.Dec.{T}
-use lib.Lanes.{all_below, pick_l}
-use Rattle.std.proofs.lemmas.Nat.{xor_lt, xor_block}
-use Rattle.std.proofs.lemmas.Simd.{pick_l_left}
+use Rattle.rds_soft.proofs.Names.{xor_assoc, ◌++◌, length, ◌≡◌, ℕ, zero, suc, ◌+◌, ◌*◌, ◌/◌, ◌%◌, ◌^◌, ◌<◌, ◌≤◌, List, false, true, Bool, cond, ltb, get_or, sym, ap, subst, ◌∙◌, arith, rules, bit_xor, min, refl, ◌-◌, inl, inr, min-eq_left, min-eq_right, cases_lt, T, all_below, pick_l, xor_lt, xor_block, pick_l_left}
 
 by_test : (t : Bool) (a b : ℕ) → t ≡ ltb a b → cond t a b ≡ min a b
 by_test true a b is = let less : a < b = search (rules, is) in sym (min-eq_left (omega (arith, less)))

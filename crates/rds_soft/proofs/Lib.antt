@@ -1,3 +1,4 @@
+pub mod Names
 pub mod LightestLemmas
 pub mod SecondLemmas
 pub mod FlipLemmas

@@ -1,18 +1,5 @@
 -- The laws of the nearest block.
-use Rattle.std.proofs.Common.{◌≡◌, ◌≢◌, ℕ, zero, suc, ◌+◌, ◌-◌, ◌*◌, ◌%◌, ◌^◌, ◌<◌, ◌≤◌, List, refl, sym, ap, ◌∙◌, arith, bit_xor, subst, ◌⊎◌, inl, inr, lit<}
-use Rattle.std.specs.Int.{bit_at}
-use Rattle.std.specs.Int.Bits.{xor_assoc, xor_zero_l, xor_zero_r}
-use Rattle.std.proofs.lemmas.Bool.{cases_eq}
-use Rattle.std.proofs.lemmas.Nat.{xor_lt}
-use Rattle.std.proofs.lemmas.Nat.Bits.{bit_at-lt, bit_at_xor}
-use Rattle.rds_code.specs.declared.offset.Offset.{Offset}
-use Rattle.rds_code.specs.declared.offset.Offset.TheVariants.{A, B, C, Cx, D}
-use Rattle.rds_code.specs.declared.reading.Wanted.{Wanted}
-use Rattle.rds_code.specs.Remainder.{rem}
-use Rattle.rds_code.specs.Offsets.{word}
-use Rattle.rds_soft.specs.Nearest.{mask_of, weight, Turns}
-use Rattle.rds_soft.specs.Laws.{NoneTurnsValid, HasOneNearest, SureSymbolsStay, CorrectsSent}
-use Rattle.rds_soft.specs.Inside.Lightest.{confidence, weigh}
+use Rattle.rds_soft.proofs.Names.{◌≡◌, ◌≢◌, ℕ, zero, suc, ◌+◌, ◌-◌, ◌*◌, ◌%◌, ◌^◌, ◌<◌, ◌≤◌, List, refl, sym, ap, ◌∙◌, arith, bit_xor, subst, ◌⊎◌, inl, inr, lit<, bit_at, xor_assoc, xor_zero_l, xor_zero_r, cases_eq, xor_lt, bit_at-lt, bit_at_xor, Offset, A, B, C, Cx, D, Wanted, rem, word, mask_of, weight, Turns, NoneTurnsValid, HasOneNearest, SureSymbolsStay, CorrectsSent, confidence, weigh}
 use Rattle.rds_soft.proofs.LightestLemmas.{undone, split_word, IsSplit, weigh_without, weigh_with}
 use Rattle.rds_soft.proofs.FlipLemmas.{mask_xor, weight_is}
 

@@ -1,20 +1,5 @@
 -- From the lightest flips of each offset to the nearest block.
-use Rattle.std.proofs.Common.{◌≡◌, ◌≢◌, ℕ, zero, suc, ◌+◌, ◌<◌, ◌≤◌, List, refl, sym, ap, ◌∙◌, arith, bit_xor, min, subst, ◌⊎◌, inl, inr, IsTrue}
-use Rattle.std.specs.Int.Bits.{xor_self, xor_assoc, xor_zero_l}
-use Rattle.std.proofs.Math.Nat.{min-le_left, min-le_right, min-eq_left, min-eq_right}
-use Rattle.std.proofs.lemmas.Bool.{cases_lt, cases_eq, false≢true}
-use Rattle.rds_code.specs.declared.offset.Offset.{Offset}
-use Rattle.rds_code.specs.declared.offset.Offset.TheVariants.{A, B, C, Cx, D}
-use Rattle.rds_code.specs.declared.reading.Wanted.{Wanted}
-use Rattle.rds_code.specs.declared.reading.Wanted.TheVariants.{OnlyC, OnlyCx, Either}
-use Rattle.rds_code.specs.Remainder.{rem}
-use Rattle.rds_code.specs.Offsets.{word, number}
-use Rattle.rds_code.specs.Reading.{allows}
-use Rattle.rds_code.specs.Laws.{IsLinear}
-use Rattle.rds_soft.specs.Nearest.{mask_of, weight, Turns, IsNearest}
-use Rattle.rds_soft.specs.Inside.Lightest.{effect, confidence, Leads, AreLightest, of_none, least, lightest, second}
-use Rattle.rds_soft.specs.Inside.Rows.{IsWalk}
-use Rattle.rds_soft.specs.Inside.Nearer.{TurnTo, AreNearest}
+use Rattle.rds_soft.proofs.Names.{◌≡◌, ◌≢◌, ℕ, zero, suc, ◌+◌, ◌<◌, ◌≤◌, List, refl, sym, ap, ◌∙◌, arith, bit_xor, min, subst, ◌⊎◌, inl, inr, IsTrue, xor_self, xor_assoc, xor_zero_l, min-le_left, min-le_right, min-eq_left, min-eq_right, cases_lt, cases_eq, false≢true, Offset, A, B, C, Cx, D, Wanted, OnlyC, OnlyCx, Either, rem, word, number, allows, IsLinear, mask_of, weight, Turns, IsNearest, effect, confidence, Leads, AreLightest, of_none, least, lightest, second, IsWalk, TurnTo, AreNearest}
 use Rattle.rds_soft.proofs.FlipLemmas.{are_lightest}
 use Rattle.rds_soft.proofs.LightestLemmas.{least_small}
 

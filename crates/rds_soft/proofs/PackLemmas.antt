@@ -1,19 +1,7 @@
 -- Bits that are packed from the signs of bytes.
-use Rattle.std.proofs.Common.{◌≡◌, ℕ, zero, suc, ◌+◌, ◌-◌, ◌*◌, ◌/◌, ◌%◌, ◌<◌, ◌++◌, List, [], ◌∷◌, Bool, cond, ltb, length, drop, min, sym, refl, ap, ◌∙◌, arith, lit<, bit_xor, true, false, inl, inr, length-append, length-drop}
+use Rattle.rds_soft.proofs.Names.{◌≡◌, ℕ, zero, suc, ◌+◌, ◌-◌, ◌*◌, ◌/◌, ◌%◌, ◌<◌, ◌++◌, List, [], ◌∷◌, Bool, cond, ltb, length, drop, min, sym, refl, ap, ◌∙◌, arith, lit<, bit_xor, true, false, inl, inr, length-append, length-drop, ℤ, pos, slice_index, if◌then◌else◌, bit_at, cast_signed, is_positive, w8, cases_lt, le-ltb, lt-ltb, to_z_pos, min-eq_left, min-eq_right, get_or-map, get_or-drop, get_or_append_left, get_or-append-add, drop-drop, drop_all, packed_bit, xor_lt, bit_at_xor, bit_at_lowest, symbols_of, sign, hard_bit, sign_at}
 use mathlib.Core.Path.{ap₂}
-use Rattle.std.specs.Prelude.{ℤ, pos, slice_index, if◌then◌else◌}
-use Rattle.std.specs.Int.{bit_at, cast_signed, is_positive, w8}
-use Rattle.std.proofs.lemmas.Bool.{cases_lt, le-ltb, lt-ltb}
-use Rattle.std.proofs.lemmas.Int.{to_z_pos}
 use Rattle.std.proofs.Math.Facts.{to_z-neg}
-use Rattle.std.proofs.Math.Nat.{min-eq_left, min-eq_right}
-use Rattle.std.proofs.lemmas.List.{get_or-map, get_or-drop, get_or_append_left, get_or-append-add, drop-drop, drop_all}
-use Rattle.rds_stream.specs.Recording.{packed_bit}
-use Rattle.std.proofs.lemmas.Nat.{xor_lt}
-use Rattle.std.proofs.lemmas.Nat.Bits.{bit_at_xor, bit_at_lowest}
-use Rattle.rds_soft.specs.ReadAgain.{symbols_of}
-use Rattle.rds_soft.specs.Symbols.{sign, hard_bit}
-use Rattle.rds_soft.specs.Inside.Packed.{sign_at}
 
 -- ---- signs
 

@@ -1,17 +1,6 @@
 -- A part of a stream of symbols: the bits between its symbols, what is heard of them, and the symbols of its blocks.
-use Rattle.std.proofs.Common.{◌≡◌, ◌+◌, ◌-◌, ◌<◌, ◌≤◌, ◌++◌, ◌⊎◌, ◌∙◌, ℕ, List, Bool, Option, Some, None, true, false, ap, ap₂, arith, drop, length, sym, take}
-use Rattle.std.specs.Prelude.{ℤ, nat_lt, not, ◌&&◌, if◌then◌else◌}
-use Rattle.std.specs.List.{list_any}
-use Rattle.std.specs.Int.{cast_signed, w8}
-use Rattle.std.proofs.lemmas.Bool.{lt-ltb}
-use Rattle.std.proofs.lemmas.List.{drop-append-le, drop-map, drop-drop, ext_get_or, length-drop, length-map, map-append, take-append-le}
-use Rattle.std.proofs.lemmas.List.FromFn.{get_or-map-range_with_len, length-map-range_with_len}
-use Rattle.rds_stream.specs.Recording.{Signal, bits_of, heard, is_touched_by, length_of, packed_bit, touched, window}
-use Rattle.rds_live.specs.Moving.{IsPartHeard, most_behind}
-use Rattle.rds_live.proofs.GapParts.{TouchAlike}
-use Rattle.rds_soft.specs.Laws.{SymbolsHaveWindows}
-use Rattle.rds_soft.specs.ReadAgain.{symbols_of}
-use Rattle.rds_soft.specs.Symbols.{hard_bit, hard_bits, hard_window}
+use Rattle.rds_soft.proofs.Names.{◌≡◌, ◌+◌, ◌-◌, ◌<◌, ◌≤◌, ◌++◌, ◌⊎◌, ◌∙◌, ℕ, List, Bool, Option, Some, None, true, false, ap, ap₂, arith, drop, length, sym, take, ℤ, nat_lt, not, ◌&&◌, if◌then◌else◌, list_any, cast_signed, w8, lt-ltb, drop-append-le, drop-drop, ext_get_or, length-drop, length-map, map-append, take-append-le, get_or-map-range_with_len, length-map-range_with_len, Signal, bits_of, heard, is_touched_by, length_of, packed_bit, touched, window, IsPartHeard, most_behind, TouchAlike, SymbolsHaveWindows, symbols_of, hard_bit, hard_bits, hard_window}
+use Rattle.std.proofs.lemmas.List.{drop-map}
 use Rattle.rds_soft.proofs.InsideLemmas.{AreSymbolsOf}
 
 -- ---- bits

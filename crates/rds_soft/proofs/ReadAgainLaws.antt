@@ -1,29 +1,6 @@
 -- What the functions of `ReadAgain` compute is what the rule allows.
-use Rattle.std.proofs.Common.{◌≡◌, ℕ, zero, suc, ◌+◌, ◌≤◌, List, refl, sym, ap, ◌∙◌, arith, bit_xor, min, subst, Option, Some, None}
-use Rattle.std.specs.Prelude.{◌==◌, ℤ, nat_lt, if◌then◌else◌}
-use Rattle.std.proofs.lemmas.Bool.{ltb-true, ltb-false, eqb-true, eqb-false, cond_both}
-use Rattle.rds_code.specs.declared.offset.Offset.{Offset}
-use Rattle.rds_code.specs.declared.offset.Offset.TheVariants.{A, B, C, Cx, D}
-use Rattle.rds_code.specs.declared.reading.Wanted.{Wanted}
-use Rattle.rds_code.specs.declared.reading.Wanted.TheVariants.{OnlyC, OnlyCx, Either}
-use Rattle.rds_code.specs.declared.reading.Reading.TheVariants.{Valid as HardValid, Corrected as HardCorrected, Lost as HardLost}
-use Rattle.rds_code.specs.Laws.{IsLinear}
-use Rattle.rds_code.specs.Remainder.{rem}
-use Rattle.rds_code.specs.Offsets.{offset_of, word, number}
-use Rattle.rds_code.specs.Reading.{IsValid}
-use Rattle.rds_stream.specs.Recording.{Signal}
-use Rattle.rds_sync.specs.declared.item.Block.{Block}
-use Rattle.rds_sync.specs.declared.item.Block.TheVariants.{Missing, Read}
-use Rattle.rds_sync.specs.declared.item.Item.TheVariants.{Acquired, Group, LostLock}
-use Rattle.rds_sync.specs.Groups.{block_in}
+use Rattle.rds_soft.proofs.Names.{◌≡◌, ℕ, zero, suc, ◌+◌, ◌≤◌, List, refl, sym, ap, ◌∙◌, arith, bit_xor, min, subst, Option, Some, None, ◌==◌, ℤ, nat_lt, if◌then◌else◌, ltb-true, ltb-false, eqb-true, eqb-false, cond_both, Offset, A, B, C, Cx, D, Wanted, OnlyC, OnlyCx, Either, HardValid, HardCorrected, HardLost, IsLinear, rem, offset_of, word, number, IsValid, Signal, Block, Missing, Read, Acquired, Group, LostLock, block_in, IsCorrection, wanted_beside, hard_window, confidences, IsSoftReading, symbols_heard, first_bit, IsReadingHeard, IsBlockAgain, IsGroupAgain, Turn, turn_to, lighter, turn_third, turn_of, within, correction, own_of, reading_by, reading_or, soft_reading, reading_heard, block_again, group_again, item_again, ItemsAreReadAgainSo, TurnTo, AreNearest}
 use Rattle.rds_soft.specs.declared.correction.Correction.{Correction}
-use Rattle.rds_soft.specs.Nearest.{IsCorrection}
-use Rattle.rds_soft.specs.SoftGroups.{wanted_beside}
-use Rattle.rds_soft.specs.Symbols.{hard_window, confidences, IsSoftReading}
-use Rattle.rds_soft.specs.Again.{symbols_heard, first_bit, IsReadingHeard, IsBlockAgain, IsGroupAgain}
-use Rattle.rds_soft.specs.ReadAgain.{Turn, turn_to, lighter, turn_third, turn_of, within, correction, own_of, reading_by, reading_or, soft_reading, reading_heard, block_again, group_again, item_again}
-use Rattle.rds_soft.specs.Laws.{ItemsAreReadAgainSo}
-use Rattle.rds_soft.specs.Inside.Nearer.{TurnTo, AreNearest}
 use Rattle.rds_soft.proofs.FlipLemmas.{are_lightest}
 use Rattle.rds_soft.proofs.NearestLemmas.{only_one, nearer_C, nearer_Cx, is_nearest, none_past_top, none_beside, only_A, only_B, only_C, only_Cx, only_D, A_allowed, B_allowed, D_allowed}
 

@@ -1,10 +1,5 @@
 -- A row that follows one of least weights has those with one symbol more.
-use Rattle.std.proofs.Common.{◌≡◌, ℕ, suc, ◌+◌, ◌<◌, ◌≤◌, List, [], sym, ap, ◌∙◌, arith, bit_xor, min, length, slice_index, get_or, set, subst, inl, inr}
-use Rattle.std.proofs.lemmas.Nat.{xor_lt}
-use Rattle.std.proofs.lemmas.Bool.{cases_lt}
-use Rattle.std.proofs.lemmas.List.{get_or-set_same, get_or-set_other}
-use Rattle.rds_soft.specs.Inside.Lightest.{least}
-use Rattle.rds_soft.specs.Inside.Rows.{IsFirst, Follows, AreLeast}
+use Rattle.rds_soft.proofs.Names.{◌≡◌, ℕ, suc, ◌+◌, ◌<◌, ◌≤◌, List, [], sym, ap, ◌∙◌, arith, bit_xor, min, length, slice_index, get_or, set, subst, inl, inr, xor_lt, cases_lt, get_or-set_same, get_or-set_other, least, IsFirst, Follows, AreLeast}
 
 pub first_are_least : (e c : ℕ → ℕ) (row : List ℕ) → IsFirst row → AreLeast e c 0 row
 unfolding least

@@ -1,8 +1,5 @@
 -- One symbol of the look back, by what is read of the rows.
-use Rattle.std.proofs.Common.{◌≡◌, ℕ, ◌+◌, ◌-◌, ◌*◌, ◌%◌, ◌^◌, ◌<◌, ◌≤◌, List, [], sym, ap, ◌∙◌, arith, bit_xor, min, slice_index, get_or, subst}
-use Rattle.std.proofs.lemmas.Nat.{xor_lt}
-use Rattle.rds_soft.specs.Inside.Lightest.{effect, confidence, least}
-use Rattle.rds_soft.specs.Inside.Rows.{AreRows, IsWalk}
+use Rattle.rds_soft.proofs.Names.{◌≡◌, ℕ, ◌+◌, ◌-◌, ◌*◌, ◌%◌, ◌^◌, ◌<◌, ◌≤◌, List, [], sym, ap, ◌∙◌, arith, bit_xor, min, slice_index, get_or, subst, xor_lt, effect, confidence, least, AreRows, IsWalk}
 use Rattle.rds_soft.proofs.LightestLemmas.{least_small}
 use Rattle.rds_soft.proofs.SecondLemmas.{lightest_small}
 use Rattle.rds_soft.proofs.WalkLemmas.{walk_turned, walk_kept}

@@ -1,32 +1,8 @@
 -- A stream of symbols after further ones, and at its end.
-use Rattle.std.proofs.Common.{◌≡◌, ◌+◌, ◌-◌, ◌*◌, ◌^◌, ◌<◌, ◌≤◌, ◌++◌, ◌⊎◌, ◌∙◌, ℕ, List, [], ◌∷◌, ap, ap₂, arith, drop, inl, inr, length, map, refl, subst, sym}
-use Rattle.std.specs.List.{All}
-use Rattle.std.proofs.lemmas.Bool.{cases_lt}
-use Rattle.std.proofs.lemmas.List.{append-nil, drop-append-le, drop-drop, length-append, length-drop, map-append}
-use Rattle.rds_stream.specs.Recording.{AreGaps, Signal, length_of}
-use Rattle.rds_sync.specs.Laws.{AcquisitionsAreLate, RunsAreLawful, RunsAreReports, RunsGiveFewItems, RunsJoin, StepsAreLawful}
-use Rattle.rds_sync.specs.Lawful.{IsLawful}
+use Rattle.rds_soft.proofs.Names.{◌≡◌, ◌+◌, ◌-◌, ◌*◌, ◌^◌, ◌<◌, ◌≤◌, ◌++◌, ◌⊎◌, ◌∙◌, ℕ, List, [], ◌∷◌, ap, ap₂, arith, drop, inl, inr, length, map, refl, subst, sym, All, cases_lt, append-nil, drop-append-le, drop-drop, length-append, length-drop, map-append, AreGaps, Signal, length_of, AcquisitionsAreLate, RunsAreLawful, RunsAreReports, RunsGiveFewItems, RunsJoin, StepsAreLawful, IsLawful, RuleNumbers, items_of_end, run, Item, State, Searching, EndsMove, IsPartHeard, RunsMove, most_behind, moved_items, moved_state, moved_back, place_of, hard-at-most-more, lawful-back, still-items, still-state, part-touched, start-touched, run-early, back-on, SymbolsHaveWindows, item_again, symbols_of, SoftTerms, complete, read_again, report_of, run_of, signal_of, Knows, again_in, last_symbols, most_kept, moved_again, part_of, place_again, AreAtMost, SoftItem}
 use Rattle.rds_sync.specs.Ranges.{IsInRange}
-use Rattle.rds_sync.specs.Rules.{RuleNumbers}
-use Rattle.rds_sync.specs.Step.{items_of_end, run}
-use Rattle.rds_sync.specs.declared.item.Item.{Item}
 use Rattle.rds_sync.specs.declared.item.Item.TheVariants as hard
-use Rattle.rds_sync.specs.declared.state.State.{State}
-use Rattle.rds_sync.specs.declared.state.State.TheVariants.{Searching}
-use Rattle.rds_live.specs.Moving.{EndsMove, IsPartHeard, RunsMove, most_behind, moved_items, moved_state}
-use Rattle.rds_live.specs.Next.{moved_back}
-use Rattle.rds_live.specs.Places.{place_of}
-use Rattle.rds_live.proofs.Following.{at-most-more as hard-at-most-more, lawful-back, still-items, still-state}
-use Rattle.rds_live.proofs.GapParts.{part-touched, start-touched}
-use Rattle.rds_live.proofs.ItemPlaces.{run-early}
-use Rattle.rds_live.proofs.Pieces.{back-on}
-use Rattle.rds_soft.specs.Laws.{SymbolsHaveWindows}
-use Rattle.rds_soft.specs.ReadAgain.{item_again, symbols_of}
-use Rattle.rds_soft.specs.SoftStream.{SoftTerms, complete, read_again, report_of, run_of, signal_of}
-use Rattle.rds_soft.specs.Inside.Streams.{Knows, again_in, last_symbols, most_kept, moved_again, part_of, place_again}
-use Rattle.rds_soft.specs.SoftTotals.{AreAtMost}
 use Rattle.rds_soft.specs.declared.soft_totals.SoftTotals.{SoftTotals}
-use Rattle.rds_soft.specs.declared.soft_item.SoftItem.{SoftItem}
 use Rattle.rds_soft.specs.declared.soft_item.SoftItem.TheVariants.{Acquired, Group, LostLock}
 use Rattle.rds_soft.proofs.InsideLemmas.{AllInside, end-inside, items-same, run-inside}
 use Rattle.rds_soft.proofs.PartLemmas.{length-bits, length-symbols, part-heard, part-symbols}

@@ -1,13 +1,6 @@
 -- Signs, bits and windows of symbols.
-use Rattle.std.proofs.Common.{◌≡◌, ℕ, ◌+◌, ◌-◌, ◌*◌, ◌<◌, true, false, List, length, get_or, take, ap, arith, lit<}
-use Rattle.std.specs.Prelude.{ℤ, pos, if◌then◌else◌}
-use Rattle.std.specs.Int.{is_positive}
-use Rattle.std.specs.Int.Digits.{number_from_digits}
-use Rattle.std.proofs.lemmas.Nat.{xor_lt}
-use Rattle.std.proofs.lemmas.List.{take_all}
-use Rattle.std.proofs.lemmas.List.FromFn.{get_or-map-range_with_len, length-map-range_with_len}
+use Rattle.rds_soft.proofs.Names.{◌≡◌, ℕ, ◌+◌, ◌-◌, ◌*◌, ◌<◌, true, false, List, length, get_or, take, ap, arith, lit<, ℤ, pos, if◌then◌else◌, is_positive, number_from_digits, xor_lt, take_all, get_or-map-range_with_len, length-map-range_with_len, sign, hard_bit, hard_bits, hard_window}
 use Rattle.std.proofs.lemmas.Int.Digits.{number_more}
-use Rattle.rds_soft.specs.Symbols.{sign, hard_bit, hard_bits, hard_window}
 
 sign_lt : (r : ℤ) → sign r < 2
 sign_lt r = elim (is_positive r) as (λ b. (if b then 1 else 0) < 2) [ true ↦ lit< tt | false ↦ lit< tt ]

@@ -1,8 +1,5 @@
 -- One symbol of the look back.
-use Rattle.std.proofs.Common.{◌≡◌, ℕ, suc, ◌+◌, ◌^◌, ◌<◌, ◌≤◌, Bool, true, false, refl, sym, ap, ◌∙◌, arith, rules, bit_xor, min, nat_lt}
-use Rattle.std.proofs.Math.Nat.{min-le_left}
-use Rattle.rds_soft.specs.Inside.Lightest.{least, is_flipped, lightest, second}
-use Rattle.rds_soft.specs.Inside.Rows.{IsWalk}
+use Rattle.rds_soft.proofs.Names.{◌≡◌, ℕ, suc, ◌+◌, ◌^◌, ◌<◌, ◌≤◌, Bool, true, false, refl, sym, ap, ◌∙◌, arith, rules, bit_xor, min, nat_lt, min-le_left, least, is_flipped, lightest, second, IsWalk}
 use Rattle.rds_soft.proofs.LightestLemmas.{second_small}
 
 if_true : (t : Bool) (a b : ℕ) → t ≡ true → elim t [ false ↦ a | true ↦ b ] ≡ b

@@ -1,7 +1,4 @@
-use Rattle.std.proofs.Common.{◌≡◌, ◌+◌, ◌∙◌, ℕ, List, Bool, true, ap, sym, arith, length, take, drop}
-use Rattle.std.specs.Prelude.{Some, None, nat_lt, if◌then◌else◌}
-use Rattle.std.proofs.lemmas.Bool.{lt-ltb}
-use Rattle.std.proofs.lemmas.List.{take_rest}
+use Rattle.rds_soft.proofs.Names.{◌≡◌, ◌+◌, ◌∙◌, ℕ, List, Bool, true, ap, sym, arith, length, take, drop, Some, None, nat_lt, if◌then◌else◌, lt-ltb, take_rest}
 use Rattle.rds_soft.proofs.again.bytes_at.Goals as goal
 
 pub returns-in-Some : goal.returns-in-Some

@@ -1,10 +1,4 @@
-use Rattle.std.proofs.Common.{◌≡◌, ◌+◌, ◌∙◌, ℕ, List, Bool, true, false, Option, Some, None, refl, ap, sym, length, take, drop}
-use Rattle.std.specs.Prelude.{ℤ, nat_lt, if◌then◌else◌}
-use Rattle.std.specs.Int.{cast_signed, w8}
-use Rattle.std.specs.List.{take-map, drop-map}
-use Rattle.std.specs.Option.{option_map}
-use Rattle.std.proofs.lemmas.List.{length-map}
-use Rattle.rds_soft.specs.ReadAgain.{symbols_of}
+use Rattle.rds_soft.proofs.Names.{◌≡◌, ◌+◌, ◌∙◌, ℕ, List, Bool, true, false, Option, Some, None, refl, ap, sym, length, take, drop, ℤ, nat_lt, if◌then◌else◌, cast_signed, w8, take-map, drop-map, option_map, length-map, symbols_of}
 use Rattle.rds_soft.proofs.again.chunk_at.Goals as goal
 
 mapped : (b : Bool) (x : List ℕ) → option_map symbols_of (if b then Some x else None) ≡ (if b then Some (symbols_of x) else None)

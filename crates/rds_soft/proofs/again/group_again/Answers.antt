@@ -1,10 +1,4 @@
-use Rattle.std.proofs.Common.{ℕ, List, [], ◌∷◌, ◌∙◌, ap, sym, subst}
-use Rattle.std.specs.Prelude.{ℤ}
-use Rattle.rds_code.specs.declared.reading.Wanted.TheVariants.{Either}
-use Rattle.rds_sync.specs.declared.item.Block.{Block}
-use Rattle.rds_soft.specs.Again.{symbols_heard, first_bit, IsGroupAgain}
-use Rattle.rds_soft.specs.ReadAgain.{symbols_of}
-use Rattle.rds_soft.specs.SoftGroups.{wanted_beside, group_of}
+use Rattle.rds_soft.proofs.Names.{ℕ, List, [], ◌∷◌, ◌∙◌, ap, sym, subst, ℤ, Either, Block, symbols_heard, first_bit, IsGroupAgain, symbols_of, wanted_beside, group_of}
 use Rattle.rds_soft.proofs.AgainLemmas.{valid_stays}
 use Rattle.rds_soft.proofs.again.group_again.Goals as goal
 

@@ -1,13 +1,4 @@
-use Rattle.std.proofs.Common.{◌≡◌, ℕ, ◌+◌, ◌*◌, List, [], ◌∷◌, get_or, sym, subst, arith}
-use Rattle.std.specs.Prelude.{ℤ}
-use Rattle.rds_code.specs.declared.reading.Wanted.{Wanted}
-use Rattle.rds_code.specs.declared.reading.Wanted.TheVariants.{Either}
-use Rattle.rds_stream.specs.Recording.{Signal}
-use Rattle.rds_sync.specs.declared.item.Block.{Block}
-use Rattle.rds_soft.specs.declared.soft_item.SoftBlock.{SoftBlock}
-use Rattle.rds_soft.specs.Again.{symbols_heard, was_read, IsBlockAgain, IsGroupAgain}
-use Rattle.rds_soft.specs.ReadAgain.{symbols_of}
-use Rattle.rds_soft.specs.SoftGroups.{wanted_beside}
+use Rattle.rds_soft.proofs.Names.{◌≡◌, ℕ, ◌+◌, ◌*◌, List, [], ◌∷◌, get_or, sym, subst, arith, ℤ, Wanted, Either, Signal, Block, SoftBlock, symbols_heard, was_read, IsBlockAgain, IsGroupAgain, symbols_of, wanted_beside}
 use Rattle.rds_soft.proofs.AgainLemmas.{list_of_four}
 use Rattle.rds_soft.proofs.again.searched_group.Goals as goal
 

@@ -1,8 +1,4 @@
-use Rattle.std.proofs.Common.{◌≡◌, ◌∙◌, ℕ, List, sym, arith, length}
-use Rattle.std.specs.Prelude.{pos}
-use Rattle.std.specs.Int.{cast_signed, w8}
-use Rattle.std.proofs.lemmas.List.{ext_get_or, get_or-map, length-map}
-use Rattle.rds_soft.specs.ReadAgain.{symbols_of}
+use Rattle.rds_soft.proofs.Names.{◌≡◌, ◌∙◌, ℕ, List, sym, arith, length, pos, cast_signed, w8, ext_get_or, get_or-map, length-map, symbols_of}
 use Rattle.rds_soft.proofs.again.signed.Goals as goal
 
 pub returns : goal.returns

@@ -1,6 +1,4 @@
-use Rattle.std.proofs.Common.{◌≡◌, ℕ, ◌<◌, length, slice_index}
-use Rattle.std.specs.Prelude.{pos, slice_index_or}
-use Rattle.std.specs.Int.{cast_signed, w8}
+use Rattle.rds_soft.proofs.Names.{◌≡◌, ℕ, ◌<◌, length, slice_index, pos, slice_index_or, cast_signed, w8}
 use Rattle.rds_soft.proofs.again.signed.Given as goal
 
 abbrev pub invariant-loop-i : goal.invariant-loop-i

@@ -1,5 +1,4 @@
-use Rattle.std.proofs.Common.{List, get_or, refl}
-use Rattle.rds_sync.specs.declared.item.Block.{Block}
+use Rattle.rds_soft.proofs.Names.{List, get_or, refl, Block}
 use Rattle.rds_soft.proofs.AgainLemmas.{list_of_four}
 use Rattle.rds_soft.proofs.again.valid_blocks.Goals as goal
 

@@ -1,5 +1,4 @@
-use Rattle.std.proofs.Common.{◌+◌, ◌*◌, arith}
-use Rattle.std.proofs.lemmas.Simd.{get_or-chunk}
+use Rattle.rds_soft.proofs.Names.{◌+◌, ◌*◌, arith, get_or-chunk}
 use Rattle.rds_soft.proofs.lightest.block_of.Goals as goal
 
 pub returns-clause-each : goal.returns-clause-each

@@ -1,5 +1,4 @@
-use Rattle.std.proofs.Common.{◌≡◌, ◌<◌, length, slice_index, ℕ}
-use Rattle.rds_soft.specs.Inside.Lightest.{of_none}
+use Rattle.rds_soft.proofs.Names.{◌≡◌, ◌<◌, length, slice_index, ℕ, of_none}
 use Rattle.rds_soft.proofs.lightest.fill_first.Given as goal
 
 abbrev pub invariant-loop-sum : goal.invariant-loop-sum

@@ -1,7 +1,4 @@
-use Rattle.std.proofs.Common.{◌≡◌, ℕ, suc, ◌+◌, ◌<◌, List, [], length, get_or, set, sym, subst, ◌∙◌, arith}
-use Rattle.std.proofs.lemmas.List.{get_or-set_same, length-set}
-use Rattle.rds_soft.specs.Inside.Lightest.{effect as the_effect, confidence}
-use Rattle.rds_soft.specs.Inside.Rows.{Follows, AreLeast}
+use Rattle.rds_soft.proofs.Names.{◌≡◌, ℕ, suc, ◌+◌, ◌<◌, List, [], length, get_or, set, sym, subst, ◌∙◌, arith, get_or-set_same, length-set, the_effect, confidence, Follows, AreLeast}
 use Rattle.rds_soft.proofs.RowLemmas.{first_are_least, next_are_least, one_row_more}
 use Rattle.rds_soft.proofs.lightest.fill_rows.Goals as goal
 

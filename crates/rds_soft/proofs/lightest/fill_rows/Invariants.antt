@@ -1,6 +1,4 @@
-use Rattle.std.proofs.Common.{◌≡◌, ◌≤◌, length, get_or, ℕ, []}
-use Rattle.rds_soft.specs.Inside.Lightest.{effect as the_effect, confidence}
-use Rattle.rds_soft.specs.Inside.Rows.{AreLeast}
+use Rattle.rds_soft.proofs.Names.{◌≡◌, ◌≤◌, length, get_or, ℕ, [], the_effect, confidence, AreLeast}
 use Rattle.rds_soft.proofs.lightest.fill_rows.Given as goal
 
 abbrev pub invariant-loop-n : goal.invariant-loop-n

@@ -1,5 +1,4 @@
-use Rattle.std.proofs.Common.{ℕ, ◌+◌, ◌-◌, ◌%◌, get_or, replicate, ap, ◌∙◌, arith, min}
-use Rattle.std.proofs.lemmas.Simd.{length-zip2, get_or-zip2, get_or-replicate}
+use Rattle.rds_soft.proofs.Names.{ℕ, ◌+◌, ◌-◌, ◌%◌, get_or, replicate, ap, ◌∙◌, arith, min, length-zip2, get_or-zip2, get_or-replicate}
 use Rattle.rds_soft.proofs.LaneLemmas.{capped_sum}
 use Rattle.rds_soft.proofs.lightest.heavier.Goals as goal
 

@@ -1,5 +1,4 @@
-use Rattle.std.proofs.Common.{◌≡◌, ℕ, ◌<◌, ◌+◌, ◌*◌, ◌/◌, ◌%◌, List, slice_index, bit_xor, ap, ◌∙◌, arith}
-use Rattle.std.proofs.lemmas.Nat.{xor_lt}
+use Rattle.rds_soft.proofs.Names.{◌≡◌, ℕ, ◌<◌, ◌+◌, ◌*◌, ◌/◌, ◌%◌, List, slice_index, bit_xor, ap, ◌∙◌, arith, xor_lt}
 use Rattle.rds_soft.proofs.LaneLemmas.{sum_turned, turned_within, capped}
 use Rattle.rds_soft.proofs.lightest.next_block.Goals as goal
 

@@ -1,6 +1,4 @@
-use Rattle.std.proofs.Common.{◌≡◌, ℕ, ◌<◌, ◌%◌, List, [], ◌∷◌, get_or, bit_xor, refl, sym, ap, ◌∙◌, arith}
-use Rattle.std.specs.Int.Bits.{xor_zero_r}
-use lib.Lanes.{pick_l}
+use Rattle.rds_soft.proofs.Names.{◌≡◌, ℕ, ◌<◌, ◌%◌, List, [], ◌∷◌, get_or, bit_xor, refl, sym, ap, ◌∙◌, arith, xor_zero_r, pick_l}
 use Rattle.rds_soft.proofs.LaneLemmas.{at_place, swapped}
 use Rattle.rds_soft.proofs.lightest.ones.Goals as goal
 use Rattle.rds_soft.proofs.lightest.ones.Goals.{then-effect-eq1, else-effect-eq1}

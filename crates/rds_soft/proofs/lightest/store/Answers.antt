@@ -1,5 +1,4 @@
-use Rattle.std.proofs.Common.{◌*◌, arith}
-use Rattle.std.proofs.lemmas.Simd.{get_or-put_chunk_at, get_or-put_chunk_below}
+use Rattle.rds_soft.proofs.Names.{◌*◌, arith, get_or-put_chunk_at, get_or-put_chunk_below}
 use Rattle.rds_soft.proofs.lightest.store.Goals as goal
 
 pub returns-clause-here : goal.returns-clause-here

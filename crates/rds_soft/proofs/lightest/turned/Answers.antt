@@ -1,5 +1,4 @@
-use Rattle.std.proofs.Common.{ℕ, ◌<◌, ◌*◌, ◌/◌, ◌%◌, get_or, bit_xor, ap, ◌∙◌, arith}
-use Rattle.std.proofs.lemmas.Nat.{xor_lt}
+use Rattle.rds_soft.proofs.Names.{ℕ, ◌<◌, ◌*◌, ◌/◌, ◌%◌, get_or, bit_xor, ap, ◌∙◌, arith, xor_lt}
 use Rattle.rds_soft.proofs.LaneLemmas.{parts_turn}
 use Rattle.rds_soft.proofs.lightest.turned.Goals as goal
 

@@ -1,5 +1,4 @@
-use Rattle.std.proofs.Common.{◌+◌, ◌-◌, ◌^◌, ◌<◌, arith}
-use Rattle.std.proofs.lemmas.Nat.{xor_lt}
+use Rattle.rds_soft.proofs.Names.{◌+◌, ◌-◌, ◌^◌, ◌<◌, arith, xor_lt}
 use Rattle.rds_soft.proofs.StepLemmas.{is_read, step_turned, step_kept, spent_small, flips_small, kept_small, base_small, power_is}
 use Rattle.rds_soft.proofs.look_back.one_back.Goals as goal
 

@@ -1,6 +1,4 @@
-use Rattle.std.proofs.Common.{◌-◌}
-use Rattle.rds_soft.specs.Inside.Lightest.{effect as the_effect, confidence}
-use Rattle.rds_soft.specs.Inside.Rows.{IsWalk}
+use Rattle.rds_soft.proofs.Names.{◌-◌, the_effect, confidence, IsWalk}
 use Rattle.rds_soft.proofs.look_back.walk_back.Given as goal
 
 abbrev pub invariant-loop-back : goal.invariant-loop-back

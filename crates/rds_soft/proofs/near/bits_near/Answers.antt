@@ -1,7 +1,5 @@
-use Rattle.std.proofs.Common.{◌≡◌, ◌-◌, ◌^◌, ◌∙◌, ℕ, List, ap, ap₂, arith, length, refl}
-use Rattle.std.proofs.lemmas.Bool.{false≢true}
+use Rattle.rds_soft.proofs.Names.{◌≡◌, ◌-◌, ◌^◌, ◌∙◌, ℕ, List, ap, ap₂, arith, length, refl, false≢true, found-of-part}
 use Rattle.rds_live.specs.Gaps.{gaps_within}
-use Rattle.rds_live.proofs.GapParts.{found-of-part}
 use Rattle.rds_soft.proofs.PartLemmas.{bits-are}
 use Rattle.rds_soft.proofs.near.bits_near.Goals as goal
 

@@ -1,14 +1,5 @@
-use Rattle.std.proofs.Common.{◌+◌, ◌^◌, ◌<◌, ◌∷◌, ◌∙◌, [], List, ap, arith, refl, subst, sym, zero}
-use Rattle.std.specs.List.{All}
-use Rattle.rds_stream.specs.Recording.{length_of}
+use Rattle.rds_soft.proofs.Names.{◌+◌, ◌^◌, ◌<◌, ◌∷◌, ◌∙◌, [], List, ap, arith, refl, subst, sym, zero, All, length_of, Item, Group, moved_back, place_of, lawful-back, due-soon, end-early, back-on}
 use Rattle.rds_sync.specs.Advance.{group_item}
-use Rattle.rds_sync.specs.declared.item.Item.{Item}
-use Rattle.rds_sync.specs.declared.item.Item.TheVariants.{Group}
-use Rattle.rds_live.specs.Next.{moved_back}
-use Rattle.rds_live.specs.Places.{place_of}
-use Rattle.rds_live.proofs.Following.{lawful-back}
-use Rattle.rds_live.proofs.ItemPlaces.{due-soon, end-early}
-use Rattle.rds_live.proofs.Pieces.{back-on}
 use Rattle.rds_soft.proofs.near.end_near.Goals as goal
 
 pub group_in-requires-clause-place : goal.group_in-requires-clause-place

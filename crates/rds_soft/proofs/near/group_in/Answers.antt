@@ -1,5 +1,4 @@
-use Rattle.std.proofs.Common.{rules}
-use Rattle.rds_soft.specs.ReadAgain.{item_again}
+use Rattle.rds_soft.proofs.Names.{rules, item_again}
 use Rattle.rds_soft.proofs.near.group_in.Goals as goal
 
 pub unreachable-requires : goal.unreachable-requires

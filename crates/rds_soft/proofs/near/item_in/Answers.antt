@@ -1,5 +1,4 @@
-use Rattle.std.proofs.Common.{◌∙◌, ap, arith}
-use Rattle.rds_soft.specs.Inside.Streams.{place_again}
+use Rattle.rds_soft.proofs.Names.{◌∙◌, ap, arith, place_again}
 use Rattle.rds_soft.proofs.StreamLemmas.{place-stays}
 use Rattle.rds_soft.proofs.near.item_in.Goals as goal
 

@@ -1,5 +1,4 @@
-use Rattle.std.proofs.Common.{◌≡◌, map, take}
-use Rattle.rds_soft.specs.Inside.Streams.{again_in}
+use Rattle.rds_soft.proofs.Names.{◌≡◌, map, take, again_in}
 use Rattle.rds_soft.proofs.near.read_all_again.Given as goal
 
 abbrev pub invariant-loop-item : goal.invariant-loop-item

@@ -1,7 +1,4 @@
-use Rattle.std.proofs.Common.{◌≡◌, ℕ, refl, sym, subst, ◌∙◌}
-use Rattle.rds_code.specs.declared.offset.Offset.TheVariants.{A, B, C, Cx, D}
-use Rattle.rds_code.specs.declared.reading.Wanted.TheVariants.{OnlyC, OnlyCx, Either}
-use Rattle.rds_soft.specs.Inside.Nearer.{AreNearest}
+use Rattle.rds_soft.proofs.Names.{◌≡◌, ℕ, refl, sym, subst, ◌∙◌, A, B, C, Cx, D, OnlyC, OnlyCx, Either, AreNearest}
 use Rattle.rds_soft.proofs.NearestLemmas.{at_one, only_A, only_B, only_C, only_Cx, only_D, A_allowed, B_allowed, D_allowed, is_third, of_third}
 use Rattle.rds_soft.proofs.nearest.nearest_turn.Goals as goal
 

@@ -1,5 +1,4 @@
-use Rattle.std.proofs.Common.{◌<◌, ℕ, sym, subst}
-use Rattle.std.proofs.lemmas.Nat.{xor_lt}
+use Rattle.rds_soft.proofs.Names.{◌<◌, ℕ, sym, subst, xor_lt}
 use Rattle.rds_soft.proofs.NearestLemmas.{word_small}
 use Rattle.rds_soft.proofs.nearest.sum_of.Goals as goal
 

@@ -1,5 +1,4 @@
-use Rattle.std.proofs.Common.{◌<◌, arith, ◌∙◌}
-use Rattle.rds_code.specs.declared.reading.Wanted.TheVariants.{Either}
+use Rattle.rds_soft.proofs.Names.{◌<◌, arith, ◌∙◌, Either}
 use Rattle.rds_soft.proofs.NearestLemmas.{nearer_C, nearer_Cx, renamed}
 use Rattle.rds_soft.proofs.nearest.turn_to_either.Goals as goal
 

@@ -1,5 +1,4 @@
-use Rattle.std.proofs.Common.{◌+◌, ◌-◌, ◌∙◌, ap, arith}
-use Rattle.rds_soft.specs.Inside.Packed.{sign_at}
+use Rattle.rds_soft.proofs.Names.{◌+◌, ◌-◌, ◌∙◌, ap, arith, sign_at}
 use Rattle.rds_soft.proofs.PackLemmas.{bit_between}
 use Rattle.rds_soft.proofs.pack.bits_from.Goals as goal
 

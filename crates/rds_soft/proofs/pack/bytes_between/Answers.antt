@@ -1,8 +1,4 @@
-use Rattle.std.proofs.Common.{◌≡◌, ℕ, zero, suc, ◌+◌, ◌*◌, ◌-◌, ◌/◌, ◌%◌, ◌<◌, List, [], ◌∷◌, arith}
-use Rattle.std.specs.Prelude.{slice_index}
-use Rattle.std.specs.Int.{bit_at}
-use Rattle.rds_soft.specs.ReadAgain.{symbols_of}
-use Rattle.rds_soft.specs.Symbols.{hard_bit}
+use Rattle.rds_soft.proofs.Names.{◌≡◌, ℕ, zero, suc, ◌+◌, ◌*◌, ◌-◌, ◌/◌, ◌%◌, ◌<◌, List, [], ◌∷◌, arith, slice_index, bit_at, symbols_of, hard_bit}
 use Rattle.rds_soft.proofs.PackLemmas.{in_high, in_low, of_bytes}
 use Rattle.rds_soft.proofs.pack.bytes_between.Goals as goal
 

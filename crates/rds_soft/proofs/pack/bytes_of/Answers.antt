@@ -1,5 +1,4 @@
-use Rattle.std.proofs.Common.{◌≡◌, ◌+◌, ◌<◌, ◌∙◌, ℕ, List, ap, arith, length, length-take, slice_index}
-use Rattle.std.proofs.lemmas.List.{get_or-take}
+use Rattle.rds_soft.proofs.Names.{◌≡◌, ◌+◌, ◌<◌, ◌∙◌, ℕ, List, ap, arith, length, length-take, slice_index, get_or-take}
 use Rattle.rds_soft.proofs.PackLemmas.{same_bit}
 use Rattle.rds_soft.proofs.pack.bytes_of.Goals as goal
 

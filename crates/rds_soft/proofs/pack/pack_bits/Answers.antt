@@ -1,8 +1,4 @@
-use Rattle.std.proofs.Common.{◌≡◌, ◌+◌, ◌*◌, ◌<◌, ◌∙◌, ℕ, List, length-append, rules, ap, sym, subst, length}
-use Rattle.std.proofs.lemmas.List.{take_rest}
-use Rattle.rds_stream.specs.Recording.{packed_bit}
-use Rattle.rds_soft.specs.ReadAgain.{symbols_of}
-use Rattle.rds_soft.specs.Symbols.{hard_bit}
+use Rattle.rds_soft.proofs.Names.{◌≡◌, ◌+◌, ◌*◌, ◌<◌, ◌∙◌, ℕ, List, length-append, rules, ap, sym, subst, length, take_rest, packed_bit, symbols_of, hard_bit}
 use Rattle.rds_soft.proofs.PackLemmas.{next_rest, bits_more}
 use Rattle.rds_soft.proofs.pack.pack_bits.Goals as goal
 

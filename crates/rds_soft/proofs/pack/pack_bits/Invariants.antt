@@ -1,7 +1,4 @@
-use Rattle.std.proofs.Common.{◌≡◌, ℕ, ◌+◌, ◌*◌, ◌<◌, length, drop}
-use Rattle.rds_stream.specs.Recording.{packed_bit}
-use Rattle.rds_soft.specs.ReadAgain.{symbols_of}
-use Rattle.rds_soft.specs.Symbols.{hard_bit}
+use Rattle.rds_soft.proofs.Names.{◌≡◌, ℕ, ◌+◌, ◌*◌, ◌<◌, length, drop, packed_bit, symbols_of, hard_bit}
 use Rattle.rds_soft.proofs.pack.pack_bits.Given as goal
 
 abbrev pub invariant-loop-left : goal.invariant-loop-left

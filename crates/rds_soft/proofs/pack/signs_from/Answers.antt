@@ -1,7 +1,4 @@
-use Rattle.std.proofs.Common.{ℕ, ◌∙◌, ap}
-use Rattle.std.specs.Int.{cast_signed, w8}
-use Rattle.std.proofs.lemmas.Simd.{get_or-chunk}
-use Rattle.rds_soft.specs.Symbols.{sign}
+use Rattle.rds_soft.proofs.Names.{ℕ, ◌∙◌, ap, cast_signed, w8, get_or-chunk, sign}
 use Rattle.rds_soft.proofs.pack.signs_from.Goals as goal
 
 pub returns : goal.returns

@@ -1,8 +1,4 @@
-use Rattle.std.proofs.Common.{◌≡◌, ℕ, ◌+◌, ◌-◌, ◌%◌, ◌<◌, ◌++◌, List, Bool, Fits, false, cond, ltb, get_or, map, replicate, refl, ap, ◌∙◌, arith, w8}
-use Rattle.std.specs.Int.{bit_at}
-use lib.Lanes.{pick_l, zip2}
-use Rattle.std.proofs.lemmas.List.{get_or_append_left}
-use Rattle.std.proofs.lemmas.Simd.{Each1-get_or, bit_mask_l, bitmask_splat}
+use Rattle.rds_soft.proofs.Names.{◌≡◌, ℕ, ◌+◌, ◌-◌, ◌%◌, ◌<◌, ◌++◌, List, Bool, Fits, false, cond, ltb, get_or, map, replicate, refl, ap, ◌∙◌, arith, w8, bit_at, pick_l, zip2, get_or_append_left, Each1-get_or, bit_mask_l, bitmask_splat}
 use Rattle.rds_soft.proofs.LaneLemmas.{at_place}
 use Rattle.rds_soft.proofs.PackLemmas.{last_first, sign_by_test}
 use Rattle.rds_soft.proofs.pack.signs_of.Goals as goal

@@ -1,7 +1,4 @@
-use Rattle.std.proofs.Common.{◌≡◌, ◌++◌, ◌+◌, ◌*◌, ◌^◌, ◌∷◌, ◌∙◌, ℕ, List, [], ap, ap₂, append-nil, append_assoc, arith, length, subst, sym, take}
-use Rattle.std.proofs.lemmas.List.{take_all, take_more}
-use Rattle.rds_soft.specs.SoftTotals.{AreAtMost, plus, soft_totals_of}
-use Rattle.rds_soft.specs.declared.soft_item.SoftItem.{SoftItem}
+use Rattle.rds_soft.proofs.Names.{◌≡◌, ◌++◌, ◌+◌, ◌*◌, ◌^◌, ◌∷◌, ◌∙◌, ℕ, List, [], ap, ap₂, append-nil, append_assoc, arith, length, subst, sym, take, take_all, take_more, AreAtMost, plus, soft_totals_of, SoftItem}
 use Rattle.rds_soft.proofs.soft_stream.counted.Goals as goal
 
 pub plus-sum-requires : goal.plus-sum-requires

@@ -1,6 +1,4 @@
-use Rattle.std.proofs.Common.{◌≡◌, ◌++◌, ◌+◌, ◌*◌, ◌^◌, ℕ, List, take}
-use Rattle.rds_soft.specs.SoftTotals.{AreAtMost, soft_totals_of}
-use Rattle.rds_soft.specs.declared.soft_item.SoftItem.{SoftItem}
+use Rattle.rds_soft.proofs.Names.{◌≡◌, ◌++◌, ◌+◌, ◌*◌, ◌^◌, ℕ, List, take, AreAtMost, soft_totals_of, SoftItem}
 use Rattle.rds_soft.proofs.soft_stream.counted.Given as goal
 
 abbrev pub invariant-loop-item : goal.invariant-loop-item

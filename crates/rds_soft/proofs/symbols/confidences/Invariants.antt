@@ -1,5 +1,4 @@
-use Rattle.std.proofs.Common.{◌≡◌, ℕ, ◌<◌, length, slice_index}
-use Rattle.std.specs.Prelude.{pos, slice_index_or}
+use Rattle.rds_soft.proofs.Names.{◌≡◌, ℕ, ◌<◌, length, slice_index, pos, slice_index_or}
 use Rattle.rds_soft.specs.Symbols.{confidence}
 use Rattle.rds_soft.proofs.symbols.confidences.Given as goal
 

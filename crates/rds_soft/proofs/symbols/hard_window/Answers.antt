@@ -1,10 +1,5 @@
-use Rattle.std.proofs.Common.{◌≡◌, ◌+◌, ap, ◌∙◌, arith, rules, add-one, ◌^◌, get_or, bit_xor}
+use Rattle.rds_soft.proofs.Names.{◌≡◌, ◌+◌, ap, ◌∙◌, arith, rules, add-one, ◌^◌, get_or, bit_xor, ℤ, pos, w8, pow-suc, to_z-of_z, sign, hard_bit}
 use mathlib.Core.Path.{ap₂}
-use Rattle.std.specs.Prelude.{ℤ, pos}
-use Rattle.std.specs.Int.{w8}
-use Rattle.std.proofs.Math.Nat.{pow-suc}
-use Rattle.std.proofs.lemmas.Int.{to_z-of_z}
-use Rattle.rds_soft.specs.Symbols.{sign, hard_bit}
 use Rattle.rds_soft.proofs.SymbolLemmas.{bits_more}
 use Rattle.rds_soft.proofs.symbols.hard_window.Goals as goal
 use mir.Val.{SFits}

@@ -1,6 +1,4 @@
-use Rattle.std.proofs.Common.{◌≡◌, ◌^◌, ◌<◌, take}
-use Rattle.std.specs.Int.Digits.{number_from_digits}
-use Rattle.rds_soft.specs.Symbols.{hard_bits}
+use Rattle.rds_soft.proofs.Names.{◌≡◌, ◌^◌, ◌<◌, take, number_from_digits, hard_bits}
 use Rattle.rds_soft.proofs.symbols.hard_window.Given as goal
 
 abbrev pub invariant-loop-i : goal.invariant-loop-i

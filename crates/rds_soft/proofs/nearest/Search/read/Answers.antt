@@ -1,11 +1,5 @@
-use Rattle.std.proofs.Common.{◌≡◌, ℕ, List, sym, subst, arith, bit_xor}
+use Rattle.rds_soft.proofs.Names.{◌≡◌, ℕ, List, sym, subst, arith, bit_xor, xor_lt, Offset, Wanted, IsValid, information, IsNearest, hard_window, confidences}
 use mathlib.Core.Path.{ap₂}
-use Rattle.std.proofs.lemmas.Nat.{xor_lt}
-use Rattle.rds_code.specs.declared.offset.Offset.{Offset}
-use Rattle.rds_code.specs.declared.reading.Wanted.{Wanted}
-use Rattle.rds_code.specs.Reading.{IsValid, information}
-use Rattle.rds_soft.specs.Nearest.{IsNearest}
-use Rattle.rds_soft.specs.Symbols.{hard_window, confidences}
 use Rattle.rds_soft.proofs.nearest.Search.read.Goals as goal
 
 -- what is nearest of equal windows and confidences

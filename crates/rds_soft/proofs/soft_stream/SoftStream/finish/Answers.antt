@@ -1,10 +1,4 @@
-use Rattle.std.proofs.Common.{◌≡◌, ◌++◌, ◌∙◌, ℕ, List, [], ap, ap₂, arith, subst, sym}
-use Rattle.rds_soft.specs.SoftStream.{SoftHeard, SoftTerms, complete, group_item, report_of}
-use Rattle.rds_soft.specs.SoftTotals.{soft_totals_of}
-use Rattle.rds_soft.specs.Inside.Streams.{part_of}
-use Rattle.rds_soft.specs.declared.soft_item.SoftGroup.{SoftGroup}
-use Rattle.rds_soft.specs.declared.soft_item.SoftItem.{SoftItem}
-use Rattle.std.specs.Prelude.{Option}
+use Rattle.rds_soft.proofs.Names.{◌≡◌, ◌++◌, ◌∙◌, ℕ, List, [], ap, ap₂, arith, subst, sym, SoftHeard, SoftTerms, complete, group_item, report_of, soft_totals_of, part_of, SoftGroup, SoftItem, Option}
 use Rattle.rds_soft.proofs.AgainLaws.{symbols_have_windows}
 use Rattle.rds_soft.proofs.StreamLemmas.{closed, early-is, end-long, lawful-is}
 use Rattle.rds_soft.proofs.soft_stream.SoftStream.finish.Goals.{After-end_near-group}

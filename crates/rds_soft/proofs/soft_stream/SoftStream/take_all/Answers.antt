@@ -1,17 +1,4 @@
-use Rattle.std.proofs.Common.{◌≡◌, ◌++◌, ◌+◌, ◌-◌, ◌*◌, ◌^◌, ◌<◌, ◌≤◌, ◌∙◌, ℕ, List, ap, ap₂, arith, length, map, subst, sym}
-use Rattle.std.specs.List.{All}
-use Rattle.std.proofs.lemmas.List.{length-append, length-map}
-use Rattle.rds_stream.specs.Recording.{Signal, length_of}
-use Rattle.rds_sync.specs.Step.{run}
-use Rattle.rds_sync.specs.declared.item.Item.{Item}
-use Rattle.rds_sync.specs.declared.state.State.{State}
-use Rattle.rds_live.specs.Moving.{moved_state}
-use Rattle.rds_live.specs.Next.{moved_back}
-use Rattle.rds_live.specs.Places.{place_of}
-use Rattle.rds_soft.specs.SoftStream.{SoftHeard, SoftTerms, complete, run_of}
-use Rattle.rds_soft.specs.SoftTotals.{soft_totals_of}
-use Rattle.rds_soft.specs.Inside.Streams.{again_in, last_symbols, part_of}
-use Rattle.rds_soft.specs.declared.soft_item.SoftItem.{SoftItem}
+use Rattle.rds_soft.proofs.Names.{◌≡◌, ◌++◌, ◌+◌, ◌-◌, ◌*◌, ◌^◌, ◌<◌, ◌≤◌, ◌∙◌, ℕ, List, ap, ap₂, arith, length, map, subst, sym, All, length-append, length-map, Signal, length_of, run, Item, State, moved_state, moved_back, place_of, SoftHeard, SoftTerms, complete, run_of, soft_totals_of, again_in, last_symbols, part_of, SoftItem}
 use Rattle.rds_soft.proofs.AgainLaws.{symbols_have_windows}
 use Rattle.rds_soft.proofs.StreamLemmas.{at-most-more, before-is, complete-after, d, early-is, few-found, found-early, from, kept, kept-after, lawful-is, part-longer, run-is, state-after}
 use Rattle.rds_soft.proofs.soft_stream.SoftStream.take_all.Goals.{After-deref-4}
