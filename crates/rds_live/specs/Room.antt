@@ -7,11 +7,7 @@ use Rattle.rds_live.specs.Gaps.{gaps_within}
 use Rattle.rds_live.specs.StreamDecoder.{signal_of}
 use Rattle.rds_live.specs.Moving.{IsPartHeard}
 
--- how many bytes of a stream are decoded at once, at most, and how many there is room for, with those that
--- are kept
-abbrev pub most_at_once : ℕ
-most_at_once = 960
-
+-- for how many bytes of a stream there is room, with those that are kept
 abbrev pub most_held : ℕ
 most_held = 990
 

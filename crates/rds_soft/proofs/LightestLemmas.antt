@@ -5,9 +5,6 @@ use Rattle.rds_soft.proofs.Names.{◌≡◌, ℕ, zero, suc, ◌+◌, ◌-◌, �
 pub undone : (a b : ℕ) → bit_xor (bit_xor a b) b ≡ a
 undone a b = xor_assoc a b b ∙ ap (bit_xor a) (xor_self b) ∙ xor_zero_r a
 
-pub undone_left : (a b : ℕ) → bit_xor (bit_xor b a) b ≡ a
-undone_left a b = ap (λ (n : ℕ). bit_xor n b) (xor_comm b a) ∙ undone a b
-
 -- a word of n + 1 bits is its top bit and a word of n bits
 pub record IsSplit (n flips bit rest : ℕ) : Type 0 where
   pub bit_is : (bit ≡ 0) ⊎ (bit ≡ 1)

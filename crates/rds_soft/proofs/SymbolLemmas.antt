@@ -5,9 +5,6 @@ use Rattle.std.proofs.lemmas.Int.Digits.{number_more}
 sign_lt : (r : ℤ) → sign r < 2
 sign_lt r = elim (is_positive r) as (λ b. (if b then 1 else 0) < 2) [ true ↦ lit< tt | false ↦ lit< tt ]
 
-pub hard_bit_lt : (symbols : List ℤ) (i : ℕ) → hard_bit symbols i < 2
-hard_bit_lt symbols i = xor_lt 1 (sign (get_or symbols i (pos 0))) (sign (get_or symbols (i + 1) (pos 0))) (sign_lt (get_or symbols i (pos 0))) (sign_lt (get_or symbols (i + 1) (pos 0)))
-
 pub bit_of : (symbols : List ℤ) (i : ℕ) → i + 1 < length symbols → get_or (hard_bits symbols) i 0 ≡ hard_bit symbols i
 bit_of symbols i within = get_or-map-range_with_len (hard_bit symbols) 0 (length symbols - 1) i i 0 (omega arith) (omega arith)
 
@@ -20,6 +17,3 @@ pub bits_more : (symbols : List ℤ) (i : ℕ) → i + 1 < length symbols
 bits_more symbols i within =
     let more = number_more 2 (hard_bits symbols) i (omega (arith, bit_count symbols)) in
     omega (arith, more, bit_of symbols i within)
-
-pub bits_all : (symbols : List ℤ) → length symbols ≡ 27 → number_from_digits 2 (take 26 (hard_bits symbols)) ≡ hard_window symbols
-bits_all symbols long = ap (number_from_digits 2) (take_all 26 (hard_bits symbols) (omega (arith, bit_count symbols)))

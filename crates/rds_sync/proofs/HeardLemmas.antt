@@ -40,11 +40,6 @@ unfolding has_number
 has_number-heard b i x late =
     ap (λ (o : Option Offset). elim o as (λ _. Bool) [ None ↦ false | Some p ↦ eqb (number p) x ]) (off-heard b i late)
 
--- the same, if h was heard there
-pub good-heard : (b : Signal) (i x : ℕ) (h : Option ℕ) (good : Bool) → 25 ≤ i → h ≡ heard b i → good ≡ is_numbered (offset_heard h) x → good ≡ has_number b i x
-good-heard b i x h good late heard_is good_is =
-    good_is ∙ ap (λ (w : Option ℕ). is_numbered (offset_heard w) x) heard_is ∙ sym (has_number-heard b i x late)
-
 -- a block is valid where its place has its number
 pub good-reading : (b : Signal) (i x : ℕ) (h : Option ℕ) (wanted : Wanted) (limit : ℕ) (read : Reading) → 25 ≤ i → h ≡ heard b i
     → read ≡ reading_heard h x wanted limit → is_valid (Read read) ≡ has_number b i x

@@ -51,10 +51,6 @@ module _ (bits : Option ℕ) (live : LiveOf) (count last : ℕ) (xs : List ℕ) 
   place_is : live.place ≡ 8 * min (whole bits) (length xs)
   place_is = let at = ap (λ (l : LiveOf). l.place) is.heard in omega (arith, at, length-take (whole bits) xs)
 
-  -- there is room for these bytes
-  pub room_left : (k : ℕ) (ys : List ℕ) → k ≡ min (whole bits - count) (length ys) → live.place + 8 * length (take k ys) ≤ 2 ^ 36
-  room_left k ys few = omega (arith, place_is, length-take k ys, few, few_whole bits, is.counts)
-
   -- more bytes came
   pub counted_on : (live' : LiveOf) (count' last' k : ℕ) (ys : List ℕ) → k ≡ min (whole bits - count) (length ys) → HasHeard live' (take (whole bits) xs ++ take k ys)
       → count' ≡ min (count + length ys) (2 ^ 64 - 1) → (whole bits < count → last' ≡ last)

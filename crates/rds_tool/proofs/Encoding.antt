@@ -196,14 +196,6 @@ module _ (groups : List (List ℕ)) (line : List ℕ) (len : ℕ) (text : List �
   faulty_line true has says = all_refused groups (take len line) text hex has.has
   faulty_line false has says = last_is_refused groups (take len line) text hex has.has says
 
--- no text yet
-pub no_text : HasGroups [] [] false []
-no_text hex rest = taken (lines_text hex (lines_of rest)) ∙ ap (λ lines. with_lines hex [] lines) (sym (none_begun (lines_of rest)))
-  where
-    taken : (r : Result (List ℕ) ToolError) → r ≡ and_then r (λ others. Ok ([] ++ others))
-    taken (Ok others) = refl
-    taken (Err error) = refl
-
 -- ---- the text of groups, row by row
 
 module _ (hex : Bool) where

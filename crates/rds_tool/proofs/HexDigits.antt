@@ -88,12 +88,7 @@ even_text text bytes (Some digit) none by = cc none
 pub strange_text : (text : List ℕ) → IsStrangeAfter None text → decoded text ≡ Err HexText
 strange_text text strange = decoded_is text ∙ strange []
 
-pub nothing_decoded : IsDecodedBy None [] [] None
-nothing_decoded more = then_same (bytes_after_of None more)
-
 module _ (text part : List ℕ) where
-  pub still_strange : IsStrangeAfter None text → IsStrangeAfter None (text ++ part)
-  still_strange strange more = ap (bytes_after_of None) (append_assoc text part more) ∙ strange (part ++ more)
 
   module _ (bytes : List ℕ) (half : Option ℕ) (by : IsDecodedBy None text bytes half) where
     first : (more : List ℕ) → bytes_after_of None ((text ++ part) ++ more) ≡ and_then (bytes_after_of half (part ++ more)) (λ rest. Ok (bytes ++ rest))
@@ -180,9 +175,6 @@ module _ (start : Option ℕ) (text now : List ℕ) (at count : ℕ) (high : Opt
     small = has.small;
     rest = λ more. rest_after more true blank;
   }
-
-  pub not_decoded : is_blank (slice_index now at) ≡ false → hex_digit_value (slice_index now at) ≡ None → IsStrangeAfter start text
-  not_decoded blank none more = rest_after more false blank ∙ ap (to_all more) (no_digit high (slice_index now at) _ none)
 
   pub begun : (value : ℕ) → high ≡ None → is_blank (slice_index now at) ≡ false → hex_digit_value (slice_index now at) ≡ Some value → value < 16
       → HasDecoded start text now (at + 1) count (Some value)

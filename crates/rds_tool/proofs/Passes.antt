@@ -36,10 +36,6 @@ prefix_between a b c xs ys zs p q = prefix_more a b c xs (ys ++ zs) p (prefix_wi
 -- ---- a text that is written by two calls
 
 module _ {T E : Type 0} where
-  -- both went well, or the second failed
-  pub ok_more : (r : Result T E) (a b c : Option (List ℕ)) (xs ys zs : List ℕ) → xs ++ ys ≡ zs → Appends a b xs → OnOk r (Appends b c ys) → OnOk r (Appends a c zs)
-  ok_more (Ok x) a b c xs ys zs e p q = subst (λ (ws : List ℕ). Appends a c ws) e (Appends-trans a b c xs ys p q)
-  ok_more (Err x) a b c xs ys zs e p q = tt
 
   pub err_more : (r : Result T E) (a b c : Option (List ℕ)) (xs ys zs : List ℕ) → xs ++ ys ≡ zs → Appends a b xs → OnErr r (AppendsPrefix b c ys) → OnErr r (AppendsPrefix a c zs)
   err_more (Ok x) a b c xs ys zs e p q = tt
@@ -70,20 +66,6 @@ module _ (b : Signal) (rules : RuleNumbers) (len : ℕ) (is : len ≡ length_of 
       ∙ ap (λ (rows : List ℕ). rows ++ totals (d.items ++ items_of_end b rules end)) (sym (flat_map-append row d.items (items_of_end b rules end)))
       ∙ ap (listed_by row totals) (whole_report reports end ends)
 
-  -- it ends lawfully
-  pub lawful_end : RunsAreLawful → (end : State) → end ≡ d.end → IsLawful rules (length_of b) end
-  lawful_end lawful end ends =
-      let last : IsLawful rules len (run b rules Searching 0 (len - 0)).0 = lawful b rules loss Searching 0 len (omega arith) tt in
-      let same : (run b rules Searching 0 (len - 0)).0 ≡ end = sym (ends ∙ ap (λ (e : DecoderOf). e.end) of) in
-      subst (λ (n : ℕ). IsLawful rules n end) is (subst (λ (s : State). IsLawful rules len s) same last)
-
-  -- it has few
-  pub few_items : RunsGiveFewItems → len ≤ 2 ^ 36 → length d.items ≤ 2 ^ 37
-  few_items few most =
-      let bound : length (run b rules Searching 0 (len - 0)).1 ≤ 2 * (len - 0) = few b rules Searching 0 len (omega arith) in
-      let same : length d.items ≡ length (run b rules Searching 0 (len - 0)).1 = ap (λ (e : DecoderOf). length e.items) of in
-      omega (arith, bound, same, most)
-
 -- ---- the rows of a part
 
 module _ (row : Item → List ℕ) where
@@ -96,34 +78,7 @@ module _ (row : Item → List ℕ) where
       ∙ flat_map-append row done (part ++ rest)
       ∙ ap (λ (t : List ℕ). flat_map row done ++ t) (flat_map-append row part rest ∙ ap (λ (xs : List Item). flat_map row xs ++ flat_map row rest) (sym same)))
 
-  -- those of what is done and of a part
-  pub more_rows : (done part slice : List Item) → slice ≡ part → flat_map row done ++ flat_map row slice ≡ flat_map row (done ++ part)
-  more_rows done part slice same = ap (λ (xs : List Item). flat_map row done ++ flat_map row xs) same ∙ sym (flat_map-append row done part)
-
 -- ---- if no part is left
-
--- what is done is all
-pub all_done : (all done left part rest : List Item) (room : ℕ) → all ≡ done ++ left → left ≡ part ++ rest → length part ≡ 0
-    → (rest ≡ []) ⊎ (length part ≡ room) → 0 < room → all ≡ done
-all_done all done left [] rest room first next none (inl ended) some =
-    first ∙ ap (λ (xs : List Item). done ++ xs) (next ∙ ended) ∙ append-nil done
-all_done all done left [] rest room first next none (inr full) some = absurd (omega (arith, full, some))
-all_done all done left (item ∷ part) rest room first next none full some = absurd (omega (arith, none))
-
--- the items that are done, and a part of the rest, are few
-pub few_more : (all done left part rest slice : List Item) → all ≡ done ++ left → left ≡ part ++ rest → slice ≡ part
-    → length all ≤ 2 ^ 37 → length done + length slice ≤ 2 ^ 38
-few_more all done left part rest slice first next same few =
-    let a : length all ≡ length (done ++ left) = ap (λ (xs : List Item). length xs) first in
-    let b : length left ≡ length (part ++ rest) = ap (λ (xs : List Item). length xs) next in
-    let c : length slice ≡ length part = ap (λ (xs : List Item). length xs) same in
-    omega (arith, a, b, c, length-append done left, length-append part rest, few)
-
--- fewer are left after a part that has some
-pub fewer_left : (left part rest : List Item) → left ≡ part ++ rest → (length part ≡ 0 → ⊥) → length rest < length left
-fewer_left left part rest next some =
-    let count : length left ≡ length (part ++ rest) = ap (λ (xs : List Item). length xs) next in
-    omega (arith, count, length-append part rest, some)
 
 -- what is listed last, by the same rows
 pub same_end : (row row' : Item → List ℕ) (totals totals' : List Item → List ℕ) (before items last : List Item) → row' ≡ row → totals' ≡ totals

@@ -79,13 +79,6 @@ name_plain D = refl
 pub shorter : (text : List ℕ) (n : ℕ) → length text ≤ n → leb n 20 ≡ true → IsShort text
 shorter text n few short = omega (arith, few, leb-true n 20 short)
 
-pub name_short : (o : Offset) → IsShort (name o)
-name_short A = omega arith
-name_short B = omega arith
-name_short C = omega arith
-name_short Cx = omega arith
-name_short D = omega arith
-
 or_first : (a b : Bool) → (a || b) ≡ false → a ≡ false
 or_first true b h = cc h
 or_first false b h = refl
@@ -121,13 +114,6 @@ version_plain VA true = refl
 version_plain VB false = refl
 version_plain VB true = refl
 version_plain Unknown conflict = refl
-
-pub version_short : (v : Version) (conflict : Bool) → IsShort (version_text v conflict)
-version_short VA false = omega arith
-version_short VA true = omega arith
-version_short VB false = omega arith
-version_short VB true = omega arith
-version_short Unknown conflict = omega arith
 
 -- the four blocks of a group, one by one
 pub four_blocks : {X : Type 0} (show : X → List ℕ) (bs : List X) (a b c d : X) → length bs ≡ 4

@@ -47,14 +47,6 @@ module _ (b : Signal) where
   places_few [] = omega arith
   places_few (p ∷ places) = omega (arith, one_few (valid_at b p) (filter_map (valid_at b) places), places_few places)
 
-  -- the rows of the places from one up to another
-  pub windows_spelled : (from to : ℕ) → from ≤ to → to ≤ length_of b → concat (take (to - from) (drop from (rows_of_places b))) ≡ flat_map window_row (valid_windows b from to)
-  windows_spelled from to order inside =
-      ap concat (part (λ i. row_where (valid_at b i)) (length_of b) from to order inside) ∙ places_spelled (range_with_len from (to - from))
-
-  pub windows_few : (from to : ℕ) → length (valid_windows b from to) ≤ to - from
-  windows_few from to = omega (arith, places_few (range_with_len from (to - from)), length-range_with_len from (to - from))
-
   -- all of them
   pub scan_spelled : concat (rows_of_places b) ≡ scan_text b
   scan_spelled =

@@ -66,13 +66,6 @@ some_changed f all changed from n e =
 pub each_of_some : {X : Type 0} (P : X → Type 0) (all : List X) (from n : ℕ) → All P all → All P (take n (drop from all))
 each_of_some P all from n each = All-take P n (drop from all) (All-drop P from all each)
 
--- rows of some, none of which is longer than the longest, are no longer than as many of the longest
-pub rows_fit : {X : Type 0} (all : List X) (from n longest : ℕ) (text rows : List ℕ) → longest ≡ 168
-    → length rows ≤ length (take n (drop from all)) * 168 → text ≡ rows → length text ≤ n * longest
-rows_fit all from n longest text rows is short same =
-    let few = length-take n (drop from all) in
-    subst (λ (l : ℕ). length text ≤ n * l) (sym is) (subst (λ (t : List ℕ). length t ≤ n * 168) (sym same) (omega (arith, short, few)))
-
 -- the last field after the others, each of which has a comma after it
 pub joined_last : (fs : List (Bor (List ℕ))) (n : ℕ) (d : Bor (List ℕ)) → length fs ≡ suc n
     → join_with_byte 44 (map (λ f. f.now) fs) ≡ flat_map (λ f. f.now ++ 44 ∷ []) (take n fs) ++ (get_or fs n d).now

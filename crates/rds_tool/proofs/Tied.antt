@@ -22,9 +22,3 @@ pub appends_told : (o n : Option (List ℕ)) (bs : List ℕ) → ∥ Appends o n
 appends_told None n bs t = tt
 appends_told (Some xs) None bs t = let bad : 0 ≡ 1 = ∥∥₁_elim t (Coded-set coded_ℕ 0 1) (λ x. absurd x) in cc bad
 appends_told (Some xs) (Some ys) bs t = ∥∥₁_elim t (Coded-set (coded_list coded_ℕ) _ _) (λ x. x)
-
--- and a write that took no byte
-pub appends_nothing : (a b c : Option (List ℕ)) (xs : List ℕ) (n : ℕ) (ys : List ℕ) → n ≡ 0 → Appends a b xs → Appends b c (take n ys) → Appends a c xs
-appends_nothing a b c xs n ys z p q =
-    let r : Appends b c (take 0 ys) = rw z at q in
-    rw (← append-nil xs) (appends_more a b c xs [] p r)
