@@ -8,7 +8,6 @@ use Rattle.rds_sync.specs.declared.error.SyncError.{SyncError}
 use Rattle.rds_sync.specs.declared.error.SyncError.TheVariants as sync
 use Rattle.rds_tool.specs.Refusals.{of_sync}
 use Rattle.rds_tool.specs.Following.{AllCount, BreaksOff, IsHeardOut, MayBreakOff, listed, most_read}
-use Rattle.rds_tool.specs.Plans.{AreWorkers}
 use Rattle.rds_tool.specs.History.{Gave}
 use Rattle.rds_tool.specs.Outcome.{IsOutside, Writes, WritesPrefix, result_of_job}
 use Rattle.rds_tool.specs.Tasks.{task_of}
@@ -19,7 +18,7 @@ use Rattle.rds_tool.specs.declared.error.ToolError.TheVariants.{BadGaps, BitsPas
 use Rattle.rds_tool.specs.declared.job.Job.{Job}
 use Rattle.rds_tool.specs.SoftFollowing.{AreAsked, IsSoftFollowed, SoftBreaksOff}
 use Rattle.rds_soft.specs.SoftStream.{SoftTerms}
-use Rattle.rds.specs.Session.{IsDone, IsFollowed, IsSoftlyFollowed, RefusesRules, RefusesTerms, RefusesWorkers}
+use Rattle.rds.specs.Session.{BlamesDevices, IsDone, IsFollowed, IsSoftlyFollowed, RefusesRules, RefusesTerms, RefusesWorkers}
 
 -- the bytes given are all bytes given since the reader was made
 gave_all : (given' : List ℕ) (P : List ℕ → Type 0) → Gave [] given' P → P given'
@@ -149,33 +148,15 @@ module _ (terms : Terms) (bits : Option ℕ) (given' : List ℕ) (ended : Bool) 
             (subst (λ g. IfErr answer (BreaksOff (most_read workers) terms bits g given' ended old (Some taken) flushed)) fresh broke);
       }
 
--- rules that are refused, before anything is read
+-- ---- terms that are refused, before anything is read
+
 all_none : (bits : Option ℕ) → AllCount bits []
 all_none None = tt
 all_none (Some n) = let e : 8 * 0 ≤ n = omega arith in e
 
-none_of : (e k : ToolError) → k ≡ e → ((k ≡ Read) ⊎ ((k ≡ Write) ⊎ ((k ≡ TooLong) ⊎ ((k ≡ BitsPastBytes) ⊎ (k ≡ BadGaps)))))
-    → e ≢ Read → e ≢ Write → e ≢ TooLong → e ≢ BitsPastBytes → e ≢ BadGaps → ⊥
-none_of e k is (inl p) a b c d f = a (sym is ∙ p)
-none_of e k is (inr (inl p)) a b c d f = b (sym is ∙ p)
-none_of e k is (inr (inr (inl p))) a b c d f = c (sym is ∙ p)
-none_of e k is (inr (inr (inr (inl p)))) a b c d f = d (sym is ∙ p)
-none_of e k is (inr (inr (inr (inr p)))) a b c d f = f (sym is ∙ p)
-
-is_of_rules : (x : SyncError) (k : ToolError) → (let r : ToolError = of_sync x in r ≡ k) → ((k ≡ Read) ⊎ ((k ≡ Write) ⊎ ((k ≡ TooLong) ⊎ ((k ≡ BitsPastBytes) ⊎ (k ≡ BadGaps))))) → ⊥
-is_of_rules sync.BurstRange k is among = none_of BurstRange k (sym is) among (λ p. cc p) (λ p. cc p) (λ p. cc p) (λ p. cc p) (λ p. cc p)
-is_of_rules sync.ReachRange k is among = none_of ReachRange k (sym is) among (λ p. cc p) (λ p. cc p) (λ p. cc p) (λ p. cc p) (λ p. cc p)
-is_of_rules sync.LossRange k is among = none_of LossRange k (sym is) among (λ p. cc p) (λ p. cc p) (λ p. cc p) (λ p. cc p) (λ p. cc p)
-is_of_rules sync.OutOfMemory k is among = none_of OutOfMemory k (sym is) among (λ p. cc p) (λ p. cc p) (λ p. cc p) (λ p. cc p) (λ p. cc p)
-is_of_rules sync.ShareRange k is among = none_of ShareRange k (sym is) among (λ p. cc p) (λ p. cc p) (λ p. cc p) (λ p. cc p) (λ p. cc p)
-
--- the numbers that are refused by this error, or memory
-abbrev pub IsRefusal : RuleNumbers → SyncError → Type 0
-IsRefusal rules x = (x ≡ sync.OutOfMemory) ⊎ (let e : ToolError = of_sync x in RefusesRules rules e)
-
-no_break : (rules : RuleNumbers) (workers : ℕ) (x : SyncError) → IsRefusal rules x → let e : ToolError = of_sync x in MayBreakOff e ⊎ (RefusesRules rules e ⊎ RefusesWorkers workers e)
-no_break rules workers x (inl memory) = inl (inl (ap of_sync memory))
-no_break rules workers x (inr refused) = inr (inl refused)
+asked_none : (bits : Option ℕ) → AreAsked bits []
+asked_none None = tt
+asked_none (Some n) = let e : 0 ≤ n + 1 = omega arith in e
 
 same_error : (d e : ToolError) → (let r : Result (Unit {0}) ToolError = Err d in r ≡ Err e) → d ≡ e
 same_error d e p = cc p
@@ -183,45 +164,56 @@ same_error d e p = cc p
 none_less : (let n : ℕ = 0 in n < 0) → ⊥
 none_less some = omega (arith, some)
 
--- an error of the request
-stream_refused : (terms : Terms) (bits : Option ℕ) (workers : ℕ) (e : ToolError) → MayBreakOff e ⊎ (RefusesRules terms.rules e ⊎ RefusesWorkers workers e)
-    → ((k : ToolError) → (e ≡ k) → ((k ≡ Read) ⊎ ((k ≡ Write) ⊎ ((k ≡ TooLong) ⊎ ((k ≡ BitsPastBytes) ⊎ (k ≡ BadGaps))))) → ⊥) → IsFollowed [] false 0 [] false 0 (Err e) terms bits workers
-stream_refused terms bits workers e why is_none =
-    let not : (k : ToolError) → ((k ≡ Read) ⊎ ((k ≡ Write) ⊎ ((k ≡ TooLong) ⊎ ((k ≡ BitsPastBytes) ⊎ (k ≡ BadGaps))))) → (e ≡ k) → ⊥ = λ k among is. is_none k is among in
-    record {
-      text = tt;
-      end = tt;
-      flush = tt;
-      devices = record {
-        read = (λ p. absurd (not Read (inl refl) (same_error _ _ p)), λ some. absurd (none_less some));
-        write = (λ p. absurd (not Write (inr (inl refl)) (same_error _ _ p)), λ some. absurd (none_less some));
-      };
-      refused = why;
-      broke_off = record {
-        bytes = [];
-        gave = refl;
-        prompt = λ p. absurd (not Read (inl refl) p);
-        between = λ _. ([], [], omega arith, all_none bits, refl, refl);
-        within = λ p. absurd (not Write (inr (inl refl)) p);
-        too_long = λ p. absurd (not TooLong (inr (inr (inl refl))) p);
-        past = λ p. absurd (not BitsPastBytes (inr (inr (inr (inl refl)))) p);
-        bad_gaps = λ p. absurd (not BadGaps (inr (inr (inr (inr refl)))) p);
-      };
+module _ (rules : RuleNumbers) (workers : ℕ) where
+  refuses_other : (k : ToolError) → k ≢ OutOfMemory → k ≢ CrewRange → (RefusesRules rules k → ⊥) → RefusesTerms rules workers k → ⊥
+  refuses_other k memory crew none (inl p) = memory p
+  refuses_other k memory crew none (inr (inl r)) = none r
+  refuses_other k memory crew none (inr (inr w)) = crew w.0
+
+  broke_of : (e : ToolError) → RefusesTerms rules workers e → MayBreakOff e ⊎ (RefusesRules rules e ⊎ RefusesWorkers workers e)
+  broke_of e (inl memory) = inl (inl memory)
+  broke_of e (inr why) = inr why
+
+  -- the error is none of a device or of a stream
+  module _ (e : ToolError) (why : RefusesTerms rules workers e) where
+    is_not : (k : ToolError) → k ≢ OutOfMemory → k ≢ CrewRange → (RefusesRules rules k → ⊥) → e ≢ k
+    is_not k memory crew none p = refuses_other k memory crew none (subst (λ x. RefusesTerms rules workers x) p why)
+
+    not_read : e ≢ Read
+    not_read = is_not Read (λ p. cc p) (λ p. cc p) (λ r. r)
+
+    not_write : e ≢ Write
+    not_write = is_not Write (λ p. cc p) (λ p. cc p) (λ r. r)
+
+    not_long : e ≢ TooLong
+    not_long = is_not TooLong (λ p. cc p) (λ p. cc p) (λ r. r)
+
+    not_past : e ≢ BitsPastBytes
+    not_past = is_not BitsPastBytes (λ p. cc p) (λ p. cc p) (λ r. r)
+
+    not_gaps : e ≢ BadGaps
+    not_gaps = is_not BadGaps (λ p. cc p) (λ p. cc p) (λ r. r)
+
+    blames_none : BlamesDevices 0 0 (Err e)
+    blames_none = record {
+      read = (λ p. absurd (not_read (same_error _ _ p)), λ some. absurd (none_less some));
+      write = (λ p. absurd (not_write (same_error _ _ p)), λ some. absurd (none_less some));
     }
 
--- `Rules::of` answers this error
+-- the terms are refused by what the rules are
 module _ (T : Type 0) (x : SyncError) where
   abbrev pub IsRefused : SyncError → Type 0
   IsRefused k = let r : Result T SyncError = Err x in IsErrOf r k
 
-rules_refused : (T : Type 0) (rules : RuleNumbers) (x : SyncError)
+pub terms_refused : (T : Type 0) (rules : RuleNumbers) (workers : ℕ) (x : SyncError)
     → (IsRefused T x sync.BurstRange → RefusesRules rules BurstRange) → (IsRefused T x sync.ReachRange → RefusesRules rules ReachRange)
-    → (IsRefused T x sync.LossRange → RefusesRules rules LossRange) → (IsRefused T x sync.ShareRange → RefusesRules rules ShareRange) → IsRefusal rules x
-rules_refused T rules sync.BurstRange burst reach loss share = inr (burst refl)
-rules_refused T rules sync.ReachRange burst reach loss share = inr (reach refl)
-rules_refused T rules sync.LossRange burst reach loss share = inr (loss refl)
-rules_refused T rules sync.OutOfMemory burst reach loss share = inl refl
-rules_refused T rules sync.ShareRange burst reach loss share = inr (share refl)
+    → (IsRefused T x sync.LossRange → RefusesRules rules LossRange) → (IsRefused T x sync.ShareRange → RefusesRules rules ShareRange)
+    → let e : ToolError = of_sync x in RefusesTerms rules workers e
+terms_refused T rules workers sync.BurstRange burst reach loss share = inr (inl (burst refl))
+terms_refused T rules workers sync.ReachRange burst reach loss share = inr (inl (reach refl))
+terms_refused T rules workers sync.LossRange burst reach loss share = inr (inl (loss refl))
+terms_refused T rules workers sync.OutOfMemory burst reach loss share = inl refl
+terms_refused T rules workers sync.ShareRange burst reach loss share = inr (inl (share refl))
 
 -- no device was used
 at_once : (P : List ℕ → Bool → ℕ → List ℕ → Bool → ℕ → Result (Unit {0}) ToolError → Type 0) (e : ToolError) → P [] false 0 [] false 0 (Err e)
@@ -237,92 +229,60 @@ at_once P x all given ended reads taken flushed writes answer a g e r t f w =
     (subst (λ y. P [] false 0 [] false y answer) (sym w)
     (subst (λ y. P [] false 0 [] false 0 y) (sym a) all))))))
 
-pub refused_by_rules : (T : Type 0) (terms : Terms) (bits : Option ℕ) (workers : ℕ) (x : SyncError)
-    → (IsRefused T x sync.BurstRange → RefusesRules terms.rules BurstRange) → (IsRefused T x sync.ReachRange → RefusesRules terms.rules ReachRange)
-    → (IsRefused T x sync.LossRange → RefusesRules terms.rules LossRange) → (IsRefused T x sync.ShareRange → RefusesRules terms.rules ShareRange)
-    → (given : List ℕ) (ended : Bool) (reads : ℕ) (taken : List ℕ) (flushed : Bool) (writes : ℕ) (answer : Result (Unit {0}) ToolError)
-    → answer ≡ Err (of_sync x) → given ≡ [] → ended ≡ false → reads ≡ 0 → taken ≡ [] → flushed ≡ false → writes ≡ 0
-    → IsFollowed given ended reads taken flushed writes answer terms bits workers
-refused_by_rules T terms bits workers x burst reach loss share =
-    at_once (λ given ended reads taken flushed writes answer. IsFollowed given ended reads taken flushed writes answer terms bits workers) (of_sync x) (stream_refused terms bits workers (of_sync x) (no_break terms.rules workers x (rules_refused T terms.rules x burst reach loss share)) (is_of_rules x))
+module _ (terms : Terms) (bits : Option ℕ) (workers : ℕ) (e : ToolError) (why : RefusesTerms terms.rules workers e) where
+  none_followed : IsFollowed [] false 0 [] false 0 (Err e) terms bits workers
+  none_followed = record {
+    text = tt;
+    end = tt;
+    flush = tt;
+    devices = blames_none terms.rules workers e why;
+    refused = broke_of terms.rules workers e why;
+    broke_off = record {
+      bytes = [];
+      gave = refl;
+      prompt = λ p. absurd (not_read terms.rules workers e why p);
+      between = λ _. ([], [], omega arith, all_none bits, refl, refl);
+      within = λ p. absurd (not_write terms.rules workers e why p);
+      too_long = λ p. absurd (not_long terms.rules workers e why p);
+      past = λ p. absurd (not_past terms.rules workers e why p);
+      bad_gaps = λ p. absurd (not_gaps terms.rules workers e why p);
+    };
+  }
 
-pub refused_by_workers : (terms : Terms) (bits : Option ℕ) (workers : ℕ) → (AreWorkers workers → ⊥)
-    → (given : List ℕ) (ended : Bool) (reads : ℕ) (taken : List ℕ) (flushed : Bool) (writes : ℕ) (answer : Result (Unit {0}) ToolError)
-    → answer ≡ Err CrewRange → given ≡ [] → ended ≡ false → reads ≡ 0 → taken ≡ [] → flushed ≡ false → writes ≡ 0
-    → IsFollowed given ended reads taken flushed writes answer terms bits workers
-refused_by_workers terms bits workers outside =
-    at_once (λ given ended reads taken flushed writes answer. IsFollowed given ended reads taken flushed writes answer terms bits workers) CrewRange (stream_refused terms bits workers CrewRange (inr (inr (refl, outside)))
-    (λ k is among. none_of CrewRange k (sym is) among (λ p. cc p) (λ p. cc p) (λ p. cc p) (λ p. cc p) (λ p. cc p)))
+  pub stream_refused : (given : List ℕ) (ended : Bool) (reads : ℕ) (taken : List ℕ) (flushed : Bool) (writes : ℕ) (answer : Result (Unit {0}) ToolError)
+      → answer ≡ Err e → given ≡ [] → ended ≡ false → reads ≡ 0 → taken ≡ [] → flushed ≡ false → writes ≡ 0
+      → IsFollowed given ended reads taken flushed writes answer terms bits workers
+  stream_refused = at_once (λ given ended reads taken flushed writes answer. IsFollowed given ended reads taken flushed writes answer terms bits workers) e none_followed
 
 -- ---- a stream of symbols
 
-not_read : (rules : RuleNumbers) (workers : ℕ) → RefusesTerms rules workers Read → ⊥
-not_read rules workers (inl p) = cc p
-not_read rules workers (inr (inl r)) = r
-not_read rules workers (inr (inr w)) = let p = w.0 in cc p
-
-not_write : (rules : RuleNumbers) (workers : ℕ) → RefusesTerms rules workers Write → ⊥
-not_write rules workers (inl p) = cc p
-not_write rules workers (inr (inl r)) = r
-not_write rules workers (inr (inr w)) = let p = w.0 in cc p
-
-not_long : (rules : RuleNumbers) (workers : ℕ) → RefusesTerms rules workers TooLong → ⊥
-not_long rules workers (inl p) = cc p
-not_long rules workers (inr (inl r)) = r
-not_long rules workers (inr (inr w)) = let p = w.0 in cc p
-
-not_past : (rules : RuleNumbers) (workers : ℕ) → RefusesTerms rules workers BitsPastBytes → ⊥
-not_past rules workers (inl p) = cc p
-not_past rules workers (inr (inl r)) = r
-not_past rules workers (inr (inr w)) = let p = w.0 in cc p
-
-not_gaps : (rules : RuleNumbers) (workers : ℕ) → RefusesTerms rules workers BadGaps → ⊥
-not_gaps rules workers (inl p) = cc p
-not_gaps rules workers (inr (inl r)) = r
-not_gaps rules workers (inr (inr w)) = let p = w.0 in cc p
-
-asked_none : (bits : Option ℕ) → AreAsked bits []
-asked_none None = tt
-asked_none (Some n) = let e : 0 ≤ n + 1 = omega arith in e
-
-broke_of : (rules : RuleNumbers) (workers : ℕ) (e : ToolError) → RefusesTerms rules workers e → MayBreakOff e ⊎ (RefusesRules rules e ⊎ RefusesWorkers workers e)
-broke_of rules workers e (inl memory) = inl (inl memory)
-broke_of rules workers e (inr why) = inr why
-
 module _ (terms : SoftTerms) (bits : Option ℕ) (workers : ℕ) where
-  softly_refused : (e : ToolError) → RefusesTerms terms.rules workers e → IsSoftlyFollowed [] false 0 [] false 0 (Err e) terms bits workers
-  softly_refused e why =
-      let is : (k : ToolError) → (RefusesTerms terms.rules workers k → ⊥) → (e ≡ k) → ⊥ = λ k none p. none (subst (λ x. RefusesTerms terms.rules workers x) p why) in
-      let read = is Read (not_read terms.rules workers) in
-      let write = is Write (not_write terms.rules workers) in
-      record {
-        done = tt;
-        devices = record {
-          read = (λ p. absurd (read (same_error _ _ p)), λ some. absurd (none_less some));
-          write = (λ p. absurd (write (same_error _ _ p)), λ some. absurd (none_less some));
-        };
-        refused = broke_of terms.rules workers e why;
-        broke_off = record {
-          heard = [];
-          last = [];
-          few = omega arith;
-          gave = refl;
-          asked = asked_none bits;
-          prompt = λ p. absurd (read p);
-          between = λ _. refl;
-          within = λ p. absurd (write p);
-          too_long = λ p. absurd (is TooLong (not_long terms.rules workers) p);
-          past = λ p. absurd (is BitsPastBytes (not_past terms.rules workers) p);
-          bad_gaps = λ p. absurd (is BadGaps (not_gaps terms.rules workers) p);
-        };
-      }
+  none_softly : (e : ToolError) → RefusesTerms terms.rules workers e → IsSoftlyFollowed [] false 0 [] false 0 (Err e) terms bits workers
+  none_softly e why = record {
+    done = tt;
+    devices = blames_none terms.rules workers e why;
+    refused = broke_of terms.rules workers e why;
+    broke_off = record {
+      heard = [];
+      last = [];
+      few = omega arith;
+      gave = refl;
+      asked = asked_none bits;
+      prompt = λ p. absurd (not_read terms.rules workers e why p);
+      between = λ _. refl;
+      within = λ p. absurd (not_write terms.rules workers e why p);
+      too_long = λ p. absurd (not_long terms.rules workers e why p);
+      past = λ p. absurd (not_past terms.rules workers e why p);
+      bad_gaps = λ p. absurd (not_gaps terms.rules workers e why p);
+    };
+  }
 
   pub refused_softly : (e : ToolError) → RefusesTerms terms.rules workers e
       → (given : List ℕ) (ended : Bool) (reads : ℕ) (taken : List ℕ) (flushed : Bool) (writes : ℕ) (answer : Result (Unit {0}) ToolError)
       → answer ≡ Err e → given ≡ [] → ended ≡ false → reads ≡ 0 → taken ≡ [] → flushed ≡ false → writes ≡ 0
       → IsSoftlyFollowed given ended reads taken flushed writes answer terms bits workers
   refused_softly e why =
-      at_once (λ given ended reads taken flushed writes answer. IsSoftlyFollowed given ended reads taken flushed writes answer terms bits workers) e (softly_refused e why)
+      at_once (λ given ended reads taken flushed writes answer. IsSoftlyFollowed given ended reads taken flushed writes answer terms bits workers) e (none_softly e why)
 
   pub softly_followed : (given given' : List ℕ) (ended : Bool) (read' reads : ℕ) (old : Option (List ℕ)) (taken : List ℕ) (flushed : Bool) (written' writes : ℕ) (answer : Result (Unit {0}) ToolError)
       → given ≡ [] → read' ≡ 0 → old ≡ Some [] → written' ≡ 0
@@ -343,13 +303,3 @@ module _ (terms : SoftTerms) (bits : Option ℕ) (workers : ℕ) where
     any : (answer : Result (Unit {0}) ToolError) → IfErr answer MayBreakOff → IfErr answer (λ error. MayBreakOff error ⊎ (RefusesRules terms.rules error ⊎ RefusesWorkers workers error))
     any (Ok x) h = tt
     any (Err e) h = inl h
-
--- the terms are refused by what the rules are
-pub terms_refused : (T : Type 0) (rules : RuleNumbers) (workers : ℕ) (x : SyncError)
-    → (IsRefused T x sync.BurstRange → RefusesRules rules BurstRange) → (IsRefused T x sync.ReachRange → RefusesRules rules ReachRange)
-    → (IsRefused T x sync.LossRange → RefusesRules rules LossRange) → (IsRefused T x sync.ShareRange → RefusesRules rules ShareRange)
-    → let e : ToolError = of_sync x in RefusesTerms rules workers e
-terms_refused T rules workers x burst reach loss share = by (rules_refused T rules x burst reach loss share) where
-  by : IsRefusal rules x → let e : ToolError = of_sync x in RefusesTerms rules workers e
-  by (inl memory) = inl (ap of_sync memory)
-  by (inr refused) = inr (inl refused)

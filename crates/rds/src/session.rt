@@ -117,29 +117,23 @@ fn run_stream<C: Threads + Sync>(
     requires writer { IsUnwritten writer }
     ensures { HasFollowed (record { rules = numbers; gaps = input.now.gaps }) input.now.bits workers result }
 {
-    match Rules::of(alloc, numbers) {
-        Ok(rules) => follow_if_few(alloc, crew, reader, writer, input, &rules, workers),
-        Err(error) => refused_session(reader, writer, ToolError::from(error)),
+    match rules_for(alloc, numbers, workers) {
+        Ok(rules) => follow_by(alloc, crew, reader, writer, input, &rules, workers),
+        Err(error) => refused_session(reader, writer, error),
     }
 }
 
-/// Lists a stream by these rules, if the number of workers is within its range.
-fn follow_if_few<C: Threads + Sync>(
-    alloc: Global,
-    crew: &C,
-    reader: Sealed<FromRead<Stdin>>,
-    writer: Sealed<ToWrite<Stdout>>,
-    input: &Input,
-    rules: &Rules,
-    workers: u32,
-) -> Session
-    requires reader { IsUnread reader }
-    requires writer { IsUnwritten writer }
-    ensures { HasFollowed (record { rules = rules.now; gaps = input.now.gaps }) input.now.bits workers result }
+/// The rules of these numbers, unless they or the number of workers are out of range.
+fn rules_for(alloc: Global, asked: RuleNumbers, workers: u32) -> Result<Rules, ToolError>
+    ensures numbers { IfOk result (λ rules. rules ≡ asked) }
+    ensures refused { IfErr result (RefusesTerms asked workers) }
 {
-    match check_workers(workers) {
-        Ok(()) => follow_by(alloc, crew, reader, writer, input, rules, workers),
-        Err(error) => refused_session(reader, writer, error),
+    match Rules::of(alloc, asked) {
+        Ok(rules) => {
+            check_workers(workers)?;
+            Ok(rules)
+        }
+        Err(error) => Err(ToolError::from(error)),
     }
 }
 
@@ -153,6 +147,7 @@ fn check_workers(workers: u32) -> Result<(), ToolError>
     Ok(())
 }
 
+/// Follows a stream by these rules.
 fn follow_by<C: Threads + Sync>(
     alloc: Global,
     crew: &C,
@@ -202,20 +197,6 @@ fn run_soft_stream(
     match rules_for(alloc, numbers, workers) {
         Ok(rules) => follow_softly(alloc, reader, writer, input, &rules, margin, workers),
         Err(error) => refused_session(reader, writer, error),
-    }
-}
-
-/// The rules of these numbers, unless they or the number of workers are out of range.
-fn rules_for(alloc: Global, asked: RuleNumbers, workers: u32) -> Result<Rules, ToolError>
-    ensures numbers { IfOk result (λ rules. rules ≡ asked) }
-    ensures refused { IfErr result (RefusesTerms asked workers) }
-{
-    match Rules::of(alloc, asked) {
-        Ok(rules) => {
-            check_workers(workers)?;
-            Ok(rules)
-        }
-        Err(error) => Err(ToolError::from(error)),
     }
 }
 
