@@ -1,30 +1,7 @@
 -- Recordings that are heard alike have one report.
-use Rattle.std.proofs.Common.{◌≡◌, ℕ, zero, suc, ◌+◌, ◌-◌, ◌*◌, ◌/◌, ◌%◌, ◌<◌, ◌≤◌, ◌++◌, List, [], ◌∷◌, Bool, true, false, Option, Some, None, drop, take, length, map, refl, sym, ap, ap₂, ◌∙◌, subst, arith, inl}
-use Rattle.std.proofs.lemmas.Bool.{or_parts}
-use Rattle.std.proofs.lemmas.Bool.Decides.{nat_tests}
-use Rattle.std.proofs.lemmas.List.{length-append}
-use Rattle.std.proofs.lemmas.List.FromFn.{length-map-range_with_len}
-use Rattle.std.proofs.Math.ListN.{get_or-append}
-use Rattle.std.specs.Int.{bit_at}
+use Rattle.rds_tool.proofs.Names.{◌≡◌, ℕ, zero, suc, ◌+◌, ◌-◌, ◌*◌, ◌/◌, ◌%◌, ◌<◌, ◌≤◌, ◌++◌, List, [], ◌∷◌, Bool, true, false, Option, Some, None, drop, take, length, map, refl, sym, ap, ap₂, ◌∙◌, subst, arith, inl, or_parts, nat_tests, length-append, length-map-range_with_len, get_or-append, bit_at, list_any, range_with_len, nat_le, nat_lt, ◌&&◌, EndsMove, IsPartHeard, RunsMove, moved_item, moved_items, moved_state, Terms, complete, run_of, signal_at, signal_of, Signal, bits_of, heard, is_touched_by, length_of, packed_bit, touched, window, RunsAreLawful, RunsAreReports, RunsJoin, IsLawful, IsLossRule, report_items, RuleNumbers, items_of_end, run, Item, Acquired, Group, LostLock, Lock, State, Locked, Searching, DifferInGaps, is_in_gap}
 use Rattle.std.specs.Int.Digits.{number_from_digits}
-use Rattle.std.specs.List.{list_any, range_with_len}
-use Rattle.std.specs.Prelude.{nat_le, nat_lt, ◌&&◌}
-use Rattle.rds_live.specs.Moving.{EndsMove, IsPartHeard, RunsMove, moved_item, moved_items, moved_state}
-use Rattle.rds_live.specs.StreamDecoder.{Terms, complete, run_of, signal_at, signal_of}
-use Rattle.rds_stream.specs.Recording.{Signal, bits_of, heard, is_touched_by, length_of, packed_bit, touched, window}
-use Rattle.rds_sync.specs.Laws.{RunsAreLawful, RunsAreReports, RunsJoin}
-use Rattle.rds_sync.specs.Lawful.{IsLawful}
-use Rattle.rds_sync.specs.Loss.{IsLossRule}
 use Rattle.rds_sync.specs.Ranges.{farthest_reach}
-use Rattle.rds_sync.specs.Report.{report_items}
-use Rattle.rds_sync.specs.Rules.{RuleNumbers}
-use Rattle.rds_sync.specs.Step.{items_of_end, run}
-use Rattle.rds_sync.specs.declared.item.Item.{Item}
-use Rattle.rds_sync.specs.declared.item.Item.TheVariants.{Acquired, Group, LostLock}
-use Rattle.rds_sync.specs.declared.lock.Lock.{Lock}
-use Rattle.rds_sync.specs.declared.state.State.{State}
-use Rattle.rds_sync.specs.declared.state.State.TheVariants.{Locked, Searching}
-use Rattle.rds_tool.specs.WellFormed.{DifferInGaps, is_in_gap}
 
 -- ---- windows
 

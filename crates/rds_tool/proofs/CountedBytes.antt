@@ -1,15 +1,5 @@
 -- A recording that is counted while its bytes come.
-use Rattle.std.proofs.Common.{◌≡◌, ◌<◌, ◌≤◌, ◌+◌, ◌-◌, ◌*◌, ◌^◌, ◌++◌, ◌∷◌, ◌∙◌, ℕ, Bool, Err, List, [], None, Ok, Option, Result, Some, ap, arith, drop, false, if◌then◌else◌, inl, inr, length, length-append, min, refl, slice_index, sym, subst, take, true}
-use Rattle.std.specs.Prelude.{is_some}
-use Rattle.std.proofs.Math.Seq.{take-append-add}
-use Rattle.std.proofs.lemmas.Bool.{cases_lt, le-ltb, lt-ltb}
-use Rattle.std.proofs.lemmas.List.{append-nil, get_or_append_left, get_or-append_right, length-take, take-append-drop, take-append-le, take_all, take_more}
-use Rattle.rds_live.specs.StreamDecoder.{HasHeard, LiveOf}
-use Rattle.rds_stream.specs.Recording.{AreGaps, bits_of}
-use Rattle.rds_tool.specs.Input.{claimed, decoded, first_bits, may_be_gaps}
-use Rattle.rds_tool.specs.Inside.Counters.{IsCounter, IsTextOf, claimed_by, whole}
-use Rattle.rds_tool.specs.declared.error.ToolError.{ToolError}
-use Rattle.rds_tool.specs.declared.error.ToolError.TheVariants.{BadGaps, BitsPastBytes, HexText, TooLong}
+use Rattle.rds_tool.proofs.Names.{◌≡◌, ◌<◌, ◌≤◌, ◌+◌, ◌-◌, ◌*◌, ◌^◌, ◌++◌, ◌∷◌, ◌∙◌, ℕ, Bool, Err, List, [], None, Ok, Option, Result, Some, ap, arith, drop, false, if◌then◌else◌, inl, inr, length, length-append, min, refl, slice_index, sym, subst, take, true, is_some, take-append-add, cases_lt, le-ltb, lt-ltb, append-nil, get_or_append_left, get_or-append_right, length-take, take-append-drop, take-append-le, take_all, take_more, HasHeard, LiveOf, AreGaps, bits_of, claimed, decoded, first_bits, may_be_gaps, IsCounter, IsTextOf, claimed_by, whole, ToolError, BadGaps, BitsPastBytes, HexText, TooLong}
 use Rattle.rds_tool.proofs.Followed.{front_bits}
 use Rattle.rds_tool.proofs.GapLists.{are_gaps, pass_as_gaps}
 use Rattle.rds_tool.proofs.HexDigits.{even_text, odd_text, strange_text}

@@ -1,11 +1,6 @@
 -- Inner cuts are a cutting with the two ends of the recording, and nothing else is.
-use Rattle.std.proofs.Common.{◌&&◌, ◌++◌, ◌+◌, ◌-◌, ◌<◌, ◌∷◌, ◌≡◌, ℕ, Bool, List, [], arith, false, get_or, length, refl, subst, suc, true, zero}
+use Rattle.rds_tool.proofs.Names.{◌&&◌, ◌++◌, ◌+◌, ◌-◌, ◌<◌, ◌∷◌, ◌≡◌, ℕ, Bool, List, [], arith, false, get_or, length, refl, subst, suc, true, zero, slice_index, lt-ltb, ltb-true, get_or_push, length_push, IsCutting, are_inner, places_at, rise_between}
 use Rattle.std.specs.List.Sorted.{IsStrictlyIncreasing}
-use Rattle.std.specs.Prelude.{slice_index}
-use Rattle.std.proofs.lemmas.Bool.{lt-ltb, ltb-true}
-use Rattle.std.proofs.lemmas.List.{get_or_push, length_push}
-use Rattle.rds_pieces.specs.Cutting.{IsCutting}
-use Rattle.rds_tool.specs.Cuts.{are_inner, places_at, rise_between}
 
 pub and_both : (a b : Bool) → (a && b) ≡ true → (a ≡ true) × (b ≡ true)
 and_both true b h = (refl, h)

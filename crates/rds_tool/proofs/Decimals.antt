@@ -1,9 +1,5 @@
 -- Decimal numbers, some digits at a time.
-use Rattle.std.proofs.Common.{◌*◌, ◌+◌, ◌++◌, ◌/◌, ◌%◌, ◌∙◌, ◌∷◌, ◌≡◌, ◌<◌, ◌≤◌, ◌^◌, List, [], ap, ap₂, append-nil, append_assoc, arith, length, mul_assoc, refl, suc, sym, take, zero, ℕ}
-use Rattle.std.specs.Prelude.{decimal}
-use Rattle.std.proofs.lemmas.Fmt.{decimal_digit, decimal_step}
-use Rattle.std.proofs.lemmas.Grind.{common_steps}
-use Rattle.std.proofs.lemmas.List.{take-append-le, take_all}
+use Rattle.rds_tool.proofs.Names.{◌*◌, ◌+◌, ◌++◌, ◌/◌, ◌%◌, ◌∙◌, ◌∷◌, ◌≡◌, ◌<◌, ◌≤◌, ◌^◌, List, [], ap, ap₂, append-nil, append_assoc, arith, length, mul_assoc, refl, suc, sym, take, zero, ℕ, decimal, decimal_digit, decimal_step, common_steps, take-append-le, take_all}
 use Rattle.rds_tool.specs.Inside.Digits.{last_digits}
 
 digits_length : (k n : ℕ) → length (last_digits k n) ≡ k

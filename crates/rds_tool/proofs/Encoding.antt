@@ -1,18 +1,7 @@
 -- Groups of lines whose text goes on.
-use Rattle.std.proofs.Common.{◌+◌, ◌++◌, ◌<◌, ◌≤◌, ◌==◌, ◌%◌, ◌/◌, ◌∙◌, ◌∷◌, ◌≡◌, ◌≢◌, Bool, Err, List, Ok, Result, [], ap, ap₂, append-nil, append_assoc, arith, drop, false, get_or, if◌then◌else◌, length, length-append, map, length-take, not, refl, set, subst, sym, take, true, ◌||◌, ℕ}
-use Rattle.std.specs.List.{concat, filter, flat_map, onto_first, slice_split}
-use Rattle.std.proofs.lemmas.Bool.{eqb-false, ne_eqb}
-use Rattle.std.proofs.lemmas.Grind.{flat_map-append, take-set_at}
-use Rattle.std.proofs.lemmas.List.{drop-map, length-set, take-map, take_all, take_more}
+use Rattle.rds_tool.proofs.Names.{◌+◌, ◌++◌, ◌<◌, ◌≤◌, ◌==◌, ◌%◌, ◌/◌, ◌∙◌, ◌∷◌, ◌≡◌, ◌≢◌, Bool, Err, List, Ok, Result, [], ap, ap₂, append-nil, append_assoc, arith, drop, false, get_or, if◌then◌else◌, length, length-append, map, length-take, not, refl, set, subst, sym, take, true, ◌||◌, ℕ, concat, filter, flat_map, onto_first, slice_split, eqb-false, ne_eqb, flat_map-append, take-set_at, drop-map, length-set, take-map, take_all, take_more, decode_pairs, FromHexError, InvalidStringLength, OddLength, encoded_text, group_text, is_space, line_text, lines_of, lines_text, words_of, words_or_refusal, and_then, ToolError, GroupText}
 use Rattle.std.proofs.lemmas.List.Splits.{length-slice_split}
-use Rattle.hex.specs.Hex.{decode_pairs}
-use Rattle.hex.specs.declared.error.FromHexError.{FromHexError}
-use Rattle.hex.specs.declared.error.FromHexError.TheVariants.{InvalidStringLength, OddLength}
-use Rattle.rds_tool.specs.GroupText.{encoded_text, group_text, is_space, line_text, lines_of, lines_text, words_of, words_or_refusal}
-use Rattle.rds_tool.specs.Input.{and_then}
 use Rattle.rds_tool.specs.Inside.GroupLines.{AddsLine, HasGroups, IsGroupLines, begun, text_of_groups, with_lines}
-use Rattle.rds_tool.specs.declared.error.ToolError.{ToolError}
-use Rattle.rds_tool.specs.declared.error.ToolError.TheVariants.{GroupText}
 
 -- ---- the lines of a text with one byte before it
 

@@ -1,32 +1,6 @@
 -- The progress of a stream so far, and where it breaks off.
-use Rattle.std.proofs.Common.{◌≡◌, ◌≢◌, ◌+◌, ◌-◌, ◌*◌, ◌/◌, ◌%◌, ◌^◌, ◌<◌, ◌≤◌, ◌++◌, ◌⊎◌, ◌↔◌, ℕ, List, [], ◌∷◌, Err, None, Ok, Option, Result, Some, eqb, false, inl, inr, length, map, min, take, refl, sym, zero, suc, ap, ap₂, ◌∙◌, subst, arith, append_assoc}
-use Rattle.std.specs.Prelude.{IfErr, IfSome, OnErr, OnOk}
-use Rattle.std.specs.Int.{bit_at}
-use Rattle.std.specs.List.{flat_map, range_with_len}
-use Rattle.std.specs.Io.KnownBytes.{Appends, Consumes, IsAtEnd, Keeps}
-use Rattle.std.proofs.KnownBytes.{Appends-nil, Appends-trans, Consumes-kept, Consumes-nil, Consumes-trans}
-use Rattle.std.proofs.Math.ListN.{get_or-append}
-use Rattle.std.proofs.lemmas.Bool.{eqb-false, le-ltb}
-use Rattle.std.proofs.lemmas.Grind.{flat_map-append}
-use Rattle.std.proofs.lemmas.List.{append-nil, length-append, length-take, nil_from_length}
-use Rattle.std.proofs.lemmas.List.FromFn.{length-map-range_with_len}
-use Rattle.rds_live.specs.StreamDecoder.{LiveOf, HasHeard, Terms, complete, live_of, report_at, run_of, signal_at, signal_of}
-use Rattle.rds_stream.specs.Recording.{AreGaps, bits_of, length_of, packed_bit}
-use Rattle.rds_sync.specs.declared.item.Item.{Item}
-use Rattle.rds_sync.specs.declared.state.State.TheVariants.{Searching}
-use Rattle.rds_sync.specs.Laws.{RunsAreReports}
-use Rattle.rds_sync.specs.Loss.{IsLossRule}
-use Rattle.rds_sync.specs.Step.{items_of_end, run}
-use Rattle.rds_sync.specs.declared.totals.Totals.{Totals}
-use Rattle.rds_sync.specs.Totals.{totals_of}
-use Rattle.rds_tool.specs.Following.{AllCount, EndsShort, IsReadAsFar, IsTooLong, MayBreakEarly, MayBreakOff, StopsBetweenRows, StopsInRows, counted, listed, most_read, rows_so_far, stream_text}
-use Rattle.rds_tool.specs.Input.{and_then, claimed, first_bits}
-use Rattle.rds_tool.specs.Inside.Streams.{IsFollowed, IsNearEnd, IsPlaceOf, IsShortEnough, bits_left}
-use Rattle.rds_tool.specs.Listing.{item_row, report_text, totals_text}
-use Rattle.rds_tool.specs.Outcome.{Writes, WritesPrefix, list_text}
+use Rattle.rds_tool.proofs.Names.{◌≡◌, ◌≢◌, ◌+◌, ◌-◌, ◌*◌, ◌/◌, ◌%◌, ◌^◌, ◌<◌, ◌≤◌, ◌++◌, ◌⊎◌, ◌↔◌, ℕ, List, [], ◌∷◌, Err, None, Ok, Option, Result, Some, eqb, false, inl, inr, length, map, min, take, refl, sym, zero, suc, ap, ap₂, ◌∙◌, subst, arith, append_assoc, IfErr, IfSome, OnErr, OnOk, bit_at, flat_map, range_with_len, Appends, Consumes, IsAtEnd, Keeps, Appends-nil, Appends-trans, Consumes-kept, Consumes-nil, Consumes-trans, get_or-append, eqb-false, le-ltb, flat_map-append, append-nil, length-append, length-take, nil_from_length, length-map-range_with_len, LiveOf, HasHeard, Terms, complete, live_of, report_at, run_of, signal_at, signal_of, AreGaps, bits_of, length_of, packed_bit, Item, Searching, RunsAreReports, IsLossRule, items_of_end, run, Totals, totals_of, AllCount, EndsShort, IsReadAsFar, IsTooLong, MayBreakEarly, MayBreakOff, StopsBetweenRows, StopsInRows, counted, listed, most_read, rows_so_far, stream_text, and_then, claimed, first_bits, IsFollowed, IsNearEnd, IsPlaceOf, IsShortEnough, bits_left, item_row, report_text, totals_text, Writes, WritesPrefix, list_text, ToolError, BadGaps, BitsPastBytes, OutOfMemory, Read, TooLong, Write}
 use Rattle.rds_tool.specs.Refusals.{number_of}
-use Rattle.rds_tool.specs.declared.error.ToolError.{ToolError}
-use Rattle.rds_tool.specs.declared.error.ToolError.TheVariants.{BadGaps, BitsPastBytes, OutOfMemory, Read, TooLong, Write}
 use Rattle.rds_tool.proofs.GapLists.{pass_as_gaps}
 use Rattle.rds_tool.proofs.Passing.{passed_kind}
 

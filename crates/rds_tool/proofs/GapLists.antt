@@ -1,11 +1,5 @@
 -- Whether gaps may be a recording's, by tests from one to the next and by the list as a whole.
-use Rattle.std.proofs.Common.{◌+◌, ◌<◌, ◌≤◌, ◌∷◌, ◌≡◌, ℕ, List, [], arith, length, refl, subst, suc, true, zero}
-use Rattle.std.specs.List.{All, AllAdjacentBelow}
-use Rattle.std.specs.Prelude.{slice_index_or}
-use Rattle.std.proofs.lemmas.Bool.{le-leb, leb-true, lt-ltb, ltb-true}
-use Rattle.std.proofs.lemmas.List.Elements.{All-cons, All-head, All-nil, All-tail}
-use Rattle.rds_stream.specs.Recording.{AreGaps}
-use Rattle.rds_tool.specs.Input.{may_be_gaps}
+use Rattle.rds_tool.proofs.Names.{◌+◌, ◌<◌, ◌≤◌, ◌∷◌, ◌≡◌, ℕ, List, [], arith, length, refl, subst, suc, true, zero, All, AllAdjacentBelow, slice_index_or, le-leb, leb-true, lt-ltb, ltb-true, All-cons, All-head, All-nil, All-tail, AreGaps, may_be_gaps}
 use Rattle.rds_tool.proofs.Cuttings.{and_both, both_and}
 
 abbrev Lies : ℕ → ℕ × ℕ → Type 0

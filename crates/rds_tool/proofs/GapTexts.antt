@@ -1,14 +1,5 @@
 -- Gaps that texts spell: each place, and one gap after the other.
-use Rattle.std.proofs.Common.{◌+◌, ◌++◌, ◌<◌, ◌≤◌, ◌^◌, ◌&&◌, ◌∙◌, ◌∷◌, ◌≡◌, Bor, List, None, Result, Ok, Err, true, false, arith, Option, Some, [], ap, append_assoc, drop, get_or, length, map, refl, sym, ℕ}
-use Rattle.std.specs.Char.{is_ascii_digit}
-use Rattle.std.specs.List.{list_all}
-use Rattle.std.specs.Result.{OkIff, result_ok}
-use Rattle.std.specs.Str.{all_ascii_digits}
-use Rattle.std.specs.Str.Parse.{ParsesUnsigned, digits_value}
-use Rattle.std.proofs.lemmas.Bool.Decides.{nat_tests}
-use Rattle.std.proofs.lemmas.List.{append-nil, drop_all, drop_more}
-use Rattle.std.proofs.lemmas.Str.Parse.{IsNumeralModel, digits_value_short, numerals_by_value, parse_digits, tells_all_ascii_digits}
-use Rattle.rds_tool.specs.GapText.{and_gaps, each_gap, gap_of, is_place, place_of}
+use Rattle.rds_tool.proofs.Names.{◌+◌, ◌++◌, ◌<◌, ◌≤◌, ◌^◌, ◌&&◌, ◌∙◌, ◌∷◌, ◌≡◌, Bor, List, None, Result, Ok, Err, true, false, arith, Option, Some, [], ap, append_assoc, drop, get_or, length, map, refl, sym, ℕ, is_ascii_digit, list_all, OkIff, result_ok, all_ascii_digits, ParsesUnsigned, digits_value, nat_tests, append-nil, drop_all, drop_more, IsNumeralModel, digits_value_short, numerals_by_value, parse_digits, tells_all_ascii_digits, and_gaps, each_gap, gap_of, is_place, place_of}
 
 -- ---- places
 

@@ -1,14 +1,7 @@
 -- What the typed getters read, by the rows of a parse.
-use Rattle.std.proofs.Common.{◌<◌, ◌≤◌, ◌^◌, ◌≡◌, ◌⊎◌, inr, arith, ◌∙◌, ℕ, List, [], Bool, Bor, Option, Some, None, Result, Ok, Err, sym, refl, codes, ap, true, false, if◌then◌else◌}
-use Rattle.std.specs.Global.{Vec}
-use Rattle.std.specs.Option.{ok_or, option_map}
-use Rattle.std.specs.Prelude.{IfErr, IfOk, find, option_and_then}
-use Rattle.std.specs.Str.{bytes_eq}
-use Rattle.std.specs.Result.{result_ok}
+use Rattle.rds_tool.proofs.Names.{◌<◌, ◌≤◌, ◌^◌, ◌≡◌, ◌⊎◌, inr, arith, ◌∙◌, ℕ, List, [], Bool, Bor, Option, Some, None, Result, Ok, Err, sym, refl, codes, ap, true, false, if◌then◌else◌, Vec, ok_or, option_map, IfErr, IfOk, find, option_and_then, bytes_eq, result_ok, ExplainsUnsignedError, HasUnsignedDigitsIfOk, ParsesUnsigned, digits_value, without_leading_plus, ReadsOne, Row, Text, TriesOne, first_of, first_value, matched_of, one_of, one_text, rows_of, ValueSource, gaps_asked_for, gaps_spelled, if_given, is_given, is_of_words, is_true, number_of, number_up_to, gaps_of}
 use Rattle.std.specs.declared.num.ParseIntError.{ParseIntError}
-use Rattle.std.specs.Str.Parse.{ExplainsUnsignedError, HasUnsignedDigitsIfOk, ParsesUnsigned, digits_value, without_leading_plus}
 use Rattle.clap.specs.ValueTests.{is_unsigned_in}
-use Rattle.clap.specs.Words.{ReadsOne, Row, Text, TriesOne, first_of, first_value, matched_of, one_of, one_text, rows_of}
 use Rattle.clap.specs.Facts.{Entry}
 use Rattle.clap.specs.Walk.{row_of}
 use Rattle.clap.specs.declared.builder.value_parser.ValueParser.TheVariants as parser
@@ -16,9 +9,6 @@ use Rattle.clap.specs.declared.parser.matches.Found.{Found}
 use Rattle.clap.specs.declared.parser.matches.MatchedArg.{MatchedArg}
 use Rattle.clap.proofs.ValueTestLemmas.{Accepts-accepts, accepts-Accepts}
 use Rattle.clap.proofs.WalkLemmas.{find_row, first_value-rows, one_text-rows}
-use Rattle.clap.specs.declared.parser.matches.ValueSource.{ValueSource}
-use Rattle.rds_tool.specs.CommandLine.{gaps_asked_for, gaps_spelled, if_given, is_given, is_of_words, is_true, number_of, number_up_to}
-use Rattle.rds_tool.specs.GapText.{gaps_of}
 use Rattle.rds_tool.specs.declared.fault.NoJob.{NoJob}
 use Rattle.rds_tool.specs.declared.fault.NoJob.TheVariants.{Gaps, Memory}
 

@@ -1,7 +1,5 @@
 -- The row of a group, put together field by field.
-use Rattle.std.proofs.Common.{◌++◌, ◌∙◌, ◌∷◌, ◌≡◌, List, [], ap, append_assoc, codes, sym, ℕ}
-use Rattle.std.specs.List.{join_with_byte}
-use Rattle.rds_tool.specs.Listing.{row}
+use Rattle.rds_tool.proofs.Names.{◌++◌, ◌∙◌, ◌∷◌, ◌≡◌, List, [], ap, append_assoc, codes, sym, ℕ, join_with_byte, row}
 
 module _ (whole : List ℕ) where
   -- the last field, and the line feed

@@ -1,18 +1,6 @@
 -- The bytes of hexadecimal text, digit by digit.
-use Rattle.std.proofs.Common.{◌%◌, ◌*◌, ◌+◌, ◌++◌, ◌<◌, ◌==◌, ◌∙◌, ◌∷◌, ◌≡◌, ◌≤◌, Bool, Err, List, None, Ok, Option, Result, Some, [], ap, append_assoc, arith, cond, drop, false, if◌then◌else◌, length, not, refl, set, slice_index, suc, sym, take, true, ℕ}
-use Rattle.std.specs.Prelude.{IfSome, is_some}
-use Rattle.std.specs.List.{filter}
-use Rattle.std.proofs.Math.Seq.{drop-cons}
-use Rattle.std.proofs.lemmas.Bool.{eqb-true}
-use Rattle.std.proofs.lemmas.Grind.{common_steps}
-use Rattle.std.proofs.lemmas.List.{append-nil, drop-set-lt, length-set, take_more_set}
-use Rattle.hex.specs.Hex.{decode_of, decode_pairs, digit_or_error, hex_digit_value, ◌>>=◌}
-use Rattle.hex.specs.declared.error.FromHexError.{FromHexError}
-use Rattle.hex.specs.declared.error.FromHexError.TheVariants.{OddLength}
-use Rattle.rds_tool.specs.Input.{and_then, decoded, is_blank, or_hex_text}
+use Rattle.rds_tool.proofs.Names.{◌%◌, ◌*◌, ◌+◌, ◌++◌, ◌<◌, ◌==◌, ◌∙◌, ◌∷◌, ◌≡◌, ◌≤◌, Bool, Err, List, None, Ok, Option, Result, Some, [], ap, append_assoc, arith, cond, drop, false, if◌then◌else◌, length, not, refl, set, slice_index, suc, sym, take, true, ℕ, IfSome, is_some, filter, drop-cons, eqb-true, common_steps, append-nil, drop-set-lt, length-set, take_more_set, decode_of, decode_pairs, digit_or_error, hex_digit_value, ◌>>=◌, FromHexError, OddLength, and_then, decoded, is_blank, or_hex_text, ToolError, HexText}
 use Rattle.rds_tool.specs.Inside.HexText.{IsDecodedBy, IsStrangeAfter, bytes_after, bytes_after_of, bytes_of, with_byte}
-use Rattle.rds_tool.specs.declared.error.ToolError.{ToolError}
-use Rattle.rds_tool.specs.declared.error.ToolError.TheVariants.{HexText}
 
 -- ---- pairs of digits
 

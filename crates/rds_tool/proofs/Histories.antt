@@ -1,17 +1,5 @@
 -- What was done of the bytes that a reader gave: as if it had held these and no others.
-use Rattle.std.proofs.Common.{◌≡◌, ◌≢◌, ◌+◌, ◌*◌, ◌^◌, ◌<◌, ◌≤◌, ◌++◌, ◌⊎◌, Bool, ℕ, List, [], Err, None, Ok, Option, Result, Some, inl, inr, length, take, true, refl, sym, ap, ◌∙◌, subst, arith, append_assoc}
-use Rattle.std.specs.Prelude.{IfErr, IfSome, OnOk}
-use Rattle.std.specs.Io.KnownBytes.{Appends, Consumes}
-use Rattle.std.proofs.lemmas.List.{append-nil, length-append, length-take, nil_from_length}
-use Rattle.rds_live.specs.StreamDecoder.{LiveOf, Terms}
-use Rattle.rds_stream.specs.Recording.{AreGaps}
-use Rattle.rds_tool.specs.Following.{AllCount, BreaksOff, EndsShort, IsFlushedAfter, IsHeardOut, IsTooLong, StopsBetweenRows, StopsInRows, listed, rows_so_far}
-use Rattle.rds_tool.specs.History.{Gave}
-use Rattle.rds_tool.specs.Input.{claimed}
-use Rattle.rds_tool.specs.Inside.Streams.{IsFollowed, IsNearAnswer, IsNearEnd, bits_left}
-use Rattle.rds_tool.specs.Outcome.{Writes}
-use Rattle.rds_tool.specs.declared.error.ToolError.{ToolError}
-use Rattle.rds_tool.specs.declared.error.ToolError.TheVariants.{BadGaps, BitsPastBytes, Read, TooLong, Write}
+use Rattle.rds_tool.proofs.Names.{◌≡◌, ◌≢◌, ◌+◌, ◌*◌, ◌^◌, ◌<◌, ◌≤◌, ◌++◌, ◌⊎◌, Bool, ℕ, List, [], Err, None, Ok, Option, Result, Some, inl, inr, length, take, true, refl, sym, ap, ◌∙◌, subst, arith, append_assoc, IfErr, IfSome, OnOk, Appends, Consumes, append-nil, length-append, length-take, nil_from_length, LiveOf, Terms, AreGaps, AllCount, BreaksOff, EndsShort, IsFlushedAfter, IsHeardOut, IsTooLong, StopsBetweenRows, StopsInRows, listed, rows_so_far, Gave, claimed, IsFollowed, IsNearAnswer, IsNearEnd, bits_left, Writes, ToolError, BadGaps, BitsPastBytes, Read, TooLong, Write}
 use Rattle.rds_tool.proofs.Followed.{differ, nothing_done, place_is, stops_here}
 
 -- bytes given so far, and then these

@@ -1,38 +1,8 @@
 -- The listing of groups that were encoded, and which texts are that of a list, or a part of it.
-use Rattle.std.proofs.Common.{◌≡◌, ℕ, zero, suc, ◌+◌, ◌*◌, ◌/◌, ◌%◌, ◌^◌, ◌<◌, ◌≤◌, List, [], ◌∷◌, ◌++◌, Bool, true, false, cond, Some, Result, Ok, Err, length, flat_map, get_or, refl, sym, subst, ap, ap₂, ◌∙◌, arith, append-nil}
-use Rattle.std.specs.Prelude.{IfOk, not, nat_lt, ◌||◌, if◌then◌else◌}
-use Rattle.std.specs.Int.{byte_at, bytes_high_first}
-use Rattle.std.specs.List.{filter}
-use Rattle.std.specs.Result.{result_unwrap_or}
-use Rattle.std.proofs.lemmas.Bool.Decides.{nat_tests}
-use Rattle.std.proofs.lemmas.List.Elements.{filter-append}
-use Rattle.std.proofs.lemmas.List.FromFn.{length-map-range_with_len}
-use Rattle.hex.specs.Hex.{IsBytes, decode_of, decode_sized, encode_lower, encode_with, hex_digit_value, lower_digits}
-use Rattle.hex.specs.declared.error.FromHexError.{FromHexError}
+use Rattle.rds_tool.proofs.Names.{◌≡◌, ℕ, zero, suc, ◌+◌, ◌*◌, ◌/◌, ◌%◌, ◌^◌, ◌<◌, ◌≤◌, List, [], ◌∷◌, ◌++◌, Bool, true, false, cond, Some, Result, Ok, Err, length, flat_map, get_or, refl, sym, subst, ap, ap₂, ◌∙◌, arith, append-nil, IfOk, not, nat_lt, ◌||◌, if◌then◌else◌, byte_at, bytes_high_first, filter, result_unwrap_or, nat_tests, filter-append, length-map-range_with_len, IsBytes, decode_of, decode_sized, encode_lower, encode_with, hex_digit_value, lower_digits, FromHexError, Signal, bits_of, length_of, packed_bit, ungapped, IsLossRule, report_items, RuleNumbers, Loss, Run, Share, cuts_bits, listed, group_text, lines_of, lines_text, words_of, words_or_refusal, and_then, bytes_of, first_bits, is_blank, or_hex_text, recording_of, EncodedGroupsAreListed, EncodedGroupsAreTaken, ListsEndWithTotals, StreamsAreListed, groups_of_lines, stream_input, whole_input, item_row, report_text, cut_recording, list_text, result_of_job, text_of_task, totals_list, PlanOf, crew_of, cut_by, plan_of, loss_of, rules_of, task_of, ToolError, BadCutting, BadGaps, BitsPastBytes, BurstRange, LossRange, ReachRange, ShareRange, TooLong, Cuts, Input, Settings}
 use Rattle.hex.proofs.HexLemmas.{IsDigits-lower_digits, decode_of-encode_lower, decode_of-ok, decode_sized-ok, decode_sized-twice}
-use Rattle.rds_stream.specs.Recording.{Signal, bits_of, length_of, packed_bit, ungapped}
-use Rattle.rds_sync.specs.Loss.{IsLossRule}
-use Rattle.rds_sync.specs.Report.{report_items}
-use Rattle.rds_sync.specs.Rules.{RuleNumbers}
 use Rattle.rds_sync.specs.Sent.{AreWords, EncodedGroupsAreListed as SentGroupsAreListed, PackedGroupsAreSent, bits_sent, packed_group, packed_groups}
-use Rattle.rds_sync.specs.declared.loss.Loss.{Loss}
-use Rattle.rds_sync.specs.declared.loss.Loss.TheVariants.{Run, Share}
-use Rattle.rds_tool.specs.Cuts.{cuts_bits}
-use Rattle.rds_tool.specs.Following.{listed}
-use Rattle.rds_tool.specs.GroupText.{group_text, lines_of, lines_text, words_of, words_or_refusal}
-use Rattle.rds_tool.specs.Input.{and_then, bytes_of, first_bits, is_blank, or_hex_text, recording_of}
-use Rattle.rds_tool.specs.Laws.{EncodedGroupsAreListed, EncodedGroupsAreTaken, ListsEndWithTotals, StreamsAreListed, groups_of_lines, stream_input, whole_input}
-use Rattle.rds_tool.specs.Listing.{item_row, report_text}
-use Rattle.rds_tool.specs.Outcome.{cut_recording, list_text, result_of_job, text_of_task, totals_list}
-use Rattle.rds_tool.specs.Plans.{PlanOf, crew_of, cut_by, plan_of}
-use Rattle.rds_tool.specs.Rules.{loss_of, rules_of}
-use Rattle.rds_tool.specs.Tasks.{task_of}
-use Rattle.rds_tool.specs.declared.error.ToolError.{ToolError}
-use Rattle.rds_tool.specs.declared.error.ToolError.TheVariants.{BadCutting, BadGaps, BitsPastBytes, BurstRange, LossRange, ReachRange, ShareRange, TooLong}
-use Rattle.rds_tool.specs.declared.job.Cuts.{Cuts}
-use Rattle.rds_tool.specs.declared.job.Input.{Input}
 use Rattle.rds_tool.specs.declared.job.Job.TheVariants as job
-use Rattle.rds_tool.specs.declared.job.Settings.{Settings}
 use Rattle.rds_tool.specs.declared.task.Task.TheVariants as task
 
 -- ---- steps that were not refused

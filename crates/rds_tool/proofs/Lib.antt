@@ -1,3 +1,4 @@
+pub mod Names
 pub mod Options
 pub mod Getters
 pub mod Requests

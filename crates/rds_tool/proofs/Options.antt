@@ -1,11 +1,6 @@
 -- Commands that are made of the rows of a table, one after the other.
-use Rattle.std.proofs.Common.{◌+◌, ◌<◌, ◌≤◌, ◌||◌, ◌∙◌, ◌≡◌, List, ap, ap₂, drop, false, get_or, length, subst, sym, ℕ}
-use Rattle.std.proofs.lemmas.List.{drop_all, drop_more}
-use Rattle.clap.specs.Words.{AddsArg, AddsSubcommand, App, rule_of, with_rule, with_subcommand}
+use Rattle.rds_tool.proofs.Names.{◌+◌, ◌<◌, ◌≤◌, ◌||◌, ◌∙◌, ◌≡◌, List, ap, ap₂, drop, false, get_or, length, subst, sym, ℕ, drop_all, drop_more, AddsArg, AddsSubcommand, App, rule_of, with_rule, with_subcommand, Command, ReadsAs, app_of_row, rule_of_option, with_command, with_each, with_option}
 use Rattle.clap.specs.declared.builder.arg.Arg.{Arg}
-use Rattle.clap.specs.declared.builder.command.Command.{Command}
-use Rattle.rds_tool.specs.CommandLine.{ReadsAs}
-use Rattle.rds_tool.specs.Inside.Commands.{app_of_row, rule_of_option, with_command, with_each, with_option}
 use Rattle.rds_tool.specs.declared.commands.CommandRow.{CommandRow}
 use Rattle.rds_tool.specs.declared.commands.CommandOption.{CommandOption}
 

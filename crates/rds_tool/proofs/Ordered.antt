@@ -1,23 +1,7 @@
 -- The items of a report come in order: by an induction over the bits of the run.
-use Rattle.std.proofs.Common.{◌≡◌, ℕ, zero, suc, ◌+◌, ◌-◌, ◌*◌, ◌%◌, ◌<◌, ◌≤◌, ◌++◌, List, [], ◌∷◌, Bool, true, false, Option, Some, None, length, refl, sym, ap, ◌∙◌, subst, arith, append_assoc, inl, inr}
-use Rattle.std.proofs.lemmas.Bool.{cases_eq, eq-eqb, eqb-true, ne_eqb}
-use Rattle.std.specs.Prelude.{◌==◌}
-use Rattle.std.specs.List.{filter}
-use Rattle.rds_stream.specs.Recording.{Signal, length_of}
+use Rattle.rds_tool.proofs.Names.{◌≡◌, ℕ, zero, suc, ◌+◌, ◌-◌, ◌*◌, ◌%◌, ◌<◌, ◌≤◌, ◌++◌, List, [], ◌∷◌, Bool, true, false, Option, Some, None, length, refl, sym, ap, ◌∙◌, subst, arith, append_assoc, inl, inr, cases_eq, eq-eqb, eqb-true, ne_eqb, ◌==◌, filter, Signal, length_of, AcquisitionsAreLate, RunsAreReports, StepsAreLawful, NumbersInOrder, IsLawful, IsLawfulLock, IsLossRule, are_too_many, report_items, RuleNumbers, completed_group, history_after_block, items_at, items_of_end, lock_after, run, step, Item, Acquired, Group, LostLock, Lock, State, Locked, Searching, AreInOrder, Next, at_first, bits_of_item, was_read}
 use Rattle.rds_sync.specs.Acquiring.{acquired}
 use Rattle.rds_sync.specs.Groups.{group}
-use Rattle.rds_sync.specs.Laws.{AcquisitionsAreLate, RunsAreReports, StepsAreLawful}
-use Rattle.rds_sync.specs.Lawful.{AreInOrder as NumbersInOrder, IsLawful, IsLawfulLock}
-use Rattle.rds_sync.specs.Loss.{IsLossRule, are_too_many}
-use Rattle.rds_sync.specs.Report.{report_items}
-use Rattle.rds_sync.specs.Rules.{RuleNumbers}
-use Rattle.rds_sync.specs.Step.{completed_group, history_after_block, items_at, items_of_end, lock_after, run, step}
-use Rattle.rds_sync.specs.declared.item.Item.{Item}
-use Rattle.rds_sync.specs.declared.item.Item.TheVariants.{Acquired, Group, LostLock}
-use Rattle.rds_sync.specs.declared.lock.Lock.{Lock}
-use Rattle.rds_sync.specs.declared.state.State.{State}
-use Rattle.rds_sync.specs.declared.state.State.TheVariants.{Locked, Searching}
-use Rattle.rds_tool.specs.WellFormed.{AreInOrder, Next, at_first, bits_of_item, was_read}
 
 abbrev next_of : Bool → ℕ → ℕ → ℕ → Next
 next_of in_sync least least_group bits = record { in_sync = in_sync; least = least; least_group = least_group; bits = bits }

@@ -1,23 +1,5 @@
 -- A run that is gone over once, and the text and the counts that it gives.
-use Rattle.std.proofs.Common.{◌≡◌, ◌+◌, ◌++◌, ◌-◌, ◌*◌, ◌^◌, ◌<◌, ◌≤◌, ◌⊎◌, ◌∷◌, [], ℕ, List, Option, Result, Ok, Err, ap, arith, append_assoc, inl, inr, length, length-append, append-nil, subst, sym, ◌∙◌}
-use Rattle.std.specs.Prelude.{OnErr, OnOk}
-use Rattle.std.specs.List.{flat_map}
-use Rattle.std.specs.Io.KnownBytes.{Appends}
-use Rattle.std.proofs.KnownBytes.{Appends-trans}
-use Rattle.std.proofs.lemmas.Grind.{flat_map-append}
-use Rattle.rds_rows.specs.Writes.{AppendsPrefix}
-use Rattle.rds_stream.specs.Recording.{Signal, length_of}
-use Rattle.rds_sync.specs.Decoding.{DecoderOf, decoder_of}
-use Rattle.rds_sync.specs.Lawful.{IsLawful}
-use Rattle.rds_sync.specs.Laws.{RunsAreLawful, RunsAreReports, RunsGiveFewItems}
-use Rattle.rds_sync.specs.Loss.{IsLossRule}
-use Rattle.rds_sync.specs.Report.{report_items}
-use Rattle.rds_sync.specs.Rules.{RuleNumbers}
-use Rattle.rds_sync.specs.Step.{items_of_end, run}
-use Rattle.rds_sync.specs.declared.item.Item.{Item}
-use Rattle.rds_sync.specs.declared.state.State.{State}
-use Rattle.rds_sync.specs.declared.state.State.TheVariants.{Searching}
-use Rattle.rds_tool.specs.Soft.{listed_by}
+use Rattle.rds_tool.proofs.Names.{◌≡◌, ◌+◌, ◌++◌, ◌-◌, ◌*◌, ◌^◌, ◌<◌, ◌≤◌, ◌⊎◌, ◌∷◌, [], ℕ, List, Option, Result, Ok, Err, ap, arith, append_assoc, inl, inr, length, length-append, append-nil, subst, sym, ◌∙◌, OnErr, OnOk, flat_map, Appends, Appends-trans, flat_map-append, AppendsPrefix, Signal, length_of, DecoderOf, decoder_of, IsLawful, RunsAreLawful, RunsAreReports, RunsGiveFewItems, IsLossRule, report_items, RuleNumbers, items_of_end, run, Item, State, Searching, listed_by}
 
 -- ---- the text that was written
 

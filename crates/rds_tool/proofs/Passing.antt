@@ -1,8 +1,5 @@
 -- A refusal that `?` passes on.
-use Rattle.std.proofs.Common.{◌≡◌, Err, Ok, Result, ap, subst, sym}
-use Rattle.std.specs.Prelude.{IfErr, IfOk, OnErr}
-use Rattle.std.specs.Result.{IsErr, IsErrAnd}
-use Rattle.rds_tool.specs.declared.error.ToolError.{ToolError}
+use Rattle.rds_tool.proofs.Names.{◌≡◌, Err, Ok, Result, ap, subst, sym, IfErr, IfOk, OnErr, IsErr, IsErrAnd, ToolError}
 
 pub passed : {T E : Type 0} (r : Result T E) (e : E) → IsErr r × IsErrAnd r (λ x. x ≡ e) → r ≡ Err e
 passed (Ok x) e h = cc h.0

@@ -1,10 +1,5 @@
 -- Reads in turn, and what the refusals of a read tell.
-use Rattle.std.proofs.Common.{◌++◌, append_assoc, ◌<◌, ◌≡◌, ◌↔◌, ◌∙◌, ◌⊎◌, Err, List, Ok, Option, Result, ap, arith, inl, inr, refl, subst, sym, ℕ}
-use Rattle.std.specs.Io.KnownBytes.{Consumes, IsAtEnd}
-use Rattle.std.specs.Prelude.{IfSome}
-use Rattle.std.proofs.KnownBytes.{Consumes-trans, Consumes-whole}
-use Rattle.rds_tool.specs.declared.error.ToolError.{ToolError}
-use Rattle.rds_tool.specs.declared.error.ToolError.TheVariants.{OutOfMemory, Read, TooManyTurns}
+use Rattle.rds_tool.proofs.Names.{◌++◌, append_assoc, ◌<◌, ◌≡◌, ◌↔◌, ◌∙◌, ◌⊎◌, Err, List, Ok, Option, Result, ap, arith, inl, inr, refl, subst, sym, ℕ, Consumes, IsAtEnd, IfSome, Consumes-trans, Consumes-whole, ToolError, OutOfMemory, Read, TooManyTurns}
 use Rattle.rds_tool.proofs.Passing.{passed_kind}
 
 -- bytes read so far, and then a read

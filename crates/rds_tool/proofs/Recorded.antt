@@ -1,13 +1,7 @@
 -- A recording with gaps that was made, or refused, is what the definition says.
-use Rattle.std.proofs.Common.{◌≡◌, ◌≤◌, ◌<◌, ◌*◌, ◌^◌, ◌∙◌, ◌↔◌, ℕ, Bool, Err, Ok, Result, ap, arith, false, inl, inr, length, refl, sym, true}
-use Rattle.std.specs.Global.{Vec}
-use Rattle.std.specs.Prelude.{IfOk, IsOk, vec_len}
-use Rattle.std.proofs.lemmas.Bool.{cases_lt, false≢true, le-ltb, lt-ltb}
-use Rattle.rds_stream.specs.Recording.{AreGaps, Signal, bits_of}
+use Rattle.rds_tool.proofs.Names.{◌≡◌, ◌≤◌, ◌<◌, ◌*◌, ◌^◌, ◌∙◌, ◌↔◌, ℕ, Bool, Err, Ok, Result, ap, arith, false, inl, inr, length, refl, sym, true, Vec, IfOk, IsOk, vec_len, cases_lt, false≢true, le-ltb, lt-ltb, AreGaps, Signal, bits_of, first_bits, may_be_gaps, of_stream}
 use Rattle.rds_stream.specs.declared.error.StreamError.{StreamError}
 use Rattle.rds_stream.specs.declared.error.StreamError.TheVariants as stream
-use Rattle.rds_tool.specs.Input.{first_bits, may_be_gaps}
-use Rattle.rds_tool.specs.Refusals.{of_stream}
 use Rattle.rds_tool.proofs.GapLists.{are_gaps, pass_as_gaps}
 
 abbrev Made : Type 0

@@ -1,14 +1,8 @@
 -- The answer to an error of `clap`.
-use Rattle.std.proofs.Common.{◌≡◌, ◌∙◌, ◌⊎◌, None, Option, [], ap, inl, inr, refl, subst, sym}
-use Rattle.std.specs.Option.{option_and_then}
-use Rattle.clap.specs.Kinds.{HasKind, IsAmong, Kinds}
-use Rattle.clap.specs.Values.{kind_of}
+use Rattle.rds_tool.proofs.Names.{◌≡◌, ◌∙◌, ◌⊎◌, None, Option, [], ap, inl, inr, refl, subst, sym, option_and_then, HasKind, IsAmong, Kinds, kind_of, IsFault, MayAnswer, job_in, Asked, Job}
 use Rattle.clap.specs.declared.error.Error.{Error}
 use Rattle.clap.specs.declared.error.kind.ErrorKind.{ErrorKind}
 use Rattle.clap.specs.declared.error.kind.ErrorKind.TheVariants as kind
-use Rattle.rds_tool.specs.CommandLine.{IsFault, MayAnswer, job_in}
-use Rattle.rds_tool.specs.declared.job.Asked.{Asked}
-use Rattle.rds_tool.specs.declared.job.Job.{Job}
 use Rattle.rds_tool.specs.declared.fault.FaultKind.{FaultKind}
 use Rattle.rds_tool.specs.declared.fault.FaultKind.TheVariants.{Help, Memory, Version, Words}
 

@@ -1,13 +1,6 @@
 -- The request of each command, by its name.
-use Rattle.std.proofs.Common.{◌∙◌, ◌≡◌, ◌≢◌, Bool, List, None, Option, Some, codes, false, refl, sym, true, ℕ}
-use Rattle.std.specs.Option.{option_map}
-use Rattle.std.specs.Str.{bytes_eq}
+use Rattle.rds_tool.proofs.Names.{◌∙◌, ◌≡◌, ◌≢◌, Bool, List, None, Option, Some, codes, false, refl, sym, true, ℕ, option_map, bytes_eq, Row, Text, number_of, report_job_of, request_of, stream_of, with_progress, Input, Job, Encode, Scan}
 use Rattle.std.proofs.lemmas.Slice.Eq.{bytes_eq-Decides}
-use Rattle.clap.specs.Words.{Row, Text}
-use Rattle.rds_tool.specs.CommandLine.{number_of, report_job_of, request_of, stream_of, with_progress}
-use Rattle.rds_tool.specs.declared.job.Input.{Input}
-use Rattle.rds_tool.specs.declared.job.Job.{Job}
-use Rattle.rds_tool.specs.declared.job.Job.TheVariants.{Encode, Scan}
 
 module _ (name : Text) (rows : List Row) (input : Input) where
   pub of_scan : name ≡ codes "scan" → (read workers : Option ℕ) → read ≡ number_of (codes "workers") rows → read ≡ workers

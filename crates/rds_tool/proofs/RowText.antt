@@ -1,30 +1,14 @@
 -- The text that `csv` writes for fields that need no quotes.
-use Rattle.std.proofs.Common.{◌/◌, ◌%◌, ◌||◌, Bool, get_or, slice_index, suc, true, zero, ◌++◌, ◌+◌, ◌*◌, ◌<◌, ◌^◌, ◌∙◌, ◌∷◌, ◌≡◌, ◌≤◌, List, [], ap, append-nil, arith, false, leb, length, map, refl, ℕ, Bor}
-use Rattle.std.specs.Prelude.{decimal}
-use Rattle.std.specs.Char.{digit_value}
-use Rattle.std.specs.List.{AllByRecursion, join_with_byte}
-use Rattle.std.specs.Str.Parse.{AllDigits}
-use Rattle.std.proofs.lemmas.Bool.{leb-true}
-use Rattle.std.proofs.lemmas.Bool.Decides.{nat_tests}
-use Rattle.std.proofs.lemmas.Grind.{common_steps}
-use Rattle.std.proofs.lemmas.Fmt.{decimal_is_IsNumeral}
-use Rattle.std.proofs.lemmas.List.{length-map}
-use Rattle.std.proofs.lemmas.List.Folds.{list_any-append}
-use Rattle.std.proofs.lemmas.Str.Parse.{digit_from_value}
-use Rattle.csv.specs.Writing.{default_writer, field_text, fields_text, is_blank, needs_byte, row_body, row_text}
+use Rattle.rds_tool.proofs.Names.{◌/◌, ◌%◌, ◌||◌, Bool, get_or, slice_index, suc, true, zero, ◌++◌, ◌+◌, ◌*◌, ◌<◌, ◌^◌, ◌∙◌, ◌∷◌, ◌≡◌, ◌≤◌, List, [], ap, append-nil, arith, false, leb, length, map, refl, ℕ, Bor, decimal, digit_value, AllByRecursion, join_with_byte, AllDigits, leb-true, nat_tests, common_steps, decimal_is_IsNumeral, length-map, list_any-append, digit_from_value, default_writer, field_text, fields_text, needs_byte, row_body, row_text, Offset, upper_digits, Group, block_text, hex_digits, item_fields, item_row, kind_text, row, version_text, word_text, IsPlain, IsShort}
+use Rattle.csv.specs.Writing.{is_blank}
 use Rattle.rds_code.specs.Offsets.{name}
-use Rattle.rds_code.specs.declared.offset.Offset.{Offset}
 use Rattle.rds_code.specs.declared.offset.Offset.TheVariants.{A, B, C, Cx, D}
-use Rattle.hex.specs.Hex.{upper_digits}
 use Rattle.rds_code.specs.declared.reading.Reading.TheVariants.{Corrected, Lost, Valid}
 use Rattle.rds_sync.specs.declared.item.Block.{Block}
 use Rattle.rds_sync.specs.declared.item.Block.TheVariants.{Missing, Read}
 use Rattle.rds_sync.specs.declared.item.Version.{Version}
 use Rattle.rds_sync.specs.declared.item.Version.TheVariants.{A as VA, B as VB, Unknown}
 use Rattle.rds_sync.specs.declared.item.Group.{Group as AGroup}
-use Rattle.rds_sync.specs.declared.item.Item.TheVariants.{Group}
-use Rattle.rds_tool.specs.Listing.{block_text, hex_digits, item_fields, item_row, kind_text, row, version_text, word_text}
-use Rattle.rds_tool.specs.Inside.RowWriter.{IsPlain, IsShort}
 
 -- ---- fields without quotes
 

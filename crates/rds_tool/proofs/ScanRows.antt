@@ -1,13 +1,5 @@
 -- The rows of places are those of the valid windows among them.
-use Rattle.std.proofs.Common.{◌+◌, ◌++◌, ◌-◌, ◌∙◌, ◌∷◌, ◌≡◌, ◌<◌, ◌≤◌, List, None, Option, Some, [], ap, ap₂, arith, drop, length, map, option_map, refl, suc, sym, take, zero, ℕ}
-use Rattle.std.specs.List.{concat, cons_option, filter_map, flat_map, range_with_len}
-use Rattle.std.proofs.lemmas.List.{append-nil}
-use Rattle.std.proofs.lemmas.List.Folds.{concat-append}
-use Rattle.std.proofs.lemmas.List.FromFn.{length-range_with_len, map-range_with_len_more, take-map-range_with_len}
-use Rattle.rds_code.specs.declared.offset.Offset.{Offset}
-use Rattle.rds_stream.specs.Recording.{Signal, length_of, offset_at, valid_at, valid_windows}
-use Rattle.rds_tool.specs.Listing.{scan_text, window_row}
-use Rattle.rds_tool.specs.Inside.Rows.{row_where, rows_of_places}
+use Rattle.rds_tool.proofs.Names.{◌+◌, ◌++◌, ◌-◌, ◌∙◌, ◌∷◌, ◌≡◌, ◌<◌, ◌≤◌, List, None, Option, Some, [], ap, ap₂, arith, drop, length, map, option_map, refl, suc, sym, take, zero, ℕ, concat, cons_option, filter_map, flat_map, range_with_len, append-nil, concat-append, length-range_with_len, map-range_with_len_more, take-map-range_with_len, Offset, Signal, length_of, offset_at, valid_at, valid_windows, scan_text, window_row, row_where, rows_of_places}
 
 module _ {X : Type 0} (f : ℕ → X) where
   drop-map-range : (a n k : ℕ) → k ≤ n → drop k (map f (range_with_len a n)) ≡ map f (range_with_len (a + k) (n - k))

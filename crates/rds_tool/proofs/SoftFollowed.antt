@@ -1,38 +1,11 @@
 -- How far a stream of symbols was followed, and where it breaks off.
-use Rattle.std.proofs.Common.{◌≡◌, ◌≢◌, ◌+◌, ◌-◌, ◌^◌, ◌<◌, ◌≤◌, ◌++◌, ◌⊎◌, ◌∙◌, Bool, ℕ, List, [], ◌∷◌, Err, None, Ok, Option, Result, Some, inl, inr, length, map, take, true, refl, sym, ap, ap₂, subst, arith, append_assoc}
-use Rattle.std.specs.Prelude.{IfErr, IfSome, OnErr, OnOk}
-use Rattle.std.specs.List.{flat_map, range_with_len}
-use Rattle.std.specs.Io.KnownBytes.{Appends, Consumes, IsAtEnd, Keeps}
-use Rattle.std.proofs.KnownBytes.{Appends-nil, Appends-trans, Consumes-kept, Consumes-nil, Consumes-trans}
-use Rattle.std.proofs.lemmas.Bool.{le-ltb}
-use Rattle.std.proofs.lemmas.Grind.{flat_map-append}
-use Rattle.std.proofs.lemmas.List.{append-nil, length-append, length-map, length-take, map-append}
-use Rattle.std.proofs.lemmas.List.Folds.{flat_map-map}
-use Rattle.std.specs.Int.{cast_signed, w8}
-use Rattle.rds_soft.specs.ReadAgain.{item_again, symbols_of}
-use Rattle.rds_soft.specs.SoftStream.{SoftHeard, SoftTerms, complete, group_item, read_again, report_of, run_of, signal_of}
+use Rattle.rds_tool.proofs.Names.{◌≡◌, ◌≢◌, ◌+◌, ◌-◌, ◌^◌, ◌<◌, ◌≤◌, ◌++◌, ◌⊎◌, ◌∙◌, Bool, ℕ, List, [], ◌∷◌, Err, None, Ok, Option, Result, Some, inl, inr, length, map, take, true, refl, sym, ap, ap₂, subst, arith, append_assoc, IfErr, IfSome, OnErr, OnOk, flat_map, range_with_len, Appends, Consumes, IsAtEnd, Keeps, Appends-nil, Appends-trans, Consumes-kept, Consumes-nil, Consumes-trans, le-ltb, flat_map-append, append-nil, length-append, length-map, length-take, map-append, flat_map-map, cast_signed, w8, item_again, symbols_of, SoftHeard, SoftTerms, group_item, read_again, hard_bit, SoftItem, AreGaps, length_of, RunsAreReports, IsLossRule, report_items, items_of_end, run, Item, Searching, IsFlushedAfter, IsLong, Gave, IsDone, IsHeard, IsShortEnough, Writes, WritesPrefix, claimed_of, soft_row, soft_text, soft_totals_text, AreAsked, IsSoftEnd, IsSoftFollowed, IsSoftShort, SoftBreaksOff, most_symbols, soft_listed, soft_rows_so_far, soft_stream_text, ToolError, BadGaps, BitsPastBytes, OutOfMemory, Read, TooLong, Write}
+use Rattle.rds_soft.specs.SoftStream.{complete, report_of, run_of, signal_of}
 use Rattle.rds_soft.specs.SoftTotals.{soft_totals_of}
-use Rattle.rds_soft.specs.Symbols.{hard_bit}
 use Rattle.rds_soft.specs.declared.soft_item.SoftGroup.{SoftGroup}
-use Rattle.rds_soft.specs.declared.soft_item.SoftItem.{SoftItem}
 use Rattle.rds_soft.specs.declared.soft_totals.SoftTotals.{SoftTotals}
 use Rattle.rds_soft.proofs.PartLemmas.{length-bits, length-symbols}
-use Rattle.rds_stream.specs.Recording.{AreGaps, length_of}
-use Rattle.rds_sync.specs.Laws.{RunsAreReports}
-use Rattle.rds_sync.specs.Loss.{IsLossRule}
-use Rattle.rds_sync.specs.Report.{report_items}
-use Rattle.rds_sync.specs.Step.{items_of_end, run}
-use Rattle.rds_sync.specs.declared.item.Item.{Item}
-use Rattle.rds_sync.specs.declared.state.State.TheVariants.{Searching}
-use Rattle.rds_tool.specs.Following.{IsFlushedAfter, IsLong}
-use Rattle.rds_tool.specs.History.{Gave}
-use Rattle.rds_tool.specs.Inside.SoftStreams.{IsDone, IsHeard, IsShort}
-use Rattle.rds_tool.specs.Inside.Streams.{IsShortEnough}
-use Rattle.rds_tool.specs.Outcome.{Writes, WritesPrefix}
-use Rattle.rds_tool.specs.Soft.{claimed_of, soft_row, soft_text, soft_totals_text}
-use Rattle.rds_tool.specs.SoftFollowing.{AreAsked, IsSoftEnd, IsSoftFollowed, IsSoftShort, SoftBreaksOff, most_symbols, soft_listed, soft_rows_so_far, soft_stream_text}
-use Rattle.rds_tool.specs.declared.error.ToolError.{ToolError}
-use Rattle.rds_tool.specs.declared.error.ToolError.TheVariants.{BadGaps, BitsPastBytes, OutOfMemory, Read, TooLong, Write}
+use Rattle.rds_tool.specs.Inside.SoftStreams.{IsShort}
 use Rattle.rds_tool.proofs.Followed.{differ}
 use Rattle.rds_tool.proofs.GapLists.{pass_as_gaps}
 

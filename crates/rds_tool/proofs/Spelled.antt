@@ -1,11 +1,5 @@
 -- Rows that are spelled from one number up to another.
-use Rattle.std.proofs.Common.{◌+◌, ◌++◌, ◌-◌, ◌*◌, ◌∙◌, ◌∷◌, ◌≡◌, ◌<◌, ◌≤◌, Bor, List, [], ap, ap₂, append_assoc, arith, drop, get_or, length, map, min, refl, subst, suc, sym, take, zero, ℕ}
-use Rattle.std.specs.List.{All, AllByRecursion, concat, flat_map, join_with_byte}
-use Rattle.std.proofs.lemmas.Grind.{common_steps, flat_map-append}
-use Rattle.std.proofs.lemmas.List.{append-nil, drop-map, length-take, take-append-drop, take_more, take_rest}
-use Rattle.std.proofs.lemmas.List.Elements.{All-drop, All-take}
-use Rattle.std.proofs.lemmas.List.Folds.{concat-append}
-use Rattle.rds_tool.specs.Inside.RowWriter.{IsShort}
+use Rattle.rds_tool.proofs.Names.{◌+◌, ◌++◌, ◌-◌, ◌*◌, ◌∙◌, ◌∷◌, ◌≡◌, ◌<◌, ◌≤◌, Bor, List, [], ap, ap₂, append_assoc, arith, drop, get_or, length, map, min, refl, subst, suc, sym, take, zero, ℕ, All, AllByRecursion, concat, flat_map, join_with_byte, common_steps, flat_map-append, append-nil, drop-map, length-take, take-append-drop, take_more, take_rest, All-drop, All-take, concat-append, IsShort}
 
 module _ {A : Type 0} where
   drop_past : (xs ys : List A) (n : ℕ) → length xs ≤ n → drop n (xs ++ ys) ≡ drop (n - length xs) ys

@@ -1,40 +1,9 @@
 -- The texts of the tasks, and what they can't be refused for.
-use Rattle.std.proofs.Common.{◌-◌, map, ◌↔◌, ◌||◌, arith, ◌++◌, ◌∙◌, ◌*◌, ◌^◌, length, not, nat_lt, ◌≡◌, ◌<◌, ◌≢◌, Bool, Err, List, None, Ok, Option, Result, Some, [], ◌∷◌, ap, ap₂, false, if◌then◌else◌, inl, inr, refl, subst, sym, true, ℕ}
-use Rattle.std.specs.Prelude.{IfErr, IfSome, OnOk}
-use Rattle.std.specs.Io.KnownBytes.{Appends}
-use Rattle.std.specs.List.{filter, range_with_len}
-use Rattle.hex.specs.Hex.{decode_of, decode_sized}
-use Rattle.rds_stream.specs.Recording.{Signal, bits_of, length_of}
-use Rattle.hex.specs.declared.error.FromHexError.{FromHexError}
-use Rattle.rds_sync.specs.Decoding.{ItemsOf, listed}
-use Rattle.rds_sync.specs.Report.{report_items}
-use Rattle.rds_sync.specs.Rules.{RuleNumbers}
-use Rattle.rds_sync.specs.Totals.{totals_of}
+use Rattle.rds_tool.proofs.Names.{◌-◌, map, ◌↔◌, ◌||◌, arith, ◌++◌, ◌∙◌, ◌*◌, ◌^◌, length, not, nat_lt, ◌≡◌, ◌<◌, ◌≢◌, Bool, Err, List, None, Ok, Option, Result, Some, [], ◌∷◌, ap, ap₂, false, if◌then◌else◌, inl, inr, refl, subst, sym, true, ℕ, IfErr, IfSome, OnOk, Appends, filter, range_with_len, decode_of, decode_sized, Signal, bits_of, length_of, FromHexError, ItemsOf, report_items, RuleNumbers, totals_of, TotalsOf, cuts_any, cuts_bits, has_pieces, line_text, lines_of, lines_text, words_of, words_or_refusal, group_text, and_then, bytes_of, claimed, decoded, first_bits, is_blank, may_be_gaps, or_hex_text, recording_of, report_text, totals_text, Writes, WritesPrefix, cut_recording, list_text, result_of_job, text_of_task, totals_list, symbols_of, hard_bit, claimed_of, recording_of_symbols, PlanOf, crew_of, cut_by, plan_of, workers_of, Loss, Run, Share, IsMemoryOrErrOf, loss_of, rules_of, task_of, ToolError, BadCutting, BadGaps, BitsPastBytes, BurstRange, CrewRange, LossRange, NoWorker, OutOfMemory, ReachRange, Read, ShareRange, TooLong, TooManyTurns, Write, Cuts, Input, Job, Encode, ListJob, Scan, Soft, Settings, Task}
+use Rattle.rds_sync.specs.Decoding.{listed}
 use Rattle.rds_sync.specs.declared.report.Report.{Report}
-use Rattle.rds_sync.specs.declared.totals.Totals.{Totals as TotalsOf}
-use Rattle.rds_tool.specs.Cuts.{cuts_any, cuts_bits, has_pieces}
-use Rattle.rds_tool.specs.GroupText.{line_text, lines_of, lines_text, words_of, words_or_refusal, group_text}
-use Rattle.rds_tool.specs.Input.{and_then, bytes_of, claimed, decoded, first_bits, is_blank, may_be_gaps, or_hex_text, recording_of}
-use Rattle.rds_tool.specs.Listing.{report_text, totals_text}
-use Rattle.rds_tool.specs.Outcome.{Writes, WritesPrefix, cut_recording, list_text, result_of_job, text_of_task, totals_list}
-use Rattle.rds_soft.specs.ReadAgain.{symbols_of}
-use Rattle.rds_soft.specs.Symbols.{hard_bit}
-use Rattle.rds_tool.specs.Soft.{claimed_of, recording_of_symbols}
-use Rattle.rds_tool.specs.Plans.{PlanOf, crew_of, cut_by, plan_of, workers_of}
-use Rattle.rds_sync.specs.declared.loss.Loss.{Loss}
-use Rattle.rds_sync.specs.declared.loss.Loss.TheVariants.{Run, Share}
-use Rattle.rds_tool.specs.Refusals.{IsMemoryOrErrOf}
-use Rattle.rds_tool.specs.Rules.{loss_of, rules_of}
-use Rattle.rds_tool.specs.Tasks.{task_of}
-use Rattle.rds_tool.specs.declared.error.ToolError.{ToolError}
-use Rattle.rds_tool.specs.declared.error.ToolError.TheVariants.{BadCutting, BadGaps, BitsPastBytes, BurstRange, CrewRange, LossRange, NoWorker, OutOfMemory, ReachRange, Read, ShareRange, TooLong, TooManyTurns, Write}
-use Rattle.rds_tool.specs.declared.job.Cuts.{Cuts}
 use Rattle.rds_tool.specs.declared.job.Cuts.TheVariants.{At, Even}
-use Rattle.rds_tool.specs.declared.job.Input.{Input}
-use Rattle.rds_tool.specs.declared.job.Job.{Job}
-use Rattle.rds_tool.specs.declared.job.Job.TheVariants.{Encode, List as ListJob, Scan, Soft, Totals}
-use Rattle.rds_tool.specs.declared.job.Settings.{Settings}
-use Rattle.rds_tool.specs.declared.task.Task.{Task}
+use Rattle.rds_tool.specs.declared.job.Job.TheVariants.{Totals}
 use Rattle.rds_tool.specs.declared.task.Task.TheVariants as task
 use Rattle.rds_tool.proofs.Passing.{passed_kind}
 

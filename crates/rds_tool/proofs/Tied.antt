@@ -1,9 +1,7 @@
 -- What ties a history to the bytes that a writer holds, where those are known.
-use Rattle.std.proofs.Common.{◌≡◌, ◌∙◌, List, [], ◌++◌, ℕ, Option, Some, None, ap, append_assoc, take}
+use Rattle.rds_tool.proofs.Names.{◌≡◌, ◌∙◌, List, [], ◌++◌, ℕ, Option, Some, None, ap, append_assoc, take, append-nil, Appends, Keeps}
 use Rattle.std.proofs.Math.Logic.{∥∥₁_elim}
 use Rattle.std.specs.Coded.{Coded-set, coded_list, coded_ℕ}
-use Rattle.std.proofs.lemmas.List.{append-nil}
-use Rattle.std.specs.Io.KnownBytes.{Appends, Keeps}
 
 pub appends_more : (a b c : Option (List ℕ)) (xs ys : List ℕ) → Appends a b xs → Appends b c ys → Appends a c (xs ++ ys)
 appends_more None b c xs ys p q = tt

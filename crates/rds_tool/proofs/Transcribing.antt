@@ -1,20 +1,8 @@
 -- How a transcription ends: its settings are refused, or its bytes, or its writer's turn has come.
-use Rattle.std.proofs.Common.{Bool, Err, List, None, Ok, Option, Result, Some, [], true, ◌++◌, ap, inl, inr, refl, subst, sym, ◌<◌, ◌≡◌, ◌≢◌, ◌≤◌, ◌⊎◌, ◌↔◌, ◌∙◌, length, ℕ}
-use Rattle.std.specs.Prelude.{IfErr, IfSome, OnOk}
-use Rattle.std.specs.Io.KnownBytes.{Appends, Consumes, IsAtEnd}
-use Rattle.std.proofs.lemmas.List.{append-nil}
+use Rattle.rds_tool.proofs.Names.{Bool, Err, List, None, Ok, Option, Result, Some, [], true, ◌++◌, ap, inl, inr, refl, subst, sym, ◌<◌, ◌≡◌, ◌≢◌, ◌≤◌, ◌⊎◌, ◌↔◌, ◌∙◌, length, ℕ, IfErr, IfSome, OnOk, Appends, Consumes, IsAtEnd, append-nil, Gave, and_then, IsOutside, Writes, WritesPrefix, result_of_job, text_of_task, IsMemoryOrErrOf, task_of, ToolError, NoWorker, OutOfMemory, Read, TooManyTurns, Write, Job, Task}
 use Rattle.rds_rows.specs.declared.sink.Sink.{Ghosts as Sink}
-use Rattle.rds_tool.specs.History.{Gave}
-use Rattle.rds_tool.specs.Input.{and_then}
-use Rattle.rds_tool.specs.Outcome.{IsOutside, Writes, WritesPrefix, result_of_job, text_of_task}
-use Rattle.rds_tool.specs.Refusals.{IsMemoryOrErrOf}
-use Rattle.rds_tool.specs.Tasks.{task_of}
 use Rattle.rds_tool.specs.Transcribed.{IsTranscribed}
 use Rattle.rds_tool.specs.declared.devices.Source.{Ghosts as Source}
-use Rattle.rds_tool.specs.declared.error.ToolError.{ToolError}
-use Rattle.rds_tool.specs.declared.error.ToolError.TheVariants.{NoWorker, OutOfMemory, Read, TooManyTurns, Write}
-use Rattle.rds_tool.specs.declared.job.Job.{Job}
-use Rattle.rds_tool.specs.declared.task.Task.{Task}
 use Rattle.rds_tool.proofs.Followed.{no_such, not_told, of_call, on_any_ok, told_on}
 use Rattle.rds_tool.proofs.Histories.{of_none}
 use Rattle.rds_tool.proofs.Passing.{no_err, no_ok}

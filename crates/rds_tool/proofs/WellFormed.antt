@@ -1,34 +1,5 @@
 -- Lists are well-formed, the bits of gaps have no effect, and the rows of a stream begin its list.
-use Rattle.std.proofs.Common.{◌≡◌, ◌+◌, ◌*◌, ◌^◌, ◌++◌, ◌∷◌, ◌∙◌, ℕ, suc, Bool, true, false, Err, List, [], Ok, Option, Result, Some, append_assoc, ap, arith, flat_map, length, refl, subst, sym}
-use Rattle.std.specs.Prelude.{codes, decimal, nat_lt, None, not, if◌then◌else◌}
-use Rattle.std.proofs.lemmas.Grind.{flat_map-append}
-use Rattle.std.proofs.lemmas.List.{length-map}
-use Rattle.std.proofs.lemmas.List.Elements.{All-cons, All-nil}
-use Rattle.std.proofs.lemmas.List.FromFn.{length-map-range_with_len}
-use Rattle.rds_live.specs.Moving.{EndsMove, RunsMove}
-use Rattle.rds_live.specs.StreamDecoder.{Terms, complete, report_of, run_of, signal_at, signal_of}
-use Rattle.rds_stream.specs.Recording.{Signal, length_of, packed_bit}
-use Rattle.rds_sync.specs.Laws.{AcquisitionsAreLate, RunsAreLawful, RunsAreReports, RunsJoin, StepsAreLawful}
-use Rattle.rds_sync.specs.Report.{report_items}
-use Rattle.rds_sync.specs.Rules.{RuleNumbers}
-use Rattle.rds_sync.specs.Step.{items_of_end, run}
-use Rattle.rds_sync.specs.Totals.{totals_of}
-use Rattle.rds_sync.specs.declared.item.Item.{Item}
-use Rattle.rds_sync.specs.declared.item.Item.TheVariants.{Acquired, Group, LostLock}
-use Rattle.rds_sync.specs.declared.state.State.TheVariants.{Searching}
-use Rattle.rds_tool.specs.Following.{rows_so_far}
-use Rattle.rds_tool.specs.Input.{and_then, claimed, first_bits, may_be_gaps, recording_of}
-use Rattle.rds_tool.specs.Laws.{stream_input}
-use Rattle.rds_tool.specs.Listing.{block_text, dash, item_fields, item_row, named_totals, report_text, row, total_row, totals_text}
-use Rattle.rds_tool.specs.Outcome.{list_text, text_of_task, totals_list}
-use Rattle.rds_tool.specs.Plans.{PlanOf, cut_by, plan_of}
-use Rattle.rds_tool.specs.WellFormed.{AreInOrder, DifferInGaps, GapsHideBits, HasRows, ListsAreWellFormed, Next, RowsBeginLists, at_first}
-use Rattle.rds_tool.specs.declared.error.ToolError.{ToolError}
-use Rattle.rds_tool.specs.declared.error.ToolError.TheVariants.{BadCutting, BadGaps, BitsPastBytes, TooLong}
-use Rattle.rds_tool.specs.Cuts.{cuts_bits}
-use Rattle.rds_tool.specs.declared.job.Cuts.{Cuts}
-use Rattle.rds_tool.specs.declared.job.Input.{Input}
-use Rattle.rds_tool.specs.declared.job.Settings.{Settings}
+use Rattle.rds_tool.proofs.Names.{◌≡◌, ◌+◌, ◌*◌, ◌^◌, ◌++◌, ◌∷◌, ◌∙◌, ℕ, suc, Bool, true, false, Err, List, [], Ok, Option, Result, Some, append_assoc, ap, arith, flat_map, length, refl, subst, sym, codes, decimal, nat_lt, None, not, if◌then◌else◌, flat_map-append, length-map, All-cons, All-nil, length-map-range_with_len, EndsMove, RunsMove, Terms, complete, report_of, run_of, signal_at, signal_of, Signal, length_of, packed_bit, AcquisitionsAreLate, RunsAreLawful, RunsAreReports, RunsJoin, StepsAreLawful, report_items, RuleNumbers, items_of_end, run, totals_of, Item, Acquired, Group, LostLock, Searching, rows_so_far, and_then, claimed, first_bits, may_be_gaps, recording_of, stream_input, block_text, dash, item_fields, item_row, named_totals, report_text, row, total_row, totals_text, list_text, text_of_task, totals_list, PlanOf, cut_by, plan_of, AreInOrder, DifferInGaps, GapsHideBits, HasRows, ListsAreWellFormed, Next, RowsBeginLists, at_first, ToolError, BadCutting, BadGaps, BitsPastBytes, TooLong, cuts_bits, Cuts, Input, Settings}
 use Rattle.rds_tool.specs.declared.task.Task.TheVariants as task
 use Rattle.rds_tool.proofs.Alike.{are_alike, fronts_are_alike}
 use Rattle.rds_tool.proofs.JobLaws.{first_are, list_of, plan_lawful, same-ok}

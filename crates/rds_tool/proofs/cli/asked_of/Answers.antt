@@ -1,5 +1,4 @@
-use Rattle.std.proofs.Common.{List, map, Bor, ℕ}
-use Rattle.rds_tool.specs.CommandLine.{faults_of}
+use Rattle.rds_tool.proofs.Names.{List, map, Bor, ℕ, faults_of}
 use Rattle.rds_tool.proofs.Refusing.{refused_by}
 use Rattle.rds_tool.proofs.cli.asked_of.Goals as goal
 

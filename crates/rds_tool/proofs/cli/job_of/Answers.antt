@@ -1,9 +1,4 @@
-use Rattle.std.proofs.Common.{◌∙◌, Bor, List, ap, map, ℕ}
-use Rattle.std.specs.Option.{option_and_then}
-use Rattle.std.specs.Result.{result_ok}
-use Rattle.std.proofs.lemmas.Result.{IfErr-weaker, IfOk-weaker}
-use Rattle.rds_tool.specs.CommandLine.{asked_by, entries_of, faults_of, job_by, job_in}
-use Rattle.rds_tool.specs.declared.job.Asked.{Asked}
+use Rattle.rds_tool.proofs.Names.{◌∙◌, Bor, List, ap, map, ℕ, option_and_then, result_ok, IfErr-weaker, IfOk-weaker, asked_by, entries_of, faults_of, job_by, job_in, Asked}
 use Rattle.rds_tool.proofs.Refusing.{no_job, of_stream}
 use Rattle.rds_tool.proofs.cli.job_of.Goals as goal
 

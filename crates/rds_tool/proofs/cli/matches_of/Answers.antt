@@ -1,10 +1,5 @@
-use Rattle.std.proofs.Common.{◌≡◌, ◌∙◌, ap, refl, subst, true, map, List, ℕ, Bor}
-use Rattle.std.proofs.lemmas.Result.{IfOk-weaker}
-use Rattle.clap.specs.Words.{App, is_simple, subcommand_of}
-use Rattle.clap.specs.Faults.{fault_of, is_simple_and_free}
-use Rattle.clap.specs.Kinds.{FailsBy}
+use Rattle.rds_tool.proofs.Names.{◌≡◌, ◌∙◌, ap, refl, subst, true, map, List, ℕ, Bor, IfOk-weaker, App, is_simple, subcommand_of, fault_of, is_simple_and_free, FailsBy, rds_app}
 use Rattle.clap.proofs.OnLiterals.{clap_on_literals}
-use Rattle.rds_tool.specs.CommandLine.{rds_app}
 use Rattle.rds_tool.proofs.cli.matches_of.Goals as goal
 
 is_simple_app : is_simple rds_app ≡ true

@@ -1,7 +1,6 @@
-use Rattle.std.proofs.Common.{◌∙◌, Bool, ap}
+use Rattle.rds_tool.proofs.Names.{◌∙◌, Bool, ap, Command}
 use Rattle.clap.specs.Simple.{app_of_fields}
 use Rattle.clap.specs.declared.builder.command.Command.TheOpen.{Command-F}
-use Rattle.clap.specs.declared.builder.command.Command.{Command}
 use Rattle.rds_tool.proofs.commands.bare_command.Goals as goal
 
 abbrev local_of : Command-F Command → Bool

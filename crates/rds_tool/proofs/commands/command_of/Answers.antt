@@ -1,5 +1,4 @@
-use Rattle.std.proofs.Common.{◌∙◌, refl}
-use Rattle.rds_tool.specs.Inside.Commands.{app_of_row, with_option}
+use Rattle.rds_tool.proofs.Names.{◌∙◌, refl, app_of_row, with_option}
 use Rattle.rds_tool.proofs.Options.{begun, ended, next_option}
 use Rattle.rds_tool.proofs.commands.command_of.Goals as goal
 

@@ -1,5 +1,4 @@
-use Rattle.std.proofs.Common.{drop}
-use Rattle.rds_tool.specs.Inside.Commands.{app_of_row, with_option}
+use Rattle.rds_tool.proofs.Names.{drop, app_of_row, with_option}
 use Rattle.rds_tool.proofs.Options.{HasRest}
 use Rattle.rds_tool.proofs.commands.command_of.Given as goal
 

@@ -1,7 +1,4 @@
-use Rattle.std.proofs.Common.{◌≡◌, ap, subst}
-use Rattle.clap.specs.Words.{App}
-use Rattle.rds_tool.specs.CommandLine.{Makes, rds_app}
-use Rattle.rds_tool.specs.Inside.Commands.{bare_app, with_command, with_each}
+use Rattle.rds_tool.proofs.Names.{◌≡◌, ap, subst, App, Makes, rds_app, bare_app, with_command, with_each}
 use Rattle.rds_tool.proofs.commands.rds_command.Goals as goal
 
 -- the table has the commands that the program is said to have

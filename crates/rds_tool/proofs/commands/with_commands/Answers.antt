@@ -1,5 +1,4 @@
-use Rattle.std.proofs.Common.{refl}
-use Rattle.rds_tool.specs.Inside.Commands.{with_command, with_each}
+use Rattle.rds_tool.proofs.Names.{refl, with_command, with_each}
 use Rattle.rds_tool.proofs.Options.{begun, ended, next}
 use Rattle.rds_tool.proofs.commands.with_commands.Goals as goal
 

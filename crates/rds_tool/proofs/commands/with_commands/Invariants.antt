@@ -1,7 +1,4 @@
-use Rattle.std.proofs.Common.{drop}
-use Rattle.clap.specs.Words.{App}
-use Rattle.rds_tool.specs.CommandLine.{ReadsAs}
-use Rattle.rds_tool.specs.Inside.Commands.{with_command, with_each}
+use Rattle.rds_tool.proofs.Names.{drop, App, ReadsAs, with_command, with_each}
 use Rattle.rds_tool.proofs.Options.{HasRest}
 use Rattle.rds_tool.proofs.commands.with_commands.Given as goal
 

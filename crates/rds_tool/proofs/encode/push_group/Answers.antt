@@ -1,7 +1,4 @@
-use Rattle.std.proofs.Common.{◌++◌, ◌∙◌, ◌∷◌, [], ap, sym}
-use Rattle.hex.specs.Hex.{encode_lower}
-use Rattle.rds_rows.specs.Sheets.{text_of}
-use Rattle.rds_tool.specs.GroupText.{group_text}
+use Rattle.rds_tool.proofs.Names.{◌++◌, ◌∙◌, ◌∷◌, [], ap, sym, encode_lower, text_of, group_text}
 use Rattle.rds_tool.proofs.encode.push_group.Goals as goal
 
 pub returns-then-hex-clause-text : goal.returns-then-hex-clause-text

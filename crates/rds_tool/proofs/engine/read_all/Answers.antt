@@ -1,7 +1,4 @@
-use Rattle.std.proofs.Common.{arith, refl, sym, ◌∙◌}
-use Rattle.std.proofs.KnownBytes.{Consumes-nil}
-use Rattle.std.proofs.lemmas.Grind.{common_steps}
-use Rattle.std.proofs.lemmas.List.{append-nil}
+use Rattle.rds_tool.proofs.Names.{arith, refl, sym, ◌∙◌, Consumes-nil, common_steps, append-nil}
 use Rattle.rds_tool.proofs.Passing.{passed, passes}
 use Rattle.rds_tool.proofs.Reading.{end_told, given_more, kind_told, ok_told, read_more, read_told, read_whole, turns_not_told}
 use Rattle.rds_tool.proofs.engine.read_all.Goals as goal

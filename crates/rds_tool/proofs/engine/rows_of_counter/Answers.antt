@@ -1,18 +1,4 @@
-use Rattle.std.proofs.Common.{◌≡◌, ◌∙◌, List, Ok, ap, inl, inr, sym, true, ℕ}
-use Rattle.std.specs.Global.{Vec}
-use Rattle.std.proofs.lemmas.Result.{IfOk-weaker}
-use Rattle.rds_sync.specs.Report.{report_items}
-use Rattle.rds_sync.specs.Rules.{RuleNumbers}
-use Rattle.rds_sync.specs.Totals.{totals_of}
-use Rattle.rds_tool.specs.Cuts.{cuts_any}
-use Rattle.rds_tool.specs.Input.{and_then, recording_of}
-use Rattle.rds_tool.specs.InputOf.{InputOf}
-use Rattle.rds_tool.specs.Inside.Counters.{InputCounterOf}
-use Rattle.rds_tool.specs.Listing.{totals_text}
-use Rattle.rds_tool.specs.Outcome.{text_of_task, totals_list}
-use Rattle.rds_tool.specs.Plans.{PlanOf, cut_by}
-use Rattle.rds_tool.specs.Refusals.{IsMemoryOrErrOf}
-use Rattle.rds_tool.specs.declared.error.ToolError.{ToolError}
+use Rattle.rds_tool.proofs.Names.{◌≡◌, ◌∙◌, List, Ok, ap, inl, inr, sym, true, ℕ, Vec, IfOk-weaker, report_items, RuleNumbers, totals_of, cuts_any, and_then, recording_of, InputOf, InputCounterOf, totals_text, text_of_task, totals_list, PlanOf, cut_by, IsMemoryOrErrOf, ToolError}
 use Rattle.rds_tool.specs.declared.task.Task.TheVariants as task
 use Rattle.rds_tool.proofs.Passing.{passes}
 use Rattle.rds_tool.proofs.Texts.{any_cut, totals_made}

@@ -1,10 +1,4 @@
-use Rattle.std.proofs.Common.{◌≡◌, ◌∙◌, Err, Ok, Some, ap, subst, sym}
-use Rattle.rds_sync.specs.Rules.{RuleNumbers}
-use Rattle.rds_tool.specs.InputOf.{InputOf}
-use Rattle.rds_tool.specs.Inside.Counters.{InputCounterOf}
-use Rattle.rds_tool.specs.Outcome.{text_of_task}
-use Rattle.rds_tool.specs.Refusals.{IsMemoryOrErrOf}
-use Rattle.rds_tool.specs.declared.error.ToolError.{ToolError}
+use Rattle.rds_tool.proofs.Names.{◌≡◌, ◌∙◌, Err, Ok, Some, ap, subst, sym, RuleNumbers, InputOf, InputCounterOf, text_of_task, IsMemoryOrErrOf, ToolError}
 use Rattle.rds_tool.specs.declared.task.Task.TheVariants as task
 use Rattle.rds_tool.proofs.Passing.{passed}
 use Rattle.rds_tool.proofs.Texts.{no_failure}

@@ -1,7 +1,4 @@
-use Rattle.std.proofs.Common.{◌∙◌, Bor, List, Option, ap, sym, ℕ}
-use Rattle.std.specs.Option.{option_map}
-use Rattle.clap.specs.Words.{found_of}
-use Rattle.rds_tool.specs.CommandLine.{is_true}
+use Rattle.rds_tool.proofs.Names.{◌∙◌, Bor, List, Option, ap, sym, ℕ, option_map, found_of, is_true}
 use Rattle.rds_tool.proofs.Getters.{flag_rows}
 use Rattle.rds_tool.proofs.entries.flag_in.Goals as goal
 

@@ -1,7 +1,4 @@
-use Rattle.std.proofs.Common.{◌∙◌, Some, ap, sym}
-use Rattle.clap.specs.Words.{found_of}
-use Rattle.clap.specs.declared.parser.matches.ValueSource.{ValueSource}
-use Rattle.rds_tool.specs.CommandLine.{is_of_words}
+use Rattle.rds_tool.proofs.Names.{◌∙◌, Some, ap, sym, found_of, ValueSource, is_of_words}
 use Rattle.rds_tool.proofs.Getters.{source_is}
 use Rattle.rds_tool.proofs.entries.is_given.Goals as goal
 

@@ -1,5 +1,4 @@
-use Rattle.std.proofs.Common.{◌≡◌, ◌∙◌, None, Some, rules}
-use Rattle.clap.specs.Words.{found_of, rows_of}
+use Rattle.rds_tool.proofs.Names.{◌≡◌, ◌∙◌, None, Some, rules, found_of, rows_of}
 use Rattle.rds_tool.proofs.Requests.{of_encode, of_follow, of_list, of_other, of_scan, of_totals}
 use Rattle.rds_tool.proofs.entries.request_of.Goals.{in-encode, in-list+in_ok-job-in-list, in-scan+in_ok-workers-in-scan, in-totals+in_ok-job-in-totals}
 use Rattle.rds_tool.proofs.entries.request_of.Goals as goal

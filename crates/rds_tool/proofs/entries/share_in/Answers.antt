@@ -1,5 +1,4 @@
-use Rattle.std.proofs.Common.{◌∙◌, codes}
-use Rattle.clap.specs.Words.{found_of}
+use Rattle.rds_tool.proofs.Names.{◌∙◌, codes, found_of}
 use Rattle.rds_tool.proofs.Getters.{share_rows}
 use Rattle.rds_tool.proofs.entries.share_in.Goals as goal
 

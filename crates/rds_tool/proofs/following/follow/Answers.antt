@@ -1,12 +1,4 @@
-use Rattle.std.proofs.Common.{◌≡◌, ◌≢◌, ◌⊎◌, ◌↔◌, Err, ◌+◌, ◌<◌, ◌++◌, ◌∙◌, ℕ, [], List, Some, ap, inl, inr, refl, subst, sym, take}
-use Rattle.std.specs.Prelude.{IfSome}
-use Rattle.rds_live.specs.StreamDecoder.{LiveOf, Terms}
-use Rattle.rds_stream.specs.Recording.{AreGaps}
-use Rattle.rds_tool.specs.Following.{MayBreakEarly, MayBreakOff, rows_so_far}
-use Rattle.rds_tool.specs.Input.{claimed}
-use Rattle.rds_tool.specs.Inside.Streams.{bits_left}
-use Rattle.rds_tool.specs.declared.error.ToolError.{ToolError}
-use Rattle.rds_tool.specs.declared.error.ToolError.TheVariants.{BadGaps, BitsPastBytes, OutOfMemory, Read, TooLong, Write}
+use Rattle.rds_tool.proofs.Names.{◌≡◌, ◌≢◌, ◌⊎◌, ◌↔◌, Err, ◌+◌, ◌<◌, ◌++◌, ◌∙◌, ℕ, [], List, Some, ap, inl, inr, refl, subst, sym, take, IfSome, LiveOf, Terms, AreGaps, MayBreakEarly, MayBreakOff, rows_so_far, claimed, bits_left, ToolError, BadGaps, BitsPastBytes, OutOfMemory, Read, TooLong, Write}
 use Rattle.rds_tool.proofs.Followed.{after_no_write, after_refusal, differ, early_has_bytes, ends_short, few_bits, few_last, is_place, no_such, no_such_gaps, none_counted, not_told, of_call, of_err, of_neither, on_any_ok, only_write, read_as_far, rest_fits, stops_at_end, stops_behind, stops_here, told_on, write_alone, write_breaks, wrote_all}
 use Rattle.rds_tool.proofs.Histories.{broke_after, broke_at_read, broke_at_write, ends_short_of, gave_more, heard_all, heard_out, held, near_last, still_none, stops_all, took_rest}
 use Rattle.rds_tool.proofs.Passing.{passed, passes}

@@ -1,11 +1,4 @@
-use Rattle.std.proofs.Common.{◌+◌, ◌*◌, ◌≡◌, ◌≢◌, ◌≤◌, Err, List, Option, Some, ◌⊎◌, ◌++◌, [], inl, inr, ap, refl, sym, subst, ◌∙◌, drop, length, take, ℕ}
-use Rattle.std.specs.Prelude.{IfSome}
-use Rattle.std.proofs.lemmas.List.{append-nil}
-use Rattle.rds_live.specs.StreamDecoder.{LiveOf}
-use Rattle.rds_tool.specs.Following.{MayBreakEarly}
-use Rattle.rds_tool.specs.Inside.Streams.{IsFollowed, IsNearAnswer, IsNearEnd, IsPlaceOf}
-use Rattle.rds_tool.specs.declared.error.ToolError.{ToolError}
-use Rattle.rds_tool.specs.declared.error.ToolError.TheVariants.{BadGaps, BitsPastBytes, OutOfMemory, Read, TooLong, Write}
+use Rattle.rds_tool.proofs.Names.{◌+◌, ◌*◌, ◌≡◌, ◌≢◌, ◌≤◌, Err, List, Option, Some, ◌⊎◌, ◌++◌, [], inl, inr, ap, refl, sym, subst, ◌∙◌, drop, length, take, ℕ, IfSome, append-nil, LiveOf, MayBreakEarly, IsFollowed, IsNearAnswer, IsNearEnd, IsPlaceOf, ToolError, BadGaps, BitsPastBytes, OutOfMemory, Read, TooLong, Write}
 use Rattle.rds_tool.proofs.Followed.{after_no_write, after_refusal, chunk_breaks, differ, few_taken, fits_room, followed_end, followed_more, followed_none, front_is, is_place, lent_whole, near_end_by, no_gaps_told, no_such, not_told, nothing_done, of_call, of_neither, read_not_told, smaller, some_taken, stops_behind, stops_here, stops_in_rows, stops_untouched, told_by, told_on, too_many}
 use Rattle.rds_tool.proofs.Histories.{broke_after, broke_at_once, broke_at_read, gave_more, gave_none, held, near_answer_by, of_none, stops_all, took_rest}
 use Rattle.rds_tool.proofs.Passing.{passed, passed_kind, passes}

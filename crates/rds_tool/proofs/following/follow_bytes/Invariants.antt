@@ -1,6 +1,4 @@
-use Rattle.std.proofs.Common.{length, ◌++◌, ◌-◌, ◌^◌, ◌≡◌, List, ℕ}
-use Rattle.rds_tool.specs.Following.{IsFlushedAfter, most_read}
-use Rattle.rds_tool.specs.Inside.Streams.{IsFollowed}
+use Rattle.rds_tool.proofs.Names.{length, ◌++◌, ◌-◌, ◌^◌, ◌≡◌, List, ℕ, IsFlushedAfter, most_read, IsFollowed}
 use Rattle.rds_tool.proofs.following.follow_bytes.Given as goal
 
 abbrev pub invariant-reads : goal.invariant-reads

@@ -1,7 +1,4 @@
-use Rattle.std.proofs.Common.{◌≡◌, ◌++◌, ◌⊎◌, ◌∙◌, List, ap, inl, inr, sym, ℕ}
-use Rattle.rds_tool.specs.Following.{rows_so_far}
-use Rattle.rds_tool.specs.declared.error.ToolError.{ToolError}
-use Rattle.rds_tool.specs.declared.error.ToolError.TheVariants.{OutOfMemory, TooLong, Write}
+use Rattle.rds_tool.proofs.Names.{◌≡◌, ◌++◌, ◌⊎◌, ◌∙◌, List, ap, inl, inr, sym, ℕ, rows_so_far, ToolError, OutOfMemory, TooLong, Write}
 use Rattle.rds_tool.proofs.Passing.{passes}
 use Rattle.rds_tool.proofs.following.follow_chunk.Goals as goal
 

@@ -1,9 +1,5 @@
-use Rattle.std.proofs.Common.{◌≡◌, ◌++◌, List, subst, sym}
-use Rattle.std.specs.List.{flat_map}
+use Rattle.rds_tool.proofs.Names.{◌≡◌, ◌++◌, List, subst, sym, flat_map, HasHeard, complete, Item, item_row}
 use Rattle.rds_live.specs.Listing.{ListerOf}
-use Rattle.rds_live.specs.StreamDecoder.{HasHeard, complete}
-use Rattle.rds_sync.specs.declared.item.Item.{Item}
-use Rattle.rds_tool.specs.Listing.{item_row}
 use Rattle.rds_tool.proofs.Followed.{has_rows}
 use Rattle.rds_tool.proofs.following.list_chunk.Goals as goal
 

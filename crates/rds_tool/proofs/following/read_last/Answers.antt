@@ -1,5 +1,4 @@
-use Rattle.std.proofs.Common.{inl, refl}
-use Rattle.rds_tool.specs.declared.error.ToolError.TheVariants.{BitsPastBytes, Read}
+use Rattle.rds_tool.proofs.Names.{inl, refl, BitsPastBytes, Read}
 use Rattle.rds_tool.proofs.Followed.{differ, no_such, none_counted, not_told, of_neither, told_by}
 use Rattle.rds_tool.proofs.Passing.{ok_is_no_err, passed}
 use Rattle.rds_tool.proofs.Texts.{not_called}

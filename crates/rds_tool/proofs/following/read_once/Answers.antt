@@ -1,6 +1,4 @@
-use Rattle.std.proofs.Common.{[], ◌++◌, ◌∷◌, ◌≡◌, ◌≤◌, ℕ, List, ap, arith, inr, length, refl, subst, suc, sym, take, zero}
-use Rattle.std.specs.Io.KnownBytes.{Consumes}
-use Rattle.std.proofs.lemmas.Grind.{common_steps}
+use Rattle.rds_tool.proofs.Names.{[], ◌++◌, ◌∷◌, ◌≡◌, ◌≤◌, ℕ, List, ap, arith, inr, length, refl, subst, suc, sym, take, zero, Consumes, common_steps}
 use Rattle.rds_tool.proofs.following.read_once.Goals as goal
 
 -- the front of what was lent is that of the whole

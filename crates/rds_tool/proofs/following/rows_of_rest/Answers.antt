@@ -1,9 +1,5 @@
-use Rattle.std.proofs.Common.{◌∙◌, ◌++◌, List, ap}
-use Rattle.std.specs.List.{flat_map}
-use Rattle.rds_live.specs.StreamDecoder.{complete}
-use Rattle.rds_sync.specs.declared.item.Item.{Item}
+use Rattle.rds_tool.proofs.Names.{◌∙◌, ◌++◌, List, ap, flat_map, complete, Item, item_row, totals_text}
 use Rattle.rds_sync.specs.Advance.{group_item}
-use Rattle.rds_tool.specs.Listing.{item_row, totals_text}
 use Rattle.rds_tool.proofs.Followed.{rest_is}
 use Rattle.rds_tool.proofs.following.rows_of_rest.Goals as goal
 

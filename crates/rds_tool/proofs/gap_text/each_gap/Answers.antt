@@ -1,5 +1,4 @@
-use Rattle.std.proofs.Common.{◌+◌, ◌∙◌, ℕ, List, ap, drop, map, sym}
-use Rattle.rds_tool.specs.GapText.{each_gap}
+use Rattle.rds_tool.proofs.Names.{◌+◌, ◌∙◌, ℕ, List, ap, drop, map, sym, each_gap}
 use Rattle.rds_tool.proofs.GapTexts.{gaps_more, gaps_none, gaps_whole, with_rest}
 use Rattle.rds_tool.proofs.gap_text.each_gap.Goals as goal
 

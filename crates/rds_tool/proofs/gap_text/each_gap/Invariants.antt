@@ -1,5 +1,4 @@
-use Rattle.std.proofs.Common.{◌≡◌, drop, map}
-use Rattle.rds_tool.specs.GapText.{each_gap}
+use Rattle.rds_tool.proofs.Names.{◌≡◌, drop, map, each_gap}
 use Rattle.rds_tool.proofs.GapTexts.{with_rest}
 use Rattle.rds_tool.proofs.gap_text.each_gap.Given as goal
 

@@ -1,5 +1,4 @@
-use Rattle.std.proofs.Common.{◌∙◌, rules, tests}
-use Rattle.std.specs.Char.{is_ascii_digit}
+use Rattle.rds_tool.proofs.Names.{◌∙◌, rules, tests, is_ascii_digit}
 use Rattle.std.proofs.lemmas.Iterator.{YieldsList-from_slice}
 use Rattle.std.proofs.lemmas.Iterator.Search.{all_from_yields_List}
 use Rattle.rds_tool.proofs.GapTexts.{all_digits}

@@ -1,6 +1,4 @@
-use Rattle.std.proofs.Common.{◌≤◌, ◌∙◌, ◌≡◌, arith, length, true}
-use Rattle.std.specs.Str.{all_ascii_digits}
-use Rattle.std.proofs.lemmas.Bool.Decides.{nat_tests}
+use Rattle.rds_tool.proofs.Names.{◌≤◌, ◌∙◌, ◌≡◌, arith, length, true, all_ascii_digits, nat_tests}
 use Rattle.rds_tool.proofs.GapTexts.{place_read}
 use Rattle.rds_tool.proofs.gap_text.place_of.Goals as goal
 

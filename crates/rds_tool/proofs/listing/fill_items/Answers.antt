@@ -1,7 +1,4 @@
-use Rattle.std.proofs.Common.{◌∙◌, ap, arith, length}
-use Rattle.std.proofs.lemmas.List.{length-drop, take_rest}
-use Rattle.rds_rows.specs.Sheets.{text_of}
-use Rattle.rds_tool.specs.Listing.{item_row}
+use Rattle.rds_tool.proofs.Names.{◌∙◌, ap, arith, length, length-drop, take_rest, text_of, item_row}
 use Rattle.rds_tool.proofs.Spelled.{rows_more}
 use Rattle.rds_tool.proofs.listing.fill_items.Goals as goal
 

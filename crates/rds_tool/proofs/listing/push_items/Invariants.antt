@@ -1,6 +1,4 @@
-use Rattle.std.proofs.Common.{◌++◌, ◌≡◌, ◌≤◌, length}
-use Rattle.std.specs.List.{flat_map}
-use Rattle.rds_tool.specs.Listing.{item_row}
+use Rattle.rds_tool.proofs.Names.{◌++◌, ◌≡◌, ◌≤◌, length, flat_map, item_row}
 use Rattle.rds_tool.proofs.listing.push_items.Given as goal
 
 abbrev pub invariant-loop-left : goal.invariant-loop-left

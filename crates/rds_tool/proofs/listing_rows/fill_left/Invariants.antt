@@ -1,8 +1,4 @@
-use Rattle.std.proofs.Common.{◌+◌, ◌++◌, ◌≡◌, length}
-use Rattle.std.specs.List.{flat_map}
-use Rattle.std.specs.Prelude.{vec_capacity}
-use Rattle.rds_rows.specs.Sheets.{left_of, size_of, text_of}
-use Rattle.rds_tool.specs.Listing.{item_row}
+use Rattle.rds_tool.proofs.Names.{◌+◌, ◌++◌, ◌≡◌, length, flat_map, vec_capacity, left_of, size_of, text_of, item_row}
 use Rattle.rds_tool.proofs.listing_rows.fill_left.Given as goal
 
 abbrev pub invariant-parts : goal.invariant-parts

@@ -1,9 +1,5 @@
-use Rattle.std.proofs.Common.{◌∙◌, ℕ, List, Ok, Result, ap, sym}
+use Rattle.rds_tool.proofs.Names.{◌∙◌, ℕ, List, Ok, Result, ap, sym, Signal, and_then, soft_text, ToolError}
 use mathlib.Core.Path.{ap₂}
-use Rattle.rds_stream.specs.Recording.{Signal}
-use Rattle.rds_tool.specs.Input.{and_then}
-use Rattle.rds_tool.specs.Soft.{soft_text}
-use Rattle.rds_tool.specs.declared.error.ToolError.{ToolError}
 use Rattle.rds_tool.proofs.making.soft_text_of.Goals as goal
 
 pub returns-clause-ok : goal.returns-clause-ok

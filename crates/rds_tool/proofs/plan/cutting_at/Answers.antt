@@ -1,6 +1,4 @@
-use Rattle.std.proofs.Common.{List, ℕ, ap, inr, subst, sym}
-use Rattle.rds_pieces.specs.Cutting.{IsCutting}
-use Rattle.rds_tool.specs.Refusals.{of_piece}
+use Rattle.rds_tool.proofs.Names.{List, ℕ, ap, inr, subst, sym, IsCutting, of_piece}
 use Rattle.rds_tool.proofs.Cuttings.{cut_inner, not_inner}
 use Rattle.rds_tool.proofs.plan.cutting_at.Goals as goal
 

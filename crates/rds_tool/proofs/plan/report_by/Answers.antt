@@ -1,6 +1,5 @@
-use Rattle.std.proofs.Common.{ap, ◌∙◌}
+use Rattle.rds_tool.proofs.Names.{ap, ◌∙◌, PlanOf}
 use Rattle.rds_pieces.specs.WorkOf.{WorkOf}
-use Rattle.rds_tool.specs.Plans.{PlanOf}
 use Rattle.rds_tool.proofs.Texts.{items_heard, totals_counted}
 use Rattle.rds_tool.proofs.plan.report_by.Goals as goal
 

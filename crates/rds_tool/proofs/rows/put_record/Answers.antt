@@ -1,5 +1,4 @@
-use Rattle.std.proofs.Common.{◌++◌, ◌∙◌, ◌≡◌, ◌≤◌, ap, arith, length, map, sym}
-use Rattle.rds_tool.specs.Listing.{row}
+use Rattle.rds_tool.proofs.Names.{◌++◌, ◌∙◌, ◌≡◌, ◌≤◌, ap, arith, length, map, sym, row}
 use Rattle.rds_tool.proofs.RowText.{row_short_now, text_short}
 use Rattle.rds_tool.proofs.Spelled.{bytes_after}
 use Rattle.rds_tool.proofs.rows.put_record.Goals as goal

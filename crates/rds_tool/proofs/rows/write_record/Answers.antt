@@ -1,6 +1,5 @@
-use Rattle.std.proofs.Common.{◌≢◌, ◌++◌, ◌∙◌, ◌≡◌, List, [], ap, append-nil, sym, ℕ}
+use Rattle.rds_tool.proofs.Names.{◌≢◌, ◌++◌, ◌∙◌, ◌≡◌, List, [], ap, append-nil, sym, ℕ, writer_pending, writer_under}
 use Rattle.csv.specs.declared.writer.QuoteStyle.TheVariants as style
-use Rattle.csv.specs.Writing.{writer_pending, writer_under}
 use Rattle.rds_tool.proofs.Followed.{on_ok}
 use Rattle.rds_tool.proofs.RowText.{plain_row_now}
 use Rattle.rds_tool.proofs.rows.write_record.Goals as goal

@@ -1,8 +1,4 @@
-use Rattle.std.proofs.Common.{◌≡◌, ◌≢◌, ◌⊎◌, ◌↔◌, ◌<◌, ◌++◌, ◌∙◌, ℕ, Err, List, ap, inl, inr, refl, subst, sym}
-use Rattle.rds_tool.specs.Following.{MayBreakEarly, MayBreakOff}
-use Rattle.rds_tool.specs.SoftFollowing.{soft_rows_so_far}
-use Rattle.rds_tool.specs.declared.error.ToolError.{ToolError}
-use Rattle.rds_tool.specs.declared.error.ToolError.TheVariants.{BadGaps, BitsPastBytes, OutOfMemory, Read, TooLong, Write}
+use Rattle.rds_tool.proofs.Names.{◌≡◌, ◌≢◌, ◌⊎◌, ◌↔◌, ◌<◌, ◌++◌, ◌∙◌, ℕ, Err, List, ap, inl, inr, refl, subst, sym, MayBreakEarly, MayBreakOff, soft_rows_so_far, ToolError, BadGaps, BitsPastBytes, OutOfMemory, Read, TooLong, Write}
 use Rattle.rds_tool.proofs.Followed.{differ, none_counted, not_told, only_write, told_on, write_breaks}
 use Rattle.rds_tool.proofs.Histories.{of_none}
 use Rattle.rds_tool.proofs.Passing.{passed, passes}

@@ -1,12 +1,4 @@
-use Rattle.std.proofs.Common.{◌+◌, ◌-◌, ◌^◌, ◌<◌, ◌≡◌, ◌≢◌, ◌≤◌, ◌⊎◌, ◌++◌, ◌∙◌, [], ℕ, Err, List, None, Option, Some, ap, arith, drop, inl, inr, length, refl, subst, sym, take}
-use Rattle.std.specs.Prelude.{IfSome}
-use Rattle.std.specs.Io.KnownBytes.{Consumes}
-use Rattle.std.proofs.KnownBytes.{Consumes-nil}
-use Rattle.std.proofs.lemmas.List.{append-nil, length-append}
-use Rattle.rds_tool.specs.Following.{MayBreakEarly}
-use Rattle.rds_tool.specs.SoftFollowing.{AreAsked, most_symbols}
-use Rattle.rds_tool.specs.declared.error.ToolError.{ToolError}
-use Rattle.rds_tool.specs.declared.error.ToolError.TheVariants.{BadGaps, BitsPastBytes, OutOfMemory, Read, TooLong, Write}
+use Rattle.rds_tool.proofs.Names.{◌+◌, ◌-◌, ◌^◌, ◌<◌, ◌≡◌, ◌≢◌, ◌≤◌, ◌⊎◌, ◌++◌, ◌∙◌, [], ℕ, Err, List, None, Option, Some, ap, arith, drop, inl, inr, length, refl, subst, sym, take, IfSome, Consumes, Consumes-nil, append-nil, length-append, MayBreakEarly, AreAsked, most_symbols, ToolError, BadGaps, BitsPastBytes, OutOfMemory, Read, TooLong, Write}
 use Rattle.rds_tool.proofs.Followed.{chunk_breaks, differ, few_taken, fits_room, front_is, lent_whole, no_gaps_told, not_told, of_neither, read_not_told, some_taken, told_by, told_on}
 use Rattle.rds_tool.proofs.Histories.{of_none}
 use Rattle.rds_tool.proofs.Passing.{passed, passes}

@@ -1,6 +1,4 @@
-use Rattle.std.proofs.Common.{◌+◌, ◌-◌, ◌^◌, ◌≡◌, length}
-use Rattle.rds_tool.specs.Inside.SoftStreams.{IsHeard}
-use Rattle.rds_tool.specs.SoftFollowing.{most_symbols}
+use Rattle.rds_tool.proofs.Names.{◌+◌, ◌-◌, ◌^◌, ◌≡◌, length, IsHeard, most_symbols}
 use Rattle.rds_tool.proofs.soft_following.follow_symbols.Given as goal
 
 abbrev pub invariant-reads : goal.invariant-reads

@@ -1,9 +1,4 @@
-use Rattle.std.proofs.Common.{◌++◌, ◌∷◌, ◌≡◌, ◌∙◌, Err, List, Ok, Option, Result, ap, ap₂, append_assoc, sym, ℕ}
-use Rattle.std.specs.Prelude.{OnErr}
-use Rattle.std.specs.Io.KnownBytes.{Appends}
-use Rattle.std.specs.List.{flat_map}
-use Rattle.std.proofs.KnownBytes.{Appends-trans}
-use Rattle.rds_rows.specs.Writes.{AppendsPrefix}
+use Rattle.rds_tool.proofs.Names.{◌++◌, ◌∷◌, ◌≡◌, ◌∙◌, Err, List, Ok, Option, Result, ap, ap₂, append_assoc, sym, ℕ, OnErr, Appends, flat_map, Appends-trans, AppendsPrefix}
 use Rattle.rds_tool.proofs.Passing.{on_any_err}
 use Rattle.rds_tool.proofs.stream_rows.+write_parts.Goals as goal
 

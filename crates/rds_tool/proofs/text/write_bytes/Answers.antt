@@ -1,7 +1,4 @@
-use Rattle.std.proofs.Common.{ℕ, List, ap, subst, sym}
-use Rattle.std.specs.Prelude.{OnOk}
-use Rattle.std.specs.Io.KnownBytes.{Appends}
-use Rattle.rds_rows.specs.Writes.{AppendsPrefix}
+use Rattle.rds_tool.proofs.Names.{ℕ, List, ap, subst, sym, OnOk, Appends, AppendsPrefix}
 use Rattle.rds_tool.specs.Inside.Texts.{bytes_of}
 use Rattle.rds_tool.proofs.text.write_bytes.Goals as goal
 

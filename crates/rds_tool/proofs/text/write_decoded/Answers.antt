@@ -1,9 +1,4 @@
-use Rattle.std.proofs.Common.{subst}
-use Rattle.std.specs.Prelude.{OnOk}
-use Rattle.std.specs.Io.KnownBytes.{Appends}
-use Rattle.rds_rows.specs.Writes.{AppendsPrefix}
-use Rattle.rds_sync.specs.Rules.{RuleNumbers}
-use Rattle.rds_tool.specs.Outcome.{list_text}
+use Rattle.rds_tool.proofs.Names.{subst, OnOk, Appends, AppendsPrefix, RuleNumbers, list_text}
 use Rattle.rds_tool.proofs.text.write_decoded.Goals as goal
 
 pub returns-clause-ok : goal.returns-clause-ok

@@ -1,7 +1,4 @@
-use Rattle.std.proofs.Common.{ℕ, List, subst, sym}
-use Rattle.std.specs.Prelude.{OnOk}
-use Rattle.std.specs.Io.KnownBytes.{Appends}
-use Rattle.rds_rows.specs.Writes.{AppendsPrefix}
+use Rattle.rds_tool.proofs.Names.{ℕ, List, subst, sym, OnOk, Appends, AppendsPrefix}
 use Rattle.rds_tool.proofs.Encoding.{as_rows}
 use Rattle.rds_tool.proofs.text.write_groups.Goals as goal
 

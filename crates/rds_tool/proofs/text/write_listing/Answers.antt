@@ -1,9 +1,4 @@
-use Rattle.std.proofs.Common.{ap, subst, ◌∙◌}
-use Rattle.std.specs.Prelude.{OnOk}
-use Rattle.std.specs.List.{concat}
-use Rattle.std.specs.Io.KnownBytes.{Appends}
-use Rattle.rds_rows.specs.Writes.{AppendsPrefix}
-use Rattle.rds_tool.specs.Listing.{item_row, named_totals, total_row}
+use Rattle.rds_tool.proofs.Names.{ap, subst, ◌∙◌, OnOk, concat, Appends, AppendsPrefix, item_row, named_totals, total_row}
 use Rattle.rds_tool.proofs.Spelled.{all_spelled}
 use Rattle.rds_tool.proofs.text.write_listing.Goals as goal
 

@@ -1,12 +1,7 @@
-use Rattle.std.proofs.Common.{ℕ, Bool, List, subst}
+use Rattle.rds_tool.proofs.Names.{ℕ, Bool, List, subst, IsErrOf, OnOk, Appends, AppendsPrefix, report_items, listed_by}
 use mathlib.Core.Path.{ap₂}
-use Rattle.std.specs.Prelude.{IsErrOf, OnOk}
-use Rattle.std.specs.Io.KnownBytes.{Appends}
-use Rattle.rds_rows.specs.Writes.{AppendsPrefix}
 use Rattle.rds_rows.specs.declared.error.RowsError.TheVariants.{Write}
-use Rattle.rds_sync.specs.Report.{report_items}
 use Rattle.rds_tool.specs.Inside.Listers.{row_of_source, totals_of_source}
-use Rattle.rds_tool.specs.Soft.{listed_by}
 use Rattle.rds_tool.specs.declared.soft_source.SoftSource.{SoftSource}
 use Rattle.rds_tool.proofs.text.write_softly.Goals as goal
 

@@ -1,7 +1,4 @@
-use Rattle.std.proofs.Common.{subst}
-use Rattle.std.specs.Prelude.{OnOk}
-use Rattle.std.specs.Io.KnownBytes.{Appends}
-use Rattle.rds_rows.specs.Writes.{AppendsPrefix}
+use Rattle.rds_tool.proofs.Names.{subst, OnOk, Appends, AppendsPrefix}
 use Rattle.rds_tool.proofs.ScanRows.{scan_spelled}
 use Rattle.rds_tool.proofs.text.write_windows.Goals as goal
 

@@ -1,9 +1,4 @@
-use Rattle.std.proofs.Common.{◌∷◌, Bor, List, [], refl, ℕ}
-use Rattle.std.specs.List.{All}
-use Rattle.std.specs.Prelude.{codes}
-use Rattle.std.proofs.lemmas.Bool.{leb-true}
-use Rattle.std.proofs.lemmas.List.Elements.{All-from_recursion}
-use Rattle.rds_tool.specs.Inside.RowWriter.{IsPlain, IsShort}
+use Rattle.rds_tool.proofs.Names.{◌∷◌, Bor, List, [], refl, ℕ, All, codes, leb-true, All-from_recursion, IsPlain, IsShort}
 use Rattle.rds_tool.proofs.totals.totals_with_names.Goals as goal
 
 -- what holds of each of twelve holds of all

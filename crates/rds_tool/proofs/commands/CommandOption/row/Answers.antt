@@ -1,5 +1,4 @@
-use Rattle.std.proofs.Common.{ap, sym}
-use Rattle.rds_tool.specs.Inside.Commands.{rule_of_option}
+use Rattle.rds_tool.proofs.Names.{ap, sym, rule_of_option}
 use Rattle.rds_tool.proofs.commands.CommandOption.row.Goals as goal
 
 pub returns-in-HexInput : goal.returns-in-HexInput

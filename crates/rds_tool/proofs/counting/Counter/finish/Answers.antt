@@ -1,12 +1,4 @@
-use Rattle.std.proofs.Common.{◌≡◌, ◌+◌, ◌-◌, ◌*◌, ◌^◌, ◌≤◌, ◌++◌, ◌∷◌, ◌∙◌, Bool, List, Ok, [], ap, arith, false, inr, length, subst, sym, take, true, ℕ}
-use Rattle.rds_stream.specs.Recording.{AreGaps, Signal, bits_of}
-use Rattle.rds_sync.specs.Report.{report_items}
-use Rattle.rds_sync.specs.Totals.{totals_of}
-use Rattle.rds_tool.specs.Input.{claimed, first_bits}
-use Rattle.rds_tool.specs.Inside.Counters.{CounterOf, claimed_by, whole}
-use Rattle.rds_live.specs.StreamDecoder.{HasHeard, LiveOf, report_at}
-use Rattle.rds_tool.specs.Refusals.{IsMemoryOrErrOf}
-use Rattle.rds_tool.specs.declared.error.ToolError.TheVariants.{BadGaps}
+use Rattle.rds_tool.proofs.Names.{◌≡◌, ◌+◌, ◌-◌, ◌*◌, ◌^◌, ◌≤◌, ◌++◌, ◌∷◌, ◌∙◌, Bool, List, Ok, [], ap, arith, false, inr, length, subst, sym, take, true, ℕ, AreGaps, Signal, bits_of, report_items, totals_of, claimed, first_bits, CounterOf, claimed_by, whole, HasHeard, LiveOf, report_at, IsMemoryOrErrOf, BadGaps}
 use Rattle.rds_tool.proofs.CountedBytes.{bad_gaps, ends_alike, near_end, recorded}
 use Rattle.rds_tool.proofs.counting.Counter.finish.Given.{Over}
 use Rattle.rds_tool.proofs.counting.Counter.finish.Goals.{After-may_end_after}

@@ -1,5 +1,4 @@
-use Rattle.std.proofs.Common.{◌≡◌, ◌-◌, ◌∙◌, List, ap, arith, length, min, slice_index, subst, sym, take, ℕ}
-use Rattle.rds_tool.specs.Inside.Counters.{IsCounter, whole}
+use Rattle.rds_tool.proofs.Names.{◌≡◌, ◌-◌, ◌∙◌, List, ap, arith, length, min, slice_index, subst, sym, take, ℕ, IsCounter, whole}
 use Rattle.rds_tool.proofs.CountedBytes.{counted_on}
 use Rattle.rds_tool.proofs.counting.Counter.hear.Goals as goal
 

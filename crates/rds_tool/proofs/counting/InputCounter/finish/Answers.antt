@@ -1,14 +1,4 @@
-use Rattle.std.proofs.Common.{◌≡◌, ◌∙◌, Bool, List, Ok, Result, ap, inl, inr, subst, sym, ℕ}
-use Rattle.std.specs.Prelude.{IfErr, IfOk}
-use Rattle.std.proofs.lemmas.Result.{IfErr-weaker, IfOk-weaker}
-use Rattle.rds_stream.specs.Recording.{Signal}
-use Rattle.rds_sync.specs.Report.{report_items}
-use Rattle.rds_sync.specs.Totals.{totals_of}
-use Rattle.rds_tool.specs.Input.{and_then, claimed, first_bits, recording_of}
-use Rattle.rds_tool.specs.Inside.Counters.{CounterOf, InputCounterOf, IsTextOf}
-use Rattle.rds_tool.specs.Refusals.{IsMemoryOrErrOf}
-use Rattle.rds_tool.specs.declared.error.ToolError.{ToolError}
-use Rattle.rds_tool.specs.declared.error.ToolError.TheVariants.{HexText}
+use Rattle.rds_tool.proofs.Names.{◌≡◌, ◌∙◌, Bool, List, Ok, Result, ap, inl, inr, subst, sym, ℕ, IfErr, IfOk, IfErr-weaker, IfOk-weaker, Signal, report_items, totals_of, and_then, claimed, first_bits, recording_of, CounterOf, InputCounterOf, IsTextOf, IsMemoryOrErrOf, ToolError, HexText}
 use Rattle.rds_tool.proofs.CountedBytes.{decoded_whole, refused_half, refused_strange}
 use Rattle.rds_tool.proofs.counting.InputCounter.finish.Given.{Over}
 use Rattle.rds_tool.proofs.counting.InputCounter.finish.Goals.{After-finish, then-self-via-then-self, then-self-via-else-self+then-is_some}

@@ -1,5 +1,4 @@
-use Rattle.std.proofs.Common.{◌≡◌, ◌++◌, Bool, List, ap, false, subst, sym, take, true, ℕ}
-use Rattle.rds_tool.specs.Inside.Counters.{CounterOf, IsTextOf}
+use Rattle.rds_tool.proofs.Names.{◌≡◌, ◌++◌, Bool, List, ap, false, subst, sym, take, true, ℕ, CounterOf, IsTextOf}
 use Rattle.rds_tool.proofs.HexDigits.{decoded_on}
 use Rattle.rds_tool.proofs.counting.InputCounterTaker.take.Goals as goal
 

@@ -1,6 +1,4 @@
-use Rattle.std.proofs.Common.{◌++◌, ◌-◌, ◌∙◌, [], ap, append_assoc, arith, drop, get_or, sym, take}
-use Rattle.rds_rows.specs.Sheets.{text_of}
-use Rattle.rds_tool.specs.GroupText.{group_text}
+use Rattle.rds_tool.proofs.Names.{◌++◌, ◌-◌, ◌∙◌, [], ap, append_assoc, arith, drop, get_or, sym, take, text_of, group_text}
 use Rattle.rds_tool.proofs.Encoding.{all_rows, one_row}
 use Rattle.rds_tool.proofs.encode.GroupRowsRows.fill.Goals as goal
 

@@ -1,7 +1,4 @@
-use Rattle.std.proofs.Common.{◌++◌, ◌+◌, ◌-◌, ◌≡◌, drop, take}
-use Rattle.std.specs.List.{flat_map}
-use Rattle.rds_rows.specs.Sheets.{left_of, size_of, text_of}
-use Rattle.rds_tool.specs.GroupText.{group_text}
+use Rattle.rds_tool.proofs.Names.{◌++◌, ◌+◌, ◌-◌, ◌≡◌, drop, take, flat_map, left_of, size_of, text_of, group_text}
 use Rattle.rds_tool.proofs.encode.GroupRowsRows.fill.Given as goal
 
 abbrev pub invariant-loop-words : goal.invariant-loop-words

@@ -1,5 +1,4 @@
-use Rattle.std.proofs.Common.{rules, tests, ◌≡◌, ◌==◌, ◌∙◌, ◌<◌, ◌++◌, ◌∷◌, [], ap, false, true}
-use Rattle.rds_tool.specs.GroupText.{is_space}
+use Rattle.rds_tool.proofs.Names.{rules, tests, ◌≡◌, ◌==◌, ◌∙◌, ◌<◌, ◌++◌, ◌∷◌, [], ap, false, true, is_space}
 use Rattle.rds_tool.proofs.Encoding.{after_blank, after_digit, after_feed, after_long}
 use Rattle.rds_tool.proofs.group_lines.GroupLines.push_byte.Goals as goal
 use Rattle.rds_tool.proofs.group_lines.GroupLines.push_byte.Goals.{in-32, in-10+in_ok-is_group-in-10, in_default, in_default-2}

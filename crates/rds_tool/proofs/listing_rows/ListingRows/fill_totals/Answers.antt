@@ -1,8 +1,4 @@
-use Rattle.std.proofs.Common.{Bor, List, ap, ◌++◌, ◌-◌, ◌∙◌, ℕ}
-use Rattle.std.specs.List.{flat_map}
-use Rattle.rds_rows.specs.Sheets.{text_of}
-use Rattle.rds_tool.specs.Inside.RowWriter.{IsPlain, IsShort}
-use Rattle.rds_tool.specs.Listing.{named_totals, total_row}
+use Rattle.rds_tool.proofs.Names.{Bor, List, ap, ◌++◌, ◌-◌, ◌∙◌, ℕ, flat_map, text_of, IsPlain, IsShort, named_totals, total_row}
 use Rattle.rds_tool.proofs.Spelled.{each_of_some, some_changed}
 use Rattle.rds_tool.proofs.listing_rows.ListingRows.fill_totals.Goals as goal
 

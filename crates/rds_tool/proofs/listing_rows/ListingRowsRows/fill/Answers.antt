@@ -1,7 +1,4 @@
-use Rattle.std.proofs.Common.{ap, append_assoc, drop, min, sym, take, ◌++◌, ◌-◌, ◌∙◌}
-use Rattle.std.specs.List.{flat_map}
-use Rattle.rds_rows.specs.Sheets.{text_of}
-use Rattle.rds_tool.specs.Listing.{item_row, named_totals, total_row}
+use Rattle.rds_tool.proofs.Names.{ap, append_assoc, drop, min, sym, take, ◌++◌, ◌-◌, ◌∙◌, flat_map, text_of, item_row, named_totals, total_row}
 use Rattle.rds_tool.proofs.Spelled.{spelled}
 use Rattle.rds_tool.proofs.listing_rows.ListingRowsRows.fill.Goals as goal
 

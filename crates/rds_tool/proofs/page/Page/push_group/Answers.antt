@@ -1,5 +1,4 @@
-use Rattle.std.proofs.Common.{◌++◌, ◌∙◌, ap, length, rules, sym, ◌≡◌}
-use Rattle.rds_tool.specs.Listing.{block_text}
+use Rattle.rds_tool.proofs.Names.{◌++◌, ◌∙◌, ap, length, rules, sym, ◌≡◌, block_text}
 use Rattle.rds_tool.proofs.GroupRow.{eight_fields}
 use Rattle.rds_tool.proofs.RowText.{four_blocks, group_record}
 use Rattle.rds_tool.proofs.page.Page.push_group.Goals as goal

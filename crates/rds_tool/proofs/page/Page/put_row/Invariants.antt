@@ -1,5 +1,4 @@
-use Rattle.std.proofs.Common.{◌*◌, ◌+◌, ◌++◌, ◌∷◌, ◌≡◌, ◌≤◌, [], length, take}
-use Rattle.std.specs.List.{flat_map}
+use Rattle.rds_tool.proofs.Names.{◌*◌, ◌+◌, ◌++◌, ◌∷◌, ◌≡◌, ◌≤◌, [], length, take, flat_map}
 use Rattle.rds_tool.proofs.page.Page.put_row.Given as goal
 
 abbrev pub invariant-loop-i : goal.invariant-loop-i

@@ -1,6 +1,4 @@
-use Rattle.std.proofs.Common.{refl, rules}
-use Rattle.std.proofs.lemmas.Bool.{leb-true}
-use Rattle.rds_tool.specs.Inside.RowWriter.{IsPlain, IsShort}
+use Rattle.rds_tool.proofs.Names.{refl, rules, leb-true, IsPlain, IsShort}
 use Rattle.rds_tool.proofs.RowText.{decimal_plain, shorter}
 use Rattle.rds_tool.proofs.rows.RowWriter.push_acquired.Goals as goal
 

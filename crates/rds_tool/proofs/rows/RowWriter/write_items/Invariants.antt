@@ -1,6 +1,4 @@
-use Rattle.std.proofs.Common.{◌*◌, ◌-◌, ◌≡◌, ◌≤◌, length, take}
-use Rattle.std.specs.List.{flat_map}
-use Rattle.rds_tool.specs.Listing.{item_row}
+use Rattle.rds_tool.proofs.Names.{◌*◌, ◌-◌, ◌≡◌, ◌≤◌, length, take, flat_map, item_row}
 use Rattle.rds_tool.proofs.rows.RowWriter.write_items.Given as goal
 
 abbrev pub invariant-loop-count : goal.invariant-loop-count

@@ -1,6 +1,4 @@
-use Rattle.std.proofs.Common.{◌*◌, ◌≡◌, ◌≤◌, length, map, take}
-use Rattle.std.specs.List.{flat_map}
-use Rattle.rds_tool.specs.Listing.{total_row}
+use Rattle.rds_tool.proofs.Names.{◌*◌, ◌≡◌, ◌≤◌, length, map, take, flat_map, total_row}
 use Rattle.rds_tool.proofs.rows.RowWriter.write_totals.Given as goal
 
 abbrev pub invariant-loop-name : goal.invariant-loop-name

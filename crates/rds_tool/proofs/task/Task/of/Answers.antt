@@ -1,11 +1,4 @@
-use Rattle.std.proofs.Common.{◌≡◌, ◌∙◌, Err, Ok, Result, ap, inl, inr, subst, sym}
-use Rattle.std.specs.Prelude.{IfErr}
-use Rattle.rds_tool.specs.Input.{and_then}
-use Rattle.rds_tool.specs.Plans.{plan_of, workers_of}
-use Rattle.rds_tool.specs.Refusals.{IsMemoryOrErrOf}
-use Rattle.rds_tool.specs.Tasks.{task_of}
-use Rattle.rds_tool.specs.declared.error.ToolError.{ToolError}
-use Rattle.rds_tool.specs.declared.task.Task.{Task}
+use Rattle.rds_tool.proofs.Names.{◌≡◌, ◌∙◌, Err, Ok, Result, ap, inl, inr, subst, sym, IfErr, and_then, plan_of, workers_of, IsMemoryOrErrOf, task_of, ToolError, Task}
 use Rattle.rds_tool.specs.declared.task.Task.TheVariants as task
 use Rattle.rds_tool.proofs.Passing.{passed, passes}
 use Rattle.rds_tool.proofs.task.Task.of.Goals as goal

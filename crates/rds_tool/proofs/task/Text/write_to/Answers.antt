@@ -1,5 +1,4 @@
-use Rattle.std.proofs.Common.{[], sym}
-use Rattle.std.proofs.lemmas.List.{append-nil}
+use Rattle.rds_tool.proofs.Names.{[], sym, append-nil}
 use Rattle.rds_tool.specs.Inside.Texts.{bytes_of}
 use Rattle.rds_tool.proofs.Followed.{on_any_ok}
 use Rattle.rds_tool.proofs.Tied.{appends_kept}

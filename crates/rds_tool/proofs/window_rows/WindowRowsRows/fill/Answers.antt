@@ -1,12 +1,4 @@
-use Rattle.std.proofs.Common.{◌+◌, ◌-◌, ◌<◌, ◌≤◌, ◌≡◌, ◌++◌, ◌∙◌, ℕ, List, None, Some, ap, append_assoc, arith, subst, sym}
-use Rattle.std.proofs.lemmas.List.FromFn.{length-map-range_with_len}
-use Rattle.rds_code.specs.declared.offset.Offset.{Offset}
-use Rattle.rds_rows.specs.Sheets.{left_of, size_of, text_of}
-use Rattle.rds_rows.specs.declared.sheet.Sheet.{Sheet}
-use Rattle.rds_stream.specs.Recording.{Signal, length_of, offset_at, valid_at}
-use Rattle.rds_stream.specs.ValidWindows.{GivesFirst, NoneValid, WindowsLeft}
-use Rattle.rds_tool.specs.Inside.Rows.{row_where}
-use Rattle.rds_tool.specs.Listing.{window_row}
+use Rattle.rds_tool.proofs.Names.{◌+◌, ◌-◌, ◌<◌, ◌≤◌, ◌≡◌, ◌++◌, ◌∙◌, ℕ, List, None, Some, ap, append_assoc, arith, subst, sym, length-map-range_with_len, Offset, left_of, size_of, text_of, Sheet, Signal, length_of, offset_at, valid_at, GivesFirst, NoneValid, WindowsLeft, row_where, window_row}
 use Rattle.rds_tool.proofs.ScanRows.{found_more, none_more, so_far}
 use Rattle.rds_tool.proofs.window_rows.WindowRowsRows.fill.Invariants.{HasFilled}
 use Rattle.rds_tool.proofs.window_rows.WindowRowsRows.fill.Goals as goal

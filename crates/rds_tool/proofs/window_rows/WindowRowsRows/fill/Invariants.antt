@@ -1,8 +1,4 @@
-use Rattle.std.proofs.Common.{◌++◌, ◌-◌, ◌≡◌, ◌≤◌, ℕ}
-use Rattle.rds_rows.specs.Sheets.{left_of, size_of, text_of}
-use Rattle.rds_rows.specs.declared.sheet.Sheet.{Sheet}
-use Rattle.rds_stream.specs.Recording.{Signal, length_of}
-use Rattle.rds_stream.specs.ValidWindows.{WindowsLeft}
+use Rattle.rds_tool.proofs.Names.{◌++◌, ◌-◌, ◌≡◌, ◌≤◌, ℕ, left_of, size_of, text_of, Sheet, Signal, length_of, WindowsLeft}
 use Rattle.rds_tool.proofs.ScanRows.{so_far}
 use Rattle.rds_tool.proofs.window_rows.WindowRowsRows.fill.Given as goal
 

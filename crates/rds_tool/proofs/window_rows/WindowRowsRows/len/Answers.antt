@@ -1,7 +1,4 @@
-use Rattle.std.proofs.Common.{◌∙◌, sym}
-use Rattle.std.proofs.lemmas.List.FromFn.{length-map-range_with_len}
-use Rattle.rds_stream.specs.Recording.{length_of, valid_at}
-use Rattle.rds_tool.specs.Inside.Rows.{row_where}
+use Rattle.rds_tool.proofs.Names.{◌∙◌, sym, length-map-range_with_len, length_of, valid_at, row_where}
 use Rattle.rds_tool.proofs.window_rows.WindowRowsRows.len.Goals as goal
 
 pub returns : goal.returns
