@@ -1,5 +1,5 @@
 -- A damaged block is corrected: the burst that damaged it is the only one that fits.
-use Rattle.rds_code.proofs.Names.{◌≡◌, ◌≢◌, ℕ, ◌≤◌, List, [], ◌∷◌, Bool, cond, refl, sym, ap, ◌∙◌, arith, inl, inr, ◌⊎◌, bit_xor, Option, Some, None, find, eqb, subst, lit<, lit≤, xor_assoc, xor_self, xor_zero_r, count_leading_zeros, count_trailing_zeros, cases_Bool, eqb-true, Offset, A, B, C, Cx, D, Wanted, Valid, Corrected, rem, word, number, all_offsets, offset_of, IsBurst, information, IsValid, wanted_offsets, corrections, by_only, reading, IsBlockOf, alone, other_third_offset, version_burst, ReadsAsSent, CorrectsBurst, CorrectsThird, TakesOtherVersion}
+use Rattle.rds_code.proofs.Names.{common_steps, ◌≡◌, ◌≢◌, ℕ, ◌≤◌, List, [], ◌∷◌, refl, sym, ap, ◌∙◌, arith, inl, inr, ◌⊎◌, bit_xor, Option, Some, None, find, eqb, subst, lit<, lit≤, xor_assoc, xor_self, xor_zero_r, count_leading_zeros, count_trailing_zeros, eqb-true, Offset, A, B, C, Cx, D, Wanted, Corrected, rem, word, number, all_offsets, offset_of, IsBurst, IsValid, wanted_offsets, reading, IsBlockOf, alone, other_third_offset, version_burst, ReadsAsSent, CorrectsBurst, CorrectsThird, TakesOtherVersion}
 use Rattle.rds_code.proofs.RemainderLemmas.{rem-xor, twice}
 use Rattle.rds_code.proofs.BurstLemmas.{burst_is_one, rem-burst, longer}
 use Rattle.rds_code.proofs.ReadingLemmas.{one_fits, corrections_one, reads_valid, reads_corrected, only_A, only_B, only_D, third, wanted_1, wanted_2, wanted_4}
@@ -10,31 +10,17 @@ undone w e = xor_assoc w e e ∙ ap (bit_xor w) (xor_self e) ∙ xor_zero_r w
 
 found_word : (os : List Offset) (r : ℕ) (p : Offset) → find (λ o. eqb (word o) r) os ≡ Some p → word p ≡ r
 found_word [] r p e = let no : ◌≡◌ {A = Option Offset} None (Some p) = e in absurd (cc no)
-found_word (o ∷ os) r p e = elim (cases_Bool (eqb (word o) r)) [
-  | inl here ↦
-      let found : find (λ q. eqb (word q) r) (o ∷ os) ≡ Some o = ap (λ (b : Bool). cond b (Some o) (find (λ q. eqb (word q) r) os)) here in
-      let same : ◌≡◌ {A = Option Offset} (Some o) (Some p) = sym found ∙ e in
-      let one : o ≡ p = cc same in
-      ap word (sym one) ∙ eqb-true (word o) r here
-  | inr other ↦
-      let rest : find (λ q. eqb (word q) r) (o ∷ os) ≡ find (λ q. eqb (word q) r) os = ap (λ (b : Bool). cond b (Some o) (find (λ q. eqb (word q) r) os)) other in
-      found_word os r p (sym rest ∙ e)
-]
+found_word (o ∷ os) r p e = grind (arith, common_steps, find, eqb-true, found_word os r p)
 
 pub valid_word : (r : ℕ) (p : Offset) → offset_of r ≡ Some p → word p ≡ r
 valid_word r p e = found_word all_offsets r p e
 
 pub word_offset : (o : Offset) → offset_of (word o) ≡ Some o
-word_offset A = refl
-word_offset B = refl
-word_offset C = refl
-word_offset Cx = refl
-word_offset D = refl
+word_offset o = grind (arith, common_steps)
 
 -- a block as it was sent
 pub reads_as_sent : ReadsAsSent
-reads_as_sent w info o wanted limit h =
-    reads_valid w (number o) wanted limit o record { offset = ap offset_of h.remainder ∙ word_offset o; own = refl } ∙ ap (Valid o) h.above
+reads_as_sent w info o wanted limit h = grind (arith, common_steps, reads_valid, word_offset)
 
 -- the remainder after damage
 pub damaged : (w info e : ℕ) (o : Offset) → IsBlockOf w info o → rem (bit_xor w e) ≡ bit_xor (word o) (rem e)
@@ -51,14 +37,7 @@ not_itself w info e x o h burst valid = rem-burst e burst (became w info e x o o
 -- if only one offset is tried and the damaged block is not valid, the burst is found
 found_again : (w info x : ℕ) (o : Offset) (wanted : Wanted) (limit e : ℕ) → IsBlockOf w info o → limit ≤ 5 → IsBurst limit e → wanted_offsets x wanted ≡ o ∷ []
     → ((p : Offset) → IsValid (bit_xor w e) x p → ⊥) → reading (bit_xor w e) x wanted limit ≡ Corrected o info e
-found_again w info x o wanted limit e h few burst list not_valid =
-    let v : ℕ = bit_xor w e in
-    let fits : rem (bit_xor v e) ≡ word o = ap rem (undone w e) ∙ h.remainder in
-    let one = one_fits limit v o e few burst fits in
-    reads_corrected v x wanted limit not_valid
-    ∙ ap (λ (os : List Offset). by_only v (corrections os limit v)) list
-    ∙ ap (by_only v) (corrections_one limit v o e one)
-    ∙ ap (λ (n : ℕ). Corrected o n e) (ap information (undone w e) ∙ h.above)
+found_again w info x o wanted limit e h few burst list not_valid = grind (arith, common_steps, undone, one_fits, reads_corrected, corrections_one)
 
 pub corrects_burst : CorrectsBurst
 corrects_burst w info A wanted limit e h not_third few burst =
@@ -84,25 +63,13 @@ version_remainder_back = refl
 
 -- the burst that takes block 3 over to the other version
 takes_over : (e : ℕ) (o : Offset) → number o ≡ 3 → IsBurst 5 e → rem e ≡ bit_xor (word o) (word (other_third_offset o)) → e ≡ version_burst
-takes_over e C third burst same = burst_is_one e version_burst burst version_is_burst (same ∙ sym version_remainder)
-takes_over e Cx third burst same = burst_is_one e version_burst burst version_is_burst (same ∙ sym version_remainder_back)
-takes_over e A third burst same = absurd (omega (arith, third))
-takes_over e B third burst same = absurd (omega (arith, third))
-takes_over e D third burst same = absurd (omega (arith, third))
+takes_over e o third burst same = grind (arith, common_steps, burst_is_one, version_is_burst, version_remainder, version_remainder_back)
 
 pub taken_over : (o : Offset) → number o ≡ 3 → rem version_burst ≡ bit_xor (word o) (word (other_third_offset o))
-taken_over C third = version_remainder
-taken_over Cx third = version_remainder_back
-taken_over A third = absurd (omega (arith, third))
-taken_over B third = absurd (omega (arith, third))
-taken_over D third = absurd (omega (arith, third))
+taken_over o third = grind (arith, common_steps, version_remainder, version_remainder_back)
 
 pub other_number : (o : Offset) → number (other_third_offset o) ≡ 3
-other_number A = refl
-other_number B = refl
-other_number C = refl
-other_number Cx = refl
-other_number D = refl
+other_number o = grind (arith, common_steps)
 
 pub takes_other_version : TakesOtherVersion
 takes_other_version w info o e h own burst = (
@@ -115,11 +82,7 @@ takes_other_version w info o e h own burst = (
 
 -- a valid block 3 has its own offset or the other
 pub own_or_other : (o p : Offset) → number o ≡ 3 → number p ≡ 3 → (p ≡ o) ⊎ (p ≡ other_third_offset o)
-own_or_other C p ho hp = third p hp
-own_or_other Cx p ho hp = elim (third p hp) [ inl c ↦ inr c | inr cx ↦ inl cx ]
-own_or_other A p ho hp = absurd (omega (arith, ho))
-own_or_other B p ho hp = absurd (omega (arith, ho))
-own_or_other D p ho hp = absurd (omega (arith, ho))
+own_or_other o p ho hp = grind (arith, common_steps, third)
 
 third_not_valid : (w info : ℕ) (o : Offset) (e : ℕ) → IsBlockOf w info o → number o ≡ 3 → IsBurst 5 e → e ≢ version_burst → (p : Offset) → IsValid (bit_xor w e) 3 p → ⊥
 third_not_valid w info o e h own burst apart p valid = elim (own_or_other o p own valid.own) [
@@ -128,11 +91,7 @@ third_not_valid w info o e h own burst apart p valid = elim (own_or_other o p ow
 ]
 
 pub alone_wanted : (o : Offset) → number o ≡ 3 → wanted_offsets 3 (alone o) ≡ o ∷ []
-alone_wanted C h = refl
-alone_wanted Cx h = refl
-alone_wanted A h = absurd (omega (arith, h))
-alone_wanted B h = absurd (omega (arith, h))
-alone_wanted D h = absurd (omega (arith, h))
+alone_wanted o h = grind (arith, common_steps)
 
 pub corrects_third : CorrectsThird
 corrects_third w info o limit e h own few burst apart =

@@ -1,6 +1,6 @@
 -- One or two bit errors, and bursts of up to ten bits, leave a remainder that is not 0; and how many words are corrected. The remainders are
 -- checked by computation, pattern by pattern.
-use Rattle.rds_code.proofs.Names.{◌≡◌, ◌≢◌, ℕ, zero, suc, ◌+◌, ◌*◌, ◌/◌, ◌%◌, ◌^◌, ◌<◌, ◌≤◌, List, [], ◌∷◌, length, get_or, Bool, true, false, cond, refl, sym, ap, ◌∙◌, arith, inl, inr, ltb, eqb, subst, pow_mono, bit_xor, lit<, ◌⊎◌, mul-suc, AllPairs, count_trailing_zeros, ones, ones_step, ones-le, xor_assoc, xor_self, xor_zero_r, xor_lt, pow_pos, cases_eq, cases_lt, lt-ltb, eq-eqb, Offset, A, B, C, Cx, D, rem, word, number, burst_length, IsBurst, bursts, information, IsReading, wanted_offsets, corrections, by_only, alone, DetectsBitErrors, DetectsErrorBursts, HasOneWordPerRemainder, CountsAllCorrected, remainders_near, burst_counts}
+use Rattle.rds_code.proofs.Names.{common_steps, ◌≡◌, ◌≢◌, ℕ, ◌+◌, ◌*◌, ◌/◌, ◌%◌, ◌^◌, ◌<◌, ◌≤◌, List, [], ◌∷◌, length, get_or, Bool, true, false, cond, refl, sym, ap, ◌∙◌, arith, inl, inr, ltb, eqb, subst, pow_mono, bit_xor, lit<, ◌⊎◌, mul-suc, AllPairs, count_trailing_zeros, ones, ones_step, ones-le, xor_assoc, xor_self, xor_zero_r, xor_lt, pow_pos, cases_eq, cases_lt, lt-ltb, eq-eqb, Offset, rem, word, number, burst_length, IsBurst, bursts, information, IsReading, wanted_offsets, corrections, by_only, alone, DetectsBitErrors, DetectsErrorBursts, HasOneWordPerRemainder, CountsAllCorrected, remainders_near, burst_counts}
 use Rattle.rds_code.proofs.RemainderLemmas.{rem-xor, rem-lt, twice}
 use Rattle.rds_code.proofs.SpanLemmas.{pattern_of, burst_pattern, at_least, ones-pattern}
 use Rattle.rds_code.proofs.CorrectionLemmas.{became}
@@ -50,11 +50,7 @@ some_ones n pos small =
     omega (arith, ap ones part.1.whole, ones-pattern part.0 (count_trailing_zeros 32 n), ones_step part.0, part.1.odd)
 
 pattern_least : (n s : ℕ) → n ≤ n * 2 ^ s
-pattern_least n s = shr_le' n (2 ^ s) (pow_pos s)
-  where
-    shr_le' : (n p : ℕ) → 0 < p → n ≤ n * p
-    shr_le' n zero pos = absurd (omega arith)
-    shr_le' n (suc p) pos = omega (arith, mul-suc n p)
+pattern_least n s = grind (arith, common_steps, pow_pos, mul-suc)
 
 -- an odd number with one bit or two is 1, or 1 and one bit more
 odd_few : (m : ℕ) → m % 2 ≡ 1 → m < 2 ^ 26 → ones m ≤ 2 → m / 2 ≢ 0 → (s : ℕ) × (s < 26) × (m ≡ 1 + 2 * 2 ^ s)
@@ -116,11 +112,7 @@ detects_long_bursts w info o e h burst valid = long_burst_shows e burst (became 
 
 -- two offsets of one number are one, or C and C'
 one_number : (o p : Offset) → number p ≡ number o → (bit_xor (word o) (word p) ≡ 0) ⊎ (bit_xor (word o) (word p) ≡ 0x238)
-one_number A p own = inl (ap (λ (q : Offset). bit_xor (word A) (word q)) (only_A p own))
-one_number B p own = inl (ap (λ (q : Offset). bit_xor (word B) (word q)) (only_B p own))
-one_number D p own = inl (ap (λ (q : Offset). bit_xor (word D) (word q)) (only_D p own))
-one_number C p own = elim (third p own) [ inl c ↦ inl (ap (λ (q : Offset). bit_xor (word C) (word q)) c) | inr cx ↦ inr (ap (λ (q : Offset). bit_xor (word C) (word q)) cx) ]
-one_number Cx p own = elim (third p own) [ inl c ↦ inr (ap (λ (q : Offset). bit_xor (word Cx) (word q)) c) | inr cx ↦ inl (ap (λ (q : Offset). bit_xor (word Cx) (word q)) cx) ]
+one_number o p own = grind (arith, common_steps, only_A, only_B, only_D, third)
 
 pub detects_two_bits : DetectsBitErrors 2
 detects_two_bits w info o p e h block some few valid =
@@ -156,17 +148,11 @@ near_many : (o : Offset) (limit : ℕ) → limit ≤ 5 → length (remainders_ne
 near_many o limit few = each_below (λ l. length (remainders_near o l) ≡ get_or burst_counts l 0) 6 (refl, (refl, (refl, (refl, (refl, (refl, tt)))))) limit (omega (arith, few))
 
 wanted_alone : (o : Offset) → (wanted_offsets (number o) (alone o) ≡ o ∷ []) × (1 ≤ number o) × (number o ≤ 4)
-wanted_alone A = (refl, omega arith, omega arith)
-wanted_alone B = (refl, omega arith, omega arith)
-wanted_alone C = (refl, omega arith, omega arith)
-wanted_alone Cx = (refl, omega arith, omega arith)
-wanted_alone D = (refl, omega arith, omega arith)
+wanted_alone o = grind (arith, common_steps)
 
 -- a burst that turns w into a block of offset o is the sum of the two remainders
 near : (w e : ℕ) (o : Offset) → rem (bit_xor w e) ≡ word o → rem w ≡ bit_xor (word o) (rem e)
-near w e o fits =
-    sym (xor_zero_r (rem w)) ∙ ap (bit_xor (rem w)) (sym (xor_self (rem e))) ∙ sym (xor_assoc (rem w) (rem e) (rem e))
-    ∙ ap (λ (n : ℕ). bit_xor n (rem e)) (sym (rem-xor w e) ∙ fits)
+near w e o fits = grind (arith, common_steps, xor_zero_r, rem-xor)
 
 pub corrects_shares : CountsAllCorrected
 corrects_shares o limit few = record {

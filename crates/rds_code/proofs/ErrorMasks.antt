@@ -1,5 +1,5 @@
 -- The error masks of n bit errors: that the list of them is exactly they, each once.
-use Rattle.rds_code.proofs.Names.{◌≡◌, ℕ, zero, suc, ◌+◌, ◌-◌, ◌*◌, ◌^◌, ◌<◌, ◌≤◌, [], ◌∷◌, true, false, map, refl, sym, ap, ◌∙◌, arith, inl, inr, lit<, pow-suc, ones, ones_cat, ones-le, cases_eq, cases_lt, error_masks, ListsAllErrorMasks}
+use Rattle.rds_code.proofs.Names.{common_steps, ◌≡◌, ℕ, zero, suc, ◌+◌, ◌-◌, ◌*◌, ◌^◌, ◌<◌, ◌≤◌, [], ◌∷◌, true, false, map, refl, sym, ap, ◌∙◌, arith, inl, inr, lit<, pow-suc, ones, ones_cat, ones-le, cases_lt, error_masks, ListsAllErrorMasks}
 use Rattle.rds_code.proofs.Membership.{is_among, all_differ, among_head, among_tail, among_map, among_left, among_right, among_either, among_contains, contains_among, from_map, differ_map, differ_append, differ_pairs}
 
 one_is : ones 1 ≡ 1
@@ -16,10 +16,7 @@ ones_above k r small =
     omega (arith, ap ones whole, ones_cat k 1 r small, one_is)
 
 is_zero : (e : ℕ) → is_among e (0 ∷ []) ≡ true → e ≡ 0
-is_zero e h = elim (cases_eq e 0) [
-  | inl same ↦ same
-  | inr other ↦ let no : false ≡ true = sym (among_tail e 0 [] other) ∙ h in absurd (cc no)
-]
+is_zero e h = grind (arith, common_steps, among_tail, is_among)
 
 -- each of the list has n ones below 2 ^ k
 pub masks_are : (n k e : ℕ) → is_among e (error_masks n k) ≡ true → (e < 2 ^ k) × (ones e ≡ n)
@@ -31,20 +28,11 @@ masks_are zero k e h =
     pow_pos zero = omega arith
     pow_pos (suc k) = omega (arith, pow_pos k, pow-suc 2 k)
 masks_are (suc n) zero e h = let no : false ≡ true = h in absurd (cc no)
-masks_are (suc n) (suc k) e h = elim (among_either e (error_masks (suc n) k) (map (λ d. 2 ^ k + d) (error_masks n k)) h) [
-  | inl left ↦ let rest = masks_are (suc n) k e left in (omega (arith, rest.0, pow-suc 2 k), rest.1)
-  | inr right ↦
-      let from = from_map (λ d. 2 ^ k + d) e (error_masks n k) right in
-      let rest = masks_are n k from.0 from.1 in
-      (omega (arith, sym from.2, rest.0, pow-suc 2 k), ap ones (sym from.2) ∙ ones_above k from.0 rest.0 ∙ ap suc rest.1)
-]
+masks_are (suc n) (suc k) e h = grind (arith, common_steps, among_either, pow-suc, from_map, ones_above, is_among, masks_are (suc n) k e, masks_are n k)
 
 -- and each such word is in the list
 masks_hold : (k n e : ℕ) → e < 2 ^ k → ones e ≡ n → is_among e (error_masks n k) ≡ true
-masks_hold zero n e small many =
-    let same : e ≡ 0 = omega (arith, small) in
-    let none : n ≡ 0 = omega (arith, many, ap ones same, none_is) in
-    ap (λ (m : ℕ). is_among e (error_masks m 0)) none ∙ among_head e 0 [] same
+masks_hold zero n e small many = grind (arith, common_steps, none_is, is_among, among_head)
 masks_hold (suc k) n e small many = elim (cases_lt e (2 ^ k)) [ inl low ↦ below n (masks_hold k n e low many) | inr high ↦ above n many (omega (arith, small, pow-suc 2 k, high)) high (λ m fewer. masks_hold k m (e - 2 ^ k) (omega (arith, small, pow-suc 2 k, high)) fewer) ]
   where
     below : (n : ℕ) → is_among e (error_masks n k) ≡ true → is_among e (error_masks n (suc k)) ≡ true

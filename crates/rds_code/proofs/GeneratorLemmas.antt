@@ -1,6 +1,6 @@
 -- Of 512 polynomials only the generator and its mirror have period 341 and tell bursts apart: computed, polynomial by polynomial. The standard's
 -- syndrome and the remainder are linear, so they are compared bit by bit.
-use Rattle.rds_code.proofs.Names.{◌≡◌, ℕ, zero, suc, ◌+◌, ◌-◌, ◌*◌, ◌/◌, ◌%◌, ◌^◌, ◌<◌, List, [], ◌∷◌, Bool, true, false, map, length, refl, sym, ap, ap₂, ◌∙◌, arith, inl, inr, eqb, not, bit_xor, ◌⊎◌, pow-suc, bit_at, xor_self, xor_shifted, xor_shr, xor_mod, bit_at_xor, bit_at-lt, cases_Bool, cases_lt, eq-eqb, eqb-true, generator, rem, bursts}
+use Rattle.rds_code.proofs.Names.{common_steps, ◌≡◌, ℕ, zero, suc, ◌+◌, ◌-◌, ◌*◌, ◌/◌, ◌%◌, ◌^◌, ◌<◌, List, [], ◌∷◌, Bool, true, false, map, refl, sym, ap, ap₂, ◌∙◌, arith, inl, inr, eqb, not, bit_xor, ◌⊎◌, pow-suc, bit_at, xor_self, xor_shifted, xor_shr, xor_mod, bit_at_xor, bit_at-lt, cases_Bool, cases_lt, eq-eqb, eqb-true, generator, rem, bursts}
 use Rattle.rds_code.specs.Generator.{times_x, times_power, HasPeriod, remainder_by, TellsApart, mirror, AreGeneratorAndMirror, DividesAlike, parity_rows, syndrome, SyndromesAreRemainders}
 use Rattle.rds_code.proofs.RemainderLemmas.{rem-xor, swap_inner, xor_times}
 use Rattle.rds_code.proofs.Membership.{all_differ, all_below, passes_below, one_of_each, differ_map}
@@ -16,9 +16,7 @@ linear-zero f linear = ap f (sym (xor_self 0)) ∙ linear 0 0 ∙ xor_self (f 0)
 
 -- two that agree on each power of two below 2^n agree below 2^n
 agree : (f g : ℕ → ℕ) → IsLinearMap f → IsLinearMap g → (n : ℕ) → ((t : ℕ) → t < n → f (2 ^ t) ≡ g (2 ^ t)) → (w : ℕ) → w < 2 ^ n → f w ≡ g w
-agree f g lf lg zero h w small =
-    let none : w ≡ 0 = omega (arith, small) in
-    ap f none ∙ linear-zero f lf ∙ sym (linear-zero g lg) ∙ ap g (sym none)
+agree f g lf lg zero h w small = grind (arith, common_steps, linear-zero)
 agree f g lf lg (suc n) h w small =
     let rest = agree f g lf lg n (λ t less. h t (omega (arith, less))) in
     elim (cases_lt w (2 ^ n)) [
@@ -149,15 +147,7 @@ other_is_out p h period tells = elim (cases_Bool (all_differ (map (remainder_by 
 
 settled : (p : ℕ) → is_settled p ≡ true → HasPeriod p 341 → TellsApart p → (p ≡ generator) ⊎ (p ≡ mirror)
 unfolding is_settled
-settled p h period tells = elim (cases_Bool (eqb p generator)) [
-  | inl is ↦ inl (eqb-true p generator is)
-  | inr not_generator ↦ elim (cases_Bool (eqb p mirror)) [
-    | inl is ↦ inr (eqb-true p mirror is)
-    | inr not_mirror ↦
-        let same : is_settled p ≡ is_other p = ap₂ (λ (a b : Bool). elim a [ true ↦ true | false ↦ elim b [ true ↦ true | false ↦ is_other p ] ]) not_generator not_mirror in
-        absurd (other_is_out p (sym same ∙ h) period tells)
-  ]
-]
+settled p h period tells = grind (arith, common_steps, eqb-true, is_settled, is_other, other_is_out)
 
 generator_tells : TellsApart generator
 generator_tells d e hd he same = burst_is_one d e hd he (sym (divides_alike d hd.is_block) ∙ same ∙ divides_alike e he.is_block)
@@ -182,9 +172,7 @@ are_generator_and_mirror = record {
 syndrome-xor : (rows : List ℕ) → IsLinearMap (syndrome rows)
 unfolding syndrome
 syndrome-xor [] u v = sym (xor_self 0)
-syndrome-xor (row ∷ rows) u v =
-    ap₂ bit_xor (ap (λ (b : ℕ). b * row) (bit_at_xor u v (length rows)) ∙ xor_times (bit_at u (length rows)) (bit_at v (length rows)) row (bit_at-lt u (length rows)) (bit_at-lt v (length rows))) (syndrome-xor rows u v)
-    ∙ swap_inner (bit_at u (length rows) * row) (bit_at v (length rows) * row) (syndrome rows u) (syndrome rows v)
+syndrome-xor (row ∷ rows) u v = grind (arith, common_steps, bit_at_xor, xor_times, bit_at-lt, swap_inner, syndrome-xor rows u v)
 
 rows_agree : all_below (λ t. eqb (times_power generator 16 (syndrome parity_rows (2 ^ t))) (rem (2 ^ t))) 26 ≡ true
 unfolding rem times_power syndrome

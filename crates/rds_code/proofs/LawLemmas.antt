@@ -1,5 +1,5 @@
 -- The laws in the forms that their calls state.
-use Rattle.rds_code.proofs.Names.{sym, subst, bursts, IsReading, reading, IsBlockOf}
+use Rattle.rds_code.proofs.Names.{common_steps, arith, sym, subst, bursts, IsBlockOf}
 use Rattle.rds_code.specs.Laws.{ListsBursts, ReadsByRule, HasOneBlock}
 use Rattle.rds_code.proofs.Membership.{among_contains, contains_among}
 use Rattle.rds_code.proofs.BurstLemmas.{limit_is_among, among_limit_is}
@@ -13,10 +13,7 @@ lists_bursts limit e few = (
 )
 
 pub reads_by_rule : ReadsByRule
-reads_by_rule w x wanted limit r low high few = (
-  λ h. reading_is_one w x wanted limit r (reading w x wanted limit) h (reading_is w x wanted limit low high few),
-  λ same. subst (IsReading w x wanted limit) (sym same) (reading_is w x wanted limit low high few),
-)
+reads_by_rule w x wanted limit r low high few = grind (arith, common_steps, reading_is_one, reading_is)
 
 pub has_one_block : HasOneBlock
 has_one_block w info o small = (λ h. encoded_only w info o h, λ same. subst (λ v. IsBlockOf v info o) (sym same) (encoded_is info o small))

@@ -1,5 +1,5 @@
 -- Lists of numbers, by a test of membership that computes.
-use Rattle.rds_code.proofs.Names.{◌≡◌, ◌≢◌, ◌⊎◌, ℕ, zero, suc, ◌<◌, List, [], ◌∷◌, ◌++◌, length, get_or, Bool, true, false, cond, map, refl, sym, ap, ◌∙◌, arith, inl, inr, eqb, filter, Contains, AllPairs, cases_Bool, eq-eqb, cases_eq, ne_eqb}
+use Rattle.rds_code.proofs.Names.{common_steps, ◌≡◌, ◌≢◌, ◌⊎◌, ℕ, zero, suc, ◌<◌, List, [], ◌∷◌, ◌++◌, length, get_or, Bool, true, false, cond, map, refl, sym, ap, ◌∙◌, arith, inl, inr, eqb, filter, Contains, AllPairs, cases_Bool, eq-eqb, cases_eq, ne_eqb}
 use Rattle.std.specs.Prelude.{⊤}
 use Rattle.std.proofs.lemmas.List.Elements.{Contains-append_left, Contains-append_right, Contains-append_cases}
 
@@ -24,32 +24,15 @@ among_more x y ys h = elim (cases_eq x y) [ inl e ↦ among_head x y ys e | inr 
 
 pub among_map : (f : ℕ → ℕ) (x : ℕ) (xs : List ℕ) → is_among x xs ≡ true → is_among (f x) (map f xs) ≡ true
 among_map f x [] h = cc
-among_map f x (y ∷ ys) h = elim (cases_eq x y) [
-  | inl same ↦ among_head (f x) (f y) (map f ys) (ap f same)
-  | inr other ↦ among_more (f x) (f y) (map f ys) (among_map f x ys (sym (among_tail x y ys other) ∙ h))
-]
+among_map f x (y ∷ ys) h = grind (arith, common_steps, among_head, among_more, among_tail, among_map f x ys)
 
 pub differ_tail : (x : ℕ) (xs : List ℕ) → all_differ (x ∷ xs) ≡ true → (is_among x xs ≡ false) × (all_differ xs ≡ true)
-differ_tail x xs h = elim (cases_Bool (is_among x xs)) [
-  | inl found ↦ let e : all_differ (x ∷ xs) ≡ false = ap (λ (b : Bool). cond b false (all_differ xs)) found in let no : true ≡ false = sym h ∙ e in absurd (cc no)
-  | inr none ↦ let e : all_differ (x ∷ xs) ≡ all_differ xs = ap (λ (b : Bool). cond b false (all_differ xs)) none in (none, sym e ∙ h)
-]
+differ_tail x xs h = grind (arith, common_steps)
 
 -- where the values of f differ, one value is of one number
 pub one_of_each : (f : ℕ → ℕ) (xs : List ℕ) → all_differ (map f xs) ≡ true → (x y : ℕ) → is_among x xs ≡ true → is_among y xs ≡ true → f x ≡ f y → x ≡ y
 one_of_each f [] h x y hx hy e = cc
-one_of_each f (z ∷ zs) h x y hx hy e =
-    let d = differ_tail (f z) (map f zs) h in
-    elim (cases_eq x z) [
-      | inl xz ↦ elim (cases_eq y z) [
-        | inl yz ↦ xz ∙ sym yz
-        | inr yo ↦ let t = among_map f y zs (sym (among_tail y z zs yo) ∙ hy) in let no : false ≡ true = sym d.0 ∙ ap (λ (n : ℕ). is_among n (map f zs)) (ap f (sym xz) ∙ e) ∙ t in absurd (cc no)
-      ]
-      | inr xo ↦ elim (cases_eq y z) [
-        | inl yz ↦ let t = among_map f x zs (sym (among_tail x z zs xo) ∙ hx) in let no : false ≡ true = sym d.0 ∙ ap (λ (n : ℕ). is_among n (map f zs)) (ap f (sym yz) ∙ sym e) ∙ t in absurd (cc no)
-        | inr yo ↦ one_of_each f zs d.1 x y (sym (among_tail x z zs xo) ∙ hx) (sym (among_tail y z zs yo) ∙ hy) e
-      ]
-    ]
+one_of_each f (z ∷ zs) h x y hx hy e = grind (arith, common_steps, differ_tail, among_map, among_tail, one_of_each f zs)
 
 -- whether each number below n passes
 abbrev pub all_below : (ℕ → Bool) → ℕ → Bool
@@ -57,14 +40,11 @@ all_below p zero = true
 all_below p (suc n) = cond (p n) (all_below p n) false
 
 pub both_pass : (a b : Bool) → cond a b false ≡ true → (a ≡ true) × (b ≡ true)
-both_pass true b h = (refl, h)
-both_pass false b h = let no : false ≡ true = h in absurd (cc no)
+both_pass a b h = grind (arith, common_steps)
 
 pub passes_below : (p : ℕ → Bool) (n i : ℕ) → all_below p n ≡ true → i < n → p i ≡ true
 passes_below p zero i all h = absurd (omega arith)
-passes_below p (suc n) i all h =
-    let parts = both_pass (p n) (all_below p n) all in
-    elim (cases_eq i n) [ inl here ↦ ap p here ∙ parts.0 | inr other ↦ passes_below p n i parts.1 (omega arith) ]
+passes_below p (suc n) i all h = grind (arith, common_steps, both_pass, passes_below p n i)
 
 -- P of each number below n
 abbrev pub EachBelow : (ℕ → Type 0) → ℕ → Type 0
@@ -83,9 +63,7 @@ all_pass p (x ∷ xs) = cond (p x) (all_pass p xs) false
 
 pub passes_among : (p : ℕ → Bool) (x : ℕ) (xs : List ℕ) → all_pass p xs ≡ true → is_among x xs ≡ true → p x ≡ true
 passes_among p x [] all h = let no : false ≡ true = h in absurd (cc no)
-passes_among p x (y ∷ ys) all h =
-    let parts = both_pass (p y) (all_pass p ys) all in
-    elim (cases_eq x y) [ inl here ↦ ap p here ∙ parts.0 | inr other ↦ passes_among p x ys parts.1 (sym (among_tail x y ys other) ∙ h) ]
+passes_among p x (y ∷ ys) all h = grind (arith, common_steps, both_pass, among_tail, passes_among p x ys)
 
 filter_keeps : (p : ℕ → Bool) (y : ℕ) (ys : List ℕ) → p y ≡ true → filter p (y ∷ ys) ≡ y ∷ filter p ys
 filter_keeps p y ys h = ap (λ (b : Bool). cond b (y ∷ filter p ys) (filter p ys)) h
@@ -96,78 +74,30 @@ filter_drops p y ys h = ap (λ (b : Bool). cond b (y ∷ filter p ys) (filter p 
 -- a filter keeps a number that is among them and passes
 pub among_filter : (p : ℕ → Bool) (x : ℕ) (xs : List ℕ) → is_among x xs ≡ true → p x ≡ true → is_among x (filter p xs) ≡ true
 among_filter p x [] h passed = h
-among_filter p x (y ∷ ys) h passed = elim (cases_eq x y) [
-  | inl here ↦ ap (is_among x) (filter_keeps p y ys (ap p (sym here) ∙ passed)) ∙ among_head x y (filter p ys) here
-  | inr other ↦
-      let rest = among_filter p x ys (sym (among_tail x y ys other) ∙ h) passed in
-      elim (cases_Bool (p y)) [
-        | inl kept ↦ ap (is_among x) (filter_keeps p y ys kept) ∙ among_more x y (filter p ys) rest
-        | inr dropped ↦ ap (is_among x) (filter_drops p y ys dropped) ∙ rest
-      ]
-]
+among_filter p x (y ∷ ys) h passed = grind (arith, common_steps, filter_keeps, among_head, among_tail, among_more, filter_drops, among_filter p x ys)
 
 -- and nothing else
 pub filter_among : (p : ℕ → Bool) (x : ℕ) (xs : List ℕ) → is_among x (filter p xs) ≡ true → (is_among x xs ≡ true) × (p x ≡ true)
 filter_among p x [] h = let no : false ≡ true = h in absurd (cc no)
-filter_among p x (y ∷ ys) h = elim (cases_Bool (p y)) [
-  | inl kept ↦ elim (cases_eq x y) [
-    | inl here ↦ (among_head x y ys here, ap p here ∙ kept)
-    | inr other ↦
-        let rest = filter_among p x ys (sym (among_tail x y (filter p ys) other) ∙ ap (is_among x) (sym (filter_keeps p y ys kept)) ∙ h) in
-        (among_more x y ys rest.0, rest.1)
-  ]
-  | inr dropped ↦
-      let rest = filter_among p x ys (ap (is_among x) (sym (filter_drops p y ys dropped)) ∙ h) in
-      (among_more x y ys rest.0, rest.1)
-]
+filter_among p x (y ∷ ys) h = grind (arith, common_steps, among_head, among_tail, filter_keeps, among_more, filter_drops, filter_among p x ys)
 
 -- a filter that no number passes leaves nothing
 pub filter_none : (p : ℕ → Bool) (xs : List ℕ) → ((x : ℕ) → is_among x xs ≡ true → p x ≡ true → ⊥) → filter p xs ≡ []
 filter_none p [] none = refl
-filter_none p (y ∷ ys) none = elim (cases_Bool (p y)) [
-  | inl kept ↦ absurd (none y (among_head y y ys refl) kept)
-  | inr dropped ↦ filter_drops p y ys dropped ∙ filter_none p ys (λ x h. none x (among_more x y ys h))
-]
+filter_none p (y ∷ ys) none = grind (arith, common_steps, among_head, filter_drops, among_more, filter_none p ys (λ x h. none x (among_more x y ys h)))
 
 -- a filter that only one number passes leaves that number
 pub filter_one : (p : ℕ → Bool) (x : ℕ) (xs : List ℕ) → all_differ xs ≡ true → is_among x xs ≡ true → p x ≡ true → ((y : ℕ) → is_among y xs ≡ true → p y ≡ true → y ≡ x) → filter p xs ≡ x ∷ []
 filter_one p x [] differ h passed only = let no : false ≡ true = h in absurd (cc no)
-filter_one p x (y ∷ ys) differ h passed only =
-    let apart = differ_tail y ys differ in
-    elim (cases_Bool (p y)) [
-      | inl kept ↦
-          let here : y ≡ x = only y (among_head y y ys refl) kept in
-          filter_keeps p y ys kept
-          ∙ ap (λ (zs : List ℕ). y ∷ zs) (filter_none p ys (λ z among pass.
-          let same : z ≡ y = only z (among_more z y ys among) pass ∙ sym here in
-          let no : false ≡ true = sym apart.0 ∙ ap (λ (n : ℕ). is_among n ys) (sym same) ∙ among in cc no))
-          ∙ ap (λ (n : ℕ). n ∷ []) here
-      | inr dropped ↦
-          let other : x ≡ y → ⊥ = λ e. let no : false ≡ true = sym dropped ∙ ap p (sym e) ∙ passed in cc no in
-          filter_drops p y ys dropped
-          ∙ filter_one p x ys apart.1 (sym (among_tail x y ys other) ∙ h) passed (λ z among pass. only z (among_more z y ys among) pass)
-    ]
+filter_one p x (y ∷ ys) differ h passed only = grind (arith, common_steps, differ_tail, among_head, filter_keeps, filter_none, among_more, filter_drops, among_tail, filter_one p x ys)
 
 pub differ_unmap : (f : ℕ → ℕ) (xs : List ℕ) → all_differ (map f xs) ≡ true → all_differ xs ≡ true
 differ_unmap f [] h = refl
-differ_unmap f (x ∷ xs) h =
-    let apart = differ_tail (f x) (map f xs) h in
-    elim (cases_Bool (is_among x xs)) [
-      | inl found ↦ let no : false ≡ true = sym apart.0 ∙ among_map f x xs found in absurd (cc no)
-      | inr none ↦ ap (λ (b : Bool). cond b false (all_differ xs)) none ∙ differ_unmap f xs apart.1
-    ]
+differ_unmap f (x ∷ xs) h = grind (arith, common_steps, differ_tail, among_map, differ_unmap f xs)
 
 pub differ_filter : (p : ℕ → Bool) (xs : List ℕ) → all_differ xs ≡ true → all_differ (filter p xs) ≡ true
 differ_filter p [] h = refl
-differ_filter p (x ∷ xs) h =
-    let apart = differ_tail x xs h in
-    elim (cases_Bool (p x)) [
-      | inl kept ↦ elim (cases_Bool (is_among x (filter p xs))) [
-        | inl found ↦ let no : false ≡ true = sym apart.0 ∙ (filter_among p x xs found).0 in absurd (cc no)
-        | inr none ↦ ap all_differ (filter_keeps p x xs kept) ∙ ap (λ (b : Bool). cond b false (all_differ (filter p xs))) none ∙ differ_filter p xs apart.1
-      ]
-      | inr dropped ↦ ap all_differ (filter_drops p x xs dropped) ∙ differ_filter p xs apart.1
-    ]
+differ_filter p (x ∷ xs) h = grind (arith, common_steps, differ_tail, filter_among, filter_keeps, filter_drops, differ_filter p xs)
 
 -- the test of membership and the fact
 pub among_contains : (x : ℕ) (xs : List ℕ) → is_among x xs ≡ true → Contains xs x
@@ -185,10 +115,7 @@ contains_among x (y ∷ ys) (suc k, within, here) = among_more x y ys (contains_
 -- an element of a mapped list comes from the list
 pub from_map : (f : ℕ → ℕ) (x : ℕ) (xs : List ℕ) → is_among x (map f xs) ≡ true → (y : ℕ) × (is_among y xs ≡ true) × (f y ≡ x)
 from_map f x [] h = let no : false ≡ true = h in absurd (cc no)
-from_map f x (y ∷ ys) h = elim (cases_eq x (f y)) [
-  | inl here ↦ (y, among_head y y ys refl, sym here)
-  | inr other ↦ let rest = from_map f x ys (sym (among_tail x (f y) (map f ys) other) ∙ h) in (rest.0, among_more rest.0 y ys rest.1, rest.2)
-]
+from_map f x (y ∷ ys) h = grind (arith, common_steps, among_head, among_tail, among_more, from_map f x ys)
 
 -- an injective map keeps the numbers different
 pub differ_map : (f : ℕ → ℕ) (xs : List ℕ) → all_differ xs ≡ true → ((x y : ℕ) → is_among x xs ≡ true → is_among y xs ≡ true → f x ≡ f y → x ≡ y) → all_differ (map f xs) ≡ true
@@ -213,9 +140,7 @@ among_get (x ∷ xs) (suc i) d inside = among_more (get_or xs i d) x xs (among_g
 pub differ_pairs : (xs : List ℕ) → all_differ xs ≡ true → AllPairs (λ (x y : ℕ). x ≢ y) xs
 differ_pairs [] h i j d order inside = absurd (omega (arith, inside))
 differ_pairs (x ∷ xs) h zero zero d order inside = absurd (omega arith)
-differ_pairs (x ∷ xs) h zero (suc j) d order inside = λ same.
-    let no : false ≡ true = sym (differ_tail x xs h).0 ∙ ap (λ (n : ℕ). is_among n xs) same ∙ among_get xs j d (omega (arith, inside)) in
-    cc no
+differ_pairs (x ∷ xs) h zero (suc j) d order inside = grind (arith, common_steps, differ_tail, among_get)
 differ_pairs (x ∷ xs) h (suc i) zero d order inside = absurd (omega arith)
 differ_pairs (x ∷ xs) h (suc i) (suc j) d order inside = differ_pairs xs (differ_tail x xs h).1 i j d (omega arith) (omega (arith, inside))
 
@@ -232,24 +157,9 @@ among_either x xs ys h = elim (Contains-append_cases xs ys x (among_contains x (
 -- two lists of different numbers with none in common
 pub differ_append : (xs ys : List ℕ) → all_differ xs ≡ true → all_differ ys ≡ true → ((x : ℕ) → is_among x xs ≡ true → is_among x ys ≡ true → ⊥) → all_differ (xs ++ ys) ≡ true
 differ_append [] ys hx hy apart = hy
-differ_append (x ∷ xs) ys hx hy apart =
-    let first = differ_tail x xs hx in
-    let rest = differ_append xs ys first.1 hy (λ z left right. apart z (among_more z x xs left) right) in
-    elim (cases_Bool (is_among x (xs ++ ys))) [
-      | inl found ↦ elim (among_either x xs ys found) [
-        | inl left ↦ let no : false ≡ true = sym first.0 ∙ left in absurd (cc no)
-        | inr right ↦ absurd (apart x (among_head x x xs refl) right)
-      ]
-      | inr none ↦ ap (λ (b : Bool). cond b false (all_differ (xs ++ ys))) none ∙ rest
-    ]
+differ_append (x ∷ xs) ys hx hy apart = grind (arith, common_steps, differ_tail, among_more, among_either, among_head, differ_append xs ys)
 
 -- tests that agree on each element keep as many
 pub filter_agree : (p q : ℕ → Bool) (xs : List ℕ) → ((x : ℕ) → is_among x xs ≡ true → p x ≡ q x) → length (filter p xs) ≡ length (filter q xs)
 filter_agree p q [] same = refl
-filter_agree p q (x ∷ xs) same =
-    let rest = filter_agree p q xs (λ y h. same y (among_more y x xs h)) in
-    let here = same x (among_head x x xs refl) in
-    elim (cases_Bool (q x)) [
-      | inl kept ↦ ap length (filter_keeps p x xs (here ∙ kept)) ∙ ap suc rest ∙ sym (ap length (filter_keeps q x xs kept))
-      | inr dropped ↦ ap length (filter_drops p x xs (here ∙ dropped)) ∙ rest ∙ sym (ap length (filter_drops q x xs dropped))
-    ]
+filter_agree p q (x ∷ xs) same = grind (arith, common_steps, among_more, among_head, filter_keeps, filter_drops, filter_agree p q xs (λ y h. same y (among_more y x xs h)))

@@ -1,9 +1,9 @@
 -- How many error masks of two, three and four bit errors miscorrect a block: the remainder and the span of the mask decide. The counts are
 -- computed, bit by bit.
-use Rattle.rds_code.proofs.Names.{◌≡◌, ◌≢◌, ◌⊎◌, ℕ, zero, suc, ◌+◌, ◌-◌, ◌*◌, ◌^◌, ◌<◌, ◌≤◌, List, [], ◌∷◌, ◌++◌, length, get_or, map, Bool, true, false, cond, not, ◌&&◌, refl, sym, ap, ap₂, ◌∙◌, arith, inl, inr, eqb, leb, subst, bit_xor, lit<, bit_at, filter, pow-suc, xor_assoc, xor_self, xor_zero_r, xor_shifted, count_leading_zeros, count_trailing_zeros, ones, ones-le, get_or_append_left, get_or-append-add, xor_comm, xor_lt, cases_Bool, cases_eq, cases_lt, eq-eqb, ne_eqb, le-leb, leb-true, Offset, A, B, C, Cx, D, Wanted, Either, Reading, Corrected, rem, word, number, offset_of, burst_length, IsBurst, bursts, information, IsValid, wanted_offsets, corrections, by_only, reading, IsBlockOf, alone, other_third_offset, error_masks, is_miscorrection, miscorrections, miscorrected, miscorrected_third, miscorrected_either, CountsAllMiscorrections}
+use Rattle.rds_code.proofs.Names.{common_steps, ◌≡◌, ◌≢◌, ◌⊎◌, ℕ, zero, suc, ◌+◌, ◌-◌, ◌*◌, ◌^◌, ◌<◌, ◌≤◌, List, [], ◌∷◌, ◌++◌, length, get_or, map, Bool, true, false, cond, not, ◌&&◌, refl, sym, ap, ap₂, ◌∙◌, arith, inl, inr, eqb, leb, subst, bit_xor, lit<, bit_at, filter, pow-suc, xor_assoc, xor_self, xor_zero_r, xor_shifted, count_leading_zeros, count_trailing_zeros, ones-le, get_or_append_left, get_or-append-add, xor_comm, xor_lt, cases_Bool, cases_eq, cases_lt, eq-eqb, ne_eqb, le-leb, leb-true, Offset, A, B, C, Cx, D, Wanted, Either, Reading, Corrected, rem, word, number, offset_of, burst_length, IsBurst, bursts, information, IsValid, wanted_offsets, corrections, by_only, reading, IsBlockOf, alone, other_third_offset, error_masks, is_miscorrection, miscorrections, miscorrected, miscorrected_third, miscorrected_either, CountsAllMiscorrections}
 use Rattle.std.proofs.Math.Pow.{pow_pos}
 use Rattle.rds_code.proofs.RemainderLemmas.{rem-short, rem-xor, twice}
-use Rattle.rds_code.proofs.Membership.{is_among, all_below, passes_below, EachBelow, each_below, among_map, from_map, filter_agree}
+use Rattle.rds_code.proofs.Membership.{is_among, all_below, passes_below, each_below, among_map, from_map, filter_agree}
 use Rattle.rds_code.proofs.BurstLemmas.{burst_is_one, longer, limit_is_among, among_limit_is}
 use Rattle.rds_code.proofs.CorrectionLemmas.{undone, damaged, became, word_offset, alone_wanted, own_or_other, other_number}
 use Rattle.rds_code.proofs.ReadingLemmas.{NoneFits, OneFits, fitting, fits_or_not, corrections_none, corrections_one, corrections_two, fits_by_remainder, wanted_remainder, wanted_remainder-lt, reads_valid, reads_corrected, valid_or_not, only_A, only_B, only_D, wanted_1, wanted_2, wanted_4}
@@ -31,9 +31,7 @@ same a b = cond a b (not b)
 
 same_is : (a b : Bool) → same a b ≡ true → a ≡ b
 unfolding same
-same_is true b h = sym h
-same_is false true h = h
-same_is false false h = refl
+same_is a b h = grind (arith, common_steps, same)
 
 agrees : ℕ → List ℕ → ℕ → Bool
 agrees limit rs r = same (is_near limit r) (is_among r rs)
@@ -174,12 +172,7 @@ record Fitting (limit v : ℕ) (o : Offset) (es : List ℕ) : Type 0 where
   is : ((es ≡ []) × (is_near limit (bit_xor (rem v) (word o)) ≡ false)) ⊎ ((d : ℕ) × (es ≡ d ∷ []) × OneFits limit v o d × (is_near limit (bit_xor (rem v) (word o)) ≡ true))
 
 fitting_is : (limit v : ℕ) (o : Offset) → limit ≤ 5 → v < 2 ^ 26 → (es : List ℕ) × Fitting limit v o es
-fitting_is limit v o few inside =
-    let small = wanted_remainder-lt v o inside in
-    elim (fits_or_not limit v o few) [
-      | inl none ↦ ([], record { list = none.list; is = inl (refl, near_none limit v o few small none) })
-      | inr some ↦ (some.0 ∷ [], record { list = some.1.list; is = inr (some.0, refl, some.1, near_one limit v o some.0 few small some.1) })
-    ]
+fitting_is limit v o few inside = grind (arith, common_steps, wanted_remainder-lt, fits_or_not, near_none, near_one)
 
 module _ (w info e limit : ℕ) (o p : Offset) (h : IsBlockOf w info o) (inside : e < 2 ^ 26) (few : limit ≤ 5) (pos : 0 < e)
     (other : (j d : ℕ) → is_miscorrection o info (Corrected p j d) ≡ true) (sum : bit_xor (word o) (word p) ≡ 0x238) where
@@ -202,32 +195,13 @@ module _ (w info e limit : ℕ) (o p : Offset) (h : IsBlockOf w info o) (inside 
   unfolding by_pairs one_of
   pairs_are es ds own another = elim own.is [
     | inl none ↦ elim another.is [
-      | inl none2 ↦
-          let test = both_near false false (ap (is_near limit) (sym (own_remainder w info e limit o h inside few)) ∙ none.1) (ap (is_near limit) (sym other_remainder) ∙ none2.1) in (
-            ap₂ (λ (x y : List ℕ). is_miscorrection o info (by_pairs (bit_xor w e) o p x y)) none.0 none2.0 ∙ sym test,
-            ap₂ (λ (x y : List ℕ). is_miscorrection o info (by_pairs (bit_xor w e) p o y x)) none.0 none2.0 ∙ sym test,
-          )
-      | inr some2 ↦
-          let test = both_near false true (ap (is_near limit) (sym (own_remainder w info e limit o h inside few)) ∙ none.1) (ap (is_near limit) (sym other_remainder) ∙ some2.3) in (
-            ap₂ (λ (x y : List ℕ). is_miscorrection o info (by_pairs (bit_xor w e) o p x y)) none.0 some2.1 ∙ other (information (bit_xor (bit_xor w e) some2.0)) some2.0 ∙ sym test,
-            ap₂ (λ (x y : List ℕ). is_miscorrection o info (by_pairs (bit_xor w e) p o y x)) none.0 some2.1 ∙ other (information (bit_xor (bit_xor w e) some2.0)) some2.0 ∙ sym test,
-          )
+      | inl none2 ↦ grind (arith, common_steps, both_near, own_remainder w info e limit o h inside few, other_remainder, mis_own, told w info e limit o h inside few, other)
+      | inr some2 ↦ grind (arith, common_steps, both_near, own_remainder w info e limit o h inside few, other_remainder, mis_own, told w info e limit o h inside few, other)
     ]
-    | inr some ↦
-        let mine : is_miscorrection o info (Corrected o (information (bit_xor (bit_xor w e) some.0)) some.0) ≡ is_e =
-        mis_own o info (information (bit_xor (bit_xor w e) some.0)) some.0 ∙ ap not (told w info e limit o h inside few some.0 some.2.burst some.2.fits pos) in
-        elim another.is [
-          | inl none2 ↦
-              let test = both_near true false (ap (is_near limit) (sym (own_remainder w info e limit o h inside few)) ∙ some.3) (ap (is_near limit) (sym other_remainder) ∙ none2.1) in (
-                ap₂ (λ (x y : List ℕ). is_miscorrection o info (by_pairs (bit_xor w e) o p x y)) some.1 none2.0 ∙ mine ∙ sym test,
-                ap₂ (λ (x y : List ℕ). is_miscorrection o info (by_pairs (bit_xor w e) p o y x)) some.1 none2.0 ∙ mine ∙ sym test,
-              )
-          | inr some2 ↦
-              let test = both_near true true (ap (is_near limit) (sym (own_remainder w info e limit o h inside few)) ∙ some.3) (ap (is_near limit) (sym other_remainder) ∙ some2.3) in (
-                ap₂ (λ (x y : List ℕ). is_miscorrection o info (by_pairs (bit_xor w e) o p x y)) some.1 some2.1 ∙ sym test,
-                ap₂ (λ (x y : List ℕ). is_miscorrection o info (by_pairs (bit_xor w e) p o y x)) some.1 some2.1 ∙ sym test,
-              )
-        ]
+    | inr some ↦ elim another.is [
+      | inl none2 ↦ grind (arith, common_steps, both_near, own_remainder w info e limit o h inside few, other_remainder, mis_own, told w info e limit o h inside few, other)
+      | inr some2 ↦ grind (arith, common_steps, both_near, own_remainder w info e limit o h inside few, other_remainder, mis_own, told w info e limit o h inside few, other)
+    ]
   ]
 
   both_is : ((q : Offset) → IsValid (bit_xor w e) 3 q → (rem e ≡ 0) ⊎ (rem e ≡ 0x238)) → (rem e ≡ 0 → (q : Offset) × IsValid (bit_xor w e) 3 q) → (rem e ≡ 0x238 → (q : Offset) × IsValid (bit_xor w e) 3 q)
@@ -269,11 +243,7 @@ others_are w info e limit C wanted h inside few pos apart = absurd (apart refl)
 others_are w info e limit Cx wanted h inside few pos apart = absurd (apart refl)
 
 sum_of : (o : Offset) → number o ≡ 3 → bit_xor (word o) (word (other_third_offset o)) ≡ 0x238
-sum_of C own = refl
-sum_of Cx own = refl
-sum_of A own = absurd (omega (arith, own))
-sum_of B own = absurd (omega (arith, own))
-sum_of D own = absurd (omega (arith, own))
+sum_of o own = grind (arith, common_steps)
 
 -- a block 3 is valid by either version
 third_leaves : (w info e : ℕ) (o : Offset) → IsBlockOf w info o → number o ≡ 3 → (p : Offset) → IsValid (bit_xor w e) 3 p → (rem e ≡ 0) ⊎ (rem e ≡ 0x238)
@@ -343,10 +313,7 @@ same_maps f g [] each = refl
 same_maps f g (t ∷ ts) each = ap₂ (λ (x : ℕ) (xs : List ℕ). x ∷ xs) (each t) (same_maps f g ts each)
 
 one_more : (p : ℕ → Bool) (e : ℕ) (es : List ℕ) → cond (p e) 1 0 + length (filter p es) ≡ length (filter p (e ∷ es))
-one_more p e es = elim (cases_Bool (p e)) [
-  | inl kept ↦ ap (λ (b : Bool). cond b 1 0 + length (filter p es)) kept ∙ omega arith ∙ sym (ap (λ (b : Bool). length (cond b (e ∷ filter p es) (filter p es))) kept)
-  | inr dropped ↦ ap (λ (b : Bool). cond b 1 0 + length (filter p es)) dropped ∙ omega arith ∙ sym (ap (λ (b : Bool). length (cond b (e ∷ filter p es) (filter p es))) dropped)
-]
+one_more p e es = grind (arith, common_steps)
 
 -- how many of the masks a test passes
 passed : List ℕ → Test → ℕ
@@ -393,9 +360,7 @@ no_carry_with k e above d small =
 
 no_carry_zero : (k : ℕ) → NoCarry k 0
 unfolding NoCarry
-no_carry_zero k d small =
-    let same : d + 0 ≡ d = omega arith in
-    ap rem same ∙ sym (xor_zero_r (rem d)) ∙ ap (bit_xor (rem d)) (sym (rem-short 0 (lit< tt)))
+no_carry_zero k d small = grind (arith, common_steps, xor_zero_r, rem-short, lit<)
 
 -- the masks of a list that pass, and of another whose masks are those of a third
 split : (p : ℕ → Bool) (f g h : ℕ → ℕ) → ((d : ℕ) → f (g d) ≡ h d) → (xs ys : List ℕ)
@@ -407,28 +372,14 @@ split p f g h agree [] ys =
     fused : (ys : List ℕ) → map h ys ≡ map f (map g ys)
     fused [] = refl
     fused (y ∷ ys) = ap₂ (λ (z : ℕ) (zs : List ℕ). z ∷ zs) (sym (agree y)) (fused ys)
-split p f g h agree (x ∷ xs) ys =
-    omega (arith, one_more p (f x) (map f xs), one_more p (f x) (map f (xs ++ map g ys)), split p f g h agree xs ys)
+split p f g h agree (x ∷ xs) ys = grind (arith, common_steps, one_more, split p f g h agree xs ys)
 
 walked_are : (ts : List Test) (n k e r : ℕ) → NoCarry k e → r ≡ rem e
     → walked ts n (bits_below k) e r ≡ map (passed (map (λ d. e + d) (error_masks n k))) ts
 unfolding walked passed bits_below
-walked_are ts zero k e r above is =
-    same_maps (λ t. cond (t r (burst_length e)) 1 0) (passed ((e + 0) ∷ [])) ts (λ t.
-    let none : e ≡ e + 0 = omega arith in
-    let nothing : cond (t r (burst_length e)) 1 0 ≡ cond (t r (burst_length e)) 1 0 + 0 = omega arith in
-    nothing
-    ∙ ap (λ (m : ℕ). cond (t m (burst_length e)) 1 0 + 0) is
-    ∙ ap (λ (m : ℕ). cond (t (rem m) (burst_length m)) 1 0 + 0) none
-    ∙ one_more (λ d. t (rem d) (burst_length d)) (e + 0) [])
+walked_are ts zero k e r above is = grind (arith, common_steps, same_maps, passed, one_more, walked, bits_below)
 walked_are ts (suc n) zero e r above is = refl
-walked_are ts (suc n) (suc k) e r above is =
-    let with_bit : bit_xor (rem (2 ^ k)) r ≡ rem (2 ^ k + e) = ap (bit_xor (rem (2 ^ k))) is ∙ sym (no_carry_at k e above) in
-    ap₂ add (walked_are ts (suc n) k e r (no_carry_below k e above) is)
-    (walked_are ts n k (2 ^ k + e) (bit_xor (rem (2 ^ k)) r) (no_carry_with k e above) with_bit)
-    ∙ add-maps (passed (map (λ d. e + d) (error_masks (suc n) k))) (passed (map (λ d. 2 ^ k + e + d) (error_masks n k)))
-    (passed (map (λ d. e + d) (error_masks (suc n) (suc k)))) ts (λ t.
-    split (λ d. t (rem d) (burst_length d)) (λ d. e + d) (λ d. 2 ^ k + d) (λ d. 2 ^ k + e + d) (λ d. omega arith) (error_masks (suc n) k) (error_masks n k))
+walked_are ts (suc n) (suc k) e r above is = grind (arith, common_steps, no_carry_at, add, no_carry_below, no_carry_with, add-maps, passed, split, walked, bits_below, walked_are ts (suc n) k e r (no_carry_below k e above) is, walked_are ts n k (2 ^ k + e) (bit_xor (rem (2 ^ k)) r) (no_carry_with k e above) (ap (bit_xor (rem (2 ^ k))) is ∙ sym (no_carry_at k e above)))
 
 -- block 3 differs from the others only at limit 5
 all_limits : List ℕ
@@ -491,8 +442,7 @@ all_counts n least most =
 -- the count of one test is its own of all of them
 own_passed : (es : List ℕ) (limit : ℕ) → limit ≤ 5 → passed es (own_test 0 limit) ≡ get_or (map (passed es) all_tests) limit 0
 unfolding all_tests all_limits
-own_passed es limit few =
-    each_below (λ l. passed es (own_test 0 l) ≡ get_or (map (passed es) all_tests) l 0) 6 (refl, (refl, (refl, (refl, (refl, (refl, tt)))))) limit (omega (arith, few))
+own_passed es limit few = grind (arith, common_steps, each_below, passed, own_test, all_tests)
 
 third_passed : (es : List ℕ) → passed es (own_test 0x238 5) ≡ get_or (map (passed es) all_tests) 6 0
 unfolding all_tests all_limits
@@ -510,18 +460,7 @@ other_far limit few = each_below (λ l. is_near l 0x238 ≡ false) 5 (refl, (ref
 
 third_alike : (limit r n : ℕ) → limit ≤ 4 → own_test 0x238 limit r n ≡ own_test 0 limit r n
 unfolding own_test
-third_alike limit r n few =
-    let rest : Bool = cond (is_near limit r) (not (leb n limit)) false in
-    let far : (s : ℕ) → r ≡ s → is_near limit s ≡ false → rest ≡ false = λ s here none. ap (λ (b : Bool). cond b (not (leb n limit)) false) (ap (is_near limit) here ∙ none) in
-    elim (cases_eq r 0x238) [
-      | inl here ↦
-          let apart : r ≡ 0 → ⊥ = λ none. absurd (omega (arith, here, none)) in
-          ap (λ (b : Bool). cond b false rest) (eq-eqb r 0x238 here) ∙ sym (ap (λ (b : Bool). cond b false rest) (ne_eqb r 0 apart) ∙ far 0x238 here (other_far limit few))
-      | inr other ↦ elim (cases_eq r 0) [
-        | inl none ↦ ap (λ (b : Bool). cond b false rest) (ne_eqb r 0x238 other) ∙ far 0 none (near_zero limit (omega (arith, few))) ∙ sym (ap (λ (b : Bool). cond b false rest) (eq-eqb r 0 none))
-        | inr some ↦ ap (λ (b : Bool). cond b false rest) (ne_eqb r 0x238 other ∙ sym (ne_eqb r 0 some))
-      ]
-    ]
+third_alike limit r n few = grind (arith, common_steps, is_near, eq-eqb, ne_eqb, other_far, near_zero, own_test)
 
 six : (k : ℕ) → k ≤ 2 → length (get_or miscorrected k []) ≡ 6
 six k few = each_below (λ i. length (get_or miscorrected i []) ≡ 6) 3 (refl, (refl, (refl, tt))) k (omega (arith, few))
@@ -532,9 +471,7 @@ seven k few = each_below (λ i. length (own_row i) ≡ 7) 3 (refl, (refl, (refl,
 
 own_place : (k limit : ℕ) → k ≤ 2 → limit ≤ 5 → get_or (all_row k) limit 0 ≡ get_or (get_or miscorrected k []) limit 0
 unfolding all_row own_row
-own_place k limit few short =
-    get_or_append_left (own_row k) (get_or miscorrected_either k []) 0 limit (omega (arith, seven k few, short))
-    ∙ get_or_append_left (get_or miscorrected k []) (get_or (get_or miscorrected_third k []) 5 0 ∷ []) 0 limit (omega (arith, six k few, short))
+own_place k limit few short = grind (arith, common_steps, get_or_append_left, own_row, seven, six, all_row)
 
 third_place : (k : ℕ) → k ≤ 2 → get_or (all_row k) 6 0 ≡ get_or (get_or miscorrected_third k []) 5 0
 unfolding all_row own_row
@@ -542,35 +479,24 @@ third_place k few = each_below (λ i. get_or (all_row i) 6 0 ≡ get_or (get_or 
 
 either_place : (k limit : ℕ) → k ≤ 2 → get_or (all_row k) (7 + limit) 0 ≡ get_or (get_or miscorrected_either k []) limit 0
 unfolding all_row
-either_place k limit few =
-    ap (λ (n : ℕ). get_or (own_row k ++ get_or miscorrected_either k []) (n + limit) 0) (sym (seven k few))
-    ∙ get_or-append-add (own_row k) (get_or miscorrected_either k []) limit 0
+either_place k limit few = grind (arith, common_steps, own_row, seven, get_or-append-add, all_row)
 
 -- the rows agree below the last limit
 rows_agree : (k limit : ℕ) → k ≤ 2 → limit ≤ 4 → get_or (get_or miscorrected k []) limit 0 ≡ get_or (get_or miscorrected_third k []) limit 0
-rows_agree k limit few short =
-    each_below (λ l. get_or (get_or miscorrected k []) l 0 ≡ get_or (get_or miscorrected_third k []) l 0) 5
-    (each_below (λ i. EachBelow (λ l. get_or (get_or miscorrected i []) l 0 ≡ get_or (get_or miscorrected_third i []) l 0) 5) 3
-    ((refl, (refl, (refl, (refl, (refl, tt))))), ((refl, (refl, (refl, (refl, (refl, tt))))), ((refl, (refl, (refl, (refl, (refl, tt))))), tt))) k (omega (arith, few)))
-    limit (omega (arith, short))
+rows_agree k limit few short = grind (arith, common_steps, each_below)
 
 -- ---- the law
 
 -- a mask with bit errors is not 0
 mask_pos : (n e : ℕ) → 2 ≤ n → is_among e (error_masks n 26) ≡ true → 0 < e
-mask_pos n e least listed = elim (cases_eq e 0) [
-  | inl none ↦ absurd (omega (arith, least, (masks_are n 26 e listed).1, ap ones none, ones-le 0 0 (lit< tt)))
-  | inr some ↦ omega (arith, some)
-]
+mask_pos n e least listed = grind (arith, common_steps, masks_are, ones-le, lit<, is_among)
 
 -- the masks that miscorrect a block are those that pass the test of its kind
 by_test : (w info limit n : ℕ) (o : Offset) (wanted : Wanted) (t : Test) → IsBlockOf w info o → limit ≤ 5 → 2 ≤ n
     → ((e : ℕ) → e < 2 ^ 26 → 0 < e → is_miscorrection o info (reading (bit_xor w e) (number o) wanted limit) ≡ t (rem e) (burst_length e))
     → miscorrections w info o wanted limit n ≡ passed (error_masks n 26) t
 unfolding passed
-by_test w info limit n o wanted t h few least is =
-    filter_agree (λ e. is_miscorrection o info (reading (bit_xor w e) (number o) wanted limit)) (λ e. t (rem e) (burst_length e)) (error_masks n 26)
-    (λ e listed. is e (masks_are n 26 e listed).0 (mask_pos n e least listed))
+by_test w info limit n o wanted t h few least is = grind (arith, common_steps, filter_agree, masks_are, mask_pos, passed)
 
 pub counts_all_miscorrections : CountsAllMiscorrections
 counts_all_miscorrections w info o limit n h few least most = record {

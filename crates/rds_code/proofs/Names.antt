@@ -2,6 +2,7 @@
 pub use Rattle.std.proofs.Common.{Bool, IfSome, IsTrue, List, None, Option, Some, [], ap, ap₂, arith, bit_and, bit_or, bit_xor, cond, drop, eqb, false, find, get_or, if◌then◌else◌, inl, inr, leb, length, lit<, lit≤, ltb, map, not, pow-add, pow_mono, refl, replicate, set, slice_index, subst, suc, sym, take, true, vec_capacity, vec_items, vec_len, zero, ℕ, ◌%◌, ◌&&◌, ◌*◌, ◌++◌, ◌+◌, ◌-◌, ◌/◌, ◌<◌, ◌==◌, ◌^◌, ◌∙◌, ◌∷◌, ◌≡◌, ◌≢◌, ◌≤◌, ◌⊎◌}
 pub use Rattle.std.proofs.Math.Nat.{mul-div_cancel, mul-le-mul_right, mul-suc, mul_assoc, one-mul, pow-suc, suc-mul, zero-mul}
 pub use Rattle.std.proofs.lemmas.Bool.{cases_Bool, cases_eq, cases_lt, eq-eqb, eqb-true, le-leb, leb-true, lt-ltb, ltb-true, ne_eqb}
+pub use Rattle.std.proofs.lemmas.Grind.{common_steps}
 pub use Rattle.std.proofs.lemmas.List.{get_or-append-add, get_or-replicate, get_or-set_other, get_or-set_same, get_or_append_left, get_or_default, length-append, length-replicate, take-append-le, take_all}
 pub use Rattle.std.proofs.lemmas.List.FromFn.{get_or-map-range_with_len}
 pub use Rattle.std.proofs.lemmas.Nat.{or_shifted, pow_pos, xor_comm, xor_lt, xor_mod, xor_shr}

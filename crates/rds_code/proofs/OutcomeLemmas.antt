@@ -1,5 +1,5 @@
 -- How a block came out, by the outcomes of its window with the offsets that it may have.
-use Rattle.rds_code.proofs.Names.{◌≡◌, ℕ, zero, suc, ◌<◌, ◌≤◌, List, [], ◌∷◌, ◌++◌, length, get_or, slice_index, map, refl, sym, ap, ◌∙◌, arith, inl, inr, ◌⊎◌, bit_xor, subst, Some, ◌+◌, ◌%◌, ◌==◌, if◌then◌else◌, bit_at, bit_at-lt, bit_at_xor, xor_self, xor_zero_r, ones, get_or_append_left, get_or_default, length-append, below_more, Offset, B, C, Cx, Wanted, OnlyC, OnlyCx, Either, Reading, Corrected, Lost, rem, word, number, offset_of, IsBurst, burst_length, outcome_number, burst_outcome, wanted_after, wanted_of_info, HasNoBurst, IsEntry, IsOutcome, IsTurn, StandIn, wanted_at, information, IsValid, wanted_offsets, corrections, by_only, reading}
+use Rattle.rds_code.proofs.Names.{common_steps, ◌≡◌, ℕ, zero, suc, ◌<◌, ◌≤◌, List, [], ◌∷◌, ◌++◌, length, get_or, slice_index, map, refl, sym, ap, ◌∙◌, arith, inl, inr, ◌⊎◌, bit_xor, subst, Some, ◌+◌, ◌%◌, ◌==◌, if◌then◌else◌, bit_at, bit_at-lt, bit_at_xor, xor_self, xor_zero_r, ones, get_or_append_left, get_or_default, length-append, below_more, Offset, B, C, Cx, Wanted, OnlyC, OnlyCx, Either, Reading, Corrected, Lost, rem, word, number, offset_of, IsBurst, burst_length, outcome_number, burst_outcome, wanted_after, wanted_of_info, HasNoBurst, IsEntry, IsOutcome, IsTurn, StandIn, wanted_at, information, IsValid, wanted_offsets, corrections, by_only, reading}
 use Rattle.std.proofs.Math.Seq.{get_or-append_seam}
 use Rattle.rds_code.specs.Inside.Outcomes.{HasBurst}
 use Rattle.rds_code.proofs.RemainderLemmas.{twice}
@@ -69,24 +69,14 @@ module _ (limit d k : ℕ) (few : limit ≤ 5) where
 
   -- a burst is no valid window
   pub not_zero : (e : ℕ) → HasBurst limit d e → 0 < d
-  not_zero e has = elim (zero_or_more d) [
-    | inl none ↦ absurd (rem-burst e (longer limit e few has.0) (has.1 ∙ none))
-    | inr more ↦ more
-  ]
-    where
-      zero_or_more : (n : ℕ) → (n ≡ 0) ⊎ (0 < n)
-      zero_or_more zero = inl refl
-      zero_or_more (suc n) = inr (omega arith)
+  not_zero e has = grind (arith, common_steps, rem-burst, longer)
 
   pub valid_by_outcome : IsOutcome limit d k → k ≡ 1 → d ≡ 0
-  valid_by_outcome (inl h) one = h.0
-  valid_by_outcome (inr (inl h)) one = absurd (omega (arith, h.2, one))
-  valid_by_outcome (inr (inr h)) one = absurd (omega (arith, h.2, one, at_least_three h.0 h.1.0))
+  valid_by_outcome it one = grind (arith, common_steps, at_least_three)
 
   -- of a window that is not valid: lost, or corrected by a burst
   pub damaged : IsOutcome limit d k → (k ≡ 1 → ⊥) → Damage limit d k
-  damaged (inl h) not = absurd (not h.1)
-  damaged (inr h) not = h
+  damaged it not = grind (arith, common_steps)
 
   pub burst_is_not_lost : (e : ℕ) → HasBurst limit d e → k ≡ burst_outcome (burst_length e) (ones e) → k ≡ 2 → ⊥
   burst_is_not_lost e has is lost = omega (arith, is, lost, at_least_three e has.0)
@@ -116,8 +106,7 @@ module _ (w limit : ℕ) (few : limit ≤ 5) where
 
   -- the reading of a damaged block for which one offset is wanted
   lost_with : (x : ℕ) (wanted : Wanted) (o : Offset) → wanted_offsets x wanted ≡ o ∷ [] → ((p : Offset) → IsValid w x p → ⊥) → HasNoBurst limit (sum_with o) → reading w x wanted limit ≡ Lost
-  lost_with x wanted o list not_valid none =
-      reads_corrected w x wanted limit not_valid ∙ ap (λ (os : List Offset). by_only w (corrections os limit w)) list ∙ ap (by_only w) (corrections_none limit w o (none_with o none))
+  lost_with x wanted o list not_valid none = grind (arith, common_steps, reads_corrected, corrections_none, none_with)
 
   corrected_with : (x : ℕ) (wanted : Wanted) (o : Offset) (e : ℕ) → wanted_offsets x wanted ≡ o ∷ [] → ((p : Offset) → IsValid w x p → ⊥) → HasBurst limit (sum_with o) e
       → reading w x wanted limit ≡ Corrected o (information (bit_xor w e)) e
@@ -180,35 +169,9 @@ module _ (w limit : ℕ) (few : limit ≤ 5) where
     pub both : (a ≡ 2 → ⊥) → (b ≡ 2 → ⊥) → 2 ≡ k
 
   pub third_as_either : (a b : ℕ) (version_a : Damage limit (sum_with C) a) (version_b : Damage limit (sum_with Cx) b) → IsEither a b (outcome_number (reading w 3 Either limit))
-  third_as_either a b (inl c) (inl cx) =
-      let is : reading w 3 Either limit ≡ Lost = by_lists a b (inl c) (inl cx) [] [] (none_with C c.1).list (none_with Cx cx.1).list in
-      record {
-        first_lost = λ lost. cx.2 ∙ sym (ap outcome_number is);
-        second_lost = λ not lost. absurd (not c.2);
-        both = λ not also. absurd (not c.2);
-      }
-  third_as_either a b (inl c) (inr cx) =
-      let e : ℕ = cx.0 in
-      let is : reading w 3 Either limit ≡ Corrected Cx (information (bit_xor w e)) e = by_lists a b (inl c) (inr cx) [] (e ∷ []) (none_with C c.1).list (one_with Cx e cx.1).list in
-      record {
-        first_lost = λ lost. cx.2 ∙ sym (ap outcome_number is);
-        second_lost = λ not lost. absurd (not c.2);
-        both = λ not also. absurd (not c.2);
-      }
+  third_as_either a b (inl c) (inl cx) = grind (arith, common_steps, by_lists a b (inl c) (inl cx) [] [] (none_with C c.1).list (none_with Cx cx.1).list)
+  third_as_either a b (inl c) (inr cx) = grind (arith, common_steps, by_lists a b (inl c) (inr cx) [] (cx.0 ∷ []) (none_with C c.1).list (one_with Cx cx.0 cx.1).list)
   third_as_either a b (inr c) (inl cx) =
-      let e : ℕ = c.0 in
-      let is : reading w 3 Either limit ≡ Corrected C (information (bit_xor w e)) e = by_lists a b (inr c) (inl cx) (e ∷ []) [] (one_with C e c.1).list (none_with Cx cx.1).list in
-      record {
-        first_lost = λ lost. absurd (burst_is_not_lost limit (sum_with C) a few e c.1 c.2 lost);
-        second_lost = λ not lost. c.2 ∙ sym (ap outcome_number is);
-        both = λ not also. absurd (also cx.2);
-      }
+      grind (arith, common_steps, by_lists a b (inr c) (inl cx) (c.0 ∷ []) [] (one_with C c.0 c.1).list (none_with Cx cx.1).list, burst_is_not_lost limit (sum_with C) a few c.0 c.1 c.2)
   third_as_either a b (inr c) (inr cx) =
-      let e : ℕ = c.0 in
-      let d : ℕ = cx.0 in
-      let is : reading w 3 Either limit ≡ Lost = by_lists a b (inr c) (inr cx) (e ∷ []) (d ∷ []) (one_with C e c.1).list (one_with Cx d cx.1).list in
-      record {
-        first_lost = λ lost. absurd (burst_is_not_lost limit (sum_with C) a few e c.1 c.2 lost);
-        second_lost = λ not lost. absurd (burst_is_not_lost limit (sum_with Cx) b few d cx.1 cx.2 lost);
-        both = λ not also. sym (ap outcome_number is);
-      }
+      grind (arith, common_steps, by_lists a b (inr c) (inr cx) (c.0 ∷ []) (cx.0 ∷ []) (one_with C c.0 c.1).list (one_with Cx cx.0 cx.1).list, burst_is_not_lost limit (sum_with C) a few c.0 c.1 c.2, burst_is_not_lost limit (sum_with Cx) b few cx.0 cx.1 cx.2)

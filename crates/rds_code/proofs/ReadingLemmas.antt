@@ -1,15 +1,11 @@
 -- How a window is corrected: with each offset no burst fits or one does, and the list of the pairs that fit is they.
-use Rattle.rds_code.proofs.Names.{◌≡◌, ℕ, zero, suc, ◌^◌, ◌<◌, ◌≤◌, List, [], ◌∷◌, ◌++◌, Bool, true, false, map, refl, sym, ap, ap₂, ◌∙◌, arith, inl, inr, ◌⊎◌, eqb, subst, bit_xor, Option, Some, None, lit<, IsTrue, IfSome, filter, cases_eq, eq-eqb, eqb-true, ne_eqb, xor_lt, Offset, A, B, C, Cx, D, Wanted, OnlyC, OnlyCx, Either, Reading, Valid, Corrected, Lost, rem, word, number, offset_of, IsBurst, bursts, information, allows, IsValid, IsReading, wanted_offsets, corrections, by_only, corrected, read_from, reading}
+use Rattle.rds_code.proofs.Names.{common_steps, ◌≡◌, ℕ, zero, suc, ◌^◌, ◌<◌, ◌≤◌, List, [], ◌∷◌, ◌++◌, Bool, true, false, map, refl, sym, ap, ap₂, ◌∙◌, arith, inl, inr, ◌⊎◌, eqb, subst, bit_xor, Option, Some, None, lit<, IsTrue, IfSome, filter, cases_eq, eq-eqb, eqb-true, ne_eqb, xor_lt, Offset, A, B, C, Cx, D, Wanted, OnlyC, OnlyCx, Either, Reading, Valid, Lost, rem, word, number, offset_of, IsBurst, bursts, information, allows, IsValid, IsReading, wanted_offsets, corrections, by_only, corrected, read_from, reading}
 use Rattle.rds_code.proofs.RemainderLemmas.{rem-xor, rem-lt, twice}
 use Rattle.rds_code.proofs.Membership.{is_among, filter_none, filter_one, filter_among, among_head, among_filter}
 use Rattle.rds_code.proofs.BurstLemmas.{burst_is_one, longer, limit_is_among, among_limit_is, bursts_differ}
 
 pub word-lt : (o : Offset) → word o < 2 ^ 10
-word-lt A = lit< tt
-word-lt B = lit< tt
-word-lt C = lit< tt
-word-lt Cx = lit< tt
-word-lt D = lit< tt
+word-lt o = grind (arith, common_steps, lit<)
 
 -- the remainder that a burst needs for the window to become a block with the offset
 pub wanted_remainder : (w e : ℕ) (o : Offset) → rem (bit_xor w e) ≡ word o → rem e ≡ bit_xor (rem w) (word o)
@@ -72,8 +68,7 @@ TableSays limit w o (Some e) = OneFits limit w o e
 
 pub table_says : (limit w r s : ℕ) (o : Offset) (found : Option ℕ) → limit ≤ 5 → r ≡ rem w → s ≡ word o → IfSome found (λ e. IsBurst limit e) → IfSome found (λ e. rem e ≡ bit_xor r s)
     → (found ≡ None → (d : ℕ) → IsBurst limit d → rem d ≡ bit_xor r s → ⊥) → TableSays limit w o found
-table_says limit w r s o None few hr hs burst fits none = none_by_table limit w r s o few hr hs (none refl)
-table_says limit w r s o (Some e) few hr hs burst fits none = one_by_table limit w r s o e few hr hs burst fits
+table_says limit w r s o found few hr hs burst fits none = grind (arith, common_steps, none_by_table, one_by_table)
 
 -- with each offset no burst fits or one does
 pub fits_or_not : (limit w : ℕ) (o : Offset) → limit ≤ 5 → NoneFits limit w o ⊎ ((e : ℕ) × OneFits limit w o e)
@@ -90,32 +85,16 @@ fits_or_not limit w o few = by_list (fitting limit w o) refl
 -- ---- the offsets of a number
 
 pub only_A : (p : Offset) → number p ≡ 1 → p ≡ A
-only_A A h = refl
-only_A B h = absurd (omega (arith, h))
-only_A C h = absurd (omega (arith, h))
-only_A Cx h = absurd (omega (arith, h))
-only_A D h = absurd (omega (arith, h))
+only_A p h = grind (arith, common_steps)
 
 pub only_B : (p : Offset) → number p ≡ 2 → p ≡ B
-only_B B h = refl
-only_B A h = absurd (omega (arith, h))
-only_B C h = absurd (omega (arith, h))
-only_B Cx h = absurd (omega (arith, h))
-only_B D h = absurd (omega (arith, h))
+only_B p h = grind (arith, common_steps)
 
 pub only_D : (p : Offset) → number p ≡ 4 → p ≡ D
-only_D D h = refl
-only_D A h = absurd (omega (arith, h))
-only_D B h = absurd (omega (arith, h))
-only_D C h = absurd (omega (arith, h))
-only_D Cx h = absurd (omega (arith, h))
+only_D p h = grind (arith, common_steps)
 
 pub third : (p : Offset) → number p ≡ 3 → (p ≡ C) ⊎ (p ≡ Cx)
-third C h = inl refl
-third Cx h = inr refl
-third A h = absurd (omega (arith, h))
-third B h = absurd (omega (arith, h))
-third D h = absurd (omega (arith, h))
+third p h = grind (arith, common_steps)
 
 -- ---- the pairs that fit, for one offset and for two
 
@@ -131,9 +110,7 @@ corrections_two limit w o p es ds he hd = ap₂ (λ (u v : List ℕ). map {B = O
 -- ---- valid or not
 
 pub reads_valid : (w x : ℕ) (wanted : Wanted) (limit : ℕ) (o : Offset) → IsValid w x o → reading w x wanted limit ≡ Valid o (information w)
-reads_valid w x wanted limit o h =
-    ap (read_from w x wanted limit) h.offset
-    ∙ ap (λ (b : Bool). elim b as (λ _. Reading) [ true ↦ Valid o (information w) | false ↦ corrected w x wanted limit ]) (eq-eqb (number o) x h.own)
+reads_valid w x wanted limit o h = grind (arith, common_steps, eq-eqb)
 
 pub reads_corrected : (w x : ℕ) (wanted : Wanted) (limit : ℕ) → ((o : Offset) → IsValid w x o → ⊥) → reading w x wanted limit ≡ corrected w x wanted limit
 reads_corrected w x wanted limit not_valid = by_offset (offset_of (rem w)) refl
@@ -160,64 +137,16 @@ valid_or_not w x = by_offset (offset_of (rem w)) refl
 -- if only one offset may be wanted
 single : (w x : ℕ) (wanted : Wanted) (limit : ℕ) (o : Offset) → limit ≤ 5 → wanted_offsets x wanted ≡ o ∷ [] → number o ≡ x → IsTrue (allows wanted o)
     → ((p : Offset) → number p ≡ x → IsTrue (allows wanted p) → p ≡ o) → ((p : Offset) → IsValid w x p → ⊥) → IsReading w x wanted limit (corrected w x wanted limit)
-single w x wanted limit o few list own allowed alone not_valid = elim (fits_or_not limit w o few) [
-  | inl h ↦
-      let e : corrected w x wanted limit ≡ Lost = ap (λ (os : List Offset). by_only w (corrections os limit w)) list ∙ ap (by_only w) (corrections_none limit w o h) in
-      subst (IsReading w x wanted limit) (sym e) (not_valid, λ p d fit. h.none d fit.fits.burst (fit.fits.fits ∙ ap word (alone p fit.fits.own fit.fits.allowed)))
-  | inr some ↦
-      let d : ℕ = some.0 in
-      let h = some.1 in
-      let e : corrected w x wanted limit ≡ Corrected o (information (bit_xor w d)) d = ap (λ (os : List Offset). by_only w (corrections os limit w)) list ∙ ap (by_only w) (corrections_one limit w o d h) in
-      subst (IsReading w x wanted limit) (sym e) (
-        not_valid,
-        record {
-          fits = record { own = own; allowed = allowed; burst = h.burst; fits = h.fits };
-          alone = λ p b fit. let same = alone p fit.own fit.allowed in (same, h.only b fit.burst (fit.fits ∙ ap word same));
-        },
-        refl,
-      )
-]
+single w x wanted limit o few list own allowed alone not_valid = grind (arith, common_steps, fits_or_not, corrections_none, corrections_one)
 
 -- for block 3, where C and C' are both wanted
 double : (w limit : ℕ) → limit ≤ 5 → ((p : Offset) → IsValid w 3 p → ⊥) → IsReading w 3 Either limit (corrected w 3 Either limit)
 double w limit few not_valid = by_fits (fits_or_not limit w C few) (fits_or_not limit w Cx few)
   where
     by_fits : NoneFits limit w C ⊎ ((e : ℕ) × OneFits limit w C e) → NoneFits limit w Cx ⊎ ((e : ℕ) × OneFits limit w Cx e) → IsReading w 3 Either limit (corrected w 3 Either limit)
-    by_fits (inl a) (inl b) =
-        let e : corrected w 3 Either limit ≡ Lost = ap (by_only w) (corrections_two limit w C Cx [] [] a.list b.list) in
-        subst (IsReading w 3 Either limit) (sym e) (
-          not_valid,
-          λ p d fit. elim (third p fit.fits.own) [
-            | inl c ↦ a.none d fit.fits.burst (fit.fits.fits ∙ ap word c)
-            | inr cx ↦ b.none d fit.fits.burst (fit.fits.fits ∙ ap word cx)
-          ],
-        )
-    by_fits (inr a) (inl b) =
-        let e : corrected w 3 Either limit ≡ Corrected C (information (bit_xor w a.0)) a.0 = ap (by_only w) (corrections_two limit w C Cx (a.0 ∷ []) [] a.1.list b.list) in
-        subst (IsReading w 3 Either limit) (sym e) (
-          not_valid,
-          record {
-            fits = record { own = refl; allowed = refl; burst = a.1.burst; fits = a.1.fits };
-            alone = λ p d fit. elim (third p fit.own) [
-              | inl c ↦ (c, a.1.only d fit.burst (fit.fits ∙ ap word c))
-              | inr cx ↦ absurd (b.none d fit.burst (fit.fits ∙ ap word cx))
-            ];
-          },
-          refl,
-        )
-    by_fits (inl a) (inr b) =
-        let e : corrected w 3 Either limit ≡ Corrected Cx (information (bit_xor w b.0)) b.0 = ap (by_only w) (corrections_two limit w C Cx [] (b.0 ∷ []) a.list b.1.list) in
-        subst (IsReading w 3 Either limit) (sym e) (
-          not_valid,
-          record {
-            fits = record { own = refl; allowed = refl; burst = b.1.burst; fits = b.1.fits };
-            alone = λ p d fit. elim (third p fit.own) [
-              | inl c ↦ absurd (a.none d fit.burst (fit.fits ∙ ap word c))
-              | inr cx ↦ (cx, b.1.only d fit.burst (fit.fits ∙ ap word cx))
-            ];
-          },
-          refl,
-        )
+    by_fits (inl a) (inl b) = grind (arith, common_steps, third, corrections_two limit w C Cx [] [] a.list b.list)
+    by_fits (inr a) (inl b) = grind (arith, common_steps, third, corrections_two limit w C Cx (a.0 ∷ []) [] a.1.list b.list)
+    by_fits (inl a) (inr b) = grind (arith, common_steps, third, corrections_two limit w C Cx [] (b.0 ∷ []) a.list b.1.list)
     by_fits (inr a) (inr b) =
         let e : corrected w 3 Either limit ≡ Lost = ap (by_only w) (corrections_two limit w C Cx (a.0 ∷ []) (b.0 ∷ []) a.1.list b.1.list) in
         subst (IsReading w 3 Either limit) (sym e) (
@@ -230,33 +159,19 @@ double w limit few not_valid = by_fits (fits_or_not limit w C few) (fits_or_not 
 
 -- which offsets are wanted
 pub wanted_1 : (wanted : Wanted) → (wanted_offsets 1 wanted ≡ A ∷ []) × IsTrue (allows wanted A)
-wanted_1 OnlyC = (refl, refl)
-wanted_1 OnlyCx = (refl, refl)
-wanted_1 Either = (refl, refl)
+wanted_1 wanted = grind (arith, common_steps)
 
 pub wanted_2 : (wanted : Wanted) → (wanted_offsets 2 wanted ≡ B ∷ []) × IsTrue (allows wanted B)
-wanted_2 OnlyC = (refl, refl)
-wanted_2 OnlyCx = (refl, refl)
-wanted_2 Either = (refl, refl)
+wanted_2 wanted = grind (arith, common_steps)
 
 pub wanted_4 : (wanted : Wanted) → (wanted_offsets 4 wanted ≡ D ∷ []) × IsTrue (allows wanted D)
-wanted_4 OnlyC = (refl, refl)
-wanted_4 OnlyCx = (refl, refl)
-wanted_4 Either = (refl, refl)
+wanted_4 wanted = grind (arith, common_steps)
 
 only_C : (p : Offset) → number p ≡ 3 → IsTrue (allows OnlyC p) → p ≡ C
-only_C C h allowed = refl
-only_C Cx h allowed = let no : false ≡ true = allowed in absurd (cc no)
-only_C A h allowed = absurd (omega (arith, h))
-only_C B h allowed = absurd (omega (arith, h))
-only_C D h allowed = absurd (omega (arith, h))
+only_C p h allowed = grind (arith, common_steps)
 
 only_Cx : (p : Offset) → number p ≡ 3 → IsTrue (allows OnlyCx p) → p ≡ Cx
-only_Cx Cx h allowed = refl
-only_Cx C h allowed = let no : false ≡ true = allowed in absurd (cc no)
-only_Cx A h allowed = absurd (omega (arith, h))
-only_Cx B h allowed = absurd (omega (arith, h))
-only_Cx D h allowed = absurd (omega (arith, h))
+only_Cx p h allowed = grind (arith, common_steps)
 
 corrected_is : (w x : ℕ) (wanted : Wanted) (limit : ℕ) → 1 ≤ x → x ≤ 4 → limit ≤ 5 → ((p : Offset) → IsValid w x p → ⊥) → IsReading w x wanted limit (corrected w x wanted limit)
 corrected_is w zero wanted limit low high few not_valid = absurd (omega arith)
@@ -280,15 +195,4 @@ valid_is_one w x o p ho hp = let same : ◌≡◌ {A = Option Offset} (Some o) (
 
 -- the rule gives one reading
 pub reading_is_one : (w x : ℕ) (wanted : Wanted) (limit : ℕ) (r s : Reading) → IsReading w x wanted limit r → IsReading w x wanted limit s → r ≡ s
-reading_is_one w x wanted limit (Valid o i) (Valid p j) hr hs = ap₂ Valid (valid_is_one w x o p hr.0 hs.0) (hr.1 ∙ sym hs.1)
-reading_is_one w x wanted limit (Valid o i) (Corrected p j e) hr hs = absurd (hs.0 o hr.0)
-reading_is_one w x wanted limit (Valid o i) Lost hr hs = absurd (hs.0 o hr.0)
-reading_is_one w x wanted limit (Corrected o i d) (Valid p j) hr hs = absurd (hr.0 p hs.0)
-reading_is_one w x wanted limit (Corrected o i d) (Corrected p j e) hr hs =
-    let same = hs.1.alone o d hr.1.fits in
-    let info : i ≡ j = hr.2 ∙ ap (λ (n : ℕ). information (bit_xor w n)) same.1 ∙ sym hs.2 in
-    ap₂ (λ (q : Offset) (n : ℕ). Corrected q i n) same.0 same.1 ∙ ap (λ (n : ℕ). Corrected p n e) info
-reading_is_one w x wanted limit (Corrected o i d) Lost hr hs = absurd (hs.1 o d hr.1)
-reading_is_one w x wanted limit Lost (Valid p j) hr hs = absurd (hr.0 p hs.0)
-reading_is_one w x wanted limit Lost (Corrected p j e) hr hs = absurd (hr.1 p e hs.1)
-reading_is_one w x wanted limit Lost Lost hr hs = refl
+reading_is_one w x wanted limit r s hr hs = grind (arith, common_steps, valid_is_one)

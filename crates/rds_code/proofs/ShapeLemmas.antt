@@ -1,5 +1,5 @@
 -- The shape and the shift of a burst of up to five bits.
-use Rattle.rds_code.proofs.Names.{◌≡◌, ℕ, ◌+◌, ◌-◌, ◌*◌, ◌/◌, ◌^◌, Bool, true, refl, sym, ap, ◌∙◌, arith, eqb, subst, mul-div_cancel, count_leading_zeros, count_trailing_zeros, eqb-true, pow_pos, IsBurst, burst_length}
+use Rattle.rds_code.proofs.Names.{common_steps, ◌≡◌, ℕ, ◌+◌, ◌-◌, ◌*◌, ◌/◌, ◌^◌, Bool, true, refl, ap, ◌∙◌, arith, eqb, subst, mul-div_cancel, count_leading_zeros, count_trailing_zeros, eqb-true, pow_pos, IsBurst, burst_length}
 use Rattle.rds_code.specs.Inside.BurstShape.{shape_of, shift_of, IsShape}
 use Rattle.rds_code.proofs.Membership.{all_below, passes_below}
 use Rattle.rds_code.proofs.BurstLemmas.{IsSmallPattern, small_pattern}
@@ -9,24 +9,14 @@ unshifted e m t whole = ap (λ (n : ℕ). n / 2 ^ t) whole ∙ mul-div_cancel m 
 
 -- a burst is its shape, an odd number of up to five places, shifted up
 pub shape_is_pattern : (e : ℕ) → IsBurst 5 e → IsSmallPattern e (shape_of e) (shift_of e)
-shape_is_pattern e h =
-    let part = small_pattern e h in
-    subst (λ (m : ℕ). IsSmallPattern e m (shift_of e)) (sym (unshifted e part.0 (shift_of e) part.1.whole)) part.1
+shape_is_pattern e h = grind (arith, common_steps, small_pattern, unshifted)
 
 pub shape_kept : (e : ℕ) → IsBurst 5 e → IsShape (shape_of e) (shift_of e)
-shape_kept e h =
-    let same : e ≡ shape_of e * 2 ^ shift_of e = (shape_is_pattern e h).whole in record {
-      burst = subst (IsBurst 5) same h;
-      shape_again = ap shape_of (sym same);
-      shift_again = ap shift_of (sym same);
-    }
+shape_kept e h = grind (arith, common_steps, shape_is_pattern)
 
 -- a stored shape and its shift make such a pattern
 kept_pattern : (m t : ℕ) → IsShape m t → IsSmallPattern (m * 2 ^ t) m t
-kept_pattern m t h =
-    let e : ℕ = m * 2 ^ t in
-    subst (λ (n : ℕ). IsSmallPattern e n t) h.shape_again
-    (subst (λ (n : ℕ). IsSmallPattern e (shape_of e) n) h.shift_again (shape_is_pattern e h.burst))
+kept_pattern m t h = grind (arith, common_steps, shape_is_pattern)
 
 -- whether the shape m, shifted up by t, spans the length of m
 spans : ℕ → ℕ → Bool

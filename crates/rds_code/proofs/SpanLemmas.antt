@@ -1,5 +1,5 @@
 -- A burst is an odd pattern, shifted: its lowest one is at the shift, and the pattern is as long as the span.
-use Rattle.rds_code.proofs.Names.{◌≡◌, ℕ, zero, suc, ◌+◌, ◌*◌, ◌/◌, ◌%◌, ◌^◌, ◌<◌, ◌≤◌, sym, ap, ◌∙◌, arith, inl, inr, pow-add, pow_mono, lit<, pow-suc, suc-mul, mul_assoc, mul-le-mul_right, count_trailing_zeros, under, leading_top, ones, ones_step, ones_cat, ones-le, pow_pos, cases_eq, cases_lt, burst_length, IsBurst}
+use Rattle.rds_code.proofs.Names.{common_steps, ◌≡◌, ℕ, zero, suc, ◌+◌, ◌*◌, ◌/◌, ◌%◌, ◌^◌, ◌<◌, ◌≤◌, sym, ap, ◌∙◌, arith, inl, inr, pow-add, pow_mono, lit<, pow-suc, suc-mul, mul_assoc, mul-le-mul_right, count_trailing_zeros, under, leading_top, ones, ones_step, ones_cat, ones-le, pow_pos, cases_eq, cases_lt, burst_length, IsBurst}
 
 -- n is an odd number, shifted up by t
 pub record IsShifted (n m t : ℕ) : Type 0 where
@@ -7,8 +7,7 @@ pub record IsShifted (n m t : ℕ) : Type 0 where
   pub odd : m % 2 ≡ 1
 
 pub at_least : (m x : ℕ) → m % 2 ≡ 1 → x ≤ m * x
-at_least zero x odd = absurd (omega (arith, odd))
-at_least (suc m) x odd = omega (arith, suc-mul m x)
+at_least m x odd = grind (arith, common_steps, suc-mul)
 
 below : (m l x : ℕ) → m * x < l * x → m < l
 below m l x h = elim (cases_lt m l) [ inl less ↦ less | inr more ↦ absurd (omega (arith, h, mul-le-mul_right x more)) ]

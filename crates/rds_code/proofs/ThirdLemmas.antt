@@ -1,5 +1,5 @@
 -- The table of block 3 holds what it says: checked entry by entry, by computation, and then told of readings.
-use Rattle.rds_code.proofs.Names.{◌≡◌, ℕ, zero, suc, ◌+◌, ◌*◌, ◌/◌, ◌%◌, ◌<◌, ◌≤◌, ◌==◌, if◌then◌else◌, Bool, true, false, List, map, get_or, bit_xor, refl, sym, ap, subst, ◌∙◌, inl, inr, arith, range_with_len, ne_eqb, get_or-map-range_with_len, C, Cx, Either, IsOutcome, wanted_at, word, outcome_number, reading, rem}
+use Rattle.rds_code.proofs.Names.{common_steps, ◌≡◌, ℕ, zero, suc, ◌+◌, ◌*◌, ◌/◌, ◌%◌, ◌<◌, ◌≤◌, ◌==◌, if◌then◌else◌, Bool, List, map, get_or, bit_xor, refl, sym, ap, subst, ◌∙◌, inl, inr, arith, range_with_len, ne_eqb, get_or-map-range_with_len, C, Cx, Either, IsOutcome, wanted_at, word, outcome_number, reading, rem}
 use Rattle.std.proofs.lemmas.Bool.Decides.{eqb_tells}
 use Rattle.rds_code.specs.declared.thirds.TheConstants.{THIRDS}
 use Rattle.rds_code.proofs.OutcomeLemmas.{Damage, damaged, third_as_c, third_as_cx, third_as_either, valid_third}
@@ -35,17 +35,11 @@ other : (a k p q : ℕ) → (a ≡ k → ⊥) → (if a == k then p else q) ≡ 
 other a k p q differ = ap (λ (t : Bool). if t then p else q) (ne_eqb a k differ)
 
 if_most : (t : Bool) (p q : ℕ) → p ≤ 13 → q ≤ 13 → (if t then p else q) ≤ 13
-if_most true p q is_p is_q = is_p
-if_most false p q is_p is_q = is_q
+if_most t p q is_p is_q = grind (arith, common_steps)
 
 most : (v a b : ℕ) → a ≤ 13 → b ≤ 13 → third_of v a b ≤ 13
 unfolding third_of by_version
-most v a b is_a is_b = if_most (a == 1) 1 (if b == 1 then 1 else by_version v a b) (omega arith) (if_most (b == 1) 1 (by_version v a b) (omega arith) (rest v))
-  where
-    rest : (v : ℕ) → by_version v a b ≤ 13
-    rest zero = is_a
-    rest (suc zero) = is_b
-    rest (suc (suc v)) = if_most (a == 2) b (if b == 2 then a else 2) is_b (if_most (b == 2) a 2 is_a (omega arith))
+most v a b is_a is_b = grind (arith, common_steps, if_most, by_version, third_of)
 
 pub entry_most : (v x y a b : ℕ) → x ≡ a → y ≡ b → v ≤ 2 → a ≤ 13 → b ≤ 13 → get_or THIRDS (256 * v + 16 * x + y) 0 ≤ 13
 entry_most v x y a b as_a as_b is_v is_a is_b = subst (λ (n : ℕ). n ≤ 13) (sym (entry v x y a b as_a as_b is_v is_a is_b)) (most v a b is_a is_b)

@@ -1,6 +1,7 @@
 -- The names that proofs share: of std, of the crates below, and of the definitions.
 pub use Rattle.std.proofs.Common.{All, Bool, Contains, IfSome, IsSome, List, None, Option, Some, [], ap, append-nil, append_assoc, ap₂, arith, cond, eqb, get_or, get_or-set_other, get_or-set_same, inl, inr, le-ltb, length, length-append, length-set, lt-ltb, lt_of_not-le, map, min, mod-eq_of_lt, ne_eqb, option_map, option_to_list, refl, replicate, rules, set, slice_get, subst, suc, sum_by, sym, vec_capacity, vec_items, vec_len, zero, ℕ, ⊎_elim, ◌%◌, ◌*◌, ◌++◌, ◌+◌, ◌-◌, ◌/◌, ◌<◌, ◌^◌, ◌∙◌, ◌∷◌, ◌≡◌, ◌≢◌, ◌≤◌, ◌⊎◌}
 pub use Rattle.std.proofs.lemmas.Bool.{cases_eq, cases_lt}
+pub use Rattle.std.proofs.lemmas.Grind.{common_steps}
 pub use Rattle.std.proofs.lemmas.List.{length-map, length-replicate, map-append, replicate_more}
 pub use Rattle.std.proofs.lemmas.List.Elements.{All-cons, All-contains, All-contains_itself, All-head, All-map, All-nil, All-pop, All-push, All-replicate, All-rest, All-same, All-tail}
 pub use Rattle.std.proofs.lemmas.List.FromFn.{fill_by_all}

@@ -1,5 +1,5 @@
 -- No place before that of the run that is ahead is a meeting.
-use Rattle.rds_pieces.proofs.Names.{◌≡◌, ℕ, zero, suc, ◌+◌, ◌-◌, ◌<◌, ◌≤◌, ◌⊎◌, List, sym, ap, ◌∙◌, subst, arith, inl, inr, cases_lt, Signal, Lock, State, Searching, Locked, Item, RuleNumbers, IsLawful, IsLawfulLock, IsBetweenGroups, IsLossRule, run, step, IsHop, MeetAt, RunLaws, IsFirst}
+use Rattle.rds_pieces.proofs.Names.{common_steps, ◌≡◌, ℕ, zero, suc, ◌+◌, ◌-◌, ◌<◌, ◌≤◌, ◌⊎◌, List, sym, ap, ◌∙◌, subst, arith, inl, inr, cases_lt, Signal, Lock, State, Searching, Locked, Item, RuleNumbers, IsLawful, IsLawfulLock, IsBetweenGroups, IsLossRule, run, step, IsHop, MeetAt, RunLaws, IsFirst}
 use Rattle.rds_pieces.proofs.HopFacts.{entered, run-last}
 
 -- the state of a run from s before bit q
@@ -7,11 +7,7 @@ abbrev pub at_bit : Signal → RuleNumbers → State → ℕ → ℕ → State
 at_bit b rules s from q = (run b rules s from (q - from)).0
 
 pub meet-swap : (b : Signal) (rules : RuleNumbers) (s t : State) (from to q : ℕ) → MeetAt b rules s t from to q → MeetAt b rules t s from to q
-meet-swap b rules s t from to q m = record {
-  inside = m.inside;
-  same = sym m.same;
-  between = subst (λ (x : State). IsBetweenGroups x) m.same m.between;
-}
+meet-swap b rules s t from to q m = grind (arith, common_steps)
 
 -- a run from s at place a in state x and one from t at place c in state y
 pub record IsApart (b : Signal) (rules : RuleNumbers) (s t : State) (from to a : ℕ) (x : State) (c : ℕ) (y : State) : Type 0 where
@@ -21,12 +17,7 @@ pub record IsApart (b : Signal) (rules : RuleNumbers) (s t : State) (from to a :
   pub apart : (q : ℕ) → (q < a) ⊎ (q < c) → ¬ MeetAt b rules s t from to q
 
 pub swap : {b : Signal} {rules : RuleNumbers} {s t x y : State} {from to a c : ℕ} → IsApart b rules s t from to a x c y → IsApart b rules t s from to c y a x
-swap {b} {rules} {s} {t} {from = from} {to = to} h = record {
-  inside = (h.inside.2, h.inside.3, h.inside.0, h.inside.1);
-  own = h.other;
-  other = h.own;
-  apart = λ q behind m. h.apart q (elim behind [ inl one ↦ inr one | inr two ↦ inl two ]) (meet-swap b rules t s from to q m);
-}
+swap {b} {rules} {s} {t} {from = from} {to = to} h = grind (arith, common_steps, meet-swap)
 
 module _ (laws : RunLaws) (b : Signal) (rules : RuleNumbers) where
   at_next : (s : State) (from q : ℕ) → from ≤ q → at_bit b rules s from (q + 1) ≡ step b rules q (at_bit b rules s from q)
@@ -44,23 +35,14 @@ module _ (laws : RunLaws) (b : Signal) (rules : RuleNumbers) where
   module _ (s t : State) (from to : ℕ) where
     -- a lock that waits at both runs was there a bit before
     lock_before : (u : State) (q : ℕ) (lock : Lock) → from ≤ q → lock.due < q + 26 → at_bit b rules u from (q + 1) ≡ Locked lock → at_bit b rules u from q ≡ Locked lock
-    lock_before u q lock h soon e = elim (entered b rules q (at_bit b rules u from q) lock (sym (at_next u from q h) ∙ e)) [
-      | inl same ↦ same
-      | inr late ↦ absurd (omega (arith, late, soon))
-    ]
+    lock_before u q lock h soon e = grind (arith, common_steps, entered, at_next)
 
     -- while a lock hops there is no meeting, if there was none before the place of the other run, nor at both places
     none_on : (a c next : ℕ) (lock : Lock) → from ≤ a → a ≤ c → at_bit b rules s from a ≡ Locked lock → lock.due ≤ a + 25
         → ((n : ℕ) → a + n < next → IsBetweenGroups (run b rules (Locked lock) a n).0 → (run b rules (Locked lock) a n).0 ≡ Locked lock)
         → ((q : ℕ) → q < c → ¬ MeetAt b rules s t from to q) → (a ≡ c → ¬ MeetAt b rules s t from to a)
         → (k : ℕ) → a + k < next → ¬ MeetAt b rules s t from to (a + k)
-    none_on a c next lock low behind is soon quiet before here zero h m =
-        let e : a + 0 ≡ a = omega arith in
-        let m0 = subst (λ (p : ℕ). MeetAt b rules s t from to p) e m in
-        elim (cases_lt a c) [
-          | inl less ↦ before a less m0
-          | inr same ↦ here (omega (arith, same, behind)) m0
-        ]
+    none_on a c next lock low behind is soon quiet before here zero h m = grind (arith, common_steps)
     none_on a c next lock low behind is soon quiet before here (suc k) h m =
         let next_is : a + suc k ≡ a + k + 1 = omega arith in
         let on : at_bit b rules s from (a + suc k) ≡ (run b rules (Locked lock) a (suc k)).0 =

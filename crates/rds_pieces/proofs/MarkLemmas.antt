@@ -1,6 +1,6 @@
 -- Where the next mark of a run is: after the next stretch that gives an item. The marks of a run are those that a walk
 -- bit by bit finds.
-use Rattle.rds_pieces.proofs.Names.{◌≡◌, ◌≢◌, ℕ, zero, suc, ◌+◌, ◌-◌, Bool, List, [], ◌∷◌, ◌++◌, length, map, filter, cond, nat_lt, true, false, refl, sym, ap, ap₂, ◌∙◌, arith, append_assoc, length-append, le-ltb, lt-ltb, range_with_len, Signal, Item, State, items_in, RuleNumbers, run, step, items_at, mark_where, mark_at, marks_on}
+use Rattle.rds_pieces.proofs.Names.{common_steps, ◌≡◌, ◌≢◌, ℕ, zero, suc, ◌+◌, ◌-◌, List, [], ◌∷◌, ◌++◌, length, map, filter, cond, nat_lt, refl, sym, ap, ap₂, ◌∙◌, arith, append_assoc, length-append, le-ltb, lt-ltb, range_with_len, Signal, Item, State, items_in, RuleNumbers, run, step, items_at, mark_where, mark_at, marks_on}
 use Rattle.rds_pieces.specs.declared.mark.Mark.{Mark}
 use Rattle.rds_sync.specs.declared.step.Step.{Step}
 use Rattle.rds_sync.specs.Stretch.{IsStretch}
@@ -17,40 +17,23 @@ none_rest (x ∷ xs) ys e = cc
 
 -- there is a mark if items were given
 mark_there : (given : List Item) (mark : Mark) → given ≢ [] → mark_where given mark ≡ mark ∷ []
-mark_there [] mark some = absurd (some refl)
-mark_there (item ∷ items) mark some = refl
+mark_there given mark some = grind (arith, common_steps)
 
 -- there is a mark if the count of items went up
 mark_counted : (f : ℕ → Mark) (k before : ℕ) (given : List Item) (ks : List ℕ)
     → map f (cond (nat_lt before (before + length given)) (k ∷ ks) ks) ≡ mark_where given (f k) ++ map f ks
-mark_counted f k before [] ks =
-    let same : before + 0 ≡ before = omega arith in
-    let no : nat_lt before before ≡ false = le-ltb before before (omega arith) in
-    rw (same, no) refl
-mark_counted f k before (item ∷ items) ks =
-    let yes : nat_lt before (before + suc (length items)) ≡ true = lt-ltb before (before + suc (length items)) (omega arith) in
-    rw yes refl
+mark_counted f k before given ks = grind (arith, common_steps, le-ltb, lt-ltb)
 
 module _ (b : Signal) (rules : RuleNumbers) where
   -- bits that give nothing have no mark
   pub marks_on-quiet : (s : State) (a before bits : ℕ) → (run b rules s a bits).1 ≡ [] → marks_on b rules s a before bits ≡ []
   marks_on-quiet s a before zero e = refl
-  marks_on-quiet s a before (suc bits) e =
-      let given : List Item = items_at b rules a s in
-      let here = none_first given _ e in
-      let there = none_rest given _ e in
-      let mark : Mark = mark_at (step b rules a s) (a + 1) (before + length given) in
-      ap (λ (ms : List Mark). mark_where given mark ++ ms) (marks_on-quiet (step b rules a s) (a + 1) (before + length given) bits there)
-      ∙ ap (λ (is : List Item). mark_where is mark ++ []) here
+  marks_on-quiet s a before (suc bits) e = grind (arith, common_steps, none_first, none_rest, marks_on-quiet (step b rules a s) (a + 1) (before + length (items_at b rules a s)) bits (none_rest (items_at b rules a s) _ e))
 
   -- the marks over some bits and then some more
   pub marks_on-append : (s : State) (a c m n : ℕ)
       → marks_on b rules s a c (m + n) ≡ marks_on b rules s a c m ++ marks_on b rules (run b rules s a m).0 (a + m) (c + length (run b rules s a m).1) n
-  marks_on-append s a c zero n =
-      let none : 0 + n ≡ n = omega arith in
-      let spot : a + 0 ≡ a = omega arith in
-      let count : c + 0 ≡ c = omega arith in
-      rw (none, spot, count) refl
+  marks_on-append s a c zero n = grind (arith, common_steps)
   marks_on-append s a c (suc m) n =
       let all : suc m + n ≡ suc (m + n) = omega arith in
       let spot : a + 1 + m ≡ a + suc m = omega arith in
@@ -69,53 +52,27 @@ module _ (b : Signal) (rules : RuleNumbers) where
       → let given : List Item = items_at b rules (a + m) t in
       let next : State = step b rules (a + m) t in
       marks_on b rules s a c (m + suc n) ≡ mark_at next (a + m + 1) (c + length given) ∷ marks_on b rules next (a + m + 1) (c + length given) n
-  marks_on-next s t a c m n quiet some =
-      let given : List Item = items_at b rules (a + m) t in
-      let next : State = step b rules (a + m) t in
-      let count : c + 0 ≡ c = omega arith in
-      marks_on-append s a c m (suc n)
-      ∙ ap (λ (ms : List Mark). ms ++ marks_on b rules (run b rules s a m).0 (a + m) (c + length (run b rules s a m).1) (suc n)) (marks_on-quiet s a c m (ap (λ (r : State × List Item). r.1) quiet))
-      ∙ ap (λ (r : State × List Item). marks_on b rules r.0 (a + m) (c + length r.1) (suc n)) quiet
-      ∙ ap (λ (k : ℕ). marks_on b rules t (a + m) k (suc n)) count
-      ∙ ap (λ (ms : List Mark). ms ++ marks_on b rules next (a + m + 1) (c + length given) n) (mark_there given (mark_at next (a + m + 1) (c + length given)) some)
+  marks_on-next s t a c m n quiet some = grind (arith, common_steps, marks_on-append, marks_on-quiet, mark_there)
 
   -- the same, by other names of the last bit's place, state and items
   marks_on-came : (s t u : State) (a c m n to : ℕ) (given : List Item) → run b rules s a m ≡ (t, []) → a + m + 1 ≡ to → u ≡ step b rules (a + m) t → given ≡ items_at b rules (a + m) t
       → given ≢ [] → marks_on b rules s a c (m + suc n) ≡ mark_at u to (c + length given) ∷ marks_on b rules u to (c + length given) n
-  marks_on-came s t u a c m n to given quiet last state items some =
-      rw (← last, state, items) (marks_on-next s t a c m n quiet (λ none. some (items ∙ none)))
+  marks_on-came s t u a c m n to given quiet last state items some = grind (arith, common_steps, marks_on-next)
 
   -- the run over one more bit
   run_more : (s : State) (a m : ℕ) → let before : State × List Item = run b rules s a m in
       run b rules s a (m + 1) ≡ (step b rules (a + m) before.0, before.1 ++ items_at b rules (a + m) before.0)
-  run_more s a m =
-      run-append b rules s a m 1 ∙ ap (λ (r : State × List Item). (r.0, (run b rules s a m).1 ++ r.1)) (run-one b rules (run b rules s a m).0 (a + m))
+  run_more s a m = grind (arith, common_steps, run-append, run-one)
 
   -- after bits that give nothing, a run is that of its last bit
   run-last : (s t : State) (a m : ℕ) → run b rules s a m ≡ (t, []) → run b rules s a (m + 1) ≡ (step b rules (a + m) t, items_at b rules (a + m) t)
-  run-last s t a m quiet =
-      run_more s a m ∙ ap (λ (r : State × List Item). (step b rules (a + m) r.0, r.1 ++ items_at b rules (a + m) r.0)) quiet
+  run-last s t a m quiet = grind (arith, common_steps, run_more)
 
   -- the marks after the first m bits are those of a walk from there
   marks_from : (s : State) (a m n : ℕ) → map (mark_after_bits b rules s a) (filter (gave_item b rules s a) (range_with_len (m + 1) n))
       ≡ marks_on b rules (run b rules s a m).0 (a + m) (length (run b rules s a m).1) n
   marks_from s a m zero = refl
-  marks_from s a m (suc n) =
-      let f : ℕ → Mark = mark_after_bits b rules s a in
-      let ks : List ℕ = filter (gave_item b rules s a) (range_with_len (m + 1 + 1) n) in
-      let before : State × List Item = run b rules s a m in
-      let given : List Item = items_at b rules (a + m) before.0 in
-      let next : State = step b rules (a + m) before.0 in
-      let more = run_more s a m in
-      let back : m + 1 - 1 ≡ m = omega arith in
-      let spot : a + (m + 1) ≡ a + m + 1 = omega arith in
-      let count : length (before.1 ++ given) ≡ length before.1 + length given = length-append before.1 given in
-      let up : gave_item b rules s a (m + 1) ≡ nat_lt (length before.1) (length before.1 + length given) = ap₂ (λ (k c : ℕ). nat_lt (f k).items c) back (ap (λ (r : State × List Item). length r.1) more ∙ count) in
-      ap (λ (t : Bool). map f (cond t ((m + 1) ∷ ks) ks)) up
-      ∙ mark_counted f (m + 1) (length before.1) given ks
-      ∙ ap (λ (ms : List Mark). mark_where given (f (m + 1)) ++ ms) (marks_from s a (m + 1) n)
-      ∙ ap (λ (r : State × List Item). mark_where given (mark_at r.0 (a + (m + 1)) (length r.1)) ++ marks_on b rules r.0 (a + (m + 1)) (length r.1) n) more
-      ∙ ap₂ (λ (p c : ℕ). mark_where given (mark_at next p c) ++ marks_on b rules next p c n) spot count
+  marks_from s a m (suc n) = grind (arith, common_steps, run_more, length-append, mark_counted, marks_from s a (m + 1) n)
 
   -- all marks of a run are those of a walk from its first place
   pub marks_of-by_bits : (s : State) (a bits : ℕ) → marks_of b rules s a bits ≡ mark_at s a 0 ∷ marks_on b rules s a 0 bits
@@ -145,5 +102,4 @@ module _ (b : Signal) (rules : RuleNumbers) where
 
     -- over one that gives none, up to the end
     pub marks_on-none : items_in reached.items ≡ [] → reached.place ≡ to → marks_on b rules s place before (to - place) ≡ []
-    marks_on-none none end =
-        marks_on-quiet s place before (to - place) (ap (λ (p : ℕ). (run b rules s place (p - place)).1) (sym end) ∙ sym is.items ∙ none)
+    marks_on-none none end = grind (arith, common_steps, marks_on-quiet)

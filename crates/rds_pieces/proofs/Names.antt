@@ -1,6 +1,7 @@
 -- The names that proofs share: of std, of the crates below, and of the definitions.
 pub use Rattle.std.proofs.Common.{Bool, IfOk, List, None, Option, Some, [], ap, append-nil, append_assoc, ap₂, arith, cond, drop, false, filter, get_or, inl, inr, length, length-append, lit≤, map, nat_lt, refl, rules, slice_index, subst, suc, sym, true, zero, ℕ, ◌*◌, ◌++◌, ◌+◌, ◌-◌, ◌<◌, ◌^◌, ◌∙◌, ◌∷◌, ◌≡◌, ◌≢◌, ◌≤◌, ◌⊎◌}
 pub use Rattle.std.proofs.lemmas.Bool.{cases_Bool, cases_eq, cases_lt, le-ltb, lt-ltb}
+pub use Rattle.std.proofs.lemmas.Grind.{common_steps}
 pub use Rattle.std.proofs.lemmas.List.{drop_all, drop_more, get_or_append_left, get_or_push, length_push, nil_from_length}
 pub use Rattle.std.proofs.lemmas.List.FromFn.{get_or-map-range_with_len, length-map-range_with_len, map-range_with_len_more}
 pub use Rattle.std.proofs.lemmas.Nat.{mul-le, ones_le_self}

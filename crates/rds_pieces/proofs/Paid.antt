@@ -1,6 +1,6 @@
 -- How many windows both runs asked for: 26 times that many are paid for by 26 (reach + 1) a place of a search, and 4 a place that the marks of
 -- the two went on.
-use Rattle.rds_pieces.proofs.Names.{◌≡◌, ℕ, ◌+◌, ◌-◌, ◌*◌, ◌≤◌, ap, arith, inl, inr, mul-le, Signal, State, Searching, Locked, RuleNumbers, IsLawful, mark, IsHop}
+use Rattle.rds_pieces.proofs.Names.{common_steps, ◌≡◌, ℕ, ◌+◌, ◌-◌, ◌*◌, ◌≤◌, arith, mul-le, Signal, State, Searching, Locked, RuleNumbers, IsLawful, mark, IsHop}
 use Rattle.rds_pieces.proofs.HopFacts.{lawful-mark}
 
 mul_more : (r n k : ℕ) → r * (n + k) ≡ r * n + r * k
@@ -12,19 +12,11 @@ pub record IsPaid (rules : RuleNumbers) (from a : ℕ) (x : State) (c : ℕ) (y 
   pub paid : 26 * reads + 8 * from + 100 ≤ 26 * ((rules.reach + 1) * searched) + 4 * mark a x + 4 * mark c y
 
 pub paid_swap : {rules : RuleNumbers} {from a c reads : ℕ} {x y : State} → IsPaid rules from a x c y reads → IsPaid rules from c y a x reads
-paid_swap h = let p = h.paid in record {
-  searched = h.searched;
-  within = (h.within.1, h.within.0);
-  paid = omega (arith, p);
-}
+paid_swap h = grind (arith, common_steps)
 
 -- a guess begins with a search
 pub paid_start : (rules : RuleNumbers) (from : ℕ) (s : State) → IsLawful rules from s → IsPaid rules from from s from Searching 0
-paid_start rules from s lawful = let m = lawful-mark rules from s lawful in let none : (rules.reach + 1) * 0 ≡ 0 = grind arith in record {
-  searched = 0;
-  within = (omega arith, omega arith);
-  paid = omega (arith, m, none);
-}
+paid_start rules from s lawful = grind (arith, common_steps, lawful-mark)
 
 pub paid_hop : {b : Signal} {rules : RuleNumbers} {from to a c next reads cost : ℕ} (x : State) {y after : State} → IsPaid rules from a x c y reads
     → IsHop b rules x a c to next after cost → IsPaid rules from next after c y (reads + cost)
@@ -39,30 +31,12 @@ paid_hop {rules = rules} {a = a} {next = next} Searching h hop =
       within = (omega (arith, w, m), omega (arith, w, m, f.0));
       paid = omega (arith, p, more, f.1, f.2);
     }
-paid_hop {next = next} (Locked lock) {after = after} h hop =
-    let m = hop.moved in
-    let w = h.within in
-    let p = h.paid in
-    record {
-      searched = h.searched;
-      within = (omega (arith, w, m), w.1);
-      paid = elim hop.paid [
-        | inl none ↦ let same : mark next after ≡ lock.due = ap (λ (u : State). mark next u) none.1 in omega (arith, p, none.0, same)
-        | inr read ↦ omega (arith, p, read)
-      ];
-    }
+paid_hop {next = next} (Locked lock) {after = after} h hop = grind (arith, common_steps)
 
 -- so both asked for few, if the two places are at most d after the first
 pub paid_most : (rules : RuleNumbers) (from d a : ℕ) (x : State) (c : ℕ) (y : State) (reads : ℕ) → 1 ≤ rules.reach → IsLawful rules a x → IsLawful rules c y
     → a ≤ from + d → c ≤ from + d → IsPaid rules from a x c y reads → reads ≤ (rules.reach + 2) * (d + 1)
-paid_most rules from d a x c y reads some one two near_a near_c h =
-    let m1 = (lawful-mark rules a x one).1 in
-    let m2 = (lawful-mark rules c y two).1 in
-    let p = h.paid in
-    let w = h.within in
-    let grows = mul-le (rules.reach + 1) h.searched (rules.reach + 1) d (omega arith) (omega (arith, w, near_a)) in
-    let all : (rules.reach + 2) * (d + 1) ≡ (rules.reach + 1) * d + d + rules.reach + 2 = grind arith in
-    omega (arith, m1, m2, p, grows, all, some, near_a, near_c)
+paid_most rules from d a x c y reads some one two near_a near_c h = grind (arith, common_steps, lawful-mark, mul-le)
 
 -- fewer are paid for too
 pub paid_less : {rules : RuleNumbers} {from a c reads fewer : ℕ} {x y : State} → fewer ≤ reads → IsPaid rules from a x c y reads → IsPaid rules from a x c y fewer

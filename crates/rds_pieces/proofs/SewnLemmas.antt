@@ -1,6 +1,6 @@
 -- A run and its guess that met go on as one: the whole run has the items of the run up to the meeting, and
 -- then those of the guess.
-use Rattle.rds_pieces.proofs.Names.{◌≡◌, ℕ, ◌-◌, ◌^◌, ◌≤◌, List, ◌++◌, length, drop, sym, ap, ap₂, ◌∙◌, arith, Signal, Item, State, Searching, Totals, ItemsOf, listed, IsRest, FitTogether, plus, RuleNumbers, run, totals_of, guess, RunLaws, MeetFirstAt}
+use Rattle.rds_pieces.proofs.Names.{common_steps, ◌≡◌, ℕ, ◌-◌, ◌^◌, ◌≤◌, List, ◌++◌, length, drop, sym, ap, ap₂, ◌∙◌, arith, Signal, Item, State, Searching, Totals, ItemsOf, listed, IsRest, FitTogether, plus, RuleNumbers, run, totals_of, guess, RunLaws, MeetFirstAt}
 use Rattle.std.proofs.lemmas.List.Prefix.{front_rest}
 use Rattle.rds_pieces.proofs.SmallTotals.{totals_of_two}
 
@@ -16,26 +16,16 @@ module _ (laws : RunLaws) {b : Signal} {rules : RuleNumbers} {s : State} {from t
   own_all = laws.join b rules s from place to met.here.inside.0 met.here.inside.1
 
   guess_all : guess b rules from (to - from) ≡ (later.0, (guess b rules from (place - from)).1 ++ later.1)
-  guess_all =
-      laws.join b rules Searching from place to met.here.inside.0 met.here.inside.1
-      ∙ ap (λ (u : State). ((run b rules u place (to - place)).0, (guess b rules from (place - from)).1 ++ (run b rules u place (to - place)).1)) (sym met.here.same)
+  guess_all = grind (arith, common_steps, guess)
 
   -- the items of the guess but for those before the meeting
   pub sewn_items : own.1 ++ drop (length (guess b rules from (place - from)).1) (guess b rules from (to - from)).1 ≡ (run b rules s from (to - from)).1
-  sewn_items =
-      let is = ap (λ (r : State × List Item). r.1) guess_all in
-      ap (λ (xs : List Item). own.1 ++ xs) (front_rest (guess b rules from (to - from)).1 (guess b rules from (place - from)).1 later.1 is)
-      ∙ sym (ap (λ (r : State × List Item). r.1) own_all)
+  sewn_items = grind (arith, common_steps, guess_all, front_rest, guess, own_all)
 
   pub sewn_list : {mine theirs before after : ItemsOf} {n : ℕ} → mine ≡ listed b rules own.1 → theirs ≡ listed b rules (guess b rules from (to - from)).1
       → before ≡ listed b rules (guess b rules from (place - from)).1 → n ≡ length before.list
       → after ≡ listed mine.source mine.rules (mine.list ++ drop n theirs.list) → after ≡ listed b rules (run b rules s from (to - from)).1
-  sewn_list {mine = mine} {theirs = theirs} {n = n} mine_is theirs_is before_is n_is after_is =
-      after_is
-      ∙ ap (λ (x : ItemsOf). listed x.source x.rules (x.list ++ drop n theirs.list)) mine_is
-      ∙ ap (λ (x : ItemsOf). listed b rules (own.1 ++ drop n x.list)) theirs_is
-      ∙ ap (λ (k : ℕ). listed b rules (own.1 ++ drop k (guess b rules from (to - from)).1)) (n_is ∙ ap (λ (x : ItemsOf). length x.list) before_is)
-      ∙ ap (λ (is : List Item). listed b rules is) sewn_items
+  sewn_list {mine = mine} {theirs = theirs} {n = n} mine_is theirs_is before_is n_is after_is = grind (arith, common_steps, guess, sewn_items)
 
   -- its totals but for theirs
   pub sewn_rest : {all part : Totals} → all ≡ totals_of (guess b rules from (to - from)).1 → part ≡ totals_of (guess b rules from (place - from)).1 → IsRest part all (totals_of later.1)

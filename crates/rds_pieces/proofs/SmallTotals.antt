@@ -1,6 +1,6 @@
 -- The totals of a run's items are small: a bit gives one group at most, and a block has 26 bits.
-use Rattle.rds_pieces.proofs.Names.{◌≡◌, ℕ, zero, suc, ◌+◌, ◌-◌, ◌*◌, ◌^◌, ◌<◌, ◌≤◌, Bool, true, false, List, [], ◌∷◌, ◌++◌, Option, Some, None, refl, sym, subst, arith, lit≤, inl, inr, cases_Bool, cases_eq, ones_le_self, Signal, heard, reading_heard, reading_at, State, Searching, Locked, Item, Acquired, GroupItem, LostLock, Totals, acquired, plus, TotalsJoin, IsAtMost, FitTogether, group, block_at, wanted_beside, are_complete, RuleNumbers, are_too_many, run, step, items_at, completed_group, history_after_block, totals_of, is_valid, is_lost, is_corrected_by, bits_corrected}
-use Rattle.std.specs.Prelude.{sum_by, if◌then◌else◌, ◌==◌, nat_le, ◌&&◌}
+use Rattle.rds_pieces.proofs.Names.{common_steps, ◌≡◌, ℕ, zero, suc, ◌+◌, ◌-◌, ◌*◌, ◌^◌, ◌<◌, ◌≤◌, Bool, true, false, List, [], ◌∷◌, ◌++◌, Option, refl, sym, subst, arith, lit≤, inl, inr, cases_Bool, cases_eq, ones_le_self, Signal, reading_heard, State, Searching, Locked, Item, Acquired, GroupItem, LostLock, Totals, plus, TotalsJoin, IsAtMost, FitTogether, group, block_at, wanted_beside, RuleNumbers, are_too_many, run, step, items_at, history_after_block, totals_of, bits_corrected}
+use Rattle.std.specs.Prelude.{sum_by, if◌then◌else◌, ◌==◌}
 use Rattle.rds_code.specs.declared.reading.Wanted.{Wanted}
 use Rattle.rds_code.specs.declared.reading.Wanted.TheVariants.{Either}
 use Rattle.rds_code.specs.declared.reading.Reading.{Reading}
@@ -8,7 +8,7 @@ use Rattle.rds_code.specs.declared.reading.Reading.TheVariants.{Valid, Corrected
 use Rattle.rds_code.specs.Laws.{ReadsByRule}
 use Rattle.rds_code.specs.Reading.{reading, IsReading}
 use Rattle.rds_sync.specs.declared.item.Block.{Block}
-use Rattle.rds_sync.specs.declared.item.Block.TheVariants.{Missing, Read}
+use Rattle.rds_sync.specs.declared.item.Block.TheVariants.{Read}
 use Rattle.rds_sync.specs.declared.item.Group.{Group}
 use Rattle.rds_sync.proofs.RunLemmas.{items-searching, items-acquiring, items-waiting, items-keeping, items-losing}
 
@@ -23,8 +23,7 @@ abbrev pub per_bit : ℕ
 per_bit = 2 ^ 28 - 1
 
 one_or_none : (t : Bool) → (if t then 1 else 0) ≤ 1
-one_or_none true = omega arith
-one_or_none false = omega arith
+one_or_none t = grind (arith, common_steps)
 
 sum_of_four : (f : Block → ℕ) (m : ℕ) (bs : List Block) (a b c d : Block) → bs ≡ a ∷ b ∷ c ∷ d ∷ [] → f a ≤ m → f b ≤ m → f c ≤ m → f d ≤ m → 0 + sum_by f bs ≤ 4 * m
 sum_of_four f m bs a b c d e h i j k = subst (λ (xs : List Block). 0 + sum_by f xs ≤ 4 * m) (sym e) (omega arith)
@@ -32,22 +31,7 @@ sum_of_four f m bs a b c d e h i j k = subst (λ (xs : List Block). 0 + sum_by f
 -- a group of four blocks
 group_at_most : (g : Group) (a b c d : Block) → g.blocks ≡ a ∷ b ∷ c ∷ d ∷ []
     → bits_corrected a < 2 ^ 26 → bits_corrected b < 2 ^ 26 → bits_corrected c < 2 ^ 26 → bits_corrected d < 2 ^ 26 → IsAtMost (2 ^ 28 - 4) (totals_of (GroupItem g ∷ []))
-group_at_most g a b c d e h i j k =
-    let few : (p : Block → Bool) → 0 + sum_by (λ block. if p block then 1 else 0) g.blocks ≤ 4 * 1 =
-    λ p. sum_of_four (λ block. if p block then 1 else 0) 1 g.blocks a b c d e (one_or_none (p a)) (one_or_none (p b)) (one_or_none (p c)) (one_or_none (p d)) in
-    let bits : 0 + sum_by bits_corrected g.blocks ≤ 4 * (2 ^ 26 - 1) = sum_of_four bits_corrected (2 ^ 26 - 1) g.blocks a b c d e (omega arith) (omega arith) (omega arith) (omega arith) in
-    omega (
-      arith,
-      few is_valid,
-      few (is_corrected_by 1),
-      few (is_corrected_by 2),
-      few (is_corrected_by 3),
-      few (is_corrected_by 4),
-      few (is_corrected_by 5),
-      few is_lost,
-      bits,
-      one_or_none (are_complete g.blocks),
-    )
+group_at_most g a b c d e h i j k = grind (arith, common_steps, sum_of_four, one_or_none)
 
 -- items of no block
 acquired_at_most : (i x : ℕ) → IsAtMost 1 (totals_of (Acquired i x ∷ []))
@@ -68,15 +52,11 @@ reading_small law w x wanted limit low high few = at_case (reading w x wanted li
   at_case Lost h = omega arith
 
 heard_small : ReadsByRule → (h : Option ℕ) (x : ℕ) (wanted : Wanted) (limit : ℕ) → 1 ≤ x → x ≤ 4 → limit ≤ 5 → bits_corrected (Read (reading_heard h x wanted limit)) < 2 ^ 26
-heard_small law None x wanted limit low high few = omega arith
-heard_small law (Some w) x wanted limit low high few = reading_small law w x wanted limit low high few
+heard_small law it x wanted limit low high few = grind (arith, common_steps, reading_small)
 
 module _ (b : Signal) (rules : RuleNumbers) (law : ReadsByRule) (few : rules.burst ≤ 5) where
   block_small : (f x p : ℕ) (wanted : Wanted) (y : ℕ) → 1 ≤ y → y ≤ 4 → bits_corrected (block_at b rules f x p wanted y) < 2 ^ 26
-  block_small f x p wanted y low high = at_case (nat_le f y && nat_le y x) where
-    at_case : (t : Bool) → bits_corrected (if t then Read (reading_at b (p - 26 * (x - y)) y wanted rules.burst) else Missing) < 2 ^ 26
-    at_case true = heard_small law (heard b (p - 26 * (x - y))) y wanted rules.burst low high few
-    at_case false = omega arith
+  block_small f x p wanted y low high = grind (arith, common_steps, heard_small)
 
   closed_at_most : (f x p : ℕ) → IsAtMost (2 ^ 28 - 4) (totals_of (GroupItem (group b rules f x p) ∷ []))
   unfolding group
@@ -88,8 +68,7 @@ module _ (b : Signal) (rules : RuleNumbers) (law : ReadsByRule) (few : rules.bur
       (block_small f x p (wanted_beside second) 3 (omega arith) (omega arith)) (block_small f x p Either 4 (omega arith) (omega arith))
 
   after_at_most : (f x i : ℕ) (t : Bool) → IsAtMost (2 ^ 28 - 4) (totals_of (elim t [ true ↦ GroupItem (group b rules f x i) ∷ [] | false ↦ [] ]))
-  after_at_most f x i true = closed_at_most f x i
-  after_at_most f x i false = none_at_most (2 ^ 28 - 4)
+  after_at_most f x i t = grind (arith, common_steps, closed_at_most, none_at_most)
 
   module _ (join : TotalsJoin) where
     both_at_most : (m n : ℕ) (xs ys : List Item) → IsAtMost m (totals_of xs) → IsAtMost n (totals_of ys) → IsAtMost (m + n) (totals_of (xs ++ ys))
@@ -100,11 +79,7 @@ module _ (b : Signal) (rules : RuleNumbers) (law : ReadsByRule) (few : rules.bur
     gives e small = subst (λ (is : List Item). IsAtMost per_bit (totals_of is)) (sym e) small
 
     bit_at_most : (i : ℕ) (s : State) → IsAtMost per_bit (totals_of (items_at b rules i s))
-    bit_at_most i Searching = at_case (acquired b rules i) refl where
-      at_case : (o : Option ℕ) → acquired b rules i ≡ o → IsAtMost per_bit (totals_of (items_at b rules i Searching))
-      at_case None e = gives (items-searching b rules i e) (none_at_most per_bit)
-      at_case (Some x) e = gives (items-acquiring b rules i x e) (at_most_more (1 + (2 ^ 28 - 4)) per_bit _ (lit≤ tt)
-          (both_at_most 1 (2 ^ 28 - 4) (Acquired i x ∷ []) (completed_group b rules x x i) (acquired_at_most i x) (after_at_most x x i (x == 4))))
+    bit_at_most i Searching = grind (arith, common_steps, gives, items-searching, none_at_most, items-acquiring, at_most_more, lit≤, both_at_most, acquired_at_most, after_at_most)
     bit_at_most i (Locked lock) = elim (cases_eq lock.due i) [
       | inr other ↦ gives (items-waiting b rules lock i other) (none_at_most per_bit)
       | inl here ↦ subst (λ (p : ℕ). IsAtMost per_bit (totals_of (items_at b rules p (Locked lock)))) here
@@ -120,18 +95,9 @@ module _ (b : Signal) (rules : RuleNumbers) (law : ReadsByRule) (few : rules.bur
     -- what a run gives
     pub run_at_most : (s : State) (a n : ℕ) → IsAtMost (per_bit * n) (totals_of (run b rules s a n).1)
     run_at_most s a zero = none_at_most (per_bit * 0)
-    run_at_most s a (suc n) =
-        let sum : per_bit + per_bit * n ≤ per_bit * suc n = omega arith in
-        at_most_more (per_bit + per_bit * n) (per_bit * suc n) _ sum
-        (both_at_most per_bit (per_bit * n) (items_at b rules a s) (run b rules (step b rules a s) (a + 1) n).1 (bit_at_most a s) (run_at_most (step b rules a s) (a + 1) n))
+    run_at_most s a (suc n) = grind (arith, common_steps, at_most_more, both_at_most, bit_at_most, run_at_most (step b rules a s) (a + 1) n)
 
     -- the totals of two runs are small enough to be added
     pub totals_of_two : (s t : State) (a m p n : ℕ) → m + n ≤ 2 ^ 36 → (one other : Totals) → one ≡ totals_of (run b rules s a m).1 → other ≡ totals_of (run b rules t p n).1
         → FitTogether one other
-    totals_of_two s t a m p n bits one other one_is other_is = (
-      per_bit * m,
-      per_bit * n,
-      omega (arith, bits),
-      subst (λ (x : Totals). IsAtMost (per_bit * m) x) (sym one_is) (run_at_most s a m),
-      subst (λ (x : Totals). IsAtMost (per_bit * n) x) (sym other_is) (run_at_most t p n),
-    )
+    totals_of_two s t a m p n bits one other one_is other_is = grind (arith, common_steps, run_at_most)

@@ -1,5 +1,5 @@
 -- Two runs meet by the end of a sound range inside their range: there both are in the state that all runs come into.
-use Rattle.rds_pieces.proofs.Names.{◌≡◌, ℕ, ◌+◌, ◌-◌, ◌*◌, ◌≤◌, List, Option, Some, None, refl, sym, ap, ◌∙◌, subst, arith, inl, inr, cases_lt, Signal, State, Locked, Item, RuleNumbers, IsLawful, IsBetweenGroups, IsLossRule, run, lock_of, MeetAt, IsMeeting, RunLaws}
+use Rattle.rds_pieces.proofs.Names.{common_steps, ◌≡◌, ℕ, ◌+◌, ◌-◌, ◌*◌, ◌≤◌, List, Option, Some, refl, sym, ap, ◌∙◌, subst, arith, Signal, State, Locked, Item, RuleNumbers, IsLawful, IsBetweenGroups, IsLossRule, run, lock_of, MeetAt, IsMeeting, RunLaws}
 use Rattle.rds_sync.specs.Convergence.{sound_bits, SoundRangesHaveFours, RunsConverge}
 use Rattle.rds_pieces.specs.Soon.{IsSoonMet, MeetSoon}
 
@@ -7,15 +7,7 @@ module _ (b : Signal) (rules : RuleNumbers) (one other : State) (from to : ℕ) 
   -- the least place where they meet is no later than any
   met_by : (met : Option ℕ) → IsMeeting b rules one other from to met → (q limit : ℕ) → MeetAt b rules one other from to q → q ≤ limit
       → (place : ℕ) × (met ≡ Some place) × (place ≤ limit)
-  met_by None none q limit here low = absurd (none q here)
-  met_by (Some place) first q limit here low = (
-    place,
-    refl,
-    elim (cases_lt limit place) [
-      | inl past ↦ absurd (first.least q (omega arith) here)
-      | inr within ↦ within
-    ],
-  )
+  met_by met it q limit here low = grind (arith, common_steps)
 
   pub soon_met : RunLaws → SoundRangesHaveFours → RunsConverge → IsLossRule rules.loss → 1 ≤ rules.reach
       → IsLawful rules from one → IsLawful rules from other → (met : Option ℕ) → IsMeeting b rules one other from to met

@@ -1,5 +1,5 @@
 -- A run that is carried over runs that follow each other, from place 0 to the recording's end.
-use Rattle.rds_pieces.proofs.Names.{◌≡◌, ◌≢◌, ℕ, ◌+◌, ◌-◌, ◌*◌, ◌<◌, ◌≤◌, ◌^◌, List, [], ◌∷◌, ◌++◌, length, get_or, drop, Option, Some, None, refl, sym, ap, ap₂, ◌∙◌, subst, arith, append-nil, mul-le, drop_more, drop_all, nil_from_length, Signal, length_of, State, Searching, Locked, Item, Totals, IsAtMost, FitTogether, totals_of, RuleNumbers, IsInRange, IsLawful, IsBetweenGroups, report_items, IsLossRule, run, items_of_end, IsMeeting, MeetAt, distance, RunOf, FollowEachOther, RunLaws, seam_reads, IsSumOfReads}
+use Rattle.rds_pieces.proofs.Names.{common_steps, ◌≡◌, ◌≢◌, ℕ, ◌+◌, ◌-◌, ◌*◌, ◌<◌, ◌≤◌, ◌^◌, List, [], ◌∷◌, ◌++◌, length, get_or, drop, Option, Some, refl, sym, ap, ap₂, ◌∙◌, subst, arith, append-nil, mul-le, drop_more, drop_all, nil_from_length, Signal, length_of, State, Searching, Locked, Item, Totals, IsAtMost, FitTogether, totals_of, RuleNumbers, IsInRange, IsLawful, IsBetweenGroups, report_items, IsLossRule, run, items_of_end, IsMeeting, MeetAt, distance, RunOf, FollowEachOther, RunLaws, seam_reads, IsSumOfReads}
 use Rattle.rds_pieces.proofs.SmallTotals.{per_bit, at_most_more, run_at_most}
 
 -- runs that follow each other are between the places
@@ -9,16 +9,12 @@ follow_inside b rules from to (r ∷ rs) h = let l = follow_inside b rules r.to 
 
 -- a meeting is in the range
 distance_inside : (b : Signal) (rules : RuleNumbers) (s t : State) (from to : ℕ) (met : Option ℕ) → IsMeeting b rules s t from to met → distance from to met ≤ to - from
-distance_inside b rules s t from to None h = omega arith
-distance_inside b rules s t from to (Some p) h = let i = h.here.inside in omega (arith, i)
+distance_inside b rules s t from to met h = grind (arith, common_steps)
 
 -- so a seam over some place reads at most 20 windows a place
 pub few_reads : (b : Signal) (rules : RuleNumbers) (s : State) (from to : ℕ) (met : Option ℕ) → rules.reach ≤ 8 → from < to → IsMeeting b rules s Searching from to met
     → seam_reads rules from to met ≤ 20 * (to - from)
-few_reads b rules s from to met reach some h =
-    let d = distance_inside b rules s Searching from to met h in
-    let most = mul-le (rules.reach + 2) (distance from to met + 1) 10 (to - from + 1) (omega arith) (omega (arith, d)) in
-    omega (arith, most)
+few_reads b rules s from to met reach some h = grind (arith, common_steps, distance_inside, mul-le)
 
 -- over no place a run and the guess meet if the run searches
 pub meeting_at_once : (b : Signal) (rules : RuleNumbers) (s : State) (from to : ℕ) → from ≡ to → (met : Option ℕ) × IsMeeting b rules s Searching from to met
@@ -30,13 +26,7 @@ meeting_at_once b rules Searching from to e =
       between = subst (λ (n : ℕ). IsBetweenGroups (run b rules Searching from n).0) (sym none) tt;
     } in
     (Some from, record { here = here; least = λ q below there. omega (arith, below, there.inside) })
-meeting_at_once b rules (Locked lock) from to e = (
-  None,
-  λ q there.
-      let none : q - from ≡ 0 = omega (arith, e, there.inside) in
-      let same : Locked lock ≡ Searching = subst (λ (n : ℕ). (run b rules (Locked lock) from n).0 ≡ (run b rules Searching from n).0) none there.same in
-      absurd (cc same),
-)
+meeting_at_once b rules (Locked lock) from to e = grind (arith, common_steps)
 
 module _ (b : Signal) (rules : RuleNumbers) (runs : List RunOf) where
   -- the progress once the state was carried over the first k runs
@@ -54,18 +44,7 @@ module _ (b : Signal) (rules : RuleNumbers) (runs : List RunOf) where
     pub left_to_read : (n : ℕ) → IsSumOfReads b rules Searching runs n → (m : ℕ) × IsSumOfReads b rules state (drop k runs) m × (reads + m ≤ base + n)
 
   pub stitched_start : (base : ℕ) (items : List Item) → FollowEachOther b rules 0 (length_of b) runs → length items ≡ 0 → IsStitched base 0 Searching items base
-  stitched_start base items follow empty = record {
-    place = 0;
-    sum = 0;
-    follow = follow;
-    state_is = refl;
-    items_are = nil_from_length items empty;
-    lawful = tt;
-    reads_most = omega arith;
-    few = omega arith;
-    sums = λ n h. subst (λ (m : ℕ). IsSumOfReads b rules Searching runs m) (let e : n ≡ 0 + n = omega arith in e) h;
-    left_to_read = λ n h. (n, h, omega arith);
-  }
+  stitched_start base items follow empty = grind (arith, common_steps, nil_from_length)
 
 module _ {b : Signal} {rules : RuleNumbers} {runs : List RunOf} {base k : ℕ} {state : State} {items : List Item} {reads : ℕ} (done : IsStitched b rules runs base k state items reads) where
   module _ {r : RunOf} (d : RunOf) (inside : k < length runs) (is : r ≡ get_or runs k d) where
@@ -124,11 +103,7 @@ module _ {b : Signal} {rules : RuleNumbers} {runs : List RunOf} {base k : ℕ} {
     -- what some places may read, a meeting among them
     pub seam_few : IsInRange rules → r.from ≢ r.to → (reads2 : ℕ) (met : Option ℕ) → IsMeeting b rules state Searching r.from r.to met
         → reads2 ≤ reads + seam_reads rules r.from r.to met → reads2 ≤ reads + 20 * (r.to - r.from)
-    seam_few range some reads2 met meeting read =
-        let n = next_follows.1 in
-        let f = from_is in
-        let most = few_reads b rules state r.from r.to met range.reach (omega (arith, n, f, some)) meeting in
-        omega (arith, most, read)
+    seam_few range some reads2 met meeting read = grind (arith, common_steps, from_is, few_reads)
 
     pub seam_within : (reads2 : ℕ) → ((met : Option ℕ) → IsMeeting b rules state Searching r.from r.to met → reads2 ≤ reads + seam_reads rules r.from r.to met)
         → (n : ℕ) → IsSumOfReads b rules Searching runs n → reads2 ≤ base + n
@@ -213,7 +188,4 @@ module _ {b : Signal} {rules : RuleNumbers} {runs : List RunOf} {base k : ℕ} {
         subst (λ (t : ℕ). IsSumOfReads b rules Searching runs t) e (done.sums 0 (subst (λ (rs : List RunOf). IsSumOfReads b rules state rs 0) (sym none_left) refl))
 
   pub stitched_few : length_of b ≤ 2 ^ 36 → base ≤ 2 ^ 61 → reads ≤ 2 ^ 62
-  stitched_few bits room =
-      let t = follow_inside b rules done.place (length_of b) (drop k runs) done.follow in
-      let l = done.few in
-      omega (arith, t, l)
+  stitched_few bits room = grind (arith, common_steps, follow_inside)

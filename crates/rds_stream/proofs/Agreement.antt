@@ -1,5 +1,5 @@
 -- Words that planes hold, and the remainders that are offset words.
-use Rattle.rds_stream.proofs.Names.{◌≡◌, ◌≢◌, ◌↔◌, ℕ, ◌+◌, ◌-◌, ◌^◌, ◌<◌, sym, ap, ◌∙◌, subst, arith, refl, bit_and, bit_or, bit_xor, List, None, IsSome, inl, inr, bit_at, cases_eq, ne_eqb, bit_at_and, bit_at_or, bit_at_xor, bit_at-lt, same_from_bits_below, word, offset_of, HoldInLane, lane}
+use Rattle.rds_stream.proofs.Names.{common_steps, ◌≡◌, ◌≢◌, ◌↔◌, ℕ, ◌+◌, ◌-◌, ◌^◌, ◌<◌, sym, ap, ◌∙◌, subst, arith, bit_and, bit_or, bit_xor, List, None, IsSome, inl, inr, bit_at, cases_eq, ne_eqb, bit_at_and, bit_at_or, bit_at_xor, bit_at-lt, same_from_bits_below, word, offset_of, HoldInLane, lane}
 use borrow.Author.Count.{below_more}
 use Rattle.std.proofs.lemmas.Bool.{true≢false}
 use Rattle.rds_code.specs.declared.offset.Offset.TheVariants.{A, B, C, Cx, D}
@@ -39,49 +39,13 @@ pub not_one : (n i : ℕ) → ((bit_at n i ≡ 1) → ⊥) → bit_at n i ≡ 0
 not_one n i never = one_of (bit_at n i) (bit_at-lt n i) never
 
 no_offset : (r : ℕ) → r ≢ word A → r ≢ word B → r ≢ word C → r ≢ word Cx → r ≢ word D → offset_of r ≡ None
-no_offset r a b c x d =
-    rw (
-      ne_eqb (word A) r (λ e. a (sym e)),
-      ne_eqb (word B) r (λ e. b (sym e)),
-      ne_eqb (word C) r (λ e. c (sym e)),
-      ne_eqb (word Cx) r (λ e. x (sym e)),
-      ne_eqb (word D) r (λ e. d (sym e)),
-    ) refl
+no_offset r a b c x d = grind (arith, common_steps, ne_eqb)
 
 -- a bit that is one of five: each tells whether r is one of the offset words
 pub offset_bit : (r a b c x d n k : ℕ) →
     ((bit_at a k ≡ 1) ↔ (r ≡ word A)) → ((bit_at b k ≡ 1) ↔ (r ≡ word B)) → ((bit_at c k ≡ 1) ↔ (r ≡ word C)) → ((bit_at x k ≡ 1) ↔ (r ≡ word Cx)) → ((bit_at d k ≡ 1) ↔ (r ≡ word D)) →
     n ≡ bit_or (bit_or (bit_or a b) (bit_or c x)) d → (bit_at n k ≡ 1) ↔ IsSome (offset_of r)
-offset_bit r a b c x d n k is_a is_b is_c is_x is_d sum =
-    let ab = bit_at_or a b k in
-    let cx = bit_at_or c x k in
-    let abcx = bit_at_or (bit_or a b) (bit_or c x) k in
-    let all = ap (λ m. bit_at m k) sum ∙ bit_at_or (bit_or (bit_or a b) (bit_or c x)) d k in
-    let Goal : Type 0 = (bit_at n k ≡ 1) ↔ IsSome (offset_of r) in
-    let found : bit_at n k ≡ 1 → IsSome (offset_of r) → Goal = λ h some. (λ _. some, λ _. h) in
-    elim (cases_eq r (word A)) [
-      | inl e ↦ found (omega (arith, ab, cx, abcx, all, is_a.1 e, bit_at-lt b k, bit_at-lt c k, bit_at-lt x k, bit_at-lt d k)) (subst (λ m. IsSome (offset_of m)) (sym e) refl)
-      | inr no_a ↦ elim (cases_eq r (word B)) [
-        | inl e ↦ found (omega (arith, ab, cx, abcx, all, is_b.1 e, bit_at-lt a k, bit_at-lt c k, bit_at-lt x k, bit_at-lt d k)) (subst (λ m. IsSome (offset_of m)) (sym e) refl)
-        | inr no_b ↦ elim (cases_eq r (word C)) [
-          | inl e ↦ found (omega (arith, ab, cx, abcx, all, is_c.1 e, bit_at-lt a k, bit_at-lt b k, bit_at-lt x k, bit_at-lt d k)) (subst (λ m. IsSome (offset_of m)) (sym e) refl)
-          | inr no_c ↦ elim (cases_eq r (word Cx)) [
-            | inl e ↦ found (omega (arith, ab, cx, abcx, all, is_x.1 e, bit_at-lt a k, bit_at-lt b k, bit_at-lt c k, bit_at-lt d k)) (subst (λ m. IsSome (offset_of m)) (sym e) refl)
-            | inr no_x ↦ elim (cases_eq r (word D)) [
-              | inl e ↦ found (omega (arith, ab, cx, abcx, all, is_d.1 e, bit_at-lt a k, bit_at-lt b k, bit_at-lt c k, bit_at-lt x k)) (subst (λ m. IsSome (offset_of m)) (sym e) refl)
-              | inr no_d ↦
-                  let none = no_offset r no_a no_b no_c no_x no_d in
-                  let za = one_of (bit_at a k) (bit_at-lt a k) (λ h. no_a (is_a.0 h)) in
-                  let zb = one_of (bit_at b k) (bit_at-lt b k) (λ h. no_b (is_b.0 h)) in
-                  let zc = one_of (bit_at c k) (bit_at-lt c k) (λ h. no_c (is_c.0 h)) in
-                  let zx = one_of (bit_at x k) (bit_at-lt x k) (λ h. no_x (is_x.0 h)) in
-                  let zd = one_of (bit_at d k) (bit_at-lt d k) (λ h. no_d (is_d.0 h)) in
-                  (λ h. absurd (omega (arith, ab, cx, abcx, all, za, zb, zc, zx, zd)), λ some. absurd (true≢false (sym (subst (λ o. IsSome o) none some))))
-            ]
-          ]
-        ]
-      ]
-    ]
+offset_bit r a b c x d n k is_a is_b is_c is_x is_d sum = grind (arith, common_steps, bit_at_or, bit_at-lt, no_offset, one_of, true≢false)
 
 -- the same of a number that is the word
 pub told : (n k r v w : ℕ) → v ≡ w → ((bit_at n k ≡ 1) ↔ (r ≡ v)) → (bit_at n k ≡ 1) ↔ (r ≡ w)

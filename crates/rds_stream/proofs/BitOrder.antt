@@ -1,5 +1,6 @@
 -- Single bits of words whose halves change places, and of bytes in a row.
-use Rattle.rds_stream.proofs.Names.{◌≡◌, ℕ, zero, suc, ◌+◌, ◌-◌, ◌*◌, ◌/◌, ◌%◌, ◌^◌, ◌<◌, ◌≤◌, refl, sym, ap, ◌∙◌, arith, bit_and, bit_or, ⊎_elim, List, [], ◌∷◌, map, get_or, bit_at, range_with_len, cases_lt, pow_pos, shr-shr, shr_split, bit_at_and, bit_at_or, bit_at_ones, bit_at_ones_above, bit_at-lt, bit_at-zero, bit_at_cat_low, bit_at_cat_high, get_or-map-range_with_len}
+use Rattle.rds_stream.proofs.Names.{common_steps, ◌≡◌, ℕ, zero, suc, ◌+◌, ◌-◌, ◌*◌, ◌/◌, ◌%◌, ◌^◌, ◌<◌, ◌≤◌, refl, sym, ap, ◌∙◌, arith, bit_and, bit_or, List, [], ◌∷◌, map, get_or, bit_at, range_with_len, cases_lt, pow_pos, shr-shr, shr_split, bit_at_and, bit_at_or, bit_at_ones, bit_at_ones_above, bit_at-lt, bit_at-zero, bit_at_cat_low, bit_at_cat_high, get_or-map-range_with_len, inl, inr}
+use Rattle.rds_code.proofs.Membership.{each_below}
 
 -- a bit of a word that is shifted down, and up
 pub shr_bit : (n s k : ℕ) → bit_at (n / 2 ^ s) k ≡ bit_at n (s + k)
@@ -20,36 +21,19 @@ shl_none n s k within below = shl_word n s k within ∙ bit_at_cat_low n s 0 k b
 -- the bits at the ones of the mask come from s places above, the others from s places below
 pub from_above : (n mask s k : ℕ) → k < 64 → bit_at mask k ≡ 1 → (s ≤ k → bit_at mask (k - s) ≡ 0)
     → bit_at (bit_or (bit_and (n / 2 ^ s) mask) (bit_and n mask * 2 ^ s % 2 ^ 64)) k ≡ bit_at n (k + s)
-from_above n mask s k within here other =
-    let there : k + s ≡ s + k = omega arith in
-    let none : bit_at (bit_and n mask * 2 ^ s % 2 ^ 64) k ≡ 0 = ⊎_elim
-    (λ (below : k < s). shl_none (bit_and n mask) s k within below)
-    (λ (above : s ≤ k). omega (arith, shl_bit (bit_and n mask) s k within above, bit_at_and n mask (k - s), other above))
-    (cases_lt k s) in
-    omega (
-      arith,
-      bit_at_or (bit_and (n / 2 ^ s) mask) (bit_and n mask * 2 ^ s % 2 ^ 64) k,
-      bit_at_and (n / 2 ^ s) mask k,
-      here,
-      none,
-      shr_bit n s k,
-      bit_at-lt n (s + k),
-      ap (bit_at n) there,
-    )
+from_above n mask s k within here other = grind (arith, common_steps, shl_none, shl_bit, bit_at_and, bit_at_or, shr_bit, bit_at-lt)
 
 pub from_below : (n mask s k : ℕ) → k < 64 → s ≤ k → bit_at mask k ≡ 0 → bit_at mask (k - s) ≡ 1
     → bit_at (bit_or (bit_and (n / 2 ^ s) mask) (bit_and n mask * 2 ^ s % 2 ^ 64)) k ≡ bit_at n (k - s)
-from_below n mask s k within above here there =
-    omega (
-      arith,
-      bit_at_or (bit_and (n / 2 ^ s) mask) (bit_and n mask * 2 ^ s % 2 ^ 64) k,
-      bit_at_and (n / 2 ^ s) mask k,
-      here,
-      shl_bit (bit_and n mask) s k within above,
-      bit_at_and n mask (k - s),
-      there,
-      bit_at-lt n (k - s),
-    )
+from_below n mask s k within above here there = grind (arith, common_steps, bit_at_or, bit_at_and, shl_bit, bit_at-lt)
+
+-- neighbours of s bits that change places, where b tells which of the two holds bit k
+pub swapped : (word mask s b k to : ℕ) → k < 64 → b < 2 → bit_at mask k ≡ 1 - b → (s ≤ k → bit_at mask (k - s) ≡ b) → (b ≡ 0 → to ≡ k + s) → (b ≡ 1 → (s ≤ k) × (to ≡ k - s))
+    → bit_at (bit_or (bit_and (word / 2 ^ s) mask) (bit_and word mask * 2 ^ s % 2 ^ 64)) k ≡ bit_at word to
+swapped word mask s b k to within small here other above below = elim (cases_lt b 1) [
+  | inl even ↦ from_above word mask s k within (omega (arith, here)) (λ le. omega (arith, other le)) ∙ sym (ap (bit_at word) (above (omega arith)))
+  | inr odd ↦ let at = below (omega arith) in from_below word mask s k within at.0 (omega (arith, here)) (omega (arith, other at.0)) ∙ sym (ap (bit_at word) at.1)
+]
 
 -- a bit of a mask, from the list of its bits
 mask_bit : (mask : ℕ) (f : ℕ → ℕ) (k : ℕ) → map (bit_at mask) (range_with_len 0 64) ≡ map f (range_with_len 0 64) → k < 64 → bit_at mask k ≡ f k
@@ -93,15 +77,10 @@ eight_bytes f = omega arith
 pub eight_neighbours : (bytes : List ℕ) (a i : ℕ) → i < 8 →
     get_or (get_or bytes a 0 ∷ get_or bytes (a + 1) 0 ∷ get_or bytes (a + 2) 0 ∷ get_or bytes (a + 3) 0 ∷ get_or bytes (a + 4) 0 ∷ get_or bytes (a + 5) 0 ∷ get_or bytes (a + 6) 0 ∷ get_or bytes (a + 7) 0 ∷ []) i 0
     ≡ get_or bytes (a + i) 0
-eight_neighbours bytes a zero within = let same : a ≡ a + 0 = omega arith in ap (λ j. get_or bytes j 0) same
-eight_neighbours bytes a (suc zero) within = refl
-eight_neighbours bytes a (suc (suc zero)) within = refl
-eight_neighbours bytes a (suc (suc (suc zero))) within = refl
-eight_neighbours bytes a (suc (suc (suc (suc zero)))) within = refl
-eight_neighbours bytes a (suc (suc (suc (suc (suc zero))))) within = refl
-eight_neighbours bytes a (suc (suc (suc (suc (suc (suc zero)))))) within = refl
-eight_neighbours bytes a (suc (suc (suc (suc (suc (suc (suc zero))))))) within = refl
-eight_neighbours bytes a (suc (suc (suc (suc (suc (suc (suc (suc i)))))))) within = absurd (omega arith)
+eight_neighbours bytes a =
+    let same : a ≡ a + 0 = omega arith in
+    let neighbours : List ℕ = get_or bytes a 0 ∷ get_or bytes (a + 1) 0 ∷ get_or bytes (a + 2) 0 ∷ get_or bytes (a + 3) 0 ∷ get_or bytes (a + 4) 0 ∷ get_or bytes (a + 5) 0 ∷ get_or bytes (a + 6) 0 ∷ get_or bytes (a + 7) 0 ∷ [] in
+    each_below (λ i. get_or neighbours i 0 ≡ get_or bytes (a + i) 0) 8 (ap (λ j. get_or bytes j 0) same, (refl, (refl, (refl, (refl, (refl, (refl, (refl, tt))))))))
 
 -- the lowest 32 bits of two words in a row
 pub joined_low : (low high k : ℕ) → k < 32 → bit_at (bit_or (bit_and low 4294967295) (high * 4294967296 % 18446744073709551616)) k ≡ bit_at low k

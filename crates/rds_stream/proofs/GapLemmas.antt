@@ -1,11 +1,10 @@
 -- Gaps in order, and the windows that they touch.
 use Rattle.std.proofs.Common.{ap₂}
-use Rattle.rds_stream.proofs.Names.{◌≡◌, ℕ, ◌+◌, ◌-◌, ◌<◌, ◌≤◌, ◌⊎◌, ◌&&◌, sym, ap, ◌∙◌, subst, arith, List, length, get_or, leb, ltb, true, false, Bool, inl, inr, refl, cases_lt, le-leb, lt-leb, le-ltb, lt-ltb, HoldsAt, IsNonDecreasingBy, IsNonDecreasingBy-from_all_adjacent, AreGaps, Signal, touched, is_touched_by, AllEndBy, IsFirstAfter, IsSection}
+use Rattle.rds_stream.proofs.Names.{common_steps, ◌≡◌, ℕ, ◌+◌, ◌-◌, ◌<◌, ◌≤◌, ◌⊎◌, ◌&&◌, sym, ap, subst, arith, List, length, get_or, ltb, true, false, Bool, inl, inr, cases_lt, le-leb, lt-leb, le-ltb, lt-ltb, HoldsAt, IsNonDecreasingBy, IsNonDecreasingBy-from_all_adjacent, AreGaps, Signal, touched, is_touched_by, AllEndBy, IsFirstAfter, IsSection}
 use Rattle.std.proofs.lemmas.List.Folds.{list_any_at, list_any_none}
 
 and_false : (x : Bool) → (x && false) ≡ false
-and_false true = refl
-and_false false = refl
+and_false x = grind (arith, common_steps)
 
 -- the ends of gaps rise, and their beginnings do
 pub ends_rise : (n : ℕ) (gaps : List (ℕ × ℕ)) → AreGaps n gaps → IsNonDecreasingBy (λ (gap : ℕ × ℕ). gap.1) gaps
@@ -28,13 +27,7 @@ touches_it b i k gap within is low high first =
 pub touches_none : (b : Signal) (i : ℕ) → ((k : ℕ) (d : ℕ × ℕ) → k < length b.gaps → ((get_or b.gaps k d).1 ≤ i - 25) ⊎ (i < (get_or b.gaps k d).0))
     → touched b i ≡ false
 unfolding touched
-touches_none b i outside =
-    list_any_none (is_touched_by i) b.gaps (λ k d within.
-    let gap = get_or b.gaps k d in
-    elim (outside k d within) [
-      | inl before ↦ ap (λ (y : Bool). leb gap.0 i && y) (le-ltb (i - 25) gap.1 before) ∙ and_false (leb gap.0 i)
-      | inr after ↦ ap (λ (x : Bool). x && ltb (i - 25) gap.1) (lt-leb gap.0 i after)
-    ])
+touches_none b i outside = grind (arith, common_steps, list_any_none, le-ltb, and_false, ltb, lt-leb)
 
 -- ---- the sections of a recording
 

@@ -2,6 +2,7 @@
 pub use Rattle.std.proofs.Common.{Bool, Bor, Fits, IsSome, List, None, Option, Some, [], add-one, ap, arith, bit_and, bit_or, bit_xor, drop, false, get_or, if◌then◌else◌, inl, inr, leb, leb-false, leb-true, length, length-drop, ltb, map, nat_eq, option_map, refl, replicate, rules, slice_index, subst, suc, sym, take, true, true≢false, w64, w8, zero, ℕ, ⊎_elim, ◌%◌, ◌&&◌, ◌*◌, ◌++◌, ◌+◌, ◌-◌, ◌/◌, ◌<◌, ◌^◌, ◌↔◌, ◌∙◌, ◌∷◌, ◌≡◌, ◌≢◌, ◌≤◌, ◌⊎◌}
 pub use Rattle.std.proofs.Math.Nat.{mod-eq_of_lt, mul_assoc, pow-suc}
 pub use Rattle.std.proofs.lemmas.Bool.{MatchBool-at_false, MatchBool-at_true, cases_Bool, cases_eq, cases_lt, le-leb, le-ltb, lt-leb, lt-ltb, ne_eqb}
+pub use Rattle.std.proofs.lemmas.Grind.{common_steps}
 pub use Rattle.std.proofs.lemmas.List.{append-nil, get_or-append_right, get_or-drop, get_or_append_left, length-append, map-id, same_lists, with_items_is}
 pub use Rattle.std.proofs.lemmas.List.FromFn.{get_or-map-range_with_len, length-map-range_with_len, map-range_with_len_more}
 pub use Rattle.std.proofs.lemmas.List.Sorted.{IsNonDecreasingBy-from_all_adjacent, IsPartitionPoint-from_clause, IsPartitionedBy-leb, answers_always}

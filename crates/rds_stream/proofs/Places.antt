@@ -1,5 +1,5 @@
 -- Numbers whose binary digits are neighbouring places.
-use Rattle.rds_stream.proofs.Names.{◌≡◌, ◌≢◌, ℕ, zero, suc, ◌+◌, ◌-◌, ◌*◌, ◌/◌, ◌%◌, ◌^◌, ◌<◌, ◌≤◌, refl, sym, ap, ◌∙◌, arith, bit_and, bit_or, ⊎_elim, List, length, get_or, take, drop, length-drop, add-one, ap₂, bit_at, pow-suc, mul_assoc, mod-eq_of_lt, cases_eq, shr-shr, shr_high, mod_low, or_shifted, and_mask, bit_at-lt, get_or-drop, get_or-map-range_with_len, length-map-range_with_len, packed_bit, bits_of, window}
+use Rattle.rds_stream.proofs.Names.{common_steps, ◌≡◌, ◌≢◌, ℕ, zero, suc, ◌+◌, ◌-◌, ◌*◌, ◌/◌, ◌%◌, ◌^◌, ◌<◌, ◌≤◌, refl, sym, ap, ◌∙◌, arith, bit_and, bit_or, ⊎_elim, List, length, get_or, take, drop, length-drop, add-one, ap₂, bit_at, pow-suc, mul_assoc, mod-eq_of_lt, cases_eq, shr-shr, shr_high, mod_low, or_shifted, and_mask, bit_at-lt, get_or-drop, get_or-map-range_with_len, length-map-range_with_len, packed_bit, bits_of, window}
 use Rattle.std.specs.Int.Digits.{number_from_digits}
 use Rattle.std.proofs.lemmas.Int.Digits.{number_more as digits_more}
 
@@ -20,11 +20,7 @@ number-lt f (suc n) i digits = omega (arith, number-lt f n (i - 1) digits, pow-s
 -- n places and then m more
 pub number_split : (f : ℕ → ℕ) (n m i : ℕ) → number f (n + m) i ≡ number f n (i - m) * 2 ^ m + number f m i
 unfolding number
-number_split f n zero i =
-    let a : n + 0 ≡ n = omega arith in
-    let b : i - 0 ≡ i = omega arith in
-    let c : number f n i * 1 + 0 ≡ number f n i = omega arith in
-    ap (λ k. number f k i) a ∙ sym (ap (λ j. number f n j * 1 + 0) b ∙ c)
+number_split f n zero i = grind (arith, common_steps)
 number_split f n (suc m) i =
     let a : n + suc m ≡ suc (n + m) = omega arith in
     let b : i - 1 - m ≡ i - suc m = omega arith in
@@ -45,8 +41,7 @@ number_part f n e i digits room =
 pub number_same : (f g : ℕ → ℕ) (n i : ℕ) → ((k : ℕ) → k ≤ i → f k ≡ g k) → number f n i ≡ number g n i
 unfolding number
 number_same f g zero i same = refl
-number_same f g (suc n) i same =
-    ap₂ (λ x y. 2 * x + y) (number_same f g n (i - 1) (λ k l. same k (omega arith))) (same i (omega arith))
+number_same f g (suc n) i same = grind (arith, common_steps, number_same f g n (i - 1) (λ k l. same k (omega arith)))
 
 -- the first n digits of a list from place a on
 pub digits_from : (b : List ℕ) (a n : ℕ) → a + n ≤ length b → number_from_digits 2 (take n (drop a b)) ≡ number (λ k. get_or b k 0) n (a + n - 1)
@@ -64,10 +59,7 @@ digits_from b a (suc n) room =
 -- a window of a list is the number of its 26 places
 pub window_is : (b : List ℕ) (i : ℕ) → 25 ≤ i → i < length b → window b i ≡ number (λ k. get_or b k 0) 26 i
 unfolding window
-window_is b i first last =
-    let count : i + 1 - (i - 25) ≡ 26 = omega arith in
-    let end : i - 25 + 26 - 1 ≡ i = omega arith in
-    ap (λ n. number_from_digits 2 (take n (drop (i - 25) b))) count ∙ digits_from b (i - 25) 26 (omega arith) ∙ ap (number (λ k. get_or b k 0) 26) end
+window_is b i first last = grind (arith, common_steps, digits_from)
 
 pub packed_bit-lt : (bytes : List ℕ) (i : ℕ) → packed_bit bytes i < 2
 packed_bit-lt bytes i = bit_at-lt (get_or bytes (i / 8) 0) (7 - i % 8)
@@ -80,15 +72,10 @@ get_or-bits_of bytes n i held = get_or-map-range_with_len (packed_bit bytes) 0 n
 
 -- a window of the first n bits of the bytes
 pub packed_window : (bytes : List ℕ) (n i : ℕ) → 25 ≤ i → i < n → window (bits_of bytes n) i ≡ number (packed_bit bytes) 26 i
-packed_window bytes n i first last =
-    window_is (bits_of bytes n) i first (omega (arith, length-bits_of bytes n))
-    ∙ number_same (λ k. get_or (bits_of bytes n) k 0) (packed_bit bytes) 26 i (λ k l. get_or-bits_of bytes n k (omega arith))
+packed_window bytes n i first last = grind (arith, common_steps, window_is, length-bits_of, number_same, get_or-bits_of)
 
 bit_in : (bytes : List ℕ) (j s i : ℕ) → i + s ≡ 8 * j + 7 → s < 8 → packed_bit bytes i ≡ bit_at (get_or bytes j 0) s
-bit_in bytes j s i e l =
-    let a : i / 8 ≡ j = omega arith in
-    let b : 7 - i % 8 ≡ s = omega arith in
-    ap₂ (λ x y. bit_at (get_or bytes x 0) y) a b
+bit_in bytes j s i e l = grind (arith, common_steps)
 
 -- the eight places of a byte
 pub number_byte : (bytes : List ℕ) (j : ℕ) → get_or bytes j 0 < 256 → number (packed_bit bytes) 8 (8 * j + 7) ≡ get_or bytes j 0
@@ -109,8 +96,7 @@ number_byte bytes j small =
 -- one more byte
 pub number_more_byte : (n : ℕ) (bytes : List ℕ) (j : ℕ) → get_or bytes j 0 < 256 →
     number (packed_bit bytes) (n + 8) (8 * j + 7) ≡ number (packed_bit bytes) n (8 * j + 7 - 8) * 256 + get_or bytes j 0
-number_more_byte n bytes j small =
-    number_split (packed_bit bytes) n 8 (8 * j + 7) ∙ ap (λ y. number (packed_bit bytes) n (8 * j + 7 - 8) * 256 + y) (number_byte bytes j small)
+number_more_byte n bytes j small = grind (arith, common_steps, number_split, number_byte)
 
 byte_back : (f : ℕ → ℕ) (n j : ℕ) → number f n (8 * (j + 1) + 7 - 8) ≡ number f n (8 * j + 7)
 byte_back f n j = ap (number f n) (omega arith)

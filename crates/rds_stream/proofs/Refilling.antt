@@ -1,5 +1,5 @@
 -- Packed bits of which the first are put in the place of others.
-use Rattle.rds_stream.proofs.Names.{◌≡◌, ℕ, ◌+◌, ◌-◌, ◌*◌, ◌/◌, ◌%◌, ◌<◌, ◌≤◌, ◌++◌, refl, sym, ap, ◌∙◌, arith, List, length, get_or, drop, length-drop, inl, inr, bit_at, cases_lt, length-append, get_or-drop, get_or_append_left, get_or-append_right, same_lists, get_or-map-range_with_len, packed_bit, bits_of}
+use Rattle.rds_stream.proofs.Names.{common_steps, ◌≡◌, ℕ, ◌+◌, ◌-◌, ◌*◌, ◌/◌, ◌%◌, ◌<◌, ◌≤◌, ◌++◌, refl, sym, ap, ◌∙◌, arith, List, length, get_or, drop, length-drop, inl, inr, bit_at, cases_lt, length-append, get_or-drop, get_or_append_left, get_or-append_right, same_lists, get_or-map-range_with_len, packed_bit, bits_of}
 use Rattle.rds_stream.proofs.Places.{length-bits_of}
 
 -- the bits of bytes of which the first are others
@@ -30,7 +30,4 @@ module _ (bytes old : List ℕ) (n : ℕ) (within : 8 * length bytes ≤ n) wher
   ]
 
   pub bits-refilled : bits_of after n ≡ bits_of bytes m ++ drop m (bits_of old n)
-  bits-refilled =
-      same_lists (bits_of after n) (bits_of bytes m ++ drop m (bits_of old n))
-      (omega (arith, length-bits_of after n, length-append (bits_of bytes m) (drop m (bits_of old n)), length-bits_of bytes m, length-drop m (bits_of old n), length-bits_of old n))
-      (λ i d h. at_bit i d (omega (arith, h, length-bits_of after n)))
+  bits-refilled = grind (arith, common_steps, same_lists, length-bits_of, length-append, length-drop, at_bit)

@@ -1,7 +1,8 @@
 -- Each bit of a remainder as a sum of bits of its window, and each plane from the one above it.
-use Rattle.rds_stream.proofs.Names.{◌≡◌, ℕ, zero, suc, ◌+◌, ◌-◌, ◌*◌, ◌/◌, ◌%◌, ◌^◌, ◌<◌, ◌≤◌, refl, sym, ap, ◌∙◌, arith, bit_xor, List, [], ◌∷◌, map, get_or, ap₂, bit_at, range_with_len, pow-suc, mod-eq_of_lt, pow_pos, mod_below, div_below, shr_split, bit_at_xor, bit_at-zero, bit_at_cat_low, get_or-map-range_with_len, rem, IsWindowAt, lane}
+use Rattle.rds_stream.proofs.Names.{common_steps, ◌≡◌, ℕ, zero, suc, ◌+◌, ◌-◌, ◌*◌, ◌/◌, ◌%◌, ◌^◌, ◌<◌, ◌≤◌, refl, sym, ap, ◌∙◌, arith, bit_xor, List, [], ◌∷◌, map, get_or, ap₂, bit_at, range_with_len, pow-suc, mod-eq_of_lt, pow_pos, mod_below, div_below, shr_split, bit_at_xor, bit_at-zero, bit_at_cat_low, get_or-map-range_with_len, rem, IsWindowAt, lane}
 use Rattle.std.specs.Int.Bits.{xor_shifted}
 use Rattle.rds_code.specs.Laws.{IsLinear}
+use Rattle.rds_code.proofs.Membership.{each_below}
 use Rattle.rds_stream.proofs.BitOrder.{shr_bit}
 
 -- the remainder of each power of x by the generator
@@ -39,22 +40,14 @@ times_bit (suc zero) p s l = let e : 1 * p ≡ p = omega arith in omega (arith, 
 times_bit (suc (suc h)) p s l = absurd (omega arith)
 
 top_rem : (n h : ℕ) → n < 26 → h < 2 → rem (h * 2 ^ n) ≡ h * power n
-top_rem n zero within l =
-    let e : 0 * 2 ^ n ≡ 0 = omega arith in
-    let f : 0 * power n ≡ 0 = omega arith in
-    ap rem e ∙ rem-zero ∙ sym f
-top_rem n (suc zero) within l =
-    let e : 1 * 2 ^ n ≡ 2 ^ n = omega arith in
-    let f : 1 * power n ≡ power n = omega arith in
-    ap rem e ∙ sym (f ∙ power_is n within)
+top_rem n zero within l = grind (arith, common_steps, rem-zero)
+top_rem n (suc zero) within l = grind (arith, common_steps, power_is)
 top_rem n (suc (suc h)) within l = absurd (omega arith)
 
 -- a bit of a remainder is a sum of bits
 rem_bit : IsLinear → (n w s : ℕ) → n ≤ 26 → w < 2 ^ n → bit_at (rem w) s ≡ dot n s (bit_at w) % 2
 unfolding dot
-rem_bit linear zero w s within small =
-    let e : w ≡ 0 = omega arith in
-    ap (λ x. bit_at x s) (ap rem e ∙ rem-zero) ∙ bit_at-zero s
+rem_bit linear zero w s within small = grind (arith, common_steps, rem-zero, bit_at-zero)
 rem_bit linear (suc n) w s within small =
     let low = w % 2 ^ n in
     let top = w / 2 ^ n in
@@ -90,34 +83,6 @@ sums : (f : ℕ → ℕ) → (dot 26 0 f ≡ f 0 + f 10 + f 12 + f 13 + f 14 + f
 unfolding dot power powers
 sums f = (omega arith, omega arith, omega arith, omega arith, omega arith, omega arith, omega arith, omega arith, omega arith, omega arith)
 
--- bit r of the remainder of a window, whose first place is that of g 0, from bit r + 1 of the next window's
-down_8 : (g : ℕ → ℕ) → dot 26 8 (λ t. g (25 - t)) % 2 ≡ (dot 26 9 (λ t. g (26 - t))) % 2
-down_8 g = omega (arith, (sums (λ t. g (25 - t))).8, (sums (λ t. g (26 - t))).9)
-
-down_7 : (g : ℕ → ℕ) → dot 26 7 (λ t. g (25 - t)) % 2 ≡ (dot 26 8 (λ t. g (26 - t)) + dot 26 9 (λ t. g (25 - t))) % 2
-down_7 g = omega (arith, (sums (λ t. g (25 - t))).7, (sums (λ t. g (26 - t))).8, (sums (λ t. g (25 - t))).9)
-
-down_6 : (g : ℕ → ℕ) → dot 26 6 (λ t. g (25 - t)) % 2 ≡ (dot 26 7 (λ t. g (26 - t)) + dot 26 9 (λ t. g (25 - t)) + g 0) % 2
-down_6 g = let start : g (25 - 25) ≡ g 0 = refl in omega (arith, (sums (λ t. g (25 - t))).6, (sums (λ t. g (26 - t))).7, (sums (λ t. g (25 - t))).9, start)
-
-down_5 : (g : ℕ → ℕ) → dot 26 5 (λ t. g (25 - t)) % 2 ≡ (dot 26 6 (λ t. g (26 - t)) + g 0) % 2
-down_5 g = let start : g (25 - 25) ≡ g 0 = refl in omega (arith, (sums (λ t. g (25 - t))).5, (sums (λ t. g (26 - t))).6, start)
-
-down_4 : (g : ℕ → ℕ) → dot 26 4 (λ t. g (25 - t)) % 2 ≡ (dot 26 5 (λ t. g (26 - t)) + dot 26 9 (λ t. g (25 - t)) + g 0) % 2
-down_4 g = let start : g (25 - 25) ≡ g 0 = refl in omega (arith, (sums (λ t. g (25 - t))).4, (sums (λ t. g (26 - t))).5, (sums (λ t. g (25 - t))).9, start)
-
-down_3 : (g : ℕ → ℕ) → dot 26 3 (λ t. g (25 - t)) % 2 ≡ (dot 26 4 (λ t. g (26 - t)) + dot 26 9 (λ t. g (25 - t))) % 2
-down_3 g = omega (arith, (sums (λ t. g (25 - t))).3, (sums (λ t. g (26 - t))).4, (sums (λ t. g (25 - t))).9)
-
-down_2 : (g : ℕ → ℕ) → dot 26 2 (λ t. g (25 - t)) % 2 ≡ (dot 26 3 (λ t. g (26 - t)) + dot 26 9 (λ t. g (25 - t)) + g 0) % 2
-down_2 g = let start : g (25 - 25) ≡ g 0 = refl in omega (arith, (sums (λ t. g (25 - t))).2, (sums (λ t. g (26 - t))).3, (sums (λ t. g (25 - t))).9, start)
-
-down_1 : (g : ℕ → ℕ) → dot 26 1 (λ t. g (25 - t)) % 2 ≡ (dot 26 2 (λ t. g (26 - t)) + g 0) % 2
-down_1 g = let start : g (25 - 25) ≡ g 0 = refl in omega (arith, (sums (λ t. g (25 - t))).1, (sums (λ t. g (26 - t))).2, start)
-
-down_0 : (g : ℕ → ℕ) → dot 26 0 (λ t. g (25 - t)) % 2 ≡ (dot 26 1 (λ t. g (26 - t)) + g 0) % 2
-down_0 g = let start : g (25 - 25) ≡ g 0 = refl in omega (arith, (sums (λ t. g (25 - t))).0, (sums (λ t. g (26 - t))).1, start)
-
 -- bit e of p is bit s of the remainder of the window that begins at bit e of v
 abbrev pub Sums : ℕ → ℕ → ℕ → Type 0
 Sums v s p = (e : ℕ) → bit_at p e ≡ dot 26 s (λ t. bit_at v (e + (25 - t))) % 2
@@ -132,35 +97,36 @@ next v s p e sums =
     shr_bit p 1 e ∙ ap (bit_at p) one ∙ sums (e + 1)
     ∙ ap (λ x. x % 2) (dot_same 26 s _ _ (λ t l. let same : e + 1 + (25 - t) ≡ e + (26 - t) = omega arith in ap (bit_at v) same))
 
-first : (v e : ℕ) → bit_at v (e + 0) ≡ bit_at v e
-first v e = let same : e + 0 ≡ e = omega arith in ap (bit_at v) same
+first : (v e : ℕ) → bit_at v (e + (25 - 25)) ≡ bit_at v e
+first v e = let same : e + (25 - 25) ≡ e = omega arith in ap (bit_at v) same
 
+-- bit s of the remainder of a window, from bit s + 1 of the next window's
 pub plane_8 : (v q : ℕ) → Sums v 9 q → Sums v 8 (q / 2)
-plane_8 v q nine e = omega (arith, next v 9 q e nine, down_8 (λ j. bit_at v (e + j)))
+plane_8 v q nine e = omega (arith, next v 9 q e nine, (sums (λ t. bit_at v (e + (25 - t)))).8, (sums (λ t. bit_at v (e + (26 - t)))).9)
 
 pub plane_7 : (v q p : ℕ) → Sums v 9 q → Sums v 8 p → Sums v 7 (bit_xor (p / 2) q)
-plane_7 v q p nine above e = omega (arith, bit_at_xor (p / 2) q e, next v 8 p e above, down_7 (λ j. bit_at v (e + j)), nine e)
+plane_7 v q p nine above e = omega (arith, bit_at_xor (p / 2) q e, next v 8 p e above, (sums (λ t. bit_at v (e + (25 - t)))).7, (sums (λ t. bit_at v (e + (26 - t)))).8, (sums (λ t. bit_at v (e + (25 - t)))).9, nine e)
 
 pub plane_6 : (v q p : ℕ) → Sums v 9 q → Sums v 7 p → Sums v 6 (bit_xor (p / 2) (bit_xor q v))
-plane_6 v q p nine above e = omega (arith, bit_at_xor (p / 2) (bit_xor q v) e, bit_at_xor q v e, next v 7 p e above, down_6 (λ j. bit_at v (e + j)), nine e, first v e)
+plane_6 v q p nine above e = omega (arith, bit_at_xor (p / 2) (bit_xor q v) e, bit_at_xor q v e, next v 7 p e above, (sums (λ t. bit_at v (e + (25 - t)))).6, (sums (λ t. bit_at v (e + (26 - t)))).7, (sums (λ t. bit_at v (e + (25 - t)))).9, nine e, first v e)
 
 pub plane_5 : (v q p : ℕ) → Sums v 9 q → Sums v 6 p → Sums v 5 (bit_xor (p / 2) v)
-plane_5 v q p nine above e = omega (arith, bit_at_xor (p / 2) v e, next v 6 p e above, down_5 (λ j. bit_at v (e + j)), first v e)
+plane_5 v q p nine above e = omega (arith, bit_at_xor (p / 2) v e, next v 6 p e above, (sums (λ t. bit_at v (e + (25 - t)))).5, (sums (λ t. bit_at v (e + (26 - t)))).6, first v e)
 
 pub plane_4 : (v q p : ℕ) → Sums v 9 q → Sums v 5 p → Sums v 4 (bit_xor (p / 2) (bit_xor q v))
-plane_4 v q p nine above e = omega (arith, bit_at_xor (p / 2) (bit_xor q v) e, bit_at_xor q v e, next v 5 p e above, down_4 (λ j. bit_at v (e + j)), nine e, first v e)
+plane_4 v q p nine above e = omega (arith, bit_at_xor (p / 2) (bit_xor q v) e, bit_at_xor q v e, next v 5 p e above, (sums (λ t. bit_at v (e + (25 - t)))).4, (sums (λ t. bit_at v (e + (26 - t)))).5, (sums (λ t. bit_at v (e + (25 - t)))).9, nine e, first v e)
 
 pub plane_3 : (v q p : ℕ) → Sums v 9 q → Sums v 4 p → Sums v 3 (bit_xor (p / 2) q)
-plane_3 v q p nine above e = omega (arith, bit_at_xor (p / 2) q e, next v 4 p e above, down_3 (λ j. bit_at v (e + j)), nine e)
+plane_3 v q p nine above e = omega (arith, bit_at_xor (p / 2) q e, next v 4 p e above, (sums (λ t. bit_at v (e + (25 - t)))).3, (sums (λ t. bit_at v (e + (26 - t)))).4, (sums (λ t. bit_at v (e + (25 - t)))).9, nine e)
 
 pub plane_2 : (v q p : ℕ) → Sums v 9 q → Sums v 3 p → Sums v 2 (bit_xor (p / 2) (bit_xor q v))
-plane_2 v q p nine above e = omega (arith, bit_at_xor (p / 2) (bit_xor q v) e, bit_at_xor q v e, next v 3 p e above, down_2 (λ j. bit_at v (e + j)), nine e, first v e)
+plane_2 v q p nine above e = omega (arith, bit_at_xor (p / 2) (bit_xor q v) e, bit_at_xor q v e, next v 3 p e above, (sums (λ t. bit_at v (e + (25 - t)))).2, (sums (λ t. bit_at v (e + (26 - t)))).3, (sums (λ t. bit_at v (e + (25 - t)))).9, nine e, first v e)
 
 pub plane_1 : (v q p : ℕ) → Sums v 9 q → Sums v 2 p → Sums v 1 (bit_xor (p / 2) v)
-plane_1 v q p nine above e = omega (arith, bit_at_xor (p / 2) v e, next v 2 p e above, down_1 (λ j. bit_at v (e + j)), first v e)
+plane_1 v q p nine above e = omega (arith, bit_at_xor (p / 2) v e, next v 2 p e above, (sums (λ t. bit_at v (e + (25 - t)))).1, (sums (λ t. bit_at v (e + (26 - t)))).2, first v e)
 
 pub plane_0 : (v q p : ℕ) → Sums v 9 q → Sums v 1 p → Sums v 0 (bit_xor (p / 2) v)
-plane_0 v q p nine above e = omega (arith, bit_at_xor (p / 2) v e, next v 1 p e above, down_0 (λ j. bit_at v (e + j)), first v e)
+plane_0 v q p nine above e = omega (arith, bit_at_xor (p / 2) v e, next v 1 p e above, (sums (λ t. bit_at v (e + (25 - t)))).0, (sums (λ t. bit_at v (e + (26 - t)))).1, first v e)
 
 -- the numbers on the way to plane 9
 abbrev pairs : ℕ → ℕ
@@ -209,17 +175,7 @@ shows linear v s p k block sums window =
 
 -- a fact about each number below ten
 ten : (P : ℕ → Type 0) → P 0 → P 1 → P 2 → P 3 → P 4 → P 5 → P 6 → P 7 → P 8 → P 9 → (r : ℕ) → r < 10 → P r
-ten P x0 x1 x2 x3 x4 x5 x6 x7 x8 x9 zero l = x0
-ten P x0 x1 x2 x3 x4 x5 x6 x7 x8 x9 (suc zero) l = x1
-ten P x0 x1 x2 x3 x4 x5 x6 x7 x8 x9 (suc (suc zero)) l = x2
-ten P x0 x1 x2 x3 x4 x5 x6 x7 x8 x9 (suc (suc (suc zero))) l = x3
-ten P x0 x1 x2 x3 x4 x5 x6 x7 x8 x9 (suc (suc (suc (suc zero)))) l = x4
-ten P x0 x1 x2 x3 x4 x5 x6 x7 x8 x9 (suc (suc (suc (suc (suc zero))))) l = x5
-ten P x0 x1 x2 x3 x4 x5 x6 x7 x8 x9 (suc (suc (suc (suc (suc (suc zero)))))) l = x6
-ten P x0 x1 x2 x3 x4 x5 x6 x7 x8 x9 (suc (suc (suc (suc (suc (suc (suc zero))))))) l = x7
-ten P x0 x1 x2 x3 x4 x5 x6 x7 x8 x9 (suc (suc (suc (suc (suc (suc (suc (suc zero)))))))) l = x8
-ten P x0 x1 x2 x3 x4 x5 x6 x7 x8 x9 (suc (suc (suc (suc (suc (suc (suc (suc (suc zero))))))))) l = x9
-ten P x0 x1 x2 x3 x4 x5 x6 x7 x8 x9 (suc (suc (suc (suc (suc (suc (suc (suc (suc (suc r)))))))))) l = absurd (omega arith)
+ten P x0 x1 x2 x3 x4 x5 x6 x7 x8 x9 = each_below P 10 (x0, (x1, (x2, (x3, (x4, (x5, (x6, (x7, (x8, (x9, tt))))))))))
 
 -- the bits of a lane of ten vectors in a row
 pub in_lane : (j k block : ℕ) (a b c d f g h i m n : List ℕ) → bit_at (get_or a j 0) k ≡ bit_at (rem block) 0 → bit_at (get_or b j 0) k ≡ bit_at (rem block) 1

@@ -1,15 +1,13 @@
 -- Words of valid places: places with an offset and without one.
-use Rattle.rds_stream.proofs.Names.{◌≡◌, ℕ, ◌+◌, ◌-◌, ◌*◌, ◌/◌, ◌%◌, ◌^◌, ◌<◌, ◌≤◌, refl, sym, ap, ◌∙◌, subst, arith, Option, Some, None, IsSome, inl, inr, bit_or, w64, true≢false, bit_at, cases_lt, bit_at-zero, bit_at_set_same, bit_at_set_other, Offset, Signal, offset_at, NoneValid, TellsValidPlaces}
+use Rattle.rds_stream.proofs.Names.{common_steps, ◌≡◌, ℕ, ◌+◌, ◌-◌, ◌*◌, ◌/◌, ◌%◌, ◌^◌, ◌<◌, ◌≤◌, sym, ap, ◌∙◌, subst, arith, Option, Some, None, IsSome, inl, inr, bit_or, w64, true≢false, bit_at, cases_lt, bit_at-zero, bit_at_set_same, bit_at_set_other, Offset, Signal, offset_at, NoneValid, TellsValidPlaces}
 use Rattle.rds_stream.proofs.BitOrder.{shr_bit}
 use Rattle.rds_stream.proofs.WindowLists.{off_early}
 
 pub some_is : (o : Option Offset) → IsSome o → (x : Offset) × (o ≡ Some x)
-some_is None some = absurd (true≢false (sym some))
-some_is (Some x) some = (x, refl)
+some_is o some = grind (arith, common_steps, true≢false)
 
 pub none_is : (o : Option Offset) → (IsSome o → ⊥) → o ≡ None
-none_is None never = refl
-none_is (Some x) never = absurd (never refl)
+none_is o never = grind (arith, common_steps)
 
 pub never_some : (b : Signal) (p : ℕ) → offset_at b p ≡ None → IsSome (offset_at b p) → ⊥
 never_some b p none some = true≢false (sym (subst (λ (o : Option Offset). IsSome o) none some))
@@ -20,10 +18,7 @@ valid_late b p some = elim (cases_lt p 25) [ inl early ↦ absurd (never_some b 
 
 -- a one in the word
 pub one_valid : (b : Signal) (next ahead word k : ℕ) → TellsValidPlaces b next ahead word → bit_at word k ≡ 1 → (next + k < ahead) × IsSome (offset_at b (next + k))
-one_valid b next ahead word k places one = elim (cases_lt (next + k) ahead) [
-  | inl within ↦ (within, (places.told k within).0 one)
-  | inr past ↦ absurd (omega (arith, places.past k past, one))
-]
+one_valid b next ahead word k places one = grind (arith, common_steps)
 
 -- a zero in the word
 pub zero_invalid : (b : Signal) (next ahead word k : ℕ) → TellsValidPlaces b next ahead word → next + k < ahead → bit_at word k ≡ 0 → offset_at b (next + k) ≡ None
@@ -46,27 +41,11 @@ join_none b from p to before after i low high = elim (cases_lt i p) [ inl early 
 
 -- places without an offset
 pub none_valid : (b : Signal) (next ahead : ℕ) → next ≤ ahead → ahead ≤ next + 64 → NoneValid b next ahead → TellsValidPlaces b next ahead 0
-none_valid b next ahead order width none = record {
-  order = order;
-  width = width;
-  told = λ k l. (λ h. absurd (omega (arith, h, bit_at-zero k)), λ some. absurd (never_some b (next + k) (none (next + k) (omega arith) l) some));
-  past = λ k l. bit_at-zero k;
-}
+none_valid b next ahead order width none = grind (arith, common_steps, bit_at-zero, never_some)
 
 -- one place more, without an offset
 pub with_invalid : (b : Signal) (from p word : ℕ) → TellsValidPlaces b from p word → p < from + 64 → offset_at b p ≡ None → TellsValidPlaces b from (p + 1) word
-with_invalid b from p word places few none = record {
-  order = omega (arith, places.order);
-  width = omega arith;
-  told = λ k l. elim (cases_lt (from + k) p) [
-    | inl early ↦ places.told k early
-    | inr late ↦
-        let same : from + k ≡ p = omega arith in
-        let zero = places.past k late in
-        (λ h. absurd (omega (arith, h, zero)), λ some. absurd (never_some b p none (subst (λ (i : ℕ). IsSome (offset_at b i)) same some)))
-  ];
-  past = λ k l. places.past k (omega arith);
-}
+with_invalid b from p word places few none = grind (arith, common_steps, never_some)
 
 -- one place more, with an offset
 pub with_valid : (b : Signal) (from p word : ℕ) → TellsValidPlaces b from p word → p < from + 64 → IsSome (offset_at b p) → TellsValidPlaces b from (p + 1) (bit_or word (1 * 2 ^ (p - from) % 2 ^ 64))
@@ -92,29 +71,9 @@ with_valid b from p word places few some =
 
 -- the places from one of them on
 pub later_places : (b : Signal) (next ahead word place : ℕ) → TellsValidPlaces b next ahead word → next ≤ place → place ≤ ahead → TellsValidPlaces b place ahead (word / 2 ^ (place - next))
-later_places b next ahead word place places low high =
-    let by : ℕ = place - next in
-    record {
-      order = high;
-      width = omega (arith, places.width);
-      told = λ k l.
-          let same : next + (by + k) ≡ place + k = omega arith in
-          let is = places.told (by + k) (omega arith) in
-          (λ h. subst (λ (i : ℕ). IsSome (offset_at b i)) same (is.0 (sym (shr_bit word by k) ∙ h)), λ x. shr_bit word by k ∙ is.1 (subst (λ (i : ℕ). IsSome (offset_at b i)) (sym same) x));
-      past = λ k l. shr_bit word by k ∙ places.past (by + k) (omega arith);
-    }
+later_places b next ahead word place places low high = grind (arith, common_steps, shr_bit)
 
 -- the places after one whose bit is a one
 pub places_behind : (b : Signal) (next ahead word bit rest : ℕ) → TellsValidPlaces b next ahead word → bit_at word bit ≡ 1 → ((k : ℕ) → bit_at rest k ≡ bit_at word (k + (bit + 1)))
     → TellsValidPlaces b (next + bit + 1) ahead rest
-places_behind b next ahead word bit rest places one is =
-    let valid = one_valid b next ahead word bit places one in
-    record {
-      order = omega (arith, valid.0);
-      width = omega (arith, places.width);
-      told = λ k l.
-          let same : next + (k + (bit + 1)) ≡ next + bit + 1 + k = omega arith in
-          let was = places.told (k + (bit + 1)) (omega arith) in
-          (λ h. subst (λ (i : ℕ). IsSome (offset_at b i)) same (was.0 (sym (is k) ∙ h)), λ x. is k ∙ was.1 (subst (λ (i : ℕ). IsSome (offset_at b i)) (sym same) x));
-      past = λ k l. is k ∙ places.past (k + (bit + 1)) (omega arith);
-    }
+places_behind b next ahead word bit rest places one is = grind (arith, common_steps, one_valid)

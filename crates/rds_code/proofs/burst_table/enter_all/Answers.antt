@@ -1,4 +1,4 @@
-use Rattle.rds_code.proofs.Names.{◌≡◌, ℕ, ◌+◌, ◌*◌, ◌/◌, ◌^◌, ◌<◌, ◌∙◌, sym, ap, subst, arith, List, count_trailing_zeros, below_more, HasBurst}
+use Rattle.rds_code.proofs.Names.{common_steps, ℕ, ◌+◌, ◌*◌, ◌^◌, ◌<◌, arith, List, below_more, HasBurst}
 use Rattle.rds_code.proofs.BurstLemmas.{pattern_is_burst, small_pattern}
 use Rattle.rds_code.proofs.burst_table.enter_all.Goals as goal
 
@@ -19,10 +19,4 @@ loop-half-preserved c =
     record { sound = c.enter_shifts.ensures.sound; entered = λ half shift less. all half less shift }
 
 pub returns-clause-complete : goal.returns-clause-complete
-returns-clause-complete c e h =
-    let part = small_pattern e h in
-    let m : ℕ = part.0 in
-    let t : ℕ = count_trailing_zeros 32 e in
-    let odd : 2 * (m / 2) + 1 ≡ m = omega (arith, part.1.odd) in
-    let same : (2 * (m / 2) + 1) * 2 ^ t ≡ e = ap (λ (n : ℕ). n * 2 ^ t) odd ∙ sym part.1.whole in
-    subst (HasBurst c.loop-half.patterns) same (c.loop-half.invariant.entered (m / 2) t (omega (arith, part.1.few)) part.1.shift (omega (arith, same, h.is_block)))
+returns-clause-complete c e h = grind (arith, common_steps, small_pattern)

@@ -1,24 +1,18 @@
-use Rattle.rds_code.proofs.Names.{◌≡◌, ℕ, ◌+◌, ◌*◌, ◌%◌, ◌^◌, ◌<◌, ◌≤◌, sym, subst, arith, pow_mono, List, mul-le-mul_right, below_more, IsBurst, IsSound, HasBurst}
+use Rattle.rds_code.proofs.Names.{common_steps, ◌≡◌, ℕ, ◌+◌, ◌*◌, ◌%◌, ◌^◌, ◌<◌, sym, subst, arith, pow_mono, List, mul-le-mul_right, below_more, IsBurst, IsSound, HasBurst}
 use Rattle.rds_code.proofs.BurstLemmas.{pattern_is_burst}
 use Rattle.rds_code.proofs.burst_table.enter_shifts.Goals as goal
 use Rattle.rds_code.proofs.burst_table.enter_shifts.Goals.{then-burst, else-burst}
 
 -- so short a pattern loses nothing by a shift
 whole : (m t : ℕ) → m < 32 → t < 26 → m * 2 ^ t % 2 ^ 32 ≡ m * 2 ^ t
-whole m t few shift =
-    let most : m * 2 ^ t ≤ 32 * 2 ^ t = mul-le-mul_right (2 ^ t) (omega (arith, few)) in
-    omega (arith, most, pow_mono {i = t} {j = 25} (omega (arith, shift)))
+whole m t few shift = grind (arith, common_steps, mul-le-mul_right, pow_mono)
 
 -- a pattern that is in the table up to a shift, and at it, is there up to the next
 EnteredAt : List ℕ → ℕ → ℕ → Type 0
 EnteredAt patterns m shift = m * 2 ^ shift < 2 ^ 26 → HasBurst patterns (m * 2 ^ shift)
 
 pub enter-requires-clause-burst : goal.enter-requires-clause-burst
-enter-requires-clause-burst c =
-    let m = c.args.pattern in
-    let t = c.loop-shift.shift in
-    let same = whole m t c.requires.short c.loop-shift-test.true in
-    subst (IsBurst 5) (sym same) (pattern_is_burst m t c.requires.odd c.requires.short c.loop-shift-test.true (omega (arith, same, c.if-burst.true)))
+enter-requires-clause-burst c = grind (arith, common_steps, whole, pattern_is_burst)
 
 pub loop-shift-preserved : goal.loop-shift-preserved
 unfolding EnteredAt

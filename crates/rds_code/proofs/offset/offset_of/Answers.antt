@@ -1,4 +1,4 @@
-use Rattle.rds_code.proofs.Names.{◌≡◌, ◌≢◌, ℕ, ◌/◌, subst, sym, refl, None, bit_and, get_or, [], ◌∷◌, ne_eqb, offset_of}
+use Rattle.rds_code.proofs.Names.{common_steps, arith, ◌≡◌, ◌≢◌, ℕ, ◌/◌, sym, None, bit_and, get_or, [], ◌∷◌, ne_eqb, offset_of}
 use Rattle.rds_code.proofs.offset.offset_of.Goals as goal
 
 candidate : ℕ → ℕ
@@ -9,9 +9,7 @@ no_word r a b c x d = simp (ne_eqb 0x0FC r a, ne_eqb 0x198 r b, ne_eqb 0x168 r c
 
 no_candidate : (r : ℕ) → candidate r ≢ r → offset_of r ≡ None
 unfolding candidate
-no_candidate r other =
-    let P : ℕ → Type 0 = λ x. candidate x ≡ x in
-    no_word r (λ e. other (subst P e refl)) (λ e. other (subst P e refl)) (λ e. other (subst P e refl)) (λ e. other (subst P e refl)) (λ e. other (subst P e refl))
+no_candidate r other = grind (arith, common_steps, candidate, no_word)
 
 pub returns-then-candidate-remainder : goal.returns-then-candidate-remainder
 unfolding candidate

@@ -1,5 +1,5 @@
 use Rattle.std.proofs.Common.{zero-mul, one-mul}
-use Rattle.rds_code.proofs.Names.{◌≡◌, ℕ, suc, ◌+◌, ◌-◌, ◌*◌, ◌%◌, ◌^◌, ◌<◌, ◌≤◌, ◌∙◌, ap, subst, sym, arith, bit_xor, pow_mono, bit_at, xor_comm, shr_and_one, bit_at-lt, xor_zero_l, reduce, rem, generator, IsRemainder}
+use Rattle.rds_code.proofs.Names.{common_steps, ◌≡◌, ℕ, suc, ◌+◌, ◌-◌, ◌*◌, ◌%◌, ◌^◌, ◌<◌, ◌≤◌, ◌∙◌, ap, sym, arith, bit_xor, pow_mono, bit_at, xor_comm, shr_and_one, bit_at-lt, xor_zero_l, reduce, rem, generator}
 use Rattle.rds_code.proofs.RemainderLemmas.{rem-is, rem-lt, reduce-suc, reduce-all, reduce-none}
 use Rattle.rds_code.proofs.plain.rem26.Goals as goal
 use Rattle.rds_code.proofs.plain.rem26.Goals.{then-left-shift-eq1, else-left-shift-eq1}
@@ -25,9 +25,7 @@ kept : (k left : ℕ) → bit_at left (k + 10) ≡ 0 → bit_xor (bit_at left (k
 kept k left none = ap (λ (t : ℕ). bit_xor (t * (generator * 2 ^ k)) left) none ∙ ap (λ (n : ℕ). bit_xor n left) (zero-mul (generator * 2 ^ k)) ∙ xor_zero_l left
 
 divided : (done left w : ℕ) → 16 ≤ done → reduce (16 - done) left ≡ rem w → left ≡ rem w
-divided done left w ended h =
-    let none : 16 - done ≡ 0 = omega arith in
-    sym (reduce-none left) ∙ ap (λ (k : ℕ). reduce k left) (sym none) ∙ h
+divided done left w ended h = grind (arith, common_steps, reduce-none)
 
 pub loop-done-init : goal.loop-done-init
 loop-done-init c = reduce-all c.args.w
@@ -49,13 +47,10 @@ loop-done-preserved c =
     ]
 
 pub overflow_cast-result : goal.overflow_cast-result
-overflow_cast-result c =
-    let e = divided c.loop-done.done c.loop-done.left c.args.w (omega arith) c.loop-done.invariant in
-    omega (arith, e, rem-lt c.args.w c.requires)
+overflow_cast-result c = grind (arith, common_steps, divided, rem-lt)
 
 pub returns-clause-value : goal.returns-clause-value
 returns-clause-value c = divided c.loop-done.done c.loop-done.left c.args.w (omega arith) c.loop-done.invariant
 
 pub returns-clause-remainder : goal.returns-clause-remainder
-returns-clause-remainder c =
-    subst (IsRemainder c.args.w) (sym (divided c.loop-done.done c.loop-done.left c.args.w (omega arith) c.loop-done.invariant)) (rem-is c.args.w c.requires)
+returns-clause-remainder c = grind (arith, common_steps, divided, rem-is)

@@ -1,4 +1,4 @@
-use Rattle.rds_code.proofs.Names.{◌≡◌, ℕ, List, [], ◌∷◌, ◌++◌, ◌∙◌, Option, Some, None, map, ap, sym, subst, Offset, C, Cx, by_only, corrections}
+use Rattle.rds_code.proofs.Names.{common_steps, arith, ◌≡◌, ℕ, List, [], ◌∷◌, ◌++◌, ◌∙◌, Option, Some, None, map, ap, sym, subst, Offset, C, Cx, by_only, corrections}
 use Rattle.rds_code.proofs.ReadingLemmas.{asked-lt, TableSays, table_says, corrections_two, fitting}
 use Rattle.rds_code.proofs.windows.corrected_to_either.Goals as goal
 use Rattle.rds_code.proofs.windows.corrected_to_either.Goals.{After-find-version_b}
@@ -15,8 +15,7 @@ told None = []
 told (Some e) = e ∷ []
 
 listed : (limit w : ℕ) (o : Offset) (found : Option ℕ) → TableSays limit w o found → fitting limit w o ≡ told found
-listed limit w o None says = says.list
-listed limit w o (Some e) says = says.list
+listed limit w o found says = grind (arith, common_steps, fitting)
 
 -- the pairs that correct the window, by the table's two answers
 both : (c : After-find-version_b) (a b : Option ℕ) → c.find-version_a.result ≡ a → c.find-version_b.result ≡ b

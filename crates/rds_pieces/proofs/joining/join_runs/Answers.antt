@@ -1,4 +1,4 @@
-use Rattle.rds_pieces.proofs.Names.{◌≡◌, ◌≤◌, ◌+◌, ◌-◌, ◌^◌, ◌++◌, ℕ, Option, [], rules, ap, ◌∙◌, Signal, length_of, Item, Searching, listed, IsInRange, RuleNumbers, run, totals_of, guess, IsMeeting, seam_reads, RunOf, end_of, subst, drop, ItemsOf, List, run_over}
+use Rattle.rds_pieces.proofs.Names.{common_steps, arith, ◌≡◌, ◌≤◌, ◌+◌, ◌-◌, ◌^◌, ◌++◌, ℕ, Option, [], rules, ◌∙◌, Signal, length_of, Item, Searching, listed, IsInRange, RuleNumbers, run, totals_of, guess, IsMeeting, seam_reads, RunOf, end_of, subst, drop, ItemsOf, List}
 use Rattle.rds_pieces.proofs.JoinLemmas.{joined_fit, joined_kept}
 use Rattle.rds_pieces.proofs.SoonLemmas.{meet_soon}
 use Rattle.rds_pieces.proofs.joining.join_runs.Given.{Over}
@@ -13,13 +13,6 @@ of_left P e f h fact = rw (← e, ← f, ← h) fact
 put_together : {b : Signal} {rules : RuleNumbers} {none left kept sewn all : ItemsOf} {first next : List Item} → none ≡ listed b rules [] → left ≡ listed b rules first → sewn ≡ listed b rules next
     → kept ≡ listed none.source none.rules (none.list ++ drop 0 left.list) → all ≡ listed kept.source kept.rules (kept.list ++ sewn.list) → all ≡ listed b rules (first ++ next)
 put_together none_is left_is sewn_is kept_is all_is = all_is ∙ rw (kept_is, none_is, left_is, sewn_is)
-
-pub seam-requires-clause-lawful : goal.seam-requires-clause-lawful
-seam-requires-clause-lawful g c =
-    let l = c.args.left.now in
-    let sides = c.requires.neighbours in
-    let there = c.run_laws.ensures.lawful_runs l.source l.rules c.range-from.ensures.rules.loss.0 Searching l.from l.to c.range-from.ensures.inside.0 tt in
-    rw (c.end_state.ensures, ← sides.left_is.1, ← sides.next) there
 
 -- once the seam is there
 module _ (g : Over) (c : After-totals g) where
@@ -53,17 +46,11 @@ module _ (g : Over) (c : After-totals g) where
       of_left (λ x y p. c.totals.result ≡ totals_of (guess x y l.from (p - l.from)).1) sides.left_is.0 sides.left_is.1 sides.next c.totals.ensures
 
   state_is : c.end_state.result ≡ (guess b numbers l.from (r.from - l.from)).0
-  state_is =
-      let sides = c.requires.neighbours in
-      of_left (λ x y p. c.end_state.result ≡ (guess x y l.from (p - l.from)).0) sides.left_is.0 sides.left_is.1 sides.next c.end_state.ensures
+  state_is = grind (arith, common_steps, of_left, guess)
 
   -- the left run's items, and then those of the seam
   items_are : c.append.new.self ≡ listed b numbers ((guess b numbers l.from (r.from - l.from)).1 ++ (run b numbers c.end_state.result r.from (r.to - r.from)).1)
-  items_are =
-      let sides = c.requires.neighbours in
-      let none_is : c.none-items.result ≡ listed b numbers [] = c.none-items.ensures ∙ ap (λ (x : Signal). listed x numbers []) (c.source.ensures ∙ c.seam.ensures.same) in
-      let left_is = of_left (λ x y p. c.list.result.now ≡ listed x y (guess x y l.from (p - l.from)).1) sides.left_is.0 sides.left_is.1 sides.next c.list.ensures in
-      put_together none_is left_is c.in_ok-seam.ensures.items c.in_ok-append_from.ensures.ok c.in_ok-append.ensures.ok
+  items_are = grind (arith, common_steps, of_left, guess, put_together)
 
 pub plus-totals-requires : goal.plus-totals-requires
 plus-totals-requires g c =
@@ -79,12 +66,7 @@ new-requires g c =
     c.append.new.self c.totals.result c.in_ok-seam.seam.totals c.end_state.result c.in_ok-seam.seam.end_state (state_is g a) (items_are g a) (totals_are g a) c.in_ok-seam.ensures.totals c.in_ok-seam.ensures.end)
 
 pub returns-clause-ok : goal.returns-clause-ok
-returns-clause-ok g c =
-    let l = c.args.left.now in
-    c.new.ensures
-    ∙ ap (λ (x : ItemsOf). run_over x.source x.rules c.range-from.result.0 c.range-to.result.1) (items_are g (goal.at.returns-clause-ok g c).After-totals)
-    ∙ ap (λ (p : ℕ). run_over (g.T.Tape.signal c.args.tape.now) c.args.rules.now p c.range-to.result.1) c.range-from.ensures.first
-    ∙ ap (λ (p : ℕ). run_over (g.T.Tape.signal c.args.tape.now) c.args.rules.now l.from p) c.range-to.ensures.end
+returns-clause-ok g c = grind (arith, common_steps, items_are)
 
 -- what it reads, whether or not it comes to an end
 way : (g : Over) (c : After-seam g) (met : Option ℕ)
@@ -106,13 +88,11 @@ returns-clause-cost g c =
     }
 
 pub returns-in_err-seam-clause-cost : goal.returns-in_err-seam-clause-cost
-returns-in_err-seam-clause-cost g c =
-    record { err = search rules; soon = search rules; reads = search rules; reads_way = way g (goal.at.returns-in_err-seam-clause-cost g c).After-seam; reads_most = c.seam.ensures.reads_most }
+returns-in_err-seam-clause-cost g c = grind (arith, common_steps, rules, way)
 
 pub returns-in_err-append_from-clause-cost : goal.returns-in_err-append_from-clause-cost
 returns-in_err-append_from-clause-cost g c =
     record { err = search rules; soon = search rules; reads = search rules; reads_way = way g (goal.at.returns-in_err-append_from-clause-cost g c).After-seam; reads_most = c.seam.ensures.reads_most }
 
 pub returns-in_err-append-clause-cost : goal.returns-in_err-append-clause-cost
-returns-in_err-append-clause-cost g c =
-    record { err = search rules; soon = search rules; reads = search rules; reads_way = way g (goal.at.returns-in_err-append-clause-cost g c).After-seam; reads_most = c.seam.ensures.reads_most }
+returns-in_err-append-clause-cost g c = grind (arith, common_steps, rules, way)

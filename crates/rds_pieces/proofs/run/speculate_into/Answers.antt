@@ -1,22 +1,6 @@
 use Rattle.rds_pieces.proofs.Names.{sym, subst, arith, ItemsOf, IsKept, run_over}
 use Rattle.rds_pieces.proofs.run.speculate_into.Goals as goal
 
-pub prove-unreachable-requires : goal.prove-unreachable-requires
-prove-unreachable-requires c =
-    let r = c.range_of-from.ensures.inside in
-    let below = c.if-prove.true in
-    omega (arith, r.1, c.len-len.ensures.value, below)
-
-pub run_report-requires-clause-order : goal.run_report-requires-clause-order
-run_report-requires-clause-order c =
-    let r = c.range_of-from.ensures.inside in
-    omega (arith, r.0)
-
-pub run_report-requires-clause-within : goal.run_report-requires-clause-within
-run_report-requires-clause-within c =
-    let r = c.range_of-from.ensures.inside in
-    omega (arith, r.1)
-
 pub new-requires : goal.new-requires
 new-requires c =
     let r = c.range_of-from.ensures.inside in

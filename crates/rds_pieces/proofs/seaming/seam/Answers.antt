@@ -15,14 +15,6 @@ pub sewn-requires-clause-met : goal.sewn-requires-clause-met
 sewn-requires-clause-met g c =
     rw (c.requires.source, c.requires.rules, ← c.range-from.ensures.first, ← c.range-from.ensures.end) c.in_ok-beside.ensures.met
 
-pub sewn-requires-clause-own : goal.sewn-requires-clause-own
-sewn-requires-clause-own g c =
-    rw (c.requires.source, c.requires.rules, ← c.range-from.ensures.first, ← c.range-from.ensures.end) c.in_ok-beside.ensures.own
-
-pub sewn-requires-clause-guess : goal.sewn-requires-clause-guess
-sewn-requires-clause-guess g c =
-    rw (c.requires.source, c.requires.rules, ← c.range-from.ensures.first, ← c.range-from.ensures.end) c.in_ok-beside.ensures.guess
-
 -- what it read, by the range that it was lent
 pub returns-in_err-beside-clause-reads_way : goal.returns-in_err-beside-clause-reads_way
 returns-in_err-beside-clause-reads_way g c = rw (← c.range-from.ensures.first, ← c.range-from.ensures.end) c.go_beside.ensures.reads_way

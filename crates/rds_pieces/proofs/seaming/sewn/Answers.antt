@@ -1,26 +1,13 @@
-use Rattle.rds_pieces.proofs.Names.{◌≡◌, sym, ap, ◌∙◌, arith, Searching, IsRest, ItemsOf, listed, TallyOf, tally_at, gone_on, totals_of, MeetFirstAt, RunOf}
+use Rattle.rds_pieces.proofs.Names.{◌≡◌, ap, ◌∙◌, arith, Searching, IsRest, listed, TallyOf, tally_at, gone_on, totals_of, MeetFirstAt, RunOf}
 use Rattle.rds_pieces.proofs.SewnLemmas.{later, sewn_list, sewn_rest, sewn_fit, sewn_totals, sewn_end}
 use Rattle.rds_pieces.proofs.seaming.sewn.Goals.{After-totals}
 use Rattle.rds_pieces.proofs.seaming.sewn.Goals as goal
-
-pub returns-in-None-clause-items : goal.returns-in-None-clause-items
-returns-in-None-clause-items c =
-    let own = rw c.in-None.is at c.requires.own in
-    c.in_ok-report.ensures.items ∙ ap (λ (t : TallyOf). listed t.source t.rules t.list) own
 
 pub returns-in-None-clause-totals : goal.returns-in-None-clause-totals
 returns-in-None-clause-totals c = let own = rw c.in-None.is at c.requires.own in c.in_ok-report.ensures.totals ∙ ap (λ (t : TallyOf). totals_of t.list) own
 
 pub returns-in-None-clause-end : goal.returns-in-None-clause-end
 returns-in-None-clause-end c = let own = rw c.in-None.is at c.requires.own in c.state-end_state.ensures.value ∙ ap (λ (t : TallyOf). t.state) own
-
-pub append_from-requires-clause-source : goal.append_from-requires-clause-source
-append_from-requires-clause-source c =
-    ap (λ (x : ItemsOf). x.source) c.list.ensures ∙ sym (ap (λ (x : ItemsOf). x.source) c.in_ok-report.ensures.items ∙ ap (λ (t : TallyOf). t.source) c.requires.own)
-
-pub append_from-requires-clause-rules : goal.append_from-requires-clause-rules
-append_from-requires-clause-rules c =
-    ap (λ (x : ItemsOf). x.rules) c.list.ensures ∙ sym (ap (λ (x : ItemsOf). x.rules) c.in_ok-report.ensures.items ∙ ap (λ (t : TallyOf). t.rules) c.requires.own)
 
 -- they met
 module _ (c : After-totals) where

@@ -1,4 +1,4 @@
-use Rattle.rds_pieces.proofs.Names.{List, ◌++◌, sym, ap, ap₂, ◌∙◌, subst, Signal, Item, Totals, RuleNumbers, FitTogether, plus, ItemsOf, listed}
+use Rattle.rds_pieces.proofs.Names.{sym, ap, ◌∙◌, subst, Totals, FitTogether, plus, ItemsOf}
 use Rattle.rds_pieces.proofs.stitching.carry_over.Goals as goal
 
 pub append-requires-clause-source : goal.append-requires-clause-source
@@ -9,13 +9,6 @@ append-requires-clause-rules g c = ap (λ (x : ItemsOf). x.rules) c.in_ok-seam.e
 
 pub plus-report-requires : goal.plus-report-requires
 plus-report-requires g c = subst (λ (t : Totals). FitTogether c.args.report.now.totals t) (sym c.in_ok-seam.ensures.totals) c.requires.fit
-
-pub returns-clause-items : goal.returns-clause-items
-returns-clause-items g c =
-    let before = c.args.report.now.items.list in
-    c.in_ok-append.ensures.ok
-    ∙ ap₂ (λ (b : Signal) (rules : RuleNumbers). listed b rules (before ++ c.in_ok-seam.seam.items.list)) c.requires.same_source c.requires.same_rules
-    ∙ ap (λ (is : List Item). listed (g.T.Tape.signal c.args.tape.now) c.args.rules.now (before ++ is)) (ap (λ (x : ItemsOf). x.list) c.in_ok-seam.ensures.items)
 
 pub returns-clause-totals : goal.returns-clause-totals
 returns-clause-totals g c = c.plus-report.ensures.value ∙ ap (λ (t : Totals). plus c.args.report.now.totals t) c.in_ok-seam.ensures.totals

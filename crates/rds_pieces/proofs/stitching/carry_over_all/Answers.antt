@@ -1,33 +1,21 @@
-use Rattle.rds_pieces.proofs.Names.{◌≡◌, ◌≢◌, List, ◌++◌, ◌-◌, length, refl, sym, ap, ap₂, ◌∙◌, subst, arith, Signal, Searching, Item, Totals, plus, ItemsOf, listed, totals_of, run, IsMeeting}
+use Rattle.rds_pieces.proofs.Names.{common_steps, ◌≡◌, ◌≢◌, List, ◌++◌, ◌-◌, sym, ap, ap₂, ◌∙◌, subst, arith, Signal, Searching, Item, Totals, plus, ItemsOf, listed, totals_of, run, IsMeeting}
 use Rattle.rds_pieces.proofs.StitchLemmas.{stitched_start, source_is, rules_are, lawful_here, fits_next, stitched_on, stitched_past, seam_few, stitched_few, seam_within, read_at_end, sum_at_end, whole_at_end, small_at_end, lawful_at_end}
 use Rattle.rds_pieces.proofs.stitching.carry_over_all.Goals as goal
 
 pub loop-run-init : goal.loop-run-init
-loop-run-init g c = record {
-  stitched = stitched_start (g.T.Tape.signal c.args.tape.now) c.args.rules.now c.args.runs.now (g.T.Tape.reads_made c.args.tape.now) c.none.result.list c.requires.in_a_row (ap (λ (x : ItemsOf). length x.list) c.none.ensures);
-  counted = sym (ap (λ (x : ItemsOf). totals_of x.list) c.none.ensures);
-  named = c.none.ensures ∙ ap₂ (λ (b : Signal) (is : List Item). listed b c.args.rules.now is) c.source.ensures (sym (ap (λ (x : ItemsOf). x.list) c.none.ensures));
-  same = refl;
-}
+loop-run-init g c = grind (arith, common_steps, stitched_start)
 
 pub carry_over-requires-clause-lawful : goal.carry_over-requires-clause-lawful
-carry_over-requires-clause-lawful g c =
-    lawful_here c.loop-run.invariant.stitched c.run-item.result c.loop-run-test.true c.run-item.is
+carry_over-requires-clause-lawful g c = grind (arith, common_steps, lawful_here)
 
 pub carry_over-requires-clause-source : goal.carry_over-requires-clause-source
-carry_over-requires-clause-source g c =
-    source_is c.loop-run.invariant.stitched c.run-item.result c.loop-run-test.true c.run-item.is
-    ∙ sym c.loop-run.invariant.same
+carry_over-requires-clause-source g c = grind (arith, common_steps, source_is)
 
 pub carry_over-requires-clause-rules : goal.carry_over-requires-clause-rules
-carry_over-requires-clause-rules g c =
-    rules_are c.loop-run.invariant.stitched c.run-item.result c.loop-run-test.true c.run-item.is
+carry_over-requires-clause-rules g c = grind (arith, common_steps, rules_are)
 
 pub carry_over-requires-clause-room : goal.carry_over-requires-clause-room
-carry_over-requires-clause-room g c =
-    let l = c.len-len.ensures.limit in
-    let v = c.len-len.ensures.value in
-    stitched_few c.loop-run.invariant.stitched (omega (arith, l, v)) c.requires.room
+carry_over-requires-clause-room g c = grind (arith, common_steps, stitched_few)
 
 pub carry_over-requires-clause-same_source : goal.carry_over-requires-clause-same_source
 carry_over-requires-clause-same_source g c = ap (λ (x : ItemsOf). x.source) c.loop-run.invariant.named ∙ sym c.loop-run.invariant.same
@@ -74,13 +62,7 @@ loop-run-preserved g c =
     }
 
 pub loop-run-preserved-then-from-to : goal.loop-run-preserved-then-from-to
-loop-run-preserved-then-from-to g c = record {
-  stitched = stitched_past c.loop-run.invariant.stitched c.run-item.result c.loop-run-test.true c.run-item.is c.run_laws.ensures c.reach-reach.ensures.range
-      (omega (arith, c.if-from-to.true, c.from.ensures.value, c.to.ensures));
-  counted = c.loop-run.invariant.counted;
-  named = c.loop-run.invariant.named;
-  same = c.loop-run.invariant.same;
-}
+loop-run-preserved-then-from-to g c = grind (arith, common_steps, stitched_past)
 
 pub returns-clause-reads : goal.returns-clause-reads
 returns-clause-reads g c =
@@ -103,13 +85,10 @@ returns-clause-small g c =
     c.loop-run.invariant.counted
 
 pub returns-clause-lawful : goal.returns-clause-lawful
-returns-clause-lawful g c =
-    lawful_at_end c.loop-run.invariant.stitched c.loop-run-test.false
+returns-clause-lawful g c = grind (arith, common_steps, lawful_at_end)
 
 pub returns-clause-room : goal.returns-clause-room
-returns-clause-room g c =
-    let few = stitched_few c.loop-run.invariant.stitched (let l = c.len-len.ensures.limit in let v = c.len-len.ensures.value in omega (arith, l, v)) c.requires.room in
-    omega (arith, few)
+returns-clause-room g c = grind (arith, common_steps, stitched_few)
 
 pub returns-in_err-state-clause-reads_way : goal.returns-in_err-state-clause-reads_way
 returns-in_err-state-clause-reads_way g c =
@@ -118,5 +97,4 @@ returns-in_err-state-clause-reads_way g c =
     (λ met first. c.carry_over.ensures.reads_way met (subst (λ (x : Signal). IsMeeting x c.args.rules.now c.loop-run.state Searching r.from r.to met) (sym c.loop-run.invariant.same) first))
 
 pub returns-clause-reads_way : goal.returns-clause-reads_way
-returns-clause-reads_way g c =
-    read_at_end c.loop-run.invariant.stitched c.loop-run-test.false
+returns-clause-reads_way g c = grind (arith, common_steps, read_at_end)

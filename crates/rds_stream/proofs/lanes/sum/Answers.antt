@@ -1,8 +1,5 @@
-use Rattle.rds_stream.proofs.Names.{bit_xor, ◌∙◌, sym, arith, length-zip2, get_or-zip2}
+use Rattle.rds_stream.proofs.Names.{common_steps, arith, length-zip2, get_or-zip2}
 use Rattle.rds_stream.proofs.lanes.sum.Goals as goal
 
 pub returns : goal.returns
-returns c = record {
-  long = length-zip2 bit_xor c.args.a c.args.b (c.fits-a.0 ∙ sym c.fits-b.0) ∙ c.fits-a.0;
-  each = λ j l. get_or-zip2 bit_xor c.args.a c.args.b j 0 0 0 (omega (arith, c.fits-a.0)) (omega (arith, c.fits-b.0));
-}
+returns c = grind (arith, common_steps, length-zip2, get_or-zip2)

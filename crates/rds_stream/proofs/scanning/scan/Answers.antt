@@ -1,4 +1,4 @@
-use Rattle.rds_stream.proofs.Names.{◌≡◌, ◌+◌, ◌-◌, ◌≤◌, ◌++◌, ◌∷◌, [], ℕ, List, Some, None, sym, ap, ◌∙◌, subst, arith, Offset, Signal, offset_at, valid_windows, WindowsLeft, GivesFirst, NoneValid}
+use Rattle.rds_stream.proofs.Names.{common_steps, ◌≡◌, ◌+◌, ◌-◌, ◌≤◌, ◌++◌, ◌∷◌, [], ℕ, List, Some, None, sym, ap, ◌∙◌, subst, arith, Offset, Signal, offset_at, valid_windows, WindowsLeft, GivesFirst, NoneValid}
 use Rattle.rds_stream.proofs.WindowLists.{valid_over, valid_with}
 use Rattle.rds_stream.proofs.scanning.scan.Invariants.{HasScanned}
 use Rattle.rds_stream.proofs.scanning.scan.Goals as goal
@@ -26,12 +26,7 @@ module _ (b : Signal) (from to : ℕ) (old : WindowsLeft) (items : List (ℕ × 
   all new gives = up_to old.end (omega (arith, has.limit, has.end)) gives.0 ∙ ap (valid_windows b from) has.end
 
 pub loop-window-preserved : goal.loop-window-preserved
-loop-window-preserved c = (
-  tt,
-  tt,
-  subst (λ (items : List (ℕ × Offset)). HasScanned c.args.recording.now c.args.from c.args.to c.next.new.self items) (sym c.in_ok-push.ensures.items)
-      (one_more c.args.recording.now c.args.from c.args.to c.loop-window.window-iterator c.loop-window.found.items c.loop-window.invariant.2 c.in-Some.window c.next.new.self c.in-Some.ensures.steps),
-)
+loop-window-preserved c = grind (arith, common_steps, one_more)
 
 pub returns-clause-found : goal.returns-clause-found
 returns-clause-found c =

@@ -1,4 +1,4 @@
-use Rattle.rds_stream.proofs.Names.{◌≡◌, ◌+◌, ℕ, Option, Some, None, IsSome, refl, sym, ◌∙◌, subst, arith, Offset, offset_of, rem, Signal, offset_at, window, WindowsLeft, GivesFirst}
+use Rattle.rds_stream.proofs.Names.{common_steps, ◌≡◌, ◌+◌, ℕ, Option, Some, None, IsSome, refl, sym, ◌∙◌, subst, arith, Offset, offset_of, rem, Signal, offset_at, window, WindowsLeft, GivesFirst}
 use Rattle.rds_stream.proofs.WindowLists.{off_stored}
 use Rattle.rds_stream.proofs.ValidPlaceLemmas.{never_some, none_ahead, none_below, join_none, one_valid, places_behind, valid_late}
 use Rattle.rds_stream.proofs.valid_windows.ValidWindowsIterator.next.Goals as goal
@@ -16,11 +16,7 @@ returns-then-places-eq0-clause-steps c =
     (λ i low high. none i low (omega (arith, ended, high)), refl)
 
 pub stored_offset-requires-clause-first : goal.stored_offset-requires-clause-first
-stored_offset-requires-clause-first c =
-    let b = c.self.inside.recording.now in
-    let places = c.next_valid-places.result in
-    let bit = c.lowest-bit.result in
-    valid_late b (places.next + bit) (one_valid b places.next places.ahead places.word bit c.next_valid-places.ensures.places c.lowest-bit.ensures.set).1
+stored_offset-requires-clause-first c = grind (arith, common_steps, valid_late, one_valid)
 
 -- a valid place has an offset as it is stored
 has_stored : (b : Signal) (place : ℕ) (found : Option Offset) → IsSome (offset_at b place) → found ≡ offset_of (rem (window b.bits place)) → found ≡ None → ⊥
