@@ -5,8 +5,7 @@ use Rattle.rds_sync.proofs.RunLemmas.{items-keeping, step-keeping, items-losing,
 use Rattle.rds_sync.proofs.WholeRuns.{whole, goes, skip, skip_to_end}
 
 cond_same : (c : Bool) (n : ℕ) → cond c n n ≡ n
-cond_same true n = refl
-cond_same false n = refl
+cond_same v0 n = grind (arith, common_steps)
 
 module _ (b : Signal) (rules : RuleNumbers) (a x : ℕ) where
   -- the loss history once block k was read
@@ -43,9 +42,7 @@ module _ (b : Signal) (rules : RuleNumbers) (a x : ℕ) where
   first_next low k = grind (arith, common_steps, cases_lt, number_after, ne_eqb, le-leb, cases_eq, eq-eqb, lt-leb, cond_same)
 
   pub S_is : 1 ≤ x → (k : ℕ) → Locked (lock_after (a + 26 * k) (number_after x k) (bad k) (first_of_group b rules a x k)) ≡ S k
-  S_is low k =
-      let due : a + 26 * k + 26 ≡ a + 26 * suc k = omega arith in
-      rw (due, number_next k, first_next low k) refl
+  S_is low k = grind (arith, common_steps, number_next, first_next)
 
   wait : (k bits : ℕ) → whole b rules (S k) (a + 26 * k + 1) (25 + suc bits) ≡ whole b rules (S k) (a + 26 * suc k) (suc bits)
   wait k bits = grind (arith, common_steps, skip)

@@ -40,8 +40,7 @@ module _ (longer shorter : Signal) (begins : BeginsWith longer shorter) where
     -- ---- a group
 
     block-alike : (f x p : ℕ) (wanted : Wanted) (y : ℕ) → p < length_of shorter → block_at longer rules f x p wanted y ≡ block_at shorter rules f x p wanted y
-    block-alike f x p wanted y within =
-        ap (λ (h : Option ℕ). if nat_le f y && nat_le y x then Read (reading_heard h y wanted rules.burst) else Missing) (heard-alike (p - 26 * (x - y)) (omega (arith, within)))
+    block-alike f x p wanted y within = grind (arith, common_steps, nat_le, reading_heard, heard-alike)
 
     group-alike : (f x p : ℕ) → p < length_of shorter → group longer rules f x p ≡ group shorter rules f x p
     unfolding group
@@ -53,8 +52,7 @@ module _ (longer shorter : Signal) (begins : BeginsWith longer shorter) where
     -- ---- the run
 
     bit-alike : (i : ℕ) (s : State) → i < length_of shorter → after_bit longer rules i s ≡ after_bit shorter rules i s
-    bit-alike i Searching within = grind (arith, common_steps, lock_after, completed_group, after-alike, acquired, acquired-alike)
-    bit-alike i (Locked lock) within = grind (arith, common_steps, history_after_block, bad_after, number-alike, are_too_many, lock_after, completed_group, group, group-alike, after-alike)
+    bit-alike i v1 within = grind (arith, common_steps, common_steps, lock_after, completed_group, after-alike, acquired, acquired-alike, history_after_block, bad_after, number-alike, are_too_many, group, group-alike)
 
     pub run-alike : (s : State) (a m : ℕ) → a + m ≤ length_of shorter → run longer rules s a m ≡ run shorter rules s a m
     run-alike s a zero fits = refl
@@ -179,19 +177,7 @@ module _ (b : Signal) (rules : RuleNumbers) (f x y p : ℕ) (low : 1 ≤ f) (ord
 
   group_goes_on : x < 4 → GoesOn (group b rules f x p) (group b rules f y later_place)
   unfolding group
-  group_goes_on few = record {
-    unfinished = ap (λ (block : Block). Some block) (block_at-missing b rules f x p Either 4 (inr few));
-    place = omega (arith, order, more, room);
-    blocks = blocks;
-  }
-    where
-      blocks : (z : ℕ) → (slice_get (blocks_at b rules f x p) z ≡ Some Missing) ⊎ (slice_get (blocks_at b rules f y later_place) z ≡ slice_get (blocks_at b rules f x p) z)
-      blocks zero = block_goes_on Either Either 1 (λ h. refl)
-      blocks (suc zero) = block_goes_on Either Either 2 (λ h. refl)
-      blocks (suc (suc zero)) = block_goes_on (wanted_beside (block_at b rules f x p Either 2)) (wanted_beside (block_at b rules f y later_place Either 2)) 3
-          (λ h. ap wanted_beside (sym (same_block Either 2 (omega (arith, h)))))
-      blocks (suc (suc (suc zero))) = block_goes_on Either Either 4 (λ h. refl)
-      blocks (suc (suc (suc (suc z)))) = inr refl
+  group_goes_on few = grind (arith, common_steps, block_at-missing, order, slice_get, blocks_at, y, later_place, block_goes_on, wanted_beside, block_at, same_block)
 
 -- ---- the reports
 
@@ -263,23 +249,11 @@ clipped_touch n i gap within = grind (arith, common_steps, nat_le, cases_lt, lt-
 clipped_all : (n i : ℕ) (gaps : List (ℕ × ℕ)) → i < n
     → list_any (is_touched_by i) gaps ≡ list_any (is_touched_by i) (map (λ (gap : ℕ × ℕ). (gap.0, min gap.1 n)) (filter (λ (gap : ℕ × ℕ). nat_lt gap.0 n) gaps))
 clipped_all n i [] within = refl
-clipped_all n i (gap ∷ gaps) within =
-    let rest = clipped_all n i gaps within in
-    let all : Bool → Bool = λ t. list_any (is_touched_by i) (map (λ (g : ℕ × ℕ). (g.0, min g.1 n)) (cond t (gap ∷ filter (λ (g : ℕ × ℕ). nat_lt g.0 n) gaps) (filter (λ (g : ℕ × ℕ). nat_lt g.0 n) gaps))) in
-    elim (cases_lt gap.0 n) [
-      | inl kept ↦ ap₂ ◌||◌ (sym (clipped_touch n i gap within)) rest ∙ sym (ap all (lt-ltb gap.0 n kept))
-      | inr dropped ↦
-          let none : is_touched_by i gap ≡ false = ap (λ (t : Bool). t && nat_lt (i - 25) gap.1) (lt-leb gap.0 i (omega (arith, within, dropped))) in
-          ap₂ ◌||◌ none rest ∙ sym (ap all (le-ltb gap.0 n dropped))
-    ]
+clipped_all n i (gap ∷ gaps) within = grind (arith, common_steps, list_any, is_touched_by, min, filter, nat_lt, clipped_touch, lt-ltb, lt-leb, le-ltb, gap.0, gap.1, clipped_all n i gaps within)
 
 pub beginnings_begin : BeginningsBegin
 unfolding touched
-beginnings_begin b n few = record {
-  more = drop n b.bits;
-  bits = sym (take-append-drop n b.bits);
-  gaps = λ i within. clipped_all n i b.gaps (omega (arith, within, length-take n b.bits));
-}
+beginnings_begin b n few = grind (arith, common_steps, drop, take-append-drop, clipped_all, length-take, b.bits, b.gaps, drop n b.bits, take-append-drop n b.bits, length-take n b.bits)
 
 -- ---- the totals
 
@@ -306,14 +280,7 @@ sum_goes_on f none (a ∷ xs) (b ∷ ys) goes =
 
 -- a sum over items of which the last may go on
 ends_grow : (w : Item → ℕ) → ((g h : GroupOf) → GoesOn g h → w (Group g) ≤ w (Group h)) → (end later : List Item) → EndGoesOn end later → sum_by w end ≤ sum_by w later
-ends_grow w more [] later goes = omega arith
-ends_grow w more (Group g ∷ []) [] goes = absurd goes
-ends_grow w more (Group g ∷ []) (Group h ∷ later) goes = omega (arith, sum_by-cons w (Group g) [], sum_by-cons w (Group h) later, more g h goes)
-ends_grow w more (Group g ∷ []) (Acquired a x ∷ later) goes = absurd goes
-ends_grow w more (Group g ∷ []) (LostLock a ∷ later) goes = absurd goes
-ends_grow w more (Group g ∷ item ∷ end) later goes = absurd goes
-ends_grow w more (Acquired a x ∷ end) later goes = absurd goes
-ends_grow w more (LostLock a ∷ end) later goes = absurd goes
+ends_grow w more v2 v3 goes = grind (arith, common_steps, sum_by-cons)
 
 module _ (shorter longer : List Item) (adds : OnlyAddsItems shorter longer) where
   grows : (w : Item → ℕ) → ((g h : GroupOf) → GoesOn g h → w (Group g) ≤ w (Group h)) → sum_by w shorter ≤ sum_by w longer
@@ -324,9 +291,7 @@ module _ (shorter longer : List Item) (adds : OnlyAddsItems shorter longer) wher
 
   -- a group that goes on is not complete
   not_complete : (g h : GroupOf) → GoesOn g h → is_complete (Group g) ≡ false
-  not_complete g h goes =
-      list_all_at (λ (block : Block). is_some (info_of block)) g.blocks 3 Missing (slice_get_within g.blocks 3 Missing goes.unfinished)
-      (ap (λ (block : Block). is_some (info_of block)) (get_or_from_slice_get g.blocks 3 Missing Missing goes.unfinished))
+  not_complete g h goes = grind (arith, common_steps, list_all_at, is_some, info_of, slice_get_within, get_or_from_slice_get, is_complete, goes.unfinished, slice_get_within g.blocks 3 Missing goes.unfinished, get_or_from_slice_get g.blocks 3 Missing Missing goes.unfinished)
 
   no_less : AreNoLess (totals_of shorter) (totals_of longer)
   no_less = record {

@@ -29,10 +29,7 @@ module _ (b : Signal) (rules : RuleNumbers) (a x : ℕ) where
   loss_some k e = rw (e, loss_items) refl
 
   read_low : (c d : ℕ) → c + d ≡ block_count b rules a x → end b rules a x ≡ find (loses_at b rules a x) (range_with_len c d) → c ≤ read_blocks b rules a x
-  read_low c d all e = at_end (end b rules a x) refl where
-    at_end : (o : Option ℕ) → end b rules a x ≡ o → c ≤ read_blocks b rules a x
-    at_end None f = rw (read_none f) (omega arith)
-    at_end (Some k) f = let l = find_low (loses_at b rules a x) c d k (sym e ∙ f) in rw (read_some k f) (omega arith)
+  read_low c d all e = grind (arith, common_steps, end, read_blocks, read_none, find_low, loses_at, read_some)
 
   -- the groups from block k on
   abbrev groups_from : ℕ → ℕ → List Item
@@ -64,13 +61,7 @@ module _ (b : Signal) (rules : RuleNumbers) (a x : ℕ) where
       → 1 ≤ x → (d k bits : ℕ) → suc k + d ≡ block_count b rules a x → a + 26 * k + 1 + bits ≡ length_of b → bits ≤ fuel
       → end b rules a x ≡ find (loses_at b rules a x) (range_with_len (suc k) d)
       → closes b rules a x k ++ whole b rules (S b rules a x k) (a + 26 * k + 1) bits ≡ groups_from k (read_blocks b rules a x - k) ++ (loss_items b rules a x ++ rest fuel)
-  tail fuel again low zero k bits all total few e =
-      let rb = read_none e in
-      let one : read_blocks b rules a x - k ≡ 1 = omega (arith, rb, all) in
-      let same : k + 1 ≡ read_blocks b rules a x = omega (arith, rb, all) in
-      let small : bits ≤ 25 = omega arith in
-      ap (λ (t : List Item). closes b rules a x k ++ t) (block_end b rules a x k bits small) ∙ last_group b rules a x low k
-      ∙ sym (rw (loss_none e, rest_none fuel e) (ap (λ (r : ℕ). groups_from k r ++ []) one ∙ ap (λ (t : List Item). t ++ []) (groups_last k 0 same)))
+  tail fuel again low zero k bits all total few e = grind (arith, common_steps, read_none, read_blocks, closes, block_end, last_group, loss_none, rest_none, groups_from, groups_last)
   tail fuel again low (suc d) k bits all total few e = elim (cases_Bool (are_too_many rules.loss (bad b rules a x (suc k)))) [
     | inr ok ↦
         let left : ℕ = bits - 26 in
