@@ -80,7 +80,7 @@ module _ (b : Signal) (rules : RuleNumbers) where
   -- a place acquires where the block before it has the number before
   acquires : (i x y : ℕ) → 1 ≤ rules.reach → has_number b (i + 26) x ≡ true → has_number b i y ≡ true → number_after y 1 ≡ x → acquired b rules (i + 26) ≡ Some x
   unfolding acquired
-  acquires i x y reach here before next = grind (arith, common_steps, has_number_offset, has_partner, offset_at, number_after, number, eq-eqb, list_any, range_with_len, with_partner, has_number, acquired, has_number_offset (i + 26) x here, has_number_offset i y before, eq-eqb (number_after y 1) x next)
+  acquires i x y reach here before next = grind (arith, common_steps, has_number_offset, has_number_offset (i + 26) x here)
 
   partner_is : (t : Bool) (y x : ℕ) → elim t as (λ _. Option ℕ) [ true ↦ Some y | false ↦ None ] ≡ Some x → x ≡ y
   partner_is v0 y x e = grind (arith, common_steps)
@@ -108,7 +108,7 @@ module _ (b : Signal) (rules : RuleNumbers) where
     stays : (d k bad f r : ℕ) → IsLawfulBad rules.loss bad → IsClean rules.loss bad r → memory rules.loss ≤ r + suc d
         → k + d ≤ last → number_after c (k + d) ≡ 4
         → after (Locked (lock_of (p + 26 * k) (number_after c k) bad f)) (p + 26 * k) (26 * d + 1) ≡ Locked (lock_of (p + 26 * (k + d) + 26) 1 0 1)
-    stays zero k bad f r h clean long within four = grind (arith, common_steps, number_after, history_after_block, bad_after, good_keeps, clean_is, lawful_kept, clean_more, step-keeping, lock_of, are_too_many, memory, after, good_keeps rules.loss bad h, clean_is rules.loss (bad_after rules.loss true bad) (suc r) (lawful_kept rules.loss bad true h (good_keeps rules.loss bad h)) (omega arith) (clean_more rules.loss bad r clean), lawful_kept rules.loss bad true h (good_keeps rules.loss bad h), clean_more rules.loss bad r clean, step-keeping b rules (lock_of (p + 26 * k) (number_after c k) bad f) (ap (are_too_many rules.loss) (ap (λ (g : Bool). bad_after rules.loss g bad) (sequence k (omega arith))) ∙ (good_keeps rules.loss bad h)))
+    stays zero k bad f r h clean long within four = grind (arith, common_steps, clean_is rules.loss (bad_after rules.loss true bad) (suc r) (lawful_kept rules.loss bad true h (good_keeps rules.loss bad h)) (omega arith) (clean_more rules.loss bad r clean))
     stays (suc d) k bad f r h clean long within four =
         let good = sequence k (omega arith) in
         let next : history_after_block b rules (p + 26 * k) (number_after c k) bad ≡ bad_after rules.loss true bad = ap (λ (g : Bool). bad_after rules.loss g bad) good in
@@ -220,7 +220,7 @@ module _ (b : Signal) (rules : RuleNumbers) where
   wrong_none : (p c last : ℕ) → ((k : ℕ) → k ≤ last → has_number b (p + 26 * k) (number_after c k) ≡ true)
       → (n k num : ℕ) → num ≢ number_after c k → 1 ≤ num → num ≤ 4 → k + n ≤ last + 1 → good_blocks b rules (p + 26 * k) num n ≡ 0
   wrong_none p c last sequence zero k num ne low high within = refl
-  wrong_none p c last sequence (suc n) k num ne low high within = grind (arith, common_steps, has_number, has_one, number_after, good_blocks, wrong_none p c last sequence n (suc k) (num % 4 + 1) (λ e. ne (omega arith)) (omega arith) (omega arith) (omega arith))
+  wrong_none p c last sequence (suc n) k num ne low high within = grind (arith, common_steps, has_one, wrong_none p c last sequence n (suc k) (num % 4 + 1) (λ e. ne (omega arith)) (omega arith) (omega arith) (omega arith))
 
   -- from any lawful state, a run on a sound range is between two groups after the last block of number 4
   module _ (j s p c last : ℕ) (sound : IsSound b rules j s p c) (loss : IsLossRule rules.loss) (reach : 1 ≤ rules.reach)
@@ -242,7 +242,7 @@ module _ (b : Signal) (rules : RuleNumbers) where
 
     lost_then : (due num bad f : ℕ) → s ≤ due → due ≤ s + 25 → LostBy b rules (Locked (lock_of due num bad f)) due (26 * ((j + 1) * needed rules.loss))
         → after b rules (Locked (lock_of due num bad f)) due (p + 26 * last + 1 - due) ≡ Locked (lock_of (p + 26 * last + 26) 1 0 1)
-    lost_then due num bad f l u lost = grind (arith, common_steps, needed, enough, after_more, lock_of, after, searching, lost.0, lost.1, lost.2, after_more b rules (Locked (lock_of due num bad f)) due lost.0 (p + 26 * last + 1 - (due + lost.0)), searching (due + lost.0) (omega arith) (omega (arith, sound.sequence.first, enough)))
+    lost_then due num bad f l u lost = grind (arith, common_steps, searching, after_more b rules (Locked (lock_of due num bad f)) due lost.0 (p + 26 * last + 1 - (due + lost.0)))
 
     from_due : (due num bad f : ℕ) → s ≤ due → due ≤ s + 25 → IsLawfulBad rules.loss bad → 1 ≤ num → num ≤ 4
         → after b rules (Locked (lock_of due num bad f)) due (p + 26 * last + 1 - due) ≡ Locked (lock_of (p + 26 * last + 26) 1 0 1)
@@ -293,7 +293,7 @@ last_four s p c n l u low high some =
     (blocks - 1 - ((c - 1 + (blocks - 1)) % 4 + 1) % 4, omega arith, omega arith, omega arith)
 
 pub sound_ranges_have_fours : SoundRangesHaveFours
-sound_ranges_have_fours b rules j s p c sound = grind (arith, common_steps, sound_blocks, needed_is, last_four, sound.sequence.first, sound.number, rules.loss, sound.sequence.first.0, sound.sequence.first.1, sound.number.0, sound.number.1, needed_is rules.loss j, last_four s p c (sound_blocks rules.loss j) sound.sequence.first.0 sound.sequence.first.1 sound.number.0 sound.number.1 (omega (arith, needed_is rules.loss j)))
+sound_ranges_have_fours b rules j s p c sound = grind (arith, common_steps, last_four s p c (sound_blocks rules.loss j) sound.sequence.first.0 sound.sequence.first.1 sound.number.0 sound.number.1 (omega (arith, needed_is rules.loss j)))
 
 -- the range ends before the next block of number 4
 ends_soon : (s to p c last : ℕ) (b : Signal) → IsLastFour b s to p c last → to ≤ p + 26 * (last + 4)
@@ -306,4 +306,4 @@ ends_soon s to p c last b four = elim (cases_lt (p + 26 * (last + 4)) to) [
 ]
 
 pub runs_converge : RunsConverge
-runs_converge b rules loss reach s to t lawful j p c last sound four ends = grind (arith, common_steps, ends_soon, sound_blocks, run, after_is, converges, rules.loss, four.number, four.inside, ends_soon s (s + 26 * sound_blocks rules.loss j) p c last b four, after_is b rules t s (p + 26 * last + 1 - s), converges b rules j s p c last sound loss reach four.number four.inside (ends_soon s (s + 26 * sound_blocks rules.loss j) p c last b four) t lawful)
+runs_converge b rules loss reach s to t lawful j p c last sound four ends = grind (arith, common_steps, ends_soon s (s + 26 * sound_blocks rules.loss j) p c last b four, after_is b rules t s (p + 26 * last + 1 - s), converges b rules j s p c last sound loss reach four.number four.inside (ends_soon s (s + 26 * sound_blocks rules.loss j) p c last b four) t lawful)

@@ -52,13 +52,9 @@ block_at-earlier : (b : Signal) (rules : RuleNumbers) (f x p : ℕ) (wanted : Wa
     → block_at b rules f (x - 1) (p - 26) wanted y ≡ block_at b rules f x p wanted y
 block_at-earlier b rules f x p wanted y before = grind (arith, common_steps, le-leb)
 
-block_at-later_both : (b : Signal) (rules : RuleNumbers) (f x p : ℕ) (one other : Wanted) (y : ℕ) → x < y
-    → block_at b rules f (x - 1) (p - 26) one y ≡ block_at b rules f x p other y
-block_at-later_both b rules f x p one other y after = grind (arith, common_steps, block_at-missing)
-
 -- the last block is the window heard at the last place, read
 block_at-last : (b : Signal) (rules : RuleNumbers) (f x p : ℕ) (wanted : Wanted) → f ≤ x → Read (reading_at b p x wanted rules.burst) ≡ block_at b rules f x p wanted x
-block_at-last b rules f x p wanted from = grind (arith, common_steps, block_at-heard, heard, reading_at, block_at, block_at-heard b rules f x p wanted x (heard b p) from (omega arith) (ap (λ (i : ℕ) . heard b i) (omega arith)))
+block_at-last b rules f x p wanted from = grind (arith, common_steps, block_at-heard b rules f x p wanted x (heard b p) from (omega arith) (ap (λ (i : ℕ) . heard b i) (omega arith)))
 
 -- with the next block read, the blocks are those of the group one block longer
 pub blocks_at-next : (b : Signal) (rules : RuleNumbers) (f x p : ℕ) (wanted : Wanted) (block : Block) → 1 ≤ f → f ≤ x → x ≤ 4
@@ -66,13 +62,13 @@ pub blocks_at-next : (b : Signal) (rules : RuleNumbers) (f x p : ℕ) (wanted : 
     → (x ≡ 3 → wanted ≡ wanted_beside (block_at b rules f 2 (p - 26) Either 2))
     → set (blocks_at b rules f (x - 1) (p - 26)) (x - 1) block ≡ blocks_at b rules f x p
 blocks_at-next b rules f zero p wanted block low from high is other third = absurd (omega arith)
-blocks_at-next b rules f (suc zero) p wanted block low from high is other third = grind (arith, common_steps, reading_at, block_at-last, block_at-later_both, wanted_beside, block_at, set, blocks_at, block_at-last b rules f 1 p Either from, block_at-later_both b rules f 1 p Either Either 2 (omega arith), block_at-later_both b rules f 1 p (wanted_beside (block_at b rules f 0 (p - 26) Either 2)) (wanted_beside (block_at b rules f 1 p Either 2)) 3 (omega arith), block_at-later_both b rules f 1 p Either Either 4 (omega arith))
-blocks_at-next b rules f (suc (suc zero)) p wanted block low from high is other third = grind (arith, common_steps, block_at-earlier, reading_at, block_at-last, block_at-later_both, wanted_beside, block_at, set, blocks_at, block_at-earlier b rules f 2 p Either 1 (omega arith), block_at-last b rules f 2 p Either from, block_at-later_both b rules f 2 p (wanted_beside (block_at b rules f 1 (p - 26) Either 2)) (wanted_beside (block_at b rules f 2 p Either 2)) 3 (omega arith), block_at-later_both b rules f 2 p Either Either 4 (omega arith))
-blocks_at-next b rules f (suc (suc (suc zero))) p wanted block low from high is other third = grind (arith, common_steps, block_at-earlier, wanted_beside, block_at, reading_at, block_at-last, block_at-later_both, set, blocks_at, block_at-earlier b rules f 3 p Either 1 (omega arith), block_at-earlier b rules f 3 p Either 2 (omega arith), block_at-last b rules f 3 p (wanted_beside (block_at b rules f 3 p Either 2)) from, block_at-later_both b rules f 3 p Either Either 4 (omega arith))
-blocks_at-next b rules f (suc (suc (suc (suc zero)))) p wanted block low from high is other third = grind (arith, common_steps, block_at-earlier, wanted_beside, block_at, reading_at, block_at-last, set, blocks_at, block_at-earlier b rules f 4 p Either 1 (omega arith), block_at-earlier b rules f 4 p Either 2 (omega arith), block_at-earlier b rules f 4 p (wanted_beside (block_at b rules f 3 (p - 26) Either 2)) 3 (omega arith), block_at-last b rules f 4 p Either from)
+blocks_at-next b rules f (suc zero) p wanted block low from high is other third = grind (arith, common_steps)
+blocks_at-next b rules f (suc (suc zero)) p wanted block low from high is other third = grind (arith, common_steps, block_at-last)
+blocks_at-next b rules f (suc (suc (suc zero))) p wanted block low from high is other third = grind (arith, common_steps, block_at-last, block_at-earlier b rules f 3 p Either 1 (omega arith))
+blocks_at-next b rules f (suc (suc (suc (suc zero)))) p wanted block low from high is other third = grind (arith, common_steps, block_at-last, block_at-earlier b rules f 4 p Either 1 (omega arith), block_at-earlier b rules f 4 p Either 2 (omega arith))
 blocks_at-next b rules f (suc (suc (suc (suc (suc x))))) p wanted block low from high is other third = absurd (omega arith)
 
 -- the group of only block 4
 pub group-alone : (b : Signal) (rules : RuleNumbers) (p : ℕ) (block : Block) → block ≡ Read (reading_at b p 4 Either rules.burst)
     → group_of (p - 25) (Missing ∷ Missing ∷ Missing ∷ block ∷ []) ≡ group b rules 4 4 p
-group-alone b rules p block is = grind (arith, common_steps, blocks_at, block_at-last, group_of, group-blocks, reading_at, group, block_at-last b rules 4 4 p Either (omega arith), group-blocks b rules 4 4 p (blocks_at b rules 4 4 p) refl)
+group-alone b rules p block is = grind (arith, common_steps, group-blocks b rules 4 4 p (blocks_at b rules 4 4 p) refl)

@@ -39,9 +39,6 @@ bit_unknown second e = ap (λ (o : Option ℕ). elim o as (λ _. Version) [ None
 bit_known : (word : ℕ) → (version_of_bit word ≡ A) ⊎ (version_of_bit word ≡ B)
 bit_known word = grind arith
 
-offset_known : (o : Offset) → (o ≡ C) ⊎ (o ≡ Cx) → (version_of_offset o ≡ A) ⊎ (version_of_offset o ≡ B)
-offset_known o v1 = grind (arith, common_steps, version_of_offset)
-
 keeps_known : (v w : Version) → (v ≡ A) ⊎ (v ≡ B) → first_known v w ≡ v
 keeps_known v w v2 = grind (arith, common_steps, first_known)
 
@@ -75,14 +72,11 @@ differ_unknown v0 = grind (arith, common_steps)
 differ_same : (v w : Version) → differ v w ≡ true → w ≢ v
 differ_same v0 v1 t e = grind (arith, common_steps)
 
-differ_known : (v w : Version) → (v ≡ A) ⊎ (v ≡ B) → (w ≡ A) ⊎ (w ≡ B) → w ≢ v → differ v w ≡ true
-differ_known v w v2 v3 ne = grind (arith, common_steps)
-
 conflict_says : (second third : Block) → in_conflict second third ≡ true → VersionsDiffer second third
 conflict_says second v1 t = grind (arith, common_steps, info_of, differ, version_of_offset, bit_unknown, differ_unknown, differ_same, version_of_bit, bit_says)
 
 says_conflict : (second third : Block) → ((o : Offset) (info : ℕ) → third ≡ Read (Valid o info) → number o ≡ 3) → VersionsDiffer second third → in_conflict second third ≡ true
-says_conflict second third only h = grind (arith, common_steps, in_conflict, differ, version_of_offset, bit_says, differ_known, version_of_bit, bit_known, offset_known, number_3, second, third, number, h.3, h.0, h.2, h.4, h.1, h.5, bit_says second h.2 h.4, differ_known (version_of_bit h.2) (version_of_offset h.0) (bit_known h.2) (offset_known h.0 (number_3 h.0 (only h.0 h.1 h.3))) h.5, bit_known h.2, offset_known h.0 (number_3 h.0 (only h.0 h.1 h.3)), number_3 h.0 (only h.0 h.1 h.3))
+says_conflict second third only h = grind (arith, common_steps, number_3 h.0 (only h.0 h.1 h.3))
 
 -- complete groups
 

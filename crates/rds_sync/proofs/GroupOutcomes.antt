@@ -12,7 +12,7 @@ outcomes g = map outcome_of g.blocks
 module _ (b : Signal) (rules : RuleNumbers) (f x p : ℕ) where
   -- a block that was read is valid where its place has its number
   pub good_block : (wanted : Wanted) (y : ℕ) → f ≤ y → y ≤ x → HaveRoom f x p → was_valid (outcome_of (block_at b rules f x p wanted y)) ≡ has_number b (p - 26 * (x - y)) y
-  good_block wanted y low high room = grind (arith, common_steps, was_valid, outcome_of, reading_at, le-leb, valid_is, good-reading, heard, block_at, has_number, le-leb f y low, le-leb y x high, valid_is (Read (reading_at b (p - 26 * (x - y)) y wanted rules.burst)), good-reading b (p - 26 * (x - y)) y (heard b (p - 26 * (x - y))) wanted rules.burst (reading_at b (p - 26 * (x - y)) y wanted rules.burst) (omega (arith, room)) refl refl)
+  good_block wanted y low high room = grind (arith, common_steps, good-reading b (p - 26 * (x - y)) y (heard b (p - 26 * (x - y))) wanted rules.burst (reading_at b (p - 26 * (x - y)) y wanted rules.burst) (omega (arith, room)) refl refl)
 
   pub good-at : (y : ℕ) → 1 ≤ f → f ≤ y → y ≤ x → x ≤ 4 → HaveRoom f x p → good_at (outcomes (group b rules f x p)) y ≡ has_number b (p - 26 * (x - y)) y
   unfolding group
@@ -29,4 +29,4 @@ valid-only v0 h = grind (arith, common_steps)
 -- only a valid block 4
 pub last-alone : (b : Signal) (rules : RuleNumbers) (p : ℕ) → 25 ≤ p → has_number b p 4 ≡ true → outcomes (group b rules 4 4 p) ≡ missing ∷ missing ∷ missing ∷ valid ∷ []
 unfolding group
-last-alone b rules p late there = grind (arith, common_steps, missing, valid-only, good-at, has_number, outcomes, group, valid, good-at b rules 4 4 p 4 (omega arith) (omega arith) (omega arith) (omega arith) (omega arith))
+last-alone b rules p late there = grind (arith, common_steps, good-at b rules 4 4 p 4 (omega arith) (omega arith) (omega arith) (omega arith) (omega arith))

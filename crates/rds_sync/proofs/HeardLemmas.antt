@@ -29,10 +29,6 @@ has_number-heard : (b : Signal) (i x : ℕ) → 25 ≤ i → has_number b i x �
 unfolding has_number
 has_number-heard b i x late = grind (arith, common_steps, eqb, number, off-heard)
 
--- the same, if h was heard there
-pub good-heard : (b : Signal) (i x : ℕ) (h : Option ℕ) (good : Bool) → 25 ≤ i → h ≡ heard b i → good ≡ is_numbered (offset_heard h) x → good ≡ has_number b i x
-good-heard b i x h good late heard_is good_is = grind (arith, common_steps, is_numbered, offset_heard, has_number-heard)
-
 -- a block is valid where its place has its number
 pub good-reading : (b : Signal) (i x : ℕ) (h : Option ℕ) (wanted : Wanted) (limit : ℕ) (read : Reading) → 25 ≤ i → h ≡ heard b i
     → read ≡ reading_heard h x wanted limit → is_valid (Read read) ≡ has_number b i x

@@ -5,7 +5,7 @@ use Rattle.rds_sync.proofs.RunLemmas.{items-keeping, items-losing, items-searchi
 
 -- a bit gives at most two items
 items_at-few : (b : Signal) (rules : RuleNumbers) (i : ℕ) (s : State) → length (items_at b rules i s) ≤ 2
-items_at-few b rules i v3 = grind (arith, common_steps, acquired, items_at, items-searching, items-acquiring, eq-eqb, completed_group, ne_eqb, are_too_many, history_after_block, items-keeping, items-losing, items-waiting)
+items_at-few b rules i v3 = grind (arith, common_steps)
 
 -- so a run gives at most two a bit
 pub run_items-few : (b : Signal) (rules : RuleNumbers) (s : State) (a n : ℕ) → length (run b rules s a n).1 ≤ 2 * n

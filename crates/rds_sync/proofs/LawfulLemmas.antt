@@ -93,7 +93,7 @@ lawful-numbers rules place lock lawful = grind (arith, common_steps, lawful.in_o
 module _ (b : Signal) (rules : RuleNumbers) where
   -- one bit leads from a lawful state to a lawful state
   pub lawful-step : IsLossRule rules.loss → (i : ℕ) (s : State) → IsLawful rules i s → IsLawful rules (i + 1) (step b rules i s)
-  lawful-step loss i v2 lawful = grind (arith, common_steps, acquired, step, step-searching, acquired-range, acquired-place, step-acquiring, lawful-lock_after, lawful_none, history_after_block, lawful-numbers, are_too_many, step-keeping, lawful_kept, has_number, step-losing, step-waiting)
+  lawful-step loss i v2 lawful = grind (arith, common_steps, acquired-range, acquired-place, lawful_none)
 
   -- a run leads from a lawful state to a lawful state
   pub lawful-run : IsLossRule rules.loss → (s : State) (a n : ℕ) → IsLawful rules a s → IsLawful rules (a + n) (run b rules s a n).0

@@ -46,13 +46,10 @@ module _ (longer shorter : Signal) (begins : BeginsWith longer shorter) where
     unfolding group
     group-alike f x p within = grind (arith, common_steps, block_at, wanted_beside, block-alike, group_of)
 
-    after-alike : (f x i : ℕ) → i < length_of shorter → completed_group longer rules f x i ≡ completed_group shorter rules f x i
-    after-alike f x i within = ap (λ (g : GroupOf). elim (x == 4) as (λ _. List Item) [ true ↦ Group g ∷ [] | false ↦ [] ]) (group-alike f x i within)
-
     -- ---- the run
 
     bit-alike : (i : ℕ) (s : State) → i < length_of shorter → after_bit longer rules i s ≡ after_bit shorter rules i s
-    bit-alike i v1 within = grind (arith, common_steps, common_steps, lock_after, completed_group, after-alike, acquired, acquired-alike, history_after_block, bad_after, number-alike, are_too_many, group, group-alike)
+    bit-alike i v1 within = grind (arith, common_steps, common_steps, acquired-alike, number-alike, group-alike)
 
     pub run-alike : (s : State) (a m : ℕ) → a + m ≤ length_of shorter → run longer rules s a m ≡ run shorter rules s a m
     run-alike s a zero fits = refl
@@ -291,7 +288,7 @@ module _ (shorter longer : List Item) (adds : OnlyAddsItems shorter longer) wher
 
   -- a group that goes on is not complete
   not_complete : (g h : GroupOf) → GoesOn g h → is_complete (Group g) ≡ false
-  not_complete g h goes = grind (arith, common_steps, list_all_at, is_some, info_of, slice_get_within, get_or_from_slice_get, is_complete, goes.unfinished, slice_get_within g.blocks 3 Missing goes.unfinished, get_or_from_slice_get g.blocks 3 Missing Missing goes.unfinished)
+  not_complete g h goes = grind (arith, common_steps, get_or_from_slice_get g.blocks 3 Missing Missing goes.unfinished)
 
   no_less : AreNoLess (totals_of shorter) (totals_of longer)
   no_less = record {

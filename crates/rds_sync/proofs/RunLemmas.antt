@@ -117,7 +117,7 @@ run-further b rules s now t items found from place after low high so_far state_i
 -- a search up to and including one place
 pub run-found : (b : Signal) (rules : RuleNumbers) (place here : ℕ) → place ≤ here → ((j : ℕ) → place ≤ j → j < here → acquired b rules j ≡ None)
     → run b rules Searching place (here + 1 - place) ≡ (step b rules here Searching, items_at b rules here Searching)
-run-found b rules place here order none = grind (arith, common_steps, acquired, run-append, run, run-searching, run-one, step, items_at, run-append b rules Searching place (here - place) 1, run-searching b rules place (here - place) (λ j low high. none j low (omega arith)), run-one b rules Searching here)
+run-found b rules place here order none = grind (arith, common_steps, run-searching, run-append b rules Searching place (here - place) 1)
 
 -- a search of all places of a range
 pub run-unfound : (b : Signal) (rules : RuleNumbers) (place to : ℕ) → place ≤ to → ((j : ℕ) → place ≤ j → j < to → acquired b rules j ≡ None)

@@ -82,13 +82,13 @@ module _ (one : HasOneBlock) (limit : ℕ) where
   pub groups_there : (before after : List ℕ) (groups : List SentGroup) → AreCorrectable limit groups
       → AreHeardDamaged (ungapped (before ++ (flat_map bits_with_damage groups ++ after))) limit (length before) groups
   groups_there before after [] h = tt
-  groups_there before after (g ∷ groups) h = grind (arith, common_steps, bits_with_damage, flat_map, append_assoc, length-append, group_long, ungapped, group_there, g.words, g.damages, h.0, h.1, flat_map bits_with_damage groups, flat_map bits_with_damage (g ∷ groups), append_assoc (bits_with_damage g) (flat_map bits_with_damage groups) after, append_assoc before (bits_with_damage g) (flat_map bits_with_damage groups ++ after), length-append before (bits_with_damage g), group_long g, group_there before (flat_map bits_with_damage groups ++ after) g h.0, groups_there (before ++ (bits_with_damage g)) after groups h.1)
+  groups_there before after (g ∷ groups) h = grind (arith, common_steps, group_long, group_there before (flat_map bits_with_damage groups ++ after) g h.0, groups_there (before ++ (bits_with_damage g)) after groups h.1)
 
 pub damaged_groups_are_heard : HasOneBlock → DamagedGroupsAreHeard
 damaged_groups_are_heard one before after limit groups h = groups_there one limit before after groups h
 
 pub damaged_bits_are_decoded : HasOneBlock → CodeLaws → DamagedBitsAreDecoded
-damaged_bits_are_decoded one laws rules g groups loss reach few h whole1 whole2 keep = grind (arith, common_steps, flat_map, bits_with_damage, damaged_groups_are_listed, ungapped, groups_long, append-nil, groups_there, rules.burst, flat_map bits_with_damage (g ∷ groups), damaged_groups_are_listed laws (ungapped (flat_map bits_with_damage (g ∷ groups))) rules g groups loss reach few (groups_long (g ∷ groups)) (subst (λ (zs : List ℕ) . AreHeardDamaged (ungapped zs) rules.burst 0 (g ∷ groups)) (append-nil (flat_map bits_with_damage (g ∷ groups))) (groups_there one rules.burst [] [] (g ∷ groups) h)) whole1 whole2 keep, groups_long (g ∷ groups), append-nil (flat_map bits_with_damage (g ∷ groups)), groups_there one rules.burst)
+damaged_bits_are_decoded one laws rules g groups loss reach few h whole1 whole2 keep = grind (arith, common_steps, damaged_groups_are_listed laws (ungapped (flat_map bits_with_damage (g ∷ groups))) rules g groups loss reach few (groups_long (g ∷ groups)) (subst (λ (zs : List ℕ) . AreHeardDamaged (ungapped zs) rules.burst 0 (g ∷ groups)) (append-nil (flat_map bits_with_damage (g ∷ groups))) (groups_there one rules.burst [] [] (g ∷ groups) h)) whole1 whole2 keep)
 
 -- ---- without damage
 

@@ -126,7 +126,7 @@ pub locked_groups_are_listed : CodeLaws → LockedGroupsAreListed
 locked_groups_are_listed laws b rules few place bad groups h keep = damaged_listed laws b rules few place bad groups h keep
 
 pub sound_signal_is_decoded : CodeLaws → SoundSignalIsDecoded
-sound_signal_is_decoded laws b rules loss reach few s t lawful j p c last sound four groups h keep = grind (arith, common_steps, run, lock_of, runs_converge, damaged_listed, run-places, sound.sequence.first, runs_converge b rules loss reach s (p + 26 * last + 1) t lawful j p c last sound four refl, damaged_listed laws b rules few (p + 26 * last + 1) 0 groups h keep, run-places b rules t s (p + 26 * last + 1) ((p + 26 * last + 1) + 104 * (length groups)) (omega (arith, sound.sequence.first)) (omega arith))
+sound_signal_is_decoded laws b rules loss reach few s t lawful j p c last sound four groups h keep = grind (arith, common_steps, damaged_listed, runs_converge b rules loss reach s (p + 26 * last + 1) t lawful j p c last sound four refl, run-places b rules t s (p + 26 * last + 1) ((p + 26 * last + 1) + 104 * (length groups)) (omega (arith, sound.sequence.first)) (omega arith))
 
 -- the first group of a recording, whose blocks 1 and 2 have no damage
 module _ (laws : CodeLaws) (b : Signal) (rules : RuleNumbers) (few : rules.burst ≤ 5) (reach : 1 ≤ rules.reach) (words damages : List ℕ)
@@ -159,7 +159,7 @@ module _ (laws : CodeLaws) (b : Signal) (rules : RuleNumbers) (few : rules.burst
 
   first_damaged : are_too_many rules.loss bad3 ≡ false → are_too_many rules.loss bad4 ≡ false
       → run b rules Searching 0 104 ≡ (Locked (lock_of 129 1 bad4 1), Acquired 51 2 ∷ Group (group_sent 2 26 words damages) ∷ [])
-  first_damaged keep3 keep4 = grind (arith, common_steps, acquires_damaged, run, lock_of, run-found, quiet, step-acquiring, items-acquiring, block-then, get_or, third_good, bad3, fourth_good, bad4, group_sent, own_first, run-then)
+  first_damaged keep3 keep4 = grind (arith, common_steps, acquires_damaged, quiet, third_good, fourth_good, own_first)
 
 pub damaged_groups_are_listed : CodeLaws → DamagedGroupsAreListed
 damaged_groups_are_listed laws b rules g groups loss reach few long h whole1 whole2 keep =

@@ -22,20 +22,11 @@ bits_sent_are o info v2 = grind (arith, common_steps, ones-le, lit<)
 
 -- ---- all blocks
 
-sum_four : {A : Type 0} (f : A → ℕ) (a b c d : A) → sum_by f (a ∷ b ∷ c ∷ d ∷ []) ≡ 0 + f a + f b + f c + f d
-sum_four f a b c d = refl
-
-sum_three : (f : ℕ → ℕ) (a b c : ℕ) (es : List ℕ) → sum_by f (a ∷ b ∷ c ∷ es) ≡ 0 + f a + f b + f c + sum_by f es
-sum_three f a b c es = sum_by-append f (a ∷ b ∷ c ∷ []) es
-
-sum_group : (f : Block → ℕ) (g : GroupOf) (items : List Item) → sum_blocks f (Group g ∷ items) ≡ sum_by f g.blocks + sum_blocks f items
-sum_group f g items = sum_by-cons (λ (item : Item). elim item as (λ _. ℕ) [ Acquired a x ↦ 0 | Group h ↦ sum_by f h.blocks | LostLock a ↦ 0 ]) (Group g) items
-
 -- a sum over the blocks of these groups is one over their masks
 damaged_sum : (f : Block → ℕ) (h : ℕ → ℕ) → ((o : Offset) (info e : ℕ) → f (block_sent o info e) ≡ h e)
     → (place : ℕ) (groups : List SentGroup) → sum_blocks f (items_damaged place groups) ≡ sum_by h (flat_map four_damages groups)
 damaged_sum f h each place [] = refl
-damaged_sum f h each place (g ∷ groups) = grind (arith, common_steps, third_offset, get_or, sum_group, group_sent, items_damaged, sum_four, block_sent, sum_by-append, four_damages, flat_map, g.words, g.damages, damaged_sum f h each (place + 104) groups)
+damaged_sum f h each place (g ∷ groups) = grind (arith, common_steps, damaged_sum f h each (place + 104) groups)
 
 -- the items of a recording of them
 abbrev listed : SentGroup → List SentGroup → List Item
@@ -43,11 +34,11 @@ listed g groups = Acquired 51 2 ∷ Group (group_sent 2 26 g.words g.damages) �
 
 listed_sum : (f : Block → ℕ) (h : ℕ → ℕ) → f Missing ≡ 0 → ((o : Offset) (info e : ℕ) → f (block_sent o info e) ≡ h e)
     → (g : SentGroup) (groups : List SentGroup) → sum_blocks f (listed g groups) ≡ sum_by h (masks_read g groups)
-listed_sum f h none each g groups = grind (arith, common_steps, third_offset, get_or, items_damaged, sum_blocks, listed, group_sent, sum_by-cons, sum_by, sum_group, sum_four, block_sent, sum_three, flat_map, four_damages, damaged_sum)
+listed_sum f h none each g groups = grind (arith, common_steps, damaged_sum)
 
 listed_count : (p : Block → Bool) (q : ℕ → Bool) → p Missing ≡ false → ((o : Offset) (info e : ℕ) → p (block_sent o info e) ≡ q e)
     → (g : SentGroup) (groups : List SentGroup) → sum_blocks (λ block. cond (p block) 1 0) (listed g groups) ≡ count_by q (masks_read g groups)
-listed_count p q none each g groups = grind (arith, common_steps, listed_sum, block_sent, sum_blocks, listed, count_by, masks_read, listed_sum (λ block. cond (p block) 1 0) (λ e. cond (q e) 1 0) (ap (λ (t : Bool) . cond t 1 0) none) (λ o info e. ap (λ (t : Bool) . cond t 1 0) (each o info e)) g groups)
+listed_count p q none each g groups = grind (arith, common_steps, listed_sum (λ block. cond (p block) 1 0) (λ e. cond (q e) 1 0) (ap (λ (t : Bool) . cond t 1 0) none) (λ o info e. ap (λ (t : Bool) . cond t 1 0) (each o info e)) g groups)
 
 -- ---- the groups
 
@@ -87,7 +78,7 @@ listed_totals g groups =
     (listed_items is_sync_loss 0 0 0 refl (λ h. refl) (λ place h. refl) g groups ∙ omega arith)
 
 pub damage_tells_totals : CodeLaws → DamageTellsTotals
-damage_tells_totals laws b rules g groups loss reach few long h whole1 whole2 keep = grind (arith, common_steps, totals_of, damaged_groups_are_listed, listed_totals, damaged_groups_are_listed laws b rules g groups loss reach few long h whole1 whole2 keep, listed_totals g groups)
+damage_tells_totals laws b rules g groups loss reach few long h whole1 whole2 keep = grind (arith, common_steps, damaged_groups_are_listed laws b rules g groups loss reach few long h whole1 whole2 keep, listed_totals g groups)
 
 pub damaged_bits_tell_totals : HasOneBlock → CodeLaws → DamagedBitsTellTotals
-damaged_bits_tell_totals one laws rules g groups loss reach few h whole1 whole2 keep = grind (arith, common_steps, flat_map, bits_with_damage, damage_tells_totals, ungapped, groups_long, append-nil, groups_there, rules.burst, flat_map bits_with_damage (g ∷ groups), damage_tells_totals laws (ungapped (flat_map bits_with_damage (g ∷ groups))) rules g groups loss reach few (groups_long (g ∷ groups)) (subst (λ (zs : List ℕ) . AreHeardDamaged (ungapped zs) rules.burst 0 (g ∷ groups)) (append-nil (flat_map bits_with_damage (g ∷ groups))) (groups_there one rules.burst [] [] (g ∷ groups) h)) whole1 whole2 keep, groups_long (g ∷ groups), append-nil (flat_map bits_with_damage (g ∷ groups)), groups_there one rules.burst)
+damaged_bits_tell_totals one laws rules g groups loss reach few h whole1 whole2 keep = grind (arith, common_steps, damage_tells_totals laws (ungapped (flat_map bits_with_damage (g ∷ groups))) rules g groups loss reach few (groups_long (g ∷ groups)) (subst (λ (zs : List ℕ) . AreHeardDamaged (ungapped zs) rules.burst 0 (g ∷ groups)) (append-nil (flat_map bits_with_damage (g ∷ groups))) (groups_there one rules.burst [] [] (g ∷ groups) h)) whole1 whole2 keep)

@@ -11,7 +11,7 @@ module _ (b : Signal) (rules : RuleNumbers) (s : State) (place to : ℕ) (reache
   -- from a place before its end on
   later : (middle : ℕ) → place ≤ middle → middle < reached.place
       → ((run b rules s place (middle - place)).1 ≡ []) × IsStretch b rules (run b rules s place (middle - place)).0 middle to reached
-  later middle low high = grind (arith, common_steps, run-places, run, none-of, run-places b rules s place middle (reached.place - 1) low (omega arith), run-places b rules s place middle reached.place low (omega arith))
+  later middle low high = grind (arith, common_steps, run-places, none-of, run-places b rules s place middle (reached.place - 1) low (omega arith))
 
 -- a lock's stretch ends after the block that is due, or at the range's end
 past-due : (b : Signal) (rules : RuleNumbers) (lock : Lock) (place to : ℕ) (reached : Step) → IsStretch b rules (Locked lock) place to reached
