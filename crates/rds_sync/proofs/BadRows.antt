@@ -7,14 +7,10 @@ abbrev pub Lows : ℕ → ℕ → ℕ → Type 0
 Lows f zero m = ⊤
 Lows f (suc j) m = (m % 2 ≡ f) × Lows f j (m / 2)
 
--- a remainder by a power of two, by its lowest digit
-split : (v m : ℕ) → m % 2 ^ suc v ≡ 2 * ((m / 2) % 2 ^ v) + m % 2
-split v m = grind (arith, common_steps, pow-suc, pow_pos, double)
-
 lows_below : (f j v m : ℕ) → j ≤ v → Lows f j m → Lows f j (m % 2 ^ v)
 lows_below f zero v m h l = tt
 lows_below f (suc j) zero m h l = absurd (omega arith)
-lows_below f (suc j) (suc v) m h l = grind (arith, common_steps, split, lows_below f j v (m / 2) (omega arith) l.1)
+lows_below f (suc j) (suc v) m h l = grind (arith, common_steps, lows_below f j v (m / 2) (omega arith) l.1, pow-suc, pow_pos, double)
 
 lows_more : (f j v m : ℕ) → f ≤ 1 → suc j ≤ v → Lows f j m → Lows f (suc j) ((2 * m + f) % 2 ^ v)
 lows_more f j v m small h l = grind (arith, common_steps, lows_below, lows_below f (suc j) v (2 * m + f) h ((omega arith), subst (λ (n : ℕ) . Lows f j n) (omega arith) l))
@@ -34,13 +30,10 @@ lows_zero : (i : ℕ) → Lows 0 i 0
 lows_zero zero = tt
 lows_zero (suc i) = (refl, lows_zero i)
 
-lows_start : (i m : ℕ) → i ≤ 0 → Lows 0 i m
-lows_start v0 m h = grind (arith, common_steps)
-
 -- a remainder has no more ones
 ones_fewer : (v m : ℕ) → count_ones (m % 2 ^ v) ≤ count_ones m
 ones_fewer zero m = let none : m % 1 ≡ 0 = omega arith in let e : count_ones (m % 1) ≡ 0 = ap count_ones none ∙ ones_zero in omega (arith, e)
-ones_fewer (suc v) m = grind (arith, common_steps, count_ones, ones_step, split, ones_below, ones_fewer v (m / 2))
+ones_fewer (suc v) m = grind (arith, common_steps, count_ones, ones_step, ones_below, ones_fewer v (m / 2), pow-suc, pow_pos, double)
 
 -- a good block loses no lock
 pub good_keeps : (loss : Loss) (bad : ℕ) → IsLawfulBad loss bad → are_too_many loss (bad_after loss true bad) ≡ false
@@ -81,7 +74,7 @@ IsClean (Run n) row r = 1 ≤ r → row ≡ 0
 IsClean (Share n v) m r = (i : ℕ) → i ≤ r → i ≤ v → Lows 0 i m
 
 pub clean_zero : (loss : Loss) (bad : ℕ) → IsClean loss bad 0
-clean_zero v0 v1 = grind (arith, common_steps, lows_start)
+clean_zero v0 v1 = grind (arith, common_steps)
 
 pub clean_none : (loss : Loss) (r : ℕ) → IsClean loss 0 r
 clean_none v0 r = grind (arith, common_steps, lows_zero)

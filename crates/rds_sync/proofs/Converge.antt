@@ -82,12 +82,9 @@ module _ (b : Signal) (rules : RuleNumbers) where
   unfolding acquired
   acquires i x y reach here before next = grind (arith, common_steps, has_number_offset, has_number_offset (i + 26) x here)
 
-  partner_is : (t : Bool) (y x : ℕ) → elim t as (λ _. Option ℕ) [ true ↦ Some y | false ↦ None ] ≡ Some x → x ≡ y
-  partner_is v0 y x e = grind (arith, common_steps)
-
   acquired_number : (i x y : ℕ) → has_number b i y ≡ true → acquired b rules i ≡ Some x → x ≡ y
   unfolding acquired
-  acquired_number i x y has e = grind (arith, common_steps, has_number_offset, partner_is, number, with_partner)
+  acquired_number i x y has e = grind (arith, common_steps, has_number_offset, number, with_partner)
 
   -- a search locks at the first place that acquires
   finds : (d q x : ℕ) → ((r : ℕ) → q ≤ r → r < q + d → acquired b rules r ≡ None) → acquired b rules (q + d) ≡ Some x
@@ -97,8 +94,7 @@ module _ (b : Signal) (rules : RuleNumbers) where
       let place : q + suc d ≡ q + 1 + d = omega arith in
       let e2 : acquired b rules (q + 1 + d) ≡ Some x = rw (← place) e in
       let count : suc d + 1 ≡ suc (d + 1) = omega arith in
-      rw (count, place) (ap (λ (s : State). after s (q + 1) (d + 1)) (step-searching b rules q (none q (omega arith) (omega arith)))
-      ∙ finds d (q + 1) x (λ r l u. none r (omega arith) (omega arith)) e2)
+      grind (arith, common_steps, count, after, step-searching, e2, finds d (q + 1) x (λ r l u. none r (omega arith) (omega arith)) e2)
 
   module _ (p c last : ℕ) (sequence : (k : ℕ) → k ≤ last → has_number b (p + 26 * k) (number_after c k) ≡ true) where
     number_next : (k : ℕ) → number_after c k % 4 + 1 ≡ number_after c (suc k)
@@ -116,10 +112,7 @@ module _ (b : Signal) (rules : RuleNumbers) where
         let place : p + 26 * k + 26 ≡ p + 26 * suc k = omega arith in
         let count : 26 * suc d + 1 ≡ 26 + (26 * d + 1) = omega arith in
         let moved : k + suc d ≡ suc k + d = omega arith in
-        rw (count, moved) (after_more (Locked (lock_of (p + 26 * k) (number_after c k) bad f)) (p + 26 * k) 26 (26 * d + 1)
-        ∙ ap (λ (s : State). after s (p + 26 * k + 26) (26 * d + 1)) (next_block (p + 26 * k) (number_after c k) bad f (bad_after rules.loss true bad) next kept)
-        ∙ rw (place, number_next k) (stays d (suc k) (bad_after rules.loss true bad) (cond (number_after c k == 4) 1 f) (suc r)
-        (lawful_kept rules.loss bad true h kept) (clean_more rules.loss bad r clean) (omega arith) (omega arith) (rw (← moved) four)))
+        grind (arith, common_steps, count, moved, after_more, lock_of, number_after, after, next_block, bad_after, kept, number_next, lawful_kept, clean_more, stays d (suc k) (bad_after rules.loss true bad) (cond (number_after c k == 4) 1 f) (suc r) (lawful_kept rules.loss bad true h kept) (clean_more rules.loss bad r clean) (omega arith) (omega arith) (rw (← moved) four))
 
 module _ (b : Signal) (rules : RuleNumbers) (p c last : ℕ) (sequence : (k : ℕ) → k ≤ last → has_number b (p + 26 * k) (number_after c k) ≡ true) where
   -- a search that finds block k of the sequence is between two groups after the last block, which has number 4
@@ -130,10 +123,7 @@ module _ (b : Signal) (rules : RuleNumbers) (p c last : ℕ) (sequence : (k : �
       let locked : after b rules Searching q (d + 1) ≡ Locked (lock_after (p + 26 * k) (number_after c k) 0 (number_after c k)) =
       rw place (finds b rules d q (number_after c k) none found) in
       elim (cases_eq k last) [
-        | inl same ↦
-            let count : p + 26 * last + 1 - q ≡ d + 1 = omega (arith, same, place) in
-            let num : number_after c k ≡ 4 = rw same four in
-            rw count (locked ∙ rw (num, same) refl)
+        | inl same ↦ grind (arith, common_steps, number_after, locked)
         | inr other ↦
             let rest : ℕ = last - suc k in
             let count : p + 26 * last + 1 - q ≡ (d + 1) + (25 + (26 * rest + 1)) = omega (arith, place) in
@@ -147,11 +137,7 @@ module _ (b : Signal) (rules : RuleNumbers) (p c last : ℕ) (sequence : (k : �
             waits b rules lock (p + 26 * k + 1) 25 (omega arith)
             ∙ ap₂ (λ (n m : ℕ). Locked (lock_of n m 0 f)) due (number_next b rules p c last sequence k) in
             let end = stays b rules p c last sequence rest (suc k) 0 f (memory rules.loss) (lawful_none rules.loss loss) (clean_none rules.loss (memory rules.loss)) (omega arith) (omega arith) (rw all four) in
-            rw count (after_more b rules Searching q (d + 1) (25 + (26 * rest + 1))
-            ∙ ap₂ (λ (s : State) (a : ℕ). after b rules s a (25 + (26 * rest + 1))) locked from
-            ∙ after_more b rules (Locked lock) (p + 26 * k + 1) 25 (26 * rest + 1)
-            ∙ ap₂ (λ (s : State) (a : ℕ). after b rules s a (26 * rest + 1)) waited next
-            ∙ end ∙ ap (λ (n : ℕ). Locked (lock_of (p + 26 * n + 26) 1 0 1)) all)
+            grind (arith, common_steps, count, after_more, rest, after, locked, from, waited, end, lock_of, all)
       ]
 
   -- a block of the sequence acquires, where the one before it is known
@@ -185,9 +171,7 @@ module _ (b : Signal) (rules : RuleNumbers) (p c last : ℕ) (sequence : (k : �
         let has : has_number b p (number_after c 0) ≡ true = rw start at (sequence 0 (omega arith)) in
         let same : x ≡ number_after c 0 = acquired_number b rules p x (number_after c 0) has e in
         let at : q + (p - q) ≡ p = omega arith in
-        search_joins (p - q) q 0 loss (omega arith) (omega arith) four
-        (λ r l u. quiet r l (omega arith) (λ j e2. absurd (omega arith)))
-        (rw at (e ∙ ap (λ (n : ℕ). Some n) same))
+        grind (arith, common_steps, search_joins, same, search_joins (p - q) q 0 loss (omega arith) (omega arith) four (λ r l u. quiet r l (omega arith) (λ j e2. absurd (omega arith))) (rw at (e ∙ ap (λ (n : ℕ). Some n) same)))
     at_case None e before =
         let at : q + (p + 26 - q) ≡ p + 26 * 1 = omega arith in
         search_joins (p + 26 - q) q 1 loss (omega arith) some four
@@ -281,9 +265,7 @@ module _ (b : Signal) (rules : RuleNumbers) where
         let place : s + d ≡ due = omega (arith, soon) in
         let count : p + 26 * last + 1 - s ≡ d + (p + 26 * last + 1 - due) = omega (arith, soon, f0, enough) in
         let waited : after b rules (Locked lock) s d ≡ Locked lock = waits b rules lock s d (omega (arith, soon)) in
-        rw count (after_more b rules (Locked lock) s d (p + 26 * last + 1 - due)
-        ∙ ap₂ (λ (t : State) (a : ℕ). after b rules t a (p + 26 * last + 1 - due)) waited place
-        ∙ from_due due num bad f (omega (arith, soon)) (omega (arith, soon)) few range.0 range.1)
+        grind (arith, common_steps, count, after_more, after, waited, from_due, soon, few, range.0, range.1)
 
 -- the last block of number 4 in a sequence
 last_four : (s p c n : ℕ) → s ≤ p → p < s + 26 → 1 ≤ c → c ≤ 4 → 6 ≤ n

@@ -23,16 +23,13 @@ is_earlier f x y = cond (leb f y && ltb y x) 1 0
 abbrev below : ℕ → ℕ → ℕ
 below x y = cond (ltb y x) 1 0
 
-below_all : (x : ℕ) → 1 ≤ x → x ≤ 4 → below x 1 + below x 2 + below x 3 + below x 4 ≡ x - 1
-below_all v0 from to = grind (arith, common_steps)
-
 is_earlier-below : (f x y : ℕ) → f ≤ x → is_earlier f x y + below f y ≡ below x y
 is_earlier-below f x y order = grind (arith, common_steps, cases_lt, lt-leb, lt-ltb, le-leb, le-ltb)
 
 -- the blocks before the last, counted one by one
 pub blocks_before : (f x : ℕ) → 1 ≤ f → f ≤ x → x ≤ 4
     → is_earlier f x 1 + is_earlier f x 2 + is_earlier f x 3 + is_earlier f x 4 ≡ x - f
-blocks_before f x from order to = grind (arith, common_steps, is_earlier-below, below_all)
+blocks_before f x from order to = grind (arith, common_steps, is_earlier-below)
 
 -- the blocks of a group, read one by one
 pub blocks_at-read : (b : Signal) (rules : RuleNumbers) (f x p : ℕ) (one two three four : Block)

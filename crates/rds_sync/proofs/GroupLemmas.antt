@@ -13,25 +13,10 @@ AreAlike h limit wanted x = reading_heard h x Either limit ≡ reading_heard h x
 reading-wanted : (h : Option ℕ) (limit : ℕ) (wanted : Wanted) → AreAlike h limit wanted 1 × AreAlike h limit wanted 2 × AreAlike h limit wanted 4
 reading-wanted v0 limit v2 = grind (arith, common_steps)
 
--- a block that was corrected is not valid
-by_only-valid : (w : ℕ) (pairs : List (Offset × ℕ)) (o : Offset) (info : ℕ) → by_only w pairs ≢ Valid o info
-by_only-valid w v1 o info e = grind (arith, common_steps)
-
--- a valid block has the number that it is read as
-reading-number : (w x limit : ℕ) (wanted : Wanted) (o : Offset) (info : ℕ) → reading w x wanted limit ≡ Valid o info → number o ≡ x
-reading-number w x limit wanted o info e = grind (arith, common_steps, offset_of, rem, corrected, number, information, by_only-valid, corrections, wanted_offsets, eqb-true)
-
-heard-number : (h : Option ℕ) (x limit : ℕ) (wanted : Wanted) (o : Offset) (info : ℕ) → reading_heard h x wanted limit ≡ Valid o info → number o ≡ x
-heard-number None x limit wanted o info e = cc e
-heard-number (Some w) x limit wanted o info e = reading-number w x limit wanted o info e
-
 number_3 : (o : Offset) → number o ≡ 3 → (o ≡ C) ⊎ (o ≡ Cx)
 number_3 v0 e = grind (arith, common_steps)
 
 -- versions
-
-bit_says : (second : Block) (word : ℕ) → info_of second ≡ Some word → version_by_bit second ≡ version_of_bit word
-bit_says second word e = ap (λ (o : Option ℕ). elim o as (λ _. Version) [ None ↦ Unknown | Some info ↦ version_of_bit info ]) e
 
 bit_unknown : (second : Block) → info_of second ≡ None → version_by_bit second ≡ Unknown
 bit_unknown second e = ap (λ (o : Option ℕ). elim o as (λ _. Version) [ None ↦ Unknown | Some info ↦ version_of_bit info ]) e
@@ -44,7 +29,7 @@ keeps_known v w v2 = grind (arith, common_steps, first_known)
 
 by_bit : (second third : Block) → ((o : Offset) (info : ℕ) → third ≢ Read (Valid o info)) → (word : ℕ) → info_of second ≡ Some word
     → version second third ≡ version_of_bit word
-by_bit second v1 not_valid word e = grind (arith, common_steps, bit_says, first_known, version_of_offset, keeps_known, version_of_bit, bit_known)
+by_bit second v1 not_valid word e = grind (arith, common_steps, first_known, version_of_offset, keeps_known, version_of_bit, bit_known)
 
 by_nothing : (second third : Block) → info_of second ≡ None → info_of third ≡ None → version second third ≡ Unknown
 by_nothing second v1 e t = grind (arith, common_steps, bit_unknown)
@@ -73,7 +58,7 @@ differ_same : (v w : Version) → differ v w ≡ true → w ≢ v
 differ_same v0 v1 t e = grind (arith, common_steps)
 
 conflict_says : (second third : Block) → in_conflict second third ≡ true → VersionsDiffer second third
-conflict_says second v1 t = grind (arith, common_steps, info_of, differ, version_of_offset, bit_unknown, differ_unknown, differ_same, version_of_bit, bit_says)
+conflict_says second v1 t = grind (arith, common_steps, info_of, differ, version_of_offset, bit_unknown, differ_unknown, differ_same, version_of_bit)
 
 says_conflict : (second third : Block) → ((o : Offset) (info : ℕ) → third ≡ Read (Valid o info) → number o ≡ 3) → VersionsDiffer second third → in_conflict second third ≡ true
 says_conflict second third only h = grind (arith, common_steps, number_3 h.0 (only h.0 h.1 h.3))
@@ -105,13 +90,9 @@ module _ (one two three four : Block) where
   complete_says t (suc (suc (suc (suc zero)))) l h = grind (arith, common_steps, some_of, info_of, and_left, known, and_right)
   complete_says t (suc (suc (suc (suc (suc y))))) l h = absurd (omega arith)
 
-  is_known : (y : ℕ) (block : Block) → slice_get blocks (y - 1) ≡ Some block
-      → ((block : Block) × (word : ℕ) × (slice_get blocks (y - 1) ≡ Some block) × (info_of block ≡ Some word)) → known block ≡ true
-  is_known y block e h = grind (arith, common_steps, is_some)
-
   says_complete : ((y : ℕ) → 1 ≤ y → y ≤ 4 → (block : Block) × (word : ℕ) × (slice_get blocks (y - 1) ≡ Some block) × (info_of block ≡ Some word))
       → are_complete blocks ≡ true
-  says_complete h = grind (arith, common_steps, is_known)
+  says_complete h = grind (arith, common_steps)
 
 -- blocks
 
@@ -127,7 +108,7 @@ module _ (b : Signal) (rules : RuleNumbers) (f x p : ℕ) where
 
   -- block 3 was read as number 3
   third_number : (o : Offset) (info : ℕ) → third ≡ Read (Valid o info) → number o ≡ 3
-  third_number o info e = grind (arith, common_steps, cases_lt, block_at-missing, wanted_beside, reading_at, block_at-read, heard-number, heard)
+  third_number o info e = grind (arith, common_steps, cases_lt, block_at-missing, wanted_beside, reading_at, block_at-read, heard)
 
   read_as : 1 ≤ f → x ≤ 4 → (y : ℕ) → f ≤ y → y ≤ x
       → slice_get the_group.blocks (y - 1) ≡ Some (Read (reading_at b (p - 26 * (x - y)) y (wanted_beside second) rules.burst))
@@ -153,12 +134,7 @@ module _ (b : Signal) (rules : RuleNumbers) (f x p : ℕ) where
     third = third;
     is_second = refl;
     is_third = refl;
-    blocks = record {
-      four = refl;
-      begins = omega arith;
-      read = read_as low high;
-      missing = is_missing;
-    };
+    blocks = grind (arith, common_steps, read_as, is_missing);
     kind = refl;
     version = version_is_read second third third_number;
     complete = (

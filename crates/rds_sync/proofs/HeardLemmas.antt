@@ -3,17 +3,6 @@ use Rattle.rds_sync.proofs.Names.{common_steps, ◌≡◌, ℕ, ◌+◌, ◌-◌
 use Rattle.rds_code.specs.Reading.{corrected}
 use Rattle.rds_sync.proofs.LawfulLemmas.{acquired-none, acquired-some}
 
--- a block is valid where its window has an offset of the number
-valid-by_only : (w : ℕ) (pairs : List (Offset × ℕ)) → is_valid (Read (by_only w pairs)) ≡ false
-valid-by_only w v1 = grind (arith, common_steps)
-
-valid-reading : (w x : ℕ) (wanted : Wanted) (limit : ℕ) → is_valid (Read (reading w x wanted limit)) ≡ is_numbered (offset_heard (Some w)) x
-valid-reading w x wanted limit = grind (arith, common_steps, offset_of, rem, is_valid, information, corrected, valid-by_only, corrections, wanted_offsets, read_from, eqb, number)
-
--- and where nothing was heard, it is not
-valid-heard : (h : Option ℕ) (x : ℕ) (wanted : Wanted) (limit : ℕ) → is_valid (Read (reading_heard h x wanted limit)) ≡ is_numbered (offset_heard h) x
-valid-heard v0 x wanted limit = grind (arith, common_steps, valid-reading)
-
 -- no window ends before place 25
 pub off-early : (b : Signal) (i : ℕ) → i < 25 → offset_at b i ≡ None
 unfolding offset_at
@@ -32,7 +21,7 @@ has_number-heard b i x late = grind (arith, common_steps, eqb, number, off-heard
 -- a block is valid where its place has its number
 pub good-reading : (b : Signal) (i x : ℕ) (h : Option ℕ) (wanted : Wanted) (limit : ℕ) (read : Reading) → 25 ≤ i → h ≡ heard b i
     → read ≡ reading_heard h x wanted limit → is_valid (Read read) ≡ has_number b i x
-good-reading b i x h wanted limit read late heard_is read_is = grind (arith, common_steps, is_valid, valid-heard, is_numbered, offset_heard, has_number-heard)
+good-reading b i x h wanted limit read late heard_is read_is = grind (arith, common_steps, is_valid, is_numbered, offset_heard, has_number-heard)
 
 -- a test that fails at the first place of a range is left to the others
 pub any-later : (p : ℕ → Bool) (k end : ℕ) → k < end → p k ≡ false

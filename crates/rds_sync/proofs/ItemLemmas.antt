@@ -3,14 +3,10 @@ use Rattle.rds_sync.proofs.Names.{common_steps, ◌≡◌, ◌≢◌, ℕ, zero,
 use Rattle.rds_sync.proofs.RunIsReport.{run_is_report}
 use Rattle.rds_sync.proofs.RunLemmas.{items-keeping, items-losing, items-searching, items-acquiring, items-waiting}
 
--- a bit gives at most two items
-items_at-few : (b : Signal) (rules : RuleNumbers) (i : ℕ) (s : State) → length (items_at b rules i s) ≤ 2
-items_at-few b rules i v3 = grind (arith, common_steps)
-
 -- so a run gives at most two a bit
 pub run_items-few : (b : Signal) (rules : RuleNumbers) (s : State) (a n : ℕ) → length (run b rules s a n).1 ≤ 2 * n
 run_items-few b rules s a zero = omega arith
-run_items-few b rules s a (suc n) = grind (arith, common_steps, items_at-few, step, length-append, items_at, run, run_items-few b rules (step b rules a s) (a + 1) n)
+run_items-few b rules s a (suc n) = grind (arith, common_steps, step, length-append, items_at, run, run_items-few b rules (step b rules a s) (a + 1) n)
 
 -- a list with a first item is not empty
 pub some_given : (given : List Item) (item : Item) (others : List Item) → given ≡ item ∷ others → given ≢ []

@@ -3,19 +3,11 @@ use Rattle.rds_sync.proofs.Names.{common_steps, ◌≡◌, ℕ, zero, suc, ◌+�
 use Rattle.rds_sync.proofs.LossLemmas.{lawful_none, lawful_kept}
 use Rattle.rds_sync.proofs.RunLemmas.{step-acquiring, step-searching, step-waiting, step-keeping, step-losing}
 
--- the number of an offset is 1 to 4
-pub number-range : (o : Offset) → (1 ≤ number o) × (number o ≤ 4)
-number-range v0 = grind (arith, common_steps)
-
 module _ (b : Signal) where
   -- no window ends before place 25
   pub off-place : (i : ℕ) (o : Offset) → offset_at b i ≡ Some o → 25 ≤ i
   unfolding offset_at
   off-place i o e = grind (arith, common_steps, cases_lt, lt-ltb, offset_at)
-
-  -- a partner, as a fact
-  pub has_partner-offset : (i x k : ℕ) → has_partner b i x k ≡ true → (o : Offset) × (offset_at b (i - 26 * k) ≡ Some o) × (number_after (number o) k ≡ x)
-  has_partner-offset i x k h = grind (arith, common_steps, offset_at, number_after, number, eqb-true)
 
 -- a test that some number of a range passes
 pub any-range : (p : ℕ → Bool) (a n : ℕ) → list_any p (range_with_len a n) ≡ true → (k : ℕ) × (a ≤ k) × (k < a + n) × (p k ≡ true)
@@ -60,11 +52,11 @@ module _ (b : Signal) (rules : RuleNumbers) where
 
   -- a place acquires with a number from 1 to 4
   pub acquired-range : (i x : ℕ) → acquired b rules i ≡ Some x → (1 ≤ x) × (x ≤ 4)
-  acquired-range i x e = grind (arith, common_steps, acquired-facts, number-range, acquired, acquired-facts i x e)
+  acquired-range i x e = grind (arith, common_steps, acquired-facts, acquired, acquired-facts i x e)
 
   -- the least place that can acquire is 51
   pub acquired-place : (i x : ℕ) → acquired b rules i ≡ Some x → 51 ≤ i
-  acquired-place i x e = grind (arith, common_steps, acquired-facts, has_partner-offset, off-place, acquired, acquired-facts i x e)
+  acquired-place i x e = grind (arith, common_steps, acquired-facts, off-place, acquired, acquired-facts i x e)
 
   -- the place has that number
   pub acquired-number : (i x : ℕ) → acquired b rules i ≡ Some x → has_number b i x ≡ true

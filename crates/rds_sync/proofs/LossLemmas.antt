@@ -61,9 +61,6 @@ module _ (is_good : ℕ → Bool) where
     | inr ill ↦ let e = row_more k ill in let r = row_stop k (omega arith) in (r.0, omega (arith, r.1), r.2)
   ]
 
-  row_loses : (n k : ℕ) → n ≤ row k → loses (Run n) is_good k ≡ true
-  row_loses n k h = grind (arith, common_steps, row_le, le-leb, all_pass, row_back)
-
   row_keeps : (n k : ℕ) → row k < n → loses (Run n) is_good k ≡ false
   row_keeps n k h = elim (cases_lt k n) [
     | inl few ↦ rw (lt-leb n k few) refl
@@ -121,7 +118,7 @@ module _ (is_good : ℕ → Bool) where
 
   -- a lock is lost by its loss history exactly when its blocks lose it
   pub loses_is : (loss : Loss) (k : ℕ) → are_too_many loss (bad_at is_good loss k) ≡ loses loss is_good k
-  loses_is v0 k = grind (arith, common_steps, are_too_many, row_is, row, nat_le, loses, lt-leb, row_keeps, le-leb, row_loses, mask_is, ones_are, bads_are)
+  loses_is v0 k = grind (arith, common_steps, are_too_many, row_is, row, nat_le, loses, lt-leb, row_keeps, le-leb, mask_is, ones_are, bads_are, row_le, all_pass, row_back)
 
   none_lost : (loss : Loss) → IsLossRule loss → are_too_many loss 0 ≡ false
   unfolding ones
@@ -146,13 +143,11 @@ module _ (is_good : ℕ → Bool) where
   in_a_row (suc v) zero h = absurd (omega (arith, h))
   in_a_row (suc v) (suc k) h = elim (cases_Bool (is_good (suc k))) [
     | inl good ↦ absurd (omega (arith, h, row_good k good))
-    | inr ill ↦
-        let f : flag (suc k) ≡ 1 = rw ill refl in
-        omega (arith, f, in_a_row v k (omega (arith, h, row_more k ill)))
+    | inr ill ↦ grind (arith, common_steps, flag, row_more, in_a_row v k (omega (arith, h, row_more k ill)))
   ]
 
   pub run_is_share : (n k : ℕ) → loses (Run n) is_good k ≡ loses (Share n n) is_good k
-  run_is_share n k = grind (arith, common_steps, row, nat_le, bads_are, loses, bads, row_keeps, lt-leb, all_bad, row_loses, le-leb, in_a_row)
+  run_is_share n k = grind (arith, common_steps, row, nat_le, bads_are, loses, bads, row_keeps, lt-leb, all_bad, le-leb, in_a_row, row_le, all_pass, row_back)
 
   past : (v k i : ℕ) → min v k ≤ i → cond (nat_lt i (min v k)) (flag (k - i)) 0 ≡ 0
   past v k i h = ap (λ (t : Bool). cond t (flag (k - i)) 0) (le-ltb i (min v k) h)
@@ -172,9 +167,6 @@ pub ones_zero : count_ones 0 ≡ 0
 unfolding ones
 ones_zero = refl
 
-few_from : (n m : ℕ) → nat_le n m ≡ false → m < n
-few_from n m e = grind (arith, common_steps, cases_lt, nat_le, le-leb)
-
 -- a good block leaves none
 pub none-kept : (loss : Loss) → bad_after loss true 0 ≡ 0
 none-kept v0 = grind (arith, common_steps, pow_pos, mod-eq_of_lt)
@@ -184,4 +176,4 @@ pub lawful_none : (loss : Loss) → IsLossRule loss → IsLawfulBad loss 0
 lawful_none v0 h = grind (arith, common_steps, pow_pos, ones_zero)
 
 pub lawful_kept : (loss : Loss) (bad : ℕ) (good : Bool) → IsLawfulBad loss bad → are_too_many loss (bad_after loss good bad) ≡ false → IsLawfulBad loss (bad_after loss good bad)
-lawful_kept v0 v1 good h e = grind (arith, common_steps, few_from, mod-lt, pow_pos)
+lawful_kept v0 v1 good h e = grind (arith, common_steps, mod-lt, pow_pos)

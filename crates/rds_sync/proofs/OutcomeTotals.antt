@@ -3,17 +3,12 @@ use Rattle.rds_sync.proofs.Names.{common_steps, arith, ◌≡◌, ℕ, ◌+◌, 
 use Rattle.std.specs.Prelude.{map}
 use Rattle.rds_sync.proofs.TotalsLemmas.{same_counts}
 
--- a sum over a list from that over the images of its elements
-sum-through : {A B : Type 0} (f : A → ℕ) (h : B → ℕ) (k : A → B) → ((a : A) → f a ≡ h (k a)) → (xs : List A) → sum_by f xs ≡ sum_by h (map k xs)
-sum-through f h k e [] = refl
-sum-through f h k e (x ∷ xs) = grind (arith, common_steps, sum_by-cons, sum-through f h k e xs)
-
 all-through : {A B : Type 0} (p : A → Bool) (q : B → Bool) (k : A → B) → ((a : A) → p a ≡ q (k a)) → (xs : List A) → list_all p xs ≡ list_all q (map k xs)
 all-through p q k e [] = refl
 all-through p q k e (x ∷ xs) = ap₂ (λ (s t : Bool). s && t) (e x) (all-through p q k e xs)
 
 sum_is : (f : Block → ℕ) (h : Outcome → ℕ) → ((b : Block) → f b ≡ h (outcome_of b)) → (g : GroupRecord) → sum_blocks f (Group g ∷ []) ≡ sum_by h (map outcome_of g.blocks)
-sum_is f h e g = grind (arith, common_steps, sum_by-cons, add-zero, sum-through, outcome_of)
+sum_is f h e g = grind (arith, common_steps, sum_by-cons, add-zero, outcome_of)
 
 -- 1 where the test passes
 abbrev one_if : Bool → ℕ

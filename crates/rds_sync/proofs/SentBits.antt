@@ -27,14 +27,11 @@ heard_there xs ys w small = ap (λ (v : ℕ). Some v) (window_there xs ys w smal
 longer : (w : ℕ) (zs : List ℕ) (n : ℕ) → length zs ≡ n → length (binary 26 w ++ zs) ≡ 26 + n
 longer w zs n e = length-append (binary 26 w) zs ∙ ap₂ (λ (l m : ℕ). l + m) (length-binary 26 w) e
 
-four_long : (a b c d : ℕ) → length (binary 26 a ++ (binary 26 b ++ (binary 26 c ++ (binary 26 d ++ [])))) ≡ 104
-four_long a b c d = longer a _ 78 (longer b _ 52 (longer c _ 26 (longer d [] 0 refl)))
-
 damage_small : (limit e : ℕ) → (e ≡ 0) ⊎ IsBurst limit e → e < 2 ^ 26
 damage_small limit e v2 = grind (arith, common_steps)
 
 group_long : (g : SentGroup) → length (bits_with_damage g) ≡ 104
-group_long g = grind (arith, common_steps, get_or, four_long, bit_xor, encoded, third_offset)
+group_long g = grind (arith, common_steps, get_or, bit_xor, encoded, third_offset, longer)
 
 pub groups_long : (groups : List SentGroup) → length (flat_map bits_with_damage groups) ≡ 104 * length groups
 groups_long [] = refl

@@ -56,14 +56,11 @@ module _ (info : ℕ) where
     pub bit : version_of_bit info ≡ v
     pub offset : third_offset info ≡ o
 
-  says_a : bit_at info 11 ≡ 0 → Says VA C
-  says_a h = record { bit = ap by_bit h; offset = ap offset_by_version h }
-
   says_b : (n : ℕ) → bit_at info 11 ≡ suc n → Says VB Cx
   says_b n h = record { bit = ap by_bit h ∙ ap (λ (t : Bool). if t then VA else VB) (ne_eqb (suc n) 0 (λ no. absurd (omega (arith, no)))); offset = ap offset_by_version h }
 
   says : Says VA C ⊎ Says VB Cx
-  says = grind (arith, common_steps, bit_at, says_a, says_b)
+  says = grind (arith, common_steps, bit_at, says_b)
 
   pub third_number : number (third_offset info) ≡ 3
   third_number = elim says [ inl a ↦ ap number a.offset | inr b ↦ ap number b.offset ]
@@ -75,20 +72,14 @@ module _ (info : ℕ) where
   wanted_is : (e : ℕ) → wanted_beside (block_sent B info e) ≡ alone (third_offset info)
   wanted_is e = grind (arith, common_steps, says, wanted_by, alone, wanted_beside, block_sent, version_of_bit)
 
-  offset_says : version_of_offset (third_offset info) ≡ version_of_bit info
-  offset_says = elim says [ inl a ↦ ap version_of_offset a.offset ∙ sym a.bit | inr b ↦ ap version_of_offset b.offset ∙ sym b.bit ]
-
   known : (v : Version) → first_known (version_of_bit info) v ≡ version_of_bit info
   known v = elim says [ inl a ↦ ap (λ (w : Version). first_known w v) a.bit ∙ sym a.bit | inr b ↦ ap (λ (w : Version). first_known w v) b.bit ∙ sym b.bit ]
 
-  no_differ : differ (version_of_bit info) (version_of_offset (third_offset info)) ≡ false
-  no_differ = elim says [ inl a ↦ ap₂ differ a.bit (ap version_of_offset a.offset) | inr b ↦ ap₂ differ b.bit (ap version_of_offset b.offset) ]
-
   version_is : (third d e : ℕ) → version (block_sent B info d) (block_sent (third_offset info) third e) ≡ version_of_bit info
-  version_is third v1 v2 = grind (arith, common_steps, offset_says, known, version_of_offset, third_offset)
+  version_is third v1 v2 = grind (arith, common_steps, known, version_of_offset, third_offset)
 
   agreed : (third d e : ℕ) → in_conflict (block_sent B info d) (block_sent (third_offset info) third e) ≡ false
-  agreed third v1 v2 = grind (arith, common_steps, no_differ)
+  agreed third v1 v2 = grind (arith, common_steps)
 
 pub info_is : (o : Offset) (info e : ℕ) → info_of (block_sent o info e) ≡ Some info
 info_is o info v2 = grind (arith, common_steps)

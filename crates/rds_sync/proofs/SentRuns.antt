@@ -102,10 +102,7 @@ module _ (laws : CodeLaws) (b : Signal) (rules : RuleNumbers) (few : rules.burst
       (sym (good_sent _ _ e0)) (sym (good_sent _ _ e1)) (sym (good_sent _ _ e2)) (sym (good_sent _ _ e3)) refl refl refl refl in
       let back : due - 25 ≡ place = omega arith in
       let next : due + 104 ≡ place + 104 + 25 = omega arith in
-      ap (λ (q : ℕ). run b rules (Locked (lock_of due 1 bad 1)) q 104) (sym back)
-      ∙ whole_group b rules due bad (omega arith) fewer
-      ∙ ap₂ (λ (q d : ℕ). (Locked (lock_of q 1 d 1), Group (group b rules 1 4 (due + 78)) ∷ [])) next (sym total)
-      ∙ ap (λ (g : GroupOf). (Locked (lock_of (place + 104 + 25) 1 four 1), Group g ∷ [])) own
+      grind (arith, common_steps, run, lock_of, due, back, whole_group, fewer, group, total, four, own)
 
   -- and any number of them
   pub damaged_listed : (place bad : ℕ) (groups : List SentGroup) → AreHeardDamaged b rules.burst place groups → KeepLock rules.loss bad (flat_map four_damages groups)

@@ -28,9 +28,7 @@ stretches_are_steps b rules (Locked lock) place to reached lawful is = elim (cas
     ]),
     λ more. later b rules (Locked lock) place to reached is (lock.due + 1) (omega (arith, lawful.soon)) more,
   )
-  | inr after ↦
-      let at : reached.place ≡ to = past-due b rules lock place to reached is (omega (arith, is.limit, after)) in
-      rw (next_place, le-ltb lock.due to after) ((omega (arith, at)), λ more. absurd (omega (arith, at, more)))
+  | inr after ↦ grind (arith, common_steps, reached.place, past-due, is.limit, next_place, le-ltb, lock.due, past-due b rules lock place to reached is (omega (arith, is.limit, after)), le-ltb lock.due to after)
 ]
 
 pub hops_are_stretches : HopsAreStretches
