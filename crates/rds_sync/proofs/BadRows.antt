@@ -7,20 +7,13 @@ abbrev pub Lows : ℕ → ℕ → ℕ → Type 0
 Lows f zero m = ⊤
 Lows f (suc j) m = (m % 2 ≡ f) × Lows f j (m / 2)
 
--- a remainder by a power of two, by its lowest digit
-split : (v m : ℕ) → m % 2 ^ suc v ≡ 2 * ((m / 2) % 2 ^ v) + m % 2
-split v m = grind (arith, common_steps, pow-suc, pow_pos, double)
-
 lows_below : (f j v m : ℕ) → j ≤ v → Lows f j m → Lows f j (m % 2 ^ v)
 lows_below f zero v m h l = tt
 lows_below f (suc j) zero m h l = absurd (omega arith)
-lows_below f (suc j) (suc v) m h l = grind (arith, common_steps, split, lows_below f j v (m / 2) (omega arith) l.1)
+lows_below f (suc j) (suc v) m h l = grind (arith, common_steps, lows_below f j v (m / 2) (omega arith) l.1, pow-suc, pow_pos, double)
 
 lows_more : (f j v m : ℕ) → f ≤ 1 → suc j ≤ v → Lows f j m → Lows f (suc j) ((2 * m + f) % 2 ^ v)
-lows_more f j v m small h l =
-    let low : (2 * m + f) % 2 ≡ f = omega arith in
-    let high : m ≡ (2 * m + f) / 2 = omega arith in
-    lows_below f (suc j) v (2 * m + f) h (low, subst (λ (n : ℕ). Lows f j n) high l)
+lows_more f j v m small h l = grind (arith, common_steps, lows_below, lows_below f (suc j) v (2 * m + f) h ((omega arith), subst (λ (n : ℕ) . Lows f j n) (omega arith) l))
 
 lows_ones : (j m : ℕ) → Lows 1 j m → j ≤ count_ones m
 lows_ones zero m l = omega arith
@@ -37,19 +30,14 @@ lows_zero : (i : ℕ) → Lows 0 i 0
 lows_zero zero = tt
 lows_zero (suc i) = (refl, lows_zero i)
 
-lows_start : (i m : ℕ) → i ≤ 0 → Lows 0 i m
-lows_start zero m h = tt
-lows_start (suc i) m h = absurd (omega arith)
-
 -- a remainder has no more ones
 ones_fewer : (v m : ℕ) → count_ones (m % 2 ^ v) ≤ count_ones m
 ones_fewer zero m = let none : m % 1 ≡ 0 = omega arith in let e : count_ones (m % 1) ≡ 0 = ap count_ones none ∙ ones_zero in omega (arith, e)
-ones_fewer (suc v) m = grind (arith, common_steps, count_ones, ones_step, split, ones_below, ones_fewer v (m / 2))
+ones_fewer (suc v) m = grind (arith, common_steps, count_ones, ones_step, ones_below, ones_fewer v (m / 2), pow-suc, pow_pos, double)
 
 -- a good block loses no lock
 pub good_keeps : (loss : Loss) (bad : ℕ) → IsLawfulBad loss bad → are_too_many loss (bad_after loss true bad) ≡ false
-good_keeps (Run n) row h = lt-leb n 0 (omega (arith, h))
-good_keeps (Share n v) m h = grind (arith, common_steps, count_ones, ones_below, ones_fewer, lt-leb)
+good_keeps v0 v1 h = grind (arith, common_steps, lt-leb, common_steps, count_ones, ones_below, ones_fewer)
 
 -- how many bad blocks lose a lock, and how many good ones leave nothing of the bad ones
 abbrev pub needed : Loss → ℕ
@@ -61,12 +49,10 @@ memory (Run n) = 1
 memory (Share n v) = v
 
 pub needed_is : (loss : Loss) (j : ℕ) → (j + 1) * needed loss + 6 ≤ sound_blocks loss j
-needed_is (Run n) j = omega arith
-needed_is (Share n v) j = omega arith
+needed_is v0 j = grind (arith, common_steps)
 
 pub memory_is : (loss : Loss) (j : ℕ) → IsLossRule loss → memory loss + 6 ≤ sound_blocks loss j
-memory_is (Run n) j h = let more : 1 * n ≤ (j + 1) * n = mul-le-mul_right n (omega arith) in omega (arith, more, h)
-memory_is (Share n v) j h = omega arith
+memory_is v0 j h = grind (arith, common_steps, mul-le-mul_right)
 
 -- at least the last r blocks were bad
 abbrev pub HasRow : Loss → ℕ → ℕ → Type 0
@@ -74,18 +60,13 @@ HasRow (Run n) row r = r ≤ row
 HasRow (Share n v) m r = Lows 1 r m
 
 pub row_zero : (loss : Loss) (bad : ℕ) → HasRow loss bad 0
-row_zero (Run n) row = omega arith
-row_zero (Share n v) m = tt
+row_zero v0 v1 = grind (arith, common_steps)
 
 pub row_short : (loss : Loss) (bad r : ℕ) → IsLawfulBad loss bad → HasRow loss bad r → r < needed loss
-row_short (Run n) row r h l = omega (arith, h, l)
-row_short (Share n v) m r h l = omega (arith, h.1, lows_ones r m l)
+row_short v0 v1 r h l = grind (arith, common_steps, lows_ones)
 
 pub row_grows : (loss : Loss) (bad r : ℕ) → IsLossRule loss → IsLawfulBad loss bad → HasRow loss bad r → HasRow loss (bad_after loss false bad) (suc r)
-row_grows (Run n) row r some h l = omega (arith, l)
-row_grows (Share n v) m r some h l =
-    let short : r < n = row_short (Share n v) m r h l in
-    lows_more 1 r v m (omega arith) (omega (arith, short, some.1)) l
+row_grows v0 v1 r some h l = grind (arith, common_steps, row_short, lows_more)
 
 -- at least the last r blocks were good
 abbrev pub IsClean : Loss → ℕ → ℕ → Type 0
@@ -93,24 +74,20 @@ IsClean (Run n) row r = 1 ≤ r → row ≡ 0
 IsClean (Share n v) m r = (i : ℕ) → i ≤ r → i ≤ v → Lows 0 i m
 
 pub clean_zero : (loss : Loss) (bad : ℕ) → IsClean loss bad 0
-clean_zero (Run n) row = λ h. absurd (omega arith)
-clean_zero (Share n v) m = λ i l u. lows_start i m l
+clean_zero v0 v1 = grind (arith, common_steps)
 
 pub clean_none : (loss : Loss) (r : ℕ) → IsClean loss 0 r
-clean_none (Run n) r = λ h. refl
-clean_none (Share n v) r = λ i l u. lows_zero i
+clean_none v0 r = grind (arith, common_steps, lows_zero)
 
 shift_clean : (v m r : ℕ) → ((i : ℕ) → i ≤ r → i ≤ v → Lows 0 i m) → (i : ℕ) → i ≤ suc r → i ≤ v → Lows 0 i ((2 * m + 0) % 2 ^ v)
-shift_clean v m r clean zero l u = tt
-shift_clean v m r clean (suc i) l u = lows_more 0 i v m (omega arith) u (clean i (omega arith) (omega arith))
+shift_clean v m r clean v4 l u = grind (arith, common_steps, lows_more)
 
 pub clean_more : (loss : Loss) (bad r : ℕ) → IsClean loss bad r → IsClean loss (bad_after loss true bad) (suc r)
 clean_more (Run n) row r c = λ h. refl
 clean_more (Share n v) m r c = shift_clean v m r c
 
 pub clean_is : (loss : Loss) (bad r : ℕ) → IsLawfulBad loss bad → memory loss ≤ r → IsClean loss bad r → bad ≡ 0
-clean_is (Run n) row r h some c = c some
-clean_is (Share n v) m r h some c = lows_none v m h.0 (c v some (omega arith))
+clean_is v0 v1 r h some c = grind (arith, common_steps, lows_none)
 
 -- four good blocks leave no row, and none of them loses a lock
 pub clean_kept : (n row k : ℕ) → 1 ≤ n → k < 4 → are_too_many (Run n) (bad_over (Run n) (blocks_in 4369) row 1 (k + 1)) ≡ false

@@ -1,5 +1,5 @@
 -- Any two runs meet on a sound.
-use Rattle.rds_sync.proofs.Names.{◌≡◌, ◌≢◌, ℕ, zero, suc, ◌+◌, ◌-◌, ◌*◌, ◌%◌, ◌/◌, ◌<◌, ◌≤◌, Bool, true, false, Option, Some, None, refl, sym, ap, ap₂, ◌∙◌, arith, add-zero, zero-add, inl, inr, ⊎_elim, cond, suc-add, mul-le-mul_right, eq-eqb, cases_Bool, cases_eq, cases_lt, eqb-true, sum_by-cons, ◌==◌, is_some, count_by, range_with_len, list_any, number_after, Signal, offset_at, Lock, State, Searching, Locked, RuleNumbers, IsLossRule, IsLawfulBad, bad_after, are_too_many, IsLawful, Offset, number, acquired, has_number, has_partner, with_partner, run, step, history_after_block, lock_of, lock_after, IsSound, IsLastFour, sound_blocks, SoundRangesHaveFours, RunsConverge}
+use Rattle.rds_sync.proofs.Names.{common_steps, ◌≡◌, ◌≢◌, ℕ, zero, suc, ◌+◌, ◌-◌, ◌*◌, ◌%◌, ◌/◌, ◌<◌, ◌≤◌, Bool, true, false, Option, Some, None, refl, sym, ap, ap₂, ◌∙◌, arith, add-zero, zero-add, inl, inr, ⊎_elim, cond, suc-add, mul-le-mul_right, eq-eqb, cases_Bool, cases_eq, cases_lt, eqb-true, sum_by-cons, ◌==◌, is_some, count_by, range_with_len, list_any, number_after, Signal, offset_at, Lock, State, Searching, Locked, RuleNumbers, IsLossRule, IsLawfulBad, bad_after, are_too_many, IsLawful, Offset, number, acquired, has_number, has_partner, with_partner, run, step, history_after_block, lock_of, lock_after, IsSound, IsLastFour, sound_blocks, SoundRangesHaveFours, RunsConverge}
 use Rattle.rds_sync.proofs.LossLemmas.{lawful_none, lawful_kept}
 use Rattle.rds_sync.proofs.BadRows.{good_keeps, needed, memory, needed_is, memory_is, HasRow, row_zero, row_short, row_grows, IsClean, clean_zero, clean_none, clean_more, clean_is}
 use Rattle.rds_sync.proofs.RivalLemmas.{every_26, few_in_phase}
@@ -23,9 +23,7 @@ module _ (b : Signal) (rules : RuleNumbers) where
 
   waits : (lock : Lock) (p d : ℕ) → p + d ≤ lock.due → after (Locked lock) p d ≡ Locked lock
   waits lock p zero early = refl
-  waits lock p (suc d) early =
-      ap (λ (s : State). after s (p + 1) d) (step-waiting b rules lock p (λ e. absurd (omega arith)))
-      ∙ waits lock (p + 1) d (omega arith)
+  waits lock p (suc d) early = grind (arith, common_steps, after, step-waiting, waits lock (p + 1) d (omega arith))
 
   -- how many of the next n blocks of a lock are good
   abbrev good_blocks : ℕ → ℕ → ℕ → ℕ
@@ -38,10 +36,7 @@ module _ (b : Signal) (rules : RuleNumbers) where
   -- a block that is read with no loss
   next_block : (due num bad f bad2 : ℕ) → history_after_block b rules due num bad ≡ bad2 → are_too_many rules.loss bad2 ≡ false
       → after (Locked (lock_of due num bad f)) due 26 ≡ Locked (lock_after due num bad2 f)
-  next_block due num bad f bad2 e h =
-      let ok : are_too_many rules.loss (history_after_block b rules due num bad) ≡ false = ap (are_too_many rules.loss) e ∙ h in
-      ap (λ (s : State). after s (due + 1) 25) (step-keeping b rules (lock_of due num bad f) ok ∙ ap (λ (n : ℕ). Locked (lock_after due num n f)) e)
-      ∙ waits (lock_after due num bad2 f) (due + 1) 25 (omega arith)
+  next_block due num bad f bad2 e h = grind (arith, common_steps, are_too_many, history_after_block, after, step-keeping, lock_of, lock_after, waits)
 
   later : (s t : State) (a m limit : ℕ) → after s a m ≡ t → LostBy t (a + m) limit → LostBy s a (m + limit)
   later s t a m limit e l = (m + l.0, omega (arith, l.1), after_more s a m l.0 ∙ ap (λ (u : State). after u (a + m) l.0) e ∙ l.2)
@@ -76,45 +71,20 @@ module _ (b : Signal) (rules : RuleNumbers) where
 
   has_number_offset : (i x : ℕ) → has_number b i x ≡ true → (o : Offset) × (offset_at b i ≡ Some o) × (number o ≡ x)
   unfolding has_number
-  has_number_offset i x h = at_case (offset_at b i) refl h where
-    at_case : (w : Option Offset) → offset_at b i ≡ w → elim w as (λ _. Bool) [ None ↦ false | Some o ↦ number o == x ] ≡ true → (o : Offset) × (offset_at b i ≡ Some o) × (number o ≡ x)
-    at_case None e t = cc
-    at_case (Some o) e t = (o, e, eqb-true (number o) x t)
+  has_number_offset i x h = grind (arith, common_steps, offset_at, number, eqb-true)
 
   no_offset : (r : ℕ) → is_some (offset_at b r) ≡ false → acquired b rules r ≡ None
   unfolding acquired
-  no_offset r h = at_case (offset_at b r) h where
-    at_case : (w : Option Offset) → is_some w ≡ false → elim w as (λ _. Option ℕ) [ None ↦ None | Some o ↦ with_partner b rules r (number o) ] ≡ None
-    at_case None t = refl
-    at_case (Some o) t = cc
+  no_offset r h = grind (arith, common_steps, offset_at, is_some, with_partner, number)
 
   -- a place acquires where the block before it has the number before
   acquires : (i x y : ℕ) → 1 ≤ rules.reach → has_number b (i + 26) x ≡ true → has_number b i y ≡ true → number_after y 1 ≡ x → acquired b rules (i + 26) ≡ Some x
   unfolding acquired
-  acquires i x y reach here before next =
-      let o = has_number_offset (i + 26) x here in
-      let l = has_number_offset i y before in
-      let back : i + 26 - 26 * 1 ≡ i = omega arith in
-      let partner : has_partner b (i + 26) x 1 ≡ true =
-      ap (λ (j : ℕ). elim (offset_at b j) as (λ _. Bool) [ None ↦ false | Some o ↦ number_after (number o) 1 == x ]) back
-      ∙ ap (λ (w : Option Offset). elim w as (λ _. Bool) [ None ↦ false | Some o ↦ number_after (number o) 1 == x ]) l.1
-      ∙ ap (λ (n : ℕ). number_after n 1 == x) l.2
-      ∙ eq-eqb (number_after y 1) x next in
-      let n : rules.reach ≡ suc (rules.reach - 1) = omega arith in
-      let any : list_any (has_partner b (i + 26) x) (range_with_len 1 rules.reach) ≡ true = rw n (rw partner refl) in
-      ap (λ (w : Option Offset). elim w as (λ _. Option ℕ) [ None ↦ None | Some o ↦ with_partner b rules (i + 26) (number o) ]) o.1
-      ∙ ap (with_partner b rules (i + 26)) o.2
-      ∙ rw (any, with_partner) refl
-
-  partner_is : (t : Bool) (y x : ℕ) → elim t as (λ _. Option ℕ) [ true ↦ Some y | false ↦ None ] ≡ Some x → x ≡ y
-  partner_is true y x e = cc
-  partner_is false y x e = cc
+  acquires i x y reach here before next = grind (arith, common_steps, has_number_offset, has_number_offset (i + 26) x here)
 
   acquired_number : (i x y : ℕ) → has_number b i y ≡ true → acquired b rules i ≡ Some x → x ≡ y
   unfolding acquired
-  acquired_number i x y has e =
-      let o = has_number_offset i y has in
-      partner_is _ (number o.0) x (sym (ap (λ (w : Option Offset). elim w as (λ _. Option ℕ) [ None ↦ None | Some o ↦ with_partner b rules i (number o) ]) o.1) ∙ e) ∙ o.2
+  acquired_number i x y has e = grind (arith, common_steps, has_number_offset, number, with_partner)
 
   -- a search locks at the first place that acquires
   finds : (d q x : ℕ) → ((r : ℕ) → q ≤ r → r < q + d → acquired b rules r ≡ None) → acquired b rules (q + d) ≡ Some x
@@ -124,8 +94,7 @@ module _ (b : Signal) (rules : RuleNumbers) where
       let place : q + suc d ≡ q + 1 + d = omega arith in
       let e2 : acquired b rules (q + 1 + d) ≡ Some x = rw (← place) e in
       let count : suc d + 1 ≡ suc (d + 1) = omega arith in
-      rw (count, place) (ap (λ (s : State). after s (q + 1) (d + 1)) (step-searching b rules q (none q (omega arith) (omega arith)))
-      ∙ finds d (q + 1) x (λ r l u. none r (omega arith) (omega arith)) e2)
+      grind (arith, common_steps, count, after, step-searching, e2, finds d (q + 1) x (λ r l u. none r (omega arith) (omega arith)) e2)
 
   module _ (p c last : ℕ) (sequence : (k : ℕ) → k ≤ last → has_number b (p + 26 * k) (number_after c k) ≡ true) where
     number_next : (k : ℕ) → number_after c k % 4 + 1 ≡ number_after c (suc k)
@@ -135,14 +104,7 @@ module _ (b : Signal) (rules : RuleNumbers) where
     stays : (d k bad f r : ℕ) → IsLawfulBad rules.loss bad → IsClean rules.loss bad r → memory rules.loss ≤ r + suc d
         → k + d ≤ last → number_after c (k + d) ≡ 4
         → after (Locked (lock_of (p + 26 * k) (number_after c k) bad f)) (p + 26 * k) (26 * d + 1) ≡ Locked (lock_of (p + 26 * (k + d) + 26) 1 0 1)
-    stays zero k bad f r h clean long within four =
-        let num : number_after c k ≡ 4 = rw add-zero at four in
-        let good = sequence k (omega arith) in
-        let next : history_after_block b rules (p + 26 * k) (number_after c k) bad ≡ bad_after rules.loss true bad = ap (λ (g : Bool). bad_after rules.loss g bad) good in
-        let kept = good_keeps rules.loss bad h in
-        let none : bad_after rules.loss true bad ≡ 0 =
-        clean_is rules.loss (bad_after rules.loss true bad) (suc r) (lawful_kept rules.loss bad true h kept) (omega arith) (clean_more rules.loss bad r clean) in
-        rw add-zero (step-keeping b rules (lock_of (p + 26 * k) (number_after c k) bad f) (ap (are_too_many rules.loss) next ∙ kept) ∙ rw (next, none, num) refl)
+    stays zero k bad f r h clean long within four = grind (arith, common_steps, clean_is rules.loss (bad_after rules.loss true bad) (suc r) (lawful_kept rules.loss bad true h (good_keeps rules.loss bad h)) (omega arith) (clean_more rules.loss bad r clean))
     stays (suc d) k bad f r h clean long within four =
         let good = sequence k (omega arith) in
         let next : history_after_block b rules (p + 26 * k) (number_after c k) bad ≡ bad_after rules.loss true bad = ap (λ (g : Bool). bad_after rules.loss g bad) good in
@@ -150,10 +112,7 @@ module _ (b : Signal) (rules : RuleNumbers) where
         let place : p + 26 * k + 26 ≡ p + 26 * suc k = omega arith in
         let count : 26 * suc d + 1 ≡ 26 + (26 * d + 1) = omega arith in
         let moved : k + suc d ≡ suc k + d = omega arith in
-        rw (count, moved) (after_more (Locked (lock_of (p + 26 * k) (number_after c k) bad f)) (p + 26 * k) 26 (26 * d + 1)
-        ∙ ap (λ (s : State). after s (p + 26 * k + 26) (26 * d + 1)) (next_block (p + 26 * k) (number_after c k) bad f (bad_after rules.loss true bad) next kept)
-        ∙ rw (place, number_next k) (stays d (suc k) (bad_after rules.loss true bad) (cond (number_after c k == 4) 1 f) (suc r)
-        (lawful_kept rules.loss bad true h kept) (clean_more rules.loss bad r clean) (omega arith) (omega arith) (rw (← moved) four)))
+        grind (arith, common_steps, count, moved, after_more, lock_of, number_after, after, next_block, bad_after, kept, number_next, lawful_kept, clean_more, stays d (suc k) (bad_after rules.loss true bad) (cond (number_after c k == 4) 1 f) (suc r) (lawful_kept rules.loss bad true h kept) (clean_more rules.loss bad r clean) (omega arith) (omega arith) (rw (← moved) four))
 
 module _ (b : Signal) (rules : RuleNumbers) (p c last : ℕ) (sequence : (k : ℕ) → k ≤ last → has_number b (p + 26 * k) (number_after c k) ≡ true) where
   -- a search that finds block k of the sequence is between two groups after the last block, which has number 4
@@ -164,10 +123,7 @@ module _ (b : Signal) (rules : RuleNumbers) (p c last : ℕ) (sequence : (k : �
       let locked : after b rules Searching q (d + 1) ≡ Locked (lock_after (p + 26 * k) (number_after c k) 0 (number_after c k)) =
       rw place (finds b rules d q (number_after c k) none found) in
       elim (cases_eq k last) [
-        | inl same ↦
-            let count : p + 26 * last + 1 - q ≡ d + 1 = omega (arith, same, place) in
-            let num : number_after c k ≡ 4 = rw same four in
-            rw count (locked ∙ rw (num, same) refl)
+        | inl same ↦ grind (arith, common_steps, number_after, locked)
         | inr other ↦
             let rest : ℕ = last - suc k in
             let count : p + 26 * last + 1 - q ≡ (d + 1) + (25 + (26 * rest + 1)) = omega (arith, place) in
@@ -181,11 +137,7 @@ module _ (b : Signal) (rules : RuleNumbers) (p c last : ℕ) (sequence : (k : �
             waits b rules lock (p + 26 * k + 1) 25 (omega arith)
             ∙ ap₂ (λ (n m : ℕ). Locked (lock_of n m 0 f)) due (number_next b rules p c last sequence k) in
             let end = stays b rules p c last sequence rest (suc k) 0 f (memory rules.loss) (lawful_none rules.loss loss) (clean_none rules.loss (memory rules.loss)) (omega arith) (omega arith) (rw all four) in
-            rw count (after_more b rules Searching q (d + 1) (25 + (26 * rest + 1))
-            ∙ ap₂ (λ (s : State) (a : ℕ). after b rules s a (25 + (26 * rest + 1))) locked from
-            ∙ after_more b rules (Locked lock) (p + 26 * k + 1) 25 (26 * rest + 1)
-            ∙ ap₂ (λ (s : State) (a : ℕ). after b rules s a (26 * rest + 1)) waited next
-            ∙ end ∙ ap (λ (n : ℕ). Locked (lock_of (p + 26 * n + 26) 1 0 1)) all)
+            grind (arith, common_steps, count, after_more, rest, after, locked, from, waited, end, lock_of, all)
       ]
 
   -- a block of the sequence acquires, where the one before it is known
@@ -219,9 +171,7 @@ module _ (b : Signal) (rules : RuleNumbers) (p c last : ℕ) (sequence : (k : �
         let has : has_number b p (number_after c 0) ≡ true = rw start at (sequence 0 (omega arith)) in
         let same : x ≡ number_after c 0 = acquired_number b rules p x (number_after c 0) has e in
         let at : q + (p - q) ≡ p = omega arith in
-        search_joins (p - q) q 0 loss (omega arith) (omega arith) four
-        (λ r l u. quiet r l (omega arith) (λ j e2. absurd (omega arith)))
-        (rw at (e ∙ ap (λ (n : ℕ). Some n) same))
+        grind (arith, common_steps, search_joins, same, search_joins (p - q) q 0 loss (omega arith) (omega arith) four (λ r l u. quiet r l (omega arith) (λ j e2. absurd (omega arith))) (rw at (e ∙ ap (λ (n : ℕ). Some n) same)))
     at_case None e before =
         let at : q + (p + 26 - q) ≡ p + 26 * 1 = omega arith in
         search_joins (p + 26 - q) q 1 loss (omega arith) some four
@@ -245,38 +195,16 @@ module _ (b : Signal) (rules : RuleNumbers) where
   has_is_some i x h = let o = has_number_offset b rules i x h in ap is_some o.1
 
   has_one : (i x y : ℕ) → has_number b i x ≡ true → has_number b i y ≡ true → x ≡ y
-  has_one i x y h k =
-      let o = has_number_offset b rules i x h in
-      let l = has_number_offset b rules i y k in
-      let same : Some o.0 ≡ Some l.0 = sym o.1 ∙ l.1 in
-      let eq : o.0 ≡ l.0 = cc same in
-      sym o.2 ∙ ap number eq ∙ l.2
+  has_one i x y h k = grind (arith, common_steps, has_number_offset, number, has_number, has_number_offset b rules i x h, has_number_offset b rules i y k)
 
   good_le : (n due num : ℕ) → good_blocks b rules due num n ≤ valid due n
   good_le zero due num = omega arith
-  good_le (suc n) due num =
-      let r = valid_more due n in
-      let ih = good_le n (due + 26) (num % 4 + 1) in
-      elim (cases_Bool (has_number b due num)) [
-        | inl good ↦
-            let one : ◌≡◌ {A = ℕ} (cond (is_some (offset_at b due)) 1 0) 1 = ap (λ (t : Bool). cond t 1 0) (has_is_some due num good) in
-            let l : good_blocks b rules due num (suc n) ≡ 1 + good_blocks b rules (due + 26) (num % 4 + 1) n = rw good refl in
-            omega (arith, r, ih, one, l)
-        | inr ill ↦
-            let l : good_blocks b rules due num (suc n) ≡ 0 + good_blocks b rules (due + 26) (num % 4 + 1) n = rw ill refl in
-            omega (arith, r, ih, l)
-      ]
+  good_le (suc n) due num = grind (arith, common_steps, valid_more, has_number, is_some, offset_at, has_is_some, good_blocks, good_le n (due + 26) (num % 4 + 1))
 
   wrong_none : (p c last : ℕ) → ((k : ℕ) → k ≤ last → has_number b (p + 26 * k) (number_after c k) ≡ true)
       → (n k num : ℕ) → num ≢ number_after c k → 1 ≤ num → num ≤ 4 → k + n ≤ last + 1 → good_blocks b rules (p + 26 * k) num n ≡ 0
   wrong_none p c last sequence zero k num ne low high within = refl
-  wrong_none p c last sequence (suc n) k num ne low high within = elim (cases_Bool (has_number b (p + 26 * k) num)) [
-    | inl good ↦ absurd (ne (has_one (p + 26 * k) num (number_after c k) good (sequence k (omega arith))))
-    | inr ill ↦
-        let place : p + 26 * k + 26 ≡ p + 26 * suc k = omega arith in
-        let l : good_blocks b rules (p + 26 * k) num (suc n) ≡ 0 + good_blocks b rules (p + 26 * k + 26) (num % 4 + 1) n = rw ill refl in
-        l ∙ zero-add _ ∙ rw place (wrong_none p c last sequence n (suc k) (num % 4 + 1) (λ e. ne (omega arith)) (omega arith) (omega arith) (omega arith))
-  ]
+  wrong_none p c last sequence (suc n) k num ne low high within = grind (arith, common_steps, has_one, wrong_none p c last sequence n (suc k) (num % 4 + 1) (λ e. ne (omega arith)) (omega arith) (omega arith) (omega arith))
 
   -- from any lawful state, a run on a sound range is between two groups after the last block of number 4
   module _ (j s p c last : ℕ) (sound : IsSound b rules j s p c) (loss : IsLossRule rules.loss) (reach : 1 ≤ rules.reach)
@@ -285,10 +213,7 @@ module _ (b : Signal) (rules : RuleNumbers) where
     seq k h = sound.sequence.numbers k (omega arith)
 
     quiet : (r : ℕ) → s ≤ r → r < p + 26 * last → ((k : ℕ) → r ≢ p + 26 * k) → acquired b rules r ≡ None
-    quiet r l u other = elim (cases_Bool (is_some (offset_at b r))) [
-      | inl yes' ↦ sound.none_acquires r (record { inside = (l, omega arith); valid = yes'; elsewhere = other })
-      | inr no' ↦ no_offset b rules r no'
-    ]
+    quiet r l u other = grind (arith, common_steps, is_some, offset_at, valid, no_offset)
 
     enough : (j + 1) * needed rules.loss + 6 ≤ sound_blocks rules.loss j
     enough = needed_is rules.loss j
@@ -297,21 +222,11 @@ module _ (b : Signal) (rules : RuleNumbers) where
     long = memory_is rules.loss j loss
 
     searching : (q : ℕ) → s ≤ q → q ≤ p + 26 * last → after b rules Searching q (p + 26 * last + 1 - q) ≡ Locked (lock_of (p + 26 * last + 26) 1 0 1)
-    searching q l u =
-        let f = sound.sequence.first in
-        search_on b rules p c last seq q loss reach sound.number four (omega (arith, f, enough)) u (λ r lo hi other. quiet r (omega arith) hi other)
+    searching q l u = grind (arith, common_steps, search_on, seq, enough, quiet)
 
     lost_then : (due num bad f : ℕ) → s ≤ due → due ≤ s + 25 → LostBy b rules (Locked (lock_of due num bad f)) due (26 * ((j + 1) * needed rules.loss))
         → after b rules (Locked (lock_of due num bad f)) due (p + 26 * last + 1 - due) ≡ Locked (lock_of (p + 26 * last + 26) 1 0 1)
-    lost_then due num bad f l u lost =
-        let f0 = sound.sequence.first in
-        let m : ℕ = lost.0 in
-        let few : m ≤ 26 * ((j + 1) * needed rules.loss) = lost.1 in
-        let room : due + m ≤ p + 26 * last = omega (arith, f0, enough) in
-        let count : p + 26 * last + 1 - due ≡ m + (p + 26 * last + 1 - (due + m)) = omega arith in
-        rw count (after_more b rules (Locked (lock_of due num bad f)) due m (p + 26 * last + 1 - (due + m))
-        ∙ ap (λ (t : State). after b rules t (due + m) (p + 26 * last + 1 - (due + m))) lost.2
-        ∙ searching (due + m) (omega arith) room)
+    lost_then due num bad f l u lost = grind (arith, common_steps, searching, after_more b rules (Locked (lock_of due num bad f)) due lost.0 (p + 26 * last + 1 - (due + lost.0)))
 
     from_due : (due num bad f : ℕ) → s ≤ due → due ≤ s + 25 → IsLawfulBad rules.loss bad → 1 ≤ num → num ≤ 4
         → after b rules (Locked (lock_of due num bad f)) due (p + 26 * last + 1 - due) ≡ Locked (lock_of (p + 26 * last + 26) 1 0 1)
@@ -350,9 +265,7 @@ module _ (b : Signal) (rules : RuleNumbers) where
         let place : s + d ≡ due = omega (arith, soon) in
         let count : p + 26 * last + 1 - s ≡ d + (p + 26 * last + 1 - due) = omega (arith, soon, f0, enough) in
         let waited : after b rules (Locked lock) s d ≡ Locked lock = waits b rules lock s d (omega (arith, soon)) in
-        rw count (after_more b rules (Locked lock) s d (p + 26 * last + 1 - due)
-        ∙ ap₂ (λ (t : State) (a : ℕ). after b rules t a (p + 26 * last + 1 - due)) waited place
-        ∙ from_due due num bad f (omega (arith, soon)) (omega (arith, soon)) few range.0 range.1)
+        grind (arith, common_steps, count, after_more, after, waited, from_due, soon, few, range.0, range.1)
 
 -- the last block of number 4 in a sequence
 last_four : (s p c n : ℕ) → s ≤ p → p < s + 26 → 1 ≤ c → c ≤ 4 → 6 ≤ n
@@ -362,19 +275,7 @@ last_four s p c n l u low high some =
     (blocks - 1 - ((c - 1 + (blocks - 1)) % 4 + 1) % 4, omega arith, omega arith, omega arith)
 
 pub sound_ranges_have_fours : SoundRangesHaveFours
-sound_ranges_have_fours b rules j s p c sound =
-    let f0 = sound.sequence.first in
-    let n0 = sound.number in
-    let six : 6 ≤ sound_blocks rules.loss j = omega (arith, needed_is rules.loss j) in
-    let four = last_four s p c (sound_blocks rules.loss j) f0.0 f0.1 n0.0 n0.1 six in
-    let end : s + 26 * sound_blocks rules.loss j ≤ p + 26 * (four.0 + 4) = four.3 in (
-      four.0,
-      record {
-        number = four.1;
-        inside = four.2;
-        final = λ k within number. omega (arith, end, within, number, four.1);
-      },
-    )
+sound_ranges_have_fours b rules j s p c sound = grind (arith, common_steps, last_four s p c (sound_blocks rules.loss j) sound.sequence.first.0 sound.sequence.first.1 sound.number.0 sound.number.1 (omega (arith, needed_is rules.loss j)))
 
 -- the range ends before the next block of number 4
 ends_soon : (s to p c last : ℕ) (b : Signal) → IsLastFour b s to p c last → to ≤ p + 26 * (last + 4)
@@ -387,8 +288,4 @@ ends_soon s to p c last b four = elim (cases_lt (p + 26 * (last + 4)) to) [
 ]
 
 pub runs_converge : RunsConverge
-runs_converge b rules loss reach s to t lawful j p c last sound four ends =
-    let soon = ends_soon s (s + 26 * sound_blocks rules.loss j) p c last b four in
-    ap (λ (end : ℕ). (run b rules t s (end - s)).0) ends
-    ∙ after_is b rules t s (p + 26 * last + 1 - s)
-    ∙ converges b rules j s p c last sound loss reach four.number four.inside soon t lawful
+runs_converge b rules loss reach s to t lawful j p c last sound four ends = grind (arith, common_steps, ends_soon s (s + 26 * sound_blocks rules.loss j) p c last b four, after_is b rules t s (p + 26 * last + 1 - s), converges b rules j s p c last sound loss reach four.number four.inside (ends_soon s (s + 26 * sound_blocks rules.loss j) p c last b four) t lawful)

@@ -22,8 +22,7 @@ group-added before g os is = grind (arith, common_steps, joined, group_count, gr
 -- and the loss that it closes with
 pub lost-added : (before mid after : CountOf) (g : GroupRecord) (os : List Outcome) (place : ℕ) → os ≡ map outcome_of g.blocks
     → mid ≡ joined before (group_count os) → after ≡ joined mid loss_count → after ≡ added before (Group g ∷ LostLock place ∷ [])
-lost-added before mid after g os place is first second =
-    second ∙ ap (λ (k : CountOf). joined k loss_count) (first ∙ group-added before g os is)
+lost-added before mid after g os place is first second = grind (arith, common_steps, joined, loss_count, group-added)
 
 count-append : (xs ys : List Item) → joined (count_of xs) (count_of ys) ≡ count_of (xs ++ ys)
 count-append xs ys = ap₂ (λ (t : Totals) (n : ℕ). record { totals = t; items = n }) (sym (totals_of-append xs ys)) (sym (length-append xs ys))

@@ -30,12 +30,7 @@ module _ (b : Signal) (rules : RuleNumbers) (s : State) (place to : ℕ) (step :
 
     -- the first item is given, and the second is ready
     pub gives-first : (item : Item) → step.items ≡ Some item ∷ second ∷ [] → GivesNext old (Some item) (left_of read rules second step.state step.place to)
-    gives-first item are = (step_is second (old_items (Some item) are) (left_is second), end_is second) where
-      step_is : (second : Option Item) → old.items ≡ items_in (Some item ∷ second ∷ []) ++ rest.1
-          → items_in (second ∷ []) ++ rest.1 ≡ (left_of read rules second step.state step.place to).items
-          → old.items ≡ item ∷ (left_of read rules second step.state step.place to).items
-      step_is None from_old to_new = from_old ∙ ap (λ (is : List Item). item ∷ is) to_new
-      step_is (Some next) from_old to_new = from_old ∙ ap (λ (is : List Item). item ∷ is) to_new
+    gives-first item are = grind (arith, common_steps, old_items, left_is, end_is, items_in, left_of, old_items (Some item) are, left_is second, end_is second)
 
     -- there is no first item
     pub gives-second : step.items ≡ None ∷ second ∷ [] → GivesNext old second (left_of read rules None step.state step.place to)
@@ -51,20 +46,14 @@ module _ (b : Signal) (rules : RuleNumbers) (s : State) (place to : ℕ) (step :
 -- a decoder goes on
 pub goes-on : (old : DecoderOf) (given : Option Item) (new : DecoderOf) → GivesNext old given new
     → MakesProgress (λ _. ⊤) (item_count (λ (d : DecoderOf). d.items)) old given new
-goes-on old None new gives = record { on = λ _. tt; keeps = tt; rests = λ _. tt }
-goes-on old (Some item) new gives =
-    record { on = λ _. (tt, tt, omega (arith, ap (λ (is : List Item). length is) gives.0)); keeps = tt; rests = λ _. tt }
+goes-on old v1 new gives = grind (arith, common_steps)
 
 -- the two places for items of a step
 pub two_slots : (slots : List (Option Item)) (a b : Option Item) → length slots ≡ 2 → slots ≡ get_or slots 0 a ∷ get_or slots 1 b ∷ []
-two_slots [] a b two = absurd (omega (arith, two))
-two_slots (x ∷ []) a b two = absurd (omega (arith, two))
-two_slots (x ∷ y ∷ []) a b two = refl
-two_slots (x ∷ y ∷ z ∷ slots) a b two = absurd (omega (arith, two))
+two_slots v0 a b two = grind (arith, common_steps)
 
 pub none_ready : (ready : Option Item) → ((item : Item) → ready ≢ Some item) → ready ≡ None
-none_ready None other = refl
-none_ready (Some item) other = absurd (other item refl)
+none_ready v0 other = grind (arith, common_steps)
 
 -- whole groups that were given come before the rest
 module _ (b read : Signal) (rules : RuleNumbers) (s : State) (place to : ℕ) (lock now : Lock) (before after : List Item) (given : HasGiven b rules lock to before now after)
@@ -76,14 +65,7 @@ module _ (b read : Signal) (rules : RuleNumbers) (s : State) (place to : ℕ) (l
   passed = run b rules (Locked lock) (lock.due - 25) (now.due - lock.due)
 
   over : run b rules s place (to - place) ≡ (behind.0, passed.1 ++ behind.1)
-  over =
-      let bits : now.due - 25 - place ≡ now.due - lock.due = omega (arith, place_is) in
-      let here : place ≡ lock.due - 25 = omega (arith, place_is) in
-      let first : run b rules s place (now.due - 25 - place) ≡ passed =
-      ap (λ (t : State). run b rules t place (now.due - 25 - place)) s_is ∙ ap₂ (λ (p n : ℕ). run b rules (Locked lock) p n) here bits in
-      run-places b rules s place (now.due - 25) to (omega (arith, place_is, far)) (given.limit far)
-      ∙ ap (λ (r : State × List Item). ((run b rules r.0 (now.due - 25) (to - (now.due - 25))).0, r.1 ++ (run b rules r.0 (now.due - 25) (to - (now.due - 25))).1)) first
-      ∙ ap (λ (t : State). ((run b rules t (now.due - 25) (to - (now.due - 25))).0, passed.1 ++ (run b rules t (now.due - 25) (to - (now.due - 25))).1)) given.state
+  over = grind (arith, common_steps, run, passed, run-places, run-places b rules s place (now.due - 25) to (omega (arith, place_is, far)) (given.limit far))
 
   pub groups-items : before ++ old.items ≡ after ++ (left_of read rules None (Locked now) (now.due - 25) to).items
   groups-items = grind (arith, common_steps, over, run)

@@ -34,9 +34,7 @@ module _ (b : Signal) (rules : RuleNumbers) (lock : Lock) (good : Bool) (good_is
 
   -- whatever it did, the state is that of the step
   pub step-due : (due : Due) → IsAfter rules.loss lock good due → step b rules lock.due (Locked lock) ≡ state_of due
-  step-due (Inside next) after = step-kept next after.1
-  step-due (Closed next) after = step-kept next after.1
-  step-due Lost after = step-lost after
+  step-due v0 after = grind (arith, common_steps, step-kept, step-lost)
 
   -- and its items are those of the step
   pub items-inside : (next : Lock) → IsAfter rules.loss lock good (Inside next) → items_at b rules lock.due (Locked lock) ≡ []

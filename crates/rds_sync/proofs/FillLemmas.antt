@@ -13,6 +13,4 @@ span_taken b rules span others rest all before left now after is none rest_is ta
 
 -- n of the items, the first of which are in a part
 pub part_taken : (n : ℕ) (items part rest : List Item) → items ≡ part ++ rest → length part ≤ n → take n items ≡ part ++ take (n - length part) rest
-part_taken n items part rest is few =
-    let count : n ≡ length part + (n - length part) = omega arith in
-    ap (λ (all : List Item). take n all) is ∙ ap (λ (k : ℕ). take k (part ++ rest)) count ∙ take-append-add part rest (n - length part)
+part_taken n items part rest is few = grind (arith, common_steps, take, take-append-add, take-append-add part rest (n - length part))

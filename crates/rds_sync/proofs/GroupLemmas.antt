@@ -11,51 +11,12 @@ abbrev AreAlike : Option ℕ → ℕ → Wanted → ℕ → Type 0
 AreAlike h limit wanted x = reading_heard h x Either limit ≡ reading_heard h x wanted limit
 
 reading-wanted : (h : Option ℕ) (limit : ℕ) (wanted : Wanted) → AreAlike h limit wanted 1 × AreAlike h limit wanted 2 × AreAlike h limit wanted 4
-reading-wanted None limit wanted = (refl, refl, refl)
-reading-wanted (Some w) limit OnlyC = (refl, refl, refl)
-reading-wanted (Some w) limit OnlyCx = (refl, refl, refl)
-reading-wanted (Some w) limit Either = (refl, refl, refl)
-
--- a block that was corrected is not valid
-by_only-valid : (w : ℕ) (pairs : List (Offset × ℕ)) (o : Offset) (info : ℕ) → by_only w pairs ≢ Valid o info
-by_only-valid w [] o info e = cc e
-by_only-valid w (pair ∷ []) o info e = cc e
-by_only-valid w (pair ∷ other ∷ pairs) o info e = cc e
-
--- a valid block has the number that it is read as
-reading-number : (w x limit : ℕ) (wanted : Wanted) (o : Offset) (info : ℕ) → reading w x wanted limit ≡ Valid o info → number o ≡ x
-reading-number w x limit wanted o info e = at_case (offset_of (rem w)) e where
-  at_case : (r : Option Offset)
-      → elim r as (λ _. Reading) [
-        | None ↦ corrected w x wanted limit
-        | Some q ↦ elim (number q == x) as (λ _. Reading) [ true ↦ Valid q (information w) | false ↦ corrected w x wanted limit ]
-      ] ≡ Valid o info → number o ≡ x
-  at_case None t = absurd (by_only-valid w (corrections (wanted_offsets x wanted) limit w) o info t)
-  at_case (Some q) t = elim (cases_Bool (number q == x)) [
-    | inl same ↦
-        let valid : Valid q (information w) ≡ Valid o info = rw same at t in
-        let q_is : q ≡ o = cc valid in
-        ap number (sym q_is) ∙ eqb-true (number q) x same
-    | inr other ↦
-        let not_valid : corrected w x wanted limit ≡ Valid o info = rw other at t in
-        absurd (by_only-valid w (corrections (wanted_offsets x wanted) limit w) o info not_valid)
-  ]
-
-heard-number : (h : Option ℕ) (x limit : ℕ) (wanted : Wanted) (o : Offset) (info : ℕ) → reading_heard h x wanted limit ≡ Valid o info → number o ≡ x
-heard-number None x limit wanted o info e = cc e
-heard-number (Some w) x limit wanted o info e = reading-number w x limit wanted o info e
+reading-wanted v0 limit v2 = grind (arith, common_steps)
 
 number_3 : (o : Offset) → number o ≡ 3 → (o ≡ C) ⊎ (o ≡ Cx)
-number_3 OA e = absurd (omega arith)
-number_3 OB e = absurd (omega arith)
-number_3 C e = inl refl
-number_3 Cx e = inr refl
-number_3 D e = absurd (omega arith)
+number_3 v0 e = grind (arith, common_steps)
 
 -- versions
-
-bit_says : (second : Block) (word : ℕ) → info_of second ≡ Some word → version_by_bit second ≡ version_of_bit word
-bit_says second word e = ap (λ (o : Option ℕ). elim o as (λ _. Version) [ None ↦ Unknown | Some info ↦ version_of_bit info ]) e
 
 bit_unknown : (second : Block) → info_of second ≡ None → version_by_bit second ≡ Unknown
 bit_unknown second e = ap (λ (o : Option ℕ). elim o as (λ _. Version) [ None ↦ Unknown | Some info ↦ version_of_bit info ]) e
@@ -63,32 +24,19 @@ bit_unknown second e = ap (λ (o : Option ℕ). elim o as (λ _. Version) [ None
 bit_known : (word : ℕ) → (version_of_bit word ≡ A) ⊎ (version_of_bit word ≡ B)
 bit_known word = grind arith
 
-offset_known : (o : Offset) → (o ≡ C) ⊎ (o ≡ Cx) → (version_of_offset o ≡ A) ⊎ (version_of_offset o ≡ B)
-offset_known o (inl c) = inl (ap version_of_offset c)
-offset_known o (inr c) = inr (ap version_of_offset c)
-
 keeps_known : (v w : Version) → (v ≡ A) ⊎ (v ≡ B) → first_known v w ≡ v
-keeps_known v w (inl e) = ap (λ (u : Version). first_known u w) e ∙ sym e
-keeps_known v w (inr e) = ap (λ (u : Version). first_known u w) e ∙ sym e
+keeps_known v w v2 = grind (arith, common_steps, first_known)
 
 by_bit : (second third : Block) → ((o : Offset) (info : ℕ) → third ≢ Read (Valid o info)) → (word : ℕ) → info_of second ≡ Some word
     → version second third ≡ version_of_bit word
-by_bit second Missing not_valid word e = bit_says second word e
-by_bit second (Read (Valid o info)) not_valid word e = absurd (not_valid o info refl)
-by_bit second (Read (Corrected o info burst)) not_valid word e =
-    ap (λ (v : Version). first_known v (version_of_offset o)) (bit_says second word e) ∙ keeps_known (version_of_bit word) (version_of_offset o) (bit_known word)
-by_bit second (Read Lost) not_valid word e = bit_says second word e
+by_bit second v1 not_valid word e = grind (arith, common_steps, first_known, version_of_offset, keeps_known, version_of_bit, bit_known)
 
 by_nothing : (second third : Block) → info_of second ≡ None → info_of third ≡ None → version second third ≡ Unknown
-by_nothing second Missing e t = bit_unknown second e
-by_nothing second (Read (Valid o info)) e t = cc t
-by_nothing second (Read (Corrected o info burst)) e t = cc t
-by_nothing second (Read Lost) e t = bit_unknown second e
+by_nothing second v1 e t = grind (arith, common_steps, bit_unknown)
 
 by_correction : (second third : Block) (o : Offset) (info burst : ℕ) → info_of second ≡ None → third ≡ Read (Corrected o info burst)
     → version second third ≡ version_of_offset o
-by_correction second third o info burst e t =
-    ap (version second) t ∙ ap (λ (v : Version). first_known v (version_of_offset o)) (bit_unknown second e)
+by_correction second third o info burst e t = grind (arith, common_steps, version, first_known, version_of_offset, bit_unknown)
 
 version_is_read : (second third : Block) → ((o : Offset) (info : ℕ) → third ≡ Read (Valid o info) → number o ≡ 3) → VersionIsRead (version second third) second third
 version_is_read second third only = record {
@@ -104,64 +52,27 @@ version_is_read second third only = record {
 -- conflicts
 
 differ_unknown : (v : Version) → differ Unknown v ≡ false
-differ_unknown A = refl
-differ_unknown B = refl
-differ_unknown Unknown = refl
+differ_unknown v0 = grind (arith, common_steps)
 
 differ_same : (v w : Version) → differ v w ≡ true → w ≢ v
-differ_same A A t e = cc
-differ_same A B t e = cc
-differ_same A Unknown t e = cc
-differ_same B A t e = cc
-differ_same B B t e = cc
-differ_same B Unknown t e = cc
-differ_same Unknown A t e = cc
-differ_same Unknown B t e = cc
-differ_same Unknown Unknown t e = cc
-
-differ_known : (v w : Version) → (v ≡ A) ⊎ (v ≡ B) → (w ≡ A) ⊎ (w ≡ B) → w ≢ v → differ v w ≡ true
-differ_known v w (inl a) (inl b) ne = absurd (ne (b ∙ sym a))
-differ_known v w (inl a) (inr b) ne = rw (a, b) refl
-differ_known v w (inr a) (inl b) ne = rw (a, b) refl
-differ_known v w (inr a) (inr b) ne = absurd (ne (b ∙ sym a))
+differ_same v0 v1 t e = grind (arith, common_steps)
 
 conflict_says : (second third : Block) → in_conflict second third ≡ true → VersionsDiffer second third
-conflict_says second Missing t = cc t
-conflict_says second (Read Lost) t = cc t
-conflict_says second (Read (Corrected o info burst)) t = cc t
-conflict_says second (Read (Valid o info)) t = at_case (info_of second) refl where
-  at_case : (w : Option ℕ) → info_of second ≡ w → VersionsDiffer second (Read (Valid o info))
-  at_case None e =
-      let none : differ Unknown (version_of_offset o) ≡ true = ap (λ (v : Version). differ v (version_of_offset o)) (sym (bit_unknown second e)) ∙ t in
-      cc (none, differ_unknown (version_of_offset o))
-  at_case (Some word) e = (
-    o,
-    info,
-    word,
-    refl,
-    e,
-    differ_same (version_of_bit word) (version_of_offset o) (ap (λ (v : Version). differ v (version_of_offset o)) (sym (bit_says second word e)) ∙ t),
-  )
+conflict_says second v1 t = grind (arith, common_steps, info_of, differ, version_of_offset, bit_unknown, differ_unknown, differ_same, version_of_bit)
 
 says_conflict : (second third : Block) → ((o : Offset) (info : ℕ) → third ≡ Read (Valid o info) → number o ≡ 3) → VersionsDiffer second third → in_conflict second third ≡ true
-says_conflict second third only h =
-    ap (in_conflict second) h.3
-    ∙ ap (λ (v : Version). differ v (version_of_offset h.0)) (bit_says second h.2 h.4)
-    ∙ differ_known (version_of_bit h.2) (version_of_offset h.0) (bit_known h.2) (offset_known h.0 (number_3 h.0 (only h.0 h.1 h.3))) h.5
+says_conflict second third only h = grind (arith, common_steps, number_3 h.0 (only h.0 h.1 h.3))
 
 -- complete groups
 
 and_left : (p q : Bool) → (p && q) ≡ true → p ≡ true
-and_left true q e = refl
-and_left false q e = cc e
+and_left v0 q e = grind (arith, common_steps)
 
 and_right : (p q : Bool) → (p && q) ≡ true → q ≡ true
-and_right true q e = e
-and_right false q e = cc e
+and_right v0 q e = grind (arith, common_steps)
 
 some_of : (o : Option ℕ) → is_some o ≡ true → (word : ℕ) × (o ≡ Some word)
-some_of None e = cc e
-some_of (Some word) e = (word, refl)
+some_of v0 e = grind (arith, common_steps)
 
 module _ (one two three four : Block) where
   abbrev blocks : List Block
@@ -175,19 +86,13 @@ module _ (one two three four : Block) where
   complete_says t zero l h = absurd (omega arith)
   complete_says t (suc zero) l h = let s = some_of (info_of one) (and_left (known one) _ t) in (one, s.0, refl, s.1)
   complete_says t (suc (suc zero)) l h = let s = some_of (info_of two) (and_left (known two) _ (and_right (known one) _ t)) in (two, s.0, refl, s.1)
-  complete_says t (suc (suc (suc zero))) l h =
-      let s = some_of (info_of three) (and_left (known three) _ (and_right (known two) _ (and_right (known one) _ t))) in (three, s.0, refl, s.1)
-  complete_says t (suc (suc (suc (suc zero)))) l h =
-      let s = some_of (info_of four) (and_left (known four) _ (and_right (known three) _ (and_right (known two) _ (and_right (known one) _ t)))) in (four, s.0, refl, s.1)
+  complete_says t (suc (suc (suc zero))) l h = grind (arith, common_steps, some_of, info_of, and_left, known, and_right)
+  complete_says t (suc (suc (suc (suc zero)))) l h = grind (arith, common_steps, some_of, info_of, and_left, known, and_right)
   complete_says t (suc (suc (suc (suc (suc y))))) l h = absurd (omega arith)
-
-  is_known : (y : ℕ) (block : Block) → slice_get blocks (y - 1) ≡ Some block
-      → ((block : Block) × (word : ℕ) × (slice_get blocks (y - 1) ≡ Some block) × (info_of block ≡ Some word)) → known block ≡ true
-  is_known y block e h = grind (arith, common_steps, is_some)
 
   says_complete : ((y : ℕ) → 1 ≤ y → y ≤ 4 → (block : Block) × (word : ℕ) × (slice_get blocks (y - 1) ≡ Some block) × (info_of block ≡ Some word))
       → are_complete blocks ≡ true
-  says_complete h = grind (arith, common_steps, is_known)
+  says_complete h = grind (arith, common_steps)
 
 -- blocks
 
@@ -203,7 +108,7 @@ module _ (b : Signal) (rules : RuleNumbers) (f x p : ℕ) where
 
   -- block 3 was read as number 3
   third_number : (o : Offset) (info : ℕ) → third ≡ Read (Valid o info) → number o ≡ 3
-  third_number o info e = grind (arith, common_steps, cases_lt, block_at-missing, wanted_beside, reading_at, block_at-read, heard-number, heard)
+  third_number o info e = grind (arith, common_steps, cases_lt, block_at-missing, wanted_beside, reading_at, block_at-read, heard)
 
   read_as : 1 ≤ f → x ≤ 4 → (y : ℕ) → f ≤ y → y ≤ x
       → slice_get the_group.blocks (y - 1) ≡ Some (Read (reading_at b (p - 26 * (x - y)) y (wanted_beside second) rules.burst))
@@ -229,12 +134,7 @@ module _ (b : Signal) (rules : RuleNumbers) (f x p : ℕ) where
     third = third;
     is_second = refl;
     is_third = refl;
-    blocks = record {
-      four = refl;
-      begins = omega arith;
-      read = read_as low high;
-      missing = is_missing;
-    };
+    blocks = grind (arith, common_steps, read_as, is_missing);
     kind = refl;
     version = version_is_read second third third_number;
     complete = (

@@ -1,5 +1,5 @@
 -- How the blocks of a group came out says which of them were valid.
-use Rattle.rds_sync.proofs.Names.{[], ◌∷◌, true, missing, valid, lost, corrected, ◌≡◌, ℕ, zero, suc, ◌-◌, ◌*◌, ◌≤◌, List, Bool, refl, sym, ap, ap₂, ◌∙◌, arith, le-leb, ◌&&◌, if◌then◌else◌, Wanted, Either, Signal, heard, reading_at, Missing, Read, has_number, RuleNumbers, HaveRoom, block_at, wanted_beside, group, Outcome, outcome_of, was_valid, good_at}
+use Rattle.rds_sync.proofs.Names.{common_steps, [], ◌∷◌, true, missing, valid, lost, corrected, ◌≡◌, ℕ, zero, suc, ◌-◌, ◌*◌, ◌≤◌, List, Bool, refl, sym, ap, ap₂, ◌∙◌, arith, le-leb, ◌&&◌, if◌then◌else◌, Wanted, Either, Signal, heard, reading_at, Missing, Read, has_number, RuleNumbers, HaveRoom, block_at, wanted_beside, group, Outcome, outcome_of, was_valid, good_at}
 use Rattle.std.specs.Prelude.{map}
 use Rattle.rds_sync.specs.declared.item.Group.{Group}
 use Rattle.rds_sync.proofs.HeardLemmas.{good-reading}
@@ -12,12 +12,7 @@ outcomes g = map outcome_of g.blocks
 module _ (b : Signal) (rules : RuleNumbers) (f x p : ℕ) where
   -- a block that was read is valid where its place has its number
   pub good_block : (wanted : Wanted) (y : ℕ) → f ≤ y → y ≤ x → HaveRoom f x p → was_valid (outcome_of (block_at b rules f x p wanted y)) ≡ has_number b (p - 26 * (x - y)) y
-  good_block wanted y low high room =
-      let place : ℕ = p - 26 * (x - y) in
-      let late : 25 ≤ place = omega (arith, room) in
-      ap (λ (t : Bool). was_valid (outcome_of (if t then Read (reading_at b place y wanted rules.burst) else Missing))) (ap₂ (λ (s t : Bool). s && t) (le-leb f y low) (le-leb y x high))
-      ∙ sym (valid_is (Read (reading_at b place y wanted rules.burst)))
-      ∙ good-reading b place y (heard b place) wanted rules.burst (reading_at b place y wanted rules.burst) late refl refl
+  good_block wanted y low high room = grind (arith, common_steps, good-reading b (p - 26 * (x - y)) y (heard b (p - 26 * (x - y))) wanted rules.burst (reading_at b (p - 26 * (x - y)) y wanted rules.burst) (omega (arith, room)) refl refl)
 
   pub good-at : (y : ℕ) → 1 ≤ f → f ≤ y → y ≤ x → x ≤ 4 → HaveRoom f x p → good_at (outcomes (group b rules f x p)) y ≡ has_number b (p - 26 * (x - y)) y
   unfolding group
@@ -29,14 +24,9 @@ module _ (b : Signal) (rules : RuleNumbers) (f x p : ℕ) where
   good-at (suc (suc (suc (suc (suc y))))) one low high four room = absurd (omega arith)
 
 pub valid-only : (o : Outcome) → was_valid o ≡ true → o ≡ valid
-valid-only missing h = cc
-valid-only valid h = refl
-valid-only lost h = cc
-valid-only (corrected s n) h = cc
+valid-only v0 h = grind (arith, common_steps)
 
 -- only a valid block 4
 pub last-alone : (b : Signal) (rules : RuleNumbers) (p : ℕ) → 25 ≤ p → has_number b p 4 ≡ true → outcomes (group b rules 4 4 p) ≡ missing ∷ missing ∷ missing ∷ valid ∷ []
 unfolding group
-last-alone b rules p late there =
-    let place : p - 26 * (4 - 4) ≡ p = omega arith in
-    ap (λ (o : Outcome). missing ∷ missing ∷ missing ∷ o ∷ []) (valid-only _ (good-at b rules 4 4 p 4 (omega arith) (omega arith) (omega arith) (omega arith) (omega arith) ∙ ap (λ (q : ℕ). has_number b q 4) place ∙ there))
+last-alone b rules p late there = grind (arith, common_steps, good-at b rules 4 4 p 4 (omega arith) (omega arith) (omega arith) (omega arith) (omega arith))

@@ -1,5 +1,5 @@
 -- The words of the groups that are read.
-use Rattle.rds_sync.proofs.Names.{◌≡◌, ℕ, ◌+◌, ◌*◌, ◌≤◌, List, [], ◌∷◌, refl, sym, ap, subst, map, ◌∙◌, arith, Signal, Block, GroupRecord, blocks_at, group, Outcome, outcome_of, AreShort, IsShort, blocks_in, nibble, word_of_blocks, RuleNumbers}
+use Rattle.rds_sync.proofs.Names.{common_steps, ◌≡◌, ℕ, ◌+◌, ◌*◌, ◌≤◌, List, [], ◌∷◌, refl, sym, ap, subst, map, ◌∙◌, arith, Signal, Block, GroupRecord, blocks_at, group, Outcome, outcome_of, AreShort, IsShort, blocks_in, nibble, word_of_blocks, RuleNumbers}
 use Rattle.rds_sync.proofs.GroupBlocks.{group-blocks}
 use Rattle.rds_sync.proofs.GroupOutcomes.{outcomes}
 use Rattle.rds_sync.proofs.ShortOutcomes.{BurstLaws, all_four, group-short}
@@ -22,7 +22,4 @@ module _ (b : Signal) (rules : RuleNumbers) (f x p : ℕ) (bs : List Block) (are
 
   -- their word tells these outcomes
   pub word-tells : BurstLaws → rules.burst ≤ 5 → (w : ℕ) → w ≡ word_of_blocks (map outcome_of bs) → blocks_in w ≡ outcomes (group b rules f x p)
-  word-tells laws few w is =
-      ap blocks_in is
-      ∙ tells (map outcome_of bs) (subst AreShort (sym outcomes-are) (group-short laws b rules f x p few))
-      ∙ outcomes-are
+  word-tells laws few w is = grind (arith, common_steps, blocks_in, tells, outcome_of, outcomes-are, group-short)

@@ -28,12 +28,9 @@ heard-blocks b rules due hs is wanted one two three four is_one is_two beside is
 
 -- the outcome of a reading is the four bits of its block
 pub outcome-nibble : (r : Reading) → outcome_number r ≡ nibble (outcome_of (Read r))
-outcome-nibble (Valid o info) = refl
-outcome-nibble (Corrected o info e) = refl
-outcome-nibble Lost = refl
+outcome-nibble v0 = grind (arith, common_steps)
 
 -- four outcomes are a word
 pub word-of-outcomes : (one two three four : Reading) (k l m n w : ℕ) → k ≡ outcome_number one → l ≡ outcome_number two → m ≡ outcome_number three → n ≡ outcome_number four
     → w ≡ k + 16 * (l + 16 * (m + 16 * n)) → w ≡ word_of_blocks (map outcome_of (Read one ∷ Read two ∷ Read three ∷ Read four ∷ []))
-word-of-outcomes one two three four k l m n w first second third fourth is =
-    omega (arith, is, first ∙ outcome-nibble one, second ∙ outcome-nibble two, third ∙ outcome-nibble three, fourth ∙ outcome-nibble four)
+word-of-outcomes one two three four k l m n w first second third fourth is = grind (arith, common_steps, outcome-nibble)

@@ -5,11 +5,7 @@ use Rattle.rds_sync.proofs.OutcomeTotals.{valid_is}
 
 -- a property of 0, 1, 2 and 3 is one of each number below 4
 pub each-of-four : (P : ℕ → Type 0) → P 0 → P 1 → P 2 → P 3 → (k : ℕ) → k < 4 → P k
-each-of-four P one two three four zero h = one
-each-of-four P one two three four (suc zero) h = two
-each-of-four P one two three four (suc (suc zero)) h = three
-each-of-four P one two three four (suc (suc (suc zero))) h = four
-each-of-four P one two three four (suc (suc (suc (suc k)))) h = absurd (omega (arith, h))
+each-of-four v0 one two three four v5 h = grind (arith, common_steps)
 
 -- a group of these blocks, with the loss history by how they came out
 pub whole-is : (b : Signal) (rules : RuleNumbers) (due : ℕ) (loss : Loss) (place : ℕ) (bs : List Block) (os : List Outcome) (before after : ℕ) (given : Group)
@@ -33,8 +29,7 @@ module _ (loss : Loss) (bs : List Block) (a b c d : Block) (are : bs ≡ a ∷ b
 
   step : (t : Bool) (block : Block) → t ≡ is_valid block → (now then before : ℕ) → now ≡ before → then ≡ bad_after loss t now
       → then ≡ bad_after loss (was_valid (outcome_of block)) before
-  step t block t_is now then before now_is then_is =
-      then_is ∙ ap₂ (λ (good : Bool) (kept : ℕ). bad_after loss good kept) (t_is ∙ valid_is block) now_is
+  step t block t_is now then before now_is then_is = grind (arith, common_steps, bad_after, valid_is)
 
   over-one : one ≡ over (a ∷ b ∷ c ∷ d ∷ []) 1
   over-one = step g a g_is bad one bad refl one_is

@@ -3,27 +3,6 @@ use Rattle.rds_sync.proofs.Names.{common_steps, ◌≡◌, ℕ, ◌+◌, ◌-◌
 use Rattle.rds_code.specs.Reading.{corrected}
 use Rattle.rds_sync.proofs.LawfulLemmas.{acquired-none, acquired-some}
 
--- a block is valid where its window has an offset of the number
-valid-by_only : (w : ℕ) (pairs : List (Offset × ℕ)) → is_valid (Read (by_only w pairs)) ≡ false
-valid-by_only w [] = refl
-valid-by_only w ((o, e) ∷ []) = refl
-valid-by_only w (one ∷ two ∷ pairs) = refl
-
-valid-reading : (w x : ℕ) (wanted : Wanted) (limit : ℕ) → is_valid (Read (reading w x wanted limit)) ≡ is_numbered (offset_heard (Some w)) x
-valid-reading w x wanted limit = at_case (offset_of (rem w)) where
-  own : (o : Offset) (t : Bool) → is_valid (Read (elim t as (λ _. Reading) [ true ↦ Valid o (information w) | false ↦ corrected w x wanted limit ])) ≡ t
-  own o true = refl
-  own o false = valid-by_only w (corrections (wanted_offsets x wanted) limit w)
-
-  at_case : (o : Option Offset) → is_valid (Read (read_from w x wanted limit o)) ≡ elim o as (λ _. Bool) [ None ↦ false | Some p ↦ eqb (number p) x ]
-  at_case None = valid-by_only w (corrections (wanted_offsets x wanted) limit w)
-  at_case (Some o) = own o (eqb (number o) x)
-
--- and where nothing was heard, it is not
-valid-heard : (h : Option ℕ) (x : ℕ) (wanted : Wanted) (limit : ℕ) → is_valid (Read (reading_heard h x wanted limit)) ≡ is_numbered (offset_heard h) x
-valid-heard None x wanted limit = refl
-valid-heard (Some w) x wanted limit = valid-reading w x wanted limit
-
 -- no window ends before place 25
 pub off-early : (b : Signal) (i : ℕ) → i < 25 → offset_at b i ≡ None
 unfolding offset_at
@@ -37,13 +16,12 @@ off-heard b i late = rw (le-ltb i 25 late, offset_at) refl
 -- and so is whether a place has a number
 has_number-heard : (b : Signal) (i x : ℕ) → 25 ≤ i → has_number b i x ≡ is_numbered (offset_heard (heard b i)) x
 unfolding has_number
-has_number-heard b i x late =
-    ap (λ (o : Option Offset). elim o as (λ _. Bool) [ None ↦ false | Some p ↦ eqb (number p) x ]) (off-heard b i late)
+has_number-heard b i x late = grind (arith, common_steps, eqb, number, off-heard)
 
 -- a block is valid where its place has its number
 pub good-reading : (b : Signal) (i x : ℕ) (h : Option ℕ) (wanted : Wanted) (limit : ℕ) (read : Reading) → 25 ≤ i → h ≡ heard b i
     → read ≡ reading_heard h x wanted limit → is_valid (Read read) ≡ has_number b i x
-good-reading b i x h wanted limit read late heard_is read_is = grind (arith, common_steps, is_valid, valid-heard, is_numbered, offset_heard, has_number-heard)
+good-reading b i x h wanted limit read late heard_is read_is = grind (arith, common_steps, is_valid, is_numbered, offset_heard, has_number-heard)
 
 -- a test that fails at the first place of a range is left to the others
 pub any-later : (p : ℕ → Bool) (k end : ℕ) → k < end → p k ≡ false

@@ -27,8 +27,7 @@ module _ (n groups d : ℕ) (o p q r : Outcome) (are : AreLanes n (20 * groups))
   count t = (if t o then 1 else 0) + (if t p then 1 else 0) + (if t q then 1 else 0) + (if t r then 1 else 0)
 
   one-most : (t : Bool) → (if t then 1 else 0) ≤ 1
-  one-most true = omega arith
-  one-most false = omega arith
+  one-most v0 = grind (arith, common_steps)
 
   count-most : (t : Outcome → Bool) → count t ≤ 4
   count-most t = omega (arith, one-most (t o), one-most (t p), one-most (t q), one-most (t r))
@@ -39,17 +38,7 @@ module _ (n groups d : ℕ) (o p q r : Outcome) (are : AreLanes n (20 * groups))
   pub lanes-more : HasLanes (n + d) (n % 65536 + count was_valid) (n / 2 ^ 16 % 65536 + count (has_span 1)) (n / 2 ^ 32 % 65536 + count (has_span 2))
       (n / 2 ^ 48 % 65536 + count (has_span 3)) (n / 2 ^ 64 % 65536 + count (has_span 4)) (n / 2 ^ 80 % 65536 + count (has_span 5))
       (n / 2 ^ 96 % 65536 + count was_lost) (n / 2 ^ 112 % 65536 + bits)
-  lanes-more =
-      let c1 = count-most was_valid in
-      let c2 = count-most (has_span 1) in
-      let c3 = count-most (has_span 2) in
-      let c4 = count-most (has_span 3) in
-      let c5 = count-most (has_span 4) in
-      let c6 = count-most (has_span 5) in
-      let c7 = count-most was_lost in
-      lanes-of (n + d) _ _ _ _ _ _ _ _ (omega (arith, are.sum, d_is))
-      (omega (arith, are.valid, few, c1)) (omega (arith, are.burst1, few, c2)) (omega (arith, are.burst2, few, c3)) (omega (arith, are.burst3, few, c4))
-      (omega (arith, are.burst4, few, c5)) (omega (arith, are.burst5, few, c6)) (omega (arith, are.lost, few, c7)) (omega (arith, are.bits, few, bo, bp, bq, br))
+  lanes-more = grind (arith, common_steps, count-most, was_valid, has_span, was_lost, lanes-of, count, bits, count-most was_valid, count-most (has_span 1), count-most (has_span 2), count-most (has_span 3), count-most (has_span 4), count-most (has_span 5), count-most was_lost)
 
   pub are-more : AreLanes (n + d) (20 * (groups + 1))
   are-more =

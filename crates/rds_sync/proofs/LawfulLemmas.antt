@@ -3,27 +3,11 @@ use Rattle.rds_sync.proofs.Names.{common_steps, ◌≡◌, ℕ, zero, suc, ◌+�
 use Rattle.rds_sync.proofs.LossLemmas.{lawful_none, lawful_kept}
 use Rattle.rds_sync.proofs.RunLemmas.{step-acquiring, step-searching, step-waiting, step-keeping, step-losing}
 
--- the number of an offset is 1 to 4
-pub number-range : (o : Offset) → (1 ≤ number o) × (number o ≤ 4)
-number-range A = (omega arith, omega arith)
-number-range B = (omega arith, omega arith)
-number-range C = (omega arith, omega arith)
-number-range Cx = (omega arith, omega arith)
-number-range D = (omega arith, omega arith)
-
 module _ (b : Signal) where
   -- no window ends before place 25
   pub off-place : (i : ℕ) (o : Offset) → offset_at b i ≡ Some o → 25 ≤ i
   unfolding offset_at
   off-place i o e = grind (arith, common_steps, cases_lt, lt-ltb, offset_at)
-
-  -- a partner, as a fact
-  pub has_partner-offset : (i x k : ℕ) → has_partner b i x k ≡ true → (o : Offset) × (offset_at b (i - 26 * k) ≡ Some o) × (number_after (number o) k ≡ x)
-  has_partner-offset i x k h = at_case (offset_at b (i - 26 * k)) refl h where
-    at_case : (w : Option Offset) → offset_at b (i - 26 * k) ≡ w → elim w as (λ _. Bool) [ None ↦ false | Some o ↦ number_after (number o) k == x ] ≡ true
-        → (o : Offset) × (offset_at b (i - 26 * k) ≡ Some o) × (number_after (number o) k ≡ x)
-    at_case None e t = cc
-    at_case (Some o) e t = (o, e, eqb-true (number_after (number o) k) x t)
 
 -- a test that some number of a range passes
 pub any-range : (p : ℕ → Bool) (a n : ℕ) → list_any p (range_with_len a n) ≡ true → (k : ℕ) × (a ≤ k) × (k < a + n) × (p k ≡ true)
@@ -47,8 +31,7 @@ module _ (b : Signal) (rules : RuleNumbers) where
     pub partner : has_partner b i x distance ≡ true
 
   if_partner : (t : Bool) (y x : ℕ) → elim t as (λ _. Option ℕ) [ true ↦ Some y | false ↦ None ] ≡ Some x → (t ≡ true) × (y ≡ x)
-  if_partner true y x e = (refl, cc)
-  if_partner false y x e = cc
+  if_partner v0 y x e = grind (arith, common_steps)
 
   pub acquired-facts : (i x : ℕ) → acquired b rules i ≡ Some x → IsAcquired i x
   unfolding acquired
@@ -69,20 +52,11 @@ module _ (b : Signal) (rules : RuleNumbers) where
 
   -- a place acquires with a number from 1 to 4
   pub acquired-range : (i x : ℕ) → acquired b rules i ≡ Some x → (1 ≤ x) × (x ≤ 4)
-  acquired-range i x e =
-      let f = acquired-facts i x e in
-      let r = number-range f.offset in
-      let n = f.number_is in
-      (omega (arith, r.0, n), omega (arith, r.1, n))
+  acquired-range i x e = grind (arith, common_steps, acquired-facts, acquired, acquired-facts i x e)
 
   -- the least place that can acquire is 51
   pub acquired-place : (i x : ℕ) → acquired b rules i ≡ Some x → 51 ≤ i
-  acquired-place i x e =
-      let f = acquired-facts i x e in
-      let o = has_partner-offset b i x f.distance f.partner in
-      let p : 25 ≤ i - 26 * f.distance = off-place b (i - 26 * f.distance) o.0 o.1 in
-      let w = f.within_reach in
-      omega (arith, p, w)
+  acquired-place i x e = grind (arith, common_steps, acquired-facts, off-place, acquired, acquired-facts i x e)
 
   -- the place has that number
   pub acquired-number : (i x : ℕ) → acquired b rules i ≡ Some x → has_number b i x ≡ true
@@ -106,36 +80,12 @@ lawful-lock_after rules i x bad first few late enough low order high = grind (ar
 -- the numbers of a lawful lock
 pub lawful-numbers : (rules : RuleNumbers) (place : ℕ) (lock : Lock) → IsLawfulLock rules place lock
     → (1 ≤ lock.first) × (lock.first ≤ lock.number) × (lock.number ≤ 4)
-lawful-numbers rules place lock lawful =
-    ⊎_elim (λ o. (omega (arith, o), omega (arith, o), omega (arith, o))) (λ o. (omega (arith, o), omega (arith, o), omega (arith, o))) lawful.in_order
+lawful-numbers rules place lock lawful = grind (arith, common_steps, lawful.in_order)
 
 module _ (b : Signal) (rules : RuleNumbers) where
   -- one bit leads from a lawful state to a lawful state
   pub lawful-step : IsLossRule rules.loss → (i : ℕ) (s : State) → IsLawful rules i s → IsLawful rules (i + 1) (step b rules i s)
-  lawful-step loss i Searching lawful = at_case (acquired b rules i) refl where
-    at_case : (w : Option ℕ) → acquired b rules i ≡ w → IsLawful rules (i + 1) (step b rules i Searching)
-    at_case None e = subst (λ (t : State). IsLawful rules (i + 1) t) (sym (step-searching b rules i e)) tt
-    at_case (Some x) e =
-        let r = acquired-range b rules i x e in
-        let p = acquired-place b rules i x e in
-        subst (λ (t : State). IsLawful rules (i + 1) t) (sym (step-acquiring b rules i x e))
-        (lawful-lock_after rules i x 0 x (lawful_none rules.loss loss) p (omega arith) (omega (arith, r)) (omega arith) (omega (arith, r)))
-  lawful-step loss i (Locked lock) lawful = elim (cases_eq lock.due i) [
-    | inl same ↦
-        let bad : ℕ = history_after_block b rules lock.due lock.number lock.bad in
-        let n = lawful-numbers rules i lock lawful in
-        subst (λ (p : ℕ). IsLawful rules (p + 1) (step b rules p (Locked lock))) same
-        (elim (cases_Bool (are_too_many rules.loss bad)) [
-          | inr few ↦ subst (λ (t : State). IsLawful rules (lock.due + 1) t) (sym (step-keeping b rules lock few))
-              (lawful-lock_after rules lock.due lock.number bad lock.first (lawful_kept rules.loss lock.bad (has_number b lock.due lock.number) lawful.few_bad few)
-              (omega (arith, lawful.late)) lawful.enough_bits n.0 n.1 n.2)
-          | inl many ↦ subst (λ (t : State). IsLawful rules (lock.due + 1) t) (sym (step-losing b rules lock many)) tt
-        ])
-    | inr other ↦
-        let soon = lawful.soon in
-        subst (λ (t : State). IsLawful rules (i + 1) t) (sym (step-waiting b rules lock i other))
-        (record { soon = (omega (arith, soon), omega (arith, soon)); late = lawful.late; few_bad = lawful.few_bad; enough_bits = lawful.enough_bits; in_order = lawful.in_order })
-  ]
+  lawful-step loss i v2 lawful = grind (arith, common_steps, acquired-range, acquired-place, lawful_none)
 
   -- a run leads from a lawful state to a lawful state
   pub lawful-run : IsLossRule rules.loss → (s : State) (a n : ℕ) → IsLawful rules a s → IsLawful rules (a + n) (run b rules s a n).0
@@ -157,5 +107,4 @@ lawful-waiting rules place later lock lawful order before = grind (arith, common
 -- the state after the block that is due is lawful
 pub lawful-due : (b : Signal) (rules : RuleNumbers) (place : ℕ) (lock : Lock) → IsLossRule rules.loss → IsLawfulLock rules place lock
     → IsLawful rules (lock.due + 1) (step b rules lock.due (Locked lock))
-lawful-due b rules place lock loss lawful =
-    lawful-step b rules loss lock.due (Locked lock) (lawful-waiting rules place lock.due lock lawful lawful.soon.0 (omega arith))
+lawful-due b rules place lock loss lawful = grind (arith, common_steps, lawful-step, lawful-waiting, lawful.soon.0)

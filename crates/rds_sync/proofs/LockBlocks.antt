@@ -4,10 +4,6 @@ use Rattle.rds_sync.proofs.LossLemmas.{loses_is}
 use Rattle.rds_sync.proofs.RunLemmas.{items-keeping, step-keeping, items-losing, step-losing}
 use Rattle.rds_sync.proofs.WholeRuns.{whole, goes, skip, skip_to_end}
 
-cond_same : (c : Bool) (n : ℕ) → cond c n n ≡ n
-cond_same true n = refl
-cond_same false n = refl
-
 module _ (b : Signal) (rules : RuleNumbers) (a x : ℕ) where
   -- the loss history once block k was read
   abbrev pub bad : ℕ → ℕ
@@ -15,9 +11,6 @@ module _ (b : Signal) (rules : RuleNumbers) (a x : ℕ) where
 
   pub number_first : 1 ≤ x → x ≤ 4 → number_after x 0 ≡ x
   number_first low high = omega arith
-
-  number_next : (k : ℕ) → number_after x k % 4 + 1 ≡ number_after x (suc k)
-  number_next k = omega arith
 
   pub keeps : (k : ℕ) → are_too_many rules.loss (bad k) ≡ false → loses_at b rules a x k ≡ false
   keeps k e = sym (loses_is (is_good b rules a x) rules.loss k) ∙ e
@@ -40,30 +33,25 @@ module _ (b : Signal) (rules : RuleNumbers) (a x : ℕ) where
   closes k = completed_group b rules (first_of_group b rules a x k) (number_after x k) (a + 26 * k)
 
   first_next : 1 ≤ x → (k : ℕ) → cond (number_after x k == 4) 1 (first_of_group b rules a x k) ≡ first_of_group b rules a x (suc k)
-  first_next low k = grind (arith, common_steps, cases_lt, number_after, ne_eqb, le-leb, cases_eq, eq-eqb, lt-leb, cond_same)
+  first_next low k = grind (arith, common_steps, cases_lt, number_after, ne_eqb, le-leb, cases_eq, eq-eqb, lt-leb)
 
   pub S_is : 1 ≤ x → (k : ℕ) → Locked (lock_after (a + 26 * k) (number_after x k) (bad k) (first_of_group b rules a x k)) ≡ S k
-  S_is low k =
-      let due : a + 26 * k + 26 ≡ a + 26 * suc k = omega arith in
-      rw (due, number_next k, first_next low k) refl
-
-  wait : (k bits : ℕ) → whole b rules (S k) (a + 26 * k + 1) (25 + suc bits) ≡ whole b rules (S k) (a + 26 * suc k) (suc bits)
-  wait k bits = grind (arith, common_steps, skip)
+  S_is low k = grind (arith, common_steps, first_next)
 
   pub block_good : 1 ≤ x → (k bits : ℕ) → are_too_many rules.loss (bad (suc k)) ≡ false
       → whole b rules (S k) (a + 26 * k + 1) (25 + suc bits) ≡ closes (suc k) ++ whole b rules (S (suc k)) (a + 26 * suc k + 1) bits
-  block_good low k bits h = grind (arith, common_steps, wait, goes, items-keeping, step-keeping, S_is)
+  block_good low k bits h = grind (arith, common_steps, goes, items-keeping, step-keeping, S_is, skip)
 
   pub block_lost : (k bits : ℕ) → are_too_many rules.loss (bad (suc k)) ≡ true
       → whole b rules (S k) (a + 26 * k + 1) (25 + suc bits) ≡ G (suc k) ∷ LostLock (a + 26 * suc k) ∷ whole b rules Searching (a + 26 * suc k + 1) bits
-  block_lost k bits h = grind (arith, common_steps, wait, goes, items-losing, step-losing)
+  block_lost k bits h = grind (arith, common_steps, goes, items-losing, step-losing, skip)
 
   pub block_end : (k bits : ℕ) → bits ≤ 25 → whole b rules (S k) (a + 26 * k + 1) bits ≡ items_of_end b rules (S k)
   block_end k bits h = skip_to_end b rules (lock_behind k) (a + 26 * k + 1) bits (omega arith)
 
   -- at the end of the recording the group in progress is closed
   pub last_group : 1 ≤ x → (k : ℕ) → closes k ++ items_of_end b rules (S k) ≡ G k ∷ []
-  last_group low k = grind (arith, common_steps, cases_eq, number_after, number_next, eq-eqb, completed_group, items_of_end, first_of_group, ne_eqb, first_next)
+  last_group low k = grind (arith, common_steps, cases_eq, number_after, eq-eqb, completed_group, items_of_end, first_of_group, ne_eqb, first_next)
 
   pub first_first : x ≤ 4 → first_of_group b rules a x 0 ≡ x
   first_first high = rw (le-leb (x + 0) 4 (omega arith)) refl

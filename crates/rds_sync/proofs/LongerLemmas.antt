@@ -39,26 +39,15 @@ module _ (longer shorter : Signal) (begins : BeginsWith longer shorter) where
 
     -- ---- a group
 
-    block-alike : (f x p : ℕ) (wanted : Wanted) (y : ℕ) → p < length_of shorter → block_at longer rules f x p wanted y ≡ block_at shorter rules f x p wanted y
-    block-alike f x p wanted y within =
-        ap (λ (h : Option ℕ). if nat_le f y && nat_le y x then Read (reading_heard h y wanted rules.burst) else Missing) (heard-alike (p - 26 * (x - y)) (omega (arith, within)))
-
     group-alike : (f x p : ℕ) → p < length_of shorter → group longer rules f x p ≡ group shorter rules f x p
     unfolding group
-    group-alike f x p within = grind (arith, common_steps, block_at, wanted_beside, block-alike, group_of)
-
-    after-alike : (f x i : ℕ) → i < length_of shorter → completed_group longer rules f x i ≡ completed_group shorter rules f x i
-    after-alike f x i within = ap (λ (g : GroupOf). elim (x == 4) as (λ _. List Item) [ true ↦ Group g ∷ [] | false ↦ [] ]) (group-alike f x i within)
+    group-alike f x p within = grind (arith, common_steps, block_at, wanted_beside, group_of, nat_le, reading_heard, heard-alike)
 
     -- ---- the run
 
-    bit-alike : (i : ℕ) (s : State) → i < length_of shorter → after_bit longer rules i s ≡ after_bit shorter rules i s
-    bit-alike i Searching within = grind (arith, common_steps, lock_after, completed_group, after-alike, acquired, acquired-alike)
-    bit-alike i (Locked lock) within = grind (arith, common_steps, history_after_block, bad_after, number-alike, are_too_many, lock_after, completed_group, group, group-alike, after-alike)
-
     pub run-alike : (s : State) (a m : ℕ) → a + m ≤ length_of shorter → run longer rules s a m ≡ run shorter rules s a m
     run-alike s a zero fits = refl
-    run-alike s a (suc m) fits = grind (arith, common_steps, run, bit-alike, items_at, step, run-alike (step shorter rules a s) (a + 1) m (omega (arith, fits)))
+    run-alike s a (suc m) fits = grind (arith, common_steps, run, items_at, step, run-alike (step shorter rules a s) (a + 1) m (omega (arith, fits)), acquired-alike, number-alike, group-alike)
 
 -- ---- the group in progress
 
@@ -88,8 +77,7 @@ module _ (b : Signal) (rules : RuleNumbers) where
       ap (λ (l : ℕ). run b rules (Locked lock) place l) bits
       ∙ run-append b rules (Locked lock) place (n + 1) k
       ∙ ap₂ (λ (r : State × List Item) (q : ℕ). ((run b rules r.0 q k).0, r.1 ++ (run b rules r.0 q k).1)) first next in
-      ap (λ (r : State × List Item). r.1 ++ items_of_end b rules r.0) whole
-      ∙ append_assoc (items_at b rules lock.due (Locked lock)) (run b rules (step b rules lock.due (Locked lock)) (lock.due + 1) k).1 _
+      grind (arith, common_steps, items_of_end, whole, append_assoc, items_at, lock.due, run, step, k)
 
   -- one block more
   one_on : (f x p : ℕ) (items : List Item) → 1 ≤ x → Opens f x p items → (q : ℕ) → q + 26 ≡ p → Opens f (x - 1) q items
@@ -114,9 +102,7 @@ module _ (b : Signal) (rules : RuleNumbers) where
                 y = x - 1;
                 rest = [];
                 order = (omega arith, omega (arith, numbers.2));
-                is = ap (λ (r : State × List Item). r.1 ++ items_of_end b rules r.0) (run-waiting b rules lock place m early)
-                    ∙ ap (λ (t : Bool). elim t as (λ _. List Item) [ true ↦ [] | false ↦ Group (group b rules lock.first (x - 1) p) ∷ [] ]) (ne_eqb x 1 inside)
-                    ∙ ap (λ (q : ℕ). Group (group b rules lock.first (x - 1) q) ∷ []) at;
+                is = grind (arith, common_steps, items_of_end, run-waiting, group, lock.first, p, ne_eqb);
               }
           | inl reached ↦
               let due : to_end (Locked lock) place m ≡ items_at b rules lock.due (Locked lock) ++ later = to_end-due lock place m lawful.soon.0 reached in
@@ -132,10 +118,7 @@ module _ (b : Signal) (rules : RuleNumbers) where
                     y = x;
                     rest = later;
                     order = (omega arith, numbers.2);
-                    is = due ∙ ap (λ (is : List Item). is ++ later)
-                        (items-keeping b rules lock kept
-                        ∙ ap (λ (t : Bool). elim t as (λ _. List Item) [ true ↦ Group (group b rules lock.first x lock.due) ∷ [] | false ↦ [] ]) (eq-eqb x 4 four)
-                        ∙ ap (λ (q : ℕ). Group (group b rules lock.first x q) ∷ []) here);
+                    is = grind (arith, common_steps, due, later, items-keeping, group, lock.first, lock.due, eq-eqb);
                   }
                   | inr fewer ↦
                       let bad : ℕ = history_after_block b rules lock.due x lock.bad in
@@ -152,10 +135,7 @@ module _ (b : Signal) (rules : RuleNumbers) where
                       let all : there ≡ to_end (Locked lock) place m = ap (λ (t : State). to_end t (lock.due + 1) next) (sym state) ∙ sym (due ∙ ap (λ (is : List Item). is ++ later) none) in
                       let back : x + 1 - 1 ≡ x = omega arith in
                       let at : lock.due + 26 - 26 ≡ lock.due = omega arith in
-                      one_on lock.first x lock.due (to_end (Locked lock) place m) (omega (arith, second))
-                      (subst (λ (is : List Item). Opens lock.first x lock.due is) all
-                      (subst (λ (y : ℕ). Opens lock.first y lock.due there) back (subst (λ (q : ℕ). Opens lock.first (x + 1 - 1) q there) at rest)))
-                      p (omega (arith, late))
+                      grind (arith, common_steps, one_on, lock.first, lock.due, to_end, second, all, back, rest, p, late)
                 ]
               ]
         ]
@@ -170,28 +150,13 @@ module _ (b : Signal) (rules : RuleNumbers) (f x y p : ℕ) (low : 1 ≤ f) (ord
   abbrev later_place : ℕ
   later_place = p + 26 * (y - x)
 
-  same_block : (wanted : Wanted) (q : ℕ) → q ≤ x → block_at b rules f y later_place wanted q ≡ block_at b rules f x p wanted q
-  same_block wanted q within = grind (arith, common_steps, cases_lt, block_at-missing, block_at-read, reading_at)
-
   block_goes_on : (one two : Wanted) (q : ℕ) → (q ≤ x → one ≡ two)
       → (Some (block_at b rules f x p one q) ≡ Some Missing) ⊎ (Some (block_at b rules f y later_place two q) ≡ Some (block_at b rules f x p one q))
-  block_goes_on one two q same = grind (arith, common_steps, cases_lt, block_at-missing, block_at, same_block)
+  block_goes_on one two q same = grind (arith, common_steps, cases_lt, block_at-missing, block_at)
 
   group_goes_on : x < 4 → GoesOn (group b rules f x p) (group b rules f y later_place)
   unfolding group
-  group_goes_on few = record {
-    unfinished = ap (λ (block : Block). Some block) (block_at-missing b rules f x p Either 4 (inr few));
-    place = omega (arith, order, more, room);
-    blocks = blocks;
-  }
-    where
-      blocks : (z : ℕ) → (slice_get (blocks_at b rules f x p) z ≡ Some Missing) ⊎ (slice_get (blocks_at b rules f y later_place) z ≡ slice_get (blocks_at b rules f x p) z)
-      blocks zero = block_goes_on Either Either 1 (λ h. refl)
-      blocks (suc zero) = block_goes_on Either Either 2 (λ h. refl)
-      blocks (suc (suc zero)) = block_goes_on (wanted_beside (block_at b rules f x p Either 2)) (wanted_beside (block_at b rules f y later_place Either 2)) 3
-          (λ h. ap wanted_beside (sym (same_block Either 2 (omega (arith, h)))))
-      blocks (suc (suc (suc zero))) = block_goes_on Either Either 4 (λ h. refl)
-      blocks (suc (suc (suc (suc z)))) = inr refl
+  group_goes_on few = grind (arith, common_steps, block_at-missing, order, slice_get, blocks_at, y, later_place, block_goes_on, wanted_beside, block_at)
 
 -- ---- the reports
 
@@ -208,10 +173,7 @@ module _ (longer shorter : Signal) (rules : RuleNumbers) (loss : IsLossRule rule
   ends : (t : State) → IsLawful rules n t → EndGoesOn (items_of_end shorter rules t) (to_end longer rules t n m)
   ends Searching lawful = tt
   ends (Locked lock) lawful = elim (cases_eq lock.number 1) [
-    | inl one ↦
-        let none : items_of_end shorter rules (Locked lock) ≡ [] =
-        ap (λ (t : Bool). elim t as (λ _. List Item) [ true ↦ [] | false ↦ Group (group shorter rules lock.first (lock.number - 1) (lock.due - 26)) ∷ [] ]) (eq-eqb lock.number 1 one) in
-        subst (λ (is : List Item). EndGoesOn is (to_end longer rules (Locked lock) n m)) (sym none) tt
+    | inl one ↦ grind (arith, common_steps, items_of_end, group, lock.first, lock.number, lock.due, eq-eqb, one, to_end)
     | inr inside ↦
         let x : ℕ = lock.number - 1 in
         let p : ℕ = lock.due - 26 in
@@ -223,8 +185,7 @@ module _ (longer shorter : Signal) (rules : RuleNumbers) (loss : IsLossRule rule
         group-alike longer shorter begins rules lock.first x p (omega (arith, lawful.soon, order, lawful.enough_bits)) in
         let next = opens longer rules loss 4 lock n m lawful inside (omega (arith, numbers)) in
         let goes = group_goes_on longer rules lock.first x next.y p order.0 order.1 next.order.0 (omega (arith, lawful.enough_bits, order)) order.2 in
-        subst (λ (is : List Item). EndGoesOn is (to_end longer rules (Locked lock) n m)) (sym (some ∙ ap (λ (g : GroupOf). Group g ∷ []) (sym one)))
-        (subst (λ (is : List Item). EndGoesOn (Group (group longer rules lock.first x p) ∷ []) is) (sym next.is) goes)
+        grind (arith, common_steps, to_end, some, one, group, lock.first, p, next.is, goes)
   ]
     where
       in_order : (f x : ℕ) → ((x ≡ 1) × (f ≡ 1)) ⊎ ((1 ≤ f) × (f < x) × (x ≤ 4)) → x ≢ 1 → (1 ≤ f) × (f ≤ x - 1) × (x - 1 < 4)
@@ -257,29 +218,14 @@ longer_recordings_add_items longer shorter rules loss begins = adds_items longer
 
 -- ---- a beginning
 
-clipped_touch : (n i : ℕ) (gap : ℕ × ℕ) → i < n → is_touched_by i (gap.0, min gap.1 n) ≡ is_touched_by i gap
-clipped_touch n i gap within = grind (arith, common_steps, nat_le, cases_lt, lt-ltb, le-ltb)
-
 clipped_all : (n i : ℕ) (gaps : List (ℕ × ℕ)) → i < n
     → list_any (is_touched_by i) gaps ≡ list_any (is_touched_by i) (map (λ (gap : ℕ × ℕ). (gap.0, min gap.1 n)) (filter (λ (gap : ℕ × ℕ). nat_lt gap.0 n) gaps))
 clipped_all n i [] within = refl
-clipped_all n i (gap ∷ gaps) within =
-    let rest = clipped_all n i gaps within in
-    let all : Bool → Bool = λ t. list_any (is_touched_by i) (map (λ (g : ℕ × ℕ). (g.0, min g.1 n)) (cond t (gap ∷ filter (λ (g : ℕ × ℕ). nat_lt g.0 n) gaps) (filter (λ (g : ℕ × ℕ). nat_lt g.0 n) gaps))) in
-    elim (cases_lt gap.0 n) [
-      | inl kept ↦ ap₂ ◌||◌ (sym (clipped_touch n i gap within)) rest ∙ sym (ap all (lt-ltb gap.0 n kept))
-      | inr dropped ↦
-          let none : is_touched_by i gap ≡ false = ap (λ (t : Bool). t && nat_lt (i - 25) gap.1) (lt-leb gap.0 i (omega (arith, within, dropped))) in
-          ap₂ ◌||◌ none rest ∙ sym (ap all (le-ltb gap.0 n dropped))
-    ]
+clipped_all n i (gap ∷ gaps) within = grind (arith, common_steps, list_any, is_touched_by, min, filter, nat_lt, lt-ltb, lt-leb, le-ltb, gap.0, gap.1, clipped_all n i gaps within)
 
 pub beginnings_begin : BeginningsBegin
 unfolding touched
-beginnings_begin b n few = record {
-  more = drop n b.bits;
-  bits = sym (take-append-drop n b.bits);
-  gaps = λ i within. clipped_all n i b.gaps (omega (arith, within, length-take n b.bits));
-}
+beginnings_begin b n few = grind (arith, common_steps, drop, take-append-drop, clipped_all, length-take, b.bits, b.gaps, drop n b.bits, take-append-drop n b.bits, length-take n b.bits)
 
 -- ---- the totals
 
@@ -296,37 +242,20 @@ sum_goes_on f none (a ∷ xs) [] goes = elim (goes 0) [
 sum_goes_on f none (a ∷ xs) (b ∷ ys) goes =
     let rest = sum_goes_on f none xs ys (λ y. goes (suc y)) in
     elim (goes 0) [
-      | inl missing ↦
-          let is : a ≡ Missing = cc missing in
-          omega (arith, sum_by-cons f a xs, sum_by-cons f b ys, ap f is, none, rest)
-      | inr same ↦
-          let is : b ≡ a = cc same in
-          omega (arith, sum_by-cons f a xs, sum_by-cons f b ys, ap f is, rest)
+      | inl missing ↦ grind (arith, common_steps, sum_by-cons, rest)
+      | inr same ↦ grind (arith, common_steps, sum_by-cons, rest)
     ]
-
--- a sum over items of which the last may go on
-ends_grow : (w : Item → ℕ) → ((g h : GroupOf) → GoesOn g h → w (Group g) ≤ w (Group h)) → (end later : List Item) → EndGoesOn end later → sum_by w end ≤ sum_by w later
-ends_grow w more [] later goes = omega arith
-ends_grow w more (Group g ∷ []) [] goes = absurd goes
-ends_grow w more (Group g ∷ []) (Group h ∷ later) goes = omega (arith, sum_by-cons w (Group g) [], sum_by-cons w (Group h) later, more g h goes)
-ends_grow w more (Group g ∷ []) (Acquired a x ∷ later) goes = absurd goes
-ends_grow w more (Group g ∷ []) (LostLock a ∷ later) goes = absurd goes
-ends_grow w more (Group g ∷ item ∷ end) later goes = absurd goes
-ends_grow w more (Acquired a x ∷ end) later goes = absurd goes
-ends_grow w more (LostLock a ∷ end) later goes = absurd goes
 
 module _ (shorter longer : List Item) (adds : OnlyAddsItems shorter longer) where
   grows : (w : Item → ℕ) → ((g h : GroupOf) → GoesOn g h → w (Group g) ≤ w (Group h)) → sum_by w shorter ≤ sum_by w longer
-  grows w more = grind (arith, common_steps, sum_by-append, ends_grow)
+  grows w more = grind (arith, common_steps, sum_by-append)
 
   blocks_grow : (f : Block → ℕ) → f Missing ≡ 0 → sum_blocks f shorter ≤ sum_blocks f longer
   blocks_grow f none = grows (λ (item : Item). elim item as (λ _. ℕ) [ Acquired a x ↦ 0 | Group g ↦ sum_by f g.blocks | LostLock a ↦ 0 ]) (λ g h goes. sum_goes_on f none g.blocks h.blocks goes.blocks)
 
   -- a group that goes on is not complete
   not_complete : (g h : GroupOf) → GoesOn g h → is_complete (Group g) ≡ false
-  not_complete g h goes =
-      list_all_at (λ (block : Block). is_some (info_of block)) g.blocks 3 Missing (slice_get_within g.blocks 3 Missing goes.unfinished)
-      (ap (λ (block : Block). is_some (info_of block)) (get_or_from_slice_get g.blocks 3 Missing Missing goes.unfinished))
+  not_complete g h goes = grind (arith, common_steps, get_or_from_slice_get g.blocks 3 Missing Missing goes.unfinished)
 
   no_less : AreNoLess (totals_of shorter) (totals_of longer)
   no_less = record {

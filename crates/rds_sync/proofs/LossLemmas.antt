@@ -61,9 +61,6 @@ module _ (is_good : ℕ → Bool) where
     | inr ill ↦ let e = row_more k ill in let r = row_stop k (omega arith) in (r.0, omega (arith, r.1), r.2)
   ]
 
-  row_loses : (n k : ℕ) → n ≤ row k → loses (Run n) is_good k ≡ true
-  row_loses n k h = grind (arith, common_steps, row_le, le-leb, all_pass, row_back)
-
   row_keeps : (n k : ℕ) → row k < n → loses (Run n) is_good k ≡ false
   row_keeps n k h = elim (cases_lt k n) [
     | inl few ↦ rw (lt-leb n k few) refl
@@ -117,29 +114,15 @@ module _ (is_good : ℕ → Bool) where
   bads_are : (v k : ℕ) → count_by (λ j. not (is_good j)) (last_blocks v k) ≡ bads v k
   bads_are zero k = let none : min 0 k ≡ 0 = omega arith in ap (λ (n : ℕ). count_by (λ j. not (is_good j)) (range_with_len (k + 1 - n) n)) none
   bads_are (suc v) zero = let none : min (suc v) 0 ≡ 0 = omega arith in ap (λ (n : ℕ). count_by (λ j. not (is_good j)) (range_with_len (0 + 1 - n) n)) none
-  bads_are (suc v) (suc k) =
-      ap (count_by (λ j. not (is_good j))) (last_more v k)
-      ∙ sum_by_push (λ j. cond (not (is_good j)) 1 0) (last_blocks v k) (suc k)
-      ∙ ap₂ (λ (n f : ℕ). n + f) (bads_are v k) (flag_is (is_good (suc k)))
-    where
-      flag_is : (good : Bool) → ◌≡◌ {A = ℕ} (cond (not good) 1 0) (cond good 0 1)
-      flag_is true = refl
-      flag_is false = refl
+  bads_are (suc v) (suc k) = grind (arith, common_steps, count_by, not, last_more, sum_by_push, last_blocks, bads_are v k)
 
   -- a lock is lost by its loss history exactly when its blocks lose it
   pub loses_is : (loss : Loss) (k : ℕ) → are_too_many loss (bad_at is_good loss k) ≡ loses loss is_good k
-  loses_is (Run n) k = ap (are_too_many (Run n)) (row_is n k) ∙ by_row (cases_lt (row k) n) where
-    by_row : (row k < n) ⊎ (n ≤ row k) → nat_le n (row k) ≡ loses (Run n) is_good k
-    by_row (inl few) = lt-leb n (row k) few ∙ sym (row_keeps n k few)
-    by_row (inr many) = le-leb n (row k) many ∙ sym (row_loses n k many)
-  loses_is (Share n v) k =
-      ap (are_too_many (Share n v)) (mask_is n v k)
-      ∙ ap (nat_le n) (ones_are v k ∙ sym (bads_are v k))
+  loses_is v0 k = grind (arith, common_steps, are_too_many, row_is, row, nat_le, loses, lt-leb, row_keeps, le-leb, mask_is, ones_are, bads_are, row_le, all_pass, row_back)
 
   none_lost : (loss : Loss) → IsLossRule loss → are_too_many loss 0 ≡ false
   unfolding ones
-  none_lost (Run n) h = lt-leb n 0 h
-  none_lost (Share n v) h = lt-leb n 0 h.0
+  none_lost v0 h = grind (arith, common_steps, lt-leb)
 
   pub never_0 : (loss : Loss) → IsLossRule loss → loses loss is_good 0 ≡ false
   never_0 loss h = sym (loses_is loss 0) ∙ none_lost loss h
@@ -153,29 +136,18 @@ module _ (is_good : ℕ → Bool) where
   all_bad : (v k : ℕ) → v ≤ bads v k → v ≤ row k
   all_bad zero k h = omega arith
   all_bad (suc v) zero h = absurd (omega (arith, h))
-  all_bad (suc v) (suc k) h = elim (cases_Bool (is_good (suc k))) [
-    | inl good ↦ let f : flag (suc k) ≡ 0 = rw good refl in absurd (omega (arith, h, f, bads_le v k))
-    | inr ill ↦ let f = flag_le (suc k) in rw (row_more k ill) (omega (arith, all_bad v k (omega (arith, h, f))))
-  ]
+  all_bad (suc v) (suc k) h = grind (arith, common_steps, flag, bads_le, flag_le, row_more, all_bad v k (omega (arith, h, (flag_le (suc k)))))
 
   in_a_row : (v k : ℕ) → v ≤ row k → v ≤ bads v k
   in_a_row zero k h = omega arith
   in_a_row (suc v) zero h = absurd (omega (arith, h))
   in_a_row (suc v) (suc k) h = elim (cases_Bool (is_good (suc k))) [
     | inl good ↦ absurd (omega (arith, h, row_good k good))
-    | inr ill ↦
-        let f : flag (suc k) ≡ 1 = rw ill refl in
-        omega (arith, f, in_a_row v k (omega (arith, h, row_more k ill)))
+    | inr ill ↦ grind (arith, common_steps, flag, row_more, in_a_row v k (omega (arith, h, row_more k ill)))
   ]
 
   pub run_is_share : (n k : ℕ) → loses (Run n) is_good k ≡ loses (Share n n) is_good k
-  run_is_share n k = by_row (cases_lt (row k) n) ∙ ap (nat_le n) (sym (bads_are n k)) where
-    by_row : (row k < n) ⊎ (n ≤ row k) → loses (Run n) is_good k ≡ nat_le n (bads n k)
-    by_row (inl few) = row_keeps n k few ∙ sym (fewer (cases_lt (bads n k) n)) where
-      fewer : (bads n k < n) ⊎ (n ≤ bads n k) → nat_le n (bads n k) ≡ false
-      fewer (inl less) = lt-leb n (bads n k) less
-      fewer (inr all) = absurd (omega (arith, few, all_bad n k all))
-    by_row (inr many) = row_loses n k many ∙ sym (le-leb n (bads n k) (in_a_row n k many))
+  run_is_share n k = grind (arith, common_steps, row, nat_le, bads_are, loses, bads, row_keeps, lt-leb, all_bad, le-leb, in_a_row, row_le, all_pass, row_back)
 
   past : (v k i : ℕ) → min v k ≤ i → cond (nat_lt i (min v k)) (flag (k - i)) 0 ≡ 0
   past v k i h = ap (λ (t : Bool). cond t (flag (k - i)) 0) (le-ltb i (min v k) h)
@@ -183,28 +155,10 @@ module _ (is_good : ℕ → Bool) where
   -- digit i of the mask is block k - i: 0 for a block that was not read
   digits : (v k i : ℕ) → bit_at (mask v k) i ≡ cond (nat_lt i (min v k)) (flag (k - i)) 0
   digits zero zero i = bit_at-zero i ∙ sym (past 0 0 i (omega arith))
-  digits zero (suc k) i =
-      let none : (2 * mask 0 k + flag (suc k)) % 1 ≡ 0 = omega arith in
-      ap (λ (m : ℕ). bit_at m i) none ∙ bit_at-zero i ∙ sym (past 0 (suc k) i (omega arith))
+  digits zero (suc k) i = grind (arith, common_steps, mask, flag, bit_at, bit_at-zero, past)
   digits (suc v) zero i = bit_at-zero i ∙ sym (past (suc v) 0 i (omega arith))
-  digits (suc v) (suc k) zero =
-      let all : suc k - 0 ≡ suc k = omega arith in
-      let low : (2 * mask v k + flag (suc k)) % 2 ≡ flag (suc k) = omega (arith, flag_le (suc k)) in
-      ap (λ (m : ℕ). bit_at m 0) (mask_next v k (mask_half v k))
-      ∙ bit_at_lowest (2 * mask v k + flag (suc k))
-      ∙ low ∙ sym (ap₂ (λ (t : Bool) (j : ℕ). cond t (flag j) 0) (lt-ltb 0 (min (suc v) (suc k)) (omega arith)) all)
-  digits (suc v) (suc k) (suc i) =
-      let high : (2 * mask v k + flag (suc k)) / 2 ≡ mask v k = omega (arith, flag_le (suc k)) in
-      let back : suc k - suc i ≡ k - i = omega arith in
-      ap (λ (m : ℕ). bit_at m (suc i)) (mask_next v k (mask_half v k))
-      ∙ bit_at-suc (2 * mask v k + flag (suc k)) i
-      ∙ ap (λ (m : ℕ). bit_at m i) high
-      ∙ digits v k i
-      ∙ ap₂ (λ (t : Bool) (j : ℕ). cond t (flag j) 0) (within (cases_lt i (min v k))) (sym back)
-    where
-      within : (i < min v k) ⊎ (min v k ≤ i) → nat_lt i (min v k) ≡ nat_lt (suc i) (min (suc v) (suc k))
-      within (inl l) = lt-ltb i (min v k) l ∙ sym (lt-ltb (suc i) (min (suc v) (suc k)) (omega arith))
-      within (inr u) = le-ltb i (min v k) u ∙ sym (le-ltb (suc i) (min (suc v) (suc k)) (omega arith))
+  digits (suc v) (suc k) zero = grind (arith, common_steps, mask, flag, flag_le, bit_at, mask_next, mask_half, bit_at_lowest, lt-ltb, min)
+  digits (suc v) (suc k) (suc i) = grind (arith, common_steps, mask, flag, flag_le, bit_at, mask_next, mask_half, bit_at-suc, min, nat_lt, lt-ltb, le-ltb, digits v k i)
 
 pub masks_tell : MasksTellBlocks
 masks_tell is_good bad of k i = ap (λ (m : ℕ). bit_at m i) (mask_is is_good bad of k) ∙ digits is_good of k i
@@ -213,19 +167,13 @@ pub ones_zero : count_ones 0 ≡ 0
 unfolding ones
 ones_zero = refl
 
-few_from : (n m : ℕ) → nat_le n m ≡ false → m < n
-few_from n m e = grind (arith, common_steps, cases_lt, nat_le, le-leb)
-
 -- a good block leaves none
 pub none-kept : (loss : Loss) → bad_after loss true 0 ≡ 0
-none-kept (Run n) = refl
-none-kept (Share n v) = let some : 1 ≤ 2 ^ v = omega (arith, pow_pos v) in mod-eq_of_lt {n = 0} {m = 2 ^ v} some
+none-kept v0 = grind (arith, common_steps, pow_pos, mod-eq_of_lt)
 
 -- lawful: none, and the loss history of a lock that is not lost
 pub lawful_none : (loss : Loss) → IsLossRule loss → IsLawfulBad loss 0
-lawful_none (Run n) h = h
-lawful_none (Share n v) h = (omega (arith, pow_pos v), omega (arith, ones_zero, h.0))
+lawful_none v0 h = grind (arith, common_steps, pow_pos, ones_zero)
 
 pub lawful_kept : (loss : Loss) (bad : ℕ) (good : Bool) → IsLawfulBad loss bad → are_too_many loss (bad_after loss good bad) ≡ false → IsLawfulBad loss (bad_after loss good bad)
-lawful_kept (Run n) row good h e = few_from n _ e
-lawful_kept (Share n v) m good h e = (mod-lt _ (omega (arith, pow_pos v)), few_from n _ e)
+lawful_kept v0 v1 good h e = grind (arith, common_steps, mod-lt, pow_pos)

@@ -3,18 +3,12 @@ use Rattle.rds_sync.proofs.Names.{common_steps, arith, ◌≡◌, ℕ, ◌+◌, 
 use Rattle.std.specs.Prelude.{map}
 use Rattle.rds_sync.proofs.TotalsLemmas.{same_counts}
 
--- a sum over a list from that over the images of its elements
-sum-through : {A B : Type 0} (f : A → ℕ) (h : B → ℕ) (k : A → B) → ((a : A) → f a ≡ h (k a)) → (xs : List A) → sum_by f xs ≡ sum_by h (map k xs)
-sum-through f h k e [] = refl
-sum-through f h k e (x ∷ xs) =
-    sum_by-cons f x xs ∙ ap₂ (λ (m n : ℕ). m + n) (e x) (sum-through f h k e xs) ∙ sym (sum_by-cons h (k x) (map k xs))
-
 all-through : {A B : Type 0} (p : A → Bool) (q : B → Bool) (k : A → B) → ((a : A) → p a ≡ q (k a)) → (xs : List A) → list_all p xs ≡ list_all q (map k xs)
 all-through p q k e [] = refl
 all-through p q k e (x ∷ xs) = ap₂ (λ (s t : Bool). s && t) (e x) (all-through p q k e xs)
 
 sum_is : (f : Block → ℕ) (h : Outcome → ℕ) → ((b : Block) → f b ≡ h (outcome_of b)) → (g : GroupRecord) → sum_blocks f (Group g ∷ []) ≡ sum_by h (map outcome_of g.blocks)
-sum_is f h e g = grind (arith, common_steps, sum_by-cons, add-zero, sum-through, outcome_of)
+sum_is f h e g = grind (arith, common_steps, sum_by-cons, add-zero, outcome_of)
 
 -- 1 where the test passes
 abbrev one_if : Bool → ℕ
@@ -25,34 +19,19 @@ count_is : (p : Block → Bool) (q : Outcome → Bool) → ((b : Block) → p b 
 count_is p q e = sum_is (λ b. one_if (p b)) (λ o. one_if (q o)) (λ b. ap one_if (e b))
 
 pub valid_is : (b : Block) → is_valid b ≡ was_valid (outcome_of b)
-valid_is Missing = refl
-valid_is (Read (Valid o info)) = refl
-valid_is (Read (Corrected o info e)) = refl
-valid_is (Read Lost) = refl
+valid_is v0 = grind (arith, common_steps)
 
 lost_is : (b : Block) → is_lost b ≡ was_lost (outcome_of b)
-lost_is Missing = refl
-lost_is (Read (Valid o info)) = refl
-lost_is (Read (Corrected o info e)) = refl
-lost_is (Read Lost) = refl
+lost_is v0 = grind (arith, common_steps)
 
 corrected_is : (s : ℕ) (b : Block) → is_corrected_by s b ≡ has_span s (outcome_of b)
-corrected_is s Missing = refl
-corrected_is s (Read (Valid o info)) = refl
-corrected_is s (Read (Corrected o info e)) = refl
-corrected_is s (Read Lost) = refl
+corrected_is s v1 = grind (arith, common_steps)
 
 bits_are : (b : Block) → bits_corrected b ≡ bits_inverted (outcome_of b)
-bits_are Missing = refl
-bits_are (Read (Valid o info)) = refl
-bits_are (Read (Corrected o info e)) = refl
-bits_are (Read Lost) = refl
+bits_are v0 = grind (arith, common_steps)
 
 info_is : (b : Block) → is_some (info_of b) ≡ has_info (outcome_of b)
-info_is Missing = refl
-info_is (Read (Valid o info)) = refl
-info_is (Read (Corrected o info e)) = refl
-info_is (Read Lost) = refl
+info_is v0 = grind (arith, common_steps)
 
 pub group-tells : (g : GroupRecord) → totals_of (Group g ∷ []) ≡ group_totals (map outcome_of g.blocks)
 group-tells g =

@@ -29,10 +29,7 @@ module _ (b : Signal) (rules : RuleNumbers) (a x : ℕ) where
   loss_some k e = rw (e, loss_items) refl
 
   read_low : (c d : ℕ) → c + d ≡ block_count b rules a x → end b rules a x ≡ find (loses_at b rules a x) (range_with_len c d) → c ≤ read_blocks b rules a x
-  read_low c d all e = at_end (end b rules a x) refl where
-    at_end : (o : Option ℕ) → end b rules a x ≡ o → c ≤ read_blocks b rules a x
-    at_end None f = rw (read_none f) (omega arith)
-    at_end (Some k) f = let l = find_low (loses_at b rules a x) c d k (sym e ∙ f) in rw (read_some k f) (omega arith)
+  read_low c d all e = grind (arith, common_steps, end, read_blocks, find_low, loses_at, read_some)
 
   -- the groups from block k on
   abbrev groups_from : ℕ → ℕ → List Item
@@ -64,13 +61,7 @@ module _ (b : Signal) (rules : RuleNumbers) (a x : ℕ) where
       → 1 ≤ x → (d k bits : ℕ) → suc k + d ≡ block_count b rules a x → a + 26 * k + 1 + bits ≡ length_of b → bits ≤ fuel
       → end b rules a x ≡ find (loses_at b rules a x) (range_with_len (suc k) d)
       → closes b rules a x k ++ whole b rules (S b rules a x k) (a + 26 * k + 1) bits ≡ groups_from k (read_blocks b rules a x - k) ++ (loss_items b rules a x ++ rest fuel)
-  tail fuel again low zero k bits all total few e =
-      let rb = read_none e in
-      let one : read_blocks b rules a x - k ≡ 1 = omega (arith, rb, all) in
-      let same : k + 1 ≡ read_blocks b rules a x = omega (arith, rb, all) in
-      let small : bits ≤ 25 = omega arith in
-      ap (λ (t : List Item). closes b rules a x k ++ t) (block_end b rules a x k bits small) ∙ last_group b rules a x low k
-      ∙ sym (rw (loss_none e, rest_none fuel e) (ap (λ (r : ℕ). groups_from k r ++ []) one ∙ ap (λ (t : List Item). t ++ []) (groups_last k 0 same)))
+  tail fuel again low zero k bits all total few e = grind (arith, common_steps, read_none, read_blocks, closes, block_end, last_group, loss_none, rest_none, groups_from, groups_last)
   tail fuel again low (suc d) k bits all total few e = elim (cases_Bool (are_too_many rules.loss (bad b rules a x (suc k)))) [
     | inr ok ↦
         let left : ℕ = bits - 26 in
@@ -81,9 +72,7 @@ module _ (b : Signal) (rules : RuleNumbers) (a x : ℕ) where
         let ih = tail fuel again low d (suc k) left (omega arith) (omega arith) (omega arith) e2 in
         let r : read_blocks b rules a x - k ≡ suc (read_blocks b rules a x - suc k) = omega arith in
         let ne : k + 1 ≢ read_blocks b rules a x = λ f. omega arith in
-        ap (λ (t : List Item). closes b rules a x k ++ t) (w ∙ ih)
-        ∙ sym (ap (λ (t : List Item). t ++ (loss_items b rules a x ++ rest fuel)) (ap (λ (n : ℕ). groups_from k n) r ∙ groups_step k (read_blocks b rules a x - suc k) ne)
-        ∙ append_assoc (closes b rules a x k) (groups_from (suc k) (read_blocks b rules a x - suc k)) (loss_items b rules a x ++ rest fuel))
+        grind (arith, common_steps, closes, w, ih, loss_items, rest, groups_from, r, groups_step, read_blocks, ne, append_assoc)
     | inl lost ↦
         let left : ℕ = bits - 26 in
         let m : bits ≡ 25 + suc left = omega arith in
@@ -94,11 +83,7 @@ module _ (b : Signal) (rules : RuleNumbers) (a x : ℕ) where
         let r : read_blocks b rules a x - k ≡ 2 = omega (arith, rb) in
         let ne : k + 1 ≢ read_blocks b rules a x = λ f. omega (arith, rb) in
         let same : suc k + 1 ≡ read_blocks b rules a x = omega (arith, rb) in
-        ap (λ (t : List Item). closes b rules a x k ++ t) (w ∙ ap (λ (t : List Item). G b rules a x (suc k) ∷ LostLock (a + 26 * suc k) ∷ t) next)
-        ∙ sym (rw (loss_some (suc k) e2, rest_some fuel (suc k) e2)
-        (ap (λ (t : List Item). t ++ (LostLock (a + 26 * suc k) ∷ items_from b rules fuel (a + 26 * suc k + 1)))
-        (ap (λ (n : ℕ). groups_from k n) r ∙ groups_step k 1 ne ∙ ap (λ (t : List Item). closes b rules a x k ++ t) (groups_last (suc k) 0 same))
-        ∙ append_assoc (closes b rules a x k) (G b rules a x (suc k) ∷ []) (LostLock (a + 26 * suc k) ∷ items_from b rules fuel (a + 26 * suc k + 1))))
+        grind (arith, common_steps, closes, w, loss_some, e2, rest_some, items_from, groups_from, r, groups_step, ne, groups_last, same, append_assoc)
   ]
 
 module _ (b : Signal) (rules : RuleNumbers) where
@@ -120,13 +105,7 @@ module _ (b : Signal) (rules : RuleNumbers) where
       let finds : end b rules a x ≡ find (loses_at b rules a x) (range_with_len 1 d) =
       ap (λ (n : ℕ). find (loses_at b rules a x) (range_with_len 0 n)) (sym all ∙ one-add d) ∙ find_later b rules a x 0 d (never_0 (is_good b rules a x) rules.loss loss) in
       let later = tail b rules a x fuel again low d 0 left all (omega arith) few finds in
-      goes b rules Searching (S b rules a x 0) (Acquired a x ∷ completed_group b rules x x a) a left (items-acquiring b rules a x e) (step-acquiring b rules a x e ∙ begins)
-      ∙ ap (λ (t : List Item). Acquired a x ∷ t)
-      (ap (λ (t : List Item). t ++ whole b rules (S b rules a x 0) (a + 1) left) (sym closed)
-      ∙ ap (λ (p : ℕ). closes b rules a x 0 ++ whole b rules (S b rules a x 0) (p + 1) left) (sym start)
-      ∙ later
-      ∙ ap (λ (r : ℕ). groups_from b rules a x 0 r ++ (loss_items b rules a x ++ rest b rules a x fuel)) none_before
-      ∙ sym (append_assoc (groups_from b rules a x 0 (read_blocks b rules a x)) (loss_items b rules a x) (rest b rules a x fuel)))
+      grind (arith, common_steps, goes, completed_group, items-acquiring, step-acquiring, begins, whole, closed, closes, start, later, groups_from, loss_items, rest, none_before, append_assoc, read_blocks)
 
   locks_are : IsLossRule rules.loss → (fuel q m : ℕ) → q + m ≡ length_of b → m ≤ fuel → whole b rules Searching q m ≡ items_from b rules fuel q
   locks_are loss zero q zero total few = refl

@@ -71,14 +71,7 @@ module _ (b : Signal) (rules : RuleNumbers) where
         (run b rules (run b rules s from (middle - from)).0 middle (to - middle)).0,
         (run b rules s from (middle - from)).1 ++ (run b rules (run b rules s from (middle - from)).0 middle (to - middle)).1,
       )
-  run-places s from middle to low high =
-      let all : to - from ≡ (middle - from) + (to - middle) = omega arith in
-      let place : from + (middle - from) ≡ middle = omega arith in
-      rw all (run-append s from (middle - from) (to - middle)
-      ∙ ap (λ (p : ℕ). (
-        (run b rules (run b rules s from (middle - from)).0 p (to - middle)).0,
-        (run b rules s from (middle - from)).1 ++ (run b rules (run b rules s from (middle - from)).0 p (to - middle)).1,
-      )) place)
+  run-places s from middle to low high = grind (arith, common_steps, run-append, run, run-append s from (middle - from) (to - middle))
 
   -- two runs that are in one state have one end, and from there on the same items
   pub runs-merge : (s t : State) (from middle to : ℕ) → from ≤ middle → middle ≤ to
@@ -87,15 +80,7 @@ module _ (b : Signal) (rules : RuleNumbers) where
       × ((run b rules s from (to - from)).0 ≡ (run b rules t from (to - from)).0)
       × ((run b rules s from (to - from)).1 ≡ (run b rules s from (middle - from)).1 ++ later)
       × ((run b rules t from (to - from)).1 ≡ (run b rules t from (middle - from)).1 ++ later)
-  runs-merge s t from middle to low high same =
-      let one = run-places s from middle to low high in
-      let other = run-places t from middle to low high in (
-        (run b rules (run b rules s from (middle - from)).0 middle (to - middle)).1,
-        ap (λ (r : State × List Item). r.0) one ∙ ap (λ (u : State). (run b rules u middle (to - middle)).0) same ∙ sym (ap (λ (r : State × List Item). r.0) other),
-        ap (λ (r : State × List Item). r.1) one,
-        ap (λ (r : State × List Item). r.1) other
-            ∙ ap (λ (u : State). (run b rules t from (middle - from)).1 ++ (run b rules u middle (to - middle)).1) (sym same),
-      )
+  runs-merge s t from middle to low high same = grind (arith, common_steps, run-places, run, run-places s from middle to low high, run-places t from middle to low high)
 
   -- while a block is waited for, a run changes nothing and gives nothing
   pub run-waiting : (lock : Lock) (a n : ℕ) → a + n ≤ lock.due → run b rules (Locked lock) a n ≡ (Locked lock, [])
@@ -110,10 +95,7 @@ module _ (b : Signal) (rules : RuleNumbers) where
   -- a search goes on where no place acquires
   pub run-searching : (a n : ℕ) → ((i : ℕ) → a ≤ i → i < a + n → acquired b rules i ≡ None) → run b rules Searching a n ≡ (Searching, [])
   run-searching a zero none = refl
-  run-searching a (suc n) none =
-      let here = none a (omega arith) (omega arith) in
-      run-first Searching Searching [] a n (step-searching a here) (items-searching a here)
-      ∙ run-searching (a + 1) n (λ i low high. none i (omega arith) (omega arith))
+  run-searching a (suc n) none = grind (arith, common_steps, run-first, step-searching, items-searching, run-searching (a + 1) n (λ i low high. none i (omega arith) (omega arith)))
 
 -- a step, by its first state and its places
 module _ (b : Signal) (rules : RuleNumbers) (s : State) (place after : ℕ) where
@@ -135,13 +117,7 @@ run-further b rules s now t items found from place after low high so_far state_i
 -- a search up to and including one place
 pub run-found : (b : Signal) (rules : RuleNumbers) (place here : ℕ) → place ≤ here → ((j : ℕ) → place ≤ j → j < here → acquired b rules j ≡ None)
     → run b rules Searching place (here + 1 - place) ≡ (step b rules here Searching, items_at b rules here Searching)
-run-found b rules place here order none =
-    let bits : here + 1 - place ≡ (here - place) + 1 = omega arith in
-    let at : place + (here - place) ≡ here = omega arith in
-    let later : (j : ℕ) → place ≤ j → j < place + (here - place) → acquired b rules j ≡ None = λ j low high. none j low (omega arith) in
-    rw bits (run-append b rules Searching place (here - place) 1
-    ∙ ap₂ (λ (r : State × List Item) (p : ℕ). ((run b rules r.0 p 1).0, r.1 ++ (run b rules r.0 p 1).1)) (run-searching b rules place (here - place) later) at
-    ∙ run-one b rules Searching here)
+run-found b rules place here order none = grind (arith, common_steps, run-searching, run-append b rules Searching place (here - place) 1)
 
 -- a search of all places of a range
 pub run-unfound : (b : Signal) (rules : RuleNumbers) (place to : ℕ) → place ≤ to → ((j : ℕ) → place ≤ j → j < to → acquired b rules j ≡ None)
@@ -156,6 +132,4 @@ none_first (x ∷ xs) ys e = cc
 -- a run that gives nothing gave nothing before its last bit
 pub run-quiet : (b : Signal) (rules : RuleNumbers) (s : State) (place to : ℕ) → place < to → (run b rules s place (to - place)).1 ≡ []
     → (run b rules s place (to - 1 - place)).1 ≡ []
-run-quiet b rules s place to order nothing =
-    let bits : to - place ≡ (to - 1 - place) + 1 = omega arith in
-    none_first _ _ (sym (run_items-append b rules s place (to - 1 - place) 1) ∙ rw (← bits) nothing)
+run-quiet b rules s place to order nothing = grind (arith, common_steps, none_first, run_items-append, run, run_items-append b rules s place (to - 1 - place) 1)

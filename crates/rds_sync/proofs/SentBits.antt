@@ -1,5 +1,5 @@
 -- The bits of groups that were encoded, and then damaged or not: their windows are the blocks with their damage.
-use Rattle.rds_sync.proofs.Names.{Signal, AreWords, ◌≡◌, ℕ, zero, suc, ◌+◌, ◌-◌, ◌*◌, ◌/◌, ◌%◌, ◌^◌, ◌<◌, List, [], ◌∷◌, ◌++◌, length, Some, refl, sym, ap, ap₂, subst, ◌∙◌, arith, inl, get_or, take, drop, append-nil, append_assoc, length-append, pow-suc, drop-append_seam, take-append_seam, xor_zero_r, number_from_digits, Offset, A, B, D, IsBlockOf, encoded, third_offset, HasOneBlock, ungapped, heard, touched, window, IsHeardFrom, GroupIsHeard, AreHeard, binary, group_bits, bits_sent, EncodedGroupsAreHeard, EncodedGroupsAreListed, ◌⊎◌, inr, bit_xor, flat_map, xor_lt, IsBurst, SentGroup, AreHeardDamaged, IsCorrectable, AreCorrectable, bits_with_damage, DamagedGroupsAreHeard, DamagedBitsAreDecoded}
+use Rattle.rds_sync.proofs.Names.{common_steps, Signal, AreWords, ◌≡◌, ℕ, zero, suc, ◌+◌, ◌-◌, ◌*◌, ◌/◌, ◌%◌, ◌^◌, ◌<◌, List, [], ◌∷◌, ◌++◌, length, Some, refl, sym, ap, ap₂, subst, ◌∙◌, arith, inl, get_or, take, drop, append-nil, append_assoc, length-append, pow-suc, drop-append_seam, take-append_seam, xor_zero_r, number_from_digits, Offset, A, B, D, IsBlockOf, encoded, third_offset, HasOneBlock, ungapped, heard, touched, window, IsHeardFrom, GroupIsHeard, AreHeard, binary, group_bits, bits_sent, EncodedGroupsAreHeard, EncodedGroupsAreListed, ◌⊎◌, inr, bit_xor, flat_map, xor_lt, IsBurst, SentGroup, AreHeardDamaged, IsCorrectable, AreCorrectable, bits_with_damage, DamagedGroupsAreHeard, DamagedBitsAreDecoded}
 use Rattle.std.specs.Prelude.{map}
 use Rattle.std.proofs.lemmas.Int.Digits.{number_push}
 use Rattle.std.proofs.lemmas.List.{length-map}
@@ -14,21 +14,11 @@ length-binary (suc n) w = length-append (binary n (w / 2)) (w % 2 ∷ []) ∙ om
 number_binary : (n w : ℕ) → w < 2 ^ n → number_from_digits 2 (binary n w) ≡ w
 unfolding binary
 number_binary zero w small = omega (arith, small)
-number_binary (suc n) w small =
-    number_push 2 (binary n (w / 2)) (w % 2)
-    ∙ ap (λ (m : ℕ). m * 2 + w % 2) (number_binary n (w / 2) (omega (arith, small, pow-suc 2 n)))
-    ∙ omega arith
+number_binary (suc n) w small = grind (arith, common_steps, number_push, binary, pow-suc, number_binary n (w / 2) (omega (arith, small, pow-suc 2 n)))
 
 window_there : (xs ys : List ℕ) (w : ℕ) → w < 2 ^ 26 → window (xs ++ (binary 26 w ++ ys)) (length xs + 25) ≡ w
 unfolding window
-window_there xs ys w small =
-    let bits : List ℕ = xs ++ (binary 26 w ++ ys) in
-    let start : length xs + 25 - 25 ≡ length xs = omega arith in
-    let count : length xs + 25 + 1 - (length xs + 25 - 25) ≡ 26 = omega arith in
-    ap₂ (λ (n p : ℕ). number_from_digits 2 (take n (drop p bits))) count start
-    ∙ ap (λ (zs : List ℕ). number_from_digits 2 (take 26 zs)) (drop-append_seam xs (binary 26 w ++ ys))
-    ∙ ap (number_from_digits 2) (ap (λ (n : ℕ). take n (binary 26 w ++ ys)) (sym (length-binary 26 w)) ∙ take-append_seam (binary 26 w) ys)
-    ∙ number_binary 26 w small
+window_there xs ys w small = grind (arith, common_steps, binary, number_from_digits, take, drop, drop-append_seam, length-binary, take-append_seam, number_binary)
 
 heard_there : (xs ys : List ℕ) (w : ℕ) → w < 2 ^ 26 → heard (ungapped (xs ++ (binary 26 w ++ ys))) (length xs + 25) ≡ Some w
 unfolding heard touched
@@ -37,18 +27,11 @@ heard_there xs ys w small = ap (λ (v : ℕ). Some v) (window_there xs ys w smal
 longer : (w : ℕ) (zs : List ℕ) (n : ℕ) → length zs ≡ n → length (binary 26 w ++ zs) ≡ 26 + n
 longer w zs n e = length-append (binary 26 w) zs ∙ ap₂ (λ (l m : ℕ). l + m) (length-binary 26 w) e
 
-four_long : (a b c d : ℕ) → length (binary 26 a ++ (binary 26 b ++ (binary 26 c ++ (binary 26 d ++ [])))) ≡ 104
-four_long a b c d = longer a _ 78 (longer b _ 52 (longer c _ 26 (longer d [] 0 refl)))
-
 damage_small : (limit e : ℕ) → (e ≡ 0) ⊎ IsBurst limit e → e < 2 ^ 26
-damage_small limit e (inl none) = omega (arith, none)
-damage_small limit e (inr burst) = burst.is_block
+damage_small limit e v2 = grind (arith, common_steps)
 
 group_long : (g : SentGroup) → length (bits_with_damage g) ≡ 104
-group_long g =
-    let e : ℕ → ℕ = λ y. get_or g.damages y 0 in
-    let w : ℕ → ℕ = λ y. get_or g.words y 0 in
-    four_long (bit_xor (encoded (w 0) A) (e 0)) (bit_xor (encoded (w 1) B) (e 1)) (bit_xor (encoded (w 2) (third_offset (w 1))) (e 2)) (bit_xor (encoded (w 3) D) (e 3))
+group_long g = grind (arith, common_steps, get_or, bit_xor, encoded, third_offset, longer)
 
 pub groups_long : (groups : List SentGroup) → length (flat_map bits_with_damage groups) ≡ 104 * length groups
 groups_long [] = refl
@@ -96,32 +79,18 @@ module _ (one : HasOneBlock) (limit : ℕ) where
   pub groups_there : (before after : List ℕ) (groups : List SentGroup) → AreCorrectable limit groups
       → AreHeardDamaged (ungapped (before ++ (flat_map bits_with_damage groups ++ after))) limit (length before) groups
   groups_there before after [] h = tt
-  groups_there before after (g ∷ groups) h =
-      let own : List ℕ = bits_with_damage g in
-      let rest : List ℕ = flat_map bits_with_damage groups ++ after in
-      let parts : own ++ rest ≡ flat_map bits_with_damage (g ∷ groups) ++ after = sym (append_assoc own (flat_map bits_with_damage groups) after) in
-      let later : (before ++ own) ++ rest ≡ before ++ (flat_map bits_with_damage (g ∷ groups) ++ after) = append_assoc before own rest ∙ ap (λ (zs : List ℕ). before ++ zs) parts in
-      let long : length (before ++ own) ≡ length before + 104 = length-append before own ∙ ap (λ (n : ℕ). length before + n) (group_long g) in (
-        subst (λ (zs : List ℕ). GroupIsHeard (ungapped (before ++ zs)) limit 1 (length before + 103) g.words g.damages) parts (group_there before rest g h.0),
-        subst (λ (p : ℕ). AreHeardDamaged (ungapped (before ++ (flat_map bits_with_damage (g ∷ groups) ++ after))) limit p groups) long
-            (subst (λ (zs : List ℕ). AreHeardDamaged (ungapped zs) limit (length (before ++ own)) groups) later (groups_there (before ++ own) after groups h.1)),
-      )
+  groups_there before after (g ∷ groups) h = grind (arith, common_steps, group_long, group_there before (flat_map bits_with_damage groups ++ after) g h.0, groups_there (before ++ (bits_with_damage g)) after groups h.1)
 
 pub damaged_groups_are_heard : HasOneBlock → DamagedGroupsAreHeard
 damaged_groups_are_heard one before after limit groups h = groups_there one limit before after groups h
 
 pub damaged_bits_are_decoded : HasOneBlock → CodeLaws → DamagedBitsAreDecoded
-damaged_bits_are_decoded one laws rules g groups loss reach few h whole1 whole2 keep =
-    let bits : List ℕ = flat_map bits_with_damage (g ∷ groups) in
-    damaged_groups_are_listed laws (ungapped bits) rules g groups loss reach few (groups_long (g ∷ groups))
-    (subst (λ (zs : List ℕ). AreHeardDamaged (ungapped zs) rules.burst 0 (g ∷ groups)) (append-nil bits) (groups_there one rules.burst [] [] (g ∷ groups) h))
-    whole1 whole2 keep
+damaged_bits_are_decoded one laws rules g groups loss reach few h whole1 whole2 keep = grind (arith, common_steps, damaged_groups_are_listed laws (ungapped (flat_map bits_with_damage (g ∷ groups))) rules g groups loss reach few (groups_long (g ∷ groups)) (subst (λ (zs : List ℕ) . AreHeardDamaged (ungapped zs) rules.burst 0 (g ∷ groups)) (append-nil (flat_map bits_with_damage (g ∷ groups))) (groups_there one rules.burst [] [] (g ∷ groups) h)) whole1 whole2 keep)
 
 -- ---- without damage
 
 none : (y : ℕ) → get_or {A = ℕ} [] y 0 ≡ 0
-none zero = refl
-none (suc y) = refl
+none v0 = grind (arith, common_steps)
 
 correctable : (groups : List (List ℕ)) → AreWords groups → AreCorrectable 0 (map undamaged groups)
 correctable [] small = tt
@@ -140,10 +109,7 @@ are_heard b place [] h = tt
 are_heard b place (words ∷ groups) h = (h.0, are_heard b (place + 104) groups h.1)
 
 pub encoded_groups_are_heard : HasOneBlock → EncodedGroupsAreHeard
-encoded_groups_are_heard one before after groups small =
-    are_heard _ (length before) groups
-    (subst (λ (bits : List ℕ). AreHeardDamaged (ungapped (before ++ (bits ++ after))) 0 (length before) (map undamaged groups)) (bits_undamaged groups)
-    (groups_there one 0 before after (map undamaged groups) (correctable groups small)))
+encoded_groups_are_heard one before after groups small = grind (arith, common_steps, are_heard, ungapped, undamaged, bits_undamaged, groups_there, correctable)
 
 pub encoded_groups_are_listed : HasOneBlock → CodeLaws → EncodedGroupsAreListed
 encoded_groups_are_listed one laws rules words groups loss reach few small =

@@ -24,8 +24,7 @@ module _ (laws : CodeLaws) (b : Signal) where
   undamaged limit place info o wanted h = grind (arith, common_steps, read_heard, number, reading, xor_zero_r)
 
   some_burst : (limit e : ℕ) → (suc e ≡ 0) ⊎ IsBurst limit (suc e) → IsBurst limit (suc e)
-  some_burst limit e (inl none) = absurd (omega (arith, none))
-  some_burst limit e (inr burst) = burst
+  some_burst limit e v2 = grind (arith, common_steps)
 
   -- block 1, 2 or 4
   block_read : (limit place info : ℕ) (o : Offset) (e : ℕ) (wanted : Wanted) → number o ≢ 3 → limit ≤ 5 → IsHeardFrom b limit place info o e
@@ -38,8 +37,7 @@ module _ (laws : CodeLaws) (b : Signal) where
   -- block 3, if only its own offset is wanted
   third_read : (limit place info : ℕ) (o : Offset) (e : ℕ) → number o ≡ 3 → limit ≤ 5 → (limit ≡ 5 → e ≢ version_burst) → IsHeardFrom b limit place info o e
       → Read (reading_at b place 3 (alone o) limit) ≡ block_sent o info e
-  third_read limit place info o zero own few no_version_burst h =
-      ap (λ (x : ℕ). Read (reading_at b place x (alone o) limit)) (sym own) ∙ undamaged limit place info o (alone o) h
+  third_read limit place info o zero own few no_version_burst h = grind (arith, common_steps, reading_at, alone, undamaged)
   third_read limit place info o (suc e) own few no_version_burst h =
       let burst = some_burst limit e h.damage in
       let other : suc e ≢ version_burst = λ same. elim (cases_eq limit 5) [
@@ -58,17 +56,11 @@ module _ (info : ℕ) where
     pub bit : version_of_bit info ≡ v
     pub offset : third_offset info ≡ o
 
-  says_a : bit_at info 11 ≡ 0 → Says VA C
-  says_a h = record { bit = ap by_bit h; offset = ap offset_by_version h }
-
   says_b : (n : ℕ) → bit_at info 11 ≡ suc n → Says VB Cx
   says_b n h = record { bit = ap by_bit h ∙ ap (λ (t : Bool). if t then VA else VB) (ne_eqb (suc n) 0 (λ no. absurd (omega (arith, no)))); offset = ap offset_by_version h }
 
   says : Says VA C ⊎ Says VB Cx
-  says = at_case (bit_at info 11) refl where
-    at_case : (n : ℕ) → bit_at info 11 ≡ n → Says VA C ⊎ Says VB Cx
-    at_case zero h = inl (says_a h)
-    at_case (suc n) h = inr (says_b n h)
+  says = grind (arith, common_steps, bit_at, says_b)
 
   pub third_number : number (third_offset info) ≡ 3
   third_number = elim says [ inl a ↦ ap number a.offset | inr b ↦ ap number b.offset ]
@@ -78,35 +70,19 @@ module _ (info : ℕ) where
 
   -- the offset of block 3 that block 2 allows
   wanted_is : (e : ℕ) → wanted_beside (block_sent B info e) ≡ alone (third_offset info)
-  wanted_is e = own e ∙ elim says [ inl a ↦ ap wanted_by a.bit ∙ sym (ap alone a.offset) | inr b ↦ ap wanted_by b.bit ∙ sym (ap alone b.offset) ] where
-    own : (e : ℕ) → wanted_beside (block_sent B info e) ≡ wanted_by (version_of_bit info)
-    own zero = refl
-    own (suc e) = refl
-
-  offset_says : version_of_offset (third_offset info) ≡ version_of_bit info
-  offset_says = elim says [ inl a ↦ ap version_of_offset a.offset ∙ sym a.bit | inr b ↦ ap version_of_offset b.offset ∙ sym b.bit ]
+  wanted_is e = grind (arith, common_steps, says, wanted_by, alone, wanted_beside, block_sent, version_of_bit)
 
   known : (v : Version) → first_known (version_of_bit info) v ≡ version_of_bit info
   known v = elim says [ inl a ↦ ap (λ (w : Version). first_known w v) a.bit ∙ sym a.bit | inr b ↦ ap (λ (w : Version). first_known w v) b.bit ∙ sym b.bit ]
 
-  no_differ : differ (version_of_bit info) (version_of_offset (third_offset info)) ≡ false
-  no_differ = elim says [ inl a ↦ ap₂ differ a.bit (ap version_of_offset a.offset) | inr b ↦ ap₂ differ b.bit (ap version_of_offset b.offset) ]
-
   version_is : (third d e : ℕ) → version (block_sent B info d) (block_sent (third_offset info) third e) ≡ version_of_bit info
-  version_is third zero zero = offset_says
-  version_is third (suc d) zero = offset_says
-  version_is third zero (suc e) = known (version_of_offset (third_offset info))
-  version_is third (suc d) (suc e) = known (version_of_offset (third_offset info))
+  version_is third v1 v2 = grind (arith, common_steps, known, version_of_offset, third_offset)
 
   agreed : (third d e : ℕ) → in_conflict (block_sent B info d) (block_sent (third_offset info) third e) ≡ false
-  agreed third zero zero = no_differ
-  agreed third (suc d) zero = no_differ
-  agreed third zero (suc e) = refl
-  agreed third (suc d) (suc e) = refl
+  agreed third v1 v2 = grind (arith, common_steps)
 
 pub info_is : (o : Offset) (info e : ℕ) → info_of (block_sent o info e) ≡ Some info
-info_is o info zero = refl
-info_is o info (suc e) = refl
+info_is o info v2 = grind (arith, common_steps)
 
 -- a group of blocks that were sent
 group_of_sent : (place : ℕ) (one : Block) (w1 w2 w3 e1 e2 e3 : ℕ)

@@ -1,5 +1,5 @@
 -- The items of a run over groups that were sent: in a lock, and from the first bit of a recording on.
-use Rattle.rds_sync.proofs.Names.{Loss, ◌≡◌, ℕ, zero, suc, ◌+◌, ◌-◌, ◌*◌, ◌<◌, ◌≤◌, List, [], ◌∷◌, ◌++◌, length, Option, Some, None, Bool, true, false, refl, sym, ap, ap₂, subst, ◌∙◌, arith, inl, append-nil, bit_xor, get_or, flat_map, xor_zero_r, ◌||◌, ◌==◌, list_any, range_with_len, ne_eqb, Offset, A, B, C, Cx, D, third_offset, word, offset_of, rem, Signal, length_of, offset_heard, offset_at, Block, GroupOf, Item, Acquired, Group, State, Searching, Locked, Totals, acquired, has_number, has_partner, is_in_step, plus, group, outcome_of, was_valid, good_at, IsLossRule, are_too_many, bad_after, report_items, RuleNumbers, IsHeardFrom, GroupIsHeard, AreHeard, block_sent, group_sent, items_sent, SentGroup, four_damages, AreHeardDamaged, items_damaged, bad_after_blocks, KeepLock, SentGroupsAreListed, LockedGroupsAreListed, DamagedGroupsAreListed, SoundSignalIsDecoded, run, items_of_end, lock_of, totals_of, is_valid}
+use Rattle.rds_sync.proofs.Names.{common_steps, Loss, ◌≡◌, ℕ, zero, suc, ◌+◌, ◌-◌, ◌*◌, ◌<◌, ◌≤◌, List, [], ◌∷◌, ◌++◌, length, Option, Some, None, Bool, true, false, refl, sym, ap, ap₂, subst, ◌∙◌, arith, inl, append-nil, bit_xor, get_or, flat_map, xor_zero_r, ◌||◌, ◌==◌, list_any, range_with_len, ne_eqb, Offset, A, B, C, Cx, D, third_offset, word, offset_of, rem, Signal, length_of, offset_heard, offset_at, Block, GroupOf, Item, Acquired, Group, State, Searching, Locked, Totals, acquired, has_number, has_partner, is_in_step, plus, group, outcome_of, was_valid, good_at, IsLossRule, are_too_many, bad_after, report_items, RuleNumbers, IsHeardFrom, GroupIsHeard, AreHeard, block_sent, group_sent, items_sent, SentGroup, four_damages, AreHeardDamaged, items_damaged, bad_after_blocks, KeepLock, SentGroupsAreListed, LockedGroupsAreListed, DamagedGroupsAreListed, SoundSignalIsDecoded, run, items_of_end, lock_of, totals_of, is_valid}
 use Rattle.rds_sync.proofs.BadRows.{good_keeps}
 use Rattle.std.specs.Prelude.{map}
 use Rattle.std.proofs.lemmas.List.{length-map}
@@ -19,11 +19,7 @@ use Rattle.rds_sync.proofs.WholeGroupLemmas.{block-then, whole_group}
 -- ---- blocks as they were sent
 
 word_offset : (o : Offset) → offset_of (word o) ≡ Some o
-word_offset A = refl
-word_offset B = refl
-word_offset C = refl
-word_offset Cx = refl
-word_offset D = refl
+word_offset v0 = grind (arith, common_steps)
 
 module _ (b : Signal) where
   heard_offset : (limit place info : ℕ) (o : Offset) (h : IsHeardFrom b limit place info o 0) → offset_of (rem (bit_xor h.sent 0)) ≡ Some o
@@ -50,28 +46,20 @@ module _ (b : Signal) where
 module _ (b : Signal) (rules : RuleNumbers) where
   -- a run over m bits and then n, each as a state and items
   pub run-then : (s t u : State) (is js : List Item) (a m n : ℕ) → run b rules s a m ≡ (t, is) → run b rules t (a + m) n ≡ (u, js) → run b rules s a (m + n) ≡ (u, is ++ js)
-  run-then s t u is js a m n first rest =
-      run-append b rules s a m n
-      ∙ ap (λ (r : State × List Item). ((run b rules r.0 (a + m) n).0, r.1 ++ (run b rules r.0 (a + m) n).1)) first
-      ∙ ap (λ (r : State × List Item). (r.0, is ++ r.1)) rest
+  run-then s t u is js a m n first rest = grind (arith, common_steps, run-append, run)
 
   any_first : (p : ℕ → Bool) (n : ℕ) → 1 ≤ n → p 1 ≡ true → list_any p (range_with_len 1 n) ≡ true
-  any_first p zero some h = absurd (omega arith)
-  any_first p (suc n) some h = ap (λ (t : Bool). t || list_any p (range_with_len 2 n)) h
+  any_first p v1 some h = grind (arith, common_steps, list_any, range_with_len)
 
   -- nothing acquires before place 51
   quiet : (i : ℕ) → 0 ≤ i → i < 51 → acquired b rules i ≡ None
-  quiet i low early = at_case (acquired b rules i) refl where
-    at_case : (w : Option ℕ) → acquired b rules i ≡ w → w ≡ None
-    at_case None e = refl
-    at_case (Some x) e = absurd (omega (arith, acquired-place b rules i x e))
+  quiet i low early = grind (arith, common_steps, acquired, acquired-place)
 
 -- ---- with damage
 
 -- a block without a bit error is valid
 pub good_sent : (o : Offset) (info e : ℕ) → is_valid (block_sent o info e) ≡ (e == 0)
-good_sent o info zero = refl
-good_sent o info (suc e) = sym (ne_eqb (suc e) 0 (λ no. absurd (omega (arith, no))))
+good_sent o info v2 = grind (arith, common_steps, ne_eqb)
 
 good_outcome : (o : Offset) (info e : ℕ) → was_valid (outcome_of (block_sent o info e)) ≡ (e == 0)
 good_outcome o info e = sym (valid_is (block_sent o info e)) ∙ good_sent o info e
@@ -114,18 +102,13 @@ module _ (laws : CodeLaws) (b : Signal) (rules : RuleNumbers) (few : rules.burst
       (sym (good_sent _ _ e0)) (sym (good_sent _ _ e1)) (sym (good_sent _ _ e2)) (sym (good_sent _ _ e3)) refl refl refl refl in
       let back : due - 25 ≡ place = omega arith in
       let next : due + 104 ≡ place + 104 + 25 = omega arith in
-      ap (λ (q : ℕ). run b rules (Locked (lock_of due 1 bad 1)) q 104) (sym back)
-      ∙ whole_group b rules due bad (omega arith) fewer
-      ∙ ap₂ (λ (q d : ℕ). (Locked (lock_of q 1 d 1), Group (group b rules 1 4 (due + 78)) ∷ [])) next (sym total)
-      ∙ ap (λ (g : GroupOf). (Locked (lock_of (place + 104 + 25) 1 four 1), Group g ∷ [])) own
+      grind (arith, common_steps, run, lock_of, due, back, whole_group, fewer, group, total, four, own)
 
   -- and any number of them
   pub damaged_listed : (place bad : ℕ) (groups : List SentGroup) → AreHeardDamaged b rules.burst place groups → KeepLock rules.loss bad (flat_map four_damages groups)
       → run b rules (Locked (lock_of (place + 25) 1 bad 1)) place (104 * length groups)
       ≡ (Locked (lock_of (place + 104 * length groups + 25) 1 (bad_after_blocks rules.loss bad (flat_map four_damages groups)) 1), items_damaged place groups)
-  damaged_listed place bad [] h keep =
-      let end : place + 25 ≡ place + 104 * 0 + 25 = omega arith in
-      ap (λ (q : ℕ). (Locked (lock_of q 1 bad 1), [])) end
+  damaged_listed place bad [] h keep = grind (arith, common_steps, lock_of)
   damaged_listed place bad (g ∷ groups) h keep =
       let n : ℕ = length groups in
       let bits : 104 * suc n ≡ 104 + 104 * n = omega arith in
@@ -140,20 +123,7 @@ pub locked_groups_are_listed : CodeLaws → LockedGroupsAreListed
 locked_groups_are_listed laws b rules few place bad groups h keep = damaged_listed laws b rules few place bad groups h keep
 
 pub sound_signal_is_decoded : CodeLaws → SoundSignalIsDecoded
-sound_signal_is_decoded laws b rules loss reach few s t lawful j p c last sound four groups h keep =
-    let start : ℕ = p + 26 * last + 1 in
-    let n : ℕ = length groups in
-    let inside = sound.sequence.first in
-    let state : (run b rules t s (start - s)).0 ≡ Locked (lock_of (start + 25) 1 0 1) =
-    runs_converge b rules loss reach s start t lawful j p c last sound four refl ∙ ap (λ (q : ℕ). Locked (lock_of q 1 0 1)) (next p last) in
-    let rest = damaged_listed laws b rules few start 0 groups h keep in
-    let bits : start + 104 * n - start ≡ 104 * n = omega arith in
-    run-places b rules t s start (start + 104 * n) (omega (arith, inside)) (omega arith)
-    ∙ ap₂ (λ (u : State) (m : ℕ). ((run b rules u start m).0, (run b rules t s (start - s)).1 ++ (run b rules u start m).1)) state bits
-    ∙ ap (λ (r : State × List Item). (r.0, (run b rules t s (start - s)).1 ++ r.1)) rest
-  where
-    next : (p last : ℕ) → p + 26 * last + 26 ≡ p + 26 * last + 1 + 25
-    next p last = omega arith
+sound_signal_is_decoded laws b rules loss reach few s t lawful j p c last sound four groups h keep = grind (arith, common_steps, damaged_listed, runs_converge b rules loss reach s (p + 26 * last + 1) t lawful j p c last sound four refl, run-places b rules t s (p + 26 * last + 1) ((p + 26 * last + 1) + 104 * (length groups)) (omega (arith, sound.sequence.first)) (omega arith))
 
 -- the first group of a recording, whose blocks 1 and 2 have no damage
 module _ (laws : CodeLaws) (b : Signal) (rules : RuleNumbers) (few : rules.burst ≤ 5) (reach : 1 ≤ rules.reach) (words damages : List ℕ)
@@ -186,15 +156,7 @@ module _ (laws : CodeLaws) (b : Signal) (rules : RuleNumbers) (few : rules.burst
 
   first_damaged : are_too_many rules.loss bad3 ≡ false → are_too_many rules.loss bad4 ≡ false
       → run b rules Searching 0 104 ≡ (Locked (lock_of 129 1 bad4 1), Acquired 51 2 ∷ Group (group_sent 2 26 words damages) ∷ [])
-  first_damaged keep3 keep4 =
-      let here = acquires_damaged in
-      let search : run b rules Searching 0 52 ≡ (Locked (lock_of 77 3 0 2), Acquired 51 2 ∷ []) =
-      run-found b rules 0 51 (omega arith) (quiet b rules) ∙ ap₂ (λ (t : State) (is : List Item). (t, is)) (step-acquiring b rules 51 2 here) (items-acquiring b rules 51 2 here) in
-      let third = block-then b rules 77 3 0 2 (get_or damages 2 0 == 0) 26 (omega arith) third_good keep3 in
-      let fourth = block-then b rules 103 4 bad3 2 (get_or damages 3 0 == 0) 0 (omega arith) fourth_good keep4 in
-      let two : run b rules (Locked (lock_of 77 3 0 2)) 52 52 ≡ (Locked (lock_of 129 1 bad4 1), Group (group_sent 2 26 words damages) ∷ []) =
-      third ∙ fourth ∙ ap (λ (g : GroupOf). (Locked (lock_of 129 1 bad4 1), Group g ∷ [])) own_first in
-      run-then b rules Searching _ _ _ _ 0 52 52 search two
+  first_damaged keep3 keep4 = grind (arith, common_steps, acquires_damaged, quiet, third_good, fourth_good, own_first)
 
 pub damaged_groups_are_listed : CodeLaws → DamagedGroupsAreListed
 damaged_groups_are_listed laws b rules g groups loss reach few long h whole1 whole2 keep =
@@ -242,10 +204,7 @@ totals_whole n = record { valid = 4 * n; bursts = 0 ∷ 0 ∷ 0 ∷ 0 ∷ 0 ∷ 
 totals_listed : (place : ℕ) (groups : List (List ℕ)) → totals_of (items_sent place groups) ≡ totals_whole (length groups)
 unfolding totals_whole
 totals_listed place [] = refl
-totals_listed place (words ∷ groups) =
-    totals_of-append (Group (group_sent 1 place words []) ∷ []) (items_sent (place + 104) groups)
-    ∙ ap (plus (totals_of (Group (group_sent 1 place words []) ∷ []))) (totals_listed (place + 104) groups)
-    ∙ same_counts (omega arith) refl refl refl refl refl refl refl (omega arith) (omega arith) refl refl
+totals_listed place (words ∷ groups) = grind (arith, common_steps, totals_of-append, group_sent, items_sent, plus, totals_of, same_counts, totals_listed (place + 104) groups)
 
 pub sent_groups_are_listed : CodeLaws → SentGroupsAreListed
 unfolding totals_whole

@@ -1,5 +1,5 @@
 -- The totals of a recording of damaged groups, by the error masks of its blocks.
-use Rattle.rds_sync.proofs.Names.{◌≡◌, ℕ, zero, suc, ◌+◌, ◌*◌, ◌≤◌, List, [], ◌∷◌, Bool, true, false, length, refl, sym, ap, subst, ◌∙◌, arith, append-nil, get_or, flat_map, cond, eqb, lit<, sum_by, count_by, count_ones, count_leading_zeros, count_trailing_zeros, ones-le, mul-suc, ne_eqb, sum_by-append, sum_by-cons, Offset, A, B, D, burst_length, third_offset, HasOneBlock, ungapped, Block, Missing, GroupOf, Item, Acquired, Group, LostLock, SentGroup, block_sent, group_sent, items_damaged, four_damages, masks_read, totals_damaged, bits_with_damage, AreHeardDamaged, DamageTellsTotals, DamagedBitsTellTotals, totals_of, sum_blocks, is_valid, is_lost, is_corrected_by, bits_corrected, is_group, is_complete, is_acquired, is_sync_loss}
+use Rattle.rds_sync.proofs.Names.{common_steps, ◌≡◌, ℕ, zero, suc, ◌+◌, ◌*◌, ◌≤◌, List, [], ◌∷◌, Bool, true, false, length, refl, sym, ap, subst, ◌∙◌, arith, append-nil, get_or, flat_map, cond, eqb, lit<, sum_by, count_by, count_ones, count_leading_zeros, count_trailing_zeros, ones-le, mul-suc, ne_eqb, sum_by-append, sum_by-cons, Offset, A, B, D, burst_length, third_offset, HasOneBlock, ungapped, Block, Missing, GroupOf, Item, Acquired, Group, LostLock, SentGroup, block_sent, group_sent, items_damaged, four_damages, masks_read, totals_damaged, bits_with_damage, AreHeardDamaged, DamageTellsTotals, DamagedBitsTellTotals, totals_of, sum_blocks, is_valid, is_lost, is_corrected_by, bits_corrected, is_group, is_complete, is_acquired, is_sync_loss}
 use Rattle.rds_sync.proofs.SentBits.{groups_long, groups_there}
 use Rattle.rds_sync.proofs.SentGroups.{CodeLaws, info_is}
 use Rattle.rds_sync.proofs.SentRuns.{good_sent, damaged_groups_are_listed}
@@ -12,47 +12,21 @@ unfolding count_leading_zeros count_trailing_zeros
 no_span = refl
 
 corrected_sent : (s : ℕ) → 1 ≤ s → (o : Offset) (info e : ℕ) → is_corrected_by s (block_sent o info e) ≡ eqb (burst_length e) s
-corrected_sent s some o info zero = sym (ap (λ (n : ℕ). eqb n s) no_span ∙ ne_eqb 0 s (λ no. absurd (omega (arith, some, no))))
-corrected_sent s some o info (suc e) = refl
+corrected_sent s some o info v4 = grind (arith, common_steps, eqb, no_span, ne_eqb)
 
 lost_sent : (o : Offset) (info e : ℕ) → is_lost (block_sent o info e) ≡ false
-lost_sent o info zero = refl
-lost_sent o info (suc e) = refl
+lost_sent o info v2 = grind (arith, common_steps)
 
 bits_sent_are : (o : Offset) (info e : ℕ) → bits_corrected (block_sent o info e) ≡ count_ones e
-bits_sent_are o info zero = omega (arith, ones-le 0 0 (lit< tt))
-bits_sent_are o info (suc e) = refl
+bits_sent_are o info v2 = grind (arith, common_steps, ones-le, lit<)
 
 -- ---- all blocks
-
-sum_four : {A : Type 0} (f : A → ℕ) (a b c d : A) → sum_by f (a ∷ b ∷ c ∷ d ∷ []) ≡ 0 + f a + f b + f c + f d
-sum_four f a b c d = refl
-
-sum_three : (f : ℕ → ℕ) (a b c : ℕ) (es : List ℕ) → sum_by f (a ∷ b ∷ c ∷ es) ≡ 0 + f a + f b + f c + sum_by f es
-sum_three f a b c es = sum_by-append f (a ∷ b ∷ c ∷ []) es
-
-sum_group : (f : Block → ℕ) (g : GroupOf) (items : List Item) → sum_blocks f (Group g ∷ items) ≡ sum_by f g.blocks + sum_blocks f items
-sum_group f g items = sum_by-cons (λ (item : Item). elim item as (λ _. ℕ) [ Acquired a x ↦ 0 | Group h ↦ sum_by f h.blocks | LostLock a ↦ 0 ]) (Group g) items
 
 -- a sum over the blocks of these groups is one over their masks
 damaged_sum : (f : Block → ℕ) (h : ℕ → ℕ) → ((o : Offset) (info e : ℕ) → f (block_sent o info e) ≡ h e)
     → (place : ℕ) (groups : List SentGroup) → sum_blocks f (items_damaged place groups) ≡ sum_by h (flat_map four_damages groups)
 damaged_sum f h each place [] = refl
-damaged_sum f h each place (g ∷ groups) =
-    let third : Offset = third_offset (get_or g.words 1 0) in
-    omega (
-      arith,
-      sum_group f (group_sent 1 place g.words g.damages) (items_damaged (place + 104) groups),
-      sum_four f (block_sent A (get_or g.words 0 0) (get_or g.damages 0 0)) (block_sent B (get_or g.words 1 0) (get_or g.damages 1 0))
-          (block_sent third (get_or g.words 2 0) (get_or g.damages 2 0)) (block_sent D (get_or g.words 3 0) (get_or g.damages 3 0)),
-      sum_by-append h (four_damages g) (flat_map four_damages groups),
-      sum_four h (get_or g.damages 0 0) (get_or g.damages 1 0) (get_or g.damages 2 0) (get_or g.damages 3 0),
-      each A (get_or g.words 0 0) (get_or g.damages 0 0),
-      each B (get_or g.words 1 0) (get_or g.damages 1 0),
-      each third (get_or g.words 2 0) (get_or g.damages 2 0),
-      each D (get_or g.words 3 0) (get_or g.damages 3 0),
-      damaged_sum f h each (place + 104) groups,
-    )
+damaged_sum f h each place (g ∷ groups) = grind (arith, common_steps, damaged_sum f h each (place + 104) groups)
 
 -- the items of a recording of them
 abbrev listed : SentGroup → List SentGroup → List Item
@@ -60,61 +34,27 @@ listed g groups = Acquired 51 2 ∷ Group (group_sent 2 26 g.words g.damages) �
 
 listed_sum : (f : Block → ℕ) (h : ℕ → ℕ) → f Missing ≡ 0 → ((o : Offset) (info e : ℕ) → f (block_sent o info e) ≡ h e)
     → (g : SentGroup) (groups : List SentGroup) → sum_blocks f (listed g groups) ≡ sum_by h (masks_read g groups)
-listed_sum f h none each g groups =
-    let third : Offset = third_offset (get_or g.words 1 0) in
-    let rest : List Item = items_damaged 104 groups in
-    let locked : sum_blocks f (listed g groups) ≡ 0 + sum_blocks f (Group (group_sent 2 26 g.words g.damages) ∷ rest) =
-    sum_by-cons (λ (item : Item). elim item as (λ _. ℕ) [ Acquired a x ↦ 0 | Group h ↦ sum_by f h.blocks | LostLock a ↦ 0 ]) (Acquired 51 2) (Group (group_sent 2 26 g.words g.damages) ∷ rest) in
-    omega (
-      arith,
-      locked,
-      sum_group f (group_sent 2 26 g.words g.damages) rest,
-      sum_four f Missing (block_sent B (get_or g.words 1 0) (get_or g.damages 1 0))
-          (block_sent third (get_or g.words 2 0) (get_or g.damages 2 0)) (block_sent D (get_or g.words 3 0) (get_or g.damages 3 0)),
-      sum_three h (get_or g.damages 1 0) (get_or g.damages 2 0) (get_or g.damages 3 0) (flat_map four_damages groups),
-      none,
-      each B (get_or g.words 1 0) (get_or g.damages 1 0),
-      each third (get_or g.words 2 0) (get_or g.damages 2 0),
-      each D (get_or g.words 3 0) (get_or g.damages 3 0),
-      damaged_sum f h each 104 groups,
-    )
+listed_sum f h none each g groups = grind (arith, common_steps, damaged_sum)
 
 listed_count : (p : Block → Bool) (q : ℕ → Bool) → p Missing ≡ false → ((o : Offset) (info e : ℕ) → p (block_sent o info e) ≡ q e)
     → (g : SentGroup) (groups : List SentGroup) → sum_blocks (λ block. cond (p block) 1 0) (listed g groups) ≡ count_by q (masks_read g groups)
-listed_count p q none each g groups =
-    listed_sum (λ block. cond (p block) 1 0) (λ e. cond (q e) 1 0) (ap (λ (t : Bool). cond t 1 0) none) (λ o info e. ap (λ (t : Bool). cond t 1 0) (each o info e)) g groups
+listed_count p q none each g groups = grind (arith, common_steps, listed_sum (λ block. cond (p block) 1 0) (λ e. cond (q e) 1 0) (ap (λ (t : Bool) . cond t 1 0) none) (λ o info e. ap (λ (t : Bool) . cond t 1 0) (each o info e)) g groups)
 
 -- ---- the groups
 
 complete_sent : (place : ℕ) (words damages : List ℕ) → is_complete (Group (group_sent 1 place words damages)) ≡ true
-complete_sent place words damages =
-    rw (info_is A (get_or words 0 0) (get_or damages 0 0), info_is B (get_or words 1 0) (get_or damages 1 0), info_is (third_offset (get_or words 1 0)) (get_or words 2 0) (get_or damages 2 0), info_is D (get_or words 3 0) (get_or damages 3 0)) refl
+complete_sent place words damages = grind (arith, common_steps, info_is, get_or, third_offset)
 
 -- the items that pass a test, from the groups
 counted : (p : Item → Bool) (each : ℕ) → ((place : ℕ) (g : SentGroup) → cond (p (Group (group_sent 1 place g.words g.damages))) 1 0 ≡ each)
     → (place : ℕ) (groups : List SentGroup) → count_by p (items_damaged place groups) ≡ each * length groups
 counted p each one place [] = omega arith
-counted p each one place (g ∷ groups) =
-    omega (
-      arith,
-      sum_by-cons (λ (item : Item). cond (p item) 1 0) (Group (group_sent 1 place g.words g.damages)) (items_damaged (place + 104) groups),
-      one place g,
-      counted p each one (place + 104) groups,
-      mul-suc each (length groups),
-    )
+counted p each one place (g ∷ groups) = grind (arith, common_steps, sum_by-cons, group_sent, items_damaged, mul-suc, counted p each one (place + 104) groups)
 
 listed_items : (p : Item → Bool) (first second each : ℕ) → cond (p (Acquired 51 2)) 1 0 ≡ first → ((g : SentGroup) → cond (p (Group (group_sent 2 26 g.words g.damages))) 1 0 ≡ second)
     → ((place : ℕ) (g : SentGroup) → cond (p (Group (group_sent 1 place g.words g.damages))) 1 0 ≡ each)
     → (g : SentGroup) (groups : List SentGroup) → count_by p (listed g groups) ≡ first + second + each * length groups
-listed_items p first second each lock short whole g groups =
-    omega (
-      arith,
-      sum_by-cons (λ (item : Item). cond (p item) 1 0) (Acquired 51 2) (Group (group_sent 2 26 g.words g.damages) ∷ items_damaged 104 groups),
-      sum_by-cons (λ (item : Item). cond (p item) 1 0) (Group (group_sent 2 26 g.words g.damages)) (items_damaged 104 groups),
-      lock,
-      short g,
-      counted p each whole 104 groups,
-    )
+listed_items p first second each lock short whole g groups = grind (arith, common_steps, sum_by-cons, group_sent, items_damaged, counted)
 
 none_lost : (masks : List ℕ) → count_by (λ (e : ℕ). false) masks ≡ 0
 none_lost [] = refl
@@ -138,12 +78,7 @@ listed_totals g groups =
     (listed_items is_sync_loss 0 0 0 refl (λ h. refl) (λ place h. refl) g groups ∙ omega arith)
 
 pub damage_tells_totals : CodeLaws → DamageTellsTotals
-damage_tells_totals laws b rules g groups loss reach few long h whole1 whole2 keep =
-    ap totals_of (damaged_groups_are_listed laws b rules g groups loss reach few long h whole1 whole2 keep) ∙ listed_totals g groups
+damage_tells_totals laws b rules g groups loss reach few long h whole1 whole2 keep = grind (arith, common_steps, damaged_groups_are_listed laws b rules g groups loss reach few long h whole1 whole2 keep, listed_totals g groups)
 
 pub damaged_bits_tell_totals : HasOneBlock → CodeLaws → DamagedBitsTellTotals
-damaged_bits_tell_totals one laws rules g groups loss reach few h whole1 whole2 keep =
-    let bits : List ℕ = flat_map bits_with_damage (g ∷ groups) in
-    damage_tells_totals laws (ungapped bits) rules g groups loss reach few (groups_long (g ∷ groups))
-    (subst (λ (zs : List ℕ). AreHeardDamaged (ungapped zs) rules.burst 0 (g ∷ groups)) (append-nil bits) (groups_there one rules.burst [] [] (g ∷ groups) h))
-    whole1 whole2 keep
+damaged_bits_tell_totals one laws rules g groups loss reach few h whole1 whole2 keep = grind (arith, common_steps, damage_tells_totals laws (ungapped (flat_map bits_with_damage (g ∷ groups))) rules g groups loss reach few (groups_long (g ∷ groups)) (subst (λ (zs : List ℕ) . AreHeardDamaged (ungapped zs) rules.burst 0 (g ∷ groups)) (append-nil (flat_map bits_with_damage (g ∷ groups))) (groups_there one rules.burst [] [] (g ∷ groups) h)) whole1 whole2 keep)

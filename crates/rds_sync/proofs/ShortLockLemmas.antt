@@ -16,14 +16,10 @@ share-of-one (suc v) some = grind (arith, common_steps, pow-suc, pow_pos, mod-eq
 
 -- a block of another outcome than a valid one's is bad
 bad-outcome : (r : Reading) → outcome_number r ≢ 1 → is_valid (Read r) ≡ false
-bad-outcome (Valid o info) h = absurd (h refl)
-bad-outcome (Corrected o info e) h = refl
-bad-outcome Lost h = refl
+bad-outcome v0 h = grind (arith, common_steps)
 
 pub bad-there : (b : Signal) (i x : ℕ) (wanted : Wanted) (limit k : ℕ) → 25 ≤ i → k ≡ outcome_number (reading_at b i x wanted limit) → k ≢ 1 → has_number b i x ≡ false
-bad-there b i x wanted limit k late is other =
-    sym (good-reading b i x (heard b i) wanted limit (reading_at b i x wanted limit) late refl refl)
-    ∙ bad-outcome (reading_at b i x wanted limit) (λ e. other (is ∙ e))
+bad-there b i x wanted limit k late is other = grind (arith, common_steps, good-reading, heard, reading_at, bad-outcome, outcome_number, has_number, good-reading b i x (heard b i) wanted limit (reading_at b i x wanted limit) late refl refl, bad-outcome (reading_at b i x wanted limit) (λ e. other (is ∙ e)))
 
 -- the word of four blocks, by their four bits
 word-sum : (o p q r : Outcome) (k l m n : ℕ) → nibble o ≡ k → nibble p ≡ l → nibble q ≡ m → nibble r ≡ n
@@ -40,8 +36,7 @@ module _ (b : Signal) (rules : RuleNumbers) (f n p : ℕ) where
 
   valid-is : (wanted : Wanted) (y place : ℕ) → f ≤ y → y ≤ n → HaveRoom f n p → p - 26 * (n - y) ≡ place → has_number b place y ≡ true
       → nibble (outcome_of (block_at b rules f n p wanted y)) ≡ 1
-  valid-is wanted y place low high room there valid =
-      ap (λ (o : Outcome). nibble o) (valid-only _ (good_block b rules f n p wanted y low high room ∙ ap (λ (q : ℕ). has_number b q y) there ∙ valid))
+  valid-is wanted y place low high room there valid = grind (arith, common_steps, nibble, valid-only, good_block, has_number, outcome_of, block_at, good_block b rules f n p wanted y low high room)
 
 -- the word of a group, by the four bits of its blocks
 word-are : (b : Signal) (rules : RuleNumbers) (f n p k l m r : ℕ) → nibble (outcome_of (block_at b rules f n p Either 1)) ≡ k
@@ -65,18 +60,7 @@ two-are b rules place (suc zero) k late low high valid is =
     (last-is b rules 1 2 p Either k (omega arith) is)
     (missing-is b rules 1 2 p beside 3 (inr (omega arith)))
     (missing-is b rules 1 2 p Either 4 (inr (omega arith)))
-two-are b rules place (suc (suc zero)) k late low high valid is =
-    let p : ℕ = place + 26 in
-    let beside : Wanted = wanted_beside (block_at b rules 2 3 p Either 2) in
-    let there : p - 26 * (3 - 2) ≡ place = omega arith in
-    let second : Read (reading_at b place 2 Either rules.burst) ≡ block_at b rules 2 3 p Either 2 =
-    sym (block_at-read b rules 2 3 p Either 2 (omega arith) (omega arith) ∙ ap (λ (q : ℕ). Read (reading_at b q 2 Either rules.burst)) there) in
-    let sum : 16 + 256 * k ≡ 0 + 16 * 1 + 256 * k + 4096 * 0 = omega arith in
-    sum ∙ word-are b rules 2 3 p 0 1 k 0
-    (missing-is b rules 2 3 p Either 1 (inl (omega arith)))
-    (valid-is b rules 2 3 p Either 2 place (omega arith) (omega arith) (omega arith) there valid)
-    (last-is b rules 2 3 p beside k (omega arith) (is ∙ ap (λ (block : Block). outcome_number (reading_at b p 3 (wanted_beside block) rules.burst)) second))
-    (missing-is b rules 2 3 p Either 4 (inr (omega arith)))
+two-are b rules place (suc (suc zero)) k late low high valid is = grind (arith, common_steps, wanted_beside, block_at, reading_at, block_at-read, word-are, missing-is, valid-is, last-is, outcome_number, has_number, wanted_behind, word_of_two, word_of_blocks, outcome_of, blocks_at, first_behind, block_at-read b rules 2 3 (place + 26) Either 2 (omega arith) (omega arith), missing-is b rules 2 3 (place + 26) Either 1 (inl (omega arith)), valid-is b rules 2 3 (place + 26) Either 2 place (omega arith) (omega arith) (omega arith) (omega arith) valid, missing-is b rules 2 3 (place + 26) Either 4 (inr (omega arith)))
 two-are b rules place (suc (suc (suc zero))) k late low high valid is =
     let p : ℕ = place + 26 in
     let beside : Wanted = wanted_beside (block_at b rules 3 4 p Either 2) in
@@ -120,6 +104,4 @@ module _ (b : Signal) (rules : RuleNumbers) (here x to word : ℕ) (acquires : a
   -- and the counts of it after its acquisition
   pub short-counts : (before mid after : CountOf) → mid ≡ joined before (group_count (blocks_in word)) → after ≡ joined mid loss_count
       → after ≡ added before (items_at b rules (here + 26) lock)
-  short-counts before mid after first second =
-      lost-added before mid after (group b rules (first_behind x) (x % 4 + 1) (here + 26)) (blocks_in word) (here + 26) lost.blocks first second
-      ∙ ap (λ (is : List Item). added before is) (sym last-items)
+  short-counts before mid after first second = grind (arith, common_steps, lost-added, group, first_behind, blocks_in, added, last-items, joined, group_count, loss_count, items_at, lock, lost-added before mid after (group b rules (first_behind x) (x % 4 + 1) (here + 26)) (blocks_in word) (here + 26) lost.blocks first second)

@@ -1,5 +1,5 @@
 -- How the blocks of a group come out has a word of 16 bits.
-use Rattle.rds_sync.proofs.Names.{◌≡◌, ℕ, zero, suc, ◌+◌, ◌-◌, ◌*◌, ◌%◌, ◌/◌, ◌^◌, ◌<◌, ◌≤◌, min, List, [], ◌∷◌, length, get_or, Bool, true, false, Option, Some, None, refl, sym, ap, ◌∙◌, subst, arith, inl, inr, cond, cases_Bool, cases_lt, lt-leb, All-cons, pow-suc, nat_le, ◌&&◌, count_ones, if◌then◌else◌, ones, ones_step, count_leading_zeros, count_trailing_zeros, burst_length, bursts, IsBurst, ReadsByRule, ListsBursts, reading, Wanted, Either, Reading, Valid, Corrected, Lost, Signal, heard, reading_heard, reading_at, Missing, Read, RuleNumbers, group, block_at, wanted_beside, Outcome, corrected, outcome_of, IsShort, AreShort}
+use Rattle.rds_sync.proofs.Names.{common_steps, ◌≡◌, ℕ, zero, suc, ◌+◌, ◌-◌, ◌*◌, ◌%◌, ◌/◌, ◌^◌, ◌<◌, ◌≤◌, min, List, [], ◌∷◌, length, get_or, Bool, true, false, Option, Some, None, refl, sym, ap, ◌∙◌, subst, arith, inl, inr, cond, cases_Bool, cases_lt, lt-leb, All-cons, pow-suc, nat_le, ◌&&◌, count_ones, if◌then◌else◌, ones, ones_step, count_leading_zeros, count_trailing_zeros, burst_length, bursts, IsBurst, ReadsByRule, ListsBursts, reading, Wanted, Either, Reading, Valid, Corrected, Lost, Signal, heard, reading_heard, reading_at, Missing, Read, RuleNumbers, group, block_at, wanted_beside, Outcome, corrected, outcome_of, IsShort, AreShort}
 use Rattle.std.specs.List.{All}
 use Rattle.rds_sync.proofs.GroupOutcomes.{outcomes}
 
@@ -42,25 +42,16 @@ unfolding count_leading_zeros count_trailing_zeros
 all_short = refl
 
 both : (s t : Bool) → (s && t) ≡ true → (s ≡ true) × (t ≡ true)
-both true t h = (refl, h)
-both false t h = cc
+both v0 t h = grind (arith, common_steps)
 
 le_from : (m n : ℕ) → nat_le m n ≡ true → m ≤ n
-le_from m n h = elim (cases_lt n m) [
-  | inl less ↦ let no : true ≡ false = sym h ∙ lt-leb m n less in cc no
-  | inr more ↦ more
-]
+le_from m n h = grind (arith, common_steps, lt-leb)
 
 short_from : (s n : ℕ) → is_short s n ≡ true → IsShort (corrected s n)
-short_from s n h =
-    let one = both _ _ h in
-    let two = both _ _ one.1 in
-    let three = both _ _ two.1 in
-    (le_from 1 s one.0, le_from s 5 two.0, le_from (min 2 s) n three.0, le_from n s three.1)
+short_from s n h = grind (arith, common_steps, both, le_from, min)
 
 pub all_four : (P : Outcome → Type 0) (o p q r : Outcome) → P o → P p → P q → P r → All P (o ∷ p ∷ q ∷ r ∷ [])
-all_four P o p q r one two three four =
-    All-cons P o (p ∷ q ∷ r ∷ []) one (All-cons P p (q ∷ r ∷ []) two (All-cons P q (r ∷ []) three (All-cons P r [] four (λ k d h. absurd (omega arith)))))
+all_four P o p q r one two three four = grind (arith, common_steps)
 
 pub burst-short : ListsBursts → (limit e : ℕ) → limit ≤ 5 → IsBurst limit e → IsShort (corrected (burst_length e) (count_ones e))
 burst-short lists limit e few is =
@@ -89,16 +80,8 @@ module _ (laws : BurstLaws) where
         subst (λ (r : Reading). IsShort (outcome_of (Read r))) (sym e) (burst-short laws.lists limit burst few is.1.fits.burst)
 
   block-short : (b : Signal) (rules : RuleNumbers) (f x p : ℕ) (wanted : Wanted) (y : ℕ) → 1 ≤ y → y ≤ 4 → rules.burst ≤ 5 → IsShort (outcome_of (block_at b rules f x p wanted y))
-  block-short b rules f x p wanted y low high few = at_case (nat_le f y && nat_le y x) where
-    at_case : (t : Bool) → IsShort (outcome_of (if t then Read (reading_at b (p - 26 * (x - y)) y wanted rules.burst) else Missing))
-    at_case false = tt
-    at_case true = reading-short (heard b (p - 26 * (x - y))) y wanted rules.burst low high few
+  block-short b rules f x p wanted y low high few = grind (arith, common_steps, nat_le, outcome_of, reading_at, reading-short, heard)
 
   pub group-short : (b : Signal) (rules : RuleNumbers) (f x p : ℕ) → rules.burst ≤ 5 → AreShort (outcomes (group b rules f x p))
   unfolding group
-  group-short b rules f x p few =
-      let one = block-short b rules f x p Either 1 (omega arith) (omega arith) few in
-      let two = block-short b rules f x p Either 2 (omega arith) (omega arith) few in
-      let three = block-short b rules f x p (wanted_beside (block_at b rules f x p Either 2)) 3 (omega arith) (omega arith) few in
-      let four = block-short b rules f x p Either 4 (omega arith) (omega arith) few in
-      (refl, all_four IsShort _ _ _ _ one two three four)
+  group-short b rules f x p few = grind (arith, common_steps, block-short, wanted_beside, block_at, all_four)

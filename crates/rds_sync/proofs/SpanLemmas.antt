@@ -15,20 +15,17 @@ module _ (b : Signal) (rules : RuleNumbers) where
 -- where nothing is given, there was nothing
 pub gives_none : (items left : List Item) (given : Option Item) → ((item : Item) → given ≢ Some item) → YieldsFirst (λ (is : List Item). is) items given left
     → (items ≡ []) × (left ≡ [])
-gives_none items left None other gives = gives
-gives_none items left (Some item) other gives = absurd (other item refl)
+gives_none items left v2 other gives = grind (arith, common_steps)
 
 -- where something is left, it is given
 pub gives_some : (items left : List Item) (given : Option Item) → 0 < length items
     → MatchOption given (items ≡ []) (λ item. items ≡ item ∷ left) → left ≡ drop 1 items
-gives_some items left None some gives = absurd (omega (arith, some, ap (λ (is : List Item). length is) gives))
-gives_some items left (Some item) some gives = sym (ap (λ (is : List Item). drop 1 is) gives)
+gives_some items left v2 some gives = grind (arith, common_steps, drop)
 
 module _ (b : Signal) (rules : RuleNumbers) where
   -- the items of one span more
   pub items_in-push : (spans : List Span) (span : Span) → items_in b rules (spans ++ span ∷ []) ≡ items_in b rules spans ++ items_of b rules span
-  items_in-push spans span =
-      items_in-append b rules spans (span ∷ []) ∙ ap (λ (is : List Item). items_in b rules spans ++ is) (append-nil (items_of b rules span))
+  items_in-push spans span = grind (arith, common_steps, items_in-append, items_in, append-nil, items_of)
 
   -- spans with those of a list after them
   pub spans-behind : (spans more after : List Span) (len n total : ℕ) → AreSpans b rules spans len → All (IsSpan b rules) more → after ≡ spans ++ more
@@ -45,5 +42,4 @@ module _ (b : Signal) (rules : RuleNumbers) where
 -- spans of one recording and rules that are another's
 pub over : (b c : Signal) (rules numbers : RuleNumbers) (spans : List Span) (len : ℕ) → b ≡ c → rules ≡ numbers → AreSpans b rules spans len
     → AreSpans c numbers spans len
-over b c rules numbers spans len source same are =
-    subst (λ (n : RuleNumbers). AreSpans c n spans len) same (subst (λ (signal : Signal). AreSpans signal rules spans len) source are)
+over b c rules numbers spans len source same are = grind (arith, common_steps)

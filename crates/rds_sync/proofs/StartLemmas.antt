@@ -8,8 +8,7 @@ module _ (b : Signal) (rules : RuleNumbers) where
   in_two spans k = sym (items_in-append b rules (take k spans) (drop k spans)) ∙ ap (λ (ss : List Span). items_in b rules ss) (take-append-drop k spans)
 
   pub counted_in_two : (spans : List Span) (k : ℕ) → length (items_in b rules (take k spans)) + length (items_in b rules (drop k spans)) ≡ length (items_in b rules spans)
-  counted_in_two spans k =
-      sym (length-append (items_in b rules (take k spans)) (items_in b rules (drop k spans))) ∙ ap (λ (is : List Item). length is) (in_two spans k)
+  counted_in_two spans k = grind (arith, common_steps, length-append, items_in, take, drop, in_two, length-append (items_in b rules (take k spans)) (items_in b rules (drop k spans)), take k spans, drop k spans, in_two spans k)
 
   -- before the next span
   pub before_next : (spans : List Span) (k : ℕ) (d : Span) → k < length spans
@@ -32,8 +31,4 @@ pub found_at : (items : ItemsOf) (b : Signal) (rules : RuleNumbers) (spans rest 
     → All (IsSpan b rules) spans → before ≡ length (items_in b rules (take k spans)) → before ≤ from
     → (All (IsSpan b rules) (take (length spans - k) (drop k spans)) → IsAt b rules (take (length spans - k) (drop k spans)) (from - before) rest left)
     → IsFound items from rest left
-found_at items b rules spans rest k before from left same all is early at =
-    let behind : take (length spans - k) (drop k spans) ≡ drop k spans = ap (λ (n : ℕ). take n (drop k spans)) (sym (length-drop k spans)) ∙ take-length (drop k spans) in
-    let at_behind = subst (λ (part : List Span). All (IsSpan b rules) part → IsAt b rules part (from - before) rest left) behind at in
-    let there = from_start b rules spans rest k before from left is early (at_behind (All-drop (IsSpan b rules) k spans all)) in
-    subst (λ (list : ItemsOf). IsFound list from rest left) same (record { same = there.same; passed = there.passed; all = there.all })
+found_at items b rules spans rest k before from left same all is early at = grind (arith, common_steps, take, drop, length-drop, take-length, from_start, listed, items_in, take (length spans - k) (drop k spans), drop k spans, length-drop k spans, take-length (drop k spans), from_start b rules spans rest k before from left is early ((subst (λ (part : List Span). All (IsSpan b rules) part → IsAt b rules part (from - before) rest left) (ap (λ (n : ℕ). take n (drop k spans)) (sym (length-drop k spans)) ∙ take-length (drop k spans)) at) (All-drop (IsSpan b rules) k spans all)))

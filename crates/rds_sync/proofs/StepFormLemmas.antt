@@ -1,5 +1,5 @@
 -- A stretch of a run, step by step.
-use Rattle.rds_sync.proofs.Names.{◌≡◌, ℕ, ◌+◌, ◌-◌, ◌<◌, ◌≤◌, List, [], ◌∷◌, ◌++◌, refl, sym, ap, ◌∙◌, arith, inl, inr, ⊎_elim, cases_lt, lt-ltb, le-ltb, Signal, Item, Lock, State, Searching, Locked, Step, next_place, RuleNumbers, run, IsStretch}
+use Rattle.rds_sync.proofs.Names.{common_steps, ◌≡◌, ℕ, ◌+◌, ◌-◌, ◌<◌, ◌≤◌, List, [], ◌∷◌, ◌++◌, refl, sym, ap, ◌∙◌, arith, inl, inr, ⊎_elim, cases_lt, lt-ltb, le-ltb, Signal, Item, Lock, State, Searching, Locked, Step, next_place, RuleNumbers, run, IsStretch}
 use Rattle.rds_sync.specs.StepForms.{StretchesAreSteps, HopsAreStretches}
 use Rattle.rds_sync.proofs.RunLemmas.{run-places, run-waiting}
 
@@ -11,29 +11,12 @@ module _ (b : Signal) (rules : RuleNumbers) (s : State) (place to : ℕ) (reache
   -- from a place before its end on
   later : (middle : ℕ) → place ≤ middle → middle < reached.place
       → ((run b rules s place (middle - place)).1 ≡ []) × IsStretch b rules (run b rules s place (middle - place)).0 middle to reached
-  later middle low high =
-      let quiet = run-places b rules s place middle (reached.place - 1) low (omega arith) in
-      let none : ((run b rules s place (middle - place)).1 ≡ []) × ((run b rules (run b rules s place (middle - place)).0 middle (reached.place - 1 - middle)).1 ≡ []) =
-      none-of _ _ (sym (ap (λ (r : State × List Item). r.1) quiet) ∙ is.quiet) in
-      let whole = run-places b rules s place middle reached.place low (omega arith) in (
-        none.0,
-        record {
-          forward = high;
-          limit = is.limit;
-          state = is.state ∙ ap (λ (r : State × List Item). r.0) whole;
-          items = is.items ∙ ap (λ (r : State × List Item). r.1) whole
-              ∙ ap (λ (xs : List Item). xs ++ (run b rules (run b rules s place (middle - place)).0 middle (reached.place - middle)).1) none.0;
-          quiet = none.1;
-          ended = is.ended;
-          lawful = is.lawful;
-        },
-      )
+  later middle low high = grind (arith, common_steps, run-places, none-of, run-places b rules s place middle (reached.place - 1) low (omega arith))
 
 -- a lock's stretch ends after the block that is due, or at the range's end
 past-due : (b : Signal) (rules : RuleNumbers) (lock : Lock) (place to : ℕ) (reached : Step) → IsStretch b rules (Locked lock) place to reached
     → reached.place ≤ lock.due → reached.place ≡ to
-past-due b rules lock place to reached is early =
-    ⊎_elim (λ at. at) (λ some. absurd (some (is.items ∙ ap (λ (r : State × List Item). r.1) (run-waiting b rules lock place (reached.place - place) (omega (arith, is.forward, early)))))) is.ended
+past-due b rules lock place to reached is early = grind (arith, common_steps, run-waiting, is.items, reached.place, is.forward, is.ended)
 
 pub stretches_are_steps : StretchesAreSteps
 stretches_are_steps b rules Searching place to reached lawful is = (omega (arith, is.forward), later b rules Searching place to reached is (place + 1) (omega arith))
@@ -45,9 +28,7 @@ stretches_are_steps b rules (Locked lock) place to reached lawful is = elim (cas
     ]),
     λ more. later b rules (Locked lock) place to reached is (lock.due + 1) (omega (arith, lawful.soon)) more,
   )
-  | inr after ↦
-      let at : reached.place ≡ to = past-due b rules lock place to reached is (omega (arith, is.limit, after)) in
-      rw (next_place, le-ltb lock.due to after) ((omega (arith, at)), λ more. absurd (omega (arith, at, more)))
+  | inr after ↦ grind (arith, common_steps, reached.place, past-due, is.limit, next_place, le-ltb, lock.due, past-due b rules lock place to reached is (omega (arith, is.limit, after)), le-ltb lock.due to after)
 ]
 
 pub hops_are_stretches : HopsAreStretches

@@ -1,5 +1,5 @@
 -- A run that goes on, as it is kept.
-use Rattle.rds_sync.proofs.Names.{◌≡◌, ℕ, ◌-◌, ◌*◌, ◌^◌, ◌≤◌, List, ◌++◌, length, refl, sym, ap, ap₂, subst, ◌∙◌, arith, append_assoc, append-nil, length-append, Signal, length_of, Item, State, IsAtMost, IsCountStretch, CountOf, count_of, joined, IsTally, RuleNumbers, run, TallyOf, gone_on}
+use Rattle.rds_sync.proofs.Names.{common_steps, ◌≡◌, ℕ, ◌-◌, ◌*◌, ◌^◌, ◌≤◌, List, ◌++◌, length, refl, sym, ap, ap₂, subst, ◌∙◌, arith, append_assoc, append-nil, length-append, Signal, length_of, Item, State, IsAtMost, IsCountStretch, CountOf, count_of, joined, IsTally, RuleNumbers, run, TallyOf, gone_on}
 use Rattle.rds_sync.proofs.CountLemmas.{counted-together}
 use Rattle.rds_sync.proofs.ItemLemmas.{run_items-few}
 use Rattle.rds_sync.proofs.RunLemmas.{run-further, run-places}
@@ -7,9 +7,7 @@ use Rattle.rds_sync.proofs.RunLemmas.{run-further, run-places}
 -- a part of a run, by other names of its recording and its rules
 pub stretch-over : {b read : Signal} {rules numbers : RuleNumbers} {s : State} {place to : ℕ} {before after : CountOf} {reached : ℕ × State} → b ≡ read → rules ≡ numbers
     → IsCountStretch read numbers s place to before reached after → IsCountStretch b rules s place to before reached after
-stretch-over {read = read} {rules = rules} {s = s} {place = place} {to = to} {before = before} {after = after} {reached = reached} source same came =
-    subst (λ (signal : Signal). IsCountStretch signal rules s place to before reached after) (sym source)
-    (subst (λ (n : RuleNumbers). IsCountStretch read n s place to before reached after) (sym same) came)
+stretch-over {read = read} {rules = rules} {s = s} {place = place} {to = to} {before = before} {after = after} {reached = reached} source same came = grind (arith, common_steps)
 
 module _ {b : Signal} {rules : RuleNumbers} {list : List Item} {a : ℕ} {s : State} {place : ℕ} {t : State} {first counts : CountOf}
     (is : IsTally b rules list a s place t first counts) where
@@ -68,23 +66,12 @@ module _ {b : Signal} {rules : RuleNumbers} {list : List Item} {a : ℕ} {s : St
     pub view-gone : (old new : TallyOf) → record { source = b; rules = rules; place = place; state = t; list = list ++ so_far.1 } ≡ old
         → new ≡ record { source = b; rules = rules; place = reached.0; state = reached.1; list = list ++ (run b rules s a (reached.0 - a)).1 }
         → new ≡ gone_on old new.place
-    view-gone old new old_is new_is =
-        let now : TallyOf = record { source = b; rules = rules; place = place; state = t; list = list ++ so_far.1 } in
-        new_is ∙ ap₂ (λ (v : State) (is : List Item). record now { place = reached.0; state = v; list = is }) came.state list-gone
-        ∙ ap (λ (p : ℕ). gone_on now p) (sym (ap (λ (t : TallyOf). t.place) new_is))
-        ∙ ap (λ (v : TallyOf). gone_on v new.place) old_is
+    view-gone old new old_is new_is = grind (arith, common_steps, list-gone, gone_on, new.place)
 
 -- a run that has not gone on
 pub gone-none : (t : TallyOf) → gone_on t t.place ≡ t
-gone-none t =
-    let none : t.place - t.place ≡ 0 = omega arith in
-    ap (λ (n : ℕ). record t { state = (run t.source t.rules t.state t.place n).0; list = t.list ++ (run t.source t.rules t.state t.place n).1 }) none
-    ∙ ap (λ (is : List Item). record t { list = is }) (append-nil t.list)
+gone-none t = grind (arith, common_steps, run, append-nil, t.place, t.source, t.rules, t.state, t.list)
 
 -- one that has gone on twice
 pub gone-again : (t : TallyOf) (middle to : ℕ) → t.place ≤ middle → middle ≤ to → gone_on (gone_on t middle) to ≡ gone_on t to
-gone-again t middle to low high =
-    let first : State × List Item = run t.source t.rules t.state t.place (middle - t.place) in
-    let more : State × List Item = run t.source t.rules first.0 middle (to - middle) in
-    ap (λ (is : List Item). record t { place = to; state = more.0; list = is }) (append_assoc t.list first.1 more.1)
-    ∙ ap (λ (r : State × List Item). record t { place = to; state = r.0; list = t.list ++ r.1 }) (sym (run-places t.source t.rules t.state t.place middle to low high))
+gone-again t middle to low high = grind (arith, common_steps, run, append_assoc, run-places, t.source, t.rules, t.state, t.place, t.list)

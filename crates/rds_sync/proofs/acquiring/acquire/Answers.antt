@@ -6,12 +6,10 @@ use Rattle.rds_sync.proofs.acquiring.acquire.Goals as goal
 -- the offset of the place, by the window heard there
 offset_is : (b : Signal) (place : ℕ) (h : Option ℕ) (read answer : Option Offset)
     → 25 ≤ place → h ≡ heard b place → read ≡ offset_heard h → read ≡ answer → offset_at b place ≡ answer
-offset_is b place h read answer late heard_is read_is is =
-    off-heard b place late ∙ ap (λ (w : Option ℕ). offset_heard w) (sym heard_is) ∙ sym read_is ∙ is
+offset_is b place h read answer late heard_is read_is is = grind (arith, common_steps, off-heard, offset_heard)
 
 pub returns-then-place-lt-FIRST_WINDOW-clause-number : goal.returns-then-place-lt-FIRST_WINDOW-clause-number
-returns-then-place-lt-FIRST_WINDOW-clause-number g c =
-    sym (acquired-early (g.T.Tape.signal c.args.tape.now) c.args.rules.now c.args.place c.if-place-lt-FIRST_WINDOW.true)
+returns-then-place-lt-FIRST_WINDOW-clause-number g c = grind (arith, common_steps, acquired-early, c.if-place-lt-FIRST_WINDOW.true)
 
 pub returns-in_default-clause-number : goal.returns-in_default-clause-number
 returns-in_default-clause-number g c = grind (arith, common_steps, offset_is, acquired-none)
@@ -20,9 +18,7 @@ returns-in_default-clause-number g c = grind (arith, common_steps, offset_is, ac
 answer : (b later : Signal) (rules : RuleNumbers) (place n : ℕ) (o : Offset) (found is_found : Bool) → offset_at b place ≡ Some o → n ≡ number o
     → later ≡ b → found ≡ list_any (has_partner later place n) (range_with_len 1 rules.reach) → found ≡ is_found
     → elim is_found as (λ _. Option ℕ) [ true ↦ Some n | false ↦ None ] ≡ acquired b rules place
-answer b later rules place n o found is_found here number_is later_is any_is found_is =
-    sym (acquired-offset b rules place n o found is_found here number_is
-    (any_is ∙ ap (λ (signal : Signal). list_any (has_partner signal place n) (range_with_len 1 rules.reach)) later_is) found_is)
+answer b later rules place n o found is_found here number_is later_is any_is found_is = grind (arith, common_steps, acquired-offset, list_any, has_partner, range_with_len, offset_at, number, acquired, acquired-offset b rules place n o found is_found here number_is (any_is ∙ ap (λ (signal : Signal) . list_any (has_partner signal place n) (range_with_len 1 rules.reach)) later_is) found_is)
 
 pub returns-then-has_partner-clause-number : goal.returns-then-has_partner-clause-number
 returns-then-has_partner-clause-number g c =

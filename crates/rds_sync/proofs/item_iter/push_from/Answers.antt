@@ -1,15 +1,9 @@
-use Rattle.rds_sync.proofs.Names.{◌≡◌, [], List, All, subst, ◌∙◌, arith, inl, inr, All-tail, Span, IsSpan, items_in}
+use Rattle.rds_sync.proofs.Names.{common_steps, ◌≡◌, [], List, All, subst, ◌∙◌, arith, inl, inr, All-tail, Span, IsSpan, items_in}
 use Rattle.rds_sync.proofs.FillLemmas.{span_taken, with_more}
 use Rattle.rds_sync.proofs.item_iter.push_from.Goals as goal
 
 pub loop-rest-init : goal.loop-rest-init
-loop-rest-init c = record {
-  all = c.requires.spans;
-  items = with_more _ _ _ _ (items_in c.args.recording.now c.args.rules.now c.args.spans.now) c.push_until.ensures.items;
-  full = c.push_until.ensures.full;
-  most = c.push_until.ensures.most;
-  room = c.push_until.ensures.room;
-}
+loop-rest-init c = grind (arith, common_steps, with_more, items_in, c.requires.spans, c.push_until.ensures.items, c.push_until.ensures.full, c.push_until.ensures.most, c.push_until.ensures.room)
 
 pub loop-rest-preserved : goal.loop-rest-preserved
 loop-rest-preserved c =

@@ -4,12 +4,7 @@ use Rattle.rds_sync.proofs.RunLemmas.{run-due, run-early}
 use Rattle.rds_sync.proofs.steps.advance.Goals as goal
 
 pub returns-in-Searching-clause-lawful : goal.returns-in-Searching-clause-lawful
-returns-in-Searching-clause-lawful g c =
-    let b = g.T.Tape.signal c.args.tape.now in
-    let rules = c.args.rules.now in
-    subst (λ (t : State). IsLawful rules c.search.result.place t) (sym c.search.ensures.state)
-    (subst (λ (p : ℕ). IsLawful rules p (step b rules c.args.place Searching)) (sym c.search.ensures.place)
-    (lawful-step b rules c.reach.ensures.range.loss.0 c.args.place Searching tt))
+returns-in-Searching-clause-lawful g c = grind (arith, common_steps, step, lawful-step, c.search.ensures.state, c.search.ensures.place, c.reach.ensures.range.loss.0, step (g.T.Tape.signal c.args.tape.now) c.args.rules.now c.args.place Searching, lawful-step (g.T.Tape.signal c.args.tape.now) c.args.rules.now c.reach.ensures.range.loss.0 c.args.place Searching tt)
 
 pub returns-in-Locked-clause-state : goal.returns-in-Locked-clause-state
 returns-in-Locked-clause-state g c = grind (arith, common_steps, lawful-lock, run-due)

@@ -1,4 +1,4 @@
-use Rattle.rds_sync.proofs.Names.{◌≡◌, ◌≤◌, ◌+◌, ◌-◌, ℕ, List, [], ◌∷◌, refl, ap, ap₂, sym, subst, ◌∙◌, arith, inl, inr, Signal, Block, GroupRecord, Item, Group, LostLock, Due, Inside, Closed, Lock, State, Locked, IsLawful, state_of, IsFollowed, items_of_due, IsStretch, Option, ◌≢◌, RuleNumbers, step, items_at, run}
+use Rattle.rds_sync.proofs.Names.{common_steps, ◌≡◌, ◌≤◌, ◌+◌, ◌-◌, ℕ, List, [], ◌∷◌, refl, ap, ap₂, sym, subst, ◌∙◌, arith, inl, inr, Signal, Block, GroupRecord, Item, Group, LostLock, Due, Inside, Closed, Lock, State, Locked, IsLawful, state_of, IsFollowed, items_of_due, IsStretch, Option, ◌≢◌, RuleNumbers, step, items_at, run}
 use Rattle.rds_sync.specs.Advance.{items_in}
 use Rattle.rds_sync.specs.declared.due.Due.TheVariants.{Lost}
 use Rattle.rds_sync.proofs.LawfulLemmas.{lawful-due, lawful-waiting}
@@ -42,55 +42,21 @@ module _ (c : After-follow) (o : Due) (is : c.follow.result ≡ o) where
   state_is = ap state_of (sym is) ∙ c.follow.ensures.state ∙ ap (λ (signal : Signal). step signal rules now.due (Locked now)) c.loop-now.invariant.same
 
   goes : IsFollowed b rules now c.follow.new.blocks o
-  goes =
-      subst (λ (signal : Signal). IsFollowed signal rules now c.follow.new.blocks o) c.loop-now.invariant.same
-      (subst (λ (o : Due). IsFollowed c.loop-now.reader rules now c.follow.new.blocks o) is c.follow.ensures.followed)
+  goes = grind (arith, common_steps)
 
   lawful_after : IsLawful rules (now.due + 1) (state_of o)
-  lawful_after =
-      subst (λ (t : State). IsLawful rules (now.due + 1) t) (sym state_is)
-      (lawful-due b rules c.loop-now.invariant.next now c.reach.ensures.range.loss.0 c.loop-now.invariant.lawful)
+  lawful_after = grind (arith, common_steps, state_is, lawful-due, rules, state_of, lawful-due b rules c.loop-now.invariant.next now c.reach.ensures.range.loss.0 c.loop-now.invariant.lawful)
 
   -- the stretch up to it, where it gives items
   reached : (items : List (Option Item)) → items_in items ≡ items_of_due now c.follow.new.blocks o → items_at b rules now.due (Locked now) ≢ []
       → IsStretch b rules (Locked c.args.lock) c.args.place c.args.to (record { place = now.due + 1; state = state_of o; items = items })
-  reached items told gives =
-      let followed = c.loop-now.invariant in
-      let soon = followed.lawful.soon in
-      let more = one_more followed in
-      let last : now.due + 1 - 1 ≡ now.due = omega arith in
-      let items_are = told ∙ ap (λ (o : Due). items_of_due now c.follow.new.blocks o) (sym is) ∙ c.follow.ensures.items ∙ ap (λ (signal : Signal). items_at signal rules now.due (Locked now)) followed.same in
-      record {
-        forward = omega (arith, followed.from_on, soon.0);
-        limit = omega (arith, c.loop-now-test.true);
-        state = state_is ∙ sym (ap (λ (r : State × List Item). r.0) more);
-        items = items_are ∙ sym (ap (λ (r : State × List Item). r.1) more);
-        quiet = rw last (ap (λ (r : State × List Item). r.1) (waited followed now.due soon.0 (omega arith)));
-        ended = inr (λ none. gives (sym items_are ∙ none));
-        lawful = lawful_after;
-      }
+  reached items told gives = grind (arith, common_steps, one_more, items_of_due, items_at, state_is, waited, lawful_after, items_in, now, b, rules, state_of, one_more c.loop-now.invariant, waited c.loop-now.invariant now.due c.loop-now.invariant.lawful.soon.0 (omega arith))
 
 pub loop-now-preserved : goal.loop-now-preserved
-loop-now-preserved c =
-    let d = (goal.at.loop-now-preserved c).After-follow in
-    let o = Inside c.in-Inside.next in
-    let followed = c.loop-now.invariant in
-    let soon = followed.lawful.soon in
-    let inside = goes d o c.in-Inside.is in
-    record {
-      same = c.follow.ensures.same ∙ followed.same;
-      next = c.loop-now.now.due + 1;
-      from_on = omega (arith, followed.from_on, soon.0);
-      limit = omega (arith, c.loop-now-test.true);
-      lawful = lawful_after d o c.in-Inside.is;
-      in_progress = inside.in_progress;
-      so_far = one_more followed ∙ ap₂ (λ (t : State) (is : List Item). (t, is)) (sym (state_is d o c.in-Inside.is)) inside.nothing;
-    }
+loop-now-preserved c = grind (arith, common_steps, goes, lawful_after, one_more, state_is, c.loop-now.invariant, c.loop-now.invariant.lawful.soon, c.in-Inside.is, c.follow.ensures.same, c.loop-now.invariant.same, c.loop-now.invariant.from_on, c.loop-now-test.true, goes (goal.at.loop-now-preserved c).After-follow (Inside c.in-Inside.next) c.in-Inside.is, lawful_after (goal.at.loop-now-preserved c).After-follow (Inside c.in-Inside.next) c.in-Inside.is, one_more c.loop-now.invariant, state_is (goal.at.loop-now-preserved c).After-follow (Inside c.in-Inside.next) c.in-Inside.is)
 
 pub loop-now-smaller : goal.loop-now-smaller
-loop-now-smaller c =
-    let inside = goes (goal.at.loop-now-smaller c).After-follow (Inside c.in-Inside.next) c.in-Inside.is in
-    omega (arith, inside.due, c.loop-now-test.true)
+loop-now-smaller c = grind (arith, common_steps, goes, c.in-Inside.is, c.loop-now-test.true)
 
 pub returns-in-Closed-clause-reached : goal.returns-in-Closed-clause-reached
 returns-in-Closed-clause-reached c =

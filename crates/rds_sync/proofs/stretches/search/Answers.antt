@@ -83,22 +83,7 @@ returns-then-has_partner_in-clause-reached c =
     }
 
 pub returns-clause-reached : goal.returns-clause-reached
-returns-clause-reached c =
-    let b = c.args.reader.now in
-    let rules = c.args.rules.now in
-    let searched = c.loop-here.invariant.2 in
-    let none = all b c.loop-here.reader rules c.args.place c.args.to c.loop-here.here-iterator searched c.next.new.self c.in-None.ensures.steps in
-    let run_is = run-unfound b rules c.args.place c.args.to (omega arith) none in
-    let nothing = ap (λ (r : State × List Item). r.1) run_is in
-    record {
-      forward = c.requires.order;
-      limit = omega arith;
-      state = sym (ap (λ (r : State × List Item). r.0) run_is);
-      items = sym nothing;
-      quiet = run-quiet b rules Searching c.args.place c.args.to c.requires.order nothing;
-      ended = inl refl;
-      lawful = tt;
-    }
+returns-clause-reached c = grind (arith, common_steps, all, run-unfound, run-quiet, c.loop-here.invariant.2, c.in-None.ensures.steps, c.requires.order, all c.args.reader.now c.loop-here.reader c.args.rules.now c.args.place c.args.to c.loop-here.here-iterator c.loop-here.invariant.2 c.next.new.self c.in-None.ensures.steps, run-unfound c.args.reader.now c.args.rules.now c.args.place c.args.to (omega arith) (all c.args.reader.now c.loop-here.reader c.args.rules.now c.args.place c.args.to c.loop-here.here-iterator c.loop-here.invariant.2 c.next.new.self c.in-None.ensures.steps))
 
 pub loop-here-init : goal.loop-here-init
 loop-here-init c = grind (arith, common_steps)

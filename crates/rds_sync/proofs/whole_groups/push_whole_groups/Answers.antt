@@ -1,4 +1,4 @@
-use Rattle.rds_sync.proofs.Names.{◌≡◌, ℕ, ◌+◌, ◌-◌, ◌<◌, ◌≤◌, List, [], ◌∷◌, ◌++◌, length, length-append, append_assoc, refl, sym, ap, subst, ◌∙◌, arith, Signal, Lock, Item, Group, State, Locked, group, HasGiven, HasPushed, RuleNumbers, run}
+use Rattle.rds_sync.proofs.Names.{common_steps, ◌≡◌, ℕ, ◌+◌, ◌-◌, ◌<◌, ◌≤◌, List, [], ◌∷◌, ◌++◌, length, length-append, append_assoc, refl, sym, ap, subst, ◌∙◌, arith, Signal, Lock, Item, Group, State, Locked, group, HasGiven, HasPushed, RuleNumbers, run}
 use Rattle.rds_sync.proofs.WholeGroupLemmas.{one_more}
 use Rattle.rds_sync.proofs.whole_groups.push_whole_groups.Goals as goal
 
@@ -9,19 +9,7 @@ module _ (b : Signal) (rules : RuleNumbers) (lock now : Lock) (to : ℕ) (before
   longer = ap (λ (is : List Item). length is) pushed.1 ∙ length-append items (Group (group b rules 1 4 (now.due + 78)) ∷ [])
 
   pub further : HasGiven b rules lock to before (record { due = now.due + 104; number = now.number; bad = bad; first = now.first }) after
-  further =
-      let so_far = (run b rules (Locked lock) (lock.due - 25) (now.due - lock.due)).1 in
-      let total = one_more b rules lock now bad start given.from_on given.between given.state pushed.0.few pushed.0.bad_is in
-      record {
-        between = given.between;
-        few_bad = pushed.0.lawful;
-        from_on = omega (arith, given.from_on);
-        limit = λ more. omega (arith, room);
-        more = λ more. omega (arith, longer, ap (λ (is : List Item). length is) given.items, length-append before so_far);
-        state = ap (λ (r : State × List Item). r.0) total;
-        items = pushed.1 ∙ ap (λ (is : List Item). is ++ Group (group b rules 1 4 (now.due + 78)) ∷ []) given.items
-            ∙ append_assoc before so_far (Group (group b rules 1 4 (now.due + 78)) ∷ []) ∙ ap (λ (r : State × List Item). before ++ r.1) (sym total);
-      }
+  further = grind (arith, common_steps, run, one_more, longer, length-append, group, append_assoc)
 
 pub loop-now-preserved : goal.loop-now-preserved
 loop-now-preserved c =

@@ -1,4 +1,4 @@
-use Rattle.rds_sync.proofs.Names.{◌≡◌, ◌≤◌, ◌<◌, ◌+◌, ◌-◌, ℕ, Some, None, List, [], ◌∷◌, false, sym, ap, ap₂, subst, ◌∙◌, arith, inr, Signal, Item, Group, Lock, State, Locked, Step, group, IsLawful, bad_over, IsLawfulBad, are_too_many, RuleNumbers, run, lock_of, IsStretch}
+use Rattle.rds_sync.proofs.Names.{common_steps, ◌≡◌, ◌≤◌, ◌<◌, ◌+◌, ◌-◌, ℕ, Some, None, List, [], ◌∷◌, false, sym, ap, ap₂, subst, ◌∙◌, arith, inr, Signal, Item, Group, Lock, State, Locked, Step, group, IsLawful, bad_over, IsLawfulBad, are_too_many, RuleNumbers, run, lock_of, IsStretch}
 use Rattle.rds_sync.proofs.GroupOutcomes.{outcomes}
 use Rattle.rds_sync.proofs.LawfulLemmas.{lawful-lock_after}
 use Rattle.rds_sync.proofs.WholeGroupLemmas.{whole_group, whole_quiet}
@@ -16,25 +16,10 @@ module _ (b : Signal) (rules : RuleNumbers) (s : State) (due to bad after : ℕ)
   reached = record { place = due + 78 + 1; state = next; items = Some (Group (group b rules 1 4 (due + 78))) ∷ None ∷ [] }
 
   over : run b rules s (due - 25) (due + 78 + 1 - (due - 25)) ≡ (next, Group (group b rules 1 4 (due + 78)) ∷ [])
-  over =
-      let bits : due + 78 + 1 - (due - 25) ≡ 104 = omega (arith, late) in
-      rw (state, bits) (whole_group b rules due bad late few
-      ∙ ap (λ (c : ℕ). (Locked (lock_of (due + 104) 1 c 1), Group (group b rules 1 4 (due + 78)) ∷ [])) (sym after_is))
+  over = grind (arith, common_steps, whole_group, lock_of, group)
 
   pub is_stretch : IsStretch b rules s (due - 25) to reached
-  is_stretch =
-      let bits : due + 78 + 1 - 1 - (due - 25) ≡ 103 = omega (arith, late) in
-      let place : due + 78 + 26 ≡ due + 104 = omega arith in
-      record {
-        forward = omega (arith, late);
-        limit = omega (arith, room);
-        state = sym (ap (λ (r : State × List Item). r.0) over);
-        items = sym (ap (λ (r : State × List Item). r.1) over);
-        quiet = rw (state, bits) (whole_quiet b rules due bad late few);
-        ended = inr (λ none. cc);
-        lawful = subst (λ (p : ℕ). IsLawful rules (due + 78 + 1) (Locked (lock_of p 1 after 1))) place
-            (lawful-lock_after rules (due + 78) 4 after 1 lawful (omega arith) (omega arith) (omega arith) (omega arith) (omega arith));
-      }
+  is_stretch = grind (arith, common_steps, over, whole_quiet, lock_of, lawful-lock_after)
 
 pub returns-clause-reached : goal.returns-clause-reached
 returns-clause-reached c =
