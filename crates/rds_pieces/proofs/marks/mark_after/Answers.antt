@@ -1,6 +1,5 @@
-use Rattle.rds_pieces.proofs.MarkLemmas.{marks_on-quiet}
+use Rattle.rds_pieces.proofs.MarkLemmas.{marks_on-quiet, marks_on-stretch}
 use Rattle.rds_pieces.proofs.Names.{common_steps, arith, nil_from_length}
-use Rattle.rds_pieces.proofs.MarkLemmas.{marks_on-stretch}
 use Rattle.rds_pieces.proofs.marks.mark_after.Goals as goal
 
 pub returns-then-count-eq0-clause-next : goal.returns-then-count-eq0-clause-next

@@ -1,7 +1,5 @@
-use Rattle.rds_pieces.proofs.Names.{nil_from_length}
-use Rattle.rds_pieces.proofs.StitchLemmas.{follow_inside}
-use Rattle.rds_pieces.proofs.Names.{common_steps, ◌≡◌, ◌≢◌, List, ◌++◌, ◌-◌, sym, ap, ap₂, ◌∙◌, subst, arith, Signal, Searching, Item, Totals, plus, ItemsOf, listed, totals_of, run, IsMeeting}
-use Rattle.rds_pieces.proofs.StitchLemmas.{source_is, rules_are, lawful_here, fits_next, stitched_on, stitched_past, seam_few, seam_within, read_at_end, sum_at_end, whole_at_end, small_at_end, lawful_at_end}
+use Rattle.rds_pieces.proofs.Names.{nil_from_length, common_steps, ◌≡◌, ◌≢◌, List, ◌++◌, ◌-◌, sym, ap, ap₂, ◌∙◌, subst, arith, Signal, Searching, Item, Totals, plus, ItemsOf, listed, totals_of, run, IsMeeting}
+use Rattle.rds_pieces.proofs.StitchLemmas.{follow_inside, source_is, rules_are, lawful_here, fits_next, stitched_on, stitched_past, seam_few, seam_within, read_at_end, sum_at_end, whole_at_end, small_at_end, lawful_at_end}
 use Rattle.rds_pieces.proofs.stitching.carry_over_all.Goals as goal
 
 pub loop-run-init : goal.loop-run-init
