@@ -6,9 +6,6 @@ use Rattle.rds_pieces.proofs.HopFacts.{entered, run-last}
 abbrev pub at_bit : Signal → RuleNumbers → State → ℕ → ℕ → State
 at_bit b rules s from q = (run b rules s from (q - from)).0
 
-pub meet-swap : (b : Signal) (rules : RuleNumbers) (s t : State) (from to q : ℕ) → MeetAt b rules s t from to q → MeetAt b rules t s from to q
-meet-swap b rules s t from to q m = grind (arith, common_steps)
-
 -- a run from s at place a in state x and one from t at place c in state y
 pub record IsApart (b : Signal) (rules : RuleNumbers) (s t : State) (from to a : ℕ) (x : State) (c : ℕ) (y : State) : Type 0 where
   pub inside : (from ≤ a) × (a ≤ to) × (from ≤ c) × (c ≤ to)
@@ -17,7 +14,7 @@ pub record IsApart (b : Signal) (rules : RuleNumbers) (s t : State) (from to a :
   pub apart : (q : ℕ) → (q < a) ⊎ (q < c) → ¬ MeetAt b rules s t from to q
 
 pub swap : {b : Signal} {rules : RuleNumbers} {s t x y : State} {from to a c : ℕ} → IsApart b rules s t from to a x c y → IsApart b rules t s from to c y a x
-swap {b} {rules} {s} {t} {from = from} {to = to} h = grind (arith, common_steps, meet-swap)
+swap {b} {rules} {s} {t} {from = from} {to = to} h = grind (arith, common_steps)
 
 module _ (laws : RunLaws) (b : Signal) (rules : RuleNumbers) where
   at_next : (s : State) (from q : ℕ) → from ≤ q → at_bit b rules s from (q + 1) ≡ step b rules q (at_bit b rules s from q)

@@ -20,15 +20,12 @@ module _ (s n c : ℕ) where
   rises : 0 < s → (k : ℕ) → k + 1 < length places → ((k + 1) * s ≡ k * s + s) → ((c - 1) * s < n) → get_or places k 0 < get_or places (k + 1) 0
   rises some k h next below = grind (arith, common_steps, inside, last, places_length)
 
-mul_next : (k s : ℕ) → (k + 1) * s ≡ k * s + s
-mul_next k s = grind arith
-
 -- a multiple below the last place is inside
 pub multiple_inside : (n s k : ℕ) → k < div_ceil n s → k * s ≤ n
-multiple_inside n s k h = grind (arith, common_steps, div_ceil_times, mul-le, mul_next)
+multiple_inside n s k h = grind (arith, common_steps, div_ceil_times, mul-le)
 
 pub even_is_cutting : (n pieces : ℕ) → 1 ≤ pieces → IsCutting n (even_places n pieces)
-even_is_cutting n pieces h = grind (arith, common_steps, div_ceil_times, mul_next, places_length, inside, last, rises)
+even_is_cutting n pieces h = grind (arith, common_steps, div_ceil_times, places_length, inside, last, rises)
 
 -- a cutting ends at its last place
 pub is_own_cutting : (n : ℕ) (ps : List ℕ) → IsCutting n ps → IsCutting (get_or ps (length ps - 1) 0) ps

@@ -1,5 +1,5 @@
 -- Facts about a hop, from a bit and the place of the next block.
-use Rattle.rds_pieces.proofs.Names.{common_steps, ◌≡◌, ℕ, ◌+◌, ◌≤◌, ◌⊎◌, arith, Signal, Lock, State, Locked, RuleNumbers, mark, IsLawful, run, step}
+use Rattle.rds_pieces.proofs.Names.{common_steps, ◌≡◌, ℕ, ◌+◌, ◌⊎◌, arith, Signal, Lock, State, Locked, RuleNumbers, run, step}
 use Rattle.rds_sync.proofs.RunLemmas.{step-acquiring, step-searching, step-waiting, step-keeping, step-losing, run_state-append}
 
 module _ (b : Signal) (rules : RuleNumbers) where
@@ -9,7 +9,3 @@ module _ (b : Signal) (rules : RuleNumbers) where
 
   pub run-last : (s : State) (a n : ℕ) → (run b rules s a (n + 1)).0 ≡ step b rules (a + n) (run b rules s a n).0
   run-last s a n = run_state-append b rules s a n 1
-
--- the block of a lawful state is due 25 places on at most
-pub lawful-mark : (rules : RuleNumbers) (place : ℕ) (s : State) → IsLawful rules place s → (place ≤ mark place s) × (mark place s ≤ place + 25)
-lawful-mark rules place s lawful = grind (arith, common_steps)

@@ -1,6 +1,6 @@
 -- Where the next mark of a run is: after the next stretch that gives an item. The marks of a run are those that a walk
 -- bit by bit finds.
-use Rattle.rds_pieces.proofs.Names.{common_steps, ◌≡◌, ◌≢◌, ℕ, zero, suc, ◌+◌, ◌-◌, List, [], ◌∷◌, ◌++◌, length, map, filter, cond, nat_lt, refl, sym, ap, ap₂, ◌∙◌, arith, append_assoc, length-append, le-ltb, lt-ltb, range_with_len, Signal, Item, State, items_in, RuleNumbers, run, step, items_at, mark_where, mark_at, marks_on}
+use Rattle.rds_pieces.proofs.Names.{common_steps, ◌≡◌, ◌≢◌, ℕ, zero, suc, ◌+◌, ◌-◌, List, [], ◌∷◌, ◌++◌, length, map, filter, refl, sym, ap, ap₂, ◌∙◌, arith, append_assoc, length-append, le-ltb, lt-ltb, range_with_len, Signal, Item, State, items_in, RuleNumbers, run, step, items_at, mark_where, mark_at, marks_on}
 use Rattle.rds_pieces.specs.declared.mark.Mark.{Mark}
 use Rattle.rds_sync.specs.declared.step.Step.{Step}
 use Rattle.rds_sync.specs.Stretch.{IsStretch}
@@ -14,15 +14,6 @@ none_first (x ∷ xs) ys e = cc
 none_rest : {A : Type 0} → (xs ys : List A) → xs ++ ys ≡ [] → ys ≡ []
 none_rest [] ys e = e
 none_rest (x ∷ xs) ys e = cc
-
--- there is a mark if items were given
-mark_there : (given : List Item) (mark : Mark) → given ≢ [] → mark_where given mark ≡ mark ∷ []
-mark_there given mark some = grind (arith, common_steps)
-
--- there is a mark if the count of items went up
-mark_counted : (f : ℕ → Mark) (k before : ℕ) (given : List Item) (ks : List ℕ)
-    → map f (cond (nat_lt before (before + length given)) (k ∷ ks) ks) ≡ mark_where given (f k) ++ map f ks
-mark_counted f k before given ks = grind (arith, common_steps, le-ltb, lt-ltb)
 
 module _ (b : Signal) (rules : RuleNumbers) where
   -- bits that give nothing have no mark
@@ -52,7 +43,7 @@ module _ (b : Signal) (rules : RuleNumbers) where
       → let given : List Item = items_at b rules (a + m) t in
       let next : State = step b rules (a + m) t in
       marks_on b rules s a c (m + suc n) ≡ mark_at next (a + m + 1) (c + length given) ∷ marks_on b rules next (a + m + 1) (c + length given) n
-  marks_on-next s t a c m n quiet some = grind (arith, common_steps, marks_on-append, marks_on-quiet, mark_there)
+  marks_on-next s t a c m n quiet some = grind (arith, common_steps, marks_on-append, marks_on-quiet)
 
   -- the same, by other names of the last bit's place, state and items
   marks_on-came : (s t u : State) (a c m n to : ℕ) (given : List Item) → run b rules s a m ≡ (t, []) → a + m + 1 ≡ to → u ≡ step b rules (a + m) t → given ≡ items_at b rules (a + m) t
@@ -72,7 +63,7 @@ module _ (b : Signal) (rules : RuleNumbers) where
   marks_from : (s : State) (a m n : ℕ) → map (mark_after_bits b rules s a) (filter (gave_item b rules s a) (range_with_len (m + 1) n))
       ≡ marks_on b rules (run b rules s a m).0 (a + m) (length (run b rules s a m).1) n
   marks_from s a m zero = refl
-  marks_from s a m (suc n) = grind (arith, common_steps, run_more, length-append, mark_counted, marks_from s a (m + 1) n)
+  marks_from s a m (suc n) = grind (arith, common_steps, run_more, length-append, le-ltb, lt-ltb, marks_from s a (m + 1) n)
 
   -- all marks of a run are those of a walk from its first place
   pub marks_of-by_bits : (s : State) (a bits : ℕ) → marks_of b rules s a bits ≡ mark_at s a 0 ∷ marks_on b rules s a 0 bits
@@ -99,7 +90,3 @@ module _ (b : Signal) (rules : RuleNumbers) where
         let items : items_in reached.items ≡ items_at b rules (place + m) t = is.items ∙ ap (λ (r : State × List Item). r.1) whole in
         let all = marks_on-came s t reached.state place before m (to - reached.place) reached.place (items_in reached.items) quiet last state items some in
         rw rest at all
-
-    -- over one that gives none, up to the end
-    pub marks_on-none : items_in reached.items ≡ [] → reached.place ≡ to → marks_on b rules s place before (to - place) ≡ []
-    marks_on-none none end = grind (arith, common_steps, marks_on-quiet)

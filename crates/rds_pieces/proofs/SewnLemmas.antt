@@ -18,14 +18,10 @@ module _ (laws : RunLaws) {b : Signal} {rules : RuleNumbers} {s : State} {from t
   guess_all : guess b rules from (to - from) ≡ (later.0, (guess b rules from (place - from)).1 ++ later.1)
   guess_all = grind (arith, common_steps, guess)
 
-  -- the items of the guess but for those before the meeting
-  pub sewn_items : own.1 ++ drop (length (guess b rules from (place - from)).1) (guess b rules from (to - from)).1 ≡ (run b rules s from (to - from)).1
-  sewn_items = grind (arith, common_steps, guess_all, front_rest, guess, own_all)
-
   pub sewn_list : {mine theirs before after : ItemsOf} {n : ℕ} → mine ≡ listed b rules own.1 → theirs ≡ listed b rules (guess b rules from (to - from)).1
       → before ≡ listed b rules (guess b rules from (place - from)).1 → n ≡ length before.list
       → after ≡ listed mine.source mine.rules (mine.list ++ drop n theirs.list) → after ≡ listed b rules (run b rules s from (to - from)).1
-  sewn_list {mine = mine} {theirs = theirs} {n = n} mine_is theirs_is before_is n_is after_is = grind (arith, common_steps, guess, sewn_items)
+  sewn_list {mine = mine} {theirs = theirs} {n = n} mine_is theirs_is before_is n_is after_is = grind (arith, common_steps, guess, guess_all, front_rest, own_all)
 
   -- its totals but for theirs
   pub sewn_rest : {all part : Totals} → all ≡ totals_of (guess b rules from (to - from)).1 → part ≡ totals_of (guess b rules from (place - from)).1 → IsRest part all (totals_of later.1)

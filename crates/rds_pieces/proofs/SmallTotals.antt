@@ -1,5 +1,5 @@
 -- The totals of a run's items are small: a bit gives one group at most, and a block has 26 bits.
-use Rattle.rds_pieces.proofs.Names.{common_steps, ◌≡◌, ℕ, zero, suc, ◌+◌, ◌-◌, ◌*◌, ◌^◌, ◌<◌, ◌≤◌, Bool, true, false, List, [], ◌∷◌, ◌++◌, Option, refl, sym, subst, arith, lit≤, inl, inr, cases_Bool, cases_eq, ones_le_self, Signal, reading_heard, State, Searching, Locked, Item, Acquired, GroupItem, LostLock, Totals, plus, TotalsJoin, IsAtMost, FitTogether, group, block_at, wanted_beside, RuleNumbers, are_too_many, run, step, items_at, history_after_block, totals_of, bits_corrected}
+use Rattle.rds_pieces.proofs.Names.{common_steps, ◌≡◌, ℕ, zero, suc, ◌+◌, ◌-◌, ◌*◌, ◌^◌, ◌<◌, ◌≤◌, Bool, true, false, List, [], ◌∷◌, ◌++◌, refl, sym, subst, arith, lit≤, inl, inr, cases_Bool, cases_eq, ones_le_self, Signal, State, Searching, Locked, Item, Acquired, GroupItem, LostLock, Totals, plus, TotalsJoin, IsAtMost, FitTogether, group, block_at, wanted_beside, RuleNumbers, are_too_many, run, step, items_at, history_after_block, totals_of, bits_corrected}
 use Rattle.std.specs.Prelude.{sum_by, if◌then◌else◌, ◌==◌}
 use Rattle.rds_code.specs.declared.reading.Wanted.{Wanted}
 use Rattle.rds_code.specs.declared.reading.Wanted.TheVariants.{Either}
@@ -51,12 +51,9 @@ reading_small law w x wanted limit low high few = at_case (reading w x wanted li
   at_case (Corrected o info e) h = let l = ones_le_self e in let b = h.1.fits.burst.is_block in omega (arith, l, b)
   at_case Lost h = omega arith
 
-heard_small : ReadsByRule → (h : Option ℕ) (x : ℕ) (wanted : Wanted) (limit : ℕ) → 1 ≤ x → x ≤ 4 → limit ≤ 5 → bits_corrected (Read (reading_heard h x wanted limit)) < 2 ^ 26
-heard_small law it x wanted limit low high few = grind (arith, common_steps, reading_small)
-
 module _ (b : Signal) (rules : RuleNumbers) (law : ReadsByRule) (few : rules.burst ≤ 5) where
   block_small : (f x p : ℕ) (wanted : Wanted) (y : ℕ) → 1 ≤ y → y ≤ 4 → bits_corrected (block_at b rules f x p wanted y) < 2 ^ 26
-  block_small f x p wanted y low high = grind (arith, common_steps, heard_small)
+  block_small f x p wanted y low high = grind (arith, common_steps, reading_small)
 
   closed_at_most : (f x p : ℕ) → IsAtMost (2 ^ 28 - 4) (totals_of (GroupItem (group b rules f x p) ∷ []))
   unfolding group

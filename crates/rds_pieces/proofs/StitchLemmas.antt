@@ -1,20 +1,16 @@
 -- A run that is carried over runs that follow each other, from place 0 to the recording's end.
-use Rattle.rds_pieces.proofs.Names.{common_steps, ◌≡◌, ◌≢◌, ℕ, ◌+◌, ◌-◌, ◌*◌, ◌<◌, ◌≤◌, ◌^◌, List, [], ◌∷◌, ◌++◌, length, get_or, drop, Option, Some, refl, sym, ap, ap₂, ◌∙◌, subst, arith, append-nil, mul-le, drop_more, drop_all, nil_from_length, Signal, length_of, State, Searching, Locked, Item, Totals, IsAtMost, FitTogether, totals_of, RuleNumbers, IsInRange, IsLawful, IsBetweenGroups, report_items, IsLossRule, run, items_of_end, IsMeeting, MeetAt, distance, RunOf, FollowEachOther, RunLaws, seam_reads, IsSumOfReads}
-use Rattle.rds_pieces.proofs.SmallTotals.{per_bit, at_most_more, run_at_most}
+use Rattle.rds_pieces.proofs.Names.{common_steps, ◌≡◌, ◌≢◌, ℕ, ◌+◌, ◌-◌, ◌*◌, ◌<◌, ◌≤◌, ◌^◌, List, [], ◌∷◌, ◌++◌, length, get_or, drop, Option, Some, refl, sym, ap, ap₂, ◌∙◌, subst, arith, append-nil, mul-le, drop_more, drop_all, Signal, length_of, State, Searching, Locked, Item, Totals, IsAtMost, FitTogether, totals_of, RuleNumbers, IsInRange, IsLawful, IsBetweenGroups, report_items, IsLossRule, run, items_of_end, IsMeeting, MeetAt, RunOf, FollowEachOther, RunLaws, seam_reads, IsSumOfReads}
+use Rattle.rds_pieces.proofs.SmallTotals.{per_bit, at_most_more, run_at_most, totals_of_two}
 
 -- runs that follow each other are between the places
 pub follow_inside : (b : Signal) (rules : RuleNumbers) (from to : ℕ) (runs : List RunOf) → FollowEachOther b rules from to runs → from ≤ to
 follow_inside b rules from to [] h = omega (arith, h)
 follow_inside b rules from to (r ∷ rs) h = let l = follow_inside b rules r.to to rs h.2 in omega (arith, h.1, l)
 
--- a meeting is in the range
-distance_inside : (b : Signal) (rules : RuleNumbers) (s t : State) (from to : ℕ) (met : Option ℕ) → IsMeeting b rules s t from to met → distance from to met ≤ to - from
-distance_inside b rules s t from to met h = grind (arith, common_steps)
-
 -- so a seam over some place reads at most 20 windows a place
 pub few_reads : (b : Signal) (rules : RuleNumbers) (s : State) (from to : ℕ) (met : Option ℕ) → rules.reach ≤ 8 → from < to → IsMeeting b rules s Searching from to met
     → seam_reads rules from to met ≤ 20 * (to - from)
-few_reads b rules s from to met reach some h = grind (arith, common_steps, distance_inside, mul-le)
+few_reads b rules s from to met reach some h = grind (arith, common_steps, mul-le)
 
 -- over no place a run and the guess meet if the run searches
 pub meeting_at_once : (b : Signal) (rules : RuleNumbers) (s : State) (from to : ℕ) → from ≡ to → (met : Option ℕ) × IsMeeting b rules s Searching from to met
@@ -42,9 +38,6 @@ module _ (b : Signal) (rules : RuleNumbers) (runs : List RunOf) where
     pub sums : (n : ℕ) → IsSumOfReads b rules state (drop k runs) n → IsSumOfReads b rules Searching runs (sum + n)
     -- of what all seams may read, as much is left as those of the runs to come may
     pub left_to_read : (n : ℕ) → IsSumOfReads b rules Searching runs n → (m : ℕ) × IsSumOfReads b rules state (drop k runs) m × (reads + m ≤ base + n)
-
-  pub stitched_start : (base : ℕ) (items : List Item) → FollowEachOther b rules 0 (length_of b) runs → length items ≡ 0 → IsStitched base 0 Searching items base
-  stitched_start base items follow empty = grind (arith, common_steps, nil_from_length)
 
 module _ {b : Signal} {rules : RuleNumbers} {runs : List RunOf} {base k : ℕ} {state : State} {items : List Item} {reads : ℕ} (done : IsStitched b rules runs base k state items reads) where
   module _ {r : RunOf} (d : RunOf) (inside : k < length runs) (is : r ≡ get_or runs k d) where
@@ -77,16 +70,8 @@ module _ {b : Signal} {rules : RuleNumbers} {runs : List RunOf} {base k : ℕ} {
     -- its totals and those before fit into one word
     pub fits_next : RunLaws → IsInRange rules → length_of b ≤ 2 ^ 36 → (t u : Totals) → t ≡ totals_of items → u ≡ totals_of (run b rules state r.from (r.to - r.from)).1 → FitTogether t u
     fits_next laws range bits t u t_is u_is =
-        let n = next_follows.1 in
-        let f = from_is in
-        let e = to_inside in (
-          per_bit * (done.place - 0),
-          per_bit * (r.to - r.from),
-          omega (arith, n, f, e, bits),
-          subst (λ (x : Totals). IsAtMost (per_bit * (done.place - 0)) x) (sym (t_is ∙ ap (λ (is : List Item). totals_of is) done.items_are))
-              (run_at_most b rules laws.readings range.burst laws.totals Searching 0 (done.place - 0)),
-          subst (λ (x : Totals). IsAtMost (per_bit * (r.to - r.from)) x) (sym u_is) (run_at_most b rules laws.readings range.burst laws.totals state r.from (r.to - r.from)),
-        )
+        totals_of_two b rules laws.readings range.burst laws.totals Searching state 0 (done.place - 0) r.from (r.to - r.from) (omega (arith, next_follows.1, from_is, to_inside, bits)) t u
+        (t_is ∙ ap (λ (is : List Item). totals_of is) done.items_are) u_is
 
     -- what its seam reads is among what was left, whether or not it comes to an end
     pub seam_paid : (reads2 : ℕ) → ((met : Option ℕ) → IsMeeting b rules state Searching r.from r.to met → reads2 ≤ reads + seam_reads rules r.from r.to met)
@@ -95,10 +80,7 @@ module _ {b : Signal} {rules : RuleNumbers} {runs : List RunOf} {base k : ℕ} {
     seam_paid reads2 way n h =
         let all = done.left_to_read n h in
         let next : IsSumOfReads b rules state (r ∷ drop (k + 1) runs) all.0 = subst (λ (rs : List RunOf). IsSumOfReads b rules state rs all.0) left all.1 in
-        let read = way next.0 next.2 in
-        let parts = next.4 in
-        let most = all.2 in
-        (next.1, next.3, omega (arith, read, parts, most))
+        (next.1, next.3, omega (arith, way next.0 next.2, next.4, all.2))
 
     -- what some places may read, a meeting among them
     pub seam_few : IsInRange rules → r.from ≢ r.to → (reads2 : ℕ) (met : Option ℕ) → IsMeeting b rules state Searching r.from r.to met
@@ -186,6 +168,3 @@ module _ {b : Signal} {rules : RuleNumbers} {runs : List RunOf} {base k : ℕ} {
     sum_at_end =
         let e : done.sum + 0 ≡ done.sum = omega arith in
         subst (λ (t : ℕ). IsSumOfReads b rules Searching runs t) e (done.sums 0 (subst (λ (rs : List RunOf). IsSumOfReads b rules state rs 0) (sym none_left) refl))
-
-  pub stitched_few : length_of b ≤ 2 ^ 36 → base ≤ 2 ^ 61 → reads ≤ 2 ^ 62
-  stitched_few bits room = grind (arith, common_steps, follow_inside)

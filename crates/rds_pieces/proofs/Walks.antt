@@ -1,24 +1,18 @@
 -- Two runs of one range side by side, of which the one at the lesser place hops: they meet at the least
 -- place, and read few windows.
-use Rattle.rds_pieces.proofs.Names.{common_steps, ◌≡◌, ◌≢◌, ℕ, ◌+◌, ◌-◌, ◌*◌, ◌<◌, ◌≤◌, ◌^◌, ◌⊎◌, Option, sym, subst, arith, inl, inr, mul-le, Signal, State, Searching, IsHop, RuleNumbers, IsLawful, IsBetweenGroups, IsInRange, TallyOf, tally_at, gone_on, IsFirst, IsStep, Meet, RunLaws, MeetAt, MeetFirstAt, IsMeeting, seam_reads}
+
+use Rattle.rds_pieces.proofs.Names.{common_steps, ◌≡◌, ℕ, ◌+◌, ◌-◌, ◌*◌, ◌<◌, ◌≤◌, ◌^◌, ◌⊎◌, Option, sym, subst, arith, inl, inr, mul-le, Signal, State, Searching, IsHop, RuleNumbers, IsLawful, IsBetweenGroups, IsInRange, TallyOf, tally_at, gone_on, IsFirst, IsStep, Meet, RunLaws, MeetFirstAt, IsMeeting, seam_reads}
 use Rattle.rds_pieces.proofs.Apart.{IsApart, at_bit, swap, apart_hop}
-use Rattle.rds_pieces.proofs.GoneRuns.{gone-none, gone-again}
-use Rattle.rds_pieces.proofs.Paid.{IsPaid, paid_swap, paid_start, paid_hop, paid_most, paid_less}
+use Rattle.rds_pieces.proofs.GoneRuns.{gone-again}
+use Rattle.rds_pieces.proofs.Paid.{IsPaid, paid_swap, paid_hop, paid_most, paid_less}
 
 -- of two places, which is first
 which : (a c : ℕ) → (a < c) ⊎ (c < a) ⊎ (a ≡ c)
 which a c = grind (arith, common_steps)
 
-is_search : (x : State) → (x ≡ Searching) ⊎ (x ≢ Searching)
-is_search x = grind (arith, common_steps)
-
 -- if the one is not first the other is
 pub then_first : (a : ℕ) (x : State) (c : ℕ) (y : State) → ¬ ((a ≡ c) × (x ≡ y) × IsBetweenGroups x) → ¬ IsFirst a x c → IsFirst c y a
-then_first a x c y other not_first = grind (arith, common_steps, which, is_search)
-
--- the one that is first can go on, and a search is at a lesser place than the other
-pub first_ahead : (a : ℕ) (x : State) (c to : ℕ) → a ≤ to → c ≤ to → IsFirst a x c → ¬ ((a ≡ to) × (c ≡ to)) → a < to
-first_ahead a x c to one two it other = grind (arith, common_steps)
+then_first a x c y other not_first = grind (arith, common_steps, which)
 
 pub first_behind : (a : ℕ) (x : State) (c : ℕ) → IsFirst a x c → x ≡ Searching → a < c
 first_behind a x c it e = grind (arith, common_steps)
@@ -29,10 +23,6 @@ pub record IsBeside (b : Signal) (rules : RuleNumbers) (s : State) (from to : �
   pub guess_is : guess ≡ gone_on (tally_at b rules from Searching) guess.place
   pub apart : IsApart b rules s Searching from to own.place own.state guess.place guess.state
   pub paid : IsPaid rules from own.place own.state guess.place guess.state reads
-
-pub beside_start : {b : Signal} {rules : RuleNumbers} {s : State} {from to : ℕ} → IsLawful rules from s → from ≤ to
-    → IsBeside b rules s from to (tally_at b rules from s) (tally_at b rules from Searching) 0
-beside_start {b} {rules} {s} {from} one h = grind (arith, common_steps, gone-none, paid_start, at_bit)
 
 -- a run that went on by a hop
 gone : RunLaws → {b : Signal} {rules : RuleNumbers} {from near to cost : ℕ} (u : State) {old new : TallyOf} → from ≤ old.place → old ≡ gone_on (tally_at b rules from u) old.place → new ≡ gone_on old new.place
@@ -86,10 +76,6 @@ module _ (laws : RunLaws) {b : Signal} {rules : RuleNumbers} (range : IsInRange 
     -- if they meet it is the least place
     pub met_least : Meet own guess → MeetFirstAt b rules s Searching from to own.place
     met_least m = grind (arith, common_steps, at_bit)
-
-    -- and if both are at the end they met nowhere
-    pub never_met : ¬ Meet own guess → own.place ≡ to → guess.place ≡ to → (q : ℕ) → ¬ MeetAt b rules s Searching from to q
-    never_met other own_end guess_end q m = grind (arith, common_steps, at_bit)
 
 -- a step goes on
 pub step_moves : {b : Signal} {rules : RuleNumbers} {to : ℕ} {own guess own2 guess2 : TallyOf} {reads : ℕ} → IsStep b rules to own guess own2 guess2 reads

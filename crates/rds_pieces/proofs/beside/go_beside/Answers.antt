@@ -1,23 +1,14 @@
-use Rattle.rds_pieces.proofs.Names.{common_steps, ◌≤◌, ◌-◌, refl, sym, ◌∙◌, subst, arith, Signal, length_of, tally_at, IsStep}
-use Rattle.rds_pieces.proofs.Walks.{IsBeside, beside_start, hops_first, few_in_range, few_to_meeting, room_for, met_least, never_met, step_moves}
+use Rattle.rds_pieces.proofs.Paid.{paid_start}
+use Rattle.rds_pieces.proofs.GoneRuns.{gone-none}
+use Rattle.rds_pieces.proofs.Apart.{at_bit}
+use Rattle.rds_pieces.proofs.Names.{common_steps, ◌-◌, refl, ◌∙◌, subst, arith, Signal, tally_at, IsStep}
+use Rattle.rds_pieces.proofs.Walks.{IsBeside, hops_first, few_in_range, few_to_meeting, room_for, met_least, step_moves}
 use Rattle.rds_pieces.proofs.beside.go_beside.Given.{Over}
 use Rattle.rds_pieces.proofs.beside.go_beside.Goals.{After-hop_first}
 use Rattle.rds_pieces.proofs.beside.go_beside.Goals as goal
 
 pub along-init : goal.along-init
-along-init g c = grind (arith, common_steps, tally_at, beside_start, g.T.Tape.signal, g.T.Tape.reads_made, c.requires.lawful, c.requires.order, c.new-own.ensures, c.source.ensures, c.new-guess.ensures, c.source-2.ensures)
-
-pub hop_first-requires-clause-inside : goal.hop_first-requires-clause-inside
-hop_first-requires-clause-inside g c = let i = c.along.invariant.beside.apart.inside in (i.1, i.3)
-
-pub hop_first-requires-clause-apart : goal.hop_first-requires-clause-apart
-hop_first-requires-clause-apart g c = λ m. (let t = c.meet.ensures.1 m in let f = c.if-meet.false in cc)
-
-pub hop_first-requires-clause-ahead : goal.hop_first-requires-clause-ahead
-hop_first-requires-clause-ahead g c = λ end. (let t = c.are_at_end.ensures.1 end in let f = c.if-are_at_end.false in cc)
-
-pub hop_first-requires-clause-within : goal.hop_first-requires-clause-within
-hop_first-requires-clause-within g c = subst (λ (x : Signal). c.args.to ≤ length_of x) (sym c.along.invariant.same) c.requires.within
+along-init g c = grind (arith, common_steps, tally_at, gone-none, paid_start, at_bit, g.T.Tape.signal, g.T.Tape.reads_made, c.requires.lawful, c.requires.order, c.new-own.ensures, c.source.ensures, c.new-guess.ensures, c.source-2.ensures)
 
 pub hop_first-requires-clause-counted : goal.hop_first-requires-clause-counted
 hop_first-requires-clause-counted g c =
@@ -52,7 +43,7 @@ pub returns-then-meet-clause-reads_most : goal.returns-then-meet-clause-reads_mo
 returns-then-meet-clause-reads_most g c = omega (arith, few_in_range c.run_laws.ensures c.reach.ensures.range c.requires.lawful c.along.invariant.beside)
 
 pub returns-then-are_at_end-clause-met : goal.returns-then-are_at_end-clause-met
-returns-then-are_at_end-clause-met g c = grind (arith, common_steps, never_met)
+returns-then-are_at_end-clause-met g c = grind (arith, common_steps, at_bit)
 
 pub returns-then-are_at_end-clause-reads_way : goal.returns-then-are_at_end-clause-reads_way
 returns-then-are_at_end-clause-reads_way g c = λ met meeting.

@@ -2,37 +2,11 @@ use Rattle.rds_pieces.proofs.Names.{◌∙◌}
 use Rattle.rds_pieces.proofs.SoonLemmas.{soon_met}
 use Rattle.rds_pieces.proofs.seaming.seam.Goals as goal
 
-pub go_beside-requires-clause-lawful : goal.go_beside-requires-clause-lawful
-go_beside-requires-clause-lawful g c = rw c.range-from.ensures.first c.requires.lawful
-
-pub go_beside-requires-clause-order : goal.go_beside-requires-clause-order
-go_beside-requires-clause-order g c = rw (c.range-from.ensures.first, c.range-from.ensures.end) c.range-from.ensures.inside.0
-
-pub go_beside-requires-clause-within : goal.go_beside-requires-clause-within
-go_beside-requires-clause-within g c = rw (c.range-from.ensures.end, ← c.requires.source) c.range-from.ensures.inside.1
-
-pub sewn-requires-clause-met : goal.sewn-requires-clause-met
-sewn-requires-clause-met g c =
-    rw (c.requires.source, c.requires.rules, ← c.range-from.ensures.first, ← c.range-from.ensures.end) c.in_ok-beside.ensures.met
-
--- what it read, by the range that it was lent
-pub returns-in_err-beside-clause-reads_way : goal.returns-in_err-beside-clause-reads_way
-returns-in_err-beside-clause-reads_way g c = rw (← c.range-from.ensures.first, ← c.range-from.ensures.end) c.go_beside.ensures.reads_way
-
 pub returns-in_err-report-clause-reads_way : goal.returns-in_err-report-clause-reads_way
 returns-in_err-report-clause-reads_way g c = rw (← c.range-from.ensures.first, ← c.range-from.ensures.end) c.go_beside.ensures.reads_way
 
 pub returns-clause-reads_way : goal.returns-clause-reads_way
 returns-clause-reads_way g c = rw (← c.range-from.ensures.first, ← c.range-from.ensures.end) c.go_beside.ensures.reads_way
-
-pub returns-in_err-beside-clause-reads_most : goal.returns-in_err-beside-clause-reads_most
-returns-in_err-beside-clause-reads_most g c = rw (← c.range-from.ensures.first, ← c.range-from.ensures.end) c.go_beside.ensures.reads_most
-
-pub returns-in_err-report-clause-reads_most : goal.returns-in_err-report-clause-reads_most
-returns-in_err-report-clause-reads_most g c = rw (← c.range-from.ensures.first, ← c.range-from.ensures.end) c.go_beside.ensures.reads_most
-
-pub returns-clause-reads_most : goal.returns-clause-reads_most
-returns-clause-reads_most g c = rw (← c.range-from.ensures.first, ← c.range-from.ensures.end) c.go_beside.ensures.reads_most
 
 pub returns-clause-met : goal.returns-clause-met
 returns-clause-met g c = rw (c.seam_of.ensures.met, ← c.range-from.ensures.first, ← c.range-from.ensures.end) c.in_ok-beside.ensures.met
@@ -47,11 +21,5 @@ returns-clause-soon g c =
     soon_met (g.T.Tape.signal c.args.tape.now) c.args.rules.now c.args.state _ r.from r.to c.run_laws.ensures c.runs_converge.ensures.fours c.runs_converge.ensures.converge
     some.loss.0 some.some_reach c.requires.lawful tt c.seam_of.result.met_at (returns-clause-met g c)
 
-pub returns-clause-items : goal.returns-clause-items
-returns-clause-items g c = rw (← c.requires.source, ← c.requires.rules) (c.seam_of.ensures.items ∙ c.in_ok-report.ensures.items)
-
 pub returns-clause-totals : goal.returns-clause-totals
 returns-clause-totals g c = rw (← c.requires.source, ← c.requires.rules) (c.seam_of.ensures.totals ∙ c.in_ok-report.ensures.totals)
-
-pub returns-clause-end : goal.returns-clause-end
-returns-clause-end g c = rw (← c.requires.source, ← c.requires.rules) (c.seam_of.ensures.end ∙ c.in_ok-report.ensures.end)

@@ -6,9 +6,6 @@ use Rattle.rds_pieces.proofs.seaming.sewn.Goals as goal
 pub returns-in-None-clause-totals : goal.returns-in-None-clause-totals
 returns-in-None-clause-totals c = let own = rw c.in-None.is at c.requires.own in c.in_ok-report.ensures.totals ∙ ap (λ (t : TallyOf). totals_of t.list) own
 
-pub returns-in-None-clause-end : goal.returns-in-None-clause-end
-returns-in-None-clause-end c = let own = rw c.in-None.is at c.requires.own in c.state-end_state.ensures.value ∙ ap (λ (t : TallyOf). t.state) own
-
 -- they met
 module _ (c : After-totals) where
   abbrev r : RunOf

@@ -1,9 +1,9 @@
-use Rattle.rds_pieces.proofs.Names.{common_steps, ◌≡◌, ◌≢◌, List, ◌++◌, ◌-◌, sym, ap, ap₂, ◌∙◌, subst, arith, Signal, Searching, Item, Totals, plus, ItemsOf, listed, totals_of, run, IsMeeting}
-use Rattle.rds_pieces.proofs.StitchLemmas.{stitched_start, source_is, rules_are, lawful_here, fits_next, stitched_on, stitched_past, seam_few, stitched_few, seam_within, read_at_end, sum_at_end, whole_at_end, small_at_end, lawful_at_end}
+use Rattle.rds_pieces.proofs.Names.{nil_from_length, common_steps, ◌≡◌, ◌≢◌, List, ◌++◌, ◌-◌, sym, ap, ap₂, ◌∙◌, subst, arith, Signal, Searching, Item, Totals, plus, ItemsOf, listed, totals_of, run, IsMeeting}
+use Rattle.rds_pieces.proofs.StitchLemmas.{follow_inside, source_is, rules_are, lawful_here, fits_next, stitched_on, stitched_past, seam_few, seam_within, read_at_end, sum_at_end, whole_at_end, small_at_end, lawful_at_end}
 use Rattle.rds_pieces.proofs.stitching.carry_over_all.Goals as goal
 
 pub loop-run-init : goal.loop-run-init
-loop-run-init g c = grind (arith, common_steps, stitched_start)
+loop-run-init g c = grind (arith, common_steps, nil_from_length)
 
 pub carry_over-requires-clause-lawful : goal.carry_over-requires-clause-lawful
 carry_over-requires-clause-lawful g c = grind (arith, common_steps, lawful_here)
@@ -15,20 +15,12 @@ pub carry_over-requires-clause-rules : goal.carry_over-requires-clause-rules
 carry_over-requires-clause-rules g c = grind (arith, common_steps, rules_are)
 
 pub carry_over-requires-clause-room : goal.carry_over-requires-clause-room
-carry_over-requires-clause-room g c = grind (arith, common_steps, stitched_few)
-
-pub carry_over-requires-clause-same_source : goal.carry_over-requires-clause-same_source
-carry_over-requires-clause-same_source g c = ap (λ (x : ItemsOf). x.source) c.loop-run.invariant.named ∙ sym c.loop-run.invariant.same
-
-pub carry_over-requires-clause-same_rules : goal.carry_over-requires-clause-same_rules
-carry_over-requires-clause-same_rules g c = ap (λ (x : ItemsOf). x.rules) c.loop-run.invariant.named
+carry_over-requires-clause-room g c = grind (arith, common_steps, follow_inside)
 
 pub carry_over-requires-clause-fit : goal.carry_over-requires-clause-fit
 carry_over-requires-clause-fit g c =
     let r = c.run-item.result in
-    let l = c.len-len.ensures.limit in
-    let v = c.len-len.ensures.value in
-    fits_next c.loop-run.invariant.stitched c.run-item.result c.loop-run-test.true c.run-item.is c.run_laws.ensures c.reach-reach.ensures.range (omega (arith, l, v)) c.loop-run.report.totals
+    fits_next c.loop-run.invariant.stitched r c.loop-run-test.true c.run-item.is c.run_laws.ensures c.reach-reach.ensures.range (omega (arith, c.len-len.ensures.limit, c.len-len.ensures.value)) c.loop-run.report.totals
     (totals_of (run (g.T.Tape.signal c.loop-run.tape) c.args.rules.now c.loop-run.state r.from (r.to - r.from)).1) c.loop-run.invariant.counted
     (ap (λ (x : Signal). totals_of (run x c.args.rules.now c.loop-run.state r.from (r.to - r.from)).1) c.loop-run.invariant.same)
 
@@ -65,12 +57,7 @@ pub loop-run-preserved-then-from-to : goal.loop-run-preserved-then-from-to
 loop-run-preserved-then-from-to g c = grind (arith, common_steps, stitched_past)
 
 pub returns-clause-reads : goal.returns-clause-reads
-returns-clause-reads g c =
-    let done = c.loop-run.invariant.stitched in (
-      done.sum,
-      sum_at_end done c.loop-run-test.false,
-      done.reads_most,
-    )
+returns-clause-reads g c = let done = c.loop-run.invariant.stitched in (done.sum, sum_at_end done c.loop-run-test.false, done.reads_most)
 
 pub returns-clause-whole : goal.returns-clause-whole
 returns-clause-whole g c =
@@ -79,16 +66,14 @@ returns-clause-whole g c =
 
 pub returns-clause-small : goal.returns-clause-small
 returns-clause-small g c =
-    let l = c.len-len.ensures.limit in
-    let v = c.len-len.ensures.value in
-    small_at_end c.loop-run.invariant.stitched c.loop-run-test.false c.run_laws.ensures c.reach-reach.ensures.range (omega (arith, l, v)) c.loop-run.report.totals
+    small_at_end c.loop-run.invariant.stitched c.loop-run-test.false c.run_laws.ensures c.reach-reach.ensures.range (omega (arith, c.len-len.ensures.limit, c.len-len.ensures.value)) c.loop-run.report.totals
     c.loop-run.invariant.counted
 
 pub returns-clause-lawful : goal.returns-clause-lawful
 returns-clause-lawful g c = grind (arith, common_steps, lawful_at_end)
 
 pub returns-clause-room : goal.returns-clause-room
-returns-clause-room g c = grind (arith, common_steps, stitched_few)
+returns-clause-room g c = grind (arith, common_steps, follow_inside)
 
 pub returns-in_err-state-clause-reads_way : goal.returns-in_err-state-clause-reads_way
 returns-in_err-state-clause-reads_way g c =
