@@ -1,5 +1,5 @@
 -- A decoder of a stream after further bytes.
-use Rattle.rds_live.proofs.Names.{common_steps, ◌≡◌, ℕ, ◌+◌, ◌-◌, ◌*◌, ◌/◌, ◌≤◌, ◌⊎◌, List, [], ◌∷◌, ◌++◌, length, drop, min, refl, sym, ap, ap₂, subst, ◌∙◌, arith, inl, inr, cases_lt, length-drop, length-append, drop-append-le, drop-drop, State, Searching, Locked, Item, Acquired, Group, LostLock, RuleNumbers, IsLawful, Totals, IsAtMost, TotalsJoin, plus, totals_of, moved_state, moved_item, moved_items, most_behind, last_bytes, most_kept}
+use Rattle.rds_live.proofs.Names.{common_steps, ◌≡◌, ℕ, ◌+◌, ◌-◌, ◌*◌, ◌/◌, ◌≤◌, ◌⊎◌, List, [], ◌∷◌, ◌++◌, length, drop, min, refl, sym, ap, ap₂, ◌∙◌, arith, length-drop, length-append, drop-append-le, drop-drop, State, Item, RuleNumbers, IsLawful, Totals, IsAtMost, TotalsJoin, totals_of, moved_state, moved_item, moved_items, most_behind, last_bytes, most_kept}
 
 -- moved by nothing
 pub still-state : (s : State) → moved_state 0 s ≡ s

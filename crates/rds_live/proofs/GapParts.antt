@@ -1,5 +1,5 @@
 -- The gaps of a part of a stream may be gaps there, and touch the same windows.
-use Rattle.rds_live.proofs.Names.{common_steps, ◌≡◌, ℕ, zero, suc, ◌+◌, ◌-◌, ◌*◌, ◌<◌, ◌≤◌, List, [], ◌∷◌, ◌++◌, append_assoc, drop, get_or, map, Bool, true, false, Option, Some, None, length, min, refl, sym, ap, ap₂, subst, ◌∙◌, arith, inl, inr, ⊤, nat_le, nat_lt, ◌&&◌, ◌||◌, slice_index_or, All, AllAdjacentBelow, cons_option, list_any, range_with_len, cases_lt, false≢true, le-leb, leb-true, lt-leb, le-ltb, lt-ltb, ltb-true, All-cons, All-head, All-nil, All-tail, drop_more, length-append, length-map-range_with_len, AreGaps, is_touched_by, gaps_within, part_of_gap, filled_up, spare}
+use Rattle.rds_live.proofs.Names.{common_steps, ◌≡◌, ℕ, zero, suc, ◌+◌, ◌-◌, ◌*◌, ◌<◌, ◌≤◌, List, [], ◌∷◌, ◌++◌, append_assoc, drop, get_or, map, Bool, true, false, Option, Some, length, min, refl, sym, ap, subst, ◌∙◌, arith, ⊤, ◌&&◌, ◌||◌, slice_index_or, All, AllAdjacentBelow, cons_option, list_any, range_with_len, false≢true, le-leb, leb-true, lt-leb, le-ltb, lt-ltb, ltb-true, All-cons, All-head, All-nil, All-tail, drop_more, length-append, length-map-range_with_len, AreGaps, is_touched_by, gaps_within, part_of_gap, filled_up, spare}
 
 -- ---- gaps, one after another
 

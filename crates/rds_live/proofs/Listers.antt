@@ -1,5 +1,5 @@
 -- Listers that take bytes in pieces.
-use Rattle.rds_live.proofs.Names.{common_steps, arith, ◌≡◌, ◌++◌, ◌∙◌, Err, List, Ok, Result, [], ap, ap₂, append_assoc, sym, ℕ, IfOk, flat_map, flat_map-append, append-nil, IsInRange, Item, ListerOf, lister_next, PiecesJoin, completed, live_next, IsStreamDecoder, LiveOf}
+use Rattle.rds_live.proofs.Names.{common_steps, arith, ◌≡◌, ◌++◌, ◌∙◌, List, Result, [], ap, ap₂, append_assoc, sym, ℕ, IfOk, flat_map, flat_map-append, append-nil, IsInRange, Item, ListerOf, lister_next, PiecesJoin, completed, live_next, IsStreamDecoder, LiveOf}
 
 -- bytes in two pieces give the same as at once
 pub lists-join : PiecesJoin → (row : Item → List ℕ) (lister : ListerOf) (first second : List ℕ) → IsInRange lister.live.terms.rules → IsStreamDecoder lister.live

@@ -1,5 +1,5 @@
 -- Items that are moved one by one, in their place.
-use Rattle.rds_live.proofs.Names.{common_steps, ◌≡◌, ◌∙◌, ◌+◌, ◌<◌, ◌++◌, ◌∷◌, ℕ, List, [], ap, arith, drop, get_or, length, map, refl, set, sym, take, take-set_at, take_at_read, drop-drop, drop-set-lt, get_or-drop, map-append}
+use Rattle.rds_live.proofs.Names.{common_steps, ◌≡◌, ◌+◌, ◌<◌, ℕ, List, arith, drop, get_or, length, map, set, take, take-set_at, take_at_read, drop-drop, drop-set-lt, get_or-drop, map-append}
 
 -- one more is changed after those before it
 pub one-changed : {A : Type 0} (f : A → A) (old now : List A) (i : ℕ) (none : A) → i < length old → i < length now

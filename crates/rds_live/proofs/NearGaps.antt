@@ -1,6 +1,6 @@
 -- The gaps of a stream that are looked at for a part of it: those before them and those after them have no
 -- place in the part.
-use Rattle.rds_live.proofs.Names.{common_steps, ◌≡◌, ℕ, zero, suc, ◌+◌, ◌-◌, ◌<◌, ◌≤◌, List, [], ◌∷◌, drop, length, take, true, false, Option, None, leb, leb-true, ltb, min, refl, sym, ap, ◌∙◌, arith, slice_index_or, cons_option, filter_map, IsNonDecreasingBy, IsPartitionPoint, le-ltb, ltb-false, get_or-drop, length-drop, IsNonDecreasingBy-from_all_adjacent, AreGaps, gaps_within, part_of_gap}
+use Rattle.rds_live.proofs.Names.{common_steps, ◌≡◌, ℕ, zero, suc, ◌+◌, ◌-◌, ◌<◌, ◌≤◌, List, [], ◌∷◌, drop, length, take, true, false, Option, None, leb, leb-true, ltb, refl, sym, ap, ◌∙◌, arith, slice_index_or, cons_option, filter_map, IsNonDecreasingBy, IsPartitionPoint, le-ltb, ltb-false, get_or-drop, length-drop, IsNonDecreasingBy-from_all_adjacent, AreGaps, gaps_within, part_of_gap}
 
 -- the ends of gaps rise, and so do their beginnings
 pub ends-rise : (top : ℕ) (gaps : List (ℕ × ℕ)) → AreGaps top gaps → IsNonDecreasingBy (λ (gap : ℕ × ℕ). gap.1) gaps

@@ -1,5 +1,5 @@
 -- A part of a stream, cut at a byte.
-use Rattle.rds_live.proofs.Names.{common_steps, ◌≡◌, ℕ, zero, suc, ◌+◌, ◌-◌, ◌*◌, ◌⊎◌, ◌/◌, ◌%◌, ◌<◌, ◌≤◌, List, ◌∷◌, ◌++◌, length, get_or, map, take, drop, Bool, Option, Some, None, true, false, refl, sym, ap, ap₂, subst, ◌∙◌, arith, length-drop, length-append, get_or-drop, drop-append-le, get_or-append, length-map-range_with_len, take-map-range_with_len, range_with_len, slice_range, bit_at, number_from_digits, bits_of, packed_bit, window, touched, heard, length_of, IsPartHeard, most_behind, signal_at, signal_of, last_bytes, most_kept}
+use Rattle.rds_live.proofs.Names.{common_steps, ◌≡◌, ℕ, zero, suc, ◌+◌, ◌-◌, ◌*◌, ◌⊎◌, ◌<◌, ◌≤◌, List, ◌∷◌, ◌++◌, length, get_or, map, take, drop, refl, sym, ap, ap₂, subst, ◌∙◌, arith, length-drop, length-append, get_or-drop, drop-append-le, get_or-append, length-map-range_with_len, take-map-range_with_len, range_with_len, slice_range, number_from_digits, bits_of, packed_bit, window, touched, heard, length_of, IsPartHeard, most_behind, signal_at, signal_of, last_bytes, most_kept}
 use Rattle.rds_live.proofs.GapParts.{TouchAlike}
 
 pub length-signal : (gaps : List (ℕ × ℕ)) (bytes : List ℕ) → length_of (signal_of gaps bytes) ≡ 8 * length bytes

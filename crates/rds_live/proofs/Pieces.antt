@@ -1,5 +1,5 @@
 -- Bytes that a decoder takes in two pieces give the same as at once.
-use Rattle.rds_live.proofs.Names.{common_steps, ◌≡◌, ℕ, ◌+◌, ◌-◌, ◌*◌, ◌^◌, ◌≤◌, ◌⊎◌, List, [], ◌∷◌, ◌++◌, append_assoc, drop, length, refl, sym, ap, ap₂, subst, ◌∙◌, arith, inl, inr, slice_index, list_any, cases_lt, append-nil, length-append, length-drop, map-append, AreGaps, Signal, is_touched_by, length_of, State, Searching, Locked, Item, Acquired, Group, LostLock, Totals, RuleNumbers, IsInRange, IsLawful, RunsAreLawful, RunsJoin, TotalsJoin, plus, totals_of, items_of_end, run, gaps_within, IsStreamDecoder, LiveOf, last_bytes, most_kept, signal_at, EndsMove, IsPartHeard, RunsMove, moved_item, moved_items, moved_state, most_behind, before_tail, completed, group_next, items_next, live_next, moved_back, part_with, run_next}
+use Rattle.rds_live.proofs.Names.{common_steps, ◌≡◌, ℕ, ◌+◌, ◌-◌, ◌*◌, ◌^◌, ◌≤◌, ◌⊎◌, List, [], ◌∷◌, ◌++◌, append_assoc, length, refl, sym, ap, ap₂, subst, ◌∙◌, arith, inl, inr, list_any, append-nil, length-append, length-drop, map-append, AreGaps, Signal, is_touched_by, length_of, State, Item, Totals, RuleNumbers, IsInRange, IsLawful, RunsAreLawful, RunsJoin, TotalsJoin, plus, totals_of, items_of_end, run, gaps_within, IsStreamDecoder, LiveOf, last_bytes, most_kept, signal_at, EndsMove, IsPartHeard, RunsMove, moved_item, moved_items, moved_state, most_behind, before_tail, completed, group_next, items_next, live_next, moved_back, part_with, run_next}
 use Rattle.rds_live.proofs.Following.{last-bytes, lawful-back, state-in-part}
 use Rattle.rds_live.proofs.GapParts.{TouchAlike, part-touched}
 use Rattle.rds_live.proofs.Nexts.{live-next}

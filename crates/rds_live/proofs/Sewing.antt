@@ -1,5 +1,5 @@
 -- A decoder that takes over the count of a guess.
-use Rattle.rds_live.proofs.Names.{common_steps, ◌≡◌, ◌+◌, ◌-◌, ◌*◌, ◌^◌, ◌≤◌, ◌++◌, ◌∙◌, List, [], ap, arith, drop, length, refl, subst, sym, take, ℕ, slice_index, drop-drop, drop_at, length-append, take_rest, AreGaps, IsAtMost, plus, IsInRange, totals_of, State, Totals, IsWithin, NextIsHeard, PiecesJoin, completed, guessed, live_next, HasHeard, IsStreamDecoder, LiveOf, Terms, last_bytes, live_of, most_counted, most_kept}
+use Rattle.rds_live.proofs.Names.{common_steps, ◌≡◌, ◌+◌, ◌-◌, ◌*◌, ◌^◌, ◌≤◌, ◌++◌, ◌∙◌, List, [], ap, arith, drop, length, refl, subst, sym, take, ℕ, drop-drop, drop_at, length-append, take_rest, AreGaps, IsAtMost, plus, IsInRange, totals_of, State, Totals, IsWithin, NextIsHeard, PiecesJoin, completed, guessed, live_next, HasHeard, IsStreamDecoder, LiveOf, Terms, last_bytes, live_of, most_counted, most_kept}
 use Rattle.rds_live.proofs.Following.{at-most-more}
 
 -- the last bytes of a stream are those of its end, if that is long enough

@@ -1,4 +1,4 @@
-use Rattle.rds_live.proofs.Names.{common_steps, ◌≡◌, ◌≤◌, ◌-◌, ◌*◌, ◌^◌, ◌++◌, ◌∙◌, ℕ, List, ap, ap₂, arith, drop, length, length-drop, map, min, subst, sym, range_with_len, length-append, length-map-range_with_len, AreGaps, Signal, bits_of, length_of, packed_bit, gaps_within, signal_of, IsPartHeard, AreSpareFrom, filled_up, slots_of, spare}
+use Rattle.rds_live.proofs.Names.{common_steps, ◌≡◌, ◌≤◌, ◌*◌, ◌^◌, ◌++◌, ◌∙◌, ℕ, List, ap, ap₂, arith, drop, length, length-drop, min, subst, sym, length-append, length-map-range_with_len, AreGaps, Signal, bits_of, length_of, gaps_within, signal_of, IsPartHeard, AreSpareFrom, filled_up, slots_of}
 use Rattle.rds_live.proofs.GapParts.{few-of-part, gaps-of-part, gaps-filled-up, length-filled-up}
 use Rattle.rds_live.proofs.Rooms.{heard-filled}
 use Rattle.rds_live.proofs.SpareGaps.{filled-on, spare-behind}

@@ -1,4 +1,4 @@
-use Rattle.rds_live.proofs.Names.{common_steps, ◌≡◌, ◌++◌, ◌∙◌, List, [], ap, ap₂, arith, subst, sym, ℕ, append-nil, Signal, length_of, group_item, plus, IsLawful, totals_of, Item, Totals, gaps_within, IsStart, group_next, LiveOf, complete, report_of, Start}
+use Rattle.rds_live.proofs.Names.{common_steps, ◌≡◌, ◌++◌, ◌∙◌, List, [], ap, arith, subst, sym, ℕ, append-nil, Signal, length_of, group_item, plus, IsLawful, totals_of, Item, gaps_within, IsStart, group_next, LiveOf, complete, report_of, Start}
 use Rattle.rds_live.proofs.Nexts.{group-is, part-is, report-now, totals-end}
 use Rattle.rds_live.proofs.Parts.{length-at}
 use Rattle.rds_live.proofs.stream_decoder.StreamDecoder.finish.Goals.{After-stream_end_of}

@@ -1,4 +1,4 @@
-use Rattle.rds_live.proofs.Names.{common_steps, ◌≡◌, ◌+◌, ◌-◌, ◌*◌, ◌^◌, ◌++◌, ◌∙◌, List, ap, ap₂, arith, length, refl, subst, sym, ℕ, length-map, length-take-le, with_items_is, with_items, Signal, length_of, group_item, plus, IsLawful, run, totals_of, Item, State, Totals, gaps_within, moved_item, IsStart, group_next, items_next, part_with, run_next, HasHeard, LiveOf, complete, report_at, signal_at, Start}
+use Rattle.rds_live.proofs.Names.{common_steps, ◌≡◌, ◌+◌, ◌-◌, ◌*◌, ◌++◌, ◌∙◌, List, ap, ap₂, arith, length, refl, subst, sym, ℕ, length-map, length-take-le, with_items_is, with_items, Signal, length_of, group_item, plus, IsLawful, run, totals_of, Item, State, Totals, gaps_within, moved_item, IsStart, group_next, items_next, part_with, run_next, HasHeard, LiveOf, complete, report_at, signal_at, Start}
 use Rattle.rds_live.proofs.Following.{at-most-more}
 use Rattle.rds_live.proofs.Nexts.{group-is, items-are, part-is, run-is, totals-are, totals-end}
 use Rattle.rds_live.proofs.Parts.{length-at}

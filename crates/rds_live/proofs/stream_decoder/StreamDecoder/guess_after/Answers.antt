@@ -1,4 +1,4 @@
-use Rattle.rds_live.proofs.Names.{common_steps, arith, ◌+◌, ◌-◌, ◌*◌, [], ap, drop, length, refl, take, ◌∙◌, ℕ, totals_of, Searching, LiveOf, most_kept, guessed, live_next}
+use Rattle.rds_live.proofs.Names.{common_steps, arith}
 use Rattle.rds_live.proofs.Sewing.{end-kept, guess-is}
 use Rattle.rds_live.proofs.stream_decoder.StreamDecoder.guess_after.Goals as goal
 

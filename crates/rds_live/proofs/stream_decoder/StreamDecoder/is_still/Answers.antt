@@ -1,4 +1,4 @@
-use Rattle.rds_live.proofs.Names.{common_steps, arith, ◌≡◌, [], subst, LiveOf, Terms, live_next}
+use Rattle.rds_live.proofs.Names.{common_steps, arith}
 use Rattle.rds_live.proofs.Pieces.{none-next}
 use Rattle.rds_live.proofs.stream_decoder.StreamDecoder.is_still.Goals as goal
 

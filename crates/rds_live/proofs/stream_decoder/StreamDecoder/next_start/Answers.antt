@@ -1,4 +1,4 @@
-use Rattle.rds_live.proofs.Names.{common_steps, ◌≡◌, ◌-◌, ◌*◌, ◌∙◌, List, ap, arith, length, subst, ℕ, IsStart, before_tail, moved_back, LiveOf, Start}
+use Rattle.rds_live.proofs.Names.{common_steps, arith}
 use Rattle.rds_live.proofs.Following.{state-in-part}
 use Rattle.rds_live.proofs.stream_decoder.StreamDecoder.next_start.Goals as goal
 

@@ -1,4 +1,4 @@
-use Rattle.rds_live.proofs.Names.{common_steps, ◌+◌, ◌*◌, ◌++◌, ◌∙◌, List, ap, arith, subst, sym, take, ℕ, length-take-le, Item, IsWithin, HasHeard, LiveOf, complete}
+use Rattle.rds_live.proofs.Names.{common_steps, ◌++◌, ◌∙◌, List, ap, arith, subst, sym, take, length-take-le, Item, HasHeard, LiveOf, complete}
 use Rattle.rds_live.proofs.stream_decoder.StreamDecoder.take.Goals as goal
 
 pub returns-clause-heard : goal.returns-clause-heard

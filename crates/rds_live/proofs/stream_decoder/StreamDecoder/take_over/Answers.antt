@@ -1,4 +1,4 @@
-use Rattle.rds_live.proofs.Names.{common_steps, arith, ◌*◌, ap, length, refl, subst, sym, ◌∙◌, ℕ, IsAtMost, LiveOf, most_counted, guessed, live_next}
+use Rattle.rds_live.proofs.Names.{common_steps, arith}
 use Rattle.rds_live.proofs.Sewing.{sewn}
 use Rattle.rds_live.proofs.stream_decoder.StreamDecoder.take_over.Goals as goal
 
