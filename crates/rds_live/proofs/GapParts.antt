@@ -1,5 +1,5 @@
 -- The gaps of a part of a stream may be gaps there, and touch the same windows.
-use Rattle.rds_live.proofs.Names.{◌≡◌, ℕ, zero, suc, ◌+◌, ◌-◌, ◌*◌, ◌<◌, ◌≤◌, List, [], ◌∷◌, ◌++◌, append_assoc, drop, get_or, map, Bool, true, false, Option, Some, None, length, min, refl, sym, ap, ap₂, subst, ◌∙◌, arith, inl, inr, ⊤, nat_le, nat_lt, ◌&&◌, ◌||◌, slice_index_or, All, AllAdjacentBelow, cons_option, list_any, range_with_len, cases_lt, false≢true, le-leb, leb-true, lt-leb, le-ltb, lt-ltb, ltb-true, All-cons, All-head, All-nil, All-tail, drop_more, length-append, length-map-range_with_len, AreGaps, is_touched_by, gaps_within, part_of_gap, filled_up, spare}
+use Rattle.rds_live.proofs.Names.{common_steps, ◌≡◌, ℕ, zero, suc, ◌+◌, ◌-◌, ◌*◌, ◌<◌, ◌≤◌, List, [], ◌∷◌, ◌++◌, append_assoc, drop, get_or, map, Bool, true, false, Option, Some, length, min, refl, sym, ap, subst, ◌∙◌, arith, ⊤, ◌&&◌, ◌||◌, slice_index_or, All, AllAdjacentBelow, cons_option, list_any, range_with_len, false≢true, le-leb, leb-true, lt-leb, le-ltb, lt-ltb, ltb-true, All-cons, All-head, All-nil, All-tail, drop_more, length-append, length-map-range_with_len, AreGaps, is_touched_by, gaps_within, part_of_gap, filled_up, spare}
 
 -- ---- gaps, one after another
 
@@ -22,9 +22,7 @@ apart : (low : ℕ) (gaps : List (ℕ × ℕ)) (n : ℕ) → AreFrom low gaps n 
 apart low [] n h k d l = absurd (omega arith)
 apart low (gap ∷ []) n h k d l = absurd (omega arith)
 apart low (gap ∷ next ∷ gaps) n h zero d l = h.3.0
-apart low (gap ∷ next ∷ gaps) n h (suc k) d l =
-    let e : suc (k + 1) ≡ suc k + 1 = omega arith in
-    subst (λ (m : ℕ). (slice_index_or (next ∷ gaps) k d).1 ≤ (slice_index_or (gap ∷ next ∷ gaps) m d).0) e (apart gap.1 (next ∷ gaps) n h.3 k d (omega arith))
+apart low (gap ∷ next ∷ gaps) n h (suc k) d l = grind (arith, common_steps, apart gap.1 (next ∷ gaps) n h.3 k d (omega arith))
 
 after_first : (gap : ℕ × ℕ) (gaps : List (ℕ × ℕ)) → Apart (gap ∷ gaps) → Apart gaps
 after_first gap gaps h k d l =
@@ -46,10 +44,7 @@ in-a-row gaps n are = pass 0 gaps n are.each are.apart (λ d l. omega arith)
 
 within : (d n top low from : ℕ) (gaps : List (ℕ × ℕ)) → from ≤ low - d → AreFrom low gaps top → AreFrom from (gaps_within gaps d n) n
 within d n top low from [] order h = tt
-within d n top low from (gap ∷ gaps) order h = elim (cases_lt (gap.0 - d) (min (gap.1 - d) n)) [
-  | inl some ↦ rw (lt-ltb (gap.0 - d) (min (gap.1 - d) n) some) (omega (arith, h.0), some, omega arith, within d n top gap.1 (min (gap.1 - d) n) gaps (omega arith) h.3)
-  | inr none ↦ rw (le-ltb (gap.0 - d) (min (gap.1 - d) n) none) (within d n top gap.1 from gaps (omega (arith, h.0, h.1)) h.3)
-]
+within d n top low from (gap ∷ gaps) order h = grind (arith, common_steps, lt-ltb, le-ltb, within d n top gap.1 (min (gap.1 - d) n) gaps (omega arith) h.3, within d n top gap.1 from gaps (omega (arith, h.0, h.1)) h.3)
 
 -- they may be gaps of it
 pub gaps-of-part : (top d n : ℕ) (gaps : List (ℕ × ℕ)) → AreGaps top gaps → AreGaps n (gaps_within gaps d n)
@@ -65,55 +60,31 @@ found-of-part top d m n gaps found are is long =
 -- no place has none
 pub none-of-part : (d : ℕ) (gaps : List (ℕ × ℕ)) → [] ≡ gaps_within gaps d 0
 none-of-part d [] = refl
-none-of-part d (gap ∷ gaps) =
-    let none : min (gap.1 - d) 0 ≤ gap.0 - d = omega arith in
-    rw (le-ltb (gap.0 - d) (min (gap.1 - d) 0) none) (none-of-part d gaps)
+none-of-part d (gap ∷ gaps) = grind (arith, common_steps, le-ltb, none-of-part d gaps)
 
 -- ---- the windows that they touch
 
 same-truth : (p q : Bool) → (p ≡ true → q ≡ true) → (q ≡ true → p ≡ true) → p ≡ q
-same-truth true true f g = refl
-same-truth true false f g = sym (f refl)
-same-truth false true f g = g refl
-same-truth false false f g = refl
+same-truth p q f g = grind (arith, common_steps)
 
 both-true : (p q : Bool) → (p && q) ≡ true → (p ≡ true) × (q ≡ true)
-both-true true true e = (refl, refl)
-both-true true false e = absurd (false≢true e)
-both-true false q e = absurd (false≢true e)
+both-true p q e = grind (arith, common_steps, false≢true)
 
 not-true : (p : Bool) → (p ≡ true → ⊥) → p ≡ false
-not-true true h = absurd (h refl)
-not-true false h = refl
+not-true p h = grind (arith, common_steps)
 
 -- a gap of which some is in the part touches a window there exactly if the whole of it does
 same-touch : (d n i : ℕ) (gap : ℕ × ℕ) → 25 ≤ i → i < n → is_touched_by i (gap.0 - d, min (gap.1 - d) n) ≡ is_touched_by (i + d) gap
-same-touch d n i gap late early =
-    ap₂ ◌&&◌
-    (same-truth (nat_le (gap.0 - d) i) (nat_le gap.0 (i + d))
-    (λ e. le-leb gap.0 (i + d) (omega (arith, leb-true (gap.0 - d) i e)))
-    (λ e. le-leb (gap.0 - d) i (omega (arith, leb-true gap.0 (i + d) e))))
-    (same-truth (nat_lt (i - 25) (min (gap.1 - d) n)) (nat_lt (i + d - 25) gap.1)
-    (λ e. lt-ltb (i + d - 25) gap.1 (omega (arith, ltb-true (i - 25) (min (gap.1 - d) n) e)))
-    (λ e. lt-ltb (i - 25) (min (gap.1 - d) n) (omega (arith, ltb-true (i + d - 25) gap.1 e))))
+same-touch d n i gap late early = grind (arith, common_steps, same-truth, le-leb, leb-true, lt-ltb, ltb-true)
 
 -- and a gap of which nothing is there touches none
 no-touch : (d n i : ℕ) (gap : ℕ × ℕ) → 25 ≤ i → i < n → gap.0 < gap.1 → min (gap.1 - d) n ≤ gap.0 - d → is_touched_by (i + d) gap ≡ false
-no-touch d n i gap late early some none =
-    not-true (is_touched_by (i + d) gap) (λ e.
-    let both = both-true (nat_le gap.0 (i + d)) (nat_lt (i + d - 25) gap.1) e in
-    absurd (omega (arith, leb-true gap.0 (i + d) both.0, ltb-true (i + d - 25) gap.1 both.1)))
+no-touch d n i gap late early some none = grind (arith, common_steps, not-true, both-true, leb-true, ltb-true)
 
 touches-alike : (d n i top low : ℕ) (gaps : List (ℕ × ℕ)) → 25 ≤ i → i < n → AreFrom low gaps top
     → list_any (is_touched_by i) (gaps_within gaps d n) ≡ list_any (is_touched_by (i + d)) gaps
 touches-alike d n i top low [] late early h = refl
-touches-alike d n i top low (gap ∷ gaps) late early h = elim (cases_lt (gap.0 - d) (min (gap.1 - d) n)) [
-  | inl some ↦ rw (lt-ltb (gap.0 - d) (min (gap.1 - d) n) some)
-      (ap₂ ◌||◌ (same-touch d n i gap late early) (touches-alike d n i top gap.1 gaps late early h.3))
-  | inr none ↦ rw (le-ltb (gap.0 - d) (min (gap.1 - d) n) none)
-      (touches-alike d n i top gap.1 gaps late early h.3
-      ∙ ap (λ (t : Bool). t || list_any (is_touched_by (i + d)) gaps) (sym (no-touch d n i gap late early h.1 none)))
-]
+touches-alike d n i top low (gap ∷ gaps) late early h = grind (arith, common_steps, lt-ltb, same-touch, le-ltb, no-touch, touches-alike d n i top gap.1 gaps late early h.3)
 
 -- the windows of a part and those of the whole, d places further, are touched alike
 abbrev pub TouchAlike : ℕ → ℕ → List (ℕ × ℕ) → List (ℕ × ℕ) → Type 0
@@ -131,18 +102,12 @@ start-touched n gaps i late early = let e : i ≡ i + 8 * 0 = omega arith in ap 
 -- the gaps found so far and those that are left, if the next one has some of it in the part
 pub one-found : (d n : ℕ) (gaps found all : List (ℕ × ℕ)) (i : ℕ) (none part : ℕ × ℕ) → i < length gaps → found ++ gaps_within (drop i gaps) d n ≡ all
     → Some part ≡ part_of_gap d n (get_or gaps i none) → (found ++ part ∷ []) ++ gaps_within (drop (i + 1) gaps) d n ≡ all
-one-found d n gaps found all i none part there so_far is =
-    append_assoc found (part ∷ []) (gaps_within (drop (i + 1) gaps) d n)
-    ∙ ap (λ (rest : List (ℕ × ℕ)). found ++ rest)
-    (ap (λ (o : Option (ℕ × ℕ)). cons_option o (gaps_within (drop (i + 1) gaps) d n)) is
-    ∙ ap (λ (rest : List (ℕ × ℕ)). gaps_within rest d n) (sym (drop_more gaps i none there)))
-    ∙ so_far
+one-found d n gaps found all i none part there so_far is = grind (arith, common_steps, append_assoc, drop_more)
 
 -- ---- how many they are
 
 one-more : (o : Option (ℕ × ℕ)) (rest : List (ℕ × ℕ)) (n : ℕ) → length rest ≤ n → length (cons_option o rest) ≤ suc n
-one-more None rest n h = omega (arith, h)
-one-more (Some x) rest n h = omega (arith, h)
+one-more o rest n h = grind (arith, common_steps)
 
 no-more : (d n : ℕ) (gaps : List (ℕ × ℕ)) → length (gaps_within gaps d n) ≤ length gaps
 no-more d n [] = omega arith
@@ -169,13 +134,7 @@ behind low m n (gap ∷ gaps) others order more h g = (h.0, h.1, omega (arith, h
 
 spares : (k n top : ℕ) → 7920 + k + n ≤ top → AreFrom (7920 + k) (map spare (range_with_len k n)) top
 spares k zero top room = tt
-spares k (suc n) top room =
-    let e : 7920 + (k + 1) ≡ 7920 + k + 1 = omega arith in (
-      omega arith,
-      omega arith,
-      omega (arith, room),
-      subst (λ (low : ℕ). AreFrom low (map spare (range_with_len (k + 1) n)) top) e (spares (k + 1) n top (omega (arith, room))),
-    )
+spares k (suc n) top room = grind (arith, common_steps, spares (k + 1) n top (omega (arith, room)))
 
 -- gaps of which the last are after the bytes that are heard
 pub gaps-filled-up : (gaps : List (ℕ × ℕ)) (slots : ℕ) → AreGaps 7920 gaps → length gaps ≤ slots → slots ≤ 7920 → AreGaps 15840 (filled_up gaps slots)
@@ -185,8 +144,7 @@ gaps-filled-up gaps slots are fits few =
     record { each = each 0 (filled_up gaps slots) 15840 row; apart = apart 0 (filled_up gaps slots) 15840 row }
 
 pub length-filled-up : (gaps : List (ℕ × ℕ)) (slots : ℕ) → length gaps ≤ slots → length (filled_up gaps slots) ≡ slots
-length-filled-up gaps slots fits =
-    omega (arith, fits, length-append gaps (map spare (range_with_len (length gaps) (slots - length gaps))), length-map-range_with_len spare (length gaps) (slots - length gaps))
+length-filled-up gaps slots fits = grind (arith, common_steps, length-append, length-map-range_with_len)
 
 spares-untouched : (i k n : ℕ) → i < 7920 → list_any (is_touched_by i) (map spare (range_with_len k n)) ≡ false
 spares-untouched i k zero early = refl

@@ -1,26 +1,24 @@
 -- The windows heard in a part of a recording determine the results there: of acquiring, of groups, of a bit,
 -- of a run.
-use Rattle.std.proofs.Common.{◌≡◌, ◌≢◌, ℕ, zero, suc, ◌+◌, ◌-◌, ◌*◌, ◌<◌, ◌≤◌, List, [], ◌∷◌, ◌++◌, Bool, true, false, eqb, Option, Some, None, refl, sym, ap, ap₂, subst, ◌∙◌, arith, inl, inr}
-use Rattle.std.proofs.lemmas.Bool.{ne_eqb, eq-eqb, cases_eq, cases_lt, cases_Bool, lt-ltb, le-ltb}
+use Rattle.rds_live.proofs.Names.{common_steps}
+use Rattle.std.proofs.Common.{◌≡◌, ◌≢◌, ℕ, zero, suc, ◌+◌, ◌-◌, ◌*◌, ◌<◌, ◌≤◌, List, [], ◌∷◌, ◌++◌, Bool, true, false, eqb, Option, None, refl, sym, ap, ap₂, subst, ◌∙◌, arith, inl, inr}
+use Rattle.std.proofs.lemmas.Bool.{ne_eqb, eq-eqb, cases_eq, cases_Bool, lt-ltb, le-ltb}
 use Rattle.std.proofs.lemmas.Bool.Decides.{nat_tests}
 use Rattle.std.proofs.lemmas.List.{map-append}
 use Rattle.std.specs.List.{list_any, range_with_len}
 use Rattle.std.specs.Prelude.{nat_le, ◌&&◌}
 use Rattle.rds_code.specs.declared.offset.Offset.{Offset}
 use Rattle.rds_code.specs.declared.reading.Wanted.{Wanted}
-use Rattle.rds_code.specs.declared.reading.Wanted.TheVariants.{Either}
-use Rattle.rds_code.specs.Offsets.{number}
 use Rattle.rds_stream.specs.Recording.{Signal, heard, offset_heard, offset_at, length_of}
 use Rattle.rds_sync.specs.declared.state.State.{State}
 use Rattle.rds_sync.specs.declared.state.State.TheVariants.{Searching, Locked}
 use Rattle.rds_sync.specs.declared.item.Item.{Item}
-use Rattle.rds_sync.specs.declared.item.Item.TheVariants.{Acquired, Group, LostLock}
+use Rattle.rds_sync.specs.declared.item.Item.TheVariants.{Group}
 use Rattle.rds_sync.specs.Rules.{RuleNumbers}
-use Rattle.rds_sync.specs.Loss.{IsLossRule, bad_after, are_too_many}
+use Rattle.rds_sync.specs.Loss.{IsLossRule, bad_after}
 use Rattle.rds_sync.specs.Lawful.{IsLawful}
-use Rattle.rds_sync.specs.Acquiring.{acquired, has_number, has_partner, with_partner, is_in_step, is_numbered}
-use Rattle.rds_sync.specs.declared.item.Block.{Block}
-use Rattle.rds_sync.specs.Groups.{group, group_of, block_at, blocks_at, wanted_beside}
+use Rattle.rds_sync.specs.Acquiring.{acquired, has_number, is_numbered}
+use Rattle.rds_sync.specs.Groups.{group, block_at, blocks_at}
 use Rattle.rds_sync.specs.Ranges.{farthest_reach}
 use Rattle.rds_sync.specs.Step.{after_bit, items_of_end, run, step, items_at, history_after_block, completed_group, lock_of, lock_after}
 use Rattle.rds_sync.specs.Laws.{AcquisitionsAreLate, StepsAreLawful}
@@ -29,10 +27,7 @@ use Rattle.rds_live.specs.Moving.{IsPartHeard, moved_state, moved_item, moved_it
 -- a test of each number of a range, by another that says the same there
 any-alike : (p q : ℕ → Bool) (k n : ℕ) → ((j : ℕ) → k ≤ j → j < k + n → p j ≡ q j) → list_any p (range_with_len k n) ≡ list_any q (range_with_len k n)
 any-alike p q k zero same = refl
-any-alike p q k (suc n) same =
-    let here = same k (omega arith) (omega arith) in
-    let later = any-alike p q (k + 1) n (λ j low high. same j (omega arith) (omega arith)) in
-    rw (here, later) refl
+any-alike p q k (suc n) same = grind (arith, common_steps, any-alike p q (k + 1) n (λ j low high. same j (omega arith) (omega arith)))
 
 -- from place 25 on the offset is that of the window heard, and before there is none
 off-heard : (b : Signal) (i : ℕ) → 25 ≤ i → offset_at b i ≡ offset_heard (heard b i)
@@ -47,39 +42,16 @@ off-early b i early = rw (lt-ltb i 25 early, offset_at) refl
 acquired-alike : (b c : Signal) (rules : RuleNumbers) (i j : ℕ) → offset_at b i ≡ offset_at c j
     → ((k : ℕ) → 1 ≤ k → k < 1 + rules.reach → offset_at b (i - 26 * k) ≡ offset_at c (j - 26 * k)) → acquired b rules i ≡ acquired c rules j
 unfolding acquired
-acquired-alike b c rules i j here behind =
-    let partners : (x : ℕ) → list_any (has_partner b i x) (range_with_len 1 rules.reach) ≡ list_any (has_partner c j x) (range_with_len 1 rules.reach) =
-    λ x. any-alike (has_partner b i x) (has_partner c j x) 1 rules.reach (λ k low high. ap (λ (o : Option Offset). is_in_step o x k) (behind k low high)) in
-    let by_number : (o : Option Offset) → elim o as (λ _. Option ℕ) [ None ↦ None | Some p ↦ with_partner b rules i (number p) ]
-    ≡ elim o as (λ _. Option ℕ) [ None ↦ None | Some p ↦ with_partner c rules j (number p) ] =
-    λ o. elim o as (λ w. elim w as (λ _. Option ℕ) [ None ↦ None | Some p ↦ with_partner b rules i (number p) ]
-    ≡ elim w as (λ _. Option ℕ) [ None ↦ None | Some p ↦ with_partner c rules j (number p) ]) [
-      | None ↦ refl
-      | Some p ↦ ap (λ (t : Bool). elim t as (λ _. Option ℕ) [ true ↦ Some (number p) | false ↦ None ]) (partners (number p))
-    ] in
-    by_number (offset_at b i) ∙ ap (λ (o : Option Offset). elim o as (λ _. Option ℕ) [ None ↦ None | Some p ↦ with_partner c rules j (number p) ]) here
+acquired-alike b c rules i j here behind = grind (arith, common_steps, any-alike)
 
 module _ (whole part : Signal) (d from : ℕ) (h : IsPartHeard whole part d from) where
   -- the offset of a place
   off-late : (i : ℕ) → 25 ≤ i → i < length_of part → offset_at part i ≡ offset_at whole (i + d)
-  off-late i late within =
-      off-heard part i late ∙ ap offset_heard (h.heard_same i late within) ∙ sym (off-heard whole (i + d) (omega arith))
+  off-late i late within = grind (arith, common_steps, off-heard)
 
   -- the offset of a place k blocks before one that a run reads
   off-behind : (i k : ℕ) → from ≤ i → i < length_of part → k ≤ 8 → offset_at part (i - 26 * k) ≡ offset_at whole (i + d - 26 * k)
-  off-behind i k order within few = elim h.early [
-    | inl first ↦ elim (cases_lt (i - 26 * k) 25) [
-      | inl early ↦
-          let at_start : i + d - 26 * k < 25 = omega arith in
-          off-early part (i - 26 * k) early ∙ sym (off-early whole (i + d - 26 * k) at_start)
-      | inr late ↦
-          let place : i - 26 * k + d ≡ i + d - 26 * k = omega arith in
-          off-late (i - 26 * k) late (omega arith) ∙ ap (λ (p : ℕ). offset_at whole p) place
-    ]
-    | inr long ↦
-        let place : i - 26 * k + d ≡ i + d - 26 * k = omega arith in
-        off-late (i - 26 * k) (omega arith) (omega arith) ∙ ap (λ (p : ℕ). offset_at whole p) place
-  ]
+  off-behind i k order within few = grind (arith, common_steps, off-early, off-late)
 
   off-here : (i : ℕ) → from ≤ i → i < length_of part → offset_at part i ≡ offset_at whole (i + d)
   off-here i order within =
@@ -89,8 +61,7 @@ module _ (whole part : Signal) (d from : ℕ) (h : IsPartHeard whole part d from
 
   module _ (rules : RuleNumbers) where
     acquired-moved : rules.reach ≤ farthest_reach → (i : ℕ) → from ≤ i → i < length_of part → acquired whole rules (i + d) ≡ acquired part rules i
-    acquired-moved reach i order within =
-        sym (acquired-alike part whole rules i (i + d) (off-here i order within) (λ k low high. off-behind i k order within (omega arith)))
+    acquired-moved reach i order within = grind (arith, common_steps, acquired-alike, off-here, off-behind)
 
     number-moved : (i x : ℕ) → from ≤ i → i < length_of part → has_number whole (i + d) x ≡ has_number part i x
     unfolding has_number
@@ -112,36 +83,18 @@ module _ (whole part : Signal) (d from : ℕ) (h : IsPartHeard whole part d from
       in_order a b c e = grind (arith, nat_tests)
 
     blocks-moved : (f x p : ℕ) → 26 * (x - f) + 25 ≤ p → p < length_of part → blocks_at whole rules f x (p + d) ≡ blocks_at part rules f x p
-    blocks-moved f x p room within =
-        let one = block-moved f x p Either 1 room within in
-        let two = block-moved f x p Either 2 room within in
-        let three = block-moved f x p (wanted_beside (block_at part rules f x p Either 2)) 3 room within in
-        let four = block-moved f x p Either 4 room within in
-        let by_second : block_at whole rules f x (p + d) (wanted_beside (block_at whole rules f x (p + d) Either 2)) 3
-        ≡ block_at part rules f x p (wanted_beside (block_at part rules f x p Either 2)) 3 =
-        ap (λ (second : Block). block_at whole rules f x (p + d) (wanted_beside second) 3) two ∙ three in
-        ap₂ (λ (a : Block) (rest : List Block). a ∷ rest) one
-        (ap₂ (λ (a : Block) (rest : List Block). a ∷ rest) two
-        (ap₂ (λ (a e : Block). a ∷ e ∷ []) by_second four))
+    blocks-moved f x p room within = grind (arith, common_steps, block-moved)
 
     group-moved : (f x p : ℕ) → 26 * (x - f) + 25 ≤ p → p < length_of part
         → Group (group whole rules f x (p + d)) ≡ moved_item d (Group (group part rules f x p))
     unfolding group
-    group-moved f x p room within =
-        let place : p + d - 26 * (x - f) - 25 ≡ p - 26 * (x - f) - 25 + d = omega arith in
-        ap₂ (λ (q : ℕ) (blocks : List Block). Group (group_of q blocks)) place (blocks-moved f x p room within)
+    group-moved f x p room within = grind (arith, common_steps, blocks-moved)
 
     locked-moved : (i x bad f : ℕ) → Locked (lock_after (i + d) x bad f) ≡ moved_state d (Locked (lock_after i x bad f))
-    locked-moved i x bad f =
-        let due : i + d + 26 ≡ i + 26 + d = omega arith in
-        rw due refl
+    locked-moved i x bad f = grind (arith, common_steps)
 
     completed_group-moved : (f x i : ℕ) → 26 * (x - f) + 25 ≤ i → i < length_of part → completed_group whole rules f x (i + d) ≡ moved_items d (completed_group part rules f x i)
-    completed_group-moved f x i room within = at_case (eqb x 4) where
-      at_case : (t : Bool) → elim t as (λ _. List Item) [ true ↦ Group (group whole rules f x (i + d)) ∷ [] | false ↦ [] ]
-          ≡ moved_items d (elim t as (λ _. List Item) [ true ↦ Group (group part rules f x i) ∷ [] | false ↦ [] ])
-      at_case true = ap (λ (item : Item). item ∷ []) (group-moved f x i room within)
-      at_case false = refl
+    completed_group-moved f x i room within = grind (arith, common_steps, group-moved)
 
     history_after_block-moved : (i x bad : ℕ) → from ≤ i → i < length_of part → history_after_block whole rules (i + d) x bad ≡ history_after_block part rules i x bad
     history_after_block-moved i x bad order within = ap (λ (good : Bool). bad_after rules.loss good bad) (number-moved i x order within)
@@ -152,28 +105,10 @@ module _ (whole part : Signal) (d from : ℕ) (h : IsPartHeard whole part d from
 
     module _ (reach : rules.reach ≤ farthest_reach) (late : AcquisitionsAreLate) (i : ℕ) (order : from ≤ i) (within : i < length_of part) where
       search-moved : after_bit whole rules (i + d) Searching ≡ moved (after_bit part rules i Searching)
-      search-moved = at_case (acquired part rules i) refl where
-        at_case : (w : Option ℕ) → acquired part rules i ≡ w → after_bit whole rules (i + d) Searching ≡ moved (after_bit part rules i Searching)
-        at_case None e =
-            let there = acquired-moved reach i order within ∙ e in
-            rw (there, e, after_bit) refl
-        at_case (Some x) e =
-            let there = acquired-moved reach i order within ∙ e in
-            let place : 51 ≤ i = (late part rules i x e).0 in
-            rw (there, e, after_bit) (ap₂ (λ (s : State) (items : List Item). (s, Acquired (i + d) x ∷ items)) (locked-moved i x 0 x) (completed_group-moved x x i (omega arith) within))
+      search-moved = grind (arith, common_steps, acquired-moved, locked-moved, completed_group-moved)
 
       due-moved : (x bad f : ℕ) → 26 * (x - f) + 25 ≤ i → after_bit whole rules (i + d) (Locked (lock_of (i + d) x bad f)) ≡ moved (after_bit part rules i (Locked (lock_of i x bad f)))
-      due-moved x bad f room = at_case (are_too_many rules.loss (history_after_block part rules i x bad)) refl where
-        at_case : (t : Bool) → are_too_many rules.loss (history_after_block part rules i x bad) ≡ t
-            → after_bit whole rules (i + d) (Locked (lock_of (i + d) x bad f)) ≡ moved (after_bit part rules i (Locked (lock_of i x bad f)))
-        at_case true e =
-            rw (eq-eqb (i + d) (i + d) refl, eq-eqb i i refl, history_after_block-moved i x bad order within, e, after_bit)
-            (ap (λ (item : Item). (Searching, item ∷ LostLock (i + d) ∷ [])) (group-moved f x i room within))
-        at_case false e =
-            rw (eq-eqb (i + d) (i + d) refl, eq-eqb i i refl, history_after_block-moved i x bad order within, e, after_bit)
-            (ap₂ (λ (s : State) (items : List Item). (s, items))
-            (ap (λ (b : ℕ). Locked (lock_after (i + d) x b f)) (history_after_block-moved i x bad order within) ∙ locked-moved i x (history_after_block part rules i x bad) f)
-            (completed_group-moved f x i room within))
+      due-moved x bad f room = grind (arith, common_steps, eq-eqb, history_after_block-moved, group-moved, locked-moved, completed_group-moved)
 
       bit-moved : (s : State) → IsLawful rules i s → after_bit whole rules (i + d) (moved_state d s) ≡ moved (after_bit part rules i s)
       bit-moved Searching lawful = search-moved

@@ -1,5 +1,5 @@
 -- The items of a run lie where the run goes over.
-use Rattle.rds_live.proofs.Names.{◌≡◌, ℕ, zero, suc, ◌+◌, ◌-◌, ◌*◌, ◌<◌, ◌≤◌, List, [], ◌∷◌, Bool, true, false, eqb, Option, Some, None, refl, sym, subst, arith, inl, inr, cases_eq, All-append, All-cons, All-nil, All, Signal, Lock, State, Searching, Locked, Item, Acquired, Group, LostLock, RuleNumbers, are_too_many, acquired, group, items_of_end, run, step, items_at, history_after_block, completed_group, IsLawful, place_of, is_due_below, items-searching, items-acquiring, items-waiting, items-keeping, items-losing}
+use Rattle.rds_live.proofs.Names.{common_steps, ℕ, zero, suc, ◌+◌, ◌-◌, ◌*◌, ◌<◌, ◌≤◌, List, [], ◌∷◌, Bool, true, false, eqb, arith, All-append, All-cons, All-nil, All, Signal, Lock, State, Searching, Locked, Item, Group, RuleNumbers, group, items_of_end, run, step, items_at, completed_group, IsLawful, place_of, is_due_below, items-searching, items-acquiring, items-waiting, items-keeping, items-losing}
 
 module _ (b : Signal) (rules : RuleNumbers) (to : ℕ) where
   abbrev Early : Item → Type 0
@@ -16,28 +16,13 @@ module _ (b : Signal) (rules : RuleNumbers) (to : ℕ) where
     at_case false = All-nil Early
 
   search-early : (i : ℕ) → i < to → All Early (items_at b rules i Searching)
-  search-early i h = at_case (acquired b rules i) refl where
-    at_case : (w : Option ℕ) → acquired b rules i ≡ w → All Early (items_at b rules i Searching)
-    at_case None e = subst (λ (items : List Item). All Early items) (sym (items-searching b rules i e)) (All-nil Early)
-    at_case (Some x) e =
-        subst (λ (items : List Item). All Early items) (sym (items-acquiring b rules i x e))
-        (All-cons Early (Acquired i x) (completed_group b rules x x i) h (after-early x x i h))
+  search-early i h = grind (arith, common_steps, items-searching, items-acquiring, after-early)
 
   due-early : (lock : Lock) → lock.due < to → All Early (items_at b rules lock.due (Locked lock))
-  due-early lock h = at_case (are_too_many rules.loss (history_after_block b rules lock.due lock.number lock.bad)) refl where
-    at_case : (t : Bool) → are_too_many rules.loss (history_after_block b rules lock.due lock.number lock.bad) ≡ t → All Early (items_at b rules lock.due (Locked lock))
-    at_case true e =
-        subst (λ (items : List Item). All Early items) (sym (items-losing b rules lock e))
-        (All-cons Early (Group (group b rules lock.first lock.number lock.due)) (LostLock lock.due ∷ [])
-        (group-early lock.first lock.number lock.due h) (All-cons Early (LostLock lock.due) [] h (All-nil Early)))
-    at_case false e = subst (λ (items : List Item). All Early items) (sym (items-keeping b rules lock e)) (after-early lock.first lock.number lock.due h)
+  due-early lock h = grind (arith, common_steps, items-losing, group-early, items-keeping, after-early)
 
   items-early : (i : ℕ) (s : State) → i < to → All Early (items_at b rules i s)
-  items-early i Searching h = search-early i h
-  items-early i (Locked lock) h = elim (cases_eq lock.due i) [
-    | inl now ↦ subst (λ (p : ℕ). All Early (items_at b rules p (Locked lock))) now (due-early lock (omega (arith, now, h)))
-    | inr later ↦ subst (λ (items : List Item). All Early items) (sym (items-waiting b rules lock i later)) (All-nil Early)
-  ]
+  items-early i s h = grind (arith, common_steps, search-early, due-early, items-waiting)
 
   pub run-early : (s : State) (a n : ℕ) → a + n ≤ to → All Early (run b rules s a n).1
   run-early s a zero h = All-nil Early
@@ -46,13 +31,7 @@ module _ (b : Signal) (rules : RuleNumbers) (to : ℕ) where
 
 -- the group in progress at the end is before it
 pub end-early : (b : Signal) (rules : RuleNumbers) (to : ℕ) (s : State) → is_due_below to s → All (λ (item : Item). place_of item < to) (items_of_end b rules s)
-end-early b rules to Searching h = All-nil (λ (item : Item). place_of item < to)
-end-early b rules to (Locked lock) h = at_case (eqb lock.number 1) where
-  at_case : (t : Bool) → All (λ (item : Item). place_of item < to)
-      (elim t as (λ _. List Item) [ true ↦ [] | false ↦ Group (group b rules lock.first (lock.number - 1) (lock.due - 26)) ∷ [] ])
-  at_case true = All-nil (λ (item : Item). place_of item < to)
-  at_case false = All-cons (λ (item : Item). place_of item < to) (Group (group b rules lock.first (lock.number - 1) (lock.due - 26))) []
-      (group-early b rules to lock.first (lock.number - 1) (lock.due - 26) (omega (arith, h))) (All-nil (λ (item : Item). place_of item < to))
+end-early b rules to s h = grind (arith, common_steps, group-early)
 
 pub due-soon : (rules : RuleNumbers) (place to : ℕ) (s : State) → IsLawful rules place s → place + 26 ≤ to → is_due_below to s
 due-soon rules place to Searching lawful h = tt

@@ -1,5 +1,5 @@
 -- Listers that take bytes in pieces.
-use Rattle.rds_live.proofs.Names.{◌≡◌, ◌++◌, ◌∙◌, Err, List, Ok, Result, [], ap, ap₂, append_assoc, sym, ℕ, IfOk, flat_map, flat_map-append, append-nil, IsInRange, Item, ListerOf, lister_next, PiecesJoin, completed, live_next, IsStreamDecoder, LiveOf}
+use Rattle.rds_live.proofs.Names.{common_steps, arith, ◌≡◌, ◌++◌, ◌∙◌, List, Result, [], ap, ap₂, append_assoc, sym, ℕ, IfOk, flat_map, flat_map-append, append-nil, IsInRange, Item, ListerOf, lister_next, PiecesJoin, completed, live_next, IsStreamDecoder, LiveOf}
 
 -- bytes in two pieces give the same as at once
 pub lists-join : PiecesJoin → (row : Item → List ℕ) (lister : ListerOf) (first second : List ℕ) → IsInRange lister.live.terms.rules → IsStreamDecoder lister.live
@@ -14,15 +14,11 @@ lists-join join row lister first second range known =
 
 -- no byte changes nothing
 pub lists-still : (row : Item → List ℕ) (lister : ListerOf) → live_next lister.live [] ≡ lister.live → completed lister.live [] ≡ [] → lister_next row lister [] ≡ lister
-lists-still row lister still none =
-    ap₂ (λ (l : LiveOf) (xs : List ℕ). record { live = l; rows = xs }) still
-    (ap (λ (items : List Item). lister.rows ++ flat_map row items) none ∙ append-nil lister.rows)
+lists-still row lister still none = grind (arith, common_steps, append-nil, completed)
 
 -- of an answer that is no error
 pub on-ok : {T E : Type 0} {P Q : T → Type 0} (r : Result T E) → ((x : T) → P x → Q x) → IfOk r P → IfOk r Q
-on-ok (Ok x) more p = more x p
-on-ok (Err e) more p = tt
+on-ok r more p = grind (arith, common_steps)
 
 pub on-ok-both : {T E : Type 0} {P Q S : T → Type 0} (r : Result T E) → ((x : T) → P x → Q x → S x) → IfOk r P → IfOk r Q → IfOk r S
-on-ok-both (Ok x) more p q = more x p q
-on-ok-both (Err e) more p q = tt
+on-ok-both r more p q = grind (arith, common_steps)

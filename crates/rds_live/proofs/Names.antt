@@ -44,3 +44,4 @@ pub use Rattle.rds_live.specs.Places.{is_due_below, place_of}
 pub use Rattle.rds_live.specs.Room.{AreSpareFrom, RoomOf, filled_up, slots_of, spare}
 pub use Rattle.rds_live.specs.StreamDecoder.{HasHeard, IsStreamDecoder, LiveOf, Terms, complete, last_bytes, live_of, most_counted, most_kept, report_at, report_of, run_of, signal_at, signal_of}
 pub use Rattle.rds_live.specs.declared.kept.Start.{Start}
+pub use Rattle.std.proofs.lemmas.Grind.{common_steps}

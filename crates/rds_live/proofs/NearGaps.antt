@@ -1,6 +1,6 @@
 -- The gaps of a stream that are looked at for a part of it: those before them and those after them have no
 -- place in the part.
-use Rattle.rds_live.proofs.Names.{◌≡◌, ℕ, zero, suc, ◌+◌, ◌-◌, ◌<◌, ◌≤◌, List, [], ◌∷◌, drop, length, take, true, false, Option, None, leb, leb-true, ltb, min, refl, sym, ap, ◌∙◌, arith, slice_index_or, cons_option, filter_map, IsNonDecreasingBy, IsPartitionPoint, le-ltb, ltb-false, get_or-drop, length-drop, IsNonDecreasingBy-from_all_adjacent, AreGaps, gaps_within, part_of_gap}
+use Rattle.rds_live.proofs.Names.{common_steps, ◌≡◌, ℕ, zero, suc, ◌+◌, ◌-◌, ◌<◌, ◌≤◌, List, [], ◌∷◌, drop, length, take, true, false, Option, None, leb, leb-true, ltb, refl, sym, ap, ◌∙◌, arith, slice_index_or, cons_option, filter_map, IsNonDecreasingBy, IsPartitionPoint, le-ltb, ltb-false, get_or-drop, length-drop, IsNonDecreasingBy-from_all_adjacent, AreGaps, gaps_within, part_of_gap}
 
 -- the ends of gaps rise, and so do their beginnings
 pub ends-rise : (top : ℕ) (gaps : List (ℕ × ℕ)) → AreGaps top gaps → IsNonDecreasingBy (λ (gap : ℕ × ℕ). gap.1) gaps
@@ -39,19 +39,14 @@ module _ (f : ℕ × ℕ → Option (ℕ × ℕ)) where
   ended [] (suc n) none = refl
   ended (gap ∷ gaps) zero none =
       ended gaps zero (λ k d low high. none (suc k) d (omega arith) (omega (arith, high))) ∙ sym (ap (λ (o : Option (ℕ × ℕ)). cons_option o (filter_map f gaps)) (none 0 gap (omega arith) (omega arith)))
-  ended (gap ∷ gaps) (suc n) none =
-      ap (λ (rest : List (ℕ × ℕ)). cons_option (f gap) rest) (ended gaps n (λ k d low high. none (suc k) d (omega (arith, low)) (omega (arith, high))))
+  ended (gap ∷ gaps) (suc n) none = grind (arith, common_steps, ended gaps n (λ k d low high. none (suc k) d (omega (arith, low)) (omega (arith, high))))
 
 module _ (before len : ℕ) where
   ends-before : (gap : ℕ × ℕ) → leb gap.1 before ≡ true → part_of_gap before len gap ≡ None
-  ends-before gap e =
-      let none : min (gap.1 - before) len ≤ gap.0 - before = omega (arith, leb-true gap.1 before e) in
-      rw (le-ltb (gap.0 - before) (min (gap.1 - before) len) none) refl
+  ends-before gap e = grind (arith, common_steps, leb-true, le-ltb)
 
   begins-behind : (gap : ℕ × ℕ) → ltb (gap.0 - before) len ≡ false → part_of_gap before len gap ≡ None
-  begins-behind gap e =
-      let none : min (gap.1 - before) len ≤ gap.0 - before = omega (arith, ltb-false (gap.0 - before) len e) in
-      rw (le-ltb (gap.0 - before) (min (gap.1 - before) len) none) refl
+  begins-behind gap e = grind (arith, common_steps, ltb-false, le-ltb, ltb)
 
   -- without them the part has the same gaps
   pub near-gaps : (gaps rest : List (ℕ × ℕ)) (first count : ℕ) → rest ≡ drop first gaps

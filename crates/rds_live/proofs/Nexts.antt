@@ -1,5 +1,5 @@
 -- The part that is decoded next, only by the numbers of a decoder.
-use Rattle.rds_live.proofs.Names.{◌≡◌, ℕ, ◌+◌, ◌*◌, ◌≤◌, List, [], ◌++◌, append_assoc, drop, length, refl, subst, take, sym, ap, ap₂, ◌∙◌, arith, append-nil, length-append, take-append-drop, Signal, bits_of, State, Item, Totals, TotalsJoin, plus, RuleNumbers, run, items_of_end, totals_of, gaps_within, HasHeard, LiveOf, complete, last_bytes, report_at, report_of, signal_at, signal_of, IsPartHeard, RunsMove, moved_items, moved_state, EndsAreReports, IsStart, before_tail, completed, group_next, items_next, live_next, part_with, run_next, Start}
+use Rattle.rds_live.proofs.Names.{common_steps, ◌≡◌, ℕ, ◌+◌, ◌*◌, ◌≤◌, List, [], ◌++◌, append_assoc, drop, length, refl, subst, take, sym, ap, ap₂, ◌∙◌, arith, append-nil, length-append, take-append-drop, Signal, bits_of, State, Item, Totals, TotalsJoin, plus, RuleNumbers, run, items_of_end, totals_of, gaps_within, HasHeard, LiveOf, complete, last_bytes, report_at, report_of, signal_at, signal_of, IsPartHeard, RunsMove, moved_items, moved_state, EndsAreReports, IsStart, before_tail, completed, group_next, items_next, live_next, part_with, run_next, Start}
 use Rattle.rds_live.proofs.Following.{totals-moved}
 use Rattle.rds_live.proofs.Parts.{bits-begin, length-at}
 use Rattle.rds_live.proofs.Rooms.{run-in-room}
@@ -20,10 +20,7 @@ part-begin live bytes count bits held =
 pub live-next : (live : LiveOf) (more tail : List ℕ) (place : ℕ) (state : State) (totals : Totals) → tail ≡ last_bytes (live.tail ++ more) → place ≡ live.place + 8 * length more
     → state ≡ moved_state (before_tail live) (run_next live more (8 * length more)).0 → totals ≡ plus live.totals (totals_of (completed live more))
     → record { terms = live.terms; tail = tail; place = place; state = state; totals = totals } ≡ live_next live more
-live-next live more tail place state totals tail_is place_is state_is totals_is =
-    ap (λ (xs : List ℕ). record { terms = live.terms; tail = xs; place = place; state = state; totals = totals }) tail_is
-    ∙ ap (λ (n : ℕ). record { terms = live.terms; tail = last_bytes (live.tail ++ more); place = n; state = state; totals = totals }) place_is
-    ∙ ap₂ (λ (s : State) (t : Totals). record { terms = live.terms; tail = last_bytes (live.tail ++ more); place = live.place + 8 * length more; state = s; totals = t }) state_is totals_is
+live-next live more tail place state totals tail_is place_is state_is totals_is = grind (arith, common_steps, completed)
 
 -- what a body has of the bytes that it decodes next
 module _ (live : LiveOf) (start : Start) (is : IsStart live start) where
@@ -36,15 +33,11 @@ module _ (live : LiveOf) (start : Start) (is : IsStart live start) where
   -- the part that is decoded up to a bit of these bytes
   pub part-is : (part : Signal) (bytes held : List ℕ) (count bits n : ℕ) → bits ≤ 8 * length (take count bytes) → n ≡ start.from + bits → held ≡ live.tail ++ take count bytes
       → part ≡ signal_at (gaps_within gaps start.before n) held n → part ≡ part_with live bytes bits
-  part-is part bytes held count bits n few n_is held_is part_is =
-      part_is ∙ ap₂ (λ (d m : ℕ). signal_at (gaps_within gaps d m) held m) is.before (n_is ∙ ap (λ (from : ℕ). from + bits) is.from)
-      ∙ ap (λ (xs : List ℕ). signal_at (gaps_within gaps (before_tail live) (8 * length live.tail + bits)) xs (8 * length live.tail + bits)) held_is ∙ part-begin live bytes count bits few
+  part-is part bytes held count bits n few n_is held_is part_is = grind (arith, common_steps, part-begin)
 
   -- the run over it
   pub run-is : (bytes : List ℕ) (part : Signal) (bits n : ℕ) → part ≡ part_with live bytes bits → n ≡ bits → run part rules start.state start.from n ≡ run_next live bytes bits
-  run-is bytes part bits n part_is n_is =
-      ap₂ (λ (b : Signal) (m : ℕ). run b rules start.state start.from m) part_is n_is
-      ∙ ap₂ (λ (s : State) (p : ℕ). run (part_with live bytes bits) rules s p bits) is.state is.from
+  run-is bytes part bits n part_is n_is = grind (arith, common_steps)
 
   -- and over the room in which it is heard
   pub run-heard : RunsMove → (more held : List ℕ) (room : Signal) (n : ℕ) → held ≡ live.tail ++ more → n ≡ 8 * length more
@@ -65,9 +58,7 @@ module _ (live : LiveOf) (start : Start) (is : IsStart live start) where
   -- and the group in progress after it
   pub group-is : (part : Signal) (bytes : List ℕ) (bits : ℕ) (end : State) (last : List Item) → part ≡ part_with live bytes bits → end ≡ (run_next live bytes bits).0
       → last ≡ moved_items start.before (items_of_end part rules end) → last ≡ group_next live bytes bits
-  group-is part bytes bits end last part_is end_is last_is =
-      last_is ∙ ap₂ (λ (b : Signal) (s : State). moved_items start.before (items_of_end b rules s)) part_is end_is
-      ∙ ap (λ (d : ℕ). moved_items d (items_of_end (part_with live bytes bits) rules (run_next live bytes bits).0)) is.before
+  group-is part bytes bits end last part_is end_is last_is = grind (arith, common_steps)
 
   -- the totals of the items
   pub totals-are : TotalsJoin → (bytes : List ℕ) (bits : ℕ) (found sum : Totals) → found ≡ totals_of (run_next live bytes bits).1 → sum ≡ plus live.totals found

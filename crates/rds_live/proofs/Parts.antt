@@ -1,5 +1,5 @@
 -- A part of a stream, cut at a byte.
-use Rattle.rds_live.proofs.Names.{◌≡◌, ℕ, zero, suc, ◌+◌, ◌-◌, ◌*◌, ◌⊎◌, ◌/◌, ◌%◌, ◌<◌, ◌≤◌, List, ◌∷◌, ◌++◌, length, get_or, map, take, drop, Bool, Option, Some, None, true, false, refl, sym, ap, ap₂, subst, ◌∙◌, arith, length-drop, length-append, get_or-drop, drop-append-le, get_or-append, length-map-range_with_len, take-map-range_with_len, range_with_len, slice_range, bit_at, number_from_digits, bits_of, packed_bit, window, touched, heard, length_of, IsPartHeard, most_behind, signal_at, signal_of, last_bytes, most_kept}
+use Rattle.rds_live.proofs.Names.{common_steps, ◌≡◌, ℕ, zero, suc, ◌+◌, ◌-◌, ◌*◌, ◌⊎◌, ◌<◌, ◌≤◌, List, ◌∷◌, ◌++◌, length, get_or, map, take, drop, refl, sym, ap, ap₂, subst, ◌∙◌, arith, length-drop, length-append, get_or-drop, drop-append-le, get_or-append, length-map-range_with_len, take-map-range_with_len, range_with_len, slice_range, number_from_digits, bits_of, packed_bit, window, touched, heard, length_of, IsPartHeard, most_behind, signal_at, signal_of, last_bytes, most_kept}
 use Rattle.rds_live.proofs.GapParts.{TouchAlike}
 
 pub length-signal : (gaps : List (ℕ × ℕ)) (bytes : List ℕ) → length_of (signal_of gaps bytes) ≡ 8 * length bytes
@@ -10,17 +10,9 @@ length-at gaps bytes bits = length-map-range_with_len (packed_bit bytes) 0 bits
 
 -- a part of a table
 pub drop-table : {X : Type 0} (f : ℕ → X) (s n a : ℕ) → drop a (map f (range_with_len s n)) ≡ map f (range_with_len (s + a) (n - a))
-drop-table f s n zero =
-    let start : s + zero ≡ s = omega arith in
-    let rest : n - zero ≡ n = omega arith in
-    rw (start, rest) refl
-drop-table f s zero (suc a) =
-    let none : zero - suc a ≡ zero = omega arith in
-    rw none refl
-drop-table f s (suc n) (suc a) =
-    let start : s + suc a ≡ s + 1 + a = omega arith in
-    let rest : suc n - suc a ≡ n - a = omega arith in
-    rw (start, rest) (drop-table f (s + 1) n a)
+drop-table f s n zero = grind (arith, common_steps)
+drop-table f s zero (suc a) = grind (arith, common_steps)
+drop-table f s (suc n) (suc a) = grind (arith, common_steps, drop-table f (s + 1) n a)
 
 part-table : (f : ℕ → ℕ) (n a z : ℕ) → z ≤ n → slice_range (map f (range_with_len 0 n)) a z ≡ map f (range_with_len a (z - a))
 part-table f n a z within =
@@ -50,10 +42,7 @@ pub record IsPartOf (whole part : List ℕ) (k : ℕ) : Type 0 where
 
 module _ (whole part : List ℕ) (k : ℕ) (h : IsPartOf whole part k) where
   packed-part : (j : ℕ) → j < 8 * length part → packed_bit part j ≡ packed_bit whole (j + 8 * k)
-  packed-part j early =
-      let byte : (j + 8 * k) / 8 ≡ k + j / 8 = omega arith in
-      let bit : (j + 8 * k) % 8 ≡ j % 8 = omega arith in
-      rw (byte, bit) (ap (λ (n : ℕ). bit_at n (7 - j % 8)) (h.same (j / 8) (omega arith)))
+  packed-part j early = grind (arith, common_steps)
 
   -- the first m bits of the part are in the first n of the whole
   module _ (m n : ℕ) (held : m ≤ 8 * length part) (inside : m + 8 * k ≤ n) where
@@ -75,8 +64,7 @@ module _ (whole part : List ℕ) (k : ℕ) (h : IsPartOf whole part k) where
     module _ (of_whole of_part : List (ℕ × ℕ)) (alike : TouchAlike (8 * k) m of_whole of_part) where
       heard-part : (i : ℕ) → 25 ≤ i → i < m → heard (signal_at of_part part m) i ≡ heard (signal_at of_whole whole n) (i + 8 * k)
       unfolding heard touched
-      heard-part i late early =
-          ap₂ (λ (t : Bool) (w : ℕ). elim t as (λ _. Option ℕ) [ true ↦ None | false ↦ Some w ]) (alike i late early) (window-part i late early)
+      heard-part i late early = grind (arith, common_steps, window-part, heard)
 
       pub bits-heard : (from : ℕ) → (8 * k ≡ 0) ⊎ (most_behind ≤ from) → IsPartHeard (signal_at of_whole whole n) (signal_at of_part part m) (8 * k) from
       bits-heard from early = record {
@@ -90,23 +78,12 @@ whole-part bytes = record { within = omega arith; same = λ j h. let e : j ≡ 0
 
 -- the bytes so far are the beginning of all
 pub first-part : (bytes more : List ℕ) → IsPartOf (bytes ++ more) bytes 0
-first-part bytes more = record {
-  within = omega (arith, length-append bytes more);
-  same = λ j h. let e : 0 + j ≡ j = omega arith in sym (ap (λ (p : ℕ). get_or (bytes ++ more) p 0) e ∙ get_or-append bytes more 0 j h);
-}
+first-part bytes more = grind (arith, common_steps, length-append, get_or-append)
 
 -- and the last of them with those that follow at its end
 pub last-part : (bytes more : List ℕ) → IsPartOf (bytes ++ more) (last_bytes bytes ++ more) (length bytes - most_kept)
-last-part bytes more =
-    let k = length bytes - most_kept in
-    let is : drop k (bytes ++ more) ≡ drop k bytes ++ more = drop-append-le k bytes more (omega arith) in
-    record {
-      within = omega (arith, length-append bytes more, length-append (drop k bytes) more, length-drop k bytes);
-      same = λ j h. ap (λ (xs : List ℕ). get_or xs j 0) (sym is) ∙ get_or-drop k (bytes ++ more) j 0;
-    }
+last-part bytes more = grind (arith, common_steps, drop-append-le, length-append, length-drop, get_or-drop)
 
 -- the first bits of bytes that go on
 pub bits-begin : (bytes more : List ℕ) (n : ℕ) → n ≤ 8 * length bytes → bits_of bytes n ≡ bits_of (bytes ++ more) n
-bits-begin bytes more n held = same-tables (packed_bit bytes) (packed_bit (bytes ++ more)) 0 0 n (λ j h. at_bit j h) where
-  at_bit : (j : ℕ) → j < n → packed_bit bytes (0 + j) ≡ packed_bit (bytes ++ more) (0 + j)
-  at_bit j h = ap (λ (byte : ℕ). bit_at byte (7 - (0 + j) % 8)) (sym (get_or-append bytes more 0 ((0 + j) / 8) (omega (arith, held, h))))
+bits-begin bytes more n held = grind (arith, common_steps, same-tables, get_or-append)

@@ -1,5 +1,5 @@
 -- Bytes that a decoder takes in two pieces give the same as at once.
-use Rattle.rds_live.proofs.Names.{◌≡◌, ℕ, ◌+◌, ◌-◌, ◌*◌, ◌^◌, ◌≤◌, ◌⊎◌, List, [], ◌∷◌, ◌++◌, append_assoc, drop, length, refl, sym, ap, ap₂, subst, ◌∙◌, arith, inl, inr, slice_index, list_any, cases_lt, append-nil, length-append, length-drop, map-append, AreGaps, Signal, is_touched_by, length_of, State, Searching, Locked, Item, Acquired, Group, LostLock, Totals, RuleNumbers, IsInRange, IsLawful, RunsAreLawful, RunsJoin, TotalsJoin, plus, totals_of, items_of_end, run, gaps_within, IsStreamDecoder, LiveOf, last_bytes, most_kept, signal_at, EndsMove, IsPartHeard, RunsMove, moved_item, moved_items, moved_state, most_behind, before_tail, completed, group_next, items_next, live_next, moved_back, part_with, run_next}
+use Rattle.rds_live.proofs.Names.{common_steps, ◌≡◌, ℕ, ◌+◌, ◌-◌, ◌*◌, ◌^◌, ◌≤◌, ◌⊎◌, List, [], ◌∷◌, ◌++◌, append_assoc, length, refl, sym, ap, ap₂, subst, ◌∙◌, arith, inl, inr, list_any, append-nil, length-append, length-drop, map-append, AreGaps, Signal, is_touched_by, length_of, State, Item, Totals, RuleNumbers, IsInRange, IsLawful, RunsAreLawful, RunsJoin, TotalsJoin, plus, totals_of, items_of_end, run, gaps_within, IsStreamDecoder, LiveOf, last_bytes, most_kept, signal_at, EndsMove, IsPartHeard, RunsMove, moved_item, moved_items, moved_state, most_behind, before_tail, completed, group_next, items_next, live_next, moved_back, part_with, run_next}
 use Rattle.rds_live.proofs.Following.{last-bytes, lawful-back, state-in-part}
 use Rattle.rds_live.proofs.GapParts.{TouchAlike, part-touched}
 use Rattle.rds_live.proofs.Nexts.{live-next}
@@ -8,13 +8,10 @@ use Rattle.rds_live.proofs.Rooms.{run-in-room}
 
 -- moved twice
 state-twice : (d k e : ℕ) (s : State) → d + k ≡ e → moved_state d (moved_state k s) ≡ moved_state e s
-state-twice d k e Searching is = refl
-state-twice d k e (Locked lock) is = let there : lock.due + k + d ≡ lock.due + e = omega (arith, is) in ap (λ (p : ℕ). Locked (record lock { due = p })) there
+state-twice d k e s is = grind (arith, common_steps)
 
 item-twice : (d k e : ℕ) (item : Item) → d + k ≡ e → moved_item d (moved_item k item) ≡ moved_item e item
-item-twice d k e (Acquired a x) is = let there : a + k + d ≡ a + e = omega (arith, is) in ap (λ (p : ℕ). Acquired p x) there
-item-twice d k e (Group g) is = let there : g.place + k + d ≡ g.place + e = omega (arith, is) in ap (λ (p : ℕ). Group (record g { place = p })) there
-item-twice d k e (LostLock a) is = let there : a + k + d ≡ a + e = omega (arith, is) in ap (λ (p : ℕ). LostLock p) there
+item-twice d k e item is = grind (arith, common_steps)
 
 items-twice : (d k e : ℕ) (items : List Item) → d + k ≡ e → moved_items d (moved_items k items) ≡ moved_items e items
 items-twice d k e [] is = refl
@@ -22,16 +19,10 @@ items-twice d k e (item ∷ items) is = ap₂ (λ (x : Item) (xs : List Item). x
 
 -- back and on again
 pub back-on : (rules : RuleNumbers) (d place : ℕ) (s : State) → IsLawful rules place s → d ≤ place → moved_state d (moved_back d s) ≡ s
-back-on rules d place Searching lawful early = refl
-back-on rules d place (Locked lock) lawful early =
-    let there : lock.due - d + d ≡ lock.due = omega (arith, lawful.soon, early) in
-    ap (λ (p : ℕ). Locked (record lock { due = p })) there
+back-on rules d place s lawful early = grind (arith, common_steps)
 
 on-back : (rules : RuleNumbers) (d k e place : ℕ) (s : State) → IsLawful rules place s → k ≤ place → d + k ≡ e → moved_state k (moved_back e (moved_state d s)) ≡ s
-on-back rules d k e place Searching lawful early is = refl
-on-back rules d k e place (Locked lock) lawful early is =
-    let there : lock.due + d - e + k ≡ lock.due = omega (arith, lawful.soon, early, is) in
-    ap (λ (p : ℕ). Locked (record lock { due = p })) there
+on-back rules d k e place s lawful early is = grind (arith, common_steps)
 
 -- the windows of a part of a part are touched as in the first
 within-touched : (d e m n : ℕ) (gaps : List (ℕ × ℕ)) → AreGaps (2 ^ 36) gaps → m + e ≤ n → TouchAlike e m (gaps_within gaps d n) (gaps_within gaps (d + e) m)
@@ -42,16 +33,7 @@ within-touched d e m n gaps are fits i late early =
     ∙ sym (part-touched (2 ^ 36) d n gaps are (i + e) (omega (arith, late)) (omega (arith, early, fits)))
 
 pub plus-assoc : (t a b : Totals) → plus (plus t a) b ≡ plus t (plus a b)
-plus-assoc t a b =
-    let at : (n : ℕ) → slice_index t.bursts n + slice_index a.bursts n + slice_index b.bursts n ≡ slice_index t.bursts n + (slice_index a.bursts n + slice_index b.bursts n) = λ n. omega arith in
-    let valid : t.valid + a.valid + b.valid ≡ t.valid + (a.valid + b.valid) = omega arith in
-    let lost : t.lost + a.lost + b.lost ≡ t.lost + (a.lost + b.lost) = omega arith in
-    let bits : t.bits + a.bits + b.bits ≡ t.bits + (a.bits + b.bits) = omega arith in
-    let groups : t.groups + a.groups + b.groups ≡ t.groups + (a.groups + b.groups) = omega arith in
-    let complete : t.complete + a.complete + b.complete ≡ t.complete + (a.complete + b.complete) = omega arith in
-    let acquired : t.acquired + a.acquired + b.acquired ≡ t.acquired + (a.acquired + b.acquired) = omega arith in
-    let losses : t.losses + a.losses + b.losses ≡ t.losses + (a.losses + b.losses) = omega arith in
-    rw (valid, at 0, at 1, at 2, at 3, at 4, lost, bits, groups, complete, acquired, losses) refl
+plus-assoc t a b = grind (arith, common_steps)
 
 -- a run leads from a lawful state to a lawful state
 pub lawful-after : RunsAreLawful → (b : Signal) (rules : RuleNumbers) (s : State) (from n : ℕ) → IsInRange rules → IsLawful rules from s → IsLawful rules (from + n) (run b rules s from n).0
@@ -123,14 +105,10 @@ module _ (joins : RunsJoin) (lawfuls : RunsAreLawful) (moves : RunsMove) (live :
   f-next = omega (arith, kept, both)
 
   early : (8 * k ≡ 0) ⊎ (most_behind ≤ f1)
-  early = elim (cases_lt (length (live.tail ++ first)) 31) [
-    | inl few ↦ inl (omega arith)
-    | inr many ↦ inr (omega (arith, kept))
-  ]
+  early = grind (arith, common_steps, kept)
 
   lawful : IsLawful rules f local
-  lawful =
-      state-in-part live.tail live.place f known.kept known.whole refl rules local live.state (back-on rules d live.place live.state known.lawful (omega arith)) known.lawful
+  lawful = grind (arith, common_steps, state-in-part, back-on)
 
   end-lawful : IsLawful rules (f + n1) (run_next live first n1).0
   end-lawful = lawful-after lawfuls one rules local f n1 range lawful
@@ -170,9 +148,7 @@ module _ (joins : RunsJoin) (lawfuls : RunsAreLawful) (moves : RunsMove) (live :
   long-two = length-at (gaps_within gaps (before_tail next) (f1 + n2)) (next.tail ++ second) (f1 + n2)
 
   run-second : run whole rules (run_next live first n1).0 (f + n1) n2 ≡ (moved_state (8 * k) last, moved_items (8 * k) (run_next next second n2).1)
-  run-second =
-      ap₂ (λ (s : State) (p : ℕ). run whole rules s p n2) (sym state-there) (sym f-next)
-      ∙ moves whole two rules (8 * k) here f1 n2 range.loss.0 range.reach here-lawful second-heard (omega (arith, long-two))
+  run-second = grind (arith, common_steps, state-there, f-next, here-lawful, second-heard, long-two)
 
   run-both : run_next live (first ++ second) n ≡ (moved_state (8 * k) last, (run_next live first n1).1 ++ moved_items (8 * k) (run_next next second n2).1)
   run-both =
@@ -215,8 +191,7 @@ module _ (joins : RunsJoin) (lawfuls : RunsAreLawful) (moves : RunsMove) (live :
   all = omega (arith, length-append first second)
 
   pub completed-both : completed live first ++ completed after second ≡ completed live (first ++ second)
-  completed-both =
-      items-both joins lawfuls moves live first second (8 * length second) (omega arith) range known ∙ ap (λ (m : ℕ). items_next live (first ++ second) m) all
+  completed-both = grind (arith, common_steps, items-both, all, completed)
 
   pub next-both : TotalsJoin → live_next after second ≡ live_next live (first ++ second)
   next-both join =
@@ -231,11 +206,4 @@ module _ (joins : RunsJoin) (lawfuls : RunsAreLawful) (moves : RunsMove) (live :
 -- ---- no bytes
 
 pub none-next : (live : LiveOf) → IsStreamDecoder live → plus live.totals (totals_of []) ≡ live.totals → live_next live [] ≡ live
-none-next live known still =
-    let few : length live.tail - most_kept ≡ 0 = omega (arith, known.kept) in
-    let place : live.place ≡ live.place + 0 = omega arith in
-    sym (live-next live [] live.tail live.place live.state live.totals
-    (sym (ap last_bytes (append-nil live.tail) ∙ ap (λ (n : ℕ). drop n live.tail) few))
-    place
-    (sym (back-on live.terms.rules (before_tail live) live.place live.state known.lawful (omega arith)))
-    (sym still))
+none-next live known still = grind (arith, common_steps, live-next, append-nil, back-on)

@@ -1,15 +1,12 @@
 -- The windows heard in the room of a stream's last bytes.
-use Rattle.rds_live.proofs.Names.{◌≡◌, ℕ, ◌+◌, ◌-◌, ◌*◌, ◌<◌, ◌≤◌, List, ◌++◌, length, drop, take, Bool, true, false, Option, Some, None, refl, sym, ap, ap₂, ◌∙◌, arith, inl, length-drop, drop-append-le, take-append-le, length-map-range_with_len, number_from_digits, AreGaps, Signal, bits_of, packed_bit, window, touched, heard, length_of, State, Item, IsInRange, RuleNumbers, IsLawful, run, RunsMove, IsPartHeard, gaps_within, signal_of, filled_up}
+use Rattle.rds_live.proofs.Names.{common_steps, ◌≡◌, ℕ, ◌+◌, ◌*◌, ◌<◌, ◌≤◌, List, ◌++◌, length, drop, Bool, true, false, Option, Some, None, refl, sym, ap, ap₂, ◌∙◌, arith, inl, length-drop, drop-append-le, take-append-le, length-map-range_with_len, AreGaps, Signal, bits_of, packed_bit, window, touched, heard, length_of, State, Item, IsInRange, RuleNumbers, IsLawful, run, RunsMove, IsPartHeard, gaps_within, signal_of, filled_up}
 use Rattle.rds_live.proofs.GapParts.{filled-up-touched}
 use Rattle.rds_live.proofs.Following.{still-state, still-items}
 
 -- a window of a list that goes on
 window-before : (xs ys : List ℕ) (i : ℕ) → 25 ≤ i → i < length xs → window xs i ≡ window (xs ++ ys) i
 unfolding window
-window-before xs ys i late within =
-    ap (λ (digits : List ℕ). number_from_digits 2 digits)
-    (sym (ap (λ (rest : List ℕ). take (i + 1 - (i - 25)) rest) (drop-append-le (i - 25) xs ys (omega (arith, within)))
-    ∙ take-append-le (i + 1 - (i - 25)) (drop (i - 25) xs) ys (omega (arith, within, late, length-drop (i - 25) xs))))
+window-before xs ys i late within = grind (arith, common_steps, drop-append-le, take-append-le, length-drop)
 
 -- the bytes that a room was filled with are heard in it
 module _ (top before slots : ℕ) (gaps : List (ℕ × ℕ)) (are : AreGaps top gaps) (bytes old : List ℕ) (fits : length bytes ≤ 990) where
@@ -31,10 +28,7 @@ module _ (top before slots : ℕ) (gaps : List (ℕ × ℕ)) (are : AreGaps top 
       (window-before (bits_of bytes m) (drop m old) i late (omega (arith, early, length-map-range_with_len (packed_bit bytes) 0 m)) ∙ ap (λ (p : ℕ). window (bits_of bytes m ++ drop m old) p) e)
 
   pub heard-filled : IsPartHeard filled part 0 0
-  heard-filled = record {
-    heard_same = λ i late within. same-heard i late (omega (arith, within, length-map-range_with_len (packed_bit bytes) 0 m));
-    early = inl refl;
-  }
+  heard-filled = grind (arith, common_steps, same-heard, length-map-range_with_len)
 
 -- a run over the bits heard is the run over the room
 pub run-in-room : (moves : RunsMove) (room part : Signal) (rules : RuleNumbers) (s : State) (from n : ℕ) → IsInRange rules → IsPartHeard room part 0 0 → IsLawful rules from s

@@ -1,5 +1,5 @@
 -- A decoder that takes over the count of a guess.
-use Rattle.rds_live.proofs.Names.{◌≡◌, ◌+◌, ◌-◌, ◌*◌, ◌^◌, ◌≤◌, ◌++◌, ◌∙◌, List, [], ap, arith, drop, length, refl, subst, sym, take, ℕ, slice_index, drop-drop, drop_at, length-append, take_rest, AreGaps, IsAtMost, plus, IsInRange, totals_of, State, Totals, IsWithin, NextIsHeard, PiecesJoin, completed, guessed, live_next, HasHeard, IsStreamDecoder, LiveOf, Terms, last_bytes, live_of, most_counted, most_kept}
+use Rattle.rds_live.proofs.Names.{common_steps, ◌≡◌, ◌+◌, ◌-◌, ◌*◌, ◌^◌, ◌≤◌, ◌++◌, ◌∙◌, List, [], ap, arith, drop, length, refl, subst, sym, take, ℕ, drop-drop, drop_at, length-append, take_rest, AreGaps, IsAtMost, plus, IsInRange, totals_of, State, Totals, IsWithin, NextIsHeard, PiecesJoin, completed, guessed, live_next, HasHeard, IsStreamDecoder, LiveOf, Terms, last_bytes, live_of, most_counted, most_kept}
 use Rattle.rds_live.proofs.Following.{at-most-more}
 
 -- the last bytes of a stream are those of its end, if that is long enough
@@ -11,16 +11,7 @@ end-kept tail front long =
 
 -- nothing more was counted before
 pub plus-none : (t u : Totals) → plus t (plus (totals_of []) u) ≡ plus t u
-plus-none t u =
-    let at : (n : ℕ) → slice_index t.bursts n + (0 + slice_index u.bursts n) ≡ slice_index t.bursts n + slice_index u.bursts n = λ n. omega arith in
-    let valid : t.valid + (0 + u.valid) ≡ t.valid + u.valid = omega arith in
-    let lost : t.lost + (0 + u.lost) ≡ t.lost + u.lost = omega arith in
-    let bits : t.bits + (0 + u.bits) ≡ t.bits + u.bits = omega arith in
-    let groups : t.groups + (0 + u.groups) ≡ t.groups + u.groups = omega arith in
-    let complete : t.complete + (0 + u.complete) ≡ t.complete + u.complete = omega arith in
-    let acquired : t.acquired + (0 + u.acquired) ≡ t.acquired + u.acquired = omega arith in
-    let losses : t.losses + (0 + u.losses) ≡ t.losses + u.losses = omega arith in
-    rw (valid, at 0, at 1, at 2, at 3, at 4, lost, bits, groups, complete, acquired, losses) refl
+plus-none t u = grind (arith, common_steps)
 
 -- the decoder after more bytes than a seam, from a guess that was in its state there
 pub sewn : (live guess : LiveOf) (rest : List ℕ) (mark : State) (totals : Totals) → guess ≡ live_next (guessed live mark) rest → mark ≡ live.state → totals ≡ plus live.totals guess.totals
@@ -42,12 +33,7 @@ guessed-there old next guess seam mark rest is there met =
 pub guess-is : (live : LiveOf) (front seam tail : List ℕ) (place : ℕ) (search : State) (none : Totals) (guess : LiveOf) → tail ≡ last_bytes (live.tail ++ front) → place ≡ live.place + 8 * length front
     → guess ≡ live_next (record { terms = live.terms; tail = tail; place = place; state = search; totals = none }) seam
     → record guess { totals = totals_of [] } ≡ guessed (live_next (live_next live front) seam) guess.state
-guess-is live front seam tail place search none guess tail_is place_is is =
-    let next : LiveOf = live_next (live_next live front) seam in
-    let terms : guess.terms ≡ next.terms = ap (λ (l : LiveOf). l.terms) is in
-    let kept : guess.tail ≡ next.tail = ap (λ (l : LiveOf). l.tail) is ∙ ap (λ (xs : List ℕ). last_bytes (xs ++ seam)) tail_is in
-    let there : guess.place ≡ next.place = ap (λ (l : LiveOf). l.place) is ∙ ap (λ (n : ℕ). n + 8 * length seam) place_is in
-    rw (terms, kept, there) refl
+guess-is live front seam tail place search none guess tail_is place_is is = grind (arith, common_steps)
 
 -- what grew twice
 pub both-within : (m k : ℕ) (first next last : Totals) → IsWithin m first next → IsWithin k next last → IsWithin (m + k) first last
@@ -56,20 +42,7 @@ both-within m k first next last one two = record {
 }
 
 none-counted : IsAtMost 0 (totals_of [])
-none-counted = record {
-  valid = omega arith;
-  burst1 = omega arith;
-  burst2 = omega arith;
-  burst3 = omega arith;
-  burst4 = omega arith;
-  burst5 = omega arith;
-  lost = omega arith;
-  bits = omega arith;
-  groups = omega arith;
-  complete = omega arith;
-  acquired = omega arith;
-  losses = omega arith;
-}
+none-counted = grind (arith, common_steps)
 
 -- all that was counted
 pub from-none : (bits : ℕ) (first last : Totals) → first ≡ totals_of [] → IsWithin bits first last → IsAtMost (most_counted bits) last

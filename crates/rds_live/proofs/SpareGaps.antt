@@ -1,14 +1,11 @@
 -- The spare gaps of a room, which stay where no others are put in their place.
-use Rattle.rds_live.proofs.Names.{◌≡◌, ℕ, ◌+◌, ◌-◌, ◌≤◌, List, ◌++◌, append_assoc, drop, length, map, sym, ap, ap₂, ◌∙◌, arith, drop-append_seam, range_with_len, drop-drop, length-append, take-append-drop, length-map-range_with_len, take-map-range_with_len, AreSpareFrom, filled_up, spare}
+use Rattle.rds_live.proofs.Names.{common_steps, ◌≡◌, ℕ, ◌+◌, ◌-◌, ◌≤◌, List, ◌++◌, append_assoc, drop, length, map, sym, ap, ap₂, ◌∙◌, arith, drop-append_seam, range_with_len, drop-drop, length-append, take-append-drop, length-map-range_with_len, take-map-range_with_len, AreSpareFrom, filled_up, spare}
 use Rattle.rds_live.proofs.GapParts.{length-filled-up}
 use Rattle.rds_live.proofs.Parts.{drop-table}
 
 -- from the number of these on there are only spare gaps
 pub spare-behind : (gaps found : List (ℕ × ℕ)) (slots : ℕ) → length found ≤ slots → gaps ≡ filled_up found slots → AreSpareFrom (length found) gaps
-spare-behind gaps found slots fits is =
-    let k = length found in
-    let long : slots - k ≡ length gaps - k = omega (arith, ap length is, length-filled-up found slots fits) in
-    ap (λ (gs : List (ℕ × ℕ)). drop k gs) is ∙ drop-append_seam found (map spare (range_with_len k (slots - k))) ∙ ap (λ (n : ℕ). map spare (range_with_len k n)) long
+spare-behind gaps found slots fits is = grind (arith, common_steps, length-filled-up, drop-append_seam)
 
 -- where those that are put in the place of the first ones reach as far as no spare gap stood, the others follow
 pub filled-on : (old found : List (ℕ × ℕ)) (used : ℕ) → used ≤ length old → length found ≤ length old → AreSpareFrom used old

@@ -23,9 +23,3 @@ loop-number-preserved c =
       count = omega (arith, ap (λ (xs : List (ℕ × ℕ)). length xs) c.push_reserved.ensures.items, length-append loop.gaps.items (spare loop.number ∷ []), loop.invariant.count);
       room = c.push_reserved.ensures.capacity ∙ loop.invariant.room;
     }
-
-pub returns-clause-gaps : goal.returns-clause-gaps
-returns-clause-gaps c =
-    let k : ℕ = length c.args.gaps.now.items in
-    let count : c.loop-number.number - k ≡ c.args.slots - k = omega (arith, c.loop-number.invariant.within, c.loop-number-test.false) in
-    c.loop-number.invariant.so_far ∙ ap (λ (n : ℕ). c.args.gaps.now.items ++ map spare (range_with_len k n)) count

@@ -1,17 +1,10 @@
 use Rattle.std.proofs.Common.{eqb-true}
 use Rattle.std.proofs.lemmas.List.{nil_from_length}
-use Rattle.rds_live.proofs.Names.{◌++◌, ◌∙◌, List, ap, arith, length, length-drop, refl, sym, ℕ, append-nil, take_rest, Item, LiveOf, completed, live_next}
+use Rattle.rds_live.proofs.Names.{common_steps, ◌++◌, ◌∙◌, List, ap, arith, length, length-drop, sym, ℕ, append-nil, take_rest, Item, LiveOf, completed, live_next}
 use Rattle.rds_live.proofs.stream_decoder.decode_bytes.Goals as goal
 
 pub loop-rest-init : goal.loop-rest-init
-loop-rest-init c = record {
-  terms = refl;
-  next = refl;
-  completed = ap (λ (xs : List Item). xs ++ completed c.args.live.now c.args.bytes.now) c.new-items.ensures.items;
-  place = refl;
-  few = omega arith;
-  room = omega (arith, c.in_ok-some.ensures);
-}
+loop-rest-init c = grind (arith, common_steps, completed)
 
 pub loop-rest-preserved : goal.loop-rest-preserved
 loop-rest-preserved c =

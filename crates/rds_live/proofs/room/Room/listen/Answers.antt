@@ -1,4 +1,4 @@
-use Rattle.rds_live.proofs.Names.{◌≡◌, ◌≤◌, ◌-◌, ◌*◌, ◌^◌, ◌++◌, ◌∙◌, ℕ, List, ap, ap₂, arith, drop, length, length-drop, map, min, subst, sym, range_with_len, length-append, length-map-range_with_len, AreGaps, Signal, bits_of, length_of, packed_bit, gaps_within, signal_of, IsPartHeard, AreSpareFrom, filled_up, slots_of, spare}
+use Rattle.rds_live.proofs.Names.{common_steps, ◌≡◌, ◌≤◌, ◌*◌, ◌^◌, ◌++◌, ◌∙◌, ℕ, List, ap, ap₂, arith, drop, length, length-drop, min, subst, sym, length-append, length-map-range_with_len, AreGaps, Signal, bits_of, length_of, gaps_within, signal_of, IsPartHeard, AreSpareFrom, filled_up, slots_of}
 use Rattle.rds_live.proofs.GapParts.{few-of-part, gaps-of-part, gaps-filled-up, length-filled-up}
 use Rattle.rds_live.proofs.Rooms.{heard-filled}
 use Rattle.rds_live.proofs.SpareGaps.{filled-on, spare-behind}
@@ -7,9 +7,7 @@ use Rattle.rds_live.proofs.room.Room.listen.Goals as goal
 -- it is as long as before
 as-long : (bytes old : List ℕ) (gaps : List (ℕ × ℕ)) (is : Signal) → is ≡ record { bits = bits_of bytes (8 * length bytes) ++ drop (8 * length bytes) old; gaps = gaps }
     → length bytes ≤ 990 → length old ≡ 15840 → length_of is ≡ 15840
-as-long bytes old gaps is filled few long =
-    let m : ℕ = 8 * length bytes in
-    omega (arith, ap (λ (b : Signal). length_of b) filled, length-append (bits_of bytes m) (drop m old), length-map-range_with_len (packed_bit bytes) 0 m, length-drop m old, few, long)
+as-long bytes old gaps is filled few long = grind (arith, common_steps, length-append, length-map-range_with_len, length-drop)
 
 -- the gaps fit into the slots
 fits : (before slots : ℕ) (gaps : List (ℕ × ℕ)) → AreGaps (2 ^ 36) gaps → min (length gaps) 7920 ≤ slots → length (gaps_within gaps before 7920) ≤ slots
@@ -28,14 +26,11 @@ module _ (before slots used : ℕ) (gaps old given found put : List (ℕ × ℕ)
   near-fit = omega (arith, fits before slots gaps are room, all)
 
   fewer : length put ≤ length old
-  fewer =
-      omega (arith, ap length put-are, length-append near (map spare (range_with_len (length near) (used - length near))), length-map-range_with_len spare (length near) (used - length near), near-fit, few, all)
+  fewer = grind (arith, common_steps, put-are, length-append, length-map-range_with_len, near-fit)
 
   -- of the recording they are these and spare ones
   filled : put ++ drop (length put) old ≡ filled_up near slots
-  filled =
-      ap (λ (gs : List (ℕ × ℕ)). gs ++ drop (length gs) old) put-are ∙ filled-on old near used (omega (arith, few, all)) near-fit spare_are
-      ∙ ap (filled_up near) all
+  filled = grind (arith, common_steps, put-are, filled-on, near-fit)
 
   filled-are : slots ≤ 7920 → AreGaps 15840 (put ++ drop (length put) old)
   filled-are most =
@@ -45,8 +40,7 @@ module _ (before slots used : ℕ) (gaps old given found put : List (ℕ × ℕ)
   as-many now is = ap length (is ∙ filled) ∙ length-filled-up near slots (fits before slots gaps are room)
 
   spare-then : (now : List (ℕ × ℕ)) → now ≡ put ++ drop (length put) old → AreSpareFrom (length found) now
-  spare-then now is =
-      subst (λ (k : ℕ). AreSpareFrom k now) (sym (ap length found_is)) (spare-behind now near slots (fits before slots gaps are room) (is ∙ filled))
+  spare-then now is = grind (arith, common_steps, spare-behind, fits, filled)
 
 pub refill-requires-clause-as_many : goal.refill-requires-clause-as_many
 refill-requires-clause-as_many c =

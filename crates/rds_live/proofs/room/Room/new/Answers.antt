@@ -1,4 +1,4 @@
-use Rattle.rds_live.proofs.Names.{◌≡◌, ◌≤◌, ◌∙◌, ℕ, List, [], ap, arith, length, subst, sym, false≢true, length-map-range_with_len, AreGaps, Signal, length_of, packed_bit, AreSpareFrom, filled_up}
+use Rattle.rds_live.proofs.Names.{common_steps, ◌≡◌, ◌≤◌, ◌∙◌, ℕ, List, [], ap, arith, length, subst, sym, false≢true, length-map-range_with_len, AreGaps, Signal, length_of, packed_bit, AreSpareFrom, filled_up}
 use Rattle.rds_live.proofs.GapParts.{gaps-filled-up, length-filled-up}
 use Rattle.rds_live.proofs.SpareGaps.{spare-behind}
 use Rattle.rds_live.proofs.room.Room.new.Goals as goal
@@ -12,8 +12,7 @@ spare-are spare none slots is empty few =
     subst (λ (gaps : List (ℕ × ℕ)). AreGaps 15840 gaps) (sym (is ∙ ap (λ (gaps : List (ℕ × ℕ)). filled_up gaps slots) empty)) (gaps-filled-up [] slots no-gaps (omega arith) few)
 
 as-many : (spare none : List (ℕ × ℕ)) (slots : ℕ) → spare ≡ filled_up none slots → none ≡ [] → length spare ≡ slots
-as-many spare none slots is empty =
-    ap length (is ∙ ap (λ (gaps : List (ℕ × ℕ)). filled_up gaps slots) empty) ∙ length-filled-up [] slots (omega arith)
+as-many spare none slots is empty = grind (arith, common_steps, length-filled-up)
 
 spare-from : (gaps spare none : List (ℕ × ℕ)) (slots : ℕ) → gaps ≡ spare → spare ≡ filled_up none slots → none ≡ [] → AreSpareFrom 0 gaps
 spare-from gaps spare none slots held is empty = spare-behind gaps [] slots (omega arith) (held ∙ is ∙ ap (λ (gs : List (ℕ × ℕ)). filled_up gs slots) empty)

@@ -1,17 +1,12 @@
 use Rattle.std.proofs.Common.{eqb-true}
 use Rattle.std.proofs.lemmas.List.{nil_from_length}
-use Rattle.rds_live.proofs.Names.{◌≡◌, ◌+◌, ◌-◌, ◌*◌, ◌++◌, ◌∙◌, List, ap, arith, length, refl, sym, ℕ, length-append, LiveOf, most_counted, live_next}
+use Rattle.rds_live.proofs.Names.{common_steps, ◌≡◌, ◌+◌, ◌-◌, ◌*◌, ◌++◌, ◌∙◌, List, ap, arith, length, sym, ℕ, length-append, LiveOf, most_counted, live_next}
 use Rattle.rds_live.proofs.Following.{at-most-more}
 use Rattle.rds_live.proofs.Sewing.{both-within, within-all}
 use Rattle.rds_live.proofs.stream_decoder.StreamDecoder.count.Goals as goal
 
 pub loop-rest-init : goal.loop-rest-init
-loop-rest-init c = record {
-  next = refl;
-  place = refl;
-  few = omega arith;
-  small = record { within = λ n few. at-most-more n (n + most_counted (8 * (length c.args.bytes.now - length c.args.bytes.now))) c.args.self.now.totals (omega arith) few };
-}
+loop-rest-init c = grind (arith, common_steps, at-most-more)
 
 pub loop-rest-preserved : goal.loop-rest-preserved
 loop-rest-preserved c =

@@ -1,4 +1,4 @@
-use Rattle.rds_live.proofs.Names.{◌≡◌, ◌++◌, ◌∙◌, List, [], ap, ap₂, arith, subst, sym, ℕ, append-nil, Signal, length_of, group_item, plus, IsLawful, totals_of, Item, Totals, gaps_within, IsStart, group_next, LiveOf, complete, report_of, Start}
+use Rattle.rds_live.proofs.Names.{common_steps, ◌≡◌, ◌++◌, ◌∙◌, List, [], ap, arith, subst, sym, ℕ, append-nil, Signal, length_of, group_item, plus, IsLawful, totals_of, Item, gaps_within, IsStart, group_next, LiveOf, complete, report_of, Start}
 use Rattle.rds_live.proofs.Nexts.{group-is, part-is, report-now, totals-end}
 use Rattle.rds_live.proofs.Parts.{length-at}
 use Rattle.rds_live.proofs.stream_decoder.StreamDecoder.finish.Goals.{After-stream_end_of}
@@ -36,9 +36,7 @@ module _ (c : After-stream_end_of) where
       ∙ ap (λ (l : LiveOf). group_next l [] 0) c.self.view_is
 
   counted_is : c.stream_end_of.result.totals ≡ plus c.args.self.totals (totals_of (group_next c.args.self [] 0))
-  counted_is =
-      c.stream_end_of.ensures.totals
-      ∙ ap₂ (λ (t : Totals) (items : List Item). plus t (totals_of items)) (ap (λ (l : LiveOf). l.totals) c.self.view_is) (sym (ap group_item c.stream_end_of.ensures.group) ∙ closed_is)
+  counted_is = grind (arith, common_steps, closed_is)
 
 pub returns-clause-closed : goal.returns-clause-closed
 returns-clause-closed c = closed_is (goal.at.returns-clause-closed c).After-stream_end_of

@@ -1,4 +1,4 @@
-use Rattle.rds_live.proofs.Names.{◌≡◌, ◌+◌, ◌-◌, ◌*◌, ◌^◌, ◌++◌, ◌∙◌, List, ap, ap₂, arith, length, refl, subst, sym, ℕ, length-map, length-take-le, with_items_is, with_items, Signal, length_of, group_item, plus, IsLawful, run, totals_of, Item, State, Totals, gaps_within, moved_item, IsStart, group_next, items_next, part_with, run_next, HasHeard, LiveOf, complete, report_at, signal_at, Start}
+use Rattle.rds_live.proofs.Names.{common_steps, ◌≡◌, ◌+◌, ◌-◌, ◌*◌, ◌++◌, ◌∙◌, List, ap, ap₂, arith, length, refl, subst, sym, ℕ, length-map, length-take-le, with_items_is, with_items, Signal, length_of, group_item, plus, IsLawful, run, totals_of, Item, State, Totals, gaps_within, moved_item, IsStart, group_next, items_next, part_with, run_next, HasHeard, LiveOf, complete, report_at, signal_at, Start}
 use Rattle.rds_live.proofs.Following.{at-most-more}
 use Rattle.rds_live.proofs.Nexts.{group-is, items-are, part-is, run-is, totals-are, totals-end}
 use Rattle.rds_live.proofs.Parts.{length-at}
@@ -13,22 +13,8 @@ fill_from-end-requires-clause-within c =
     let start = c.next_start-start.result in
     omega (arith, size-of c.into_recording-part.result (gaps_within c.self.inside.gaps.now start.before (start.from + c.args.bits)) c.push.new.self.bytes (start.from + c.args.bits) c.into_recording-part.ensures)
 
-pub plus-totals-requires : goal.plus-totals-requires
-plus-totals-requires c =
-    let live = c.self.invariant.0 in (
-      2 ^ 11 * c.self.inside.place,
-      2 ^ 10 * length c.deref.result.now,
-      omega (arith, ap length c.deref.ensures.value, c.fill_from-end.ensures.few, c.requires.few, live.limit),
-      live.small,
-      c.of.ensures.small,
-    )
-
 pub stream_end_of-requires : goal.stream_end_of-requires
-stream_end_of-requires c =
-    let live = c.self.invariant.0 in
-    at-most-more (2 ^ 11 * c.self.inside.place + 2 ^ 10 * length c.deref.result.now) (2 ^ 47) c.plus-totals.result
-    (omega (arith, ap length c.deref.ensures.value, c.fill_from-end.ensures.few, c.if-bits-self.false, live.limit))
-    (c.plus-totals.ensures.small (2 ^ 11 * c.self.inside.place) (2 ^ 10 * length c.deref.result.now) live.small c.of.ensures.small)
+stream_end_of-requires c = grind (arith, common_steps, at-most-more)
 
 pub moved_end-group-requires-clause-lawful : goal.moved_end-group-requires-clause-lawful
 moved_end-group-requires-clause-lawful c =
@@ -79,10 +65,7 @@ module _ (c : After-stream_end_of) where
       ∙ ap (λ (l : LiveOf). items_next l bytes bits) c.self.view_is
 
   closed_is : group_item c.stream_end_of.result.group ≡ group_next c.args.self bytes bits
-  closed_is =
-      group-is live start is c.into_recording-part.result bytes bits c.fill_from-end.result (group_item c.stream_end_of.result.group) part_is
-      (c.fill_from-end.ensures.state ∙ ap (λ (r : State × List Item). r.0) run_is) (ap group_item c.stream_end_of.ensures.group ∙ c.moved_end-group.ensures)
-      ∙ ap (λ (l : LiveOf). group_next l bytes bits) c.self.view_is
+  closed_is = grind (arith, common_steps, group-is, is, part_is, run_is)
 
   counted_is : c.stream_end_of.result.totals ≡ plus (plus c.args.self.totals (totals_of (items_next c.args.self bytes bits))) (totals_of (group_next c.args.self bytes bits))
   counted_is =

@@ -1,4 +1,4 @@
-use Rattle.rds_live.proofs.Names.{◌+◌, ◌*◌, ◌++◌, ◌∙◌, List, ap, arith, subst, sym, take, ℕ, length-take-le, Item, IsWithin, HasHeard, LiveOf, complete}
+use Rattle.rds_live.proofs.Names.{common_steps, ◌++◌, ◌∙◌, List, ap, arith, subst, sym, take, length-take-le, Item, HasHeard, LiveOf, complete}
 use Rattle.rds_live.proofs.stream_decoder.StreamDecoder.take.Goals as goal
 
 pub returns-clause-heard : goal.returns-clause-heard
@@ -13,10 +13,7 @@ returns-clause-items c before h =
     ∙ (c.next_is_heard.ensures c.args.self.now before some c.is_known.ensures.range c.is_known.ensures.live h).1)
 
 pub returns-clause-place : goal.returns-clause-place
-returns-clause-place c =
-    ap (λ (l : LiveOf). l.place) c.take_part.ensures.next
-    ∙ ap (λ (n : ℕ). c.args.self.now.place + 8 * n) (length-take-le c.min-count.result c.args.bytes.now (omega (arith, c.min-count.ensures)))
+returns-clause-place c = grind (arith, common_steps, length-take-le)
 
 pub returns-clause-small : goal.returns-clause-small
-returns-clause-small c =
-    subst (λ (n : ℕ). IsWithin (8 * n) c.args.self.now.totals c.take_part.new.self.totals) (length-take-le c.min-count.result c.args.bytes.now (omega (arith, c.min-count.ensures))) c.take_part.ensures.small
+returns-clause-small c = grind (arith, common_steps, length-take-le)
