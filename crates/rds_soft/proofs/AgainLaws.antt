@@ -1,5 +1,5 @@
 -- The laws of symbols read as blocks, and of items read again.
-use Rattle.rds_soft.proofs.Names.{◌≡◌, ℕ, ◌+◌, ◌-◌, ◌<◌, ◌≤◌, Bool, true, false, List, [], ◌∷◌, length, get_or, take, drop, refl, sym, ap, ◌∙◌, subst, arith, bit_xor, length-take, length-drop, Option, Some, None, ℤ, pos, nat_lt, not, ◌&&◌, if◌then◌else◌, number_from_digits, lt-ltb, ext_get_or, get_or-take, get_or-drop, Offset, Wanted, Either, HardValid, HardCorrected, HardLost, IsValid, IsReading, information, reading, ReadsByRule, Signal, reading_at, window, heard, touched, length_of, Block, Missing, Read, Acquired, Group, LostLock, block_in, SoftBlock, SoftGroup, SoftAcquired, InSoft, SoftLostLock, mask_of, group_of, wanted_beside, sign, hard_bit, hard_bits, hard_window, confidences, IsSoftReading, symbols_heard, IsReadingHeard, IsBlockAgain, IsGroupAgain, first_bit, HasOneSoftReading, HasOneItemAgain, SymbolsHaveWindows, ReadsFromSymbols}
+use Rattle.rds_soft.proofs.Names.{common_steps, ◌≡◌, ℕ, ◌+◌, ◌-◌, ◌<◌, ◌≤◌, Bool, true, false, List, [], ◌∷◌, length, get_or, take, drop, refl, sym, ap, ◌∙◌, subst, arith, bit_xor, length-take, length-drop, Option, Some, None, ℤ, pos, nat_lt, not, ◌&&◌, if◌then◌else◌, number_from_digits, lt-ltb, ext_get_or, get_or-take, get_or-drop, Offset, Wanted, Either, HardValid, HardCorrected, HardLost, IsValid, IsReading, information, reading, ReadsByRule, Signal, reading_at, window, heard, touched, length_of, Block, Missing, Read, Acquired, Group, LostLock, block_in, SoftBlock, SoftGroup, SoftAcquired, InSoft, SoftLostLock, mask_of, group_of, wanted_beside, sign, hard_bit, hard_bits, hard_window, confidences, IsSoftReading, symbols_heard, IsReadingHeard, IsBlockAgain, IsGroupAgain, first_bit, HasOneSoftReading, HasOneItemAgain, SymbolsHaveWindows, ReadsFromSymbols}
 use mathlib.Core.Path.{ap₂}
 use Rattle.rds_code.specs.declared.reading.Reading.{Reading}
 use Rattle.rds_stream.specs.Recording.{reading_heard}
@@ -11,13 +11,11 @@ use Rattle.rds_soft.proofs.SymbolLemmas.{bit_of, bit_count}
 
 -- ---- one reading
 
-some_is : (o p : Offset) → Some o ≡ Some p → o ≡ p
+pub some_is : (o p : Offset) → Some o ≡ Some p → o ≡ p
 some_is o p same = cc
 
 pub has_one_soft_reading : HasOneSoftReading
-has_one_soft_reading symbols x wanted margin (Valid o i) (Valid p j) some one other =
-    let offset : p ≡ o = some_is p o (sym other.0.offset ∙ one.0.offset) in
-    ap₂ (λ q k. Valid q k) offset (other.1 ∙ sym one.1)
+has_one_soft_reading symbols x wanted margin (Valid o i) (Valid p j) some one other = grind (arith, common_steps, some_is)
 has_one_soft_reading symbols x wanted margin (Valid o i) (Corrected p j g) some one other = absurd (other.0 o one.0)
 has_one_soft_reading symbols x wanted margin (Valid o i) Lost some one other = absurd (other.0 o one.0)
 has_one_soft_reading symbols x wanted margin (Corrected o i f) (Valid p j) some one other = absurd (one.0 p other.0)
@@ -37,16 +35,7 @@ one_heard (Some symbols) x wanted margin one other some h k = has_one_soft_readi
 
 one_block : (heard : Option (List ℤ)) (x : ℕ) (wanted : Wanted) (margin : ℕ) (block : Block) (one other : SoftBlock) → 1 ≤ margin
     → IsBlockAgain heard x wanted margin block one → IsBlockAgain heard x wanted margin block other → other ≡ one
-one_block heard x wanted margin Missing one other some h k = k ∙ sym h
-one_block heard x wanted margin (Read (HardValid o i)) one other some h k = k ∙ sym h
-one_block heard x wanted margin (Read (HardCorrected o i e)) SoftMissing other some h k = absurd h
-one_block heard x wanted margin (Read (HardCorrected o i e)) (SoftRead r) SoftMissing some h k = absurd k
-one_block heard x wanted margin (Read (HardCorrected o i e)) (SoftRead r) (SoftRead q) some h k =
-    ap (λ y. SoftRead y) (one_heard heard x wanted margin r q some h k)
-one_block heard x wanted margin (Read HardLost) SoftMissing other some h k = absurd h
-one_block heard x wanted margin (Read HardLost) (SoftRead r) SoftMissing some h k = absurd k
-one_block heard x wanted margin (Read HardLost) (SoftRead r) (SoftRead q) some h k =
-    ap (λ y. SoftRead y) (one_heard heard x wanted margin r q some h k)
+one_block heard x wanted margin block one other some h k = grind (arith, common_steps, one_heard)
 
 one_group : (b : Signal) (symbols : List ℤ) (margin place : ℕ) (blocks : List Block) (one other : SoftGroup) → 1 ≤ margin
     → IsGroupAgain b symbols margin place blocks one → IsGroupAgain b symbols margin place blocks other → other ≡ one
@@ -65,14 +54,7 @@ one_group b symbols margin place blocks one other some h k =
     ∙ sym h.told
 
 pub has_one_item_again : HasOneItemAgain
-has_one_item_again b symbols margin (Acquired place number) one other some h k = k ∙ sym h
-has_one_item_again b symbols margin (LostLock place) one other some h k = k ∙ sym h
-has_one_item_again b symbols margin (Group g) (InSoft one) (InSoft other) some h k =
-    ap (λ x. InSoft x) (one_group b symbols margin g.place g.blocks one other some h k)
-has_one_item_again b symbols margin (Group g) (InSoft one) (SoftAcquired p n) some h k = absurd k
-has_one_item_again b symbols margin (Group g) (InSoft one) (SoftLostLock p) some h k = absurd k
-has_one_item_again b symbols margin (Group g) (SoftAcquired p n) other some h k = absurd h
-has_one_item_again b symbols margin (Group g) (SoftLostLock p) other some h k = absurd h
+has_one_item_again b symbols margin item one other some h k = grind (arith, common_steps, one_group)
 
 -- ---- windows
 
@@ -90,10 +72,7 @@ module _ (symbols : List ℤ) (first : ℕ) (within : first + 26 < length symbol
   symbol_in i inside = get_or-take 27 (drop first symbols) i (pos 0) inside ∙ get_or-drop first symbols i (pos 0)
 
   bit_in : (i : ℕ) → i < 26 → hard_bit part i ≡ hard_bit symbols (first + i)
-  bit_in i inside =
-      let next : first + (i + 1) ≡ first + i + 1 = omega arith in
-      ap₂ (λ (r q : ℤ). bit_xor (sign r) (sign q)) (symbol_in i (omega arith))
-      (symbol_in (i + 1) (omega arith) ∙ ap (λ j. get_or symbols j (pos 0)) next)
+  bit_in i inside = grind (arith, common_steps, symbol_in, part)
 
   bits_in : take 26 (drop first (hard_bits symbols)) ≡ hard_bits part
   bits_in =
@@ -122,12 +101,7 @@ read_is r q same = cc
 from_reading : (w x : ℕ) (hard wanted : Wanted) (limit margin : ℕ) (symbols : List ℤ) (r : Reading) (again : SoftReading)
     → hard_window symbols ≡ w → IsReading w x hard limit r → IsBlockAgain (Some symbols) x wanted margin (Read r) (SoftRead again)
     → IsSoftReading symbols x wanted margin again
-from_reading w x hard wanted limit margin symbols (HardValid o i) again same h k =
-    let valid : IsValid (hard_window symbols) x o = subst (λ (v : ℕ). IsValid v x o) (sym same) h.0 in
-    let info : i ≡ information (hard_window symbols) = h.1 ∙ sym (ap information same) in
-    subst (λ (y : SoftReading). IsSoftReading symbols x wanted margin y) (sym (read_is (Valid o i) again k)) (valid, info)
-from_reading w x hard wanted limit margin symbols (HardCorrected o i e) again same h k = k
-from_reading w x hard wanted limit margin symbols HardLost again same h k = k
+from_reading w x hard wanted limit margin symbols r again same h k = grind (arith, common_steps, read_is)
 
 from_heard : ReadsByRule → (w x : ℕ) (hard wanted : Wanted) (limit margin : ℕ) (symbols : List ℤ) (again : SoftReading) → 1 ≤ x → x ≤ 4 → limit ≤ 5
     → hard_window symbols ≡ w → IsBlockAgain (Some symbols) x wanted margin (Read (reading w x hard limit)) (SoftRead again)
@@ -142,9 +116,7 @@ by_touch : ReadsByRule → (t : Bool) (w x : ℕ) (hard wanted : Wanted) (limit 
     → IsBlockAgain (if true && not t && true then Some symbols else None) x wanted margin
     (Read (reading_heard (elim t [ true ↦ None | false ↦ Some w ]) x hard limit)) (SoftRead again)
     → IsReadingHeard (if true && not t && true then Some symbols else None) x wanted margin again
-by_touch law true w x hard wanted limit margin symbols again low high few same h = h
-by_touch law false w x hard wanted limit margin symbols again low high few same h =
-    from_heard law w x hard wanted limit margin symbols again low high few same h
+by_touch law t w x hard wanted limit margin symbols again low high few same h = grind (arith, common_steps, from_heard)
 
 pub reads_from_symbols : ReadsByRule → ReadsFromSymbols
 unfolding heard

@@ -1,5 +1,5 @@
 -- Flips of symbols, by the remainder of their mask: the sum of the effects.
-use Rattle.rds_soft.proofs.Names.{◌≡◌, ℕ, zero, suc, ◌+◌, ◌*◌, ◌/◌, ◌%◌, ◌^◌, ◌<◌, List, sym, ap, ◌∙◌, arith, bit_xor, inl, inr, xor_self, xor_assoc, xor_shifted, xor_comm, xor_shr, xor_mod, rem, IsLinear, mask_of, weight, effect, confidence, sum_of, weigh, least, lightest, second, Leads, AreLightest}
+use Rattle.rds_soft.proofs.Names.{common_steps, ◌≡◌, ℕ, zero, suc, ◌+◌, ◌*◌, ◌/◌, ◌%◌, ◌^◌, ◌<◌, List, sym, ap, ◌∙◌, arith, bit_xor, inl, inr, xor_self, xor_assoc, xor_shifted, xor_comm, xor_shr, xor_mod, rem, IsLinear, mask_of, weight, effect, confidence, sum_of, weigh, least, lightest, second, Leads, AreLightest}
 use Rattle.rds_soft.proofs.LightestLemmas.{Reach, IsSplit, split_word, sum_without, sum_with, least_below}
 use Rattle.rds_soft.proofs.SecondLemmas.{Weighs, lightest_reached, others_weigh, second_reached}
 
@@ -29,9 +29,7 @@ joined linear n rest small =
 
 pub sum_is : IsLinear → (n flips : ℕ) → flips < 2 ^ n → sum_of effect n flips ≡ rem (mask_of flips)
 unfolding sum_of
-sum_is linear zero flips small =
-    let none : 0 ≡ flips = omega (arith, small) in
-    sym (rem_zero linear) ∙ ap (λ (f : ℕ). rem (mask_of f)) none
+sum_is linear zero flips small = grind (arith, common_steps, rem_zero)
 sum_is linear (suc n) flips small =
     let split = split_word n flips small in
     by_bit split.0 split.1 split.2 (sum_is linear n split.1 split.2.rest_small)

@@ -1,5 +1,5 @@
 -- The groups of a run end inside the part that the run is over, so they are read again there as in the whole.
-use Rattle.rds_soft.proofs.Names.{◌≡◌, ℕ, zero, suc, ◌+◌, ◌-◌, ◌*◌, ◌<◌, ◌≤◌, ◌∙◌, List, [], ◌∷◌, ◌++◌, Bool, true, false, Option, Some, None, ap, ap₂, arith, inl, inr, map, refl, subst, sym, ⊤, ◌==◌, ℤ, eq-eqb, eqb-true, false≢true, Valid, Corrected, Lost, Wanted, Either, Signal, State, Searching, Locked, Block, Missing, Read, Item, Acquired, Group, LostLock, block_in, blocks_at, group, AreInOrder, IsLawful, AcquisitionsAreLate, StepsAreLawful, RuleNumbers, completed_group, history_after_block, items_at, items_of_end, lock_after, run, step, moved_item, moved_items, SoftBlock, SoftItem, InSoft, first_bit, symbols_heard, was_read, block_again, group_again, item_again, reading_heard, group_of, wanted_beside, moved_again}
+use Rattle.rds_soft.proofs.Names.{common_steps, ◌≡◌, ℕ, zero, suc, ◌+◌, ◌-◌, ◌*◌, ◌<◌, ◌≤◌, ◌∙◌, List, [], ◌∷◌, ◌++◌, Bool, true, false, Option, Some, None, ap, ap₂, arith, inl, inr, map, refl, subst, sym, ⊤, ◌==◌, ℤ, eq-eqb, eqb-true, false≢true, Valid, Corrected, Lost, Wanted, Either, Signal, State, Searching, Locked, Block, Missing, Read, Item, Acquired, Group, LostLock, block_in, blocks_at, group, AreInOrder, IsLawful, AcquisitionsAreLate, StepsAreLawful, RuleNumbers, completed_group, history_after_block, items_at, items_of_end, lock_after, run, step, moved_item, moved_items, SoftBlock, SoftItem, InSoft, first_bit, symbols_heard, was_read, block_again, group_again, item_again, reading_heard, group_of, wanted_beside, moved_again, ◌⊎◌, ◌&&◌, if◌then◌else◌}
 use Rattle.rds_sync.specs.declared.lock.Lock.{Lock}
 use Rattle.rds_sync.specs.Acquiring.{acquired}
 use Rattle.rds_sync.specs.Loss.{IsLossRule, are_too_many}
@@ -28,14 +28,7 @@ AllInside end (item ∷ items) = ItemInside end item × AllInside end items
 
 -- a later end
 later-item : (end more : ℕ) (item : Item) → end ≤ more → ItemInside end item → ItemInside more item
-later-item end more (Acquired a x) order h = tt
-later-item end more (LostLock a) order h = tt
-later-item end more (Group g) order h = record {
-  one = λ read. omega (arith, order, h.one read);
-  two = λ read. omega (arith, order, h.two read);
-  three = λ read. omega (arith, order, h.three read);
-  four = λ read. omega (arith, order, h.four read);
-}
+later-item end more item order h = grind (arith, common_steps)
 
 later : (end more : ℕ) (items : List Item) → end ≤ more → AllInside end items → AllInside more items
 later end more [] order h = tt
@@ -51,78 +44,28 @@ module _ (b : Signal) (rules : RuleNumbers) (i : ℕ) where
   of_blocks : (f x : ℕ) → 1 ≤ f → f ≤ x → x ≤ 4 → 26 * (x - f) + 25 ≤ i → IsInside (i + 1) (i - 26 * (x - f) - 25) (blocks_at b rules f x i)
   of_blocks zero x low order high room = absurd (omega (arith, low))
   of_blocks (suc zero) zero low order high room = absurd (omega (arith, order))
-  of_blocks (suc zero) (suc zero) low order high room = record {
-    one = λ read. omega (arith, room);
-    two = λ none. omega (arith, none);
-    three = λ none. omega (arith, none);
-    four = λ none. omega (arith, none);
-  }
-  of_blocks (suc zero) (suc (suc zero)) low order high room = record {
-    one = λ read. omega (arith, room);
-    two = λ read. omega (arith, room);
-    three = λ none. omega (arith, none);
-    four = λ none. omega (arith, none);
-  }
-  of_blocks (suc zero) (suc (suc (suc zero))) low order high room = record {
-    one = λ read. omega (arith, room);
-    two = λ read. omega (arith, room);
-    three = λ read. omega (arith, room);
-    four = λ none. omega (arith, none);
-  }
-  of_blocks (suc zero) (suc (suc (suc (suc zero)))) low order high room = record {
-    one = λ read. omega (arith, room);
-    two = λ read. omega (arith, room);
-    three = λ read. omega (arith, room);
-    four = λ read. omega (arith, room);
-  }
+  of_blocks (suc zero) (suc zero) low order high room = grind (arith, common_steps, blocks_at)
+  of_blocks (suc zero) (suc (suc zero)) low order high room = grind (arith, common_steps, blocks_at)
+  of_blocks (suc zero) (suc (suc (suc zero))) low order high room = grind (arith, common_steps, blocks_at)
+  of_blocks (suc zero) (suc (suc (suc (suc zero)))) low order high room = grind (arith, common_steps, blocks_at)
   of_blocks (suc zero) (suc (suc (suc (suc (suc n))))) low order high room = absurd (omega (arith, high))
   of_blocks (suc (suc zero)) zero low order high room = absurd (omega (arith, order))
   of_blocks (suc (suc zero)) (suc zero) low order high room = absurd (omega (arith, order))
-  of_blocks (suc (suc zero)) (suc (suc zero)) low order high room = record {
-    one = λ none. omega (arith, none);
-    two = λ read. omega (arith, room);
-    three = λ none. omega (arith, none);
-    four = λ none. omega (arith, none);
-  }
-  of_blocks (suc (suc zero)) (suc (suc (suc zero))) low order high room = record {
-    one = λ none. omega (arith, none);
-    two = λ read. omega (arith, room);
-    three = λ read. omega (arith, room);
-    four = λ none. omega (arith, none);
-  }
-  of_blocks (suc (suc zero)) (suc (suc (suc (suc zero)))) low order high room = record {
-    one = λ none. omega (arith, none);
-    two = λ read. omega (arith, room);
-    three = λ read. omega (arith, room);
-    four = λ read. omega (arith, room);
-  }
+  of_blocks (suc (suc zero)) (suc (suc zero)) low order high room = grind (arith, common_steps, blocks_at)
+  of_blocks (suc (suc zero)) (suc (suc (suc zero))) low order high room = grind (arith, common_steps, blocks_at)
+  of_blocks (suc (suc zero)) (suc (suc (suc (suc zero)))) low order high room = grind (arith, common_steps, blocks_at)
   of_blocks (suc (suc zero)) (suc (suc (suc (suc (suc n))))) low order high room = absurd (omega (arith, high))
   of_blocks (suc (suc (suc zero))) zero low order high room = absurd (omega (arith, order))
   of_blocks (suc (suc (suc zero))) (suc zero) low order high room = absurd (omega (arith, order))
   of_blocks (suc (suc (suc zero))) (suc (suc zero)) low order high room = absurd (omega (arith, order))
-  of_blocks (suc (suc (suc zero))) (suc (suc (suc zero))) low order high room = record {
-    one = λ none. omega (arith, none);
-    two = λ none. omega (arith, none);
-    three = λ read. omega (arith, room);
-    four = λ none. omega (arith, none);
-  }
-  of_blocks (suc (suc (suc zero))) (suc (suc (suc (suc zero)))) low order high room = record {
-    one = λ none. omega (arith, none);
-    two = λ none. omega (arith, none);
-    three = λ read. omega (arith, room);
-    four = λ read. omega (arith, room);
-  }
+  of_blocks (suc (suc (suc zero))) (suc (suc (suc zero))) low order high room = grind (arith, common_steps, blocks_at)
+  of_blocks (suc (suc (suc zero))) (suc (suc (suc (suc zero)))) low order high room = grind (arith, common_steps, blocks_at)
   of_blocks (suc (suc (suc zero))) (suc (suc (suc (suc (suc n))))) low order high room = absurd (omega (arith, high))
   of_blocks (suc (suc (suc (suc zero)))) zero low order high room = absurd (omega (arith, order))
   of_blocks (suc (suc (suc (suc zero)))) (suc zero) low order high room = absurd (omega (arith, order))
   of_blocks (suc (suc (suc (suc zero)))) (suc (suc zero)) low order high room = absurd (omega (arith, order))
   of_blocks (suc (suc (suc (suc zero)))) (suc (suc (suc zero))) low order high room = absurd (omega (arith, order))
-  of_blocks (suc (suc (suc (suc zero)))) (suc (suc (suc (suc zero)))) low order high room = record {
-    one = λ none. omega (arith, none);
-    two = λ none. omega (arith, none);
-    three = λ none. omega (arith, none);
-    four = λ read. omega (arith, room);
-  }
+  of_blocks (suc (suc (suc (suc zero)))) (suc (suc (suc (suc zero)))) low order high room = grind (arith, common_steps, blocks_at)
   of_blocks (suc (suc (suc (suc zero)))) (suc (suc (suc (suc (suc n))))) low order high room = absurd (omega (arith, high))
   of_blocks (suc (suc (suc (suc (suc n))))) x low order high room = absurd (omega (arith, order, high))
 
@@ -131,24 +74,17 @@ module _ (b : Signal) (rules : RuleNumbers) (i : ℕ) where
   group-inside f x low order high room = of_blocks f x low order high room
 
   completed-inside : (f x : ℕ) → 1 ≤ f → f ≤ x → x ≤ 4 → 26 * (x - f) + 25 ≤ i → AllInside (i + 1) (completed_group b rules f x i)
-  completed-inside f x low order high room = by (x == 4) where
-    by : (q : Bool) → AllInside (i + 1) (elim q as (λ _. List Item) [ true ↦ Group (group b rules f x i) ∷ [] | false ↦ [] ])
-    by true = (group-inside f x low order high room, tt)
-    by false = tt
+  completed-inside f x low order high room = grind (arith, common_steps, group-inside)
 
   search-inside : (found : Option ℕ) → ((x : ℕ) → found ≡ Some x → (51 ≤ i) × (1 ≤ x) × (x ≤ 4))
       → AllInside (i + 1) (elim found as (λ _. State × List Item) [
         | None ↦ (Searching, [])
         | Some x ↦ (Locked (lock_after i x 0 x), Acquired i x ∷ completed_group b rules x x i)
       ]).1
-  search-inside None late = tt
-  search-inside (Some x) late =
-      let is = late x refl in
-      (tt, completed-inside x x is.1 (omega arith) is.2 (omega (arith, is.0)))
+  search-inside found late = grind (arith, common_steps, completed-inside)
 
   ordered : (f x : ℕ) → AreInOrder f x → (1 ≤ f) × (f ≤ x) × (x ≤ 4)
-  ordered f x (inl h) = (omega (arith, h.0, h.1), omega (arith, h.0, h.1), omega (arith, h.0, h.1))
-  ordered f x (inr h) = (h.0, omega (arith, h.1), h.2)
+  ordered f x h = grind (arith, common_steps)
 
   lock-inside : (lock : Lock) → IsLawful rules i (Locked lock) → (is_due lost : Bool) → (lock.due == i) ≡ is_due
       → AllInside (i + 1) (elim is_due as (λ _. State × List Item) [
@@ -159,20 +95,7 @@ module _ (b : Signal) (rules : RuleNumbers) (i : ℕ) where
           | true ↦ (Searching, Group (group b rules lock.first lock.number i) ∷ LostLock i ∷ [])
         ]
       ]).1
-  lock-inside lock lawful false lost is = tt
-  lock-inside lock lawful true lost is =
-      let due : lock.due ≡ i = eqb-true lock.due i is in
-      let order = ordered lock.first lock.number lawful.in_order in
-      let room : 26 * (lock.number - lock.first) + 25 ≤ i = omega (arith, lawful.enough_bits, due) in
-      by lost order.0 order.1 order.2 room where
-        by : (lost : Bool) → 1 ≤ lock.first → lock.first ≤ lock.number → lock.number ≤ 4 → 26 * (lock.number - lock.first) + 25 ≤ i
-            → AllInside (i + 1) (elim lost as (λ _. State × List Item) [
-              | false ↦
-                  (Locked (lock_after i lock.number (history_after_block b rules i lock.number lock.bad) lock.first), completed_group b rules lock.first lock.number i)
-              | true ↦ (Searching, Group (group b rules lock.first lock.number i) ∷ LostLock i ∷ [])
-            ]).1
-        by false low order high room = completed-inside lock.first lock.number low order high room
-        by true low order high room = (group-inside lock.first lock.number low order high room, (tt, tt))
+  lock-inside lock lawful is_due lost is = grind (arith, common_steps, eqb-true, ordered, completed-inside, group-inside)
 
   bit-inside : AcquisitionsAreLate → (s : State) → IsLawful rules i s → AllInside (i + 1) (items_at b rules i s)
   bit-inside late Searching lawful = search-inside (acquired b rules i) (late b rules i)
@@ -191,19 +114,7 @@ run-inside late steps b rules loss s a (suc bits) lawful =
 
 -- the group in progress at the end
 pub end-inside : (b : Signal) (rules : RuleNumbers) (i : ℕ) (s : State) → IsLawful rules i s → AllInside i (items_of_end b rules s)
-end-inside b rules i Searching lawful = tt
-end-inside b rules i (Locked lock) lawful = by (lock.number == 1) refl where
-  by : (q : Bool) → (lock.number == 1) ≡ q
-      → AllInside i (elim q as (λ _. List Item) [ true ↦ [] | false ↦ Group (group b rules lock.first (lock.number - 1) (lock.due - 26)) ∷ [] ])
-  by true is = tt
-  by false is = elim lawful.in_order [
-    | inl between ↦ absurd (false≢true (sym is ∙ eq-eqb lock.number 1 between.0))
-    | inr inside ↦ (
-      later-item (lock.due - 26 + 1) i (Group (group b rules lock.first (lock.number - 1) (lock.due - 26))) (omega (arith, lawful.soon, lawful.enough_bits, inside))
-          (group-inside b rules (lock.due - 26) lock.first (lock.number - 1) (omega (arith, inside)) (omega (arith, inside)) (omega (arith, inside)) (omega (arith, inside, lawful.enough_bits))),
-      tt,
-    )
-  ]
+end-inside b rules i s lawful = grind (arith, common_steps, false≢true, eq-eqb, later-item, group-inside)
 
 -- ---- read again
 
@@ -214,12 +125,7 @@ AreSymbolsOf part P end whole W d = (first : ℕ) → first + 25 < end → symbo
 -- a block whose symbols count only if it was read
 same-block : (heard other : Option (List ℤ)) (x : ℕ) (wanted : Wanted) (margin : ℕ) (block : Block) → (was_read block ≡ 1 → heard ≡ other)
     → block_again heard x wanted margin block ≡ block_again other x wanted margin block
-same-block heard other x wanted margin Missing same = refl
-same-block heard other x wanted margin (Read (Valid o info)) same = refl
-same-block heard other x wanted margin (Read (Corrected o info e)) same =
-    ap (λ (h : Option (List ℤ)). Again.Read (reading_heard h x wanted margin)) (same refl)
-same-block heard other x wanted margin (Read Lost) same =
-    ap (λ (h : Option (List ℤ)). Again.Read (reading_heard h x wanted margin)) (same refl)
+same-block heard other x wanted margin block same = grind (arith, common_steps)
 
 module _ (part whole : Signal) (P W : List ℤ) (margin end d : ℕ) (are : AreSymbolsOf part P end whole W d) where
   block-same : (place : ℕ) (blocks : List Block) (y x : ℕ) (wanted : Wanted) → Ends end place blocks y

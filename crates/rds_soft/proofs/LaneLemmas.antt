@@ -1,9 +1,9 @@
 -- Lanes of sixteen weights.
-use Rattle.rds_soft.proofs.Names.{xor_assoc, ◌++◌, length, ◌≡◌, ℕ, zero, suc, ◌+◌, ◌*◌, ◌/◌, ◌%◌, ◌^◌, ◌<◌, ◌≤◌, List, false, true, Bool, cond, ltb, get_or, sym, ap, subst, ◌∙◌, arith, rules, bit_xor, min, refl, ◌-◌, inl, inr, min-eq_left, min-eq_right, cases_lt, T, all_below, pick_l, xor_lt, xor_block, pick_l_left}
+use Rattle.rds_code.proofs.Membership.{each_below}
+use Rattle.rds_soft.proofs.Names.{common_steps, xor_assoc, ◌++◌, length, ◌≡◌, ℕ, zero, suc, ◌+◌, ◌*◌, ◌/◌, ◌%◌, ◌^◌, ◌<◌, ◌≤◌, List, false, true, Bool, cond, ltb, get_or, sym, ap, subst, ◌∙◌, arith, rules, bit_xor, min, refl, ◌-◌, inl, inr, min-eq_left, min-eq_right, cases_lt, T, all_below, pick_l, xor_lt, xor_block, pick_l_left, ◌⊎◌, xor_zero_r}
 
 by_test : (t : Bool) (a b : ℕ) → t ≡ ltb a b → cond t a b ≡ min a b
-by_test true a b is = let less : a < b = search (rules, is) in sym (min-eq_left (omega (arith, less)))
-by_test false a b is = let le : b ≤ a = search (rules, is) in sym (min-eq_right le)
+by_test t a b is = grind (arith, common_steps, rules, min-eq_left, min-eq_right, ltb)
 
 pub lesser_is : (a b : ℕ) → cond (ltb a b) a b ≡ min a b
 lesser_is a b = by_test (ltb a b) a b refl
@@ -41,29 +41,17 @@ capped_sum a weight c small is = omega (arith, small, is)
 -- a fact of each place
 pub at_place : (P : ℕ → Type 0) → P 0 → P 1 → P 2 → P 3 → P 4 → P 5 → P 6 → P 7 → P 8 → P 9 → P 10 → P 11 → P 12 → P 13 → P 14 → P 15
     → (j : ℕ) → j < 16 → P j
-at_place P p0 p1 p2 p3 p4 p5 p6 p7 p8 p9 p10 p11 p12 p13 p14 p15 zero less = p0
-at_place P p0 p1 p2 p3 p4 p5 p6 p7 p8 p9 p10 p11 p12 p13 p14 p15 (suc zero) less = p1
-at_place P p0 p1 p2 p3 p4 p5 p6 p7 p8 p9 p10 p11 p12 p13 p14 p15 (suc (suc zero)) less = p2
-at_place P p0 p1 p2 p3 p4 p5 p6 p7 p8 p9 p10 p11 p12 p13 p14 p15 (suc (suc (suc zero))) less = p3
-at_place P p0 p1 p2 p3 p4 p5 p6 p7 p8 p9 p10 p11 p12 p13 p14 p15 (suc (suc (suc (suc zero)))) less = p4
-at_place P p0 p1 p2 p3 p4 p5 p6 p7 p8 p9 p10 p11 p12 p13 p14 p15 (suc (suc (suc (suc (suc zero))))) less = p5
-at_place P p0 p1 p2 p3 p4 p5 p6 p7 p8 p9 p10 p11 p12 p13 p14 p15 (suc (suc (suc (suc (suc (suc zero)))))) less = p6
-at_place P p0 p1 p2 p3 p4 p5 p6 p7 p8 p9 p10 p11 p12 p13 p14 p15 (suc (suc (suc (suc (suc (suc (suc zero))))))) less = p7
-at_place P p0 p1 p2 p3 p4 p5 p6 p7 p8 p9 p10 p11 p12 p13 p14 p15 (suc (suc (suc (suc (suc (suc (suc (suc zero)))))))) less = p8
-at_place P p0 p1 p2 p3 p4 p5 p6 p7 p8 p9 p10 p11 p12 p13 p14 p15 (suc (suc (suc (suc (suc (suc (suc (suc (suc zero))))))))) less = p9
-at_place P p0 p1 p2 p3 p4 p5 p6 p7 p8 p9 p10 p11 p12 p13 p14 p15 (suc (suc (suc (suc (suc (suc (suc (suc (suc (suc zero)))))))))) less = p10
-at_place P p0 p1 p2 p3 p4 p5 p6 p7 p8 p9 p10 p11 p12 p13 p14 p15 (suc (suc (suc (suc (suc (suc (suc (suc (suc (suc (suc zero))))))))))) less = p11
-at_place P p0 p1 p2 p3 p4 p5 p6 p7 p8 p9 p10 p11 p12 p13 p14 p15 (suc (suc (suc (suc (suc (suc (suc (suc (suc (suc (suc (suc zero)))))))))))) less = p12
-at_place P p0 p1 p2 p3 p4 p5 p6 p7 p8 p9 p10 p11 p12 p13 p14 p15 (suc (suc (suc (suc (suc (suc (suc (suc (suc (suc (suc (suc (suc zero))))))))))))) less = p13
-at_place P p0 p1 p2 p3 p4 p5 p6 p7 p8 p9 p10 p11 p12 p13 p14 p15 (suc (suc (suc (suc (suc (suc (suc (suc (suc (suc (suc (suc (suc (suc zero)))))))))))))) less = p14
-at_place P p0 p1 p2 p3 p4 p5 p6 p7 p8 p9 p10 p11 p12 p13 p14 p15 (suc (suc (suc (suc (suc (suc (suc (suc (suc (suc (suc (suc (suc (suc (suc zero))))))))))))))) less = p15
-at_place P p0 p1 p2 p3 p4 p5 p6 p7 p8 p9 p10 p11 p12 p13 p14 p15 (suc (suc (suc (suc (suc (suc (suc (suc (suc (suc (suc (suc (suc (suc (suc (suc j)))))))))))))))) less = absurd (omega (arith, less))
+at_place P p0 p1 p2 p3 p4 p5 p6 p7 p8 p9 p10 p11 p12 p13 p14 p15 =
+    each_below P 16 (p0, (p1, (p2, (p3, (p4, (p5, (p6, (p7, (p8, (p9, (p10, (p11, (p12, (p13, (p14, (p15, tt))))))))))))))))
 
--- a block with its places exchanged
-pub swapped : (xs ks : List ℕ) (m : ℕ) → length xs ≡ 16 → T (all_below 16 ks)
+-- a block whose places are exchanged by m, or not at all
+pub turned_block : (xs ks ys : List ℕ) (m part : ℕ) → length xs ≡ 16 → T (all_below 16 ks)
     → ((j : ℕ) → j < 16 → get_or (pick_l 0 xs ks) j 0 ≡ get_or xs (bit_xor j m) 0)
-    → (j : ℕ) → j < 16 → get_or (pick_l 0 (xs ++ xs) ks) j 0 ≡ get_or xs (bit_xor j m) 0
-swapped xs ks m long below at j less = ap (λ (l : List ℕ). get_or l j 0) (pick_l_left 0 xs xs 16 ks long below) ∙ at j less
+    → ((part ≡ m) × (ys ≡ pick_l 0 (xs ++ xs) ks)) ⊎ ((part ≡ 0) × (ys ≡ xs)) → (j : ℕ) → j < 16 → get_or ys j 0 ≡ get_or xs (bit_xor j part) 0
+turned_block xs ks ys m part long below at (inl h) j less =
+    ap (λ (l : List ℕ). get_or l j 0) (h.1 ∙ pick_l_left 0 xs xs 16 ks long below) ∙ at j less ∙ ap (λ (k : ℕ). get_or xs (bit_xor j k) 0) (sym h.0)
+turned_block xs ks ys m part long below at (inr h) j less =
+    ap (λ (l : List ℕ). get_or l j 0) h.1 ∙ ap (λ (k : ℕ). get_or xs k 0) (sym (xor_zero_r j) ∙ ap (bit_xor j) (sym h.0))
 
 -- the lowest four bits, each turned by itself
 bits_together : (k : ℕ) → k < 16 → bit_xor (k / 8 % 2 * 8) (bit_xor (k / 4 % 2 * 4) (bit_xor (k / 2 % 2 * 2) (k % 2))) ≡ k

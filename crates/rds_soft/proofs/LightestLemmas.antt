@@ -1,5 +1,5 @@
 -- The least weight is below that of any flips, the lightest flips have it, and all others weigh at least the second.
-use Rattle.rds_soft.proofs.Names.{◌≡◌, ℕ, zero, suc, ◌+◌, ◌-◌, ◌*◌, ◌^◌, ◌<◌, ◌≤◌, Bool, true, false, refl, sym, ap, ap₂, ◌∙◌, arith, bit_xor, subst, min, ◌⊎◌, inl, inr, lit<, bit_at, xor_self, xor_zero_r, xor_assoc, pow-suc, zero-mul, one-mul, min-le_left, min-le_right, cases_lt, xor_comm, bit_at_cat_low, bit_at_cat_high, bit_at_lowest, sum_of, weigh, of_none, least, is_flipped, second}
+use Rattle.rds_soft.proofs.Names.{common_steps, ◌≡◌, ℕ, zero, suc, ◌+◌, ◌-◌, ◌*◌, ◌^◌, ◌<◌, ◌≤◌, Bool, true, false, refl, sym, ap, ap₂, ◌∙◌, arith, bit_xor, subst, min, ◌⊎◌, inl, inr, lit<, bit_at, xor_self, xor_zero_r, xor_assoc, pow-suc, zero-mul, one-mul, min-le_left, min-le_right, cases_lt, xor_comm, bit_at_cat_low, bit_at_cat_high, bit_at_lowest, sum_of, weigh, of_none, least, is_flipped, second}
 
 -- to take away what was added
 pub undone : (a b : ℕ) → bit_xor (bit_xor a b) b ≡ a
@@ -29,19 +29,15 @@ split_word n flips small = elim (cases_lt flips (2 ^ n)) [
 pub low_sum : (e : ℕ → ℕ) (n m bit rest : ℕ) → n ≤ m → sum_of e n (bit * 2 ^ m + rest) ≡ sum_of e n rest
 unfolding sum_of
 low_sum e zero m bit rest le = refl
-low_sum e (suc n) m bit rest le =
-    ap₂ (λ (b s : ℕ). bit_xor (b * e n) s) (bit_at_cat_low bit m rest n (omega (arith, le))) (low_sum e n m bit rest (omega (arith, le)))
+low_sum e (suc n) m bit rest le = grind (arith, common_steps, bit_at_cat_low, low_sum e n m bit rest (omega (arith, le)))
 
 pub low_weigh : (c : ℕ → ℕ) (n m bit rest : ℕ) → n ≤ m → weigh c n (bit * 2 ^ m + rest) ≡ weigh c n rest
 unfolding weigh
 low_weigh c zero m bit rest le = refl
-low_weigh c (suc n) m bit rest le =
-    ap₂ (λ (b s : ℕ). b * c n + s) (bit_at_cat_low bit m rest n (omega (arith, le))) (low_weigh c n m bit rest (omega (arith, le)))
+low_weigh c (suc n) m bit rest le = grind (arith, common_steps, bit_at_cat_low, low_weigh c n m bit rest (omega (arith, le)))
 
 top_bit : (bit n rest : ℕ) → bit < 2 → rest < 2 ^ n → bit_at (bit * 2 ^ n + rest) n ≡ bit
-top_bit bit n rest few small =
-    let none : n - n ≡ 0 = omega arith in
-    bit_at_cat_high bit n rest n small (omega arith) ∙ ap (bit_at bit) none ∙ bit_at_lowest bit ∙ omega (arith, few)
+top_bit bit n rest few small = grind (arith, common_steps, bit_at_cat_high, bit_at_lowest)
 
 -- the flips without and with symbol n
 pub sum_without : (e : ℕ → ℕ) (n rest : ℕ) → rest < 2 ^ n → sum_of e (suc n) (0 * 2 ^ n + rest) ≡ sum_of e n rest
@@ -52,21 +48,15 @@ sum_without e n rest small =
 
 pub sum_with : (e : ℕ → ℕ) (n rest : ℕ) → rest < 2 ^ n → sum_of e (suc n) (1 * 2 ^ n + rest) ≡ bit_xor (sum_of e n rest) (e n)
 unfolding sum_of
-sum_with e n rest small =
-    ap₂ (λ (b s : ℕ). bit_xor (b * e n) s) (top_bit 1 n rest (lit< tt) small) (low_sum e n n 1 rest (omega arith))
-    ∙ ap (λ (x : ℕ). bit_xor x (sum_of e n rest)) (one-mul (e n)) ∙ xor_comm (e n) (sum_of e n rest)
+sum_with e n rest small = grind (arith, common_steps, top_bit, lit<, low_sum, one-mul, xor_comm)
 
 pub weigh_without : (c : ℕ → ℕ) (n rest : ℕ) → rest < 2 ^ n → weigh c (suc n) (0 * 2 ^ n + rest) ≡ weigh c n rest
 unfolding weigh
-weigh_without c n rest small =
-    ap₂ (λ (b s : ℕ). b * c n + s) (top_bit 0 n rest (lit< tt) small) (low_weigh c n n 0 rest (omega arith))
-    ∙ omega (arith, zero-mul (c n))
+weigh_without c n rest small = grind (arith, common_steps, top_bit, lit<, low_weigh, zero-mul)
 
 pub weigh_with : (c : ℕ → ℕ) (n rest : ℕ) → rest < 2 ^ n → weigh c (suc n) (1 * 2 ^ n + rest) ≡ c n + weigh c n rest
 unfolding weigh
-weigh_with c n rest small =
-    ap₂ (λ (b s : ℕ). b * c n + s) (top_bit 1 n rest (lit< tt) small) (low_weigh c n n 1 rest (omega arith))
-    ∙ omega (arith, one-mul (c n))
+weigh_with c n rest small = grind (arith, common_steps, top_bit, lit<, low_weigh, one-mul)
 
 -- the least weight is at most 255
 pub least_small : (e c : ℕ → ℕ) (n s : ℕ) → least e c n s ≤ 255
@@ -77,15 +67,12 @@ least_small e c (suc n) s = omega (arith, least_small e c n s, min-le_left (leas
 
 -- by which way is lighter
 lesser_small : (t : Bool) (a b c d : ℕ) → b ≤ 255 → c ≤ 255 → elim t [ false ↦ min a b | true ↦ min c d ] ≤ 255
-lesser_small false a b c d left right = omega (arith, left, min-le_right a b)
-lesser_small true a b c d left right = omega (arith, right, min-le_left c d)
+lesser_small t a b c d left right = grind (arith, common_steps, min-le_right, min-le_left)
 
 pub second_small : (e c : ℕ → ℕ) (n s : ℕ) → second e c n s ≤ 255
 unfolding second
 second_small e c zero s = omega (arith)
-second_small e c (suc n) s =
-    lesser_small (is_flipped e c n s) (least e c n (bit_xor s (e n)) + c n) (second e c n s) (least e c n s)
-    (second e c n (bit_xor s (e n)) + c n) (second_small e c n s) (least_small e c n s)
+second_small e c (suc n) s = grind (arith, common_steps, lesser_small, least_small, second_small e c n s)
 
 -- flips of n symbols with the sum s
 pub record Reach (e : ℕ → ℕ) (n s flips : ℕ) : Type 0 where

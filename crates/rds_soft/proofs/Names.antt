@@ -1,4 +1,5 @@
 -- The names that proofs share: of std, of the crates below, and of the definitions.
+pub use Rattle.std.proofs.lemmas.Grind.{common_steps}
 pub use Rattle.std.proofs.Common.{Bool, Fits, IsTrue, List, MutBor, None, Option, Some, [], add-one, ap, append_assoc, ap₂, arith, bit_xor, cond, drop, false, get_or, inl, inr, length, length-take, lit<, ltb, map, min, refl, replicate, rules, set, slice_index, subst, suc, sym, take, true, zero, ℕ, ◌%◌, ◌*◌, ◌++◌, ◌+◌, ◌-◌, ◌/◌, ◌<◌, ◌^◌, ◌∙◌, ◌∷◌, ◌≡◌, ◌≢◌, ◌≤◌, ◌⊎◌}
 pub use Rattle.std.proofs.Math.Nat.{min-eq_left, min-eq_right, min-le_left, min-le_right, one-mul, pow-suc, zero-mul}
 pub use Rattle.std.proofs.lemmas.Bool.{cases_eq, cases_lt, cond_both, eq-eqb, eqb-false, eqb-true, false≢true, le-ltb, lt-ltb, ltb-false, ltb-true}

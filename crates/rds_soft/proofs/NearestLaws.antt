@@ -1,42 +1,17 @@
 -- The laws of the nearest block.
-use Rattle.rds_soft.proofs.Names.{◌≡◌, ◌≢◌, ℕ, zero, suc, ◌+◌, ◌-◌, ◌*◌, ◌%◌, ◌^◌, ◌<◌, ◌≤◌, List, refl, sym, ap, ◌∙◌, arith, bit_xor, subst, ◌⊎◌, inl, inr, lit<, bit_at, xor_assoc, xor_zero_l, xor_zero_r, cases_eq, xor_lt, bit_at-lt, bit_at_xor, Offset, A, B, C, Cx, D, Wanted, rem, word, mask_of, weight, Turns, NoneTurnsValid, HasOneNearest, SureSymbolsStay, CorrectsSent, confidence, weigh}
+use Rattle.rds_soft.proofs.Names.{common_steps, ◌≡◌, ◌≢◌, ℕ, zero, suc, ◌+◌, ◌-◌, ◌*◌, ◌%◌, ◌^◌, ◌<◌, ◌≤◌, List, refl, sym, ap, ◌∙◌, arith, bit_xor, subst, ◌⊎◌, inl, inr, lit<, bit_at, xor_assoc, xor_zero_l, xor_zero_r, cases_eq, xor_lt, bit_at-lt, bit_at_xor, Offset, A, B, C, Cx, D, Wanted, rem, word, mask_of, weight, Turns, NoneTurnsValid, HasOneNearest, SureSymbolsStay, CorrectsSent, confidence, weigh}
 use Rattle.rds_soft.proofs.LightestLemmas.{undone, split_word, IsSplit, weigh_without, weigh_with}
 use Rattle.rds_soft.proofs.FlipLemmas.{mask_xor, weight_is}
 
 -- ---- valid windows
 
 pub none_turns_valid : NoneTurnsValid
-none_turns_valid w x wanted o confidences own allowed valid =
-    (record { symbols = lit< tt; own = own; allowed = allowed; due = ap rem (xor_zero_r w) ∙ valid }, omega (arith))
+none_turns_valid w x wanted o confidences own allowed valid = grind (arith, common_steps, lit<, xor_zero_r)
 
 -- ---- one nearest
 
 word_one : (o p : Offset) → word o ≡ word p → p ≡ o
-word_one A A same = refl
-word_one A B same = absurd (omega (arith, same))
-word_one A C same = absurd (omega (arith, same))
-word_one A Cx same = absurd (omega (arith, same))
-word_one A D same = absurd (omega (arith, same))
-word_one B A same = absurd (omega (arith, same))
-word_one B B same = refl
-word_one B C same = absurd (omega (arith, same))
-word_one B Cx same = absurd (omega (arith, same))
-word_one B D same = absurd (omega (arith, same))
-word_one C A same = absurd (omega (arith, same))
-word_one C B same = absurd (omega (arith, same))
-word_one C C same = refl
-word_one C Cx same = absurd (omega (arith, same))
-word_one C D same = absurd (omega (arith, same))
-word_one Cx A same = absurd (omega (arith, same))
-word_one Cx B same = absurd (omega (arith, same))
-word_one Cx C same = absurd (omega (arith, same))
-word_one Cx Cx same = refl
-word_one Cx D same = absurd (omega (arith, same))
-word_one D A same = absurd (omega (arith, same))
-word_one D B same = absurd (omega (arith, same))
-word_one D C same = absurd (omega (arith, same))
-word_one D Cx same = absurd (omega (arith, same))
-word_one D D same = refl
+word_one o p same = grind (arith, common_steps)
 
 pub has_one_nearest : HasOneNearest
 has_one_nearest w x wanted confidences margin o p f g some h k = elim (cases_eq g f) [
@@ -85,26 +60,13 @@ bit_cases t h = elim (cases_eq t 0) [ inl e ↦ inl e | inr n ↦ inr (omega (ar
 
 -- a symbol in both is in neither
 one_symbol : (a b c : ℕ) → a < 2 → b < 2 → (a + b) % 2 * c ≤ a * c + b * c
-one_symbol a b c h k = elim (bit_cases a h) [
-  | inl a0 ↦ elim (bit_cases b k) [
-    | inl b0 ↦ rw (a0, b0) (omega (arith))
-    | inr b1 ↦ rw (a0, b1) (omega (arith))
-  ]
-  | inr a1 ↦ elim (bit_cases b k) [
-    | inl b0 ↦ rw (a1, b0) (omega (arith))
-    | inr b1 ↦ rw (a1, b1) (omega (arith))
-  ]
-]
+one_symbol a b c h k = grind (arith, common_steps, bit_cases)
 
 -- flips together weigh at most as much as both
 together : (c : ℕ → ℕ) (n f g : ℕ) → weigh c n (bit_xor f g) ≤ weigh c n f + weigh c n g
 unfolding weigh
 together c zero f g = omega arith
-together c (suc n) f g =
-    let here : bit_at (bit_xor f g) n * c n ≤ bit_at f n * c n + bit_at g n * c n =
-    subst (λ (t : ℕ). t * c n ≤ bit_at f n * c n + bit_at g n * c n) (sym (bit_at_xor f g n))
-    (one_symbol (bit_at f n) (bit_at g n) (c n) (bit_at-lt f n) (bit_at-lt g n)) in
-    omega (arith, here, together c n f g)
+together c (suc n) f g = grind (arith, common_steps, bit_at_xor, one_symbol, bit_at-lt, together c n f g)
 
 weight_together : (confidences : List ℕ) (f g : ℕ) → weight confidences (bit_xor f g) ≤ weight confidences f + weight confidences g
 weight_together confidences f g =

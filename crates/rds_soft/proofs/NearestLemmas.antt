@@ -1,5 +1,5 @@
 -- From the lightest flips of each offset to the nearest block.
-use Rattle.rds_soft.proofs.Names.{◌≡◌, ◌≢◌, ℕ, zero, suc, ◌+◌, ◌<◌, ◌≤◌, List, refl, sym, ap, ◌∙◌, arith, bit_xor, min, subst, ◌⊎◌, inl, inr, IsTrue, xor_self, xor_assoc, xor_zero_l, min-le_left, min-le_right, min-eq_left, min-eq_right, cases_lt, cases_eq, false≢true, Offset, A, B, C, Cx, D, Wanted, OnlyC, OnlyCx, Either, rem, word, number, allows, IsLinear, mask_of, weight, Turns, IsNearest, effect, confidence, Leads, AreLightest, of_none, least, lightest, second, IsWalk, TurnTo, AreNearest}
+use Rattle.rds_soft.proofs.Names.{common_steps, ◌≡◌, ◌≢◌, ℕ, zero, suc, ◌+◌, ◌<◌, ◌≤◌, List, refl, sym, ap, ◌∙◌, arith, bit_xor, min, subst, ◌⊎◌, inl, inr, IsTrue, xor_self, xor_assoc, xor_zero_l, min-le_left, min-le_right, min-eq_left, min-eq_right, cases_lt, cases_eq, false≢true, Offset, A, B, C, Cx, D, Wanted, OnlyC, OnlyCx, Either, rem, word, number, allows, IsLinear, mask_of, weight, Turns, IsNearest, effect, confidence, Leads, AreLightest, of_none, least, lightest, second, IsWalk, TurnTo, AreNearest}
 use Rattle.rds_soft.proofs.FlipLemmas.{are_lightest}
 use Rattle.rds_soft.proofs.LightestLemmas.{least_small}
 
@@ -10,19 +10,11 @@ twice a b = sym (xor_assoc a a b) ∙ ap (λ (n : ℕ). bit_xor n b) (xor_self a
 -- ---- flips that turn a window have the sum of its remainder and the offset word
 
 pub leads : IsLinear → (w x : ℕ) (wanted : Wanted) (o : Offset) (flips : ℕ) → Turns w x wanted o flips → Leads (bit_xor (rem w) (word o)) flips
-leads linear w x wanted o flips h = record {
-  symbols = h.symbols;
-  sum = sym (twice (rem w) (rem (mask_of flips))) ∙ ap (bit_xor (rem w)) (sym (linear w (mask_of flips)) ∙ h.due);
-}
+leads linear w x wanted o flips h = grind (arith, common_steps, twice)
 
 pub turns : IsLinear → (w x : ℕ) (wanted : Wanted) (o : Offset) (flips : ℕ) → number o ≡ x → IsTrue (allows wanted o)
     → Leads (bit_xor (rem w) (word o)) flips → Turns w x wanted o flips
-turns linear w x wanted o flips own allowed h = record {
-  symbols = h.symbols;
-  own = own;
-  allowed = allowed;
-  due = linear w (mask_of flips) ∙ ap (bit_xor (rem w)) h.sum ∙ twice (rem w) (word o);
-}
+turns linear w x wanted o flips own allowed h = grind (arith, common_steps, twice)
 
 -- ---- the end of the look back
 
@@ -54,21 +46,15 @@ walk_ends_at linear confidences s left flips spent others weight h is =
 -- no sum is left
 pub walk_ends : IsLinear → (confidences : List ℕ) (s left flips spent others : ℕ)
     → IsWalk effect (confidence confidences) s 0 left flips spent others → left ≡ 0 → AreLightest confidences s spent flips others
-walk_ends linear confidences s left flips spent others h none =
-    walk_ends_at linear confidences s left flips spent others spent h (omega (arith, ap of_none none))
+walk_ends linear confidences s left flips spent others h none = grind (arith, common_steps, walk_ends_at)
 
 far_is : (left : ℕ) → left ≢ 0 → of_none left ≡ 255
-far_is zero some = absurd (some refl)
-far_is (suc left) some = refl
+far_is left some = grind (arith, common_steps)
 
 -- a sum is left: no flips known below 255 have it
 pub walk_fails : IsLinear → (confidences : List ℕ) (s left flips spent others : ℕ)
     → IsWalk effect (confidence confidences) s 0 left flips spent others → left ≢ 0 → AreLightest confidences s 255 flips others
-walk_fails linear confidences s left flips spent others h some =
-    let c : ℕ → ℕ = confidence confidences in
-    let far : least effect c 0 left ≡ 255 = none_least effect c left ∙ far_is left some in
-    let all : spent ≡ 0 = omega (arith, h.weight_is, far, least_small effect c 27 s) in
-    walk_ends_at linear confidences s left flips spent others 255 h (omega (arith, all, far_is left some))
+walk_fails linear confidences s left flips spent others h some = grind (arith, common_steps, none_least, far_is, least_small, walk_ends_at)
 
 -- ---- one offset is wanted
 
@@ -174,53 +160,25 @@ none_beside w x wanted confidences margin o flips least others h few near close 
 -- ---- which offsets are wanted
 
 pub only_A : (wanted : Wanted) (p : Offset) → number p ≡ 1 → IsTrue (allows wanted p) → p ≡ A
-only_A wanted A own allowed = refl
-only_A wanted B own allowed = absurd (omega (arith, own))
-only_A wanted C own allowed = absurd (omega (arith, own))
-only_A wanted Cx own allowed = absurd (omega (arith, own))
-only_A wanted D own allowed = absurd (omega (arith, own))
+only_A wanted p own allowed = grind (arith, common_steps)
 
 pub only_B : (wanted : Wanted) (p : Offset) → number p ≡ 2 → IsTrue (allows wanted p) → p ≡ B
-only_B wanted A own allowed = absurd (omega (arith, own))
-only_B wanted B own allowed = refl
-only_B wanted C own allowed = absurd (omega (arith, own))
-only_B wanted Cx own allowed = absurd (omega (arith, own))
-only_B wanted D own allowed = absurd (omega (arith, own))
+only_B wanted p own allowed = grind (arith, common_steps)
 
 pub only_D : (wanted : Wanted) (p : Offset) → number p ≡ 4 → IsTrue (allows wanted p) → p ≡ D
-only_D wanted A own allowed = absurd (omega (arith, own))
-only_D wanted B own allowed = absurd (omega (arith, own))
-only_D wanted C own allowed = absurd (omega (arith, own))
-only_D wanted Cx own allowed = absurd (omega (arith, own))
-only_D wanted D own allowed = refl
+only_D wanted p own allowed = grind (arith, common_steps)
 
 pub only_C : (p : Offset) → number p ≡ 3 → IsTrue (allows OnlyC p) → p ≡ C
-only_C A own allowed = absurd (omega (arith, own))
-only_C B own allowed = absurd (omega (arith, own))
-only_C C own allowed = refl
-only_C Cx own allowed = absurd (false≢true allowed)
-only_C D own allowed = absurd (omega (arith, own))
+only_C p own allowed = grind (arith, common_steps, false≢true)
 
 pub only_Cx : (p : Offset) → number p ≡ 3 → IsTrue (allows OnlyCx p) → p ≡ Cx
-only_Cx A own allowed = absurd (omega (arith, own))
-only_Cx B own allowed = absurd (omega (arith, own))
-only_Cx C own allowed = absurd (false≢true allowed)
-only_Cx Cx own allowed = refl
-only_Cx D own allowed = absurd (omega (arith, own))
+only_Cx p own allowed = grind (arith, common_steps, false≢true)
 
 pub C_or_Cx : (p : Offset) → number p ≡ 3 → (p ≡ C) ⊎ (p ≡ Cx)
-C_or_Cx A own = absurd (omega (arith, own))
-C_or_Cx B own = absurd (omega (arith, own))
-C_or_Cx C own = inl refl
-C_or_Cx Cx own = inr refl
-C_or_Cx D own = absurd (omega (arith, own))
+C_or_Cx p own = grind (arith, common_steps)
 
 pub word_small : (o : Offset) → word o < 1024
-word_small A = omega arith
-word_small B = omega arith
-word_small C = omega arith
-word_small Cx = omega arith
-word_small D = omega arith
+word_small o = grind (arith, common_steps)
 
 -- ---- block 3 of either version
 
@@ -238,35 +196,23 @@ nearer_Cx linear w confidences f g a b m n h k le =
 -- the same by other names
 pub renamed : (w x : ℕ) (wanted : Wanted) (confidences : List ℕ) (o p : Offset) (f g a b m n : ℕ) → o ≡ p → f ≡ g → a ≡ b → m ≡ n
     → AreNearest w x wanted confidences p g b n → AreNearest w x wanted confidences o f a m
-renamed w x wanted confidences o p f g a b m n same_o same_f same_a same_m h =
-    subst (λ (k : Offset). AreNearest w x wanted confidences k f a m) (sym same_o)
-    (subst (λ (k : ℕ). AreNearest w x wanted confidences p k a m) (sym same_f)
-    (subst (λ (k : ℕ). AreNearest w x wanted confidences p g k m) (sym same_a)
-    (subst (λ (k : ℕ). AreNearest w x wanted confidences p g b k) (sym same_m) h)))
+renamed w x wanted confidences o p f g a b m n same_o same_f same_a same_m h = grind (arith, common_steps)
 
 -- ---- a block with one wanted offset, by the offset of the turn
 
 pub at_one : IsLinear → (w x : ℕ) (wanted : Wanted) (confidences : List ℕ) (o p : Offset) (flips least others : ℕ) → p ≡ o
     → number o ≡ x → IsTrue (allows wanted o) → ((p : Offset) → number p ≡ x → IsTrue (allows wanted p) → p ≡ o)
     → TurnTo w confidences o flips least others → AreNearest w x wanted confidences p flips least others
-at_one linear w x wanted confidences o p flips least others same own allowed alone h =
-    subst (λ (k : Offset). AreNearest w x wanted confidences k flips least others) (sym same)
-    (only_one linear w x wanted confidences o flips least others own allowed alone h)
+at_one linear w x wanted confidences o p flips least others same own allowed alone h = grind (arith, common_steps, only_one)
 
 pub A_allowed : (wanted : Wanted) → IsTrue (allows wanted A)
-A_allowed OnlyC = refl
-A_allowed OnlyCx = refl
-A_allowed Either = refl
+A_allowed wanted = grind (arith, common_steps)
 
 pub B_allowed : (wanted : Wanted) → IsTrue (allows wanted B)
-B_allowed OnlyC = refl
-B_allowed OnlyCx = refl
-B_allowed Either = refl
+B_allowed wanted = grind (arith, common_steps)
 
 pub D_allowed : (wanted : Wanted) → IsTrue (allows wanted D)
-D_allowed OnlyC = refl
-D_allowed OnlyCx = refl
-D_allowed Either = refl
+D_allowed wanted = grind (arith, common_steps)
 
 -- a block that is not 1, 2 or 4
 pub is_third : (n m : ℕ) → m ≡ n → 1 ≤ m → m ≤ 4 → (m ≢ 1) → (m ≢ 2) → (m ≢ 4) → n ≡ 3
@@ -275,6 +221,4 @@ is_third n m same low high one two four = omega (arith, same, low, high, one, tw
 -- block 3, by its number and what is wanted
 pub of_third : (w n : ℕ) (wanted given : Wanted) (confidences : List ℕ) (o : Offset) (flips least others : ℕ) → n ≡ 3 → given ≡ wanted
     → AreNearest w 3 wanted confidences o flips least others → AreNearest w n given confidences o flips least others
-of_third w n wanted given confidences o flips least others is same h =
-    subst (λ (x : ℕ). AreNearest w x given confidences o flips least others) (sym is)
-    (subst (λ (k : Wanted). AreNearest w 3 k confidences o flips least others) (sym same) h)
+of_third w n wanted given confidences o flips least others is same h = grind (arith, common_steps)

@@ -1,5 +1,7 @@
 -- Bits that are packed from the signs of bytes.
-use Rattle.rds_soft.proofs.Names.{◌≡◌, ℕ, zero, suc, ◌+◌, ◌-◌, ◌*◌, ◌/◌, ◌%◌, ◌<◌, ◌++◌, List, [], ◌∷◌, Bool, cond, ltb, length, drop, min, sym, refl, ap, ◌∙◌, arith, lit<, bit_xor, true, false, inl, inr, length-append, length-drop, ℤ, pos, slice_index, if◌then◌else◌, bit_at, cast_signed, is_positive, w8, cases_lt, le-ltb, lt-ltb, to_z_pos, min-eq_left, min-eq_right, get_or-map, get_or-drop, get_or_append_left, get_or-append-add, drop-drop, drop_all, packed_bit, xor_lt, bit_at_xor, bit_at_lowest, symbols_of, sign, hard_bit, sign_at}
+use Rattle.rds_code.proofs.Membership.{each_below}
+use Rattle.rds_stream.proofs.BitOrder.{shr_bit}
+use Rattle.rds_soft.proofs.Names.{common_steps, ◌≡◌, ℕ, zero, suc, ◌+◌, ◌-◌, ◌*◌, ◌/◌, ◌%◌, ◌<◌, ◌++◌, List, [], ◌∷◌, Bool, cond, ltb, length, drop, min, sym, refl, ap, ◌∙◌, arith, lit<, bit_xor, true, false, inl, inr, length-append, length-drop, ℤ, pos, slice_index, if◌then◌else◌, bit_at, cast_signed, is_positive, w8, cases_lt, le-ltb, lt-ltb, to_z_pos, min-eq_left, min-eq_right, get_or-map, get_or-drop, get_or_append_left, get_or-append-add, drop-drop, drop_all, packed_bit, xor_lt, bit_at_xor, bit_at_lowest, symbols_of, sign, hard_bit, sign_at}
 use mathlib.Core.Path.{ap₂}
 use Rattle.std.proofs.Math.Facts.{to_z-neg}
 
@@ -17,27 +19,17 @@ sum_of_digits x y x_small y_small =
 
 -- the bit between two bytes in a row
 pub hard_bit_at : (bytes : List ℕ) (i : ℕ) → i + 1 < length bytes → hard_bit (symbols_of bytes) i ≡ bit_xor (sign_at bytes i) (sign_at bytes (i + 1))
-hard_bit_at bytes i inside =
-    ap₂ (λ (r q : ℤ). bit_xor (sign r) (sign q)) (get_or-map (cast_signed w8) bytes i 0 (pos 0) (omega arith))
-    (get_or-map (cast_signed w8) bytes (i + 1) 0 (pos 0) inside)
+hard_bit_at bytes i inside = grind (arith, common_steps, get_or-map)
 
 -- a bit of the sum of two words is that between two bytes in a row, if theirs are the signs
 pub bit_between : (bytes : List ℕ) (a b k i : ℕ) → i + 1 < length bytes → bit_at a k ≡ sign_at bytes i → bit_at b k ≡ sign_at bytes (i + 1)
     → bit_at (bit_xor a b) k ≡ hard_bit (symbols_of bytes) i
-bit_between bytes a b k i inside this next =
-    bit_at_xor a b k
-    ∙ ap₂ (λ (x y : ℕ). (x + y) % 2) this next
-    ∙ sum_of_digits (sign_at bytes i) (sign_at bytes (i + 1)) (sign_lt (cast_signed w8 (slice_index bytes i)))
-    (sign_lt (cast_signed w8 (slice_index bytes (i + 1))))
-    ∙ sym (hard_bit_at bytes i inside)
+bit_between bytes a b k i inside this next = grind (arith, common_steps, bit_at_xor, sum_of_digits, sign_lt, slice_index, hard_bit_at)
 
 -- the same bytes have the same bit between them
 pub same_bit : (bytes others : List ℕ) (i j : ℕ) → i + 1 < length bytes → j + 1 < length others → slice_index bytes i ≡ slice_index others j
     → slice_index bytes (i + 1) ≡ slice_index others (j + 1) → hard_bit (symbols_of bytes) i ≡ hard_bit (symbols_of others) j
-same_bit bytes others i j inside inside_others this next =
-    hard_bit_at bytes i inside
-    ∙ ap₂ (λ (a b : ℕ). bit_xor (sign (cast_signed w8 a)) (sign (cast_signed w8 b))) this next
-    ∙ sym (hard_bit_at others j inside_others)
+same_bit bytes others i j inside inside_others this next = grind (arith, common_steps, hard_bit_at, slice_index)
 
 -- ---- lanes
 
@@ -49,51 +41,21 @@ sign_up n up = ap (λ (b : Bool). (if b then 1 else 0)) (lt-ltb 0 n up)
 
 -- a byte is a positive number if it is below 127 once 1 is taken off
 pub sign_by_test : (x : ℕ) → x < 256 → cond {A = ℕ} (ltb ((x + 255) % 256) 127) 1 0 ≡ sign (cast_signed w8 x)
-sign_by_test zero small = refl
-sign_by_test (suc x) small = elim (cases_lt x 127) [
-  | inl up ↦
-      let test : ltb ((suc x + 255) % 256) 127 ≡ true = lt-ltb ((suc x + 255) % 256) 127 (omega (arith, up)) in
-      ap (λ (b : Bool). cond {A = ℕ} b 1 0) test ∙ sym (sign_up (suc x) (omega arith)) ∙ ap sign (sym (to_z_pos w8 (suc x) (omega (arith, up))))
-  | inr down ↦
-      let test : ltb ((suc x + 255) % 256) 127 ≡ false = le-ltb ((suc x + 255) % 256) 127 (omega (arith, small, down)) in
-      let back : 256 - suc (255 - suc x) ≡ suc x = omega (arith, small) in
-      ap (λ (b : Bool). cond {A = ℕ} b 1 0) test
-      ∙ ap sign (sym (to_z-neg w8 (255 - suc x) (omega (arith, down, small))))
-      ∙ ap (λ (n : ℕ). sign (cast_signed w8 n)) back
-]
+sign_by_test x small = grind (arith, common_steps, ltb, lt-ltb, sign_up, to_z_pos, le-ltb, to_z-neg)
 
 -- ---- the bytes of a word of sixteen bits
 
-pub low_bit : (x k : ℕ) → k < 8 → bit_at (x % 256) k ≡ bit_at x k
-low_bit x zero inside = omega arith
-low_bit x (suc zero) inside = omega arith
-low_bit x (suc (suc zero)) inside = omega arith
-low_bit x (suc (suc (suc zero))) inside = omega arith
-low_bit x (suc (suc (suc (suc zero)))) inside = omega arith
-low_bit x (suc (suc (suc (suc (suc zero))))) inside = omega arith
-low_bit x (suc (suc (suc (suc (suc (suc zero)))))) inside = omega arith
-low_bit x (suc (suc (suc (suc (suc (suc (suc zero))))))) inside = omega arith
-low_bit x (suc (suc (suc (suc (suc (suc (suc (suc k)))))))) inside = absurd (omega (arith, inside))
+high_bit : (x k : ℕ) → k < 8 → bit_at (x / 256) k ≡ bit_at x (8 + k)
+high_bit x k inside = shr_bit x 8 k
 
-pub high_bit : (x k : ℕ) → k < 8 → bit_at (x / 256) k ≡ bit_at x (8 + k)
-high_bit x zero inside = omega arith
-high_bit x (suc zero) inside = omega arith
-high_bit x (suc (suc zero)) inside = omega arith
-high_bit x (suc (suc (suc zero))) inside = omega arith
-high_bit x (suc (suc (suc (suc zero)))) inside = omega arith
-high_bit x (suc (suc (suc (suc (suc zero))))) inside = omega arith
-high_bit x (suc (suc (suc (suc (suc (suc zero)))))) inside = omega arith
-high_bit x (suc (suc (suc (suc (suc (suc (suc zero))))))) inside = omega arith
-high_bit x (suc (suc (suc (suc (suc (suc (suc (suc k)))))))) inside = absurd (omega (arith, inside))
+low_bit : (x k : ℕ) → k < 8 → bit_at (x % 256) k ≡ bit_at x k
+low_bit x = each_below (λ (k : ℕ). bit_at (x % 256) k ≡ bit_at x k) 8
+    (omega arith, (omega arith, (omega arith, (omega arith, (omega arith, (omega arith, (omega arith, (omega arith, tt))))))))
 
 -- two bytes of four such words, whose bits are those from place 16 m on
 module _ (P : ℕ → ℕ) (x m : ℕ) (are : (k : ℕ) → k < 16 → bit_at x (15 - k) ≡ P (m + k)) where
   pub in_high : (r : ℕ) → r < 8 → bit_at (x / 256 % 256) (7 - r) ≡ P (m + r)
-  in_high r less =
-      low_bit (x / 256) (7 - r) (omega arith)
-      ∙ high_bit x (7 - r) (omega arith)
-      ∙ ap (bit_at x) (omega (arith, less))
-      ∙ are r (omega (arith, less))
+  in_high r less = grind (arith, common_steps, low_bit, high_bit)
 
   pub in_low : (r : ℕ) → r < 8 → bit_at (x % 256) (7 - r) ≡ P (m + 8 + r)
   in_low r less =
@@ -112,19 +74,7 @@ of_bytes bytes P each i inside = each (i / 8) (i % 8) (omega arith) (omega arith
 -- what is left of the symbols after k bytes, and after eight more
 pub next_rest : (symbols left : List ℕ) (k m n : ℕ) → left ≡ drop (8 * k) symbols → m ≡ min (length left) 64 → n ≡ k + 8
     → drop m left ≡ drop (8 * n) symbols
-next_rest symbols left k m n rest count more =
-    let left_long = ap length rest in
-    let whole : drop m left ≡ drop (8 * k + m) symbols = ap (drop m) rest ∙ drop-drop m (8 * k) symbols in
-    elim (cases_lt (length left) 64) [
-      | inl less ↦
-          let all : m ≡ length left = count ∙ min-eq_left (omega (arith, less)) in
-          whole
-          ∙ drop_all (8 * k + m) symbols (omega (arith, all, left_long, length-drop (8 * k) symbols))
-          ∙ sym (drop_all (8 * n) symbols (omega (arith, less, left_long, length-drop (8 * k) symbols, more)))
-      | inr enough ↦
-          let step : m ≡ 64 = count ∙ min-eq_right enough in
-          whole ∙ ap (λ (i : ℕ). drop i symbols) (omega (arith, step, more))
-    ]
+next_rest symbols left k m n rest count more = grind (arith, common_steps, drop-drop, min-eq_left, drop_all, length-drop, min-eq_right)
 
 -- the bits of the bytes before, and of eight more
 pub bits_more : (symbols left bytes more : List ℕ) → length more ≡ 8 → left ≡ drop (8 * length bytes) symbols

@@ -1,7 +1,8 @@
 -- What the functions of `ReadAgain` compute is what the rule allows.
-use Rattle.rds_soft.proofs.Names.{◌≡◌, ℕ, zero, suc, ◌+◌, ◌≤◌, List, refl, sym, ap, ◌∙◌, arith, bit_xor, min, subst, Option, Some, None, ◌==◌, ℤ, nat_lt, if◌then◌else◌, ltb-true, ltb-false, eqb-true, eqb-false, cond_both, Offset, A, B, C, Cx, D, Wanted, OnlyC, OnlyCx, Either, HardValid, HardCorrected, HardLost, IsLinear, rem, offset_of, word, number, IsValid, Signal, Block, Missing, Read, Acquired, Group, LostLock, block_in, IsCorrection, wanted_beside, hard_window, confidences, IsSoftReading, symbols_heard, first_bit, IsReadingHeard, IsBlockAgain, IsGroupAgain, Turn, turn_to, lighter, turn_third, turn_of, within, correction, own_of, reading_by, reading_or, soft_reading, reading_heard, block_again, group_again, item_again, ItemsAreReadAgainSo, TurnTo, AreNearest}
+use Rattle.rds_soft.proofs.Names.{common_steps, ◌≡◌, ℕ, zero, suc, ◌+◌, ◌≤◌, List, refl, sym, ap, ◌∙◌, arith, bit_xor, min, subst, Option, Some, None, ◌==◌, ℤ, nat_lt, if◌then◌else◌, ltb-true, ltb-false, eqb-true, eqb-false, cond_both, Offset, A, B, C, Cx, D, Wanted, OnlyC, OnlyCx, Either, HardValid, HardCorrected, HardLost, IsLinear, rem, offset_of, word, number, IsValid, Signal, Block, Missing, Read, Acquired, Group, LostLock, block_in, IsCorrection, wanted_beside, hard_window, confidences, IsSoftReading, symbols_heard, first_bit, IsReadingHeard, IsBlockAgain, IsGroupAgain, Turn, turn_to, lighter, turn_third, turn_of, within, correction, own_of, reading_by, reading_or, soft_reading, reading_heard, block_again, group_again, item_again, ItemsAreReadAgainSo, TurnTo, AreNearest}
 use Rattle.rds_soft.specs.declared.correction.Correction.{Correction}
 use Rattle.rds_soft.proofs.FlipLemmas.{are_lightest}
+use Rattle.rds_soft.proofs.AgainLaws.{some_is}
 use Rattle.rds_soft.proofs.NearestLemmas.{only_one, nearer_C, nearer_Cx, is_nearest, none_past_top, none_beside, only_A, only_B, only_C, only_Cx, only_D, A_allowed, B_allowed, D_allowed}
 
 -- ---- the correction
@@ -17,15 +18,7 @@ turn_is linear w cs o = are_lightest linear cs (bit_xor (rem w) (word o))
 
 lighter_is : IsLinear → (w : ℕ) (cs : List ℕ) (t u : Turn) → t.offset ≡ C → u.offset ≡ Cx → IsTurn w cs t → IsTurn w cs u
     → Are w 3 Either cs (lighter t u)
-lighter_is linear w cs t u t_is u_is h k =
-    let c : TurnTo w cs C t.flips t.weight t.others = subst (λ (o : Offset). TurnTo w cs o t.flips t.weight t.others) t_is h in
-    let cx : TurnTo w cs Cx u.flips u.weight u.others = subst (λ (o : Offset). TurnTo w cs o u.flips u.weight u.others) u_is k in
-    cond_both (nat_lt u.weight t.weight) (record u { others = min u.others t.weight }) (record t { others = min t.others u.weight })
-    (λ turn. Are w 3 Either cs turn)
-    (λ less. subst (λ (o : Offset). AreNearest w 3 Either cs o u.flips u.weight (min u.others t.weight)) (sym u_is)
-    (nearer_Cx linear w cs t.flips u.flips t.weight u.weight t.others u.others c cx (omega (arith, ltb-true u.weight t.weight less))))
-    (λ more. subst (λ (o : Offset). AreNearest w 3 Either cs o t.flips t.weight (min t.others u.weight)) (sym t_is)
-    (nearer_C linear w cs t.flips u.flips t.weight u.weight t.others u.others c cx (ltb-false u.weight t.weight more)))
+lighter_is linear w cs t u t_is u_is h k = grind (arith, common_steps, cond_both, nearer_Cx, ltb-true, nearer_C, ltb-false)
 
 third_is : IsLinear → (w : ℕ) (wanted : Wanted) (cs : List ℕ) → Are w 3 wanted cs (turn_third w wanted cs)
 third_is linear w OnlyC cs = only_one linear w 3 OnlyC cs C _ _ _ refl refl only_C (turn_is linear w cs C)
@@ -72,11 +65,7 @@ IsInvalid w x = (p : Offset) → IsValid w x p → ⊥
 by_correction : (symbols : List ℤ) (x : ℕ) (wanted : Wanted) (margin : ℕ) (c : Option Correction) → IsInvalid (hard_window symbols) x
     → IsCorrection (hard_window symbols) x wanted (confidences symbols) margin c
     → IsSoftReading symbols x wanted margin (reading_by (hard_window symbols) c)
-by_correction symbols x wanted margin None invalid h = (invalid, h)
-by_correction symbols x wanted margin (Some c) invalid h = (invalid, h, refl)
-
-some_is : (o p : Offset) → Some o ≡ Some p → o ≡ p
-some_is o p same = cc
+by_correction symbols x wanted margin c invalid h = grind (arith, common_steps)
 
 some_not_none : (o : Offset) → Some o ≡ None → ⊥
 some_not_none o same = cc
@@ -88,11 +77,7 @@ Own w x (Some o) = IsValid w x o
 
 by_own : (w x : ℕ) (own : Option Offset) → offset_of (rem w) ≡ own
     → Own w x (own_of own x)
-by_own w x None is = λ p valid. some_not_none p (sym valid.offset ∙ is)
-by_own w x (Some o) is =
-    cond_both (number o == x) (Some o) None (λ own. Own w x own)
-    (λ same. record { offset = is; own = eqb-true (number o) x same })
-    (λ other. λ p valid. eqb-false (number o) x other (ap number (some_is o p (sym is ∙ valid.offset)) ∙ valid.own))
+by_own w x own is = grind (arith, common_steps, some_not_none, cond_both, eqb-true, eqb-false, some_is)
 
 by_valid : (symbols : List ℤ) (x : ℕ) (wanted : Wanted) (margin : ℕ) (own : Option Offset)
     → Own (hard_window symbols) x own
@@ -100,48 +85,26 @@ by_valid : (symbols : List ℤ) (x : ℕ) (wanted : Wanted) (margin : ℕ) (own 
     (correction (hard_window symbols) x wanted (confidences symbols) margin)
     → IsSoftReading symbols x wanted margin
     (reading_or (hard_window symbols) own (reading_by (hard_window symbols) (correction (hard_window symbols) x wanted (confidences symbols) margin)))
-by_valid symbols x wanted margin None invalid h =
-    by_correction symbols x wanted margin (correction (hard_window symbols) x wanted (confidences symbols) margin) invalid h
-by_valid symbols x wanted margin (Some o) valid h = (valid, refl)
+by_valid symbols x wanted margin own valid h = grind (arith, common_steps, by_correction)
 
 soft_reading_is : IsLinear → (symbols : List ℤ) (x : ℕ) (wanted : Wanted) (margin : ℕ) → 1 ≤ x → x ≤ 4 → margin ≤ 127
     → IsSoftReading symbols x wanted margin (soft_reading symbols x wanted margin)
 unfolding soft_reading
-soft_reading_is linear symbols x wanted margin low high few =
-    let w : ℕ = hard_window symbols in
-    by_valid symbols x wanted margin (own_of (offset_of (rem w)) x) (by_own w x (offset_of (rem w)) refl)
-    (correction_is linear w x wanted (confidences symbols) margin low high few)
+soft_reading_is linear symbols x wanted margin low high few = grind (arith, common_steps, by_valid, by_own, correction_is)
 
 heard_is : IsLinear → (heard : Option (List ℤ)) (x : ℕ) (wanted : Wanted) (margin : ℕ) → 1 ≤ x → x ≤ 4 → margin ≤ 127
     → IsReadingHeard heard x wanted margin (reading_heard heard x wanted margin)
-heard_is linear None x wanted margin low high few = refl
-heard_is linear (Some symbols) x wanted margin low high few = soft_reading_is linear symbols x wanted margin low high few
+heard_is linear heard x wanted margin low high few = grind (arith, common_steps, soft_reading_is)
 
 -- ---- items
 
 block_is : IsLinear → (heard : Option (List ℤ)) (x : ℕ) (wanted : Wanted) (margin : ℕ) (block : Block) → 1 ≤ x → x ≤ 4 → margin ≤ 127
     → IsBlockAgain heard x wanted margin block (block_again heard x wanted margin block)
-block_is linear heard x wanted margin Missing low high few = refl
-block_is linear heard x wanted margin (Read (HardValid o info)) low high few = refl
-block_is linear heard x wanted margin (Read (HardCorrected o info e)) low high few = heard_is linear heard x wanted margin low high few
-block_is linear heard x wanted margin (Read HardLost) low high few = heard_is linear heard x wanted margin low high few
+block_is linear heard x wanted margin block low high few = grind (arith, common_steps, heard_is)
 
 group_is : IsLinear → (b : Signal) (symbols : List ℤ) (margin place : ℕ) (blocks : List Block) → margin ≤ 127
     → IsGroupAgain b symbols margin place blocks (group_again b symbols margin place blocks)
-group_is linear b symbols margin place blocks few =
-    let heard : ℕ → Option (List ℤ) = λ y. symbols_heard b symbols (first_bit place blocks y) in
-    let two = block_again (heard 2) 2 Either margin (block_in blocks 2) in
-    record {
-      one = block_again (heard 1) 1 Either margin (block_in blocks 1);
-      two = two;
-      three = block_again (heard 3) 3 (wanted_beside two) margin (block_in blocks 3);
-      four = block_again (heard 4) 4 Either margin (block_in blocks 4);
-      first = block_is linear (heard 1) 1 Either margin (block_in blocks 1) (omega arith) (omega arith) few;
-      second = block_is linear (heard 2) 2 Either margin (block_in blocks 2) (omega arith) (omega arith) few;
-      third = block_is linear (heard 3) 3 (wanted_beside two) margin (block_in blocks 3) (omega arith) (omega arith) few;
-      fourth = block_is linear (heard 4) 4 Either margin (block_in blocks 4) (omega arith) (omega arith) few;
-      told = refl;
-    }
+group_is linear b symbols margin place blocks few = grind (arith, common_steps, block_is)
 
 pub items_are_read_again_so : IsLinear → ItemsAreReadAgainSo
 unfolding item_again

@@ -1,5 +1,5 @@
 -- The lightest flips have the least weight, and all others weigh at least the second.
-use Rattle.rds_soft.proofs.Names.{◌≡◌, ◌≢◌, ℕ, zero, suc, ◌+◌, ◌^◌, ◌<◌, ◌≤◌, Bool, true, false, refl, sym, ap, ◌∙◌, arith, bit_xor, subst, min, rules, ◌⊎◌, inl, inr, nat_lt, lit<, pow-suc, min-le_left, min-le_right, min-eq_left, min-eq_right, cases_lt, sum_of, weigh, of_none, least, is_flipped, lightest, second}
+use Rattle.rds_soft.proofs.Names.{common_steps, ◌≡◌, ◌≢◌, ℕ, zero, suc, ◌+◌, ◌^◌, ◌<◌, ◌≤◌, Bool, true, false, refl, sym, ap, ◌∙◌, arith, bit_xor, subst, min, rules, ◌⊎◌, inl, inr, nat_lt, lit<, pow-suc, min-le_left, min-le_right, min-eq_left, min-eq_right, cases_lt, sum_of, weigh, of_none, least, is_flipped, lightest, second}
 use Rattle.rds_soft.proofs.LightestLemmas.{Reach, kept, turned, kept_weighs, turned_weighs, ways, least_below}
 
 -- flips of this weight
@@ -24,18 +24,11 @@ weighs_turned e c n s rest w h = record {
 pub lightest_small : (e c : ℕ → ℕ) (n s : ℕ) → lightest e c n s < 2 ^ n
 unfolding lightest
 lightest_small e c zero s = lit< tt
-lightest_small e c (suc n) s =
-    by_first (is_flipped e c n s) n (lightest e c n s) (lightest e c n (bit_xor s (e n))) (lightest_small e c n s)
-    (lightest_small e c n (bit_xor s (e n)))
-  where
-    by_first : (t : Bool) (n a b : ℕ) → a < 2 ^ n → b < 2 ^ n → elim t [ false ↦ a | true ↦ 2 ^ n + b ] < 2 ^ suc n
-    by_first false n a b left right = omega (arith, left, pow-suc 2 n)
-    by_first true n a b left right = omega (arith, right, pow-suc 2 n)
+lightest_small e c (suc n) s = grind (arith, common_steps, pow-suc, lightest_small e c n s, lightest_small e c n (bit_xor s (e n)))
 
 none_reached : (e c : ℕ → ℕ) (s : ℕ) → of_none s < 255 → Weighs e c 0 s 0 (of_none s)
 unfolding sum_of weigh
-none_reached e c zero near = record { reach = record { small = lit< tt; sum = refl }; weight = refl }
-none_reached e c (suc s) near = let same : 255 < 255 = near in absurd (omega (arith, same))
+none_reached e c s near = grind (arith, common_steps, lit<)
 
 -- the first symbol by which way is lighter
 first_reached : (e c : ℕ → ℕ) (n s a b f g : ℕ) (t : Bool) → t ≡ nat_lt (b + c n) a → (a < 255 → Weighs e c n s f a)
@@ -63,11 +56,7 @@ others_by : (n w a b k f g flips x y lf lg : ℕ) (t : Bool)
     → (((x ≤ w) × (flips ≢ lf → y ≤ w)) ⊎ ((rest : ℕ) × (flips ≡ 2 ^ n + rest) × (a + k ≤ w) × (rest ≢ lg → b + k ≤ w)))
     → flips ≢ elim t [ false ↦ lf | true ↦ 2 ^ n + lg ]
     → elim t [ false ↦ min (a + k) y | true ↦ min x (b + k) ] ≤ w
-others_by n w a b k f g flips x y lf lg false (inl h) other = omega (arith, h.1 other, min-le_right (a + k) y)
-others_by n w a b k f g flips x y lf lg false (inr h) other = omega (arith, h.2, min-le_left (a + k) y)
-others_by n w a b k f g flips x y lf lg true (inl h) other = omega (arith, h.0, min-le_left x (b + k))
-others_by n w a b k f g flips x y lf lg true (inr h) other =
-    omega (arith, h.3 (λ same. other (h.1 ∙ ap (λ (r : ℕ). 2 ^ n + r) same)), min-le_right x (b + k))
+others_by n w a b k f g flips x y lf lg t h other = grind (arith, common_steps, min-le_right, min-le_left)
 
 pub others_weigh : (e c : ℕ → ℕ) (n s flips : ℕ) → Reach e n s flips → flips ≢ lightest e c n s → second e c n s ≤ weigh c n flips
 unfolding second lightest

@@ -1,5 +1,5 @@
 -- One symbol of the look back, by what is read of the rows.
-use Rattle.rds_soft.proofs.Names.{◌≡◌, ℕ, ◌+◌, ◌-◌, ◌*◌, ◌%◌, ◌^◌, ◌<◌, ◌≤◌, List, [], sym, ap, ◌∙◌, arith, bit_xor, min, slice_index, get_or, subst, xor_lt, effect, confidence, least, AreRows, IsWalk}
+use Rattle.rds_soft.proofs.Names.{common_steps, ◌≡◌, ℕ, ◌+◌, ◌-◌, ◌*◌, ◌%◌, ◌^◌, ◌<◌, ◌≤◌, List, [], sym, ap, ◌∙◌, arith, bit_xor, min, slice_index, get_or, subst, xor_lt, effect, confidence, least, AreRows, IsWalk}
 use Rattle.rds_soft.proofs.LightestLemmas.{least_small}
 use Rattle.rds_soft.proofs.SecondLemmas.{lightest_small}
 use Rattle.rds_soft.proofs.WalkLemmas.{walk_turned, walk_kept}
@@ -19,26 +19,14 @@ pub is_read : {rows : List (List ℕ)} {confidences : List ℕ} {s n left flips 
     → n < 27 → IsWalk effect (confidence confidences) s (n + 1) left flips spent others → e ≡ effect n → e < 1024
     → c ≡ slice_index confidences (26 - n) → kept ≡ slice_index (get_or rows n []) left → base ≡ slice_index (get_or rows n []) (bit_xor left e)
     → IsRead rows confidences s n left flips spent others e kept base c
-is_read rows_are place walk effect_is effect_small confidence_is kept_is base_is = record {
-  rows_are = rows_are;
-  place = place;
-  walk = walk;
-  effect_is = effect_is;
-  effect_small = effect_small;
-  confidence_is = confidence_is;
-  kept_is = kept_is;
-  base_is = base_is;
-}
-
-turned_small : (left e : ℕ) → left < 1024 → e < 1024 → bit_xor left e < 1024
-turned_small left e h g = xor_lt 10 left e h g
+is_read rows_are place walk effect_is effect_small confidence_is kept_is base_is = grind (arith, common_steps)
 
 pub step_turned : (rows : List (List ℕ)) (confidences : List ℕ) (s n left flips spent others e kept base c : ℕ)
     → IsRead rows confidences s n left flips spent others e kept base c → base + c < kept
     → IsWalk effect (confidence confidences) s n (bit_xor left e) (flips + 2 ^ n) (spent + c) (min others (spent + kept))
 step_turned rows confidences s n left flips spent others e kept base c h less =
     let cs : ℕ → ℕ = confidence confidences in
-    let small : bit_xor left e < 1024 = turned_small left e h.walk.left_small h.effect_small in
+    let small : bit_xor left e < 1024 = xor_lt 10 left e h.walk.left_small h.effect_small in
     let kept_least : kept ≡ least effect cs n left = h.kept_is ∙ (h.rows_are n h.place).each left h.walk.left_small in
     let base_least : base ≡ least effect cs n (bit_xor left e) = h.base_is ∙ (h.rows_are n h.place).each (bit_xor left e) small in
     let lighter : least effect cs n (bit_xor left e) + cs n < least effect cs n left =
@@ -54,7 +42,7 @@ pub step_kept : (rows : List (List ℕ)) (confidences : List ℕ) (s n left flip
     → IsWalk effect (confidence confidences) s n left flips spent (min others (spent + (base + c)))
 step_kept rows confidences s n left flips spent others e kept base c h le =
     let cs : ℕ → ℕ = confidence confidences in
-    let small : bit_xor left e < 1024 = turned_small left e h.walk.left_small h.effect_small in
+    let small : bit_xor left e < 1024 = xor_lt 10 left e h.walk.left_small h.effect_small in
     let kept_least : kept ≡ least effect cs n left = h.kept_is ∙ (h.rows_are n h.place).each left h.walk.left_small in
     let base_least : base ≡ least effect cs n (bit_xor left e) = h.base_is ∙ (h.rows_are n h.place).each (bit_xor left e) small in
     let heavier : least effect cs n left ≤ least effect cs n (bit_xor left e) + cs n =
@@ -67,13 +55,11 @@ step_kept rows confidences s n left flips spent others e kept base c h le =
 -- a walk's weight and flips are small
 pub spent_small : (confidences : List ℕ) (s m left flips spent others : ℕ)
     → IsWalk effect (confidence confidences) s m left flips spent others → spent ≤ 255
-spent_small confidences s m left flips spent others h =
-    omega (arith, h.weight_is, least_small effect (confidence confidences) 27 s)
+spent_small confidences s m left flips spent others h = grind (arith, common_steps, least_small)
 
 pub flips_small : (confidences : List ℕ) (s m left flips spent others : ℕ)
     → IsWalk effect (confidence confidences) s m left flips spent others → flips < 2 ^ 27
-flips_small confidences s m left flips spent others h =
-    omega (arith, h.flips_are, lightest_small effect (confidence confidences) 27 s)
+flips_small confidences s m left flips spent others h = grind (arith, common_steps, lightest_small)
 
 pub kept_small : (rows : List (List ℕ)) (confidences : List ℕ) (s n left flips spent others e kept base c : ℕ)
     → IsRead rows confidences s n left flips spent others e kept base c → kept ≤ 255
@@ -85,7 +71,7 @@ pub base_small : (rows : List (List ℕ)) (confidences : List ℕ) (s n left fli
 base_small rows confidences s n left flips spent others e kept base c h =
     omega (
       arith,
-      h.base_is ∙ (h.rows_are n h.place).each (bit_xor left e) (turned_small left e h.walk.left_small h.effect_small),
+      h.base_is ∙ (h.rows_are n h.place).each (bit_xor left e) (xor_lt 10 left e h.walk.left_small h.effect_small),
       least_small effect (confidence confidences) n (bit_xor left e),
     )
 

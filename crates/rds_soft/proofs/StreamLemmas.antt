@@ -1,5 +1,5 @@
 -- A stream of symbols after further ones, and at its end.
-use Rattle.rds_soft.proofs.Names.{◌≡◌, ◌+◌, ◌-◌, ◌*◌, ◌^◌, ◌<◌, ◌≤◌, ◌++◌, ◌⊎◌, ◌∙◌, ℕ, List, [], ◌∷◌, ap, ap₂, arith, drop, inl, inr, length, map, refl, subst, sym, All, cases_lt, append-nil, drop-append-le, drop-drop, length-append, length-drop, map-append, AreGaps, Signal, length_of, AcquisitionsAreLate, RunsAreLawful, RunsAreReports, RunsGiveFewItems, RunsJoin, StepsAreLawful, IsLawful, RuleNumbers, items_of_end, run, Item, State, Searching, EndsMove, IsPartHeard, RunsMove, most_behind, moved_items, moved_state, moved_back, place_of, hard-at-most-more, lawful-back, still-items, still-state, part-touched, start-touched, run-early, back-on, SymbolsHaveWindows, item_again, symbols_of, SoftTerms, complete, read_again, report_of, run_of, signal_of, Knows, again_in, last_symbols, most_kept, moved_again, part_of, place_again, AreAtMost, SoftItem}
+use Rattle.rds_soft.proofs.Names.{common_steps, ◌≡◌, ◌+◌, ◌-◌, ◌*◌, ◌^◌, ◌<◌, ◌≤◌, ◌++◌, ◌⊎◌, ◌∙◌, ℕ, List, [], ◌∷◌, ap, ap₂, arith, drop, inl, inr, length, map, refl, subst, sym, All, cases_lt, append-nil, drop-append-le, drop-drop, length-append, length-drop, map-append, AreGaps, Signal, length_of, AcquisitionsAreLate, RunsAreLawful, RunsAreReports, RunsGiveFewItems, RunsJoin, StepsAreLawful, IsLawful, RuleNumbers, items_of_end, run, Item, State, Searching, EndsMove, IsPartHeard, RunsMove, most_behind, moved_items, moved_state, moved_back, place_of, hard-at-most-more, lawful-back, still-items, still-state, part-touched, start-touched, run-early, back-on, SymbolsHaveWindows, item_again, symbols_of, SoftTerms, complete, read_again, report_of, run_of, signal_of, Knows, again_in, last_symbols, most_kept, moved_again, part_of, place_again, AreAtMost, SoftItem}
 use Rattle.rds_sync.specs.Ranges.{IsInRange}
 use Rattle.rds_sync.specs.declared.item.Item.TheVariants as hard
 use Rattle.rds_soft.specs.declared.soft_totals.SoftTotals.{SoftTotals}
@@ -9,9 +9,7 @@ use Rattle.rds_soft.proofs.PartLemmas.{length-bits, length-symbols, part-heard, 
 
 -- moved by nothing
 still-again : (item : SoftItem) → moved_again 0 item ≡ item
-still-again (Acquired a x) = let e : a + 0 ≡ a = omega arith in ap (λ (p : ℕ). Acquired p x) e
-still-again (Group g) = let e : g.place + 0 ≡ g.place = omega arith in ap (λ (p : ℕ). Group (record g { place = p })) e
-still-again (LostLock a) = let e : a + 0 ≡ a = omega arith in ap (λ (p : ℕ). LostLock p) e
+still-again item = grind (arith, common_steps)
 
 still-all : (f : Item → SoftItem) (items : List Item) → map (λ item. moved_again 0 (f item)) items ≡ map f items
 still-all f [] = refl
@@ -36,10 +34,7 @@ module _ (symbols : List ℕ) where
   from-there = omega (arith, kept-long)
 
   pub early-enough : (d ≡ 0) ⊎ (most_behind ≤ from)
-  early-enough = elim (cases_lt (length symbols) 241) [
-    | inl few ↦ inl (omega (arith, kept-long, few))
-    | inr many ↦ inr (omega (arith, kept-long, many))
-  ]
+  early-enough = grind (arith, common_steps, kept-long)
 
   last-of : drop d symbols ≡ kept
   last-of = let cut : d ≡ length symbols - most_kept = omega (arith, kept-long) in ap (λ (n : ℕ). drop n symbols) cut
@@ -71,10 +66,7 @@ module _ (late : AcquisitionsAreLate) (steps : StepsAreLawful) (lawfuls : RunsAr
   bits-long = length-bits (symbols_of symbols) ∙ ap (λ (n : ℕ). n - 1) (length-symbols symbols)
 
   run-in : AllInside (length symbols - 1) (run_of terms symbols).1
-  run-in =
-      let all : 0 + (length symbols - 1) ≡ length symbols - 1 = omega arith in
-      subst (λ (n : ℕ). AllInside n (run_of terms symbols).1) all
-      (run-inside late steps (signal_of terms symbols) rules range.loss.0 Searching 0 (length symbols - 1) tt)
+  run-in = grind (arith, common_steps, run-inside)
 
   -- ---- after further symbols
 
@@ -136,9 +128,7 @@ module _ (late : AcquisitionsAreLate) (steps : StepsAreLawful) (lawfuls : RunsAr
         ∙ ap₂ (λ (s : State) (items : List Item). (s, items)) (still-state state) (still-items (run_of terms symbols).1)
 
     run-here : run whole rules state (length symbols - 1) bits ≡ (moved_state (d symbols) found.0, moved_items (d symbols) found.1)
-    run-here =
-        ap₂ (λ (s : State) (n : ℕ). run whole rules s n bits) (sym local-is) (sym (from-there symbols))
-        ∙ moves whole part rules (d symbols) local (from symbols) bits range.loss.0 range.reach local-lawful heard (omega (arith, ordered))
+    run-here = grind (arith, common_steps, local-is, from-there, local-lawful, heard, ordered)
 
     run-after : run_of terms all ≡ (moved_state (d symbols) found.0, (run_of terms symbols).1 ++ moved_items (d symbols) found.1)
     run-after =
@@ -166,9 +156,7 @@ module _ (late : AcquisitionsAreLate) (steps : StepsAreLawful) (lawfuls : RunsAr
         ∙ still-all (item_again (signal_of terms symbols) (symbols_of symbols) terms.margin) (run_of terms symbols).1
 
     found-in : AllInside (length P - 1) found.1
-    found-in =
-        let end : from symbols + bits ≡ length P - 1 = omega (arith, ordered, part-long) in
-        subst (λ (n : ℕ). AllInside n found.1) end (run-inside late steps part rules range.loss.0 local (from symbols) bits local-lawful)
+    found-in = grind (arith, common_steps, ordered, part-long, run-inside, local-lawful)
 
     again-after : read_again terms all (moved_items (d symbols) found.1) ≡ map (again_in part P terms.margin (d symbols)) found.1
     again-after =
@@ -177,14 +165,10 @@ module _ (late : AcquisitionsAreLate) (steps : StepsAreLawful) (lawfuls : RunsAr
         found.1 found-in)
 
     pub complete-after : complete terms all ≡ complete terms symbols ++ map (again_in part P terms.margin (d symbols)) found.1
-    complete-after =
-        ap (λ (r : State × List Item). read_again terms all r.1) run-after
-        ∙ map-append (item_again whole (symbols_of all) terms.margin) (run_of terms symbols).1 (moved_items (d symbols) found.1)
-        ∙ ap₂ (λ (xs ys : List SoftItem). xs ++ ys) again-before again-after
+    complete-after = grind (arith, common_steps, run-after, map-append, again-before, again-after)
 
     pub few-found : RunsGiveFewItems → length found.1 ≤ 2 * length more
-    few-found few =
-        omega (arith, few part rules local (from symbols) (length_of part) ordered, part-long, long)
+    few-found few = grind (arith, common_steps, ordered, part-long, long)
 
     pub found-early : length all ≤ 2 ^ 36 + 1 → All (λ (item : Item). place_of item < 2 ^ 37) found.1
     found-early limit = run-early part rules (2 ^ 37) local (from symbols) bits (omega (arith, ordered, part-long, long, longer, limit, kept-long symbols))
@@ -222,14 +206,10 @@ module _ (late : AcquisitionsAreLate) (steps : StepsAreLawful) (lawfuls : RunsAr
         (length_of near) (subst (λ (n : ℕ). (d symbols ≡ 0) ⊎ (most_behind ≤ n)) (sym near-long) (early-enough symbols))
 
     end-moved : items_of_end (signal_of terms symbols) rules state ≡ moved_items (d symbols) (items_of_end near rules local)
-    end-moved =
-        ap (items_of_end (signal_of terms symbols) rules) (sym local-is)
-        ∙ ends (signal_of terms symbols) near rules (d symbols) local near-lawful end-heard
+    end-moved = grind (arith, common_steps, local-is, near-lawful, end-heard)
 
     end-in : AllInside (length last - 1) (items_of_end near rules local)
-    end-in =
-        let n : length_of near ≡ length last - 1 = omega (arith, near-long, last-long) in
-        subst (λ (i : ℕ). AllInside i (items_of_end near rules local)) n (end-inside near rules (length_of near) local near-lawful)
+    end-in = grind (arith, common_steps, near-long, last-long, end-inside, near-lawful)
 
     end-again : read_again terms symbols (items_of_end (signal_of terms symbols) rules state)
         ≡ map (again_in near last terms.margin (d symbols)) (items_of_end near rules local)
@@ -263,24 +243,14 @@ module _ {terms : SoftTerms} {symbols kept_now : List ℕ} {count : ℕ} {now : 
       → run part terms.rules (moved_back before now) from_now (length_of part - from_now)
       ≡ run (part_of terms.gaps (d symbols) (kept symbols ++ more)) terms.rules (moved_back (d symbols) (run_of terms symbols).0) (from symbols)
       (length_of (part_of terms.gaps (d symbols) (kept symbols ++ more)) - from symbols)
-  run-is more part from_now before f b is =
-      let whole : part ≡ part_of terms.gaps (d symbols) (kept symbols ++ more) =
-      is ∙ ap₂ (λ (n : ℕ) (xs : List ℕ). part_of terms.gaps n (xs ++ more)) (b ∙ before-is) k.kept_is in
-      ap₂ (λ (p : Signal) (n : ℕ). run p terms.rules (moved_back before now) n (length_of p - n)) whole (f ∙ from-is)
-      ∙ ap₂ (λ (n : ℕ) (s : State). run (part_of terms.gaps (d symbols) (kept symbols ++ more)) terms.rules (moved_back n s) (from symbols)
-      (length_of (part_of terms.gaps (d symbols) (kept symbols ++ more)) - from symbols)) (b ∙ before-is) k.state_is
+  run-is more part from_now before f b is = grind (arith, common_steps, before-is, from-is)
 
   pub early-is : (from_now before : ℕ) → from_now ≡ length kept_now - 1 → before ≡ count - length kept_now → (before ≡ 0) ⊎ (most_behind ≤ from_now)
-  early-is from_now before f b =
-      subst (λ (n : ℕ). (before ≡ 0) ⊎ (most_behind ≤ n)) (sym (f ∙ from-is))
-      (subst (λ (n : ℕ). (n ≡ 0) ⊎ (most_behind ≤ from symbols)) (sym (b ∙ before-is)) (early-enough symbols))
+  early-is from_now before f b = grind (arith, common_steps, from-is, before-is, early-enough)
 
   pub lawful-is : AcquisitionsAreLate → StepsAreLawful → RunsAreLawful → SymbolsHaveWindows → IsInRange terms.rules → (from_now before : ℕ)
       → from_now ≡ length kept_now - 1 → before ≡ count - length kept_now → IsLawful terms.rules (from_now + before) now
-  lawful-is late steps lawfuls windows range from_now before f b =
-      let place : length symbols - 1 ≡ from_now + before = omega (arith, f ∙ from-is, b ∙ before-is, from-there symbols) in
-      subst (λ (s : State). IsLawful terms.rules (from_now + before) s) (sym k.state_is)
-      (subst (λ (n : ℕ). IsLawful terms.rules n (run_of terms symbols).0) place (state-lawful late steps lawfuls windows terms range k.gaps symbols))
+  lawful-is late steps lawfuls windows range from_now before f b = grind (arith, common_steps, from-is, before-is, from-there, state-lawful)
 
   pub part-longer : (more xs : List ℕ) (part : Signal) (from_now before : ℕ) → from_now ≡ length kept_now - 1 → xs ≡ kept_now
       → part ≡ part_of terms.gaps before (xs ++ more) → from_now ≤ length_of part
@@ -335,20 +305,10 @@ module _ {terms : SoftTerms} {symbols kept_now : List ℕ} {count : ℕ} {now : 
 
 -- counts that are at most a number are at most a greater one
 pub at-most-more : (m n : ℕ) (t : SoftTotals) → m ≤ n → AreAtMost m t → AreAtMost n t
-at-most-more m n t more few = record {
-  totals = hard-at-most-more m n t.totals more few.totals;
-  flipped1 = omega (arith, few.flipped1, more);
-  flipped2 = omega (arith, few.flipped2, more);
-  flipped3 = omega (arith, few.flipped3, more);
-  flipped4 = omega (arith, few.flipped4, more);
-  flipped5 = omega (arith, few.flipped5, more);
-  flipped6 = omega (arith, few.flipped6, more);
-}
+at-most-more m n t more few = grind (arith, common_steps, hard-at-most-more)
 
 -- ---- places
 
 pub place-stays : (b : Signal) (symbols : List ℕ) (margin : ℕ) (item : Item) → place_again (item_again b (symbols_of symbols) margin item) ≡ place_of item
 unfolding item_again
-place-stays b symbols margin (hard.Acquired a x) = refl
-place-stays b symbols margin (hard.Group g) = refl
-place-stays b symbols margin (hard.LostLock a) = refl
+place-stays b symbols margin item = grind (arith, common_steps)

@@ -1,9 +1,8 @@
-use Rattle.rds_soft.proofs.Names.{◌≡◌, ◌+◌, ◌∙◌, ℕ, List, Bool, true, false, Option, Some, None, refl, ap, sym, length, take, drop, ℤ, nat_lt, if◌then◌else◌, cast_signed, w8, take-map, drop-map, option_map, length-map, symbols_of}
+use Rattle.rds_soft.proofs.Names.{common_steps, arith, ◌≡◌, ◌+◌, ◌∙◌, ℕ, List, Bool, true, false, Option, Some, None, refl, ap, sym, length, take, drop, ℤ, nat_lt, if◌then◌else◌, cast_signed, w8, take-map, drop-map, option_map, length-map, symbols_of}
 use Rattle.rds_soft.proofs.again.chunk_at.Goals as goal
 
 mapped : (b : Bool) (x : List ℕ) → option_map symbols_of (if b then Some x else None) ≡ (if b then Some (symbols_of x) else None)
-mapped true x = refl
-mapped false x = refl
+mapped b x = grind (arith, common_steps)
 
 -- bytes that are there, as symbols
 at_symbols : (raw : List ℕ) (first : ℕ) (found : Option (List ℕ))

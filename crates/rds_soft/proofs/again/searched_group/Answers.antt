@@ -1,4 +1,4 @@
-use Rattle.rds_soft.proofs.Names.{◌≡◌, ℕ, ◌+◌, ◌*◌, List, [], ◌∷◌, get_or, sym, subst, arith, ℤ, Wanted, Either, Signal, Block, SoftBlock, symbols_heard, was_read, IsBlockAgain, IsGroupAgain, symbols_of, wanted_beside}
+use Rattle.rds_soft.proofs.Names.{common_steps, ◌≡◌, ℕ, ◌+◌, ◌*◌, List, [], ◌∷◌, get_or, sym, subst, arith, ℤ, Wanted, Either, Signal, Block, SoftBlock, symbols_heard, was_read, IsBlockAgain, IsGroupAgain, symbols_of, wanted_beside}
 use Rattle.rds_soft.proofs.AgainLemmas.{list_of_four}
 use Rattle.rds_soft.proofs.again.searched_group.Goals as goal
 
@@ -6,8 +6,7 @@ use Rattle.rds_soft.proofs.again.searched_group.Goals as goal
 after : (b : Signal) (s : List ℤ) (place n m x : ℕ) (wanted : Wanted) (margin : ℕ) (block : Block) (again : SoftBlock) → n ≡ m
     → IsBlockAgain (symbols_heard b s (place + 26 * n)) x wanted margin block again
     → IsBlockAgain (symbols_heard b s (place + 26 * m)) x wanted margin block again
-after b s place n m x wanted margin block again same h =
-    subst (λ (k : ℕ). IsBlockAgain (symbols_heard b s (place + 26 * k)) x wanted margin block again) same h
+after b s place n m x wanted margin block again same h = grind (arith, common_steps)
 
 pub returns : goal.returns
 returns c =

@@ -1,4 +1,4 @@
-use Rattle.rds_soft.proofs.Names.{ℕ, ◌+◌, ◌-◌, ◌%◌, get_or, replicate, ap, ◌∙◌, arith, min, length-zip2, get_or-zip2, get_or-replicate}
+use Rattle.rds_soft.proofs.Names.{common_steps, ℕ, ◌+◌, ◌-◌, ◌%◌, get_or, replicate, ap, ◌∙◌, arith, min, length-zip2, get_or-zip2, get_or-replicate}
 use Rattle.rds_soft.proofs.LaneLemmas.{capped_sum}
 use Rattle.rds_soft.proofs.lightest.heavier.Goals as goal
 
@@ -6,8 +6,7 @@ abbrev wrapped : ℕ → ℕ → ℕ
 wrapped a b = (a + b) % 256
 
 pub returns-clause-long : goal.returns-clause-long
-returns-clause-long c =
-    length-zip2 wrapped c.smaller.result (replicate 16 c.args.confidence) (omega (arith, c.smaller.ensures.long)) ∙ c.smaller.ensures.long
+returns-clause-long c = grind (arith, common_steps, length-zip2)
 
 pub returns-clause-each : goal.returns-clause-each
 returns-clause-each c j less =

@@ -1,4 +1,4 @@
-use Rattle.rds_soft.proofs.Names.{◌≡◌, ◌-◌, ◌^◌, ◌∙◌, ℕ, List, ap, ap₂, arith, length, refl, false≢true, found-of-part}
+use Rattle.rds_soft.proofs.Names.{common_steps, ◌≡◌, ◌-◌, ◌^◌, ◌∙◌, ℕ, List, ap, ap₂, arith, length, refl, false≢true, found-of-part}
 use Rattle.rds_live.specs.Gaps.{gaps_within}
 use Rattle.rds_soft.proofs.PartLemmas.{bits-are}
 use Rattle.rds_soft.proofs.near.bits_near.Goals as goal
@@ -13,10 +13,4 @@ unreachable-requires c =
     )))
 
 pub returns : goal.returns
-returns c =
-    let n : ℕ = c.saturating_sub-len.result in
-    let is : n ≡ length c.args.symbols.now - 1 = omega (arith, c.saturating_sub-len.ensures) in
-    c.in-Ok.ensures.held
-    ∙ ap₂ (λ (bits : List ℕ) (gaps : List (ℕ × ℕ)). record { bits = bits; gaps = gaps })
-    (bits-are c.in_ok-packed.packed.items c.args.symbols.now n is c.in_ok-packed.ensures.bits)
-    (c.in_ok-found.ensures ∙ ap (gaps_within c.args.gaps.now c.args.before) is)
+returns c = grind (arith, common_steps, bits-are)

@@ -1,3 +1,4 @@
+use Rattle.rds_code.proofs.Membership.{each_below}
 use Rattle.rds_soft.proofs.Names.{◌≡◌, ℕ, zero, suc, ◌+◌, ◌*◌, ◌-◌, ◌/◌, ◌%◌, ◌<◌, List, [], ◌∷◌, arith, slice_index, bit_at, symbols_of, hard_bit}
 use Rattle.rds_soft.proofs.PackLemmas.{in_high, in_low, of_bytes}
 use Rattle.rds_soft.proofs.pack.bytes_between.Goals as goal
@@ -11,15 +12,9 @@ Are P x m = (k : ℕ) → k < 16 → bit_at x (15 - k) ≡ P (m + k)
 
 each : (P : ℕ → ℕ) (a b c d : ℕ) → Are P a 0 → Are P b 16 → Are P c 32 → Are P d 48
     → (q r : ℕ) → q < 8 → r < 8 → bit_at (slice_index (bytes_of a b c d) q) (7 - r) ≡ P (8 * q + r)
-each P a b c d of_a of_b of_c of_d zero r inside less = in_high P a 0 of_a r less
-each P a b c d of_a of_b of_c of_d (suc zero) r inside less = in_low P a 0 of_a r less
-each P a b c d of_a of_b of_c of_d (suc (suc zero)) r inside less = in_high P b 16 of_b r less
-each P a b c d of_a of_b of_c of_d (suc (suc (suc zero))) r inside less = in_low P b 16 of_b r less
-each P a b c d of_a of_b of_c of_d (suc (suc (suc (suc zero)))) r inside less = in_high P c 32 of_c r less
-each P a b c d of_a of_b of_c of_d (suc (suc (suc (suc (suc zero))))) r inside less = in_low P c 32 of_c r less
-each P a b c d of_a of_b of_c of_d (suc (suc (suc (suc (suc (suc zero)))))) r inside less = in_high P d 48 of_d r less
-each P a b c d of_a of_b of_c of_d (suc (suc (suc (suc (suc (suc (suc zero))))))) r inside less = in_low P d 48 of_d r less
-each P a b c d of_a of_b of_c of_d (suc (suc (suc (suc (suc (suc (suc (suc q)))))))) r inside less = absurd (omega (arith, inside))
+each P a b c d of_a of_b of_c of_d q r inside less =
+    each_below (λ (q : ℕ). bit_at (slice_index (bytes_of a b c d) q) (7 - r) ≡ P (8 * q + r)) 8
+    (in_high P a 0 of_a r less, (in_low P a 0 of_a r less, (in_high P b 16 of_b r less, (in_low P b 16 of_b r less, (in_high P c 32 of_c r less, (in_low P c 32 of_c r less, (in_high P d 48 of_d r less, (in_low P d 48 of_d r less, tt)))))))) q inside
 
 pub returns : goal.returns
 returns c =

@@ -1,4 +1,4 @@
-use Rattle.rds_soft.proofs.Names.{◌≡◌, ◌++◌, ◌+◌, ◌*◌, ◌^◌, ◌∷◌, ◌∙◌, ℕ, List, [], ap, ap₂, append-nil, append_assoc, arith, length, subst, sym, take, take_all, take_more, AreAtMost, plus, soft_totals_of, SoftItem}
+use Rattle.rds_soft.proofs.Names.{common_steps, ◌≡◌, ◌++◌, ◌+◌, ◌*◌, ◌^◌, ◌∷◌, ◌∙◌, ℕ, List, [], ap, ap₂, append-nil, append_assoc, arith, length, subst, sym, take, take_all, take_more, AreAtMost, plus, soft_totals_of, SoftItem}
 use Rattle.rds_soft.proofs.soft_stream.counted.Goals as goal
 
 pub plus-sum-requires : goal.plus-sum-requires
@@ -12,10 +12,7 @@ plus-sum-requires c =
     )
 
 pub loop-item-init : goal.loop-item-init
-loop-item-init c = record {
-  value = λ before is. is ∙ ap soft_totals_of (sym (append-nil before));
-  small = λ most few. let none : most ≡ most + 2 ^ 10 * 0 = omega arith in subst (λ (n : ℕ). AreAtMost n c.args.totals) none few;
-}
+loop-item-init c = grind (arith, common_steps, append-nil)
 
 pub loop-item-preserved : goal.loop-item-preserved
 loop-item-preserved c =

@@ -1,25 +1,18 @@
-use Rattle.rds_soft.proofs.Names.{◌≡◌, ℕ, List, sym, subst, arith, bit_xor, xor_lt, Offset, Wanted, IsValid, information, IsNearest, hard_window, confidences}
+use Rattle.rds_soft.proofs.Names.{common_steps, ◌≡◌, ℕ, List, sym, subst, arith, bit_xor, xor_lt, Offset, Wanted, IsValid, information, IsNearest, hard_window, confidences}
 use mathlib.Core.Path.{ap₂}
 use Rattle.rds_soft.proofs.nearest.Search.read.Goals as goal
 
 -- what is nearest of equal windows and confidences
 moved : (w v : ℕ) (cs ds : List ℕ) (x : ℕ) (wanted : Wanted) (margin : ℕ) (o : Offset) (flips : ℕ) → w ≡ v → cs ≡ ds
     → IsNearest w x wanted cs margin o flips → IsNearest v x wanted ds margin o flips
-moved w v cs ds x wanted margin o flips window sure h =
-    subst (λ (u : ℕ). IsNearest u x wanted ds margin o flips) window (subst (λ (es : List ℕ). IsNearest w x wanted es margin o flips) sure h)
+moved w v cs ds x wanted margin o flips window sure h = grind (arith, common_steps)
 
 pub overflow_cast-result-in-Some-nearest : goal.overflow_cast-result-in-Some-nearest
 overflow_cast-result-in-Some-nearest c =
     omega (arith, xor_lt 26 c.hard_window-w.result c.mask_of.result c.hard_window-w.ensures.block c.mask_of.ensures.block)
 
 pub returns-in-Some-nearest : goal.returns-in-Some-nearest
-returns-in-Some-nearest c =
-    let window = c.hard_window-w.ensures.value in (
-      λ p valid. c.own_offset.ensures.none c.in_default.is p (subst (λ (w : ℕ). IsValid w c.args.number p) (sym window) valid),
-      moved c.hard_window-w.result (hard_window c.args.symbols.now) c.confidences.result (confidences c.args.symbols.now) c.args.number c.args.wanted
-          c.args.margin c.in-Some-nearest.field-0.offset c.in-Some-nearest.field-0.flips window c.confidences.ensures c.in-Some-nearest.ensures,
-      ap₂ (λ (w m : ℕ). information (bit_xor w m)) window c.mask_of.ensures.value,
-    )
+returns-in-Some-nearest c = grind (arith, common_steps, moved, hard_window, confidences, information, bit_xor, c.hard_window-w.ensures.value, c.own_offset.ensures.none, c.in_default.is, c.confidences.ensures, c.in-Some-nearest.ensures, c.mask_of.ensures.value)
 
 pub returns-in-None : goal.returns-in-None
 returns-in-None c =
