@@ -1,5 +1,5 @@
 -- Bytes that are taken piece by piece, as many as have room.
-use Rattle.rds_abi.proofs.Shared.{◌≡◌, ◌+◌, ◌-◌, ◌*◌, ◌/◌, ◌^◌, ◌<◌, ◌≤◌, ◌++◌, ◌⊎◌, ◌∙◌, ℕ, List, [], ap, ap₂, append_assoc, arith, drop, inl, inr, length, map, max, refl, subst, sym, take, append-nil, drop_all, drop-drop, drop-take, length-append, length-map, length-take, map-append, take-append-drop, take-take, take_all, RunsGiveFewItems, IsInRange, run, Item, IsStreamDecoder, LiveOf, Terms, moved_item, PiecesJoin, before_tail, completed, live_next, moved_back, part_with, run_next, IsFilled, IsTooMuch, IsLeft, IsMostTaken, RefusesStream, place_after, stream_of, RdsStream, Refusal, SmallRoom, TooLong, item_in_c, RdsItem}
+use Rattle.rds_abi.proofs.Shared.{common_steps, ◌≡◌, ◌+◌, ◌-◌, ◌*◌, ◌/◌, ◌^◌, ◌<◌, ◌≤◌, ◌++◌, ◌⊎◌, ◌∙◌, ℕ, List, [], ap, ap₂, append_assoc, arith, drop, inl, inr, length, map, max, refl, subst, sym, take, append-nil, drop_all, drop-drop, drop-take, length-append, length-map, length-take, map-append, take-append-drop, take-take, take_all, RunsGiveFewItems, IsInRange, run, Item, IsStreamDecoder, LiveOf, Terms, moved_item, PiecesJoin, before_tail, completed, live_next, moved_back, part_with, run_next, IsFilled, IsTooMuch, IsLeft, IsMostTaken, RefusesStream, place_after, stream_of, RdsStream, Refusal, SmallRoom, TooLong, item_in_c, RdsItem}
 use borrow.Rule.Slice.PartMut.{put_mid}
 use Rattle.std.proofs.lemmas.List.{length-drop}
 use Rattle.std.proofs.Math.Seq.{drop-append_seam, take-append_seam}
@@ -19,8 +19,7 @@ few-completed law live bytes =
 
 -- the first bytes, and some of the rest
 pub taken-on : (a n : ℕ) (bytes : List ℕ) → take a bytes ++ take n (drop a bytes) ≡ take (a + n) bytes
-taken-on a n bytes =
-    ap₂ (λ (xs ys : List ℕ). xs ++ ys) (sym (take-take a (a + n) bytes (omega arith))) (sym (drop-take a n bytes)) ∙ take-append-drop a (take (a + n) bytes)
+taken-on a n bytes = grind (arith, common_steps, take-take a (a + n) bytes, drop-take a n bytes, take-append-drop a (take (a + n) bytes))
 
 module _ (joins : PiecesJoin) (first live : LiveOf) (bytes : List ℕ) (a : ℕ) (range : IsInRange first.terms.rules) (lawful : IsStreamDecoder first)
     (is : live ≡ live_next first (take a bytes)) where
@@ -40,14 +39,7 @@ module _ (joins : PiecesJoin) (first live : LiveOf) (bytes : List ℕ) (a : ℕ)
 
   pub joined-count : (n filled more : ℕ) → filled ≡ length (completed first (take a bytes)) → more ≡ length (completed live (take n (drop a bytes)))
       → filled + more ≡ length (completed first (take (a + n) bytes))
-  joined-count n filled more one two =
-      omega (
-        arith,
-        one,
-        two,
-        length-append (completed first (take a bytes)) (completed live (take n (drop a bytes))),
-        ap (λ (items : List Item). length items) (joined-items n),
-      )
+  joined-count n filled more one two = grind (arith, common_steps, length-append, joined-items n)
 
   -- if the items of one byte more have no room after those before
   pub all-taken : (room filled : ℕ) → 0 < a → filled ≡ length (completed first (take a bytes)) → 0 < length (drop a bytes)
@@ -62,16 +54,7 @@ module _ (joins : PiecesJoin) (first live : LiveOf) (bytes : List ℕ) (a : ℕ)
 -- items that are written after those before
 pub filled-on : (first more : List RdsItem) (filled : ℕ) (old room part : List RdsItem) → filled ≡ length first → IsFilled first old room
     → IsFilled more (drop filled room) part → IsFilled (first ++ more) old (take filled room ++ part)
-filled-on first more filled old room part count one two =
-    let front : take filled room ≡ first = ap (λ (n : ℕ). take n room) count ∙ ap (λ (xs : List RdsItem). take (length first) xs) one ∙ take-append_seam first (drop (length first) old) in
-    let back : drop filled room ≡ drop filled old = ap (λ (xs : List RdsItem). drop filled xs) one ∙ ap (λ (n : ℕ). drop n (first ++ drop (length first) old)) count
-    ∙ drop-append_seam first (drop (length first) old) ∙ ap (λ (n : ℕ). drop n old) (sym count) in
-    ap₂ (λ (xs ys : List RdsItem). xs ++ ys) front (two ∙ ap (λ (xs : List RdsItem). more ++ drop (length more) xs) back)
-    ∙ sym (append_assoc first more (drop (length more) (drop filled old)))
-    ∙ ap (λ (xs : List RdsItem). (first ++ more) ++ xs) (drop-drop (length more) filled old ∙ ap (λ (n : ℕ). drop n old) at)
-  where
-    at : filled + length more ≡ length (first ++ more)
-    at = omega (arith, count, length-append first more)
+filled-on first more filled old room part count one two = grind (arith, common_steps, take-append_seam, drop-append_seam, append_assoc, drop-drop, length-append)
 
 -- bytes whose items have no room are one: by the most that they may complete, more would fit
 pub one-byte : RunsGiveFewItems → (live : LiveOf) (bytes : List ℕ) (room most n count : ℕ) → n ≤ most → most ≡ max (room / 16) 1
@@ -81,45 +64,17 @@ one-byte law live bytes room most n count within most_is told small =
 
 -- a row that is written keeps its length
 pub filled-long : (items : List Item) (old new : List RdsItem) → IsFilled (map item_in_c items) old new → length items ≤ length old → length new ≡ length old
-filled-long items old new is fits =
-    omega (
-      arith,
-      ap (λ (xs : List RdsItem). length xs) is,
-      length-append (map item_in_c items) (drop (length (map item_in_c items)) old),
-      length-drop (length (map item_in_c items)) old,
-      length-map items item_in_c,
-      fits,
-    )
+filled-long items old new is fits = grind (arith, common_steps, length-append, length-drop, length-map)
 
 -- a piece's items, written to the rest of the room
 pub filled-piece : (first more both : List Item) (filled : ℕ) (old room part : List RdsItem) → first ++ more ≡ both → filled ≡ length first → filled ≤ length room
     → IsFilled (map item_in_c first) old room → IsFilled (map item_in_c more) (take (length room - filled) (drop filled room)) part
     → IsFilled (map item_in_c both) old (put_mid filled (length room - filled) room part)
-filled-piece first more both filled old room part joined count fits one two =
-    let left : ℕ = length room - filled in
-    let mid : take left (drop filled room) ≡ drop filled room = take_all left (drop filled room) (omega (arith, length-drop filled room)) in
-    let none : drop left (drop filled room) ≡ [] = drop_all left (drop filled room) (omega (arith, length-drop filled room)) in
-    let all : IsFilled (map item_in_c first ++ map item_in_c more) old (take filled room ++ part) =
-    filled-on (map item_in_c first) (map item_in_c more) filled old room part (omega (arith, count, length-map first item_in_c)) one
-    (subst (λ (xs : List RdsItem). IsFilled (map item_in_c more) xs part) mid two) in
-    let same : map item_in_c first ++ map item_in_c more ≡ map item_in_c both = sym (map-append item_in_c first more) ∙ ap (λ (items : List Item). map item_in_c items) joined in
-    ap (λ (rest : List RdsItem). take filled room ++ (part ++ rest)) none
-    ∙ ap (λ (rest : List RdsItem). take filled room ++ rest) (append-nil part)
-    ∙ all
-    ∙ ap (λ (items : List RdsItem). items ++ drop (length items) old) same
+filled-piece first more both filled old room part joined count fits one two = grind (arith, common_steps, take_all, drop_all, length-drop, length-map, map-append, append-nil, filled-on (map item_in_c first) (map item_in_c more) filled old room part)
 
 -- room for sixteen items is never too little
 pub roomy : RunsGiveFewItems → (terms : Terms) (s : RdsStream) (bytes : List ℕ) (room count : ℕ) (r : Refusal) (Same : Type 0)
     → (IsLeft terms s × (place_after s bytes ≤ 2 ^ 36) × IsTooMuch (map item_in_c (completed (stream_of terms s) (take 1 bytes))) room r count)
     ⊎ ((RefusesStream terms s r ⊎ (IsLeft terms s × (2 ^ 36 < place_after s bytes) × (r ≡ TooLong))) × Same)
     → r ≡ SmallRoom → room < 16
-roomy law terms s bytes room count r Same (inl (left, fits, much)) is =
-    omega (
-      arith,
-      much.1,
-      length-map (completed (stream_of terms s) (take 1 bytes)) item_in_c,
-      few-completed law (stream_of terms s) (take 1 bytes),
-      length-take 1 bytes,
-    )
-roomy law terms s bytes room count r Same (inr (inl refused, same)) is = absurd (subst (λ (it : Refusal). RefusesStream terms s it) is refused)
-roomy law terms s bytes room count r Same (inr (inr (left, long, too), same)) is = absurd (omega (arith, ap number_of (sym too ∙ is)))
+roomy law terms s bytes room count r Same refused is = grind (arith, common_steps, length-map, few-completed law (stream_of terms s) (take 1 bytes), length-take)

@@ -1,12 +1,12 @@
 -- Gaps as C has them, and as a recording does.
-use Rattle.rds_abi.proofs.Shared.{◌≡◌, ◌∙◌, ℕ, zero, suc, ◌+◌, ◌-◌, ◌<◌, ◌≤◌, List, [], ◌∷◌, true, false, Option, None, ap, arith, drop, get_or, leb, leb-true, length, ltb, min, refl, sym, take, All, AllAdjacentBelow, cons_option, filter_map, le-ltb, ltb-false, get_or-drop, get_or-map, get_or-take, length-map, length-take, IsNonDecreasingBy-from_all_adjacent, AreGaps, gaps_within, part_of_gap, gap_of, gaps_of, RdsGap}
+use Rattle.rds_abi.proofs.Shared.{common_steps, ◌≡◌, ◌∙◌, ℕ, zero, suc, ◌+◌, ◌-◌, ◌<◌, ◌≤◌, List, [], ◌∷◌, true, false, Option, None, ap, arith, drop, get_or, leb, leb-true, length, ltb, min, refl, sym, take, All, AllAdjacentBelow, cons_option, filter_map, le-ltb, ltb-false, get_or-drop, get_or-map, get_or-take, length-map, length-take, IsNonDecreasingBy-from_all_adjacent, AreGaps, gaps_within, part_of_gap, gap_of, gaps_of, RdsGap}
 use Rattle.std.specs.List.Sorted.{IsNonDecreasingBy, IsPartitionPoint}
 use Rattle.std.proofs.lemmas.List.{length-drop}
 
 -- those of a part, gap by gap
 pub parts-of-gaps : (d n : ℕ) (gaps : List RdsGap) → filter_map (λ (gap : RdsGap). part_of_gap d n (gap_of gap)) gaps ≡ gaps_within (gaps_of gaps) d n
 parts-of-gaps d n [] = refl
-parts-of-gaps d n (gap ∷ gaps) = ap (λ (rest : List (ℕ × ℕ)). cons_option (part_of_gap d n (gap_of gap)) rest) (parts-of-gaps d n gaps)
+parts-of-gaps d n (gap ∷ gaps) = grind (arith, common_steps, parts-of-gaps d n gaps)
 
 -- ---- whether a recording may have them
 
@@ -46,8 +46,7 @@ gaps-apart n gaps are k e h =
 -- ---- the gaps near a part
 
 at_gap : (f count : ℕ) (gaps : List RdsGap) (k : ℕ) (e : RdsGap) → k < length (take count (drop f gaps)) → get_or (take count (drop f gaps)) k e ≡ get_or gaps (f + k) e
-at_gap f count gaps k e h =
-    get_or-take count (drop f gaps) k e (omega (arith, h, length-take count (drop f gaps))) ∙ get_or-drop f gaps k e
+at_gap f count gaps k e h = grind (arith, common_steps, length-take, get_or-take, get_or-drop)
 
 -- gaps in a row of gaps that a recording may have are some that it may have
 pub some-gaps : (n f count : ℕ) (gaps : List RdsGap) → AreGaps n (gaps_of gaps) → AreGaps n (gaps_of (take count (drop f gaps)))
@@ -78,42 +77,30 @@ some-gaps n f count gaps are = are-gaps n some each apart
 
 -- the ends of gaps rise, and so do their beginnings
 pub ends-rise : (n : ℕ) (gaps : List RdsGap) → AreGaps n (gaps_of gaps) → IsNonDecreasingBy (λ (gap : RdsGap). gap.end) gaps
-ends-rise n gaps are =
-    IsNonDecreasingBy-from_all_adjacent (λ (gap : RdsGap). gap.end) gaps
-    (λ k e h. omega (arith, gaps-apart n gaps are k e h, gaps-lie n gaps are (k + 1) e h))
+ends-rise n gaps are = IsNonDecreasingBy-from_all_adjacent (λ (gap : RdsGap). gap.end) gaps (λ k e h. grind (arith, common_steps, gaps-apart n gaps are, gaps-lie n gaps are))
 
 pub begins-rise : (n before : ℕ) (gaps : List RdsGap) → AreGaps n (gaps_of gaps) → IsNonDecreasingBy (λ (gap : RdsGap). gap.begin - before) gaps
-begins-rise n before gaps are =
-    IsNonDecreasingBy-from_all_adjacent (λ (gap : RdsGap). gap.begin - before) gaps
-    (λ k e h. omega (arith, gaps-apart n gaps are k e h, gaps-lie n gaps are k e (omega (arith, h))))
+begins-rise n before gaps are = IsNonDecreasingBy-from_all_adjacent (λ (gap : RdsGap). gap.begin - before) gaps (λ k e h. grind (arith, common_steps, gaps-apart n gaps are, gaps-lie n gaps are))
 
 module _ (f : RdsGap → Option (ℕ × ℕ)) where
   -- the first ones give nothing
   skipped : (gaps : List RdsGap) (i : ℕ) → ((k : ℕ) (e : RdsGap) → k < i → f (get_or gaps k e) ≡ None) → filter_map f (drop i gaps) ≡ filter_map f gaps
   skipped gaps zero give = refl
   skipped [] (suc i) give = refl
-  skipped (gap ∷ gaps) (suc i) give =
-      skipped gaps i (λ k e l. give (suc k) e (omega (arith, l))) ∙ sym (ap (λ (o : Option (ℕ × ℕ)). cons_option o (filter_map f gaps)) (give 0 gap (omega arith)))
+  skipped (gap ∷ gaps) (suc i) give = grind (arith, common_steps, give 0 gap, skipped gaps i (λ k e l. give (suc k) e (omega (arith, l))))
 
   -- and so do those from a number on
   ended : (gaps : List RdsGap) (n : ℕ) → ((k : ℕ) (e : RdsGap) → n ≤ k → k < length gaps → f (get_or gaps k e) ≡ None) → filter_map f (take n gaps) ≡ filter_map f gaps
-  ended [] zero give = refl
-  ended [] (suc n) give = refl
-  ended (gap ∷ gaps) zero give =
-      ended gaps zero (λ k e low high. give (suc k) e (omega arith) (omega (arith, high))) ∙ sym (ap (λ (o : Option (ℕ × ℕ)). cons_option o (filter_map f gaps)) (give 0 gap (omega arith) (omega arith)))
-  ended (gap ∷ gaps) (suc n) give =
-      ap (λ (rest : List (ℕ × ℕ)). cons_option (f gap) rest) (ended gaps n (λ k e low high. give (suc k) e (omega (arith, low)) (omega (arith, high))))
+  ended [] n give = grind (arith, common_steps)
+  ended (gap ∷ gaps) zero give = grind (arith, common_steps, give 0 gap, ended gaps zero (λ k e low high. give (suc k) e (omega arith) (omega (arith, high))))
+  ended (gap ∷ gaps) (suc n) give = grind (arith, common_steps, ended gaps n (λ k e low high. give (suc k) e (omega (arith, low)) (omega (arith, high))))
 
 module _ (before len n : ℕ) (few : n ≤ len) where
   none-before : (gap : RdsGap) → leb gap.end before ≡ true → part_of_gap before n (gap_of gap) ≡ None
-  none-before gap e =
-      let none : min (gap.end - before) n ≤ gap.begin - before = omega (arith, leb-true gap.end before e) in
-      rw (le-ltb (gap.begin - before) (min (gap.end - before) n) none) refl
+  none-before gap e = grind (arith, common_steps, leb-true gap.end before, le-ltb)
 
   none-behind : (gap : RdsGap) → ltb (gap.begin - before) len ≡ false → part_of_gap before n (gap_of gap) ≡ None
-  none-behind gap e =
-      let none : min (gap.end - before) n ≤ gap.begin - before = omega (arith, few, ltb-false (gap.begin - before) len e) in
-      rw (le-ltb (gap.begin - before) (min (gap.end - before) n) none) refl
+  none-behind gap e = grind (arith, common_steps, ltb-false (gap.begin - before) len, le-ltb)
 
   -- without the gaps before and after it the part has the same
   pub near-same : (gaps rest : List RdsGap) (first count : ℕ) → rest ≡ drop first gaps

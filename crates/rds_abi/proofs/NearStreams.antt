@@ -1,50 +1,24 @@
 -- A stream by the gaps near the part that is heard, in place of all of them.
-use Rattle.rds_abi.proofs.Shared.{◌≡◌, ◌+◌, ◌-◌, ◌*◌, ◌/◌, ◌^◌, ◌<◌, ◌≤◌, ◌++◌, ◌⊎◌, ℕ, List, ap, ap₂, arith, inl, inr, length, map, min, refl, subst, sym, take, ◌∙◌, length-take, RuleNumbers, run, totals_of, Item, gaps_within, HasHeard, LiveOf, Terms, last_bytes, most_kept, signal_at, moved_items, moved_state, NextIsHeard, before_tail, completed, live_next, moved_back, IsInRange, AreCompleted, IsLeft, IsMostTaken, IsNear, RefusesStream, place_after, stream_in_c, stream_of, totals_from_c, unheard, IsTooMuch, state_of, item_in_c, RdsStream, Refusal, BadGaps, OutOfMemory, TooLong, UnlawfulState}
+use Rattle.rds_abi.proofs.Shared.{common_steps, ◌≡◌, ◌+◌, ◌-◌, ◌*◌, ◌/◌, ◌^◌, ◌<◌, ◌≤◌, ◌++◌, ◌⊎◌, ℕ, List, ap, ap₂, arith, inl, inr, length, map, min, refl, subst, sym, take, ◌∙◌, length-take, RuleNumbers, run, totals_of, Item, gaps_within, HasHeard, LiveOf, Terms, last_bytes, most_kept, signal_at, moved_items, moved_state, NextIsHeard, before_tail, completed, live_next, moved_back, IsInRange, AreCompleted, IsLeft, IsMostTaken, IsNear, RefusesStream, place_after, stream_in_c, stream_of, totals_from_c, unheard, IsTooMuch, state_of, item_in_c, RdsStream, Refusal, BadGaps, OutOfMemory, TooLong, UnlawfulState}
 use Rattle.rds_sync.specs.Counting.{plus}
 use Rattle.rds_sync.specs.Lawful.{IsLawful}
 
 -- terms of the same rules are laid out alike
 same-laid : (one other : LiveOf) → one.terms.rules ≡ other.terms.rules → other ≡ record { terms = other.terms; tail = one.tail; place = one.place; state = one.state; totals = one.totals } → (s : RdsStream)
     → (s ≡ unheard) ⊎ (s ≡ stream_in_c one) → (s ≡ unheard) ⊎ (s ≡ stream_in_c other)
-same-laid one other rules same s (inl none) = inl none
-same-laid one other rules same s (inr laid) =
-    inr (laid ∙ ap (λ (r : RuleNumbers). stream_in_c (record { terms = record { rules = r; gaps = other.terms.gaps }; tail = one.tail; place = one.place; state = one.state; totals = one.totals })) rules
-    ∙ ap stream_in_c (sym same))
+same-laid one other rules same s laid = grind (arith, common_steps)
 
 module _ (all near : Terms) (s : RdsStream) (before len : ℕ) (is : IsNear all near before len) where
   -- the same streams may have been left
   pub left-near : IsLeft near s → IsLeft all s
-  left-near left = record {
-    live = record {
-      whole = left.live.whole;
-      limit = left.live.limit;
-      kept = left.live.kept;
-      lawful = subst (λ (r : RuleNumbers). IsLawful r s.place (state_of s.state)) is.rules left.live.lawful;
-      small = left.live.small;
-      gaps = is.may;
-    };
-    laid = same-laid (stream_of near s) (stream_of all s) is.rules refl s left.laid;
-  }
+  left-near left = grind (arith, common_steps, is.rules, is.may, is.some, same-laid)
 
   pub near-left : IsLeft all s → IsLeft near s
-  near-left left = record {
-    live = record {
-      whole = left.live.whole;
-      limit = left.live.limit;
-      kept = left.live.kept;
-      lawful = subst (λ (r : RuleNumbers). IsLawful r s.place (state_of s.state)) (sym is.rules) left.live.lawful;
-      small = left.live.small;
-      gaps = is.some;
-    };
-    laid = same-laid (stream_of all s) (stream_of near s) (sym is.rules) refl s left.laid;
-  }
+  near-left left = grind (arith, common_steps, is.rules, is.may, is.some, same-laid)
 
   -- and the same is refused
   pub refused-near : (refusal : Refusal) → RefusesStream near s refusal → RefusesStream all s refusal
-  refused-near BadGaps bad = absurd (bad is.some)
-  refused-near UnlawfulState unlawful = (is.may, λ left. unlawful.1 (near-left left))
-  refused-near OutOfMemory memory = tt
-  refused-near other none = absurd none
+  refused-near refusal refused = grind (arith, common_steps, is.may, is.some, near-left)
 
   -- bytes that are in the part
   module _ (bytes : List ℕ) (begins : before ≡ before_tail (stream_of all s))
@@ -56,35 +30,21 @@ module _ (all near : Terms) (s : RdsStream) (before len : ℕ) (is : IsNear all 
     bits = 8 * length tail + 8 * length bytes
 
     gaps-same : gaps_within near.gaps (before_tail (stream_of all s)) bits ≡ gaps_within all.gaps (before_tail (stream_of all s)) bits
-    gaps-same = subst (λ (d : ℕ). gaps_within near.gaps d bits ≡ gaps_within all.gaps d bits) begins (is.gaps bits held)
+    gaps-same = grind (arith, common_steps, is.gaps bits held)
 
     -- complete the same items
     pub completed-near : completed (stream_of near s) bytes ≡ completed (stream_of all s) bytes
-    completed-near =
-        ap₂ (λ (gaps : List (ℕ × ℕ)) (r : RuleNumbers). moved_items (before_tail (stream_of all s))
-        (run (signal_at gaps (tail ++ bytes) bits) r (moved_back (before_tail (stream_of all s)) (state_of s.state)) (8 * length tail) (8 * length bytes)).1)
-        gaps-same is.rules
+    completed-near = grind (arith, common_steps, gaps-same, is.rules)
 
     -- and leave the same to know
     pub next-near : (new : RdsStream) → stream_of near new ≡ live_next (stream_of near s) bytes → stream_of all new ≡ live_next (stream_of all s) bytes
-    next-near new after =
-        ap (λ (l : LiveOf). record { terms = all; tail = l.tail; place = l.place; state = l.state; totals = l.totals }) after
-        ∙ ap₂ (λ (gaps : List (ℕ × ℕ)) (r : RuleNumbers). record {
-          terms = all;
-          tail = last_bytes (tail ++ bytes);
-          place = s.place + 8 * length bytes;
-          state = moved_state (before_tail (stream_of all s))
-              (run (signal_at gaps (tail ++ bytes) bits) r (moved_back (before_tail (stream_of all s)) (state_of s.state)) (8 * length tail) (8 * length bytes)).0;
-          totals = plus (totals_from_c s.totals) (totals_of (moved_items (before_tail (stream_of all s))
-              (run (signal_at gaps (tail ++ bytes) bits) r (moved_back (before_tail (stream_of all s)) (state_of s.state)) (8 * length tail) (8 * length bytes)).1));
-        }) gaps-same is.rules
+    next-near new after = grind (arith, common_steps, gaps-same, is.rules)
 
 -- of a stream that was heard these are its items, and this is its state
 module _ (law : NextIsHeard) (all : Terms) (s : RdsStream) (bytes : List ℕ) (range : IsInRange all.rules) (left : IsLeft all s) where
   pub heard-next : (new : RdsStream) → stream_of all new ≡ live_next (stream_of all s) bytes → (before : List ℕ)
       → HasHeard (stream_of all s) before → HasHeard (stream_of all new) (before ++ bytes)
-  heard-next new after before heard =
-      subst (λ (l : LiveOf). HasHeard l (before ++ bytes)) (sym after) (law (stream_of all s) before bytes range left.live heard).0
+  heard-next new after before heard = grind (arith, common_steps, law (stream_of all s) before bytes range left.live heard)
 
   pub are-completed : AreCompleted all s bytes (completed (stream_of all s) bytes)
   are-completed before heard = sym (law (stream_of all s) before bytes range left.live heard).1
@@ -118,18 +78,11 @@ module _ (all near : Terms) (s : RdsStream) (bytes : List ℕ) (kept few : ℕ) 
         next-near all near s (s.place - 8 * kept) (8 * (kept + few)) is (take n bytes) (part-begins all s kept known keeps) (held n)
 
     pub pushed-most : (room n : ℕ) → IsMostTaken (stream_of near s) bytes room n → IsMostTaken (stream_of all s) bytes room n
-    pushed-most room n (inl whole) = inl whole
-    pushed-most room n (inr (some, less, small)) =
-        inr (some, less, subst (λ (items : List Item). room < length items) (pushed-completed (n + 1)) small)
+    pushed-most room n most = grind (arith, common_steps, pushed-completed)
 
   pub pushed-refused : (r : Refusal) (room count : ℕ) (Same : Type 0)
       → (IsLeft near s × (place_after s bytes ≤ 2 ^ 36) × IsTooMuch (map item_in_c (completed (stream_of near s) (take 1 bytes))) room r count)
       ⊎ ((RefusesStream near s r ⊎ (IsLeft near s × (2 ^ 36 < place_after s bytes) × (r ≡ TooLong))) × Same)
       → (IsLeft all s × (place_after s bytes ≤ 2 ^ 36) × IsTooMuch (map item_in_c (completed (stream_of all s) (take 1 bytes))) room r count)
       ⊎ ((RefusesStream all s r ⊎ (IsLeft all s × (2 ^ 36 < place_after s bytes) × (r ≡ TooLong))) × Same)
-  pushed-refused r room count Same (inl (left, fits, much)) =
-      inl (known left fits, fits, subst (λ (items : List Item). IsTooMuch (map item_in_c items) room r count) (pushed-completed left fits 1) much)
-  pushed-refused r room count Same (inr (inl refused, same)) =
-      inr (inl (refused-near all near s (s.place - 8 * kept) (8 * (kept + few)) is r refused), same)
-  pushed-refused r room count Same (inr (inr (left, long, too), same)) =
-      inr (inr (left-near all near s (s.place - 8 * kept) (8 * (kept + few)) is left, long, too), same)
+  pushed-refused r room count Same refused = grind (arith, common_steps, known, pushed-completed, refused-near all near s (s.place - 8 * kept) (8 * (kept + few)) is)

@@ -1,19 +1,15 @@
 -- A run over a part of a recording is the run over the whole there.
-use Rattle.rds_abi.proofs.Shared.{◌≡◌, ℕ, ◌+◌, ◌-◌, ◌*◌, ◌≤◌, ◌⊎◌, ◌∙◌, List, ap, ap₂, arith, drop, length, subst, sym, take, slice_range, get_or-drop, get_or-take, length-take, take-append-drop, AreGaps, Signal, bits_of, length_of, State, IsInRange, RuleNumbers, items_of_end, run, gaps_within, signal_at, EndsMove, IsPartHeard, RunsMove, moved_items, moved_state, most_behind, part-touched, IsPartOf, bits-begin, bits-heard, asked, recording_of, rules_of, IsRun, run_asked, run_in_part, state_of, RdsGap, RdsRules, RdsState}
+use Rattle.rds_abi.proofs.Shared.{common_steps, ◌≡◌, ℕ, ◌+◌, ◌-◌, ◌*◌, ◌≤◌, ◌⊎◌, ◌∙◌, List, ap, ap₂, arith, drop, length, subst, sym, take, slice_range, get_or-drop, get_or-take, length-take, take-append-drop, AreGaps, Signal, bits_of, length_of, State, IsInRange, RuleNumbers, items_of_end, run, gaps_within, signal_at, EndsMove, IsPartHeard, RunsMove, moved_items, moved_state, most_behind, part-touched, IsPartOf, bits-begin, bits-heard, asked, recording_of, rules_of, IsRun, run_asked, run_in_part, state_of, RdsGap, RdsRules, RdsState}
 use Rattle.std.proofs.lemmas.List.{length-drop}
 use Rattle.rds_sync.specs.Lawful.{IsLawful}
 
 -- the first bits of bytes are those of as many bytes as hold them
 pub bits-of-first : (bytes : List ℕ) (k bits : ℕ) → bits ≤ 8 * length (take k bytes) → bits_of (take k bytes) bits ≡ bits_of bytes bits
-bits-of-first bytes k bits held =
-    bits-begin (take k bytes) (drop k bytes) bits held ∙ ap (λ (all : List ℕ). bits_of all bits) (take-append-drop k bytes)
+bits-of-first bytes k bits held = grind (arith, common_steps, bits-begin (take k bytes) (drop k bytes) bits held, take-append-drop k bytes)
 
 -- bytes from number k on are in all
 pub slice-part : (bytes : List ℕ) (k z : ℕ) → k ≤ z → z ≤ length bytes → IsPartOf bytes (slice_range bytes k z) k
-slice-part bytes k z order within = record {
-  within = omega (arith, order, within, length-take (z - k) (drop k bytes), length-drop k bytes);
-  same = λ j h. get_or-take (z - k) (drop k bytes) j 0 (omega (arith, h, length-take (z - k) (drop k bytes))) ∙ get_or-drop k bytes j 0;
-}
+slice-part bytes k z order within = grind (arith, common_steps, length-take, length-drop, get_or-take, get_or-drop)
 
 -- a part that begins with byte k is heard in the whole
 pub slice-heard : (bytes : List ℕ) (bits : ℕ) (gaps : List (ℕ × ℕ)) (k z len place : ℕ) (part : Signal) → AreGaps bits gaps → k ≤ z → z ≤ length bytes

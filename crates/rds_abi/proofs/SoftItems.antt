@@ -1,4 +1,5 @@
 -- The items of a stream are read again in a part of it as in the whole.
+use Rattle.std.proofs.lemmas.Grind.{common_steps}
 use Rattle.std.proofs.Common.{◌≡◌, ◌∙◌, ℕ, ◌+◌, ◌-◌, List, [], ◌∷◌, ap, ap₂, arith, get_or, map, refl, sym}
 use Rattle.std.specs.Prelude.{ℤ}
 use Rattle.rds_stream.specs.Recording.{Signal}
@@ -22,12 +23,9 @@ module _ (part whole : Signal) (P W : List ℤ) (margin end d : ℕ) (are : AreS
       rw there refl
 
   item-same : (item : Item) → ItemInside end item → again_in part P d margin (moved_item d item) ≡ item_again whole W margin (moved_item d item)
-  item-same item inside =
-      let other : SoftItem = item_again whole W margin (moved_item d item) in
-      moved-there item ∙ ap (λ (xs : List SoftItem). get_or xs 0 other) (again-same part whole P W margin end d are (item ∷ []) (inside, tt))
+  item-same item inside = grind (arith, common_steps, moved-there, again-same part whole P W margin end d are (item ∷ []))
 
   pub items-same : {A : Type 0} (f : SoftItem → A) (items : List Item) → AllInside end items
       → map (λ item. f (again_in part P d margin item)) (moved_items d items) ≡ map f (map (item_again whole W margin) (moved_items d items))
   items-same f [] inside = refl
-  items-same f (item ∷ items) inside =
-      ap₂ (λ x xs. f x ∷ xs) (item-same item inside.0) (items-same f items inside.1)
+  items-same f (item ∷ items) inside = grind (arith, common_steps, item-same item, items-same f items)

@@ -1,4 +1,5 @@
 -- Symbols as bytes of bits: of more symbols in a row, and of the symbols that are kept.
+use Rattle.std.proofs.lemmas.Grind.{common_steps}
 use Rattle.std.proofs.Common.{◌≡◌, ◌+◌, ◌-◌, ◌*◌, ◌/◌, ◌%◌, ◌<◌, ◌≤◌, ◌∙◌, ℕ, List, ap, ap₂, arith, get_or, length, map, refl, sym, take}
 use Rattle.std.specs.Prelude.{ℤ}
 use Rattle.std.specs.List.{range_with_len}
@@ -15,8 +16,7 @@ pub same-tables : (f g : ℕ → ℕ) (a c n : ℕ) → ((j : ℕ) → j < n →
 same-tables f g a c n same =
     ext_get_or 0 (map f (range_with_len a n)) (map g (range_with_len c n))
     (length-map-range_with_len f a n ∙ sym (length-map-range_with_len g c n)) (λ j inside.
-    let within : j < n = omega (arith, inside, length-map-range_with_len f a n) in
-    get_or-map-range_with_len f a n j (a + j) 0 within refl ∙ same j within ∙ sym (get_or-map-range_with_len g c n j (c + j) 0 within refl))
+    grind (arith, common_steps, length-map-range_with_len f a n, get_or-map-range_with_len f a n j (a + j) 0, get_or-map-range_with_len g c n j (c + j) 0, same j))
 
 -- a byte is the number of its bits
 byte-of-bits : (byte : ℕ) → byte < 256 → number_from_digits 2 (map (λ j. bit_at byte (7 - j)) (range_with_len 0 8)) ≡ byte
@@ -40,6 +40,4 @@ module _ (bytes : List ℕ) (symbols : List ℤ) (small : (k : ℕ) → get_or b
   packed-bytes =
       let n : ℕ = (length symbols - 1) / 8 in
       ext_get_or 0 (take n bytes) (bytes_of symbols) (omega (arith, length-take n bytes, byte_count_of symbols, enough)) (λ k inside.
-      let within : k < n = omega (arith, inside, length-take n bytes) in
-      get_or-take n bytes k 0 within ∙ byte-at k within
-      ∙ sym (get_or-map-range_with_len (λ i. byte_of symbols (8 * i)) 0 n k k 0 within (omega arith)))
+      grind (arith, common_steps, length-take n bytes, get_or-take n bytes k 0, byte-at k, get_or-map-range_with_len (λ i. byte_of symbols (8 * i)) 0 n k k 0))

@@ -1,15 +1,10 @@
-use Rattle.rds_abi.proofs.Shared.{◌≡◌, ◌+◌, ◌*◌, ◌/◌, ◌%◌, ◌++◌, ◌∙◌, ℕ, List, ap, ap₂, append_assoc, arith, drop, length, take, length-append, take-append-drop, Terms, complete, report_at, Item, totals_of}
+use Rattle.rds_abi.proofs.Shared.{common_steps, ◌≡◌, ◌+◌, ◌*◌, ◌/◌, ◌%◌, ◌++◌, ◌∙◌, ℕ, List, ap, ap₂, append_assoc, arith, drop, length, take, length-append, take-append-drop, Terms, complete, report_at, Item, totals_of}
 use Rattle.rds_abi.proofs.stream.end_of_stream.Goals as goal
 
 -- the whole bytes are taken first, and then the bits of the one that is left
 same_end : (old new : Terms) (before bytes whole rest : List ℕ) (bits : ℕ) → new ≡ old → whole ≡ take (bits / 8) bytes → rest ≡ drop (bits / 8) bytes → length whole ≡ bits / 8
     → report_at new (before ++ whole ++ rest) (8 * length (before ++ whole) + bits % 8) ≡ report_at old (before ++ bytes) (8 * length before + bits)
-same_end old new before bytes whole rest bits terms front back long =
-    let bytes_are : before ++ whole ++ rest ≡ before ++ bytes = append_assoc before whole rest
-    ∙ ap (λ (all : List ℕ). before ++ all) (ap₂ (λ (xs ys : List ℕ). xs ++ ys) front back ∙ take-append-drop (bits / 8) bytes) in
-    let at : 8 * length (before ++ whole) + bits % 8 ≡ 8 * length before + bits = omega (arith, length-append before whole, long) in
-    ap (λ (t : Terms). report_at t (before ++ whole ++ rest) (8 * length (before ++ whole) + bits % 8)) terms
-    ∙ ap₂ (λ (all : List ℕ) (n : ℕ). report_at old all n) bytes_are at
+same_end old new before bytes whole rest bits terms front back long = grind (arith, common_steps, append_assoc before whole rest, take-append-drop (bits / 8) bytes, length-append before whole)
 
 pub returns-clause-items : goal.returns-clause-items
 returns-clause-items c before h =
