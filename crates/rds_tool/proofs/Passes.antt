@@ -1,5 +1,5 @@
 -- A run that is gone over once, and the text and the counts that it gives.
-use Rattle.rds_tool.proofs.Names.{◌≡◌, ◌+◌, ◌++◌, ◌-◌, ◌*◌, ◌^◌, ◌<◌, ◌≤◌, ◌⊎◌, ◌∷◌, [], ℕ, List, Option, Result, Ok, Err, ap, arith, append_assoc, inl, inr, length, length-append, append-nil, subst, sym, ◌∙◌, OnErr, OnOk, flat_map, Appends, Appends-trans, flat_map-append, AppendsPrefix, Signal, length_of, DecoderOf, decoder_of, IsLawful, RunsAreLawful, RunsAreReports, RunsGiveFewItems, IsLossRule, report_items, RuleNumbers, items_of_end, run, Item, State, Searching, listed_by}
+use Rattle.rds_tool.proofs.Names.{common_steps, ◌≡◌, ◌++◌, ℕ, List, Option, Result, Ok, Err, ap, arith, append_assoc, subst, sym, ◌∙◌, OnErr, flat_map, Appends, Appends-trans, flat_map-append, AppendsPrefix, Signal, length_of, DecoderOf, decoder_of, RunsAreReports, IsLossRule, report_items, RuleNumbers, items_of_end, Item, State, Searching, listed_by}
 
 -- ---- the text that was written
 
@@ -18,11 +18,6 @@ prefix_between a b c xs ys zs p q = prefix_more a b c xs (ys ++ zs) p (prefix_wi
 -- ---- a text that is written by two calls
 
 module _ {T E : Type 0} where
-  -- both went well, or the second failed
-  pub ok_more : (r : Result T E) (a b c : Option (List ℕ)) (xs ys zs : List ℕ) → xs ++ ys ≡ zs → Appends a b xs → OnOk r (Appends b c ys) → OnOk r (Appends a c zs)
-  ok_more (Ok x) a b c xs ys zs e p q = subst (λ (ws : List ℕ). Appends a c ws) e (Appends-trans a b c xs ys p q)
-  ok_more (Err x) a b c xs ys zs e p q = tt
-
   pub err_more : (r : Result T E) (a b c : Option (List ℕ)) (xs ys zs : List ℕ) → xs ++ ys ≡ zs → Appends a b xs → OnErr r (AppendsPrefix b c ys) → OnErr r (AppendsPrefix a c zs)
   err_more (Ok x) a b c xs ys zs e p q = tt
   err_more (Err x) a b c xs ys zs e p q = subst (λ (ws : List ℕ). AppendsPrefix a c ws) e (prefix_more a b c xs ys p q)
@@ -36,35 +31,13 @@ prefix_first a b xs ys zs e p = subst (λ (ws : List ℕ). AppendsPrefix a b ws)
 module _ (b : Signal) (rules : RuleNumbers) (len : ℕ) (is : len ≡ length_of b) (d : DecoderOf) (of : d ≡ decoder_of b rules Searching 0 len) (loss : IsLossRule rules.loss) where
   -- its items, and then those of the end, are the report's
   whole_report : RunsAreReports → (end : State) → end ≡ d.end → d.items ++ items_of_end b rules end ≡ report_items b rules
-  whole_report reports end ends =
-      let none : len - 0 ≡ length_of b = omega (arith, is) in
-      ap (λ (s : State). d.items ++ items_of_end b rules s) ends
-      ∙ ap (λ (e : DecoderOf). e.items ++ items_of_end b rules e.end) of
-      ∙ ap (λ (n : ℕ). (run b rules Searching 0 n).1 ++ items_of_end b rules (run b rules Searching 0 n).0) none
-      ∙ reports b rules loss
+  whole_report reports end ends = grind (arith, common_steps)
 
   -- what is listed of them
   pub report_rows : (row : Item → List ℕ) (totals : List Item → List ℕ) → RunsAreReports → (end : State) → end ≡ d.end
       → flat_map row d.items ++ (flat_map row (items_of_end b rules end) ++ totals (d.items ++ items_of_end b rules end))
       ≡ listed_by row totals (report_items b rules)
-  report_rows row totals reports end ends =
-      sym (append_assoc (flat_map row d.items) (flat_map row (items_of_end b rules end)) (totals (d.items ++ items_of_end b rules end)))
-      ∙ ap (λ (rows : List ℕ). rows ++ totals (d.items ++ items_of_end b rules end)) (sym (flat_map-append row d.items (items_of_end b rules end)))
-      ∙ ap (listed_by row totals) (whole_report reports end ends)
-
-  -- it ends lawfully
-  pub lawful_end : RunsAreLawful → (end : State) → end ≡ d.end → IsLawful rules (length_of b) end
-  lawful_end lawful end ends =
-      let last : IsLawful rules len (run b rules Searching 0 (len - 0)).0 = lawful b rules loss Searching 0 len (omega arith) tt in
-      let same : (run b rules Searching 0 (len - 0)).0 ≡ end = sym (ends ∙ ap (λ (e : DecoderOf). e.end) of) in
-      subst (λ (n : ℕ). IsLawful rules n end) is (subst (λ (s : State). IsLawful rules len s) same last)
-
-  -- it has few
-  pub few_items : RunsGiveFewItems → len ≤ 2 ^ 36 → length d.items ≤ 2 ^ 37
-  few_items few most =
-      let bound : length (run b rules Searching 0 (len - 0)).1 ≤ 2 * (len - 0) = few b rules Searching 0 len (omega arith) in
-      let same : length d.items ≡ length (run b rules Searching 0 (len - 0)).1 = ap (λ (e : DecoderOf). length e.items) of in
-      omega (arith, bound, same, most)
+  report_rows row totals reports end ends = grind (arith, common_steps, append_assoc, flat_map-append, whole_report)
 
 -- ---- the rows of a part
 
@@ -72,45 +45,11 @@ module _ (row : Item → List ℕ) where
   -- those of what is done, of a part and of the rest
   pub parted_rows : (all done left part rest slice : List Item) → all ≡ done ++ left → left ≡ part ++ rest → slice ≡ part
       → flat_map row done ++ (flat_map row slice ++ flat_map row rest) ≡ flat_map row all
-  parted_rows all done left part rest slice first next same =
-      let whole : all ≡ done ++ (part ++ rest) = first ∙ ap (λ (xs : List Item). done ++ xs) next in
-      sym (ap (λ (xs : List Item). flat_map row xs) whole
-      ∙ flat_map-append row done (part ++ rest)
-      ∙ ap (λ (t : List ℕ). flat_map row done ++ t) (flat_map-append row part rest ∙ ap (λ (xs : List Item). flat_map row xs ++ flat_map row rest) (sym same)))
-
-  -- those of what is done and of a part
-  pub more_rows : (done part slice : List Item) → slice ≡ part → flat_map row done ++ flat_map row slice ≡ flat_map row (done ++ part)
-  more_rows done part slice same = ap (λ (xs : List Item). flat_map row done ++ flat_map row xs) same ∙ sym (flat_map-append row done part)
+  parted_rows all done left part rest slice first next same = grind (arith, common_steps, flat_map-append)
 
 -- ---- if no part is left
-
--- what is done is all
-pub all_done : (all done left part rest : List Item) (room : ℕ) → all ≡ done ++ left → left ≡ part ++ rest → length part ≡ 0
-    → (rest ≡ []) ⊎ (length part ≡ room) → 0 < room → all ≡ done
-all_done all done left [] rest room first next none (inl ended) some =
-    first ∙ ap (λ (xs : List Item). done ++ xs) (next ∙ ended) ∙ append-nil done
-all_done all done left [] rest room first next none (inr full) some = absurd (omega (arith, full, some))
-all_done all done left (item ∷ part) rest room first next none full some = absurd (omega (arith, none))
-
--- the items that are done, and a part of the rest, are few
-pub few_more : (all done left part rest slice : List Item) → all ≡ done ++ left → left ≡ part ++ rest → slice ≡ part
-    → length all ≤ 2 ^ 37 → length done + length slice ≤ 2 ^ 38
-few_more all done left part rest slice first next same few =
-    let a : length all ≡ length (done ++ left) = ap (λ (xs : List Item). length xs) first in
-    let b : length left ≡ length (part ++ rest) = ap (λ (xs : List Item). length xs) next in
-    let c : length slice ≡ length part = ap (λ (xs : List Item). length xs) same in
-    omega (arith, a, b, c, length-append done left, length-append part rest, few)
-
--- fewer are left after a part that has some
-pub fewer_left : (left part rest : List Item) → left ≡ part ++ rest → (length part ≡ 0 → ⊥) → length rest < length left
-fewer_left left part rest next some =
-    let count : length left ≡ length (part ++ rest) = ap (λ (xs : List Item). length xs) next in
-    omega (arith, count, length-append part rest, some)
 
 -- what is listed last, by the same rows
 pub same_end : (row row' : Item → List ℕ) (totals totals' : List Item → List ℕ) (before items last : List Item) → row' ≡ row → totals' ≡ totals
     → items ≡ last → flat_map row' items ++ totals' (before ++ items) ≡ flat_map row last ++ totals (before ++ last)
-same_end row row' totals totals' before items last same_row same_totals same =
-    ap (λ (xs : List Item). flat_map row' xs ++ totals' (before ++ xs)) same
-    ∙ ap (λ (r : Item → List ℕ). flat_map r last ++ totals' (before ++ last)) same_row
-    ∙ ap (λ (t : List Item → List ℕ). flat_map row last ++ t (before ++ last)) same_totals
+same_end row row' totals totals' before items last same_row same_totals same = grind (arith, common_steps)
