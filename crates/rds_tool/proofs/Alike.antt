@@ -1,5 +1,5 @@
 -- Recordings that are heard alike have one report.
-use Rattle.rds_tool.proofs.Names.{◌≡◌, ℕ, zero, suc, ◌+◌, ◌-◌, ◌*◌, ◌/◌, ◌%◌, ◌<◌, ◌≤◌, ◌++◌, List, [], ◌∷◌, Bool, true, false, Option, Some, None, drop, take, length, map, refl, sym, ap, ap₂, ◌∙◌, subst, arith, inl, or_parts, nat_tests, length-append, length-map-range_with_len, get_or-append, bit_at, list_any, range_with_len, nat_le, nat_lt, ◌&&◌, EndsMove, IsPartHeard, RunsMove, moved_item, moved_items, moved_state, Terms, complete, run_of, signal_at, signal_of, Signal, bits_of, heard, is_touched_by, length_of, packed_bit, touched, window, RunsAreLawful, RunsAreReports, RunsJoin, IsLawful, IsLossRule, report_items, RuleNumbers, items_of_end, run, Item, Acquired, Group, LostLock, Lock, State, Locked, Searching, DifferInGaps, is_in_gap}
+use Rattle.rds_tool.proofs.Names.{common_steps, ◌≡◌, ℕ, zero, suc, ◌+◌, ◌-◌, ◌*◌, ◌/◌, ◌%◌, ◌<◌, ◌≤◌, ◌++◌, List, [], ◌∷◌, Bool, true, false, Option, Some, None, drop, take, length, map, refl, sym, ap, ap₂, ◌∙◌, subst, arith, or_parts, nat_tests, length-append, length-map-range_with_len, get_or-append, bit_at, list_any, range_with_len, nat_le, nat_lt, ◌&&◌, EndsMove, IsPartHeard, RunsMove, moved_item, moved_items, moved_state, Terms, complete, run_of, signal_at, signal_of, Signal, bits_of, heard, is_touched_by, length_of, packed_bit, touched, window, RunsAreLawful, RunsAreReports, RunsJoin, IsLawful, IsLossRule, report_items, RuleNumbers, items_of_end, run, Item, Lock, State, Locked, Searching, DifferInGaps, is_in_gap}
 use Rattle.std.specs.Int.Digits.{number_from_digits}
 use Rattle.rds_sync.specs.Ranges.{farthest_reach}
 
@@ -11,13 +11,10 @@ part_alike : (f g : ℕ → ℕ) (from n m a k : ℕ) → a + k ≤ n → a + k 
 part_alike f g from n m zero zero hn hm same = refl
 part_alike f g from zero m zero (suc k) hn hm same = absurd (omega (arith, hn))
 part_alike f g from (suc n) zero zero (suc k) hn hm same = absurd (omega (arith, hm))
-part_alike f g from (suc n) (suc m) zero (suc k) hn hm same =
-    ap₂ (λ (x : ℕ) (xs : List ℕ). x ∷ xs) (same from (omega arith) (omega arith))
-    (part_alike f g (from + 1) n m zero k (omega (arith, hn)) (omega (arith, hm)) (λ j low high. same j (omega (arith, low)) (omega (arith, high))))
+part_alike f g from (suc n) (suc m) zero (suc k) hn hm same = grind (arith, common_steps, part_alike f g (from + 1) n m zero k (omega (arith, hn)) (omega (arith, hm)) (λ j low high. same j (omega (arith, low)) (omega (arith, high))))
 part_alike f g from zero m (suc a) k hn hm same = absurd (omega (arith, hn))
 part_alike f g from (suc n) zero (suc a) k hn hm same = absurd (omega (arith, hm))
-part_alike f g from (suc n) (suc m) (suc a) k hn hm same =
-    part_alike f g (from + 1) n m a k (omega (arith, hn)) (omega (arith, hm)) (λ j low high. same j (omega (arith, low)) (omega (arith, high)))
+part_alike f g from (suc n) (suc m) (suc a) k hn hm same = grind (arith, common_steps, part_alike f g (from + 1) n m a k (omega (arith, hn)) (omega (arith, hm)) (λ j low high. same j (omega (arith, low)) (omega (arith, high))))
 
 windows_alike : (xs ys : List ℕ) (n m i : ℕ) → 25 ≤ i → i < n → i < m → ((j : ℕ) → i ≤ j + 25 → j ≤ i → packed_bit xs j ≡ packed_bit ys j)
     → window (bits_of xs n) i ≡ window (bits_of ys m) i
@@ -51,13 +48,10 @@ lock_same : (lock : Lock) (due : ℕ) → due ≡ lock.due → Locked (record lo
 lock_same lock due same = ap (λ (d : ℕ). Locked (record lock { due = d })) same
 
 unmoved_state : (s : State) → moved_state 0 s ≡ s
-unmoved_state Searching = refl
-unmoved_state (Locked lock) = lock_same lock (lock.due + 0) (omega arith)
+unmoved_state s = grind (arith, common_steps, lock_same)
 
 unmoved_item : (item : Item) → moved_item 0 item ≡ item
-unmoved_item (Acquired a x) = ap (λ (p : ℕ). Acquired p x) (omega arith)
-unmoved_item (Group g) = ap (λ (p : ℕ). Group (record g { place = p })) (omega arith)
-unmoved_item (LostLock a) = ap (λ (p : ℕ). LostLock p) (omega arith)
+unmoved_item item = grind (arith, common_steps)
 
 unmoved_items : (items : List Item) → moved_items 0 items ≡ items
 unmoved_items [] = refl
@@ -68,10 +62,7 @@ abbrev IsHeardAlike : Signal → Signal → Type 0
 IsHeardAlike whole part = (i : ℕ) → 25 ≤ i → i < length_of part → heard part i ≡ heard whole i
 
 part_heard : (whole part : Signal) (from : ℕ) → IsHeardAlike whole part → IsPartHeard whole part 0 from
-part_heard whole part from same = record {
-  heard_same = λ i late within. let here : i ≡ i + 0 = omega arith in same i late within ∙ ap (heard whole) here;
-  early = inl refl;
-}
+part_heard whole part from same = grind (arith, common_steps, heard)
 
 -- the run over the part is that over the whole
 pub runs_alike : RunsMove → (whole part : Signal) (rules : RuleNumbers) (n : ℕ) → IsLossRule rules.loss → rules.reach ≤ farthest_reach → IsHeardAlike whole part → n ≤ length_of part
@@ -101,19 +92,14 @@ reports_alike move ends reports lawful whole part rules loss reach same long =
 
 -- bytes that differ only in gaps are heard alike
 pub gaps_alike : (gaps : List (ℕ × ℕ)) (held other : List ℕ) (n : ℕ) → DifferInGaps gaps held other → IsHeardAlike (signal_at gaps other n) (signal_at gaps held n)
-gaps_alike gaps held other n differ i late within =
-    let long : length (bits_of held n) ≡ n = length-map-range_with_len (packed_bit held) 0 n in
-    heard_alike gaps held other n n i late (omega (arith, within, long)) (omega (arith, within, long)) (λ j low high out. sym (differ.bits j out))
+gaps_alike gaps held other n differ i late within = grind (arith, common_steps, length-map-range_with_len, heard_alike)
 
 -- the first bytes of a stream are heard alike in all of it
 front_bit : (xs ys : List ℕ) (i : ℕ) → i < 8 * length xs → packed_bit (xs ++ ys) i ≡ packed_bit xs i
 front_bit xs ys i early = ap (λ (b : ℕ). bit_at b (7 - i % 8)) (get_or-append xs ys 0 (i / 8) (omega arith))
 
 pub fronts_alike : (gaps : List (ℕ × ℕ)) (heard more : List ℕ) (n : ℕ) → 8 * length heard ≤ n → IsHeardAlike (signal_at gaps (heard ++ more) n) (signal_of gaps heard)
-fronts_alike gaps bytes more n enough i late within =
-    let long : length (bits_of bytes (8 * length bytes)) ≡ 8 * length bytes = length-map-range_with_len (packed_bit bytes) 0 (8 * length bytes) in
-    let early : i < 8 * length bytes = omega (arith, within, long) in
-    heard_alike gaps bytes (bytes ++ more) (8 * length bytes) n i late early (omega (arith, early, enough)) (λ j low high out. sym (front_bit bytes more j (omega (arith, high, early))))
+fronts_alike gaps bytes more n enough i late within = grind (arith, common_steps, length-map-range_with_len, heard_alike, front_bit, heard)
 
 -- the items of the first bytes of a stream come first
 pub fronts_are_alike : RunsMove → RunsJoin → (terms : Terms) (heard more : List ℕ) → IsLossRule terms.rules.loss → terms.rules.reach ≤ farthest_reach

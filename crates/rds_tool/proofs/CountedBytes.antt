@@ -1,5 +1,5 @@
 -- A recording that is counted while its bytes come.
-use Rattle.rds_tool.proofs.Names.{◌≡◌, ◌<◌, ◌≤◌, ◌+◌, ◌-◌, ◌*◌, ◌^◌, ◌++◌, ◌∷◌, ◌∙◌, ℕ, Bool, Err, List, [], None, Ok, Option, Result, Some, ap, arith, drop, false, if◌then◌else◌, inl, inr, length, length-append, min, refl, slice_index, sym, subst, take, true, is_some, take-append-add, cases_lt, le-ltb, lt-ltb, append-nil, get_or_append_left, get_or-append_right, length-take, take-append-drop, take-append-le, take_all, take_more, HasHeard, LiveOf, AreGaps, bits_of, claimed, decoded, first_bits, may_be_gaps, IsCounter, IsTextOf, claimed_by, whole, ToolError, BadGaps, BitsPastBytes, HexText, TooLong}
+use Rattle.rds_tool.proofs.Names.{common_steps, ◌≡◌, ◌<◌, ◌≤◌, ◌+◌, ◌-◌, ◌*◌, ◌^◌, ◌++◌, ◌∷◌, ◌∙◌, ℕ, Bool, Err, List, [], Ok, Option, Result, ap, arith, drop, false, if◌then◌else◌, inl, inr, length, length-append, min, refl, slice_index, sym, subst, take, true, is_some, take-append-add, cases_lt, le-ltb, lt-ltb, append-nil, get_or_append_left, get_or-append_right, length-take, take-append-drop, take-append-le, take_all, take_more, HasHeard, LiveOf, AreGaps, bits_of, claimed, decoded, first_bits, IsCounter, IsTextOf, claimed_by, whole, ToolError, BadGaps, BitsPastBytes, HexText, TooLong}
 use Rattle.rds_tool.proofs.Followed.{front_bits}
 use Rattle.rds_tool.proofs.GapLists.{are_gaps, pass_as_gaps}
 use Rattle.rds_tool.proofs.HexDigits.{even_text, odd_text, strange_text}
@@ -8,10 +8,7 @@ use Rattle.rds_tool.proofs.HexDigits.{even_text, odd_text, strange_text}
 
 -- as many of the bytes as there are
 take_few : (n k : ℕ) (xs : List ℕ) → k ≡ min n (length xs) → take n xs ≡ take k xs
-take_few n k xs is = elim (cases_lt n (length xs)) [
-  | inl few ↦ let same : n ≡ k = omega (arith, is, few) in ap (λ m. take m xs) same
-  | inr all ↦ take_all n xs all ∙ sym (take_all k xs (omega (arith, is, all)))
-]
+take_few n k xs is = grind (arith, common_steps, take_all)
 
 -- the first bytes, once more came
 take_on : (n k : ℕ) (xs ys : List ℕ) → k ≡ min (n - length xs) (length ys) → take n (xs ++ ys) ≡ take n xs ++ take k ys
@@ -27,15 +24,10 @@ take_on n k xs ys is = elim (cases_lt (length xs) n) [
 ]
 
 pub few_whole : (bits : Option ℕ) → whole bits ≤ 2 ^ 33
-few_whole None = omega arith
-few_whole (Some n) = omega arith
+few_whole bits = grind (arith, common_steps)
 
 pub none_counted : (bits : Option ℕ) (live : LiveOf) (last : ℕ) → HasHeard live [] → IsCounter live bits 0 last []
-none_counted bits live last heard = record {
-  heard = subst (λ xs. HasHeard live xs) (sym (take_all (whole bits) [] (omega arith))) heard;
-  counts = omega arith;
-  ends = λ more. absurd (omega (arith, more));
-}
+none_counted bits live last heard = grind (arith, common_steps, take_all)
 
 module _ (bits : Option ℕ) (live : LiveOf) (count last : ℕ) (xs : List ℕ) (is : IsCounter live bits count last xs) where
   place_is : live.place ≡ 8 * min (whole bits) (length xs)
@@ -59,10 +51,7 @@ module _ (bits : Option ℕ) (live : LiveOf) (count last : ℕ) (xs : List ℕ) 
   -- ---- its end
 
   pub long_claim : 2 ^ 36 < claimed_by bits count → 2 ^ 36 < claimed bits xs
-  long_claim long = by bits long where
-    by : (bits : Option ℕ) → 2 ^ 36 < claimed_by bits count → 2 ^ 36 < claimed bits xs
-    by None h = omega (arith, h, is.counts)
-    by (Some n) h = h
+  long_claim long = grind (arith, common_steps)
 
   pub too_long : (gaps : List (ℕ × ℕ)) → 2 ^ 36 < claimed_by bits count → first_bits (claimed bits xs) gaps xs ≡ Err TooLong
   too_long gaps long = rw (lt-ltb (2 ^ 36) (claimed bits xs) (long_claim long)) refl
@@ -72,31 +61,20 @@ module _ (bits : Option ℕ) (live : LiveOf) (count last : ℕ) (xs : List ℕ) 
     n = claimed_by bits count
 
     claim_is : claimed bits xs ≡ n
-    claim_is = by bits short where
-      by : (bits : Option ℕ) → claimed_by bits count ≤ 2 ^ 36 → claimed bits xs ≡ claimed_by bits count
-      by None h = omega (arith, h, is.counts)
-      by (Some n) h = refl
+    claim_is = grind (arith, common_steps)
 
     pub too_few : (gaps : List (ℕ × ℕ)) → 8 * count < n → first_bits (claimed bits xs) gaps xs ≡ Err BitsPastBytes
-    too_few gaps more =
-        rw (claim_is, le-ltb (2 ^ 36) n short, lt-ltb (8 * length xs) n (omega (arith, more, short, is.counts))) refl
+    too_few gaps more = grind (arith, common_steps, claim_is, le-ltb, lt-ltb)
 
     module _ (enough : n ≤ 8 * count) where
       held : n ≤ 8 * length xs
       held = omega (arith, enough, is.counts)
 
       pub near_end : (live.place ≤ n) × (n < live.place + 8)
-      near_end = by bits short enough place_is where
-        by : (bits : Option ℕ) → claimed_by bits count ≤ 2 ^ 36 → claimed_by bits count ≤ 8 * count → live.place ≡ 8 * min (whole bits) (length xs)
-            → (live.place ≤ claimed_by bits count) × (claimed_by bits count < live.place + 8)
-        by None h e p = (omega (arith, h, is.counts, p), omega (arith, h, is.counts, p))
-        by (Some n) h e p = (omega (arith, h, e, is.counts, p), omega (arith, h, e, is.counts, p))
+      near_end = grind (arith, common_steps, place_is)
 
       pub bad_gaps : (gaps : List (ℕ × ℕ)) → (AreGaps n gaps → ⊥) → first_bits (claimed bits xs) gaps xs ≡ Err BadGaps
-      bad_gaps gaps none = by (may_be_gaps 0 gaps n) refl where
-        by : (lawful : Bool) → may_be_gaps 0 gaps n ≡ lawful → first_bits (claimed bits xs) gaps xs ≡ Err BadGaps
-        by true passes = absurd (none (are_gaps gaps n passes))
-        by false fails = rw (claim_is, le-ltb (2 ^ 36) n short, le-ltb (8 * length xs) n held, fails) refl
+      bad_gaps gaps none = grind (arith, common_steps, are_gaps, claim_is, le-ltb, held)
 
       pub recorded : (gaps : List (ℕ × ℕ)) → AreGaps n gaps → first_bits (claimed bits xs) gaps xs ≡ Ok (record { bits = bits_of xs n; gaps = gaps })
       recorded gaps are = rw (claim_is, le-ltb (2 ^ 36) n short, le-ltb (8 * length xs) n held, pass_as_gaps gaps n are) refl
@@ -126,8 +104,7 @@ module _ (half : Option ℕ) (text bytes : List ℕ) where
   decoded_as hex = if hex then decoded text else Ok text
 
   pub refused_strange : (hex : Bool) → IsTextOf hex half true text bytes → decoded_as hex ≡ Err HexText
-  refused_strange true is = strange_text text is
-  refused_strange false is = cc is.2
+  refused_strange hex is = grind (arith, common_steps, strange_text)
 
   pub refused_half : (hex : Bool) → is_some half ≡ true → IsTextOf hex half false text bytes → decoded_as hex ≡ Err HexText
   refused_half true some is = odd_text text bytes half some is.1

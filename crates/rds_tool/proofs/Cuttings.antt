@@ -1,14 +1,12 @@
 -- Inner cuts are a cutting with the two ends of the recording, and nothing else is.
-use Rattle.rds_tool.proofs.Names.{◌&&◌, ◌++◌, ◌+◌, ◌-◌, ◌<◌, ◌∷◌, ◌≡◌, ℕ, Bool, List, [], arith, false, get_or, length, refl, subst, suc, true, zero, slice_index, lt-ltb, ltb-true, get_or_push, length_push, IsCutting, are_inner, places_at, rise_between}
+use Rattle.rds_tool.proofs.Names.{common_steps, ◌&&◌, ◌++◌, ◌+◌, ◌-◌, ◌<◌, ◌∷◌, ◌≡◌, ℕ, Bool, List, [], arith, false, get_or, length, refl, subst, suc, true, zero, slice_index, lt-ltb, ltb-true, get_or_push, length_push, IsCutting, are_inner, places_at, rise_between}
 use Rattle.std.specs.List.Sorted.{IsStrictlyIncreasing}
 
 pub and_both : (a b : Bool) → (a && b) ≡ true → (a ≡ true) × (b ≡ true)
-and_both true b h = (refl, h)
-and_both false b h = cc h
+and_both a b h = grind (arith, common_steps)
 
 pub both_and : (a b : Bool) → a ≡ true → b ≡ true → (a && b) ≡ true
-both_and true b p q = q
-both_and false b p q = cc p
+both_and a b p q = grind (arith, common_steps)
 
 -- ---- lists that rise
 
@@ -21,16 +19,11 @@ after_first x xs h k b =
     subst (λ (m : ℕ). get_or xs k 0 < get_or (x ∷ xs) m 0) e (h (suc k) (omega arith))
 
 with_first : (x y : ℕ) (ys : List ℕ) → x < y → IsStrictlyIncreasing (y ∷ ys) → IsStrictlyIncreasing (x ∷ y ∷ ys)
-with_first x y ys below h zero b = below
-with_first x y ys below h (suc k) b =
-    let e : suc (k + 1) ≡ suc k + 1 = omega arith in
-    subst (λ (m : ℕ). get_or (y ∷ ys) k 0 < get_or (x ∷ y ∷ ys) m 0) e (h k (omega arith))
+with_first x y ys below h it b = grind (arith, common_steps)
 
 rising : (low : ℕ) (cuts : List ℕ) (high : ℕ) → rise_between low cuts high ≡ true → IsStrictlyIncreasing (low ∷ cuts ++ high ∷ [])
 rising low [] high h = with_first low high [] (ltb-true low high h) (alone high)
-rising low (cut ∷ cuts) high h =
-    let p = and_both _ _ h in
-    with_first low cut (cuts ++ high ∷ []) (ltb-true low cut p.0) (rising cut cuts high p.1)
+rising low (cut ∷ cuts) high h = grind (arith, common_steps, and_both, with_first, ltb-true, rising cut cuts high)
 
 rises : (low : ℕ) (cuts : List ℕ) (high : ℕ) → IsStrictlyIncreasing (low ∷ cuts ++ high ∷ []) → rise_between low cuts high ≡ true
 rises low [] high h = lt-ltb low high (h 0 (omega arith))
@@ -45,12 +38,7 @@ last_is xs n = let l = length_push xs n in get_or_push xs n 0 (length (xs ++ n �
 pub inner_cut : (n : ℕ) (cuts : List ℕ) → are_inner n cuts ≡ true → IsCutting n (places_at n cuts)
 inner_cut zero [] h = record { some = omega arith; begins = refl; ends = refl; rising = alone 0 }
 inner_cut zero (cut ∷ cuts) h = cc h
-inner_cut (suc n) cuts h = record {
-  some = omega arith;
-  begins = refl;
-  ends = last_is (0 ∷ cuts) (suc n);
-  rising = rising 0 cuts (suc n) h;
-}
+inner_cut (suc n) cuts h = grind (arith, common_steps, last_is, rising)
 
 -- more than one place can't rise strictly to 0
 not_to_none : (cut : ℕ) (cuts : List ℕ) → IsCutting 0 (0 ∷ cut ∷ cuts) → ⊥
@@ -68,8 +56,7 @@ cut_inner zero (cut ∷ cuts) h = absurd (not_to_none cut cuts h)
 cut_inner (suc n) cuts h = rises 0 cuts (suc n) h.rising
 
 decided : (b : Bool) → (b ≡ true → ⊥) → b ≡ false
-decided true refuted = absurd (refuted refl)
-decided false refuted = refl
+decided b refuted = grind (arith, common_steps)
 
 -- what is no cutting has no inner cuts
 pub not_inner : (n : ℕ) (cuts : List ℕ) → (IsCutting n (places_at n cuts) → ⊥) → are_inner n cuts ≡ false

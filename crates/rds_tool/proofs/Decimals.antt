@@ -7,27 +7,19 @@ digits_length zero n = refl
 digits_length (suc k) n = grind (arith, common_steps, digits_length k (n / 10))
 
 pub one_digit : (n : ℕ) → n < 10 → last_digits 1 n ≡ decimal n
-one_digit n few =
-    let last : n % 10 ≡ n = omega arith in
-    ap (λ d. (48 + d) ∷ []) last ∙ sym (decimal_digit n few)
+one_digit n few = grind (arith, common_steps, decimal_digit, decimal)
 
 -- as many digits as a number has are the number
 pub spelled : (k n : ℕ) → 10 ^ k ≤ n → n < 10 ^ suc k → n < 2 ^ 64 → last_digits (suc k) n ≡ decimal n
 spelled zero n some few small = one_digit n (omega arith)
-spelled (suc k) n some few small =
-    ap (λ t. t ++ (48 + n % 10) ∷ []) (spelled k (n / 10) (omega arith) (omega arith) (omega arith)) ∙ sym (decimal_step n (omega arith) small)
+spelled (suc k) n some few small = grind (arith, common_steps, decimal_step, decimal, spelled k (n / 10) (omega arith) (omega arith) (omega arith))
 
 pow_more : (n j : ℕ) → n * 10 ^ suc j ≡ n * 10 ^ j * 10
-pow_more n j =
-    let power : 10 ^ suc j ≡ 10 ^ j * 10 = omega arith in
-    ap (λ p. n * p) power ∙ sym (mul_assoc n (10 ^ j) 10)
+pow_more n j = grind (arith, common_steps, mul_assoc)
 
 -- zeros after a number leave its digits first
 pub shifted : (k j n : ℕ) → take k (last_digits (k + j) (n * 10 ^ j)) ≡ last_digits k n
-shifted k zero n =
-    let same : k + 0 ≡ k = omega arith in
-    let once : n * 1 ≡ n = omega arith in
-    rw (same, once) (take_all k (last_digits k n) (omega (arith, digits_length k n)))
+shifted k zero n = grind (arith, common_steps, take_all, digits_length)
 shifted k (suc j) n =
     let m = n * 10 ^ suc j in
     let ten : m ≡ n * 10 ^ j * 10 = pow_more n j in
@@ -41,22 +33,11 @@ aligned k j n some few small = shifted (suc k) j n ∙ spelled k n some few smal
 
 -- the same of one digit
 pub aligned_one : (n : ℕ) → n < 10 → take 1 (last_digits 8 (n * 10000000)) ≡ decimal n
-aligned_one n few =
-    let last : n * 10000000 / 10 / 10 / 10 / 10 / 10 / 10 / 10 % 10 ≡ n = omega arith in
-    ap (λ d. (48 + d) ∷ []) last ∙ sym (decimal_digit n few)
+aligned_one n few = grind (arith, common_steps, decimal_digit, decimal)
 
 -- the last eight digits are those of the last eight
 last_eight : (n : ℕ) → last_digits 8 (n % 100000000) ≡ last_digits 8 n
-last_eight n =
-    let e7 : 48 + n % 100000000 / 10 / 10 / 10 / 10 / 10 / 10 / 10 % 10 ≡ 48 + n / 10 / 10 / 10 / 10 / 10 / 10 / 10 % 10 = omega arith in
-    let e6 : 48 + n % 100000000 / 10 / 10 / 10 / 10 / 10 / 10 % 10 ≡ 48 + n / 10 / 10 / 10 / 10 / 10 / 10 % 10 = omega arith in
-    let e5 : 48 + n % 100000000 / 10 / 10 / 10 / 10 / 10 % 10 ≡ 48 + n / 10 / 10 / 10 / 10 / 10 % 10 = omega arith in
-    let e4 : 48 + n % 100000000 / 10 / 10 / 10 / 10 % 10 ≡ 48 + n / 10 / 10 / 10 / 10 % 10 = omega arith in
-    let e3 : 48 + n % 100000000 / 10 / 10 / 10 % 10 ≡ 48 + n / 10 / 10 / 10 % 10 = omega arith in
-    let e2 : 48 + n % 100000000 / 10 / 10 % 10 ≡ 48 + n / 10 / 10 % 10 = omega arith in
-    let e1 : 48 + n % 100000000 / 10 % 10 ≡ 48 + n / 10 % 10 = omega arith in
-    let e0 : 48 + n % 100000000 % 10 ≡ 48 + n % 10 = omega arith in
-    λ i. e7 i ∷ e6 i ∷ e5 i ∷ e4 i ∷ e3 i ∷ e2 i ∷ e1 i ∷ e0 i ∷ []
+last_eight n = grind (arith, common_steps)
 
 one_more : (n : ℕ) (rest : List ℕ) → 10 ≤ n → n < 2 ^ 64 → decimal n ++ rest ≡ decimal (n / 10) ++ (48 + n % 10) ∷ rest
 one_more n rest h small = ap (λ t. t ++ rest) (decimal_step n h small) ∙ append_assoc (decimal (n / 10)) ((48 + n % 10) ∷ []) rest
@@ -79,5 +60,4 @@ splits n h small =
 -- a text with the front of a number, and then its last eight digits
 pub in_two_parts : (old mid new digits : List ℕ) (n : ℕ) → 100000000 ≤ n → n < 2 ^ 64 → mid ≡ old ++ decimal (n / 100000000)
     → digits ≡ last_digits 8 (n % 100000000) → new ≡ mid ++ take 8 digits → new ≡ old ++ decimal n
-in_two_parts old mid new digits n long small front low last =
-    rw (last, front, low, append_assoc) (ap (λ t. old ++ t) (sym (splits n long small)))
+in_two_parts old mid new digits n long small front low last = grind (arith, common_steps, append_assoc, splits, decimal)

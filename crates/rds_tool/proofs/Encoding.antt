@@ -1,5 +1,5 @@
 -- Groups of lines whose text goes on.
-use Rattle.rds_tool.proofs.Names.{◌+◌, ◌++◌, ◌<◌, ◌≤◌, ◌==◌, ◌%◌, ◌/◌, ◌∙◌, ◌∷◌, ◌≡◌, ◌≢◌, Bool, Err, List, Ok, Result, [], ap, ap₂, append-nil, append_assoc, arith, drop, false, get_or, if◌then◌else◌, length, length-append, map, length-take, not, refl, set, subst, sym, take, true, ◌||◌, ℕ, concat, filter, flat_map, onto_first, slice_split, eqb-false, ne_eqb, flat_map-append, take-set_at, drop-map, length-set, take-map, take_all, take_more, decode_pairs, FromHexError, InvalidStringLength, OddLength, encoded_text, group_text, is_space, line_text, lines_of, lines_text, words_of, words_or_refusal, and_then, ToolError, GroupText}
+use Rattle.rds_tool.proofs.Names.{common_steps, ◌+◌, ◌++◌, ◌<◌, ◌≤◌, ◌==◌, ◌∙◌, ◌∷◌, ◌≡◌, ◌≢◌, Bool, Err, List, Ok, [], ap, append-nil, append_assoc, arith, drop, false, get_or, if◌then◌else◌, length, length-append, map, length-take, not, refl, set, subst, sym, take, true, ◌||◌, ℕ, concat, filter, flat_map, onto_first, slice_split, eqb-false, ne_eqb, flat_map-append, take-set_at, drop-map, length-set, take-map, take_all, take_more, encoded_text, group_text, is_space, line_text, lines_of, words_of, and_then, GroupText}
 use Rattle.std.proofs.lemmas.List.Splits.{length-slice_split}
 use Rattle.rds_tool.specs.Inside.GroupLines.{AddsLine, HasGroups, IsGroupLines, begun, text_of_groups, with_lines}
 
@@ -9,31 +9,22 @@ blank_before : (b : ℕ) (rest : List ℕ) → is_space b ≡ true → lines_of 
 blank_before b rest h = ap (λ t. slice_split (λ x. x == 10) (if not t then b ∷ filter (λ x. not (is_space x)) rest else filter (λ x. not (is_space x)) rest)) h
 
 digit_before : (b : ℕ) (rest : List ℕ) → is_space b ≡ false → b == 10 ≡ false → lines_of (b ∷ rest) ≡ onto_first b (lines_of rest)
-digit_before b rest h d =
-    ap (λ t. slice_split (λ x. x == 10) (if not t then b ∷ filter (λ x. not (is_space x)) rest else filter (λ x. not (is_space x)) rest)) h
-    ∙ ap (λ t. if t then [] ∷ lines_of rest else onto_first b (lines_of rest)) d
+digit_before b rest h d = grind (arith, common_steps)
 
 some_lines : (rest : List ℕ) → 0 < length (lines_of rest)
 some_lines rest = omega (arith, length-slice_split (λ b. b == 10) (filter (λ b. not (is_space b)) rest))
 
 begun_more : (line : List ℕ) (b : ℕ) (lines : List (List ℕ)) → 0 < length lines → begun line (onto_first b lines) ≡ begun (line ++ b ∷ []) lines
-begun_more line b [] h = absurd (omega (arith, h))
-begun_more line b (rest ∷ lines) h = ap (λ l. l ∷ lines) (sym (append_assoc line (b ∷ []) rest))
+begun_more line b lines h = grind (arith, common_steps, append_assoc, begun)
 
 none_begun : (lines : List (List ℕ)) → begun [] lines ≡ lines
-none_begun [] = refl
-none_begun (rest ∷ lines) = refl
+none_begun lines = grind (arith, common_steps, begun)
 
 -- ---- the first of some lines
 
 line_taken : (hex : Bool) (text : List ℕ) (line : List ℕ) (lines : List (List ℕ)) (more : List ℕ) → line_text hex line ≡ Ok more
     → with_lines hex text (line ∷ lines) ≡ with_lines hex (text ++ more) lines
-line_taken hex text line lines more e = rw e (regroup (lines_text hex lines))
-  where
-    regroup : (r : Result (List ℕ) ToolError)
-        → and_then (and_then r (λ others. Ok (more ++ others))) (λ others. Ok (text ++ others)) ≡ and_then r (λ others. Ok ((text ++ more) ++ others))
-    regroup (Ok others) = ap (λ (t : List ℕ). Ok t) (sym (append_assoc text more others))
-    regroup (Err error) = refl
+line_taken hex text line lines more e = grind (arith, common_steps, append_assoc)
 
 line_refused : (hex : Bool) (text : List ℕ) (line : List ℕ) (lines : List (List ℕ)) → line_text hex line ≡ Err GroupText
     → with_lines hex text (line ∷ lines) ≡ Err GroupText
@@ -41,24 +32,11 @@ line_refused hex text line lines e = rw e refl
 
 -- a line with digits
 pub line_of_digits : (hex : Bool) (line : List ℕ) → length line ≢ 0 → line_text hex line ≡ and_then (words_of line) (λ words. Ok (group_text hex words))
-line_of_digits hex [] h = absurd (h refl)
-line_of_digits hex (digit ∷ digits) h = refl
+line_of_digits hex line h = grind (arith, common_steps)
 
 -- a line of more than sixteen digits is refused
 long_line : (hex : Bool) (line : List ℕ) → 16 < length line → line_text hex line ≡ Err GroupText
-long_line hex line h =
-    line_of_digits hex line (λ z. omega (arith, z, h))
-    ∙ ap (λ r. and_then r (λ words. Ok (group_text hex words)))
-    (refused (length line % 2 == 1) (length line / 2 == 8) (decode_pairs 0 line) (λ even. ne_eqb (length line / 2) 8 (λ z. omega (arith, z, h, eqb-false (length line % 2) 1 even))))
-  where
-    refused : (odd fits : Bool) (decoded : Result (List ℕ) FromHexError) → (odd ≡ false → fits ≡ false)
-        → words_or_refusal (if odd then Err OddLength else if fits then decoded else Err InvalidStringLength) ≡ Err GroupText
-    refused true fits decoded e = refl
-    refused false false decoded e = refl
-    refused false true decoded e = absurd (no (e refl))
-      where
-        no : true ≡ false → ⊥
-        no p = cc p
+long_line hex line h = grind (arith, common_steps, line_of_digits, ne_eqb, eqb-false)
 
 -- ---- one byte more
 
@@ -76,31 +54,19 @@ module _ (groups : List (List ℕ)) (line text : List ℕ) (b : ℕ) where
 
     -- a digit goes to the line
     pub digit_taken : is_space b ≡ false → b == 10 ≡ false → HasGroups groups (line ++ b ∷ []) false (text ++ b ∷ [])
-    digit_taken h d hex rest =
-        goes_on hex rest
-        ∙ ap (λ lines. with_lines hex (text_of_groups hex groups) lines) (ap (begun line) (digit_before b rest h d) ∙ begun_more line b (lines_of rest) (some_lines rest))
+    digit_taken h d hex rest = grind (arith, common_steps, goes_on, begun, digit_before, begun_more, some_lines)
 
     -- one digit too many
     pub digit_refused : (more : List (List ℕ)) (next : List ℕ) → is_space b ≡ false → b == 10 ≡ false → length line ≡ 16 → HasGroups more next true (text ++ b ∷ [])
-    digit_refused more next h d full hex rest = digit_taken h d hex rest ∙ first (lines_of rest) (some_lines rest)
-      where
-        first : (lines : List (List ℕ)) → 0 < length lines → with_lines hex (text_of_groups hex groups) (begun (line ++ b ∷ []) lines) ≡ Err GroupText
-        first [] some = absurd (omega (arith, some))
-        first (end ∷ lines) some =
-            line_refused hex (text_of_groups hex groups) ((line ++ b ∷ []) ++ end) lines
-            (long_line hex ((line ++ b ∷ []) ++ end) (omega (arith, full, length-append line (b ∷ []), length-append (line ++ b ∷ []) end)))
+    digit_refused more next h d full hex rest = grind (arith, common_steps, digit_taken, some_lines, begun, line_refused, long_line, length-append)
 
     module _ (feed : b ≡ 10) where
       fed : (hex : Bool) (rest : List ℕ) → encoded_text hex ((text ++ b ∷ []) ++ rest) ≡ with_lines hex (text_of_groups hex groups) (line ∷ lines_of rest)
-      fed hex rest =
-          goes_on hex rest ∙ ap (λ x. with_lines hex (text_of_groups hex groups) (begun line (lines_of (x ∷ rest)))) feed
-          ∙ ap (λ l. with_lines hex (text_of_groups hex groups) (l ∷ lines_of rest)) (append-nil line)
+      fed hex rest = grind (arith, common_steps, goes_on, begun, append-nil)
 
       -- a line ends
       pub line_ends : (more : List (List ℕ)) → AddsLine line groups more → HasGroups more [] false (text ++ b ∷ [])
-      line_ends more (added, is, says) hex rest =
-          fed hex rest ∙ line_taken hex (text_of_groups hex groups) line (lines_of rest) (text_of_groups hex added) (says hex)
-          ∙ ap₂ (λ t lines. with_lines hex t lines) (sym (ap (text_of_groups hex) is ∙ flat_map-append (group_text hex) groups added)) (sym (none_begun (lines_of rest)))
+      line_ends more (added, is, says) hex rest = grind (arith, common_steps, line_taken, flat_map-append, none_begun)
 
       pub line_is_refused : (more : List (List ℕ)) (next : List ℕ) → ((hex : Bool) → line_text hex line ≡ Err GroupText) → HasGroups more next true (text ++ b ∷ [])
       line_is_refused more next says hex rest = fed hex rest ∙ line_refused hex (text_of_groups hex groups) line (lines_of rest) (says hex)
@@ -110,23 +76,10 @@ module _ (groups : List (List ℕ)) (line text : List ℕ) (b : ℕ) where
 module _ (groups : List (List ℕ)) (line : List ℕ) (len : ℕ) (text : List ℕ) (b : ℕ) (more : List ℕ) (is : more ≡ text ++ b ∷ []) where
   module _ (faulty : Bool) (has : IsGroupLines groups line len faulty text) where
     pub after_blank : is_space b ≡ true → IsGroupLines groups line len faulty more
-    after_blank h = record { room = has.room; fits = has.fits; has = subst (HasGroups groups (take len line) faulty) (sym is) (next faulty has.has) }
-      where
-        next : (f : Bool) → HasGroups groups (take len line) f text → HasGroups groups (take len line) f (text ++ b ∷ [])
-        next true refused = stays_refused groups (take len line) text b groups (take len line) refused
-        next false taken = blank_taken groups (take len line) text b taken h
+    after_blank h = grind (arith, common_steps, stays_refused, blank_taken)
 
     pub after_digit : is_space b ≡ false → b == 10 ≡ false → len < 16 → IsGroupLines groups (set line len b) (len + 1) faulty more
-    after_digit h d free = record {
-      room = length-set line len b ∙ has.room;
-      fits = omega (arith, free);
-      has = subst (HasGroups groups (take (len + 1) (set line len b)) faulty) (sym is)
-          (subst (λ l. HasGroups groups l faulty (text ++ b ∷ [])) (sym (take-set_at line len (len + 1) b refl (omega (arith, free, has.room)))) (next faulty has.has));
-    }
-      where
-        next : (f : Bool) → HasGroups groups (take len line) f text → HasGroups groups (take len line ++ b ∷ []) f (text ++ b ∷ [])
-        next true refused = stays_refused groups (take len line) text b groups (take len line ++ b ∷ []) refused
-        next false taken = digit_taken groups (take len line) text b taken h d
+    after_digit h d free = grind (arith, common_steps, length-set, set, take-set_at, stays_refused, digit_taken)
 
     pub after_long : is_space b ≡ false → b == 10 ≡ false → len ≡ 16 → IsGroupLines groups line len true more
     after_long h d full = record { room = has.room; fits = has.fits; has = subst (HasGroups groups (take len line) true) (sym is) (next faulty has.has) }
@@ -137,14 +90,7 @@ module _ (groups : List (List ℕ)) (line : List ℕ) (len : ℕ) (text : List �
 
     pub after_feed : b ≡ 10 → (fine : Bool) (new : List (List ℕ)) → (fine ≡ true → AddsLine (take len line) groups new)
         → (fine ≡ false → (hex : Bool) → line_text hex (take len line) ≡ Err GroupText) → IsGroupLines new line 0 (faulty || not fine) more
-    after_feed feed fine new adds refuses =
-        record { room = has.room; fits = omega arith; has = subst (HasGroups new [] (faulty || not fine)) (sym is) (next faulty fine has.has adds refuses) }
-      where
-        next : (f fine : Bool) → HasGroups groups (take len line) f text → (fine ≡ true → AddsLine (take len line) groups new)
-            → (fine ≡ false → (hex : Bool) → line_text hex (take len line) ≡ Err GroupText) → HasGroups new [] (f || not fine) (text ++ b ∷ [])
-        next true fine refused adds refuses = stays_refused groups (take len line) text b new [] refused
-        next false true taken adds refuses = line_ends groups (take len line) text b taken feed new (adds refl)
-        next false false taken adds refuses = line_is_refused groups (take len line) text b taken feed new [] (refuses refl)
+    after_feed feed fine new adds refuses = grind (arith, common_steps, stays_refused)
 
 -- ---- the whole text
 
@@ -157,9 +103,7 @@ module _ (groups : List (List ℕ)) (line text : List ℕ) (hex : Bool) where
     ended = ap (encoded_text hex) (sym (append-nil text)) ∙ has hex [] ∙ ap (λ l. with_lines hex (text_of_groups hex groups) (l ∷ [])) (append-nil line)
 
     pub last_line : (more : List (List ℕ)) → AddsLine line groups more → encoded_text hex text ≡ Ok (text_of_groups hex more)
-    last_line more (added, is, says) =
-        ended ∙ line_taken hex (text_of_groups hex groups) line [] (text_of_groups hex added) (says hex)
-        ∙ ap (λ (t : List ℕ). Ok t) (append-nil (text_of_groups hex groups ++ text_of_groups hex added) ∙ sym (ap (text_of_groups hex) is ∙ flat_map-append (group_text hex) groups added))
+    last_line more (added, is, says) = grind (arith, common_steps, ended, line_taken, append-nil, flat_map-append)
 
     pub last_is_refused : line_text hex line ≡ Err GroupText → encoded_text hex text ≡ Err GroupText
     last_is_refused says = ended ∙ line_refused hex (text_of_groups hex groups) line [] says
@@ -168,18 +112,12 @@ module _ (groups : List (List ℕ)) (line text : List ℕ) (hex : Bool) where
 module _ (groups : List (List ℕ)) (line : List ℕ) (len : ℕ) (text : List ℕ) (hex : Bool) where
   pub fine_text : (faulty : Bool) → IsGroupLines groups line len faulty text → faulty ≡ false → (more : List (List ℕ)) → AddsLine (take len line) groups more
       → encoded_text hex text ≡ Ok (text_of_groups hex more)
-  fine_text true has fine more adds = absurd (no fine)
-    where
-      no : true ≡ false → ⊥
-      no p = cc p
+  fine_text true has fine more adds = grind (arith, common_steps)
   fine_text false has fine more adds = last_line groups (take len line) text hex has.has more adds
 
   pub faulty_text : (faulty : Bool) → IsGroupLines groups line len faulty text → faulty ≡ true → encoded_text hex text ≡ Err GroupText
   faulty_text true has faulty = all_refused groups (take len line) text hex has.has
-  faulty_text false has faulty = absurd (no faulty)
-    where
-      no : false ≡ true → ⊥
-      no p = cc p
+  faulty_text false has faulty = grind (arith, common_steps)
 
   pub faulty_line : (faulty : Bool) → IsGroupLines groups line len faulty text → line_text hex (take len line) ≡ Err GroupText → encoded_text hex text ≡ Err GroupText
   faulty_line true has says = all_refused groups (take len line) text hex has.has
@@ -190,9 +128,7 @@ module _ (groups : List (List ℕ)) (line : List ℕ) (len : ℕ) (text : List �
 module _ (hex : Bool) where
   pub one_row : (groups : List (List ℕ)) (i : ℕ) → i < length groups
       → flat_map (group_text hex) (take (i + 1) groups) ≡ flat_map (group_text hex) (take i groups) ++ group_text hex (get_or groups i [])
-  one_row groups i within =
-      ap (flat_map (group_text hex)) (take_more groups i [] within) ∙ flat_map-append (group_text hex) (take i groups) (get_or groups i [] ∷ [])
-      ∙ ap (λ text. flat_map (group_text hex) (take i groups) ++ text) (append-nil (group_text hex (get_or groups i [])))
+  one_row groups i within = grind (arith, common_steps, take_more, flat_map-append, append-nil)
 
   pub as_rows : (groups : List (List ℕ)) → flat_map (group_text hex) groups ≡ concat (map (group_text hex) groups)
   as_rows [] = refl
@@ -201,6 +137,4 @@ module _ (hex : Bool) where
   -- those of a part of the groups
   pub all_rows : (groups : List (List ℕ)) (from n i : ℕ) → length (take n (drop from groups)) ≤ i
       → flat_map (group_text hex) (take i (take n (drop from groups))) ≡ concat (take n (drop from (map (group_text hex) groups)))
-  all_rows groups from n i past =
-      ap (flat_map (group_text hex)) (take_all i (take n (drop from groups)) past) ∙ as_rows (take n (drop from groups))
-      ∙ ap concat (sym (ap (take n) (drop-map (group_text hex) from groups) ∙ take-map (group_text hex) n (drop from groups)))
+  all_rows groups from n i past = grind (arith, common_steps, take_all, as_rows, drop-map, take-map)

@@ -1,5 +1,5 @@
 -- The progress of a stream so far, and where it breaks off.
-use Rattle.rds_tool.proofs.Names.{◌≡◌, ◌≢◌, ◌+◌, ◌-◌, ◌*◌, ◌/◌, ◌%◌, ◌^◌, ◌<◌, ◌≤◌, ◌++◌, ◌⊎◌, ◌↔◌, ℕ, List, [], ◌∷◌, Err, None, Ok, Option, Result, Some, eqb, false, inl, inr, length, map, min, take, refl, sym, zero, suc, ap, ap₂, ◌∙◌, subst, arith, append_assoc, IfErr, IfSome, OnErr, OnOk, bit_at, flat_map, range_with_len, Appends, Consumes, IsAtEnd, Keeps, Appends-nil, Appends-trans, Consumes-kept, Consumes-nil, Consumes-trans, get_or-append, eqb-false, le-ltb, flat_map-append, append-nil, length-append, length-take, nil_from_length, length-map-range_with_len, LiveOf, HasHeard, Terms, complete, live_of, report_at, run_of, signal_at, signal_of, AreGaps, bits_of, length_of, packed_bit, Item, Searching, RunsAreReports, IsLossRule, items_of_end, run, Totals, totals_of, AllCount, EndsShort, IsReadAsFar, IsTooLong, MayBreakEarly, MayBreakOff, StopsBetweenRows, StopsInRows, counted, listed, most_read, rows_so_far, stream_text, and_then, claimed, first_bits, IsFollowed, IsNearEnd, IsPlaceOf, IsShortEnough, bits_left, item_row, report_text, totals_text, Writes, WritesPrefix, list_text, ToolError, BadGaps, BitsPastBytes, OutOfMemory, Read, TooLong, Write}
+use Rattle.rds_tool.proofs.Names.{common_steps, ◌≡◌, ◌≢◌, ◌+◌, ◌-◌, ◌*◌, ◌/◌, ◌%◌, ◌^◌, ◌<◌, ◌≤◌, ◌++◌, ◌⊎◌, ◌↔◌, ℕ, List, [], ◌∷◌, Err, None, Ok, Option, Result, Some, eqb, false, inl, inr, length, map, take, refl, sym, zero, suc, ap, ap₂, ◌∙◌, subst, arith, append_assoc, IfErr, IfSome, OnErr, OnOk, bit_at, flat_map, range_with_len, Appends, Consumes, IsAtEnd, Keeps, Appends-nil, Appends-trans, Consumes-nil, Consumes-trans, get_or-append, eqb-false, le-ltb, flat_map-append, append-nil, length-append, length-take, length-map-range_with_len, LiveOf, HasHeard, Terms, complete, live_of, report_at, run_of, signal_at, signal_of, AreGaps, bits_of, length_of, packed_bit, Item, Searching, RunsAreReports, IsLossRule, items_of_end, run, Totals, totals_of, AllCount, EndsShort, IsReadAsFar, IsTooLong, MayBreakEarly, MayBreakOff, StopsBetweenRows, StopsInRows, counted, listed, most_read, rows_so_far, stream_text, and_then, claimed, first_bits, IsFollowed, IsNearEnd, IsPlaceOf, IsShortEnough, bits_left, item_row, report_text, totals_text, Writes, WritesPrefix, list_text, ToolError, BadGaps, BitsPastBytes, OutOfMemory, Read, TooLong, Write}
 use Rattle.rds_tool.specs.Refusals.{number_of}
 use Rattle.rds_tool.proofs.GapLists.{pass_as_gaps}
 use Rattle.rds_tool.proofs.Passing.{passed_kind}
@@ -38,27 +38,20 @@ took_all n bytes buf is within = let count : length bytes ≡ length (take n buf
 -- ---- the bits that count
 
 counted_all : (bits : Option ℕ) (bytes : List ℕ) → AllCount bits bytes → counted bits bytes ≡ 8 * length bytes
-counted_all None bytes all = refl
-counted_all (Some n) bytes all = let e : min n (8 * length bytes) ≡ 8 * length bytes = omega (arith, all) in e
+counted_all bits bytes all = grind (arith, common_steps, counted)
 
 all_none : (bits : Option ℕ) → AllCount bits []
-all_none None = tt
-all_none (Some n) = let e : 8 * 0 ≤ n = omega arith in e
+all_none bits = grind (arith, common_steps)
 
 all_more : (bits : Option ℕ) (place room : ℕ) (heard bytes : List ℕ) → IfSome bits (λ n. place + 8 * room ≤ n) → place ≡ 8 * length heard → length bytes ≤ room → AllCount bits (heard ++ bytes)
-all_more None place room heard bytes within is few = tt
-all_more (Some n) place room heard bytes within is few = omega (arith, within, is, few, length-append heard bytes)
+all_more bits place room heard bytes within is few = grind (arith, common_steps, length-append)
 
 pub place_of_all : (bits : Option ℕ) (place : ℕ) (heard : List ℕ) → place ≡ 8 * length heard → AllCount bits heard → IsPlaceOf bits place
-place_of_all None place heard is all = tt
-place_of_all (Some n) place heard is all = omega (arith, is, all)
+place_of_all bits place heard is all = grind (arith, common_steps)
 
 -- no byte was given, since none was asked for or none is to come
 pub near_end_by : (bits : Option ℕ) (place room : ℕ) (to : Option (List ℕ)) → (room ≡ 0 → IfSome bits (λ n. n < place + 8) × (bits ≢ None)) → (room ≡ 0) ⊎ IsAtEnd to → IsNearEnd bits place to
-near_end_by None place room to none (inl no_room) = let both = none no_room in absurd (both.1 refl)
-near_end_by None place room to none (inr ended) = ended
-near_end_by (Some n) place room to none (inl no_room) = let both = none no_room in inl both.0
-near_end_by (Some n) place room to none (inr ended) = inr ended
+near_end_by bits place room to none it = grind (arith, common_steps)
 
 -- ---- rows
 
@@ -69,8 +62,7 @@ HasRows terms before bytes rows = rows_so_far terms (before ++ bytes) ≡ rows_s
 -- the rows of its items are
 pub has_rows : (terms : Terms) (before bytes rows : List ℕ) (items : List Item) → complete terms (before ++ bytes) ≡ complete terms before ++ items
     → rows ≡ flat_map item_row items → HasRows terms before bytes rows
-has_rows terms before bytes rows items more is =
-    ap (λ all. flat_map item_row all) more ∙ flat_map-append item_row (complete terms before) items ∙ ap (λ ys. rows_so_far terms before ++ ys) (sym is)
+has_rows terms before bytes rows items more is = grind (arith, common_steps, flat_map-append)
 
 module _ (terms : Terms) (bits : Option ℕ) where
   has_heard : (live : LiveOf) (heard : List ℕ) → live ≡ live_of terms heard → HasHeard live heard
@@ -115,21 +107,12 @@ module _ (terms : Terms) (bits : Option ℕ) where
 
     -- nothing came after it
     pub stops_here : {most : ℕ} (after : Option (List ℕ)) → Keeps to after → StopsBetweenRows most terms bits from after old new
-    stops_here after kept =
-        (heard, [], omega arith, f.all_count, subst (λ xs. Consumes from after xs) (sym (append-nil heard)) (Consumes-kept from to after heard f.taken kept), f.written)
+    stops_here after kept = grind (arith, common_steps, append-nil)
 
     module _ (after : Option (List ℕ)) (n : ℕ) (buf : List ℕ) (took : Consumes to after (take n buf)) where
       -- nothing more came
       pub followed_end : n ≡ 0 → IsFollowed terms bits live from after old new heard
-      followed_end none =
-          let nothing : Consumes to after [] = subst (λ m. Consumes to after (take m buf)) none took in
-          record {
-            live_is = f.live_is;
-            taken = subst (λ xs. Consumes from after xs) (append-nil heard) (Consumes-trans from to after heard [] f.taken nothing);
-            written = f.written;
-            short = f.short;
-            all_count = f.all_count;
-          }
+      followed_end none = grind (arith, common_steps, append-nil)
 
       module _ (bytes : List ℕ) (bytes_are : bytes ≡ take n buf) where
         took_bytes : Consumes to after bytes
@@ -149,9 +132,7 @@ module _ (terms : Terms) (bits : Option ℕ) where
         module _ (later : Option (List ℕ)) where
           rows_by : {P : List ℕ → Type 0} → ((before : List ℕ) → HasHeard live before → (rows : List ℕ) × HasRows live.terms before bytes rows × P rows)
               → (rows : List ℕ) × HasRows terms heard bytes rows × P rows
-          rows_by wrote =
-              let (rows, more, did) = wrote heard known in
-              (rows, subst (λ (t : Terms). HasRows t heard bytes rows) terms_are more, did)
+          rows_by wrote = grind (arith, common_steps, known, terms_are)
 
           module _ (room : ℕ) (within : IfSome bits (λ n. live.place + 8 * room ≤ n)) (fit : length bytes ≤ room) where
             all_of_them : AllCount bits (heard ++ bytes)
@@ -197,9 +178,7 @@ module _ (terms : Terms) (bits : Option ℕ) where
     -- how far the next state is from the most bits
     pub smaller : (next : LiveOf) (after later : Option (List ℕ)) (bytes : List ℕ) → IsFollowed terms bits next from after old later (heard ++ bytes) → 0 < length bytes
         → 2 ^ 36 - next.place < 2 ^ 36 - live.place
-    smaller next after later bytes f' some =
-        let there : next.place ≡ 8 * length (heard ++ bytes) = ap (λ (l : LiveOf). l.place) f'.live_is in
-        omega (arith, there, place_is, f'.short, length-append heard bytes)
+    smaller next after later bytes f' some = grind (arith, common_steps, place_is, length-append)
 
 -- ---- the last bits
 
@@ -217,14 +196,10 @@ rest_is front items last report totals text whole sum is =
 
 -- what is left is short enough
 short_left : (bits : Option ℕ) (place : ℕ) → place ≤ 2 ^ 36 → IsShortEnough bits → IsPlaceOf bits place → place + bits_left bits place ≤ 2 ^ 36
-short_left None place limit short order = omega (arith, limit)
-short_left (Some n) place limit short order = omega (arith, limit, short, order)
+short_left bits place limit short order = grind (arith, common_steps)
 
 pub rest_fits : (bits : Option ℕ) (place there left : ℕ) → place ≡ there → place ≤ 2 ^ 36 → left ≡ bits_left bits place → IsShortEnough bits → IsPlaceOf bits there → there + left ≤ 2 ^ 36
-rest_fits bits place there left same limit told short order =
-    let fits = short_left bits there (omega (arith, same, limit)) short order in
-    let is : left ≡ bits_left bits there = told ∙ ap (bits_left bits) same in
-    omega (arith, fits, is)
+rest_fits bits place there left same limit told short order = grind (arith, common_steps, short_left)
 
 pub few_bits : (left n : ℕ) → left ≤ 8 * n → n ≤ 1 → left ≤ 8
 few_bits left n held few = omega (arith, held, few)
@@ -232,37 +207,18 @@ few_bits left n held few = omega (arith, held, few)
 module _ (bits : Option ℕ) (place left : ℕ) (heard bytes : List ℕ) (place_is : place ≡ 8 * length heard) (all : AllCount bits heard) (left_is : left ≡ bits_left bits place)
     (few : left ≤ 8 * length bytes) (less : 8 * length bytes < left + 8) where
   counted_left : counted bits (heard ++ bytes) ≡ 8 * length heard + left
-  counted_left = by bits all left_is
-    where
-      by : (b : Option ℕ) → AllCount b heard → left ≡ bits_left b place → counted b (heard ++ bytes) ≡ 8 * length heard + left
-      by None all is = omega (arith, is, less, length-append heard bytes)
-      by (Some n) all is = omega (arith, is, all, few, place_is, length-append heard bytes)
+  counted_left = grind (arith, common_steps, left_is, counted, less, length-append, few, place_is)
 
   held_left : IfSome bits (λ n. n ≤ 8 * length (heard ++ bytes))
-  held_left = by bits left_is
-    where
-      by : (b : Option ℕ) → left ≡ bits_left b place → IfSome b (λ n. n ≤ 8 * length (heard ++ bytes))
-      by None is = tt
-      by (Some n) is = omega (arith, is, few, place_is, length-append heard bytes)
+  held_left = grind (arith, common_steps, left_is, few, place_is, length-append)
 
   as_far : (from to after : Option (List ℕ)) → IsNearEnd bits place to → (left ≡ 0 → after ≡ to) → Consumes from after (heard ++ bytes) → IsReadAsFar bits from after
-  as_far from to after = by bits all left_is
-    where
-      by : (b : Option ℕ) → AllCount b heard → left ≡ bits_left b place → IsNearEnd b place to → (left ≡ 0 → after ≡ to) → Consumes from after (heard ++ bytes) → IsReadAsFar b from after
-      by None all is near still read = subst IsAtEnd (sym (still is)) near
-      by (Some n) all is near still read = (
-        heard ++ bytes,
-        read,
-        omega (arith, is, few, place_is, length-append heard bytes),
-        omega (arith, is, less, all, place_is, length-append heard bytes),
-      )
+  as_far from to after = grind (arith, common_steps, left_is, few, place_is, length-append, less)
 
 -- what a list takes of all that is to come is what was read
 claimed_is : (bits : Option ℕ) (a : List ℕ) (after : Option (List ℕ)) (xs : List ℕ) → Consumes (Some a) after xs → IsReadAsFar bits (Some a) after
     → IfSome bits (λ n. n ≤ 8 * length xs) → claimed bits a ≡ counted bits xs
-claimed_is bits a None xs read far held = absurd read
-claimed_is None a (Some b) xs read far held = ap (λ (ys : List ℕ). 8 * length ys) (read ∙ ap (λ w. xs ++ w) far ∙ append-nil xs)
-claimed_is (Some n) a (Some b) xs read far held = let e : n ≡ min n (8 * length xs) = omega (arith, held) in e
+claimed_is bits a after xs read far held = grind (arith, common_steps, append-nil, counted)
 
 front_bit : (xs ys : List ℕ) (i : ℕ) → i < 8 * length xs → packed_bit (xs ++ ys) i ≡ packed_bit xs i
 front_bit xs ys i early = ap (λ (b : ℕ). bit_at b (7 - i % 8)) (get_or-append xs ys 0 (i / 8) (omega arith))
@@ -284,16 +240,7 @@ module _ (terms : Terms) (bits : Option ℕ) (live : LiveOf) (from to old new : 
     (near : IsNearEnd bits live.place to) where
   -- fewer bits came than are claimed
   pub ends_short : (left : ℕ) (after : Option (List ℕ)) → left ≡ bits_left bits live.place → Keeps to after → (0 < left) × (((8 ≤ left) × (after ≡ to)) ⊎ IsAtEnd after) → EndsShort bits from after
-  ends_short left after is kept past = by bits is near past.1 where
-    by : (b : Option ℕ) → left ≡ bits_left b live.place → IsNearEnd b live.place to → ((8 ≤ left) × (after ≡ to)) ⊎ IsAtEnd after → EndsShort b from after
-    by None is near end = absurd (omega (arith, is, past.0))
-    by (Some n) is near end =
-        let place = place_is terms bits live from to old new heard f in
-        let ended : IsAtEnd after = (elim end [
-          | inl many ↦ elim near [ inl close ↦ absurd (omega (arith, is, many.0, close)) | inr at_end ↦ subst IsAtEnd (sym many.1) at_end ]
-          | inr at_end ↦ at_end
-        ]) in
-        (heard, Consumes-kept from to after heard f.taken kept, ended, omega (arith, is, past.0, place))
+  ends_short left after is kept past = grind (arith, common_steps, place_is)
 
   -- the byte of these, if there is one, was read
   module _ (after : Option (List ℕ)) (n : ℕ) (buf : List ℕ) (took : Consumes to after (take n buf)) (left place : ℕ) (told : left ≡ bits_left bits place) (there : place ≡ live.place)
@@ -323,16 +270,11 @@ module _ (terms : Terms) (bits : Option ℕ) (live : LiveOf) (from to old new : 
     all_counted = counted_left bits live.place left heard last at_place f.all_count left_is few less
 
     count_is : (a : List ℕ) → Consumes (Some a) after (heard ++ last) → IsReadAsFar bits (Some a) after → claimed bits a ≡ live.place + left
-    count_is a read far =
-        let found = claimed_is bits a after (heard ++ last) read far (held_left bits live.place left heard last at_place f.all_count left_is few less) in
-        omega (arith, found, all_counted, at_place)
+    count_is a read far = grind (arith, common_steps, claimed_is, held_left, at_place, left_is, few, less, all_counted)
 
     -- the recording may not have these gaps
     pub no_such_gaps : (gaps : List (ℕ × ℕ)) → (AreGaps (live.place + left) gaps → ⊥) → IfSome from (λ held. AreGaps (claimed bits held) gaps → ⊥)
-    no_such_gaps gaps none = by from read_all read_as_far where
-      by : (o : Option (List ℕ)) → Consumes o after (heard ++ last) → IsReadAsFar bits o after → IfSome o (λ held. AreGaps (claimed bits held) gaps → ⊥)
-      by None read far = tt
-      by (Some a) read far = λ are. none (subst (λ (m : ℕ). AreGaps m gaps) (count_is a read far) are)
+    no_such_gaps gaps none = grind (arith, common_steps, read_all, read_as_far, count_is)
 
     -- the rest of the listing
     module _ (text : List ℕ)
@@ -397,18 +339,15 @@ stops_untouched {most = most} contents terms bits from after old v w same h = su
 
 -- a fact that holds in any case holds if there is a success
 pub on_any_ok : {T E P : Type 0} (r : Result T E) → P → OnOk r P
-on_any_ok (Ok x) p = p
-on_any_ok (Err e) p = tt
+on_any_ok r p = grind (arith, common_steps)
 
 -- what follows of a step that came to its end
 pub on_ok : {E : Type 0} (r : Result (Unit {0}) E) (P Q : Type 0) → (P → Q) → OnOk r P → OnOk r Q
-on_ok (Ok x) P Q more h = more h
-on_ok (Err e) P Q more h = tt
+on_ok r P Q more h = grind (arith, common_steps)
 
 -- only the last write may be refused
 pub write_breaks : {T : Type 0} (r : Result T ToolError) → IfErr r (λ e. e ≡ Write) → IfErr r MayBreakOff
-write_breaks (Ok x) h = tt
-write_breaks (Err e) h = inr (inr (inl h))
+write_breaks r h = grind (arith, common_steps)
 
 pub write_alone : {T : Type 0} (X : Type 0) (r : Result T ToolError) → IfErr r (λ e. e ≡ Write) → IfErr r (λ error. error ≢ Write → X)
 write_alone X (Ok x) h = tt
@@ -428,27 +367,17 @@ abbrev pub RefusesChunk : ToolError → Type 0
 RefusesChunk e = (e ≡ OutOfMemory) ⊎ ((e ≡ Write) ⊎ (e ≡ TooLong))
 
 pub chunk_breaks : (e : ToolError) → RefusesChunk e → MayBreakEarly e
-chunk_breaks e (inl m) = inl m
-chunk_breaks e (inr (inl w)) = inr (inr (inl w))
-chunk_breaks e (inr (inr t)) = inr (inr (inr (inl t)))
+chunk_breaks e it = grind (arith, common_steps)
 
 no_read : (e : ToolError) → RefusesChunk e → e ≢ Read
-no_read e (inl m) p = let bad : OutOfMemory ≡ Read = sym m ∙ p in cc bad
-no_read e (inr (inl w)) p = let bad : Write ≡ Read = sym w ∙ p in cc bad
-no_read e (inr (inr t)) p = let bad : TooLong ≡ Read = sym t ∙ p in cc bad
+no_read e it p = grind (arith, common_steps)
 
 pub no_gaps_told : (e : ToolError) → RefusesChunk e → e ≢ BadGaps
-no_gaps_told e (inl m) p = let bad : OutOfMemory ≡ BadGaps = sym m ∙ p in cc bad
-no_gaps_told e (inr (inl w)) p = let bad : Write ≡ BadGaps = sym w ∙ p in cc bad
-no_gaps_told e (inr (inr t)) p = let bad : TooLong ≡ BadGaps = sym t ∙ p in cc bad
+no_gaps_told e it p = grind (arith, common_steps)
 
 -- what may break it off before its last bits is not that bytes are missing
 pub early_has_bytes : (e : ToolError) → MayBreakEarly e → e ≢ BitsPastBytes
-early_has_bytes e (inl m) p = let bad : OutOfMemory ≡ BitsPastBytes = sym m ∙ p in cc bad
-early_has_bytes e (inr (inl d)) p = let bad : Read ≡ BitsPastBytes = sym d ∙ p in cc bad
-early_has_bytes e (inr (inr (inl w))) p = let bad : Write ≡ BitsPastBytes = sym w ∙ p in cc bad
-early_has_bytes e (inr (inr (inr (inl t)))) p = let bad : TooLong ≡ BitsPastBytes = sym t ∙ p in cc bad
-early_has_bytes e (inr (inr (inr (inr g)))) p = let bad : BadGaps ≡ BitsPastBytes = sym g ∙ p in cc bad
+early_has_bytes e it p = grind (arith, common_steps)
 
 -- refusals with different numbers differ
 pub differ : (a b : ToolError) → eqb (number_of a) (number_of b) ≡ false → a ≢ b
@@ -482,10 +411,7 @@ module _ {T : Type 0} (r : Result T ToolError) (e : ToolError) (same : r ≡ Err
   -- what is told of a kind of refusal is told of the answer
   pub told_on : {U : Type 0} (k : ToolError) (start before after : ℕ) → before ≡ start → (let x : Result U ToolError = Err e in (x ≡ Err k) ↔ (before < after))
       → (r ≡ Err k) ↔ (start < after)
-  told_on k start before after kept both = (
-    λ p. subst (λ n. n < after) kept (both.0 (ap (λ x. Err x) (passed_kind r e k same p))),
-    λ q. same ∙ ap (λ x. Err x) (passed_kind (Err e) e k refl (both.1 (subst (λ n. n < after) (sym kept) q))),
-  )
+  told_on k start before after kept both = grind (arith, common_steps, passed_kind)
 
   -- an answer of this kind is a call's
   pub of_call : {U : Type 0} (k : ToolError) → r ≡ Err k → let x : Result U ToolError = Err e in x ≡ Err k

@@ -1,5 +1,5 @@
 -- Whether gaps may be a recording's, by tests from one to the next and by the list as a whole.
-use Rattle.rds_tool.proofs.Names.{◌+◌, ◌<◌, ◌≤◌, ◌∷◌, ◌≡◌, ℕ, List, [], arith, length, refl, subst, suc, true, zero, All, AllAdjacentBelow, slice_index_or, le-leb, leb-true, lt-ltb, ltb-true, All-cons, All-head, All-nil, All-tail, AreGaps, may_be_gaps}
+use Rattle.rds_tool.proofs.Names.{common_steps, ◌+◌, ◌<◌, ◌≤◌, ◌∷◌, ◌≡◌, ℕ, List, [], arith, length, refl, subst, suc, true, zero, All, AllAdjacentBelow, slice_index_or, le-leb, leb-true, lt-ltb, ltb-true, All-cons, All-head, All-nil, All-tail, AreGaps, may_be_gaps}
 use Rattle.rds_tool.proofs.Cuttings.{and_both, both_and}
 
 abbrev Lies : ℕ → ℕ × ℕ → Type 0
@@ -16,11 +16,7 @@ record IsNext (low : ℕ) (gap : ℕ × ℕ) (gaps : List (ℕ × ℕ)) (n : ℕ
   rest : may_be_gaps gap.1 gaps n ≡ true
 
 tests : (low : ℕ) (gap : ℕ × ℕ) (gaps : List (ℕ × ℕ)) (n : ℕ) → may_be_gaps low (gap ∷ gaps) n ≡ true → IsNext low gap gaps n
-tests low gap gaps n h =
-    let three = and_both _ _ h in
-    let two = and_both _ _ three.0 in
-    let one = and_both _ _ two.0 in
-    record { after = leb-true low gap.0 one.0; some = ltb-true gap.0 gap.1 one.1; within = leb-true gap.1 n two.1; rest = three.1 }
+tests low gap gaps n h = grind (arith, common_steps, and_both, leb-true, ltb-true)
 
 each : (low : ℕ) (gaps : List (ℕ × ℕ)) (n : ℕ) → may_be_gaps low gaps n ≡ true → All (Lies n) gaps
 each low [] n h = All-nil (Lies n)
@@ -29,12 +25,8 @@ each low (gap ∷ gaps) n h = let t = tests low gap gaps n h in All-cons (Lies n
 apart : (low : ℕ) (gaps : List (ℕ × ℕ)) (n : ℕ) → may_be_gaps low gaps n ≡ true → Apart gaps
 apart low [] n h k d l = absurd (omega arith)
 apart low (gap ∷ []) n h k d l = absurd (omega arith)
-apart low (gap ∷ next ∷ gaps) n h zero d l =
-    let t = tests low gap (next ∷ gaps) n h in (tests gap.1 next gaps n t.rest).after
-apart low (gap ∷ next ∷ gaps) n h (suc k) d l =
-    let t = tests low gap (next ∷ gaps) n h in
-    let e : suc (k + 1) ≡ suc k + 1 = omega arith in
-    subst (λ (m : ℕ). (slice_index_or (next ∷ gaps) k d).1 ≤ (slice_index_or (gap ∷ next ∷ gaps) m d).0) e (apart gap.1 (next ∷ gaps) n t.rest k d (omega arith))
+apart low (gap ∷ next ∷ gaps) n h zero d l = grind (arith, common_steps, tests)
+apart low (gap ∷ next ∷ gaps) n h (suc k) d l = grind (arith, common_steps, tests, slice_index_or, apart gap.1 (next ∷ gaps) n)
 
 after_first : (gap : ℕ × ℕ) (gaps : List (ℕ × ℕ)) → Apart (gap ∷ gaps) → Apart gaps
 after_first gap gaps h k d l =

@@ -1,9 +1,7 @@
 -- What the typed getters read, by the rows of a parse.
-use Rattle.rds_tool.proofs.Names.{◌<◌, ◌≤◌, ◌^◌, ◌≡◌, ◌⊎◌, inr, arith, ◌∙◌, ℕ, List, [], Bool, Bor, Option, Some, None, Result, Ok, Err, sym, refl, codes, ap, true, false, if◌then◌else◌, Vec, ok_or, option_map, IfErr, IfOk, find, option_and_then, bytes_eq, result_ok, ExplainsUnsignedError, HasUnsignedDigitsIfOk, ParsesUnsigned, digits_value, without_leading_plus, ReadsOne, Row, Text, TriesOne, first_of, first_value, matched_of, one_of, one_text, rows_of, ValueSource, gaps_asked_for, gaps_spelled, if_given, is_given, is_of_words, is_true, number_of, number_up_to, gaps_of}
+use Rattle.rds_tool.proofs.Names.{common_steps, ◌<◌, ◌≤◌, ◌^◌, ◌≡◌, ◌⊎◌, arith, ◌∙◌, ℕ, List, [], Bool, Bor, Option, Some, None, Result, Ok, Err, sym, refl, codes, ap, true, false, if◌then◌else◌, Vec, ok_or, option_map, IfErr, IfOk, find, option_and_then, bytes_eq, result_ok, ExplainsUnsignedError, HasUnsignedDigitsIfOk, ParsesUnsigned, digits_value, without_leading_plus, ReadsOne, Row, Text, TriesOne, first_of, first_value, matched_of, one_of, one_text, rows_of, ValueSource, gaps_asked_for, gaps_spelled, if_given, is_given, is_of_words, is_true, number_of, number_up_to, gaps_of}
 use Rattle.std.specs.declared.num.ParseIntError.{ParseIntError}
 use Rattle.clap.specs.ValueTests.{is_unsigned_in}
-use Rattle.clap.specs.Facts.{Entry}
-use Rattle.clap.specs.Walk.{row_of}
 use Rattle.clap.specs.declared.builder.value_parser.ValueParser.TheVariants as parser
 use Rattle.clap.specs.declared.parser.matches.Found.{Found}
 use Rattle.clap.specs.declared.parser.matches.MatchedArg.{MatchedArg}
@@ -90,11 +88,7 @@ flag_rows f id given is = ap is_true (is ∙ first_value-rows f id)
 -- whence an entry is
 source_rows : (f : Found) (id : Text)
     → option_and_then (λ (a : MatchedArg). a.source) (matched_of f id) ≡ option_and_then (λ (r : Row). r.source) (find (λ r. bytes_eq r.id id) (rows_of f))
-source_rows f id = by (find (λ e. bytes_eq e.0.now id) f.entries.items) ∙ ap (option_and_then (λ (r : Row). r.source)) (sym (find_row f.entries.items id))
-  where
-    by : (o : Option Entry) → option_and_then (λ (a : MatchedArg). a.source) (option_map (λ e. e.1) o) ≡ option_and_then (λ (r : Row). r.source) (option_map row_of o)
-    by None = refl
-    by (Some e) = refl
+source_rows f id = grind (arith, common_steps, find, option_and_then, find_row)
 
 pub source_is : (f : Found) (id : Text) (source : Option ValueSource) → source ≡ option_and_then (λ (a : MatchedArg). a.source) (matched_of f id)
     → is_given id (rows_of f) ≡ is_of_words source
@@ -116,16 +110,8 @@ module _ (f : Found) (given : Option (Bor Text)) (is : option_map (λ s. s.now) 
     asked_as = asked_for ∙ ap (λ (o : Option (Bor Text)). gaps_spelled (option_map (λ s. s.now) o)) some ∙ sym spelled
 
     pub read_gaps : (read : Result (Vec (ℕ × ℕ)) NoJob) → read ≡ ok_or gaps Gaps → IfOk read (λ v. gaps_asked_for (rows_of f) ≡ Some v.items)
-    read_gaps read e = rw (e, asked_as) (by gaps)
-      where
-        by : (o : Option (Vec (ℕ × ℕ))) → IfOk (ok_or o Gaps) (λ v. option_map (λ g. g.items) o ≡ Some v.items)
-        by (Some v) = refl
-        by None = tt
+    read_gaps read e = grind (arith, common_steps, asked_as, ok_or, read)
 
     pub unread_gaps : (read : Result (Vec (ℕ × ℕ)) NoJob) → read ≡ ok_or gaps Gaps
         → IfErr read (λ why. (why ≡ Memory) ⊎ ((why ≡ Gaps) × (gaps_asked_for (rows_of f) ≡ None)))
-    unread_gaps read e = rw (e, asked_as) (by gaps)
-      where
-        by : (o : Option (Vec (ℕ × ℕ))) → IfErr (ok_or o Gaps) (λ why. (why ≡ Memory) ⊎ ((why ≡ Gaps) × (option_map (λ g. g.items) o ≡ None)))
-        by (Some v) = tt
-        by None = inr (refl, refl)
+    unread_gaps read e = grind (arith, common_steps, asked_as, ok_or, read)

@@ -1,5 +1,5 @@
 -- The row of a group, put together field by field.
-use Rattle.rds_tool.proofs.Names.{◌++◌, ◌∙◌, ◌∷◌, ◌≡◌, List, [], ap, append_assoc, codes, sym, ℕ, join_with_byte, row}
+use Rattle.rds_tool.proofs.Names.{common_steps, arith, ◌++◌, ◌∙◌, ◌∷◌, ◌≡◌, List, [], ap, append_assoc, codes, ℕ, row}
 
 module _ (whole : List ℕ) where
   -- the last field, and the line feed
@@ -8,15 +8,11 @@ module _ (whole : List ℕ) where
 
   -- a field after some text, and the rest of the row
   one_field : (s mid f g : List ℕ) (fs : List (List ℕ)) → mid ≡ s ++ f → whole ≡ mid ++ 44 ∷ row (g ∷ fs) → whole ≡ s ++ row (f ∷ g ∷ fs)
-  one_field s mid f g fs field rest =
-      rest ∙ ap (λ t. t ++ 44 ∷ row (g ∷ fs)) field ∙ append_assoc s f (44 ∷ row (g ∷ fs))
-      ∙ ap (λ t. s ++ t) (sym (append_assoc f (44 ∷ join_with_byte 44 (g ∷ fs)) (10 ∷ [])))
+  one_field s mid f g fs field rest = grind (arith, common_steps, row, append_assoc)
 
   -- the same, with a comma before it
   next_field : (s mid f g : List ℕ) (fs : List (List ℕ)) → mid ≡ s ++ 44 ∷ f → whole ≡ mid ++ 44 ∷ row (g ∷ fs) → whole ≡ s ++ 44 ∷ row (f ∷ g ∷ fs)
-  next_field s mid f g fs field rest =
-      rest ∙ ap (λ t. t ++ 44 ∷ row (g ∷ fs)) field ∙ append_assoc s (44 ∷ f) (44 ∷ row (g ∷ fs))
-      ∙ ap (λ t. s ++ 44 ∷ t) (sym (append_assoc f (44 ∷ join_with_byte 44 (g ∷ fs)) (10 ∷ [])))
+  next_field s mid f g fs field rest = grind (arith, common_steps, row, append_assoc)
 
   pub eight_fields : (old s1 s2 s3 s4 s5 s6 s7 s8 d k v a b c e : List ℕ)
       → s1 ≡ old ++ codes "group," → s2 ≡ s1 ++ d → s3 ≡ s2 ++ 44 ∷ k → s4 ≡ s3 ++ 44 ∷ v

@@ -1,5 +1,5 @@
 -- The bytes of hexadecimal text, digit by digit.
-use Rattle.rds_tool.proofs.Names.{◌%◌, ◌*◌, ◌+◌, ◌++◌, ◌<◌, ◌==◌, ◌∙◌, ◌∷◌, ◌≡◌, ◌≤◌, Bool, Err, List, None, Ok, Option, Result, Some, [], ap, append_assoc, arith, cond, drop, false, if◌then◌else◌, length, not, refl, set, slice_index, suc, sym, take, true, ℕ, IfSome, is_some, filter, drop-cons, eqb-true, common_steps, append-nil, drop-set-lt, length-set, take_more_set, decode_of, decode_pairs, digit_or_error, hex_digit_value, ◌>>=◌, FromHexError, OddLength, and_then, decoded, is_blank, or_hex_text, ToolError, HexText}
+use Rattle.rds_tool.proofs.Names.{◌%◌, ◌*◌, ◌+◌, ◌++◌, ◌<◌, ◌∙◌, ◌∷◌, ◌≡◌, ◌≤◌, Bool, Err, List, None, Ok, Option, Result, Some, [], ap, append_assoc, arith, cond, drop, false, length, not, refl, set, slice_index, sym, take, true, ℕ, IfSome, is_some, filter, drop-cons, eqb-true, common_steps, append-nil, drop-set-lt, length-set, take_more_set, decode_of, decode_pairs, digit_or_error, hex_digit_value, ◌>>=◌, FromHexError, and_then, decoded, is_blank, or_hex_text, ToolError, HexText}
 use Rattle.rds_tool.specs.Inside.HexText.{IsDecodedBy, IsStrangeAfter, bytes_after, bytes_after_of, bytes_of, with_byte}
 
 -- ---- pairs of digits
@@ -8,10 +8,7 @@ module _ (h l i : ℕ) where
   pair_is : (high low : Option ℕ) (more : Result (List ℕ) FromHexError)
       → or_hex_text ((digit_or_error h i high >>= (λ a. digit_or_error l (i + 1) low >>= (λ b. Ok (a * 16 + b)))) >>= (λ byte. more >>= (λ bytes. Ok (byte ∷ bytes))))
       ≡ with_byte high low (or_hex_text more)
-  pair_is None low more = refl
-  pair_is (Some a) None more = refl
-  pair_is (Some a) (Some b) (Ok bytes) = refl
-  pair_is (Some a) (Some b) (Err e) = refl
+  pair_is high low more = grind (arith, common_steps)
 
 pairs_are : (i : ℕ) (digits : List ℕ) → or_hex_text (decode_pairs i digits) ≡ bytes_of digits
 unfolding decode_pairs
@@ -22,34 +19,24 @@ pairs_are i (high ∷ low ∷ digits) =
     ∙ ap (with_byte (hex_digit_value high) (hex_digit_value low)) (pairs_are (i + 2) digits)
 
 none_with : (high low : Option ℕ) → with_byte high low (Err HexText) ≡ Err HexText
-none_with None low = refl
-none_with (Some a) None = refl
-none_with (Some a) (Some b) = refl
+none_with high low = grind (arith, common_steps)
 
 odd_none : (digits : List ℕ) → length digits % 2 ≡ 1 → bytes_of digits ≡ Err HexText
 odd_none [] odd = absurd (omega (arith, odd))
 odd_none (high ∷ []) odd = refl
-odd_none (high ∷ low ∷ digits) odd =
-    ap (with_byte (hex_digit_value high) (hex_digit_value low)) (odd_none digits (omega (arith, odd))) ∙ none_with (hex_digit_value high) (hex_digit_value low)
+odd_none (high ∷ low ∷ digits) odd = grind (arith, common_steps, none_with, odd_none digits (omega (arith, odd)))
 
 whole_is : (digits : List ℕ) → or_hex_text (decode_of digits) ≡ bytes_of digits
-whole_is digits = by_test (length digits % 2 == 1) (λ odd. odd_none digits (eqb-true _ _ odd)) where
-  by_test : (odd : Bool) → (odd ≡ true → bytes_of digits ≡ Err HexText) → or_hex_text (if odd then Err OddLength else decode_pairs 0 digits) ≡ bytes_of digits
-  by_test true none = sym (none refl)
-  by_test false none = pairs_are 0 digits
+whole_is digits = grind (arith, common_steps, odd_none, eqb-true, pairs_are)
 
 first_digit : (digit value : ℕ) (digits : List ℕ) → hex_digit_value digit ≡ Some value → bytes_after None (digit ∷ digits) ≡ bytes_after (Some value) digits
-first_digit digit value [] is = refl
-first_digit digit value (low ∷ digits) is = ap (λ v. with_byte v (hex_digit_value low) (bytes_of digits)) is
+first_digit digit value digits is = grind (arith, common_steps, bytes_after)
 
 no_digit : (high : Option ℕ) (digit : ℕ) (digits : List ℕ) → hex_digit_value digit ≡ None → bytes_after high (digit ∷ digits) ≡ Err HexText
-no_digit None digit [] is = refl
-no_digit None digit (low ∷ digits) is = ap (λ v. with_byte v (hex_digit_value low) (bytes_of digits)) is
-no_digit (Some high) digit digits is = ap (λ v. with_byte (Some high) v (bytes_of digits)) is
+no_digit high digit digits is = grind (arith, common_steps, bytes_after)
 
 then_same : (r : Result (List ℕ) ToolError) → r ≡ and_then r (λ more. Ok ([] ++ more))
-then_same (Ok bytes) = refl
-then_same (Err e) = refl
+then_same r = grind (arith, common_steps)
 
 -- ---- text that comes in parts
 
@@ -77,7 +64,6 @@ pub strange_text : (text : List ℕ) → IsStrangeAfter None text → decoded te
 strange_text text strange = decoded_is text ∙ strange []
 
 module _ (text part : List ℕ) where
-
   module _ (bytes : List ℕ) (half : Option ℕ) (by : IsDecodedBy None text bytes half) where
     first : (more : List ℕ) → bytes_after_of None ((text ++ part) ++ more) ≡ and_then (bytes_after_of half (part ++ more)) (λ rest. Ok (bytes ++ rest))
     first more = ap (bytes_after_of None) (append_assoc text part more) ∙ by (part ++ more)
@@ -99,8 +85,7 @@ counted None = 0
 counted (Some high) = 1
 
 at_most_one : (high : Option ℕ) → counted high ≤ 1
-at_most_one None = omega arith
-at_most_one (Some high) = omega arith
+at_most_one high = grind (arith, common_steps)
 
 -- up to a place the digits, after a first one if there is one, are decoded to the first bytes, except a first digit of a pair, if
 -- there is one
@@ -122,23 +107,10 @@ decoded_none start text small = record {
 
 module _ (start : Option ℕ) (text now : List ℕ) (at count : ℕ) (high : Option ℕ) (has : HasDecoded start text now at count high) (inside : at < length now) where
   here : drop at text ≡ slice_index now at ∷ drop (at + 1) text
-  here =
-      let next : suc at ≡ at + 1 = omega arith in
-      let same : slice_index text at ∷ drop (suc at) text ≡ slice_index now at ∷ drop (suc at) now =
-      sym (drop-cons text at 0 (omega (arith, inside, has.long))) ∙ sym has.left ∙ drop-cons now at 0 inside in
-      drop-cons text at 0 (omega (arith, inside, has.long)) ∙ ap (λ n. slice_index text at ∷ drop n text) next
-      ∙ ap (λ b. b ∷ drop (at + 1) text) (heads _ _ _ _ same) where
-        heads : (a b : ℕ) (xs ys : List ℕ) → a ∷ xs ≡ b ∷ ys → a ≡ b
-        heads a b xs ys p = cc
+  here = grind (arith, common_steps, slice_index, drop-cons)
 
   after : drop (at + 1) now ≡ drop (at + 1) text
-  after =
-      let next : suc at ≡ at + 1 = omega arith in
-      let same : slice_index now at ∷ drop (suc at) now ≡ slice_index now at ∷ drop (at + 1) text =
-      sym (drop-cons now at 0 inside) ∙ has.left ∙ here in
-      ap (λ n. drop n now) (sym next) ∙ tails _ _ _ _ same where
-        tails : (a b : ℕ) (xs ys : List ℕ) → a ∷ xs ≡ b ∷ ys → xs ≡ ys
-        tails a b xs ys p = cc
+  after = grind (arith, common_steps, slice_index, drop-cons, here)
 
   module _ (more : List ℕ) where
     -- the digits after this one
@@ -156,25 +128,11 @@ module _ (start : Option ℕ) (text now : List ℕ) (at count : ℕ) (high : Opt
     rest_after blank is = has.rest more ∙ ap (λ digits. to_all (bytes_after high digits)) (left_after blank is)
 
   pub skipped : is_blank (slice_index now at) ≡ true → HasDecoded start text now (at + 1) count high
-  skipped blank = record {
-    left = after;
-    long = has.long;
-    order = omega (arith, has.order);
-    small = has.small;
-    rest = λ more. rest_after more true blank;
-  }
+  skipped blank = grind (arith, common_steps, after, rest_after, slice_index)
 
   pub begun : (value : ℕ) → high ≡ None → is_blank (slice_index now at) ≡ false → hex_digit_value (slice_index now at) ≡ Some value → value < 16
       → HasDecoded start text now (at + 1) count (Some value)
-  begun value none blank some small = record {
-    left = after;
-    long = has.long;
-    order = omega (arith, has.order, ap counted none);
-    small = small;
-    rest = λ more. rest_after more false blank
-        ∙ ap (λ h. to_all more (bytes_after h (slice_index now at ∷ later more))) none
-        ∙ ap (to_all more) (first_digit (slice_index now at) value _ some);
-  }
+  begun value none blank some small = grind (arith, common_steps, after, rest_after, bytes_after, slice_index, first_digit)
 
   pub ended : (first value : ℕ) → high ≡ Some first → is_blank (slice_index now at) ≡ false → hex_digit_value (slice_index now at) ≡ Some value
       → HasDecoded start text (set now count (16 * first + value)) (at + 1) (count + 1) None

@@ -1,5 +1,5 @@
 -- What was done of the bytes that a reader gave: as if it had held these and no others.
-use Rattle.rds_tool.proofs.Names.{◌≡◌, ◌≢◌, ◌+◌, ◌*◌, ◌^◌, ◌<◌, ◌≤◌, ◌++◌, ◌⊎◌, Bool, ℕ, List, [], Err, None, Ok, Option, Result, Some, inl, inr, length, take, true, refl, sym, ap, ◌∙◌, subst, arith, append_assoc, IfErr, IfSome, OnOk, Appends, Consumes, append-nil, length-append, length-take, nil_from_length, LiveOf, Terms, AreGaps, AllCount, BreaksOff, EndsShort, IsFlushedAfter, IsHeardOut, IsTooLong, StopsBetweenRows, StopsInRows, listed, rows_so_far, Gave, claimed, IsFollowed, IsNearAnswer, IsNearEnd, bits_left, Writes, ToolError, BadGaps, BitsPastBytes, Read, TooLong, Write}
+use Rattle.rds_tool.proofs.Names.{common_steps, ◌≡◌, ◌≢◌, ◌+◌, ◌*◌, ◌^◌, ◌<◌, ◌≤◌, ◌++◌, ◌⊎◌, Bool, ℕ, List, [], Err, None, Option, Result, Some, inl, inr, length, take, true, refl, sym, ap, ◌∙◌, subst, arith, append_assoc, IfErr, IfSome, OnOk, Appends, Consumes, append-nil, length-append, length-take, nil_from_length, LiveOf, Terms, AreGaps, BreaksOff, EndsShort, IsFlushedAfter, IsHeardOut, IsTooLong, StopsBetweenRows, StopsInRows, listed, rows_so_far, Gave, claimed, IsFollowed, IsNearAnswer, IsNearEnd, bits_left, Writes, ToolError, BadGaps, BitsPastBytes, Read, TooLong, Write}
 use Rattle.rds_tool.proofs.Followed.{differ, nothing_done, place_is, stops_here}
 
 -- bytes given so far, and then these
@@ -13,10 +13,7 @@ gave_none a b c xs n buf p q none = q ∙ (ap (λ m. b ++ take m buf) none ∙ (
 -- no byte was given, since none was asked for or the reader answered its end
 pub near_answer_by : (bits : Option ℕ) (place room : ℕ) (ended : Bool) → (room ≡ 0 → IfSome bits (λ n. n < place + 8) × (bits ≢ None)) → (room ≡ 0) ⊎ (ended ≡ true)
     → IsNearAnswer bits place ended
-near_answer_by None place room ended none (inl no_room) = let both = none no_room in absurd (both.1 refl)
-near_answer_by None place room ended none (inr done) = done
-near_answer_by (Some n) place room ended none (inl no_room) = let both = none no_room in inl both.0
-near_answer_by (Some n) place room ended none (inr done) = inr done
+near_answer_by bits place room ended none it = grind (arith, common_steps)
 
 -- an answer is of none of these kinds
 pub of_none : (e a b c k : ToolError) → (e ≡ a) ⊎ ((e ≡ b) ⊎ (e ≡ c)) → a ≢ k → b ≢ k → c ≢ k → e ≢ k
@@ -42,18 +39,7 @@ module _ (terms : Terms) (bits : Option ℕ) (live : LiveOf) (from to old new : 
   -- fewer bytes came than are claimed
   pub ends_short_of : (left : ℕ) (near after : Bool) → left ≡ bits_left bits live.place → IsNearAnswer bits live.place near
       → (0 < left) × (((8 ≤ left) × (after ≡ near)) ⊎ (after ≡ true)) → EndsShort bits (Some heard) (Some []) × (after ≡ true)
-  ends_short_of left near after is answer past = by bits is answer where
-    place : live.place ≡ 8 * length heard
-    place = place_is terms bits live from to old new heard f
-
-    by : (b : Option ℕ) → left ≡ bits_left b live.place → IsNearAnswer b live.place near → EndsShort b (Some heard) (Some []) × (after ≡ true)
-    by None is answer = absurd (omega (arith, is, past.0))
-    by (Some n) is answer =
-        let ended : after ≡ true = (elim past.1 [
-          | inl many ↦ elim answer [ inl close ↦ absurd (omega (arith, is, many.0, close)) | inr done ↦ many.1 ∙ done ]
-          | inr done ↦ done
-        ]) in
-        ((heard, sym (append-nil heard), refl, omega (arith, is, past.0, place)), ended)
+  ends_short_of left near after is answer past = grind (arith, common_steps, place_is, append-nil)
 
   -- the last byte, if there is one
   module _ (n : ℕ) (buf : List ℕ) (left place : ℕ) (told : left ≡ bits_left bits place) (there : place ≡ live.place)
@@ -74,29 +60,16 @@ module _ (terms : Terms) (bits : Option ℕ) (live : LiveOf) (from to old new : 
     still_none none = ap (λ xs. Some xs) (sym (none_left none))
 
     pub near_last : left < 8 → IsNearEnd bits live.place (Some last)
-    near_last few = by bits left_of where
-      by : (b : Option ℕ) → left ≡ bits_left b live.place → IsNearEnd b live.place (Some last)
-      by None is = none_left is
-      by (Some m) is = inl (omega (arith, is, few))
+    near_last few = grind (arith, common_steps, left_of, none_left)
 
     pub heard_out : (near after : Bool) → IsNearAnswer bits live.place near → (left ≡ 0 → after ≡ near) → IsHeardOut bits after (heard ++ last)
-    heard_out near after answer same = by bits left_of answer f.all_count where
-      place_of : live.place ≡ 8 * length heard
-      place_of = place_is terms bits live from to old new heard f
-
-      by : (b : Option ℕ) → left ≡ bits_left b live.place → IsNearAnswer b live.place near → AllCount b heard → IsHeardOut b after (heard ++ last)
-      by None is answer all = same is ∙ answer
-      by (Some m) is answer all = (
-        omega (arith, is, fit.1, long, place_of, length-append heard last),
-        omega (arith, is, fit.2, all, long, place_of, length-append heard last),
-      )
+    heard_out near after answer same = grind (arith, common_steps, left_of, place_is, long, length-append)
 
 -- the answer, and what was written by then
 pub heard_all : {T : Type 0} (r : Result T ToolError) (terms : Terms) (bits : Option ℕ) (given given' bytes : List ℕ) (ended : Bool) (old new : Option (List ℕ))
     → given' ≡ given ++ bytes → IsHeardOut bits ended bytes → OnOk r (Writes old new (listed terms bits bytes))
     → OnOk r (Gave given given' (λ xs. IsHeardOut bits ended xs × Writes old new (listed terms bits xs)))
-heard_all (Ok x) terms bits given given' bytes ended old new gave out wrote = (bytes, gave, (out, wrote))
-heard_all (Err e) terms bits given given' bytes ended old new gave out wrote = tt
+heard_all r terms bits given given' bytes ended old new gave out wrote = grind (arith, common_steps, listed)
 
 -- ---- where it breaks off
 
@@ -119,16 +92,7 @@ module _ (terms : Terms) (bits : Option ℕ) (given given' : List ℕ) (ended : 
   pub broke_at_read : {most : ℕ} (bytes : List ℕ) → given' ≡ given ++ bytes → Appends old new (rows_so_far terms bytes) → IsFlushedAfter bytes flushed
       → StopsBetweenRows most terms bits (Some bytes) (Some []) old new → (e ≢ Write) × (e ≢ TooLong) × (e ≢ BadGaps)
       → (e ≡ BitsPastBytes → EndsShort bits (Some bytes) (Some []) × (ended ≡ true)) → BreaksOff most terms bits given given' ended old new flushed e
-  broke_at_read bytes gave wrote flush stops other short = record {
-    bytes = bytes;
-    gave = gave;
-    prompt = λ _. (wrote, flush);
-    between = λ _. stops;
-    within = λ p. absurd (other.0 p);
-    too_long = λ p. absurd (other.1 p);
-    past = short;
-    bad_gaps = λ p. absurd (other.2 p);
-  }
+  broke_at_read bytes gave wrote flush stops other short = grind (arith, common_steps)
 
   -- after one
   pub broke_after : {most : ℕ} (bytes : List ℕ) → given' ≡ given ++ bytes → (e ≢ Read) × (e ≢ BitsPastBytes)
@@ -150,8 +114,4 @@ module _ (terms : Terms) (bits : Option ℕ) (given given' : List ℕ) (ended : 
 pub broke_at_write : {T : Type 0} {most : ℕ} (r : Result T ToolError) (terms : Terms) (bits : Option ℕ) (given given' bytes : List ℕ) (ended : Bool) (old new : Option (List ℕ)) (flushed : Bool)
     → IfErr r (λ e. e ≡ Write) → given' ≡ given ++ bytes → (r ≡ Err Write → StopsInRows most terms bits (Some bytes) (Some []) old new)
     → IfErr r (BreaksOff most terms bits given given' ended old new flushed)
-broke_at_write (Ok x) terms bits given given' bytes ended old new flushed kind gave rows = tt
-broke_at_write (Err e) terms bits given given' bytes ended old new flushed kind gave rows =
-    let not : (k : ToolError) → Write ≢ k → e ≢ k = λ k other p. other (sym kind ∙ p) in
-    broke_after terms bits given given' ended old new flushed e bytes gave (not Read (differ _ _ refl), not BitsPastBytes (differ _ _ refl))
-    (λ other. absurd (other kind)) (λ p. rows (ap (λ x. Err x) p)) (λ p. absurd (not TooLong (differ _ _ refl) p)) (λ p. absurd (not BadGaps (differ _ _ refl) p))
+broke_at_write r terms bits given given' bytes ended old new flushed kind gave rows = grind (arith, common_steps, broke_after, differ)

@@ -1,5 +1,5 @@
 -- The listing of groups that were encoded, and which texts are that of a list, or a part of it.
-use Rattle.rds_tool.proofs.Names.{◌≡◌, ℕ, zero, suc, ◌+◌, ◌*◌, ◌/◌, ◌%◌, ◌^◌, ◌<◌, ◌≤◌, List, [], ◌∷◌, ◌++◌, Bool, true, false, cond, Some, Result, Ok, Err, length, flat_map, get_or, refl, sym, subst, ap, ap₂, ◌∙◌, arith, append-nil, IfOk, not, nat_lt, ◌||◌, if◌then◌else◌, byte_at, bytes_high_first, filter, result_unwrap_or, nat_tests, filter-append, length-map-range_with_len, IsBytes, decode_of, decode_sized, encode_lower, encode_with, hex_digit_value, lower_digits, FromHexError, Signal, bits_of, length_of, packed_bit, ungapped, IsLossRule, report_items, RuleNumbers, Loss, Run, Share, cuts_bits, listed, group_text, lines_of, lines_text, words_of, words_or_refusal, and_then, bytes_of, first_bits, is_blank, or_hex_text, recording_of, EncodedGroupsAreListed, EncodedGroupsAreTaken, ListsEndWithTotals, StreamsAreListed, groups_of_lines, stream_input, whole_input, item_row, report_text, cut_recording, list_text, result_of_job, text_of_task, totals_list, PlanOf, crew_of, cut_by, plan_of, loss_of, rules_of, task_of, ToolError, BadCutting, BadGaps, BitsPastBytes, BurstRange, LossRange, ReachRange, ShareRange, TooLong, Cuts, Input, Settings}
+use Rattle.rds_tool.proofs.Names.{common_steps, ◌≡◌, ℕ, zero, suc, ◌+◌, ◌*◌, ◌/◌, ◌%◌, ◌^◌, ◌<◌, ◌≤◌, List, [], ◌∷◌, ◌++◌, Bool, true, false, cond, Some, Result, Ok, Err, length, flat_map, get_or, refl, sym, subst, ap, ap₂, ◌∙◌, arith, append-nil, IfOk, not, nat_lt, ◌||◌, if◌then◌else◌, byte_at, bytes_high_first, filter, result_unwrap_or, nat_tests, filter-append, length-map-range_with_len, IsBytes, decode_of, decode_sized, encode_lower, encode_with, hex_digit_value, lower_digits, FromHexError, Signal, bits_of, length_of, packed_bit, ungapped, IsLossRule, report_items, RuleNumbers, Loss, cuts_bits, listed, group_text, lines_of, lines_text, words_of, words_or_refusal, and_then, bytes_of, first_bits, is_blank, or_hex_text, recording_of, EncodedGroupsAreListed, EncodedGroupsAreTaken, ListsEndWithTotals, StreamsAreListed, groups_of_lines, whole_input, item_row, report_text, cut_recording, list_text, result_of_job, text_of_task, totals_list, PlanOf, crew_of, cut_by, plan_of, loss_of, rules_of, task_of, ToolError, BadCutting, BurstRange, ReachRange, Cuts, Input, Settings}
 use Rattle.hex.proofs.HexLemmas.{IsDigits-lower_digits, decode_of-encode_lower, decode_of-ok, decode_sized-ok, decode_sized-twice}
 use Rattle.rds_sync.specs.Sent.{AreWords, EncodedGroupsAreListed as SentGroupsAreListed, PackedGroupsAreSent, bits_sent, packed_group, packed_groups}
 use Rattle.rds_tool.specs.declared.job.Job.TheVariants as job
@@ -16,17 +16,12 @@ same-ok {A = A} a b is = ap (λ (r : Result A ToolError). result_unwrap_or r a) 
 -- both steps were taken
 pub both : {A B : Type 0} (first : Result A ToolError) (step : A → Result B ToolError) (made : B) → and_then first step ≡ Ok made
     → (a : A) × (first ≡ Ok a) × (step a ≡ Ok made)
-both (Ok a) step made is = (a, refl, is)
-both (Err e) step made is = cc is
+both first step made is = grind (arith, common_steps)
 
 -- ---- words of sixteen bits
 
 four_small : (a b c d : ℕ) → a < 2 ^ 16 → b < 2 ^ 16 → c < 2 ^ 16 → d < 2 ^ 16 → (y : ℕ) → get_or (a ∷ b ∷ c ∷ d ∷ []) y 0 < 2 ^ 16
-four_small a b c d ha hb hc hd zero = ha
-four_small a b c d ha hb hc hd (suc zero) = hb
-four_small a b c d ha hb hc hd (suc (suc zero)) = hc
-four_small a b c d ha hb hc hd (suc (suc (suc zero))) = hd
-four_small a b c d ha hb hc hd (suc (suc (suc (suc y)))) = omega arith
+four_small a b c d ha hb hc hd it = grind (arith, common_steps)
 
 -- the words of sixteen digits
 words_small : (digits : List ℕ) (read : Result (List ℕ) FromHexError) (words : List ℕ) → decode_sized digits 8 ≡ read
@@ -39,8 +34,7 @@ words_small digits (Ok bytes) words is spelled =
 words_small digits (Err e) words is spelled = cc spelled
 
 more_small : (words : List ℕ) (groups : List (List ℕ)) → ((y : ℕ) → get_or words y 0 < 2 ^ 16) → AreWords groups → AreWords (words ∷ groups)
-more_small words groups first others zero = first
-more_small words groups first others (suc k) = others k
+more_small words groups first others it = grind (arith, common_steps)
 
 -- ---- the text that is written for lines
 
@@ -55,9 +49,7 @@ AreSpelled lines groups = AreWords groups × ((hex : Bool) → lines_text hex li
 
 groups_spelled : (lines groups : List (List ℕ)) → groups_of_lines lines ≡ Ok groups → AreSpelled lines groups
 groups_spelled [] groups is = subst (AreSpelled []) (same-ok [] groups is) (λ k y. omega arith, λ hex. refl)
-groups_spelled ([] ∷ lines) groups is =
-    let others = groups_spelled lines groups is in
-    (others.0, λ hex. rw (others.1 hex) refl)
+groups_spelled ([] ∷ lines) groups is = grind (arith, common_steps, groups_spelled lines groups is)
 groups_spelled ((digit ∷ digits) ∷ lines) groups is =
     let first = both (words_of (digit ∷ digits)) _ groups is in
     let next = both (groups_of_lines lines) _ groups first.2 in
@@ -69,8 +61,7 @@ groups_spelled ((digit ∷ digits) ∷ lines) groups is =
 -- ---- the bytes of it
 
 byte_small : (k n : ℕ) → byte_at k n < 256
-byte_small zero n = omega arith
-byte_small (suc k) n = omega arith
+byte_small k n = grind (arith, common_steps)
 
 bytes_small : (k n : ℕ) → IsBytes (bytes_high_first k n)
 bytes_small zero n i = omega arith
@@ -128,8 +119,7 @@ bytes_again true groups =
 -- a test that refused nothing
 untested : {A : Type 0} (test : Bool) (error : ToolError) (rest : Result A ToolError) (made : A) → (if test then Err error else rest) ≡ Ok made
     → (test ≡ false) × (rest ≡ Ok made)
-untested true error rest made is = cc is
-untested false error rest made is = (refl, is)
+untested test error rest made is = grind (arith, common_steps)
 
 pub record AreLawful (rules : RuleNumbers) : Type 0 where
   pub loss : IsLossRule rules.loss
@@ -138,12 +128,7 @@ pub record AreLawful (rules : RuleNumbers) : Type 0 where
   pub burst : rules.burst ≤ 5
 
 loss_lawful : (asked loss : Loss) → loss_of asked ≡ Ok loss → IsLossRule loss
-loss_lawful (Run n) loss is =
-    let inside = untested (nat_lt n 1 || nat_lt 64 n) LossRange _ loss is in
-    rw (← same-ok (Run n) loss inside.1) (grind (arith, nat_tests, inside.0))
-loss_lawful (Share bad of) loss is =
-    let inside = untested (nat_lt bad 1 || nat_lt of bad || nat_lt 64 of) ShareRange _ loss is in
-    rw (← same-ok (Share bad of) loss inside.1) (grind (arith, nat_tests, inside.0), grind (arith, nat_tests, inside.0))
+loss_lawful asked loss is = grind (arith, common_steps, untested, same-ok, nat_tests)
 
 rules_lawful : (settings : Settings) (rules : RuleNumbers) → rules_of settings ≡ Ok rules → AreLawful rules
 rules_lawful settings rules is =
@@ -167,11 +152,7 @@ plan_lawful settings plan is =
 
 pub first_are : (bits : ℕ) (gaps : List (ℕ × ℕ)) (bytes : List ℕ) (recording : Signal) → first_bits bits gaps bytes ≡ Ok recording
     → record { bits = bits_of bytes bits; gaps = gaps } ≡ recording
-first_are bits gaps bytes recording is =
-    let short = untested _ TooLong _ recording is in
-    let held = untested _ BitsPastBytes _ recording short.1 in
-    let lawful = untested _ BadGaps _ recording held.1 in
-    same-ok _ recording lawful.1
+first_are bits gaps bytes recording is = grind (arith, common_steps, untested, same-ok)
 
 bits_of-length : (bytes : List ℕ) (bits : ℕ) → length (bits_of bytes bits) ≡ bits
 bits_of-length bytes bits = length-map-range_with_len (packed_bit bytes) 0 bits
@@ -181,8 +162,7 @@ all_taken : (bytes : List ℕ) → 8 * length bytes ≤ 2 ^ 36 → first_bits (8
 all_taken bytes few = grind (arith, nat_tests)
 
 cut_same : (cuts : Cuts) (recording cut : Signal) (fits : Bool) → cond fits (Ok recording) (Err BadCutting) ≡ Ok cut → recording ≡ cut
-cut_same cuts recording cut true is = same-ok recording cut is
-cut_same cuts recording cut false is = cc is
+cut_same cuts recording cut fits is = grind (arith, common_steps, same-ok)
 
 pub record IsListOf (input : Input) (settings : Settings) (held listing : List ℕ) : Type 0 where
   pub plan : PlanOf
@@ -213,12 +193,7 @@ list_of input settings held listing is =
 module _ (sent : SentGroupsAreListed) (packed : PackedGroupsAreSent) where
   recorded_again : (hex : Bool) (groups : List (List ℕ)) (recording : Signal) → AreWords groups
       → recording_of (whole_input hex) (flat_map (group_text hex) groups) ≡ Ok recording → recording ≡ ungapped (bits_sent groups)
-  recorded_again hex groups recording small is =
-      let read = both (bytes_of (whole_input hex) (flat_map (group_text hex) groups)) _ recording is in
-      let same = same-ok read.0 (packed_groups groups) (sym read.1 ∙ bytes_again hex groups) in
-      sym (first_are (8 * length read.0) [] read.0 recording read.2)
-      ∙ ap (λ (bytes : List ℕ). ungapped (bits_of bytes (8 * length bytes))) same
-      ∙ ap ungapped (packed groups small).1
+  recorded_again hex groups recording small is = grind (arith, common_steps, both, same-ok, bytes_again, first_are)
 
   pub encoded_groups_are_listed : EncodedGroupsAreListed
   encoded_groups_are_listed hex settings lines words groups listing spelled listed =
@@ -232,10 +207,7 @@ module _ (sent : SentGroupsAreListed) (packed : PackedGroupsAreSent) where
 
   -- as many bits as the groups have
   bits_sent-length : (groups : List (List ℕ)) → AreWords groups → length (bits_sent groups) ≡ 104 * length groups
-  bits_sent-length groups small =
-      let bytes : List ℕ = packed_groups groups in
-      let long = (packed groups small).0 in
-      ap length (sym (packed groups small).1) ∙ bits_of-length bytes (8 * length bytes) ∙ omega (arith, long)
+  bits_sent-length groups small = grind (arith, common_steps, bits_of-length)
 
   pub encoded_groups_are_taken : EncodedGroupsAreTaken
   encoded_groups_are_taken hex settings plan lines groups planned spelled short fits =
@@ -253,14 +225,10 @@ module _ (sent : SentGroupsAreListed) (packed : PackedGroupsAreSent) where
 
 cut_alike : (made : Result Signal ToolError) (cuts : Cuts) (rules : RuleNumbers) → IfOk made (λ recording. cuts_bits cuts (length_of recording) ≡ true)
     → and_then made (λ recording. Ok (list_text rules recording)) ≡ and_then (and_then made (cut_by cuts)) (λ recording. Ok (list_text rules recording))
-cut_alike (Ok recording) cuts rules fits = rw fits refl
-cut_alike (Err e) cuts rules fits = refl
+cut_alike made cuts rules fits = grind (arith, common_steps)
 
 pub streams_are_listed : StreamsAreListed
-streams_are_listed settings plan bits gaps held planned fits =
-    let input : Input = stream_input bits gaps in
-    cut_alike (recording_of input held) plan.cuts plan.rules fits
-    ∙ sym (ap (λ (made : Result PlanOf ToolError). and_then (and_then made (λ plan. Ok (task.List input plan))) (λ task. text_of_task task held)) planned)
+streams_are_listed settings plan bits gaps held planned fits = grind (arith, common_steps, cut_alike)
 
 module _ (input : Input) (held : List ℕ) where
   -- the rows of items come before the totals

@@ -1,5 +1,5 @@
 -- Commands that are made of the rows of a table, one after the other.
-use Rattle.rds_tool.proofs.Names.{◌+◌, ◌<◌, ◌≤◌, ◌||◌, ◌∙◌, ◌≡◌, List, ap, ap₂, drop, false, get_or, length, subst, sym, ℕ, drop_all, drop_more, AddsArg, AddsSubcommand, App, rule_of, with_rule, with_subcommand, Command, ReadsAs, app_of_row, rule_of_option, with_command, with_each, with_option}
+use Rattle.rds_tool.proofs.Names.{common_steps, arith, ◌+◌, ◌<◌, ◌≤◌, ◌∙◌, ◌≡◌, List, ap, drop, false, get_or, length, sym, ℕ, drop_all, drop_more, AddsArg, AddsSubcommand, App, rule_of, Command, ReadsAs, app_of_row, rule_of_option, with_command, with_each, with_option}
 use Rattle.clap.specs.declared.builder.arg.Arg.{Arg}
 use Rattle.rds_tool.specs.declared.commands.CommandRow.{CommandRow}
 use Rattle.rds_tool.specs.declared.commands.CommandOption.{CommandOption}
@@ -15,8 +15,7 @@ module _ {X : Type 0} (add : App → X → App) (whole : App) where
   begun made app rows is rest = record { reads = app; now = is; rest = rest }
 
   pub ended : (made : Command) (rows : List X) (i : ℕ) → HasRest add made (drop i rows) whole → length rows ≤ i → ReadsAs made whole
-  ended made rows i has none =
-      subst (ReadsAs made) (sym (ap (with_each add has.reads) (drop_all i rows none)) ∙ has.rest) has.now
+  ended made rows i has none = grind (arith, common_steps, drop_all)
 
   pub next : (old new : Command) (rows : List X) (i : ℕ) (d : X) → HasRest add old (drop i rows) whole → i < length rows
       → ((reads : App) → ReadsAs old reads → ReadsAs new (add reads (get_or rows i d))) → HasRest add new (drop (i + 1) rows) whole
@@ -28,20 +27,13 @@ module _ {X : Type 0} (add : App → X → App) (whole : App) where
 
 pub with_one_command : (old new sub : Command) (row : CommandRow) → AddsSubcommand old sub new → ReadsAs sub (app_of_row row)
     → (reads : App) → ReadsAs old reads → ReadsAs new (with_command reads row)
-with_one_command old new sub row adds is reads now = record {
-  app = adds.shape is.local ∙ ap₂ (λ (a b : App). with_subcommand a b.top) now.app is.app;
-  local = adds.globals ∙ ap₂ (λ a b. a || b) now.local is.local;
-}
+with_one_command old new sub row adds is reads now = grind (arith, common_steps)
 
 with_one_option : (old new : Command) (arg : Arg) (option : CommandOption) → AddsArg old arg new → arg.global ≡ false → rule_of arg ≡ rule_of_option option
     → (reads : App) → ReadsAs old reads → ReadsAs new (with_option reads option)
-with_one_option old new arg option adds local is reads now = record {
-  app = adds.shape local ∙ ap₂ with_rule now.app is;
-  local = adds.globals ∙ ap₂ (λ a b. a || b) now.local local;
-}
+with_one_option old new arg option adds local is reads now = grind (arith, common_steps)
 
 pub next_option : (whole : App) (old new : Command) (arg : Arg) (rows : List CommandOption) (i : ℕ) (d : CommandOption)
     → HasRest with_option old (drop i rows) whole → i < length rows
     → AddsArg old arg new → arg.global ≡ false → rule_of arg ≡ rule_of_option (get_or rows i d) → HasRest with_option new (drop (i + 1) rows) whole
-next_option whole old new arg rows i d has some adds local is =
-    next with_option whole old new rows i d has some (with_one_option old new arg (get_or rows i d) adds local is)
+next_option whole old new arg rows i d has some adds local is = grind (arith, common_steps, next, with_one_option)

@@ -1,5 +1,5 @@
 -- The items of a report come in order: by an induction over the bits of the run.
-use Rattle.rds_tool.proofs.Names.{◌≡◌, ℕ, zero, suc, ◌+◌, ◌-◌, ◌*◌, ◌%◌, ◌<◌, ◌≤◌, ◌++◌, List, [], ◌∷◌, Bool, true, false, Option, Some, None, length, refl, sym, ap, ◌∙◌, subst, arith, append_assoc, inl, inr, cases_eq, eq-eqb, eqb-true, ne_eqb, ◌==◌, filter, Signal, length_of, AcquisitionsAreLate, RunsAreReports, StepsAreLawful, NumbersInOrder, IsLawful, IsLawfulLock, IsLossRule, are_too_many, report_items, RuleNumbers, completed_group, history_after_block, items_at, items_of_end, lock_after, run, step, Item, Acquired, Group, LostLock, Lock, State, Locked, Searching, AreInOrder, Next, at_first, bits_of_item, was_read}
+use Rattle.rds_tool.proofs.Names.{common_steps, ◌≡◌, ℕ, zero, suc, ◌+◌, ◌-◌, ◌*◌, ◌<◌, ◌≤◌, ◌++◌, List, [], ◌∷◌, Bool, true, false, Option, Some, None, length, refl, arith, append_assoc, inl, inr, eq-eqb, eqb-true, ne_eqb, ◌==◌, filter, Signal, length_of, AcquisitionsAreLate, RunsAreReports, StepsAreLawful, NumbersInOrder, IsLawful, IsLawfulLock, IsLossRule, are_too_many, report_items, RuleNumbers, completed_group, history_after_block, items_at, items_of_end, lock_after, run, step, Item, Acquired, Group, LostLock, Lock, State, Locked, Searching, AreInOrder, Next, at_first, bits_of_item, was_read}
 use Rattle.rds_sync.specs.Acquiring.{acquired}
 use Rattle.rds_sync.specs.Groups.{group}
 
@@ -25,20 +25,7 @@ module _ (b : Signal) (rules : RuleNumbers) where
 
   read_blocks : (first last place : ℕ) → AreNumbers first last → length (filter was_read (group b rules first last place).blocks) ≡ last - first + 1
   unfolding group
-  read_blocks zero last place h = absurd (omega (arith, h))
-  read_blocks (suc zero) zero place h = absurd (omega (arith, h))
-  read_blocks (suc zero) (suc zero) place h = refl
-  read_blocks (suc zero) (suc (suc zero)) place h = refl
-  read_blocks (suc zero) (suc (suc (suc zero))) place h = refl
-  read_blocks (suc zero) (suc (suc (suc (suc zero)))) place h = refl
-  read_blocks (suc (suc zero)) (suc (suc zero)) place h = refl
-  read_blocks (suc (suc zero)) (suc (suc (suc zero))) place h = refl
-  read_blocks (suc (suc zero)) (suc (suc (suc (suc zero)))) place h = refl
-  read_blocks (suc (suc (suc zero))) (suc (suc (suc zero))) place h = refl
-  read_blocks (suc (suc (suc zero))) (suc (suc (suc (suc zero)))) place h = refl
-  read_blocks (suc (suc (suc (suc zero)))) (suc (suc (suc (suc zero)))) place h = refl
-  read_blocks (suc (suc (suc (suc (suc first))))) last place h = absurd (omega (arith, h))
-  read_blocks first last place h = absurd (omega (arith, h))
+  read_blocks first last place h = grind (arith, common_steps)
 
   -- it needs the bits up to that place
   bits_of_group : (first last place : ℕ) → AreNumbers first last → 26 * (last - first) + 25 ≤ place → bits_of_item (Group (group b rules first last place)) ≡ place + 1
@@ -49,12 +36,7 @@ module _ (b : Signal) (rules : RuleNumbers) where
       → least_group ≤ place_of first last place → bits ≤ place + 1 → place + 1 ≤ all
       → AreInOrder all (next_of true least (place_of first last place + 1) (place + 1)) rest
       → AreInOrder all (next_of true least least_group bits) (Group (group b rules first last place) ∷ rest)
-  group_first all first last place least least_group bits rest numbers room after needed within others =
-      let at = group_place first last place in
-      let need = bits_of_group first last place numbers room in
-      let next : next_of true least ((group b rules first last place).place + 1) (bits_of_item (Group (group b rules first last place))) ≡ next_of true least (place_of first last place + 1) (place + 1) =
-      ap (λ (p : ℕ). next_of true least (p + 1) (bits_of_item (Group (group b rules first last place)))) at ∙ ap (next_of true least (place_of first last place + 1)) need in
-      (refl, omega (arith, at, after), omega (arith, need, needed), omega (arith, need, within), four_blocks first last place, subst (λ (n : Next). AreInOrder all n rest) (sym next) others)
+  group_first all first last place least least_group bits rest numbers room after needed within others = grind (arith, common_steps, group_place, bits_of_group, four_blocks)
 
   -- where the group of a lock begins
   abbrev start : Lock → ℕ
@@ -79,20 +61,7 @@ module _ (b : Signal) (rules : RuleNumbers) where
   acquired_fits : (all x i least least_group : ℕ) (rest : List Item) → 51 ≤ i → 1 ≤ x → x ≤ 4 → i + 1 ≤ all → least_group ≤ i - 25
       → Goes all (Locked (lock_after i x 0 x)) (i + 1) rest
       → AreInOrder all (next_of true (i + 1) least_group (i + 1)) (completed_group b rules x x i ++ rest)
-  acquired_fits all x i least least_group rest late low high within after goes = elim (cases_eq x 4) [
-    | inl four ↦
-        let e : completed_group b rules x x i ≡ Group (group b rules 4 4 i) ∷ [] = rw four refl in
-        let l : Locked (lock_after i x 0 x) ≡ Locked (lock_after i 4 0 4) = rw four refl in
-        let on : Goes all (Locked (lock_after i 4 0 4)) (i + 1) rest = subst (λ (s : State). Goes all s (i + 1) rest) l goes in
-        rw e (group_first all 4 4 i (i + 1) least_group (i + 1) rest (omega arith, omega arith, omega arith) (omega (arith, late)) (omega (arith, after)) (omega arith) within
-        (on (i + 1) (place_of 4 4 i + 1) (i + 1) (omega arith, omega (arith, late), omega arith)))
-    | inr less ↦
-        let e : completed_group b rules x x i ≡ [] = rw (ne_eqb x 4 less, completed_group) refl in
-        let n : x % 4 + 1 ≡ x + 1 = omega (arith, high, less) in
-        let l : Locked (lock_after i x 0 x) ≡ Locked (record { due = i + 26; number = x + 1; bad = 0; first = x }) = rw (ne_eqb x 4 less, n) refl in
-        let on : Goes all (Locked (record { due = i + 26; number = x + 1; bad = 0; first = x })) (i + 1) rest = subst (λ (s : State). Goes all s (i + 1) rest) l goes in
-        rw e (on (i + 1) least_group (i + 1) (omega arith, omega (arith, after), omega arith))
-  ]
+  acquired_fits all x i least least_group rest late low high within after goes = grind (arith, common_steps, group_first, ne_eqb)
 
   -- the state and the items, if the place acquires with this number or none
   abbrev found : ℕ → Option ℕ → State × List Item
@@ -116,20 +85,7 @@ module _ (b : Signal) (rules : RuleNumbers) where
       → i + 1 ≤ all
       → Goes all (Locked (lock_after i x bad first)) (i + 1) rest
       → AreInOrder all (next_of true least least_group bits) (completed_group b rules first x i ++ rest)
-  kept_fits all i first x bad least least_group bits rest numbers room before after needed within goes = elim (cases_eq x 4) [
-    | inl four ↦
-        let e : completed_group b rules first x i ≡ Group (group b rules first x i) ∷ [] = rw (eq-eqb x 4 four, completed_group) refl in
-        let l : Locked (lock_after i x bad first) ≡ Locked (record { due = i + 26; number = 1; bad = bad; first = 1 }) = rw four refl in
-        let on : Goes all (Locked (record { due = i + 26; number = 1; bad = bad; first = 1 })) (i + 1) rest = subst (λ (s : State). Goes all s (i + 1) rest) l goes in
-        rw e (group_first all first x i least least_group bits rest numbers room after (omega (arith, needed)) within
-        (on least (place_of first x i + 1) (i + 1) (omega (arith, before), omega (arith, room), omega arith)))
-    | inr less ↦
-        let e : completed_group b rules first x i ≡ [] = rw (ne_eqb x 4 less, completed_group) refl in
-        let n : x % 4 + 1 ≡ x + 1 = omega (arith, numbers, less) in
-        let l : Locked (lock_after i x bad first) ≡ Locked (record { due = i + 26; number = x + 1; bad = bad; first = first }) = rw (ne_eqb x 4 less, n) refl in
-        let on : Goes all (Locked (record { due = i + 26; number = x + 1; bad = bad; first = first })) (i + 1) rest = subst (λ (s : State). Goes all s (i + 1) rest) l goes in
-        rw e (on least least_group bits (omega (arith, before), omega (arith, after, numbers), omega (arith, needed)))
-  ]
+  kept_fits all i first x bad least least_group bits rest numbers room before after needed within goes = grind (arith, common_steps, eq-eqb, group_first, ne_eqb)
 
   abbrev bad_after_block : ℕ → Lock → ℕ
   bad_after_block i lock = history_after_block b rules i lock.number lock.bad
@@ -170,38 +126,13 @@ module _ (b : Signal) (rules : RuleNumbers) where
   -- ---- the end, and the whole run
 
   end_goes : (all : ℕ) (s : State) → IsLawful rules all s → Goes all s all (items_of_end b rules s)
-  end_goes all Searching lawful least least_group bits fits = tt
-  end_goes all (Locked lock) lawful least least_group bits fits = at_case (lock.number == 1) refl where
-    at_case : (one : Bool) → (lock.number == 1) ≡ one
-        → AreInOrder all (next_of true least least_group bits) (elim one [ true ↦ [] | false ↦ Group (group b rules lock.first (lock.number - 1) (lock.due - 26)) ∷ [] ])
-    at_case true e = tt
-    at_case false e =
-        let last : ℕ = lock.number - 1 in
-        let place : ℕ = lock.due - 26 in
-        let numbers : AreNumbers lock.first last = elim lawful.in_order [
-          | inl one ↦ let no : true ≡ false = sym (eq-eqb lock.number 1 one.0) ∙ e in absurd (cc no)
-          | inr later ↦ (omega (arith, later), omega (arith, later), omega (arith, later))
-        ] in
-        let room : 26 * (last - lock.first) + 25 ≤ place = omega (arith, lawful.enough_bits, lawful.late, numbers) in
-        group_first all lock.first last place least least_group bits [] numbers room (omega (arith, fits, numbers, room)) (omega (arith, fits, lawful.late)) (omega (arith, lawful.soon, lawful.late)) tt
+  end_goes all s lawful least least_group bits fits = grind (arith, common_steps, eq-eqb, group_first)
 
   run_goes : (all n : ℕ) (s : State) (i : ℕ) → AcquisitionsAreLate → StepsAreLawful → IsLossRule rules.loss → i + n ≡ all → IsLawful rules i s
       → Goes all s i ((run b rules s i n).1 ++ items_of_end b rules (run b rules s i n).0)
-  run_goes all zero s i late lawful loss is here =
-      let same : i ≡ all = omega (arith, is) in
-      subst (λ (j : ℕ). Goes all s j (items_of_end b rules s)) (sym same) (end_goes all s (subst (λ (j : ℕ). IsLawful rules j s) same here))
-  run_goes all (suc n) s i late lawful loss is here =
-      let rest : List Item = (run b rules (step b rules i s) (i + 1) n).1 ++ items_of_end b rules (run b rules (step b rules i s) (i + 1) n).0 in
-      let on = run_goes all n (step b rules i s) (i + 1) late lawful loss (omega (arith, is)) (lawful b rules loss i s here) in
-      subst (λ (items : List Item). Goes all s i items) (sym (append_assoc (items_at b rules i s) (run b rules (step b rules i s) (i + 1) n).1 (items_of_end b rules (run b rules (step b rules i s) (i + 1) n).0)))
-      (one_bit s rest here on)
-    where
-      one_bit : (t : State) (rest : List Item) → IsLawful rules i t → Goes all (step b rules i t) (i + 1) rest → Goes all t i (items_at b rules i t ++ rest)
-      one_bit Searching rest here on = search_step all i rest late (omega (arith, is)) on
-      one_bit (Locked lock) rest here on = lock_step all i lock rest (omega (arith, is)) here on
+  run_goes all zero s i late lawful loss is here = grind (arith, common_steps, end_goes)
+  run_goes all (suc n) s i late lawful loss is here = grind (arith, common_steps, append_assoc, search_step, lock_step, run_goes all n (step b rules i s) (i + 1) late lawful loss (omega (arith, is)) (lawful b rules loss i s here))
 
 pub items_are_in_order : RunsAreReports → StepsAreLawful → AcquisitionsAreLate → (b : Signal) (rules : RuleNumbers) → IsLossRule rules.loss
     → AreInOrder (length_of b) at_first (report_items b rules)
-items_are_in_order reports lawful late b rules loss =
-    subst (λ (items : List Item). AreInOrder (length_of b) at_first items) (reports b rules loss)
-    (run_goes b rules (length_of b) (length_of b) Searching 0 late lawful loss (omega arith) tt 0 0 0 (omega arith, omega arith, omega arith))
+items_are_in_order reports lawful late b rules loss = grind (arith, common_steps, run_goes)

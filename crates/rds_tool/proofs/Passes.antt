@@ -1,5 +1,5 @@
 -- A run that is gone over once, and the text and the counts that it gives.
-use Rattle.rds_tool.proofs.Names.{◌≡◌, ◌+◌, ◌++◌, ◌-◌, ◌*◌, ◌^◌, ◌<◌, ◌≤◌, ◌⊎◌, ◌∷◌, [], ℕ, List, Option, Result, Ok, Err, ap, arith, append_assoc, inl, inr, length, length-append, append-nil, subst, sym, ◌∙◌, OnErr, OnOk, flat_map, Appends, Appends-trans, flat_map-append, AppendsPrefix, Signal, length_of, DecoderOf, decoder_of, IsLawful, RunsAreLawful, RunsAreReports, RunsGiveFewItems, IsLossRule, report_items, RuleNumbers, items_of_end, run, Item, State, Searching, listed_by}
+use Rattle.rds_tool.proofs.Names.{common_steps, ◌≡◌, ◌++◌, ℕ, List, Option, Result, Ok, Err, ap, arith, append_assoc, subst, sym, ◌∙◌, OnErr, flat_map, Appends, Appends-trans, flat_map-append, AppendsPrefix, Signal, length_of, DecoderOf, decoder_of, RunsAreReports, IsLossRule, report_items, RuleNumbers, items_of_end, Item, State, Searching, listed_by}
 
 -- ---- the text that was written
 
@@ -18,7 +18,6 @@ prefix_between a b c xs ys zs p q = prefix_more a b c xs (ys ++ zs) p (prefix_wi
 -- ---- a text that is written by two calls
 
 module _ {T E : Type 0} where
-
   pub err_more : (r : Result T E) (a b c : Option (List ℕ)) (xs ys zs : List ℕ) → xs ++ ys ≡ zs → Appends a b xs → OnErr r (AppendsPrefix b c ys) → OnErr r (AppendsPrefix a c zs)
   err_more (Ok x) a b c xs ys zs e p q = tt
   err_more (Err x) a b c xs ys zs e p q = subst (λ (ws : List ℕ). AppendsPrefix a c ws) e (prefix_more a b c xs ys p q)
@@ -32,21 +31,13 @@ prefix_first a b xs ys zs e p = subst (λ (ws : List ℕ). AppendsPrefix a b ws)
 module _ (b : Signal) (rules : RuleNumbers) (len : ℕ) (is : len ≡ length_of b) (d : DecoderOf) (of : d ≡ decoder_of b rules Searching 0 len) (loss : IsLossRule rules.loss) where
   -- its items, and then those of the end, are the report's
   whole_report : RunsAreReports → (end : State) → end ≡ d.end → d.items ++ items_of_end b rules end ≡ report_items b rules
-  whole_report reports end ends =
-      let none : len - 0 ≡ length_of b = omega (arith, is) in
-      ap (λ (s : State). d.items ++ items_of_end b rules s) ends
-      ∙ ap (λ (e : DecoderOf). e.items ++ items_of_end b rules e.end) of
-      ∙ ap (λ (n : ℕ). (run b rules Searching 0 n).1 ++ items_of_end b rules (run b rules Searching 0 n).0) none
-      ∙ reports b rules loss
+  whole_report reports end ends = grind (arith, common_steps)
 
   -- what is listed of them
   pub report_rows : (row : Item → List ℕ) (totals : List Item → List ℕ) → RunsAreReports → (end : State) → end ≡ d.end
       → flat_map row d.items ++ (flat_map row (items_of_end b rules end) ++ totals (d.items ++ items_of_end b rules end))
       ≡ listed_by row totals (report_items b rules)
-  report_rows row totals reports end ends =
-      sym (append_assoc (flat_map row d.items) (flat_map row (items_of_end b rules end)) (totals (d.items ++ items_of_end b rules end)))
-      ∙ ap (λ (rows : List ℕ). rows ++ totals (d.items ++ items_of_end b rules end)) (sym (flat_map-append row d.items (items_of_end b rules end)))
-      ∙ ap (listed_by row totals) (whole_report reports end ends)
+  report_rows row totals reports end ends = grind (arith, common_steps, append_assoc, flat_map-append, whole_report)
 
 -- ---- the rows of a part
 
@@ -54,18 +45,11 @@ module _ (row : Item → List ℕ) where
   -- those of what is done, of a part and of the rest
   pub parted_rows : (all done left part rest slice : List Item) → all ≡ done ++ left → left ≡ part ++ rest → slice ≡ part
       → flat_map row done ++ (flat_map row slice ++ flat_map row rest) ≡ flat_map row all
-  parted_rows all done left part rest slice first next same =
-      let whole : all ≡ done ++ (part ++ rest) = first ∙ ap (λ (xs : List Item). done ++ xs) next in
-      sym (ap (λ (xs : List Item). flat_map row xs) whole
-      ∙ flat_map-append row done (part ++ rest)
-      ∙ ap (λ (t : List ℕ). flat_map row done ++ t) (flat_map-append row part rest ∙ ap (λ (xs : List Item). flat_map row xs ++ flat_map row rest) (sym same)))
+  parted_rows all done left part rest slice first next same = grind (arith, common_steps, flat_map-append)
 
 -- ---- if no part is left
 
 -- what is listed last, by the same rows
 pub same_end : (row row' : Item → List ℕ) (totals totals' : List Item → List ℕ) (before items last : List Item) → row' ≡ row → totals' ≡ totals
     → items ≡ last → flat_map row' items ++ totals' (before ++ items) ≡ flat_map row last ++ totals (before ++ last)
-same_end row row' totals totals' before items last same_row same_totals same =
-    ap (λ (xs : List Item). flat_map row' xs ++ totals' (before ++ xs)) same
-    ∙ ap (λ (r : Item → List ℕ). flat_map r last ++ totals' (before ++ last)) same_row
-    ∙ ap (λ (t : List Item → List ℕ). flat_map row last ++ t (before ++ last)) same_totals
+same_end row row' totals totals' before items last same_row same_totals same = grind (arith, common_steps)

@@ -1,5 +1,6 @@
 -- Items that are read again together, and then one by one from their room.
-use Rattle.std.proofs.Common.{◌≡◌, ℕ, ◌<◌, ◌∙◌, List, ap, arith, get_or, length, length-take, map, sym, take}
+use Rattle.rds_tool.proofs.Names.{common_steps}
+use Rattle.std.proofs.Common.{◌≡◌, ℕ, ◌<◌, List, arith, get_or, length, length-take, map, take}
 use Rattle.std.proofs.lemmas.List.{get_or-map, get_or-take, length-map}
 use Rattle.rds_soft.specs.declared.soft_item.SoftItem.{SoftItem}
 use Rattle.rds_sync.specs.declared.item.Item.{Item}
@@ -8,11 +9,4 @@ use Rattle.rds_tool.specs.Inside.Listers.{IsReadAt}
 -- each is at its place
 pub read_at : (again : Item → SoftItem) (items : List Item) (room : List SoftItem) (i : ℕ) (item : Item)
     → take (length items) room ≡ map again items → i < length items → get_or items i item ≡ item → IsReadAt again room i item
-read_at again items room i item all inside at = (
-  omega (arith, inside, ap length all, length-take (length items) room, length-map items again),
-  λ other.
-      sym (get_or-take (length items) room i other inside)
-      ∙ ap (λ (xs : List SoftItem). get_or xs i other) all
-      ∙ get_or-map again items i item other inside
-      ∙ ap again at,
-)
+read_at again items room i item all inside at = grind (arith, common_steps, length-take, length-map, get_or-take, get_or-map)

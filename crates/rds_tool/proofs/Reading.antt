@@ -1,5 +1,5 @@
 -- Reads in turn, and what the refusals of a read tell.
-use Rattle.rds_tool.proofs.Names.{◌++◌, append_assoc, ◌<◌, ◌≡◌, ◌↔◌, ◌∙◌, ◌⊎◌, Err, List, Ok, Option, Result, ap, arith, inl, inr, refl, subst, sym, ℕ, Consumes, IsAtEnd, IfSome, Consumes-trans, Consumes-whole, ToolError, OutOfMemory, Read, TooManyTurns}
+use Rattle.rds_tool.proofs.Names.{common_steps, ◌++◌, append_assoc, ◌<◌, ◌≡◌, ◌↔◌, ◌∙◌, ◌⊎◌, Err, List, Ok, Option, Result, ap, arith, inl, inr, refl, subst, sym, ℕ, Consumes, IsAtEnd, IfSome, Consumes-trans, Consumes-whole, ToolError, OutOfMemory, Read, TooManyTurns}
 use Rattle.rds_tool.proofs.Passing.{passed_kind}
 
 -- bytes read so far, and then a read
@@ -20,19 +20,14 @@ Refuses e before after = ((e ≡ OutOfMemory) × (after ≡ before)) ⊎ ((e ≡
 
 module _ {T : Type 0} (r : Result T ToolError) (e : ToolError) (same : r ≡ Err e) where
   pub read_told : (start before after : ℕ) → before ≡ start → Refuses e before after → (r ≡ Err Read) ↔ (start < after)
-  read_told start before after kept (inl h) = (
-    λ p. let bad : OutOfMemory ≡ Read = sym h.0 ∙ passed_kind r e Read same p in cc bad,
-    λ q. let after_is : after ≡ before = h.1 in absurd (omega arith),
-  )
-  read_told start before after kept (inr h) = (λ p. let more : before < after = h.1 in omega arith, λ q. same ∙ ap (λ x. Err x) h.0)
+  read_told start before after kept it = grind (arith, common_steps, passed_kind)
 
   pub turns_not_told : {X : Type 0} (before after : ℕ) → Refuses e before after → r ≡ Err TooManyTurns → X
   turns_not_told before after (inl h) p = let bad : OutOfMemory ≡ TooManyTurns = sym h.0 ∙ passed_kind r e TooManyTurns same p in cc bad
   turns_not_told before after (inr h) p = let bad : Read ≡ TooManyTurns = sym h.0 ∙ passed_kind r e TooManyTurns same p in cc bad
 
 pub kind_told : (e : ToolError) (before after : ℕ) → Refuses e before after → (e ≡ OutOfMemory) ⊎ ((e ≡ Read) ⊎ (e ≡ TooManyTurns))
-kind_told e before after (inl h) = inl h.0
-kind_told e before after (inr h) = inr (inl h.0)
+kind_told e before after it = grind (arith, common_steps)
 
 -- if no read failed, none was counted
 pub ok_told : {T : Type 0} (x : T) (start after : ℕ) → after ≡ start → let r : Result T ToolError = Ok x in (r ≡ Err Read) ↔ (start < after)

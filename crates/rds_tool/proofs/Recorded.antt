@@ -1,5 +1,5 @@
 -- A recording with gaps that was made, or refused, is what the definition says.
-use Rattle.rds_tool.proofs.Names.{◌≡◌, ◌≤◌, ◌<◌, ◌*◌, ◌^◌, ◌∙◌, ◌↔◌, ℕ, Bool, Err, Ok, Result, ap, arith, false, inl, inr, length, refl, sym, true, Vec, IfOk, IsOk, vec_len, cases_lt, false≢true, le-ltb, lt-ltb, AreGaps, Signal, bits_of, first_bits, may_be_gaps, of_stream}
+use Rattle.rds_tool.proofs.Names.{common_steps, ◌≡◌, ◌≤◌, ◌<◌, ◌*◌, ◌^◌, ◌∙◌, ◌↔◌, ℕ, Bool, Err, Ok, Result, ap, arith, false, inl, inr, length, refl, sym, true, Vec, IfOk, IsOk, vec_len, cases_lt, false≢true, le-ltb, lt-ltb, AreGaps, Signal, bits_of, first_bits, may_be_gaps, of_stream}
 use Rattle.rds_stream.specs.declared.error.StreamError.{StreamError}
 use Rattle.rds_stream.specs.declared.error.StreamError.TheVariants as stream
 use Rattle.rds_tool.proofs.GapLists.{are_gaps, pass_as_gaps}
@@ -16,13 +16,7 @@ module _ (bytes : Vec ℕ) (bits : ℕ) (gaps : Vec (ℕ × ℕ)) (made : Made)
     (taken : IsOk made ↔ ((bits ≤ 2 ^ 36) × (bits ≤ 8 * vec_len bytes) × AreGaps bits gaps.items)) where
   pub made_is : (recording : Signal) → made ≡ Ok recording → IfOk made (λ r. r ≡ record { bits = bits_of bytes.items bits; gaps = gaps.items })
       → Ok recording ≡ first_bits bits gaps.items bytes.items
-  made_is recording is held =
-      let ok : IsOk made = rw is refl in
-      let all = taken.0 ok in
-      let same : recording ≡ record { bits = bits_of bytes.items bits; gaps = gaps.items } = rw is at held in
-      let short = le-ltb (2 ^ 36) bits all.0 in
-      let within = le-ltb (8 * length bytes.items) bits (omega (arith, all.1, bytes.ok.0)) in
-      rw (short, within, pass_as_gaps gaps.items bits all.2, same) refl
+  made_is recording is held = grind (arith, common_steps, le-ltb, pass_as_gaps)
 
   module _ (error : StreamError) (b : Vec ℕ) (g : Vec (ℕ × ℕ)) (is : made ≡ Err (error, b, g))
       (too_long : (made ≡ Err (stream.TooLong, bytes, gaps)) ↔ (2 ^ 36 < bits))
@@ -36,11 +30,7 @@ module _ (bytes : Vec ℕ) (bits : ℕ) (gaps : Vec (ℕ × ℕ)) (made : Made)
 
     by_gaps : bits ≤ 2 ^ 36 → bits ≤ 8 * length bytes.items → (lawful : Bool) → may_be_gaps 0 gaps.items bits ≡ lawful
         → Err (of_stream error) ≡ first_bits bits gaps.items bytes.items
-    by_gaps short within true passes = absurd (no_recording (taken.1 (short, omega (arith, within, bytes.ok.0), are_gaps gaps.items bits passes)))
-    by_gaps short within false fails =
-        let unlawful : AreGaps bits gaps.items → ⊥ = λ are. false≢true (sym fails ∙ pass_as_gaps gaps.items bits are) in
-        let e = same_error stream.BadGaps (bad.1 (short, omega (arith, within, bytes.ok.0), unlawful)) in
-        rw (le-ltb (2 ^ 36) bits short, le-ltb (8 * length bytes.items) bits within, fails, e) refl
+    by_gaps short within it them = grind (arith, common_steps, no_recording, are_gaps, false≢true, pass_as_gaps, same_error, le-ltb, of_stream)
 
     pub refused_is : Err (of_stream error) ≡ first_bits bits gaps.items bytes.items
     refused_is =

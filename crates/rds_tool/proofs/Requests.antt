@@ -1,5 +1,5 @@
 -- The request of each command, by its name.
-use Rattle.rds_tool.proofs.Names.{◌∙◌, ◌≡◌, ◌≢◌, Bool, List, None, Option, Some, codes, false, refl, sym, true, ℕ, option_map, bytes_eq, Row, Text, number_of, report_job_of, request_of, stream_of, with_progress, Input, Job, Encode, Scan}
+use Rattle.rds_tool.proofs.Names.{common_steps, arith, ◌∙◌, ◌≡◌, ◌≢◌, List, None, Option, Some, codes, false, refl, sym, true, ℕ, option_map, bytes_eq, Row, Text, number_of, report_job_of, request_of, stream_of, with_progress, Input, Job, Encode, Scan}
 use Rattle.std.proofs.lemmas.Slice.Eq.{bytes_eq-Decides}
 
 module _ (name : Text) (rows : List Row) (input : Input) where
@@ -22,12 +22,7 @@ module _ (name : Text) (rows : List Row) (input : Input) where
   of_encode is = rw is refl
 
   differs : (word : Text) → name ≢ word → bytes_eq name word ≡ false
-  differs word differ = by (bytes_eq name word) refl
-    where
-      by : (b : Bool) → bytes_eq name word ≡ b → b ≡ false
-      by true same = absurd (differ ((bytes_eq-Decides name word).0 same))
-      by false same = refl
+  differs word differ = grind (arith, common_steps, bytes_eq-Decides)
 
   pub of_other : name ≢ codes "scan" → name ≢ codes "list" → name ≢ codes "totals" → name ≢ codes "follow" → name ≢ codes "encode" → None ≡ request_of name rows input
-  of_other scan list totals follow encode =
-      rw (differs (codes "scan") scan, differs (codes "list") list, differs (codes "totals") totals, differs (codes "follow") follow, differs (codes "encode") encode) refl
+  of_other scan list totals follow encode = grind (arith, common_steps, differs, codes)

@@ -2,22 +2,17 @@
 use Rattle.rds_tool.proofs.Names.{◌/◌, ◌%◌, ◌||◌, Bool, get_or, slice_index, suc, true, zero, ◌++◌, ◌+◌, ◌*◌, ◌<◌, ◌^◌, ◌∙◌, ◌∷◌, ◌≡◌, ◌≤◌, List, [], ap, append-nil, arith, false, leb, length, map, refl, ℕ, Bor, decimal, digit_value, AllByRecursion, join_with_byte, AllDigits, leb-true, nat_tests, common_steps, decimal_is_IsNumeral, length-map, list_any-append, digit_from_value, default_writer, field_text, fields_text, needs_byte, row_body, row_text, Offset, upper_digits, Group, block_text, hex_digits, item_fields, item_row, kind_text, row, version_text, word_text, IsPlain, IsShort}
 use Rattle.csv.specs.Writing.{is_blank}
 use Rattle.rds_code.specs.Offsets.{name}
-use Rattle.rds_code.specs.declared.offset.Offset.TheVariants.{A, B, C, Cx, D}
 use Rattle.rds_code.specs.declared.reading.Reading.TheVariants.{Corrected, Lost, Valid}
 use Rattle.rds_sync.specs.declared.item.Block.{Block}
 use Rattle.rds_sync.specs.declared.item.Block.TheVariants.{Missing, Read}
 use Rattle.rds_sync.specs.declared.item.Version.{Version}
-use Rattle.rds_sync.specs.declared.item.Version.TheVariants.{A as VA, B as VB, Unknown}
 use Rattle.rds_sync.specs.declared.item.Group.{Group as AGroup}
 
 -- ---- fields without quotes
 
 -- a digit needs no quotes
 digit_plain : (c : ℕ) → digit_value c < 10 → needs_byte default_writer c ≡ false
-digit_plain c h =
-    let r = digit_from_value c h in
-    let low : 48 ≤ c = r.0 in
-    let high : c ≤ 57 = r.1 in grind (arith, nat_tests)
+digit_plain c h = grind (arith, common_steps, digit_from_value, nat_tests)
 
 digits_plain : (ds : List ℕ) → AllDigits 10 ds → IsPlain ds
 digits_plain [] h = refl
@@ -39,37 +34,27 @@ fields_as_is f (g ∷ fs) plain = rw (field_as_is f plain.0) (ap (λ (t : List �
 -- two or more plain fields are a row of the listing
 plain_row : (fs : List (List ℕ)) → 2 ≤ length fs → AllByRecursion IsPlain fs → row_text default_writer fs ≡ row fs
 unfolding is_blank
-plain_row [] several plain = absurd (omega arith)
-plain_row (f ∷ []) several plain = absurd (omega arith)
-plain_row (f ∷ g ∷ fs) several plain = ap (λ (t : List ℕ). t ++ 10 ∷ []) (fields_as_is f (g ∷ fs) plain)
+plain_row fs several plain = grind (arith, common_steps, fields_as_is, row)
 
 -- the same through references
 pub plain_row_now : (fs : List (Bor (List ℕ))) → 2 ≤ length fs → AllByRecursion IsPlain (map (λ f. f.now) fs)
     → row_text default_writer (map (λ f. f.now) fs) ≡ row (map (λ f. f.now) fs)
-plain_row_now fs several plain =
-    let m : 2 ≤ length (map (λ (f : Bor (List ℕ)). f.now) fs) = rw length-map several in
-    plain_row _ m plain
+plain_row_now fs several plain = grind (arith, common_steps, length-map, plain_row, row)
 
 -- ---- fields of a listing
 
 pub name_plain : (o : Offset) → IsPlain (name o)
-name_plain A = refl
-name_plain B = refl
-name_plain C = refl
-name_plain Cx = refl
-name_plain D = refl
+name_plain o = grind (arith, common_steps)
 
 -- a text of at most as many bytes as a number that is short enough
 pub shorter : (text : List ℕ) (n : ℕ) → length text ≤ n → leb n 20 ≡ true → IsShort text
 shorter text n few short = omega (arith, few, leb-true n 20 short)
 
 or_first : (a b : Bool) → (a || b) ≡ false → a ≡ false
-or_first true b h = cc h
-or_first false b h = refl
+or_first a b h = grind (arith, common_steps)
 
 or_second : (a b : Bool) → (a || b) ≡ false → b ≡ false
-or_second true b h = cc h
-or_second false b h = h
+or_second a b h = grind (arith, common_steps)
 
 plain_append : (xs ys : List ℕ) → IsPlain xs → IsPlain ys → IsPlain (xs ++ ys)
 plain_append xs ys p q = rw (list_any-append, p, q) refl
@@ -93,21 +78,12 @@ block_plain (Read (Valid o info)) = word_plain o info
 block_plain (Read (Corrected o info burst)) = plain_append (word_text o info) _ (word_plain o info) (hex_plain 7 burst)
 
 pub version_plain : (v : Version) (conflict : Bool) → IsPlain (version_text v conflict)
-version_plain VA false = refl
-version_plain VA true = refl
-version_plain VB false = refl
-version_plain VB true = refl
-version_plain Unknown conflict = refl
+version_plain v conflict = grind (arith, common_steps)
 
 -- the four blocks of a group, one by one
 pub four_blocks : {X : Type 0} (show : X → List ℕ) (bs : List X) (a b c d : X) → length bs ≡ 4
     → map show bs ≡ show (get_or bs 0 a) ∷ show (get_or bs 1 b) ∷ show (get_or bs 2 c) ∷ show (get_or bs 3 d) ∷ []
-four_blocks show (x ∷ y ∷ z ∷ w ∷ []) a b c d n = refl
-four_blocks show [] a b c d n = absurd (omega arith)
-four_blocks show (x ∷ []) a b c d n = absurd (omega arith)
-four_blocks show (x ∷ y ∷ []) a b c d n = absurd (omega arith)
-four_blocks show (x ∷ y ∷ z ∷ []) a b c d n = absurd (omega arith)
-four_blocks show (x ∷ y ∷ z ∷ w ∷ v ∷ rest) a b c d n = absurd (omega arith)
+four_blocks show bs a b c d n = grind (arith, common_steps)
 
 blocks_plain : (bs : List Block) → AllByRecursion IsPlain (map block_text bs)
 blocks_plain [] = tt
@@ -123,9 +99,7 @@ group_record g place kind =
 
 joined_short : (f : List ℕ) (fs : List (List ℕ)) → AllByRecursion IsShort (f ∷ fs) → length (join_with_byte 44 (f ∷ fs)) + 1 ≤ length (f ∷ fs) * 21
 joined_short f [] short = omega (arith, short.0)
-joined_short f (h ∷ fs) short =
-    let rest = joined_short h fs short.1 in
-    grind (arith, common_steps, short.0, rest)
+joined_short f (h ∷ fs) short = grind (arith, common_steps, common_steps, joined_short h fs short.1)
 
 -- up to eight short fields
 pub row_short : (fs : List (List ℕ)) → 2 ≤ length fs → length fs ≤ 8 → AllByRecursion IsShort fs → length (row fs) ≤ 168

@@ -1,17 +1,11 @@
 -- The rows of places are those of the valid windows among them.
-use Rattle.rds_tool.proofs.Names.{◌+◌, ◌++◌, ◌-◌, ◌∙◌, ◌∷◌, ◌≡◌, ◌<◌, ◌≤◌, List, None, Option, Some, [], ap, ap₂, arith, drop, length, map, option_map, refl, suc, sym, take, zero, ℕ, concat, cons_option, filter_map, flat_map, range_with_len, append-nil, concat-append, length-range_with_len, map-range_with_len_more, take-map-range_with_len, Offset, Signal, length_of, offset_at, valid_at, valid_windows, scan_text, window_row, row_where, rows_of_places}
+use Rattle.rds_tool.proofs.Names.{common_steps, ◌+◌, ◌++◌, ◌-◌, ◌∙◌, ◌∷◌, ◌≡◌, ◌<◌, ◌≤◌, List, None, Option, Some, [], ap, ap₂, arith, drop, length, map, option_map, refl, suc, sym, take, zero, ℕ, concat, cons_option, filter_map, flat_map, range_with_len, append-nil, concat-append, map-range_with_len_more, take-map-range_with_len, Offset, Signal, length_of, offset_at, valid_at, scan_text, window_row, row_where, rows_of_places}
 
 module _ {X : Type 0} (f : ℕ → X) where
   drop-map-range : (a n k : ℕ) → k ≤ n → drop k (map f (range_with_len a n)) ≡ map f (range_with_len (a + k) (n - k))
-  drop-map-range a n zero le =
-      let start : a ≡ a + 0 = omega arith in
-      let rest : n ≡ n - 0 = omega arith in
-      ap₂ (λ i m. map f (range_with_len i m)) start rest
+  drop-map-range a n zero le = grind (arith, common_steps)
   drop-map-range a zero (suc k) le = absurd (omega arith)
-  drop-map-range a (suc n) (suc k) le =
-      let start : a + 1 + k ≡ a + suc k = omega arith in
-      let rest : n - k ≡ suc n - suc k = omega arith in
-      drop-map-range (a + 1) n k (omega arith) ∙ ap₂ (λ i m. map f (range_with_len i m)) start rest
+  drop-map-range a (suc n) (suc k) le = grind (arith, common_steps, drop-map-range (a + 1) n k (omega arith))
 
   -- some in the middle
   part : (n from to : ℕ) → from ≤ to → to ≤ n → take (to - from) (drop from (map f (range_with_len 0 n))) ≡ map f (range_with_len from (to - from))
@@ -22,18 +16,15 @@ module _ {X : Type 0} (f : ℕ → X) where
       ∙ ap (λ i. map f (range_with_len i (to - from))) start
 
 one_spelled : (o : Option (ℕ × Offset)) (windows : List (ℕ × Offset)) → row_where o ++ flat_map window_row windows ≡ flat_map window_row (cons_option o windows)
-one_spelled None windows = refl
-one_spelled (Some w) windows = refl
+one_spelled o windows = grind (arith, common_steps)
 
 one_few : (o : Option (ℕ × Offset)) (windows : List (ℕ × Offset)) → length (cons_option o windows) ≤ suc (length windows)
-one_few None windows = omega arith
-one_few (Some w) windows = omega arith
+one_few o windows = grind (arith, common_steps)
 
 module _ (b : Signal) where
   places_spelled : (places : List ℕ) → concat (map (λ i. row_where (valid_at b i)) places) ≡ flat_map window_row (filter_map (valid_at b) places)
   places_spelled [] = refl
-  places_spelled (p ∷ places) =
-      ap (λ t. row_where (valid_at b p) ++ t) (places_spelled places) ∙ one_spelled (valid_at b p) (filter_map (valid_at b) places)
+  places_spelled (p ∷ places) = grind (arith, common_steps, one_spelled, places_spelled places)
 
   places_few : (places : List ℕ) → length (filter_map (valid_at b) places) ≤ length places
   places_few [] = omega arith
@@ -41,9 +32,7 @@ module _ (b : Signal) where
 
   -- all of them
   pub scan_spelled : concat (rows_of_places b) ≡ scan_text b
-  scan_spelled =
-      let all : length_of b ≡ length_of b - 0 = omega arith in
-      places_spelled (range_with_len 0 (length_of b)) ∙ ap (λ n. flat_map window_row (filter_map (valid_at b) (range_with_len 0 n))) all
+  scan_spelled = grind (arith, common_steps, places_spelled)
 
   -- the rows of the places from one to before another
   abbrev pub so_far : ℕ → ℕ → List ℕ
@@ -63,8 +52,7 @@ module _ (b : Signal) where
 
   -- a valid window after them
   pub found_more : (from p : ℕ) (o : Offset) → from ≤ p → p < length_of b → offset_at b p ≡ Some o → so_far from (p + 1) ≡ so_far from p ++ window_row (p, o)
-  found_more from p o order inside is =
-      place_more from p order inside ∙ ap (λ w. so_far from p ++ row_where (option_map (λ x. (p, x)) w)) is
+  found_more from p o order inside is = grind (arith, common_steps, place_more)
 
   -- places after them at which no window is valid
   pub none_more : (from p n : ℕ) → from ≤ p → p + n ≤ length_of b → ((i : ℕ) → p ≤ i → i < p + n → offset_at b i ≡ None) → so_far from (p + n) ≡ so_far from p

@@ -1,5 +1,5 @@
 -- How far a stream of symbols was followed, and where it breaks off.
-use Rattle.rds_tool.proofs.Names.{◌≡◌, ◌≢◌, ◌+◌, ◌-◌, ◌^◌, ◌<◌, ◌≤◌, ◌++◌, ◌⊎◌, ◌∙◌, Bool, ℕ, List, [], ◌∷◌, Err, None, Ok, Option, Result, Some, inl, inr, length, map, take, true, refl, sym, ap, ap₂, subst, arith, append_assoc, IfErr, IfSome, OnErr, OnOk, flat_map, range_with_len, Appends, Consumes, IsAtEnd, Keeps, Appends-nil, Appends-trans, Consumes-kept, Consumes-nil, Consumes-trans, le-ltb, flat_map-append, append-nil, length-append, length-map, length-take, map-append, flat_map-map, cast_signed, w8, item_again, symbols_of, SoftHeard, SoftTerms, group_item, read_again, hard_bit, SoftItem, AreGaps, length_of, RunsAreReports, IsLossRule, report_items, items_of_end, run, Item, Searching, IsFlushedAfter, IsLong, Gave, IsDone, IsHeard, IsShortEnough, Writes, WritesPrefix, claimed_of, soft_row, soft_text, soft_totals_text, AreAsked, IsSoftEnd, IsSoftFollowed, IsSoftShort, SoftBreaksOff, most_symbols, soft_listed, soft_rows_so_far, soft_stream_text, ToolError, BadGaps, BitsPastBytes, OutOfMemory, Read, TooLong, Write}
+use Rattle.rds_tool.proofs.Names.{common_steps, ◌≡◌, ◌≢◌, ◌+◌, ◌-◌, ◌^◌, ◌<◌, ◌≤◌, ◌++◌, ◌⊎◌, ◌∙◌, Bool, ℕ, List, [], Err, None, Ok, Option, Result, inl, inr, length, map, take, true, refl, sym, ap, subst, arith, append_assoc, IfErr, IfSome, OnErr, OnOk, flat_map, range_with_len, Appends, Consumes, Keeps, Appends-nil, Appends-trans, Consumes-kept, Consumes-trans, le-ltb, flat_map-append, append-nil, length-append, map-append, flat_map-map, item_again, symbols_of, SoftHeard, SoftTerms, group_item, read_again, hard_bit, SoftItem, AreGaps, length_of, RunsAreReports, IsLossRule, items_of_end, run, Searching, IsFlushedAfter, IsLong, Gave, IsDone, IsHeard, Writes, WritesPrefix, claimed_of, soft_row, soft_text, soft_totals_text, AreAsked, IsSoftEnd, IsSoftFollowed, IsSoftShort, SoftBreaksOff, most_symbols, soft_listed, soft_rows_so_far, soft_stream_text, ToolError, BadGaps, BitsPastBytes, Read, TooLong, Write}
 use Rattle.rds_soft.specs.SoftStream.{complete, report_of, run_of, signal_of}
 use Rattle.rds_soft.specs.SoftTotals.{soft_totals_of}
 use Rattle.rds_soft.specs.declared.soft_item.SoftGroup.{SoftGroup}
@@ -16,17 +16,12 @@ module _ (terms : SoftTerms) (symbols : List ℕ) where
   ending items = soft_totals_text (soft_totals_of items)
 
   text-is : soft_stream_text terms symbols ≡ flat_map soft_row (report_of terms symbols) ++ ending (report_of terms symbols)
-  text-is =
-      ap (λ (rows : List ℕ). rows ++ ending (report_of terms symbols))
-      (sym (flat_map-map soft_row (item_again (signal_of terms symbols) (symbols_of symbols) terms.margin) (report_items (signal_of terms symbols) terms.rules)))
+  text-is = grind (arith, common_steps, flat_map-map)
 
   -- the rows so far, and the rest
   text-split : (last : List SoftItem) → complete terms symbols ++ last ≡ report_of terms symbols
       → soft_stream_text terms symbols ≡ soft_rows_so_far terms symbols ++ (flat_map soft_row last ++ ending (report_of terms symbols))
-  text-split last whole =
-      text-is ∙ ap (λ (items : List SoftItem). flat_map soft_row items ++ ending (report_of terms symbols)) (sym whole)
-      ∙ ap (λ (rows : List ℕ). rows ++ ending (report_of terms symbols)) (flat_map-append soft_row (complete terms symbols) last)
-      ∙ append_assoc (soft_rows_so_far terms symbols) (flat_map soft_row last) (ending (report_of terms symbols))
+  text-split last whole = grind (arith, common_steps, text-is, flat_map-append, append_assoc)
 
   pub text-ends : (group : Option SoftGroup) (totals : SoftTotals) (text : List ℕ) → complete terms symbols ++ group_item group ≡ report_of terms symbols
       → totals ≡ soft_totals_of (report_of terms symbols) → text ≡ flat_map soft_row (group_item group) ++ soft_totals_text totals
@@ -53,8 +48,7 @@ module _ (terms : SoftTerms) (symbols : List ℕ) where
 
   -- a soft list of these symbols
   claimed-all : (bits : Option ℕ) → AreAsked bits symbols → (IsShort bits (length symbols) → ⊥) → claimed_of bits symbols ≡ length symbols - 1
-  claimed-all None asked enough = refl
-  claimed-all (Some n) asked enough = omega (arith, asked, enough)
+  claimed-all bits asked enough = grind (arith, common_steps)
 
   abbrev text-of : List ℕ → List ℕ
   text-of bs = soft_text true terms.rules terms.margin symbols (record { bits = bs; gaps = terms.gaps })
@@ -70,46 +64,29 @@ module _ (terms : SoftTerms) (symbols : List ℕ) where
 -- ---- a stream that is heard
 
 asked-none : (bits : Option ℕ) → AreAsked bits []
-asked-none None = tt
-asked-none (Some n) = let e : 0 ≤ n + 1 = omega arith in e
+asked-none bits = grind (arith, common_steps)
 
 pub asked-more : (bits : Option ℕ) (room : ℕ) (heard more : List ℕ) → IfSome bits (λ n. length heard + room ≤ n + 1) → length more ≤ room → AreAsked bits (heard ++ more)
-asked-more None room heard more within few = tt
-asked-more (Some n) room heard more within few = omega (arith, within, few, length-append heard more)
+asked-more bits room heard more within few = grind (arith, common_steps, length-append)
 
 pub asked-count : (bits : Option ℕ) (symbols : List ℕ) (count : ℕ) → AreAsked bits symbols → count ≡ length symbols → IfSome bits (λ n. count ≤ n + 1)
-asked-count None symbols count asked is = tt
-asked-count (Some n) symbols count asked is = omega (arith, asked, is)
+asked-count bits symbols count asked is = grind (arith, common_steps)
 
 -- no symbol was given, since none was asked for or the reader answered its end
 pub done-by : (bits : Option ℕ) (count room : ℕ) (ended : Bool) → (room ≡ 0 → IfSome bits (λ n. count ≡ n + 1) × (bits ≢ None)) → (room ≡ 0) ⊎ (ended ≡ true)
     → IsDone bits count ended
-done-by None count room ended none (inl no_room) = let both = none no_room in absurd (both.1 refl)
-done-by None count room ended none (inr told) = told
-done-by (Some n) count room ended none (inl no_room) = let both = none no_room in inl both.0
-done-by (Some n) count room ended none (inr told) = inr told
+done-by bits count room ended none it = grind (arith, common_steps)
 
 pub short-told : (bits : Option ℕ) (symbols : List ℕ) (ended : Bool) → IsDone bits (length symbols) ended → IsShort bits (length symbols) → IsSoftShort bits symbols ended
-short-told None symbols ended done short = short
-short-told (Some n) symbols ended (inl full) short = absurd (omega (arith, full, short))
-short-told (Some n) symbols ended (inr told) short = (short, told)
+short-told bits symbols ended it short = grind (arith, common_steps)
 
 pub ends-told : (bits : Option ℕ) (symbols : List ℕ) (ended : Bool) → IsDone bits (length symbols) ended → (IsShort bits (length symbols) → ⊥) → IsSoftEnd bits symbols ended
-ends-told None symbols ended done enough = done
-ends-told (Some n) symbols ended done enough = omega (arith, enough)
+ends-told bits symbols ended done enough = grind (arith, common_steps)
 
 module _ (terms : SoftTerms) (bits : Option ℕ) where
   pub heard-none : (given : List ℕ) (from old : Option (List ℕ)) (flushed : Bool) (stream : SoftHeard) → stream ≡ record { terms = terms; symbols = [] }
       → IsHeard terms bits given given from from old old flushed stream
-  heard-none given from old flushed stream is =
-      subst (λ (s : SoftHeard). IsHeard terms bits given given from from old old flushed s) (sym is) (record {
-        terms_are = refl;
-        gave = sym (append-nil given);
-        took = Consumes-nil from;
-        asked = asked-none bits;
-        written = Appends-nil old;
-        flush = inl refl;
-      })
+  heard-none given from old flushed stream is = grind (arith, common_steps, append-nil, asked-none)
 
   -- following that breaks off before anything is read
   pub broke-at-once : (given : List ℕ) (old : Option (List ℕ)) (ended flushed : Bool) (e : ToolError) → e ≢ Read → e ≢ Write → e ≢ BitsPastBytes
@@ -134,16 +111,7 @@ module _ (terms : SoftTerms) (bits : Option ℕ) where
     -- no more came
     pub heard-end : (given2 : List ℕ) (after : Option (List ℕ)) (n : ℕ) (buf : List ℕ) → given2 ≡ given1 ++ take n buf → Consumes to after (take n buf) → n ≡ 0
         → IsHeard terms bits given given2 from after old new flushed stream
-    heard-end given2 after n buf gave took none =
-        let nothing : Consumes to after [] = subst (λ m. Consumes to after (take m buf)) none took in
-        record {
-          terms_are = h.terms_are;
-          gave = gave ∙ (ap (λ m. given1 ++ take m buf) none ∙ (append-nil given1 ∙ h.gave));
-          took = subst (λ xs. Consumes from after xs) (append-nil stream.symbols) (Consumes-trans from to after stream.symbols [] h.took nothing);
-          asked = h.asked;
-          written = h.written;
-          flush = h.flush;
-        }
+    heard-end given2 after n buf gave took none = grind (arith, common_steps, append-nil)
 
     -- what was read
     pub gave-so-far : Gave given given1 (Consumes from to)
@@ -171,18 +139,7 @@ module _ (terms : SoftTerms) (bits : Option ℕ) where
       -- these symbols were heard too
       pub heard-more : (after : Option (List ℕ)) → Consumes to after more → (next : SoftHeard) (later : Option (List ℕ)) (flushed2 : Bool) → next.symbols ≡ stream.symbols ++ more → next.terms ≡ stream.terms
           → Rows (Appends new later) → flushed2 ≡ true → IsHeard terms bits given given2 from after old later flushed2 next
-      heard-more after took next later flushed2 symbols_are same (rows, grew, did) flush = record {
-        terms_are = same ∙ h.terms_are;
-        gave = gave-all ∙ ap (λ xs. given ++ xs) (sym symbols_are);
-        took = subst (λ xs. Consumes from after xs) (sym symbols_are) (took-all after took);
-        asked = subst (λ xs. AreAsked bits xs) (sym symbols_are) asked;
-        written = subst (λ xs. Appends old later (soft_rows_so_far terms xs)) (sym symbols_are)
-            (subst (λ (t : SoftTerms). Appends old later (soft_rows_so_far t (stream.symbols ++ more))) h.terms_are
-            (subst (λ ys. Appends old later ys) (sym grew)
-            (Appends-trans old new later (soft_rows_so_far stream.terms stream.symbols) rows
-            (subst (λ (t : SoftTerms). Appends old new (soft_rows_so_far t stream.symbols)) (sym h.terms_are) h.written) did)));
-        flush = inr flush;
-      }
+      heard-more after took next later flushed2 symbols_are same (rows, grew, did) flush = grind (arith, common_steps)
 
       -- following breaks off after them
       pub broke-after : (e : ToolError) (later : Option (List ℕ)) (ended flushed2 : Bool) → length more ≤ most_symbols

@@ -1,7 +1,7 @@
 -- The recording of symbols' bits, packed.
-use Rattle.std.proofs.Common.{◌≡◌, ◌≤◌, ◌<◌, ◌+◌, ◌-◌, ◌*◌, ◌^◌, ◌∙◌, ℕ, Bool, List, Result, Ok, Err, arith, length, map, sym}
-use mathlib.Core.Path.{ap₂}
-use Rattle.std.specs.Prelude.{IfOk, None, Option, Some, if◌then◌else◌, nat_lt, not}
+use Rattle.rds_tool.proofs.Names.{common_steps}
+use Rattle.std.proofs.Common.{◌≡◌, ◌≤◌, ◌<◌, ◌+◌, ◌-◌, ◌*◌, ◌∙◌, ℕ, List, Result, Ok, arith, length, map, sym}
+use Rattle.std.specs.Prelude.{IfOk, Option}
 use Rattle.std.specs.Option.{unwrap_or}
 use Rattle.std.specs.List.{range_with_len}
 use Rattle.std.proofs.lemmas.Bool.{le-ltb}
@@ -10,10 +10,9 @@ use Rattle.std.proofs.lemmas.List.FromFn.{get_or-map-range_with_len, length-map-
 use Rattle.rds_soft.specs.ReadAgain.{symbols_of}
 use Rattle.rds_soft.specs.Symbols.{hard_bit}
 use Rattle.rds_stream.specs.Recording.{bits_of, packed_bit}
-use Rattle.rds_tool.specs.Input.{first_bits, may_be_gaps}
+use Rattle.rds_tool.specs.Input.{first_bits}
 use Rattle.rds_tool.specs.Soft.{claimed_of, first_bits_of}
 use Rattle.rds_tool.specs.declared.error.ToolError.{ToolError}
-use Rattle.rds_tool.specs.declared.error.ToolError.TheVariants.{BadGaps, BitsPastBytes, TooLong}
 
 -- the bits are those between the symbols
 same_bits : (n : ℕ) (symbols packed : List ℕ) → n ≤ length symbols - 1
@@ -31,20 +30,12 @@ same_bits n symbols packed few bits =
 pub same_recording : (n : ℕ) (gaps : List (ℕ × ℕ)) (symbols packed : List ℕ) → n ≤ length symbols - 1 → length symbols ≤ 8 * length packed + 1
     → ((i : ℕ) → i + 1 < length symbols → packed_bit packed i ≡ hard_bit (symbols_of symbols) i)
     → first_bits_of n gaps symbols ≡ first_bits n gaps packed
-same_recording n gaps symbols packed few enough bits =
-    let within : nat_lt (length symbols - 1) n ≡ nat_lt (8 * length packed) n =
-    le-ltb (length symbols - 1) n few ∙ sym (le-ltb (8 * length packed) n (omega (arith, few, enough))) in
-    ap₂ (λ (past : Bool) (bs : List ℕ). (if nat_lt (2 ^ 36) n then Err TooLong
-    else if past then Err BitsPastBytes
-    else if not (may_be_gaps 0 gaps n) then Err BadGaps
-    else Ok (record { bits = bs; gaps = gaps }))) within (same_bits n symbols packed few bits)
+same_recording n gaps symbols packed few enough bits = grind (arith, common_steps, le-ltb, same_bits)
 
 -- an answer that is equal to what is asked for
 pub is_asked : {T : Type 0} (asked result : Result T ToolError) → asked ≡ result → IfOk result (λ value. asked ≡ Ok value)
-is_asked asked (Ok value) same = same
-is_asked asked (Err error) same = tt
+is_asked asked result same = grind (arith, common_steps)
 
 -- how many bits there are: as many as are claimed, or else all
 pub claimed_is : (bits : Option ℕ) (all n : ℕ) (symbols : List ℕ) → all ≡ length symbols - 1 → n ≡ unwrap_or bits all → n ≡ claimed_of bits symbols
-claimed_is None all n symbols is same = same ∙ is
-claimed_is (Some bits) all n symbols is same = same
+claimed_is bits all n symbols is same = grind (arith, common_steps)

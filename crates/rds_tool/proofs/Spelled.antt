@@ -1,20 +1,16 @@
 -- Rows that are spelled from one number up to another.
-use Rattle.rds_tool.proofs.Names.{◌+◌, ◌++◌, ◌-◌, ◌*◌, ◌∙◌, ◌∷◌, ◌≡◌, ◌<◌, ◌≤◌, Bor, List, [], ap, ap₂, append_assoc, arith, drop, get_or, length, map, min, refl, subst, suc, sym, take, zero, ℕ, All, AllByRecursion, concat, flat_map, join_with_byte, common_steps, flat_map-append, append-nil, drop-map, length-take, take-append-drop, take_more, take_rest, All-drop, All-take, concat-append, IsShort}
+use Rattle.rds_tool.proofs.Names.{◌+◌, ◌++◌, ◌-◌, ◌∙◌, ◌∷◌, ◌≡◌, ◌<◌, ◌≤◌, Bor, List, [], ap, ap₂, append_assoc, arith, drop, get_or, length, map, min, refl, suc, sym, take, zero, ℕ, All, AllByRecursion, concat, flat_map, join_with_byte, common_steps, flat_map-append, append-nil, drop-map, take-append-drop, take_more, take_rest, All-drop, All-take, concat-append, IsShort}
 
 module _ {A : Type 0} where
   drop_past : (xs ys : List A) (n : ℕ) → length xs ≤ n → drop n (xs ++ ys) ≡ drop (n - length xs) ys
   drop_past [] ys n h = ap (λ k. drop k ys) (let same : n ≡ n - 0 = omega arith in same)
   drop_past (x ∷ xs) ys zero h = absurd (omega arith)
-  drop_past (x ∷ xs) ys (suc n) h =
-      let same : n - length xs ≡ suc n - length (x ∷ xs) = omega arith in
-      drop_past xs ys n (omega arith) ∙ ap (λ k. drop k ys) same
+  drop_past (x ∷ xs) ys (suc n) h = grind (arith, common_steps, drop_past xs ys n (omega arith))
 
   take_past : (xs ys : List A) (n : ℕ) → length xs ≤ n → take n (xs ++ ys) ≡ xs ++ take (n - length xs) ys
   take_past [] ys n h = ap (λ k. take k ys) (let same : n ≡ n - 0 = omega arith in same)
   take_past (x ∷ xs) ys zero h = absurd (omega arith)
-  take_past (x ∷ xs) ys (suc n) h =
-      let same : n - length xs ≡ suc n - length (x ∷ xs) = omega arith in
-      ap (λ t. x ∷ t) (take_past xs ys n (omega arith) ∙ ap (λ k. xs ++ take k ys) same)
+  take_past (x ∷ xs) ys (suc n) h = grind (arith, common_steps, take_past xs ys n (omega arith))
 
 module _ {X Y : Type 0} (f : X → Y) where
   take-map : (n : ℕ) (xs : List X) → take n (map f xs) ≡ map f (take n xs)
@@ -53,8 +49,7 @@ spelled f g xs ys from to a b order p q =
 
 -- some of a list that is changed element by element
 pub some_changed : {X Y : Type 0} (f : X → Y) (all : List X) (changed : List Y) (from n : ℕ) → map f all ≡ changed → map f (take n (drop from all)) ≡ take n (drop from changed)
-some_changed f all changed from n e =
-    sym (take-map f n (drop from all)) ∙ ap (take n) (sym (drop-map f from all)) ∙ ap (λ t. take n (drop from t)) e
+some_changed f all changed from n e = grind (arith, common_steps, take-map, drop-map)
 
 -- what holds of each holds of each of some
 pub each_of_some : {X : Type 0} (P : X → Type 0) (all : List X) (from n : ℕ) → All P all → All P (take n (drop from all))
@@ -67,10 +62,7 @@ joined_last [] n d h = absurd (omega arith)
 joined_last (f ∷ []) zero d h = refl
 joined_last (f ∷ []) (suc n) d h = absurd (omega arith)
 joined_last (f ∷ g ∷ fs) zero d h = absurd (omega arith)
-joined_last (f ∷ g ∷ fs) (suc n) d h =
-    ap (λ t. f.now ++ 44 ∷ t) (joined_last (g ∷ fs) n d (omega arith))
-    ∙ sym (ap (λ t. t ++ (get_or (g ∷ fs) n d).now) (append_assoc f.now (44 ∷ []) (flat_map (λ f. f.now ++ 44 ∷ []) (take n (g ∷ fs))))
-    ∙ append_assoc f.now (44 ∷ flat_map (λ f. f.now ++ 44 ∷ []) (take n (g ∷ fs))) ((get_or (g ∷ fs) n d).now))
+joined_last (f ∷ g ∷ fs) (suc n) d h = grind (arith, common_steps, append_assoc, joined_last (g ∷ fs) n d (omega arith))
 
 pub short_at : (fs : List (Bor (List ℕ))) (i : ℕ) (d : Bor (List ℕ)) → AllByRecursion IsShort (map (λ f. f.now) fs) → i < length fs → length ((get_or fs i d).now) ≤ 20
 short_at [] i d h lt = absurd (omega arith)
@@ -80,24 +72,12 @@ short_at (f ∷ fs) (suc i) d h lt = short_at fs i d h.1 (omega arith)
 -- one field more, and a comma after it
 fields_more : (fs : List (Bor (List ℕ))) (i : ℕ) (d : Bor (List ℕ)) (text : List ℕ) → i < length fs → text ≡ flat_map (λ f. f.now ++ 44 ∷ []) (take i fs)
     → (text ++ (get_or fs i d).now) ++ 44 ∷ [] ≡ flat_map (λ f. f.now ++ 44 ∷ []) (take (i + 1) fs)
-fields_more fs i d text lt e =
-    let with_comma : Bor (List ℕ) → List ℕ = λ f. f.now ++ 44 ∷ [] in
-    let field = get_or fs i d in
-    append_assoc text field.now (44 ∷ [])
-    ∙ ap (λ t. t ++ with_comma field) e
-    ∙ sym (ap (flat_map with_comma) (take_more fs i d lt) ∙ flat_map-append with_comma (take i fs) (field ∷ [])
-    ∙ ap (λ t. flat_map with_comma (take i fs) ++ t) (append-nil (with_comma field)))
+fields_more fs i d text lt e = grind (arith, common_steps, append_assoc, take_more, flat_map-append, append-nil)
 
 -- the same after other text
 pub fields_after : (fs : List (Bor (List ℕ))) (i : ℕ) (d : Bor (List ℕ)) (old text : List ℕ) → i < length fs → text ≡ old ++ flat_map (λ f. f.now ++ 44 ∷ []) (take i fs)
     → (text ++ (get_or fs i d).now) ++ 44 ∷ [] ≡ old ++ flat_map (λ f. f.now ++ 44 ∷ []) (take (i + 1) fs)
-fields_after fs i d old text lt e =
-    let before = flat_map (λ (f : Bor (List ℕ)). f.now ++ 44 ∷ []) (take i fs) in
-    let field = get_or fs i d in
-    ap (λ t. (t ++ field.now) ++ 44 ∷ []) e
-    ∙ ap (λ t. t ++ 44 ∷ []) (append_assoc old before field.now)
-    ∙ append_assoc old (before ++ field.now) (44 ∷ [])
-    ∙ ap (λ t. old ++ t) (fields_more fs i d before lt refl)
+fields_after fs i d old text lt e = grind (arith, common_steps, append_assoc, fields_more)
 
 -- the bytes after the first ones
 pub bytes_after : (before all new : List ℕ) → all ≡ before ++ new → take (length all - length before) (drop (length before) all) ≡ new

@@ -1,9 +1,7 @@
 -- The texts of the tasks, and what they can't be refused for.
-use Rattle.rds_tool.proofs.Names.{◌-◌, map, ◌↔◌, ◌||◌, arith, ◌++◌, ◌∙◌, ◌*◌, ◌^◌, length, not, nat_lt, ◌≡◌, ◌<◌, ◌≢◌, Bool, Err, List, None, Ok, Option, Result, Some, [], ◌∷◌, ap, ap₂, false, if◌then◌else◌, inl, inr, refl, subst, sym, true, ℕ, IfErr, IfSome, OnOk, Appends, filter, range_with_len, decode_of, decode_sized, Signal, bits_of, length_of, FromHexError, ItemsOf, report_items, RuleNumbers, totals_of, TotalsOf, cuts_any, cuts_bits, has_pieces, line_text, lines_of, lines_text, words_of, words_or_refusal, group_text, and_then, bytes_of, claimed, decoded, first_bits, is_blank, may_be_gaps, or_hex_text, recording_of, report_text, totals_text, Writes, WritesPrefix, cut_recording, list_text, result_of_job, text_of_task, totals_list, symbols_of, hard_bit, claimed_of, recording_of_symbols, PlanOf, crew_of, cut_by, plan_of, workers_of, Loss, Run, Share, IsMemoryOrErrOf, loss_of, rules_of, task_of, ToolError, BadCutting, BadGaps, BitsPastBytes, BurstRange, CrewRange, LossRange, NoWorker, OutOfMemory, ReachRange, Read, ShareRange, TooLong, TooManyTurns, Write, Cuts, Input, Job, Encode, ListJob, Scan, Soft, Settings, Task}
+use Rattle.rds_tool.proofs.Names.{common_steps, ◌↔◌, arith, ◌∙◌, ◌≡◌, ◌<◌, ◌≢◌, Bool, Err, List, Ok, Option, Result, [], ◌∷◌, ap, ap₂, if◌then◌else◌, inl, inr, subst, sym, true, ℕ, IfErr, IfSome, OnOk, Appends, Signal, length_of, FromHexError, ItemsOf, report_items, RuleNumbers, totals_of, TotalsOf, cuts_any, cuts_bits, has_pieces, line_text, lines_text, words_or_refusal, and_then, decoded, or_hex_text, recording_of, report_text, totals_text, Writes, WritesPrefix, cut_recording, list_text, result_of_job, text_of_task, totals_list, recording_of_symbols, PlanOf, crew_of, cut_by, plan_of, workers_of, Loss, IsMemoryOrErrOf, loss_of, task_of, ToolError, BadCutting, BadGaps, BitsPastBytes, BurstRange, NoWorker, OutOfMemory, ReachRange, Read, TooLong, TooManyTurns, Write, Cuts, Input, Job, Settings, Task}
 use Rattle.rds_sync.specs.Decoding.{listed}
 use Rattle.rds_sync.specs.declared.report.Report.{Report}
-use Rattle.rds_tool.specs.declared.job.Cuts.TheVariants.{At, Even}
-use Rattle.rds_tool.specs.declared.job.Job.TheVariants.{Totals}
 use Rattle.rds_tool.specs.declared.task.Task.TheVariants as task
 use Rattle.rds_tool.proofs.Passing.{passed_kind}
 
@@ -11,8 +9,7 @@ use Rattle.rds_tool.proofs.Passing.{passed_kind}
 
 -- a cutting of any number of bits
 any_fits : (cuts : Cuts) → cuts_any cuts ≡ true → (n : ℕ) → cuts_bits cuts n ≡ true
-any_fits (Even pieces) any n = refl
-any_fits (At cuts) any n = cc any
+any_fits cuts any n = grind (arith, common_steps)
 
 pub any_cut : (cuts : Cuts) → cuts_any cuts ≡ true → (bits : Signal) → cut_by cuts bits ≡ Ok bits
 any_cut cuts any bits = ap (λ (t : Bool). if t then Ok bits else Err BadCutting) (any_fits cuts any (length_of bits))
@@ -24,9 +21,7 @@ module _ (input : Input) (plan : PlanOf) (held : List ℕ) (bits : Signal) where
   -- the listing of the report that was made
   pub list_made : (report : Report) → recording_of input held ≡ Ok bits → cut_by plan.cuts bits ≡ Ok bits → report.items ≡ listed bits plan.rules (report_items bits plan.rules)
       → report.totals ≡ totals_of (report_items bits plan.rules) → text_of_task (task.List input plan) held ≡ Ok (report_text report.items.list report.totals)
-  list_made report recorded fits i o =
-      ap (λ r. and_then r (λ b. Ok (list_text plan.rules b))) (cut recorded fits)
-      ∙ ap (λ x. Ok x) (ap₂ report_text (sym (ap (λ (items : ItemsOf). items.list) i)) (sym o))
+  list_made report recorded fits i o = grind (arith, common_steps, cut, listed)
 
   -- the listing that is written while the recording is decoded
   pub listed_whole : recording_of input held ≡ Ok bits → cut_by plan.cuts bits ≡ Ok bits → text_of_task (task.List input plan) held ≡ Ok (list_text plan.rules bits)
@@ -67,74 +62,46 @@ inside : (e : ToolError) → IsOfOutcome e → IsInside e
 inside e h = (λ p. subst IsOfOutcome p h, λ p. subst IsOfOutcome p h, λ p. subst IsOfOutcome p h, λ p. subst IsOfOutcome p h)
 
 memory_inside : (e : ToolError) → e ≡ OutOfMemory → IsInside e
-memory_inside e m = (
-  λ p. let bad : OutOfMemory ≡ Read = sym m ∙ p in cc bad,
-  λ p. let bad : OutOfMemory ≡ Write = sym m ∙ p in cc bad,
-  λ p. let bad : OutOfMemory ≡ TooManyTurns = sym m ∙ p in cc bad,
-  λ p. let bad : OutOfMemory ≡ NoWorker = sym m ∙ p in cc bad,
-)
+memory_inside e m = grind (arith, common_steps)
 
 module _ {A B : Type 0} where
   then_errs : (P : ToolError → Type 0) (r : Result A ToolError) (step : A → Result B ToolError) → IfErr r P → ((x : A) → IfErr (step x) P) → IfErr (and_then r step) P
-  then_errs P (Ok x) step h k = k x
-  then_errs P (Err e) step h k = h
+  then_errs P r step h k = grind (arith, common_steps)
 
 bytes_errs : (hex : Bool) (decoded held : Result (List ℕ) ToolError) → IfErr decoded IsOfOutcome → IfErr held IsOfOutcome → IfErr (if hex then decoded else held) IsOfOutcome
-bytes_errs true decoded held h k = h
-bytes_errs false decoded held h k = k
+bytes_errs hex decoded held h k = grind (arith, common_steps)
 
 first_errs : (long past bad : Bool) (recording : Signal)
     → let r : Result Signal ToolError = if long then Err TooLong else if past then Err BitsPastBytes else if bad then Err BadGaps else Ok recording in IfErr r IsOfOutcome
-first_errs true past bad recording = tt
-first_errs false true bad recording = tt
-first_errs false false true recording = tt
-first_errs false false false recording = tt
+first_errs long past bad recording = grind (arith, common_steps)
 
 hex_errs : (r : Result (List ℕ) FromHexError) → IfErr (or_hex_text r) IsOfOutcome
-hex_errs (Ok bytes) = tt
-hex_errs (Err e) = tt
+hex_errs r = grind (arith, common_steps)
 
 recording_errs : (input : Input) (held : List ℕ) → IfErr (recording_of input held) IsOfOutcome
-recording_errs input held =
-    then_errs IsOfOutcome (bytes_of input held) (λ bytes. first_bits (claimed input.bits bytes) input.gaps bytes)
-    (bytes_errs input.hex (decoded held) (Ok held) (hex_errs (decode_of (filter (λ b. not (is_blank b)) held))) tt)
-    (λ bytes. let n = claimed input.bits bytes in first_errs (nat_lt (2 ^ 36) n) (nat_lt (8 * length bytes) n) (not (may_be_gaps 0 input.gaps n)) (record { bits = bits_of bytes n; gaps = input.gaps }))
+recording_errs input held = grind (arith, common_steps, then_errs, bytes_errs, hex_errs, first_errs)
 
 symbols_errs : (input : Input) (symbols : List ℕ) → IfErr (recording_of_symbols input symbols) IsOfOutcome
-symbols_errs input symbols =
-    let n = claimed_of input.bits symbols in
-    first_errs (nat_lt (2 ^ 36) n) (nat_lt (length symbols - 1) n) (not (may_be_gaps 0 input.gaps n))
-    (record { bits = map (hard_bit (symbols_of symbols)) (range_with_len 0 n); gaps = input.gaps })
+symbols_errs input symbols = grind (arith, common_steps, first_errs)
 
 cut_by_errs : (fits : Bool) (bits : Signal) → let r : Result Signal ToolError = if fits then Ok bits else Err BadCutting in IfErr r IsOfOutcome
-cut_by_errs true bits = tt
-cut_by_errs false bits = tt
+cut_by_errs fits bits = grind (arith, common_steps)
 
 cut_errs : (input : Input) (cuts : Cuts) (held : List ℕ) → IfErr (cut_recording input cuts held) IsOfOutcome
-cut_errs input cuts held =
-    then_errs IsOfOutcome (recording_of input held) (cut_by cuts) (recording_errs input held) (λ bits. cut_by_errs (cuts_bits cuts (length_of bits)) bits)
+cut_errs input cuts held = grind (arith, common_steps, then_errs, recording_errs, cut_by_errs)
 
 words_errs : (r : Result (List ℕ) FromHexError) → IfErr (words_or_refusal r) IsOfOutcome
-words_errs (Ok bytes) = tt
-words_errs (Err e) = tt
+words_errs r = grind (arith, common_steps)
 
 line_errs : (hex : Bool) (line : List ℕ) → IfErr (line_text hex line) IsOfOutcome
-line_errs hex [] = tt
-line_errs hex (digit ∷ digits) = then_errs IsOfOutcome (words_of (digit ∷ digits)) (λ words. Ok (group_text hex words)) (words_errs (decode_sized (digit ∷ digits) 8)) (λ words. tt)
+line_errs hex line = grind (arith, common_steps, then_errs, words_errs)
 
 lines_errs : (hex : Bool) (lines : List (List ℕ)) → IfErr (lines_text hex lines) IsOfOutcome
 lines_errs hex [] = tt
-lines_errs hex (line ∷ lines) =
-    then_errs IsOfOutcome (line_text hex line) (λ first. and_then (lines_text hex lines) (λ others. Ok (first ++ others))) (line_errs hex line)
-    (λ first. then_errs IsOfOutcome (lines_text hex lines) (λ others. Ok (first ++ others)) (lines_errs hex lines) (λ others. tt))
+lines_errs hex (line ∷ lines) = grind (arith, common_steps, then_errs, line_errs, lines_errs hex lines)
 
 task_errs : (t : Task) (held : List ℕ) → IfErr (text_of_task t held) IsOfOutcome
-task_errs (task.Scan input workers) held = then_errs IsOfOutcome (recording_of input held) _ (recording_errs input held) (λ bits. tt)
-task_errs (task.List input plan) held = then_errs IsOfOutcome (cut_recording input plan.cuts held) _ (cut_errs input plan.cuts held) (λ bits. tt)
-task_errs (task.Totals input plan) held = then_errs IsOfOutcome (cut_recording input plan.cuts held) _ (cut_errs input plan.cuts held) (λ bits. tt)
-task_errs (task.Encode hex) held = lines_errs hex (lines_of held)
-task_errs (task.Soft input plan margin has_rows) held =
-    then_errs IsOfOutcome (recording_of_symbols input held) _ (symbols_errs input held) (λ recording. tt)
+task_errs t held = grind (arith, common_steps, then_errs, recording_errs, cut_errs, lines_errs, symbols_errs)
 
 of_bytes : (t : Task) (held : List ℕ) (e : ToolError) → text_of_task t held ≡ Err e → IsOfOutcome e
 of_bytes t held e q = let P : Result (List ℕ) ToolError → Type 0 = λ r. IfErr r IsOfOutcome in subst P q (task_errs t held)
@@ -145,47 +112,26 @@ refused_inside t held e (inl m) = memory_inside e m
 refused_inside t held e (inr p) = inside e (of_bytes t held e p)
 
 loss_errs : (loss : Loss) → IfErr (loss_of loss) IsOfOutcome
-loss_errs (Run n) = by_test (nat_lt n 1 || nat_lt 64 n) where
-  by_test : (t : Bool) → let r : Result Loss ToolError = if t then Err LossRange else Ok (Run n) in IfErr r IsOfOutcome
-  by_test true = tt
-  by_test false = tt
-loss_errs (Share bad of) = by_test (nat_lt bad 1 || nat_lt of bad || nat_lt 64 of) where
-  by_test : (t : Bool) → let r : Result Loss ToolError = if t then Err ShareRange else Ok (Share bad of) in IfErr r IsOfOutcome
-  by_test true = tt
-  by_test false = tt
+loss_errs loss = grind (arith, common_steps)
 
 rules_at : (burst reach : Bool) (r : Result RuleNumbers ToolError) → IfErr r IsOfOutcome
     → let all : Result RuleNumbers ToolError = if burst then Err BurstRange else if reach then Err ReachRange else r in IfErr all IsOfOutcome
-rules_at true reach r h = tt
-rules_at false true r h = tt
-rules_at false false r h = h
+rules_at burst reach r h = grind (arith, common_steps)
 
 workers_errs : (workers : ℕ) → IfErr (workers_of workers) IsOfOutcome
-workers_errs workers = by_test (nat_lt workers 1 || nat_lt 256 workers) where
-  by_test : (t : Bool) → let r : Result ℕ ToolError = if t then Err CrewRange else Ok workers in IfErr r IsOfOutcome
-  by_test true = tt
-  by_test false = tt
+workers_errs workers = grind (arith, common_steps)
 
 pieces_at : (pieces : Bool) → let r : Result (Unit {0}) ToolError = if pieces then Ok tt else Err BadCutting in IfErr r IsOfOutcome
-pieces_at true = tt
-pieces_at false = tt
+pieces_at pieces = grind (arith, common_steps)
 
 crew_errs : (settings : Settings) → IfErr (crew_of settings) IsOfOutcome
 crew_errs settings = then_errs IsOfOutcome (workers_of settings.workers) _ (workers_errs settings.workers) (λ _. pieces_at (has_pieces settings.cuts))
 
 plan_errs : (settings : Settings) → IfErr (plan_of settings) IsOfOutcome
-plan_errs settings =
-    then_errs IsOfOutcome (rules_of settings) _
-    (rules_at (nat_lt 5 settings.burst) (nat_lt settings.reach 1 || nat_lt 8 settings.reach) _
-    (then_errs IsOfOutcome (loss_of settings.loss) _ (loss_errs settings.loss) (λ loss. tt)))
-    (λ rules. then_errs IsOfOutcome (crew_of settings) _ (crew_errs settings) (λ _. tt))
+plan_errs settings = grind (arith, common_steps, then_errs, rules_at, loss_errs, crew_errs)
 
 settings_errs : (job : Job) → IfErr (task_of job) IsOfOutcome
-settings_errs (Scan input workers) = then_errs IsOfOutcome (workers_of workers) _ (workers_errs workers) (λ workers. tt)
-settings_errs (ListJob input settings) = then_errs IsOfOutcome (plan_of settings) _ (plan_errs settings) (λ plan. tt)
-settings_errs (Totals input settings) = then_errs IsOfOutcome (plan_of settings) _ (plan_errs settings) (λ plan. tt)
-settings_errs (Encode hex) = tt
-settings_errs (Soft input settings margin has_rows) = then_errs IsOfOutcome (plan_of settings) _ (plan_errs settings) (λ plan. tt)
+settings_errs job = grind (arith, common_steps, then_errs, workers_errs, plan_errs)
 
 -- settings are refused because memory was refused, or as such
 pub settings_inside : (job : Job) (e : ToolError) → IsMemoryOrErrOf (task_of job) e → IsInside e
@@ -195,8 +141,7 @@ settings_inside job e (inr q) = let P : Result Task ToolError → Type 0 = λ r.
 -- what a refusal that is no device's is not
 pub passed_inside : {T : Type 0} (r : Result T ToolError) (e : ToolError) → r ≡ Err e → IsInside e
     → (r ≢ Err Read) × (r ≢ Err Write) × (r ≢ Err TooManyTurns) × (r ≢ Err NoWorker)
-passed_inside r e p h =
-    (λ q. h.0 (passed_kind r e Read p q), λ q. h.1 (passed_kind r e Write p q), λ q. h.2 (passed_kind r e TooManyTurns p q), λ q. h.3 (passed_kind r e NoWorker p q))
+passed_inside r e p h = grind (arith, common_steps, passed_kind)
 
 -- a call that succeeded counted no failure
 pub no_failure : {T X : Type 0} (x : T) (a b : ℕ) → let r : Result T ToolError = Ok x in (r ≡ Err Read ↔ a < b) → a < b → X
@@ -215,15 +160,10 @@ outcome_is job t held bytes text p q h = ap (λ r. and_then r (λ k. text_of_tas
 pub written_is : (o : Option (List ℕ)) (job : Job) (t : Task) (bytes text : List ℕ) (r : Result (Unit {0}) ToolError) (old new : Option (List ℕ))
     → IfSome o (λ held. bytes ≡ held) → task_of job ≡ Ok t → text_of_task t bytes ≡ Ok text → OnOk r (Appends old new text)
     → OnOk r (IfSome o (λ held. Writes old new (result_of_job job held)))
-written_is o job t bytes text (Err e) old new h p q w = tt
-written_is None job t bytes text (Ok x) old new h p q w = tt
-written_is (Some held) job t bytes text (Ok x) old new h p q w = subst (λ (made : Result (List ℕ) ToolError). Writes old new made) (sym (outcome_is job t held bytes text p q h)) w
+written_is o job t bytes text r old new h p q w = grind (arith, common_steps, outcome_is)
 
 -- what a failed writing leaves is a prefix of the outcome's text
 pub prefix_is : (o : Option (List ℕ)) (job : Job) (t : Task) (bytes text : List ℕ) (r : Result (Unit {0}) ToolError) (old new : Option (List ℕ))
     → IfSome o (λ held. bytes ≡ held) → task_of job ≡ Ok t → text_of_task t bytes ≡ Ok text → (r ≡ Err Write → WritesPrefix old new (Ok text)) → r ≡ Err Write
     → IfSome o (λ held. WritesPrefix old new (result_of_job job held))
-prefix_is None job t bytes text r old new h p q w e = tt
-prefix_is (Some held) job t bytes text r old new h p q w e =
-    let P : Result (List ℕ) ToolError → Type 0 = λ x. WritesPrefix old new x in
-    subst P (sym (outcome_is job t held bytes text p q h)) (w e)
+prefix_is o job t bytes text r old new h p q w e = grind (arith, common_steps, outcome_is)

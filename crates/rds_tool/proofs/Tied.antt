@@ -1,19 +1,13 @@
 -- What ties a history to the bytes that a writer holds, where those are known.
-use Rattle.rds_tool.proofs.Names.{◌≡◌, ◌∙◌, List, [], ◌++◌, ℕ, Option, Some, None, ap, append_assoc, take, append-nil, Appends, Keeps}
+use Rattle.rds_tool.proofs.Names.{common_steps, arith, ◌≡◌, List, ◌++◌, ℕ, Option, Some, None, append_assoc, Appends, Keeps}
 use Rattle.std.proofs.Math.Logic.{∥∥₁_elim}
 use Rattle.std.specs.Coded.{Coded-set, coded_list, coded_ℕ}
 
 pub appends_more : (a b c : Option (List ℕ)) (xs ys : List ℕ) → Appends a b xs → Appends b c ys → Appends a c (xs ++ ys)
-appends_more None b c xs ys p q = tt
-appends_more (Some a) None c xs ys p q = absurd p
-appends_more (Some a) (Some b) None xs ys p q = absurd q
-appends_more (Some a) (Some b) (Some c) xs ys p q = q ∙ ap (λ w. w ++ ys) p ∙ append_assoc a xs ys
+appends_more a b c xs ys p q = grind (arith, common_steps, append_assoc)
 
 pub appends_kept : (a b c : Option (List ℕ)) (xs : List ℕ) → Appends a b xs → Keeps b c → Appends a c xs
-appends_kept None b c xs p q = tt
-appends_kept (Some a) None c xs p q = absurd p
-appends_kept (Some a) (Some b) None xs p q = absurd q
-appends_kept (Some a) (Some b) (Some c) xs p q = q ∙ p
+appends_kept a b c xs p q = grind (arith, common_steps)
 
 -- it is one fact at most, so it holds where it is known to
 pub appends_told : (o n : Option (List ℕ)) (bs : List ℕ) → ∥ Appends o n bs ∥₁ → Appends o n bs

@@ -1,5 +1,5 @@
 -- How a transcription ends: its settings are refused, or its bytes, or its writer's turn has come.
-use Rattle.rds_tool.proofs.Names.{Bool, Err, List, None, Ok, Option, Result, Some, [], true, ◌++◌, ap, inl, inr, refl, subst, sym, ◌<◌, ◌≡◌, ◌≢◌, ◌≤◌, ◌⊎◌, ◌↔◌, ◌∙◌, length, ℕ, IfErr, IfSome, OnOk, Appends, Consumes, IsAtEnd, append-nil, Gave, and_then, IsOutside, Writes, WritesPrefix, result_of_job, text_of_task, IsMemoryOrErrOf, task_of, ToolError, NoWorker, OutOfMemory, Read, TooManyTurns, Write, Job, Task}
+use Rattle.rds_tool.proofs.Names.{common_steps, arith, Bool, Err, List, Ok, Option, Result, true, ◌++◌, inl, inr, refl, subst, sym, ◌<◌, ◌≡◌, ◌≢◌, ◌≤◌, ◌⊎◌, ◌↔◌, length, ℕ, IfErr, IfSome, OnOk, Appends, Consumes, IsAtEnd, append-nil, Gave, IsOutside, Writes, WritesPrefix, result_of_job, text_of_task, IsMemoryOrErrOf, task_of, ToolError, NoWorker, OutOfMemory, Read, TooManyTurns, Write, Job, Task}
 use Rattle.rds_rows.specs.declared.sink.Sink.{Ghosts as Sink}
 use Rattle.rds_tool.specs.Transcribed.{IsTranscribed}
 use Rattle.rds_tool.specs.declared.devices.Source.{Ghosts as Source}
@@ -11,43 +11,31 @@ use Rattle.rds_tool.proofs.Texts.{not_called, passed_inside, prefix_is, refused_
 -- a refusal of settings is one of the job
 task_refused : (job : Job) (remaining : Option (List ℕ)) (e : ToolError) → IsMemoryOrErrOf (task_of job) e
     → IsOutside e ⊎ IfSome remaining (λ held. result_of_job job held ≡ Err e)
-task_refused job remaining e (inl memory) = inl (inl memory)
-task_refused job None e (inr refused) = inr tt
-task_refused job (Some held) e (inr refused) = inr (ap (λ r. and_then r (λ task. text_of_task task held)) refused)
+task_refused job remaining e it = grind (arith, common_steps)
 
 -- so is one of the bytes, but for refused memory
 text_refused : (job : Job) (task : Task) (remaining : Option (List ℕ)) (held : List ℕ) (e : ToolError) → task_of job ≡ Ok task
     → IfSome remaining (λ bytes. held ≡ bytes) → IsMemoryOrErrOf (text_of_task task held) e → IsOutside e ⊎ IfSome remaining (λ bytes. result_of_job job bytes ≡ Err e)
-text_refused job task remaining held e is same (inl memory) = inl (inl memory)
-text_refused job task None held e is same (inr refused) = inr tt
-text_refused job task (Some bytes) held e is same (inr refused) =
-    inr (ap (λ r. and_then r (λ (t : Task). text_of_task t bytes)) is ∙ (ap (λ b. text_of_task task b) (sym same) ∙ refused))
+text_refused job task remaining held e is same it = grind (arith, common_steps)
 
 -- the same of the bytes that were given, of which there are none before the settings are looked at
 abbrev Refused : Job → List ℕ → List ℕ → Bool → ToolError → Type 0
 Refused job given given' ended e = IsOutside e ⊎ Gave given given' (λ bytes. (result_of_job job bytes ≡ Err e) × ((task_of job ≡ Err e) ⊎ (ended ≡ true)))
 
 task_refused_by : (job : Job) (given : List ℕ) (ended : Bool) (e : ToolError) → IsMemoryOrErrOf (task_of job) e → Refused job given given ended e
-task_refused_by job given ended e (inl memory) = inl (inl memory)
-task_refused_by job given ended e (inr refused) = inr ([], sym (append-nil given), (ap (λ r. and_then r (λ task. text_of_task task [])) refused, inl refused))
+task_refused_by job given ended e it = grind (arith, common_steps, append-nil)
 
 text_refused_by : (job : Job) (task : Task) (given given' held : List ℕ) (ended : Bool) (e : ToolError) → task_of job ≡ Ok task → given' ≡ given ++ held
     → ended ≡ true → IsMemoryOrErrOf (text_of_task task held) e → Refused job given given' ended e
-text_refused_by job task given given' held ended e is gave done (inl memory) = inl (inl memory)
-text_refused_by job task given given' held ended e is gave done (inr refused) =
-    inr (held, gave, (ap (λ r. and_then r (λ (t : Task). text_of_task t held)) is ∙ refused, inr done))
+text_refused_by job task given given' held ended e is gave done it = grind (arith, common_steps)
 
 -- one of the reader is a device's, or for want of memory
 outside_of_read : (e : ToolError) → (e ≡ OutOfMemory) ⊎ ((e ≡ Read) ⊎ (e ≡ TooManyTurns)) → IsOutside e
-outside_of_read e (inl memory) = inl memory
-outside_of_read e (inr (inl read)) = inr (inl read)
-outside_of_read e (inr (inr turns)) = inr (inr (inr turns))
+outside_of_read e it = grind (arith, common_steps)
 
 -- and one of the writer is a device's
 write_refused : {T : Type 0} (P : ToolError → Type 0) (r : Result T ToolError) → IfErr r (λ e. (e ≡ OutOfMemory) ⊎ (e ≡ Write)) → IfErr r (λ e. IsOutside e ⊎ P e)
-write_refused P (Ok x) kinds = tt
-write_refused P (Err e) (inl memory) = inl (inl memory)
-write_refused P (Err e) (inr write) = inl (inr (inr (inl write)))
+write_refused P r it = grind (arith, common_steps)
 
 -- the error of such a write is `OutOfMemory` or `Write`, and no other
 writer_alone : {T X : Type 0} (r : Result T ToolError) (k : ToolError) → ((k ≡ OutOfMemory) ⊎ (k ≡ Write) → X) → IfErr r (λ e. (e ≡ OutOfMemory) ⊎ (e ≡ Write)) → r ≡ Err k → X
@@ -71,14 +59,12 @@ same_error e x p = cc
 
 settings_refused : {R : Type 0} (task : Result Task ToolError) (r : Result (Unit {0}) ToolError) (e : ToolError) (reader : R) → r ≡ Err e
     → IfErr task (λ x. let made : Result Task ToolError = Err e in made ≡ Err x) → IfErr task (λ x. (r ≡ Err x) × (reader ≡ reader))
-settings_refused (Ok t) r e reader same h = tt
-settings_refused (Err x) r e reader same h = (same ∙ ap (λ k. Err k) (same_error e x h), refl)
+settings_refused task r e reader same h = grind (arith, common_steps, same_error)
 
 -- what was written of the bytes that were given
 heard_is : (held given given' : List ℕ) (job : Job) (r : Result (Unit {0}) ToolError) (old new : Option (List ℕ)) → given' ≡ given ++ held
     → OnOk r (Writes old new (result_of_job job held)) → OnOk r (Gave given given' (λ bytes. Writes old new (result_of_job job bytes)))
-heard_is held given given' job (Ok x) old new p w = (held, p, w)
-heard_is held given given' job (Err e) old new p w = tt
+heard_is held given given' job r old new p w = grind (arith, common_steps)
 
 -- what is refused of a call is refused of its caller
 on_err : {T : Type 0} (P : ToolError → Type 0) (r : Result T ToolError) (e : ToolError) → r ≡ Err e → P e → IfErr r P
@@ -118,27 +104,7 @@ module _ {R W : Type 0} (source : Source R) (sink : Sink W) (job : Job) (reader 
         → (refused ≡ Err TooManyTurns → (more : List ℕ) × Consumes (source.remaining reader) (source.remaining reader') more × (16777216 ≤ length more))
         → (refused ≡ Err TooManyTurns → Gave (source.given reader) (source.given reader') (λ bytes. 16777216 ≤ length bytes))
         → IsTranscribed source sink job reader reader' writer writer r
-    at_read kinds failed turns turned =
-        let no_write : e ≢ Write = of_none e OutOfMemory Read TooManyTurns Write kinds (λ p. cc p) (λ p. cc p) (λ p. cc p) in
-        let no_worker : e ≢ NoWorker = of_none e OutOfMemory Read TooManyTurns NoWorker kinds (λ p. cc p) (λ p. cc p) (λ p. cc p) in
-        record {
-          end = no_ok _ _ _ same;
-          ok = no_ok _ _ _ same;
-          heard = no_ok _ _ _ same;
-          ended = no_ok _ _ _ same;
-          flushed = no_ok _ _ _ same;
-          read = told_on r e same Read _ _ _ refl failed;
-          write = not_told r e same Write no_write _ _ _ refl refl;
-          turns = λ p. turns (of_call r e same TooManyTurns p);
-          no_worker = no_such r e same NoWorker no_worker;
-          refused = on_err _ r e same (inl (outside_of_read e kinds));
-          turned = λ p. turned (of_call r e same TooManyTurns p);
-          refused_by = on_err _ r e same (inl (outside_of_read e kinds));
-          settings = no_err _ _ _ is;
-          untouched = on_err _ r e same (λ other. refl);
-          prefix = no_such r e same Write no_write;
-          broke_off = no_such r e same Write no_write;
-        }
+    at_read kinds failed turns turned = grind (arith, common_steps, of_none, no_ok, told_on, not_told, of_call, no_such, on_err, outside_of_read, no_err)
 
   -- memory is refused before anything is read
   pub at_memory : (task : Task) → task_of job ≡ Ok task → r ≡ Err OutOfMemory → IsTranscribed source sink job reader reader writer writer r
@@ -182,23 +148,6 @@ module _ {R W : Type 0} (source : Source R) (sink : Sink W) (job : Job) (reader 
       pub at_writer : OnOk r (Appends old new text) → OnOk r (sink.is_flushed writer' ≡ true) → (r ≡ Err Write ↔ (sink.failed writer < sink.failed writer'))
           → IfErr r (λ e. (e ≡ OutOfMemory) ⊎ (e ≡ Write)) → IfErr r (λ e. e ≢ Write → writer' ≡ writer) → (r ≡ Err Write → WritesPrefix old new (Ok text))
           → IsTranscribed source sink job reader reader' writer writer' r
-      at_writer wrote flushed failed kinds untouched prefix = record {
-        end = on_any_ok r end;
-        ok = written_is (source.remaining reader) job task held text r old new all is made wrote;
-        heard = heard_is held _ _ job r old new gave (written_is (Some held) job task held text r old new refl is made wrote);
-        ended = on_any_ok r done;
-        flushed = flushed;
-        read = (writer_alone r Read no_read kinds, λ q. absurd (fine q));
-        write = failed;
-        turns = writer_alone r TooManyTurns no_turns kinds;
-        no_worker = writer_alone r NoWorker no_thread kinds;
-        refused = write_refused _ r kinds;
-        turned = writer_alone r TooManyTurns no_turns kinds;
-        refused_by = write_refused _ r kinds;
-        settings = no_err _ _ _ is;
-        untouched = untouched;
-        prefix = prefix_is (source.remaining reader) job task held text r old new all is made prefix;
-        broke_off = λ p. (held, gave, prefix_is (Some held) job task held text r old new refl is made prefix p);
-      }
+      at_writer wrote flushed failed kinds untouched prefix = grind (arith, common_steps, on_any_ok, written_is, heard_is, writer_alone, no_read, no_turns, no_thread, write_refused, no_err, prefix_is)
 
 -- (an edit of must-fail/ makes a comment of this file up to here)

@@ -1,5 +1,5 @@
 -- Lists are well-formed, the bits of gaps have no effect, and the rows of a stream begin its list.
-use Rattle.rds_tool.proofs.Names.{◌≡◌, ◌+◌, ◌*◌, ◌^◌, ◌++◌, ◌∷◌, ◌∙◌, ℕ, suc, Bool, true, false, Err, List, [], Ok, Option, Result, Some, append_assoc, ap, arith, flat_map, length, refl, subst, sym, codes, decimal, nat_lt, None, not, if◌then◌else◌, flat_map-append, length-map, All-cons, All-nil, length-map-range_with_len, EndsMove, RunsMove, Terms, complete, report_of, run_of, signal_at, signal_of, Signal, length_of, packed_bit, AcquisitionsAreLate, RunsAreLawful, RunsAreReports, RunsJoin, StepsAreLawful, report_items, RuleNumbers, items_of_end, run, totals_of, Item, Acquired, Group, LostLock, Searching, rows_so_far, and_then, claimed, first_bits, may_be_gaps, recording_of, stream_input, block_text, dash, item_fields, item_row, named_totals, report_text, row, total_row, totals_text, list_text, text_of_task, totals_list, PlanOf, cut_by, plan_of, AreInOrder, DifferInGaps, GapsHideBits, HasRows, ListsAreWellFormed, Next, RowsBeginLists, at_first, ToolError, BadCutting, BadGaps, BitsPastBytes, TooLong, cuts_bits, Cuts, Input, Settings}
+use Rattle.rds_tool.proofs.Names.{common_steps, ◌≡◌, ◌+◌, ◌*◌, ◌++◌, ◌∷◌, ◌∙◌, ℕ, suc, Bool, true, false, Err, List, [], Ok, Option, Result, append_assoc, ap, arith, flat_map, length, refl, subst, sym, codes, decimal, None, if◌then◌else◌, flat_map-append, length-map, All-cons, All-nil, length-map-range_with_len, EndsMove, RunsMove, Terms, complete, report_of, run_of, signal_of, Signal, length_of, packed_bit, AcquisitionsAreLate, RunsAreLawful, RunsAreReports, RunsJoin, StepsAreLawful, report_items, RuleNumbers, items_of_end, run, totals_of, Item, Acquired, Group, LostLock, Searching, rows_so_far, and_then, claimed, recording_of, stream_input, block_text, dash, item_fields, item_row, named_totals, report_text, row, total_row, totals_text, list_text, text_of_task, totals_list, PlanOf, cut_by, plan_of, AreInOrder, DifferInGaps, GapsHideBits, HasRows, ListsAreWellFormed, Next, RowsBeginLists, at_first, ToolError, BadCutting, BadGaps, BitsPastBytes, TooLong, cuts_bits, Cuts, Input, Settings}
 use Rattle.rds_tool.specs.declared.task.Task.TheVariants as task
 use Rattle.rds_tool.proofs.Alike.{are_alike, fronts_are_alike}
 use Rattle.rds_tool.proofs.JobLaws.{first_are, list_of, plan_lawful, same-ok}
@@ -92,8 +92,7 @@ cut_alike text rules cuts b c same alike false false false =
     at_test false = refl
 
 claimed_alike : (bits : Option ℕ) (held other : List ℕ) → length other ≡ length held → claimed bits other ≡ claimed bits held
-claimed_alike None held other long = ap (λ (n : ℕ). 8 * n) long
-claimed_alike (Some n) held other long = refl
+claimed_alike bits held other long = grind (arith, common_steps)
 
 module _ (move : RunsMove) (ends : EndsMove) (reports : RunsAreReports) (lawful : RunsAreLawful) where
   -- a text that only the report decides
@@ -103,24 +102,7 @@ module _ (move : RunsMove) (ends : EndsMove) (reports : RunsAreReports) (lawful 
   texts_alike : (text : Text) → IsOfReport text → (input : Input) (settings : Settings) (plan : PlanOf) (held other : List ℕ) → input.hex ≡ false → DifferInGaps input.gaps held other
       → plan_of settings ≡ Ok plan
       → cut_text text plan.rules plan.cuts (recording_of input other) ≡ cut_text text plan.rules plan.cuts (recording_of input held)
-  texts_alike text decided input settings plan held other bytes differ planned =
-      let n : ℕ = claimed input.bits held in
-      let gaps : List (ℕ × ℕ) = input.gaps in
-      let rules : RuleNumbers = plan.rules in
-      let by = plan_lawful settings plan planned in
-      let b : Signal = signal_at gaps other n in
-      let c : Signal = signal_at gaps held n in
-      let long : length_of b ≡ length_of c = length-map-range_with_len (packed_bit other) 0 n ∙ sym (length-map-range_with_len (packed_bit held) 0 n) in
-      let same = decided rules b c (are_alike move ends reports lawful rules gaps held other n by.loss by.near differ) in
-      let cut : Result Signal ToolError → Result (List ℕ) ToolError = cut_text text rules plan.cuts in
-      ap cut (recorded other)
-      ∙ ap (λ (m : ℕ). cut (first_bits m gaps other)) (claimed_alike input.bits held other differ.long)
-      ∙ ap (λ (m : ℕ). cut (tested (nat_lt (2 ^ 36) n) (nat_lt (8 * m) n) (not (may_be_gaps 0 gaps n)) b)) differ.long
-      ∙ cut_alike text rules plan.cuts b c long same (nat_lt (2 ^ 36) n) (nat_lt (8 * length held) n) (not (may_be_gaps 0 gaps n))
-      ∙ ap cut (sym (recorded held))
-    where
-      recorded : (xs : List ℕ) → recording_of input xs ≡ first_bits (claimed input.bits xs) input.gaps xs
-      recorded xs = rw bytes refl
+  texts_alike text decided input settings plan held other bytes differ planned = grind (arith, common_steps, plan_lawful, length-map-range_with_len, are_alike, claimed_alike, cut_alike)
 
   list_decided : IsOfReport list_text
   list_decided rules b c same = ap (λ (items : List Item). report_text items (totals_of items)) same

@@ -1,5 +1,5 @@
 -- How far a stream of symbols was followed: this project's rule. The steps of `follow_soft` cite it, and no public call.
-use Rattle.std.specs.Prelude.{◌≡◌, ◌++◌, ◌<◌, ◌+◌, ◌-◌, ◌⊎◌, ℕ, Bool, List, None, Option, Some, length, true}
+use Rattle.std.specs.Prelude.{◌≡◌, ◌++◌, ◌<◌, ◌+◌, ◌-◌, ◌⊎◌, ℕ, Bool, List, None, Option, Some, true}
 use Rattle.std.specs.Io.KnownBytes.{Appends, Consumes}
 use Rattle.rds_soft.specs.SoftStream.{SoftHeard, SoftTerms}
 use Rattle.rds_tool.specs.Following.{IsFlushedAfter}

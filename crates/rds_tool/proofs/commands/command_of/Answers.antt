@@ -1,4 +1,4 @@
-use Rattle.rds_tool.proofs.Names.{◌∙◌, refl, app_of_row, with_option}
+use Rattle.rds_tool.proofs.Names.{common_steps, arith, ◌∙◌, refl, app_of_row, with_option}
 use Rattle.rds_tool.proofs.Options.{begun, ended, next_option}
 use Rattle.rds_tool.proofs.commands.command_of.Goals as goal
 
@@ -11,5 +11,4 @@ loop-option-preserved c =
     c.loop-option.invariant c.loop-option-test.true c.in_ok-command.ensures c.option_of.ensures.local (c.option_of.ensures.rule ∙ c.row.ensures)
 
 pub returns : goal.returns
-returns c =
-    ended with_option (app_of_row c.args.row.now) c.loop-option.command c.args.row.now.options.now c.loop-option.option-index c.loop-option.invariant c.loop-option-test.false
+returns c = grind (arith, common_steps, ended)

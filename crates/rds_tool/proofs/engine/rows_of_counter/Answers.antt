@@ -1,4 +1,4 @@
-use Rattle.rds_tool.proofs.Names.{◌≡◌, ◌∙◌, List, Ok, ap, inl, inr, sym, true, ℕ, Vec, IfOk-weaker, report_items, RuleNumbers, totals_of, cuts_any, and_then, recording_of, InputOf, InputCounterOf, totals_text, text_of_task, totals_list, PlanOf, cut_by, IsMemoryOrErrOf, ToolError}
+use Rattle.rds_tool.proofs.Names.{common_steps, arith, ◌≡◌, ◌∙◌, List, Ok, ap, sym, true, ℕ, Vec, IfOk-weaker, report_items, RuleNumbers, totals_of, cuts_any, recording_of, InputOf, InputCounterOf, totals_text, text_of_task, PlanOf, IsMemoryOrErrOf, ToolError}
 use Rattle.rds_tool.specs.declared.task.Task.TheVariants as task
 use Rattle.rds_tool.proofs.Passing.{passes}
 use Rattle.rds_tool.proofs.Texts.{any_cut, totals_made}
@@ -6,12 +6,10 @@ use Rattle.rds_tool.proofs.engine.rows_of_counter.Goals as goal
 
 refused : (input : InputOf) (text : List ℕ) (e : ToolError) → IsMemoryOrErrOf (recording_of input text) e → (plan : PlanOf)
     → IsMemoryOrErrOf (text_of_task (task.Totals input plan) text) e
-refused input text e (inl memory) plan = inl memory
-refused input text e (inr is) plan = inr (ap (λ r. and_then (and_then r (cut_by plan.cuts)) (λ recording. Ok (totals_list plan.rules recording))) is)
+refused input text e it plan = grind (arith, common_steps)
 
 pub returns-in_err-totals-clause-refused : goal.returns-in_err-totals-clause-refused
-returns-in_err-totals-clause-refused g c =
-    passes _ _ _ c.from_residual.ensures (refused c.args.counter.input c.args.counter.text c.in_err-totals.field-0.0 c.in_err-totals.ensures.refused)
+returns-in_err-totals-clause-refused g c = grind (arith, common_steps, passes, refused)
 
 abbrev Made : InputCounterOf → Vec ℕ → Type 0
 Made k rows = (plan : PlanOf) → plan.rules ≡ k.rules → cuts_any plan.cuts ≡ true → text_of_task (task.Totals k.input plan) k.text ≡ Ok rows.items

@@ -1,7 +1,6 @@
-use Rattle.rds_tool.proofs.Names.{◌∙◌, codes, found_of}
+use Rattle.rds_tool.proofs.Names.{common_steps, arith, codes}
 use Rattle.rds_tool.proofs.Getters.{share_rows}
 use Rattle.rds_tool.proofs.entries.share_in.Goals as goal
 
 pub returns : goal.returns
-returns c =
-    c.ok.ensures.value ∙ share_rows (found_of c.args.entries.now) (codes "share") c.try_get_one.result c.try_get_one.ensures.none c.try_get_one.ensures.value
+returns c = grind (arith, common_steps, share_rows, codes)

@@ -1,4 +1,4 @@
-use Rattle.rds_tool.proofs.Names.{◌≡◌, ◌≢◌, ◌⊎◌, ◌↔◌, Err, ◌+◌, ◌<◌, ◌++◌, ◌∙◌, ℕ, [], List, Some, ap, inl, inr, refl, subst, sym, take, IfSome, LiveOf, Terms, AreGaps, MayBreakEarly, MayBreakOff, rows_so_far, claimed, bits_left, ToolError, BadGaps, BitsPastBytes, OutOfMemory, Read, TooLong, Write}
+use Rattle.rds_tool.proofs.Names.{common_steps, arith, ◌≡◌, ◌≢◌, ◌⊎◌, ◌↔◌, Err, ◌+◌, ◌<◌, ◌++◌, ◌∙◌, ℕ, [], List, Some, ap, inl, inr, refl, subst, sym, take, IfSome, LiveOf, Terms, AreGaps, MayBreakEarly, MayBreakOff, rows_so_far, claimed, bits_left, ToolError, BadGaps, BitsPastBytes, OutOfMemory, Read, TooLong, Write}
 use Rattle.rds_tool.proofs.Followed.{after_no_write, after_refusal, differ, early_has_bytes, ends_short, few_bits, few_last, is_place, no_such, no_such_gaps, none_counted, not_told, of_call, of_err, of_neither, on_any_ok, only_write, read_as_far, rest_fits, stops_at_end, stops_behind, stops_here, told_on, write_alone, write_breaks, wrote_all}
 use Rattle.rds_tool.proofs.Histories.{broke_after, broke_at_read, broke_at_write, ends_short_of, gave_more, heard_all, heard_out, held, near_last, still_none, stops_all, took_rest}
 use Rattle.rds_tool.proofs.Passing.{passed, passes}
@@ -6,20 +6,14 @@ use Rattle.rds_tool.proofs.following.follow.Goals as goal
 
 -- what may break it off before its last bits may break it off
 early_is_any : (e : ToolError) → MayBreakEarly e → MayBreakOff e
-early_is_any e (inl memory) = inl memory
-early_is_any e (inr (inl read)) = inr (inl read)
-early_is_any e (inr (inr (inl write))) = inr (inr (inl write))
-early_is_any e (inr (inr (inr (inl long)))) = inr (inr (inr (inl long)))
-early_is_any e (inr (inr (inr (inr gaps)))) = inr (inr (inr (inr (inr gaps))))
+early_is_any e it = grind (arith, common_steps)
 
 -- missing last bits, and refused memory for the last rows, may break it off too
 last_is_any : (e : ToolError) → (e ≡ Read) ⊎ (e ≡ BitsPastBytes) → MayBreakOff e
-last_is_any e (inl read) = inr (inl read)
-last_is_any e (inr short) = inr (inr (inr (inr (inl short))))
+last_is_any e it = grind (arith, common_steps)
 
 rest_is_any : (e : ToolError) → (e ≡ OutOfMemory) ⊎ (e ≡ BadGaps) → MayBreakOff e
-rest_is_any e (inl memory) = inl memory
-rest_is_any e (inr gaps) = inr (inr (inr (inr (inr gaps))))
+rest_is_any e it = grind (arith, common_steps)
 
 pub returns-in_err-live-clause-read : goal.returns-in_err-live-clause-read
 returns-in_err-live-clause-read g c = told_on _ _ (passed _ _ c.from_residual.ensures) _ _ _ _ refl c.in_err-live.ensures.read

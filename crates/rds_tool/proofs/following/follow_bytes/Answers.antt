@@ -1,4 +1,4 @@
-use Rattle.rds_tool.proofs.Names.{◌+◌, ◌*◌, ◌≡◌, ◌≢◌, ◌≤◌, Err, List, Option, Some, ◌⊎◌, ◌++◌, [], inl, inr, ap, refl, sym, subst, ◌∙◌, drop, length, take, ℕ, IfSome, append-nil, LiveOf, MayBreakEarly, IsFollowed, IsNearAnswer, IsNearEnd, IsPlaceOf, ToolError, BadGaps, BitsPastBytes, OutOfMemory, Read, TooLong, Write}
+use Rattle.rds_tool.proofs.Names.{common_steps, arith, ◌+◌, ◌*◌, ◌≡◌, ◌≢◌, ◌≤◌, Err, List, Option, Some, ◌⊎◌, ◌++◌, [], inl, inr, ap, refl, sym, subst, ◌∙◌, drop, length, take, ℕ, IfSome, append-nil, LiveOf, MayBreakEarly, IsFollowed, IsNearAnswer, IsNearEnd, ToolError, BadGaps, BitsPastBytes, OutOfMemory, Read, TooLong, Write}
 use Rattle.rds_tool.proofs.Followed.{after_no_write, after_refusal, chunk_breaks, differ, few_taken, fits_room, followed_end, followed_more, followed_none, front_is, is_place, lent_whole, near_end_by, no_gaps_told, no_such, not_told, nothing_done, of_call, of_neither, read_not_told, smaller, some_taken, stops_behind, stops_here, stops_in_rows, stops_untouched, told_by, told_on, too_many}
 use Rattle.rds_tool.proofs.Histories.{broke_after, broke_at_once, broke_at_read, gave_more, gave_none, held, near_answer_by, of_none, stops_all, took_rest}
 use Rattle.rds_tool.proofs.Passing.{passed, passed_kind, passes}
@@ -6,9 +6,7 @@ use Rattle.rds_tool.proofs.following.follow_bytes.Goals as goal
 
 -- what is refused before anything is read may break it off
 begin_breaks : (e : ToolError) → (e ≡ OutOfMemory) ⊎ ((e ≡ TooLong) ⊎ (e ≡ BadGaps)) → MayBreakEarly e
-begin_breaks e (inl memory) = inl memory
-begin_breaks e (inr (inl long)) = inr (inr (inr (inl long)))
-begin_breaks e (inr (inr gaps)) = inr (inr (inr (inr gaps)))
+begin_breaks e it = grind (arith, common_steps)
 
 pub returns-in_err-begun-clause-read : goal.returns-in_err-begun-clause-read
 returns-in_err-begun-clause-read g c = not_told _ _ (passed _ _ c.from_residual.ensures) Read (of_none _ OutOfMemory TooLong BadGaps Read c.in_err-begun.ensures.kinds (differ _ _ refl) (differ _ _ refl) (differ _ _ refl)) _ _ _ refl refl
@@ -37,8 +35,7 @@ reads-init g c = record {
 }
 
 pub returns-in_err-count-clause-read : goal.returns-in_err-count-clause-read
-returns-in_err-count-clause-read g c =
-    told_by _ _ (passed _ _ c.from_residual-in_err-count.ensures) Read c.in_err-count.ensures.kinds _ _ _ c.reads.invariant.reads c.in_err-count.ensures.failed
+returns-in_err-count-clause-read g c = grind (arith, common_steps, told_by, passed)
 
 pub returns-in_err-count-clause-write : goal.returns-in_err-count-clause-write
 returns-in_err-count-clause-write g c = not_told _ _ (passed _ _ c.from_residual-in_err-count.ensures) Write (of_neither _ Read Read Write (inl c.in_err-count.ensures.kinds) (differ _ _ refl) (differ _ _ refl)) _ _ _ c.reads.invariant.writes refl
@@ -94,12 +91,10 @@ reads-preserved g c =
     }
 
 pub returns-in_err-lister-clause-read : goal.returns-in_err-lister-clause-read
-returns-in_err-lister-clause-read g c =
-    read_not_told _ _ (passed _ _ c.from_residual-in_err-lister.ensures) c.in_err-lister.ensures.kinds _ _ _ c.reads.invariant.reads c.in_ok-count.ensures.count
+returns-in_err-lister-clause-read g c = grind (arith, common_steps, read_not_told, passed)
 
 pub returns-in_err-lister-clause-write : goal.returns-in_err-lister-clause-write
-returns-in_err-lister-clause-write g c =
-    told_on _ _ (passed _ _ c.from_residual-in_err-lister.ensures) _ _ _ _ c.reads.invariant.writes c.in_err-lister.ensures.write
+returns-in_err-lister-clause-write g c = grind (arith, common_steps, told_on, passed)
 
 pub returns-in_err-lister-clause-too_long : goal.returns-in_err-lister-clause-too_long
 returns-in_err-lister-clause-too_long g c = λ p.
@@ -134,9 +129,7 @@ returns-in_err-lister-clause-within g c = λ p.
     (c.in_err-lister.ensures.prefix (of_call _ _ (passed _ _ c.from_residual-in_err-lister.ensures) _ p))
 
 pub room_before_end-room-requires : goal.room_before_end-room-requires
-room_before_end-room-requires g c =
-    let (heard, f, gave, flush) = c.reads.invariant.followed in
-    subst (λ (p : ℕ). IsPlaceOf c.args.bits p) (sym c.place.ensures.value) (is_place _ _ _ _ _ _ _ heard f)
+room_before_end-room-requires g c = grind (arith, common_steps, is_place)
 
 pub returns-clause-followed : goal.returns-clause-followed
 returns-clause-followed g c =
@@ -164,8 +157,7 @@ pub returns-in_err-begun-clause-between : goal.returns-in_err-begun-clause-betwe
 returns-in_err-begun-clause-between g c = after_refusal _ (nothing_done _ _ _ _)
 
 pub returns-in_err-lister-clause-bad_gaps : goal.returns-in_err-lister-clause-bad_gaps
-returns-in_err-lister-clause-bad_gaps g c = λ p.
-    absurd (no_gaps_told _ c.in_err-lister.ensures.kinds (passed_kind _ _ _ (passed _ _ c.from_residual-in_err-lister.ensures) p))
+returns-in_err-lister-clause-bad_gaps g c = grind (arith, common_steps, no_gaps_told, passed_kind, passed)
 
 pub returns-in_err-begun-clause-broke_off : goal.returns-in_err-begun-clause-broke_off
 returns-in_err-begun-clause-broke_off g c =

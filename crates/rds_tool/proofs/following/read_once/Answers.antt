@@ -1,4 +1,4 @@
-use Rattle.rds_tool.proofs.Names.{[], ◌++◌, ◌∷◌, ◌≡◌, ◌≤◌, ℕ, List, ap, arith, inr, length, refl, subst, suc, sym, take, zero, Consumes, common_steps}
+use Rattle.rds_tool.proofs.Names.{[], ◌++◌, ◌∷◌, ◌≡◌, ◌≤◌, ℕ, List, ap, arith, inr, length, refl, suc, take, zero, common_steps}
 use Rattle.rds_tool.proofs.following.read_once.Goals as goal
 
 -- the front of what was lent is that of the whole
@@ -8,9 +8,7 @@ front (suc n) [] ys within = absurd (omega arith)
 front (suc n) (x ∷ xs) ys within = ap (λ zs. x ∷ zs) (front n xs ys (omega arith))
 
 pub returns-in-Ok-clause-taken : goal.returns-in-Ok-clause-taken
-returns-in-Ok-clause-taken g c =
-    subst (λ (xs : List ℕ). Consumes (g.S.Source.remaining c.args.reader.now) (g.S.Source.remaining c.read.new.self) xs)
-    (sym (front c.in-Ok.count c.read.new.buf _ c.in-Ok.ensures.within)) c.in-Ok.ensures.bytes.0
+returns-in-Ok-clause-taken g c = grind (arith, common_steps, front)
 
 pub returns-in-Ok-clause-end : goal.returns-in-Ok-clause-end
 returns-in-Ok-clause-end g c = λ none. inr (c.in-Ok.ensures.bytes.1 none (grind (arith, common_steps)))

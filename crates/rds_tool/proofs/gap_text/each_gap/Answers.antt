@@ -1,4 +1,4 @@
-use Rattle.rds_tool.proofs.Names.{◌+◌, ◌∙◌, ℕ, List, ap, drop, map, sym, each_gap}
+use Rattle.rds_tool.proofs.Names.{common_steps, arith, ◌+◌, ◌∙◌, ℕ, List, ap, drop, map, sym, each_gap}
 use Rattle.rds_tool.proofs.GapTexts.{gaps_more, gaps_none, gaps_whole, with_rest}
 use Rattle.rds_tool.proofs.gap_text.each_gap.Goals as goal
 
@@ -11,5 +11,4 @@ pub returns : goal.returns
 returns c = gaps_whole c.args.pairs.now c.loop-pair.pair-index c.loop-pair.gaps.items c.loop-pair.invariant c.loop-pair-test.false
 
 pub returns-in_default : goal.returns-in_default
-returns-in_default c =
-    gaps_none c.args.pairs.now c.loop-pair.pair-index c.loop-pair.gaps.items c.loop-pair.invariant _ c.loop-pair-test.true (sym c.gap_of.ensures ∙ c.in_default.is)
+returns-in_default c = grind (arith, common_steps, gaps_none)

@@ -1,3 +1,4 @@
+use Rattle.rds_tool.proofs.Names.{common_steps}
 use Rattle.std.proofs.Common.{◌≡◌, ◌∙◌, List, Option, arith, ℕ, sym}
 use Rattle.rds_tool.proofs.HexDigits.{HasDecoded, all_decoded, begun, decoded_none, ended, few_decoded}
 use Rattle.rds_tool.proofs.input.decode_digits.Goals.{in-None, in-Some-high}
@@ -20,5 +21,4 @@ loop-at-preserved c =
     ]
 
 pub returns-clause-ok : goal.returns-clause-ok
-returns-clause-ok c =
-    let has = c.loop-at.invariant in (few_decoded _ _ _ _ _ _ has (omega arith), has.small, all_decoded _ _ _ _ _ _ has (omega arith))
+returns-clause-ok c = grind (arith, common_steps, few_decoded, all_decoded)

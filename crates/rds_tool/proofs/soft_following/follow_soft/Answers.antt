@@ -1,23 +1,17 @@
-use Rattle.rds_tool.proofs.Names.{◌≡◌, ◌≢◌, ◌⊎◌, ◌↔◌, ◌<◌, ◌++◌, ◌∙◌, ℕ, Err, List, ap, inl, inr, refl, subst, sym, MayBreakEarly, MayBreakOff, soft_rows_so_far, ToolError, BadGaps, BitsPastBytes, OutOfMemory, Read, TooLong, Write}
+use Rattle.rds_tool.proofs.Names.{common_steps, arith, ◌≡◌, ◌≢◌, ◌⊎◌, ◌++◌, ◌∙◌, Err, ap, refl, sym, MayBreakEarly, MayBreakOff, soft_rows_so_far, ToolError, BadGaps, BitsPastBytes, OutOfMemory, Read, TooLong, Write}
 use Rattle.rds_tool.proofs.Followed.{differ, none_counted, not_told, only_write, told_on, write_breaks}
 use Rattle.rds_tool.proofs.Histories.{of_none}
 use Rattle.rds_tool.proofs.Passing.{passed, passes}
-use Rattle.rds_tool.proofs.SoftFollowed.{broke-at-end, broke-at-write, followed-all, gave-so-far, short-told}
+use Rattle.rds_tool.proofs.SoftFollowed.{broke-at-end, broke-at-write, followed-all, short-told}
 use Rattle.rds_tool.proofs.soft_following.follow_soft.Goals as goal
 
 -- what may break it off before its last bits may break it off
 early_is_any : (e : ToolError) → MayBreakEarly e → MayBreakOff e
-early_is_any e (inl memory) = inl memory
-early_is_any e (inr (inl read)) = inr (inl read)
-early_is_any e (inr (inr (inl write))) = inr (inr (inl write))
-early_is_any e (inr (inr (inr (inl long)))) = inr (inr (inr (inl long)))
-early_is_any e (inr (inr (inr (inr gaps)))) = inr (inr (inr (inr (inr gaps))))
+early_is_any e it = grind (arith, common_steps)
 
 -- and so may what its last rows are refused for
 rest_is_any : (e : ToolError) → (e ≡ OutOfMemory) ⊎ ((e ≡ BitsPastBytes) ⊎ (e ≡ BadGaps)) → MayBreakOff e
-rest_is_any e (inl memory) = inl memory
-rest_is_any e (inr (inl short)) = inr (inr (inr (inr (inl short))))
-rest_is_any e (inr (inr gaps)) = inr (inr (inr (inr (inr gaps))))
+rest_is_any e it = grind (arith, common_steps)
 
 pub returns-in_err-stream-clause-read : goal.returns-in_err-stream-clause-read
 returns-in_err-stream-clause-read g c = told_on _ _ (passed _ _ c.from_residual.ensures) _ _ _ _ refl c.in_err-stream.ensures.read
@@ -32,14 +26,10 @@ pub returns-in_err-stream-clause-broke_off : goal.returns-in_err-stream-clause-b
 returns-in_err-stream-clause-broke_off g c = passes _ _ _ c.from_residual.ensures c.in_err-stream.ensures.broke_off
 
 pub returns-in_err-rows-clause-read : goal.returns-in_err-rows-clause-read
-returns-in_err-rows-clause-read g c =
-    not_told _ _ (passed _ _ c.from_residual-in_err-rows.ensures) Read
-    (of_none _ OutOfMemory BitsPastBytes BadGaps Read c.in_err-rows.ensures.kinds (differ _ _ refl) (differ _ _ refl) (differ _ _ refl)) _ _ _ c.in_ok-stream.ensures.reads refl
+returns-in_err-rows-clause-read g c = grind (arith, common_steps, not_told, passed, of_none, differ)
 
 pub returns-in_err-rows-clause-write : goal.returns-in_err-rows-clause-write
-returns-in_err-rows-clause-write g c =
-    not_told _ _ (passed _ _ c.from_residual-in_err-rows.ensures) Write
-    (of_none _ OutOfMemory BitsPastBytes BadGaps Write c.in_err-rows.ensures.kinds (differ _ _ refl) (differ _ _ refl) (differ _ _ refl)) _ _ _ c.in_ok-stream.ensures.writes refl
+returns-in_err-rows-clause-write g c = grind (arith, common_steps, not_told, passed, of_none, differ)
 
 pub returns-in_err-rows-clause-refused : goal.returns-in_err-rows-clause-refused
 returns-in_err-rows-clause-refused g c = passes _ _ _ c.from_residual-in_err-rows.ensures (rest_is_any _ c.in_err-rows.ensures.kinds)
@@ -63,10 +53,6 @@ returns-clause-ok g c =
 
 pub returns-clause-read : goal.returns-clause-read
 returns-clause-read g c = (only_write _ Read (differ _ _ refl) c.write_flushed.ensures.kinds, none_counted _ _ _ c.in_ok-stream.ensures.reads refl)
-
-pub returns-clause-write : goal.returns-clause-write
-returns-clause-write g c =
-    subst (λ (n : ℕ). (c.write_flushed.result ≡ Err Write) ↔ (n < g.K.Sink.failed c.write_flushed.new.writer)) c.in_ok-stream.ensures.writes c.write_flushed.ensures.write
 
 pub returns-clause-refused : goal.returns-clause-refused
 returns-clause-refused g c = write_breaks _ c.write_flushed.ensures.kinds

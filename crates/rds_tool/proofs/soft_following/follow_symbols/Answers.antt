@@ -1,4 +1,4 @@
-use Rattle.rds_tool.proofs.Names.{◌+◌, ◌-◌, ◌^◌, ◌<◌, ◌≡◌, ◌≢◌, ◌≤◌, ◌⊎◌, ◌++◌, ◌∙◌, [], ℕ, Err, List, None, Option, Some, ap, arith, drop, inl, inr, length, refl, subst, sym, take, IfSome, Consumes, Consumes-nil, append-nil, length-append, MayBreakEarly, AreAsked, most_symbols, ToolError, BadGaps, BitsPastBytes, OutOfMemory, Read, TooLong, Write}
+use Rattle.rds_tool.proofs.Names.{common_steps, ◌+◌, ◌≡◌, ◌≢◌, ◌≤◌, ◌⊎◌, ◌++◌, ◌∙◌, [], ℕ, Err, List, ap, arith, drop, inl, inr, length, refl, subst, sym, take, IfSome, Consumes, Consumes-nil, append-nil, length-append, MayBreakEarly, AreAsked, ToolError, BadGaps, BitsPastBytes, OutOfMemory, Read, TooLong, Write}
 use Rattle.rds_tool.proofs.Followed.{chunk_breaks, differ, few_taken, fits_room, front_is, lent_whole, no_gaps_told, not_told, of_neither, read_not_told, some_taken, told_by, told_on}
 use Rattle.rds_tool.proofs.Histories.{of_none}
 use Rattle.rds_tool.proofs.Passing.{passed, passes}
@@ -7,19 +7,13 @@ use Rattle.rds_tool.proofs.soft_following.follow_symbols.Goals as goal
 
 -- what is refused before anything is read may break it off
 begin_breaks : (e : ToolError) → (e ≡ OutOfMemory) ⊎ ((e ≡ TooLong) ⊎ (e ≡ BadGaps)) → MayBreakEarly e
-begin_breaks e (inl memory) = inl memory
-begin_breaks e (inr (inl long)) = inr (inr (inr (inl long)))
-begin_breaks e (inr (inr gaps)) = inr (inr (inr (inr gaps)))
+begin_breaks e it = grind (arith, common_steps)
 
 pub returns-in_err-begun-clause-read : goal.returns-in_err-begun-clause-read
-returns-in_err-begun-clause-read g c =
-    not_told _ _ (passed _ _ c.from_residual.ensures) Read
-    (of_none _ OutOfMemory TooLong BadGaps Read c.in_err-begun.ensures.kinds (differ _ _ refl) (differ _ _ refl) (differ _ _ refl)) _ _ _ refl refl
+returns-in_err-begun-clause-read g c = grind (arith, common_steps, not_told, passed, of_none, differ)
 
 pub returns-in_err-begun-clause-write : goal.returns-in_err-begun-clause-write
-returns-in_err-begun-clause-write g c =
-    not_told _ _ (passed _ _ c.from_residual.ensures) Write
-    (of_none _ OutOfMemory TooLong BadGaps Write c.in_err-begun.ensures.kinds (differ _ _ refl) (differ _ _ refl) (differ _ _ refl)) _ _ _ refl refl
+returns-in_err-begun-clause-write g c = grind (arith, common_steps, not_told, passed, of_none, differ)
 
 pub returns-in_err-begun-clause-took : goal.returns-in_err-begun-clause-took
 returns-in_err-begun-clause-took g c = ([], sym (append-nil _), Consumes-nil _)
@@ -47,13 +41,10 @@ pub symbols_left-room-requires-clause-asked : goal.symbols_left-room-requires-cl
 symbols_left-room-requires-clause-asked g c = asked-count c.args.bits c.reads.stream.symbols c.count.result c.reads.invariant.heard.asked c.count.ensures.value
 
 pub returns-in_err-count-clause-read : goal.returns-in_err-count-clause-read
-returns-in_err-count-clause-read g c =
-    told_by _ _ (passed _ _ c.from_residual-in_err-count.ensures) Read c.in_err-count.ensures.kinds _ _ _ c.reads.invariant.reads c.in_err-count.ensures.failed
+returns-in_err-count-clause-read g c = grind (arith, common_steps, told_by, passed)
 
 pub returns-in_err-count-clause-write : goal.returns-in_err-count-clause-write
-returns-in_err-count-clause-write g c =
-    not_told _ _ (passed _ _ c.from_residual-in_err-count.ensures) Write (of_neither _ Read Read Write (inl c.in_err-count.ensures.kinds) (differ _ _ refl) (differ _ _ refl))
-    _ _ _ c.reads.invariant.writes refl
+returns-in_err-count-clause-write g c = grind (arith, common_steps, not_told, passed, of_neither, differ)
 
 pub returns-in_err-count-clause-took : goal.returns-in_err-count-clause-took
 returns-in_err-count-clause-took g c = gave-still _ _ c.reads.invariant.heard _ _ c.in_err-count.ensures.kept c.in_err-count.ensures.none_given
@@ -106,12 +97,10 @@ reads-preserved g c =
     }
 
 pub returns-in_err-follow_next-clause-read : goal.returns-in_err-follow_next-clause-read
-returns-in_err-follow_next-clause-read g c =
-    read_not_told _ _ (passed _ _ c.from_residual-in_err-follow_next.ensures) c.in_err-follow_next.ensures.kinds _ _ _ c.reads.invariant.reads c.in_ok-count.ensures.count
+returns-in_err-follow_next-clause-read g c = grind (arith, common_steps, read_not_told, passed)
 
 pub returns-in_err-follow_next-clause-write : goal.returns-in_err-follow_next-clause-write
-returns-in_err-follow_next-clause-write g c =
-    told_on _ _ (passed _ _ c.from_residual-in_err-follow_next.ensures) _ _ _ _ c.reads.invariant.writes c.in_err-follow_next.ensures.write
+returns-in_err-follow_next-clause-write g c = grind (arith, common_steps, told_on, passed)
 
 pub returns-in_err-follow_next-clause-took : goal.returns-in_err-follow_next-clause-took
 returns-in_err-follow_next-clause-took g c =
@@ -160,7 +149,4 @@ pub returns-clause-took : goal.returns-clause-took
 returns-clause-took g c = gave-so-far _ _ (heard-end _ _ c.reads.invariant.heard _ _ _ _ c.in_ok-count.ensures.given c.in_ok-count.ensures.taken c.if-count-eq0.true)
 
 pub returns-clause-done : goal.returns-clause-done
-returns-clause-done g c =
-    done-by c.args.bits _ c.symbols_left-room.result _
-    (λ none. subst (λ (n : ℕ). IfSome c.args.bits (λ (b : ℕ). n ≡ b + 1) × (c.args.bits ≢ None)) c.count.ensures.value (c.symbols_left-room.ensures.none none))
-    (c.in_ok-count.ensures.answer c.if-count-eq0.true)
+returns-clause-done g c = grind (arith, common_steps, done-by)

@@ -1,4 +1,4 @@
-use Rattle.rds_tool.proofs.Names.{◌++◌, ◌∷◌, ◌≡◌, ◌∙◌, Err, List, Ok, Option, Result, ap, ap₂, append_assoc, sym, ℕ, OnErr, Appends, flat_map, Appends-trans, AppendsPrefix}
+use Rattle.rds_tool.proofs.Names.{common_steps, arith, ◌++◌, ◌∷◌, ◌≡◌, ◌∙◌, List, Option, Result, ap, ap₂, append_assoc, sym, ℕ, OnErr, Appends, flat_map, Appends-trans, AppendsPrefix}
 use Rattle.rds_tool.proofs.Passing.{on_any_err}
 use Rattle.rds_tool.proofs.stream_rows.+write_parts.Goals as goal
 
@@ -23,8 +23,7 @@ of_others f parts rest part text old mid new are is first (prefix, left, split, 
 )
 
 on_err : {T E P Q : Type 0} (r : Result T E) → (P → Q) → OnErr r P → OnErr r Q
-on_err (Ok x) more p = tt
-on_err (Err e) more p = more p
+on_err r more p = grind (arith, common_steps)
 
 pub returns-in_err-write_all-in-Some-clause-prefix : goal.returns-in_err-write_all-in-Some-clause-prefix
 returns-in_err-write_all-in-Some-clause-prefix g t c =

@@ -1,10 +1,9 @@
-use Rattle.rds_tool.proofs.Names.{◌∷◌, Bor, List, [], refl, ℕ, All, codes, leb-true, All-from_recursion, IsPlain, IsShort}
+use Rattle.rds_tool.proofs.Names.{common_steps, arith, ◌∷◌, Bor, List, [], refl, ℕ, All, codes, leb-true, IsPlain, IsShort}
 use Rattle.rds_tool.proofs.totals.totals_with_names.Goals as goal
 
 -- what holds of each of twelve holds of all
 twelve : {X : Type 0} (P : X → Type 0) (a b d e f g h i j k l m : X) → P a → P b → P d → P e → P f → P g → P h → P i → P j → P k → P l → P m → All P (a ∷ b ∷ d ∷ e ∷ f ∷ g ∷ h ∷ i ∷ j ∷ k ∷ l ∷ m ∷ [])
-twelve P a b d e f g h i j k l m pa pb pd pe pf pg ph pi pj pk pl pm =
-    All-from_recursion P (a ∷ b ∷ d ∷ e ∷ f ∷ g ∷ h ∷ i ∷ j ∷ k ∷ l ∷ m ∷ []) (pa, (pb, (pd, (pe, (pf, (pg, (ph, (pi, (pj, (pk, (pl, (pm, tt))))))))))))
+twelve P a b d e f g h i j k l m pa pb pd pe pf pg ph pi pj pk pl pm = grind (arith, common_steps)
 
 pub returns-clause-plain : goal.returns-clause-plain
 returns-clause-plain c =

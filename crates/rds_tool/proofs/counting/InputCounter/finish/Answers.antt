@@ -1,4 +1,4 @@
-use Rattle.rds_tool.proofs.Names.{◌≡◌, ◌∙◌, Bool, List, Ok, Result, ap, inl, inr, subst, sym, ℕ, IfErr, IfOk, IfErr-weaker, IfOk-weaker, Signal, report_items, totals_of, and_then, claimed, first_bits, recording_of, CounterOf, InputCounterOf, IsTextOf, IsMemoryOrErrOf, ToolError, HexText}
+use Rattle.rds_tool.proofs.Names.{common_steps, arith, ◌≡◌, ◌∙◌, Bool, List, Ok, Result, ap, inr, subst, sym, ℕ, IfErr, IfOk, IfErr-weaker, IfOk-weaker, Signal, report_items, totals_of, and_then, claimed, first_bits, recording_of, CounterOf, InputCounterOf, IsTextOf, IsMemoryOrErrOf, ToolError, HexText}
 use Rattle.rds_tool.proofs.CountedBytes.{decoded_whole, refused_half, refused_strange}
 use Rattle.rds_tool.proofs.counting.InputCounter.finish.Given.{Over}
 use Rattle.rds_tool.proofs.counting.InputCounter.finish.Goals.{After-finish, then-self-via-then-self, then-self-via-else-self+then-is_some}
@@ -22,11 +22,7 @@ module _ (g : Over) (c : After-finish g) where
   k = c.self.inside.counter
 
   recorded_as : recording_of (record { hex = c.self.inside.hex; bits = k.bits; gaps = k.terms.gaps }) c.self.inside.text.bytes ≡ first_bits (claimed k.bits k.bytes) k.terms.gaps k.bytes
-  recorded_as =
-      let s = c.self.inside in
-      let known : Bool → Type 0 = λ strange. IsTextOf s.hex s.half strange s.text.bytes k.bytes in
-      ap (λ r. and_then r (λ bytes. first_bits (claimed k.bits bytes) k.terms.gaps bytes))
-      (decoded_whole s.half s.text.bytes k.bytes s.hex (sym c.is_some.ensures ∙ c.if-is_some.false) (subst known c.if-self.false c.self.invariant))
+  recorded_as = grind (arith, common_steps, decoded_whole)
 
 pub returns-clause-totals : goal.returns-clause-totals
 returns-clause-totals g c =
@@ -35,8 +31,7 @@ returns-clause-totals g c =
     (IfOk-weaker c.finish.result _ _ (λ totals made. (made.0, recorded_as g d ∙ made.1, made.2)) c.finish.ensures.totals)
 
 told : (made wanted : Result Signal ToolError) → wanted ≡ made → (e : ToolError) → IsMemoryOrErrOf made e → IsMemoryOrErrOf wanted e
-told made wanted same e (inl memory) = inl memory
-told made wanted same e (inr refused) = inr (same ∙ refused)
+told made wanted same e it = grind (arith, common_steps)
 
 pub returns-clause-refused : goal.returns-clause-refused
 returns-clause-refused g c =

@@ -1,4 +1,4 @@
-use Rattle.rds_tool.proofs.Names.{◌++◌, ◌∙◌, ap, length, rules, sym, ◌≡◌, block_text}
+use Rattle.rds_tool.proofs.Names.{common_steps, arith, length, rules, ◌≡◌, block_text}
 use Rattle.rds_tool.proofs.GroupRow.{eight_fields}
 use Rattle.rds_tool.proofs.RowText.{four_blocks, group_record}
 use Rattle.rds_tool.proofs.page.Page.push_group.Goals as goal
@@ -14,6 +14,4 @@ returns-clause-text c =
     rw blocks shown
 
 pub returns-clause-record : goal.returns-clause-record
-returns-clause-record c =
-    let g = c.args.group.now in
-    returns-clause-text c ∙ ap (λ t. c.args.self.now ++ t) (sym (group_record g (search rules) c.put_kind.ensures.plain))
+returns-clause-record c = grind (arith, common_steps, returns-clause-text, group_record, rules)

@@ -1,11 +1,11 @@
+use Rattle.rds_tool.proofs.Names.{common_steps}
 use Rattle.std.proofs.Common.{◌++◌, ◌∙◌, ◌∷◌, ap, arith, rules}
 use Rattle.rds_tool.proofs.Decimals.{one_digit, spelled}
 use Rattle.rds_tool.proofs.RowText.{decimal_plain}
 use Rattle.rds_tool.proofs.page.Page.put_kind.Goals as goal
 
 pub returns-then-kind-lt10-clause-text : goal.returns-then-kind-lt10-clause-text
-returns-then-kind-lt10-clause-text c =
-    rw c.in-Some.is (c.put-then-kind-lt10.ensures ∙ ap (λ t. c.args.self.now ++ 44 ∷ t) (one_digit c.in-Some.kind c.if-kind-lt10.true))
+returns-then-kind-lt10-clause-text c = grind (arith, common_steps, one_digit)
 
 pub returns-then-kind-lt100-clause-text : goal.returns-then-kind-lt100-clause-text
 returns-then-kind-lt100-clause-text c =

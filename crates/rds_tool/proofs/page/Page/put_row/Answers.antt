@@ -7,22 +7,13 @@ abbrev none : Bor (List ℕ)
 none = record { ref_ptr = (0, 0); now = [] }
 
 pub loop-i-init : goal.loop-i-init
-loop-i-init c = record {
-  text = sym (append-nil c.args.self.now);
-  room = omega arith;
-}
+loop-i-init c = grind (arith, common_steps, append-nil)
 
 pub put_all-requires : goal.put_all-requires
-put_all-requires c =
-    let within : c.loop-i.i < length c.args.fields.now = omega (arith, c.loop-i-test.true) in
-    let field : length (slice_index_or c.args.fields.now c.loop-i.i none).now ≤ 20 = short_at c.args.fields.now c.loop-i.i none c.requires.short within in
-    omega (arith, field, c.loop-i.invariant.room, c.loop-i-test.true, c.requires.few, c.requires.room)
+put_all-requires c = grind (arith, common_steps, slice_index_or, short_at)
 
 pub put_byte-requires : goal.put_byte-requires
-put_byte-requires c =
-    let within : c.loop-i.i < length c.args.fields.now = omega (arith, c.loop-i-test.true) in
-    let field : length (slice_index_or c.args.fields.now c.loop-i.i none).now ≤ 20 = short_at c.args.fields.now c.loop-i.i none c.requires.short within in
-    grind (arith, common_steps, c.put_all.ensures, field, c.loop-i.invariant.room, c.loop-i-test.true, c.requires.few, c.requires.room)
+put_byte-requires c = grind (arith, common_steps, slice_index_or, short_at, common_steps)
 
 pub loop-i-preserved : goal.loop-i-preserved
 loop-i-preserved c =
@@ -34,16 +25,10 @@ loop-i-preserved c =
     }
 
 pub put_all-requires-2 : goal.put_all-requires-2
-put_all-requires-2 c =
-    let n = length c.args.fields.now - 1 in
-    let field : length (slice_index_or c.args.fields.now n none).now ≤ 20 = short_at c.args.fields.now n none c.requires.short (omega (arith, c.requires.several)) in
-    omega (arith, field, c.loop-i.invariant.room, c.loop-i.auto.i-end, c.requires.few, c.requires.room)
+put_all-requires-2 c = grind (arith, common_steps, slice_index_or, short_at)
 
 pub put_byte-requires-2 : goal.put_byte-requires-2
-put_byte-requires-2 c =
-    let n = length c.args.fields.now - 1 in
-    let field : length (slice_index_or c.args.fields.now n none).now ≤ 20 = short_at c.args.fields.now n none c.requires.short (omega (arith, c.requires.several)) in
-    grind (arith, common_steps, c.put_all-2.ensures, field, c.loop-i.invariant.room, c.loop-i.auto.i-end, c.requires.few, c.requires.room)
+put_byte-requires-2 c = grind (arith, common_steps, slice_index_or, short_at, common_steps)
 
 pub returns-clause-text : goal.returns-clause-text
 returns-clause-text c =

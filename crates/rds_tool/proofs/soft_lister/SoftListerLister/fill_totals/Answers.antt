@@ -1,14 +1,10 @@
-use Rattle.std.proofs.Common.{◌≡◌, ◌++◌, ◌∙◌, ℕ, List, Bor, ap, append_assoc, arith, length, map}
+use Rattle.std.proofs.Common.{◌≡◌, ◌++◌, ◌∙◌, ℕ, List, Bor, ap, append_assoc, map}
 use Rattle.std.specs.List.{flat_map}
 use Rattle.rds_rows.specs.Sheets.{text_of}
 use Rattle.rds_soft.specs.declared.soft_totals.SoftTotals.{SoftTotals}
 use Rattle.rds_tool.specs.Listing.{total_row, totals_text}
 use Rattle.rds_tool.specs.Soft.{named_flips, soft_totals_text}
 use Rattle.rds_tool.proofs.soft_lister.SoftListerLister.fill_totals.Goals as goal
-
-pub fill_totals-requires-2-clause-room : goal.fill_totals-requires-2-clause-room
-fill_totals-requires-2-clause-room c =
-    omega (arith, c.requires.room, c.fill_totals.ensures.left, ap length c.as_slice.ensures, ap length c.as_slice-2.ensures)
 
 pub returns-clause-rows : goal.returns-clause-rows
 returns-clause-rows c = λ items h.
