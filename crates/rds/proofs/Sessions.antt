@@ -1,9 +1,7 @@
 -- From devices with no history to those that a run leaves.
-use Rattle.std.proofs.Common.{◌++◌, ◌+◌, ◌*◌, ◌<◌, ◌≤◌, ◌≡◌, ◌≢◌, ◌⊎◌, ◌∙◌, [], ℕ, ap, arith, Bool, Err, false, inl, inr, length, List, None, Ok, Option, refl, Result, Some, subst, sym, true}
-use Rattle.std.specs.Prelude.{◌↔◌, IfErr, IsErrOf, OnOk}
+use Rattle.rds.proofs.Names.{◌++◌, ◌+◌, ◌*◌, ◌<◌, ◌≤◌, ◌≡◌, ◌≢◌, ◌⊎◌, ◌∙◌, [], ℕ, ap, arith, Bool, Err, false, inl, inr, length, List, None, Ok, Option, refl, Result, Some, subst, sym, true, ◌↔◌, IfErr, IsErrOf, OnOk, RuleNumbers, ToolError, IsDone, IsFollowed, IsSoftlyFollowed, RefusesRules, RefusesTerms, RefusesWorkers}
 use Rattle.rds_live.specs.StreamDecoder.{Terms}
 use Rattle.rds_rows.specs.declared.sink.Sink.{Ghosts as Sink}
-use Rattle.rds_sync.specs.Rules.{RuleNumbers}
 use Rattle.rds_sync.specs.declared.error.SyncError.{SyncError}
 use Rattle.rds_sync.specs.declared.error.SyncError.TheVariants as sync
 use Rattle.rds_tool.specs.Refusals.{of_sync}
@@ -14,12 +12,10 @@ use Rattle.rds_tool.specs.Outcome.{IsOutside, Writes, WritesPrefix, result_of_jo
 use Rattle.rds_tool.specs.Tasks.{task_of}
 use Rattle.rds_tool.specs.Transcribed.{IsTranscribed}
 use Rattle.rds_tool.specs.declared.devices.Source.{Ghosts as Source}
-use Rattle.rds_tool.specs.declared.error.ToolError.{ToolError}
 use Rattle.rds_tool.specs.declared.error.ToolError.TheVariants.{BadGaps, BitsPastBytes, BurstRange, CrewRange, LossRange, OutOfMemory, ReachRange, Read, ShareRange, TooLong, Write}
 use Rattle.rds_tool.specs.declared.job.Job.{Job}
 use Rattle.rds_tool.specs.SoftFollowing.{AreAsked, IsSoftFollowed, SoftBreaksOff}
 use Rattle.rds_soft.specs.SoftStream.{SoftTerms}
-use Rattle.rds.specs.Session.{IsDone, IsFollowed, IsSoftlyFollowed, RefusesRules, RefusesTerms, RefusesWorkers}
 
 -- the bytes given are all bytes given since the reader was made
 gave_all : (given' : List ℕ) (P : List ℕ → Type 0) → Gave [] given' P → P given'

@@ -1,5 +1,4 @@
-use Rattle.std.proofs.Common.{◌∙◌, Err, ap}
-use Rattle.rds_tool.specs.Ends.{given_by, has_ended, is_flushed, read_failures, taken_by, write_failures}
+use Rattle.rds.proofs.Names.{◌∙◌, Err, ap, given_by, has_ended, is_flushed, read_failures, taken_by, write_failures}
 use Rattle.rds.proofs.Sessions.{refused_by_workers}
 use Rattle.rds.proofs.session.follow_if_few.Goals as goal
 
