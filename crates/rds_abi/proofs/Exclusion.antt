@@ -1,11 +1,9 @@
 -- The refusals of a call exclude each other.
-use Rattle.rds_abi.proofs.Shared.{◌≡◌, ◌∙◌, ◌^◌, ◌<◌, ◌≤◌, ◌⊎◌, ℕ, List, arith, inl, inr, refl, sym, IsInRange, IsLossInRange, IsRunOutside, IsShareOutside, RuleNumbers, Terms, AreGiven, AreReserved, Asked, IsLawful, IsRecording, Refuses, RefusesGiven, RefusesRecording, RefusesRules, rules_of, RefusesCorrection, AreLast, IsFollowed, IsLeft, RefusesEnd, RefusesFollowed, RefusesLast, RefusesPush, RefusesStream, place_after, terms_of, IsLeftState, IsRun, RefusesPlaces, RefusesRun, RdsGap, RdsRules, RdsState, RdsStream, Refusal, BadGaps, BitsPastBytes, BlockRange, BurstRange, LossRange, MarginRange, NoRefusal, OffsetRange, OutOfMemory, PlaceRange, ReachRange, ReservedField, ShareRange, SmallRoom, TooLong, UnlawfulState}
+use Rattle.rds_abi.proofs.Shared.{◌≡◌, ◌∙◌, ◌^◌, ◌<◌, ◌≤◌, ◌⊎◌, ℕ, List, arith, inl, inr, refl, sym, IsInRange, IsLossInRange, IsRunOutside, IsShareOutside, RuleNumbers, Terms, AreGiven, AreReserved, Asked, IsLawful, IsRecording, Refuses, RefusesGiven, RefusesRecording, RefusesRules, rules_of, RefusesCorrection, AreLast, IsFollowed, IsLeft, RefusesEnd, RefusesFollowed, RefusesLast, RefusesPush, RefusesStream, place_after, terms_of, IsLeftState, IsRun, RefusesPlaces, RefusesRun, RdsGap, RdsRules, RdsState, RdsStream, Refusal, BadGaps, BitsPastBytes, BlockRange, BurstRange, LossRange, MarginRange, NoRefusal, OffsetRange, OutOfMemory, PlaceRange, ReachRange, ReservedField, ShareRange, SmallRoom, TooLong, UnlawfulState, IsMargin, IsPushed, RefusesSoft, RdsSoft}
 use Rattle.rds_sync.specs.declared.loss.Loss.{Loss}
 use Rattle.rds_sync.specs.declared.loss.Loss.TheVariants.{Run, Share}
 use Rattle.rds_abi.specs.Exclusion.{Exclude, ReasonsExclude, WithRoom}
-use Rattle.rds_abi.specs.Soft.{IsMargin, IsPushed, RefusesSoft}
 use Rattle.rds_abi.specs.Names.{RefusesName}
-use Rattle.rds_abi.specs.declared.layout.RdsSoft.{RdsSoft}
 
 -- what is lawful can be refused only for lack of memory
 abbrev pub Leaves : Type 0 → (Refusal → Type 0) → Type 0
