@@ -1,35 +1,9 @@
 -- What is heard and written of symbols that are pushed.
-use Rattle.std.proofs.Common.{◌≡◌, ◌+◌, ◌-◌, ◌*◌, ◌/◌, ◌^◌, ◌<◌, ◌≤◌, ◌++◌, ◌⊎◌, ◌∙◌, ℕ, List, ap, ap₂, arith, drop, inl, inr, length, map, min, refl, subst, sym, take}
-use Rattle.std.specs.Prelude.{ℤ}
-use Rattle.std.proofs.lemmas.Bool.{cases_lt}
-use Rattle.std.proofs.lemmas.List.{drop-append-le, drop-drop, length-append, length-drop, length-map, length-take, take-take, take_all}
-use Rattle.rds_stream.specs.Recording.{Signal, length_of}
-use Rattle.rds_sync.specs.Laws.{AcquisitionsAreLate, RunsGiveFewItems, StepsAreLawful}
+use Rattle.rds_abi.proofs.Shared.{◌≡◌, ◌+◌, ◌-◌, ◌*◌, ◌/◌, ◌^◌, ◌<◌, ◌≤◌, ◌++◌, ◌⊎◌, ◌∙◌, ℕ, List, ap, ap₂, arith, drop, inl, inr, length, map, min, refl, subst, sym, take, ℤ, cases_lt, drop-append-le, drop-drop, length-append, length-drop, length-map, length-take, take-take, take_all, Signal, length_of, AcquisitionsAreLate, RunsGiveFewItems, StepsAreLawful, IsInRange, Item, gaps_within, most_behind, HasHeard, LiveOf, Terms, complete, most_kept, signal_of, NextIsHeard, before_tail, completed, live_next, moved_back, part_with, run_next, lawful-back, length-signal, IsFilled, IsTooMuch, item_in_c, soft_item_in_c, IsFollowed, IsLeft, IsNear, RefusesPush, RefusesStream, place_after, stream_of, HasHeardSoft, IsMargin, IsPushed, IsWrittenAgain, RefusesSoft, again_in, byte_count, bytes_of, piece_of, read_again, symbols_kept, RdsGap, RdsItem, RdsRules, RdsSoft, RdsStream, Refusal, SmallRoom, TooLong, number_of, AreSymbolsOf, run-inside}
 use Rattle.rds_sync.specs.Lawful.{IsLawful}
-use Rattle.rds_sync.specs.Ranges.{IsInRange}
-use Rattle.rds_sync.specs.declared.item.Item.{Item}
-use Rattle.rds_live.specs.Gaps.{gaps_within}
-use Rattle.rds_live.specs.Moving.{most_behind}
-use Rattle.rds_live.specs.StreamDecoder.{HasHeard, LiveOf, Terms, complete, most_kept, signal_of}
-use Rattle.rds_live.specs.Next.{NextIsHeard, before_tail, completed, live_next, moved_back, part_with, run_next}
-use Rattle.rds_live.proofs.Following.{lawful-back}
-use Rattle.rds_live.proofs.Parts.{length-signal}
 use Rattle.rds_live.proofs.Pieces.{back-on}
-use Rattle.rds_abi.specs.Asked.{IsFilled, IsTooMuch}
-use Rattle.rds_abi.specs.Layout.{item_in_c, soft_item_in_c}
-use Rattle.rds_abi.specs.Stream.{IsFollowed, IsLeft, IsNear, RefusesPush, RefusesStream, place_after, stream_of}
-use Rattle.rds_abi.specs.Soft.{HasHeardSoft, IsMargin, IsPushed, IsWrittenAgain, RefusesSoft, again_in, byte_count, bytes_of, piece_of, read_again, symbols_kept}
-use Rattle.rds_abi.specs.declared.layout.RdsGap.{RdsGap}
-use Rattle.rds_abi.specs.declared.layout.RdsItem.{RdsItem}
-use Rattle.rds_abi.specs.declared.layout.RdsRules.{RdsRules}
-use Rattle.rds_abi.specs.declared.layout.RdsSoft.{RdsSoft}
-use Rattle.rds_abi.specs.declared.layout.RdsStream.{RdsStream}
-use Rattle.rds_abi.specs.declared.refusal.Refusal.{Refusal}
-use Rattle.rds_abi.specs.declared.refusal.Refusal.TheVariants.{SmallRoom, TooLong}
-use Rattle.rds_abi.specs.Refusals.{number_of}
 use Rattle.rds_abi.proofs.Fitting.{few-completed}
 use Rattle.rds_abi.proofs.NearStreams.{are-completed, heard-next, left-near, pushed-after, pushed-completed, refused-near}
-use Rattle.rds_soft.proofs.InsideLemmas.{AreSymbolsOf, run-inside}
 use Rattle.rds_abi.proofs.SoftItems.{items-same}
 use Rattle.rds_abi.proofs.SoftStreams.{bytes-join, erasures, kept-on, part-symbols, symbols-alike}
 use Rattle.rds_abi.proofs.SoftSymbols.{byte_count_of}

@@ -1,19 +1,6 @@
 -- A stream of symbols: its bytes, the symbols that are kept, and its items read again.
-use Rattle.std.proofs.Common.{◌≡◌, ◌+◌, ◌-◌, ◌*◌, ◌/◌, ◌^◌, ◌<◌, ◌≤◌, ◌++◌, ◌⊎◌, ◌∙◌, ℕ, List, Bool, Option, Some, None, ap, ap₂, append_assoc, arith, drop, get_or, inl, inr, length, map, refl, sym, take}
-use Rattle.std.specs.Prelude.{ℤ, pos, bit_xor, replicate, nat_lt, not, ◌&&◌, if◌then◌else◌}
-use Rattle.std.specs.List.{list_any, range_with_len}
-use Rattle.std.specs.Int.Digits.{number_from_digits}
-use Rattle.std.proofs.lemmas.Bool.{cases_lt, lt-ltb}
-use Rattle.std.proofs.lemmas.List.{drop-append-le, drop-drop, ext_get_or, get_or-append_right, get_or-take, get_or_append_left, length-append, length-drop, length-replicate, length-take, take-append-le}
-use Rattle.std.proofs.Math.Seq.{drop-append-add, take-append-add, take-append_seam}
-use Rattle.std.proofs.lemmas.List.FromFn.{get_or-map-range_with_len}
-use Rattle.rds_stream.specs.Recording.{AreGaps, Signal, is_touched_by, length_of, touched}
-use Rattle.rds_live.specs.Gaps.{gaps_within}
-use Rattle.rds_live.proofs.GapParts.{part-touched}
-use Rattle.rds_soft.specs.Symbols.{hard_bit, sign}
-use Rattle.rds_abi.specs.Soft.{byte_of, bytes_of, symbols_kept}
+use Rattle.rds_abi.proofs.Shared.{◌≡◌, ◌+◌, ◌-◌, ◌*◌, ◌/◌, ◌^◌, ◌<◌, ◌≤◌, ◌++◌, ◌⊎◌, ◌∙◌, ℕ, List, Bool, Option, Some, None, ap, ap₂, append_assoc, arith, drop, get_or, inl, inr, length, map, refl, sym, take, ℤ, pos, bit_xor, replicate, nat_lt, not, ◌&&◌, if◌then◌else◌, list_any, range_with_len, number_from_digits, cases_lt, lt-ltb, drop-append-le, drop-drop, ext_get_or, get_or-append_right, get_or-take, get_or_append_left, length-append, length-drop, length-replicate, length-take, take-append-le, drop-append-add, take-append-add, take-append_seam, get_or-map-range_with_len, AreGaps, Signal, is_touched_by, length_of, touched, gaps_within, part-touched, hard_bit, sign, byte_of, bytes_of, symbols_kept, AreSymbolsOf}
 use Rattle.rds_abi.proofs.SoftSymbols.{byte_count_of, same-tables}
-use Rattle.rds_soft.proofs.InsideLemmas.{AreSymbolsOf}
 
 -- ---- bytes
 

@@ -1,7 +1,4 @@
-use Rattle.std.proofs.Common.{◌≡◌, List, Option, Some, ap, subst, ℕ}
-use Rattle.rds_tool.specs.Ends.{given_by, has_ended, is_flushed, read_failures, taken_by, write_failures}
-use Rattle.rds_tool.specs.InputOf.{InputOf}
-use Rattle.rds.specs.Session.{IsFollowed}
+use Rattle.rds.proofs.Names.{◌≡◌, List, Option, Some, ap, subst, ℕ, given_by, has_ended, is_flushed, read_failures, taken_by, write_failures, InputOf, IsFollowed}
 use Rattle.rds.proofs.Sessions.{stream_followed}
 use Rattle.rds.proofs.session.follow_by.Goals as goal
 

@@ -1,6 +1,4 @@
-use Rattle.std.proofs.Common.{subst, sym}
-use Rattle.rds_tool.specs.declared.error.ToolError.{ToolError}
-use Rattle.rds.specs.Session.{RefusesTerms}
+use Rattle.rds.proofs.Names.{subst, sym, ToolError, RefusesTerms}
 use Rattle.rds.proofs.Sessions.{terms_refused}
 use Rattle.rds.proofs.session.rules_for.Goals as goal
 

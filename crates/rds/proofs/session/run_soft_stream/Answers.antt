@@ -1,7 +1,4 @@
-use Rattle.std.proofs.Common.{◌∙◌, Err, ap, subst}
-use Rattle.rds_tool.specs.Ends.{given_by, has_ended, is_flushed, read_failures, taken_by, write_failures}
-use Rattle.rds_sync.specs.Rules.{RuleNumbers}
-use Rattle.rds.specs.Session.{HasFollowedSoftly}
+use Rattle.rds.proofs.Names.{◌∙◌, Err, ap, subst, given_by, has_ended, is_flushed, read_failures, taken_by, write_failures, RuleNumbers, HasFollowedSoftly}
 use Rattle.rds.proofs.Sessions.{refused_softly}
 use Rattle.rds.proofs.session.run_soft_stream.Goals as goal
 

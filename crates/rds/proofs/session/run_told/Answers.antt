@@ -1,5 +1,4 @@
-use Rattle.std.proofs.Common.{◌∙◌, Some, ap, sym}
-use Rattle.rds_tool.specs.Ends.{given_by, has_ended, is_flushed, read_failures, taken_by, write_failures}
+use Rattle.rds.proofs.Names.{◌∙◌, Some, ap, sym, given_by, has_ended, is_flushed, read_failures, taken_by, write_failures}
 use Rattle.rds.proofs.Sessions.{job_done}
 use Rattle.rds.proofs.session.run_told.Goals as goal
 

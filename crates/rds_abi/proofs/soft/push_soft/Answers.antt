@@ -1,13 +1,4 @@
-use Rattle.std.proofs.Common.{◌≡◌, ◌+◌, ◌*◌, ◌/◌, ◌^◌, ◌≤◌, ◌++◌, ◌⊎◌, ◌∙◌, ℕ, List, ap, arith, length, map, min, refl, subst, sym, take}
-use Rattle.std.specs.Prelude.{ℤ}
-use Rattle.std.proofs.lemmas.Result.{err_from_is_err_and}
-use Rattle.rds_sync.specs.declared.item.Item.{Item}
-use Rattle.rds_live.specs.StreamDecoder.{complete, most_kept}
-use Rattle.rds_live.specs.Next.{completed, live_next}
-use Rattle.rds_abi.specs.Asked.{IsFilled, IsTooMuch}
-use Rattle.rds_abi.specs.Stream.{place_after, stream_of, terms_of}
-use Rattle.rds_abi.specs.Layout.{item_in_c, soft_item_in_c}
-use Rattle.rds_abi.specs.Soft.{HasHeardSoft, IsPushed, RefusesSoft, bytes_of, read_again}
+use Rattle.rds_abi.proofs.Shared.{◌≡◌, ◌+◌, ◌*◌, ◌/◌, ◌^◌, ◌≤◌, ◌++◌, ◌⊎◌, ◌∙◌, ℕ, List, ap, arith, length, map, min, refl, subst, sym, take, ℤ, err_from_is_err_and, Item, complete, most_kept, completed, live_next, IsFilled, IsTooMuch, place_after, stream_of, terms_of, item_in_c, soft_item_in_c, HasHeardSoft, IsPushed, RefusesSoft, bytes_of, read_again}
 use Rattle.rds_abi.proofs.SoftPush.{IsTaken, all-after, all-completed, all-left, all-refused, piece-bytes, piece-first, piece-long, piece-many, piece-taken, roomy-soft, soft-complete, soft-heard, soft-written, with-margin}
 use Rattle.rds_abi.proofs.SoftSymbols.{byte_count_of}
 use Rattle.rds_abi.proofs.Streams.{refused_push}
