@@ -1,5 +1,5 @@
 -- Any two runs meet on a sound.
-use Rattle.rds_sync.proofs.Names.{common_steps, ◌≡◌, ◌≢◌, ℕ, zero, suc, ◌+◌, ◌-◌, ◌*◌, ◌%◌, ◌/◌, ◌<◌, ◌≤◌, Bool, true, false, Option, Some, None, refl, sym, ap, ap₂, ◌∙◌, arith, add-zero, zero-add, inl, inr, ⊎_elim, cond, suc-add, mul-le-mul_right, eq-eqb, cases_Bool, cases_eq, cases_lt, eqb-true, sum_by-cons, ◌==◌, is_some, count_by, range_with_len, list_any, number_after, Signal, offset_at, Lock, State, Searching, Locked, RuleNumbers, IsLossRule, IsLawfulBad, bad_after, are_too_many, IsLawful, Offset, number, acquired, has_number, has_partner, with_partner, run, step, history_after_block, lock_of, lock_after, IsSound, IsLastFour, sound_blocks, SoundRangesHaveFours, RunsConverge}
+use Rattle.rds_sync.proofs.Names.{common_steps, ◌≡◌, ◌≢◌, ℕ, zero, suc, ◌+◌, ◌-◌, ◌*◌, ◌%◌, ◌/◌, ◌<◌, ◌≤◌, Bool, true, false, Option, Some, None, refl, ap, ap₂, ◌∙◌, arith, add-zero, zero-add, inl, inr, ⊎_elim, cond, suc-add, mul-le-mul_right, cases_Bool, cases_eq, cases_lt, eqb-true, sum_by-cons, ◌==◌, is_some, count_by, number_after, Signal, offset_at, Lock, State, Searching, Locked, RuleNumbers, IsLossRule, IsLawfulBad, bad_after, are_too_many, IsLawful, Offset, number, acquired, has_number, with_partner, run, step, history_after_block, lock_of, lock_after, IsSound, IsLastFour, sound_blocks, SoundRangesHaveFours, RunsConverge}
 use Rattle.rds_sync.proofs.LossLemmas.{lawful_none, lawful_kept}
 use Rattle.rds_sync.proofs.BadRows.{good_keeps, needed, memory, needed_is, memory_is, HasRow, row_zero, row_short, row_grows, IsClean, clean_zero, clean_none, clean_more, clean_is}
 use Rattle.rds_sync.proofs.RivalLemmas.{every_26, few_in_phase}

@@ -1,5 +1,5 @@
 -- A decoder: the items of the next stretch come before those of the rest.
-use Rattle.rds_sync.proofs.Names.{common_steps, ◌≡◌, ◌≢◌, ℕ, ◌+◌, ◌-◌, ◌<◌, List, [], ◌∷◌, ◌++◌, length, get_or, Option, Some, None, refl, sym, ap, ap₂, ◌∙◌, arith, ⊤, MakesProgress, YieldsFirst, item_count, Signal, Item, State, Locked, Step, DecoderOf, GivesNext, Lock, HasGiven, RuleNumbers, run, IsStretch}
+use Rattle.rds_sync.proofs.Names.{common_steps, ◌≡◌, ◌≢◌, ℕ, ◌+◌, ◌-◌, ◌<◌, List, [], ◌∷◌, ◌++◌, length, get_or, Option, Some, None, sym, ap, ◌∙◌, arith, ⊤, MakesProgress, YieldsFirst, item_count, Signal, Item, State, Locked, Step, DecoderOf, GivesNext, Lock, HasGiven, RuleNumbers, run, IsStretch}
 use Rattle.rds_sync.specs.Advance.{items_in}
 use Rattle.rds_sync.proofs.RunLemmas.{run-places}
 
@@ -46,14 +46,14 @@ module _ (b : Signal) (rules : RuleNumbers) (s : State) (place to : ℕ) (step :
 -- a decoder goes on
 pub goes-on : (old : DecoderOf) (given : Option Item) (new : DecoderOf) → GivesNext old given new
     → MakesProgress (λ _. ⊤) (item_count (λ (d : DecoderOf). d.items)) old given new
-goes-on old v1 new gives = grind (arith, common_steps)
+goes-on old given new gives = grind (arith, common_steps)
 
 -- the two places for items of a step
 pub two_slots : (slots : List (Option Item)) (a b : Option Item) → length slots ≡ 2 → slots ≡ get_or slots 0 a ∷ get_or slots 1 b ∷ []
-two_slots v0 a b two = grind (arith, common_steps)
+two_slots slots a b two = grind (arith, common_steps)
 
 pub none_ready : (ready : Option Item) → ((item : Item) → ready ≢ Some item) → ready ≡ None
-none_ready v0 other = grind (arith, common_steps)
+none_ready ready other = grind (arith, common_steps)
 
 -- whole groups that were given come before the rest
 module _ (b read : Signal) (rules : RuleNumbers) (s : State) (place to : ℕ) (lock now : Lock) (before after : List Item) (given : HasGiven b rules lock to before now after)

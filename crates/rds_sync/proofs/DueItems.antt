@@ -9,7 +9,7 @@ module _ (b : Signal) (rules : RuleNumbers) (lock : Lock) (good : Bool) (good_is
     (blocks : List Block) (read : blocks ≡ blocks_at b rules lock.first lock.number lock.due) where
   -- the items that are made of the blocks are those of the step
   pub given-due : (due : Due) → IsAfter rules.loss lock good due → items_of_due lock blocks due ≡ items_at b rules lock.due (Locked lock)
-  given-due v0 after = grind (arith, common_steps, items-inside, common_steps, group-blocks, items-closed, items-lost)
+  given-due due after = grind (arith, common_steps, items-inside, group-blocks, items-closed, items-lost)
 
   -- its group goes on, or an item was given
   pub followed-due : (due : Due) → IsAfter rules.loss lock good due → IsFollowed b rules lock blocks due

@@ -1,6 +1,5 @@
 -- The block that is due: its effect on its lock, and its items.
 use Rattle.rds_sync.proofs.Names.{common_steps, ◌≡◌, ℕ, ◌+◌, ◌<◌, [], ◌∷◌, Bool, true, false, refl, sym, ap, ◌∙◌, arith, eq-eqb, ne_eqb, Signal, Due, Inside, Closed, Lock, Group, LostLock, Searching, Locked, has_number, state_of, IsKept, IsAfter, group, bad_after, are_too_many, RuleNumbers, step, items_at, completed_group, lock_of, lock_after}
-use Rattle.rds_sync.specs.declared.due.Due.TheVariants.{Lost}
 use Rattle.rds_sync.proofs.RunLemmas.{step-keeping, items-keeping, step-losing, items-losing}
 
 pub completed_group-inside : (b : Signal) (rules : RuleNumbers) (first number due : ℕ) → number < 4 → completed_group b rules first number due ≡ []
@@ -34,7 +33,7 @@ module _ (b : Signal) (rules : RuleNumbers) (lock : Lock) (good : Bool) (good_is
 
   -- whatever it did, the state is that of the step
   pub step-due : (due : Due) → IsAfter rules.loss lock good due → step b rules lock.due (Locked lock) ≡ state_of due
-  step-due v0 after = grind (arith, common_steps, step-kept, step-lost)
+  step-due due after = grind (arith, common_steps, step-kept, step-lost)
 
   -- and its items are those of the step
   pub items-inside : (next : Lock) → IsAfter rules.loss lock good (Inside next) → items_at b rules lock.due (Locked lock) ≡ []

@@ -1,5 +1,5 @@
 -- Parts that are filled with the items that come next.
-use Rattle.rds_sync.proofs.Names.{common_steps, ◌≡◌, ℕ, ◌-◌, ◌+◌, ◌≤◌, List, [], ◌∷◌, ◌++◌, length, take, append_assoc, sym, ap, ◌∙◌, arith, take-append-add, Signal, Item, Span, items_in, items_of, RuleNumbers}
+use Rattle.rds_sync.proofs.Names.{common_steps, ◌≡◌, ℕ, ◌-◌, ◌≤◌, List, [], ◌∷◌, ◌++◌, length, take, append_assoc, sym, ap, ◌∙◌, arith, take-append-add, Signal, Item, Span, items_in, items_of, RuleNumbers}
 
 -- with more after both
 pub with_more : (a b c d more : List Item) → a ++ b ≡ c ++ d → a ++ (b ++ more) ≡ c ++ (d ++ more)

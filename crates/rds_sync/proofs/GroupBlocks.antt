@@ -1,5 +1,5 @@
 -- The blocks of a group: read one by one, counted, and read on by one.
-use Rattle.rds_sync.proofs.Names.{common_steps, ◌≡◌, ◌≢◌, ℕ, zero, suc, ◌+◌, ◌-◌, ◌*◌, ◌<◌, ◌≤◌, ◌⊎◌, Option, List, [], ◌∷◌, refl, sym, ap, ap₂, ◌∙◌, arith, set, inl, inr, cond, leb, ltb, and-false, le-leb, lt-leb, le-ltb, lt-ltb, cases_lt, ◌&&◌, Wanted, Either, Signal, heard, reading_heard, reading_at, Block, Missing, Read, block_at, blocks_at, group, group_of, wanted_beside, RuleNumbers}
+use Rattle.rds_sync.proofs.Names.{common_steps, ◌≡◌, ◌≢◌, ℕ, zero, suc, ◌+◌, ◌-◌, ◌*◌, ◌<◌, ◌≤◌, ◌⊎◌, Option, List, [], ◌∷◌, refl, ap, arith, set, cond, leb, ltb, and-false, le-leb, lt-leb, le-ltb, lt-ltb, cases_lt, ◌&&◌, Wanted, Either, Signal, heard, reading_heard, reading_at, Block, Missing, Read, block_at, blocks_at, group, group_of, wanted_beside, RuleNumbers}
 
 module _ (b : Signal) (rules : RuleNumbers) (f x p : ℕ) where
   -- a block that was read is the window heard at its place, read
@@ -14,7 +14,7 @@ module _ (b : Signal) (rules : RuleNumbers) (f x p : ℕ) where
 
   -- a block before the first or after the last is missing
   pub block_at-missing : (wanted : Wanted) (y : ℕ) → (y < f) ⊎ (x < y) → block_at b rules f x p wanted y ≡ Missing
-  block_at-missing wanted y v2 = grind (arith, common_steps, lt-leb, and-false, leb)
+  block_at-missing wanted y h = grind (arith, common_steps, lt-leb, and-false, leb)
 
 -- whether block y of the blocks f to x is not the last, as a count
 abbrev pub is_earlier : ℕ → ℕ → ℕ → ℕ
@@ -51,7 +51,7 @@ block_at-earlier b rules f x p wanted y before = grind (arith, common_steps, le-
 
 -- the last block is the window heard at the last place, read
 block_at-last : (b : Signal) (rules : RuleNumbers) (f x p : ℕ) (wanted : Wanted) → f ≤ x → Read (reading_at b p x wanted rules.burst) ≡ block_at b rules f x p wanted x
-block_at-last b rules f x p wanted from = grind (arith, common_steps, block_at-heard b rules f x p wanted x (heard b p) from (omega arith) (ap (λ (i : ℕ) . heard b i) (omega arith)))
+block_at-last b rules f x p wanted from = grind (arith, common_steps, block_at-heard b rules f x p wanted x (heard b p) from (omega arith) (ap (λ (i : ℕ). heard b i) (omega arith)))
 
 -- with the next block read, the blocks are those of the group one block longer
 pub blocks_at-next : (b : Signal) (rules : RuleNumbers) (f x p : ℕ) (wanted : Wanted) (block : Block) → 1 ≤ f → f ≤ x → x ≤ 4

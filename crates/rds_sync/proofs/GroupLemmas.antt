@@ -1,6 +1,5 @@
 -- The facts of a group, read off its blocks.
-use Rattle.rds_sync.proofs.Names.{common_steps, ◌≡◌, ◌≢◌, ℕ, zero, suc, ◌+◌, ◌-◌, ◌*◌, ◌<◌, ◌≤◌, ◌⊎◌, List, [], ◌∷◌, Bool, true, false, Option, Some, None, refl, sym, ap, ◌∙◌, arith, inl, inr, cases_Bool, cases_lt, eqb-true, ◌==◌, ◌&&◌, is_some, slice_get, Offset, OA, OB, C, Cx, D, Wanted, OnlyC, OnlyCx, Either, Reading, Valid, Corrected, Lost, number, offset_of, reading, by_only, corrections, wanted_offsets, information, rem, Signal, heard, reading_heard, reading_at, Version, Unknown, Block, Missing, Read, RuleNumbers, info_of, version_of_bit, version_of_offset, version_by_bit, first_known, version, differ, in_conflict, are_complete, wanted_beside, block_at, blocks_at, group_of, group}
-use Rattle.rds_code.specs.Reading.{corrected}
+use Rattle.rds_sync.proofs.Names.{common_steps, ◌≡◌, ◌≢◌, ℕ, zero, suc, ◌+◌, ◌-◌, ◌*◌, ◌<◌, ◌≤◌, ◌⊎◌, List, [], ◌∷◌, Bool, true, false, Option, Some, None, refl, ap, ◌∙◌, arith, cases_lt, ◌&&◌, is_some, slice_get, Offset, C, Cx, Wanted, Either, Valid, Corrected, number, Signal, heard, reading_heard, reading_at, Version, Unknown, Block, Missing, Read, RuleNumbers, info_of, version_of_bit, version_of_offset, version_by_bit, first_known, version, differ, in_conflict, are_complete, wanted_beside, block_at, blocks_at, group_of, group}
 use Rattle.rds_sync.specs.declared.item.Version.TheVariants.{A, B}
 use Rattle.rds_sync.specs.declared.item.Group.{Group}
 use Rattle.rds_sync.proofs.GroupBlocks.{block_at-read, block_at-missing}
@@ -11,10 +10,10 @@ abbrev AreAlike : Option ℕ → ℕ → Wanted → ℕ → Type 0
 AreAlike h limit wanted x = reading_heard h x Either limit ≡ reading_heard h x wanted limit
 
 reading-wanted : (h : Option ℕ) (limit : ℕ) (wanted : Wanted) → AreAlike h limit wanted 1 × AreAlike h limit wanted 2 × AreAlike h limit wanted 4
-reading-wanted v0 limit v2 = grind (arith, common_steps)
+reading-wanted h limit wanted = grind (arith, common_steps)
 
 number_3 : (o : Offset) → number o ≡ 3 → (o ≡ C) ⊎ (o ≡ Cx)
-number_3 v0 e = grind (arith, common_steps)
+number_3 o e = grind (arith, common_steps)
 
 -- versions
 
@@ -25,14 +24,14 @@ bit_known : (word : ℕ) → (version_of_bit word ≡ A) ⊎ (version_of_bit wor
 bit_known word = grind arith
 
 keeps_known : (v w : Version) → (v ≡ A) ⊎ (v ≡ B) → first_known v w ≡ v
-keeps_known v w v2 = grind (arith, common_steps, first_known)
+keeps_known v w h = grind (arith, common_steps, first_known)
 
 by_bit : (second third : Block) → ((o : Offset) (info : ℕ) → third ≢ Read (Valid o info)) → (word : ℕ) → info_of second ≡ Some word
     → version second third ≡ version_of_bit word
-by_bit second v1 not_valid word e = grind (arith, common_steps, first_known, version_of_offset, keeps_known, version_of_bit, bit_known)
+by_bit second third not_valid word e = grind (arith, common_steps, first_known, version_of_offset, keeps_known, version_of_bit, bit_known)
 
 by_nothing : (second third : Block) → info_of second ≡ None → info_of third ≡ None → version second third ≡ Unknown
-by_nothing second v1 e t = grind (arith, common_steps, bit_unknown)
+by_nothing second third e t = grind (arith, common_steps, bit_unknown)
 
 by_correction : (second third : Block) (o : Offset) (info burst : ℕ) → info_of second ≡ None → third ≡ Read (Corrected o info burst)
     → version second third ≡ version_of_offset o
@@ -52,13 +51,13 @@ version_is_read second third only = record {
 -- conflicts
 
 differ_unknown : (v : Version) → differ Unknown v ≡ false
-differ_unknown v0 = grind (arith, common_steps)
+differ_unknown v = grind (arith, common_steps)
 
 differ_same : (v w : Version) → differ v w ≡ true → w ≢ v
-differ_same v0 v1 t e = grind (arith, common_steps)
+differ_same v w t e = grind (arith, common_steps)
 
 conflict_says : (second third : Block) → in_conflict second third ≡ true → VersionsDiffer second third
-conflict_says second v1 t = grind (arith, common_steps, info_of, differ, version_of_offset, bit_unknown, differ_unknown, differ_same, version_of_bit)
+conflict_says second third t = grind (arith, common_steps, info_of, differ, version_of_offset, bit_unknown, differ_unknown, differ_same, version_of_bit)
 
 says_conflict : (second third : Block) → ((o : Offset) (info : ℕ) → third ≡ Read (Valid o info) → number o ≡ 3) → VersionsDiffer second third → in_conflict second third ≡ true
 says_conflict second third only h = grind (arith, common_steps, number_3 h.0 (only h.0 h.1 h.3))
@@ -66,13 +65,13 @@ says_conflict second third only h = grind (arith, common_steps, number_3 h.0 (on
 -- complete groups
 
 and_left : (p q : Bool) → (p && q) ≡ true → p ≡ true
-and_left v0 q e = grind (arith, common_steps)
+and_left p q e = grind (arith, common_steps)
 
 and_right : (p q : Bool) → (p && q) ≡ true → q ≡ true
-and_right v0 q e = grind (arith, common_steps)
+and_right p q e = grind (arith, common_steps)
 
 some_of : (o : Option ℕ) → is_some o ≡ true → (word : ℕ) × (o ≡ Some word)
-some_of v0 e = grind (arith, common_steps)
+some_of o e = grind (arith, common_steps)
 
 module _ (one two three four : Block) where
   abbrev blocks : List Block

@@ -1,9 +1,8 @@
 -- How the blocks of a group came out says which of them were valid.
-use Rattle.rds_sync.proofs.Names.{common_steps, [], ◌∷◌, true, missing, valid, lost, corrected, ◌≡◌, ℕ, zero, suc, ◌-◌, ◌*◌, ◌≤◌, List, Bool, refl, sym, ap, ap₂, ◌∙◌, arith, le-leb, ◌&&◌, if◌then◌else◌, Wanted, Either, Signal, heard, reading_at, Missing, Read, has_number, RuleNumbers, HaveRoom, block_at, wanted_beside, group, Outcome, outcome_of, was_valid, good_at}
+use Rattle.rds_sync.proofs.Names.{common_steps, [], ◌∷◌, true, missing, valid, ◌≡◌, ℕ, zero, suc, ◌-◌, ◌*◌, ◌≤◌, List, refl, arith, Wanted, Either, Signal, heard, reading_at, has_number, RuleNumbers, HaveRoom, block_at, wanted_beside, group, Outcome, outcome_of, was_valid, good_at}
 use Rattle.std.specs.Prelude.{map}
 use Rattle.rds_sync.specs.declared.item.Group.{Group}
 use Rattle.rds_sync.proofs.HeardLemmas.{good-reading}
-use Rattle.rds_sync.proofs.OutcomeTotals.{valid_is}
 
 -- how the blocks came out
 abbrev pub outcomes : Group → List Outcome
@@ -24,7 +23,7 @@ module _ (b : Signal) (rules : RuleNumbers) (f x p : ℕ) where
   good-at (suc (suc (suc (suc (suc y))))) one low high four room = absurd (omega arith)
 
 pub valid-only : (o : Outcome) → was_valid o ≡ true → o ≡ valid
-valid-only v0 h = grind (arith, common_steps)
+valid-only o h = grind (arith, common_steps)
 
 -- only a valid block 4
 pub last-alone : (b : Signal) (rules : RuleNumbers) (p : ℕ) → 25 ≤ p → has_number b p 4 ≡ true → outcomes (group b rules 4 4 p) ≡ missing ∷ missing ∷ missing ∷ valid ∷ []

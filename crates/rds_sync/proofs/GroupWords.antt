@@ -1,5 +1,5 @@
 -- The words of the groups that are read.
-use Rattle.rds_sync.proofs.Names.{common_steps, ◌≡◌, ℕ, ◌+◌, ◌*◌, ◌≤◌, List, [], ◌∷◌, refl, sym, ap, subst, map, ◌∙◌, arith, Signal, Block, GroupRecord, blocks_at, group, Outcome, outcome_of, AreShort, IsShort, blocks_in, nibble, word_of_blocks, RuleNumbers}
+use Rattle.rds_sync.proofs.Names.{common_steps, ◌≡◌, ℕ, ◌+◌, ◌*◌, ◌≤◌, List, [], ◌∷◌, refl, sym, ap, map, ◌∙◌, arith, Signal, Block, GroupRecord, blocks_at, group, Outcome, outcome_of, IsShort, blocks_in, nibble, word_of_blocks, RuleNumbers}
 use Rattle.rds_sync.proofs.GroupBlocks.{group-blocks}
 use Rattle.rds_sync.proofs.GroupOutcomes.{outcomes}
 use Rattle.rds_sync.proofs.ShortOutcomes.{BurstLaws, all_four, group-short}

@@ -1,5 +1,5 @@
 -- The blocks of a group of which all four were heard, and its word.
-use Rattle.rds_sync.proofs.Names.{common_steps, ◌≡◌, ◌+◌, ◌-◌, ◌*◌, ◌≤◌, ℕ, List, [], ◌∷◌, Option, None, get_or, map, refl, ap, ◌∙◌, arith, outcome_number, Wanted, Either, Reading, Valid, Corrected, Lost, Signal, reading_heard, reading_at, Read, block_at, blocks_at, wanted_beside, outcome_of, nibble, word_of_blocks, RuleNumbers}
+use Rattle.rds_sync.proofs.Names.{common_steps, ◌≡◌, ◌+◌, ◌-◌, ◌*◌, ◌≤◌, ℕ, List, [], ◌∷◌, Option, None, get_or, map, ap, ◌∙◌, arith, outcome_number, Wanted, Either, Reading, Signal, reading_heard, reading_at, Read, block_at, blocks_at, wanted_beside, outcome_of, nibble, word_of_blocks, RuleNumbers}
 use Rattle.rds_stream.specs.InARow.{four_heard}
 use Rattle.rds_sync.proofs.GroupBlocks.{block_at-read, blocks_at-read}
 
@@ -28,7 +28,7 @@ heard-blocks b rules due hs is wanted one two three four is_one is_two beside is
 
 -- the outcome of a reading is the four bits of its block
 pub outcome-nibble : (r : Reading) → outcome_number r ≡ nibble (outcome_of (Read r))
-outcome-nibble v0 = grind (arith, common_steps)
+outcome-nibble r = grind (arith, common_steps)
 
 -- four outcomes are a word
 pub word-of-outcomes : (one two three four : Reading) (k l m n w : ℕ) → k ≡ outcome_number one → l ≡ outcome_number two → m ≡ outcome_number three → n ≡ outcome_number four

@@ -1,11 +1,11 @@
 -- Whole groups that were heard at once.
-use Rattle.rds_sync.proofs.Names.{common_steps, ◌≡◌, ◌+◌, ◌-◌, ◌<◌, ◌≤◌, ℕ, zero, suc, List, [], ◌∷◌, ◌++◌, Bool, false, map, refl, sym, ap, ap₂, subst, ◌∙◌, arith, Signal, Block, Item, GroupItem, Loss, blocks_at, group, group_of, Outcome, was_valid, outcome_of, bad_over, HasPushed, IsWhole, outcomes_at, IsLawfulBad, are_too_many, bad_after, RuleNumbers, is_valid}
+use Rattle.rds_sync.proofs.Names.{common_steps, ◌≡◌, ◌+◌, ◌-◌, ◌<◌, ◌≤◌, ℕ, List, [], ◌∷◌, ◌++◌, Bool, false, map, refl, sym, ap, subst, ◌∙◌, arith, Signal, Block, Item, GroupItem, Loss, blocks_at, group, group_of, Outcome, was_valid, outcome_of, bad_over, HasPushed, IsWhole, outcomes_at, IsLawfulBad, are_too_many, bad_after, RuleNumbers, is_valid}
 use Rattle.rds_sync.specs.declared.item.Group.{Group}
 use Rattle.rds_sync.proofs.OutcomeTotals.{valid_is}
 
 -- a property of 0, 1, 2 and 3 is one of each number below 4
 pub each-of-four : (P : ℕ → Type 0) → P 0 → P 1 → P 2 → P 3 → (k : ℕ) → k < 4 → P k
-each-of-four v0 one two three four v5 h = grind (arith, common_steps)
+each-of-four P one two three four k h = grind (arith, common_steps)
 
 -- a group of these blocks, with the loss history by how they came out
 pub whole-is : (b : Signal) (rules : RuleNumbers) (due : ℕ) (loss : Loss) (place : ℕ) (bs : List Block) (os : List Outcome) (before after : ℕ) (given : Group)

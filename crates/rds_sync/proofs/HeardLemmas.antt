@@ -1,6 +1,5 @@
 -- The windows heard in a recording determine offsets, acquiring, and the reading of a block.
-use Rattle.rds_sync.proofs.Names.{common_steps, ◌≡◌, ℕ, ◌+◌, ◌-◌, ◌*◌, ◌<◌, ◌≤◌, List, [], ◌∷◌, Bool, true, false, Option, Some, None, refl, sym, ap, ◌∙◌, arith, eqb, le-ltb, lt-ltb, list_any, range_with_len, Offset, Wanted, Reading, Valid, number, offset_of, reading, read_from, information, corrections, wanted_offsets, by_only, rem, Signal, heard, offset_heard, reading_heard, offset_at, Read, acquired, has_number, has_partner, is_in_step, is_numbered, RuleNumbers, is_valid}
-use Rattle.rds_code.specs.Reading.{corrected}
+use Rattle.rds_sync.proofs.Names.{common_steps, ◌≡◌, ℕ, ◌+◌, ◌-◌, ◌*◌, ◌<◌, ◌≤◌, Bool, true, false, Option, Some, None, refl, ap, arith, eqb, le-ltb, lt-ltb, list_any, range_with_len, Offset, Wanted, Reading, number, Signal, heard, offset_heard, reading_heard, offset_at, Read, acquired, has_number, has_partner, is_in_step, is_numbered, RuleNumbers, is_valid}
 use Rattle.rds_sync.proofs.LawfulLemmas.{acquired-none, acquired-some}
 
 -- no window ends before place 25

@@ -1,7 +1,6 @@
 -- How many items a run gives, and that they are the report's.
-use Rattle.rds_sync.proofs.Names.{common_steps, ◌≡◌, ◌≢◌, ℕ, zero, suc, ◌+◌, ◌-◌, ◌*◌, ◌≤◌, List, [], ◌∷◌, ◌++◌, length, Option, Some, None, ap, ap₂, ◌∙◌, refl, arith, length-append, inl, inr, eq-eqb, ne_eqb, cases_Bool, cases_eq, Signal, length_of, acquired, IsLossRule, are_too_many, report_items, history_after_block, step, run, items_at, items_of_end, completed_group, Item, State, Searching, Locked, RuleNumbers}
+use Rattle.rds_sync.proofs.Names.{common_steps, ◌≡◌, ◌≢◌, ℕ, zero, suc, ◌+◌, ◌-◌, ◌*◌, ◌≤◌, List, [], ◌∷◌, ◌++◌, length, arith, length-append, Signal, length_of, IsLossRule, report_items, step, run, items_at, items_of_end, Item, State, Searching, RuleNumbers}
 use Rattle.rds_sync.proofs.RunIsReport.{run_is_report}
-use Rattle.rds_sync.proofs.RunLemmas.{items-keeping, items-losing, items-searching, items-acquiring, items-waiting}
 
 -- so a run gives at most two a bit
 pub run_items-few : (b : Signal) (rules : RuleNumbers) (s : State) (a n : ℕ) → length (run b rules s a n).1 ≤ 2 * n

@@ -1,5 +1,5 @@
 -- Counts in lanes of a number.
-use Rattle.rds_sync.proofs.Names.{common_steps, ◌≡◌, ℕ, ◌+◌, ◌*◌, ◌/◌, ◌%◌, ◌^◌, ◌≤◌, ◌<◌, Bool, true, false, [], ◌∷◌, arith, if◌then◌else◌, list_all, in_lanes, AreLanes, counted, joined, group_count, Outcome, was_valid, was_lost, has_span, bits_inverted, has_info}
+use Rattle.rds_sync.proofs.Names.{common_steps, ◌≡◌, ℕ, ◌+◌, ◌*◌, ◌/◌, ◌%◌, ◌^◌, ◌≤◌, ◌<◌, Bool, [], ◌∷◌, arith, if◌then◌else◌, list_all, in_lanes, AreLanes, counted, joined, group_count, Outcome, was_valid, was_lost, has_span, bits_inverted, has_info}
 use Rattle.rds_sync.proofs.TotalsLemmas.{same_counts}
 
 -- the lanes of a number
@@ -27,7 +27,7 @@ module _ (n groups d : ℕ) (o p q r : Outcome) (are : AreLanes n (20 * groups))
   count t = (if t o then 1 else 0) + (if t p then 1 else 0) + (if t q then 1 else 0) + (if t r then 1 else 0)
 
   one-most : (t : Bool) → (if t then 1 else 0) ≤ 1
-  one-most v0 = grind (arith, common_steps)
+  one-most t = grind (arith, common_steps)
 
   count-most : (t : Outcome → Bool) → count t ≤ 4
   count-most t = omega (arith, one-most (t o), one-most (t p), one-most (t q), one-most (t r))

@@ -1,7 +1,6 @@
 -- Where a place acquires, and the states that follow on a lawful one.
-use Rattle.rds_sync.proofs.Names.{common_steps, ◌≡◌, ℕ, zero, suc, ◌+◌, ◌-◌, ◌*◌, ◌<◌, ◌≤◌, Bool, true, false, Option, Some, None, refl, sym, ap, subst, ◌∙◌, arith, inl, inr, ⊎_elim, ne_eqb, eq-eqb, cases_eq, cases_lt, cases_Bool, eqb-true, lt-ltb, ◌==◌, list_any, range_with_len, Offset, A, B, C, Cx, D, number_after, number, Signal, offset_at, Lock, State, Searching, Locked, RuleNumbers, IsLossRule, IsLawfulBad, are_too_many, acquired, has_number, has_partner, is_numbered, with_partner, IsLawful, IsLawfulLock, run, step, history_after_block, lock_of, lock_after}
-use Rattle.rds_sync.proofs.LossLemmas.{lawful_none, lawful_kept}
-use Rattle.rds_sync.proofs.RunLemmas.{step-acquiring, step-searching, step-waiting, step-keeping, step-losing}
+use Rattle.rds_sync.proofs.Names.{common_steps, ◌≡◌, ℕ, zero, suc, ◌+◌, ◌-◌, ◌*◌, ◌<◌, ◌≤◌, Bool, true, false, Option, Some, None, refl, ap, subst, ◌∙◌, arith, inl, inr, ne_eqb, eq-eqb, cases_eq, cases_lt, cases_Bool, lt-ltb, list_any, range_with_len, Offset, number, Signal, offset_at, Lock, State, Locked, RuleNumbers, IsLossRule, IsLawfulBad, acquired, has_number, has_partner, is_numbered, with_partner, IsLawful, IsLawfulLock, run, step, lock_of, lock_after}
+use Rattle.rds_sync.proofs.LossLemmas.{lawful_none}
 
 module _ (b : Signal) where
   -- no window ends before place 25
@@ -31,7 +30,7 @@ module _ (b : Signal) (rules : RuleNumbers) where
     pub partner : has_partner b i x distance ≡ true
 
   if_partner : (t : Bool) (y x : ℕ) → elim t as (λ _. Option ℕ) [ true ↦ Some y | false ↦ None ] ≡ Some x → (t ≡ true) × (y ≡ x)
-  if_partner v0 y x e = grind (arith, common_steps)
+  if_partner t y x e = grind (arith, common_steps)
 
   pub acquired-facts : (i x : ℕ) → acquired b rules i ≡ Some x → IsAcquired i x
   unfolding acquired
@@ -85,7 +84,7 @@ lawful-numbers rules place lock lawful = grind (arith, common_steps, lawful.in_o
 module _ (b : Signal) (rules : RuleNumbers) where
   -- one bit leads from a lawful state to a lawful state
   pub lawful-step : IsLossRule rules.loss → (i : ℕ) (s : State) → IsLawful rules i s → IsLawful rules (i + 1) (step b rules i s)
-  lawful-step loss i v2 lawful = grind (arith, common_steps, acquired-range, acquired-place, lawful_none)
+  lawful-step loss i s lawful = grind (arith, common_steps, acquired-range, acquired-place, lawful_none)
 
   -- a run leads from a lawful state to a lawful state
   pub lawful-run : IsLossRule rules.loss → (s : State) (a n : ℕ) → IsLawful rules a s → IsLawful rules (a + n) (run b rules s a n).0

@@ -1,5 +1,5 @@
 -- A lock from block to block: its state once block k was read, and the items of the run up to the next.
-use Rattle.rds_sync.proofs.Names.{common_steps, ◌≡◌, ℕ, suc, ◌+◌, ◌*◌, ◌%◌, ◌≤◌, List, [], ◌∷◌, ◌++◌, Bool, true, false, refl, sym, ◌∙◌, arith, cond, ne_eqb, cases_eq, cases_lt, le-leb, lt-leb, eq-eqb, ◌==◌, number_after, Signal, Lock, State, Searching, Locked, Item, Group, LostLock, RuleNumbers, group, are_too_many, bad_at, is_good, loses_at, first_of_group, items_of_end, completed_group, lock_of, lock_after}
+use Rattle.rds_sync.proofs.Names.{common_steps, ◌≡◌, ℕ, suc, ◌+◌, ◌*◌, ◌≤◌, List, [], ◌∷◌, ◌++◌, true, false, refl, sym, ◌∙◌, arith, cond, ne_eqb, cases_eq, cases_lt, le-leb, lt-leb, eq-eqb, ◌==◌, number_after, Signal, Lock, State, Searching, Locked, Item, Group, LostLock, RuleNumbers, group, are_too_many, bad_at, is_good, loses_at, first_of_group, items_of_end, completed_group, lock_of, lock_after}
 use Rattle.rds_sync.proofs.LossLemmas.{loses_is}
 use Rattle.rds_sync.proofs.RunLemmas.{items-keeping, step-keeping, items-losing, step-losing}
 use Rattle.rds_sync.proofs.WholeRuns.{whole, goes, skip, skip_to_end}

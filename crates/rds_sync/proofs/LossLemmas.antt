@@ -1,5 +1,5 @@
 -- A lock's loss history says when it is lost.
-use Rattle.rds_sync.proofs.Names.{common_steps, ◌≡◌, ℕ, zero, suc, ◌+◌, ◌-◌, ◌*◌, ◌%◌, ◌/◌, ◌^◌, ◌<◌, ◌≤◌, min, List, [], ◌∷◌, ◌++◌, Bool, true, false, refl, sym, ap, ap₂, ◌∙◌, arith, inl, inr, cond, ◌⊎◌, div-add-mod, mod-lt, mod-eq_of_lt, pow-suc, mod-mul-add, and-false, pow_pos, cases_Bool, cases_eq, cases_lt, le-leb, lt-leb, le-ltb, lt-ltb, sum_by_push, ones, ones_step, bit_at-zero, bit_at_lowest, bit_at-suc, bit_at, nat_le, nat_lt, not, count_by, count_ones, list_all, range_with_len, Loss, Run, Share, MasksTellBlocks, IsLossRule, IsLawfulBad, bad_at, bad_after, are_too_many, last_blocks, loses}
+use Rattle.rds_sync.proofs.Names.{common_steps, ◌≡◌, ℕ, zero, suc, ◌+◌, ◌-◌, ◌*◌, ◌%◌, ◌^◌, ◌<◌, ◌≤◌, min, List, [], ◌∷◌, ◌++◌, Bool, true, false, refl, sym, ap, ◌∙◌, arith, inl, inr, cond, div-add-mod, mod-lt, mod-eq_of_lt, pow-suc, mod-mul-add, and-false, pow_pos, cases_Bool, cases_eq, cases_lt, le-leb, lt-leb, le-ltb, lt-ltb, sum_by_push, ones, ones_step, bit_at-zero, bit_at_lowest, bit_at-suc, bit_at, nat_le, nat_lt, not, count_by, count_ones, list_all, range_with_len, Loss, Run, Share, MasksTellBlocks, IsLossRule, IsLawfulBad, bad_at, bad_after, are_too_many, last_blocks, loses}
 
 all_pass : (p : ℕ → Bool) (c d : ℕ) → ((j : ℕ) → c ≤ j → j < c + d → p j ≡ true) → list_all p (range_with_len c d) ≡ true
 all_pass p c zero h = refl
@@ -118,11 +118,11 @@ module _ (is_good : ℕ → Bool) where
 
   -- a lock is lost by its loss history exactly when its blocks lose it
   pub loses_is : (loss : Loss) (k : ℕ) → are_too_many loss (bad_at is_good loss k) ≡ loses loss is_good k
-  loses_is v0 k = grind (arith, common_steps, are_too_many, row_is, row, nat_le, loses, lt-leb, row_keeps, le-leb, mask_is, ones_are, bads_are, row_le, all_pass, row_back)
+  loses_is loss k = grind (arith, common_steps, are_too_many, row_is, row, nat_le, loses, lt-leb, row_keeps, le-leb, mask_is, ones_are, bads_are, row_le, all_pass, row_back)
 
   none_lost : (loss : Loss) → IsLossRule loss → are_too_many loss 0 ≡ false
   unfolding ones
-  none_lost v0 h = grind (arith, common_steps, lt-leb)
+  none_lost loss h = grind (arith, common_steps, lt-leb)
 
   pub never_0 : (loss : Loss) → IsLossRule loss → loses loss is_good 0 ≡ false
   never_0 loss h = sym (loses_is loss 0) ∙ none_lost loss h
@@ -169,11 +169,11 @@ ones_zero = refl
 
 -- a good block leaves none
 pub none-kept : (loss : Loss) → bad_after loss true 0 ≡ 0
-none-kept v0 = grind (arith, common_steps, pow_pos, mod-eq_of_lt)
+none-kept loss = grind (arith, common_steps, pow_pos, mod-eq_of_lt)
 
 -- lawful: none, and the loss history of a lock that is not lost
 pub lawful_none : (loss : Loss) → IsLossRule loss → IsLawfulBad loss 0
-lawful_none v0 h = grind (arith, common_steps, pow_pos, ones_zero)
+lawful_none loss h = grind (arith, common_steps, pow_pos, ones_zero)
 
 pub lawful_kept : (loss : Loss) (bad : ℕ) (good : Bool) → IsLawfulBad loss bad → are_too_many loss (bad_after loss good bad) ≡ false → IsLawfulBad loss (bad_after loss good bad)
-lawful_kept v0 v1 good h e = grind (arith, common_steps, mod-lt, pow_pos)
+lawful_kept loss bad good h e = grind (arith, common_steps, mod-lt, pow_pos)

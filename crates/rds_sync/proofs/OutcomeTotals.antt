@@ -1,5 +1,5 @@
 -- The totals of a group, from how its blocks came out.
-use Rattle.rds_sync.proofs.Names.{common_steps, arith, ◌≡◌, ℕ, ◌+◌, List, [], ◌∷◌, Bool, refl, sym, ap, ap₂, ◌∙◌, add-zero, sum_by, if◌then◌else◌, is_some, ◌&&◌, list_all, sum_by-cons, Valid, Corrected, Lost, Block, Missing, Read, GroupRecord, Item, Group, info_of, Outcome, outcome_of, was_valid, was_lost, has_span, bits_inverted, has_info, group_totals, totals_of, sum_blocks, count_blocks, is_valid, is_lost, is_corrected_by, bits_corrected, is_complete}
+use Rattle.rds_sync.proofs.Names.{common_steps, arith, ◌≡◌, ℕ, List, [], ◌∷◌, Bool, refl, ap, ap₂, ◌∙◌, add-zero, sum_by, if◌then◌else◌, is_some, ◌&&◌, list_all, sum_by-cons, Block, GroupRecord, Item, Group, info_of, Outcome, outcome_of, was_valid, was_lost, has_span, bits_inverted, has_info, group_totals, totals_of, sum_blocks, count_blocks, is_valid, is_lost, is_corrected_by, bits_corrected, is_complete}
 use Rattle.std.specs.Prelude.{map}
 use Rattle.rds_sync.proofs.TotalsLemmas.{same_counts}
 
@@ -19,19 +19,19 @@ count_is : (p : Block → Bool) (q : Outcome → Bool) → ((b : Block) → p b 
 count_is p q e = sum_is (λ b. one_if (p b)) (λ o. one_if (q o)) (λ b. ap one_if (e b))
 
 pub valid_is : (b : Block) → is_valid b ≡ was_valid (outcome_of b)
-valid_is v0 = grind (arith, common_steps)
+valid_is b = grind (arith, common_steps)
 
 lost_is : (b : Block) → is_lost b ≡ was_lost (outcome_of b)
-lost_is v0 = grind (arith, common_steps)
+lost_is b = grind (arith, common_steps)
 
 corrected_is : (s : ℕ) (b : Block) → is_corrected_by s b ≡ has_span s (outcome_of b)
-corrected_is s v1 = grind (arith, common_steps)
+corrected_is s b = grind (arith, common_steps)
 
 bits_are : (b : Block) → bits_corrected b ≡ bits_inverted (outcome_of b)
-bits_are v0 = grind (arith, common_steps)
+bits_are b = grind (arith, common_steps)
 
 info_is : (b : Block) → is_some (info_of b) ≡ has_info (outcome_of b)
-info_is v0 = grind (arith, common_steps)
+info_is b = grind (arith, common_steps)
 
 pub group-tells : (g : GroupRecord) → totals_of (Group g ∷ []) ≡ group_totals (map outcome_of g.blocks)
 group-tells g =

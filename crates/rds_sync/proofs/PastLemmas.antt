@@ -1,10 +1,10 @@
 -- Spans of which some items are passed over.
-use Rattle.rds_sync.proofs.Names.{common_steps, ◌≡◌, ℕ, ◌+◌, ◌-◌, ◌<◌, List, [], ◌∷◌, ◌++◌, All, length, drop, Option, None, Some, sym, ap, subst, ◌∙◌, arith, append_assoc, YieldsFirst, length-drop, drop-append-le, All-cons, All-head, All-tail, Signal, Item, Span, items_of, items_in, IsSpan, AreSpans, IsAt, IsPast, AreBehind, IsInFirst, RuleNumbers}
+use Rattle.rds_sync.proofs.Names.{common_steps, ◌≡◌, ℕ, ◌+◌, ◌-◌, ◌<◌, List, [], ◌∷◌, ◌++◌, All, length, drop, Option, sym, ap, subst, ◌∙◌, arith, append_assoc, YieldsFirst, length-drop, drop-append-le, All-cons, All-head, All-tail, Signal, Item, Span, items_of, items_in, IsSpan, AreSpans, IsAt, IsPast, AreBehind, IsInFirst, RuleNumbers}
 use Rattle.rds_sync.proofs.SpanLemmas.{items_in-append, spans-behind}
 
 -- where an item is asked for, all but the first are left
 pub one_given : (items left : List Item) (given : Option Item) → YieldsFirst (λ (is : List Item). is) items given left → left ≡ drop 1 items
-one_given items left v2 gives = grind (arith, common_steps, drop)
+one_given items left given gives = grind (arith, common_steps, drop)
 
 module _ (b : Signal) (rules : RuleNumbers) where
   -- the spans after others, the first of which is a part of one
@@ -36,4 +36,4 @@ module _ (b : Signal) (rules : RuleNumbers) where
       → AreSpans b rules theirs others → IsAt b rules theirs first rest left
       → AreBehind b rules spans after (drop left (items_in b rules rest)) → n ≡ others - first → total ≡ len + n
       → AreSpans b rules after total
-  spans_after spans theirs rest after len others n total first left are have at behind n_is total_is = grind (arith, common_steps, spans-behind, length-drop, items_in, drop, behind.more, behind.all, behind.same, have.count, behind.given, at.same, spans-behind b rules spans behind.more after len n total are behind.all behind.same total_is (omega (arith, n_is, have.count, ap (λ (is : List Item) . length is) (behind.given ∙ at.same), length-drop first (items_in b rules theirs),)), length-drop first (items_in b rules theirs))
+  spans_after spans theirs rest after len others n total first left are have at behind n_is total_is = grind (arith, common_steps, spans-behind, length-drop, items_in, drop, behind.more, behind.all, behind.same, have.count, behind.given, at.same, spans-behind b rules spans behind.more after len n total are behind.all behind.same total_is (omega (arith, n_is, have.count, ap (λ (is : List Item). length is) (behind.given ∙ at.same), length-drop first (items_in b rules theirs))), length-drop first (items_in b rules theirs))

@@ -1,5 +1,5 @@
 -- A range of a list.
-use Rattle.rds_sync.proofs.Names.{◌≡◌, ℕ, ◌+◌, ◌-◌, ◌<◌, ◌≤◌, List, length, drop, slice_range, get_or, Option, Some, None, sym, ap, ◌∙◌, arith, YieldsFirst, slice_get, common_steps, get_or-take, get_or-drop, slice_get-get_or, slice_get_past}
+use Rattle.rds_sync.proofs.Names.{◌≡◌, ℕ, ◌+◌, ◌-◌, ◌<◌, ◌≤◌, List, length, drop, slice_range, get_or, Option, Some, None, sym, arith, YieldsFirst, slice_get, common_steps, get_or-take, get_or-drop, slice_get-get_or, slice_get_past}
 
 -- how long it is
 pub range_len : {X : Type 0} (xs : List X) (from to : ℕ) → from ≤ to → to ≤ length xs → length (slice_range xs from to) ≡ to - from

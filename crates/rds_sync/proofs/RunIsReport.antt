@@ -1,5 +1,5 @@
 -- The items of the run from Searching are those of the locks, one after the other: the run is the report.
-use Rattle.rds_sync.proofs.Names.{common_steps, ◌≡◌, ◌≢◌, ℕ, zero, suc, ◌+◌, ◌-◌, ◌*◌, ◌≤◌, List, [], ◌∷◌, ◌++◌, Bool, true, false, Option, Some, None, refl, sym, ap, ◌∙◌, arith, append_assoc, add-one, one-add, inl, inr, ne_eqb, cases_Bool, cases_eq, eq-eqb, MatchOption, filter_map, find, range_with_len, number_after, Signal, length_of, Searching, Locked, Item, Acquired, LostLock, RuleNumbers, acquired, IsLossRule, are_too_many, is_good, loses_at, block_count, end, read_blocks, group_closed_by, loss_items, items_of_lock, first_lock, items_from, report_items, run, items_of_end, completed_group, lock_after}
+use Rattle.rds_sync.proofs.Names.{common_steps, ◌≡◌, ◌≢◌, ℕ, zero, suc, ◌+◌, ◌-◌, ◌*◌, ◌≤◌, List, [], ◌∷◌, ◌++◌, Bool, true, false, Option, Some, None, refl, sym, ap, ◌∙◌, arith, append_assoc, add-one, one-add, inl, inr, ne_eqb, cases_Bool, cases_eq, eq-eqb, MatchOption, filter_map, find, range_with_len, number_after, Signal, length_of, Searching, Locked, Item, LostLock, RuleNumbers, acquired, IsLossRule, are_too_many, is_good, loses_at, block_count, end, read_blocks, group_closed_by, loss_items, items_of_lock, first_lock, items_from, report_items, run, items_of_end, completed_group, lock_after}
 use Rattle.rds_sync.proofs.LawfulLemmas.{acquired-range}
 use Rattle.rds_sync.proofs.LockBlocks.{bad, keeps, loses_here, number_first, first_first, S, G, closes, S_is, block_good, block_lost, block_end, last_group}
 use Rattle.rds_sync.proofs.LossLemmas.{never_0}

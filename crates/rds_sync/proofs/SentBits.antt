@@ -1,5 +1,5 @@
 -- The bits of groups that were encoded, and then damaged or not: their windows are the blocks with their damage.
-use Rattle.rds_sync.proofs.Names.{common_steps, Signal, AreWords, ◌≡◌, ℕ, zero, suc, ◌+◌, ◌-◌, ◌*◌, ◌/◌, ◌%◌, ◌^◌, ◌<◌, List, [], ◌∷◌, ◌++◌, length, Some, refl, sym, ap, ap₂, subst, ◌∙◌, arith, inl, get_or, take, drop, append-nil, append_assoc, length-append, pow-suc, drop-append_seam, take-append_seam, xor_zero_r, number_from_digits, Offset, A, B, D, IsBlockOf, encoded, third_offset, HasOneBlock, ungapped, heard, touched, window, IsHeardFrom, GroupIsHeard, AreHeard, binary, group_bits, bits_sent, EncodedGroupsAreHeard, EncodedGroupsAreListed, ◌⊎◌, inr, bit_xor, flat_map, xor_lt, IsBurst, SentGroup, AreHeardDamaged, IsCorrectable, AreCorrectable, bits_with_damage, DamagedGroupsAreHeard, DamagedBitsAreDecoded}
+use Rattle.rds_sync.proofs.Names.{common_steps, Signal, AreWords, ◌≡◌, ℕ, zero, suc, ◌+◌, ◌-◌, ◌*◌, ◌/◌, ◌%◌, ◌^◌, ◌<◌, List, [], ◌∷◌, ◌++◌, length, Some, refl, sym, ap, ap₂, subst, ◌∙◌, arith, inl, get_or, take, drop, append-nil, append_assoc, length-append, pow-suc, drop-append_seam, take-append_seam, xor_zero_r, number_from_digits, Offset, A, B, D, IsBlockOf, encoded, third_offset, HasOneBlock, ungapped, heard, touched, window, IsHeardFrom, GroupIsHeard, AreHeard, binary, group_bits, bits_sent, EncodedGroupsAreHeard, EncodedGroupsAreListed, ◌⊎◌, bit_xor, flat_map, xor_lt, IsBurst, SentGroup, AreHeardDamaged, IsCorrectable, AreCorrectable, bits_with_damage, DamagedGroupsAreHeard, DamagedBitsAreDecoded}
 use Rattle.std.specs.Prelude.{map}
 use Rattle.std.proofs.lemmas.Int.Digits.{number_push}
 use Rattle.std.proofs.lemmas.List.{length-map}
@@ -28,7 +28,7 @@ longer : (w : ℕ) (zs : List ℕ) (n : ℕ) → length zs ≡ n → length (bin
 longer w zs n e = length-append (binary 26 w) zs ∙ ap₂ (λ (l m : ℕ). l + m) (length-binary 26 w) e
 
 damage_small : (limit e : ℕ) → (e ≡ 0) ⊎ IsBurst limit e → e < 2 ^ 26
-damage_small limit e v2 = grind (arith, common_steps)
+damage_small limit e h = grind (arith, common_steps)
 
 group_long : (g : SentGroup) → length (bits_with_damage g) ≡ 104
 group_long g = grind (arith, common_steps, get_or, bit_xor, encoded, third_offset, longer)
@@ -85,12 +85,12 @@ pub damaged_groups_are_heard : HasOneBlock → DamagedGroupsAreHeard
 damaged_groups_are_heard one before after limit groups h = groups_there one limit before after groups h
 
 pub damaged_bits_are_decoded : HasOneBlock → CodeLaws → DamagedBitsAreDecoded
-damaged_bits_are_decoded one laws rules g groups loss reach few h whole1 whole2 keep = grind (arith, common_steps, damaged_groups_are_listed laws (ungapped (flat_map bits_with_damage (g ∷ groups))) rules g groups loss reach few (groups_long (g ∷ groups)) (subst (λ (zs : List ℕ) . AreHeardDamaged (ungapped zs) rules.burst 0 (g ∷ groups)) (append-nil (flat_map bits_with_damage (g ∷ groups))) (groups_there one rules.burst [] [] (g ∷ groups) h)) whole1 whole2 keep)
+damaged_bits_are_decoded one laws rules g groups loss reach few h whole1 whole2 keep = grind (arith, common_steps, damaged_groups_are_listed laws (ungapped (flat_map bits_with_damage (g ∷ groups))) rules g groups loss reach few (groups_long (g ∷ groups)) (subst (λ (zs : List ℕ). AreHeardDamaged (ungapped zs) rules.burst 0 (g ∷ groups)) (append-nil (flat_map bits_with_damage (g ∷ groups))) (groups_there one rules.burst [] [] (g ∷ groups) h)) whole1 whole2 keep)
 
 -- ---- without damage
 
 none : (y : ℕ) → get_or {A = ℕ} [] y 0 ≡ 0
-none v0 = grind (arith, common_steps)
+none y = grind (arith, common_steps)
 
 correctable : (groups : List (List ℕ)) → AreWords groups → AreCorrectable 0 (map undamaged groups)
 correctable [] small = tt

@@ -1,5 +1,5 @@
 -- A group that was sent is read as it was sent, where its blocks are damaged by no more than a burst each.
-use Rattle.rds_sync.proofs.Names.{common_steps, ◌≡◌, ◌≢◌, ℕ, zero, suc, ◌-◌, ◌*◌, ◌≤◌, [], ◌∷◌, Option, Some, Bool, false, refl, sym, ap, ap₂, ◌∙◌, arith, inl, inr, ◌⊎◌, get_or, bit_xor, bit_at, xor_zero_r, count_leading_zeros, count_trailing_zeros, if◌then◌else◌, nat_le, ◌==◌, cases_eq, ne_eqb, cases_lt, le-leb, lt-leb, Offset, A, B, C, Cx, D, Wanted, OnlyC, OnlyCx, Either, Reading, IsBurst, burst_length, number, reading, offset_by_version, third_offset, Signal, reading_heard, reading_at, Block, Missing, Read, Version, VA, VB, Unknown, version_of_offset, first_known, differ, block_at, group_of, wanted_beside, version, in_conflict, info_of, type_in, version_of_bit, IsHeardFrom, block_sent, GroupsAreCorrected}
+use Rattle.rds_sync.proofs.Names.{common_steps, ◌≡◌, ◌≢◌, ℕ, zero, suc, ◌-◌, ◌*◌, ◌≤◌, [], ◌∷◌, Option, Some, Bool, false, refl, sym, ap, ◌∙◌, arith, inl, inr, ◌⊎◌, get_or, bit_xor, bit_at, xor_zero_r, count_leading_zeros, count_trailing_zeros, if◌then◌else◌, nat_le, ◌==◌, cases_eq, ne_eqb, cases_lt, le-leb, lt-leb, Offset, A, B, C, Cx, D, Wanted, OnlyC, OnlyCx, Either, Reading, IsBurst, burst_length, number, reading, offset_by_version, third_offset, Signal, reading_heard, reading_at, Block, Missing, Read, Version, VA, VB, Unknown, version_of_offset, first_known, block_at, group_of, wanted_beside, version, in_conflict, info_of, type_in, version_of_bit, IsHeardFrom, block_sent, GroupsAreCorrected}
 use Rattle.rds_code.specs.Correction.{alone, version_burst, ReadsAsSent, CorrectsBurst, CorrectsThird}
 use Rattle.rds_sync.proofs.GroupBlocks.{block_at-read, block_at-missing, blocks_at-read, group-blocks}
 
@@ -24,7 +24,7 @@ module _ (laws : CodeLaws) (b : Signal) where
   undamaged limit place info o wanted h = grind (arith, common_steps, read_heard, number, reading, xor_zero_r)
 
   some_burst : (limit e : ℕ) → (suc e ≡ 0) ⊎ IsBurst limit (suc e) → IsBurst limit (suc e)
-  some_burst limit e v2 = grind (arith, common_steps)
+  some_burst limit e h = grind (arith, common_steps)
 
   -- block 1, 2 or 4
   block_read : (limit place info : ℕ) (o : Offset) (e : ℕ) (wanted : Wanted) → number o ≢ 3 → limit ≤ 5 → IsHeardFrom b limit place info o e
@@ -76,13 +76,13 @@ module _ (info : ℕ) where
   known v = elim says [ inl a ↦ ap (λ (w : Version). first_known w v) a.bit ∙ sym a.bit | inr b ↦ ap (λ (w : Version). first_known w v) b.bit ∙ sym b.bit ]
 
   version_is : (third d e : ℕ) → version (block_sent B info d) (block_sent (third_offset info) third e) ≡ version_of_bit info
-  version_is third v1 v2 = grind (arith, common_steps, known, version_of_offset, third_offset)
+  version_is third d e = grind (arith, common_steps, known, version_of_offset, third_offset)
 
   agreed : (third d e : ℕ) → in_conflict (block_sent B info d) (block_sent (third_offset info) third e) ≡ false
-  agreed third v1 v2 = grind (arith, common_steps)
+  agreed third d e = grind (arith, common_steps)
 
 pub info_is : (o : Offset) (info e : ℕ) → info_of (block_sent o info e) ≡ Some info
-info_is o info v2 = grind (arith, common_steps)
+info_is o info e = grind (arith, common_steps)
 
 -- a group of blocks that were sent
 group_of_sent : (place : ℕ) (one : Block) (w1 w2 w3 e1 e2 e3 : ℕ)

@@ -1,5 +1,5 @@
 -- The items of a run over groups that were sent: in a lock, and from the first bit of a recording on.
-use Rattle.rds_sync.proofs.Names.{common_steps, Loss, ◌≡◌, ℕ, zero, suc, ◌+◌, ◌-◌, ◌*◌, ◌<◌, ◌≤◌, List, [], ◌∷◌, ◌++◌, length, Option, Some, None, Bool, true, false, refl, sym, ap, ap₂, subst, ◌∙◌, arith, inl, append-nil, bit_xor, get_or, flat_map, xor_zero_r, ◌||◌, ◌==◌, list_any, range_with_len, ne_eqb, Offset, A, B, C, Cx, D, third_offset, word, offset_of, rem, Signal, length_of, offset_heard, offset_at, Block, GroupOf, Item, Acquired, Group, State, Searching, Locked, Totals, acquired, has_number, has_partner, is_in_step, plus, group, outcome_of, was_valid, good_at, IsLossRule, are_too_many, bad_after, report_items, RuleNumbers, IsHeardFrom, GroupIsHeard, AreHeard, block_sent, group_sent, items_sent, SentGroup, four_damages, AreHeardDamaged, items_damaged, bad_after_blocks, KeepLock, SentGroupsAreListed, LockedGroupsAreListed, DamagedGroupsAreListed, SoundSignalIsDecoded, run, items_of_end, lock_of, totals_of, is_valid}
+use Rattle.rds_sync.proofs.Names.{common_steps, Loss, ◌≡◌, ℕ, suc, ◌+◌, ◌-◌, ◌*◌, ◌<◌, ◌≤◌, List, [], ◌∷◌, ◌++◌, length, Option, Some, None, Bool, true, false, refl, sym, ap, subst, ◌∙◌, arith, inl, append-nil, bit_xor, get_or, flat_map, xor_zero_r, ◌==◌, list_any, range_with_len, ne_eqb, Offset, A, B, D, third_offset, word, offset_of, rem, Signal, length_of, offset_heard, offset_at, Block, GroupOf, Item, Acquired, Group, State, Searching, Locked, Totals, acquired, has_number, has_partner, is_in_step, plus, group, outcome_of, was_valid, good_at, IsLossRule, are_too_many, bad_after, report_items, RuleNumbers, IsHeardFrom, GroupIsHeard, AreHeard, block_sent, group_sent, items_sent, SentGroup, four_damages, AreHeardDamaged, items_damaged, bad_after_blocks, KeepLock, SentGroupsAreListed, LockedGroupsAreListed, DamagedGroupsAreListed, SoundSignalIsDecoded, run, items_of_end, lock_of, totals_of, is_valid}
 use Rattle.rds_sync.proofs.BadRows.{good_keeps}
 use Rattle.std.specs.Prelude.{map}
 use Rattle.std.proofs.lemmas.List.{length-map}
@@ -11,15 +11,15 @@ use Rattle.rds_sync.proofs.LawfulLemmas.{acquired-place, acquired-some}
 use Rattle.rds_sync.proofs.LossLemmas.{lawful_none, none-kept}
 use Rattle.rds_sync.proofs.OutcomeTotals.{valid_is}
 use Rattle.rds_sync.proofs.RunIsReport.{run_is_report}
-use Rattle.rds_sync.proofs.RunLemmas.{run-append, run-found, run-places, step-acquiring, items-acquiring}
+use Rattle.rds_sync.proofs.RunLemmas.{run-append, run-places}
 use Rattle.rds_sync.proofs.SentGroups.{CodeLaws, groups_are_corrected}
 use Rattle.rds_sync.proofs.TotalsLemmas.{totals_of-append, same_counts}
-use Rattle.rds_sync.proofs.WholeGroupLemmas.{block-then, whole_group}
+use Rattle.rds_sync.proofs.WholeGroupLemmas.{whole_group}
 
 -- ---- blocks as they were sent
 
 word_offset : (o : Offset) → offset_of (word o) ≡ Some o
-word_offset v0 = grind (arith, common_steps)
+word_offset o = grind (arith, common_steps)
 
 module _ (b : Signal) where
   heard_offset : (limit place info : ℕ) (o : Offset) (h : IsHeardFrom b limit place info o 0) → offset_of (rem (bit_xor h.sent 0)) ≡ Some o
@@ -49,7 +49,7 @@ module _ (b : Signal) (rules : RuleNumbers) where
   run-then s t u is js a m n first rest = grind (arith, common_steps, run-append, run)
 
   any_first : (p : ℕ → Bool) (n : ℕ) → 1 ≤ n → p 1 ≡ true → list_any p (range_with_len 1 n) ≡ true
-  any_first p v1 some h = grind (arith, common_steps, list_any, range_with_len)
+  any_first p n some h = grind (arith, common_steps, list_any, range_with_len)
 
   -- nothing acquires before place 51
   quiet : (i : ℕ) → 0 ≤ i → i < 51 → acquired b rules i ≡ None
@@ -59,7 +59,7 @@ module _ (b : Signal) (rules : RuleNumbers) where
 
 -- a block without a bit error is valid
 pub good_sent : (o : Offset) (info e : ℕ) → is_valid (block_sent o info e) ≡ (e == 0)
-good_sent o info v2 = grind (arith, common_steps, ne_eqb)
+good_sent o info e = grind (arith, common_steps, ne_eqb)
 
 good_outcome : (o : Offset) (info e : ℕ) → was_valid (outcome_of (block_sent o info e)) ≡ (e == 0)
 good_outcome o info e = sym (valid_is (block_sent o info e)) ∙ good_sent o info e

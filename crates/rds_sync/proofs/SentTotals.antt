@@ -1,5 +1,5 @@
 -- The totals of a recording of damaged groups, by the error masks of its blocks.
-use Rattle.rds_sync.proofs.Names.{common_steps, ◌≡◌, ℕ, zero, suc, ◌+◌, ◌*◌, ◌≤◌, List, [], ◌∷◌, Bool, true, false, length, refl, sym, ap, subst, ◌∙◌, arith, append-nil, get_or, flat_map, cond, eqb, lit<, sum_by, count_by, count_ones, count_leading_zeros, count_trailing_zeros, ones-le, mul-suc, ne_eqb, sum_by-append, sum_by-cons, Offset, A, B, D, burst_length, third_offset, HasOneBlock, ungapped, Block, Missing, GroupOf, Item, Acquired, Group, LostLock, SentGroup, block_sent, group_sent, items_damaged, four_damages, masks_read, totals_damaged, bits_with_damage, AreHeardDamaged, DamageTellsTotals, DamagedBitsTellTotals, totals_of, sum_blocks, is_valid, is_lost, is_corrected_by, bits_corrected, is_group, is_complete, is_acquired, is_sync_loss}
+use Rattle.rds_sync.proofs.Names.{common_steps, ◌≡◌, ℕ, ◌+◌, ◌*◌, ◌≤◌, List, [], ◌∷◌, Bool, true, false, length, refl, ap, subst, ◌∙◌, arith, append-nil, get_or, flat_map, cond, eqb, lit<, sum_by, count_by, count_ones, count_leading_zeros, count_trailing_zeros, ones-le, mul-suc, ne_eqb, sum_by-cons, Offset, burst_length, third_offset, HasOneBlock, ungapped, Block, Missing, Item, Acquired, Group, SentGroup, block_sent, group_sent, items_damaged, four_damages, masks_read, totals_damaged, bits_with_damage, AreHeardDamaged, DamageTellsTotals, DamagedBitsTellTotals, totals_of, sum_blocks, is_valid, is_lost, is_corrected_by, bits_corrected, is_group, is_complete, is_acquired, is_sync_loss}
 use Rattle.rds_sync.proofs.SentBits.{groups_long, groups_there}
 use Rattle.rds_sync.proofs.SentGroups.{CodeLaws, info_is}
 use Rattle.rds_sync.proofs.SentRuns.{good_sent, damaged_groups_are_listed}
@@ -12,13 +12,13 @@ unfolding count_leading_zeros count_trailing_zeros
 no_span = refl
 
 corrected_sent : (s : ℕ) → 1 ≤ s → (o : Offset) (info e : ℕ) → is_corrected_by s (block_sent o info e) ≡ eqb (burst_length e) s
-corrected_sent s some o info v4 = grind (arith, common_steps, eqb, no_span, ne_eqb)
+corrected_sent s some o info e = grind (arith, common_steps, eqb, no_span, ne_eqb)
 
 lost_sent : (o : Offset) (info e : ℕ) → is_lost (block_sent o info e) ≡ false
-lost_sent o info v2 = grind (arith, common_steps)
+lost_sent o info e = grind (arith, common_steps)
 
 bits_sent_are : (o : Offset) (info e : ℕ) → bits_corrected (block_sent o info e) ≡ count_ones e
-bits_sent_are o info v2 = grind (arith, common_steps, ones-le, lit<)
+bits_sent_are o info e = grind (arith, common_steps, ones-le, lit<)
 
 -- ---- all blocks
 
@@ -38,7 +38,7 @@ listed_sum f h none each g groups = grind (arith, common_steps, damaged_sum)
 
 listed_count : (p : Block → Bool) (q : ℕ → Bool) → p Missing ≡ false → ((o : Offset) (info e : ℕ) → p (block_sent o info e) ≡ q e)
     → (g : SentGroup) (groups : List SentGroup) → sum_blocks (λ block. cond (p block) 1 0) (listed g groups) ≡ count_by q (masks_read g groups)
-listed_count p q none each g groups = grind (arith, common_steps, listed_sum (λ block. cond (p block) 1 0) (λ e. cond (q e) 1 0) (ap (λ (t : Bool) . cond t 1 0) none) (λ o info e. ap (λ (t : Bool) . cond t 1 0) (each o info e)) g groups)
+listed_count p q none each g groups = grind (arith, common_steps, listed_sum (λ block. cond (p block) 1 0) (λ e. cond (q e) 1 0) (ap (λ (t : Bool). cond t 1 0) none) (λ o info e. ap (λ (t : Bool). cond t 1 0) (each o info e)) g groups)
 
 -- ---- the groups
 
@@ -81,4 +81,4 @@ pub damage_tells_totals : CodeLaws → DamageTellsTotals
 damage_tells_totals laws b rules g groups loss reach few long h whole1 whole2 keep = grind (arith, common_steps, damaged_groups_are_listed laws b rules g groups loss reach few long h whole1 whole2 keep, listed_totals g groups)
 
 pub damaged_bits_tell_totals : HasOneBlock → CodeLaws → DamagedBitsTellTotals
-damaged_bits_tell_totals one laws rules g groups loss reach few h whole1 whole2 keep = grind (arith, common_steps, damage_tells_totals laws (ungapped (flat_map bits_with_damage (g ∷ groups))) rules g groups loss reach few (groups_long (g ∷ groups)) (subst (λ (zs : List ℕ) . AreHeardDamaged (ungapped zs) rules.burst 0 (g ∷ groups)) (append-nil (flat_map bits_with_damage (g ∷ groups))) (groups_there one rules.burst [] [] (g ∷ groups) h)) whole1 whole2 keep)
+damaged_bits_tell_totals one laws rules g groups loss reach few h whole1 whole2 keep = grind (arith, common_steps, damage_tells_totals laws (ungapped (flat_map bits_with_damage (g ∷ groups))) rules g groups loss reach few (groups_long (g ∷ groups)) (subst (λ (zs : List ℕ). AreHeardDamaged (ungapped zs) rules.burst 0 (g ∷ groups)) (append-nil (flat_map bits_with_damage (g ∷ groups))) (groups_there one rules.burst [] [] (g ∷ groups) h)) whole1 whole2 keep)

@@ -1,5 +1,5 @@
 -- The group of a lock that its second block loses, and the run over it.
-use Rattle.rds_sync.proofs.Names.{common_steps, ◌≡◌, ◌≢◌, ℕ, zero, suc, ◌+◌, ◌-◌, ◌*◌, ◌%◌, ◌<◌, ◌≤◌, ◌⊎◌, List, [], ◌∷◌, ◌++◌, Bool, true, false, Some, None, map, refl, sym, ap, ◌∙◌, arith, inl, inr, mod-eq_of_lt, pow-suc, pow_pos, ones, nat_le, count_ones, outcome_number, Wanted, Either, Reading, Valid, Corrected, Lost, Signal, heard, reading_at, Block, Read, Item, Group, LostLock, State, Searching, Locked, acquired, has_number, block_at, blocks_at, group, wanted_beside, CountOf, joined, group_count, loss_count, added, Outcome, outcome_of, IsLostAtOnce, wanted_behind, first_behind, word_of_two, nibble, word_of_blocks, blocks_in, HaveRoom, bad_after, are_too_many, RuleNumbers, items_at, run, history_after_block, lock_after, lock_of, is_valid}
+use Rattle.rds_sync.proofs.Names.{common_steps, ◌≡◌, ◌≢◌, ℕ, zero, suc, ◌+◌, ◌-◌, ◌*◌, ◌%◌, ◌<◌, ◌≤◌, ◌⊎◌, List, [], ◌∷◌, ◌++◌, Bool, true, false, Some, None, map, refl, sym, ap, ◌∙◌, arith, inl, inr, mod-eq_of_lt, pow-suc, pow_pos, ones, nat_le, count_ones, outcome_number, Wanted, Either, Reading, Signal, heard, reading_at, Block, Read, Item, Group, LostLock, State, Searching, Locked, acquired, has_number, block_at, blocks_at, group, wanted_beside, CountOf, joined, group_count, loss_count, added, Outcome, outcome_of, IsLostAtOnce, wanted_behind, first_behind, word_of_two, nibble, word_of_blocks, blocks_in, HaveRoom, bad_after, are_too_many, RuleNumbers, items_at, run, history_after_block, lock_after, lock_of, is_valid}
 use Rattle.std.specs.Prelude.{◌^◌}
 use Rattle.rds_sync.proofs.CountLemmas.{lost-added}
 use Rattle.rds_sync.proofs.GroupBlocks.{block_at-read, block_at-missing}
@@ -16,7 +16,7 @@ share-of-one (suc v) some = grind (arith, common_steps, pow-suc, pow_pos, mod-eq
 
 -- a block of another outcome than a valid one's is bad
 bad-outcome : (r : Reading) → outcome_number r ≢ 1 → is_valid (Read r) ≡ false
-bad-outcome v0 h = grind (arith, common_steps)
+bad-outcome r h = grind (arith, common_steps)
 
 pub bad-there : (b : Signal) (i x : ℕ) (wanted : Wanted) (limit k : ℕ) → 25 ≤ i → k ≡ outcome_number (reading_at b i x wanted limit) → k ≢ 1 → has_number b i x ≡ false
 bad-there b i x wanted limit k late is other = grind (arith, common_steps, good-reading, heard, reading_at, bad-outcome, outcome_number, has_number, good-reading b i x (heard b i) wanted limit (reading_at b i x wanted limit) late refl refl, bad-outcome (reading_at b i x wanted limit) (λ e. other (is ∙ e)))

@@ -1,5 +1,5 @@
 -- How the blocks of a group come out has a word of 16 bits.
-use Rattle.rds_sync.proofs.Names.{common_steps, ◌≡◌, ℕ, zero, suc, ◌+◌, ◌-◌, ◌*◌, ◌%◌, ◌/◌, ◌^◌, ◌<◌, ◌≤◌, min, List, [], ◌∷◌, length, get_or, Bool, true, false, Option, Some, None, refl, sym, ap, ◌∙◌, subst, arith, inl, inr, cond, cases_Bool, cases_lt, lt-leb, All-cons, pow-suc, nat_le, ◌&&◌, count_ones, if◌then◌else◌, ones, ones_step, count_leading_zeros, count_trailing_zeros, burst_length, bursts, IsBurst, ReadsByRule, ListsBursts, reading, Wanted, Either, Reading, Valid, Corrected, Lost, Signal, heard, reading_heard, reading_at, Missing, Read, RuleNumbers, group, block_at, wanted_beside, Outcome, corrected, outcome_of, IsShort, AreShort}
+use Rattle.rds_sync.proofs.Names.{common_steps, ◌≡◌, ℕ, zero, suc, ◌+◌, ◌*◌, ◌%◌, ◌/◌, ◌^◌, ◌<◌, ◌≤◌, min, List, [], ◌∷◌, length, get_or, Bool, true, false, Option, Some, None, refl, sym, ap, ◌∙◌, subst, arith, inl, inr, cond, cases_Bool, lt-leb, pow-suc, nat_le, ◌&&◌, count_ones, ones, ones_step, count_leading_zeros, count_trailing_zeros, burst_length, bursts, IsBurst, ReadsByRule, ListsBursts, reading, Wanted, Reading, Valid, Corrected, Lost, Signal, heard, reading_heard, reading_at, Read, RuleNumbers, group, block_at, wanted_beside, Outcome, corrected, outcome_of, IsShort, AreShort}
 use Rattle.std.specs.List.{All}
 use Rattle.rds_sync.proofs.GroupOutcomes.{outcomes}
 
@@ -42,7 +42,7 @@ unfolding count_leading_zeros count_trailing_zeros
 all_short = refl
 
 both : (s t : Bool) → (s && t) ≡ true → (s ≡ true) × (t ≡ true)
-both v0 t h = grind (arith, common_steps)
+both s t h = grind (arith, common_steps)
 
 le_from : (m n : ℕ) → nat_le m n ≡ true → m ≤ n
 le_from m n h = grind (arith, common_steps, lt-leb)

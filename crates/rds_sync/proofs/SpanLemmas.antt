@@ -1,5 +1,5 @@
 -- Spans: those that are passed over, and those of a list with more after them.
-use Rattle.rds_sync.proofs.Names.{common_steps, ◌≡◌, ◌≢◌, ℕ, ◌+◌, ◌-◌, ◌<◌, ◌≤◌, List, [], ◌∷◌, ◌++◌, All, length, drop, Option, Some, None, refl, sym, ap, subst, ◌∙◌, arith, length-append, append-nil, MatchOption, YieldsFirst, drop-append-add, All-cons, All-nil, Signal, Item, Span, items_of, items_in, IsSpan, AreSpans, RuleNumbers}
+use Rattle.rds_sync.proofs.Names.{common_steps, ◌≡◌, ◌≢◌, ℕ, ◌+◌, ◌-◌, ◌<◌, ◌≤◌, List, [], ◌∷◌, ◌++◌, All, length, drop, Option, Some, refl, sym, ap, ◌∙◌, arith, length-append, append-nil, MatchOption, YieldsFirst, drop-append-add, All-cons, All-nil, Signal, Item, Span, items_of, items_in, IsSpan, AreSpans, RuleNumbers}
 
 module _ (b : Signal) (rules : RuleNumbers) where
   -- the items of spans in two rows
@@ -15,12 +15,12 @@ module _ (b : Signal) (rules : RuleNumbers) where
 -- where nothing is given, there was nothing
 pub gives_none : (items left : List Item) (given : Option Item) → ((item : Item) → given ≢ Some item) → YieldsFirst (λ (is : List Item). is) items given left
     → (items ≡ []) × (left ≡ [])
-gives_none items left v2 other gives = grind (arith, common_steps)
+gives_none items left given other gives = grind (arith, common_steps)
 
 -- where something is left, it is given
 pub gives_some : (items left : List Item) (given : Option Item) → 0 < length items
     → MatchOption given (items ≡ []) (λ item. items ≡ item ∷ left) → left ≡ drop 1 items
-gives_some items left v2 some gives = grind (arith, common_steps, drop)
+gives_some items left given some gives = grind (arith, common_steps, drop)
 
 module _ (b : Signal) (rules : RuleNumbers) where
   -- the items of one span more

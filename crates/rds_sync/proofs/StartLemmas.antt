@@ -1,5 +1,5 @@
 -- How many items come before a span, and which come from it on.
-use Rattle.rds_sync.proofs.Names.{common_steps, ◌≡◌, ℕ, All, ◌+◌, ◌-◌, ◌<◌, ◌≤◌, ◌^◌, min, List, ◌++◌, length, take, drop, get_or, sym, ap, subst, ◌∙◌, arith, length-append, min-eq_left, drop-append-add, take-length, length-drop, take-append-drop, take_more, All-drop, Signal, Item, Span, ItemsOf, listed, IsAt, IsFound, IsSpan, items_in, items_of, RuleNumbers}
+use Rattle.rds_sync.proofs.Names.{common_steps, ◌≡◌, ℕ, All, ◌+◌, ◌-◌, ◌<◌, ◌≤◌, ◌^◌, min, List, ◌++◌, length, take, drop, get_or, sym, ap, subst, ◌∙◌, arith, length-append, min-eq_left, drop-append-add, take-length, length-drop, take-append-drop, take_more, All-drop, Signal, Span, ItemsOf, listed, IsAt, IsFound, IsSpan, items_in, items_of, RuleNumbers}
 use Rattle.rds_sync.proofs.SpanLemmas.{items_in-append, items_in-push}
 
 module _ (b : Signal) (rules : RuleNumbers) where

@@ -1,5 +1,5 @@
 -- A stretch of a run, step by step.
-use Rattle.rds_sync.proofs.Names.{common_steps, ◌≡◌, ℕ, ◌+◌, ◌-◌, ◌<◌, ◌≤◌, List, [], ◌∷◌, ◌++◌, refl, sym, ap, ◌∙◌, arith, inl, inr, ⊎_elim, cases_lt, lt-ltb, le-ltb, Signal, Item, Lock, State, Searching, Locked, Step, next_place, RuleNumbers, run, IsStretch}
+use Rattle.rds_sync.proofs.Names.{common_steps, ◌≡◌, ℕ, ◌+◌, ◌-◌, ◌<◌, ◌≤◌, List, [], ◌∷◌, ◌++◌, refl, sym, ◌∙◌, arith, inl, inr, cases_lt, lt-ltb, le-ltb, Signal, Item, Lock, State, Searching, Locked, Step, next_place, RuleNumbers, run, IsStretch}
 use Rattle.rds_sync.specs.StepForms.{StretchesAreSteps, HopsAreStretches}
 use Rattle.rds_sync.proofs.RunLemmas.{run-places, run-waiting}
 

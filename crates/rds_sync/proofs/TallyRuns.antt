@@ -1,5 +1,5 @@
 -- A run that goes on, as it is kept.
-use Rattle.rds_sync.proofs.Names.{common_steps, ◌≡◌, ℕ, ◌-◌, ◌*◌, ◌^◌, ◌≤◌, List, ◌++◌, length, refl, sym, ap, ap₂, subst, ◌∙◌, arith, append_assoc, append-nil, length-append, Signal, length_of, Item, State, IsAtMost, IsCountStretch, CountOf, count_of, joined, IsTally, RuleNumbers, run, TallyOf, gone_on}
+use Rattle.rds_sync.proofs.Names.{common_steps, ◌≡◌, ℕ, ◌-◌, ◌*◌, ◌^◌, ◌≤◌, List, ◌++◌, length, refl, sym, ap, subst, ◌∙◌, arith, append_assoc, append-nil, length-append, Signal, length_of, Item, State, IsAtMost, IsCountStretch, CountOf, count_of, joined, IsTally, RuleNumbers, run, TallyOf, gone_on}
 use Rattle.rds_sync.proofs.CountLemmas.{counted-together}
 use Rattle.rds_sync.proofs.ItemLemmas.{run_items-few}
 use Rattle.rds_sync.proofs.RunLemmas.{run-further, run-places}

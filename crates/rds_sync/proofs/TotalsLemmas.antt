@@ -1,5 +1,5 @@
 -- Totals of a list that grows.
-use Rattle.rds_sync.proofs.Names.{common_steps, ◌≡◌, ℕ, ◌+◌, ◌-◌, ◌≤◌, List, [], ◌∷◌, ◌++◌, length, get_or, refl, sym, ap, ◌∙◌, arith, slice_index, sum_by-append, Block, Item, Totals, totals_of, plus, IsAtMost, IsRest}
+use Rattle.rds_sync.proofs.Names.{common_steps, ◌≡◌, ℕ, ◌-◌, ◌≤◌, List, [], ◌∷◌, ◌++◌, length, get_or, arith, slice_index, sum_by-append, Block, Item, Totals, totals_of, plus, IsAtMost, IsRest}
 
 -- the totals of two lists, one after the other
 pub totals_of-append : (xs ys : List Item) → totals_of (xs ++ ys) ≡ plus (totals_of xs) (totals_of ys)
@@ -12,7 +12,7 @@ IsAtMost-more m n t h a = omega (arith, a)
 -- four blocks, one by one
 pub four_blocks : (bs : List Block) (a b c d : Block) → length bs ≡ 4
     → bs ≡ get_or bs 0 a ∷ get_or bs 1 b ∷ get_or bs 2 c ∷ get_or bs 3 d ∷ []
-four_blocks v0 a b c d h = grind (arith, common_steps)
+four_blocks bs a b c d h = grind (arith, common_steps)
 
 -- totals with the same counts
 pub same_counts : {v v2 p p2 q q2 r r2 s s2 u u2 l l2 i i2 g g2 k k2 a a2 o o2 : ℕ}
@@ -22,7 +22,7 @@ pub same_counts : {v v2 p p2 q q2 r r2 s s2 u u2 l l2 i i2 g g2 k k2 a a2 o o2 :
 same_counts h1 h2 h3 h4 h5 h6 h7 h8 h9 h10 h11 h12 = cc
 
 five_numbers : (xs : List ℕ) → length xs ≡ 5 → xs ≡ slice_index xs 0 ∷ slice_index xs 1 ∷ slice_index xs 2 ∷ slice_index xs 3 ∷ slice_index xs 4 ∷ []
-five_numbers v0 h = grind (arith, common_steps)
+five_numbers xs h = grind (arith, common_steps)
 
 -- the rest, count by count
 pub rest_is : (part whole rest : Totals) → IsRest part whole rest

@@ -18,7 +18,7 @@ module _ (b : Signal) (rules : RuleNumbers) where
   Found w total p l = (left : ℕ) × (l.0 + (left + 1) ≡ total) × (p ≤ l.0) × (acquired b rules l.0 ≡ Some l.1) × (w ≡ whole Searching l.0 (suc left))
 
   weaken : (o : Option (ℕ × ℕ)) (w : List Item) (total total' p : ℕ) → total ≡ total' → MatchOption o (w ≡ []) (Found w total (p + 1)) → MatchOption o (w ≡ []) (Found w total' p)
-  weaken v0 w total v3 p e h = grind (arith, common_steps)
+  weaken o w total total' p e h = grind (arith, common_steps)
 
   -- one bit that gives these items and leads to this state
   pub goes : (s t : State) (is : List Item) (p bits : ℕ) → items_at b rules p s ≡ is → step b rules p s ≡ t → whole s p (suc bits) ≡ is ++ whole t (p + 1) bits

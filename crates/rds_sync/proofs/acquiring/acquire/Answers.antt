@@ -1,4 +1,4 @@
-use Rattle.rds_sync.proofs.Names.{common_steps, arith, ◌≡◌, ◌≤◌, ℕ, Bool, true, false, Option, Some, None, ap, sym, ◌∙◌, list_any, range_with_len, Offset, number, Signal, heard, offset_heard, offset_at, RuleNumbers, acquired, has_partner}
+use Rattle.rds_sync.proofs.Names.{common_steps, arith, ◌≡◌, ◌≤◌, ℕ, Bool, true, false, Option, Some, None, ap, ◌∙◌, list_any, range_with_len, Offset, number, Signal, heard, offset_heard, offset_at, RuleNumbers, acquired, has_partner}
 use Rattle.rds_sync.proofs.LawfulLemmas.{acquired-none}
 use Rattle.rds_sync.proofs.HeardLemmas.{off-heard, acquired-early, acquired-offset}
 use Rattle.rds_sync.proofs.acquiring.acquire.Goals as goal
@@ -18,7 +18,7 @@ returns-in_default-clause-number g c = grind (arith, common_steps, offset_is, ac
 answer : (b later : Signal) (rules : RuleNumbers) (place n : ℕ) (o : Offset) (found is_found : Bool) → offset_at b place ≡ Some o → n ≡ number o
     → later ≡ b → found ≡ list_any (has_partner later place n) (range_with_len 1 rules.reach) → found ≡ is_found
     → elim is_found as (λ _. Option ℕ) [ true ↦ Some n | false ↦ None ] ≡ acquired b rules place
-answer b later rules place n o found is_found here number_is later_is any_is found_is = grind (arith, common_steps, acquired-offset, list_any, has_partner, range_with_len, offset_at, number, acquired, acquired-offset b rules place n o found is_found here number_is (any_is ∙ ap (λ (signal : Signal) . list_any (has_partner signal place n) (range_with_len 1 rules.reach)) later_is) found_is)
+answer b later rules place n o found is_found here number_is later_is any_is found_is = grind (arith, common_steps, acquired-offset, list_any, has_partner, range_with_len, offset_at, number, acquired, acquired-offset b rules place n o found is_found here number_is (any_is ∙ ap (λ (signal : Signal). list_any (has_partner signal place n) (range_with_len 1 rules.reach)) later_is) found_is)
 
 pub returns-then-has_partner-clause-number : goal.returns-then-has_partner-clause-number
 returns-then-has_partner-clause-number g c =

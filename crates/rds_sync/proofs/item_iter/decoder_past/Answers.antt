@@ -1,4 +1,4 @@
-use Rattle.rds_sync.proofs.Names.{arith, common_steps, ◌-◌, List, drop, ap, ◌∙◌, drop-drop, Item, run}
+use Rattle.rds_sync.proofs.Names.{arith, common_steps, ◌-◌, drop, drop-drop, run}
 use Rattle.rds_sync.proofs.PastLemmas.{one_given}
 use Rattle.rds_sync.proofs.item_iter.decoder_past.Goals as goal
 

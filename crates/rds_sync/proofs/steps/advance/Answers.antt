@@ -1,4 +1,4 @@
-use Rattle.rds_sync.proofs.Names.{common_steps, ℕ, sym, subst, arith, append-nil, State, Searching, IsLawful, items_at, run, step}
+use Rattle.rds_sync.proofs.Names.{common_steps, arith, append-nil, Searching, items_at, run, step}
 use Rattle.rds_sync.proofs.LawfulLemmas.{lawful-due, lawful-lock, lawful-step, lawful-waiting}
 use Rattle.rds_sync.proofs.RunLemmas.{run-due, run-early}
 use Rattle.rds_sync.proofs.steps.advance.Goals as goal

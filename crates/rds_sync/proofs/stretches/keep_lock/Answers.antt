@@ -1,4 +1,4 @@
-use Rattle.rds_sync.proofs.Names.{common_steps, ◌≡◌, ◌≤◌, ◌+◌, ◌-◌, ℕ, List, [], ◌∷◌, refl, ap, ap₂, sym, subst, ◌∙◌, arith, inl, inr, Signal, Block, GroupRecord, Item, Group, LostLock, Due, Inside, Closed, Lock, State, Locked, IsLawful, state_of, IsFollowed, items_of_due, IsStretch, Option, ◌≢◌, RuleNumbers, step, items_at, run}
+use Rattle.rds_sync.proofs.Names.{common_steps, ◌≡◌, ◌≤◌, ◌+◌, ◌-◌, ℕ, List, [], ◌∷◌, refl, ap, sym, ◌∙◌, arith, inl, Signal, Block, GroupRecord, Item, Group, LostLock, Due, Inside, Closed, Lock, State, Locked, IsLawful, state_of, IsFollowed, items_of_due, IsStretch, Option, ◌≢◌, RuleNumbers, step, items_at, run}
 use Rattle.rds_sync.specs.Advance.{items_in}
 use Rattle.rds_sync.specs.declared.due.Due.TheVariants.{Lost}
 use Rattle.rds_sync.proofs.LawfulLemmas.{lawful-due, lawful-waiting}

@@ -1,4 +1,4 @@
-use Rattle.rds_sync.proofs.Names.{common_steps, ◌≡◌, ◌≤◌, ◌<◌, ◌+◌, ◌-◌, ℕ, true, false, List, Some, None, refl, ap, sym, subst, ◌∙◌, arith, inl, inr, list_any, range_with_len, cases_lt, Offset, Signal, heard, offset_at, WindowsLeft, GivesFirst, NoneValid, Item, Lock, State, Searching, Locked, acquired, has_partner, IsLawful, RuleNumbers, step}
+use Rattle.rds_sync.proofs.Names.{common_steps, ◌≡◌, ◌≤◌, ◌<◌, ◌+◌, ◌-◌, ℕ, true, false, List, Some, None, ap, sym, subst, ◌∙◌, arith, inr, list_any, range_with_len, cases_lt, Offset, Signal, heard, offset_at, WindowsLeft, GivesFirst, NoneValid, Item, Lock, State, Searching, Locked, acquired, has_partner, IsLawful, RuleNumbers, step}
 use Rattle.rds_sync.proofs.ItemLemmas.{some_given}
 use Rattle.rds_sync.proofs.RunLemmas.{step-acquiring, items-acquiring, run-found, run-quiet, run-unfound}
 use Rattle.rds_sync.proofs.LawfulLemmas.{acquired-none, lawful-step, off-place}

@@ -1,4 +1,4 @@
-use Rattle.rds_sync.proofs.Names.{common_steps, ◌≡◌, ◌≤◌, ◌<◌, ◌+◌, ◌-◌, ℕ, Some, None, List, [], ◌∷◌, false, sym, ap, ap₂, subst, ◌∙◌, arith, inr, Signal, Item, Group, Lock, State, Locked, Step, group, IsLawful, bad_over, IsLawfulBad, are_too_many, RuleNumbers, run, lock_of, IsStretch}
+use Rattle.rds_sync.proofs.Names.{common_steps, ◌≡◌, ◌≤◌, ◌<◌, ◌+◌, ◌-◌, ℕ, Some, None, [], ◌∷◌, false, sym, ap, ap₂, subst, ◌∙◌, arith, Signal, Group, Lock, State, Locked, Step, group, bad_over, IsLawfulBad, are_too_many, RuleNumbers, run, lock_of, IsStretch}
 use Rattle.rds_sync.proofs.GroupOutcomes.{outcomes}
 use Rattle.rds_sync.proofs.LawfulLemmas.{lawful-lock_after}
 use Rattle.rds_sync.proofs.WholeGroupLemmas.{whole_group, whole_quiet}

@@ -1,4 +1,4 @@
-use Rattle.rds_sync.proofs.Names.{common_steps, ◌≡◌, ℕ, rules, sym, subst, arith, count_ones, burst_length, corrected, outcome_of, IsShort}
+use Rattle.rds_sync.proofs.Names.{common_steps, rules, arith, count_ones, burst_length, corrected, outcome_of}
 use Rattle.rds_sync.proofs.ShortOutcomes.{burst-short}
 use Rattle.rds_sync.proofs.words.nibble.Goals as goal
 

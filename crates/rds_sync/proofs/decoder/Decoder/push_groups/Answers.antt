@@ -1,4 +1,4 @@
-use Rattle.rds_sync.proofs.Names.{common_steps, ◌≡◌, ◌-◌, ◌++◌, ◌<◌, Option, None, ap, sym, ◌∙◌, arith, rules, Item, Locked}
+use Rattle.rds_sync.proofs.Names.{common_steps, arith, rules}
 use Rattle.rds_sync.proofs.DecoderLemmas.{left_of, groups-items, groups-end}
 use Rattle.rds_sync.proofs.decoder.Decoder.push_groups.Goals as goal
 

@@ -1,4 +1,4 @@
-use Rattle.rds_sync.proofs.Names.{arith, common_steps, ◌≡◌, ◌-◌, ◌++◌, ◌≤◌, ℕ, List, length, take, ap, sym, ◌∙◌, rules, Item, items_in}
+use Rattle.rds_sync.proofs.Names.{arith, common_steps, take, rules, items_in}
 use Rattle.rds_sync.proofs.FillLemmas.{part_taken}
 use Rattle.rds_sync.proofs.item_iter.ItemIter.fill.Goals as goal
 

@@ -1,5 +1,5 @@
 use Rattle.std.proofs.Common.{length-drop}
-use Rattle.rds_sync.proofs.Names.{common_steps, ◌<◌, List, ◌++◌, drop, length, ap, ◌∙◌, arith, drop-drop, Item, items_in}
+use Rattle.rds_sync.proofs.Names.{common_steps, drop, arith, drop-drop, items_in}
 use Rattle.rds_sync.proofs.SpanLemmas.{gives_some}
 use Rattle.rds_sync.proofs.item_iter.ItemIter.over.Goals as goal
 

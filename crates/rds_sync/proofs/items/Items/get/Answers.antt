@@ -1,4 +1,4 @@
-use Rattle.rds_sync.proofs.Names.{common_steps, List, length, ap, subst, arith, YieldsFirst, Item, ItemsOf}
+use Rattle.rds_sync.proofs.Names.{common_steps, arith}
 use Rattle.rds_sync.proofs.RangeLemmas.{range_first, range_past}
 use Rattle.rds_sync.proofs.items.Items.get.Goals as goal
 

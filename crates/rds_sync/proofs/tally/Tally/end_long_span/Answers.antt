@@ -1,6 +1,6 @@
-use Rattle.rds_sync.proofs.Names.{arith, common_steps, ap, sym, subst, Signal, ItemsOf, CountOf, IsTally, RuleNumbers}
+use Rattle.rds_sync.proofs.Names.{arith, common_steps, ap, ItemsOf}
 use Rattle.rds_sync.proofs.TallyRuns.{tally-cut}
 use Rattle.rds_sync.proofs.tally.Tally.end_long_span.Goals as goal
 
 pub invariant_of-self-then-items-most_in_one : goal.invariant_of-self-then-items-most_in_one
-invariant_of-self-then-items-most_in_one c = grind (arith, common_steps, tally-cut, c.in_ok-push_span.ensures.ok, c.self.invariant, tally-cut c.self.invariant c.push_span.new.self.list (ap (λ (items : ItemsOf) . items.list) c.in_ok-push_span.ensures.ok))
+invariant_of-self-then-items-most_in_one c = grind (arith, common_steps, tally-cut, c.in_ok-push_span.ensures.ok, c.self.invariant, tally-cut c.self.invariant c.push_span.new.self.list (ap (λ (items : ItemsOf). items.list) c.in_ok-push_span.ensures.ok))

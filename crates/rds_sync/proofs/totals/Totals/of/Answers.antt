@@ -1,5 +1,5 @@
-use Rattle.rds_sync.proofs.Names.{common_steps, ◌≡◌, ◌+◌, ◌*◌, ◌^◌, List, ◌++◌, length, ap, ap₂, arith, sym, ◌∙◌, append_assoc, length-append, Item, plus, CountOf, totals_of}
-use Rattle.rds_sync.proofs.TotalsLemmas.{IsAtMost-more, totals_of-append}
+use Rattle.rds_sync.proofs.Names.{common_steps, arith, append_assoc, length-append, plus, totals_of}
+use Rattle.rds_sync.proofs.TotalsLemmas.{totals_of-append}
 use Rattle.rds_sync.proofs.totals.Totals.of.Goals as goal
 
 pub loop-rest-preserved : goal.loop-rest-preserved
