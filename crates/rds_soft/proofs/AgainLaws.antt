@@ -46,12 +46,8 @@ one_group b symbols margin place blocks one other some h k =
     subst (λ (t : SoftBlock). IsBlockAgain (symbols_heard b symbols (first_bit place blocks 3)) 3 (wanted_beside t) margin (block_in blocks 3) k.three) second k.third in
     let third : k.three ≡ h.three = one_block (symbols_heard b symbols (first_bit place blocks 3)) 3 (wanted_beside h.two) margin (block_in blocks 3) h.three k.three some h.third beside in
     let fourth : k.four ≡ h.four = one_block (symbols_heard b symbols (first_bit place blocks 4)) 4 Either margin (block_in blocks 4) h.four k.four some h.fourth k.fourth in
-    k.told
-    ∙ ap (λ (t : SoftBlock). group_of place (t ∷ k.two ∷ k.three ∷ k.four ∷ [])) first
-    ∙ ap (λ (t : SoftBlock). group_of place (h.one ∷ t ∷ k.three ∷ k.four ∷ [])) second
-    ∙ ap (λ (t : SoftBlock). group_of place (h.one ∷ h.two ∷ t ∷ k.four ∷ [])) third
-    ∙ ap (λ (t : SoftBlock). group_of place (h.one ∷ h.two ∷ h.three ∷ t ∷ [])) fourth
-    ∙ sym h.told
+    let same : group_of place (k.one ∷ k.two ∷ k.three ∷ k.four ∷ []) ≡ group_of place (h.one ∷ h.two ∷ h.three ∷ h.four ∷ []) = cc in
+    k.told ∙ same ∙ sym h.told
 
 pub has_one_item_again : HasOneItemAgain
 has_one_item_again b symbols margin item one other some h k = grind (arith, common_steps, one_group)

@@ -65,14 +65,10 @@ least_small e c zero zero = omega (arith)
 least_small e c zero (suc s) = omega (arith)
 least_small e c (suc n) s = omega (arith, least_small e c n s, min-le_left (least e c n s) (least e c n (bit_xor s (e n)) + c n))
 
--- by which way is lighter
-lesser_small : (t : Bool) (a b c d : ℕ) → b ≤ 255 → c ≤ 255 → elim t [ false ↦ min a b | true ↦ min c d ] ≤ 255
-lesser_small t a b c d left right = grind (arith, common_steps, min-le_right, min-le_left)
-
 pub second_small : (e c : ℕ → ℕ) (n s : ℕ) → second e c n s ≤ 255
 unfolding second
 second_small e c zero s = omega (arith)
-second_small e c (suc n) s = grind (arith, common_steps, lesser_small, least_small, second_small e c n s)
+second_small e c (suc n) s = grind (arith, common_steps, min-le_right, min-le_left, least_small, second_small e c n s)
 
 -- flips of n symbols with the sum s
 pub record Reach (e : ℕ → ℕ) (n s flips : ℕ) : Type 0 where

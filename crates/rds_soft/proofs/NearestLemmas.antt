@@ -48,13 +48,10 @@ pub walk_ends : IsLinear → (confidences : List ℕ) (s left flips spent others
     → IsWalk effect (confidence confidences) s 0 left flips spent others → left ≡ 0 → AreLightest confidences s spent flips others
 walk_ends linear confidences s left flips spent others h none = grind (arith, common_steps, walk_ends_at)
 
-far_is : (left : ℕ) → left ≢ 0 → of_none left ≡ 255
-far_is left some = grind (arith, common_steps)
-
 -- a sum is left: no flips known below 255 have it
 pub walk_fails : IsLinear → (confidences : List ℕ) (s left flips spent others : ℕ)
     → IsWalk effect (confidence confidences) s 0 left flips spent others → left ≢ 0 → AreLightest confidences s 255 flips others
-walk_fails linear confidences s left flips spent others h some = grind (arith, common_steps, none_least, far_is, least_small, walk_ends_at)
+walk_fails linear confidences s left flips spent others h some = grind (arith, common_steps, none_least, least_small, walk_ends_at)
 
 -- ---- one offset is wanted
 

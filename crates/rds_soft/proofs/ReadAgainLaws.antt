@@ -62,11 +62,6 @@ correction_is linear w x wanted cs margin low high few =
 abbrev IsInvalid : ℕ → ℕ → Type 0
 IsInvalid w x = (p : Offset) → IsValid w x p → ⊥
 
-by_correction : (symbols : List ℤ) (x : ℕ) (wanted : Wanted) (margin : ℕ) (c : Option Correction) → IsInvalid (hard_window symbols) x
-    → IsCorrection (hard_window symbols) x wanted (confidences symbols) margin c
-    → IsSoftReading symbols x wanted margin (reading_by (hard_window symbols) c)
-by_correction symbols x wanted margin c invalid h = grind (arith, common_steps)
-
 some_not_none : (o : Offset) → Some o ≡ None → ⊥
 some_not_none o same = cc
 
@@ -75,22 +70,10 @@ abbrev Own : ℕ → ℕ → Option Offset → Type 0
 Own w x None = IsInvalid w x
 Own w x (Some o) = IsValid w x o
 
-by_own : (w x : ℕ) (own : Option Offset) → offset_of (rem w) ≡ own
-    → Own w x (own_of own x)
-by_own w x own is = grind (arith, common_steps, some_not_none, cond_both, eqb-true, eqb-false, some_is)
-
-by_valid : (symbols : List ℤ) (x : ℕ) (wanted : Wanted) (margin : ℕ) (own : Option Offset)
-    → Own (hard_window symbols) x own
-    → IsCorrection (hard_window symbols) x wanted (confidences symbols) margin
-    (correction (hard_window symbols) x wanted (confidences symbols) margin)
-    → IsSoftReading symbols x wanted margin
-    (reading_or (hard_window symbols) own (reading_by (hard_window symbols) (correction (hard_window symbols) x wanted (confidences symbols) margin)))
-by_valid symbols x wanted margin own valid h = grind (arith, common_steps, by_correction)
-
 soft_reading_is : IsLinear → (symbols : List ℤ) (x : ℕ) (wanted : Wanted) (margin : ℕ) → 1 ≤ x → x ≤ 4 → margin ≤ 127
     → IsSoftReading symbols x wanted margin (soft_reading symbols x wanted margin)
 unfolding soft_reading
-soft_reading_is linear symbols x wanted margin low high few = grind (arith, common_steps, by_valid, by_own, correction_is)
+soft_reading_is linear symbols x wanted margin low high few = grind (arith, common_steps, some_not_none, cond_both, eqb-true, eqb-false, some_is, correction_is)
 
 heard_is : IsLinear → (heard : Option (List ℤ)) (x : ℕ) (wanted : Wanted) (margin : ℕ) → 1 ≤ x → x ≤ 4 → margin ≤ 127
     → IsReadingHeard heard x wanted margin (reading_heard heard x wanted margin)
