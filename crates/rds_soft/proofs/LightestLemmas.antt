@@ -1,5 +1,5 @@
 -- The least weight is below that of any flips, the lightest flips have it, and all others weigh at least the second.
-use Rattle.rds_soft.proofs.Names.{common_steps, ◌≡◌, ℕ, zero, suc, ◌+◌, ◌-◌, ◌*◌, ◌^◌, ◌<◌, ◌≤◌, Bool, true, false, refl, sym, ap, ap₂, ◌∙◌, arith, bit_xor, subst, min, ◌⊎◌, inl, inr, lit<, bit_at, xor_self, xor_zero_r, xor_assoc, pow-suc, zero-mul, one-mul, min-le_left, min-le_right, cases_lt, xor_comm, bit_at_cat_low, bit_at_cat_high, bit_at_lowest, sum_of, weigh, of_none, least, is_flipped, second}
+use Rattle.rds_soft.proofs.Names.{common_steps, ◌≡◌, ℕ, zero, suc, ◌+◌, ◌-◌, ◌*◌, ◌^◌, ◌<◌, ◌≤◌, refl, sym, ap, ap₂, ◌∙◌, arith, bit_xor, subst, ◌⊎◌, inl, inr, lit<, bit_at, xor_self, xor_zero_r, xor_assoc, pow-suc, zero-mul, one-mul, min-le_left, min-le_right, cases_lt, xor_comm, bit_at_cat_low, bit_at_cat_high, bit_at_lowest, sum_of, weigh, of_none, least, second}
 
 -- to take away what was added
 pub undone : (a b : ℕ) → bit_xor (bit_xor a b) b ≡ a

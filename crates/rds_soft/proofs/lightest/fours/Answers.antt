@@ -1,4 +1,4 @@
-use Rattle.rds_soft.proofs.Names.{◌≡◌, ℕ, ◌<◌, ◌*◌, ◌/◌, ◌%◌, List, [], ◌∷◌, get_or, bit_xor, refl, sym, ap, ◌∙◌, arith, xor_zero_r, pick_l, inl, inr}
+use Rattle.rds_soft.proofs.Names.{◌*◌, ◌/◌, ◌%◌, [], ◌∷◌, refl, arith, inl, inr}
 use Rattle.rds_soft.proofs.LaneLemmas.{turned_block}
 use Rattle.rds_soft.proofs.lightest.fours.Goals as goal
 use Rattle.rds_soft.proofs.lightest.fours.Goals.{then-effect-eq1, else-effect-eq1}
