@@ -1,17 +1,17 @@
 -- The laws of symbols read as blocks, and of items read again.
-use Rattle.rds_soft.proofs.Names.{common_steps, ◌≡◌, ℕ, ◌+◌, ◌-◌, ◌<◌, ◌≤◌, Bool, true, false, List, [], ◌∷◌, length, get_or, take, drop, refl, sym, ap, ◌∙◌, subst, arith, bit_xor, length-take, length-drop, Option, Some, None, ℤ, pos, nat_lt, not, ◌&&◌, if◌then◌else◌, number_from_digits, lt-ltb, ext_get_or, get_or-take, get_or-drop, Offset, Wanted, Either, HardValid, HardCorrected, HardLost, IsValid, IsReading, information, reading, ReadsByRule, Signal, reading_at, window, heard, touched, length_of, Block, Missing, Read, Acquired, Group, LostLock, block_in, SoftBlock, SoftGroup, SoftAcquired, InSoft, SoftLostLock, mask_of, group_of, wanted_beside, sign, hard_bit, hard_bits, hard_window, confidences, IsSoftReading, symbols_heard, IsReadingHeard, IsBlockAgain, IsGroupAgain, first_bit, HasOneSoftReading, HasOneItemAgain, SymbolsHaveWindows, ReadsFromSymbols}
+use Rattle.rds_soft.proofs.Names.{common_steps, ◌≡◌, ℕ, ◌+◌, ◌-◌, ◌<◌, ◌≤◌, Bool, true, false, List, [], ◌∷◌, length, get_or, take, drop, refl, sym, ap, ◌∙◌, subst, arith, bit_xor, length-take, length-drop, Option, Some, None, ℤ, pos, nat_lt, not, ◌&&◌, if◌then◌else◌, number_from_digits, lt-ltb, ext_get_or, get_or-take, get_or-drop, Offset, Wanted, Either, IsReading, information, reading, ReadsByRule, Signal, reading_at, window, heard, touched, length_of, Block, Read, block_in, SoftBlock, SoftGroup, mask_of, group_of, wanted_beside, hard_bit, hard_bits, hard_window, confidences, IsSoftReading, symbols_heard, IsReadingHeard, IsBlockAgain, IsGroupAgain, first_bit, HasOneSoftReading, HasOneItemAgain, SymbolsHaveWindows, ReadsFromSymbols}
 use mathlib.Core.Path.{ap₂}
 use Rattle.rds_code.specs.declared.reading.Reading.{Reading}
 use Rattle.rds_stream.specs.Recording.{reading_heard}
 use Rattle.rds_soft.specs.declared.soft_reading.SoftReading.{SoftReading}
 use Rattle.rds_soft.specs.declared.soft_reading.SoftReading.TheVariants.{Valid, Corrected, Lost}
-use Rattle.rds_soft.specs.declared.soft_item.SoftBlock.TheVariants.{Missing as SoftMissing, Read as SoftRead}
+use Rattle.rds_soft.specs.declared.soft_item.SoftBlock.TheVariants.{Read as SoftRead}
 use Rattle.rds_soft.proofs.NearestLaws.{has_one_nearest}
 use Rattle.rds_soft.proofs.SymbolLemmas.{bit_of, bit_count}
 
 -- ---- one reading
 
-pub some_is : (o p : Offset) → Some o ≡ Some p → o ≡ p
+some_is : (o p : Offset) → Some o ≡ Some p → o ≡ p
 some_is o p same = cc
 
 pub has_one_soft_reading : HasOneSoftReading
@@ -46,12 +46,8 @@ one_group b symbols margin place blocks one other some h k =
     subst (λ (t : SoftBlock). IsBlockAgain (symbols_heard b symbols (first_bit place blocks 3)) 3 (wanted_beside t) margin (block_in blocks 3) k.three) second k.third in
     let third : k.three ≡ h.three = one_block (symbols_heard b symbols (first_bit place blocks 3)) 3 (wanted_beside h.two) margin (block_in blocks 3) h.three k.three some h.third beside in
     let fourth : k.four ≡ h.four = one_block (symbols_heard b symbols (first_bit place blocks 4)) 4 Either margin (block_in blocks 4) h.four k.four some h.fourth k.fourth in
-    k.told
-    ∙ ap (λ (t : SoftBlock). group_of place (t ∷ k.two ∷ k.three ∷ k.four ∷ [])) first
-    ∙ ap (λ (t : SoftBlock). group_of place (h.one ∷ t ∷ k.three ∷ k.four ∷ [])) second
-    ∙ ap (λ (t : SoftBlock). group_of place (h.one ∷ h.two ∷ t ∷ k.four ∷ [])) third
-    ∙ ap (λ (t : SoftBlock). group_of place (h.one ∷ h.two ∷ h.three ∷ t ∷ [])) fourth
-    ∙ sym h.told
+    let same : group_of place (k.one ∷ k.two ∷ k.three ∷ k.four ∷ []) ≡ group_of place (h.one ∷ h.two ∷ h.three ∷ h.four ∷ []) = cc in
+    k.told ∙ same ∙ sym h.told
 
 pub has_one_item_again : HasOneItemAgain
 has_one_item_again b symbols margin item one other some h k = grind (arith, common_steps, one_group)
@@ -94,14 +90,11 @@ symbols_have_windows symbols first within =
 
 -- ---- blocks
 
-read_is : (r q : SoftReading) → SoftRead q ≡ SoftRead r → q ≡ r
-read_is r q same = cc
-
 -- a block as hard bits read it, and the symbols of the same window
 from_reading : (w x : ℕ) (hard wanted : Wanted) (limit margin : ℕ) (symbols : List ℤ) (r : Reading) (again : SoftReading)
     → hard_window symbols ≡ w → IsReading w x hard limit r → IsBlockAgain (Some symbols) x wanted margin (Read r) (SoftRead again)
     → IsSoftReading symbols x wanted margin again
-from_reading w x hard wanted limit margin symbols r again same h k = grind (arith, common_steps, read_is)
+from_reading w x hard wanted limit margin symbols r again same h k = grind (arith, common_steps)
 
 from_heard : ReadsByRule → (w x : ℕ) (hard wanted : Wanted) (limit margin : ℕ) (symbols : List ℤ) (again : SoftReading) → 1 ≤ x → x ≤ 4 → limit ≤ 5
     → hard_window symbols ≡ w → IsBlockAgain (Some symbols) x wanted margin (Read (reading w x hard limit)) (SoftRead again)

@@ -1,5 +1,5 @@
 -- A list of four blocks, and blocks that are valid.
-use Rattle.rds_soft.proofs.Names.{common_steps, ◌≡◌, ℕ, List, [], ◌∷◌, length, get_or, refl, sym, subst, arith, Option, ℤ, Wanted, Block, SoftBlock, IsBlockAgain}
+use Rattle.rds_soft.proofs.Names.{common_steps, ◌≡◌, ℕ, List, [], ◌∷◌, length, get_or, sym, subst, arith, Option, ℤ, Wanted, Block, SoftBlock, IsBlockAgain}
 use Rattle.rds_soft.specs.Inside.ValidBlocks.{IsValidBlock}
 
 pub list_of_four : (xs : List Block) (a b c d : Block) → length xs ≡ 4

@@ -1,9 +1,9 @@
 -- The groups of a run end inside the part that the run is over, so they are read again there as in the whole.
-use Rattle.rds_soft.proofs.Names.{common_steps, ◌≡◌, ℕ, zero, suc, ◌+◌, ◌-◌, ◌*◌, ◌<◌, ◌≤◌, ◌∙◌, List, [], ◌∷◌, ◌++◌, Bool, true, false, Option, Some, None, ap, ap₂, arith, inl, inr, map, refl, subst, sym, ⊤, ◌==◌, ℤ, eq-eqb, eqb-true, false≢true, Valid, Corrected, Lost, Wanted, Either, Signal, State, Searching, Locked, Block, Missing, Read, Item, Acquired, Group, LostLock, block_in, blocks_at, group, AreInOrder, IsLawful, AcquisitionsAreLate, StepsAreLawful, RuleNumbers, completed_group, history_after_block, items_at, items_of_end, lock_after, run, step, moved_item, moved_items, SoftBlock, SoftItem, InSoft, first_bit, symbols_heard, was_read, block_again, group_again, item_again, reading_heard, group_of, wanted_beside, moved_again, ◌⊎◌, ◌&&◌, if◌then◌else◌}
+use Rattle.rds_sync.specs.Groups.{block_at, wanted_beside as hard_beside}
+use Rattle.rds_soft.proofs.Names.{common_steps, ◌≡◌, ℕ, zero, suc, ◌+◌, ◌-◌, ◌*◌, ◌<◌, ◌≤◌, ◌∙◌, List, [], ◌∷◌, ◌++◌, Bool, true, false, Option, Some, None, ap, ap₂, arith, map, refl, subst, ⊤, ◌==◌, ℤ, eq-eqb, eqb-true, false≢true, Wanted, Either, Signal, State, Searching, Locked, Block, Item, Acquired, Group, LostLock, block_in, blocks_at, group, AreInOrder, IsLawful, AcquisitionsAreLate, StepsAreLawful, RuleNumbers, completed_group, history_after_block, items_at, items_of_end, lock_after, run, step, moved_item, moved_items, InSoft, first_bit, symbols_heard, was_read, block_again, group_again, item_again, wanted_beside, moved_again, ◌⊎◌}
 use Rattle.rds_sync.specs.declared.lock.Lock.{Lock}
 use Rattle.rds_sync.specs.Acquiring.{acquired}
 use Rattle.rds_sync.specs.Loss.{IsLossRule, are_too_many}
-use Rattle.rds_soft.specs.declared.soft_item.SoftBlock.TheVariants as Again
 
 -- ---- where blocks end
 
@@ -41,33 +41,23 @@ both end (x ∷ xs) ys h k = (h.0, both end xs ys h.1 k)
 -- ---- the groups of a run
 
 module _ (b : Signal) (rules : RuleNumbers) (i : ℕ) where
+  -- a block of a group was read only if it is one of those from f to x
+  was-read : (f x : ℕ) (wanted : Wanted) (n : ℕ)
+      → (was_read (block_at b rules f x i wanted n) ≡ 0) ⊎ ((was_read (block_at b rules f x i wanted n) ≡ 1) × (f ≤ n) × (n ≤ x))
+  was-read f x wanted n = grind (arith, common_steps)
+
   of_blocks : (f x : ℕ) → 1 ≤ f → f ≤ x → x ≤ 4 → 26 * (x - f) + 25 ≤ i → IsInside (i + 1) (i - 26 * (x - f) - 25) (blocks_at b rules f x i)
-  of_blocks zero x low order high room = absurd (omega (arith, low))
-  of_blocks (suc zero) zero low order high room = absurd (omega (arith, order))
-  of_blocks (suc zero) (suc zero) low order high room = grind (arith, common_steps, blocks_at)
-  of_blocks (suc zero) (suc (suc zero)) low order high room = grind (arith, common_steps, blocks_at)
-  of_blocks (suc zero) (suc (suc (suc zero))) low order high room = grind (arith, common_steps, blocks_at)
-  of_blocks (suc zero) (suc (suc (suc (suc zero)))) low order high room = grind (arith, common_steps, blocks_at)
-  of_blocks (suc zero) (suc (suc (suc (suc (suc n))))) low order high room = absurd (omega (arith, high))
-  of_blocks (suc (suc zero)) zero low order high room = absurd (omega (arith, order))
-  of_blocks (suc (suc zero)) (suc zero) low order high room = absurd (omega (arith, order))
-  of_blocks (suc (suc zero)) (suc (suc zero)) low order high room = grind (arith, common_steps, blocks_at)
-  of_blocks (suc (suc zero)) (suc (suc (suc zero))) low order high room = grind (arith, common_steps, blocks_at)
-  of_blocks (suc (suc zero)) (suc (suc (suc (suc zero)))) low order high room = grind (arith, common_steps, blocks_at)
-  of_blocks (suc (suc zero)) (suc (suc (suc (suc (suc n))))) low order high room = absurd (omega (arith, high))
-  of_blocks (suc (suc (suc zero))) zero low order high room = absurd (omega (arith, order))
-  of_blocks (suc (suc (suc zero))) (suc zero) low order high room = absurd (omega (arith, order))
-  of_blocks (suc (suc (suc zero))) (suc (suc zero)) low order high room = absurd (omega (arith, order))
-  of_blocks (suc (suc (suc zero))) (suc (suc (suc zero))) low order high room = grind (arith, common_steps, blocks_at)
-  of_blocks (suc (suc (suc zero))) (suc (suc (suc (suc zero)))) low order high room = grind (arith, common_steps, blocks_at)
-  of_blocks (suc (suc (suc zero))) (suc (suc (suc (suc (suc n))))) low order high room = absurd (omega (arith, high))
-  of_blocks (suc (suc (suc (suc zero)))) zero low order high room = absurd (omega (arith, order))
-  of_blocks (suc (suc (suc (suc zero)))) (suc zero) low order high room = absurd (omega (arith, order))
-  of_blocks (suc (suc (suc (suc zero)))) (suc (suc zero)) low order high room = absurd (omega (arith, order))
-  of_blocks (suc (suc (suc (suc zero)))) (suc (suc (suc zero))) low order high room = absurd (omega (arith, order))
-  of_blocks (suc (suc (suc (suc zero)))) (suc (suc (suc (suc zero)))) low order high room = grind (arith, common_steps, blocks_at)
-  of_blocks (suc (suc (suc (suc zero)))) (suc (suc (suc (suc (suc n))))) low order high room = absurd (omega (arith, high))
-  of_blocks (suc (suc (suc (suc (suc n))))) x low order high room = absurd (omega (arith, order, high))
+  of_blocks f x low order high room =
+      let first = was-read f x Either 1 in
+      let second = was-read f x Either 2 in
+      let third = was-read f x (hard_beside (block_at b rules f x i Either 2)) 3 in
+      let fourth = was-read f x Either 4 in
+      record {
+        one = λ read. omega (arith, room);
+        two = λ read. grind (arith, room, high, first, second, read);
+        three = λ read. grind (arith, room, high, first, second, third, read);
+        four = λ read. grind (arith, room, high, first, second, third, fourth, read);
+      }
 
   group-inside : (f x : ℕ) → 1 ≤ f → f ≤ x → x ≤ 4 → 26 * (x - f) + 25 ≤ i → ItemInside (i + 1) (Group (group b rules f x i))
   unfolding group
@@ -142,20 +132,9 @@ module _ (part whole : Signal) (P W : List ℤ) (margin end d : ℕ) (are : AreS
   group-same place blocks inside =
       let one = block-same place blocks 1 1 Either inside.one in
       let two = block-same place blocks 2 2 Either inside.two in
-      let second : SoftBlock = block_again (symbols_heard part P (first_bit place blocks 2)) 2 Either margin (block_in blocks 2) in
-      let three = block-same place blocks 3 3 (wanted_beside second) inside.three in
+      let three = block-same place blocks 3 3 (wanted_beside (block_again (symbols_heard part P (first_bit place blocks 2)) 2 Either margin (block_in blocks 2))) inside.three in
       let four = block-same place blocks 4 4 Either inside.four in
-      let all : ℕ → SoftBlock → SoftBlock → SoftBlock → SoftBlock → SoftItem =
-      λ p a b c e. InSoft (group_of p (a ∷ b ∷ c ∷ e ∷ [])) in
-      ap (λ (a : SoftBlock). all (place + d) a second (block_again (symbols_heard part P (first_bit place blocks 3)) 3 (wanted_beside second) margin (block_in blocks 3))
-      (block_again (symbols_heard part P (first_bit place blocks 4)) 4 Either margin (block_in blocks 4))) one
-      ∙ ap (λ (c : SoftBlock). all (place + d) (block_again (symbols_heard whole W (first_bit (place + d) blocks 1)) 1 Either margin (block_in blocks 1)) second c
-      (block_again (symbols_heard part P (first_bit place blocks 4)) 4 Either margin (block_in blocks 4))) three
-      ∙ ap (λ (e : SoftBlock). all (place + d) (block_again (symbols_heard whole W (first_bit (place + d) blocks 1)) 1 Either margin (block_in blocks 1)) second
-      (block_again (symbols_heard whole W (first_bit (place + d) blocks 3)) 3 (wanted_beside second) margin (block_in blocks 3)) e) four
-      ∙ ap (λ (b : SoftBlock). all (place + d) (block_again (symbols_heard whole W (first_bit (place + d) blocks 1)) 1 Either margin (block_in blocks 1)) b
-      (block_again (symbols_heard whole W (first_bit (place + d) blocks 3)) 3 (wanted_beside b) margin (block_in blocks 3))
-      (block_again (symbols_heard whole W (first_bit (place + d) blocks 4)) 4 Either margin (block_in blocks 4))) two
+      rw (one, three, four, two) refl
 
   item-same : (item : Item) → ItemInside end item → moved_again d (item_again part P margin item) ≡ item_again whole W margin (moved_item d item)
   unfolding item_again

@@ -1,6 +1,6 @@
 -- Lanes of sixteen weights.
-use Rattle.rds_code.proofs.Membership.{each_below}
-use Rattle.rds_soft.proofs.Names.{common_steps, xor_assoc, ◌++◌, length, ◌≡◌, ℕ, zero, suc, ◌+◌, ◌*◌, ◌/◌, ◌%◌, ◌^◌, ◌<◌, ◌≤◌, List, false, true, Bool, cond, ltb, get_or, sym, ap, subst, ◌∙◌, arith, rules, bit_xor, min, refl, ◌-◌, inl, inr, min-eq_left, min-eq_right, cases_lt, T, all_below, pick_l, xor_lt, xor_block, pick_l_left, ◌⊎◌, xor_zero_r}
+use Rattle.rds_code.proofs.Membership.{each_below, EachBelow}
+use Rattle.rds_soft.proofs.Names.{common_steps, xor_assoc, ◌++◌, length, ◌≡◌, ℕ, ◌+◌, ◌*◌, ◌/◌, ◌%◌, ◌^◌, ◌<◌, ◌≤◌, List, Bool, cond, ltb, get_or, sym, ap, subst, ◌∙◌, arith, rules, bit_xor, min, refl, ◌-◌, inl, inr, min-eq_left, min-eq_right, cases_lt, T, all_below, pick_l, xor_lt, xor_block, pick_l_left, ◌⊎◌, xor_zero_r}
 
 by_test : (t : Bool) (a b : ℕ) → t ≡ ltb a b → cond t a b ≡ min a b
 by_test t a b is = grind (arith, common_steps, rules, min-eq_left, min-eq_right, ltb)
@@ -38,25 +38,19 @@ block_more P n before here s less = elim (cases_lt s (16 * n)) [
 pub capped_sum : (a weight c : ℕ) → c ≤ 255 → a ≡ min weight (255 - c) → (a + c) % 256 ≡ min (weight + c) 255
 capped_sum a weight c small is = omega (arith, small, is)
 
--- a fact of each place
-pub at_place : (P : ℕ → Type 0) → P 0 → P 1 → P 2 → P 3 → P 4 → P 5 → P 6 → P 7 → P 8 → P 9 → P 10 → P 11 → P 12 → P 13 → P 14 → P 15
-    → (j : ℕ) → j < 16 → P j
-at_place P p0 p1 p2 p3 p4 p5 p6 p7 p8 p9 p10 p11 p12 p13 p14 p15 =
-    each_below P 16 (p0, (p1, (p2, (p3, (p4, (p5, (p6, (p7, (p8, (p9, (p10, (p11, (p12, (p13, (p14, (p15, tt))))))))))))))))
-
 -- a block whose places are exchanged by m, or not at all
 pub turned_block : (xs ks ys : List ℕ) (m part : ℕ) → length xs ≡ 16 → T (all_below 16 ks)
-    → ((j : ℕ) → j < 16 → get_or (pick_l 0 xs ks) j 0 ≡ get_or xs (bit_xor j m) 0)
+    → EachBelow (λ (j : ℕ). get_or (pick_l 0 xs ks) j 0 ≡ get_or xs (bit_xor j m) 0) 16
     → ((part ≡ m) × (ys ≡ pick_l 0 (xs ++ xs) ks)) ⊎ ((part ≡ 0) × (ys ≡ xs)) → (j : ℕ) → j < 16 → get_or ys j 0 ≡ get_or xs (bit_xor j part) 0
 turned_block xs ks ys m part long below at (inl h) j less =
-    ap (λ (l : List ℕ). get_or l j 0) (h.1 ∙ pick_l_left 0 xs xs 16 ks long below) ∙ at j less ∙ ap (λ (k : ℕ). get_or xs (bit_xor j k) 0) (sym h.0)
+    ap (λ (l : List ℕ). get_or l j 0) (h.1 ∙ pick_l_left 0 xs xs 16 ks long below) ∙ each_below (λ (j : ℕ). get_or (pick_l 0 xs ks) j 0 ≡ get_or xs (bit_xor j m) 0) 16 at j less ∙ ap (λ (k : ℕ). get_or xs (bit_xor j k) 0) (sym h.0)
 turned_block xs ks ys m part long below at (inr h) j less =
     ap (λ (l : List ℕ). get_or l j 0) h.1 ∙ ap (λ (k : ℕ). get_or xs k 0) (sym (xor_zero_r j) ∙ ap (bit_xor j) (sym h.0))
 
 -- the lowest four bits, each turned by itself
 bits_together : (k : ℕ) → k < 16 → bit_xor (k / 8 % 2 * 8) (bit_xor (k / 4 % 2 * 4) (bit_xor (k / 2 % 2 * 2) (k % 2))) ≡ k
 bits_together =
-    at_place (λ (k : ℕ). bit_xor (k / 8 % 2 * 8) (bit_xor (k / 4 % 2 * 4) (bit_xor (k / 2 % 2 * 2) (k % 2))) ≡ k) refl refl refl refl refl refl refl refl refl refl refl refl refl refl refl refl
+    each_below (λ (k : ℕ). bit_xor (k / 8 % 2 * 8) (bit_xor (k / 4 % 2 * 4) (bit_xor (k / 2 % 2 * 2) (k % 2))) ≡ k) 16 (refl, (refl, (refl, (refl, (refl, (refl, (refl, (refl, (refl, (refl, (refl, (refl, (refl, (refl, (refl, (refl, tt))))))))))))))))
 
 pub parts_turn : (e j : ℕ) → bit_xor (bit_xor (bit_xor (bit_xor j (e / 8 % 2 * 8)) (e / 4 % 2 * 4)) (e / 2 % 2 * 2)) (e % 2) ≡ bit_xor j (e % 16)
 parts_turn e j =

@@ -1,5 +1,5 @@
 -- The least weight is below that of any flips, the lightest flips have it, and all others weigh at least the second.
-use Rattle.rds_soft.proofs.Names.{common_steps, ◌≡◌, ℕ, zero, suc, ◌+◌, ◌-◌, ◌*◌, ◌^◌, ◌<◌, ◌≤◌, Bool, true, false, refl, sym, ap, ap₂, ◌∙◌, arith, bit_xor, subst, min, ◌⊎◌, inl, inr, lit<, bit_at, xor_self, xor_zero_r, xor_assoc, pow-suc, zero-mul, one-mul, min-le_left, min-le_right, cases_lt, xor_comm, bit_at_cat_low, bit_at_cat_high, bit_at_lowest, sum_of, weigh, of_none, least, is_flipped, second}
+use Rattle.rds_soft.proofs.Names.{common_steps, ◌≡◌, ℕ, zero, suc, ◌+◌, ◌-◌, ◌*◌, ◌^◌, ◌<◌, ◌≤◌, refl, sym, ap, ap₂, ◌∙◌, arith, bit_xor, subst, ◌⊎◌, inl, inr, lit<, bit_at, xor_self, xor_zero_r, xor_assoc, pow-suc, zero-mul, one-mul, min-le_left, min-le_right, cases_lt, xor_comm, bit_at_cat_low, bit_at_cat_high, bit_at_lowest, sum_of, weigh, of_none, least, second}
 
 -- to take away what was added
 pub undone : (a b : ℕ) → bit_xor (bit_xor a b) b ≡ a
@@ -65,14 +65,10 @@ least_small e c zero zero = omega (arith)
 least_small e c zero (suc s) = omega (arith)
 least_small e c (suc n) s = omega (arith, least_small e c n s, min-le_left (least e c n s) (least e c n (bit_xor s (e n)) + c n))
 
--- by which way is lighter
-lesser_small : (t : Bool) (a b c d : ℕ) → b ≤ 255 → c ≤ 255 → elim t [ false ↦ min a b | true ↦ min c d ] ≤ 255
-lesser_small t a b c d left right = grind (arith, common_steps, min-le_right, min-le_left)
-
 pub second_small : (e c : ℕ → ℕ) (n s : ℕ) → second e c n s ≤ 255
 unfolding second
 second_small e c zero s = omega (arith)
-second_small e c (suc n) s = grind (arith, common_steps, lesser_small, least_small, second_small e c n s)
+second_small e c (suc n) s = grind (arith, common_steps, min-le_right, min-le_left, least_small, second_small e c n s)
 
 -- flips of n symbols with the sum s
 pub record Reach (e : ℕ → ℕ) (n s flips : ℕ) : Type 0 where

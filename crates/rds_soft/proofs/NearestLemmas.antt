@@ -1,5 +1,5 @@
 -- From the lightest flips of each offset to the nearest block.
-use Rattle.rds_soft.proofs.Names.{common_steps, ◌≡◌, ◌≢◌, ℕ, zero, suc, ◌+◌, ◌<◌, ◌≤◌, List, refl, sym, ap, ◌∙◌, arith, bit_xor, min, subst, ◌⊎◌, inl, inr, IsTrue, xor_self, xor_assoc, xor_zero_l, min-le_left, min-le_right, min-eq_left, min-eq_right, cases_lt, cases_eq, false≢true, Offset, A, B, C, Cx, D, Wanted, OnlyC, OnlyCx, Either, rem, word, number, allows, IsLinear, mask_of, weight, Turns, IsNearest, effect, confidence, Leads, AreLightest, of_none, least, lightest, second, IsWalk, TurnTo, AreNearest}
+use Rattle.rds_soft.proofs.Names.{common_steps, ◌≡◌, ◌≢◌, ℕ, ◌+◌, ◌<◌, ◌≤◌, List, refl, sym, ap, ◌∙◌, arith, bit_xor, min, subst, ◌⊎◌, inl, inr, IsTrue, xor_self, xor_assoc, xor_zero_l, min-le_left, min-le_right, min-eq_left, min-eq_right, cases_lt, cases_eq, false≢true, Offset, A, B, C, Cx, D, Wanted, OnlyC, OnlyCx, Either, rem, word, number, allows, IsLinear, mask_of, weight, Turns, IsNearest, effect, confidence, Leads, AreLightest, of_none, least, lightest, second, IsWalk, TurnTo, AreNearest}
 use Rattle.rds_soft.proofs.FlipLemmas.{are_lightest}
 use Rattle.rds_soft.proofs.LightestLemmas.{least_small}
 
@@ -48,13 +48,10 @@ pub walk_ends : IsLinear → (confidences : List ℕ) (s left flips spent others
     → IsWalk effect (confidence confidences) s 0 left flips spent others → left ≡ 0 → AreLightest confidences s spent flips others
 walk_ends linear confidences s left flips spent others h none = grind (arith, common_steps, walk_ends_at)
 
-far_is : (left : ℕ) → left ≢ 0 → of_none left ≡ 255
-far_is left some = grind (arith, common_steps)
-
 -- a sum is left: no flips known below 255 have it
 pub walk_fails : IsLinear → (confidences : List ℕ) (s left flips spent others : ℕ)
     → IsWalk effect (confidence confidences) s 0 left flips spent others → left ≢ 0 → AreLightest confidences s 255 flips others
-walk_fails linear confidences s left flips spent others h some = grind (arith, common_steps, none_least, far_is, least_small, walk_ends_at)
+walk_fails linear confidences s left flips spent others h some = grind (arith, common_steps, none_least, least_small, walk_ends_at)
 
 -- ---- one offset is wanted
 

@@ -1,8 +1,7 @@
 -- What the functions of `ReadAgain` compute is what the rule allows.
-use Rattle.rds_soft.proofs.Names.{common_steps, ◌≡◌, ℕ, zero, suc, ◌+◌, ◌≤◌, List, refl, sym, ap, ◌∙◌, arith, bit_xor, min, subst, Option, Some, None, ◌==◌, ℤ, nat_lt, if◌then◌else◌, ltb-true, ltb-false, eqb-true, eqb-false, cond_both, Offset, A, B, C, Cx, D, Wanted, OnlyC, OnlyCx, Either, HardValid, HardCorrected, HardLost, IsLinear, rem, offset_of, word, number, IsValid, Signal, Block, Missing, Read, Acquired, Group, LostLock, block_in, IsCorrection, wanted_beside, hard_window, confidences, IsSoftReading, symbols_heard, first_bit, IsReadingHeard, IsBlockAgain, IsGroupAgain, Turn, turn_to, lighter, turn_third, turn_of, within, correction, own_of, reading_by, reading_or, soft_reading, reading_heard, block_again, group_again, item_again, ItemsAreReadAgainSo, TurnTo, AreNearest}
+use Rattle.rds_soft.proofs.Names.{common_steps, ◌≡◌, ℕ, zero, suc, ◌+◌, ◌≤◌, List, refl, arith, bit_xor, Option, Some, None, ℤ, nat_lt, if◌then◌else◌, ltb-true, ltb-false, eqb-true, eqb-false, cond_both, Offset, A, B, C, Cx, D, Wanted, OnlyC, OnlyCx, Either, IsLinear, rem, word, number, Signal, Block, Acquired, Group, LostLock, IsCorrection, IsSoftReading, IsReadingHeard, IsBlockAgain, IsGroupAgain, Turn, turn_to, lighter, turn_third, turn_of, within, correction, soft_reading, reading_heard, block_again, group_again, item_again, ItemsAreReadAgainSo, TurnTo, AreNearest}
 use Rattle.rds_soft.specs.declared.correction.Correction.{Correction}
 use Rattle.rds_soft.proofs.FlipLemmas.{are_lightest}
-use Rattle.rds_soft.proofs.AgainLaws.{some_is}
 use Rattle.rds_soft.proofs.NearestLemmas.{only_one, nearer_C, nearer_Cx, is_nearest, none_past_top, none_beside, only_A, only_B, only_C, only_Cx, only_D, A_allowed, B_allowed, D_allowed}
 
 -- ---- the correction
@@ -58,39 +57,10 @@ correction_is linear w x wanted cs margin low high few =
 
 -- ---- readings
 
--- a window that no offset of block x makes valid
-abbrev IsInvalid : ℕ → ℕ → Type 0
-IsInvalid w x = (p : Offset) → IsValid w x p → ⊥
-
-by_correction : (symbols : List ℤ) (x : ℕ) (wanted : Wanted) (margin : ℕ) (c : Option Correction) → IsInvalid (hard_window symbols) x
-    → IsCorrection (hard_window symbols) x wanted (confidences symbols) margin c
-    → IsSoftReading symbols x wanted margin (reading_by (hard_window symbols) c)
-by_correction symbols x wanted margin c invalid h = grind (arith, common_steps)
-
-some_not_none : (o : Offset) → Some o ≡ None → ⊥
-some_not_none o same = cc
-
--- the window's own offset, if it has one
-abbrev Own : ℕ → ℕ → Option Offset → Type 0
-Own w x None = IsInvalid w x
-Own w x (Some o) = IsValid w x o
-
-by_own : (w x : ℕ) (own : Option Offset) → offset_of (rem w) ≡ own
-    → Own w x (own_of own x)
-by_own w x own is = grind (arith, common_steps, some_not_none, cond_both, eqb-true, eqb-false, some_is)
-
-by_valid : (symbols : List ℤ) (x : ℕ) (wanted : Wanted) (margin : ℕ) (own : Option Offset)
-    → Own (hard_window symbols) x own
-    → IsCorrection (hard_window symbols) x wanted (confidences symbols) margin
-    (correction (hard_window symbols) x wanted (confidences symbols) margin)
-    → IsSoftReading symbols x wanted margin
-    (reading_or (hard_window symbols) own (reading_by (hard_window symbols) (correction (hard_window symbols) x wanted (confidences symbols) margin)))
-by_valid symbols x wanted margin own valid h = grind (arith, common_steps, by_correction)
-
 soft_reading_is : IsLinear → (symbols : List ℤ) (x : ℕ) (wanted : Wanted) (margin : ℕ) → 1 ≤ x → x ≤ 4 → margin ≤ 127
     → IsSoftReading symbols x wanted margin (soft_reading symbols x wanted margin)
 unfolding soft_reading
-soft_reading_is linear symbols x wanted margin low high few = grind (arith, common_steps, by_valid, by_own, correction_is)
+soft_reading_is linear symbols x wanted margin low high few = grind (arith, common_steps, cond_both, eqb-true, eqb-false, correction_is)
 
 heard_is : IsLinear → (heard : Option (List ℤ)) (x : ℕ) (wanted : Wanted) (margin : ℕ) → 1 ≤ x → x ≤ 4 → margin ≤ 127
     → IsReadingHeard heard x wanted margin (reading_heard heard x wanted margin)

@@ -1,5 +1,5 @@
 -- The lightest flips have the least weight, and all others weigh at least the second.
-use Rattle.rds_soft.proofs.Names.{common_steps, ◌≡◌, ◌≢◌, ℕ, zero, suc, ◌+◌, ◌^◌, ◌<◌, ◌≤◌, Bool, true, false, refl, sym, ap, ◌∙◌, arith, bit_xor, subst, min, rules, ◌⊎◌, inl, inr, nat_lt, lit<, pow-suc, min-le_left, min-le_right, min-eq_left, min-eq_right, cases_lt, sum_of, weigh, of_none, least, is_flipped, lightest, second}
+use Rattle.rds_soft.proofs.Names.{common_steps, ◌≡◌, ◌≢◌, ℕ, zero, suc, ◌+◌, ◌^◌, ◌<◌, ◌≤◌, Bool, true, false, refl, sym, ◌∙◌, arith, bit_xor, subst, min, rules, ◌⊎◌, inl, inr, nat_lt, lit<, pow-suc, min-le_left, min-le_right, min-eq_left, min-eq_right, cases_lt, sum_of, weigh, of_none, least, is_flipped, lightest, second}
 use Rattle.rds_soft.proofs.LightestLemmas.{Reach, kept, turned, kept_weighs, turned_weighs, ways, least_below}
 
 -- flips of this weight

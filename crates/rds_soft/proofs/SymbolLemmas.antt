@@ -1,5 +1,5 @@
 -- Signs, bits and windows of symbols.
-use Rattle.rds_soft.proofs.Names.{◌≡◌, ℕ, ◌+◌, ◌-◌, ◌*◌, ◌<◌, true, false, List, length, get_or, take, ap, arith, lit<, ℤ, pos, if◌then◌else◌, is_positive, number_from_digits, xor_lt, take_all, get_or-map-range_with_len, length-map-range_with_len, sign, hard_bit, hard_bits, hard_window}
+use Rattle.rds_soft.proofs.Names.{◌≡◌, ℕ, ◌+◌, ◌-◌, ◌*◌, ◌<◌, true, false, List, length, get_or, take, arith, lit<, ℤ, if◌then◌else◌, is_positive, number_from_digits, get_or-map-range_with_len, length-map-range_with_len, sign, hard_bit, hard_bits}
 use Rattle.std.proofs.lemmas.Int.Digits.{number_more}
 
 sign_lt : (r : ℤ) → sign r < 2

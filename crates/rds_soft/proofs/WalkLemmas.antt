@@ -1,5 +1,5 @@
 -- One symbol of the look back.
-use Rattle.rds_soft.proofs.Names.{common_steps, ◌≡◌, ℕ, suc, ◌+◌, ◌^◌, ◌<◌, ◌≤◌, Bool, true, false, refl, sym, ap, ◌∙◌, arith, rules, bit_xor, min, nat_lt, min-le_left, least, is_flipped, lightest, second, IsWalk}
+use Rattle.rds_soft.proofs.Names.{common_steps, ◌≡◌, ℕ, suc, ◌+◌, ◌^◌, ◌<◌, ◌≤◌, Bool, true, false, refl, arith, rules, bit_xor, min, min-le_left, least, is_flipped, lightest, second, IsWalk, lt-ltb, le-ltb}
 use Rattle.rds_soft.proofs.LightestLemmas.{second_small}
 
 if_true : (t : Bool) (a b : ℕ) → t ≡ true → elim t [ false ↦ a | true ↦ b ] ≡ b
@@ -7,12 +7,6 @@ if_true t a b is = grind (arith, common_steps, rules)
 
 if_false : (t : Bool) (a b : ℕ) → t ≡ false → elim t [ false ↦ a | true ↦ b ] ≡ a
 if_false t a b is = grind (arith, common_steps, rules)
-
-is_less : (a b : ℕ) → a < b → nat_lt a b ≡ true
-is_less a b less = search (rules, less)
-
-is_more : (a b : ℕ) → b ≤ a → nat_lt a b ≡ false
-is_more a b le = search (rules, le)
 
 -- one symbol more, by the definitions
 least_more : (e c : ℕ → ℕ) (n s : ℕ) → least e c (suc n) s ≡ min (least e c n s) (least e c n (bit_xor s (e n)) + c n)
@@ -46,10 +40,10 @@ walk_begins e c s small = grind (arith, common_steps, second_small)
 pub walk_turned : (e c : ℕ → ℕ) (s m n left flips spent others turned : ℕ) → IsWalk e c s m left flips spent others → m ≡ suc n
     → turned ≡ bit_xor left (e n) → turned < 1024 → least e c n turned + c n < least e c n left
     → IsWalk e c s n turned (flips + 2 ^ n) (spent + c n) (min others (spent + least e c n left))
-walk_turned e c s m n left flips spent others turned h is turned_is small less = grind (arith, common_steps, is_less, lightest_turned, least_more, second_turned, min-le_left)
+walk_turned e c s m n left flips spent others turned h is turned_is small less = grind (arith, common_steps, lt-ltb, lightest_turned, least_more, second_turned, min-le_left)
 
 -- the symbol is kept
 pub walk_kept : (e c : ℕ → ℕ) (s m n left flips spent others turned : ℕ) → IsWalk e c s m left flips spent others → m ≡ suc n
     → turned ≡ bit_xor left (e n) → least e c n left ≤ least e c n turned + c n
     → IsWalk e c s n left flips spent (min others (spent + (least e c n turned + c n)))
-walk_kept e c s m n left flips spent others turned h is turned_is le = grind (arith, common_steps, is_more, lightest_kept, least_more, second_kept, min-le_left)
+walk_kept e c s m n left flips spent others turned h is turned_is le = grind (arith, common_steps, le-ltb, lightest_kept, least_more, second_kept, min-le_left)

@@ -1,4 +1,4 @@
-use Rattle.rds_soft.proofs.Names.{common_steps, arith, ◌≡◌, ◌+◌, ◌∙◌, ℕ, List, Bool, true, false, Option, Some, None, refl, ap, sym, length, take, drop, ℤ, nat_lt, if◌then◌else◌, cast_signed, w8, take-map, drop-map, option_map, length-map, symbols_of}
+use Rattle.rds_soft.proofs.Names.{common_steps, arith, ◌≡◌, ◌+◌, ◌∙◌, ℕ, List, Bool, Option, Some, None, ap, sym, length, take, drop, ℤ, nat_lt, if◌then◌else◌, cast_signed, w8, take-map, drop-map, option_map, length-map, symbols_of}
 use Rattle.rds_soft.proofs.again.chunk_at.Goals as goal
 
 mapped : (b : Bool) (x : List ℕ) → option_map symbols_of (if b then Some x else None) ≡ (if b then Some (symbols_of x) else None)

@@ -1,4 +1,4 @@
-use Rattle.rds_soft.proofs.Names.{common_steps, arith, ℕ, List, [], ◌∷◌, ◌∙◌, ap, sym, subst, ℤ, Either, Block, symbols_heard, first_bit, IsGroupAgain, symbols_of, wanted_beside, group_of}
+use Rattle.rds_soft.proofs.Names.{common_steps, arith}
 use Rattle.rds_soft.proofs.AgainLemmas.{valid_stays}
 use Rattle.rds_soft.proofs.again.group_again.Goals as goal
 

@@ -1,4 +1,4 @@
-use Rattle.rds_soft.proofs.Names.{common_steps, false, cond, ltb, length, get_or, ap, ◌∙◌, arith, w8, zip2, sel_l, tops_compared, length-zip2, length-sel_l, get_or-sel_l, get_or-zip2}
+use Rattle.rds_soft.proofs.Names.{common_steps, false, cond, ltb, get_or, ap, ◌∙◌, arith, w8, zip2, sel_l, tops_compared, length-zip2, length-sel_l, get_or-sel_l, get_or-zip2}
 use Rattle.rds_soft.proofs.LaneLemmas.{lesser_is}
 use Rattle.rds_soft.proofs.lightest.smaller.Goals as goal
 

@@ -1,17 +1,13 @@
-use Rattle.rds_soft.proofs.Names.{◌≡◌, ℕ, ◌<◌, ◌*◌, ◌/◌, ◌%◌, List, [], ◌∷◌, get_or, bit_xor, refl, sym, ap, ◌∙◌, arith, xor_zero_r, pick_l, inl, inr}
-use Rattle.rds_soft.proofs.LaneLemmas.{at_place, turned_block}
+use Rattle.rds_soft.proofs.Names.{◌*◌, ◌/◌, ◌%◌, [], ◌∷◌, refl, arith, inl, inr}
+use Rattle.rds_soft.proofs.LaneLemmas.{turned_block}
 use Rattle.rds_soft.proofs.lightest.twos.Goals as goal
 use Rattle.rds_soft.proofs.lightest.twos.Goals.{then-effect-eq1, else-effect-eq1}
 
-abbrev positions : List ℕ
-positions = 2 ∷ 3 ∷ 0 ∷ 1 ∷ 6 ∷ 7 ∷ 4 ∷ 5 ∷ 10 ∷ 11 ∷ 8 ∷ 9 ∷ 14 ∷ 15 ∷ 12 ∷ 13 ∷ []
-
-at : (xs : List ℕ) (j : ℕ) → j < 16 → get_or (pick_l 0 xs positions) j 0 ≡ get_or xs (bit_xor j 2) 0
-at xs = at_place (λ (j : ℕ). get_or (pick_l 0 xs positions) j 0 ≡ get_or xs (bit_xor j 2) 0) refl refl refl refl refl refl refl refl refl refl refl refl refl refl refl refl
-
 pub returns-clause-each : goal.returns-clause-each
 returns-clause-each c =
-    turned_block c.args.block positions _ 2 (c.args.effect / 2 % 2 * 2) c.requires.long tt (at c.args.block) (elim c.if-effect-eq1.branch [
+    turned_block c.args.block
+    (2 ∷ 3 ∷ 0 ∷ 1 ∷ 6 ∷ 7 ∷ 4 ∷ 5 ∷ 10 ∷ 11 ∷ 8 ∷ 9 ∷ 14 ∷ 15 ∷ 12 ∷ 13 ∷ []) _ 2 (c.args.effect / 2 % 2 * 2) c.requires.long tt (refl, (refl, (refl, (refl, (refl, (refl, (refl, (refl, (refl, (refl, (refl, (refl, (refl, (refl, (refl, (refl, tt))))))))))))))))
+    (elim c.if-effect-eq1.branch [
       | then-effect-eq1 w ↦ inl (omega (arith, w.if-effect-eq1.true), w.result-is)
       | else-effect-eq1 w ↦ inr (omega (arith, w.if-effect-eq1.false), w.result-is)
     ])

@@ -1,5 +1,4 @@
-use Rattle.rds_soft.proofs.Names.{common_steps, ◌≡◌, ◌-◌, ◌^◌, ◌∙◌, ℕ, List, ap, ap₂, arith, length, refl, false≢true, found-of-part}
-use Rattle.rds_live.specs.Gaps.{gaps_within}
+use Rattle.rds_soft.proofs.Names.{common_steps, ◌^◌, ℕ, arith, refl, false≢true, found-of-part}
 use Rattle.rds_soft.proofs.PartLemmas.{bits-are}
 use Rattle.rds_soft.proofs.near.bits_near.Goals as goal
 

@@ -1,4 +1,4 @@
-use Rattle.rds_soft.proofs.Names.{common_steps, ◌∙◌, ap, arith, place_again}
+use Rattle.rds_soft.proofs.Names.{common_steps, arith}
 use Rattle.rds_soft.proofs.StreamLemmas.{place-stays}
 use Rattle.rds_soft.proofs.near.item_in.Goals as goal
 

@@ -1,5 +1,5 @@
-use Rattle.rds_soft.proofs.Names.{common_steps, arith, ◌≡◌, ℕ, refl, sym, subst, ◌∙◌, A, B, C, Cx, D, OnlyC, OnlyCx, Either, AreNearest}
-use Rattle.rds_soft.proofs.NearestLemmas.{at_one, only_A, only_B, only_C, only_Cx, only_D, A_allowed, B_allowed, D_allowed, is_third, of_third}
+use Rattle.rds_soft.proofs.Names.{common_steps, arith, refl, C, Cx, OnlyC, OnlyCx}
+use Rattle.rds_soft.proofs.NearestLemmas.{at_one, only_A, only_B, only_C, only_Cx, only_D, is_third, of_third}
 use Rattle.rds_soft.proofs.nearest.nearest_turn.Goals as goal
 
 pub returns-in-1-default : goal.returns-in-1-default

@@ -1,5 +1,5 @@
 use Rattle.rds_code.proofs.Membership.{each_below}
-use Rattle.rds_soft.proofs.Names.{◌≡◌, ℕ, zero, suc, ◌+◌, ◌*◌, ◌-◌, ◌/◌, ◌%◌, ◌<◌, List, [], ◌∷◌, arith, slice_index, bit_at, symbols_of, hard_bit}
+use Rattle.rds_soft.proofs.Names.{◌≡◌, ℕ, ◌+◌, ◌*◌, ◌-◌, ◌/◌, ◌%◌, ◌<◌, List, [], ◌∷◌, slice_index, bit_at, symbols_of, hard_bit}
 use Rattle.rds_soft.proofs.PackLemmas.{in_high, in_low, of_bytes}
 use Rattle.rds_soft.proofs.pack.bytes_between.Goals as goal
 

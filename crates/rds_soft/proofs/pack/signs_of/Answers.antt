@@ -1,5 +1,5 @@
+use Rattle.rds_code.proofs.Membership.{each_below}
 use Rattle.rds_soft.proofs.Names.{◌≡◌, ℕ, ◌+◌, ◌-◌, ◌%◌, ◌<◌, ◌++◌, List, Bool, Fits, false, cond, ltb, get_or, map, replicate, refl, ap, ◌∙◌, arith, w8, bit_at, pick_l, zip2, get_or_append_left, Each1-get_or, bit_mask_l, bitmask_splat}
-use Rattle.rds_soft.proofs.LaneLemmas.{at_place}
 use Rattle.rds_soft.proofs.PackLemmas.{last_first, sign_by_test}
 use Rattle.rds_soft.proofs.pack.signs_of.Goals as goal
 
@@ -15,7 +15,7 @@ lanes xs = zip2 less_one (pick_l 0 (xs ++ xs) last_first) (replicate 16 1)
 
 lane : (xs : List ℕ) (k : ℕ) → k < 16 → get_or (map is_up (lanes xs)) (15 - k) false ≡ ltb ((get_or (xs ++ xs) k 0 + 255) % 256) 127
 lane xs =
-    at_place (λ (k : ℕ). get_or (map is_up (lanes xs)) (15 - k) false ≡ ltb ((get_or (xs ++ xs) k 0 + 255) % 256) 127) refl refl refl refl refl refl refl refl refl refl refl refl refl refl refl refl
+    each_below (λ (k : ℕ). get_or (map is_up (lanes xs)) (15 - k) false ≡ ltb ((get_or (xs ++ xs) k 0 + 255) % 256) 127) 16 (refl, (refl, (refl, (refl, (refl, (refl, (refl, (refl, (refl, (refl, (refl, (refl, (refl, (refl, (refl, (refl, tt))))))))))))))))
 
 pub returns : goal.returns
 returns c k less =

@@ -1,5 +1,4 @@
 use Rattle.rds_soft.proofs.Names.{common_steps, ◌≡◌, ℕ, List, sym, subst, arith, bit_xor, xor_lt, Offset, Wanted, IsValid, information, IsNearest, hard_window, confidences}
-use mathlib.Core.Path.{ap₂}
 use Rattle.rds_soft.proofs.nearest.Search.read.Goals as goal
 
 -- what is nearest of equal windows and confidences
