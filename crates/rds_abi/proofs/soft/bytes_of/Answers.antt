@@ -1,8 +1,6 @@
-use Rattle.std.proofs.Common.{◌≡◌, ◌∙◌, ℕ, List, ap, arith, length, sym}
+use Rattle.rds_abi.proofs.Shared.{◌≡◌, ◌∙◌, ℕ, List, ap, arith, length, sym, length-map, packed_bit}
 use Rattle.std.specs.Prelude.{ℤ}
 use Rattle.std.specs.Int.{cast_signed, w8}
-use Rattle.std.proofs.lemmas.List.{length-map}
-use Rattle.rds_stream.specs.Recording.{packed_bit}
 use Rattle.rds_soft.specs.ReadAgain.{symbols_of}
 use Rattle.rds_soft.specs.Symbols.{hard_bit}
 use Rattle.rds_abi.proofs.soft.bytes_of.Goals as goal

@@ -1,13 +1,7 @@
-use Rattle.std.proofs.Common.{◌≡◌, ◌-◌, ◌*◌, ◌/◌, ◌++◌, ◌∙◌, ℕ, List, ap, arith, drop, inl, inr, length, map, min, refl, subst, sym}
+use Rattle.rds_abi.proofs.Shared.{◌≡◌, ◌-◌, ◌*◌, ◌/◌, ◌++◌, ◌∙◌, ℕ, List, ap, arith, drop, inl, inr, length, map, min, refl, subst, sym, length-map, Item, IsStreamDecoder, LiveOf, most_kept, completed, live_next, IsFilled, stream_in_c, stream_of, item_in_c}
 use Rattle.std.specs.Prelude.{ℤ}
-use Rattle.std.proofs.lemmas.List.{length-map}
-use Rattle.rds_sync.specs.declared.item.Item.{Item}
-use Rattle.rds_live.specs.StreamDecoder.{IsStreamDecoder, LiveOf, most_kept}
-use Rattle.rds_live.specs.Next.{completed, live_next}
 use Rattle.rds_soft.specs.ReadAgain.{symbols_of}
-use Rattle.rds_abi.specs.Asked.{IsFilled}
-use Rattle.rds_abi.specs.Stream.{stream_in_c, stream_of}
-use Rattle.rds_abi.specs.Layout.{item_in_c, soft_item_in_c}
+use Rattle.rds_abi.specs.Layout.{soft_item_in_c}
 use Rattle.rds_abi.specs.Soft.{again_in, symbols_kept}
 use Rattle.rds_abi.proofs.Streams.{says_next}
 use Rattle.rds_abi.proofs.soft.go_on.Goals as goal

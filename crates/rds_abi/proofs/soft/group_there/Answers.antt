@@ -1,5 +1,4 @@
-use Rattle.std.proofs.Common.{◌≡◌, ◌-◌, ◌≤◌, ◌∙◌, ap, arith, subst}
-use Rattle.rds_sync.specs.declared.item.Item.{Item}
+use Rattle.rds_abi.proofs.Shared.{◌≡◌, ◌-◌, ◌≤◌, ◌∙◌, ap, arith, subst, Item}
 use Rattle.rds_sync.specs.declared.item.Item.TheVariants.{Group}
 use Rattle.rds_soft.specs.declared.soft_item.SoftGroup.{SoftGroup}
 use Rattle.rds_soft.specs.declared.soft_item.SoftItem.{SoftItem}

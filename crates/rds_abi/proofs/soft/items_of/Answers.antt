@@ -1,6 +1,4 @@
-use Rattle.std.proofs.Common.{◌∙◌, ℕ, List, ap, arith}
-use Rattle.std.proofs.lemmas.List.{take_all}
-use Rattle.rds_live.specs.Next.{live_next}
+use Rattle.rds_abi.proofs.Shared.{◌∙◌, ℕ, List, ap, arith, take_all, live_next}
 use Rattle.rds_abi.proofs.soft.items_of.Goals as goal
 
 pub returns-clause-next : goal.returns-clause-next

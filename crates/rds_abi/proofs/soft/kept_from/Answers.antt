@@ -1,4 +1,4 @@
-use Rattle.std.proofs.Common.{◌∙◌, ap, take}
+use Rattle.rds_abi.proofs.Shared.{◌∙◌, ap, take}
 use Rattle.std.proofs.lemmas.List.{take_rest}
 use Rattle.rds_abi.proofs.soft.kept_from.Goals as goal
 

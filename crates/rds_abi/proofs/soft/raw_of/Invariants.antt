@@ -1,4 +1,4 @@
-use Rattle.std.proofs.Common.{◌≡◌, take}
+use Rattle.rds_abi.proofs.Shared.{◌≡◌, take}
 use Rattle.rds_soft.specs.ReadAgain.{symbols_of}
 use Rattle.rds_abi.proofs.soft.raw_of.Given as goal
 

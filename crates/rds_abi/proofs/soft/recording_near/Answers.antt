@@ -1,9 +1,4 @@
-use Rattle.std.proofs.Common.{rules, ◌+◌, ◌*◌, ◌^◌, ◌∙◌, ℕ, ap, arith, length, refl}
-use Rattle.std.proofs.lemmas.Bool.{false≢true}
-use Rattle.rds_stream.specs.Recording.{Signal, length_of}
-use Rattle.rds_live.proofs.GapParts.{found-of-part}
-use Rattle.rds_live.proofs.Parts.{length-at}
-use Rattle.rds_abi.specs.Asked.{gaps_of}
+use Rattle.rds_abi.proofs.Shared.{rules, ◌+◌, ◌*◌, ◌^◌, ◌∙◌, ℕ, ap, arith, length, refl, false≢true, Signal, length_of, found-of-part, length-at, gaps_of}
 use Rattle.rds_abi.proofs.soft.recording_near.Goals as goal
 
 pub unreachable-requires : goal.unreachable-requires

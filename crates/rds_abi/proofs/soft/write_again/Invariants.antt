@@ -1,5 +1,4 @@
-use Rattle.std.proofs.Common.{◌≡◌, drop, length, map, take}
-use Rattle.rds_sync.specs.declared.item.Item.{Item}
+use Rattle.rds_abi.proofs.Shared.{◌≡◌, drop, length, map, take, Item}
 use Rattle.rds_soft.specs.ReadAgain.{symbols_of}
 use Rattle.rds_abi.specs.Layout.{soft_item_in_c}
 use Rattle.rds_abi.specs.Soft.{again_in}
