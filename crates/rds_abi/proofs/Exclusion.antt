@@ -1,7 +1,6 @@
 -- The refusals of a call exclude each other.
-use Rattle.rds_abi.proofs.Shared.{common_steps, arith}
+use Rattle.rds_abi.proofs.Shared.{common_steps, arith, IsLossInRange, IsRunOutside, IsShareOutside}
 use Rattle.rds_sync.specs.declared.loss.Loss.{Loss}
-use Rattle.rds_sync.specs.Ranges.{IsLossInRange, IsRunOutside, IsShareOutside}
 use Rattle.rds_abi.specs.Exclusion.{ReasonsExclude}
 
 run-or-share : (loss : Loss) → IsRunOutside loss → IsShareOutside loss → ⊥

@@ -1,7 +1,5 @@
 -- A stream by the gaps near the part that is heard, in place of all of them.
-use Rattle.rds_abi.proofs.Shared.{common_steps, ◌≡◌, ◌+◌, ◌-◌, ◌*◌, ◌/◌, ◌^◌, ◌<◌, ◌≤◌, ◌++◌, ◌⊎◌, ℕ, List, ap, ap₂, arith, inl, inr, length, map, min, refl, subst, sym, take, ◌∙◌, length-take, RuleNumbers, run, totals_of, Item, gaps_within, HasHeard, LiveOf, Terms, last_bytes, most_kept, signal_at, moved_items, moved_state, NextIsHeard, before_tail, completed, live_next, moved_back, IsInRange, AreCompleted, IsLeft, IsMostTaken, IsNear, RefusesStream, place_after, stream_in_c, stream_of, totals_from_c, unheard, IsTooMuch, state_of, item_in_c, RdsStream, Refusal, BadGaps, OutOfMemory, TooLong, UnlawfulState}
-use Rattle.rds_sync.specs.Counting.{plus}
-use Rattle.rds_sync.specs.Lawful.{IsLawful}
+use Rattle.rds_abi.proofs.Shared.{common_steps, ◌≡◌, ◌+◌, ◌-◌, ◌*◌, ◌/◌, ◌^◌, ◌<◌, ◌≤◌, ◌++◌, ◌⊎◌, ℕ, List, arith, length, map, min, sym, take, ◌∙◌, length-take, gaps_within, HasHeard, LiveOf, Terms, most_kept, NextIsHeard, before_tail, completed, live_next, IsInRange, AreCompleted, IsLeft, IsMostTaken, IsNear, RefusesStream, place_after, stream_in_c, stream_of, unheard, IsTooMuch, item_in_c, RdsStream, Refusal, TooLong}
 
 -- terms of the same rules are laid out alike
 same-laid : (one other : LiveOf) → one.terms.rules ≡ other.terms.rules → other ≡ record { terms = other.terms; tail = one.tail; place = one.place; state = one.state; totals = one.totals } → (s : RdsStream)
@@ -18,7 +16,7 @@ module _ (all near : Terms) (s : RdsStream) (before len : ℕ) (is : IsNear all 
 
   -- and the same is refused
   pub refused-near : (refusal : Refusal) → RefusesStream near s refusal → RefusesStream all s refusal
-  refused-near refusal refused = grind (arith, common_steps, is.may, is.some, near-left)
+  refused-near reason refused = grind (arith, common_steps, is.may, is.some, near-left)
 
   -- bytes that are in the part
   module _ (bytes : List ℕ) (begins : before ≡ before_tail (stream_of all s))

@@ -1,11 +1,7 @@
 -- The items of a stream are read again in a part of it as in the whole.
-use Rattle.std.proofs.lemmas.Grind.{common_steps}
-use Rattle.std.proofs.Common.{◌≡◌, ◌∙◌, ℕ, ◌+◌, ◌-◌, List, [], ◌∷◌, ap, ap₂, arith, get_or, map, refl, sym}
+use Rattle.rds_abi.proofs.Shared.{common_steps, ◌≡◌, ◌∙◌, ℕ, ◌+◌, ◌-◌, List, [], ◌∷◌, arith, map, refl, Signal, Item, moved_item, moved_items}
 use Rattle.std.specs.Prelude.{ℤ}
-use Rattle.rds_stream.specs.Recording.{Signal}
-use Rattle.rds_sync.specs.declared.item.Item.{Item}
 use Rattle.rds_sync.specs.declared.item.Item.TheVariants.{Acquired, Group, LostLock}
-use Rattle.rds_live.specs.Moving.{moved_item, moved_items}
 use Rattle.rds_soft.specs.declared.soft_item.SoftItem.{SoftItem}
 use Rattle.rds_soft.specs.Inside.Streams.{moved_again}
 use Rattle.rds_soft.specs.ReadAgain.{item_again}

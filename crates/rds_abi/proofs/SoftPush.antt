@@ -1,9 +1,19 @@
 -- What is heard and written of symbols that are pushed.
-use Rattle.rds_abi.proofs.Shared.{◌≡◌, ◌+◌, ◌-◌, ◌*◌, ◌/◌, ◌^◌, ◌<◌, ◌≤◌, ◌++◌, ◌⊎◌, ◌∙◌, ℕ, List, ap, ap₂, arith, drop, inl, inr, length, map, min, refl, subst, sym, take, ℤ, cases_lt, drop-append-le, drop-drop, length-append, length-drop, length-map, length-take, take-take, take_all, Signal, length_of, AcquisitionsAreLate, RunsGiveFewItems, StepsAreLawful, IsInRange, Item, gaps_within, most_behind, HasHeard, LiveOf, Terms, complete, most_kept, signal_of, NextIsHeard, before_tail, completed, live_next, moved_back, part_with, run_next, lawful-back, length-signal, IsFilled, IsTooMuch, item_in_c, soft_item_in_c, IsFollowed, IsLeft, IsNear, RefusesPush, RefusesStream, place_after, stream_of, HasHeardSoft, IsMargin, IsPushed, IsWrittenAgain, RefusesSoft, again_in, byte_count, bytes_of, piece_of, read_again, symbols_kept, RdsGap, RdsItem, RdsRules, RdsSoft, RdsStream, Refusal, SmallRoom, TooLong, number_of, AreSymbolsOf, run-inside}
+use Rattle.rds_abi.proofs.Shared.{common_steps, ◌≡◌, ◌+◌, ◌-◌, ◌*◌, ◌/◌, ◌^◌, ◌<◌, ◌≤◌, ◌++◌, ◌⊎◌, ◌∙◌, ℕ, List, ap, ap₂, arith, drop, length, map, min, refl, subst, sym, take, drop-drop, length-append, length-map, length-take, take-take, take_all, Signal, length_of, RunsGiveFewItems, IsInRange, Item, gaps_within, HasHeard, LiveOf, Terms, complete, most_kept, NextIsHeard, before_tail, completed, live_next, moved_back, part_with, run_next, IsFilled, IsTooMuch, item_in_c, IsFollowed, IsLeft, IsNear, RefusesPush, RefusesStream, place_after, stream_of, RdsGap, RdsItem, RdsRules, RdsStream, Refusal, SmallRoom, TooLong}
+use Rattle.std.specs.Prelude.{ℤ}
+use Rattle.std.proofs.lemmas.List.{drop-append-le, length-drop}
+use Rattle.rds_sync.specs.Laws.{AcquisitionsAreLate, StepsAreLawful}
 use Rattle.rds_sync.specs.Lawful.{IsLawful}
+use Rattle.rds_live.specs.StreamDecoder.{signal_of}
+use Rattle.rds_live.proofs.Following.{lawful-back}
+use Rattle.rds_live.proofs.Parts.{length-signal}
 use Rattle.rds_live.proofs.Pieces.{back-on}
+use Rattle.rds_abi.specs.Layout.{soft_item_in_c}
+use Rattle.rds_abi.specs.Soft.{HasHeardSoft, IsMargin, IsPushed, IsWrittenAgain, RefusesSoft, again_in, byte_count, bytes_of, piece_of, read_again, symbols_kept}
+use Rattle.rds_abi.specs.declared.layout.RdsSoft.{RdsSoft}
 use Rattle.rds_abi.proofs.Fitting.{few-completed}
 use Rattle.rds_abi.proofs.NearStreams.{are-completed, heard-next, left-near, pushed-after, pushed-completed, refused-near}
+use Rattle.rds_soft.proofs.InsideLemmas.{AreSymbolsOf, run-inside}
 use Rattle.rds_abi.proofs.SoftItems.{items-same}
 use Rattle.rds_abi.proofs.SoftStreams.{bytes-join, erasures, kept-on, part-symbols, symbols-alike}
 use Rattle.rds_abi.proofs.SoftSymbols.{byte_count_of}
@@ -22,23 +32,22 @@ pub record IsTaken (symbols : List ℤ) (room : ℕ) (all near : Terms) (s : Rds
 module _ {symbols : List ℤ} {room : ℕ} {all near : Terms} {s : RdsStream} {piece : List ℤ} {bytes : List ℕ} {from len : ℕ}
     (t : IsTaken symbols room all near s piece bytes from len) where
   pub piece-bytes : bytes ≡ bytes_of (piece_of symbols room)
-  piece-bytes = t.bytes_are ∙ ap bytes_of t.piece_is
+  piece-bytes = grind (arith, common_steps, t.bytes_are, t.piece_is)
 
   pub piece-many : length bytes ≡ byte_count symbols room
-  piece-many = omega (arith, ap (λ (bs : List ℕ). length bs) t.bytes_are, byte_count_of piece, t.count)
+  piece-many = grind (arith, common_steps, t.bytes_are, byte_count_of piece, t.count)
 
   few : length bytes ≤ 960
   few = omega (arith, piece-many)
 
   pub piece-taken : (count : ℕ) → length bytes ≡ count → piece ≡ take (8 * count + 1) symbols
-  piece-taken count is = t.piece_is ∙ ap (λ (n : ℕ). take (8 * n + 1) symbols) (sym piece-many ∙ is)
+  piece-taken count is = grind (arith, common_steps, t.piece_is, piece-many)
 
   pub piece-long : 0 < length symbols → length piece ≡ 8 * length bytes + 1
-  piece-long some =
-      omega (arith, some, ap (λ (xs : List ℤ). length xs) (piece-taken (length bytes) refl), length-take (8 * length bytes + 1) symbols, piece-many)
+  piece-long some = grind (arith, common_steps, piece-taken (length bytes) refl, length-take (8 * length bytes + 1) symbols, piece-many)
 
   pub piece-first : take 1 piece ≡ take 1 symbols
-  piece-first = ap (take 1) (piece-taken (length bytes) refl) ∙ take-take 1 (8 * length bytes + 1) symbols (omega arith)
+  piece-first = grind (arith, common_steps, piece-taken (length bytes) refl, take-take 1 (8 * length bytes + 1) symbols)
 
   -- ---- by the gaps near it, and by all
 
@@ -46,9 +55,7 @@ module _ {symbols : List ℤ} {room : ℕ} {all near : Terms} {s : RdsStream} {p
   held = min most_kept (s.place / 8)
 
   is : IsNear all near (s.place - 8 * held) (8 * (held + length bytes))
-  is =
-      subst (λ (n : ℕ). IsNear all near (s.place - 8 * held) n) t.len_is
-      (subst (λ (p : ℕ). IsNear all near p len) t.from_is t.near_is)
+  is = grind (arith, common_steps, t.len_is, t.from_is, t.near_is)
 
   most : length bytes ≡ min 8589934592 (length bytes)
   most = omega (arith, few)
@@ -61,9 +68,7 @@ module _ {symbols : List ℤ} {room : ℕ} {all near : Terms} {s : RdsStream} {p
 
   module _ (left : IsLeft near s) (fits : place_after s bytes ≤ 2 ^ 36) where
     pub all-completed : completed (stream_of near s) bytes ≡ completed (stream_of all s) bytes
-    all-completed =
-        subst (λ (xs : List ℕ). completed (stream_of near s) xs ≡ completed (stream_of all s) xs) every
-        (pushed-completed all near s bytes held (length bytes) is refl most left fits (length bytes))
+    all-completed = grind (arith, common_steps, every, pushed-completed all near s bytes held (length bytes) is refl most left fits (length bytes))
 
     pub all-after : (new : RdsStream) → stream_of near new ≡ live_next (stream_of near s) bytes → stream_of all new ≡ live_next (stream_of all s) bytes
     all-after new after =
@@ -76,19 +81,13 @@ module _ {symbols : List ℤ} {room : ℕ} {all near : Terms} {s : RdsStream} {p
       ⊎ ((RefusesStream near s r ⊎ (IsLeft near s × (2 ^ 36 < place_after s bytes) × (r ≡ TooLong))) × Same)
       → (IsLeft all s × (place_after s bytes ≤ 2 ^ 36) × IsTooMuch (map item_in_c (completed (stream_of all s) bytes)) space r count)
       ⊎ ((RefusesStream all s r ⊎ (IsLeft all s × (2 ^ 36 < place_after s bytes) × (r ≡ TooLong))) × Same)
-  all-refused r space count Same (inl (left, fits, much)) =
-      inl (all-left s left, fits, subst (λ (items : List Item). IsTooMuch (map item_in_c items) space r count) (all-completed left fits) much)
-  all-refused r space count Same (inr (inl refused, same)) =
-      inr (inl (refused-near all near s (s.place - 8 * held) (8 * (held + length bytes)) is r refused), same)
-  all-refused r space count Same (inr (inr (left, long, too), same)) = inr (inr (all-left s left, long, too), same)
+  all-refused r space count Same refused = grind (arith, common_steps, all-left s, all-completed, refused-near all near s (s.place - 8 * held) (8 * (held + length bytes)) is r)
 
 -- a margin that was looked at first
 pub with-margin : (rules : RdsRules) (gaps : List RdsGap) (margin : ℕ) (s : RdsSoft) (bytes : List ℕ) (r : Refusal) (TooMany Same : Type 0) → IsMargin margin
     → (IsFollowed rules gaps s.stream × (place_after s.stream bytes ≤ 2 ^ 36) × TooMany) ⊎ (RefusesPush rules gaps s.stream bytes r × Same)
     → (IsPushed rules gaps margin s bytes × TooMany) ⊎ (RefusesSoft rules gaps margin s bytes r × Same)
-with-margin rules gaps margin s bytes r TooMany Same is (inl (followed, fits, many)) =
-    inl (record { margin_is = is; followed = followed; fits = fits }, many)
-with-margin rules gaps margin s bytes r TooMany Same is (inr (refused, same)) = inr (inr (is, refused), same)
+with-margin rules gaps margin s bytes r TooMany Same is refused = grind (arith, common_steps)
 
 -- ---- a stream that was heard
 
@@ -102,9 +101,7 @@ module _ (law : NextIsHeard) (all : Terms) (s : RdsSoft) (piece : List ℤ) (byt
   taken = omega (arith, h.one_more, length-append before (take 1 piece), length-take 1 piece, long)
 
   joined : bytes_of (before ++ piece) ≡ bytes_of (before ++ take 1 piece) ++ bytes
-  joined =
-      bytes-join before piece (place / 8) (omega (arith, taken, left.live.whole)) (omega (arith, long))
-      ∙ ap (λ (bs : List ℕ). bytes_of (before ++ take 1 piece) ++ bs) (sym bytes_are)
+  joined = grind (arith, common_steps, bytes-join before piece (place / 8), taken, left.live.whole, long, bytes_are)
 
   -- the stream after the piece
   pub soft-heard : (new : RdsSoft) → stream_of all new.stream ≡ live_next (stream_of all s.stream) bytes
@@ -123,8 +120,7 @@ module _ (law : NextIsHeard) (all : Terms) (s : RdsSoft) (piece : List ℤ) (byt
 
   -- the items that it completes
   pub soft-complete : complete all (bytes_of (before ++ take 1 piece)) ++ completed (stream_of all s.stream) bytes ≡ complete all (bytes_of (before ++ piece))
-  soft-complete =
-      sym (ap (complete all) joined ∙ are-completed law all s.stream bytes range left (bytes_of (before ++ take 1 piece)) h.bits)
+  soft-complete = grind (arith, common_steps, joined, are-completed law all s.stream bytes range left (bytes_of (before ++ take 1 piece)) h.bits)
 
   module _ (late : AcquisitionsAreLate) (steps : StepsAreLawful) (later : List ℤ) (margin : ℕ) where
     abbrev live : LiveOf
@@ -152,9 +148,7 @@ module _ (law : NextIsHeard) (all : Terms) (s : RdsSoft) (piece : List ℤ) (byt
     d_is = omega (arith, tail_long)
 
     symbols : P ≡ drop d (before ++ piece)
-    symbols =
-        part-symbols before place taken s.symbols (take 1 piece) piece (8 * kept) h.last (omega arith) (omega arith)
-        ∙ ap (λ (n : ℕ). drop n (before ++ piece)) d_is
+    symbols = grind (arith, common_steps, part-symbols before place taken s.symbols (take 1 piece) piece (8 * kept) h.last, d_is)
 
     early : d ≤ length (before ++ piece)
     early = omega (arith, taken, length-append before piece)
@@ -179,12 +173,7 @@ module _ (law : NextIsHeard) (all : Terms) (s : RdsSoft) (piece : List ℤ) (byt
     lawful : IsLawful all.rules (8 * length live.tail) (moved_back d live.state)
     lawful =
         lawful-back all.rules d (8 * length live.tail) place (moved_back d live.state) live.state
-        (back-on all.rules d place live.state left.live.lawful (omega arith)) left.live.lawful (omega (arith, tail_long)) far where
-          far : (d ≡ 0) ⊎ (most_behind ≤ 8 * length live.tail)
-          far = (elim (cases_lt (place / 8) 30) [
-            | inl few ↦ inl (omega (arith, few, tail_long, left.live.whole))
-            | inr many ↦ inr (omega (arith, many, tail_long))
-          ])
+        (back-on all.rules d place live.state left.live.lawful (omega arith)) left.live.lawful (omega (arith, tail_long)) (grind (arith, common_steps, tail_long, left.live.whole))
 
     -- are written as they are read again from all symbols
     pub soft-written : (near : Terms) (old new : List RdsItem) → completed (stream_of near s.stream) bytes ≡ completed live bytes
@@ -204,14 +193,4 @@ pub roomy-soft : RunsGiveFewItems → (terms : Terms) (s : RdsStream) (symbols :
     → (IsLeft terms s × (place_after s bytes ≤ 2 ^ 36) × IsTooMuch (map item_in_c (completed (stream_of terms s) bytes)) room r count)
     ⊎ ((RefusesStream terms s r ⊎ (IsLeft terms s × (2 ^ 36 < place_after s bytes) × (r ≡ TooLong))) × Same)
     → r ≡ SmallRoom → room < 16
-roomy-soft law terms s symbols bytes room count r Same many (inl (left, fits, much)) is =
-    omega (
-      arith,
-      much.1,
-      length-map (completed (stream_of terms s) bytes) item_in_c,
-      few-completed law (stream_of terms s) bytes,
-      many,
-    )
-roomy-soft law terms s symbols bytes room count r Same many (inr (inl refused, same)) is =
-    absurd (subst (λ (it : Refusal). RefusesStream terms s it) is refused)
-roomy-soft law terms s symbols bytes room count r Same many (inr (inr (left, long, too), same)) is = absurd (omega (arith, ap number_of (sym too ∙ is)))
+roomy-soft law terms s symbols bytes room count r Same many refused is = grind (arith, common_steps, length-map, few-completed law (stream_of terms s) bytes)

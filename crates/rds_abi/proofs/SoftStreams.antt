@@ -1,6 +1,17 @@
 -- A stream of symbols: its bytes, the symbols that are kept, and its items read again.
-use Rattle.rds_abi.proofs.Shared.{◌≡◌, ◌+◌, ◌-◌, ◌*◌, ◌/◌, ◌^◌, ◌<◌, ◌≤◌, ◌++◌, ◌⊎◌, ◌∙◌, ℕ, List, Bool, Option, Some, None, ap, ap₂, append_assoc, arith, drop, get_or, inl, inr, length, map, refl, sym, take, ℤ, pos, bit_xor, replicate, nat_lt, not, ◌&&◌, if◌then◌else◌, list_any, range_with_len, number_from_digits, cases_lt, lt-ltb, drop-append-le, drop-drop, ext_get_or, get_or-append_right, get_or-take, get_or_append_left, length-append, length-drop, length-replicate, length-take, take-append-le, drop-append-add, take-append-add, take-append_seam, get_or-map-range_with_len, AreGaps, Signal, is_touched_by, length_of, touched, gaps_within, part-touched, hard_bit, sign, byte_of, bytes_of, symbols_kept, AreSymbolsOf}
+use Rattle.rds_abi.proofs.Shared.{common_steps, ◌≡◌, ◌+◌, ◌-◌, ◌*◌, ◌/◌, ◌^◌, ◌<◌, ◌≤◌, ◌++◌, ◌⊎◌, ◌∙◌, ℕ, List, Bool, Option, Some, None, ap, ap₂, append_assoc, arith, drop, get_or, inl, inr, length, sym, take, cases_lt, drop-drop, get_or-take, length-append, length-take, AreGaps, Signal, length_of, gaps_within, part-touched}
+use Rattle.std.specs.Prelude.{ℤ, pos, bit_xor, replicate, nat_lt, not, ◌&&◌, if◌then◌else◌}
+use Rattle.std.specs.List.{list_any}
+use Rattle.std.specs.Int.Digits.{number_from_digits}
+use Rattle.std.proofs.lemmas.Bool.{lt-ltb}
+use Rattle.std.proofs.lemmas.List.{drop-append-le, ext_get_or, get_or-append_right, get_or_append_left, length-drop, length-replicate, take-append-le}
+use Rattle.std.proofs.Math.Seq.{drop-append-add, take-append-add, take-append_seam}
+use Rattle.std.proofs.lemmas.List.FromFn.{get_or-map-range_with_len}
+use Rattle.rds_stream.specs.Recording.{is_touched_by, touched}
+use Rattle.rds_soft.specs.Symbols.{hard_bit, sign}
+use Rattle.rds_abi.specs.Soft.{byte_of, bytes_of, symbols_kept}
 use Rattle.rds_abi.proofs.SoftSymbols.{byte_count_of, same-tables}
+use Rattle.rds_soft.proofs.InsideLemmas.{AreSymbolsOf}
 
 -- ---- bytes
 
@@ -81,7 +92,7 @@ module _ (before : List ℤ) (place : ℕ) (taken : length before ≡ place) whe
       ∙ drop-append-le place (erasures ++ before) xs (omega (arith, taken, length-append erasures before))
 
   front_long : length (drop place (erasures ++ before)) ≡ symbols_kept
-  front_long = omega (arith, taken, length-drop place (erasures ++ before), length-append erasures before, length-replicate symbols_kept (pos 0))
+  front_long = grind (arith, common_steps, length-drop, length-append, length-replicate)
 
   -- the symbols kept and those after them are the last of all
   pub kept-on : (kept one piece : List ℤ) → kept ≡ take symbols_kept (drop place (erasures ++ (before ++ one)))

@@ -1,13 +1,11 @@
 -- Symbols as bytes of bits: of more symbols in a row, and of the symbols that are kept.
-use Rattle.std.proofs.lemmas.Grind.{common_steps}
-use Rattle.std.proofs.Common.{◌≡◌, ◌+◌, ◌-◌, ◌*◌, ◌/◌, ◌%◌, ◌<◌, ◌≤◌, ◌∙◌, ℕ, List, ap, ap₂, arith, get_or, length, map, refl, sym, take}
+use Rattle.rds_abi.proofs.Shared.{common_steps, ◌≡◌, ◌+◌, ◌-◌, ◌*◌, ◌/◌, ◌%◌, ◌<◌, ◌≤◌, ◌∙◌, ℕ, List, ap, ap₂, arith, get_or, length, map, sym, take, get_or-take, length-take, packed_bit}
 use Rattle.std.specs.Prelude.{ℤ}
 use Rattle.std.specs.List.{range_with_len}
 use Rattle.std.specs.Int.{bit_at}
 use Rattle.std.specs.Int.Digits.{number_from_digits}
-use Rattle.std.proofs.lemmas.List.{ext_get_or, get_or-take, length-take}
+use Rattle.std.proofs.lemmas.List.{ext_get_or}
 use Rattle.std.proofs.lemmas.List.FromFn.{get_or-map-range_with_len, length-map-range_with_len}
-use Rattle.rds_stream.specs.Recording.{packed_bit}
 use Rattle.rds_soft.specs.Symbols.{hard_bit}
 use Rattle.rds_abi.specs.Soft.{byte_of, bytes_of}
 

@@ -1,4 +1,4 @@
-use Rattle.rds_abi.proofs.Shared.{common_steps, ◌≡◌, ◌<◌, ◌==◌, ℕ, arith, if◌then◌else◌, inl, inr, sym, ◌∙◌, AreInOrder, lock_of, State, Locked, Searching, state_of}
+use Rattle.rds_abi.proofs.Shared.{common_steps, ◌≡◌, ◌<◌, ◌==◌, ℕ, arith, if◌then◌else◌, sym, ◌∙◌, AreInOrder, State, Locked, Searching, state_of}
 use Rattle.rds_abi.proofs.ranges.state_in_c.Goals as goal
 
 -- a lawful lock waits for a block that has a number

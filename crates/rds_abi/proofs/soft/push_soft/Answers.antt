@@ -1,4 +1,7 @@
-use Rattle.rds_abi.proofs.Shared.{◌≡◌, ◌+◌, ◌*◌, ◌/◌, ◌^◌, ◌≤◌, ◌++◌, ◌⊎◌, ◌∙◌, ℕ, List, ap, arith, length, map, min, refl, subst, sym, take, ℤ, err_from_is_err_and, Item, complete, most_kept, completed, live_next, IsFilled, IsTooMuch, place_after, stream_of, terms_of, item_in_c, soft_item_in_c, HasHeardSoft, IsPushed, RefusesSoft, bytes_of, read_again}
+use Rattle.rds_abi.proofs.Shared.{common_steps, ◌≡◌, ◌+◌, ◌*◌, ◌/◌, ◌^◌, ◌≤◌, ◌++◌, ◌⊎◌, ◌∙◌, ℕ, List, ap, arith, length, map, subst, sym, take, err_from_is_err_and, Item, complete, completed, live_next, IsFilled, IsTooMuch, place_after, stream_of, terms_of, item_in_c}
+use Rattle.std.specs.Prelude.{ℤ}
+use Rattle.rds_abi.specs.Layout.{soft_item_in_c}
+use Rattle.rds_abi.specs.Soft.{HasHeardSoft, IsPushed, RefusesSoft, bytes_of, read_again}
 use Rattle.rds_abi.proofs.SoftPush.{IsTaken, all-after, all-completed, all-left, all-refused, piece-bytes, piece-first, piece-long, piece-many, piece-taken, roomy-soft, soft-complete, soft-heard, soft-written, with-margin}
 use Rattle.rds_abi.proofs.SoftSymbols.{byte_count_of}
 use Rattle.rds_abi.proofs.Streams.{refused_push}
@@ -21,37 +24,22 @@ go_on-requires-clause-held c =
 -- the piece, if the call went well, and if it was refused
 taken : (c : After-drop-told-inside-4) → IsTaken c.args.symbols.now (length c.args.room.now) (terms_of c.args.rules c.args.gaps.now) c.in_ok-told.told c.args.stream.now.stream
     c.piece_of-piece.result.now c.deref.result.now c.known_from.result (8 * (c.kept_of.result + c.saturating_sub.result / 8))
-taken c = record {
-  piece_is = c.piece_of-piece.ensures.value;
-  count = c.piece_of-piece.ensures.count;
-  bytes_are = c.deref.ensures.value ∙ c.in_ok-bytes.ensures;
-  near_is = c.in_ok-told.ensures.near;
-  from_is = c.known_from.ensures;
-  len_is = omega (
-    arith,
-    c.kept_of.ensures,
-    c.saturating_sub.ensures,
-    byte_count_of c.piece_of-piece.result.now,
-    ap (λ (bs : List ℕ). length bs) (c.deref.ensures.value ∙ c.in_ok-bytes.ensures),
-  );
-}
+taken c = grind (
+  arith,
+  common_steps,
+  c.piece_of-piece.ensures,
+  c.deref.ensures,
+  c.in_ok-bytes.ensures,
+  c.in_ok-told.ensures.near,
+  c.known_from.ensures,
+  c.kept_of.ensures,
+  c.saturating_sub.ensures,
+  byte_count_of c.piece_of-piece.result.now,
+)
 
 refused-piece : (c : After-drop-told-inside-in_err-go_on-3) → IsTaken c.args.symbols.now (length c.args.room.now) (terms_of c.args.rules c.args.gaps.now) c.in_ok-told.told c.args.stream.now.stream
     c.piece_of-piece.result.now c.deref.result.now c.known_from.result (8 * (c.kept_of.result + c.saturating_sub.result / 8))
-refused-piece c = record {
-  piece_is = c.piece_of-piece.ensures.value;
-  count = c.piece_of-piece.ensures.count;
-  bytes_are = c.deref.ensures.value ∙ c.in_ok-bytes.ensures;
-  near_is = c.in_ok-told.ensures.near;
-  from_is = c.known_from.ensures;
-  len_is = omega (
-    arith,
-    c.kept_of.ensures,
-    c.saturating_sub.ensures,
-    byte_count_of c.piece_of-piece.result.now,
-    ap (λ (bs : List ℕ). length bs) (c.deref.ensures.value ∙ c.in_ok-bytes.ensures),
-  );
-}
+refused-piece c = grind (arith, common_steps, byte_count_of c.piece_of-piece.result.now)
 
 pub returns-clause-taken : goal.returns-clause-taken
 returns-clause-taken c = omega (arith, piece-many (taken c), c.deref.ensures.len, c.len.ensures)
@@ -71,7 +59,7 @@ returns-clause-lawful c =
 
 after : (c : After-drop-told-inside-4) → stream_of (terms_of c.args.rules c.args.gaps.now) c.go_on.new.stream.stream
     ≡ live_next (stream_of (terms_of c.args.rules c.args.gaps.now) c.args.stream.now.stream) c.deref.result.now
-after c = let went = c.in_ok-go_on.ensures in all-after (taken c) went.lawful went.fits c.go_on.new.stream.stream went.after
+after c = all-after (taken c) c.in_ok-go_on.ensures.lawful c.in_ok-go_on.ensures.fits c.go_on.new.stream.stream c.in_ok-go_on.ensures.after
 
 pub returns-clause-after : goal.returns-clause-after
 returns-clause-after c =

@@ -1,4 +1,4 @@
-use Rattle.rds_abi.proofs.Shared.{common_steps, ◌≡◌, ◌+◌, ◌*◌, ◌/◌, ◌%◌, ◌++◌, ◌∙◌, ℕ, List, ap, ap₂, append_assoc, arith, drop, length, take, length-append, take-append-drop, Terms, complete, report_at, Item, totals_of}
+use Rattle.rds_abi.proofs.Shared.{common_steps, ◌≡◌, ◌+◌, ◌*◌, ◌/◌, ◌%◌, ◌++◌, ◌∙◌, ℕ, List, ap, append_assoc, arith, drop, length, take, length-append, take-append-drop, Terms, complete, report_at, Item, totals_of}
 use Rattle.rds_abi.proofs.stream.end_of_stream.Goals as goal
 
 -- the whole bytes are taken first, and then the bits of the one that is left

@@ -1,4 +1,4 @@
-use Rattle.rds_abi.proofs.Shared.{◌≡◌, ◌/◌, ◌<◌, ◌≤◌, ◌∙◌, ℕ, List, ap, arith, length, map, max, subst, take, length-take, take-take, err_from_is_err_and, RunsGiveFewItems, Item, LiveOf, completed, live_next, IsFilled, item_in_c}
+use Rattle.rds_abi.proofs.Shared.{common_steps, ◌≡◌, ◌/◌, ◌<◌, ◌≤◌, ◌∙◌, ℕ, List, ap, arith, length, map, max, subst, take, length-take, take-take, err_from_is_err_and, RunsGiveFewItems, Item, LiveOf, completed, live_next, IsFilled, item_in_c}
 use Rattle.rds_abi.proofs.Fitting.{one-byte}
 use Rattle.rds_abi.proofs.stream.take_piece.Goals.{After-write_taken}
 use Rattle.rds_abi.proofs.stream.take_piece.Goals as goal
@@ -8,9 +8,7 @@ one-taken : RunsGiveFewItems → (live : LiveOf) (bytes : List ℕ) (room most p
     → items ≡ completed live (take n (take piece bytes)) → n ≤ piece → piece ≤ most → most ≡ max (room / 16) 1 → room < length items
     → (n ≡ 1) × (length items ≡ length (completed live (take 1 bytes)))
 one-taken law live bytes room most piece n items is within few most_is small =
-    let found = ap (λ (xs : List Item). length xs) (is ∙ ap (λ (xs : List ℕ). completed live xs) (take-take n piece bytes within)) in
-    let one = one-byte law live bytes room most n (length items) (omega (arith, within, few)) most_is found small in
-    (one, found ∙ ap (λ (k : ℕ). length (completed live (take k bytes))) one)
+    grind (arith, common_steps, take-take n piece bytes, one-byte law live bytes room most n (length items))
 
 -- the decoder took some of the piece
 module _ (c : After-write_taken) where
