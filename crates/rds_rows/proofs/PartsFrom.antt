@@ -1,19 +1,14 @@
 -- Parts from one number on, and how they are written.
-use Rattle.rds_rows.proofs.Names.{◌+◌, ◌++◌, ◌-◌, ◌<◌, ◌≡◌, ◌≤◌, ◌∙◌, ℕ, List, Option, [], ap, append_assoc, arith, subst, suc, sym, zero, append-nil, first_parts, parts_from, AppendsBut, AppendsPrefix}
+use Rattle.rds_rows.proofs.Names.{common_steps, ◌+◌, ◌++◌, ◌-◌, ◌<◌, ◌≡◌, ◌≤◌, ◌∙◌, ℕ, List, Option, [], ap, append_assoc, arith, subst, suc, sym, zero, append-nil, first_parts, parts_from, AppendsBut, AppendsPrefix}
 use Rattle.rds_rows.proofs.Steps.{but_more, but_prefix_more, prefix_wider}
 
 -- and the next
 pub parts_next : (part : ℕ → List ℕ) (from k : ℕ) → from ≤ k → parts_from part from (k - from) ++ part k ≡ parts_from part from (k + 1 - from)
-parts_next part from k h =
-    let one : suc (k - from) ≡ k + 1 - from = omega (arith, h) in
-    let here : k ≡ from + (k - from) = omega (arith, h) in
-    ap (λ j. parts_from part from (k - from) ++ part j) here ∙ ap (parts_from part from) one
+parts_next part from k h = grind (arith, common_steps)
 
 -- after the first ones
 pub parts_joined : (part : ℕ → List ℕ) (a n : ℕ) → first_parts part a ++ parts_from part a n ≡ first_parts part (a + n)
-parts_joined part a zero =
-    let same : a ≡ a + zero = omega arith in
-    append-nil (first_parts part a) ∙ ap (first_parts part) same
+parts_joined part a zero = grind (arith, common_steps, append-nil)
 parts_joined part a (suc n) =
     let next : suc (a + n) ≡ a + suc n = omega arith in
     sym (append_assoc (first_parts part a) (parts_from part a n) (part (a + n)))
@@ -22,15 +17,11 @@ parts_joined part a (suc n) =
 
 -- up to a number
 pub parts_up_to : (part : ℕ → List ℕ) (a b : ℕ) → a ≤ b → first_parts part a ++ parts_from part a (b - a) ≡ first_parts part b
-parts_up_to part a b h =
-    let all : a + (b - a) ≡ b = omega (arith, h) in
-    parts_joined part a (b - a) ∙ ap (first_parts part) all
+parts_up_to part a b h = grind (arith, common_steps, parts_joined)
 
 -- more parts begin with fewer
 parts_wider : (part : ℕ → List ℕ) (n more : ℕ) → (rest : List ℕ) × (first_parts part (n + more) ≡ first_parts part n ++ rest)
-parts_wider part n zero =
-    let same : n + zero ≡ n = omega arith in
-    ([], ap (first_parts part) same ∙ sym (append-nil (first_parts part n)))
+parts_wider part n zero = grind (arith, common_steps, append-nil)
 parts_wider part n (suc more) =
     let fewer = parts_wider part n more in
     let next : n + suc more ≡ suc (n + more) = omega arith in

@@ -1,4 +1,4 @@
-use Rattle.rds_rows.proofs.Names.{◌≡◌, arith, rules, subst, kept_in, first_parts, AppendsBut}
+use Rattle.rds_rows.proofs.Names.{common_steps, ◌≡◌, arith, rules, subst, kept_in, first_parts, AppendsBut}
 use Rattle.rds_rows.proofs.PartsFrom.{but_round, prefix_round}
 use Rattle.std.proofs.lemmas.Result.{on_err_weaker, on_ok_weaker}
 use Rattle.rds_rows.proofs.Steps.{but_prefix, but_rest}
@@ -28,15 +28,10 @@ returns-in-Err-clause-prefix g c =
 -- after the last round all parts are written but for the kept text
 all_but_kept : (g : Over) (c : After-write_kept g)
     → AppendsBut (g.W.OwnedSink.contents c.args.caller.out) (g.W.OwnedSink.contents c.rounds.caller.out) (first_parts g.J.PartSpec.part c.args.parts) (kept_in c.rounds.caller.gathered)
-all_but_kept g c =
-    let all : c.rounds.first ≡ c.args.parts = omega (arith, c.rounds.invariant.order, c.rounds-test.false) in
-    let old = g.W.OwnedSink.contents c.args.caller.out in
-    let mid = g.W.OwnedSink.contents c.rounds.caller.out in
-    subst (λ n. AppendsBut old mid (first_parts g.J.PartSpec.part n) (kept_in c.rounds.caller.gathered)) all c.rounds.invariant.written
+all_but_kept g c = grind (arith, common_steps)
 
 pub returns-clause-ok : goal.returns-clause-ok
-returns-clause-ok g c =
-    on_ok_weaker c.write_kept.result.1 (but_rest _ _ _ _ _ (all_but_kept g (goal.at.returns-clause-ok g c).After-write_kept)) c.write_kept.ensures.ok
+returns-clause-ok g c = grind (arith, common_steps, on_ok_weaker, but_rest, all_but_kept)
 
 pub returns-clause-prefix : goal.returns-clause-prefix
 returns-clause-prefix g c =
