@@ -24,18 +24,7 @@ go_on-requires-clause-held c =
 -- the piece, if the call went well, and if it was refused
 taken : (c : After-drop-told-inside-4) → IsTaken c.args.symbols.now (length c.args.room.now) (terms_of c.args.rules c.args.gaps.now) c.in_ok-told.told c.args.stream.now.stream
     c.piece_of-piece.result.now c.deref.result.now c.known_from.result (8 * (c.kept_of.result + c.saturating_sub.result / 8))
-taken c = grind (
-  arith,
-  common_steps,
-  c.piece_of-piece.ensures,
-  c.deref.ensures,
-  c.in_ok-bytes.ensures,
-  c.in_ok-told.ensures.near,
-  c.known_from.ensures,
-  c.kept_of.ensures,
-  c.saturating_sub.ensures,
-  byte_count_of c.piece_of-piece.result.now,
-)
+taken c = grind (arith, common_steps, byte_count_of c.piece_of-piece.result.now)
 
 refused-piece : (c : After-drop-told-inside-in_err-go_on-3) → IsTaken c.args.symbols.now (length c.args.room.now) (terms_of c.args.rules c.args.gaps.now) c.in_ok-told.told c.args.stream.now.stream
     c.piece_of-piece.result.now c.deref.result.now c.known_from.result (8 * (c.kept_of.result + c.saturating_sub.result / 8))
