@@ -26,18 +26,12 @@ module _ (moves : RunsMove) (whole part : Signal) (rules : RuleNumbers) (before 
     (is : moved_state before s ≡ state) (lawful : IsLawful rules (from - before) s) (heard : IsPartHeard whole part before (from - before)) where
   -- the run over places of the part
   pub run-in-part : run_in_part part rules s before from to ≡ run whole rules state from (to - from)
-  run-in-part =
-      let there : from - before + before ≡ from = omega (arith, begins) in
-      let many : to - before - (from - before) ≡ to - from = omega (arith, begins, order) in
-      sym (moves whole part rules before s (from - before) (to - before - (from - before)) range.loss.0 range.reach lawful heard (omega (arith, begins, order, long)))
-      ∙ ap₂ (λ (t : State) (p : ℕ). run whole rules t p (to - before - (from - before))) is there
-      ∙ ap (λ (n : ℕ). run whole rules state from n) many
+  run-in-part = grind (arith, common_steps, moves whole part rules before s (from - before) (to - before - (from - before)) range.loss.0 range.reach lawful heard)
 
 -- the group in progress at the end of the whole
 pub end-in-part : EndsMove → (whole part : Signal) (rules : RuleNumbers) (before : ℕ) (s state : State) → moved_state before s ≡ state
     → IsLawful rules (length_of part) s → IsPartHeard whole part before (length_of part) → moved_items before (items_of_end part rules s) ≡ items_of_end whole rules state
-end-in-part ends whole part rules before s state is lawful heard =
-    sym (ends whole part rules before s lawful heard) ∙ ap (λ (t : State). items_of_end whole rules t) is
+end-in-part ends whole part rules before s state is lawful heard = grind (arith, common_steps, ends whole part rules before s lawful heard)
 
 -- the run asked for, by the part that a run over it hears
 module _ (bytes : List ℕ) (bits : ℕ) (gaps : List RdsGap) (rules : RdsRules) (from to : ℕ) (s : RdsState) (part : Signal) (numbers : RuleNumbers) (before : ℕ) (here : State)

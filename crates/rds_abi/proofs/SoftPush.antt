@@ -37,9 +37,6 @@ module _ {symbols : List ℤ} {room : ℕ} {all near : Terms} {s : RdsStream} {p
   pub piece-many : length bytes ≡ byte_count symbols room
   piece-many = grind (arith, common_steps, t.bytes_are, byte_count_of piece, t.count)
 
-  few : length bytes ≤ 960
-  few = omega (arith, piece-many)
-
   pub piece-taken : (count : ℕ) → length bytes ≡ count → piece ≡ take (8 * count + 1) symbols
   piece-taken count is = grind (arith, common_steps, t.piece_is, piece-many)
 
@@ -58,7 +55,7 @@ module _ {symbols : List ℤ} {room : ℕ} {all near : Terms} {s : RdsStream} {p
   is = grind (arith, common_steps, t.len_is, t.from_is, t.near_is)
 
   most : length bytes ≡ min 8589934592 (length bytes)
-  most = omega (arith, few)
+  most = omega (arith, piece-many)
 
   every : take (length bytes) bytes ≡ bytes
   every = take_all (length bytes) bytes (omega arith)
