@@ -1,5 +1,5 @@
 -- A stream by the gaps near the part that is heard, in place of all of them.
-use Rattle.rds_abi.proofs.Shared.{common_steps, ◌≡◌, ◌+◌, ◌-◌, ◌*◌, ◌/◌, ◌^◌, ◌<◌, ◌≤◌, ◌++◌, ◌⊎◌, ℕ, List, arith, length, map, min, sym, take, ◌∙◌, length-take, gaps_within, HasHeard, LiveOf, Terms, most_kept, NextIsHeard, before_tail, completed, live_next, IsInRange, AreCompleted, IsLeft, IsMostTaken, IsNear, RefusesStream, place_after, stream_in_c, stream_of, unheard, IsTooMuch, item_in_c, RdsStream, Refusal, TooLong}
+use Rattle.rds_abi.proofs.Shared.{common_steps, ◌≡◌, ◌+◌, ◌-◌, ◌*◌, ◌/◌, ◌^◌, ◌<◌, ◌≤◌, ◌++◌, ◌⊎◌, ℕ, List, arith, length, map, min, sym, take, length-take, gaps_within, HasHeard, LiveOf, Terms, most_kept, NextIsHeard, before_tail, completed, live_next, IsInRange, AreCompleted, IsLeft, IsMostTaken, IsNear, RefusesStream, place_after, stream_in_c, stream_of, unheard, IsTooMuch, item_in_c, RdsStream, Refusal, TooLong}
 
 -- terms of the same rules are laid out alike
 same-laid : (one other : LiveOf) → one.terms.rules ≡ other.terms.rules → other ≡ record { terms = other.terms; tail = one.tail; place = one.place; state = one.state; totals = one.totals } → (s : RdsStream)

@@ -1,5 +1,5 @@
 -- A room that is written from its beginning on.
-use Rattle.rds_abi.proofs.Shared.{common_steps, ◌≡◌, ◌∙◌, ◌+◌, ◌-◌, ◌<◌, ◌++◌, ◌∷◌, ℕ, List, [], append_assoc, arith, drop, get_or, length, map, set, take, take-set_at, take_at_read, drop-drop, drop-set-lt, map-append}
+use Rattle.rds_abi.proofs.Shared.{common_steps, ◌≡◌, ◌+◌, ◌<◌, ◌++◌, ◌∷◌, ℕ, List, append_assoc, arith, drop, get_or, length, map, set, take, take-set_at, take_at_read, drop-drop, drop-set-lt, map-append}
 
 -- one more of a list is written after those before it
 pub one_written : {A B : Type 0} (f : A → B) (xs : List A) (room : List B) (i : ℕ) (none : A) → i < length xs → i < length room

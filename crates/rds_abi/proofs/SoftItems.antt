@@ -1,5 +1,5 @@
 -- The items of a stream are read again in a part of it as in the whole.
-use Rattle.rds_abi.proofs.Shared.{common_steps, ◌≡◌, ◌∙◌, ℕ, ◌+◌, ◌-◌, List, [], ◌∷◌, arith, map, refl, Signal, Item, moved_item, moved_items}
+use Rattle.rds_abi.proofs.Shared.{common_steps, ◌≡◌, ℕ, ◌+◌, ◌-◌, List, [], ◌∷◌, arith, map, refl, Signal, Item, moved_item, moved_items}
 use Rattle.std.specs.Prelude.{ℤ}
 use Rattle.rds_sync.specs.declared.item.Item.TheVariants.{Acquired, Group, LostLock}
 use Rattle.rds_soft.specs.declared.soft_item.SoftItem.{SoftItem}

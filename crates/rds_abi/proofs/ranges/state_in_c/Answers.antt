@@ -1,17 +1,11 @@
-use Rattle.rds_abi.proofs.Shared.{common_steps, ◌≡◌, ◌<◌, ◌==◌, ℕ, arith, if◌then◌else◌, sym, ◌∙◌, AreInOrder, State, Locked, Searching, state_of}
+use Rattle.rds_abi.proofs.Shared.{common_steps, ◌≡◌, ℕ, arith, sym, ◌∙◌, AreInOrder, Locked, state_of}
 use Rattle.rds_abi.proofs.ranges.state_in_c.Goals as goal
 
 -- a lawful lock waits for a block that has a number
-some : (first number : ℕ) → AreInOrder first number → 0 < number
-some first number order = grind (arith, common_steps)
-
-is_locked : (number : ℕ) (locked : State) → 0 < number → (if number == 0 then Searching else locked) ≡ locked
-is_locked number locked is = grind arith
-
 says : (due number bad first n f loss of : ℕ) → n ≡ number → f ≡ first → AreInOrder first number
     → state_of (record { due = due; bad = bad; number = n; first = f; loss = loss; of = of; reserved = 0 })
     ≡ Locked (record { due = due; number = number; bad = bad; first = first })
-says due number bad first n f loss of n_is f_is order = grind (arith, common_steps, some first number)
+says due number bad first n f loss of n_is f_is order = grind (arith, common_steps)
 
 pub returns-in-Locked-clause-says : goal.returns-in-Locked-clause-says
 returns-in-Locked-clause-says c rules place lawful =
