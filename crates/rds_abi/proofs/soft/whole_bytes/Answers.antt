@@ -1,5 +1,4 @@
-use Rattle.rds_abi.proofs.Shared.{rules, ◌≡◌, ◌-◌, ◌/◌, ◌∙◌, ℕ, ap, arith, get_or, length, take}
-use Rattle.std.proofs.Common.{Fits, w8}
+use Rattle.std.proofs.Common.{Fits, rules, ◌≡◌, ◌-◌, ◌/◌, ◌∙◌, ℕ, List, ap, arith, get_or, length, take, w8}
 use Rattle.rds_abi.proofs.SoftSymbols.{packed-bytes}
 use Rattle.rds_abi.proofs.soft.whole_bytes.Goals as goal
 
