@@ -490,10 +490,13 @@ def test_run_by_workers(copy: Path, cases: Cases) -> None:
     cases(2)
 
 
-@pytest.mark.parametrize("test, status", [("test_fields.py", 0), ("test_rooms.py", 1)])
-def test_random_edit(test: str, status: int) -> None:
-    """An edit of the tables of names is seen by the test that compares them, and by no other."""
-    words = f"--count 1 --files monitor/rds_monitor/content/names.py --tests monitor/tests/{test}".split()
+@pytest.mark.parametrize(
+    "tests, status",
+    [("monitor/tests/test_fields.py", 0), ("monitor/tests/test_rooms.py tests/test_accuracy.py", 1)],
+)
+def test_random_edit(tests: str, status: int) -> None:
+    """An edit of the tables of names is seen by the test that compares them, and by no other of either folder."""
+    words = f"--count 1 --files monitor/rds_monitor/content/names.py --tests {tests}".split()
     ended = run(sys.executable, TOP / "tests" / "mutants.py", *words)
     assert ended.status == status and (b"NOT SEEN" in ended.out) == (status == 1), ended
 
