@@ -420,6 +420,8 @@ ROWS_OF_COUNTS: list[tuple[list[int], dict[str, str], bool]] = [
     ([3, 0], {}, False),
     ([2, 0], ALL_TOOLS, False),
     ([1, 1], ALL_TOOLS, True),
+    # one of those that passed is gone
+    ([2, 1], ALL_TOOLS, False),
     # one is skipped that was not there
     ([1, 0], ALL_TOOLS, False),
     ([2, 0], {**ALL_TOOLS, "RDS_LACKING": "a-tool its-package"}, False),
