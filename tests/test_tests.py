@@ -404,6 +404,7 @@ def test_wrong_header(
 def test_program_that_is_not_there() -> None:
     ended = outcome_of("test_header.py", "-k", "usual_rules", "--rds=/none")
     assert "/none is not there" in ended.out.decode()
+    assert outcome_of("test_accuracy.py", "-k", "a_test_that_is_not_there").status == 5
 
 
 SKIPPING = """
@@ -534,6 +535,7 @@ def test_tools_that_the_gate_installs() -> None:
     texts = "".join(path.read_text() for path in paths)
     rows = re.findall(r"\b(?:needs|which|importorskip)\(([^*)]*)\)", texts)
     tools = {tool for row in rows for tool in re.findall(r'"([\w-]+)"', row)}
+    tools |= {*re.findall(r'reason="([\w-]+) is not installed"', texts)}
     gate = (TOP / ".ci/run").read_text()
     missing = {tool for tool in tools if not re.search(rf"\b{re.escape(tool)}(?![\w-])", gate)}
     assert len(tools) > 30 and missing <= {*OTHER_TOOLS.split()}
