@@ -139,7 +139,9 @@ def test_an_hour_that_the_database_was_not_told_of(station_listing: bytes, tmp_p
     for told in ([path], []):
         assert recover(str(tmp_path), ["Alpha", "Beta"], records) == told
     query = "SELECT name, station, number, start, rate, SUM(valid) FROM recordings JOIN sessions ON recording = recordings.id"
-    found = records.database.execute(f"{query} JOIN minute_rows ON session = sessions.id GROUP BY sessions.id")
+    found = records.database.execute(
+        f"{query} JOIN minute_rows ON session = sessions.id GROUP BY sessions.id"
+    )
     valid = int(totals.partition(b",")[0])
     assert found.fetchall() == [(f"Alpha {name}", "Alpha", 0, HOUR + 12.5, 1200.0, valid)]
     records.close()
