@@ -71,8 +71,10 @@ class Edit(NamedTuple):
         return int(self.node.lineno)
 
     def texts(self) -> tuple[str, str]:
-        """The file with the edit, and without it."""
-        return self.source(self.tree), ast.unparse(self.tree)
+        """The file with the edit, and without it, both with the line by which a script is run."""
+        first = (TOP / self.path).read_text().partition("\n")[0]
+        head = f"{first}\n" if first.startswith("#!") else ""
+        return head + self.source(self.tree), head + ast.unparse(self.tree)
 
     def source(self, node: ast.AST) -> str:
         """The source of the tree, or of a statement, that holds the edited node."""
