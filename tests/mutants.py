@@ -71,8 +71,10 @@ class Edit(NamedTuple):
         return int(self.node.lineno)
 
     def texts(self) -> tuple[str, str]:
-        """The file with the edit, and without it."""
-        return self.source(self.tree), ast.unparse(self.tree)
+        """The file with the edit, and without it, both with the line by which a script is run."""
+        first = (TOP / self.path).read_text().partition("\n")[0]
+        head = f"{first}\n" if first.startswith("#!") else ""
+        return head + self.source(self.tree), head + ast.unparse(self.tree)
 
     def source(self, node: ast.AST) -> str:
         """The source of the tree, or of a statement, that holds the edited node."""
@@ -282,6 +284,8 @@ def compiled(top: Path) -> None:
 
 def failing(top: Path, tests: list[str], passed_over: list[str], most: str = "1") -> list[str]:
     """The first tests of a tree that fail, or "no end"."""
+    # both folders have a conftest, of which pytest imports the last one for good: that of the tests that import from it
+    tests = sorted(tests, key=lambda name: name.startswith("monitor/"))
     words = [sys.executable, *f"-m pytest --maxfail={most} -q -rfE -n 0 --rootdir=.".split(), *tests]
     words += [f"--deselect={name}" for name in passed_over]
     variables = {**os.environ, "RDS_COUNTS_OF_ALONE": "/dev/null"}
@@ -300,7 +304,8 @@ def failing(top: Path, tests: list[str], passed_over: list[str], most: str = "1"
     ]
     if not found and ("MemoryError" in text or ran.returncode < 0):
         return ["no end"]
-    assert found or ran.returncode in (0, 5), text
+    # with 4 a test was not found, and none was run
+    assert ran.returncode in ((0, 1, 2, 5) if found else (0, 5)), text
     return [*dict.fromkeys(found)]
 
 

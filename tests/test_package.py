@@ -506,6 +506,11 @@ def test_files_of_a_release(release: Path, rds: str, cases: Cases) -> None:
     told = {entry["fileName"][2:]: entry["checksums"] for entry in bill["files"]}
     assert {*told} == {*summed} - {"sbom.spdx.json"}
     assert all({"algorithm": "SHA256", "checksumValue": summed[name]} in told[name] for name in told)
+    # nothing is said of licences, by clauses 7 and 8 of SPDX 2.3
+    said_of_files = dict.fromkeys(("licenseConcluded", "copyrightText"), "NOASSERTION")
+    said_of_packages = {**said_of_files, "licenseDeclared": "NOASSERTION", "downloadLocation": "NOASSERTION"}
+    assert all(said_of_packages.items() <= entry.items() for entry in bill["packages"])
+    assert all(said_of_files.items() <= entry.items() for entry in bill["files"])
     ids = ["SPDXRef-DOCUMENT", *(entry["SPDXID"] for entry in bill["packages"] + bill["files"])]
     assert len({*ids}) == len(ids) and bill["spdxVersion"] == "SPDX-2.3"
     ends = {row[end] for row in bill["relationships"] for end in ("spdxElementId", "relatedSpdxElement")}

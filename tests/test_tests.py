@@ -404,6 +404,7 @@ def test_wrong_header(
 def test_program_that_is_not_there() -> None:
     ended = outcome_of("test_header.py", "-k", "usual_rules", "--rds=/none")
     assert "/none is not there" in ended.out.decode()
+    assert outcome_of("test_accuracy.py", "-k", "a_test_that_is_not_there").status == 5
 
 
 SKIPPING = """
@@ -420,6 +421,8 @@ ROWS_OF_COUNTS: list[tuple[list[int], dict[str, str], bool]] = [
     ([3, 0], {}, False),
     ([2, 0], ALL_TOOLS, False),
     ([1, 1], ALL_TOOLS, True),
+    # one of those that passed is gone
+    ([2, 1], ALL_TOOLS, False),
     # one is skipped that was not there
     ([1, 0], ALL_TOOLS, False),
     ([2, 0], {**ALL_TOOLS, "RDS_LACKING": "a-tool its-package"}, False),
@@ -490,10 +493,13 @@ def test_run_by_workers(copy: Path, cases: Cases) -> None:
     cases(2)
 
 
-@pytest.mark.parametrize("test, status", [("test_fields.py", 0), ("test_rooms.py", 1)])
-def test_random_edit(test: str, status: int) -> None:
-    """An edit of the tables of names is seen by the test that compares them, and by no other."""
-    words = f"--count 1 --files monitor/rds_monitor/content/names.py --tests monitor/tests/{test}".split()
+@pytest.mark.parametrize(
+    "tests, status",
+    [("monitor/tests/test_fields.py", 0), ("monitor/tests/test_rooms.py tests/test_accuracy.py", 1)],
+)
+def test_random_edit(tests: str, status: int) -> None:
+    """An edit of the tables of names is seen by the test that compares them, and by no other of either folder."""
+    words = f"--count 1 --files monitor/rds_monitor/content/names.py --tests {tests}".split()
     ended = run(sys.executable, TOP / "tests" / "mutants.py", *words)
     assert ended.status == status and (b"NOT SEEN" in ended.out) == (status == 1), ended
 
@@ -529,6 +535,7 @@ def test_tools_that_the_gate_installs() -> None:
     texts = "".join(path.read_text() for path in paths)
     rows = re.findall(r"\b(?:needs|which|importorskip)\(([^*)]*)\)", texts)
     tools = {tool for row in rows for tool in re.findall(r'"([\w-]+)"', row)}
+    tools |= {*re.findall(r'reason="([\w-]+) is not installed"', texts)}
     gate = (TOP / ".ci/run").read_text()
     missing = {tool for tool in tools if not re.search(rf"\b{re.escape(tool)}(?![\w-])", gate)}
     assert len(tools) > 30 and missing <= {*OTHER_TOOLS.split()}

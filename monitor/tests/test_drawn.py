@@ -89,8 +89,8 @@ def pages(tmp_path_factory: Any) -> Path:
         Counted(500.0 * step * n, step, counts(500, random) * many) for n, many in enumerate((700, 3000))
     ]
     days.sessions = [[0.0, 1000.0 * step, 1000.0 * step, 1, 1]]
-    # a type more than there are colours
-    rare = {f"{n}B": n + 1 for n in range(11)}
+    # three types more than there are colours
+    rare = {f"{n}B": n + 1 for n in range(13)}
     days.mix = [[step * n, step * (n + 1), {"0A": 1 + n % 9, "2A": 2 + n % 5, **rare}] for n in range(1000)]
     days.outages = [[at, at + step, 3.5] for at in range(0, 1000 * step, 7 * step)]
     told = told_of("days", days, (0.0, 1000.0 * step), 1774744200.0, {}, tile_of([], 900000.0, 0.0))

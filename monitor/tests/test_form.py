@@ -177,6 +177,9 @@ def test_mpx_in_the_second_channel_and_in_flac(signal: Array, tmp_path: Path) ->
     both = numpy.column_stack([numpy.zeros(signal.size), signal])
     (tmp_path / "two.wav").write_bytes(wav(stored(both.ravel(), "s16"), "s16", 192000, channels=2))
     assert forms(tmp_path / "two.wav")[0][2].startswith("rds-monitor demod --channel 2 ")
+    for channel in (0, 3):
+        done = monitor("demod", "--channel", channel, tmp_path / "two.wav")
+        assert done.returncode == 1 and b"there is no channel %d of 2" % channel in done.stderr
     soundfile = pytest.importorskip("soundfile")
     soundfile.write(tmp_path / "two.flac", both / 3, 192000)
     assert forms(tmp_path / "two.flac")[0][2].startswith("rds-monitor demod --channel 2 ")

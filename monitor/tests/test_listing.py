@@ -19,7 +19,7 @@ from hypothesis import HealthCheck, given, settings, strategies as st
 from conftest import encode, rds
 from made import acquired_row, block, damaged, group_row, joined, listing, lock, loss_row, read, run, said
 from rds_monitor.rows import listing as of_listing
-from rds_monitor.rows.heads import HEADER
+from rds_monitor.rows.heads import HEADER, is_listing
 from rds_monitor.rows.items import BLOCKS, GROUP, VALID, Fault, Reading, Rows, Rules, totals_of
 from rds_monitor.rows.listing import Listing, text_of, totals_text
 from rds_monitor.rows.opening import open_source
@@ -194,6 +194,12 @@ def test_inputs_that_are_none(head: bytes, tmp_path) -> None:
     (tmp_path / "it").write_bytes(head)
     with pytest.raises(Fault, match=NO_INPUTS[head]):
         open_source(str(tmp_path / "it"))
+
+
+def test_bits_like_those_of_a_listing_in_utf_16() -> None:
+    """The bits of a recording may begin with its mark, or have its first word."""
+    for mark, word in ((b"\xff\xfe", b"groups"), (b"\xfe\xff", b"groups"), (b"\xff\xff", b"g\0r\0o\0u\0p\0")):
+        assert not is_listing(mark + word + bytes(range(256)))
 
 
 def test_a_row_without_an_end() -> None:

@@ -97,6 +97,7 @@ def test_long_lists_have_a_row_per_step() -> None:
     line.lanes = {
         "PS": [(0.0, 10800.0, "X")],
         "RT": [(60.0 * n, 60.0 * n + 60, str(max(n, 60))) for n in range(180)],
+        "PTY": [(0.0, 8000.0, "A"), *((8000.0 + n, 8001.0 + n, str(n)) for n in range(20))],
     }
     few = line.fewer(3600, 20)
     assert few.parts[0].counts.tolist() == [[6000, 5400, 300, 180, 120]] * 3 and few.parts[0].step == 3600
@@ -106,7 +107,11 @@ def test_long_lists_have_a_row_per_step() -> None:
     ]
     assert few.clock == [[1800, 0.5], [5400, 1.5], [9000, 2.5]]
     assert few.events == [[5.0, "PS", "X"]] and few.more == 180
-    assert few.lanes == {"PS": [(0, 10800, "X")], "RT": [(0, 3600, "60"), (3600, 10800, "several texts")]}
+    assert few.lanes == {
+        "PS": [(0, 10800, "X")],
+        "RT": [(0, 3600, "60"), (3600, 10800, "several texts")],
+        "PTY": [(0, 7200, "A"), (7200, 10800, "several texts")],
+    }
     assert few.fewer(3600, 20).told(0) == few.told(0) and line.fewer(60).told(0) == line.told(0)
     # As many rows as a list may have are left as they are.
     whole, cut = line.fewer(3600, 181), line.fewer(3600, 180)

@@ -138,6 +138,20 @@ def test_streams_that_end_anywhere(seed: int) -> None:
     )
 
 
+def test_an_end_beside_an_acquisition_or_a_loss() -> None:
+    """Inside a byte rows of symbols come up to seven bits late, and the last ones at the end."""
+    options, given = ("--soft", "--loss", 3), SYMBOLS[3:1000]
+    heads = [line.split(b",")[:2] for line in rds("list", *options, data=given).splitlines()]
+    places = {name: int(place) for name, place in reversed(heads) if name in (b"acquired", b"lost")}
+    assert len(places) == 2 and not {(place + 1) % 8 for place in places.values()} & {0}
+    for end in (place + beside for place in places.values() for beside in (1, 2, 3, 9)):
+        decoder = decoder_of(soft=SOFT_JOBS)[0](Rules(loss=3, margin=32))
+        rows = [decoder.push(given[:end])]
+        last, totals = decoder.finish()
+        text = text_of(joined([*rows, last])) + totals_text(totals)
+        assert text == rds("list", *options, data=given[:end]), end
+
+
 def test_errors_have_a_column_more(path: Path, listed: bytes, tmp_path: Path) -> None:
     text = output("errors", "--soft", "--every", 5, path)
     (tmp_path / "it.csv").write_bytes(listed)

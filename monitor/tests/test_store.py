@@ -189,7 +189,17 @@ def test_the_views_of_written_rows(database) -> None:
         "INSERT INTO outage_rows VALUES(1, 10000, 11000), (1, 12000, 14500), (1, 14700, 15000), (1, 98500, 100000)",
         "INSERT INTO outage_rows VALUES(2, 0, 4500), (2, 4650, 9000), (2, 60000, 63001)",
         "INSERT INTO watched_rows VALUES(1, 'X', 86330, 86500), (2, 'X', 86510.5, 86512)",
+        "INSERT INTO alarm_rows VALUES(1, 'X', 'pi', 1000.25, 1003.62, 'D319'), (2, 'Y', 'ps', 2000, NULL, 'BETA')",
+        "INSERT INTO run_rows VALUES(1, 'X', 1000.5, 2000.75, 'it ended')",
+        "INSERT INTO station_rows VALUES('X', 3000.125, 'fine')",
     )
+    assert asked(database, "SELECT * FROM alarms") == [
+        ("X", "pi", "1970-01-01T00:16:40.250Z", "1970-01-01T00:16:43.620Z", 3.4, "D319"),
+        ("Y", "ps", "1970-01-01T00:33:20.000Z", None, None, "BETA"),
+    ]
+    ran = ("X", "1970-01-01T00:16:40.500Z", "1970-01-01T00:33:20.750Z", "it ended")
+    assert asked(database, "SELECT * FROM runs") == [ran]
+    assert asked(database, "SELECT * FROM stations") == [("X", "1970-01-01T00:50:00.125Z", "fine")]
     day, next_day = "1970-01-01T23:59:", "1970-01-02T00:0"
     assert asked(database, "SELECT begin_utc, begin_s, sent, valid, bad_percent FROM minutes") == [
         (day + "00.000Z", 0.0, 2300, 2000, 13.04),
@@ -237,6 +247,12 @@ def test_the_views_of_written_rows(database) -> None:
         with closing(sqlite3.connect(database)) as data:
             assert availability(data, "X", *times) == pytest.approx(seconds, abs=0.001), times
         change(database, *(changes[:2], changes[2:], [])[number])
+        if number == 0:
+            # its sessions are longer than it was watched
+            assert asked(database, "SELECT received_s, noise_s, down_s, unknown_s FROM days") == [
+                (56.2, 3.8, 0.0, 86340.0),
+                (73.55, 6.45, 0.0, 86320.0),
+            ]
 
 
 def test_a_name_that_scrolls_is_cut(database) -> None:

@@ -164,9 +164,9 @@ def test_no_clock_time() -> None:
 
 
 def test_a_clock_time_counts_from_when_it_was_sent() -> None:
-    """As long as its bits took to come."""
+    """As long as its bits took to come, and the last of those that came at once."""
     judged = Judged("[station.alarms]", "ct_absent = 150").seconds(100)
-    judged.alarms.take([], [], [Tick(TIMING.place(70), 70)], TIMING, 0.0)
+    judged.alarms.take([], [], [Tick(TIMING.place(at), at) for at in (10, 70)], TIMING, 0.0)
     assert judged.seconds(200).found == [("ct_absent", True, 220.0)]
 
 

@@ -31,7 +31,7 @@ from rds_monitor.watch.records import (
     RunBegan,
     RunEnded,
 )
-from rds_monitor.watch.recover import rows_of
+from rds_monitor.watch.recover import recover, rows_of
 from rds_monitor.watch.repair import make_whole
 from rds_monitor.watch.retention import tidy
 from rds_monitor.watch.table import Keep
@@ -129,6 +129,24 @@ def test_options_say_more_than_a_name(station_listing: bytes, tmp_path: Path) ->
     assert run("errors", other).status == 1
 
 
+def test_an_hour_that_the_database_was_not_told_of(station_listing: bytes, tmp_path: Path) -> None:
+    """The watch was killed before. The next one tells it, and once."""
+    name = Hour(HOUR, HOUR + 12.5, 1200).name
+    path, records = os.path.join("listings", "Alpha", name), Records(str(tmp_path / "watch.db"))
+    (tmp_path / path).parent.mkdir(parents=True)
+    rows, _, totals = station_listing.partition(b"total,valid,")
+    (tmp_path / path).write_bytes(rows)
+    for told in ([path], []):
+        assert recover(str(tmp_path), ["Alpha", "Beta"], records) == told
+    query = "SELECT name, station, number, start, rate, SUM(valid) FROM recordings JOIN sessions ON recording = recordings.id"
+    found = records.database.execute(
+        f"{query} JOIN minute_rows ON session = sessions.id GROUP BY sessions.id"
+    )
+    valid = int(totals.partition(b",")[0])
+    assert found.fetchall() == [(f"Alpha {name}", "Alpha", 0, HOUR + 12.5, 1200.0, valid)]
+    records.close()
+
+
 def test_a_writer_ends_with_its_last_rows(tmp_path: Path) -> None:
     records = Records(str(tmp_path / "watch.db"))
     # In milliseconds, for another writer.
@@ -141,6 +159,28 @@ def test_a_writer_ends_with_its_last_rows(tmp_path: Path) -> None:
     thread.end(20)
     assert not thread.is_alive() and thread.crash is None
     assert (tmp_path / "listings" / "Alpha" / "it.csv").read_bytes() == b"row\n"
+    records.close()
+
+
+def test_a_writer_is_busy_while_rows_wait(tmp_path: Path, monkeypatch: pytest.MonkeyPatch) -> None:
+    """Else it would be given more, without an end."""
+    monkeypatch.setattr("rds_monitor.watch.writer.RETRY", 0.01)
+    records, listings = Records(str(tmp_path / "watch.db")), tmp_path / "listings"
+    listings.write_text("no folder")
+    writer = Writer(str(tmp_path), records, lambda *said: None)
+    thread = WriterThread(writer)
+    thread.start()
+    thread.give(Batch([Append("listings/Alpha/it.csv", b"row\n", True)], [], []))
+    while thread.is_alive() and writer.fault is None:
+        time.sleep(0.001)
+    for _ in range(10):
+        time.sleep(0.005)
+        assert not thread.is_idle and thread.fault
+    listings.unlink()
+    while thread.is_alive() and not thread.is_idle:
+        time.sleep(0.001)
+    assert (listings / "Alpha" / "it.csv").read_bytes() == b"row\n" and thread.fault is None
+    thread.end(20)
     records.close()
 
 

@@ -57,6 +57,14 @@ def test_the_first_second_corrects_the_start() -> None:
     assert arrivals.timing is not None and abs(arrivals.timing.start - BEGIN - 0.01) < 1e-3
 
 
+def test_of_a_second_the_read_with_the_least_delay_counts() -> None:
+    """Of two that came before they can have been sent, by a second and by half of one."""
+    arrivals = Arrivals()
+    for place, came in ((RATE, 1), (101.2 * RATE, 100.2), (101.3 * RATE, 100.8)):
+        arrivals.take(int(place), BEGIN + came)
+    assert arrivals.ahead == pytest.approx(1, abs=0.01)
+
+
 @pytest.mark.parametrize("seconds, start", [(1, 0), (30, -29), (60, -59), (100, -60.5)])
 def test_bits_from_before_a_receiver_was_started(seconds: int, start: float) -> None:
     """A second after that it gives them all at once. It had those of a minute, or a second more, and no others."""
