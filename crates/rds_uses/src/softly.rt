@@ -272,7 +272,7 @@ pub fn of_two_reads(
     Ok((one, other))
 }
 
-/// The totals of a stream of these symbols are those of its report, read again. `None` stands for one more gap than it may have.
+/// The totals of a stream of these symbols are those of its report, read again. It gives `None` if a gap ends after its last bit.
 pub fn totals_of_stream(
     alloc: Global,
     rules: &Rules,
