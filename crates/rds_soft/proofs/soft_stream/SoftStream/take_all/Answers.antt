@@ -123,8 +123,8 @@ invariant_of-self-2 c =
     let n = (goal.at.invariant_of-self-2 c).After-deref-4 in
     let know = c.self.invariant in
     let sums = c.counted-self-inside.ensures in
-    let noted : c.note.new.self.symbols ≡ symbols n ++ more n = c.note.ensures in
-    let long : length c.note.new.self.symbols ≡ length (symbols n) + length (more n) = ap (λ (xs : List ℕ). length xs) noted ∙ length-append (symbols n) (more n) in
+    let noted : c.note.new.self.bytes ≡ symbols n ++ more n = c.note.ensures in
+    let long : length c.note.new.self.bytes ≡ length (symbols n) + length (more n) = ap (λ (xs : List ℕ). length xs) noted ∙ length-append (symbols n) (more n) in
     let given : length c.deref-4.result.now ≡ length c.in_ok-found.found.items = ap (λ (xs : List SoftItem). length xs) c.deref-4.ensures.value in
     record {
       count_is = omega (arith, know.count_is, long);
@@ -140,7 +140,7 @@ invariant_of-self-2 c =
           ∙ ap (λ (xs : List SoftItem). soft_totals_of (complete (terms n) (symbols n) ++ xs)) c.deref-4.ensures.value
           ∙ ap soft_totals_of (sym (complete_is n))
           ∙ ap (λ (xs : List ℕ). soft_totals_of (complete (terms n) xs)) (sym noted);
-      small = at-most-more (2 ^ 11 * length (symbols n) + 2 ^ 10 * length c.deref-4.result.now) (2 ^ 11 * length c.note.new.self.symbols) c.counted-self-inside.result
+      small = at-most-more (2 ^ 11 * length (symbols n) + 2 ^ 10 * length c.deref-4.result.now) (2 ^ 11 * length c.note.new.self.bytes) c.counted-self-inside.result
           (omega (arith, few n, given, long)) (sums.small (2 ^ 11 * length (symbols n)) know.small);
       gaps = know.gaps;
     }
