@@ -24,6 +24,14 @@ same_counts h1 h2 h3 h4 h5 h6 h7 h8 h9 h10 h11 h12 = cc
 five_numbers : (xs : List ℕ) → length xs ≡ 5 → xs ≡ slice_index xs 0 ∷ slice_index xs 1 ∷ slice_index xs 2 ∷ slice_index xs 3 ∷ slice_index xs 4 ∷ []
 five_numbers xs h = grind (arith, common_steps)
 
+-- each count of a part is within that of the whole
+pub part_fits : (part whole rest : Totals) → IsRest part whole rest
+    → (part.valid ≤ whole.valid) × (slice_index part.bursts 0 ≤ slice_index whole.bursts 0) × (slice_index part.bursts 1 ≤ slice_index whole.bursts 1)
+    × (slice_index part.bursts 2 ≤ slice_index whole.bursts 2) × (slice_index part.bursts 3 ≤ slice_index whole.bursts 3)
+    × (slice_index part.bursts 4 ≤ slice_index whole.bursts 4) × (part.lost ≤ whole.lost) × (part.bits ≤ whole.bits)
+    × (part.groups ≤ whole.groups) × (part.complete ≤ whole.complete) × (part.acquired ≤ whole.acquired) × (part.losses ≤ whole.losses)
+part_fits part whole rest is = rw is.joined (omega arith)
+
 -- the rest, count by count
 pub rest_is : (part whole rest : Totals) → IsRest part whole rest
     → ◌≡◌ {A = Totals} (record {

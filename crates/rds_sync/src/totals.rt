@@ -104,6 +104,7 @@ impl Totals {
     }
 
     /// The totals of the rest of a list, these being those of all of it and `part` those of its first items.
+    #[tactic(auto, using(crate::proofs::TotalsLemmas::part_fits))]
     pub fn less(self, part: Totals) -> Totals
         requires { (rest : Totals) × IsRest part self rest }
         ensures value { (rest : Totals) → IsRest part self rest → result ≡ rest }

@@ -3,14 +3,11 @@
 use Rattle.std.specs.Prelude.{◌≡◌, ◌==◌, length, refl}
 use Rattle.std.proofs.Common.{ap, sym}
 use Rattle.std.proofs.lemmas.Bool.{false≢true, leb-true}
-use Rattle.rds_code.specs.Remainder.{rem}
-use Rattle.rds_stream.specs.Recording.{Signal, bits_of, ungapped, window, touched, heard, offset_at}
+use Rattle.rds_stream.specs.Recording.{Signal, bits_of, ungapped}
 use Rattle.rds_sync.specs.declared.state.State.TheVariants.{Searching, Locked}
-use Rattle.rds_sync.specs.Acquiring.{acquired, has_number}
-use Rattle.rds_sync.specs.Groups.{group}
 use Rattle.rds_sync.specs.Rules.{RuleNumbers}
 use Rattle.rds_sync.specs.Examples.Reports.{one_bad}
-use Rattle.rds_sync.specs.Examples.Words.{rules_of, totals}
+use Rattle.rds_sync.specs.Examples.Words.{computed, rules_of, totals}
 use Rattle.rds_sync.specs.Step.{lock_of, run}
 use Rattle.rds_sync.specs.Totals.{totals_of}
 use Rattle.rds_pieces.specs.Guess.{guess}
@@ -25,12 +22,12 @@ abbrev pub rules : RuleNumbers
 rules = rules_of 2 3 1
 
 pub end_of_the_left : end_of (run_over b rules 0 104) ≡ Locked (lock_of 129 1 0 1)
-unfolding acquired has_number group rem window touched heard offset_at
+unfolding computed
 end_of_the_left = refl
 
 -- after the bit of the loss both search
 pub meets_in_the_search : MeetAt b rules (Locked (lock_of 129 1 0 1)) Searching 104 208 130
-unfolding acquired has_number group rem window touched heard offset_at
+unfolding computed
 meets_in_the_search = record {
   inside = (leb-true 104 130 refl, leb-true 130 208 refl);
   same = refl;
@@ -38,19 +35,19 @@ meets_in_the_search = record {
 }
 
 pub not_before : MeetAt b rules (Locked (lock_of 129 1 0 1)) Searching 104 208 129 → ⊥
-unfolding acquired has_number group rem window touched heard offset_at
+unfolding computed
 not_before met = false≢true (sym (ap (λ state. number_due state == 1) met.same))
 
 -- up to there the group of the bad block, and the loss
 pub own : length (run b rules (Locked (lock_of 129 1 0 1)) 104 26).1 ≡ 2
-unfolding acquired has_number group rem window touched heard offset_at
+unfolding computed
 own = refl
 
 -- and nothing of the guess
 pub nothing_passed : length (guess b rules 104 26).1 ≡ 0
-unfolding acquired has_number group rem window touched heard offset_at
+unfolding computed
 nothing_passed = refl
 
 pub counted : totals_of (run b rules (Locked (lock_of 129 1 0 1)) 104 104).1 ≡ totals 3 0 0 0 0 0 1 0 2 0 1 1
-unfolding acquired has_number group rem window touched heard offset_at
+unfolding computed
 counted = refl

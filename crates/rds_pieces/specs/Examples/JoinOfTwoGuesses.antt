@@ -2,13 +2,10 @@
 use Rattle.std.specs.Prelude.{◌≡◌, ◌==◌, ◌++◌, List, drop, length, refl}
 use Rattle.std.proofs.Common.{ap}
 use Rattle.std.proofs.lemmas.Bool.{false≢true, leb-true}
-use Rattle.rds_code.specs.Remainder.{rem}
-use Rattle.rds_stream.specs.Recording.{Signal, bits_of, ungapped, window, touched, heard, offset_at}
+use Rattle.rds_stream.specs.Recording.{Signal, bits_of, ungapped}
 use Rattle.rds_sync.specs.declared.state.State.TheVariants.{Searching, Locked}
 use Rattle.rds_sync.specs.declared.item.Item.{Item}
-use Rattle.rds_sync.specs.Acquiring.{acquired, has_number}
-use Rattle.rds_sync.specs.Groups.{group}
-use Rattle.rds_sync.specs.Examples.Words.{zero_group, default_rules, totals}
+use Rattle.rds_sync.specs.Examples.Words.{computed, zero_group, default_rules, totals}
 use Rattle.rds_sync.specs.Step.{lock_of, run}
 use Rattle.rds_sync.specs.Totals.{totals_of}
 use Rattle.rds_pieces.specs.Guess.{guess}
@@ -20,12 +17,12 @@ b = ungapped (bits_of (zero_group ++ zero_group ++ zero_group) 312)
 
 -- the left guess ends in the lock, and goes on from there
 pub end_of_the_left : end_of (run_over b default_rules 0 104) ≡ Locked (lock_of 129 1 0 1)
-unfolding acquired has_number group rem window touched heard offset_at
+unfolding computed
 end_of_the_left = refl
 
 -- after its first group the run from there is in the state of the right guess, which acquired within that group
 pub meets_behind_the_group : MeetAt b default_rules (Locked (lock_of 129 1 0 1)) Searching 104 312 208
-unfolding acquired has_number group rem window touched heard offset_at
+unfolding computed
 meets_behind_the_group = record {
   inside = (leb-true 104 208 refl, leb-true 208 312 refl);
   same = refl;
@@ -34,7 +31,7 @@ meets_behind_the_group = record {
 
 -- two items of the right guess come before the meeting: its acquisition, and the group that it acquired in
 pub passed : length (guess b default_rules 104 104).1 ≡ 2
-unfolding acquired has_number group rem window touched heard offset_at
+unfolding computed
 passed = refl
 
 -- the run from the left end up to the meeting, and the right guess from there on
@@ -45,20 +42,20 @@ abbrev pub whole : List Item
 whole = (run b default_rules (Locked (lock_of 129 1 0 1)) 104 208).1
 
 pub joined : own ++ drop 2 (guess b default_rules 104 208).1 ≡ whole
-unfolding acquired has_number group rem window touched heard offset_at
+unfolding computed
 joined = refl
 
 -- the group before the meeting is not taken of both
 pub not_twice : own ++ drop 1 (guess b default_rules 104 208).1 ≡ whole → ⊥
-unfolding acquired has_number group rem window touched heard offset_at
+unfolding computed
 not_twice same = false≢true (ap (λ items. length items == 2) same)
 
 -- and not of none
 pub not_left_out : drop 2 (guess b default_rules 104 208).1 ≡ whole → ⊥
-unfolding acquired has_number group rem window touched heard offset_at
+unfolding computed
 not_left_out same = false≢true (ap (λ items. length items == 2) same)
 
 -- the totals over the right range: of both groups
 pub counted : totals_of whole ≡ totals 8 0 0 0 0 0 0 0 2 2 0 0
-unfolding acquired has_number group rem window touched heard offset_at
+unfolding computed
 counted = refl

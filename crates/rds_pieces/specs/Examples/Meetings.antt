@@ -3,14 +3,11 @@ use Rattle.std.specs.Prelude.{◌≡◌, ◌<◌, ◌==◌, ℕ, zero, suc, [], 
 use Rattle.std.proofs.Common.{ap, sym}
 use Rattle.std.proofs.Math.Nat.{le_of_suc-le-suc, not-suc-le-zero}
 use Rattle.std.proofs.lemmas.Bool.{false≢true, le-leb, leb-true}
-use Rattle.rds_code.specs.Remainder.{rem}
-use Rattle.rds_stream.specs.Recording.{Signal, bits_of, ungapped, window, touched, heard, offset_at}
+use Rattle.rds_stream.specs.Recording.{Signal, bits_of, ungapped}
 use Rattle.rds_sync.specs.declared.state.State.{State}
 use Rattle.rds_sync.specs.declared.state.State.TheVariants.{Searching, Locked}
-use Rattle.rds_sync.specs.Acquiring.{acquired, has_number}
-use Rattle.rds_sync.specs.Groups.{group}
 use Rattle.rds_sync.specs.Rules.{RuleNumbers}
-use Rattle.rds_sync.specs.Examples.Words.{zero_group, rules_of}
+use Rattle.rds_sync.specs.Examples.Words.{computed, zero_group, rules_of}
 use Rattle.rds_sync.specs.Step.{lock_of}
 use Rattle.rds_pieces.specs.Meeting.{IsMeeting, MeetAt, distance}
 
@@ -29,26 +26,26 @@ cut_at_190 rules = MeetAt b rules (Locked (lock_of 207 4 0 1)) Searching 190 312
 
 -- the guess acquires at that block, and both wait for the next block 1
 pub at_208 : cut_at_190 (rules_of 2 3 10) 208
-unfolding acquired has_number group rem window touched heard offset_at
+unfolding computed
 at_208 = record { inside = (leb-true 190 208 refl, leb-true 208 312 refl); same = refl; between = refl }
 
 pub not_before : cut_at_190 (rules_of 2 3 10) 207 → ⊥
-unfolding acquired has_number group rem window touched heard offset_at
+unfolding computed
 not_before met = false≢true (sym (ap (λ state. number_due state == 4) met.same))
 
 -- one block later they are in one state too, but in a group
 pub not_in_a_group : cut_at_190 (rules_of 2 3 10) 234 → ⊥
-unfolding acquired has_number group rem window touched heard offset_at
+unfolding computed
 not_in_a_group met = false≢true (ap (λ number. number == 1) met.between)
 
 -- with reach 4 the guess locks at a false phase, and then they are never in one state
 pub not_in_the_phase : cut_at_190 (rules_of 2 4 10) 208 → ⊥
-unfolding acquired has_number group rem window touched heard offset_at
+unfolding computed
 not_in_the_phase met = false≢true (sym (ap (λ state. number_due state == 1) met.same))
 
 -- the end of the range counts, and no place past it
 pub at_the_end : MeetAt b (rules_of 2 3 10) (Locked (lock_of 207 4 0 1)) Searching 190 208 208
-unfolding acquired has_number group rem window touched heard offset_at
+unfolding computed
 at_the_end = record { inside = (leb-true 190 208 refl, leb-true 208 208 refl); same = refl; between = refl }
 
 pub not_past_the_end : MeetAt b (rules_of 2 3 10) (Locked (lock_of 207 4 0 1)) Searching 190 207 208 → ⊥
@@ -67,7 +64,7 @@ pub not_at_0 : (to : ℕ) → with_search 0 to 0 → ⊥
 not_at_0 to met = false≢true (sym (ap (λ state. number_due state == 4) met.same))
 
 pub not_at_1 : (to : ℕ) → with_search 0 to 1 → ⊥
-unfolding acquired offset_at
+unfolding computed
 not_at_1 to met = false≢true (sym (ap (λ state. number_due state == 4) met.same))
 
 pub before_2 : (to q : ℕ) → q < 2 → with_search 0 to q → ⊥
@@ -77,14 +74,14 @@ before_2 to (suc (suc q)) below met = not-suc-le-zero (le_of_suc-le-suc (le_of_s
 
 -- the least place, inside the range and at its end
 pub met_inside : IsMeeting three_bits (rules_of 2 3 1) (Locked (lock_of 1 4 0 1)) Searching 0 3 (Some 2)
-unfolding acquired has_number offset_at
+unfolding computed
 met_inside = record {
   here = record { inside = (leb-true 0 2 refl, leb-true 2 3 refl); same = refl; between = tt };
   least = before_2 3;
 }
 
 pub met_at_the_end : IsMeeting three_bits (rules_of 2 3 1) (Locked (lock_of 1 4 0 1)) Searching 0 2 (Some 2)
-unfolding acquired has_number offset_at
+unfolding computed
 met_at_the_end = record {
   here = record { inside = (leb-true 0 2 refl, leb-true 2 2 refl); same = refl; between = tt };
   least = before_2 2;
@@ -101,13 +98,6 @@ none zero met = not_at_0 1 met
 none (suc zero) met = not_at_1 1 met
 none (suc (suc q)) met = not-suc-le-zero (le_of_suc-le-suc met.inside.1)
 
--- ---- distances
-
-pub to_the_meeting : distance 190 312 (Some 208) ≡ 18
-to_the_meeting = refl
-
-pub to_the_end : distance 190 312 None ≡ 122
-to_the_end = refl
-
-pub at_once : distance 190 312 (Some 190) ≡ 0
-at_once = refl
+-- ---- distances: to the meeting, to the end if there is none, and at once
+pub distances : (distance 190 312 (Some 208) ≡ 18) × (distance 190 312 None ≡ 122) × (distance 190 312 (Some 190) ≡ 0)
+distances = (refl, refl, refl)

@@ -42,20 +42,15 @@ agree f g n same i below =
 
 -- ---- remainders
 
-pub at_25 : Hold planes 0 0x0FC
-at_25 = record { small = leb-true 0x0FD 1024 refl; bits = agree _ _ 10 refl }
-
-pub at_26 : Hold planes 1 0x1F8
-at_26 = record { small = leb-true 0x1F9 1024 refl; bits = agree _ _ 10 refl }
-
-pub at_51 : Hold planes 26 0x198
-at_51 = record { small = leb-true 0x199 1024 refl; bits = agree _ _ 10 refl }
-
-pub at_77 : Hold planes 52 0x168
-at_77 = record { small = leb-true 0x169 1024 refl; bits = agree _ _ 10 refl }
-
-pub at_88 : Hold planes 63 0x25E
-at_88 = record { small = leb-true 0x25F 1024 refl; bits = agree _ _ 10 refl }
+-- at the places 25, 26, 51, 77 and 88
+pub held : Hold planes 0 0x0FC × Hold planes 1 0x1F8 × Hold planes 26 0x198 × Hold planes 52 0x168 × Hold planes 63 0x25E
+held = (
+  record { small = leb-true 0x0FD 1024 refl; bits = agree _ _ 10 refl },
+  record { small = leb-true 0x1F9 1024 refl; bits = agree _ _ 10 refl },
+  record { small = leb-true 0x199 1024 refl; bits = agree _ _ 10 refl },
+  record { small = leb-true 0x169 1024 refl; bits = agree _ _ 10 refl },
+  record { small = leb-true 0x25F 1024 refl; bits = agree _ _ 10 refl },
+)
 
 -- a place holds one remainder: not that of its neighbour, nor one of more than ten bits
 pub not_the_next : Hold planes 0 0x1F8 → ⊥
@@ -66,14 +61,13 @@ not_eleven_bits hold = false≢true (le-leb 0x4FD 1024 hold.small)
 
 -- ---- windows
 
-pub window_25 : IsWindowAt places 0 0x00000FC
-window_25 = record { block = leb-true 0xFD 67108864 refl; bits = agree _ _ 26 refl }
-
-pub window_51 : IsWindowAt places 26 0x0000198
-window_51 = record { block = leb-true 0x199 67108864 refl; bits = agree _ _ 26 refl }
-
-pub window_77 : IsWindowAt places 52 0x0000168
-window_77 = record { block = leb-true 0x169 67108864 refl; bits = agree _ _ 26 refl }
+-- those that end at the places 25, 51 and 77
+pub there : IsWindowAt places 0 0x00000FC × IsWindowAt places 26 0x0000198 × IsWindowAt places 52 0x0000168
+there = (
+  record { block = leb-true 0xFD 67108864 refl; bits = agree _ _ 26 refl },
+  record { block = leb-true 0x199 67108864 refl; bits = agree _ _ 26 refl },
+  record { block = leb-true 0x169 67108864 refl; bits = agree _ _ 26 refl },
+)
 
 -- its last place is its lowest bit
 pub not_turned : IsWindowAt places 0 0x0FC0000 → ⊥

@@ -97,41 +97,25 @@ pub are_lawful : IsLawful default_rules 0 Searching
 unfolding computed
 are_lawful = search (rules, arith)
 
-pub due_before : IsLawfulAt default_rules 130 129 1 0 1 → ⊥
-due_before lawful = omega arith
+-- not after the block that is due, nor more than 26 places before it
+pub not_at_another_place : (IsLawfulAt default_rules 130 129 1 0 1 → ⊥) × (IsLawfulAt default_rules 103 129 1 0 1 → ⊥)
+not_at_another_place = (λ lawful. omega arith, λ lawful. omega arith)
 
-pub due_after_27 : IsLawfulAt default_rules 103 129 1 0 1 → ⊥
-due_after_27 lawful = omega arith
-
-pub lost : IsLawfulAt default_rules 129 129 1 10 1 → ⊥
-lost lawful = omega arith
-
-pub fifth_of_four : IsLawfulAt (rules_with_share 2 4) 129 129 1 16 1 → ⊥
-fifth_of_four lawful = omega arith
-
-pub two_of_four : IsLawfulAt (rules_with_share 2 4) 129 129 1 3 1 → ⊥
+-- not with as many bad blocks as lose the lock, nor with one before the last four
+pub not_lost : (IsLawfulAt default_rules 129 129 1 10 1 → ⊥) × (IsLawfulAt (rules_with_share 2 4) 129 129 1 16 1 → ⊥)
+    × (IsLawfulAt (rules_with_share 2 4) 129 129 1 3 1 → ⊥)
 unfolding computed
-two_of_four lawful = omega arith
+not_lost = (λ lawful. omega arith, λ lawful. omega arith, λ lawful. omega arith)
 
-pub before_the_start : IsLawfulAt default_rules 77 102 4 0 1 → ⊥
-before_the_start lawful = omega arith
+-- not with a first block before the recording, nor before any acquires, nor with the recording's first block due
+pub not_before_the_start : (IsLawfulAt default_rules 77 102 4 0 1 → ⊥) × (IsLawfulAt default_rules 51 76 2 0 1 → ⊥)
+    × (IsLawfulAt default_rules 0 25 1 0 1 → ⊥)
+not_before_the_start = (λ lawful. omega arith, λ lawful. omega arith, λ lawful. omega arith)
 
-pub before_any_acquires : IsLawfulAt default_rules 51 76 2 0 1 → ⊥
-before_any_acquires lawful = omega arith
-
--- whose block would be the recording's first
-pub first_of_all : IsLawfulAt default_rules 0 25 1 0 1 → ⊥
-first_of_all lawful = omega arith
-
-pub past_4 : IsLawfulAt default_rules 129 129 5 0 1 → ⊥
-past_4 lawful = omega arith
-
--- no first block before block 2, except block 1
-pub first_is_due : IsLawfulAt default_rules 129 129 2 0 2 → ⊥
-first_is_due lawful = omega arith
-
-pub new_group_after_2 : IsLawfulAt default_rules 129 129 1 0 2 → ⊥
-new_group_after_2 lawful = omega arith
+-- no block 5; no first block that is due itself, except block 1, which begins a group
+pub not_of_another_number : (IsLawfulAt default_rules 129 129 5 0 1 → ⊥) × (IsLawfulAt default_rules 129 129 2 0 2 → ⊥)
+    × (IsLawfulAt default_rules 129 129 1 0 2 → ⊥)
+not_of_another_number = (λ lawful. omega arith, λ lawful. omega arith, λ lawful. omega arith)
 
 -- ---- groups in progress
 
