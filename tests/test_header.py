@@ -210,7 +210,7 @@ def test_errors() -> None:
     text = read("crates/rds_abi/src/refusal.rt")
     said_of = {name: reason for reason, name in re.findall(r'#\[error\("(.*?)"\)\]\s*(\w+),', text)}
     mine = {
-        int(number): (name, said_of[name]) for name, number in re.findall(r"Refusal::(\w+) => (\d+),", text)
+        int(number): (name, said_of[name]) for name, number in re.findall(r"Refusal::(\w+) => \((\d+),", text)
     }
     rows = re.findall(r'^    \{RDS_(\w+), "(\w+)", "(.*?)"\},$', read("lib/border.c"), re.M)
     numbers = {

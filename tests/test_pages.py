@@ -282,7 +282,7 @@ TOLD = (
     (HEADER, r"(?:reach is not|number of blocks apart:) 1 to (\d+)", REFUSAL, r"reach is not 1 to (\d+)"),
     (HEADER, r"(?:loss is not|bad blocks lose sync:) 1 to (\d+)", REFUSAL, r"loss is not 1 to (\d+)"),
     (HEADER, r"(?:of, or of above|last blocks: loss to) (\d+)", REFUSAL, r"or more, up to (\d+)"),
-    (HEADER, r"the library's own from (\d+) on", REFUSAL, r"Refusal::SmallRoom => (\d+),"),
+    (HEADER, r"the library's own from (\d+) on", REFUSAL, r"Refusal::SmallRoom => \((\d+),"),
 )
 
 

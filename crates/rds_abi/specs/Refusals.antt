@@ -4,38 +4,26 @@ use Rattle.std.specs.Prelude.{ℕ, List, codes}
 use Rattle.rds_abi.specs.declared.refusal.Refusal.{Refusal}
 use Rattle.rds_abi.specs.declared.refusal.Refusal.TheVariants.{BadGaps, BitsPastBytes, BlockRange, BurstRange, LossRange, MarginRange, NoRefusal, OffsetRange, OutOfMemory, PlaceRange, ReachRange, ReservedField, ShareRange, SmallRoom, TooLong, UnlawfulState}
 
+abbrev pub number_and_name : Refusal → ℕ × List ℕ
+number_and_name BurstRange = (1, codes "BurstRange")
+number_and_name ReachRange = (2, codes "ReachRange")
+number_and_name LossRange = (3, codes "LossRange")
+number_and_name BitsPastBytes = (4, codes "BitsPastBytes")
+number_and_name TooLong = (5, codes "TooLong")
+number_and_name OutOfMemory = (8, codes "OutOfMemory")
+number_and_name ShareRange = (15, codes "ShareRange")
+number_and_name BadGaps = (16, codes "BadGaps")
+number_and_name SmallRoom = (64, codes "SmallRoom")
+number_and_name UnlawfulState = (65, codes "UnlawfulState")
+number_and_name PlaceRange = (66, codes "PlaceRange")
+number_and_name BlockRange = (67, codes "BlockRange")
+number_and_name OffsetRange = (68, codes "OffsetRange")
+number_and_name NoRefusal = (69, codes "NoRefusal")
+number_and_name ReservedField = (71, codes "ReservedField")
+number_and_name MarginRange = (75, codes "MarginRange")
+
 abbrev pub number_of : Refusal → ℕ
-number_of BurstRange = 1
-number_of ReachRange = 2
-number_of LossRange = 3
-number_of BitsPastBytes = 4
-number_of TooLong = 5
-number_of OutOfMemory = 8
-number_of ShareRange = 15
-number_of BadGaps = 16
-number_of SmallRoom = 64
-number_of UnlawfulState = 65
-number_of PlaceRange = 66
-number_of BlockRange = 67
-number_of OffsetRange = 68
-number_of NoRefusal = 69
-number_of ReservedField = 71
-number_of MarginRange = 75
+number_of refusal = (number_and_name refusal).0
 
 abbrev pub name_of : Refusal → List ℕ
-name_of BurstRange = codes "BurstRange"
-name_of ReachRange = codes "ReachRange"
-name_of LossRange = codes "LossRange"
-name_of BitsPastBytes = codes "BitsPastBytes"
-name_of TooLong = codes "TooLong"
-name_of OutOfMemory = codes "OutOfMemory"
-name_of ShareRange = codes "ShareRange"
-name_of BadGaps = codes "BadGaps"
-name_of SmallRoom = codes "SmallRoom"
-name_of UnlawfulState = codes "UnlawfulState"
-name_of PlaceRange = codes "PlaceRange"
-name_of BlockRange = codes "BlockRange"
-name_of OffsetRange = codes "OffsetRange"
-name_of NoRefusal = codes "NoRefusal"
-name_of ReservedField = codes "ReservedField"
-name_of MarginRange = codes "MarginRange"
+name_of refusal = (number_and_name refusal).1

@@ -68,24 +68,7 @@ impl Refusal {
     pub fn number(self) -> u8
         ensures { result ≡ number_of self }
     {
-        match self {
-            Refusal::BurstRange => 1,
-            Refusal::ReachRange => 2,
-            Refusal::LossRange => 3,
-            Refusal::BitsPastBytes => 4,
-            Refusal::TooLong => 5,
-            Refusal::OutOfMemory => 8,
-            Refusal::ShareRange => 15,
-            Refusal::BadGaps => 16,
-            Refusal::SmallRoom => 64,
-            Refusal::UnlawfulState => 65,
-            Refusal::PlaceRange => 66,
-            Refusal::BlockRange => 67,
-            Refusal::OffsetRange => 68,
-            Refusal::NoRefusal => 69,
-            Refusal::ReservedField => 71,
-            Refusal::MarginRange => 75,
-        }
+        self.number_and_name().0
     }
 
     /// The refusal of this number, or none.
@@ -118,23 +101,30 @@ impl Refusal {
     pub fn name(self) -> &'static str
         ensures { result.now ≡ name_of self }
     {
+        self.number_and_name().1
+    }
+
+    fn number_and_name(self) -> (u8, &'static str)
+        ensures number { result.0 ≡ number_of self }
+        ensures name { result.1.now ≡ name_of self }
+    {
         match self {
-            Refusal::BurstRange => "BurstRange",
-            Refusal::ReachRange => "ReachRange",
-            Refusal::LossRange => "LossRange",
-            Refusal::BitsPastBytes => "BitsPastBytes",
-            Refusal::TooLong => "TooLong",
-            Refusal::OutOfMemory => "OutOfMemory",
-            Refusal::ShareRange => "ShareRange",
-            Refusal::BadGaps => "BadGaps",
-            Refusal::SmallRoom => "SmallRoom",
-            Refusal::UnlawfulState => "UnlawfulState",
-            Refusal::PlaceRange => "PlaceRange",
-            Refusal::BlockRange => "BlockRange",
-            Refusal::OffsetRange => "OffsetRange",
-            Refusal::NoRefusal => "NoRefusal",
-            Refusal::ReservedField => "ReservedField",
-            Refusal::MarginRange => "MarginRange",
+            Refusal::BurstRange => (1, "BurstRange"),
+            Refusal::ReachRange => (2, "ReachRange"),
+            Refusal::LossRange => (3, "LossRange"),
+            Refusal::BitsPastBytes => (4, "BitsPastBytes"),
+            Refusal::TooLong => (5, "TooLong"),
+            Refusal::OutOfMemory => (8, "OutOfMemory"),
+            Refusal::ShareRange => (15, "ShareRange"),
+            Refusal::BadGaps => (16, "BadGaps"),
+            Refusal::SmallRoom => (64, "SmallRoom"),
+            Refusal::UnlawfulState => (65, "UnlawfulState"),
+            Refusal::PlaceRange => (66, "PlaceRange"),
+            Refusal::BlockRange => (67, "BlockRange"),
+            Refusal::OffsetRange => (68, "OffsetRange"),
+            Refusal::NoRefusal => (69, "NoRefusal"),
+            Refusal::ReservedField => (71, "ReservedField"),
+            Refusal::MarginRange => (75, "MarginRange"),
         }
     }
 }

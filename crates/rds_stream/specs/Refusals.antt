@@ -4,14 +4,14 @@ use Rattle.std.specs.Prelude.{ℕ, List, codes}
 use Rattle.rds_stream.specs.declared.error.StreamError.{StreamError}
 use Rattle.rds_stream.specs.declared.error.StreamError.TheVariants.{BitsPastBytes, TooLong, OutOfMemory, BadGaps}
 
+abbrev pub number_and_name : StreamError → ℕ × List ℕ
+number_and_name BitsPastBytes = (4, codes "BitsPastBytes")
+number_and_name TooLong = (5, codes "TooLong")
+number_and_name OutOfMemory = (8, codes "OutOfMemory")
+number_and_name BadGaps = (16, codes "BadGaps")
+
 abbrev pub number_of : StreamError → ℕ
-number_of BitsPastBytes = 4
-number_of TooLong = 5
-number_of OutOfMemory = 8
-number_of BadGaps = 16
+number_of refusal = (number_and_name refusal).0
 
 abbrev pub name_of : StreamError → List ℕ
-name_of BitsPastBytes = codes "BitsPastBytes"
-name_of TooLong = codes "TooLong"
-name_of OutOfMemory = codes "OutOfMemory"
-name_of BadGaps = codes "BadGaps"
+name_of refusal = (number_and_name refusal).1

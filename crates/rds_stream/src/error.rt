@@ -30,23 +30,25 @@ impl StreamError {
     pub fn number(self) -> u8
         ensures { result ≡ number_of self }
     {
-        match self {
-            StreamError::BitsPastBytes => 4,
-            StreamError::TooLong => 5,
-            StreamError::OutOfMemory => 8,
-            StreamError::BadGaps => 16,
-        }
+        self.number_and_name().0
     }
 
     /// The name of the refusal.
     pub fn name(self) -> &'static str
         ensures { result.now ≡ name_of self }
     {
+        self.number_and_name().1
+    }
+
+    fn number_and_name(self) -> (u8, &'static str)
+        ensures number { result.0 ≡ number_of self }
+        ensures name { result.1.now ≡ name_of self }
+    {
         match self {
-            StreamError::BitsPastBytes => "BitsPastBytes",
-            StreamError::TooLong => "TooLong",
-            StreamError::OutOfMemory => "OutOfMemory",
-            StreamError::BadGaps => "BadGaps",
+            StreamError::BitsPastBytes => (4, "BitsPastBytes"),
+            StreamError::TooLong => (5, "TooLong"),
+            StreamError::OutOfMemory => (8, "OutOfMemory"),
+            StreamError::BadGaps => (16, "BadGaps"),
         }
     }
 }

@@ -3,16 +3,15 @@ use Rattle.std.specs.Prelude.{ℕ, List, codes}
 use Rattle.rds_sync.specs.declared.error.SyncError.{SyncError}
 use Rattle.rds_sync.specs.declared.error.SyncError.TheVariants.{BurstRange, ReachRange, LossRange, OutOfMemory, ShareRange}
 
+abbrev pub number_and_name : SyncError → ℕ × List ℕ
+number_and_name BurstRange = (1, codes "BurstRange")
+number_and_name ReachRange = (2, codes "ReachRange")
+number_and_name LossRange = (3, codes "LossRange")
+number_and_name OutOfMemory = (8, codes "OutOfMemory")
+number_and_name ShareRange = (15, codes "ShareRange")
+
 abbrev pub number_of : SyncError → ℕ
-number_of BurstRange = 1
-number_of ReachRange = 2
-number_of LossRange = 3
-number_of OutOfMemory = 8
-number_of ShareRange = 15
+number_of refusal = (number_and_name refusal).0
 
 abbrev pub name_of : SyncError → List ℕ
-name_of BurstRange = codes "BurstRange"
-name_of ReachRange = codes "ReachRange"
-name_of LossRange = codes "LossRange"
-name_of OutOfMemory = codes "OutOfMemory"
-name_of ShareRange = codes "ShareRange"
+name_of refusal = (number_and_name refusal).1

@@ -34,25 +34,26 @@ impl SyncError {
     pub fn number(self) -> u8
         ensures { result ≡ number_of self }
     {
-        match self {
-            SyncError::BurstRange => 1,
-            SyncError::ReachRange => 2,
-            SyncError::LossRange => 3,
-            SyncError::OutOfMemory => 8,
-            SyncError::ShareRange => 15,
-        }
+        self.number_and_name().0
     }
 
     /// The name of the refusal.
     pub fn name(self) -> &'static str
         ensures { result.now ≡ name_of self }
     {
+        self.number_and_name().1
+    }
+
+    fn number_and_name(self) -> (u8, &'static str)
+        ensures number { result.0 ≡ number_of self }
+        ensures name { result.1.now ≡ name_of self }
+    {
         match self {
-            SyncError::BurstRange => "BurstRange",
-            SyncError::ReachRange => "ReachRange",
-            SyncError::LossRange => "LossRange",
-            SyncError::OutOfMemory => "OutOfMemory",
-            SyncError::ShareRange => "ShareRange",
+            SyncError::BurstRange => (1, "BurstRange"),
+            SyncError::ReachRange => (2, "ReachRange"),
+            SyncError::LossRange => (3, "LossRange"),
+            SyncError::OutOfMemory => (8, "OutOfMemory"),
+            SyncError::ShareRange => (15, "ShareRange"),
         }
     }
 }

@@ -14,43 +14,29 @@ use Rattle.rds_sync.specs.declared.error.SyncError.TheVariants as sync
 use Rattle.rds_tool.specs.declared.error.ToolError.{ToolError}
 use Rattle.rds_tool.specs.declared.error.ToolError.TheVariants.{BadCutting, BadGaps, BitsPastBytes, BurstRange, CrewRange, GroupText, HexText, LossRange, NoWorker, OutOfMemory, ReachRange, Read, ShareRange, TooLong, TooManyTurns, Write}
 
--- the number of a refusal
-abbrev pub number_of : ToolError → ℕ
-number_of BurstRange = 1
-number_of ReachRange = 2
-number_of LossRange = 3
-number_of BitsPastBytes = 4
-number_of TooLong = 5
-number_of BadCutting = 6
-number_of CrewRange = 7
-number_of OutOfMemory = 8
-number_of Read = 9
-number_of Write = 10
-number_of HexText = 11
-number_of GroupText = 12
-number_of TooManyTurns = 13
-number_of NoWorker = 14
-number_of ShareRange = 15
-number_of BadGaps = 16
+abbrev pub number_and_name : ToolError → ℕ × List ℕ
+number_and_name BurstRange = (1, codes "BurstRange")
+number_and_name ReachRange = (2, codes "ReachRange")
+number_and_name LossRange = (3, codes "LossRange")
+number_and_name BitsPastBytes = (4, codes "BitsPastBytes")
+number_and_name TooLong = (5, codes "TooLong")
+number_and_name BadCutting = (6, codes "BadCutting")
+number_and_name CrewRange = (7, codes "CrewRange")
+number_and_name OutOfMemory = (8, codes "OutOfMemory")
+number_and_name Read = (9, codes "Read")
+number_and_name Write = (10, codes "Write")
+number_and_name HexText = (11, codes "HexText")
+number_and_name GroupText = (12, codes "GroupText")
+number_and_name TooManyTurns = (13, codes "TooManyTurns")
+number_and_name NoWorker = (14, codes "NoWorker")
+number_and_name ShareRange = (15, codes "ShareRange")
+number_and_name BadGaps = (16, codes "BadGaps")
 
--- the name of a refusal
+abbrev pub number_of : ToolError → ℕ
+number_of refusal = (number_and_name refusal).0
+
 abbrev pub name_of : ToolError → List ℕ
-name_of BurstRange = codes "BurstRange"
-name_of ReachRange = codes "ReachRange"
-name_of LossRange = codes "LossRange"
-name_of BitsPastBytes = codes "BitsPastBytes"
-name_of TooLong = codes "TooLong"
-name_of BadCutting = codes "BadCutting"
-name_of CrewRange = codes "CrewRange"
-name_of OutOfMemory = codes "OutOfMemory"
-name_of Read = codes "Read"
-name_of Write = codes "Write"
-name_of HexText = codes "HexText"
-name_of GroupText = codes "GroupText"
-name_of TooManyTurns = codes "TooManyTurns"
-name_of NoWorker = codes "NoWorker"
-name_of ShareRange = codes "ShareRange"
-name_of BadGaps = codes "BadGaps"
+name_of refusal = (number_and_name refusal).1
 
 -- the refusals of the layers below
 abbrev pub of_stream : StreamError → ToolError

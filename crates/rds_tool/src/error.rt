@@ -69,47 +69,37 @@ impl ToolError {
     pub fn number(self) -> u8
         ensures { result ≡ number_of self }
     {
-        match self {
-            ToolError::BurstRange => 1,
-            ToolError::ReachRange => 2,
-            ToolError::LossRange => 3,
-            ToolError::BitsPastBytes => 4,
-            ToolError::TooLong => 5,
-            ToolError::BadCutting => 6,
-            ToolError::CrewRange => 7,
-            ToolError::OutOfMemory => 8,
-            ToolError::Read => 9,
-            ToolError::Write => 10,
-            ToolError::HexText => 11,
-            ToolError::GroupText => 12,
-            ToolError::TooManyTurns => 13,
-            ToolError::NoWorker => 14,
-            ToolError::ShareRange => 15,
-            ToolError::BadGaps => 16,
-        }
+        self.number_and_name().0
     }
 
     /// The name of the refusal, as the program prints it after the number.
     pub fn name(self) -> &'static str
         ensures { result.now ≡ name_of self }
     {
+        self.number_and_name().1
+    }
+
+    fn number_and_name(self) -> (u8, &'static str)
+        ensures number { result.0 ≡ number_of self }
+        ensures name { result.1.now ≡ name_of self }
+    {
         match self {
-            ToolError::BurstRange => "BurstRange",
-            ToolError::ReachRange => "ReachRange",
-            ToolError::LossRange => "LossRange",
-            ToolError::BitsPastBytes => "BitsPastBytes",
-            ToolError::TooLong => "TooLong",
-            ToolError::BadCutting => "BadCutting",
-            ToolError::CrewRange => "CrewRange",
-            ToolError::OutOfMemory => "OutOfMemory",
-            ToolError::Read => "Read",
-            ToolError::Write => "Write",
-            ToolError::HexText => "HexText",
-            ToolError::GroupText => "GroupText",
-            ToolError::TooManyTurns => "TooManyTurns",
-            ToolError::NoWorker => "NoWorker",
-            ToolError::ShareRange => "ShareRange",
-            ToolError::BadGaps => "BadGaps",
+            ToolError::BurstRange => (1, "BurstRange"),
+            ToolError::ReachRange => (2, "ReachRange"),
+            ToolError::LossRange => (3, "LossRange"),
+            ToolError::BitsPastBytes => (4, "BitsPastBytes"),
+            ToolError::TooLong => (5, "TooLong"),
+            ToolError::BadCutting => (6, "BadCutting"),
+            ToolError::CrewRange => (7, "CrewRange"),
+            ToolError::OutOfMemory => (8, "OutOfMemory"),
+            ToolError::Read => (9, "Read"),
+            ToolError::Write => (10, "Write"),
+            ToolError::HexText => (11, "HexText"),
+            ToolError::GroupText => (12, "GroupText"),
+            ToolError::TooManyTurns => (13, "TooManyTurns"),
+            ToolError::NoWorker => (14, "NoWorker"),
+            ToolError::ShareRange => (15, "ShareRange"),
+            ToolError::BadGaps => (16, "BadGaps"),
         }
     }
 }
