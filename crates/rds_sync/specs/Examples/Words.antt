@@ -1,5 +1,5 @@
 -- Short words for the examples, and what they import from elsewhere.
-use Rattle.std.specs.Prelude.{◌≡◌, ◌==◌, ◌+◌, ◌*◌, ℕ, Bool, List, [], ◌∷◌, ◌++◌, Option, Some, None, ⊤, drop, false, flat_map, map, refl, replicate, true}
+use Rattle.std.specs.Prelude.{◌≡◌, ℕ, Bool, List, [], ◌∷◌, ◌++◌, Option, Some, None, ⊤, drop, false, flat_map, map, true}
 use Rattle.std.specs.List.{range_with_len}
 use Rattle.std.specs.Int.{to_be_bytes, w128}
 use Rattle.std.specs.Int.Count.{count_leading_zeros, ones, count_trailing_zeros}
