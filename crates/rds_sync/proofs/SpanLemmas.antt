@@ -1,5 +1,5 @@
 -- Spans: those that are passed over, and those of a list with more after them.
-use Rattle.rds_sync.proofs.Names.{common_steps, ◌≡◌, ◌≢◌, ℕ, ◌+◌, ◌-◌, ◌<◌, ◌≤◌, List, [], ◌∷◌, ◌++◌, All, length, drop, Option, Some, refl, sym, ap, ◌∙◌, arith, length-append, append-nil, MatchOption, YieldsFirst, drop-append-add, All-cons, All-nil, Signal, Item, Span, items_of, items_in, IsSpan, AreSpans, RuleNumbers}
+use Rattle.rds_sync.proofs.Names.{common_steps, ◌≡◌, ◌≢◌, ℕ, ◌+◌, ◌-◌, ◌<◌, ◌≤◌, List, [], ◌∷◌, ◌++◌, All, length, drop, Option, Some, refl, sym, ap, ◌∙◌, arith, length-append, append-nil, MatchOption, YieldsFirst, drop-append-add, All-cons, All-nil, Signal, Item, Span, items_of, items_in, IsSpan, ItemsOf, listed, AreSpans, RuleNumbers}
 
 module _ (b : Signal) (rules : RuleNumbers) where
   -- the items of spans in two rows
@@ -38,6 +38,11 @@ module _ (b : Signal) (rules : RuleNumbers) where
   spans-push spans after span len n total are is after_is total_is n_is =
       spans-behind spans (span ∷ []) after len n total are (All-cons (IsSpan b rules) span [] is (All-nil (IsSpan b rules))) after_is total_is
       (n_is ∙ sym (ap (λ (is : List Item). length is) (append-nil (items_of b rules span))))
+
+-- two lists of one recording and rules
+pub alike : (b c : Signal) (rules numbers : RuleNumbers) (xs ys : List Item) (mine theirs : ItemsOf) → listed b rules xs ≡ mine → listed c numbers ys ≡ theirs
+    → theirs.source ≡ mine.source → theirs.rules ≡ mine.rules → (c ≡ b) × (numbers ≡ rules)
+alike b c rules numbers xs ys mine theirs is are source same = grind (arith, common_steps, listed)
 
 -- spans of one recording and rules that are another's
 pub over : (b c : Signal) (rules numbers : RuleNumbers) (spans : List Span) (len : ℕ) → b ≡ c → rules ≡ numbers → AreSpans b rules spans len

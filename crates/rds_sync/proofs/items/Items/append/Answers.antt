@@ -1,5 +1,5 @@
-use Rattle.rds_sync.proofs.Names.{common_steps, ap, sym, ◌∙◌, arith, ItemsOf, listed, items_in}
-use Rattle.rds_sync.proofs.SpanLemmas.{items_in-append, spans-behind, over}
+use Rattle.rds_sync.proofs.Names.{common_steps, arith, listed, items_in}
+use Rattle.rds_sync.proofs.SpanLemmas.{alike, items_in-append, spans-behind, over}
 use Rattle.rds_sync.proofs.items.Items.append.Goals as goal
 
 pub invariant_of-self-2 : goal.invariant_of-self-2
@@ -7,9 +7,8 @@ invariant_of-self-2 c =
     let s = c.self.inside in
     let o = c.other.inside in
     let b = s.source.value in
-    let source = ap (λ (items : ItemsOf). items.source) c.other.view_is ∙ c.requires.source ∙ sym (ap (λ (items : ItemsOf). items.source) c.self.view_is) in
-    let rules = ap (λ (items : ItemsOf). items.rules) c.other.view_is ∙ c.requires.rules ∙ sym (ap (λ (items : ItemsOf). items.rules) c.self.view_is) in
-    let theirs = over _ _ _ _ o.spans.items o.len source rules c.other.invariant in
+    let same = alike _ _ _ _ _ _ _ _ c.self.view_is c.other.view_is c.requires.source c.requires.rules in
+    let theirs = over _ _ _ _ o.spans.items o.len same.0 same.1 c.other.invariant in
     spans-behind b s.rules s.spans.items o.spans.items c.append_spans.new.spans.items s.len o.len c.in-Some.len c.self.invariant theirs.all
     c.in_ok-append_spans.ensures.ok
     (omega (arith, c.in-Some.ensures)) theirs.count
