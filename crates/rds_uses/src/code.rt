@@ -35,14 +35,6 @@ pub fn only_remainder(w: u32, remainder: u16) -> (u16, u16)
     (rem26(w), plain::rem26(w))
 }
 
-/// Tables and long division agree.
-pub fn remainders_agree(w: u32) -> bool
-    requires { w < 2 ^ 26 }
-    ensures { result ≡ true }
-{
-    rem26(w) == plain::rem26(w)
-}
-
 /// A receiver that divides bit by bit, as a shift register does, has the same remainder. So has one that multiplies the
 /// standard's syndrome by x^16. A polynomial with the generator's period, by which all bursts of up to five bits are told apart, is the
 /// generator or its mirror.
@@ -253,8 +245,7 @@ pub fn read_by_the_rule(
 ) -> Reading
     requires block { w < 2 ^ 26 }
     ensures rule { (r : AReading) → IsReading w number wanted limit r → r ≡ result }
-    ensures alone { (o : AnOffset) (info e : ℕ) → result ≡ Corrected o info e
-        → FitsAlone w number wanted limit o e }
+    ensures alone { (o : AnOffset) (info e : ℕ) → result ≡ Corrected o info e → FitsAlone w number wanted limit o e }
 {
     prove!(number.get() <= 4 && limit.bits() <= 5);
     laws::readings_follow_the_rule();

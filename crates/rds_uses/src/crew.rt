@@ -28,10 +28,8 @@ pub fn decoded_by_any<R: Threads + Sync>(
     workers: u32,
 ) -> Result<Report, CrewError>
     requires { IsCutting (length_of recording.now) cutting.now }
-    ensures items { IfOk result (λ report. report.items
-        ≡ listed recording.now rules.now (report_items recording.now rules.now)) }
-    ensures totals { IfOk result
-        (λ report. report.totals ≡ totals_of (report_items recording.now rules.now)) }
+    ensures items { IfOk result (λ report. report.items ≡ listed recording.now rules.now (report_items recording.now rules.now)) }
+    ensures totals { IfOk result (λ report. report.totals ≡ totals_of (report_items recording.now rules.now)) }
     ensures range { IsErrOf result CrewRange ↔ ((workers ≡ 0) ⊎ (256 < workers)) }
     ensures refused { IfErr result (λ error. (error ≡ CrewRange) ⊎ (error ≡ OutOfMemory)) }
 {

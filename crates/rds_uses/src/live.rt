@@ -74,11 +74,9 @@ pub fn taken(
     ensures items { IfOk result (λ count. (before : List ℕ) → HasHeard live.old before
         → complete live.old.terms (before ++ take count bytes.now)
         ≡ complete live.old.terms before ++ items.new.items) }
-    ensures count { IfOk result (λ count. count
-        ≡ min (length bytes.now) (min 960 (vec_capacity items.old / 16))) }
+    ensures count { IfOk result (λ count. count ≡ min (length bytes.now) (min 960 (vec_capacity items.old / 16))) }
     ensures refused { OnErr result ((live.new ≡ live.old) × (items.new ≡ items.old)) }
-    ensures too_long { IsErrOf result StreamError.TooLong
-        ↔ (2 ^ 36 < live.old.place + 8 * length bytes.now) }
+    ensures too_long { IsErrOf result StreamError.TooLong ↔ (2 ^ 36 < live.old.place + 8 * length bytes.now) }
     ensures next { IfOk result (λ count. live.new ≡ live_next live.old (take count bytes.now)) }
     ensures completed { IfOk result (λ count. items.new.items ≡ completed live.old (take count bytes.now)) }
 {

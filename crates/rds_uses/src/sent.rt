@@ -186,8 +186,7 @@ pub fn recording_of_groups(alloc: Global, groups: &[[u16; 4]]) -> Option<Recordi
 pub fn encoded_and_decoded(alloc: Global, groups: &[[u16; 4]], rules: &Rules) -> Option<Report>
     requires some { 0 < length groups.now }
     requires few { 104 * length groups.now ≤ 2 ^ 36 }
-    ensures { IfSome result (λ report. (report.items.list ≡ report_sent groups.now)
-        × (report.totals ≡ totals_sent (length groups.now))) }
+    ensures { IfSome result (λ report. (report.items.list ≡ report_sent groups.now) × (report.totals ≡ totals_sent (length groups.now))) }
 {
     let _loss = rules.loss();
     laws::encoded_groups_are_listed();
@@ -321,8 +320,7 @@ pub fn encoded_and_listed<R: Threads + Sync>(
     encode: &Job,
     list: &Job,
 ) -> Option<Vec<u8>>
-    requires { (hex : Bool) × (settings : SomeSettings)
-        × (encode.now ≡ Job.Encode hex) × (list.now ≡ Job.List (whole_input hex) settings) }
+    requires { (hex : Bool) × (settings : SomeSettings) × (encode.now ≡ Job.Encode hex) × (list.now ≡ Job.List (whole_input hex) settings) }
     ensures { IfSome result (λ listing. (words : List ℕ) (groups : List (List ℕ))
         → groups_in lines.now ≡ Ok (words ∷ groups) → listing.items ≡ sent_listing words groups) }
 {
@@ -360,8 +358,7 @@ fn follow_rows<R: Threads + Sync>(
     bits: Option<u64>,
     workers: u32,
 ) -> Option<Vec<u8>>
-    ensures { IfSome result (λ text.
-        listed (record { rules = rules.now; gaps = gaps.now }) bits bytes.now ≡ Ok text.items) }
+    ensures { IfSome result (λ text. listed (record { rules = rules.now; gaps = gaps.now }) bits bytes.now ≡ Ok text.items) }
 {
     let mut writer = ToWrite::new(Vec::new(alloc));
     match follow(

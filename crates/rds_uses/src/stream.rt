@@ -109,8 +109,7 @@ pub fn distance_of_first_two(recording: &Recording) -> Option<u64>
 pub fn last_of_planes(recording: &Recording, at: u64) -> [u64; 10]
     requires first { 25 ≤ at }
     requires last { at + 64 ≤ length_of recording.now }
-    ensures { (r : ℕ) → r < 10
-        → bit_at (slice_index result r) 63 ≡ bit_at (rem (window recording.now.bits (at + 63))) r }
+    ensures { (r : ℕ) → r < 10 → bit_at (slice_index result r) 63 ≡ bit_at (rem (window recording.now.bits (at + 63))) r }
 {
     planes(recording, at)
 }
@@ -144,8 +143,7 @@ pub fn with_gaps(bytes: Vec<u8>, bits: u64, gaps: Vec<(u64, u64)>) -> Result<Rec
         → result ≡ Ok (record { bits = bits_of bytes.items bits; gaps = gaps.items }) }
     ensures too_long { 2 ^ 36 < bits → result ≡ Err (TooLong, bytes, gaps) }
     ensures past { bits ≤ 2 ^ 36 → 8 * vec_len bytes < bits → result ≡ Err (BitsPastBytes, bytes, gaps) }
-    ensures bad_gaps { bits ≤ 2 ^ 36 → bits ≤ 8 * vec_len bytes → (AreGaps bits gaps.items → ⊥)
-        → result ≡ Err (BadGaps, bytes, gaps) }
+    ensures bad_gaps { bits ≤ 2 ^ 36 → bits ≤ 8 * vec_len bytes → (AreGaps bits gaps.items → ⊥) → result ≡ Err (BadGaps, bytes, gaps) }
 {
     Recording::with_gaps(bytes, bits, gaps)
 }

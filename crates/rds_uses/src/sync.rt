@@ -129,10 +129,8 @@ pub fn one_step<T: Tape>(tape: &mut T, rules: &Rules, state: State, place: u64, 
     requires within { to ≤ length_of (T.signal tape.old) }
     requires counted { T.reads_made tape.old + 16 ≤ 2 ^ 63 }
     ensures moved { (place < result.place) × (result.place ≤ to) }
-    ensures state { result.state
-        ≡ (run_of (T.signal tape.old) rules.now state place (result.place - place)).0 }
-    ensures items { items_in result.items
-        ≡ (run_of (T.signal tape.old) rules.now state place (result.place - place)).1 }
+    ensures state { result.state ≡ (run_of (T.signal tape.old) rules.now state place (result.place - place)).0 }
+    ensures items { items_in result.items ≡ (run_of (T.signal tape.old) rules.now state place (result.place - place)).1 }
     ensures lawful { IsLawful rules.now result.place result.state }
     ensures bit { state ≡ Searching → result.place ≡ place + 1 }
     ensures reads { state ≡ Searching → T.reads_made tape.new ≤ T.reads_made tape.old + (rules.now.reach + 1) }
@@ -167,8 +165,7 @@ pub fn one_stretch(
     requires before { place < to }
     requires within { to ≤ length_of reader.old }
     ensures moved { (place < result.0.place) × (result.0.place ≤ to) }
-    ensures items { items_in result.0.items
-        ≡ (run_of reader.old rules.now state place (result.0.place - place)).1 }
+    ensures items { items_in result.0.items ≡ (run_of reader.old rules.now state place (result.0.place - place)).1 }
     ensures no_further { result.1 ≡ true }
     ensures same { reader.new ≡ reader.old }
 {
@@ -208,8 +205,7 @@ pub fn decoded_in_two<'a>(
     middle: u64,
 ) -> (Decoder<'a>, Decoder<'a>, Option<Group>)
     requires { middle ≤ length_of recording.now }
-    ensures { (result.0.items ++ result.1.items) ++ group_item result.2
-        ≡ report_items recording.now rules.now }
+    ensures { (result.0.items ++ result.1.items) ++ group_item result.2 ≡ report_items recording.now rules.now }
 {
     let _loss = rules.loss();
     let len = recording.len();
@@ -310,8 +306,7 @@ pub fn report_of_run(
     ensures state { IfOk result (λ end. end.0 ≡ (run_of recording.now rules.now state from (to - from)).0) }
     ensures items { IfOk result (λ end. end.1.items
         ≡ listed recording.now rules.now (run_of recording.now rules.now state from (to - from)).1) }
-    ensures totals { IfOk result (λ end. end.1.totals
-        ≡ totals_of (run_of recording.now rules.now state from (to - from)).1) }
+    ensures totals { IfOk result (λ end. end.1.totals ≡ totals_of (run_of recording.now rules.now state from (to - from)).1) }
     ensures small { IfOk result (λ end. IsAtMost (2 ^ 47) end.1.totals) }
     ensures lawful { IfOk result (λ end. IsLawful rules.now to end.0) }
     ensures refused { IsOkUnless result OutOfMemory }
@@ -321,10 +316,8 @@ pub fn report_of_run(
 
 /// The report of a recording: the items of its locks, and their totals.
 pub fn report_of(alloc: Global, recording: &Recording, rules: &Rules) -> Result<Report, SyncError>
-    ensures items { IfOk result (λ report. report.items
-        ≡ listed recording.now rules.now (report_items recording.now rules.now)) }
-    ensures totals { IfOk result
-        (λ report. report.totals ≡ totals_of (report_items recording.now rules.now)) }
+    ensures items { IfOk result (λ report. report.items ≡ listed recording.now rules.now (report_items recording.now rules.now)) }
+    ensures totals { IfOk result (λ report. report.totals ≡ totals_of (report_items recording.now rules.now)) }
     ensures refused { IsOkUnless result OutOfMemory }
 {
     decode_plain(alloc, recording, rules)
@@ -334,8 +327,7 @@ pub fn report_of(alloc: Global, recording: &Recording, rules: &Rules) -> Result<
 
 /// A lock is lost if the mask that is kept of its last blocks has too many ones. Its lowest bit tells whether the newest block was bad.
 pub fn lost_by_mask(bad: u32, of: u32, mask: u64) -> bool
-    ensures lost { (is_good : ℕ → Bool) (k : ℕ) → bad_at is_good (Share bad of) k ≡ mask
-        → loses (Share bad of) is_good k ≡ result }
+    ensures lost { (is_good : ℕ → Bool) (k : ℕ) → bad_at is_good (Share bad of) k ≡ mask → loses (Share bad of) is_good k ≡ result }
     ensures newest { 1 ≤ of → (is_good : ℕ → Bool) (k : ℕ) → 1 ≤ k
         → bit_at (bad_at is_good (Share bad of) k) 0 ≡ (if is_good k then 0 else 1) }
 {

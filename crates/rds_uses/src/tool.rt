@@ -7,7 +7,7 @@ ghost use Rattle.rds_sync.specs.Totals.{totals_of};
 ghost use Rattle.rds_tool.specs.Listing.{report_text, scan_text};
 ghost use Rattle.rds_tool.specs.Outcome.{IsOutside, WritesPrefix, result_of_job, Writes};
 ghost use Rattle.rds_tool.specs.Tasks.{task_of};
-ghost use Rattle.rds_tool.specs.declared.error.ToolError.TheVariants.{BurstRange, NoWorker, Read, TooManyTurns, Write};
+ghost use Rattle.rds_tool.specs.declared.error.ToolError.TheVariants.{NoWorker, Read, TooManyTurns, Write};
 ghost use Rattle.rds_uses.specs.Jobs.{IsListBy, IsScan, all_bits};
 ghost use Rattle.rds_tool.specs.Ends.{given_by, has_ended, is_flushed, taken_by};
 ghost use Rattle.rds_tool.specs.SoftFollowing.{soft_listed, soft_rows_so_far};
@@ -25,8 +25,8 @@ use rds_crew::Gate;
 use rds_soft::Margin;
 use rds_sync::Rules;
 use rds_tool::{
-    FromRead, Input, Job, Settings, Sink, Source, ToWrite, ToolError, follow, follow_soft, laws,
-    transcribe, transcribe_gated,
+    FromRead, Job, Sink, Source, ToWrite, ToolError, follow, follow_soft, laws, transcribe,
+    transcribe_gated,
 };
 use std::alloc::Global;
 use std::rt::{Stdin, Stdout};
@@ -71,24 +71,6 @@ pub(crate) fn written<R: Threads + Sync>(
         (Ok(()), text) => Some(text),
         _ => None,
     }
-}
-
-/// Settings out of their range are refused as such, and nothing is read.
-pub fn refused_unread<R: Threads + Sync, S: Source, K: Sink>(
-    rt: &R,
-    alloc: Global,
-    reader: &mut S,
-    writer: &mut K,
-    input: Input,
-    settings: Settings,
-) -> Result<(), ToolError>
-    requires reads { S.failed reader.old < 2 ^ 63 }
-    requires writes { K.failed writer.old < 2 ^ 63 }
-    requires burst { 5 < settings.burst }
-    ensures refused { result ≡ Err BurstRange }
-    ensures unread { reader.new ≡ reader.old }
-{
-    transcribe(rt, alloc, reader, writer, &Job::List(input, settings))
 }
 
 /// At any devices, with a gate too: the text that is written is the outcome of the bytes that were read. After success the reader has
@@ -137,8 +119,7 @@ pub fn append_listing<R: Threads + Sync>(
     text: Vec<u8>,
     job: &Job,
 ) -> (Result<(), ToolError>, Vec<u8>)
-    ensures whole { OnOk result.0 ((more : List ℕ)
-        × (result_of_job job.now bytes.now ≡ Ok more) × (result.1.items ≡ text.items ++ more)) }
+    ensures whole { OnOk result.0 ((more : List ℕ) × (result_of_job job.now bytes.now ≡ Ok more) × (result.1.items ≡ text.items ++ more)) }
     ensures part { IsErrOf result.0 Write → (more rest : List ℕ)
         × (result_of_job job.now bytes.now ≡ Ok (more ++ rest)) × (result.1.items ≡ text.items ++ more) }
     ensures none { IfErr result.0 (λ error. error ≢ Write → result.1.items ≡ text.items) }
@@ -161,8 +142,7 @@ pub struct Piped {
 /// From standard input to standard output: all that was given makes all that was taken, after the end was answered, and the
 /// last call was a flush that succeeded.
 pub fn input_to_output<R: Threads + Sync>(rt: &HostRuntime, crew: &R, job: &Job) -> Piped
-    ensures text { OnOk result.answer
-        (result_of_job job.now (given_by result.reader) ≡ Ok (taken_by result.writer)) }
+    ensures text { OnOk result.answer (result_of_job job.now (given_by result.reader) ≡ Ok (taken_by result.writer)) }
     ensures end { OnOk result.answer (has_ended result.reader ≡ true) }
     ensures flushed { OnOk result.answer (is_flushed result.writer ≡ true) }
 {
