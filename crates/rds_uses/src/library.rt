@@ -94,8 +94,7 @@ pub fn in_two_ranges(
     Ok(n)
 }
 
-/// Takes all of the next bytes of a stream, or says that there is too little room for the items that they
-/// complete.
+/// Takes all of the next bytes of a stream, unless there is too little room for their items.
 fn push_all(
     alloc: Global,
     bytes: &[u8],
@@ -137,8 +136,7 @@ pub fn goes_on_in_little_room(
     Ok(taken)
 }
 
-/// Room for sixteen items is enough for symbols: of nine or more, eight are taken. A margin of 0 is refused as such, whatever else is
-/// asked, and even without memory.
+/// Sixteen items of room are enough for symbols: of nine or more, eight are taken. A margin of 0 is refused before anything else.
 pub fn symbols_go_on(
     alloc: Global,
     symbols: &[i8],
@@ -166,8 +164,7 @@ pub fn symbols_go_on(
     Ok(taken)
 }
 
-/// A stream in two chunks, between which it is kept only as numbers, and the items that its end closes:
-/// together the items of the report of all its bytes, and that report's totals.
+/// A stream in two chunks, kept between them only as numbers: with its end, the items and the totals of the report of all its bytes.
 pub fn in_two_chunks(
     alloc: Global,
     early: &[u8],
@@ -192,8 +189,7 @@ pub fn in_two_chunks(
     Ok((n, totals))
 }
 
-/// A stream that ends inside a byte, after the first `bits` bits of these bytes: the items that they complete are written, and the
-/// totals of the report of all its bits.
+/// A stream that ends inside a byte, after `bits` bits of these bytes: the items that they complete, and the totals of all its bits.
 pub fn ended_inside_a_byte(
     alloc: Global,
     last: &[u8],

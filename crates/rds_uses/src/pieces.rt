@@ -73,8 +73,7 @@ pub fn bits_beyond_pieces(recording: &Recording, cutting: &Cutting) -> u64
 
 // ---- guesses
 
-/// A guess ends as a run from Searching over its range does. Its items, one after the other, are those of that run, and its marks are its
-/// first place and the place after each bit that gave an item.
+/// A guess has the items, the end and the marks of the run from Searching over its range.
 pub fn guessed_as_run<'a>(
     alloc: Global,
     recording: &'a Recording,
@@ -105,9 +104,8 @@ pub fn list_of_guess(run: &PieceRun) -> (&Items, Totals)
 
 // ---- seams
 
-/// A seam is the run from the state handed in, and tells the least place where it meets the guess, or that there is none. It reads as many windows as the bits to there cost, without
-/// memory too, and no more than its piece has places for. The tape is of the same bits. On sound signal from the piece's first place on, it
-/// meets the guess within 416 bits by a loss of ten blocks.
+/// A seam is the run from the state handed in, and tells where it first meets the guess. It reads as many windows as the bits to there
+/// cost. On sound signal they meet within 416 bits, by a loss of ten blocks.
 pub fn run_and_cost_of_seam<T: Tape>(
     alloc: Global,
     tape: &mut T,
@@ -145,8 +143,7 @@ pub fn run_and_cost_of_seam<T: Tape>(
 
 // ---- joins
 
-/// Two neighbours joined are the guess of both ranges. That costs, refused memory or not, no more windows than the right run has places
-/// for, and on sound signal from the cut on those of 416 bits at most by a loss of ten blocks.
+/// Two neighbours joined are the guess of both ranges. On sound signal that costs the windows of 416 bits at most.
 pub fn cost_of_join<T: Tape>(
     alloc: Global,
     tape: &mut T,

@@ -119,8 +119,7 @@ pub fn miscorrected_of_two(info: u16, offset: Offset, wanted: Wanted, limit: Bur
 
 // ---- a group, damaged
 
-/// A group whose blocks each have one burst within the limit at most has the four words that were sent. So has a group whose bits are
-/// anywhere in a recording.
+/// A group with at most one burst within the limit in each block is read as it was sent, anywhere in a recording.
 pub fn words_of_damaged(
     recording: &Recording,
     rules: &Rules,
@@ -228,8 +227,7 @@ pub fn offset_of_last_block(recording: &Recording, place: u64) -> Option<Offset>
 
 // ---- a recording of groups, damaged
 
-/// Damaged bits are decoded to the groups that were sent, and so are damaged blocks that are heard, whatever the bits are. The totals
-/// follow from the damage.
+/// Groups that were sent with bit errors are decoded as they were sent. The totals follow from the errors.
 pub fn damaged_and_decoded(alloc: Global, recording: &Recording, rules: &Rules) -> Option<Report>
     ensures items { IfSome result (λ report. (groups : List SentGroup)
         → AreBitsOf recording.now rules.now groups → report.items.list ≡ report_damaged groups) }
@@ -247,8 +245,7 @@ pub fn damaged_and_decoded(alloc: Global, recording: &Recording, rules: &Rules) 
     decode_plain(alloc, recording, rules).ok()
 }
 
-/// A decoder that is locked at the first bit of a group gives the groups that come with the words that were sent. So does one in whatever
-/// state, after a sound range.
+/// A decoder locked at the first bit of a group gives the groups that were sent. So does any other, after a sound range.
 pub fn decoded_in_lock(
     alloc: Global,
     recording: &Recording,
@@ -278,8 +275,7 @@ pub fn decoded_in_lock(
 
 // ---- a longer recording
 
-/// A longer recording has all items of the recording that it begins with, except the group at its end, and then more. No total
-/// is less.
+/// A longer recording has all items of the one that it begins with, except the group at its end. No total is less.
 pub fn decoded_before_and_after(
     alloc: Global,
     shorter: &Recording,
@@ -311,8 +307,7 @@ pub fn begins_with_first_bits(recording: &Recording, bits: u64)
 
 // ---- by the program
 
-/// Lines of words are encoded by one job and listed by another, as bytes or as digits. The listing is that of their groups, for all
-/// rules, cuttings and numbers of workers.
+/// Lines of words, encoded by one job and listed by another: the listing of their groups, for all rules, cuttings and workers.
 pub fn encoded_and_listed<R: Threads + Sync>(
     rt: &R,
     alloc: Global,

@@ -57,8 +57,7 @@ pub fn rules_in_bytes(alloc: Global, rules: &Rules) -> Result<Rules, SyncError>
     }
 }
 
-/// Of several wrong numbers the first is refused: a burst of six bits, a reach of no block, then a loss after 65 blocks or a share of
-/// none.
+/// Of several wrong numbers the first is refused.
 pub fn refused_in_order(alloc: Global, reach: u32, loss: u32, of: u32) -> [Option<SyncError>; 4]
     ensures { result ≡ Some BurstRange ∷ Some ReachRange ∷ Some LossRange ∷ Some ShareRange ∷ [] }
 {
@@ -85,8 +84,7 @@ pub fn has_four_words(recording: &Recording, rules: &Rules, place: u64, group: &
 
 // ---- states
 
-/// A run from a state that a caller has tested ends in one that needs no test. Its items need room for two a bit at most. Only memory can
-/// be refused.
+/// A run from a tested state ends in one that needs no test, and gives two items per bit at most. Only memory can be refused.
 pub fn tested_run(
     alloc: Global,
     recording: &Recording,
@@ -121,8 +119,7 @@ pub fn lawful_after_bit(recording: &Recording, rules: &Rules, state: State, plac
 
 // ---- steps over a tape
 
-/// A step is the run over its bits: it moves on, stays in the range, and leaves the tape of the same bits. A search goes bit by bit, and
-/// reads no more than its own window and one for each block of its reach.
+/// A step is the run over its bits. A search goes bit by bit, and reads its own window and one for each block of its reach at most.
 pub fn one_step<T: Tape>(tape: &mut T, rules: &Rules, state: State, place: u64, to: u64) -> Step
     requires lawful { IsLawful rules.now place state }
     requires before { place < to }
@@ -152,8 +149,7 @@ pub fn cost_of_end<T: Tape>(tape: &mut T, rules: &Rules, state: State) -> Option
 
 // ---- runs over a range
 
-/// A stretch moves on and stays in the range, and finds the items that the run over its bits gives; its
-/// reader can go on. A step of `advance` goes no further from the same place.
+/// A stretch is the run over its bits, and goes at least as far as a step. Its reader can go on.
 pub fn one_stretch(
     reader: &mut Reader<'_>,
     rules: &Rules,
