@@ -49,37 +49,35 @@ impl Write for Withholding {
     }
 }
 
-/// The answer of a scan to such a writer, and how many bytes it held and handed on.
-fn withheld<R: Threads + Sync>(
+/// Whether a scan to such a writer is answered so, which then held and handed on so many bytes.
+fn is_withheld<R: Threads + Sync>(
     rt: &R,
     alloc: Global,
     bytes: &[u8],
     fails: bool,
-) -> (Result<(), ToolError>, usize, usize) {
+    wanted: Result<(), ToolError>,
+    held: usize,
+    handed_on: usize,
+) -> bool {
     let mut reader = FromRead::new(bytes);
     let mut writer = ToWrite::new(Withholding {
         held: 0,
         handed_on: 0,
         fails,
     });
-    let answer = transcribe(
-        rt,
-        alloc,
-        &mut reader,
-        &mut writer,
-        &Job::Scan(input(alloc), 4),
-    );
+    let job = Job::Scan(input(alloc), 4);
+    let answer = transcribe(rt, alloc, &mut reader, &mut writer, &job);
     let under = writer.into_inner();
-    (answer, under.held, under.handed_on)
+    answer == wanted && under.held == held && under.handed_on == handed_on
 }
 
 // No contract of std defines the effect of a flush, so none of ours can: a writer that waits for it tells.
 #[test]
 fn a_flush_reaches_the_writer_of_std(rt: HostRuntime) {
     let refused = Err(ToolError::Write);
-    assert!(rt; withheld(&rt, rt.alloc(), &GROUPS, false) == (Ok(()), 62, 62));
-    assert!(rt; withheld(&rt, rt.alloc(), &GROUPS, true) == (refused, 62, 0));
-    assert!(rt; withheld(&rt, rt.alloc(), b"", true) == (refused, 0, 0));
+    assert!(rt; is_withheld(&rt, rt.alloc(), GROUPS.as_slice(), false, Ok(()), 62, 62));
+    assert!(rt; is_withheld(&rt, rt.alloc(), GROUPS.as_slice(), true, refused, 62, 0));
+    assert!(rt; is_withheld(&rt, rt.alloc(), b"", true, refused, 0, 0));
 }
 
 /// A reader of std that gives a zero byte per read, for ever.
@@ -101,25 +99,20 @@ impl Read for Endless<'_> {
     }
 }
 
-/// The answer of a scan of such a reader, and how often that was read.
-fn left_at<R: Threads + Sync>(rt: &R, alloc: Global) -> (Result<(), ToolError>, u64) {
-    let reads = AtomicU64::new(0);
-    let mut reader = FromRead::new(Endless { reads: &reads });
+/// Whether a scan leaves such a reader after so many reads.
+fn is_left<R: Threads + Sync>(rt: &R, alloc: Global, reads: u64) -> bool {
+    let count = AtomicU64::new(0);
+    let mut reader = FromRead::new(Endless { reads: &count });
     let mut writer = ToWrite::new(Vec::new(alloc));
-    let answer = transcribe(
-        rt,
-        alloc,
-        &mut reader,
-        &mut writer,
-        &Job::Scan(input(alloc), 4),
-    );
-    (answer, reads.load(Ordering::SeqCst))
+    let job = Job::Scan(input(alloc), 4);
+    let answer = transcribe(rt, alloc, &mut reader, &mut writer, &job);
+    answer == Err(ToolError::TooManyTurns) && count.load(Ordering::SeqCst) == reads
 }
 
 // That it is left no earlier is a clause.
 #[test]
 fn a_reader_without_an_end_is_left(rt: HostRuntime) {
-    assert!(rt; left_at(&rt, rt.alloc()) == (Err(ToolError::TooManyTurns), 16_777_216));
+    assert!(rt; is_left(&rt, rt.alloc(), 16_777_216));
 }
 
 /// A gate that counts the pieces that are begun.
@@ -136,37 +129,33 @@ impl Gate for Count {
     fn done(&self, _j: u64, _run: &PieceRun) {}
 }
 
-fn places(alloc: Global, first: u64, end: u64) -> Result<Vec<u64>, AllocError> {
+/// A list by so many workers, with a cut at each place from `first` to before `end`.
+fn list_cut_at(alloc: Global, workers: u32, first: u64, end: u64) -> Result<Job, AllocError> {
     let mut places = Vec::new(alloc);
     for place in first..end {
         places.push(place)?;
     }
-    Ok(places)
-}
-
-/// A list of two groups by so many workers, cut at each place from `first` to before `end`: how many pieces are begun.
-fn pieces_cut_at<R: Threads + Sync>(
-    rt: &R,
-    alloc: Global,
-    workers: u32,
-    first: u64,
-    end: u64,
-) -> Result<u64, ToolError> {
     let settings = Settings {
         burst: 2,
         reach: 3,
         loss: Loss::Run(10),
         workers,
-        cuts: Cuts::At(places(alloc, first, end)?),
+        cuts: Cuts::At(places),
     };
+    Ok(Job::List(input(alloc), settings))
+}
+
+/// How many pieces of the two groups are begun.
+fn pieces_begun<R: Threads + Sync>(rt: &R, alloc: Global, list: &Job) -> Result<u64, ToolError> {
     let gate = Count {
         begun: AtomicU64::new(0),
     };
     let mut reader = FromRead::new(GROUPS.as_slice());
     let mut writer = ToWrite::new(Vec::new(alloc));
-    let job = Job::List(input(alloc), settings);
-    transcribe_gated(rt, alloc, &mut reader, &mut writer, &job, &gate)?;
-    Ok(gate.begun.load(Ordering::SeqCst))
+    match transcribe_gated(rt, alloc, &mut reader, &mut writer, list, &gate) {
+        Ok(()) => Ok(gate.begun.load(Ordering::SeqCst)),
+        Err(error) => Err(error),
+    }
 }
 
 // No command cuts at given places.
@@ -174,7 +163,8 @@ fn pieces_cut_at<R: Threads + Sync>(
 fn each_cut_makes_a_piece(rt: HostRuntime) -> Result<(), Fail> {
     for (first, end, pieces) in [(1, 1, 1), (190, 191, 2), (1, 208, 208)] {
         for workers in [1u32, 4] {
-            let begun = pieces_cut_at(&rt, rt.alloc(), workers, first, end)?;
+            let list = list_cut_at(rt.alloc(), workers, first, end)?;
+            let begun = pieces_begun(&rt, rt.alloc(), &list)?;
             assert!(rt; begun == pieces, "{begun} pieces by {workers} workers");
         }
     }
