@@ -25,37 +25,23 @@ pub fn show(rt: &HostRuntime) -> Result<()> {
 }
 
 /// The answers of the calls over eight zero groups cut at place 190: by reach 3 the runs meet soon, by reach 4 never.
-fn answers(alloc: Global) -> Result<String, AllocError> {
+fn answers(alloc: Global) -> Result<String> {
+    let recording = eight_groups(alloc)?;
     let mut text = String::new(alloc);
-    push_answers(alloc, &mut text)?;
+    push_found(alloc, &mut text, &recording, 3)?;
+    push_found(alloc, &mut text, &recording, 4)?;
+    push_made(alloc, &mut text)?;
     Ok(text)
 }
 
-fn push_answers(alloc: Global, text: &mut String) -> Result<(), AllocError> {
-    let recording = eight_groups(alloc)?;
-    push_found_by_both(alloc, text, &recording)?;
-    push_made(alloc, text)
-}
-
-fn push_found_by_both(
-    alloc: Global,
-    text: &mut String,
-    recording: &Recording,
-) -> Result<(), AllocError> {
-    push_found(alloc, text, recording, 3)?;
-    push_found(alloc, text, recording, 4)
-}
-
 /// Seats, which need no recording. If they are refused, they are made once more.
-fn push_made(alloc: Global, text: &mut String) -> Result<(), AllocError> {
+fn push_made(alloc: Global, text: &mut String) -> Result<()> {
     let seats = match seats(alloc) {
         Ok(seats) => seats,
-        Err(_) => match seats(alloc) {
-            Ok(seats) => seats,
-            Err(_) => return Err(AllocError),
-        },
+        Err(_) => seats(alloc)?,
     };
-    writeln!(text, "{seats} seats")
+    writeln!(text, "{seats} seats")?;
+    Ok(())
 }
 
 fn eight_groups(alloc: Global) -> Result<Recording, AllocError> {
@@ -70,29 +56,11 @@ fn eight_groups(alloc: Global) -> Result<Recording, AllocError> {
 }
 
 /// The rows of a join and of a report by this reach.
-fn push_found(
-    alloc: Global,
-    text: &mut String,
-    recording: &Recording,
-    reach: u32,
-) -> Result<(), AllocError> {
-    let Ok(rules) = Rules::new(alloc, 2, reach, 10) else {
-        return Err(AllocError);
-    };
-    push_found_by(alloc, text, recording, &rules)
-}
-
-fn push_found_by(
-    alloc: Global,
-    text: &mut String,
-    recording: &Recording,
-    rules: &Rules,
-) -> Result<(), AllocError> {
+fn push_found(alloc: Global, text: &mut String, recording: &Recording, reach: u32) -> Result<()> {
+    let rules = Rules::new(alloc, 2, reach, 10)?;
     let cutting = cut(alloc, recording)?;
-    match push_calls(alloc, text, recording, rules, &cutting) {
-        Ok(()) => Ok(()),
-        Err(_) => Err(AllocError),
-    }
+    push_calls(alloc, text, recording, &rules, &cutting)?;
+    Ok(())
 }
 
 fn push_calls(

@@ -1,5 +1,5 @@
 //! Calls on two guesses, each made once more if it is refused.
-ghost use Rattle.std.specs.Prelude.{◌≡◌, IfOk};
+ghost use Rattle.std.specs.Prelude.{◌≡◌, ◌∷◌, [], IfOk};
 ghost use Rattle.rds_stream.specs.Recording.{length_of};
 ghost use Rattle.rds_pieces.specs.Cutting.{IsCutting, pieces_of};
 ghost use Rattle.rds_pieces.specs.Joining.{AreNeighbours};
@@ -23,28 +23,14 @@ pub fn join_guesses(
     requires fits { IsCutting (length_of recording.now) cutting.now }
     requires two { pieces_of cutting.now ≡ 2 }
 {
-    let (left, right) = two_guesses(alloc, recording, rules, cutting)?;
-    match join_once(alloc, recording, rules, &left, &right) {
+    let runs = guesses(alloc, recording, rules, cutting)?;
+    let [left, right] = runs.as_slice() else {
+        unreachable!()
+    };
+    match join_once(alloc, recording, rules, left, right) {
         Ok(found) => Ok(found),
-        Err(_) => join_once(alloc, recording, rules, &left, &right),
+        Err(_) => join_once(alloc, recording, rules, left, right),
     }
-}
-
-/// The guesses of the two pieces.
-fn two_guesses(
-    alloc: Global,
-    recording: &Recording,
-    rules: &Rules,
-    cutting: &Cutting,
-) -> Result<(PieceRun, PieceRun), PieceError>
-    requires fits { IsCutting (length_of recording.now) cutting.now }
-    requires two { pieces_of cutting.now ≡ 2 }
-    ensures left { IfOk result (λ runs. runs.0 ≡ run_at recording.now rules.now cutting.now 0) }
-    ensures right { IfOk result (λ runs. runs.1 ≡ run_at recording.now rules.now cutting.now 1) }
-{
-    let left = speculate(alloc, recording, rules, cutting, 0)?;
-    let right = speculate(alloc, recording, rules, cutting, 1)?;
-    Ok((left, right))
 }
 
 /// The counts that a join of two guesses finds, and how many windows it reads.
@@ -72,14 +58,15 @@ pub fn stitch_guesses(
     requires fits { IsCutting (length_of recording.now) cutting.now }
     requires two { pieces_of cutting.now ≡ 2 }
 {
-    let runs = guesses_in_order(alloc, recording, rules, cutting)?;
+    let runs = guesses(alloc, recording, rules, cutting)?;
     match stitch_once(alloc, recording, rules, runs.as_slice()) {
         Ok(found) => Ok(found),
         Err(_) => stitch_once(alloc, recording, rules, runs.as_slice()),
     }
 }
 
-fn guesses_in_order(
+/// The guesses of the two pieces.
+fn guesses(
     alloc: Global,
     recording: &Recording,
     rules: &Rules,
@@ -87,8 +74,9 @@ fn guesses_in_order(
 ) -> Result<Vec<PieceRun>, PieceError>
     requires fits { IsCutting (length_of recording.now) cutting.now }
     requires two { pieces_of cutting.now ≡ 2 }
-    ensures { IfOk result
-        (λ runs. FollowEachOther recording.now rules.now 0 (length_of recording.now) runs.items) }
+    ensures both { IfOk result (λ runs. runs.items
+        ≡ run_at recording.now rules.now cutting.now 0 ∷ run_at recording.now rules.now cutting.now 1 ∷ []) }
+    ensures in_a_row { IfOk result (λ runs. FollowEachOther recording.now rules.now 0 (length_of recording.now) runs.items) }
 {
     laws::pieces_follow();
     let mut runs = Vec::with_capacity(alloc, 2)?;

@@ -1,17 +1,17 @@
-//! Tests of the libraries, from outside, of facts that no clause says: each uses only public items.
+//! Tests of the libraries, from outside, of facts that neither a clause nor a built program shows: each uses only
+//! public items.
 //!
-//! - `decoder`: the crates that find and read the groups of a recording, up to the crew.
-//! - `rows`: the crate that writes rows made by threads.
-//! - `tool`: the library of the program. Faulty command lines are tried on the built program, by
-//!   `tests/test_program.py`.
-//! - `writer`: a writer over memory, of both.
+//! - `crew`: the calls that a crew makes of gates and works.
+//! - `rows`: that writes are large, and that threads run beside them.
+//! - `tool`: flushes, a reader without an end, and cuts at given places.
+//! - `sizes`: how much memory a reading and an item take.
 #![tactic(auto)]
 
 #[cfg(test)]
-mod decoder;
+mod crew;
 #[cfg(test)]
 mod rows;
 #[cfg(test)]
-mod tool;
+mod sizes;
 #[cfg(test)]
-mod writer;
+mod tool;

@@ -22,7 +22,7 @@ pub use Rattle.rds_pieces.specs.Soon.{IsSoonMet, MeetSoon}
 pub use Rattle.rds_soft.specs.Laws.{HasOneNearest, SureSymbolsStay}
 pub use Rattle.rds_soft.specs.Nearest.{IsCorrection, IsNearest, top}
 pub use Rattle.rds_soft.specs.declared.correction.Correction.{Correction}
-pub use Rattle.rds_stream.specs.Recording.{Signal, length_of, offset_heard, packed_bit, reading_heard, touched, ungapped, window}
+pub use Rattle.rds_stream.specs.Recording.{Signal, length_of, offset_heard, packed_bit, touched, ungapped, window}
 unfoldable pub use Rattle.rds_stream.specs.Recording.{heard, offset_at}
 unfoldable pub use Rattle.rds_sync.specs.Acquiring.{acquired}
 pub use Rattle.rds_sync.specs.Convergence.{IsSound, sound_bits}

@@ -35,17 +35,8 @@ pub fn only_remainder(w: u32, remainder: u16) -> (u16, u16)
     (rem26(w), plain::rem26(w))
 }
 
-/// Tables and long division agree.
-pub fn remainders_agree(w: u32) -> bool
-    requires { w < 2 ^ 26 }
-    ensures { result ≡ true }
-{
-    rem26(w) == plain::rem26(w)
-}
-
-/// A receiver that divides bit by bit, as a shift register does, has the same remainder. So has one that multiplies the
-/// standard's syndrome by x^16. A polynomial with the generator's period, by which all bursts of up to five bits are told apart, is the
-/// generator or its mirror.
+/// Division bit by bit, and the standard's syndrome times x^16, give the same remainder. Of the polynomials with its period, only the
+/// generator and its mirror tell all bursts apart.
 pub fn shifted_in(w: u32) -> u16
     requires { w < 2 ^ 26 }
     ensures divided { remainder_by generator 26 w ≡ result }
@@ -158,8 +149,7 @@ pub fn is_the_block(w: u32, info: u16, offset: Offset) -> bool
     encode_block(info, offset) == w
 }
 
-/// A block that is sent comes out valid, whatever else may be corrected. If it is a block 2 with its version bit set, it allows only
-/// C' for a damaged block 3.
+/// A block that is sent is valid. After a block 2 with its version bit set, only C' is wanted for block 3.
 pub fn sent_and_told(outcomes: &Outcomes, info: u16, offset: Offset, wanted: Wanted) -> (u8, Wanted)
     ensures outcome { result.0 ≡ 1 }
     ensures wanted { offset ≡ B → bit_at info 11 ≡ 1 → result.1 ≡ OnlyCx }
@@ -203,8 +193,7 @@ pub fn sent_and_read(
     read_block(table, block, offset.number(), wanted, limit)
 }
 
-/// Block 1, 2 or 4 that is sent, damaged by one burst within the limit, and read: the word that was sent, and
-/// the burst.
+/// Block 1, 2 or 4, sent, damaged by one burst within the limit, and read: the word that was sent, and the burst.
 pub fn damaged_and_read(
     table: &BurstTable,
     info: u16,
@@ -253,8 +242,7 @@ pub fn read_by_the_rule(
 ) -> Reading
     requires block { w < 2 ^ 26 }
     ensures rule { (r : AReading) → IsReading w number wanted limit r → r ≡ result }
-    ensures alone { (o : AnOffset) (info e : ℕ) → result ≡ Corrected o info e
-        → FitsAlone w number wanted limit o e }
+    ensures alone { (o : AnOffset) (info e : ℕ) → result ≡ Corrected o info e → FitsAlone w number wanted limit o e }
 {
     prove!(number.get() <= 4 && limit.bits() <= 5);
     laws::readings_follow_the_rule();

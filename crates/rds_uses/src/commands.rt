@@ -44,8 +44,7 @@ pub fn list_with_a_warning(alloc: Global) -> Result<Asked, CliFault>
     asked_of(alloc, LIST_BY_TWO_LOSSES.as_slice())
 }
 
-/// `rds follow --of 3 --share 2 --gaps 104-105` asks for a stream to be followed, to its end and with this gap, that loses a lock by this
-/// share, by one worker.
+/// `rds follow --of 3 --share 2 --gaps 104-105` follows a stream to its end, with this gap and this share, by one worker.
 pub fn follow_with_a_gap(alloc: Global) -> Result<Asked, CliFault>
     ensures { IfOk result (λ asked. asked.request
         ≡ Request.Follow (record { hex = false; bits = None; gaps = (104, 105) ∷ [] })

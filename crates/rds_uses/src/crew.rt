@@ -17,8 +17,7 @@ use rds_sync::{Report, Rules};
 use std::alloc::Global;
 use std::thread::Threads;
 
-/// The report of a recording by any number of workers, however it is cut: that of one decoder. No worker is refused, and so are more than
-/// 256, else only memory.
+/// The report of a recording by 1 to 256 workers, however it is cut: that of one decoder. Only memory is refused else.
 pub fn decoded_by_any<R: Threads + Sync>(
     rt: &R,
     alloc: Global,
@@ -28,10 +27,8 @@ pub fn decoded_by_any<R: Threads + Sync>(
     workers: u32,
 ) -> Result<Report, CrewError>
     requires { IsCutting (length_of recording.now) cutting.now }
-    ensures items { IfOk result (λ report. report.items
-        ≡ listed recording.now rules.now (report_items recording.now rules.now)) }
-    ensures totals { IfOk result
-        (λ report. report.totals ≡ totals_of (report_items recording.now rules.now)) }
+    ensures items { IfOk result (λ report. report.items ≡ listed recording.now rules.now (report_items recording.now rules.now)) }
+    ensures totals { IfOk result (λ report. report.totals ≡ totals_of (report_items recording.now rules.now)) }
     ensures range { IsErrOf result CrewRange ↔ ((workers ≡ 0) ⊎ (256 < workers)) }
     ensures refused { IfErr result (λ error. (error ≡ CrewRange) ⊎ (error ≡ OutOfMemory)) }
 {
@@ -79,8 +76,7 @@ pub fn draw_and_finish(dealer: &Dealer, seat: Seat) -> (bool, Seat)
     }
 }
 
-/// The view of a seat after a draw: its own event, and no more. A seat that has ended gets no number, and takes no step. The seat holds
-/// the number that it drew, which is below the number of pieces, and has ended exactly if it got none.
+/// A draw of a seat: one event, unless it has ended, and the number that it then holds.
 pub fn seat_after_draw(dealer: &Dealer, seat: Seat) -> (Option<u64>, Seat)
     requires own { IsOf dealer.now seat }
     requires empty { seat.view.held ≡ None }
@@ -94,8 +90,7 @@ pub fn seat_after_draw(dealer: &Dealer, seat: Seat) -> (Option<u64>, Seat)
     (number, seat)
 }
 
-/// Progress is no less than the number that the seat finished, and no less than it was told before. At most all pieces are finished, and
-/// fewer while the seat holds one. The seat's view has this event, and no more, and the count that it was told is the answer.
+/// Progress never falls, and is below the number of pieces while the seat holds one. It is one event of the seat.
 pub fn progress_rises(dealer: &Dealer, seat: Seat) -> (u64, Seat)
     requires { IsOf dealer.now seat }
     ensures own { IsOf dealer.now result.1 }
@@ -110,8 +105,7 @@ pub fn progress_rises(dealer: &Dealer, seat: Seat) -> (u64, Seat)
     (done, seat)
 }
 
-/// Once all seats are back, each number was drawn once and is finished, and their events are a run of the
-/// core.
+/// Once all seats are back, each number was drawn once and is finished. Their events are a run of the core.
 pub fn closed(dealer: Dealer, seats: Vec<Seat>) -> bool
     requires all { length seats.items ≡ dealer.seats }
     requires own { All (IsOf dealer) seats.items }

@@ -25,8 +25,7 @@ pub fn left_free<S: Source>(reader: &mut S, buf: &mut [u8; 4]) -> (usize, bool)
     }
 }
 
-/// How many bytes a write has left to be written: it appends the others. A write that fails is counted, and so is one that takes no byte
-/// of some, and no other.
+/// A write appends some bytes: how many are left. A write that fails, or takes no byte of some, is counted, and no other.
 pub fn left_to_write<K: Sink>(writer: &mut K, bytes: &[u8]) -> (Result<usize, Failed>, bool)
     requires { K.failed writer.old < 2 ^ 63 }
     ensures left { IfOk result.0 (λ left. left ≤ length bytes.now) }

@@ -61,8 +61,7 @@ pub fn none_yet(alloc: Global, recording: &Recording, rules: &Rules) -> Items
 pub fn appended_or_same(items: &mut Items, other: Items) -> bool
     requires source { other.source ≡ items.old.source }
     requires rules { other.rules ≡ items.old.rules }
-    ensures appended { result ≡ true → items.new
-        ≡ listed items.old.source items.old.rules (items.old.list ++ other.list) }
+    ensures appended { result ≡ true → items.new ≡ listed items.old.source items.old.rules (items.old.list ++ other.list) }
     ensures same { result ≡ false → items.new ≡ items.old }
 {
     items.append(other).is_ok()
@@ -72,8 +71,7 @@ pub fn appended_or_same(items: &mut Items, other: Items) -> bool
 pub fn appended_from(items: &mut Items, other: &Items, first: usize) -> bool
     requires source { other.now.source ≡ items.old.source }
     requires rules { other.now.rules ≡ items.old.rules }
-    ensures appended { result ≡ true → items.new
-        ≡ listed items.old.source items.old.rules (items.old.list ++ drop first other.now.list) }
+    ensures appended { result ≡ true → items.new ≡ listed items.old.source items.old.rules (items.old.list ++ drop first other.now.list) }
     ensures same { result ≡ false → items.new ≡ items.old }
 {
     items.append_from(other, first).is_ok()

@@ -19,9 +19,7 @@ use std::alloc::Global;
 
 /// How many groups a recording without gaps has: those of its report.
 pub fn groups_of(alloc: Global, bytes: &[u8], bits: u64, rules: RdsRules) -> Result<u64, Refusal>
-    ensures { IfOk result
-        (λ groups. groups
-        ≡ (totals_of (report_items (recording_of bytes.now bits []) (rules_of rules))).groups) }
+    ensures { IfOk result (λ groups. groups ≡ (totals_of (report_items (recording_of bytes.now bits []) (rules_of rules))).groups) }
 {
     Ok(totals(alloc, bytes, bits, &[], rules)?.groups)
 }
@@ -29,8 +27,7 @@ pub fn groups_of(alloc: Global, bytes: &[u8], bits: u64, rules: RdsRules) -> Res
 /// Rules that correct six bits are refused as such, whatever else is asked, or because memory was refused.
 pub fn six_bits_refused(alloc: Global, bytes: &[u8], reach: u32) -> Option<Refusal>
     ensures refused { result ≢ None }
-    ensures why { IfSome result
-        (λ refusal. (refusal ≡ Refusal.BurstRange) ⊎ (refusal ≡ Refusal.OutOfMemory)) }
+    ensures why { IfSome result (λ refusal. (refusal ≡ Refusal.BurstRange) ⊎ (refusal ≡ Refusal.OutOfMemory)) }
 {
     let rules = RdsRules {
         burst: 6,
@@ -97,8 +94,7 @@ pub fn in_two_ranges(
     Ok(n)
 }
 
-/// Takes all of the next bytes of a stream, or says that there is too little room for the items that they
-/// complete.
+/// Takes all of the next bytes of a stream, unless there is too little room for their items.
 fn push_all(
     alloc: Global,
     bytes: &[u8],
@@ -112,9 +108,7 @@ fn push_all(
         ((before : List ℕ) → HasHeard (stream_of (terms_of rules gaps.now) stream.old) before
         → HasHeard (stream_of (terms_of rules gaps.now) stream.new) (before ++ bytes.now)) }
     ensures laid { OnOk result (stream.new ≡ stream_in_c (stream_of (terms_of rules gaps.now) stream.new)) }
-    ensures items { OnOk result
-        (AreWritten (AreCompleted (terms_of rules gaps.now) stream.old bytes.now)
-        room.old room.new count.new) }
+    ensures items { OnOk result (AreWritten (AreCompleted (terms_of rules gaps.now) stream.old bytes.now) room.old room.new count.new) }
 {
     let mut taken = 0;
     push(alloc, bytes, gaps, rules, stream, room, &mut taken, count)?;
@@ -142,8 +136,7 @@ pub fn goes_on_in_little_room(
     Ok(taken)
 }
 
-/// Room for sixteen items is enough for symbols: of nine or more, eight are taken. A margin of 0 is refused as such, whatever else is
-/// asked, and even without memory.
+/// Sixteen items of room are enough for symbols: of nine or more, eight are taken. A margin of 0 is refused before anything else.
 pub fn symbols_go_on(
     alloc: Global,
     symbols: &[i8],
@@ -171,8 +164,7 @@ pub fn symbols_go_on(
     Ok(taken)
 }
 
-/// A stream in two chunks, between which it is kept only as numbers, and the items that its end closes:
-/// together the items of the report of all its bytes, and that report's totals.
+/// A stream in two chunks, kept between them only as numbers: with its end, the items and the totals of the report of all its bytes.
 pub fn in_two_chunks(
     alloc: Global,
     early: &[u8],
@@ -186,8 +178,7 @@ pub fn in_two_chunks(
     ensures items { IfOk result
         (λ r. take r.0.first first.new ++ (take r.0.second second.new ++ take r.0.end end.new)
         ≡ map item_in_c (report_of (terms_of rules gaps.now) (early.now ++ late.now))) }
-    ensures totals { IfOk result
-        (λ r. r.1 ≡ totals_in_c (totals_of (report_of (terms_of rules gaps.now) (early.now ++ late.now)))) }
+    ensures totals { IfOk result (λ r. r.1 ≡ totals_in_c (totals_of (report_of (terms_of rules gaps.now) (early.now ++ late.now)))) }
 {
     let mut n = Counts::default();
     let mut totals = RdsTotals::NONE;
@@ -198,8 +189,7 @@ pub fn in_two_chunks(
     Ok((n, totals))
 }
 
-/// A stream that ends inside a byte, after the first `bits` bits of these bytes: the items that they complete are written, and the
-/// totals of the report of all its bits.
+/// A stream that ends inside a byte, after `bits` bits of these bytes: the items that they complete, and the totals of all its bits.
 pub fn ended_inside_a_byte(
     alloc: Global,
     last: &[u8],
@@ -211,8 +201,7 @@ pub fn ended_inside_a_byte(
     count: &mut u64,
     totals: &mut RdsTotals,
 ) -> Result<(), Refusal>
-    ensures items { OnOk result (AreWritten (AreLeft (terms_of rules gaps.now) stream.now last.now bits)
-        room.old room.new count.new) }
+    ensures items { OnOk result (AreWritten (AreLeft (terms_of rules gaps.now) stream.now last.now bits) room.old room.new count.new) }
     ensures totals { OnOk result
         ((before : List ℕ) → HasHeard (stream_of (terms_of rules gaps.now) stream.now) before
         → totals.new ≡ totals_in_c (totals_of
@@ -262,8 +251,7 @@ pub fn refused_alike(
     gaps: &[RdsGap],
     rules: RdsRules,
 ) -> Option<(Refusal, Refusal)>
-    ensures { IfSome result (λ reasons.
-        (reasons.0 ≡ Refusal.OutOfMemory) ⊎ (reasons.1 ≡ Refusal.OutOfMemory) ⊎ (reasons.0 ≡ reasons.1)) }
+    ensures { IfSome result (λ reasons. (reasons.0 ≡ Refusal.OutOfMemory) ⊎ (reasons.1 ≡ Refusal.OutOfMemory) ⊎ (reasons.0 ≡ reasons.1)) }
 {
     rds_abi::laws::reasons_exclude_each_other();
     let first = totals(alloc, bytes, bits, gaps, rules);

@@ -39,8 +39,7 @@ pub fn begun<'r>(
     StreamDecoder::with_gaps(alloc, rules, gaps)
 }
 
-/// A decoder made anew of the numbers that another tells, by the same rules and gaps: it knows the same, and
-/// so has heard the same bytes. It fails only if memory is refused.
+/// A decoder made anew of another's numbers, rules and gaps is equal to it. It fails only if memory is refused.
 pub fn anew<'r>(
     alloc: Global,
     live: &StreamDecoder<'_>,
@@ -62,8 +61,7 @@ pub fn anew<'r>(
     )
 }
 
-/// As many bytes are taken as the vector has room for, and heard; it then has the items that they complete. A chunk that goes past
-/// 2^36 bits is refused, and was not heard. Of any lawful numbers, even those of no stream, the next ones and the items are told too.
+/// As many bytes are heard as there is room for, and their items are told. A chunk past 2^36 bits is refused, and was not heard.
 pub fn taken(
     live: &mut StreamDecoder<'_>,
     bytes: &[u8],
@@ -74,19 +72,16 @@ pub fn taken(
     ensures items { IfOk result (λ count. (before : List ℕ) → HasHeard live.old before
         → complete live.old.terms (before ++ take count bytes.now)
         ≡ complete live.old.terms before ++ items.new.items) }
-    ensures count { IfOk result (λ count. count
-        ≡ min (length bytes.now) (min 960 (vec_capacity items.old / 16))) }
+    ensures count { IfOk result (λ count. count ≡ min (length bytes.now) (min 960 (vec_capacity items.old / 16))) }
     ensures refused { OnErr result ((live.new ≡ live.old) × (items.new ≡ items.old)) }
-    ensures too_long { IsErrOf result StreamError.TooLong
-        ↔ (2 ^ 36 < live.old.place + 8 * length bytes.now) }
+    ensures too_long { IsErrOf result StreamError.TooLong ↔ (2 ^ 36 < live.old.place + 8 * length bytes.now) }
     ensures next { IfOk result (λ count. live.new ≡ live_next live.old (take count bytes.now)) }
     ensures completed { IfOk result (λ count. items.new.items ≡ completed live.old (take count bytes.now)) }
 {
     live.take(bytes, items)
 }
 
-/// The rest of a stream, of which any bytes were heard: the items that these gave, those of the rest, and that of the end are
-/// its report.
+/// The items of the bytes heard so far, those of the rest, and that of the end are the stream's report.
 pub fn take_rest(
     alloc: Global,
     live: StreamDecoder<'_>,

@@ -73,8 +73,7 @@ pub fn bits_beyond_pieces(recording: &Recording, cutting: &Cutting) -> u64
 
 // ---- guesses
 
-/// A guess ends as a run from Searching over its range does. Its items, one after the other, are those of that run, and its marks are its
-/// first place and the place after each bit that gave an item.
+/// A guess has the items, the end and the marks of the run from Searching over its range.
 pub fn guessed_as_run<'a>(
     alloc: Global,
     recording: &'a Recording,
@@ -83,8 +82,7 @@ pub fn guessed_as_run<'a>(
 ) -> Result<(ItemIter<'a>, Vec<Mark>), AllocError>
     requires source { run.now.source ≡ recording.now }
     requires rules { run.now.rules ≡ rules.now }
-    ensures items { IfOk result (λ guess. guess.0
-        ≡ (run_of recording.now rules.now Searching run.now.from (run.now.to - run.now.from)).1) }
+    ensures items { IfOk result (λ guess. guess.0 ≡ (run_of recording.now rules.now Searching run.now.from (run.now.to - run.now.from)).1) }
     ensures marks { IfOk result (λ guess. guess.1.items
         ≡ marks_of recording.now rules.now Searching run.now.from (run.now.to - run.now.from)) }
 {
@@ -99,17 +97,15 @@ pub fn guessed_as_run<'a>(
 pub fn list_of_guess(run: &PieceRun) -> (&Items, Totals)
     ensures list { result.0.now ≡ listed run.now.source run.now.rules
         (guess run.now.source run.now.rules run.now.from (run.now.to - run.now.from)).1 }
-    ensures totals { result.1 ≡ totals_of
-        (guess run.now.source run.now.rules run.now.from (run.now.to - run.now.from)).1 }
+    ensures totals { result.1 ≡ totals_of (guess run.now.source run.now.rules run.now.from (run.now.to - run.now.from)).1 }
 {
     (run.list(), run.totals())
 }
 
 // ---- seams
 
-/// A seam is the run from the state handed in, and tells the least place where it meets the guess, or that there is none. It reads as many windows as the bits to there cost, without
-/// memory too, and no more than its piece has places for. The tape is of the same bits. On sound signal from the piece's first place on, it
-/// meets the guess within 416 bits by a loss of ten blocks.
+/// A seam is the run from the state handed in, and tells where it first meets the guess. It reads as many windows as the bits to there
+/// cost. On sound signal they meet within 416 bits, by a loss of ten blocks.
 pub fn run_and_cost_of_seam<T: Tape>(
     alloc: Global,
     tape: &mut T,
@@ -127,8 +123,7 @@ pub fn run_and_cost_of_seam<T: Tape>(
         ≡ totals_of (run_of (T.signal tape.old) rules.now state run.now.from (run.now.to - run.now.from)).1) }
     ensures end { IfOk result (λ seam. seam.end_state
         ≡ (run_of (T.signal tape.old) rules.now state run.now.from (run.now.to - run.now.from)).0) }
-    ensures met { IfOk result (λ seam. IsMeeting (T.signal tape.old) rules.now state Searching run.now.from
-        run.now.to seam.met_at) }
+    ensures met { IfOk result (λ seam. IsMeeting (T.signal tape.old) rules.now state Searching run.now.from run.now.to seam.met_at) }
     ensures soon { IfOk result (λ seam. rules.now.loss ≡ Run 10
         → (p : ℕ) × (c : ℕ) × IsSound (T.signal tape.old) rules.now 0 run.now.from p c
         → run.now.from + 416 ≤ run.now.to
@@ -140,8 +135,7 @@ pub fn run_and_cost_of_seam<T: Tape>(
         run.now.to met
         → T.reads_made tape.new
         ≤ T.reads_made tape.old + (rules.now.reach + 2) * (distance run.now.from run.now.to met + 1) }
-    ensures reads_most { T.reads_made tape.new
-        ≤ T.reads_made tape.old + (rules.now.reach + 2) * (run.now.to - run.now.from + 1) }
+    ensures reads_most { T.reads_made tape.new ≤ T.reads_made tape.old + (rules.now.reach + 2) * (run.now.to - run.now.from + 1) }
     ensures same { T.signal tape.new ≡ T.signal tape.old }
 {
     seam(alloc, tape, rules, state, run)
@@ -149,8 +143,7 @@ pub fn run_and_cost_of_seam<T: Tape>(
 
 // ---- joins
 
-/// Two neighbours joined are the guess of both ranges. That costs, refused memory or not, no more windows than the right run has places
-/// for, and on sound signal from the cut on those of 416 bits at most by a loss of ten blocks.
+/// Two neighbours joined are the guess of both ranges. On sound signal that costs the windows of 416 bits at most.
 pub fn cost_of_join<T: Tape>(
     alloc: Global,
     tape: &mut T,
@@ -162,8 +155,7 @@ pub fn cost_of_join<T: Tape>(
     requires room { T.reads_made tape.old ≤ 2 ^ 62 }
     ensures run { IfOk result (λ run. run ≡ run_over (T.signal tape.old) rules.now left.now.from right.now.to) }
     ensures refused { IsOkUnless result OutOfMemory }
-    ensures reads { T.reads_made tape.new
-        ≤ T.reads_made tape.old + (rules.now.reach + 2) * (right.now.to - right.now.from + 1) }
+    ensures reads { T.reads_made tape.new ≤ T.reads_made tape.old + (rules.now.reach + 2) * (right.now.to - right.now.from + 1) }
     ensures few { rules.now.loss ≡ Run 10
         → (p : ℕ) × (c : ℕ) × IsSound (T.signal tape.old) rules.now 0 right.now.from p c
         → right.now.from + 416 ≤ right.now.to
@@ -183,10 +175,8 @@ pub(crate) fn stitch_pieces(
     cutting: &Cutting,
 ) -> Result<Report, PieceError>
     requires { IsCutting (length_of recording.now) cutting.now }
-    ensures items { IfOk result (λ report. report.items
-        ≡ listed recording.now rules.now (report_items recording.now rules.now)) }
-    ensures totals { IfOk result
-        (λ report. report.totals ≡ totals_of (report_items recording.now rules.now)) }
+    ensures items { IfOk result (λ report. report.items ≡ listed recording.now rules.now (report_items recording.now rules.now)) }
+    ensures totals { IfOk result (λ report. report.totals ≡ totals_of (report_items recording.now rules.now)) }
     ensures refused { IsOkUnless result OutOfMemory }
 {
     let runs = guesses(alloc, recording, rules, cutting)?;
@@ -219,8 +209,7 @@ pub fn cost_of_report<T: Tape>(
     rules: &Rules,
     runs: &[PieceRun],
 ) -> Result<Report, PieceError>
-    requires in_a_row { FollowEachOther (T.signal tape.old) rules.now 0 (length_of (T.signal tape.old))
-        runs.now }
+    requires in_a_row { FollowEachOther (T.signal tape.old) rules.now 0 (length_of (T.signal tape.old)) runs.now }
     requires room { T.reads_made tape.old ≤ 2 ^ 61 }
     ensures reads { IfOk result (λ _. (n : ℕ) × IsSumOfReads (T.signal tape.old) rules.now Searching runs.now n
         × (T.reads_made tape.new ≤ T.reads_made tape.old + n + 3)) }
@@ -240,8 +229,7 @@ pub fn row_after_join(
     right: &PieceRun,
     after: &[PieceRun],
 )
-    requires { FollowEachOther recording.now rules.now 0 (length_of recording.now)
-        (before.now ++ left.now ∷ right.now ∷ after.now) }
+    requires { FollowEachOther recording.now rules.now 0 (length_of recording.now) (before.now ++ left.now ∷ right.now ∷ after.now) }
     ensures { FollowEachOther recording.now rules.now 0 (length_of recording.now)
         (before.now ++ run_over recording.now rules.now left.now.from right.now.to ∷ after.now) }
 {
@@ -256,8 +244,7 @@ pub fn report_of_work<W: Work>(alloc: Global, work: &W) -> Result<Report, PieceE
     requires one { pieces_of (W.places work.now) ≡ 1 }
     ensures items { IfOk result (λ report. report.items ≡ listed (W.recording work.now) (W.rule_set work.now)
         (report_items (W.recording work.now) (W.rule_set work.now))) }
-    ensures totals { IfOk result (λ report. report.totals
-        ≡ totals_of (report_items (W.recording work.now) (W.rule_set work.now))) }
+    ensures totals { IfOk result (λ report. report.totals ≡ totals_of (report_items (W.recording work.now) (W.rule_set work.now))) }
     ensures refused { IsOkUnless result OutOfMemory }
 {
     laws::pieces_follow();
@@ -269,8 +256,7 @@ pub fn report_of_work<W: Work>(alloc: Global, work: &W) -> Result<Report, PieceE
 pub fn joined_by_work<W: Work>(alloc: Global, work: &W) -> Result<PieceRun, PieceError>
     requires fits { IsCutting (length_of (W.recording work.now)) (W.places work.now) }
     requires two { pieces_of (W.places work.now) ≡ 2 }
-    ensures run { IfOk result (λ run. run
-        ≡ run_over (W.recording work.now) (W.rule_set work.now) 0 (length_of (W.recording work.now))) }
+    ensures run { IfOk result (λ run. run ≡ run_over (W.recording work.now) (W.rule_set work.now) 0 (length_of (W.recording work.now))) }
     ensures refused { IsOkUnless result OutOfMemory }
 {
     match (work.guess(alloc, 0), work.guess(alloc, 1)) {

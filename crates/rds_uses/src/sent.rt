@@ -119,8 +119,7 @@ pub fn miscorrected_of_two(info: u16, offset: Offset, wanted: Wanted, limit: Bur
 
 // ---- a group, damaged
 
-/// A group whose blocks each have one burst within the limit at most has the four words that were sent. So has a group whose bits are
-/// anywhere in a recording.
+/// A group with at most one burst within the limit in each block is read as it was sent, anywhere in a recording.
 pub fn words_of_damaged(
     recording: &Recording,
     rules: &Rules,
@@ -186,8 +185,7 @@ pub fn recording_of_groups(alloc: Global, groups: &[[u16; 4]]) -> Option<Recordi
 pub fn encoded_and_decoded(alloc: Global, groups: &[[u16; 4]], rules: &Rules) -> Option<Report>
     requires some { 0 < length groups.now }
     requires few { 104 * length groups.now ≤ 2 ^ 36 }
-    ensures { IfSome result (λ report. (report.items.list ≡ report_sent groups.now)
-        × (report.totals ≡ totals_sent (length groups.now))) }
+    ensures { IfSome result (λ report. (report.items.list ≡ report_sent groups.now) × (report.totals ≡ totals_sent (length groups.now))) }
 {
     let _loss = rules.loss();
     laws::encoded_groups_are_listed();
@@ -229,8 +227,7 @@ pub fn offset_of_last_block(recording: &Recording, place: u64) -> Option<Offset>
 
 // ---- a recording of groups, damaged
 
-/// Damaged bits are decoded to the groups that were sent, and so are damaged blocks that are heard, whatever the bits are. The totals
-/// follow from the damage.
+/// Groups that were sent with bit errors are decoded as they were sent. The totals follow from the errors.
 pub fn damaged_and_decoded(alloc: Global, recording: &Recording, rules: &Rules) -> Option<Report>
     ensures items { IfSome result (λ report. (groups : List SentGroup)
         → AreBitsOf recording.now rules.now groups → report.items.list ≡ report_damaged groups) }
@@ -248,8 +245,7 @@ pub fn damaged_and_decoded(alloc: Global, recording: &Recording, rules: &Rules) 
     decode_plain(alloc, recording, rules).ok()
 }
 
-/// A decoder that is locked at the first bit of a group gives the groups that come with the words that were sent. So does one in whatever
-/// state, after a sound range.
+/// A decoder locked at the first bit of a group gives the groups that were sent. So does any other, after a sound range.
 pub fn decoded_in_lock(
     alloc: Global,
     recording: &Recording,
@@ -279,8 +275,7 @@ pub fn decoded_in_lock(
 
 // ---- a longer recording
 
-/// A longer recording has all items of the recording that it begins with, except the group at its end, and then more. No total
-/// is less.
+/// A longer recording has all items of the one that it begins with, except the group at its end. No total is less.
 pub fn decoded_before_and_after(
     alloc: Global,
     shorter: &Recording,
@@ -312,8 +307,7 @@ pub fn begins_with_first_bits(recording: &Recording, bits: u64)
 
 // ---- by the program
 
-/// Lines of words are encoded by one job and listed by another, as bytes or as digits. The listing is that of their groups, for all
-/// rules, cuttings and numbers of workers.
+/// Lines of words, encoded by one job and listed by another: the listing of their groups, for all rules, cuttings and workers.
 pub fn encoded_and_listed<R: Threads + Sync>(
     rt: &R,
     alloc: Global,
@@ -321,8 +315,7 @@ pub fn encoded_and_listed<R: Threads + Sync>(
     encode: &Job,
     list: &Job,
 ) -> Option<Vec<u8>>
-    requires { (hex : Bool) × (settings : SomeSettings)
-        × (encode.now ≡ Job.Encode hex) × (list.now ≡ Job.List (whole_input hex) settings) }
+    requires { (hex : Bool) × (settings : SomeSettings) × (encode.now ≡ Job.Encode hex) × (list.now ≡ Job.List (whole_input hex) settings) }
     ensures { IfSome result (λ listing. (words : List ℕ) (groups : List (List ℕ))
         → groups_in lines.now ≡ Ok (words ∷ groups) → listing.items ≡ sent_listing words groups) }
 {
@@ -360,8 +353,7 @@ fn follow_rows<R: Threads + Sync>(
     bits: Option<u64>,
     workers: u32,
 ) -> Option<Vec<u8>>
-    ensures { IfSome result (λ text.
-        listed (record { rules = rules.now; gaps = gaps.now }) bits bytes.now ≡ Ok text.items) }
+    ensures { IfSome result (λ text. listed (record { rules = rules.now; gaps = gaps.now }) bits bytes.now ≡ Ok text.items) }
 {
     let mut writer = ToWrite::new(Vec::new(alloc));
     match follow(

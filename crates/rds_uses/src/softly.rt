@@ -8,22 +8,21 @@ ghost use Rattle.rds_code.specs.Reading.{IsValid, allows, information};
 ghost use Rattle.rds_soft.specs.Nearest.{IsNearest, Turns, top, weight};
 ghost use Rattle.rds_soft.specs.Symbols.{hard_bit, hard_bits, hard_window};
 ghost use Rattle.rds_code.specs.declared.reading.Wanted.{Wanted as WantedHard};
-ghost use Rattle.rds_stream.specs.Recording.{AreGaps, length_of, reading_at, touched};
+ghost use Rattle.rds_stream.specs.Recording.{AreGaps, length_of, reading_at};
 ghost use Rattle.rds_sync.specs.declared.item.Block.TheVariants.{Read};
-ghost use Rattle.rds_soft.specs.declared.soft_item.SoftBlock.TheVariants.{Missing as SoftMissing, Read as SoftRead};
-ghost use Rattle.rds_soft.specs.SoftGroups.{group_of};
+ghost use Rattle.rds_soft.specs.declared.soft_item.SoftBlock.TheVariants.{Read as SoftRead};
 ghost use Rattle.rds_soft.specs.Again.{IsBlockAgain, IsReadingHeard, symbols_heard};
 ghost use Rattle.rds_soft.specs.ReadAgain.{item_again, symbols_of};
 ghost use Rattle.rds_soft.specs.SoftStream.{complete, report_of};
 ghost use Rattle.rds_soft.specs.SoftTotals.{soft_totals_of};
 
-use rds_code::{BlockNumber, BurstLimit, Offset, Reading, Wanted};
+use rds_code::{BlockNumber, BurstLimit, Offset, Wanted};
 use rds_soft::{
     Correction, Margin, Search, SoftBlock, SoftItem, SoftReading, SoftStream, SoftTotals, laws,
     mask_of, pack_bits,
 };
 use rds_stream::{Recording, StreamError};
-use rds_sync::{Block, Group, Item, Rules, Version};
+use rds_sync::{Item, Rules};
 use std::alloc::{AllocError, Global};
 
 // ---- the nearest block
@@ -133,24 +132,6 @@ pub fn read_alike(
 
 // ---- reports read again
 
-/// An acquisition and a loss stay as they are.
-pub fn marks_stay(
-    search: &mut Search,
-    recording: &Recording,
-    symbols: &[u8],
-    margin: Margin,
-    place: u64,
-    number: u8,
-) -> [SoftItem; 2]
-    ensures { result ≡ SoftItem.Acquired place number ∷ SoftItem.LostLock place ∷ [] }
-{
-    let acquired = Item::Acquired { place, number };
-    [
-        search.read_again(recording, symbols, margin, &acquired),
-        search.read_again(recording, symbols, margin, &Item::LostLock { place }),
-    ]
-}
-
 /// The windows of a recording of symbols' bits are those of 27 symbols.
 pub fn window_of_symbols(recording: &Recording, symbols: &[i8], first: u64) -> u32
     requires bits { recording.now.bits ≡ hard_bits symbols.now }
@@ -184,28 +165,6 @@ pub fn read_from_symbols(
     laws::blocks_are_read_from_symbols();
     let _number = number.get();
     let _limit = limit.bits();
-}
-
-/// A block that touches a gap is lost, whatever its symbols are.
-pub fn lost_in_gap(
-    search: &mut Search,
-    recording: &Recording,
-    symbols: &[u8],
-    margin: Margin,
-    place: u64,
-) -> SoftItem
-    requires { touched recording.now (place + 25) ≡ true }
-    ensures { result ≡ SoftItem.Group (group_of place (SoftRead SoftReading.Lost ∷ SoftMissing ∷ SoftMissing ∷ SoftMissing ∷ [])) }
-{
-    let lost = Block::Read(Reading::Lost);
-    let group = Group {
-        place,
-        blocks: [lost, Block::Missing, Block::Missing, Block::Missing],
-        kind: None,
-        version: Version::Unknown,
-        conflict: false,
-    };
-    search.read_again(recording, symbols, margin, &Item::Group(group))
 }
 
 /// The information word of a corrected block is known.

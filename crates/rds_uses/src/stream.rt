@@ -21,8 +21,7 @@ use std::snapshot::Snapshot;
 
 // ---- recordings
 
-/// The first `bits` bits of the bytes. More bits than a recording may have are refused as such, and then more than the bytes hold. The
-/// bytes come back.
+/// The first `bits` bits of the bytes. Too many for a recording, and then too many for the bytes, are refused. The bytes come back.
 pub fn recording_from(bytes: Vec<u8>, bits: u64) -> Result<Recording, (StreamError, Vec<u8>)>
     ensures taken { bits ≤ 2 ^ 36 → bits ≤ 8 * vec_len bytes → result ≡ Ok (ungapped (bits_of bytes.items bits)) }
     ensures too_long { 2 ^ 36 < bits → result ≡ Err (TooLong, bytes) }
@@ -109,16 +108,14 @@ pub fn distance_of_first_two(recording: &Recording) -> Option<u64>
 pub fn last_of_planes(recording: &Recording, at: u64) -> [u64; 10]
     requires first { 25 ≤ at }
     requires last { at + 64 ≤ length_of recording.now }
-    ensures { (r : ℕ) → r < 10
-        → bit_at (slice_index result r) 63 ≡ bit_at (rem (window recording.now.bits (at + 63))) r }
+    ensures { (r : ℕ) → r < 10 → bit_at (slice_index result r) 63 ≡ bit_at (rem (window recording.now.bits (at + 63))) r }
 {
     planes(recording, at)
 }
 
 // ---- tapes
 
-/// The offset of a tape's last place, of how many bits, and of which recording: at most one window is counted, and the tape is of the
-/// same bits.
+/// The offset of a tape's last place, twice its length, and its recording. At most one window is counted.
 pub fn last_offset<T: Tape>(tape: &mut T) -> (Option<Offset>, u64, Snapshot<Recording>)
     requires some { 26 ≤ length_of (T.signal tape.old) }
     requires room { T.reads_made tape.old < 2 ^ 63 }
@@ -137,23 +134,20 @@ pub fn last_offset<T: Tape>(tape: &mut T) -> (Option<Offset>, u64, Snapshot<Reco
 /// The answer if gaps are refused: why, the bytes and the gaps.
 type Refused = (StreamError, Vec<u8>, Vec<(u64, u64)>);
 
-/// The first `bits` bits of the bytes, with these gaps. More bits than a recording may have are refused as such, whatever the gaps. Next
-/// come more bits than the bytes hold, and then gaps that are not among the bits in order. The bytes and the gaps come back.
+/// The same with gaps, which are refused last, unless they are in order and among the bits.
 pub fn with_gaps(bytes: Vec<u8>, bits: u64, gaps: Vec<(u64, u64)>) -> Result<Recording, Refused>
     ensures taken { bits ≤ 2 ^ 36 → bits ≤ 8 * vec_len bytes → AreGaps bits gaps.items
         → result ≡ Ok (record { bits = bits_of bytes.items bits; gaps = gaps.items }) }
     ensures too_long { 2 ^ 36 < bits → result ≡ Err (TooLong, bytes, gaps) }
     ensures past { bits ≤ 2 ^ 36 → 8 * vec_len bytes < bits → result ≡ Err (BitsPastBytes, bytes, gaps) }
-    ensures bad_gaps { bits ≤ 2 ^ 36 → bits ≤ 8 * vec_len bytes → (AreGaps bits gaps.items → ⊥)
-        → result ≡ Err (BadGaps, bytes, gaps) }
+    ensures bad_gaps { bits ≤ 2 ^ 36 → bits ≤ 8 * vec_len bytes → (AreGaps bits gaps.items → ⊥) → result ≡ Err (BadGaps, bytes, gaps) }
 {
     Recording::with_gaps(bytes, bits, gaps)
 }
 
 // ---- reading where a gap is touched, and where none is
 
-/// A window that touches a gap is known, and is not heard: its block is lost, whatever its bits are. Any other is heard and read as it is
-/// stored.
+/// The block of a window that touches a gap is lost, whatever its bits are. Any other window is heard as it is stored.
 pub fn block_with_gaps(
     table: &BurstTable,
     recording: &Recording,
@@ -173,8 +167,7 @@ pub fn block_with_gaps(
     (recording.touches(place), heard, read)
 }
 
-/// The offset of the window that a tape hears is that of the place, in a gap and outside; a window is counted
-/// either way.
+/// A tape hears the offset of a place, in a gap and outside. A window is counted either way.
 pub fn offset_on_tape(recording: &Recording, place: u64) -> (Option<Offset>, u64)
     requires first { 25 ≤ place }
     requires last { place < length_of recording.now }

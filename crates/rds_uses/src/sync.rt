@@ -57,8 +57,7 @@ pub fn rules_in_bytes(alloc: Global, rules: &Rules) -> Result<Rules, SyncError>
     }
 }
 
-/// Of several wrong numbers the first is refused: a burst of six bits, a reach of no block, then a loss after 65 blocks or a share of
-/// none.
+/// Of several wrong numbers the first is refused.
 pub fn refused_in_order(alloc: Global, reach: u32, loss: u32, of: u32) -> [Option<SyncError>; 4]
     ensures { result ≡ Some BurstRange ∷ Some ReachRange ∷ Some LossRange ∷ Some ShareRange ∷ [] }
 {
@@ -85,8 +84,7 @@ pub fn has_four_words(recording: &Recording, rules: &Rules, place: u64, group: &
 
 // ---- states
 
-/// A run from a state that a caller has tested ends in one that needs no test. Its items need room for two a bit at most. Only memory can
-/// be refused.
+/// A run from a tested state ends in one that needs no test, and gives two items per bit at most. Only memory can be refused.
 pub fn tested_run(
     alloc: Global,
     recording: &Recording,
@@ -121,18 +119,15 @@ pub fn lawful_after_bit(recording: &Recording, rules: &Rules, state: State, plac
 
 // ---- steps over a tape
 
-/// A step is the run over its bits: it moves on, stays in the range, and leaves the tape of the same bits. A search goes bit by bit, and
-/// reads no more than its own window and one for each block of its reach.
+/// A step is the run over its bits. A search goes bit by bit, and reads its own window and one for each block of its reach at most.
 pub fn one_step<T: Tape>(tape: &mut T, rules: &Rules, state: State, place: u64, to: u64) -> Step
     requires lawful { IsLawful rules.now place state }
     requires before { place < to }
     requires within { to ≤ length_of (T.signal tape.old) }
     requires counted { T.reads_made tape.old + 16 ≤ 2 ^ 63 }
     ensures moved { (place < result.place) × (result.place ≤ to) }
-    ensures state { result.state
-        ≡ (run_of (T.signal tape.old) rules.now state place (result.place - place)).0 }
-    ensures items { items_in result.items
-        ≡ (run_of (T.signal tape.old) rules.now state place (result.place - place)).1 }
+    ensures state { result.state ≡ (run_of (T.signal tape.old) rules.now state place (result.place - place)).0 }
+    ensures items { items_in result.items ≡ (run_of (T.signal tape.old) rules.now state place (result.place - place)).1 }
     ensures lawful { IsLawful rules.now result.place result.state }
     ensures bit { state ≡ Searching → result.place ≡ place + 1 }
     ensures reads { state ≡ Searching → T.reads_made tape.new ≤ T.reads_made tape.old + (rules.now.reach + 1) }
@@ -154,8 +149,7 @@ pub fn cost_of_end<T: Tape>(tape: &mut T, rules: &Rules, state: State) -> Option
 
 // ---- runs over a range
 
-/// A stretch moves on and stays in the range, and finds the items that the run over its bits gives; its
-/// reader can go on. A step of `advance` goes no further from the same place.
+/// A stretch is the run over its bits, and goes at least as far as a step. Its reader can go on.
 pub fn one_stretch(
     reader: &mut Reader<'_>,
     rules: &Rules,
@@ -167,8 +161,7 @@ pub fn one_stretch(
     requires before { place < to }
     requires within { to ≤ length_of reader.old }
     ensures moved { (place < result.0.place) × (result.0.place ≤ to) }
-    ensures items { items_in result.0.items
-        ≡ (run_of reader.old rules.now state place (result.0.place - place)).1 }
+    ensures items { items_in result.0.items ≡ (run_of reader.old rules.now state place (result.0.place - place)).1 }
     ensures no_further { result.1 ≡ true }
     ensures same { reader.new ≡ reader.old }
 {
@@ -208,8 +201,7 @@ pub fn decoded_in_two<'a>(
     middle: u64,
 ) -> (Decoder<'a>, Decoder<'a>, Option<Group>)
     requires { middle ≤ length_of recording.now }
-    ensures { (result.0.items ++ result.1.items) ++ group_item result.2
-        ≡ report_items recording.now rules.now }
+    ensures { (result.0.items ++ result.1.items) ++ group_item result.2 ≡ report_items recording.now rules.now }
 {
     let _loss = rules.loss();
     let len = recording.len();
@@ -310,8 +302,7 @@ pub fn report_of_run(
     ensures state { IfOk result (λ end. end.0 ≡ (run_of recording.now rules.now state from (to - from)).0) }
     ensures items { IfOk result (λ end. end.1.items
         ≡ listed recording.now rules.now (run_of recording.now rules.now state from (to - from)).1) }
-    ensures totals { IfOk result (λ end. end.1.totals
-        ≡ totals_of (run_of recording.now rules.now state from (to - from)).1) }
+    ensures totals { IfOk result (λ end. end.1.totals ≡ totals_of (run_of recording.now rules.now state from (to - from)).1) }
     ensures small { IfOk result (λ end. IsAtMost (2 ^ 47) end.1.totals) }
     ensures lawful { IfOk result (λ end. IsLawful rules.now to end.0) }
     ensures refused { IsOkUnless result OutOfMemory }
@@ -321,10 +312,8 @@ pub fn report_of_run(
 
 /// The report of a recording: the items of its locks, and their totals.
 pub fn report_of(alloc: Global, recording: &Recording, rules: &Rules) -> Result<Report, SyncError>
-    ensures items { IfOk result (λ report. report.items
-        ≡ listed recording.now rules.now (report_items recording.now rules.now)) }
-    ensures totals { IfOk result
-        (λ report. report.totals ≡ totals_of (report_items recording.now rules.now)) }
+    ensures items { IfOk result (λ report. report.items ≡ listed recording.now rules.now (report_items recording.now rules.now)) }
+    ensures totals { IfOk result (λ report. report.totals ≡ totals_of (report_items recording.now rules.now)) }
     ensures refused { IsOkUnless result OutOfMemory }
 {
     decode_plain(alloc, recording, rules)
@@ -334,8 +323,7 @@ pub fn report_of(alloc: Global, recording: &Recording, rules: &Rules) -> Result<
 
 /// A lock is lost if the mask that is kept of its last blocks has too many ones. Its lowest bit tells whether the newest block was bad.
 pub fn lost_by_mask(bad: u32, of: u32, mask: u64) -> bool
-    ensures lost { (is_good : ℕ → Bool) (k : ℕ) → bad_at is_good (Share bad of) k ≡ mask
-        → loses (Share bad of) is_good k ≡ result }
+    ensures lost { (is_good : ℕ → Bool) (k : ℕ) → bad_at is_good (Share bad of) k ≡ mask → loses (Share bad of) is_good k ≡ result }
     ensures newest { 1 ≤ of → (is_good : ℕ → Bool) (k : ℕ) → 1 ≤ k
         → bit_at (bad_at is_good (Share bad of) k) 0 ≡ (if is_good k then 0 else 1) }
 {

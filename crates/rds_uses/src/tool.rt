@@ -7,7 +7,7 @@ ghost use Rattle.rds_sync.specs.Totals.{totals_of};
 ghost use Rattle.rds_tool.specs.Listing.{report_text, scan_text};
 ghost use Rattle.rds_tool.specs.Outcome.{IsOutside, WritesPrefix, result_of_job, Writes};
 ghost use Rattle.rds_tool.specs.Tasks.{task_of};
-ghost use Rattle.rds_tool.specs.declared.error.ToolError.TheVariants.{BurstRange, NoWorker, Read, TooManyTurns, Write};
+ghost use Rattle.rds_tool.specs.declared.error.ToolError.TheVariants.{NoWorker, Read, TooManyTurns, Write};
 ghost use Rattle.rds_uses.specs.Jobs.{IsListBy, IsScan, all_bits};
 ghost use Rattle.rds_tool.specs.Ends.{given_by, has_ended, is_flushed, taken_by};
 ghost use Rattle.rds_tool.specs.SoftFollowing.{soft_listed, soft_rows_so_far};
@@ -25,15 +25,14 @@ use rds_crew::Gate;
 use rds_soft::Margin;
 use rds_sync::Rules;
 use rds_tool::{
-    FromRead, Input, Job, Settings, Sink, Source, ToWrite, ToolError, follow, follow_soft, laws,
-    transcribe, transcribe_gated,
+    FromRead, Job, Sink, Source, ToWrite, ToolError, follow, follow_soft, laws, transcribe,
+    transcribe_gated,
 };
 use std::alloc::Global;
 use std::rt::{Stdin, Stdout};
 use std::thread::Threads;
 
-/// The listing of the bytes of a recording: the rows of the items of its locks, and those of their totals, whoever
-/// works and however the recording is cut.
+/// The listing of a recording's bytes: the rows of the items of its locks and of their totals, whatever the workers and the cutting.
 pub fn listing<R: Threads + Sync>(
     rt: &R,
     alloc: Global,
@@ -73,29 +72,8 @@ pub(crate) fn written<R: Threads + Sync>(
     }
 }
 
-/// Settings out of their range are refused as such, and nothing is read.
-pub fn refused_unread<R: Threads + Sync, S: Source, K: Sink>(
-    rt: &R,
-    alloc: Global,
-    reader: &mut S,
-    writer: &mut K,
-    input: Input,
-    settings: Settings,
-) -> Result<(), ToolError>
-    requires reads { S.failed reader.old < 2 ^ 63 }
-    requires writes { K.failed writer.old < 2 ^ 63 }
-    requires burst { 5 < settings.burst }
-    ensures refused { result ≡ Err BurstRange }
-    ensures unread { reader.new ≡ reader.old }
-{
-    transcribe(rt, alloc, reader, writer, &Job::List(input, settings))
-}
-
-/// At any devices, with a gate too: the text that is written is the outcome of the bytes that were read. After success the reader has
-/// answered its end, and the last call was a flush that succeeded. A failed call of either device is answered; 13
-/// comes only if 16,777,216 bytes or more were read; 14 never comes; any other refusal if the job and the bytes call for it.
-/// Settings out of their range are refused before anything is read. Nothing was written after any refusal but that of the
-/// writer, and then a first part of the text.
+/// At any devices and gate: on success the text is the outcome of the bytes that were read to their end, and it was flushed. Each refusal
+/// has its cause, and only that of the writer leaves a beginning of the text.
 pub fn gated_causes<R: Threads + Sync, S: Source, K: Sink, G: Gate + Sync>(
     rt: &R,
     alloc: Global,
@@ -137,8 +115,7 @@ pub fn append_listing<R: Threads + Sync>(
     text: Vec<u8>,
     job: &Job,
 ) -> (Result<(), ToolError>, Vec<u8>)
-    ensures whole { OnOk result.0 ((more : List ℕ)
-        × (result_of_job job.now bytes.now ≡ Ok more) × (result.1.items ≡ text.items ++ more)) }
+    ensures whole { OnOk result.0 ((more : List ℕ) × (result_of_job job.now bytes.now ≡ Ok more) × (result.1.items ≡ text.items ++ more)) }
     ensures part { IsErrOf result.0 Write → (more rest : List ℕ)
         × (result_of_job job.now bytes.now ≡ Ok (more ++ rest)) × (result.1.items ≡ text.items ++ more) }
     ensures none { IfErr result.0 (λ error. error ≢ Write → result.1.items ≡ text.items) }
@@ -158,11 +135,9 @@ pub struct Piped {
     pub answer: Result<(), ToolError>,
 }
 
-/// From standard input to standard output: all that was given makes all that was taken, after the end was answered, and the
-/// last call was a flush that succeeded.
+/// From standard input to standard output: all that was given, to its end, makes all that was taken and flushed.
 pub fn input_to_output<R: Threads + Sync>(rt: &HostRuntime, crew: &R, job: &Job) -> Piped
-    ensures text { OnOk result.answer
-        (result_of_job job.now (given_by result.reader) ≡ Ok (taken_by result.writer)) }
+    ensures text { OnOk result.answer (result_of_job job.now (given_by result.reader) ≡ Ok (taken_by result.writer)) }
     ensures end { OnOk result.answer (has_ended result.reader ≡ true) }
     ensures flushed { OnOk result.answer (is_flushed result.writer ≡ true) }
 {
@@ -176,8 +151,7 @@ pub fn input_to_output<R: Threads + Sync>(rt: &HostRuntime, crew: &R, job: &Job)
     }
 }
 
-/// A stream at any devices: the text that is written is the listing of the bytes that were read, up to the
-/// end or the last bit that counts, by any number of workers. If a read fails, the rows of all bytes before it were taken and flushed.
+/// A stream at any devices gives the listing of the bytes that were read. If a read fails, the rows of all bytes before it were flushed.
 pub fn heard_live<R: Threads + Sync, S: Source, K: Sink>(
     rt: &R,
     alloc: Global,
@@ -203,8 +177,7 @@ pub fn heard_live<R: Threads + Sync, S: Source, K: Sink>(
     follow(rt, alloc, reader, writer, rules, bits, &[], workers)
 }
 
-/// A stream of symbols at any devices: the text that is written is the soft listing of the symbols that were read. If a read fails, the
-/// rows of all symbols before it were taken and flushed.
+/// The same of a stream of symbols, and its soft listing.
 pub fn symbols_heard_live<S: Source, K: Sink>(
     alloc: Global,
     reader: &mut S,
@@ -246,8 +219,7 @@ pub fn listed_alike<R: Threads + Sync>(
     Some((first, second))
 }
 
-/// A list that was written has a row of eight fields for each item, in order and within its recording, and twelve totals. That of a
-/// stream's bytes begins with the rows that following it has written after any of them.
+/// A list is well-formed. It begins with the rows that following any beginning of its bytes writes.
 pub fn well_formed<R: Threads + Sync>(
     rt: &R,
     alloc: Global,
