@@ -26,7 +26,7 @@ pub use Rattle.rds_code.specs.declared.reading.Wanted.{Wanted}
 pub use Rattle.rds_code.specs.declared.reading.Wanted.TheVariants.{Either, OnlyC, OnlyCx}
 pub use Rattle.rds_live.proofs.Following.{at-most-more as hard-at-most-more, last-ones, lawful-back, still-items, still-state}
 pub use Rattle.rds_live.proofs.GapParts.{TouchAlike, found-of-part, part-touched, start-touched}
-pub use Rattle.rds_live.proofs.ItemPlaces.{due-soon, end-early, run-early}
+pub use Rattle.rds_live.proofs.ItemPlaces.{group-soon, run-early}
 pub use Rattle.rds_live.proofs.Pieces.{back-on}
 pub use Rattle.rds_live.specs.Moving.{EndsMove, IsPartHeard, RunsMove, most_behind, moved_item, moved_items, moved_state}
 pub use Rattle.rds_live.specs.Next.{moved_back}
