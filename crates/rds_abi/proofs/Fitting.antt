@@ -1,8 +1,6 @@
 -- Bytes that are taken piece by piece, as many as have room.
-use Rattle.rds_abi.proofs.Shared.{common_steps, ◌≡◌, ◌+◌, ◌-◌, ◌*◌, ◌/◌, ◌^◌, ◌<◌, ◌≤◌, ◌++◌, ◌⊎◌, ◌∙◌, ℕ, List, ap, append_assoc, arith, drop, inr, length, map, max, refl, subst, take, append-nil, drop_all, drop-drop, drop-take, length-append, length-map, length-take, map-append, take-append-drop, take-take, take_all, RunsGiveFewItems, IsInRange, run, Item, IsStreamDecoder, LiveOf, Terms, moved_item, PiecesJoin, before_tail, completed, live_next, moved_back, part_with, run_next, IsFilled, IsTooMuch, IsLeft, IsMostTaken, RefusesStream, place_after, stream_of, RdsStream, Refusal, SmallRoom, TooLong, item_in_c, RdsItem}
+use Rattle.rds_abi.proofs.Shared.{◌≡◌, ◌+◌, ◌-◌, ◌*◌, ◌/◌, ◌<◌, ◌≤◌, ◌++◌, ◌∙◌, common_steps, ℕ, List, ap, append_assoc, arith, drop, inr, length, map, max, refl, subst, take, append-nil, drop_all, drop-drop, drop-take, length-append, length-map, length-take, map-append, take-append-drop, take-take, take_all, RunsGiveFewItems, IsInRange, run, Item, IsStreamDecoder, LiveOf, Terms, moved_item, PiecesJoin, before_tail, completed, live_next, moved_back, part_with, run_next, IsFilled, IsMostTaken, stream_of, RdsStream, Refusal, SmallRoom, item_in_c, RdsItem, RefusesOn, length-drop, drop-append_seam, take-append_seam}
 use borrow.Rule.Slice.PartMut.{put_mid}
-use Rattle.std.proofs.lemmas.List.{length-drop}
-use Rattle.std.proofs.Math.Seq.{drop-append_seam, take-append_seam}
 
 -- a byte completes at most sixteen items
 pub few-completed : RunsGiveFewItems → (live : LiveOf) (bytes : List ℕ) → length (completed live bytes) ≤ 16 * length bytes
@@ -73,7 +71,5 @@ filled-piece first more both filled old room part joined count fits one two = gr
 
 -- room for sixteen items is never too little
 pub roomy : RunsGiveFewItems → (terms : Terms) (s : RdsStream) (bytes : List ℕ) (room count : ℕ) (r : Refusal) (Same : Type 0)
-    → (IsLeft terms s × (place_after s bytes ≤ 2 ^ 36) × IsTooMuch (map item_in_c (completed (stream_of terms s) (take 1 bytes))) room r count)
-    ⊎ ((RefusesStream terms s r ⊎ (IsLeft terms s × (2 ^ 36 < place_after s bytes) × (r ≡ TooLong))) × Same)
-    → r ≡ SmallRoom → room < 16
+    → RefusesOn terms s bytes (take 1 bytes) room count Same r → r ≡ SmallRoom → room < 16
 roomy law terms s bytes room count r Same refused is = grind (arith, common_steps, length-map, few-completed law (stream_of terms s) (take 1 bytes), length-take)

@@ -1,7 +1,6 @@
 -- Gaps as C has them, and as a recording does.
-use Rattle.rds_abi.proofs.Shared.{common_steps, ◌≡◌, ◌∙◌, ℕ, zero, suc, ◌+◌, ◌-◌, ◌<◌, ◌≤◌, List, [], ◌∷◌, true, false, Option, None, ap, arith, drop, get_or, leb, leb-true, length, ltb, refl, sym, take, All, AllAdjacentBelow, filter_map, le-ltb, ltb-false, get_or-drop, get_or-map, get_or-take, length-map, length-take, IsNonDecreasingBy-from_all_adjacent, AreGaps, gaps_within, part_of_gap, gap_of, gaps_of, RdsGap}
+use Rattle.rds_abi.proofs.Shared.{common_steps, ◌≡◌, ◌∙◌, ℕ, zero, suc, ◌+◌, ◌-◌, ◌<◌, ◌≤◌, List, [], ◌∷◌, true, false, Option, None, ap, arith, drop, get_or, leb, leb-true, length, ltb, refl, sym, take, All, AllAdjacentBelow, filter_map, le-ltb, ltb-false, get_or-drop, get_or-map, get_or-take, length-map, length-take, IsNonDecreasingBy-from_all_adjacent, AreGaps, gaps_within, part_of_gap, gap_of, gaps_of, RdsGap, length-drop}
 use Rattle.std.specs.List.Sorted.{IsNonDecreasingBy, IsPartitionPoint}
-use Rattle.std.proofs.lemmas.List.{length-drop}
 
 -- those of a part, gap by gap
 pub parts-of-gaps : (d n : ℕ) (gaps : List RdsGap) → filter_map (λ (gap : RdsGap). part_of_gap d n (gap_of gap)) gaps ≡ gaps_within (gaps_of gaps) d n

@@ -1,5 +1,5 @@
 -- A stream by the gaps near the part that is heard, in place of all of them.
-use Rattle.rds_abi.proofs.Shared.{common_steps, ◌≡◌, ◌+◌, ◌-◌, ◌*◌, ◌/◌, ◌^◌, ◌<◌, ◌≤◌, ◌++◌, ◌⊎◌, ℕ, List, arith, length, map, min, sym, take, length-take, gaps_within, HasHeard, LiveOf, Terms, most_kept, NextIsHeard, before_tail, completed, live_next, IsInRange, AreCompleted, IsLeft, IsMostTaken, IsNear, RefusesStream, place_after, stream_in_c, stream_of, unheard, IsTooMuch, item_in_c, RdsStream, Refusal, TooLong}
+use Rattle.rds_abi.proofs.Shared.{common_steps, ◌≡◌, ◌+◌, ◌-◌, ◌*◌, ◌/◌, ◌^◌, ◌≤◌, ◌++◌, ◌⊎◌, ℕ, List, arith, length, min, sym, take, length-take, gaps_within, HasHeard, LiveOf, Terms, most_kept, NextIsHeard, before_tail, completed, live_next, IsInRange, AreCompleted, IsLeft, IsMostTaken, IsNear, RefusesOn, RefusesStream, place_after, stream_in_c, stream_of, unheard, RdsStream, Refusal}
 
 -- terms of the same rules are laid out alike
 same-laid : (one other : LiveOf) → one.terms.rules ≡ other.terms.rules → other ≡ record { terms = other.terms; tail = one.tail; place = one.place; state = one.state; totals = one.totals } → (s : RdsStream)
@@ -79,8 +79,5 @@ module _ (all near : Terms) (s : RdsStream) (bytes : List ℕ) (kept few : ℕ) 
     pushed-most room n most = grind (arith, common_steps, pushed-completed)
 
   pub pushed-refused : (r : Refusal) (room count : ℕ) (Same : Type 0)
-      → (IsLeft near s × (place_after s bytes ≤ 2 ^ 36) × IsTooMuch (map item_in_c (completed (stream_of near s) (take 1 bytes))) room r count)
-      ⊎ ((RefusesStream near s r ⊎ (IsLeft near s × (2 ^ 36 < place_after s bytes) × (r ≡ TooLong))) × Same)
-      → (IsLeft all s × (place_after s bytes ≤ 2 ^ 36) × IsTooMuch (map item_in_c (completed (stream_of all s) (take 1 bytes))) room r count)
-      ⊎ ((RefusesStream all s r ⊎ (IsLeft all s × (2 ^ 36 < place_after s bytes) × (r ≡ TooLong))) × Same)
+      → RefusesOn near s bytes (take 1 bytes) room count Same r → RefusesOn all s bytes (take 1 bytes) room count Same r
   pushed-refused r room count Same refused = grind (arith, common_steps, known, pushed-completed, refused-near all near s (s.place - 8 * kept) (8 * (kept + few)) is)

@@ -1,15 +1,8 @@
 -- What is heard and written of symbols that are pushed.
-use Rattle.rds_abi.proofs.Shared.{common_steps, ◌≡◌, ◌+◌, ◌-◌, ◌*◌, ◌/◌, ◌^◌, ◌<◌, ◌≤◌, ◌++◌, ◌⊎◌, ◌∙◌, ℕ, List, ap, ap₂, arith, drop, length, map, min, refl, subst, sym, take, drop-drop, length-append, length-map, length-take, take-take, take_all, Signal, length_of, RunsGiveFewItems, IsInRange, Item, gaps_within, HasHeard, LiveOf, Terms, complete, most_kept, NextIsHeard, before_tail, completed, live_next, moved_back, part_with, run_next, IsFilled, IsTooMuch, item_in_c, IsFollowed, IsLeft, IsNear, RefusesPush, RefusesStream, place_after, stream_of, RdsGap, RdsItem, RdsRules, RdsStream, Refusal, SmallRoom, TooLong}
-use Rattle.std.specs.Prelude.{ℤ}
-use Rattle.std.proofs.lemmas.List.{drop-append-le, length-drop}
+use Rattle.rds_abi.proofs.Shared.{common_steps, ◌≡◌, ◌+◌, ◌-◌, ◌*◌, ◌/◌, ◌^◌, ◌<◌, ◌≤◌, ◌++◌, ◌⊎◌, ◌∙◌, ℕ, List, ap, ap₂, arith, drop, length, map, min, refl, subst, sym, take, drop-drop, length-append, length-map, length-take, take-take, take_all, Signal, length_of, RunsGiveFewItems, IsInRange, Item, gaps_within, HasHeard, LiveOf, Terms, complete, most_kept, NextIsHeard, before_tail, completed, live_next, moved_back, part_with, run_next, IsFilled, IsFollowed, IsLeft, IsNear, RefusesOn, RefusesPush, place_after, stream_of, RdsGap, RdsItem, RdsRules, RdsStream, Refusal, SmallRoom, ℤ, drop-append-le, length-drop, signal_of, lawful-back, length-signal, soft_item_in_c, HasHeardSoft, IsMargin, IsPushed, IsWrittenAgain, RefusesSoft, again_in, byte_count, bytes_of, piece_of, read_again, symbols_kept}
 use Rattle.rds_sync.specs.Laws.{AcquisitionsAreLate, StepsAreLawful}
 use Rattle.rds_sync.specs.Lawful.{IsLawful}
-use Rattle.rds_live.specs.StreamDecoder.{signal_of}
-use Rattle.rds_live.proofs.Following.{lawful-back}
-use Rattle.rds_live.proofs.Parts.{length-signal}
 use Rattle.rds_live.proofs.Pieces.{back-on}
-use Rattle.rds_abi.specs.Layout.{soft_item_in_c}
-use Rattle.rds_abi.specs.Soft.{HasHeardSoft, IsMargin, IsPushed, IsWrittenAgain, RefusesSoft, again_in, byte_count, bytes_of, piece_of, read_again, symbols_kept}
 use Rattle.rds_abi.specs.declared.layout.RdsSoft.{RdsSoft}
 use Rattle.rds_abi.proofs.Fitting.{few-completed}
 use Rattle.rds_abi.proofs.NearStreams.{are-completed, heard-next, left-near, pushed-after, pushed-completed, refused-near}
@@ -73,11 +66,7 @@ module _ {symbols : List ℤ} {room : ℕ} {all near : Terms} {s : RdsStream} {p
         (pushed-after all near s bytes held (length bytes) is refl most left fits (length bytes) new
         (subst (λ (xs : List ℕ). stream_of near new ≡ live_next (stream_of near s) xs) (sym every) after))
 
-  pub all-refused : (r : Refusal) (space count : ℕ) (Same : Type 0)
-      → (IsLeft near s × (place_after s bytes ≤ 2 ^ 36) × IsTooMuch (map item_in_c (completed (stream_of near s) bytes)) space r count)
-      ⊎ ((RefusesStream near s r ⊎ (IsLeft near s × (2 ^ 36 < place_after s bytes) × (r ≡ TooLong))) × Same)
-      → (IsLeft all s × (place_after s bytes ≤ 2 ^ 36) × IsTooMuch (map item_in_c (completed (stream_of all s) bytes)) space r count)
-      ⊎ ((RefusesStream all s r ⊎ (IsLeft all s × (2 ^ 36 < place_after s bytes) × (r ≡ TooLong))) × Same)
+  pub all-refused : (r : Refusal) (space count : ℕ) (Same : Type 0) → RefusesOn near s bytes bytes space count Same r → RefusesOn all s bytes bytes space count Same r
   all-refused r space count Same refused = grind (arith, common_steps, all-left s, all-completed, refused-near all near s (s.place - 8 * held) (8 * (held + length bytes)) is r)
 
 -- a margin that was looked at first
@@ -186,8 +175,5 @@ module _ (law : NextIsHeard) (all : Terms) (s : RdsSoft) (piece : List ℤ) (byt
 
 -- room for sixteen items is never too little
 pub roomy-soft : RunsGiveFewItems → (terms : Terms) (s : RdsStream) (symbols : List ℤ) (bytes : List ℕ) (room count : ℕ) (r : Refusal) (Same : Type 0)
-    → length bytes ≡ byte_count symbols room
-    → (IsLeft terms s × (place_after s bytes ≤ 2 ^ 36) × IsTooMuch (map item_in_c (completed (stream_of terms s) bytes)) room r count)
-    ⊎ ((RefusesStream terms s r ⊎ (IsLeft terms s × (2 ^ 36 < place_after s bytes) × (r ≡ TooLong))) × Same)
-    → r ≡ SmallRoom → room < 16
+    → length bytes ≡ byte_count symbols room → RefusesOn terms s bytes bytes room count Same r → r ≡ SmallRoom → room < 16
 roomy-soft law terms s symbols bytes room count r Same many refused is = grind (arith, common_steps, length-map, few-completed law (stream_of terms s) bytes)

@@ -1,15 +1,7 @@
 -- A stream of symbols: its bytes, the symbols that are kept, and its items read again.
-use Rattle.rds_abi.proofs.Shared.{common_steps, ◌≡◌, ◌+◌, ◌-◌, ◌*◌, ◌/◌, ◌^◌, ◌<◌, ◌≤◌, ◌++◌, ◌⊎◌, ◌∙◌, ℕ, List, Bool, Option, Some, None, ap, ap₂, append_assoc, arith, drop, get_or, inl, inr, length, sym, take, cases_lt, drop-drop, get_or-take, length-append, length-take, AreGaps, Signal, length_of, gaps_within, part-touched}
+use Rattle.rds_abi.proofs.Shared.{common_steps, ◌≡◌, ◌+◌, ◌-◌, ◌*◌, ◌/◌, ◌^◌, ◌<◌, ◌≤◌, ◌++◌, ◌⊎◌, ◌∙◌, ℕ, List, Bool, Option, Some, None, ap, ap₂, append_assoc, arith, drop, get_or, inl, inr, length, sym, take, cases_lt, drop-drop, get_or-take, length-append, length-take, AreGaps, Signal, length_of, gaps_within, part-touched, list_any, number_from_digits, lt-ltb, drop-append-le, ext_get_or, get_or-append_right, get_or_append_left, length-drop, length-replicate, take-append-le, drop-append-add, take-append-add, take-append_seam, get_or-map-range_with_len, hard_bit, sign, byte_of, bytes_of, symbols_kept}
 use Rattle.std.specs.Prelude.{ℤ, pos, bit_xor, replicate, nat_lt, not, ◌&&◌, if◌then◌else◌}
-use Rattle.std.specs.List.{list_any}
-use Rattle.std.specs.Int.Digits.{number_from_digits}
-use Rattle.std.proofs.lemmas.Bool.{lt-ltb}
-use Rattle.std.proofs.lemmas.List.{drop-append-le, ext_get_or, get_or-append_right, get_or_append_left, length-drop, length-replicate, take-append-le}
-use Rattle.std.proofs.Math.Seq.{drop-append-add, take-append-add, take-append_seam}
-use Rattle.std.proofs.lemmas.List.FromFn.{get_or-map-range_with_len}
 use Rattle.rds_stream.specs.Recording.{is_touched_by, touched}
-use Rattle.rds_soft.specs.Symbols.{hard_bit, sign}
-use Rattle.rds_abi.specs.Soft.{byte_of, bytes_of, symbols_kept}
 use Rattle.rds_abi.proofs.SoftSymbols.{byte_count_of, same-tables}
 use Rattle.rds_soft.proofs.InsideLemmas.{AreSymbolsOf}
 

@@ -1,13 +1,5 @@
 -- Symbols as bytes of bits: of more symbols in a row, and of the symbols that are kept.
-use Rattle.rds_abi.proofs.Shared.{common_steps, ◌≡◌, ◌+◌, ◌-◌, ◌*◌, ◌/◌, ◌%◌, ◌<◌, ◌≤◌, ◌∙◌, ℕ, List, ap, ap₂, arith, get_or, length, map, sym, take, get_or-take, length-take, packed_bit}
-use Rattle.std.specs.Prelude.{ℤ}
-use Rattle.std.specs.List.{range_with_len}
-use Rattle.std.specs.Int.{bit_at}
-use Rattle.std.specs.Int.Digits.{number_from_digits}
-use Rattle.std.proofs.lemmas.List.{ext_get_or}
-use Rattle.std.proofs.lemmas.List.FromFn.{get_or-map-range_with_len, length-map-range_with_len}
-use Rattle.rds_soft.specs.Symbols.{hard_bit}
-use Rattle.rds_abi.specs.Soft.{byte_of, bytes_of}
+use Rattle.rds_abi.proofs.Shared.{common_steps, ◌≡◌, ◌+◌, ◌-◌, ◌*◌, ◌/◌, ◌%◌, ◌<◌, ◌≤◌, ◌∙◌, ℕ, List, ap, ap₂, arith, get_or, length, map, sym, take, get_or-take, length-take, packed_bit, ℤ, range_with_len, bit_at, number_from_digits, ext_get_or, get_or-map-range_with_len, length-map-range_with_len, hard_bit, byte_of, bytes_of}
 
 -- two tables that say the same
 pub same-tables : (f g : ℕ → ℕ) (a c n : ℕ) → ((j : ℕ) → j < n → f (a + j) ≡ g (c + j)) → map f (range_with_len a n) ≡ map g (range_with_len c n)

@@ -115,3 +115,7 @@ IsFilled items old new = new ≡ items ++ drop (length items) old
 -- the room is too small for the items, and count is their number
 abbrev pub IsTooMuch : List RdsItem → ℕ → Refusal → ℕ → Type 0
 IsTooMuch items room refusal count = (refusal ≡ SmallRoom) × (room < length items) × (count ≡ length items)
+
+-- the room is too small for the items asked for, and `new` is their number, or the call is refused and the count is as before
+abbrev pub RefusesItems : Asked → ℕ → ℕ → ℕ → Refusal → Type 0
+RefusesItems a room old new refusal = (IsLawful a × IsTooMuch (items_asked a) room refusal new) ⊎ (Refuses a refusal × (new ≡ old))

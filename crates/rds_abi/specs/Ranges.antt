@@ -10,9 +10,10 @@ use Rattle.rds_sync.specs.declared.loss.Loss.{Loss}
 use Rattle.rds_sync.specs.declared.loss.Loss.TheVariants.{Run, Share}
 use Rattle.rds_sync.specs.declared.state.State.{State}
 use Rattle.rds_sync.specs.declared.state.State.TheVariants.{Locked, Searching}
-use Rattle.rds_abi.specs.Asked.{Asked, IsLawful, Refuses, recording_of, rules_of}
+use Rattle.rds_abi.specs.Asked.{Asked, IsLawful, IsTooMuch, Refuses, recording_of, rules_of}
 use Rattle.rds_abi.specs.Layout.{item_in_c}
 use Rattle.rds_abi.specs.declared.layout.RdsState.{RdsState}
+use Rattle.rds_abi.specs.declared.ranges.Start.{Start}
 use Rattle.rds_abi.specs.declared.layout.RdsItem.{RdsItem}
 use Rattle.rds_abi.specs.declared.refusal.Refusal.{Refusal}
 use Rattle.rds_abi.specs.declared.refusal.Refusal.TheVariants.{PlaceRange, UnlawfulState}
@@ -78,9 +79,21 @@ abbrev pub run_in_part : Signal → RuleNumbers → State → ℕ → ℕ → �
 run_in_part part rules s before from to =
     let there = run part rules s (from - before) (to - before - (from - before)) in (moved_state before there.0, moved_items before there.1)
 
+abbrev pub run_from : Start → ℕ × ℕ → State × List Item
+run_from start range = run_in_part start.part.recording start.rules start.state start.part.before range.0 range.1
+
 abbrev pub items_of_run : Asked → ℕ → ℕ → RdsState → List RdsItem
 items_of_run a from to s = map item_in_c (run_asked a from to s).1
 
 -- the group in progress at the recording's end, if there is one
 abbrev pub items_at_end : Asked → RdsState → List RdsItem
 items_at_end a s = map item_in_c (items_of_end (recording_of a.bytes a.bits a.gaps) (rules_of a.rules) (state_of s))
+
+-- the room is too small for the items of a run, and for the group in progress, and `new` is their number, or the call is refused
+abbrev pub RefusesItemsOfRun : Asked → ℕ → ℕ → RdsState → ℕ → ℕ → ℕ → Refusal → Type 0
+RefusesItemsOfRun a from to s room old new refusal =
+    (IsRun a from to s × IsTooMuch (items_of_run a from to s) room refusal new) ⊎ (RefusesRun a from to s refusal × (new ≡ old))
+
+abbrev pub RefusesItemsAtEnd : Asked → RdsState → ℕ → ℕ → ℕ → Refusal → Type 0
+RefusesItemsAtEnd a s room old new refusal =
+    (IsRun a a.bits a.bits s × IsTooMuch (items_at_end a s) room refusal new) ⊎ (RefusesRun a a.bits a.bits s refusal × (new ≡ old))

@@ -13,9 +13,9 @@ use Rattle.rds_soft.specs.declared.soft_item.SoftItem.{SoftItem}
 use Rattle.rds_soft.specs.declared.soft_item.SoftItem.TheVariants.{Acquired as SoftAcquired, Group as InSoft, LostLock as SoftLostLock}
 use Rattle.rds_soft.specs.Symbols.{hard_bit}
 use Rattle.rds_soft.specs.ReadAgain.{group_again, item_again}
-use Rattle.rds_abi.specs.Asked.{IsFilled}
-use Rattle.rds_abi.specs.Stream.{IsFollowed, RefusesPush, place_after, stream_of}
-use Rattle.rds_abi.specs.Layout.{soft_item_in_c}
+use Rattle.rds_abi.specs.Asked.{IsFilled, IsTooMuch}
+use Rattle.rds_abi.specs.Stream.{IsFollowed, RefusesPush, items_after, place_after, stream_of, terms_of}
+use Rattle.rds_abi.specs.Layout.{item_in_c, soft_item_in_c}
 use Rattle.rds_abi.specs.declared.layout.RdsGap.{RdsGap}
 use Rattle.rds_abi.specs.declared.layout.RdsItem.{RdsItem}
 use Rattle.rds_abi.specs.declared.layout.RdsRules.{RdsRules}
@@ -49,6 +49,15 @@ byte_count symbols room = min ((length symbols - 1) / 8) (max 1 (min 960 (room /
 -- the symbols of these bytes, and the symbol after them
 abbrev pub piece_of : List ℤ → ℕ → List ℤ
 piece_of symbols room = take (8 * byte_count symbols room + 1) symbols
+
+-- and their bytes
+abbrev pub bytes_taken : List ℤ → ℕ → List ℕ
+bytes_taken symbols room = bytes_of (piece_of symbols room)
+
+-- after the symbols taken the numbers are those of a stream that heard them after what it had heard
+abbrev pub HearsOnSoft : Terms → RdsSoft → RdsSoft → List ℤ → ℕ → Type 0
+HearsOnSoft terms old new symbols taken = (before : List ℤ) → 0 < length symbols
+    → HasHeardSoft terms old (before ++ take 1 symbols) → HasHeardSoft terms new (before ++ take (taken + 1) symbols)
 
 -- ---- items
 
@@ -101,3 +110,10 @@ pub record IsPushed (rules : RdsRules) (gaps : List RdsGap) (margin : ℕ) (s : 
 abbrev pub RefusesSoft : RdsRules → List RdsGap → ℕ → RdsSoft → List ℕ → Refusal → Type 0
 RefusesSoft rules gaps margin s bytes refusal =
     RefusesMargin margin refusal ⊎ (IsMargin margin × RefusesPush rules gaps s.stream bytes refusal)
+
+-- the items of the symbols that would be taken have no room, and `new` is their number, or the call is refused
+abbrev pub RefusesTakenSoft : RdsRules → List RdsGap → ℕ → RdsSoft → List ℤ → ℕ → ℕ → ℕ → Refusal → Type 0
+RefusesTakenSoft rules gaps margin s symbols room old new refusal =
+    (IsPushed rules gaps margin s (bytes_taken symbols room)
+    × IsTooMuch (map item_in_c (items_after (terms_of rules gaps) s.stream (bytes_taken symbols room))) room refusal new)
+    ⊎ (RefusesSoft rules gaps margin s (bytes_taken symbols room) refusal × (new ≡ old))

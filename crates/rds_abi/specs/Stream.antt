@@ -8,7 +8,7 @@ use Rattle.rds_sync.specs.declared.item.Item.{Item}
 use Rattle.rds_sync.specs.declared.totals.Totals.{Totals}
 use Rattle.rds_live.specs.Gaps.{gaps_within}
 use Rattle.rds_live.specs.StreamDecoder.{HasHeard, IsStreamDecoder, LiveOf, Terms, complete, most_kept, report_at, report_of}
-use Rattle.rds_live.specs.Next.{completed}
+use Rattle.rds_live.specs.Next.{completed, live_next}
 use Rattle.rds_abi.specs.Asked.{AreGiven, IsFilled, IsTooMuch, RefusesGiven, gaps_of, rules_of}
 use Rattle.rds_abi.specs.Ranges.{loss_in_c, searching_in_c, state_in_c, state_of}
 use Rattle.rds_abi.specs.Layout.{item_in_c, totals_in_c}
@@ -97,6 +97,22 @@ pub record IsLeft (terms : Terms) (s : RdsStream) : Type 0 where
   pub live : IsStreamDecoder (stream_of terms s)
   pub laid : (s ≡ unheard) ⊎ (s ≡ stream_in_c (stream_of terms s))
 
+-- the numbers are those that a call writes of the stream
+abbrev pub IsLaid : Terms → RdsStream → Type 0
+IsLaid terms s = s ≡ stream_in_c (stream_of terms s)
+
+-- the numbers before and after these bytes: of what was heard, and of any stream
+abbrev pub HearsOn : Terms → RdsStream → RdsStream → List ℕ → Type 0
+HearsOn terms old new bytes =
+    (before : List ℕ) → HasHeard (stream_of terms old) before → HasHeard (stream_of terms new) (before ++ bytes)
+
+abbrev pub GoesOn : Terms → RdsStream → RdsStream → List ℕ → Type 0
+GoesOn terms old new bytes = stream_of terms new ≡ live_next (stream_of terms old) bytes
+
+-- the items that the decoder completes with these bytes
+abbrev pub items_after : Terms → RdsStream → List ℕ → List Item
+items_after terms s bytes = completed (stream_of terms s) bytes
+
 -- the same rules, and gaps by which the same is heard in the places from `before` on, up to `len` of them
 pub record IsNear (all near : Terms) (before len : ℕ) : Type 0 where
   pub rules : near.rules ≡ all.rules
@@ -142,6 +158,19 @@ abbrev pub RefusesPush : RdsRules → List RdsGap → RdsStream → List ℕ →
 RefusesPush rules gaps s bytes refusal =
     RefusesFollowed rules gaps s refusal
     ⊎ (IsFollowed rules gaps s × (2 ^ 36 < place_after s bytes) × (refusal ≡ TooLong))
+
+-- the same by terms that are given. Or else these bytes are those of items that have no room, of which there are `count`
+abbrev pub RefusesOn : Terms → RdsStream → List ℕ → List ℕ → ℕ → ℕ → Type 0 → Refusal → Type 0
+RefusesOn terms s bytes first room count Same refusal =
+    (IsLeft terms s × (place_after s bytes ≤ 2 ^ 36) × IsTooMuch (map item_in_c (items_after terms s first)) room refusal count)
+    ⊎ ((RefusesStream terms s refusal ⊎ (IsLeft terms s × (2 ^ 36 < place_after s bytes) × (refusal ≡ TooLong))) × Same)
+
+-- the items of the first byte have no room, and `new` is how many they are, or the count is as before
+abbrev pub RefusesTaken : RdsRules → List RdsGap → RdsStream → List ℕ → ℕ → ℕ → ℕ → Refusal → Type 0
+RefusesTaken rules gaps s bytes room old new refusal =
+    (IsFollowed rules gaps s × (place_after s bytes ≤ 2 ^ 36)
+    × IsTooMuch (map item_in_c (items_after (terms_of rules gaps) s (take 1 bytes))) room refusal new)
+    ⊎ (RefusesPush rules gaps s bytes refusal × (new ≡ old))
 
 -- the last bits of a stream: how long it grows, and then what the bytes hold
 module _ (s : RdsStream) (bytes : List ℕ) (bits : ℕ) where
@@ -194,3 +223,24 @@ AreWritten wanted old new count =
 -- there are more of them than there is room for, and count is their number
 abbrev pub AreTooMany : (List Item → Type 0) → ℕ → Refusal → ℕ → Type 0
 AreTooMany wanted room refusal count = (items : List Item) × wanted items × IsTooMuch (map item_in_c items) room refusal count
+
+-- the group that the stream's end closes has no room, or the stream is refused
+abbrev pub RefusesClosed : RdsRules → List RdsGap → RdsStream → ℕ → ℕ → ℕ → Refusal → Type 0
+RefusesClosed rules gaps s room old new refusal =
+    (IsFollowed rules gaps s × AreTooMany (AreClosed (terms_of rules gaps) s) room refusal new)
+    ⊎ (RefusesFollowed rules gaps s refusal × (new ≡ old))
+
+-- the items up to an end after these bits have no room, or the stream or the bits are refused
+abbrev pub RefusesLeft : RdsRules → List RdsGap → RdsStream → List ℕ → ℕ → ℕ → ℕ → ℕ → Refusal → Type 0
+RefusesLeft rules gaps s bytes bits room old new refusal =
+    (IsFollowed rules gaps s × AreLast s bytes bits × AreTooMany (AreLeft (terms_of rules gaps) s bytes bits) room refusal new)
+    ⊎ (RefusesEnd rules gaps s bytes bits refusal × (new ≡ old))
+
+-- the totals of the report of all that was heard, and of these bits after it
+abbrev pub AreTotals : Terms → RdsStream → RdsTotals → Type 0
+AreTotals terms s totals =
+    (bytes : List ℕ) → HasHeard (stream_of terms s) bytes → totals ≡ totals_in_c (totals_of (report_of terms bytes))
+
+abbrev pub AreTotalsAt : Terms → RdsStream → List ℕ → ℕ → RdsTotals → Type 0
+AreTotalsAt terms s bytes bits totals = (before : List ℕ) → HasHeard (stream_of terms s) before
+    → totals ≡ totals_in_c (totals_of (report_at terms (before ++ bytes) (8 * length before + bits)))

@@ -121,8 +121,7 @@ fn are_within(gaps: &[RdsGap], bits: u64) -> bool
 
 /// Whether each begins at or after the end of the one before it.
 fn are_apart(gaps: &[RdsGap]) -> bool
-    ensures { (result ≡ true)
-        ↔ AllAdjacentBelow (λ gap next. gap.end ≤ next.begin) gaps.now (length gaps.now) }
+    ensures { (result ≡ true) ↔ AllAdjacentBelow (λ gap next. gap.end ≤ next.begin) gaps.now (length gaps.now) }
 {
     gaps.is_sorted_by(|gap, next| gap.end <= next.begin)
 }
@@ -144,8 +143,7 @@ pub(crate) fn refuse_recording(bytes: &[u8], bits: u64, gaps: &[RdsGap]) -> Resu
 /// Refuses gaps that a recording of `bits` bits may not have.
 pub(crate) fn refuse_gaps(gaps: &[RdsGap], bits: u64) -> Result<(), Refusal>
     ensures lawful { OnOk result (AreGaps bits (gaps_of gaps.now)) }
-    ensures refused { IfErr result
-        (λ refusal. (refusal ≡ BadGaps) × (AreGaps bits (gaps_of gaps.now) → ⊥)) }
+    ensures refused { IfErr result (λ refusal. (refusal ≡ BadGaps) × (AreGaps bits (gaps_of gaps.now) → ⊥)) }
 {
     if !are_gaps(gaps, bits) {
         return Err(Refusal::BadGaps);

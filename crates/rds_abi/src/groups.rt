@@ -16,8 +16,7 @@ use rds_code::encode_group;
 pub fn encode(groups: &[RdsWords], room: &mut [RdsPacked]) -> Result<(), Refusal>
     ensures packed { OnOk result (room.new ≡ map the_packed groups.now ++ drop (length groups.now) room.old) }
     ensures lawful { OnOk result (length groups.now ≤ length room.old) }
-    ensures refused { IfErr result
-        (λ refusal. (refusal ≡ SmallRoom) × (length room.old < length groups.now)) }
+    ensures refused { IfErr result (λ refusal. (refusal ≡ SmallRoom) × (length room.old < length groups.now)) }
     ensures untouched { OnErr result (room.new ≡ room.old) }
 {
     if room.len() < groups.len() {

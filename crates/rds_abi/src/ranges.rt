@@ -11,7 +11,7 @@ ghost use Rattle.rds_live.specs.Moving.{IsPartHeard, moved_item, moved_items, mo
 ghost use Rattle.rds_live.specs.Places.{is_due_below, place_of};
 ghost use Rattle.rds_abi.specs.Asked.{IsFilled, IsTooMuch, asked, recording_of as the_recording_of, rules_of as the_rules_of};
 ghost use Rattle.rds_abi.specs.declared.refusal.Refusal.TheVariants.{OutOfMemory, PlaceRange, SmallRoom, UnlawfulState};
-ghost use Rattle.rds_abi.specs.Ranges.{IsLeftState, IsRun, RefusesRun, items_at_end, items_of_run, loss_in_c as the_loss_in_c, run_asked, run_in_part, searching_in_c, state_in_c as the_state_in_c, state_of as the_state_of};
+ghost use Rattle.rds_abi.specs.Ranges.{IsLeftState, IsRun, RefusesItemsAtEnd, RefusesItemsOfRun, RefusesRun, items_at_end, items_of_run, loss_in_c as the_loss_in_c, run_asked, run_from, searching_in_c, state_in_c as the_state_in_c, state_of as the_state_of};
 ghost use Rattle.rds_abi.specs.Layout.{item_in_c};
 
 use crate::asked::{refuse_recording, rules_of};
@@ -121,8 +121,7 @@ fn state_at(rules: &Rules, bits: u64, range: (u64, u64), s: RdsState) -> Result<
     ensures left { IfOk result (λ _. IsLeftState rules.now range.0 s) }
     ensures order { IfOk result (λ _. range.0 ≤ range.1) }
     ensures within { IfOk result (λ _. range.1 ≤ bits) }
-    ensures refused { IfErr result (λ refusal.
-        ((refusal ≡ PlaceRange) × ((range.1 < range.0) ⊎ (bits < range.1)))
+    ensures refused { IfErr result (λ refusal. ((refusal ≡ PlaceRange) × ((range.1 < range.0) ⊎ (bits < range.1)))
         ⊎ ((refusal ≡ UnlawfulState) × (range.0 ≤ range.1) × (range.1 ≤ bits)
         × (IsLeftState rules.now range.0 s → ⊥))) }
 {
@@ -158,11 +157,9 @@ fn start_of(
     ensures begins { IfOk result (λ start. start.part.before ≤ range.0) }
     ensures len { IfOk result (λ start. length_of start.part.recording ≡ range.1 - start.part.before) }
     ensures heard { IfOk result (λ start. (place : ℕ) → range.0 - start.part.before ≤ place
-        → IsPartHeard (the_recording_of bytes.now bits gaps.now)
-        start.part.recording start.part.before place) }
+        → IsPartHeard (the_recording_of bytes.now bits gaps.now) start.part.recording start.part.before place) }
     ensures state { IfOk result (λ start. moved_state start.part.before start.state ≡ the_state_of state) }
-    ensures begin { IfOk result
-        (λ start. IsLawfulState start.rules (range.0 - start.part.before) start.state) }
+    ensures begin { IfOk result (λ start. IsLawfulState start.rules (range.0 - start.part.before) start.state) }
     ensures lawful { IfOk result (λ _. IsRun (asked bytes.now bits gaps.now rules) range.0 range.1 state) }
     ensures refused { IfErr result (RefusesRun (asked bytes.now bits gaps.now rules) range.0 range.1 state) }
 {
@@ -193,25 +190,18 @@ pub fn run(
     count: &mut u64,
 ) -> Result<(), Refusal>
     ensures filled { OnOk result
-        (IsFilled (items_of_run (asked bytes.now bits gaps.now rules) range.0 range.1 state.old)
-        room.old room.new) }
+        (IsFilled (items_of_run (asked bytes.now bits gaps.now rules) range.0 range.1 state.old) room.old room.new) }
     ensures count { OnOk result
         (count.new ≡ length (items_of_run (asked bytes.now bits gaps.now rules) range.0 range.1 state.old)) }
     ensures state { OnOk result (the_state_of state.new
         ≡ (run_asked (asked bytes.now bits gaps.now rules) range.0 range.1 state.old).0) }
-    ensures laid { OnOk result
-        (state.new
-        ≡ the_state_in_c (the_rules_of rules)
-        (run_asked (asked bytes.now bits gaps.now rules) range.0 range.1 state.old).0) }
+    ensures laid { OnOk result (state.new
+        ≡ the_state_in_c (the_rules_of rules) (run_asked (asked bytes.now bits gaps.now rules) range.0 range.1 state.old).0) }
     ensures next { OnOk result (IsLeftState (the_rules_of rules) range.1 state.new) }
     ensures lawful { OnOk result (IsRun (asked bytes.now bits gaps.now rules) range.0 range.1 state.old) }
     ensures untouched { OnErr result ((room.new ≡ room.old) × (state.new ≡ state.old)) }
-    ensures refused { IfErr result (λ refusal.
-        (IsRun (asked bytes.now bits gaps.now rules) range.0 range.1 state.old
-        × IsTooMuch (items_of_run (asked bytes.now bits gaps.now rules) range.0 range.1 state.old)
-        (length room.old) refusal count.new)
-        ⊎ (RefusesRun (asked bytes.now bits gaps.now rules) range.0 range.1 state.old refusal
-        × (count.new ≡ count.old))) }
+    ensures refused { IfErr result (RefusesItemsOfRun (asked bytes.now bits gaps.now rules) range.0 range.1 state.old
+        (length room.old) count.old count.new) }
 {
     let start = start_of(alloc, bytes, bits, gaps, rules, range, *state)?;
     runs_move();
@@ -232,31 +222,14 @@ fn go_on(
     requires limit { range.1 ≤ 2 ^ 36 }
     requires len { length_of start.now.part.recording ≡ range.1 - start.now.part.before }
     requires begin { IsLawfulState start.now.rules (range.0 - start.now.part.before) start.now.state }
-    ensures filled { OnOk result
-        (IsFilled
-        (map item_in_c
-        (run_in_part start.now.part.recording start.now.rules start.now.state start.now.part.before
-        range.0 range.1).1) room.old room.new) }
-    ensures count { OnOk result
-        (count.new
-        ≡ length (run_in_part start.now.part.recording start.now.rules start.now.state
-        start.now.part.before range.0 range.1).1) }
-    ensures laid { OnOk result
-        (state.new
-        ≡ the_state_in_c start.now.rules
-        (run_in_part start.now.part.recording start.now.rules start.now.state start.now.part.before
-        range.0 range.1).0) }
-    ensures state { OnOk result
-        (the_state_of state.new
-        ≡ (run_in_part start.now.part.recording start.now.rules start.now.state start.now.part.before
-        range.0 range.1).0) }
+    ensures filled { OnOk result (IsFilled (map item_in_c (run_from start.now range).1) room.old room.new) }
+    ensures count { OnOk result (count.new ≡ length (run_from start.now range).1) }
+    ensures laid { OnOk result (state.new ≡ the_state_in_c start.now.rules (run_from start.now range).0) }
+    ensures state { OnOk result (the_state_of state.new ≡ (run_from start.now range).0) }
     ensures next { OnOk result (IsLeftState start.now.rules range.1 state.new) }
     ensures untouched { OnErr result ((room.new ≡ room.old) × (state.new ≡ state.old)) }
     ensures refused { IfErr result (λ refusal.
-        IsTooMuch
-        (map item_in_c
-        (run_in_part start.now.part.recording start.now.rules start.now.state start.now.part.before
-        range.0 range.1).1) (length room.old) refusal count.new
+        IsTooMuch (map item_in_c (run_from start.now range).1) (length room.old) refusal count.new
         ⊎ ((refusal ≡ OutOfMemory) × (count.new ≡ count.old))) }
 {
     let before = start.part.before;
@@ -290,11 +263,9 @@ fn count_items(alloc: Global, start: &Start, from: u64, to: u64) -> Result<(Stat
     requires lawful { IsLawfulState start.now.rules from start.now.state }
     requires order { from ≤ to }
     requires within { to ≤ length_of start.now.part.recording }
-    ensures state { IfOk result
-        (λ end. end.0
+    ensures state { IfOk result (λ end. end.0
         ≡ (the_run start.now.part.recording start.now.rules start.now.state from (to - from)).0) }
-    ensures count { IfOk result
-        (λ end. end.1
+    ensures count { IfOk result (λ end. end.1
         ≡ length (the_run start.now.part.recording start.now.rules start.now.state from (to - from)).1) }
     ensures lawful { IfOk result (λ end. IsLawfulState start.now.rules to end.0) }
     ensures refused { IsOkUnless result OutOfMemory }
@@ -302,15 +273,8 @@ fn count_items(alloc: Global, start: &Start, from: u64, to: u64) -> Result<(Stat
     let recording = &start.part.recording;
     laws::runs_give_few_items();
     prove!(to <= recording.len());
-    match run_report(
-        alloc,
-        recording,
-        &start.rules,
-        start.state,
-        from,
-        to,
-        Spans::Whole,
-    ) {
+    let rules = &start.rules;
+    match run_report(alloc, recording, rules, start.state, from, to, Spans::Whole) {
         Ok((end, report)) => Ok((end, report.items.len())),
         Err(_) => Err(Refusal::OutOfMemory),
     }
@@ -378,18 +342,12 @@ pub fn finish_run(
     room: &mut [RdsItem],
     count: &mut u64,
 ) -> Result<(), Refusal>
-    ensures filled { OnOk result
-        (IsFilled (items_at_end (asked bytes.now bits gaps.now rules) state) room.old room.new) }
-    ensures count { OnOk result
-        (count.new ≡ length (items_at_end (asked bytes.now bits gaps.now rules) state)) }
+    ensures filled { OnOk result (IsFilled (items_at_end (asked bytes.now bits gaps.now rules) state) room.old room.new) }
+    ensures count { OnOk result (count.new ≡ length (items_at_end (asked bytes.now bits gaps.now rules) state)) }
     ensures lawful { OnOk result (IsRun (asked bytes.now bits gaps.now rules) bits bits state) }
     ensures untouched { OnErr result (room.new ≡ room.old) }
-    ensures refused { IfErr result (λ refusal.
-        (IsRun (asked bytes.now bits gaps.now rules) bits bits state
-        × IsTooMuch (items_at_end (asked bytes.now bits gaps.now rules) state) (length room.old)
-        refusal count.new)
-        ⊎ (RefusesRun (asked bytes.now bits gaps.now rules) bits bits state refusal
-        × (count.new ≡ count.old))) }
+    ensures refused { IfErr result
+        (RefusesItemsAtEnd (asked bytes.now bits gaps.now rules) state (length room.old) count.old count.new) }
 {
     let start = start_of(alloc, bytes, bits, gaps, rules, (bits, bits), state)?;
     ends_move();
@@ -401,8 +359,7 @@ pub fn finish_run(
 fn end_of(start: &Start) -> Option<Group>
     requires begin { IsLawfulState start.now.rules (length_of start.now.part.recording) start.now.state }
     requires limit { start.now.part.before ≤ 2 ^ 36 }
-    ensures { group_item result
-        ≡ moved_items start.now.part.before
+    ensures { group_item result ≡ moved_items start.now.part.before
         (items_of_end start.now.part.recording start.now.rules start.now.state) }
 {
     let tape = &mut Counted::new(&start.part.recording);

@@ -1,6 +1,6 @@
 //! A stream of symbols, whose bits are followed, and whose groups are read again from the symbols.
 
-ghost use Rattle.std.specs.Prelude.{◌≡◌, ◌++◌, ◌<◌, ◌≤◌, ◌⊎◌, ◌+◌, ◌-◌, ◌*◌, ◌/◌, ◌^◌, ℕ, ℤ, List, IfErr, IfOk, OnErr, OnOk, drop, length, map, min, take};
+ghost use Rattle.std.specs.Prelude.{◌≡◌, ◌++◌, ◌<◌, ◌≤◌, ◌+◌, ◌-◌, ◌*◌, ◌/◌, ◌^◌, ℕ, IfErr, IfOk, OnErr, OnOk, drop, length, map, min, take};
 ghost use Rattle.rds_stream.specs.Recording.{AreGaps, length_of, packed_bit};
 ghost use Rattle.rds_live.specs.Gaps.{gaps_within as the_gaps_within};
 ghost use Rattle.rds_live.specs.StreamDecoder.{most_kept};
@@ -8,11 +8,11 @@ ghost use Rattle.rds_live.specs.Next.{completed, live_next};
 ghost use Rattle.rds_soft.specs.Symbols.{hard_bit};
 ghost use Rattle.rds_soft.specs.declared.soft_item.SoftItem.TheVariants.{Group as InSoft};
 ghost use Rattle.rds_soft.specs.ReadAgain.{group_again, symbols_of};
-ghost use Rattle.rds_abi.specs.Asked.{IsFilled, IsTooMuch, gaps_of};
-ghost use Rattle.rds_abi.specs.Stream.{IsFollowed, IsLeft, RefusesStream, place_after, stream_in_c as the_stream_in_c, stream_of as the_stream_of, terms_of};
-ghost use Rattle.rds_abi.specs.Soft.{AreReadAgain, HasHeardSoft, IsMargin, IsPushed, IsWrittenAgain, RefusesMargin, RefusesSoft, again_in as the_again_in, byte_count, bytes_of as the_bytes_of, piece_of as the_piece_of};
-ghost use Rattle.rds_abi.specs.Layout.{item_in_c, soft_item_in_c as the_soft_item_in_c};
-ghost use Rattle.rds_abi.specs.declared.refusal.Refusal.TheVariants.{OutOfMemory, SmallRoom, TooLong};
+ghost use Rattle.rds_abi.specs.Asked.{IsFilled, gaps_of};
+ghost use Rattle.rds_abi.specs.Stream.{GoesOn, IsFollowed, IsLaid, IsLeft, RefusesOn, items_after, place_after, terms_of};
+ghost use Rattle.rds_abi.specs.Soft.{AreReadAgain, HearsOnSoft, IsMargin, IsPushed, IsWrittenAgain, RefusesMargin, RefusesTakenSoft, again_in as the_again_in, byte_count, bytes_of as the_bytes_of, bytes_taken, piece_of as the_piece_of};
+ghost use Rattle.rds_abi.specs.Layout.{soft_item_in_c as the_soft_item_in_c};
+ghost use Rattle.rds_abi.specs.declared.refusal.Refusal.TheVariants.{OutOfMemory, SmallRoom};
 
 use crate::in_c::soft_item_in_c;
 use crate::layout::{RdsGap, RdsItem, RdsRules, RdsSoft, RdsStream};
@@ -293,24 +293,18 @@ fn go_on(
     requires all { AreGaps (2 ^ 36) (gaps_of gaps.now) }
     requires few { length bytes.now ≤ 960 }
     requires held { 8 * length bytes.now ≤ length piece.now }
-    ensures laid { OnOk result (stream.new.stream ≡ the_stream_in_c (the_stream_of told.now stream.new.stream)) }
-    ensures after { OnOk result (the_stream_of told.now stream.new.stream
-        ≡ live_next (the_stream_of told.now stream.old.stream) bytes.now) }
+    ensures laid { OnOk result (IsLaid told.now stream.new.stream) }
+    ensures after { OnOk result (GoesOn told.now stream.old.stream stream.new.stream bytes.now) }
     ensures last { OnOk result (stream.new.symbols
         ≡ take 240 (drop (8 * length bytes.now) (stream.old.symbols ++ piece.now))) }
     ensures filled { OnOk result (IsWrittenAgain told.now (gaps_of gaps.now) margin stream.old piece.now bytes.now room.old room.new) }
-    ensures count { OnOk result (count.new ≡ length (completed (the_stream_of told.now stream.old.stream) bytes.now)) }
+    ensures count { OnOk result (count.new ≡ length (items_after told.now stream.old.stream bytes.now)) }
     ensures next { OnOk result (IsLeft told.now stream.new.stream) }
     ensures lawful { OnOk result (IsLeft told.now stream.old.stream) }
     ensures fits { OnOk result (place_after stream.old.stream bytes.now ≤ 2 ^ 36) }
     ensures untouched { OnErr result ((room.new ≡ room.old) × (stream.new ≡ stream.old)) }
-    ensures refused { IfErr result (λ refusal.
-        (IsLeft told.now stream.old.stream × (place_after stream.old.stream bytes.now ≤ 2 ^ 36)
-        × IsTooMuch (map item_in_c (completed (the_stream_of told.now stream.old.stream) bytes.now))
-        (length room.old) refusal count.new)
-        ⊎ ((RefusesStream told.now stream.old.stream refusal
-        ⊎ (IsLeft told.now stream.old.stream × (2 ^ 36 < place_after stream.old.stream bytes.now) × (refusal ≡ TooLong)))
-        × (count.new ≡ count.old))) }
+    ensures refused { IfErr result
+        (RefusesOn told.now stream.old.stream bytes.now bytes.now (length room.old) count.new (count.new ≡ count.old)) }
 {
     let mut live = live_of(alloc, told, &stream.stream)?;
     refuse_long(stream.stream.place, bytes)?;
@@ -356,35 +350,21 @@ pub fn push_soft(
     taken: &mut u64,
     count: &mut u64,
 ) -> Result<(), Refusal>
-    ensures heard { OnOk result
-        ((before : List ℤ) → 0 < length symbols.now
-        → HasHeardSoft (terms_of rules gaps.now) stream.old (before ++ take 1 symbols.now)
-        → HasHeardSoft (terms_of rules gaps.now) stream.new (before ++ take (taken.new + 1) symbols.now)) }
+    ensures heard { OnOk result (HearsOnSoft (terms_of rules gaps.now) stream.old stream.new symbols.now taken.new) }
     ensures items { OnOk result
         (AreReadAgain (terms_of rules gaps.now) margin stream.old symbols.now taken.new room.old room.new count.new) }
     ensures taken { OnOk result (taken.new ≡ 8 * byte_count symbols.now (length room.old)) }
-    ensures laid { OnOk result
-        (stream.new.stream ≡ the_stream_in_c (the_stream_of (terms_of rules gaps.now) stream.new.stream)) }
+    ensures laid { OnOk result (IsLaid (terms_of rules gaps.now) stream.new.stream) }
     ensures next { OnOk result (IsFollowed rules gaps.now stream.new.stream) }
-    ensures lawful { OnOk result
-        (IsPushed rules gaps.now margin stream.old (the_bytes_of (the_piece_of symbols.now (length room.old)))) }
-    ensures untouched { OnErr result
-        ((room.new ≡ room.old) × (stream.new ≡ stream.old) × (taken.new ≡ taken.old)) }
-    ensures refused { IfErr result (λ refusal.
-        (IsPushed rules gaps.now margin stream.old (the_bytes_of (the_piece_of symbols.now (length room.old)))
-        × IsTooMuch
-        (map item_in_c
-        (completed (the_stream_of (terms_of rules gaps.now) stream.old.stream)
-        (the_bytes_of (the_piece_of symbols.now (length room.old)))))
-        (length room.old) refusal count.new)
-        ⊎ (RefusesSoft rules gaps.now margin stream.old (the_bytes_of (the_piece_of symbols.now (length room.old))) refusal
-        × (count.new ≡ count.old))) }
+    ensures lawful { OnOk result (IsPushed rules gaps.now margin stream.old (bytes_taken symbols.now (length room.old))) }
+    ensures untouched { OnErr result ((room.new ≡ room.old) × (stream.new ≡ stream.old) × (taken.new ≡ taken.old)) }
+    ensures refused { IfErr result
+        (RefusesTakenSoft rules gaps.now margin stream.old symbols.now (length room.old) count.old count.new) }
     ensures roomy { IfErr result (λ refusal. refusal ≡ SmallRoom → length room.old < 16) }
 
     // The same of numbers that are lawful and of no stream.
-    ensures after { OnOk result (the_stream_of (terms_of rules gaps.now) stream.new.stream
-        ≡ live_next (the_stream_of (terms_of rules gaps.now) stream.old.stream)
-        (the_bytes_of (the_piece_of symbols.now (length room.old)))) }
+    ensures after { OnOk result
+        (GoesOn (terms_of rules gaps.now) stream.old.stream stream.new.stream (bytes_taken symbols.now (length room.old))) }
 {
     let margin = margin_of(margin)?;
     let piece = piece_of(symbols, room.len());

@@ -4,11 +4,11 @@ ghost use Rattle.std.specs.Prelude.{◌≡◌, ◌++◌, ◌<◌, ◌≤◌, ◌
 ghost use Rattle.rds_stream.specs.Recording.{AreGaps};
 ghost use Rattle.rds_sync.specs.Advance.{group_item};
 ghost use Rattle.rds_sync.specs.Totals.{totals_of};
-ghost use Rattle.rds_live.specs.StreamDecoder.{HasHeard, IsStreamDecoder, complete, most_kept, report_at, report_of};
+ghost use Rattle.rds_live.specs.StreamDecoder.{HasHeard, IsStreamDecoder, complete, most_kept, report_at};
 ghost use Rattle.rds_live.specs.Next.{completed, live_next};
 ghost use Rattle.rds_sync.specs.Ranges.{IsInRange};
-ghost use Rattle.rds_abi.specs.Asked.{AreGiven, IsFilled, IsTooMuch, gaps_of, rules_of as the_rules_of};
-ghost use Rattle.rds_abi.specs.Stream.{AreClosed, AreCompleted, AreLast, AreLeft, AreTooMany, AreWritten, IsFollowed, IsLeft, IsMostTaken, IsNamed, IsNear, RefusesEnd, RefusesFollowed, RefusesLast, RefusesPush, RefusesStream, RefusesTold, place_after, rules_in_c as the_rules_in_c, stream_in_c as the_stream_in_c, stream_of as the_stream_of, terms_of, totals_from_c, unheard};
+ghost use Rattle.rds_abi.specs.Asked.{AreGiven, IsFilled, gaps_of, rules_of as the_rules_of};
+ghost use Rattle.rds_abi.specs.Stream.{AreClosed, AreCompleted, AreLast, AreLeft, AreTooMany, AreTotals, AreTotalsAt, AreWritten, GoesOn, HearsOn, IsFollowed, IsLaid, IsLeft, IsMostTaken, IsNamed, IsNear, RefusesClosed, RefusesEnd, RefusesFollowed, RefusesLast, RefusesLeft, RefusesOn, RefusesStream, RefusesTaken, RefusesTold, items_after, place_after, rules_in_c as the_rules_in_c, stream_in_c as the_stream_in_c, stream_of as the_stream_of, terms_of, totals_from_c, unheard};
 ghost use Rattle.rds_abi.specs.Layout.{item_in_c, totals_in_c};
 ghost use Rattle.rds_abi.specs.declared.refusal.Refusal.TheVariants.{BitsPastBytes, OutOfMemory, SmallRoom, TooLong};
 
@@ -122,8 +122,7 @@ fn told_around(
     stream: &RdsStream,
     bytes: &[u8],
 ) -> Result<StreamTerms, Refusal>
-    ensures near { IfOk result
-        (λ told. IsNear (terms_of rules gaps.now) told
+    ensures near { IfOk result (λ told. IsNear (terms_of rules gaps.now) told
         (stream.now.place - 8 * min most_kept (stream.now.place / 8))
         (8 * (min most_kept (stream.now.place / 8) + min (2 ^ 33) (length bytes.now)))) }
     ensures given { IfOk result (λ _. AreGiven rules) }
@@ -164,8 +163,7 @@ pub(crate) fn live_of<'r>(
 /// Whether a call writes such numbers around the state of a stream with this tail, or all are 0.
 fn is_written(rules: &Rules, tail: &[u8], stream: &RdsStream) -> bool
     requires { length tail.now ≤ 30 }
-    ensures { (result ≡ true)
-        ↔ ((stream.now.tail ≡ tail.now ++ replicate (32 - length tail.now) 0)
+    ensures { (result ≡ true) ↔ ((stream.now.tail ≡ tail.now ++ replicate (32 - length tail.now) 0)
         × ((stream.now ≡ unheard) ⊎ IsNamed rules.now stream.now)) }
 {
     stream.tail == tail_in_c(tail) && (is_unheard(stream) || is_named(rules, stream))
@@ -299,45 +297,26 @@ pub fn push(
     taken: &mut u64,
     count: &mut u64,
 ) -> Result<(), Refusal>
-    ensures heard { OnOk result
-        ((before : List ℕ) → HasHeard (the_stream_of (terms_of rules gaps.now) stream.old) before
-        → HasHeard (the_stream_of (terms_of rules gaps.now) stream.new)
-        (before ++ take taken.new bytes.now)) }
-    ensures laid { OnOk result
-        (stream.new ≡ the_stream_in_c (the_stream_of (terms_of rules gaps.now) stream.new)) }
+    ensures heard { OnOk result (HearsOn (terms_of rules gaps.now) stream.old stream.new (take taken.new bytes.now)) }
+    ensures laid { OnOk result (IsLaid (terms_of rules gaps.now) stream.new) }
     ensures items { OnOk result
-        (AreWritten (AreCompleted (terms_of rules gaps.now) stream.old (take taken.new bytes.now))
-        room.old room.new count.new) }
+        (AreWritten (AreCompleted (terms_of rules gaps.now) stream.old (take taken.new bytes.now)) room.old room.new count.new) }
     ensures most { OnOk result
-        (IsMostTaken (the_stream_of (terms_of rules gaps.now) stream.old) bytes.now (length room.old)
-        taken.new) }
+        (IsMostTaken (the_stream_of (terms_of rules gaps.now) stream.old) bytes.now (length room.old) taken.new) }
     ensures few { OnOk result (count.new ≤ 16 * taken.new) }
     ensures next { OnOk result (IsFollowed rules gaps.now stream.new) }
-    ensures lawful { OnOk result
-        (IsFollowed rules gaps.now stream.old × (place_after stream.old bytes.now ≤ 2 ^ 36)) }
-    ensures untouched { OnErr result
-        ((room.new ≡ room.old) × (stream.new ≡ stream.old) × (taken.new ≡ taken.old)) }
-    ensures refused { IfErr result (λ refusal.
-        (IsFollowed rules gaps.now stream.old × (place_after stream.old bytes.now ≤ 2 ^ 36)
-        × IsTooMuch
-        (map item_in_c
-        (completed (the_stream_of (terms_of rules gaps.now) stream.old) (take 1 bytes.now)))
-        (length room.old) refusal count.new)
-        ⊎ (RefusesPush rules gaps.now stream.old bytes.now refusal × (count.new ≡ count.old))) }
+    ensures lawful { OnOk result (IsFollowed rules gaps.now stream.old × (place_after stream.old bytes.now ≤ 2 ^ 36)) }
+    ensures untouched { OnErr result ((room.new ≡ room.old) × (stream.new ≡ stream.old) × (taken.new ≡ taken.old)) }
+    ensures refused { IfErr result
+        (RefusesTaken rules gaps.now stream.old bytes.now (length room.old) count.old count.new) }
     ensures roomy { IfErr result (λ refusal. refusal ≡ SmallRoom → length room.old < 16) }
 
     // The same of numbers that are lawful and of no stream.
-    ensures after { OnOk result (the_stream_of (terms_of rules gaps.now) stream.new
-        ≡ live_next (the_stream_of (terms_of rules gaps.now) stream.old) (take taken.new bytes.now)) }
+    ensures after { OnOk result (GoesOn (terms_of rules gaps.now) stream.old stream.new (take taken.new bytes.now)) }
     ensures filled { OnOk result
-        (IsFilled
-        (map item_in_c
-        (completed (the_stream_of (terms_of rules gaps.now) stream.old) (take taken.new bytes.now)))
-        room.old room.new) }
+        (IsFilled (map item_in_c (items_after (terms_of rules gaps.now) stream.old (take taken.new bytes.now))) room.old room.new) }
     ensures count { OnOk result
-        (count.new
-        ≡ length (completed (the_stream_of (terms_of rules gaps.now) stream.old)
-        (take taken.new bytes.now))) }
+        (count.new ≡ length (items_after (terms_of rules gaps.now) stream.old (take taken.new bytes.now))) }
 {
     let told = told_around(alloc, rules, gaps, stream, bytes)?;
     laws::runs_give_few_items();
@@ -358,30 +337,19 @@ fn go_on(
 ) -> Result<(), Refusal>
     requires gaps { AreGaps (2 ^ 36) told.now.gaps }
     requires range { IsInRange told.now.rules }
-    ensures laid { OnOk result (stream.new ≡ the_stream_in_c (the_stream_of told.now stream.new)) }
+    ensures laid { OnOk result (IsLaid told.now stream.new) }
     ensures within { OnOk result (taken.new ≤ length bytes.now) }
-    ensures after { OnOk result
-        (the_stream_of told.now stream.new
-        ≡ live_next (the_stream_of told.now stream.old) (take taken.new bytes.now)) }
+    ensures after { OnOk result (GoesOn told.now stream.old stream.new (take taken.new bytes.now)) }
     ensures filled { OnOk result
-        (IsFilled (map item_in_c (completed (the_stream_of told.now stream.old) (take taken.new bytes.now)))
-        room.old room.new) }
-    ensures count { OnOk result
-        (count.new ≡ length (completed (the_stream_of told.now stream.old) (take taken.new bytes.now))) }
-    ensures most { OnOk result
-        (IsMostTaken (the_stream_of told.now stream.old) bytes.now (length room.old) taken.new) }
+        (IsFilled (map item_in_c (items_after told.now stream.old (take taken.new bytes.now))) room.old room.new) }
+    ensures count { OnOk result (count.new ≡ length (items_after told.now stream.old (take taken.new bytes.now))) }
+    ensures most { OnOk result (IsMostTaken (the_stream_of told.now stream.old) bytes.now (length room.old) taken.new) }
     ensures next { OnOk result (IsLeft told.now stream.new) }
     ensures lawful { OnOk result (IsLeft told.now stream.old) }
     ensures fits { OnOk result (place_after stream.old bytes.now ≤ 2 ^ 36) }
-    ensures untouched { OnErr result
-        ((room.new ≡ room.old) × (stream.new ≡ stream.old) × (taken.new ≡ taken.old)) }
-    ensures refused { IfErr result (λ refusal.
-        (IsLeft told.now stream.old × (place_after stream.old bytes.now ≤ 2 ^ 36)
-        × IsTooMuch (map item_in_c (completed (the_stream_of told.now stream.old) (take 1 bytes.now)))
-        (length room.old) refusal count.new)
-        ⊎ ((RefusesStream told.now stream.old refusal
-        ⊎ (IsLeft told.now stream.old × (2 ^ 36 < place_after stream.old bytes.now) × (refusal ≡ TooLong)))
-        × (count.new ≡ count.old))) }
+    ensures untouched { OnErr result ((room.new ≡ room.old) × (stream.new ≡ stream.old) × (taken.new ≡ taken.old)) }
+    ensures refused { IfErr result
+        (RefusesOn told.now stream.old bytes.now (take 1 bytes.now) (length room.old) count.new (count.new ≡ count.old)) }
 {
     let mut live = live_of(alloc, told, stream)?;
     refuse_long(stream.place, bytes)?;
@@ -403,8 +371,7 @@ fn go_on(
 pub(crate) fn refuse_long(place: u64, bytes: &[u8]) -> Result<(), Refusal>
     requires { place ≤ 2 ^ 36 }
     ensures fits { OnOk result (place + 8 * length bytes.now ≤ 2 ^ 36) }
-    ensures refused { IfErr result
-        (λ refusal. (refusal ≡ TooLong) × (2 ^ 36 < place + 8 * length bytes.now)) }
+    ensures refused { IfErr result (λ refusal. (refusal ≡ TooLong) × (2 ^ 36 < place + 8 * length bytes.now)) }
 {
     if bytes.len() as u64 > (MOST_BITS - place) / 8 {
         return Err(Refusal::TooLong);
@@ -482,8 +449,7 @@ fn take_fitting(
         (λ fit. IsFilled (map item_in_c (completed live.old (take fit.taken bytes.now))) room.old room.new) }
     ensures count { IfOk result (λ fit. fit.count ≡ length (completed live.old (take fit.taken bytes.now))) }
     ensures most { IfOk result (λ fit. IsMostTaken live.old bytes.now (length room.old) fit.taken) }
-    ensures small { IfErr result
-        (λ needed. length room.old < length (completed live.old (take 1 bytes.now))) }
+    ensures small { IfErr result (λ needed. length room.old < length (completed live.old (take 1 bytes.now))) }
     ensures needed { IfErr result (λ needed. needed ≡ length (completed live.old (take 1 bytes.now))) }
     ensures untouched { OnErr result ((room.new ≡ room.old) × (stream.new ≡ stream.old)) }
 {
@@ -526,8 +492,7 @@ fn take_piece(
     ensures count { IfOk result (λ fit. fit.count ≡ length (completed live.old (take fit.taken bytes.now))) }
     ensures room { IfOk result (λ fit. fit.count ≤ length room.old) }
     ensures some { IfErr result (λ needed. 0 < length bytes.now) }
-    ensures small { IfErr result
-        (λ needed. length room.old < length (completed live.old (take 1 bytes.now))) }
+    ensures small { IfErr result (λ needed. length room.old < length (completed live.old (take 1 bytes.now))) }
     ensures needed { IfErr result (λ needed. needed ≡ length (completed live.old (take 1 bytes.now))) }
     ensures untouched { OnErr result ((room.new ≡ room.old) × (stream.new ≡ stream.old)) }
 {
@@ -588,15 +553,10 @@ pub fn finish(
 ) -> Result<(), Refusal>
     ensures items { OnOk result
         (AreWritten (AreClosed (terms_of rules gaps.now) stream.now) room.old room.new count.new) }
-    ensures totals { OnOk result
-        ((bytes : List ℕ) → HasHeard (the_stream_of (terms_of rules gaps.now) stream.now) bytes
-        → totals.new ≡ totals_in_c (totals_of (report_of (terms_of rules gaps.now) bytes))) }
+    ensures totals { OnOk result (AreTotals (terms_of rules gaps.now) stream.now totals.new) }
     ensures lawful { OnOk result (IsFollowed rules gaps.now stream.now) }
     ensures untouched { OnErr result ((room.new ≡ room.old) × (totals.new ≡ totals.old)) }
-    ensures refused { IfErr result (λ refusal.
-        (IsFollowed rules gaps.now stream.now
-        × AreTooMany (AreClosed (terms_of rules gaps.now) stream.now) (length room.old) refusal count.new)
-        ⊎ (RefusesFollowed rules gaps.now stream.now refusal × (count.new ≡ count.old))) }
+    ensures refused { IfErr result (RefusesClosed rules gaps.now stream.now (length room.old) count.old count.new) }
 {
     let told = told_of(alloc, rules, gaps)?;
     close(alloc, &told, stream, room, count, totals)
@@ -613,12 +573,10 @@ fn close(
 ) -> Result<(), Refusal>
     requires { AreGaps (2 ^ 36) told.now.gaps }
     ensures items { OnOk result (AreWritten (AreClosed told.now stream.now) room.old room.new count.new) }
-    ensures totals { OnOk result ((bytes : List ℕ) → HasHeard (the_stream_of told.now stream.now) bytes
-        → totals.new ≡ totals_in_c (totals_of (report_of told.now bytes))) }
+    ensures totals { OnOk result (AreTotals told.now stream.now totals.new) }
     ensures lawful { OnOk result (IsLeft told.now stream.now) }
     ensures untouched { OnErr result ((room.new ≡ room.old) × (totals.new ≡ totals.old)) }
-    ensures refused { IfErr result (λ refusal.
-        (IsLeft told.now stream.now
+    ensures refused { IfErr result (λ refusal. (IsLeft told.now stream.now
         × AreTooMany (AreClosed told.now stream.now) (length room.old) refusal count.new)
         ⊎ (RefusesStream told.now stream.now refusal × (count.new ≡ count.old))) }
 {
@@ -663,21 +621,12 @@ pub fn finish_with(
     totals: &mut RdsTotals,
 ) -> Result<(), Refusal>
     ensures items { OnOk result
-        (AreWritten (AreLeft (terms_of rules gaps.now) stream.now bytes.now bits)
-        room.old room.new count.new) }
-    ensures totals { OnOk result
-        ((before : List ℕ) → HasHeard (the_stream_of (terms_of rules gaps.now) stream.now) before
-        → totals.new
-        ≡ totals_in_c
-        (totals_of
-        (report_at (terms_of rules gaps.now) (before ++ bytes.now) (8 * length before + bits)))) }
+        (AreWritten (AreLeft (terms_of rules gaps.now) stream.now bytes.now bits) room.old room.new count.new) }
+    ensures totals { OnOk result (AreTotalsAt (terms_of rules gaps.now) stream.now bytes.now bits totals.new) }
     ensures lawful { OnOk result (IsFollowed rules gaps.now stream.now × AreLast stream.now bytes.now bits) }
     ensures untouched { OnErr result ((room.new ≡ room.old) × (totals.new ≡ totals.old)) }
-    ensures refused { IfErr result (λ refusal.
-        (IsFollowed rules gaps.now stream.now × AreLast stream.now bytes.now bits
-        × AreTooMany (AreLeft (terms_of rules gaps.now) stream.now bytes.now bits) (length room.old)
-        refusal count.new)
-        ⊎ (RefusesEnd rules gaps.now stream.now bytes.now bits refusal × (count.new ≡ count.old))) }
+    ensures refused { IfErr result
+        (RefusesLeft rules gaps.now stream.now bytes.now bits (length room.old) count.old count.new) }
 {
     let (items, found) = left_of(alloc, bytes, bits, gaps, rules, stream)?;
     write_left(room, &items, found, count, totals)?;
@@ -716,10 +665,8 @@ fn left_of(
     ensures items { IfOk result (λ r. AreLeft (terms_of rules gaps.now) stream.now bytes.now bits r.0.items) }
     ensures totals { IfOk result
         (λ r. (before : List ℕ) → HasHeard (the_stream_of (terms_of rules gaps.now) stream.now) before
-        → r.1 ≡ totals_of
-        (report_at (terms_of rules gaps.now) (before ++ bytes.now) (8 * length before + bits))) }
-    ensures lawful { IfOk result
-        (λ _. IsFollowed rules gaps.now stream.now × AreLast stream.now bytes.now bits) }
+        → r.1 ≡ totals_of (report_at (terms_of rules gaps.now) (before ++ bytes.now) (8 * length before + bits))) }
+    ensures lawful { IfOk result (λ _. IsFollowed rules gaps.now stream.now × AreLast stream.now bytes.now bits) }
     ensures refused { IfErr result (RefusesEnd rules gaps.now stream.now bytes.now bits) }
 {
     let told = told_of(alloc, rules, gaps)?;
@@ -754,8 +701,7 @@ fn last_of(
 fn refuse_last(place: u64, bytes: &[u8], bits: u64) -> Result<(), Refusal>
     requires { place ≤ 2 ^ 36 }
     ensures fits { OnOk result ((place + bits ≤ 2 ^ 36) × (bits ≤ 8 * length bytes.now)) }
-    ensures refused { IfErr result (λ refusal.
-        ((refusal ≡ TooLong) × (2 ^ 36 < place + bits))
+    ensures refused { IfErr result (λ refusal. ((refusal ≡ TooLong) × (2 ^ 36 < place + bits))
         ⊎ ((refusal ≡ BitsPastBytes) × (place + bits ≤ 2 ^ 36) × (8 * length bytes.now < bits))) }
 {
     if bits > MOST_BITS - place {
@@ -783,36 +729,16 @@ fn end_of_stream(
         → r.1 ≡ totals_of (report_at live.entry.terms (before ++ bytes.now) (8 * length before + bits))) }
 {
     let mut live = live;
+    let mut last = Vec::with_capacity(alloc, ITEMS_A_BYTE)?;
     let (whole, rest) = bytes.split_at((bits / 8) as usize);
     let mut items = live.take_all(alloc, whole)?;
-    let totals = push_last(alloc, live, rest, bits % 8, &mut items)?;
+    let totals = push_last(live, rest, bits % 8, &mut last, &mut items)?;
     Ok((items, totals))
 }
 
 /// Appends the items that the next `bits` bits complete, and the group in progress if the stream ends there.
-/// The totals of the report.
+/// The totals of the report. `last` is room for the last items.
 fn push_last(
-    alloc: Global,
-    live: StreamDecoder<'_>,
-    rest: &[u8],
-    bits: u64,
-    items: &mut Vec<Item>,
-) -> Result<Totals, StreamError>
-    requires held { bits ≤ 8 * length rest.now }
-    requires few { bits ≤ 8 }
-    ensures items { OnOk result ((before : List ℕ) (given : List Item) → HasHeard live.entry before
-        → complete live.entry.terms before ≡ given ++ items.old.items
-        → given ++ items.new.items
-        ≡ report_at live.entry.terms (before ++ rest.now) (8 * length before + bits)) }
-    ensures totals { IfOk result (λ totals. (before : List ℕ) → HasHeard live.entry before
-        → totals ≡ totals_of (report_at live.entry.terms (before ++ rest.now) (8 * length before + bits))) }
-{
-    let mut last = Vec::with_capacity(alloc, 16)?;
-    push_with(live, rest, bits, &mut last, items)
-}
-
-/// The same, by way of a list that has room for the last items.
-fn push_with(
     live: StreamDecoder<'_>,
     rest: &[u8],
     bits: u64,
@@ -823,8 +749,7 @@ fn push_with(
     requires few { bits ≤ 8 }
     requires room { 16 ≤ vec_capacity last.old }
     ensures items { OnOk result ((before : List ℕ) (given : List Item) → HasHeard live.entry before
-        → complete live.entry.terms before ≡ given ++ items.old.items
-        → given ++ items.new.items
+        → complete live.entry.terms before ≡ given ++ items.old.items → given ++ items.new.items
         ≡ report_at live.entry.terms (before ++ rest.now) (8 * length before + bits)) }
     ensures totals { IfOk result (λ totals. (before : List ℕ) → HasHeard live.entry before
         → totals ≡ totals_of (report_at live.entry.terms (before ++ rest.now) (8 * length before + bits))) }

@@ -1,7 +1,7 @@
 //! A recording that is handed over whole.
 
-ghost use Rattle.std.specs.Prelude.{◌≡◌, ◌<◌, ◌≤◌, ◌⊎◌, IfErr, IfOk, OnErr, OnOk, length, map};
-ghost use Rattle.rds_abi.specs.Asked.{IsFilled, IsLawful, IsTooMuch, Refuses, asked, items_asked, totals_asked};
+ghost use Rattle.std.specs.Prelude.{◌≡◌, ◌<◌, ◌≤◌, IfErr, IfOk, OnErr, OnOk, length, map};
+ghost use Rattle.rds_abi.specs.Asked.{IsFilled, IsLawful, IsTooMuch, Refuses, RefusesItems, asked, items_asked, totals_asked};
 ghost use Rattle.rds_abi.specs.Layout.{item_in_c};
 
 use crate::asked::{Input, input_of};
@@ -48,15 +48,12 @@ pub fn items(
     room: &mut [RdsItem],
     count: &mut u64,
 ) -> Result<(), Refusal>
-    ensures filled { OnOk result
-        (IsFilled (items_asked (asked bytes.now bits gaps.now rules)) room.old room.new) }
+    ensures filled { OnOk result (IsFilled (items_asked (asked bytes.now bits gaps.now rules)) room.old room.new) }
     ensures count { OnOk result (count.new ≡ length (items_asked (asked bytes.now bits gaps.now rules))) }
     ensures lawful { OnOk result (IsLawful (asked bytes.now bits gaps.now rules)) }
     ensures room { OnErr result (room.new ≡ room.old) }
-    ensures refused { IfErr result (λ refusal.
-        (IsLawful (asked bytes.now bits gaps.now rules)
-        × IsTooMuch (items_asked (asked bytes.now bits gaps.now rules)) (length room.old) refusal count.new)
-        ⊎ (Refuses (asked bytes.now bits gaps.now rules) refusal × (count.new ≡ count.old))) }
+    ensures refused { IfErr result
+        (RefusesItems (asked bytes.now bits gaps.now rules) (length room.old) count.old count.new) }
 {
     let input = input_of(alloc, bytes, bits, gaps, rules)?;
     match decode_plain(alloc, &input.recording, &input.rules) {

@@ -1,8 +1,8 @@
 //! A run from a state which the caller keeps.
 
-ghost use Rattle.std.specs.Prelude.{◌≡◌, ◌≢◌, ◌⊎◌, length};
-ghost use Rattle.rds_abi.specs.Asked.{IsFilled, IsTooMuch, RefusedBy, asked, rules_of};
-ghost use Rattle.rds_abi.specs.Ranges.{IsLeftState, IsRun, RefusesRun, items_at_end, items_of_run, run_asked, state_in_c, state_of};
+ghost use Rattle.std.specs.Prelude.{◌≡◌, ◌≢◌, length};
+ghost use Rattle.rds_abi.specs.Asked.{IsFilled, RefusedBy, asked, rules_of};
+ghost use Rattle.rds_abi.specs.Ranges.{IsLeftState, IsRun, RefusesItemsAtEnd, RefusesItemsOfRun, items_at_end, items_of_run, run_asked, state_in_c, state_of};
 
 use rds_abi::{RdsGap, RdsItem, RdsRules, RdsState, finish_run, run};
 use std::alloc::Global;
@@ -24,37 +24,21 @@ pub extern "C" fn rds_run(
     count: &mut u64,
 ) -> u8
     ensures filled { result ≡ 0
-        → IsFilled (items_of_run (asked bytes.now bits gaps.now rules.now) from to state.old)
-        room.old room.new }
+        → IsFilled (items_of_run (asked bytes.now bits gaps.now rules.now) from to state.old) room.old room.new }
     ensures count { result ≡ 0
         → count.new ≡ length (items_of_run (asked bytes.now bits gaps.now rules.now) from to state.old) }
     ensures state { result ≡ 0 → state_of state.new
         ≡ (run_asked (asked bytes.now bits gaps.now rules.now) from to state.old).0 }
-    ensures laid { result ≡ 0
-        → state.new
-        ≡ state_in_c (rules_of rules.now)
-        (run_asked (asked bytes.now bits gaps.now rules.now) from to state.old).0 }
+    ensures laid { result ≡ 0 → state.new
+        ≡ state_in_c (rules_of rules.now) (run_asked (asked bytes.now bits gaps.now rules.now) from to state.old).0 }
     ensures next { result ≡ 0 → IsLeftState (rules_of rules.now) to state.new }
     ensures lawful { result ≡ 0 → IsRun (asked bytes.now bits gaps.now rules.now) from to state.old }
-    ensures refused { result ≢ 0 → RefusedBy (λ refusal.
-        (IsRun (asked bytes.now bits gaps.now rules.now) from to state.old
-        × IsTooMuch (items_of_run (asked bytes.now bits gaps.now rules.now) from to state.old)
-        (length room.old) refusal count.new)
-        ⊎ (RefusesRun (asked bytes.now bits gaps.now rules.now) from to state.old refusal
-        × (count.new ≡ count.old))) result }
+    ensures refused { result ≢ 0 → RefusedBy (RefusesItemsOfRun (asked bytes.now bits gaps.now rules.now) from to state.old
+        (length room.old) count.old count.new) result }
     ensures untouched { result ≢ 0 → (room.new ≡ room.old) × (state.new ≡ state.old) }
 {
-    match run(
-        alloc,
-        bytes,
-        bits,
-        gaps,
-        *rules,
-        (from, to),
-        state,
-        room,
-        count,
-    ) {
+    let places = (from, to);
+    match run(alloc, bytes, bits, gaps, *rules, places, state, room, count) {
         Ok(()) => 0,
         Err(refusal) => refusal.number(),
     }
@@ -79,12 +63,8 @@ pub extern "C" fn rds_finish_run(
     ensures count { result ≡ 0
         → count.new ≡ length (items_at_end (asked bytes.now bits gaps.now rules.now) state.now) }
     ensures lawful { result ≡ 0 → IsRun (asked bytes.now bits gaps.now rules.now) bits bits state.now }
-    ensures refused { result ≢ 0 → RefusedBy (λ refusal.
-        (IsRun (asked bytes.now bits gaps.now rules.now) bits bits state.now
-        × IsTooMuch (items_at_end (asked bytes.now bits gaps.now rules.now) state.now) (length room.old)
-        refusal count.new)
-        ⊎ (RefusesRun (asked bytes.now bits gaps.now rules.now) bits bits state.now refusal
-        × (count.new ≡ count.old))) result }
+    ensures refused { result ≢ 0 → RefusedBy
+        (RefusesItemsAtEnd (asked bytes.now bits gaps.now rules.now) state.now (length room.old) count.old count.new) result }
     ensures untouched { result ≢ 0 → room.new ≡ room.old }
 {
     match finish_run(alloc, bytes, bits, gaps, *rules, *state, room, count) {

@@ -1,13 +1,11 @@
 //! A stream of symbols.
 
-ghost use Rattle.std.specs.Prelude.{◌≡◌, ◌≢◌, ◌++◌, ◌<◌, ◌≤◌, ◌⊎◌, ◌+◌, ◌*◌, ℤ, List, length, map, take};
-ghost use Rattle.rds_live.specs.Next.{completed, live_next};
-ghost use Rattle.rds_abi.specs.Asked.{IsTooMuch, RefusedBy};
-ghost use Rattle.rds_abi.specs.Stream.{IsFollowed, stream_in_c, stream_of, terms_of};
-ghost use Rattle.rds_abi.specs.Soft.{AreReadAgain, HasHeardSoft, IsPushed, RefusesSoft, byte_count, bytes_of, piece_of};
+ghost use Rattle.std.specs.Prelude.{◌≡◌, ◌≢◌, ◌≤◌, ◌*◌, length};
+ghost use Rattle.rds_abi.specs.Asked.{RefusedBy};
+ghost use Rattle.rds_abi.specs.Stream.{GoesOn, IsFollowed, IsLaid, terms_of};
+ghost use Rattle.rds_abi.specs.Soft.{AreReadAgain, HearsOnSoft, IsPushed, RefusesTakenSoft, byte_count, bytes_taken};
 ghost use Rattle.rds_abi.specs.Refusals.{number_of};
 ghost use Rattle.rds_abi.specs.declared.refusal.Refusal.TheVariants.{SmallRoom};
-ghost use Rattle.rds_abi.specs.Layout.{item_in_c};
 
 use rds_abi::{RdsGap, RdsItem, RdsRules, RdsSoft, push_soft};
 use std::alloc::Global;
@@ -28,34 +26,22 @@ pub extern "C" fn rds_push_soft(
     taken: &mut u64,
     count: &mut u64,
 ) -> u8
-    ensures heard { result ≡ 0 → (before : List ℤ) → 0 < length symbols.now
-        → HasHeardSoft (terms_of rules.now gaps.now) soft.old (before ++ take 1 symbols.now)
-        → HasHeardSoft (terms_of rules.now gaps.now) soft.new (before ++ take (taken.new + 1) symbols.now) }
+    ensures heard { result ≡ 0 → HearsOnSoft (terms_of rules.now gaps.now) soft.old soft.new symbols.now taken.new }
     ensures items { result ≡ 0
         → AreReadAgain (terms_of rules.now gaps.now) margin soft.old symbols.now taken.new room.old room.new count.new }
     ensures taken { result ≡ 0 → taken.new ≡ 8 * byte_count symbols.now (length room.old) }
-    ensures laid { result ≡ 0
-        → soft.new.stream ≡ stream_in_c (stream_of (terms_of rules.now gaps.now) soft.new.stream) }
+    ensures laid { result ≡ 0 → IsLaid (terms_of rules.now gaps.now) soft.new.stream }
     ensures next { result ≡ 0 → IsFollowed rules.now gaps.now soft.new.stream }
     ensures lawful { result ≡ 0
-        → IsPushed rules.now gaps.now margin soft.old (bytes_of (piece_of symbols.now (length room.old))) }
-    ensures refused { result ≢ 0 → RefusedBy (λ refusal.
-        (IsPushed rules.now gaps.now margin soft.old (bytes_of (piece_of symbols.now (length room.old)))
-        × IsTooMuch
-        (map item_in_c
-        (completed (stream_of (terms_of rules.now gaps.now) soft.old.stream)
-        (bytes_of (piece_of symbols.now (length room.old)))))
-        (length room.old) refusal count.new)
-        ⊎ (RefusesSoft rules.now gaps.now margin soft.old (bytes_of (piece_of symbols.now (length room.old))) refusal
-        × (count.new ≡ count.old))) result }
+        → IsPushed rules.now gaps.now margin soft.old (bytes_taken symbols.now (length room.old)) }
+    ensures refused { result ≢ 0 → RefusedBy
+        (RefusesTakenSoft rules.now gaps.now margin soft.old symbols.now (length room.old) count.old count.new) result }
     ensures roomy { 16 ≤ length room.old → result ≢ number_of SmallRoom }
-    ensures untouched { result ≢ 0
-        → (room.new ≡ room.old) × (soft.new ≡ soft.old) × (taken.new ≡ taken.old) }
+    ensures untouched { result ≢ 0 → (room.new ≡ room.old) × (soft.new ≡ soft.old) × (taken.new ≡ taken.old) }
 
     // The same of numbers that are lawful and of no stream.
-    ensures after { result ≡ 0 → stream_of (terms_of rules.now gaps.now) soft.new.stream
-        ≡ live_next (stream_of (terms_of rules.now gaps.now) soft.old.stream)
-        (bytes_of (piece_of symbols.now (length room.old))) }
+    ensures after { result ≡ 0
+        → GoesOn (terms_of rules.now gaps.now) soft.old.stream soft.new.stream (bytes_taken symbols.now (length room.old)) }
 {
     match push_soft(
         alloc, symbols, gaps, *rules, margin, soft, room, taken, count,

@@ -1,14 +1,11 @@
 //! A stream that is followed chunk by chunk.
 
-ghost use Rattle.std.specs.Prelude.{◌≡◌, ◌≢◌, ◌++◌, ◌≤◌, ◌⊎◌, ◌+◌, ◌*◌, ◌^◌, ℕ, List, length, map, take};
-ghost use Rattle.rds_sync.specs.Totals.{totals_of};
-ghost use Rattle.rds_live.specs.StreamDecoder.{HasHeard, report_at, report_of};
-ghost use Rattle.rds_live.specs.Next.{completed, live_next};
-ghost use Rattle.rds_abi.specs.Asked.{IsFilled, IsTooMuch, RefusedBy};
-ghost use Rattle.rds_abi.specs.Stream.{AreClosed, AreCompleted, AreLast, AreLeft, AreTooMany, AreWritten, IsFollowed, IsMostTaken, RefusesEnd, RefusesFollowed, RefusesPush, place_after, stream_in_c, stream_of, terms_of};
+ghost use Rattle.std.specs.Prelude.{◌≡◌, ◌≢◌, ◌≤◌, ◌*◌, ◌^◌, length, map, take};
+ghost use Rattle.rds_abi.specs.Asked.{IsFilled, RefusedBy};
+ghost use Rattle.rds_abi.specs.Stream.{AreClosed, AreCompleted, AreLast, AreLeft, AreTotals, AreTotalsAt, AreWritten, GoesOn, HearsOn, IsFollowed, IsLaid, IsMostTaken, RefusesClosed, RefusesFollowed, RefusesLeft, RefusesTaken, items_after, place_after, stream_of, terms_of};
 ghost use Rattle.rds_abi.specs.Refusals.{number_of};
 ghost use Rattle.rds_abi.specs.declared.refusal.Refusal.TheVariants.{SmallRoom};
-ghost use Rattle.rds_abi.specs.Layout.{item_in_c, totals_in_c};
+ghost use Rattle.rds_abi.specs.Layout.{item_in_c};
 
 use rds_abi::{RdsGap, RdsItem, RdsRules, RdsStream, RdsTotals, check, finish, finish_with, push};
 use std::alloc::Global;
@@ -28,43 +25,29 @@ pub extern "C" fn rds_push(
     taken: &mut u64,
     count: &mut u64,
 ) -> u8
-    ensures heard { result ≡ 0 → (before : List ℕ)
-        → HasHeard (stream_of (terms_of rules.now gaps.now) stream.old) before
-        → HasHeard (stream_of (terms_of rules.now gaps.now) stream.new) (before ++ take taken.new bytes.now) }
-    ensures laid { result ≡ 0
-        → stream.new ≡ stream_in_c (stream_of (terms_of rules.now gaps.now) stream.new) }
+    ensures heard { result ≡ 0
+        → HearsOn (terms_of rules.now gaps.now) stream.old stream.new (take taken.new bytes.now) }
+    ensures laid { result ≡ 0 → IsLaid (terms_of rules.now gaps.now) stream.new }
     ensures items { result ≡ 0
-        → AreWritten (AreCompleted (terms_of rules.now gaps.now) stream.old (take taken.new bytes.now))
-        room.old room.new count.new }
+        → AreWritten (AreCompleted (terms_of rules.now gaps.now) stream.old (take taken.new bytes.now)) room.old room.new count.new }
     ensures most { result ≡ 0
-        → IsMostTaken (stream_of (terms_of rules.now gaps.now) stream.old) bytes.now (length room.old)
-        taken.new }
+        → IsMostTaken (stream_of (terms_of rules.now gaps.now) stream.old) bytes.now (length room.old) taken.new }
     ensures few { result ≡ 0 → count.new ≤ 16 * taken.new }
     ensures next { result ≡ 0 → IsFollowed rules.now gaps.now stream.new }
     ensures lawful { result ≡ 0
         → IsFollowed rules.now gaps.now stream.old × (place_after stream.old bytes.now ≤ 2 ^ 36) }
-    ensures refused { result ≢ 0 → RefusedBy (λ refusal.
-        (IsFollowed rules.now gaps.now stream.old × (place_after stream.old bytes.now ≤ 2 ^ 36)
-        × IsTooMuch
-        (map item_in_c
-        (completed (stream_of (terms_of rules.now gaps.now) stream.old) (take 1 bytes.now)))
-        (length room.old) refusal count.new)
-        ⊎ (RefusesPush rules.now gaps.now stream.old bytes.now refusal × (count.new ≡ count.old))) result }
+    ensures refused { result ≢ 0 → RefusedBy
+        (RefusesTaken rules.now gaps.now stream.old bytes.now (length room.old) count.old count.new) result }
     ensures roomy { 16 ≤ length room.old → result ≢ number_of SmallRoom }
-    ensures untouched { result ≢ 0
-        → (room.new ≡ room.old) × (stream.new ≡ stream.old) × (taken.new ≡ taken.old) }
+    ensures untouched { result ≢ 0 → (room.new ≡ room.old) × (stream.new ≡ stream.old) × (taken.new ≡ taken.old) }
 
     // The same of numbers that are lawful and of no stream.
-    ensures after { result ≡ 0 → stream_of (terms_of rules.now gaps.now) stream.new
-        ≡ live_next (stream_of (terms_of rules.now gaps.now) stream.old) (take taken.new bytes.now) }
+    ensures after { result ≡ 0
+        → GoesOn (terms_of rules.now gaps.now) stream.old stream.new (take taken.new bytes.now) }
     ensures filled { result ≡ 0
-        → IsFilled
-        (map item_in_c
-        (completed (stream_of (terms_of rules.now gaps.now) stream.old) (take taken.new bytes.now)))
-        room.old room.new }
+        → IsFilled (map item_in_c (items_after (terms_of rules.now gaps.now) stream.old (take taken.new bytes.now))) room.old room.new }
     ensures count { result ≡ 0
-        → count.new
-        ≡ length (completed (stream_of (terms_of rules.now gaps.now) stream.old) (take taken.new bytes.now)) }
+        → count.new ≡ length (items_after (terms_of rules.now gaps.now) stream.old (take taken.new bytes.now)) }
 {
     match push(alloc, bytes, gaps, *rules, stream, room, taken, count) {
         Ok(()) => 0,
@@ -87,14 +70,10 @@ pub extern "C" fn rds_finish(
 ) -> u8
     ensures items { result ≡ 0
         → AreWritten (AreClosed (terms_of rules.now gaps.now) stream.now) room.old room.new count.new }
-    ensures totals { result ≡ 0 → (bytes : List ℕ)
-        → HasHeard (stream_of (terms_of rules.now gaps.now) stream.now) bytes
-        → totals.new ≡ totals_in_c (totals_of (report_of (terms_of rules.now gaps.now) bytes)) }
+    ensures totals { result ≡ 0 → AreTotals (terms_of rules.now gaps.now) stream.now totals.new }
     ensures lawful { result ≡ 0 → IsFollowed rules.now gaps.now stream.now }
-    ensures refused { result ≢ 0 → RefusedBy (λ refusal.
-        (IsFollowed rules.now gaps.now stream.now
-        × AreTooMany (AreClosed (terms_of rules.now gaps.now) stream.now) (length room.old) refusal count.new)
-        ⊎ (RefusesFollowed rules.now gaps.now stream.now refusal × (count.new ≡ count.old))) result }
+    ensures refused { result ≢ 0
+        → RefusedBy (RefusesClosed rules.now gaps.now stream.now (length room.old) count.old count.new) result }
     ensures untouched { result ≢ 0 → (room.new ≡ room.old) × (totals.new ≡ totals.old) }
 {
     match finish(alloc, gaps, *rules, stream, room, count, totals) {
@@ -120,27 +99,15 @@ pub extern "C" fn rds_finish_with(
     totals: &mut RdsTotals,
 ) -> u8
     ensures items { result ≡ 0
-        → AreWritten (AreLeft (terms_of rules.now gaps.now) stream.now bytes.now bits)
-        room.old room.new count.new }
-    ensures totals { result ≡ 0 → (before : List ℕ)
-        → HasHeard (stream_of (terms_of rules.now gaps.now) stream.now) before
-        → totals.new
-        ≡ totals_in_c
-        (totals_of
-        (report_at (terms_of rules.now gaps.now) (before ++ bytes.now) (8 * length before + bits))) }
-    ensures lawful { result ≡ 0
-        → IsFollowed rules.now gaps.now stream.now × AreLast stream.now bytes.now bits }
-    ensures refused { result ≢ 0 → RefusedBy (λ refusal.
-        (IsFollowed rules.now gaps.now stream.now × AreLast stream.now bytes.now bits
-        × AreTooMany (AreLeft (terms_of rules.now gaps.now) stream.now bytes.now bits) (length room.old)
-        refusal count.new)
-        ⊎ (RefusesEnd rules.now gaps.now stream.now bytes.now bits refusal × (count.new ≡ count.old)))
-        result }
+        → AreWritten (AreLeft (terms_of rules.now gaps.now) stream.now bytes.now bits) room.old room.new count.new }
+    ensures totals { result ≡ 0 → AreTotalsAt (terms_of rules.now gaps.now) stream.now bytes.now bits totals.new }
+    ensures lawful { result ≡ 0 → IsFollowed rules.now gaps.now stream.now × AreLast stream.now bytes.now bits }
+    ensures refused { result ≢ 0 → RefusedBy
+        (RefusesLeft rules.now gaps.now stream.now bytes.now bits (length room.old) count.old count.new) result }
     ensures untouched { result ≢ 0 → (room.new ≡ room.old) × (totals.new ≡ totals.old) }
 {
-    match finish_with(
-        alloc, bytes, bits, gaps, *rules, stream, room, count, totals,
-    ) {
+    let rules = *rules;
+    match finish_with(alloc, bytes, bits, gaps, rules, stream, room, count, totals) {
         Ok(()) => 0,
         Err(refusal) => refusal.number(),
     }

@@ -1,7 +1,7 @@
 //! A recording that is handed over whole.
 
-ghost use Rattle.std.specs.Prelude.{◌≡◌, ◌≢◌, ◌⊎◌, length};
-ghost use Rattle.rds_abi.specs.Asked.{IsFilled, IsLawful, IsTooMuch, RefusedBy, Refuses, asked, items_asked, totals_asked};
+ghost use Rattle.std.specs.Prelude.{◌≡◌, ◌≢◌, length};
+ghost use Rattle.rds_abi.specs.Asked.{IsFilled, IsLawful, RefusedBy, Refuses, RefusesItems, asked, items_asked, totals_asked};
 
 use rds_abi::{RdsGap, RdsItem, RdsRules, RdsTotals, items, totals};
 use std::alloc::Global;
@@ -42,15 +42,11 @@ pub extern "C" fn rds_items(
     room: &mut [RdsItem],
     count: &mut u64,
 ) -> u8
-    ensures filled { result ≡ 0
-        → IsFilled (items_asked (asked bytes.now bits gaps.now rules.now)) room.old room.new }
+    ensures filled { result ≡ 0 → IsFilled (items_asked (asked bytes.now bits gaps.now rules.now)) room.old room.new }
     ensures count { result ≡ 0 → count.new ≡ length (items_asked (asked bytes.now bits gaps.now rules.now)) }
     ensures lawful { result ≡ 0 → IsLawful (asked bytes.now bits gaps.now rules.now) }
-    ensures refused { result ≢ 0 → RefusedBy (λ refusal.
-        (IsLawful (asked bytes.now bits gaps.now rules.now)
-        × IsTooMuch (items_asked (asked bytes.now bits gaps.now rules.now)) (length room.old)
-        refusal count.new)
-        ⊎ (Refuses (asked bytes.now bits gaps.now rules.now) refusal × (count.new ≡ count.old))) result }
+    ensures refused { result ≢ 0 → RefusedBy
+        (RefusesItems (asked bytes.now bits gaps.now rules.now) (length room.old) count.old count.new) result }
     ensures untouched { result ≢ 0 → room.new ≡ room.old }
 {
     match items(alloc, bytes, bits, gaps, *rules, room, count) {

@@ -1,5 +1,5 @@
 -- A decoder of a stream after further bytes.
-use Rattle.rds_live.proofs.Names.{common_steps, ◌≡◌, ℕ, ◌+◌, ◌-◌, ◌*◌, ◌/◌, ◌≤◌, ◌⊎◌, List, [], ◌∷◌, ◌++◌, length, drop, min, refl, sym, ap, ap₂, ◌∙◌, arith, length-drop, length-append, drop-append-le, drop-drop, State, Item, RuleNumbers, IsLawful, Totals, IsAtMost, TotalsJoin, totals_of, moved_state, moved_item, moved_items, most_behind, last_bytes, most_kept}
+use Rattle.rds_live.proofs.Names.{common_steps, ◌≡◌, ℕ, ◌+◌, ◌-◌, ◌*◌, ◌/◌, ◌≤◌, ◌⊎◌, List, [], ◌∷◌, ◌++◌, length, drop, min, refl, sym, ap, ap₂, ◌∙◌, arith, length-drop, length-append, drop-append-le, drop-drop, State, Item, RuleNumbers, IsLawful, Totals, IsAtMost, TotalsJoin, totals_of, moved_state, moved_item, moved_items, most_behind, most_kept}
 
 -- moved by nothing
 pub still-state : (s : State) → moved_state 0 s ≡ s
@@ -42,14 +42,12 @@ module _ (tail : List ℕ) (place from : ℕ) (kept : length tail ≡ min most_k
 pub at-most-more : (m n : ℕ) (totals : Totals) → m ≤ n → IsAtMost m totals → IsAtMost n totals
 at-most-more m n totals more few = grind (arith, common_steps)
 
--- the last bytes of all are the last of the last ones and those that follow
-pub last-bytes : (bytes more : List ℕ) → last_bytes (last_bytes bytes ++ more) ≡ last_bytes (bytes ++ more)
-last-bytes bytes more =
-    let k : ℕ = length bytes - most_kept in
+-- the last ones of all are the last of the last ones and those that follow
+pub last-ones : (most : ℕ) (bytes more : List ℕ) → let kept : List ℕ = drop (length bytes - most) bytes in
+    drop (length (kept ++ more) - most) (kept ++ more) ≡ drop (length (bytes ++ more) - most) (bytes ++ more)
+last-ones most bytes more =
+    let k : ℕ = length bytes - most in
     let is : drop k (bytes ++ more) ≡ drop k bytes ++ more = drop-append-le k bytes more (omega arith) in
-    let kept : length (drop k bytes ++ more) ≡ length bytes - k + length more =
-    omega (arith, length-append (drop k bytes) more, length-drop k bytes) in
-    let left : k + (length (drop k bytes ++ more) - most_kept) ≡ length (bytes ++ more) - most_kept =
-    omega (arith, length-append bytes more, kept) in
-    ap (drop (length (drop k bytes ++ more) - most_kept)) (sym is) ∙ drop-drop (length (drop k bytes ++ more) - most_kept) k (bytes ++ more)
-    ∙ ap (λ (n : ℕ). drop n (bytes ++ more)) left
+    let left : k + (length (drop k bytes ++ more) - most) ≡ length (bytes ++ more) - most =
+    omega (arith, length-append bytes more, length-append (drop k bytes) more, length-drop k bytes) in
+    ap (drop (length (drop k bytes ++ more) - most)) (sym is) ∙ drop-drop (length (drop k bytes ++ more) - most) k (bytes ++ more) ∙ ap (λ (n : ℕ). drop n (bytes ++ more)) left

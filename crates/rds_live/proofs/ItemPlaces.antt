@@ -1,5 +1,6 @@
 -- The items of a run lie where the run goes over.
-use Rattle.rds_live.proofs.Names.{common_steps, ℕ, zero, suc, ◌+◌, ◌-◌, ◌*◌, ◌<◌, ◌≤◌, List, [], ◌∷◌, Bool, true, false, eqb, arith, All-append, All-cons, All-nil, All, Signal, Lock, State, Searching, Locked, Item, Group, RuleNumbers, group, items_of_end, run, step, items_at, completed_group, IsLawful, place_of, is_due_below, items-searching, items-acquiring, items-waiting, items-keeping, items-losing}
+use Rattle.rds_live.proofs.Names.{common_steps, ◌≡◌, ◌^◌, length_of, subst, sym, ℕ, zero, suc, ◌+◌, ◌-◌, ◌*◌, ◌<◌, ◌≤◌, List, [], ◌∷◌, Bool, true, false, eqb, arith, All-append, All-cons, All-nil, All, Signal, Lock, State, Searching, Locked, Item, Group, RuleNumbers, group, items_of_end, run, step, items_at, completed_group, IsLawful, place_of, is_due_below, items-searching, items-acquiring, items-waiting, items-keeping, items-losing}
+use Rattle.rds_sync.specs.declared.item.Group.{Group as GroupRecord}
 
 module _ (b : Signal) (rules : RuleNumbers) (to : ℕ) where
   abbrev Early : Item → Type 0
@@ -36,3 +37,10 @@ end-early b rules to s h = grind (arith, common_steps, group-early)
 pub due-soon : (rules : RuleNumbers) (place to : ℕ) (s : State) → IsLawful rules place s → place + 26 ≤ to → is_due_below to s
 due-soon rules place to Searching lawful h = tt
 due-soon rules place to (Locked lock) lawful h = omega (arith, lawful.soon)
+
+-- a group in progress at the end of a recording begins soon after its last place
+pub group-soon : (b : Signal) (rules : RuleNumbers) (s : State) (g : GroupRecord) → IsLawful rules (length_of b) s → length_of b ≤ 2 ^ 36 → Group g ∷ [] ≡ items_of_end b rules s → g.place < 2 ^ 36 + 26
+group-soon b rules s g lawful short found =
+    let early = end-early b rules (2 ^ 36 + 26) s (due-soon rules (length_of b) (2 ^ 36 + 26) s lawful (omega (arith, short))) in
+    let all = subst (λ (items : List Item). All (λ (item : Item). place_of item < 2 ^ 36 + 26) items) (sym found) early in
+    omega (arith, all zero (Group g) (omega arith))

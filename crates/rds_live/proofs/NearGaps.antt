@@ -1,6 +1,6 @@
 -- The gaps of a stream that are looked at for a part of it: those before them and those after them have no
 -- place in the part.
-use Rattle.rds_live.proofs.Names.{common_steps, ◌≡◌, ℕ, zero, suc, ◌+◌, ◌-◌, ◌<◌, ◌≤◌, List, [], ◌∷◌, drop, length, take, true, false, Option, None, leb, leb-true, ltb, refl, sym, ap, ◌∙◌, arith, slice_index_or, cons_option, filter_map, IsNonDecreasingBy, IsPartitionPoint, le-ltb, ltb-false, get_or-drop, length-drop, IsNonDecreasingBy-from_all_adjacent, AreGaps, gaps_within, part_of_gap}
+use Rattle.rds_live.proofs.Names.{common_steps, ◌≡◌, ℕ, zero, suc, ◌+◌, ◌-◌, ◌<◌, ◌≤◌, List, [], ◌∷◌, drop, length, take, true, false, Option, None, leb, leb-true, ltb, refl, ap, ◌∙◌, arith, slice_index_or, filter_map, IsNonDecreasingBy, IsPartitionPoint, le-ltb, ltb-false, get_or-drop, length-drop, IsNonDecreasingBy-from_all_adjacent, AreGaps, gaps_within, part_of_gap}
 
 -- the ends of gaps rise, and so do their beginnings
 pub ends-rise : (top : ℕ) (gaps : List (ℕ × ℕ)) → AreGaps top gaps → IsNonDecreasingBy (λ (gap : ℕ × ℕ). gap.1) gaps
@@ -25,20 +25,17 @@ begins-rise top before first gaps rest are is =
             ap (λ (gap : ℕ × ℕ). gap.0) (at_gap (k + 1) d ∙ ap (λ (n : ℕ). slice_index_or gaps n d) next),
           )
 
-module _ (f : ℕ × ℕ → Option (ℕ × ℕ)) where
+module _ {A : Type 0} (f : A → Option (ℕ × ℕ)) where
   -- the first ones give nothing
-  skipped : (gaps : List (ℕ × ℕ)) (i : ℕ) → ((k : ℕ) (d : ℕ × ℕ) → k < i → f (slice_index_or gaps k d) ≡ None) → filter_map f (drop i gaps) ≡ filter_map f gaps
+  pub skipped : (gaps : List A) (i : ℕ) → ((k : ℕ) (d : A) → k < i → f (slice_index_or gaps k d) ≡ None) → filter_map f (drop i gaps) ≡ filter_map f gaps
   skipped gaps zero none = refl
   skipped [] (suc i) none = refl
-  skipped (gap ∷ gaps) (suc i) none =
-      skipped gaps i (λ k d l. none (suc k) d (omega (arith, l))) ∙ sym (ap (λ (o : Option (ℕ × ℕ)). cons_option o (filter_map f gaps)) (none 0 gap (omega arith)))
+  skipped (gap ∷ gaps) (suc i) none = grind (arith, common_steps, none 0 gap, skipped gaps i (λ k d l. none (suc k) d (omega (arith, l))))
 
   -- and so do those from a number on
-  ended : (gaps : List (ℕ × ℕ)) (n : ℕ) → ((k : ℕ) (d : ℕ × ℕ) → n ≤ k → k < length gaps → f (slice_index_or gaps k d) ≡ None) → filter_map f (take n gaps) ≡ filter_map f gaps
-  ended [] zero none = refl
-  ended [] (suc n) none = refl
-  ended (gap ∷ gaps) zero none =
-      ended gaps zero (λ k d low high. none (suc k) d (omega arith) (omega (arith, high))) ∙ sym (ap (λ (o : Option (ℕ × ℕ)). cons_option o (filter_map f gaps)) (none 0 gap (omega arith) (omega arith)))
+  pub ended : (gaps : List A) (n : ℕ) → ((k : ℕ) (d : A) → n ≤ k → k < length gaps → f (slice_index_or gaps k d) ≡ None) → filter_map f (take n gaps) ≡ filter_map f gaps
+  ended [] n none = grind (arith, common_steps)
+  ended (gap ∷ gaps) zero none = grind (arith, common_steps, none 0 gap, ended gaps zero (λ k d low high. none (suc k) d (omega arith) (omega (arith, high))))
   ended (gap ∷ gaps) (suc n) none = grind (arith, common_steps, ended gaps n (λ k d low high. none (suc k) d (omega (arith, low)) (omega (arith, high))))
 
 module _ (before len : ℕ) where

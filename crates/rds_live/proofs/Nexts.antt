@@ -1,5 +1,5 @@
 -- The part that is decoded next, only by the numbers of a decoder.
-use Rattle.rds_live.proofs.Names.{common_steps, ◌≡◌, ℕ, ◌+◌, ◌*◌, ◌≤◌, List, [], ◌++◌, append_assoc, drop, length, refl, subst, take, sym, ap, ap₂, ◌∙◌, arith, append-nil, length-append, take-append-drop, Signal, bits_of, State, Item, Totals, TotalsJoin, plus, RuleNumbers, run, items_of_end, totals_of, gaps_within, HasHeard, LiveOf, complete, last_bytes, report_at, report_of, signal_at, signal_of, IsPartHeard, RunsMove, moved_items, moved_state, EndsAreReports, IsStart, before_tail, completed, group_next, items_next, live_next, part_with, run_next, Start}
+use Rattle.rds_live.proofs.Names.{common_steps, ◌≡◌, ℕ, ◌+◌, ◌-◌, ◌*◌, ◌≤◌, List, [], ◌++◌, append_assoc, drop, length, refl, subst, take, sym, ap, ap₂, ◌∙◌, arith, append-nil, length-append, take-append-drop, Signal, bits_of, State, Item, Totals, TotalsJoin, plus, RuleNumbers, run, items_of_end, totals_of, gaps_within, HasHeard, LiveOf, complete, last_bytes, report_at, report_of, signal_at, signal_of, IsPartHeard, RunsMove, moved_items, moved_state, EndsAreReports, IsStart, before_tail, completed, group_next, items_next, live_next, part_with, run_next, Start}
 use Rattle.rds_live.proofs.Following.{totals-moved}
 use Rattle.rds_live.proofs.Parts.{bits-begin, length-at}
 use Rattle.rds_live.proofs.Rooms.{run-in-room}
@@ -51,28 +51,40 @@ module _ (live : LiveOf) (start : Start) (is : IsStart live start) where
       (omega (arith, length-at (gaps_within gaps (before_tail live) bits) (live.tail ++ more) bits, is.from, n_is))
       ∙ run-is more (part_with live more (8 * length more)) (8 * length more) n refl n_is
 
-  -- the items that it completes
-  pub items-are : (items found : List Item) (bytes : List ℕ) (bits : ℕ) → items ≡ moved_items start.before found → found ≡ (run_next live bytes bits).1 → items ≡ items_next live bytes bits
-  items-are items found bytes bits moved found_are = moved ∙ ap₂ moved_items is.before found_are
+  -- by the numbers inside the body's value, of which its contract sees `live`
+  module _ (inside : LiveOf) (same : inside ≡ live) where
+    pub heard-inside : RunsMove → (more pushed held : List ℕ) (room recording : Signal) → pushed ≡ inside.tail ++ more → held ≡ pushed → recording ≡ room
+        → IsPartHeard room (signal_of (gaps_within inside.terms.gaps start.before (8 * length held)) held) 0 0
+        → run recording inside.terms.rules start.state start.from (start.from + 8 * length more - start.from) ≡ run_next live more (8 * length more)
+    heard-inside moves more pushed held room recording pushed_are held_are recording_is heard =
+        grind (arith, common_steps, run-heard moves more held room (start.from + 8 * length more - start.from))
 
-  -- and the group in progress after it
-  pub group-is : (part : Signal) (bytes : List ℕ) (bits : ℕ) (end : State) (last : List Item) → part ≡ part_with live bytes bits → end ≡ (run_next live bytes bits).0
-      → last ≡ moved_items start.before (items_of_end part rules end) → last ≡ group_next live bytes bits
-  group-is part bytes bits end last part_is end_is last_is = grind (arith, common_steps)
+    pub part-inside : (part : Signal) (bytes held : List ℕ) (count bits n : ℕ) → bits ≤ 8 * length (take count bytes) → n ≡ start.from + bits → held ≡ inside.tail ++ take count bytes
+        → part ≡ signal_at (gaps_within inside.terms.gaps start.before n) held n → part ≡ part_with live bytes bits
+    part-inside part bytes held count bits n few n_is held_is part_is = grind (arith, common_steps, part-is part bytes held count bits n)
 
-  -- the totals of the items
-  pub totals-are : TotalsJoin → (bytes : List ℕ) (bits : ℕ) (found sum : Totals) → found ≡ totals_of (run_next live bytes bits).1 → sum ≡ plus live.totals found
-      → sum ≡ plus live.totals (totals_of (items_next live bytes bits))
-  totals-are join bytes bits found sum found_is sum_is = sum_is ∙ ap (plus live.totals) (found_is ∙ count-next join live bytes bits)
+    -- the results of the run
+    module _ (bytes : List ℕ) (bits : ℕ) (found : State × List Item) (there : found ≡ run_next live bytes bits) where
+      pub items-inside : (given items : List Item) → given ≡ found.1 → items ≡ moved_items start.before given → items ≡ items_next live bytes bits
+      items-inside given items given_is moved = grind (arith, common_steps)
 
-  -- the decoder after bytes that it has taken
-  module _ (more held tail : List ℕ) (place : ℕ) (end state : State) (found totals : Totals) (held_is : held ≡ live.tail ++ more) (tail_is : tail ≡ last_bytes held)
-      (place_is : place ≡ start.before + (start.from + 8 * length more)) (end_is : end ≡ (run_next live more (8 * length more)).0) (state_is : state ≡ moved_state start.before end)
-      (found_is : found ≡ totals_of (run_next live more (8 * length more)).1) (sum_is : totals ≡ plus live.totals found) where
-    pub next-is : TotalsJoin → record { terms = live.terms; tail = tail; place = place; state = state; totals = totals } ≡ live_next live more
-    next-is join =
-        live-next live more tail place state totals (tail_is ∙ ap last_bytes held_is) (omega (arith, place_is, is.before, is.from, is.known.kept, is.known.whole))
-        (state_is ∙ ap₂ moved_state is.before end_is) (totals-are join more (8 * length more) found totals found_is sum_is)
+      pub totals-inside : TotalsJoin → (given sum : Totals) → given ≡ totals_of found.1 → sum ≡ plus inside.totals given → sum ≡ plus live.totals (totals_of (items_next live bytes bits))
+      totals-inside join given sum given_is sum_is =
+          sum_is ∙ ap₂ (λ (l : LiveOf) (t : Totals). plus l.totals t) same (given_is ∙ ap (λ (r : State × List Item). totals_of r.1) there ∙ count-next join live bytes bits)
+
+      pub group-inside : (part : Signal) (end : State) (last : List Item) → part ≡ part_with live bytes bits → end ≡ found.0 → last ≡ moved_items start.before (items_of_end part inside.terms.rules end)
+          → last ≡ group_next live bytes bits
+      group-inside part end last part_is end_is last_is = grind (arith, common_steps)
+
+    -- the decoder after bytes that it has taken
+    pub next-inside : TotalsJoin → (more held tail : List ℕ) (place : ℕ) (found : State × List Item) (end state : State) (given totals : Totals) → found ≡ run_next live more (8 * length more)
+        → held ≡ inside.tail ++ more → tail ≡ last_bytes held → place ≡ start.before + (start.from + 8 * length more) → end ≡ found.0 → state ≡ moved_state start.before end
+        → given ≡ totals_of found.1 → totals ≡ plus inside.totals given
+        → record { terms = inside.terms; tail = tail; place = place; state = state; totals = totals } ≡ live_next live more
+    next-inside join more held tail place found end state given totals there held_is tail_is place_is end_is state_is given_is sum_is =
+        let long : place ≡ live.place + 8 * length more = omega (arith, place_is, is.before, is.from, is.known.kept, is.known.whole) in
+        let sum = totals-inside more (8 * length more) found there join given totals given_is sum_is in
+        grind (arith, common_steps, live-next live more tail place state totals)
 
   -- if the stream ends after the bytes that were heard
   pub report-now : EndsAreReports → (bytes : List ℕ) → HasHeard live bytes → complete live.terms bytes ++ group_next live [] 0 ≡ report_of live.terms bytes

@@ -1,6 +1,6 @@
 -- Bytes that a decoder takes in two pieces give the same as at once.
 use Rattle.rds_live.proofs.Names.{common_steps, ◌≡◌, ℕ, ◌+◌, ◌-◌, ◌*◌, ◌^◌, ◌≤◌, ◌⊎◌, List, [], ◌∷◌, ◌++◌, append_assoc, length, refl, sym, ap, ap₂, subst, ◌∙◌, arith, inl, inr, list_any, append-nil, length-append, length-drop, map-append, AreGaps, Signal, is_touched_by, length_of, State, Item, Totals, RuleNumbers, IsInRange, IsLawful, RunsAreLawful, RunsJoin, TotalsJoin, plus, totals_of, items_of_end, run, gaps_within, IsStreamDecoder, LiveOf, last_bytes, most_kept, signal_at, EndsMove, IsPartHeard, RunsMove, moved_item, moved_items, moved_state, most_behind, before_tail, completed, group_next, items_next, live_next, moved_back, part_with, run_next}
-use Rattle.rds_live.proofs.Following.{last-bytes, lawful-back, state-in-part}
+use Rattle.rds_live.proofs.Following.{last-ones, lawful-back, state-in-part}
 use Rattle.rds_live.proofs.GapParts.{TouchAlike, part-touched}
 use Rattle.rds_live.proofs.Nexts.{live-next}
 use Rattle.rds_live.proofs.Parts.{bits-heard, first-part, last-part, length-at}
@@ -196,7 +196,7 @@ module _ (joins : RunsJoin) (lawfuls : RunsAreLawful) (moves : RunsMove) (live :
   pub next-both : TotalsJoin → live_next after second ≡ live_next live (first ++ second)
   next-both join =
       live-next live (first ++ second) (last_bytes (after.tail ++ second)) (after.place + 8 * length second) (live_next after second).state (live_next after second).totals
-      (last-bytes (live.tail ++ first) second ∙ ap last_bytes (append_assoc live.tail first second))
+      (last-ones most_kept (live.tail ++ first) second ∙ ap last_bytes (append_assoc live.tail first second))
       (omega (arith, all))
       (sym (state-both joins lawfuls moves live first second (8 * length second) (omega arith) range known) ∙ ap (λ (m : ℕ). moved_state (before_tail live) (run_next live (first ++ second) m).0) all)
       (plus-assoc live.totals (totals_of (completed live first)) (totals_of (completed after second))

@@ -76,8 +76,7 @@ impl<'r> StreamCounter<'r> {
             → HasHeard self.new (before ++ bytes.now)) }
         ensures terms { self.new.terms ≡ self.old.terms }
         ensures refused { OnErr result (self.new ≡ self.old) }
-        ensures too_long { IsErrOf result StreamError.TooLong
-            ↔ (2 ^ 36 < self.old.place + 8 * length bytes.now) }
+        ensures too_long { IsErrOf result StreamError.TooLong ↔ (2 ^ 36 < self.old.place + 8 * length bytes.now) }
         ensures only { IsOkUnless result StreamError.TooLong }
 
         // The same of numbers that are lawful and of no stream.

@@ -105,8 +105,7 @@ impl<'r> StreamDecoder<'r> {
         rules: &'r Rules,
         gaps: &'r [(u64, u64)],
     ) -> Result<StreamDecoder<'r>, StreamError>
-        ensures live { IfOk result (λ live. live
-            ≡ live_of (record { rules = rules.now; gaps = gaps.now }) []) }
+        ensures live { IfOk result (λ live. live ≡ live_of (record { rules = rules.now; gaps = gaps.now }) []) }
         ensures taken { IsOk result → AreGaps (2 ^ 36) gaps.now }
         ensures bad_gaps { IsErrOf result StreamError.BadGaps ↔ (AreGaps (2 ^ 36) gaps.now → ⊥) }
         ensures only { IfErr result (λ e. (e ≡ StreamError.BadGaps) ⊎ (e ≡ StreamError.OutOfMemory)) }
@@ -161,8 +160,7 @@ impl<'r> StreamDecoder<'r> {
         ensures live { IfOk result (λ live. live ≡ live_with rules.now gaps.now tail.now place state totals) }
         ensures taken { IfOk result (λ live. IsStreamDecoder live) }
         ensures bad_gaps { IsErrOf result ResumeError.BadGaps ↔ (AreGaps (2 ^ 36) gaps.now → ⊥) }
-        ensures unlawful { IsErrOf result ResumeError.UnlawfulState
-            ↔ (AreGaps (2 ^ 36) gaps.now
+        ensures unlawful { IsErrOf result ResumeError.UnlawfulState ↔ (AreGaps (2 ^ 36) gaps.now
             × (IsStreamDecoder (live_with rules.now gaps.now tail.now place state totals) → ⊥)) }
         ensures memory_last { IsErrOf result ResumeError.OutOfMemory
             → IsStreamDecoder (live_with rules.now gaps.now tail.now place state totals) }
@@ -267,13 +265,11 @@ impl<'r> StreamDecoder<'r> {
             ≡ min (length bytes.now) (min 960 (vec_capacity items.old / 16))) }
         ensures room { vec_capacity items.new ≡ vec_capacity items.old }
         ensures refused { OnErr result ((self.new ≡ self.old) × (items.new ≡ items.old)) }
-        ensures too_long { IsErrOf result StreamError.TooLong
-            ↔ (2 ^ 36 < self.old.place + 8 * length bytes.now) }
+        ensures too_long { IsErrOf result StreamError.TooLong ↔ (2 ^ 36 < self.old.place + 8 * length bytes.now) }
 
         // The same of numbers that are lawful and of no stream.
         ensures next { IfOk result (λ count. self.new ≡ live_next self.old (take count bytes.now)) }
-        ensures completed { IfOk result (λ count. items.new.items
-            ≡ completed self.old (take count bytes.now)) }
+        ensures completed { IfOk result (λ count. items.new.items ≡ completed self.old (take count bytes.now)) }
         ensures small { IfOk result (λ count. IsWithin (8 * count) self.old.totals self.new.totals) }
         ensures only { IsOkUnless result StreamError.TooLong }
     {
@@ -302,8 +298,7 @@ impl<'r> StreamDecoder<'r> {
             → complete self.old.terms (before ++ bytes.now) ≡ complete self.old.terms before ++ items.items) }
         ensures fits { OnOk result (self.old.place + 8 * length bytes.now ≤ 2 ^ 36) }
         ensures refused { OnErr result (self.new ≡ self.old) }
-        ensures too_long { IsErrOf result StreamError.TooLong
-            ↔ (2 ^ 36 < self.old.place + 8 * length bytes.now) }
+        ensures too_long { IsErrOf result StreamError.TooLong ↔ (2 ^ 36 < self.old.place + 8 * length bytes.now) }
 
         // The same of numbers that are lawful and of no stream.
         ensures next { OnOk result (self.new ≡ live_next self.old bytes.now) }
@@ -417,16 +412,8 @@ impl<'r> StreamDecoder<'r> {
     {
         let tail = &front[front.len() - MOST_KEPT..];
         let place = self.place + 8 * front.len() as u64;
-        let search = State::Searching;
-        let mut guess = StreamDecoder::of(
-            alloc,
-            self.rules,
-            self.gaps,
-            tail,
-            place,
-            search,
-            Totals::NONE,
-        )?;
+        let (search, none) = (State::Searching, Totals::NONE);
+        let mut guess = StreamDecoder::of(alloc, self.rules, self.gaps, tail, place, search, none)?;
         guess.count(seam);
         guess.totals = Totals::NONE;
         Ok(guess)

@@ -72,8 +72,7 @@ impl<'r, T: ItemRows> StreamLister<'r, T> {
             → HasHeard lister.live (before ++ bytes.now)) }
         ensures terms { IfOk result (λ lister. lister.live.terms ≡ self.entry.live.terms) }
         ensures rows { IfOk result (λ lister. (before : List ℕ) → HasHeard self.entry.live before
-            → (items : List Item)
-            × (complete self.entry.live.terms (before ++ bytes.now)
+            → (items : List Item) × (complete self.entry.live.terms (before ++ bytes.now)
             ≡ complete self.entry.live.terms before ++ items)
             × (lister.rows ≡ self.entry.rows ++ flat_map T.row_of items)) }
         ensures fits { OnOk result (self.entry.live.place + 8 * length bytes.now ≤ 2 ^ 36) }
@@ -167,8 +166,7 @@ impl<'r, T: ItemRows> StreamLister<'r, T> {
         requires fits { self.old.live.place + 8 * length bytes.now ≤ 2 ^ 36 }
         ensures some { IfOk result (λ count. (0 < count) × (count ≤ length bytes.now)) }
         ensures next { IfOk result (λ count. self.new ≡ lister_next T.row_of self.old (take count bytes.now)) }
-        ensures small { IfOk result (λ count. IsWithin (8 * count)
-            self.old.live.totals self.new.live.totals) }
+        ensures small { IfOk result (λ count. IsWithin (8 * count) self.old.live.totals self.new.live.totals) }
     {
         match self.live.take(bytes, &mut self.items) {
             Ok(count) => {
@@ -227,8 +225,7 @@ impl<'r, T: ItemRows> StreamLister<'r, T> {
         bytes: &[u8],
         guess: StreamLister<'r, T>,
     ) -> Result<StreamLister<'r, T>, AllocError>
-        requires guess { guess ≡ lister_next T.row_of
-            (lister_of (guessed self.live self.live.state)) bytes.now }
+        requires guess { guess ≡ lister_next T.row_of (lister_of (guessed self.live self.live.state)) bytes.now }
         requires few { IsAtMost (most_counted (8 * length bytes.now)) guess.live.totals }
         ensures { IfOk result (IsListed T.row_of self.entry bytes.now) }
     {

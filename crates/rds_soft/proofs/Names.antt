@@ -24,9 +24,9 @@ pub use Rattle.rds_code.specs.declared.offset.Offset.TheVariants.{A, B, C, Cx, D
 pub use Rattle.rds_code.specs.declared.reading.Reading.TheVariants.{Corrected, Corrected as HardCorrected, Lost, Lost as HardLost, Valid, Valid as HardValid}
 pub use Rattle.rds_code.specs.declared.reading.Wanted.{Wanted}
 pub use Rattle.rds_code.specs.declared.reading.Wanted.TheVariants.{Either, OnlyC, OnlyCx}
-pub use Rattle.rds_live.proofs.Following.{at-most-more as hard-at-most-more, lawful-back, still-items, still-state}
+pub use Rattle.rds_live.proofs.Following.{at-most-more as hard-at-most-more, last-ones, lawful-back, still-items, still-state}
 pub use Rattle.rds_live.proofs.GapParts.{TouchAlike, found-of-part, part-touched, start-touched}
-pub use Rattle.rds_live.proofs.ItemPlaces.{due-soon, end-early, run-early}
+pub use Rattle.rds_live.proofs.ItemPlaces.{group-soon, run-early}
 pub use Rattle.rds_live.proofs.Pieces.{back-on}
 pub use Rattle.rds_live.specs.Moving.{EndsMove, IsPartHeard, RunsMove, most_behind, moved_item, moved_items, moved_state}
 pub use Rattle.rds_live.specs.Next.{moved_back}

@@ -190,11 +190,6 @@ nearer_Cx linear w confidences f g a b m n h k le =
     nearer_of_two linear w 3 Either confidences Cx C g f b a n m refl refl refl refl (λ same. absurd (omega (arith, same)))
     (λ p own. elim (C_or_Cx p own) [ inl same ↦ inr same | inr same ↦ inl same ]) k h le
 
--- the same by other names
-pub renamed : (w x : ℕ) (wanted : Wanted) (confidences : List ℕ) (o p : Offset) (f g a b m n : ℕ) → o ≡ p → f ≡ g → a ≡ b → m ≡ n
-    → AreNearest w x wanted confidences p g b n → AreNearest w x wanted confidences o f a m
-renamed w x wanted confidences o p f g a b m n same_o same_f same_a same_m h = grind (arith, common_steps)
-
 -- ---- a block with one wanted offset, by the offset of the turn
 
 pub at_one : IsLinear → (w x : ℕ) (wanted : Wanted) (confidences : List ℕ) (o p : Offset) (flips least others : ℕ) → p ≡ o

@@ -1,5 +1,5 @@
 -- A stream of symbols after further ones, and at its end.
-use Rattle.rds_soft.proofs.Names.{common_steps, ◌≡◌, ◌+◌, ◌-◌, ◌*◌, ◌^◌, ◌<◌, ◌≤◌, ◌++◌, ◌⊎◌, ◌∙◌, ℕ, List, [], ◌∷◌, ap, ap₂, arith, drop, inl, length, map, refl, subst, sym, All, append-nil, drop-append-le, drop-drop, length-append, length-drop, map-append, AreGaps, Signal, length_of, AcquisitionsAreLate, RunsAreLawful, RunsAreReports, RunsGiveFewItems, RunsJoin, StepsAreLawful, IsLawful, RuleNumbers, items_of_end, run, Item, State, Searching, EndsMove, IsPartHeard, RunsMove, most_behind, moved_items, moved_state, moved_back, place_of, hard-at-most-more, lawful-back, still-items, still-state, part-touched, start-touched, run-early, back-on, SymbolsHaveWindows, item_again, symbols_of, SoftTerms, complete, read_again, report_of, run_of, signal_of, Knows, again_in, last_symbols, most_kept, moved_again, part_of, place_again, AreAtMost, SoftItem}
+use Rattle.rds_soft.proofs.Names.{◌≡◌, ◌+◌, ◌-◌, ◌*◌, ◌^◌, ◌<◌, ◌≤◌, ◌++◌, ◌⊎◌, ◌∙◌, ◌∷◌, common_steps, ℕ, List, [], ap, ap₂, arith, drop, inl, length, map, refl, subst, sym, All, append-nil, drop-append-le, length-append, length-drop, map-append, AreGaps, Signal, length_of, AcquisitionsAreLate, RunsAreLawful, RunsAreReports, RunsGiveFewItems, RunsJoin, StepsAreLawful, IsLawful, RuleNumbers, items_of_end, run, Item, State, Searching, EndsMove, IsPartHeard, RunsMove, most_behind, moved_items, moved_state, moved_back, place_of, hard-at-most-more, lawful-back, still-items, still-state, part-touched, start-touched, run-early, back-on, SymbolsHaveWindows, item_again, symbols_of, SoftTerms, complete, read_again, report_of, run_of, signal_of, Knows, again_in, last_symbols, most_kept, moved_again, part_of, place_again, AreAtMost, SoftItem, last-ones}
 use Rattle.rds_sync.specs.Ranges.{IsInRange}
 use Rattle.rds_soft.specs.declared.soft_totals.SoftTotals.{SoftTotals}
 use Rattle.rds_soft.proofs.InsideLemmas.{AllInside, end-inside, items-same, run-inside}
@@ -250,30 +250,17 @@ module _ {terms : SoftTerms} {symbols kept_now : List ℕ} {count : ℕ} {now : 
       → from_now ≡ length kept_now - 1 → before ≡ count - length kept_now → IsLawful terms.rules (from_now + before) now
   lawful-is late steps lawfuls windows range from_now before f b = grind (arith, common_steps, from-is, before-is, from-there, state-lawful)
 
+  -- how long the part is
+  part-size : (more xs : List ℕ) (part : Signal) (before : ℕ) → xs ≡ kept_now → part ≡ part_of terms.gaps before (xs ++ more) → length_of part ≡ length kept_now + length more - 1
+  part-size more xs part before same is = grind (arith, common_steps, length-bits, length-symbols, length-append)
+
   pub part-longer : (more xs : List ℕ) (part : Signal) (from_now before : ℕ) → from_now ≡ length kept_now - 1 → xs ≡ kept_now
       → part ≡ part_of terms.gaps before (xs ++ more) → from_now ≤ length_of part
-  part-longer more xs part from_now before f same is =
-      omega (
-        arith,
-        f,
-        ap (λ (b : Signal). length_of b) is,
-        length-bits (symbols_of (xs ++ more)),
-        length-symbols (xs ++ more),
-        length-append xs more,
-        ap (λ (ys : List ℕ). length ys) same,
-      )
+  part-longer more xs part from_now before f same is = omega (arith, f, part-size more xs part before same is)
 
-  -- the part that is kept
+  -- and that which is kept
   pub end-long : (xs : List ℕ) (part : Signal) (before : ℕ) → xs ≡ kept_now → part ≡ part_of terms.gaps before (xs ++ []) → length_of part ≡ length kept_now - 1
-  end-long xs part before same is =
-      omega (
-        arith,
-        ap (λ (b : Signal). length_of b) is,
-        length-bits (symbols_of (xs ++ [])),
-        length-symbols (xs ++ []),
-        length-append xs [],
-        ap (λ (ys : List ℕ). length ys) same,
-      )
+  end-long xs part before same is = omega (arith, part-size [] xs part before same is)
 
   -- the items and the group in progress, read again in that part, are the report's
   pub closed : AcquisitionsAreLate → StepsAreLawful → RunsAreLawful → SymbolsHaveWindows → IsInRange terms.rules → RunsAreReports → EndsMove
@@ -291,15 +278,7 @@ module _ {terms : SoftTerms} {symbols kept_now : List ℕ} {count : ℕ} {now : 
 
   -- the last symbols after further ones
   pub kept-after : (more : List ℕ) → last_symbols (kept_now ++ more) ≡ last_symbols (symbols ++ more)
-  kept-after more =
-      let n : ℕ = length symbols - most_kept in
-      let cut : drop n (symbols ++ more) ≡ drop n symbols ++ more = drop-append-le n symbols more (omega arith) in
-      let left : n + (length (drop n symbols ++ more) - most_kept) ≡ length (symbols ++ more) - most_kept =
-      omega (arith, length-append symbols more, length-append (drop n symbols) more, length-drop n symbols) in
-      ap (λ (xs : List ℕ). last_symbols (xs ++ more)) k.kept_is
-      ∙ ap (drop (length (drop n symbols ++ more) - most_kept)) (sym cut)
-      ∙ drop-drop (length (drop n symbols ++ more) - most_kept) n (symbols ++ more)
-      ∙ ap (λ (m : ℕ). drop m (symbols ++ more)) left
+  kept-after more = ap (λ (xs : List ℕ). last_symbols (xs ++ more)) k.kept_is ∙ last-ones most_kept symbols more
 
 -- counts that are at most a number are at most a greater one
 pub at-most-more : (m n : ℕ) (t : SoftTotals) → m ≤ n → AreAtMost m t → AreAtMost n t

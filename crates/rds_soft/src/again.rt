@@ -36,86 +36,48 @@ impl Search {
                     recording,
                     symbols,
                     place: group.place,
+                    margin,
                 };
-                SoftItem::Group(group_again(self, &source, margin, &group.blocks))
+                SoftItem::Group(group_again(self, &source, &group.blocks))
             }
         }
     }
 }
 
-/// Where the blocks of a group are read again from.
+/// Where the blocks of a group are read again from, and by which margin.
 #[derive(Clone, Copy)]
 struct Source<'a> {
     recording: &'a Recording,
     symbols: &'a [u8],
     /// The place of the first bit of the first block that was read.
     place: u64,
+    margin: Margin,
 }
 
 /// The group of these blocks, read again. If all four are valid, as in most groups, they stay as they are.
-fn group_again(
-    search: &mut Search,
-    source: &Source<'_>,
-    margin: Margin,
-    blocks: &[Block; 4],
-) -> SoftGroup
-    ensures { IsGroupAgain source.now.recording.now (symbols_of source.now.symbols.now) margin source.now.place blocks.now result }
+fn group_again(search: &mut Search, source: &Source<'_>, blocks: &[Block; 4]) -> SoftGroup
+    ensures { IsGroupAgain source.now.recording.now (symbols_of source.now.symbols.now) source.now.margin source.now.place blocks.now result }
 {
     match valid_blocks(blocks) {
         Some(valid) => SoftGroup::of_blocks(source.place, valid),
-        None => searched_group(search, source, margin, blocks),
+        None => searched_group(search, source, blocks),
     }
 }
 
 /// The same of any blocks, of which those that are not valid are searched.
-fn searched_group(
-    search: &mut Search,
-    source: &Source<'_>,
-    margin: Margin,
-    blocks: &[Block; 4],
-) -> SoftGroup
-    ensures { IsGroupAgain source.now.recording.now (symbols_of source.now.symbols.now) margin source.now.place blocks.now result }
+fn searched_group(search: &mut Search, source: &Source<'_>, blocks: &[Block; 4]) -> SoftGroup
+    ensures { IsGroupAgain source.now.recording.now (symbols_of source.now.symbols.now) source.now.margin source.now.place blocks.now result }
 {
     let [one, two, three, four] = blocks;
-    let before_three = was_read(one) + was_read(two);
-    let before_four = before_three + was_read(three);
-    let first = block_again(
-        search,
-        source,
-        margin,
-        one,
-        0,
-        BlockNumber::ONE,
-        Wanted::Either,
-    );
-    let second = block_again(
-        search,
-        source,
-        margin,
-        two,
-        was_read(one),
-        BlockNumber::TWO,
-        Wanted::Either,
-    );
+    let either = Wanted::Either;
+    let after_one = was_read(one);
+    let after_two = after_one + was_read(two);
+    let after_three = after_two + was_read(three);
+    let first = block_again(search, source, one, 0, BlockNumber::ONE, either);
+    let second = block_again(search, source, two, after_one, BlockNumber::TWO, either);
     let wanted = second.wanted_beside();
-    let third = block_again(
-        search,
-        source,
-        margin,
-        three,
-        before_three,
-        BlockNumber::THREE,
-        wanted,
-    );
-    let fourth = block_again(
-        search,
-        source,
-        margin,
-        four,
-        before_four,
-        BlockNumber::FOUR,
-        Wanted::Either,
-    );
+    let third = block_again(search, source, three, after_two, BlockNumber::THREE, wanted);
+    let fourth = block_again(search, source, four, after_three, BlockNumber::FOUR, either);
     SoftGroup::of_blocks(source.place, [first, second, third, fourth])
 }
 
@@ -162,7 +124,6 @@ fn was_read(block: &Block) -> u64
 fn block_again(
     search: &mut Search,
     source: &Source<'_>,
-    margin: Margin,
     block: &Block,
     before: u64,
     number: BlockNumber,
@@ -170,7 +131,7 @@ fn block_again(
 ) -> SoftBlock
     requires { before ≤ 3 }
     ensures { let heard = the_symbols_heard source.now.recording.now (symbols_of source.now.symbols.now) (source.now.place + 26 * before) in
-        IsBlockAgain heard number wanted margin block.now result }
+        IsBlockAgain heard number wanted source.now.margin block.now result }
 {
     match *block {
         Block::Missing => SoftBlock::Missing,
@@ -179,7 +140,7 @@ fn block_again(
             info,
         }),
         Block::Read(_) => SoftBlock::Read(match symbols_heard(source, before) {
-            Some(symbols) => search.read(&symbols, number, wanted, margin),
+            Some(symbols) => search.read(&symbols, number, wanted, source.margin),
             None => SoftReading::Lost,
         }),
     }

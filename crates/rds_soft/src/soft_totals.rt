@@ -136,10 +136,7 @@ fn valid_in(block: &SoftBlock) -> u64
     ensures value { result ≡ the_valid_in block.now }
     ensures most { result ≤ 1 }
 {
-    match block {
-        SoftBlock::Read(SoftReading::Valid { .. }) => 1,
-        _ => 0,
-    }
+    u64::from(matches!(block, SoftBlock::Read(SoftReading::Valid { .. })))
 }
 
 /// 1 if the block is lost.
@@ -147,10 +144,7 @@ fn lost_in(block: &SoftBlock) -> u64
     ensures value { result ≡ the_lost_in block.now }
     ensures most { result ≤ 1 }
 {
-    match block {
-        SoftBlock::Read(SoftReading::Lost) => 1,
-        _ => 0,
-    }
+    u64::from(matches!(block, SoftBlock::Read(SoftReading::Lost)))
 }
 
 /// How many bits of the block were corrected.

@@ -1,5 +1,4 @@
-use Rattle.rds_abi.proofs.Shared.{◌*◌, ◌≤◌, ap, ap₂, arith, length, refl, take, List, ℕ, ◌∙◌, bits_of, length_of, packed_bit}
-use Rattle.std.proofs.lemmas.List.FromFn.{length-map-range_with_len}
+use Rattle.rds_abi.proofs.Shared.{◌*◌, ◌≤◌, ap, ap₂, arith, length, refl, take, List, ℕ, ◌∙◌, bits_of, length_of, packed_bit, length-map-range_with_len}
 use Rattle.rds_abi.proofs.PartRuns.{bits-of-first}
 use Rattle.rds_abi.proofs.asked.recording_of.Goals as goal
 

@@ -1,6 +1,5 @@
-use Rattle.rds_abi.proofs.Shared.{◌+◌, ◌^◌, ◌<◌, ◌∷◌, [], ◌∙◌, arith, ap, sym, subst, zero, List, All, length_of, Item, group_item, items_of_end, place_of, due-soon, end-early}
+use Rattle.rds_abi.proofs.Shared.{◌+◌, ◌^◌, ◌<◌, ◌∷◌, [], ◌∙◌, arith, ap, sym, subst, zero, List, All, length_of, Item, group_item, items_of_end, place_of, due-soon, end-early, Group}
 use Rattle.rds_stream.specs.Tape.{TapeState}
-use Rattle.rds_sync.specs.declared.item.Item.TheVariants.{Group}
 use Rattle.rds_abi.proofs.ranges.end_of.Goals as goal
 
 pub overflow_add-result : goal.overflow_add-result

@@ -1,7 +1,6 @@
-use Rattle.rds_abi.proofs.Shared.{◌-◌, ◌<◌, ◌^◌, ap, arith, refl, subst, sym, ◌∙◌, All, Item, place_of, State, moved_state, run-early, state_in_c}
+use Rattle.rds_abi.proofs.Shared.{◌-◌, ◌<◌, ◌^◌, ap, arith, refl, subst, sym, ◌∙◌, All, Item, place_of, State, moved_state, run-early, state_in_c, lawful-on}
 use Rattle.rds_sync.specs.Decoding.{DecoderOf}
 use Rattle.rds_sync.specs.Lawful.{IsLawful}
-use Rattle.rds_live.proofs.Following.{lawful-on}
 use Rattle.rds_abi.proofs.ranges.go_on.Goals as goal
 
 pub fill_run-requires-clause-early : goal.fill_run-requires-clause-early

@@ -1,8 +1,4 @@
-use Rattle.rds_abi.proofs.Shared.{◌≡◌, ◌∙◌, ℕ, List, ap, arith, length, sym, length-map, packed_bit}
-use Rattle.std.specs.Prelude.{ℤ}
-use Rattle.std.specs.Int.{cast_signed, w8}
-use Rattle.rds_soft.specs.ReadAgain.{symbols_of}
-use Rattle.rds_soft.specs.Symbols.{hard_bit}
+use Rattle.rds_abi.proofs.Shared.{◌≡◌, ◌∙◌, ℕ, List, ap, arith, length, sym, length-map, packed_bit, ℤ, cast_signed, w8, symbols_of, hard_bit}
 use Rattle.rds_abi.proofs.soft.bytes_of.Goals as goal
 
 long : (raw : List ℕ) (symbols : List ℤ) → symbols_of raw ≡ symbols → length raw ≡ length symbols

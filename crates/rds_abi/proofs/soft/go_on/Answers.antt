@@ -1,8 +1,4 @@
-use Rattle.rds_abi.proofs.Shared.{◌≡◌, ◌-◌, ◌*◌, ◌/◌, ◌++◌, ◌∙◌, ℕ, List, ap, arith, drop, inl, inr, length, map, min, refl, subst, sym, length-map, Item, IsStreamDecoder, LiveOf, most_kept, completed, live_next, IsFilled, stream_in_c, stream_of, item_in_c}
-use Rattle.std.specs.Prelude.{ℤ}
-use Rattle.rds_soft.specs.ReadAgain.{symbols_of}
-use Rattle.rds_abi.specs.Layout.{soft_item_in_c}
-use Rattle.rds_abi.specs.Soft.{again_in, symbols_kept}
+use Rattle.rds_abi.proofs.Shared.{◌≡◌, ◌-◌, ◌*◌, ◌/◌, ◌++◌, ◌∙◌, ℕ, List, ap, arith, drop, inl, inr, length, map, min, refl, subst, sym, length-map, Item, IsStreamDecoder, LiveOf, most_kept, completed, live_next, IsFilled, stream_in_c, stream_of, item_in_c, ℤ, symbols_of, soft_item_in_c, again_in, symbols_kept}
 use Rattle.rds_abi.proofs.Streams.{says_next}
 use Rattle.rds_abi.proofs.soft.go_on.Goals as goal
 

@@ -1,7 +1,5 @@
-use Rattle.rds_abi.proofs.Shared.{◌≡◌, ◌-◌, ◌≤◌, ◌∙◌, ap, arith, subst, Item}
-use Rattle.rds_sync.specs.declared.item.Item.TheVariants.{Group}
+use Rattle.rds_abi.proofs.Shared.{◌≡◌, ◌-◌, ◌≤◌, ◌∙◌, ap, arith, subst, Item, Group, SoftItem}
 use Rattle.rds_soft.specs.declared.soft_item.SoftGroup.{SoftGroup}
-use Rattle.rds_soft.specs.declared.soft_item.SoftItem.{SoftItem}
 use Rattle.rds_soft.specs.declared.soft_item.SoftItem.TheVariants.{Group as InSoft}
 use Rattle.rds_soft.specs.Again.{IsItemAgain}
 use Rattle.rds_soft.specs.ReadAgain.{group_again, item_again, symbols_of}

@@ -1,5 +1,4 @@
-use Rattle.rds_abi.proofs.Shared.{◌∙◌, ap, take}
-use Rattle.std.proofs.lemmas.List.{take_rest}
+use Rattle.rds_abi.proofs.Shared.{◌∙◌, ap, take, take_rest}
 use Rattle.rds_abi.proofs.soft.kept_from.Goals as goal
 
 pub returns : goal.returns

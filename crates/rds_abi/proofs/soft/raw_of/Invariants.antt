@@ -1,5 +1,4 @@
-use Rattle.rds_abi.proofs.Shared.{◌≡◌, take}
-use Rattle.rds_soft.specs.ReadAgain.{symbols_of}
+use Rattle.rds_abi.proofs.Shared.{◌≡◌, take, symbols_of}
 use Rattle.rds_abi.proofs.soft.raw_of.Given as goal
 
 abbrev pub invariant-loop-at : goal.invariant-loop-at

@@ -1,7 +1,4 @@
-use Rattle.rds_abi.proofs.Shared.{◌≡◌, drop, length, map, take, Item}
-use Rattle.rds_soft.specs.ReadAgain.{symbols_of}
-use Rattle.rds_abi.specs.Layout.{soft_item_in_c}
-use Rattle.rds_abi.specs.Soft.{again_in}
+use Rattle.rds_abi.proofs.Shared.{◌≡◌, drop, length, map, take, Item, symbols_of, soft_item_in_c, again_in}
 use Rattle.rds_abi.proofs.soft.write_again.Given as goal
 
 abbrev pub invariant-loop-at : goal.invariant-loop-at

@@ -1,5 +1,4 @@
-use Rattle.rds_abi.proofs.Shared.{◌≡◌, ◌-◌, ◌+◌, ◌<◌, ◌≤◌, ◌∙◌, ℕ, List, ap, arith, drop, inl, length, refl, subst, take, length-take, LiveOf, Terms, completed, live_next, stream_of}
-use Rattle.std.proofs.lemmas.List.{length-drop}
+use Rattle.rds_abi.proofs.Shared.{◌≡◌, ◌-◌, ◌+◌, ◌<◌, ◌≤◌, ◌∙◌, ℕ, List, ap, arith, drop, inl, length, refl, subst, take, length-take, LiveOf, Terms, completed, live_next, stream_of, length-drop}
 use Rattle.rds_abi.proofs.Fitting.{all-taken, filled-long, filled-piece, joined-count, joined-items, joined-next}
 use Rattle.rds_abi.proofs.stream.take_fitting.Goals as goal
 

@@ -1,4 +1,4 @@
-use Rattle.rds_soft.proofs.Names.{common_steps, arith, ◌≡◌, ◌+◌, ◌∙◌, ℕ, List, Bool, Option, Some, None, ap, sym, length, take, drop, ℤ, nat_lt, if◌then◌else◌, cast_signed, w8, take-map, drop-map, option_map, length-map, symbols_of}
+use Rattle.rds_soft.proofs.Names.{common_steps, arith, ◌≡◌, ◌+◌, ◌∙◌, ℕ, List, Bool, Option, Some, None, ap, length, take, drop, ℤ, nat_lt, if◌then◌else◌, cast_signed, w8, take-map, drop-map, option_map, length-map, symbols_of}
 use Rattle.rds_soft.proofs.again.chunk_at.Goals as goal
 
 mapped : (b : Bool) (x : List ℕ) → option_map symbols_of (if b then Some x else None) ≡ (if b then Some (symbols_of x) else None)
@@ -9,13 +9,7 @@ at_symbols : (raw : List ℕ) (first : ℕ) (found : Option (List ℕ))
     → found ≡ (if nat_lt (first + 26) (length raw) then Some (take 27 (drop first raw)) else None)
     → option_map symbols_of found
     ≡ (if nat_lt (first + 26) (length (symbols_of raw)) then Some (take 27 (drop first (symbols_of raw))) else None)
-at_symbols raw first found is =
-    let part : take 27 (drop first (symbols_of raw)) ≡ symbols_of (take 27 (drop first raw)) =
-    ap (take 27) (drop-map (cast_signed w8) first raw) ∙ take-map (cast_signed w8) 27 (drop first raw) in
-    ap (option_map symbols_of) is
-    ∙ mapped (nat_lt (first + 26) (length raw)) (take 27 (drop first raw))
-    ∙ ap (λ (n : ℕ). (if nat_lt (first + 26) n then Some (symbols_of (take 27 (drop first raw))) else None)) (sym (length-map raw (cast_signed w8)))
-    ∙ ap (λ (xs : List ℤ). (if nat_lt (first + 26) (length (symbols_of raw)) then Some xs else None)) (sym part)
+at_symbols raw first found is = grind (arith, common_steps, drop-map (cast_signed w8) first raw, take-map (cast_signed w8) 27 (drop first raw), length-map raw (cast_signed w8), mapped)
 
 pub returns-in-Some : goal.returns-in-Some
 returns-in-Some c =

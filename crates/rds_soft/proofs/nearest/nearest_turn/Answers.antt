@@ -12,20 +12,10 @@ pub returns-in-4-default : goal.returns-in-4-default
 returns-in-4-default c = grind (arith, common_steps, at_one, only_D, c.get.ensures.value, c.in-4-default.is-0, c.remainders_are_linear.ensures, c.turn_to-in-4-default.ensures.offset, c.turn_to-in-4-default.ensures.lightest)
 
 pub returns-in_default-OnlyC : goal.returns-in_default-OnlyC
-returns-in_default-OnlyC c =
-    let at = c.in_default-OnlyC.is-0 in
-    of_third c.args.w c.args.number OnlyC c.args.wanted c.args.confidences.now _ _ _ _
-    (is_third c.args.number c.get.result c.get.ensures.value c.get.ensures.least c.get.ensures.most at.0.0.1 at.0.1 at.1)
-    c.in_default-OnlyC.is-1
-    (at_one c.remainders_are_linear.ensures c.args.w 3 OnlyC c.args.confidences.now C _ _ _ _ c.turn_to-in_default-OnlyC.ensures.offset refl refl only_C c.turn_to-in_default-OnlyC.ensures.lightest)
+returns-in_default-OnlyC c = grind (arith, common_steps, of_third, is_third, at_one c.remainders_are_linear.ensures c.args.w 3 OnlyC c.args.confidences.now C _ _ _ _ c.turn_to-in_default-OnlyC.ensures.offset refl refl only_C c.turn_to-in_default-OnlyC.ensures.lightest)
 
 pub returns-in_default-OnlyCx : goal.returns-in_default-OnlyCx
-returns-in_default-OnlyCx c =
-    let at = c.in_default-OnlyCx.is-0 in
-    of_third c.args.w c.args.number OnlyCx c.args.wanted c.args.confidences.now _ _ _ _
-    (is_third c.args.number c.get.result c.get.ensures.value c.get.ensures.least c.get.ensures.most at.0.0.1 at.0.1 at.1)
-    c.in_default-OnlyCx.is-1
-    (at_one c.remainders_are_linear.ensures c.args.w 3 OnlyCx c.args.confidences.now Cx _ _ _ _ c.turn_to-in_default-OnlyCx.ensures.offset refl refl only_Cx c.turn_to-in_default-OnlyCx.ensures.lightest)
+returns-in_default-OnlyCx c = grind (arith, common_steps, of_third, is_third, at_one c.remainders_are_linear.ensures c.args.w 3 OnlyCx c.args.confidences.now Cx _ _ _ _ c.turn_to-in_default-OnlyCx.ensures.offset refl refl only_Cx c.turn_to-in_default-OnlyCx.ensures.lightest)
 
 pub returns-in_default-Either : goal.returns-in_default-Either
 returns-in_default-Either c = grind (arith, common_steps, of_third, is_third)

@@ -1,5 +1,5 @@
-use Rattle.rds_live.proofs.Names.{common_steps, ◌≡◌, ◌++◌, ◌∙◌, List, [], ap, arith, subst, sym, ℕ, append-nil, Signal, length_of, group_item, plus, IsLawful, totals_of, Item, gaps_within, IsStart, group_next, LiveOf, complete, report_of, Start}
-use Rattle.rds_live.proofs.Nexts.{group-is, part-is, report-now, totals-end}
+use Rattle.rds_live.proofs.Names.{common_steps, ◌≡◌, ◌++◌, ◌∙◌, List, [], ap, arith, refl, subst, sym, ℕ, append-nil, Signal, length_of, group_item, plus, IsLawful, totals_of, Item, gaps_within, group_next, run_next, LiveOf, complete, report_of}
+use Rattle.rds_live.proofs.Nexts.{group-inside, part-inside, report-now, totals-end}
 use Rattle.rds_live.proofs.Parts.{length-at}
 use Rattle.rds_live.proofs.stream_decoder.StreamDecoder.finish.Goals.{After-stream_end_of}
 use Rattle.rds_live.proofs.stream_decoder.StreamDecoder.finish.Goals as goal
@@ -11,32 +11,17 @@ moved_end-group-requires-clause-lawful c =
     let long = ap (λ (b : Signal). length_of b) c.into_recording-part.ensures ∙ length-at (gaps_within s.gaps.now start.before start.from) s.room.bytes start.from in
     subst (λ (n : ℕ). IsLawful s.rules.now n start.state) (sym long) (subst (λ (l : LiveOf). IsLawful l.terms.rules start.from start.state) (sym c.self.view_is) c.next_start-start.ensures.lawful)
 
--- the facts at the end
-module _ (c : After-stream_end_of) where
-  abbrev live : LiveOf
-  live = record {
-    terms = record { rules = c.self.inside.rules.now; gaps = c.self.inside.gaps.now };
-    tail = c.self.inside.room.bytes;
-    place = c.self.inside.place;
-    state = c.self.inside.state;
-    totals = c.self.inside.totals;
-  }
+-- the group in progress and the totals
+closed_is : (c : After-stream_end_of) → group_item c.stream_end_of.result.group ≡ group_next c.args.self [] 0
+closed_is c =
+    let start = c.next_start-start.result in
+    let part = part-inside c.args.self start c.next_start-start.ensures _ c.self.view_is c.into_recording-part.result [] c.self.inside.room.bytes 0 0 start.from (omega arith) (omega arith)
+    (sym (append-nil c.self.inside.room.bytes)) c.into_recording-part.ensures in
+    group-inside c.args.self start c.next_start-start.ensures _ c.self.view_is [] 0 (run_next c.args.self [] 0) refl c.into_recording-part.result start.state _ part c.next_start-start.ensures.state
+    (ap group_item c.stream_end_of.ensures.group ∙ c.moved_end-group.ensures)
 
-  abbrev start : Start
-  start = c.next_start-start.result
-
-  is : IsStart live start
-  is = subst (λ (l : LiveOf). IsStart l start) (sym c.self.view_is) c.next_start-start.ensures
-
-  closed_is : group_item c.stream_end_of.result.group ≡ group_next c.args.self [] 0
-  closed_is =
-      group-is live start is c.into_recording-part.result [] 0 start.state (group_item c.stream_end_of.result.group)
-      (part-is live start is c.into_recording-part.result [] live.tail 0 0 start.from (omega arith) (omega arith) (sym (append-nil live.tail)) c.into_recording-part.ensures)
-      is.state (ap group_item c.stream_end_of.ensures.group ∙ c.moved_end-group.ensures)
-      ∙ ap (λ (l : LiveOf). group_next l [] 0) c.self.view_is
-
-  counted_is : c.stream_end_of.result.totals ≡ plus c.args.self.totals (totals_of (group_next c.args.self [] 0))
-  counted_is = grind (arith, common_steps, closed_is)
+counted_is : (c : After-stream_end_of) → c.stream_end_of.result.totals ≡ plus c.args.self.totals (totals_of (group_next c.args.self [] 0))
+counted_is c = grind (arith, common_steps, closed_is c)
 
 pub returns-clause-closed : goal.returns-clause-closed
 returns-clause-closed c = closed_is (goal.at.returns-clause-closed c).After-stream_end_of

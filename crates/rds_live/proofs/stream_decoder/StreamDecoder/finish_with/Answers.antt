@@ -1,6 +1,6 @@
-use Rattle.rds_live.proofs.Names.{common_steps, ◌≡◌, ◌+◌, ◌-◌, ◌*◌, ◌++◌, ◌∙◌, List, ap, ap₂, arith, length, refl, subst, sym, ℕ, length-map, length-take-le, with_items_is, with_items, Signal, length_of, group_item, plus, IsLawful, run, totals_of, Item, State, Totals, gaps_within, moved_item, IsStart, group_next, items_next, part_with, run_next, HasHeard, LiveOf, complete, report_at, signal_at, Start}
+use Rattle.rds_live.proofs.Names.{common_steps, ◌≡◌, ◌+◌, ◌-◌, ◌*◌, ◌++◌, ◌∙◌, List, ap, ap₂, arith, length, refl, subst, sym, ℕ, length-map, length-take-le, with_items_is, with_items, Signal, length_of, group_item, plus, IsLawful, run, totals_of, Item, Totals, gaps_within, moved_item, group_next, items_next, part_with, run_next, HasHeard, LiveOf, complete, report_at, signal_at, Start}
 use Rattle.rds_live.proofs.Following.{at-most-more}
-use Rattle.rds_live.proofs.Nexts.{group-is, items-are, part-is, run-is, totals-are, totals-end}
+use Rattle.rds_live.proofs.Nexts.{group-inside, items-inside, part-inside, run-is, totals-end, totals-inside}
 use Rattle.rds_live.proofs.Parts.{length-at}
 use Rattle.rds_live.proofs.stream_decoder.StreamDecoder.finish_with.Goals.{After-stream_end_of}
 use Rattle.rds_live.proofs.stream_decoder.StreamDecoder.finish_with.Goals as goal
@@ -24,20 +24,8 @@ moved_end-group-requires-clause-lawful c =
 
 -- the facts once the bits that end the stream were decoded
 module _ (c : After-stream_end_of) where
-  abbrev live : LiveOf
-  live = record {
-    terms = record { rules = c.self.inside.rules.now; gaps = c.self.inside.gaps.now };
-    tail = c.self.inside.room.bytes;
-    place = c.self.inside.place;
-    state = c.self.inside.state;
-    totals = c.self.inside.totals;
-  }
-
   abbrev start : Start
   start = c.next_start-start.result
-
-  is : IsStart live start
-  is = subst (λ (l : LiveOf). IsStart l start) (sym c.self.view_is) c.next_start-start.ensures
 
   abbrev bytes : List ℕ
   bytes = c.args.bytes.now
@@ -45,35 +33,33 @@ module _ (c : After-stream_end_of) where
   abbrev bits : ℕ
   bits = c.args.bits
 
-  part_is : c.into_recording-part.result ≡ part_with live bytes bits
+  part_is : c.into_recording-part.result ≡ part_with c.args.self bytes bits
   part_is =
       let few = length-take-le c.div_ceil.result bytes (omega (arith, c.div_ceil.ensures, c.requires.held)) in
-      part-is live start is c.into_recording-part.result bytes c.push.new.self.bytes c.div_ceil.result bits (start.from + bits) (omega (arith, few, c.div_ceil.ensures)) refl c.push.ensures.bytes
-      c.into_recording-part.ensures
+      part-inside c.args.self start c.next_start-start.ensures _ c.self.view_is c.into_recording-part.result bytes c.push.new.self.bytes c.div_ceil.result bits (start.from + bits)
+      (omega (arith, few, c.div_ceil.ensures)) refl c.push.ensures.bytes c.into_recording-part.ensures
 
-  run_is : run c.into_recording-part.result live.terms.rules start.state start.from (start.from + bits - start.from) ≡ run_next live bytes bits
-  run_is = run-is live start is bytes c.into_recording-part.result bits (start.from + bits - start.from) part_is (omega arith)
-
-  found_is : c.fill_from-end.new.items.items ≡ (run_next live bytes bits).1
-  found_is = c.fill_from-end.ensures.items ∙ ap (λ (r : State × List Item). r.1) run_is
+  run_is : run c.into_recording-part.result c.self.inside.rules.now start.state start.from (start.from + bits - start.from) ≡ run_next c.args.self bytes bits
+  run_is = grind (arith, common_steps, run-is c.args.self start c.next_start-start.ensures bytes c.into_recording-part.result bits (start.from + bits - start.from) part_is, c.self.view_is)
 
   completed_is : (with_items c.fill_from-end.new.items c.move_on.new.items).items ≡ items_next c.args.self bytes bits
   completed_is =
       let counted = ap length c.move_on.ensures ∙ length-map c.as_mut_slice.result.now (moved_item start.before) ∙ c.as_mut_slice.ensures.len in
       with_items_is c.fill_from-end.new.items c.move_on.new.items counted
-      ∙ items-are live start is c.move_on.new.items c.as_mut_slice.result.now bytes bits c.move_on.ensures (c.as_mut_slice.ensures.value ∙ found_is)
-      ∙ ap (λ (l : LiveOf). items_next l bytes bits) c.self.view_is
+      ∙ items-inside c.args.self start c.next_start-start.ensures _ c.self.view_is bytes bits _ run_is c.as_mut_slice.result.now c.move_on.new.items
+      (c.as_mut_slice.ensures.value ∙ c.fill_from-end.ensures.items) c.move_on.ensures
 
   closed_is : group_item c.stream_end_of.result.group ≡ group_next c.args.self bytes bits
-  closed_is = grind (arith, common_steps, group-is, is, part_is, run_is)
+  closed_is =
+      group-inside c.args.self start c.next_start-start.ensures _ c.self.view_is bytes bits _ run_is c.into_recording-part.result c.fill_from-end.result _ part_is c.fill_from-end.ensures.state
+      (ap group_item c.stream_end_of.ensures.group ∙ c.moved_end-group.ensures)
 
   counted_is : c.stream_end_of.result.totals ≡ plus (plus c.args.self.totals (totals_of (items_next c.args.self bytes bits))) (totals_of (group_next c.args.self bytes bits))
   counted_is =
       c.stream_end_of.ensures.totals
       ∙ ap₂ (λ (t : Totals) (items : List Item). plus t (totals_of items))
-      (totals-are live start is c.totals_join.ensures bytes bits c.of.result c.plus-totals.result
-      (c.of.ensures.value ∙ ap (λ (items : List Item). totals_of items) (c.deref.ensures.value ∙ found_is)) c.plus-totals.ensures.value
-      ∙ ap (λ (l : LiveOf). plus l.totals (totals_of (items_next l bytes bits))) c.self.view_is)
+      (totals-inside c.args.self start c.next_start-start.ensures _ c.self.view_is bytes bits _ run_is c.totals_join.ensures c.of.result c.plus-totals.result
+      (c.of.ensures.value ∙ ap (λ (items : List Item). totals_of items) (c.deref.ensures.value ∙ c.fill_from-end.ensures.items)) c.plus-totals.ensures.value)
       (sym (ap group_item c.stream_end_of.ensures.group) ∙ closed_is)
 
   report_is : (before : List ℕ) → HasHeard c.args.self before

@@ -10,14 +10,10 @@ run_near-requires-clause-lawful c =
     c.saturating_sub-from.result c.in_ok-near.near.before (omega (arith, c.saturating_sub-from.ensures, c.len.ensures)) (omega (arith, c.in_ok-near.ensures.before, c.len-2.ensures))
 
 pub run_near-requires-clause-early : goal.run_near-requires-clause-early
-run_near-requires-clause-early c =
-    early-is c.self.invariant c.saturating_sub-from.result c.in_ok-near.near.before (omega (arith, c.saturating_sub-from.ensures, c.len.ensures))
-    (omega (arith, c.in_ok-near.ensures.before, c.len-2.ensures))
+run_near-requires-clause-early c = grind (arith, early-is c.self.invariant c.saturating_sub-from.result c.in_ok-near.near.before, c.saturating_sub-from.ensures, c.len.ensures, c.in_ok-near.ensures.before, c.len-2.ensures)
 
 pub run_near-requires-clause-order : goal.run_near-requires-clause-order
-run_near-requires-clause-order c =
-    part-longer c.self.invariant c.args.symbols.now c.deref.result.now c.in_ok-near.near.recording c.saturating_sub-from.result _
-    (omega (arith, c.saturating_sub-from.ensures, c.len.ensures)) c.deref.ensures.value c.in_ok-near.ensures.part
+run_near-requires-clause-order c = grind (arith, part-longer c.self.invariant c.args.symbols.now c.deref.result.now c.in_ok-near.near.recording c.saturating_sub-from.result, c.saturating_sub-from.ensures, c.len.ensures, c.deref.ensures.value, c.in_ok-near.ensures.part)
 
 pub read_all_again-requires-clause-places : goal.read_all_again-requires-clause-places
 read_all_again-requires-clause-places c =

@@ -1,5 +1,5 @@
 use Rattle.rds_abi.proofs.Shared.{◌++◌, ◌∙◌, List, ap, append_assoc, sym, group_item, Item}
-use Rattle.rds_abi.proofs.stream.push_with.Goals as goal
+use Rattle.rds_abi.proofs.stream.push_last.Goals as goal
 
 pub returns-clause-items : goal.returns-clause-items
 returns-clause-items c before given h is =
