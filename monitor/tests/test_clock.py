@@ -131,8 +131,9 @@ def test_the_error_of_a_rate() -> None:
 
 
 def test_clock_times_that_are_none() -> None:
-    good = minute_group(1000, int(start_of("2026-03-29T00:31:00Z")))
+    good, first = minute_group(1000, int(start_of("2026-03-29T00:31:00Z"))), minute_group(1000, 0)
     assert ticks_of(good) == [Tick(1000, int(start_of("2026-03-29T00:31:00Z")))]
+    assert ticks_of(first) == [Tick(1000, 0)] and ticks_of(minute_group(1000, -60)) == []
     hour_24 = {"info3": int(good["info3"][0]) | 1}
     for changes in (
         *({"info4": 0x7F02}, {"kind1": 3}, {"kind4": 1}, {"version": 2}, {"number": 3}),
