@@ -128,10 +128,12 @@ group,-1,0,A,A:D393,B:0548,C:E0CD,D:5041              no place
 group,68719476736,0,A,A:D393,B:0548,C:E0CD,D:5041     no place
 group,,0,A,A:D393,B:0548,C:E0CD,D:5041                no place
 group,26,0,A,A:D39G,B:0548,C:E0CD,D:5041              its block 1 is no block
+group,26,0,A,A:000G,B:0548,C:E0CD,D:5041              its block 1 is no block
 group,26,0,A,A:d393,B:0548,C:E0CD,D:5041              its block 1 is no block
 group,26,0,A,A:D393,A:0548,C:E0CD,D:5041              its block 2 is no block
 group,26,0,A,A:D393,B:0548,C:E0CD~0000000,D:5041      its block 3 is no block
-group,26,0,A,A:D393,B:0548,C:E0CD~8000000,D:5041      its block 3 is no block
+group,26,0,A,A:D393,B:0548,C:E0CD~4000000,D:5041      its block 3 is no block
+group,26,0,A,A:D393,B:0548,C:E0CD~000000x,D:5041      its block 3 is no block
 group,26,0,A,A:D393,B:0548,C:E0CD~000800x,D:5041      its block 3 is no block
 group,26,0,A,A:D393,B:0548,C:E0CD~0x08000,D:5041      its block 3 is no block
 group,26,0,A,A:D393,B:0548,C:E0CD~000l000,D:5041      its block 3 is no block

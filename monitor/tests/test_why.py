@@ -24,7 +24,7 @@ CASES = [
     (b"12\n3g", "scan --hex", "11 HexText", ["byte 5 (line 2, column 2) is 0x67, neither a digit nor blank"]),
     (b"1 2\n3", "list --hex", "11 HexText", ["there are 3 digits, an odd number"]),
     (b"0000", "totals --gaps 1-2,9-9", "16 BadGaps", ["gap 2, 9-9, is empty"]),
-    (b"0000", "totals --gaps 99-99", "16 BadGaps", ["gap 1, 99-99, is empty"]),
+    (b"0000", "totals --gaps 0-5,5-32,99-99", "16 BadGaps", ["gap 3, 99-99, is empty"]),
     (
         b"0000",
         "list --gaps=1-5,4-9",
