@@ -115,13 +115,17 @@ def test_a_clock_that_becomes_known_later(database, station: bytes) -> None:
     assert asked(database, "SELECT begin_utc FROM minutes")[1] == "1970-01-01T00:01:00.000Z"
 
 
-def test_the_offset_of_the_stations_clock(database) -> None:
-    """CT ends as a minute begins: here 2026-03-29T00:31Z, after 42.75 s of a recording that begins at 00:30:17."""
+def test_a_minute_that_ends_with_a_group(database) -> None:
+    """CT ends as a minute begins: here 2026-03-29T00:31Z, after just a minute of a recording that begins 17.0016 s after half past. The
+    next group says another PTY. The recording ends as the next minute does."""
     day = 61128
     tick = (0xD393, 0x4540 | day >> 15, (day & 0x7FFF) << 1, 31 << 6)
-    rows = [group_row(104 * n, tick if 104 * n == 50648 else WORDS) for n in range(600)]
-    add("--unfinished --start 2026-03-29T00:30:17Z --name it", database, data=listing(rows, False))
-    assert asked(database, "SELECT clock_s FROM minutes")[0] == round(43 - (50648 + 104) / 1187.5, 3)
+    rows = [group_row(10 + 104 * n, WORDS if n < 684 else tick) for n in range(685)]
+    rows.append(group_row(71250, (0xD393, 0x0568, 0xE0CD, 0x5041)))
+    words = "--unfinished --length 142500 --trust-length --start 2026-03-29T00:30:17.0016Z --name it"
+    add(words, database, data=listing(rows, False))
+    told = [(-17.002, "10 Pop music", 2740), (None, "11 Rock music", 2740)]
+    assert asked(database, "SELECT clock_s, pty, sent FROM minutes") == told
 
 
 def test_a_stream_that_was_restarted_is_two_sessions(database) -> None:
