@@ -19,7 +19,7 @@ from hypothesis import HealthCheck, given, settings, strategies as st
 from conftest import encode, rds
 from made import acquired_row, block, damaged, group_row, joined, listing, lock, loss_row, read, run, said
 from rds_monitor.rows import listing as of_listing
-from rds_monitor.rows.heads import HEADER, is_listing
+from rds_monitor.rows.heads import HEADER, is_known, is_listing
 from rds_monitor.rows.items import BLOCKS, GROUP, VALID, Fault, Reading, Rows, Rules, totals_of
 from rds_monitor.rows.listing import Listing, text_of, totals_text
 from rds_monitor.rows.opening import open_source
@@ -186,7 +186,7 @@ def test_the_first_eighty_signs_of_a_bad_row_are_told(station_listing: bytes) ->
 NO_INPUTS = {
     "group,1".encode("utf-16"): "UTF-16",
     b"begin_s,end_s,sent,valid\n0,60,1,1\n": "row 1: 'begin_s,end_s,sent,valid' is no row",
-    b"12345678 9ABCDEF0\n": "hexadecimal text: use --hex",
+    b"12345678 9ABCDE\n": "hexadecimal text: use --hex",
     b"": "the input is empty",
 }
 
@@ -202,6 +202,13 @@ def test_bits_like_those_of_a_listing_in_utf_16() -> None:
     """The bits of a recording may begin with its mark, or have its first word."""
     for mark, word in ((b"\xff\xfe", b"groups"), (b"\xfe\xff", b"groups"), (b"\xff\xff", b"g\0r\0o\0u\0p\0")):
         assert not is_listing(mark + word + bytes(range(256)))
+    assert not is_listing(b"12345678 9ABCD\n")
+
+
+@pytest.mark.parametrize("head", [bytes(6), b"123456789ABCDEF0\n", b"<%63s" % b"\n", b"G\n%62s" % b""])
+def test_beginnings_that_say_what_an_input_is(head: bytes) -> None:
+    """None of them does without its last byte, so that no more of a pipe is waited for."""
+    assert [is_known(head[:size]) for size in range(len(head) + 1)] == [*len(head) * [False], True]
 
 
 def test_a_row_without_an_end() -> None:
