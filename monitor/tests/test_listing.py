@@ -205,7 +205,9 @@ def test_bits_like_those_of_a_listing_in_utf_16() -> None:
     assert not is_listing(b"12345678 9ABCD\n")
 
 
-@pytest.mark.parametrize("head", [bytes(6), b"123456789ABCDEF0\n", b"<%63s" % b"\n", b"G\n%62s" % b""])
+@pytest.mark.parametrize(
+    "head", [bytes(6), b"3456789ABCDEF01\n123456789ABCDEF0\n", b"<%63s" % b"\n", b"G\n%62s" % b""]
+)
 def test_beginnings_that_say_what_an_input_is(head: bytes) -> None:
     """None of them does without its last byte, so that no more of a pipe is waited for."""
     assert [is_known(head[:size]) for size in range(len(head) + 1)] == [*len(head) * [False], True]
