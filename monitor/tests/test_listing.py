@@ -185,7 +185,7 @@ def test_the_first_eighty_signs_of_a_bad_row_are_told(station_listing: bytes) ->
 # Beginnings of inputs, with the fault of each.
 NO_INPUTS = {
     "group,1".encode("utf-16"): "UTF-16",
-    b"begin_s,end_s,sent,valid\n0,60,1,1\n": "row 1: 'begin_s,end_s,sent,valid' is no row",
+    b"%060d,end_s\n0,60,1,1\n" % 7: f"row 1: '{7:060}' is no row",
     b"12345678 9ABCDE\n": "hexadecimal text: use --hex",
     b"": "the input is empty",
 }
