@@ -43,8 +43,8 @@ DI = ("di_stereo", "di_artificial_head", "di_compressed", "di_dynamic_pty")
 # The RadioText that the tags below are of, a song's title and artist.
 RT_PLUS, SONG, TITLE, ARTIST = oda(0x4BD7, "11A"), text(b"Song by Singer\r"), (1, 0, 3), (4, 8, 5)
 TAGGED = {"rt_plus:item.title": "Song", "rt_plus:item.artist": "Singer"}
-SERVICE = dict(location_table=1, alternative_frequencies=True, mode="basic", service=10)
-SERVICE["scope"] = ["national", "regional"]
+SERVICE = dict(location_table=1, alternative_frequencies=True, mode="basic", service=11)
+SERVICE["scope"] = ["national", "regional", "urban"]
 MESSAGE = dict(event=701, location=4321, direction="negative", extent=3)
 TRAFFIC = segments("8A", b"Traffic1", 2, 0x14)
 
@@ -133,9 +133,9 @@ CASES: Dict[str, Case] = {
     "8A: TMC": Case([group("8A", 3, 1, 2)], {"tmc": True}),
     "8A: TMC by CD47": Case([oda(0xCD47, "8A"), group("8A", 3, 1, 2)], {"tmc": True}),
     "8A: TMC service": Case(
-        [oda(0xCD46, "8A", 0x0066), oda(0xCD46, "8A", 0x6280)],
+        [oda(0xCD46, "8A", 0x0067), oda(0xCD46, "8A", 0x62C0)],
         {"tmc_service": SERVICE},
-        texts={"tmc_service": "location table 1, service 10, national regional"},
+        texts={"tmc_service": "location table 1, service 11, national regional urban"},
     ),
     "8A: TMC message in one group": Case(
         [group("8A", 0b01101, 1 << 15 | 1 << 14 | 3 << 11 | 701, 4321)],
@@ -188,9 +188,9 @@ CASES: Dict[str, Case] = {
         texts={"eon:D312.linkage": "linked, set 123"},
     ),
     "14A: linkage between countries": Case(
-        [eon(12, 0x1042)],
-        {"eon:D312.linkage": dict(linked=False, extended_generic=False, international=True, set=0x042)},
-        texts={"eon:D312.linkage": "not linked, set 042, international"},
+        [eon(12, 0x1043)],
+        {"eon:D312.linkage": dict(linked=False, extended_generic=False, international=True, set=0x043)},
+        texts={"eon:D312.linkage": "not linked, set 043, international"},
     ),
     "14A: PTY and TA": Case(
         [eon(13, 17 << 11 | 1)],

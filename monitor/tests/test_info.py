@@ -269,7 +269,7 @@ RARE: List[Tuple[Words, Dict[str, Any]]] = [
     (label(3, 0x44), {"has_linkage": False, "language": "44"}),
     (label(3, 0x40, NO_HOUR, 1), {"has_linkage": True, "language": "Background sound, clean feed"}),
     (oda(0xCD47, "8A", 0x003F), {"tmc": (0, True, SCOPES)}),
-    (oda(0xCD46, "8A", 0x0048), {"tmc": (1, False, SCOPES[:1])}),
+    (oda(0xCD46, "8A", 0x0045), {"tmc": (1, False, [SCOPES[1], SCOPES[3]])}),
     (group("6A", 0x1F, 0x1234, 0x5678), {"in_house_data": [0x1F, 0x1234, 0x5678]}),
     (group("6B", 3, 0xD318, 0x5678), {"in_house_data": [3, 0x5678]}),
     (eon(4, 0xE101), {"alt_frequencies": [87600]}),
