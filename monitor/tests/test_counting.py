@@ -62,6 +62,7 @@ CASES: Dict[str, Tuple[List[Words], List[Tuple[int, Damage]], str, List[Any]]] =
     "a value in between breaks a row": (TURNS, each(range(6), LOSE[3]), "pty", []),
     "halves of groups make a text": (5 * A_TEXT, HALVES, "rt", ["A text"]),
     "a text of which blocks 4 were lost": (3 * A_TEXT, each(range(6), LOSE[4]), "rt", []),
+    "a text whose flag does not count": (3 * A_TEXT, each(range(6), MEND[2]), "rt rt_ab", []),
     "pairs under a flag that does not count": (STRAYS, each([5, 7], LOSE[1]), "rt rt_ab", ["A", STAYS]),
     "clock time needs a valid group": (CLOCKS, each([4, 5, 6], MEND[1]), "ct", []),
     "a PI once in a corrected block": (2 * NAMED, [(4, Damage(1, CORRECTED, 0xD319))], "pi", ["D318"]),
