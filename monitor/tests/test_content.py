@@ -126,7 +126,6 @@ CASES: Dict[str, Case] = {
         [group("6A", 3, 1, 2), oda(0x1234, "6A"), group("6A", 3, 1, 3)], {"ih_data": None}, {"data": True}
     ),
     "6A: in-house data if not asked for": Case([group("6A", 3, 1, 2)], {"ih": True, "ih_data": None}),
-    "6A: in-house": Case([group("6A", 3, 1, 2)], {"ih": True}),
     "6B: in-house": Case([group("6B", 3, 1, 2)], {"ih": True}),
     "7A: radio paging": Case([group("7A", 3, 1, 2)], {"rp": True}),
     "13A: enhanced paging": Case([group("13A", 3, 1, 2)], {"erp": True}),
@@ -244,6 +243,14 @@ CASES: Dict[str, Case] = {
         [RT_PLUS, *text(b"Anna and Berta\r"), tags(1, 1, (4, 0, 3), (4, 9, 4))],
         {"rt_plus:item.artist": "Anna", "rt_plus:item.artist:2": "Berta"},
     ),
+    **{
+        f"RT+ {more} of nothing after {count} groups of a text": Case(
+            [RT_PLUS, *SONG[:count], tags(0, 0, (0, 0, 0), (0, 0, more))],
+            {"rt_plus_running": False, "rt_plus_toggle": 0},
+        )
+        for more in (0, 1)
+        for count in (0, 1, 4)
+    },
     "RT+ over the end": Case(
         [RT_PLUS, *SONG, tags(1, 1, TITLE, (4, 8, 6))],
         {"rt_plus:item.title": "Song", "rt_plus:item.artist": None},
