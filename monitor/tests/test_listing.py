@@ -19,6 +19,7 @@ from hypothesis import HealthCheck, given, settings, strategies as st
 from conftest import encode, rds
 from made import acquired_row, block, damaged, group_row, joined, listing, lock, loss_row, read, run, said
 from rds_monitor.rows import listing as of_listing
+from rds_monitor.rows.extent import Extent
 from rds_monitor.rows.heads import HEADER, is_known, is_listing
 from rds_monitor.rows.items import BLOCKS, GROUP, VALID, Fault, Reading, Rows, Rules, totals_of
 from rds_monitor.rows.listing import Listing, text_of, totals_text
@@ -290,6 +291,15 @@ def test_the_length_of_the_recording(station_listing: bytes) -> None:
     # A minute of 71,250 bits, and a tenth of the 520 bits with rows, are not too long yet.
     few = listing(lock(0, [(0xD318, 0x0548, 0xE0CD, 0x4E4F)] * 5, lost=False))
     assert len(read(few, length=71250 + 572)) == 6 and "is wrong" in refused(few, length=71250 + 573)
+
+
+def test_the_extent_of_a_listing_and_of_a_part() -> None:
+    """A part begins with its first block."""
+    rows = lock(26, [WORDS] * 3)
+    for part, begin in ((False, 0), (True, 26)):
+        extent = Extent(source_of(listing(rows, totals=not part), unfinished_ok=part))
+        assert sum(map(len, extent.chunks())) == 5
+        assert (extent.begin, extent.end, extent.is_soft) == (begin, 26 + 3 * 104, False)
 
 
 # ---- random listings
