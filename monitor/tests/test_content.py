@@ -103,7 +103,9 @@ CASES: Dict[str, Case] = {
         texts={"oda:1234": "unknown application in no group of its own"},
     ),
     "3A: ODA with a fault": Case(
-        [group("3A", 31, 0, 0xCD46)], {"oda:CD46": {"group": "fault", "name": "RDS-TMC: ALERT-C"}}
+        [group("3A", 31, 0, 0xCD46)],
+        {"oda:CD46": {"group": "fault", "name": "RDS-TMC: ALERT-C"}},
+        texts={"oda:CD46": "RDS-TMC: ALERT-C temporary fault"},
     ),
     "4A: CT": Case([clock(61128, 1, 30, 4)], {"ct": "2026-03-29T03:30+02:00"}),
     "4A: CT west of Greenwich": Case([clock(61128, 22, 59, -7)], {"ct": "2026-03-29T19:29-03:30"}),
