@@ -47,6 +47,7 @@ GUEST = NAMED + [(0xD319, *group("6A", 0, pty=5)[1:])] + NAMED
 PAXO = ["PAXO 318"]
 # By their titles, groups with their damage, the items, and the values that are told of these.
 CASES: Dict[str, Tuple[List[Words], List[Tuple[int, Damage]], str, List[Any]]] = {
+    "corrected blocks alone give no PI": (THRICE, each(range(12), MEND[1], LOSE[3]), "pi tp pty ps", []),
     "corrected blocks alone give no flags": (THRICE, each(range(12), MEND[2]), "pty tp", []),
     "a corrected block 2 once": (NAMED, each(range(4), MEND[2]), "ps", []),
     "a corrected block 2 again": (THRICE, each(range(12), MEND[2]), "ps", PAXO),
@@ -81,10 +82,6 @@ CASES: Dict[str, Tuple[List[Words], List[Tuple[int, Damage]], str, List[Any]]] =
 def test_values_that_count(title: str) -> None:
     groups, damage, items, expected = CASES[title]
     assert of(groups, damage, *items.split()) == expected
-
-
-def test_corrected_blocks_alone_give_no_pi() -> None:
-    assert events_of(THRICE, each(range(12), MEND[1], LOSE[3])) == []
 
 
 def test_another_programme_is_another_station() -> None:

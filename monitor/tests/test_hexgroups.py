@@ -104,20 +104,20 @@ def test_a_log_of_rds_spy() -> None:
 
 
 @pytest.mark.parametrize(
-    "line, number, version",
+    "line, number, version, offset",
     [
-        ("0000 0000 0000 1234", 0, VERSION_A),
-        ("D318 F800 D318 1234", 15, VERSION_B),
-        ("---- 0800 ---- ----", 0, VERSION_B),
-        ("D318 ---- 0000 1234", UNKNOWN_TYPE, VERSION_A),
-        ("0000 ---- 0000 1234", UNKNOWN_TYPE, VERSION_B),
-        ("D318 ---- ---- 1234", UNKNOWN_TYPE, VERSION_UNKNOWN),
+        ("0000 0000 0000 1234", 0, VERSION_A, 3),
+        ("D318 F800 D318 1234", 15, VERSION_B, 4),
+        ("---- 0800 ---- ----", 0, VERSION_B, 0),
+        ("D318 ---- 0000 1234", UNKNOWN_TYPE, VERSION_A, 3),
+        ("0000 ---- 0000 1234", UNKNOWN_TYPE, VERSION_B, 4),
+        ("D318 ---- ---- 1234", UNKNOWN_TYPE, VERSION_UNKNOWN, 0),
     ],
 )
-def test_types_of_lines(line: str, number: int, version: int) -> None:
-    """By the bits of block 2, or by whether block 3 is the PI again (IEC 62106, clause 3.1.3)."""
+def test_types_of_lines(line: str, number: int, version: int, offset: int) -> None:
+    """By the bits of block 2, or by whether block 3 is the PI again, with offset C' (IEC 62106, clause 3.1.3)."""
     _, rows = read(line.encode())
-    assert (rows["number"][1], rows["version"][1]) == (number, version)
+    assert [rows[name][1] for name in ("number", "version", "offset3")] == [number, version, offset]
 
 
 @pytest.mark.parametrize("late, losses", [(1.2, 0), (1.4, 1)])
@@ -164,12 +164,6 @@ D318 0548 E0CD 5041 @9991/01/01 00:00:00
 def test_other_lines_are_refused_by_their_number(line: str) -> None:
     with pytest.raises(Fault, match="^line 3"):
         read(f"{LINE}\n\n{line}\n".encode())
-
-
-def test_version_b_repeats_the_pi() -> None:
-    _, rows = read(b"D318 0D48 D318 5041\nD318 ---- D318 5041\nD318 0D48 ---- 5041\n")
-    groups = rows[rows["what"] == GROUP]
-    assert groups["offset3"].tolist() == [4, 4, 0] and groups["version"].tolist() == [2, 2, 2]
 
 
 def test_told_apart_from_recordings_and_listings(station_listing: bytes) -> None:
