@@ -245,6 +245,10 @@ CASES: Dict[str, Case] = {
         [RT_PLUS, *text(b"Anna and Berta\r"), tags(1, 1, (4, 0, 3), (4, 9, 4))],
         {"rt_plus:item.artist": "Anna", "rt_plus:item.artist:2": "Berta"},
     ),
+    "RT+ of one tag of a class after two": Case(
+        [RT_PLUS, *text(b"Anna and Berta\r"), tags(1, 1, (4, 0, 3), (4, 9, 4)), tags(1, 1, (4, 9, 4))],
+        {"rt_plus:item.artist": "Berta", "rt_plus:item.artist:2": None},
+    ),
     **{
         f"RT+ {more} of nothing after {count} groups of a text": Case(
             [RT_PLUS, *SONG[:count], tags(0, 0, (0, 0, 0), (0, 0, more))],
