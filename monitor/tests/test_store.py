@@ -239,18 +239,21 @@ def test_the_views_of_written_rows(database) -> None:
         ("X", "1970-01-02", 0.02, 4530, 3900, 86.09, 73.55, 6.45, 21.5, 86298.5),
     ]
 
-    # All of its sessions: when it was watched for longer; for 20 seconds of them; and when another one has the same time.
+    # All of its sessions: when it was watched for longer; for 20 seconds of them; and when another one has the same time. A time without
+    # an outage, and one without anything.
     looks = {
         (86330, 86520): (129.75, 10.25, 31.5, 18.5),
         (86340, 86480): (129.75, 10.25, 0, 0),
         (86340, 86479.5): (129.75, 9.75, 0, 0),
+        (86340, 86345): (5, 0, 0, 0),
+        (1000, 1100): (0, 0, 0, 100),
     }
     changes = ["DELETE FROM watched_rows", "INSERT INTO watched_rows VALUES(1, 'X', 86400, 86420)"]
     changes.append("INSERT INTO sessions VALUES(3, 2, 1, 86340, 1000, 60000, 0, 140000, 1, NULL)")
     for number, (times, seconds) in enumerate(looks.items()):
         with closing(sqlite3.connect(database)) as data:
             assert availability(data, "X", *times) == pytest.approx(seconds, abs=0.001), times
-        change(database, *(changes[:2], changes[2:], [])[number])
+        change(database, *(changes[:2], changes[2:], [], [], [])[number])
         if number == 0:
             # its sessions are longer than it was watched
             assert asked(database, "SELECT received_s, noise_s, down_s, unknown_s FROM days") == [
