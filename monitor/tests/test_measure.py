@@ -156,6 +156,7 @@ def test_group_types(station: bytes) -> None:
     ]
     mix = [line.split(",") for line in said("types", "--every", 60, *START, data=station)[1:]]
     assert run("types", "--every", 0.5, data=station).status == 2
+    assert [*dict.fromkeys(row[0] for row in mix)] == ["0", "60", "120"]
     assert sum(int(row[4]) for row in mix) == 1923 and mix[0][:5] == ["0", "60", "0", "A", "108"]
     assert mix[-1][:3] == ["120", "180", "11"] and mix[-1][6] == "2026-03-29T00:32:00.000Z"
 
