@@ -153,15 +153,20 @@ def test_bits_that_are_not_known_are_odd_or_even(count: int) -> None:
 
 
 def test_blocks_are_counted_bit_by_bit() -> None:
-    """All but the first and the last one so far. The place of groups is known until no block came for as long as two of them."""
-    counter = BlockCounter()
-    for bit in numpy.unpackbits(numpy.frombuffer(SENT, "u1"))[:2080]:
+    """All but the first and the last one so far. The place of groups is known until no block came for as long as two of them. Any two
+    that follow each other are enough."""
+    counter, bits = BlockCounter(), numpy.unpackbits(numpy.frombuffer(SENT, "u1"))
+    for bit in bits[:2080]:
         counter.push(numpy.array([bit]))
     assert (counter.bits, counter.blocks, counter.phase) == (2080, 78, 0)
     for count, phase in ((26, 0), (208, 0), (1, None)):
         counter.push(numpy.zeros(count, "u1"))
         assert (counter.blocks, counter.phase) == (79, phase)
     assert counter.share == 79 * 26 / 2315
+    for place in (0, 26, 52, 78):
+        counter = BlockCounter()
+        counter.push(numpy.pad(bits[place : place + 52], 26))
+        assert counter.blocks == 2
 
 
 def test_the_sign_goes_on_after_a_jump() -> None:
