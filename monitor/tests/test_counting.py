@@ -43,6 +43,8 @@ STRAYS = WHOLE + [WHOLE[1], *STRAY, WHOLE[2], *STRAY, *WHOLE[1:]]
 CLOCKS, TRAFFIC = NAMED + 3 * [clock(61128, 1, 30, 4)], NAMED + 2 * [group("8A", 1, 2, 3)]
 OF_B, OTHER_3 = name(b"PAXO 318", kind="0B"), Damage(3, CORRECTED, 0xD319)
 BOTH, TAKEN = [group("6A", 0, pty=9), *2 * OF_B], NAMED + [oda(0x1234, "2A")] + A_TEXT
+# Of the second turn only one segment is heard.
+GAP = each([5, 6, 7], *LOSE.values()) + each([0, 4, 9, 10, 11, 12], LOSE[4])
 GUEST = NAMED + [(0xD319, *group("6A", 0, pty=5)[1:])] + NAMED
 PAXO = ["PAXO 318"]
 # By their titles, groups with their damage, the items, and the values that are told of these.
@@ -59,6 +61,7 @@ CASES: Dict[str, Tuple[List[Words], List[Tuple[int, Damage]], str, List[Any]]] =
     "valid blocks of groups that are not whole, once": (NAMED, each(range(4), LOSE[3]), "ps", []),
     "a corrected block, then a valid one": (TWICE, LACKING + each(range(1, 5), MEND[4]), "ps", PAXO),
     "a valid block, then a corrected one": (TWICE, LACKING + each(range(5, 9), MEND[4]), "ps", PAXO),
+    "a turn of which one segment is heard": (4 * NAMED, GAP, "ps", PAXO),
     "a wrong correction once": (THRICE, [(5, Damage(4, CORRECTED, 0x5151))], "ps", PAXO),
     "a value in between breaks a row": (TURNS, each(range(6), LOSE[3]), "pty", []),
     "halves of groups make a text": (5 * A_TEXT, HALVES, "rt", ["A text"]),
@@ -245,6 +248,15 @@ def test_a_text_that_begins_anew_early_is_the_same_in_chunks(bad: float) -> None
     rows = rows_of(words, damage)
     whole = Decoder(lapses=True).feed(rows)
     assert fed(Decoder(lapses=True), rows, 100) == whole and len(told(whole, "rt")) > 100
+
+
+def test_a_name_that_changes_within_a_turn_is_the_same_wherever_it_is_cut() -> None:
+    other = name(b"OTHER FM")
+    rows = rows_of(2 * NAMED + NAMED[:2] + other[2:] + 6 * other)
+    whole = Decoder(lapses=True).feed(rows)
+    for cut in range(1, len(rows)):
+        decoder = Decoder(lapses=True)
+        assert decoder.feed(rows[:cut]) + decoder.feed(rows[cut:]) == whole, cut
 
 
 @settings(max_examples=100, deadline=None)
