@@ -45,8 +45,6 @@ OF_B, OTHER_3 = name(b"PAXO 318", kind="0B"), Damage(3, CORRECTED, 0xD319)
 BOTH, TAKEN = [group("6A", 0, pty=9), *2 * OF_B], NAMED + [oda(0x1234, "2A")] + A_TEXT
 # Of the second turn only one segment is heard.
 GAP = each([5, 6, 7], *LOSE.values()) + each([0, 4, 9, 10, 11, 12], LOSE[4])
-# The second turn is missed; only the third has the first pair.
-MISSED = each([4, 5, 6, 7], *LOSE.values()) + each([0, *range(9, 16)], LOSE[4])
 GUEST = NAMED + [(0xD319, *group("6A", 0, pty=5)[1:])] + NAMED
 PAXO = ["PAXO 318"]
 # By their titles, groups with their damage, the items, and the values that are told of these.
@@ -64,7 +62,6 @@ CASES: Dict[str, Tuple[List[Words], List[Tuple[int, Damage]], str, List[Any]]] =
     "a corrected block, then a valid one": (TWICE, LACKING + each(range(1, 5), MEND[4]), "ps", PAXO),
     "a valid block, then a corrected one": (TWICE, LACKING + each(range(5, 9), MEND[4]), "ps", PAXO),
     "a turn of which one segment is heard": (4 * NAMED, GAP, "ps", PAXO),
-    "a turn that is missed": (4 * NAMED, MISSED, "ps", []),
     "a wrong correction once": (THRICE, [(5, Damage(4, CORRECTED, 0x5151))], "ps", PAXO),
     "a value in between breaks a row": (TURNS, each(range(6), LOSE[3]), "pty", []),
     "halves of groups make a text": (5 * A_TEXT, HALVES, "rt", ["A text"]),
