@@ -407,6 +407,10 @@ SEQUENCES: Dict[str, Tuple[List[Words], str, List[Any]]] = {
     "the end of a text of 6": (10 * text(b"Talks\r"), "rt", ["Talks"]),
     "the end of a text of 16": (10 * text(b"0123456789ABCDE\r"), "rt", ["0123456789ABCDE"]),
     "signs after the end of a text": (6 * text(b"Hello\r  "), "rt", ["Hello"]),
+    "a text that becomes its first segment": (
+        *(3 * text(b"Abcdefgh") + 3 * text(b"Abcd"), "rt"),
+        ["Abcdefgh", "Abcd"],
+    ),
     "a text after a turned flag": (A_B_C + A_B_D[2:] + A_B_D, "rt", ["AAAABBBBCCCC", "AAAABBBBDDDD"]),
     "half a text after a turned flag": (A_B_C + A_B_D[2:], "rt", ["AAAABBBBCCCC"]),
     "a text that changes without a flag": (

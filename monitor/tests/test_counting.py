@@ -43,6 +43,9 @@ STRAYS = WHOLE + [WHOLE[1], *STRAY, WHOLE[2], *STRAY, *WHOLE[1:]]
 CLOCKS, TRAFFIC = NAMED + 3 * [clock(61128, 1, 30, 4)], NAMED + 2 * [group("8A", 1, 2, 3)]
 OF_B, OTHER_3 = name(b"PAXO 318", kind="0B"), Damage(3, CORRECTED, 0xD319)
 BOTH, TAKEN = [group("6A", 0, pty=9), *2 * OF_B], NAMED + [oda(0x1234, "2A")] + A_TEXT
+# Of the first turn of the other name the last pair is corrected, and of its second turn too, without the first pair.
+NINE = 2 * NAMED + 2 * name(b"PAXO 319") + NAMED[:1]
+AGAIN = each([11, 15], MEND[4]) + each([12, 16], LOSE[4])
 # Of the second turn only one segment is heard.
 GAP = each([5, 6, 7], *LOSE.values()) + each([0, 4, 9, 10, 11, 12], LOSE[4])
 GUEST = NAMED + [(0xD319, *group("6A", 0, pty=5)[1:])] + NAMED
@@ -61,6 +64,7 @@ CASES: Dict[str, Tuple[List[Words], List[Tuple[int, Damage]], str, List[Any]]] =
     "valid blocks of groups that are not whole, once": (NAMED, each(range(4), LOSE[3]), "ps", []),
     "a corrected block, then a valid one": (TWICE, LACKING + each(range(1, 5), MEND[4]), "ps", PAXO),
     "a valid block, then a corrected one": (TWICE, LACKING + each(range(5, 9), MEND[4]), "ps", PAXO),
+    "a pair that is corrected twice alike": (NINE, AGAIN, "ps", [*PAXO, "PAXO 319"]),
     "a turn of which one segment is heard": (4 * NAMED, GAP, "ps", PAXO),
     "a wrong correction once": (THRICE, [(5, Damage(4, CORRECTED, 0x5151))], "ps", PAXO),
     "a value in between breaks a row": (TURNS, each(range(6), LOSE[3]), "pty", []),
@@ -250,9 +254,17 @@ def test_a_text_that_begins_anew_early_is_the_same_in_chunks(bad: float) -> None
     assert fed(Decoder(lapses=True), rows, 100) == whole and len(told(whole, "rt")) > 100
 
 
-def test_a_name_that_changes_within_a_turn_is_the_same_wherever_it_is_cut() -> None:
-    other = name(b"OTHER FM")
-    rows = rows_of(2 * NAMED + NAMED[:2] + other[2:] + 6 * other)
+OTHER_FM, LETTERS = name(b"OTHER FM"), text(b"Abcdefgh")
+CUT = {
+    "a name that changes within a turn": 2 * NAMED + NAMED[:2] + OTHER_FM[2:] + 6 * OTHER_FM,
+    "a text that fills its segments": 20 * text(b"A text\r"),
+    "a text that becomes its first segment": 3 * LETTERS + 20 * LETTERS[:1],
+}
+
+
+@pytest.mark.parametrize("title", CUT)
+def test_names_and_texts_are_the_same_wherever_they_are_cut(title: str) -> None:
+    rows = rows_of(CUT[title])
     whole = Decoder(lapses=True).feed(rows)
     for cut in range(1, len(rows)):
         decoder = Decoder(lapses=True)

@@ -2,6 +2,7 @@
 
 from __future__ import annotations
 
+import csv
 import json
 import os
 import sqlite3
@@ -65,8 +66,9 @@ def test_minutes_are_those_of_errors_and_types(database, station: bytes) -> None
         ("2026-03-29", 2741, 99.96),
         ("2026-03-30", 4951, 100.0),
     ]
-    assert ("rt", RT) in asked(database, "SELECT item, value FROM events")
-    assert "ct" not in asked(database, "SELECT item FROM events")
+    changes = [row[2:] for row in csv.reader(said("info", "--csv", data=station)[1:]) if row[2] != "ct"]
+    query = "SELECT item, value, place FROM event_rows JOIN facts ON facts.id = fact ORDER BY place, number"
+    assert [[item, value, str(place)] for item, value, place in asked(database, query)] == changes
     totals = dict(line.split(",")[1:3] for line in rds("totals", data=station).decode().splitlines())
     assert {name: str(value) for name, value in asked(database, "SELECT name, value FROM totals")} == totals
     assert asked(database, "SELECT COUNT(*) FROM groups") == [0]
