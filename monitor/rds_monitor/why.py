@@ -123,14 +123,15 @@ def blocks_e(words: Sequence[str], held: bytes) -> List[str]:
     """How many blocks have offset word E, which adds nothing to the check bits: MMBS sends them between groups."""
     bits = first_bits(words, held)
     count = len(bits) - 25
-    if count < 26 * LEAST_E:
+    last = count - 26 * (LEAST_E - 1)
+    if last < 1:
         return []
     remainders, ones = numpy.zeros(count, "u2"), numpy.zeros(count, "u1")
     for begin, remainder in enumerate(REMAINDERS):
         remainders ^= bits[begin : begin + count] * numpy.uint16(remainder)
         ones |= bits[begin : begin + count]
     is_e = (remainders == 0) & (ones > 0)
-    last, is_told = count - 26 * (LEAST_E - 1), numpy.zeros(count, bool)
+    is_told = numpy.zeros(count, bool)
     runs = numpy.logical_and.reduce([is_e[26 * k : last + 26 * k] for k in range(LEAST_E)])
     for k in range(LEAST_E):
         is_told[26 * k : last + 26 * k] |= runs

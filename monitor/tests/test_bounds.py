@@ -8,6 +8,7 @@ from typing import Any, Callable, List, Tuple
 import pytest
 
 from network import stations
+from rds_monitor.db.standing import standing
 from rds_monitor.measures.errors import interval_of
 from rds_monitor.measures.measure import count_of
 from rds_monitor.measures.outages import share_of
@@ -136,6 +137,14 @@ def test_a_verdict_at_its_limits(valid: float, age: float, status: int) -> None:
     verdict = Verdict()
     verdict.judge(Seen(valid, 0.0, age, None, []), Limits(90, 50, 10, 60), None, [])
     assert verdict.status == status
+
+
+@pytest.mark.parametrize(
+    "silent, bad, state",
+    [(10, 50, "good"), (10.01, 0, "no sync"), (0, 50.01, "bad"), (None, 0, "no sync"), (0, None, "good")],
+)
+def test_a_standing_at_its_bounds(silent: Any, bad: Any, state: str) -> None:
+    assert standing(None, silent, bad, {}).state == state
 
 
 def has_small_factors(number: int) -> bool:

@@ -60,7 +60,7 @@ SHOWN = {
     "back\\slash": "back\\\\slash",
     "back\\släsh": "back\\\\släsh",
     "\u202eevil\u202c": "\\u202eevil\\u202c",
-    "\u200f\u2066\u2028\ufeff": "\\u200f\\u2066\\u2028\\ufeff",
+    "\u200f\u2066\u2028\u2029\ufeff\ue000\u0378": "\\u200f\\u2066\\u2028\\u2029\\ufeff\\ue000\\u0378",
     "\U000e0041": "\\U000e0041",
     "e\u0301\u0302": "e\u0301\u0302",
     "e" + "\u0301" * 64: "e\u0301\u0301" + "\\u0301" * 62,

@@ -122,17 +122,19 @@ def test_ticks_of_one_minute() -> None:
     assert fit([*ticks, Tick(71250 * 11 + 104, 660)]).clock.rate == pytest.approx(1187.5)
 
 
-def test_the_error_of_a_rate() -> None:
+@pytest.mark.parametrize("numbers", [range(3, 20, 2), (3, 5, 14)])
+def test_the_error_of_a_rate(numbers: Sequence[int]) -> None:
     """That of a straight line through the ticks, by numpy."""
-    ticks = [Tick(71250 * minute + n * n % 7 * 40, 60 * minute) for n, minute in enumerate(range(3, 20, 2))]
+    ticks = [Tick(71250 * minute + n * n % 7 * 40, 60 * minute) for n, minute in enumerate(numbers)]
     places, times = zip(*ticks)
     line, covariance = numpy.polyfit(times, places, 1, cov=True)
     assert slope_of([ticks]) == pytest.approx((line[0], covariance[0][0] ** 0.5))
 
 
 def test_clock_times_that_are_none() -> None:
-    good = minute_group(1000, int(start_of("2026-03-29T00:31:00Z")))
+    good, first = minute_group(1000, int(start_of("2026-03-29T00:31:00Z"))), minute_group(1000, 0)
     assert ticks_of(good) == [Tick(1000, int(start_of("2026-03-29T00:31:00Z")))]
+    assert ticks_of(first) == [Tick(1000, 0)] and ticks_of(minute_group(1000, -60)) == []
     hour_24 = {"info3": int(good["info3"][0]) | 1}
     for changes in (
         *({"info4": 0x7F02}, {"kind1": 3}, {"kind4": 1}, {"version": 2}, {"number": 3}),

@@ -5,6 +5,7 @@ from __future__ import annotations
 import re
 from typing import Any, Dict, List, NamedTuple, Sequence, Tuple
 
+import numpy
 import pytest
 
 import sent
@@ -42,8 +43,8 @@ DI = ("di_stereo", "di_artificial_head", "di_compressed", "di_dynamic_pty")
 # The RadioText that the tags below are of, a song's title and artist.
 RT_PLUS, SONG, TITLE, ARTIST = oda(0x4BD7, "11A"), text(b"Song by Singer\r"), (1, 0, 3), (4, 8, 5)
 TAGGED = {"rt_plus:item.title": "Song", "rt_plus:item.artist": "Singer"}
-SERVICE = dict(location_table=1, alternative_frequencies=True, mode="basic", service=10)
-SERVICE["scope"] = ["national", "regional"]
+SERVICE = dict(location_table=1, alternative_frequencies=True, mode="basic", service=11)
+SERVICE["scope"] = ["national", "regional", "urban"]
 MESSAGE = dict(event=701, location=4321, direction="negative", extent=3)
 TRAFFIC = segments("8A", b"Traffic1", 2, 0x14)
 
@@ -69,7 +70,7 @@ CASES: Dict[str, Case] = {
     "DI: segment 1 is compressed": Case([group("0B", 5)], {"di_compressed": True}),
     "DI: segment 2 is artificial head": Case([group("15B", 6)], {"di_artificial_head": True}),
     "DI: segment 3 is stereo": Case([group("0B", 7)], {"di_stereo": True}),
-    "1A: PIN": Case([label(0, 0, 15 << 11 | 20 << 6 | 30)], {"pin": "15 20:30"}),
+    "1A: PIN": Case([label(0, 0, 31 << 11 | 23 << 6 | 59)], {"pin": "31 23:59"}),
     "1B: PIN": Case([group("1B", 0, 0, 1 << 11 | 5)], {"pin": "01 00:05"}),
     "1A: no PIN": Case([label(0, 0, 0)], {"pin": None}),
     "1A: no hour 24": Case([label(0, 0, 15 << 11 | 24 << 6)], {"pin": None}),
@@ -102,7 +103,9 @@ CASES: Dict[str, Case] = {
         texts={"oda:1234": "unknown application in no group of its own"},
     ),
     "3A: ODA with a fault": Case(
-        [group("3A", 31, 0, 0xCD46)], {"oda:CD46": {"group": "fault", "name": "RDS-TMC: ALERT-C"}}
+        [group("3A", 31, 0, 0xCD46)],
+        {"oda:CD46": {"group": "fault", "name": "RDS-TMC: ALERT-C"}},
+        texts={"oda:CD46": "RDS-TMC: ALERT-C temporary fault"},
     ),
     "4A: CT": Case([clock(61128, 1, 30, 4)], {"ct": "2026-03-29T03:30+02:00"}),
     "4A: CT west of Greenwich": Case([clock(61128, 22, 59, -7)], {"ct": "2026-03-29T19:29-03:30"}),
@@ -110,7 +113,8 @@ CASES: Dict[str, Case] = {
     "4A: CT past 2038": Case([clock(88069, 0, 0, 0)], {"ct": "2100-01-01T00:00+00:00"}),
     "4A: no hour 24": Case([clock(61128, 24, 0, 0)], {"ct": None}),
     "4A: no minute 60": Case([clock(61128, 0, 60, 0)], {"ct": None}),
-    "4A: no day": Case([clock(0, 0, 0, 0)], {"ct": None}),
+    "4A: the first day": Case([clock(40587, 0, 0, 0)], {"ct": "1970-01-01T00:00+00:00"}),
+    "4A: no day": Case([clock(40586, 0, 0, 0)], {"ct": None}),
     "5A: TDC": Case([group("5A", 3, 0xFF01, 0x0203)], {"tdc:3": True}),
     "5B: TDC": Case([group("5B", 31, 0, 0x0203)], {"tdc:31": True}),
     "5A: bytes": Case([group("5A", 3, 0xFF01, 0x0203)], {"tdc_data:3": "FF 01 02 03"}, {"data": True}),
@@ -124,16 +128,15 @@ CASES: Dict[str, Case] = {
         [group("6A", 3, 1, 2), oda(0x1234, "6A"), group("6A", 3, 1, 3)], {"ih_data": None}, {"data": True}
     ),
     "6A: in-house data if not asked for": Case([group("6A", 3, 1, 2)], {"ih": True, "ih_data": None}),
-    "6A: in-house": Case([group("6A", 3, 1, 2)], {"ih": True}),
     "6B: in-house": Case([group("6B", 3, 1, 2)], {"ih": True}),
     "7A: radio paging": Case([group("7A", 3, 1, 2)], {"rp": True}),
     "13A: enhanced paging": Case([group("13A", 3, 1, 2)], {"erp": True}),
     "8A: TMC": Case([group("8A", 3, 1, 2)], {"tmc": True}),
     "8A: TMC by CD47": Case([oda(0xCD47, "8A"), group("8A", 3, 1, 2)], {"tmc": True}),
     "8A: TMC service": Case(
-        [oda(0xCD46, "8A", 0x0066), oda(0xCD46, "8A", 0x6280)],
+        [oda(0xCD46, "8A", 0x0067), oda(0xCD46, "8A", 0x62C0)],
         {"tmc_service": SERVICE},
-        texts={"tmc_service": "location table 1, service 10, national regional"},
+        texts={"tmc_service": "location table 1, service 11, national regional urban"},
     ),
     "8A: TMC message in one group": Case(
         [group("8A", 0b01101, 1 << 15 | 1 << 14 | 3 << 11 | 701, 4321)],
@@ -163,15 +166,21 @@ CASES: Dict[str, Case] = {
     ),
     "14A: TP": Case([eon(15, 0, tp=1)], {"eon:D312.tp": True}),
     "14A: AF": Case(
-        [eon(4, 0xE301), eon(4, 0x3264)],
-        {"eon:D312.af": [87600, 92500, 97500]},
-        texts={"eon:D312.af": "87.6 92.5 97.5"},
+        [eon(4, 0xE301), eon(4, 0x3264), eon(4, 0xE0CD, 0xD313)],
+        {"eon:D312.af": [87600, 92500, 97500], "eon:D313.af": []},
+        texts={"eon:D312.af": "87.6 92.5 97.5", "eon:D313.af": "none"},
     ),
     "14A: mapped frequencies": Case(
-        [eon(5, 0x0132), eon(6, 0x0264), eon(7, 0x0396), eon(8, 0xCCCC), eon(8, 0x05CD), eon(9, 0x0110)],
+        [
+            *(eon(5, 0x0132), eon(6, 0x0264), eon(7, 0x0396), eon(8, 0xCCCC), eon(8, 0x05CD), eon(8, 0x0600)),
+            *(eon(9, 0x0110), eon(9, 0x0287), eon(9, 0x0388), eon(9, 0x0400), eon(9, 0x0501)),
+        ],
         {
             **{f"eon:D312.mapped:{at}": to for at, to in ((87.6, 92500), (87.7, 97500), (87.8, 102500))},
-            **{"eon:D312.mapped:107.9": 107900, "eon:D312.mapped:88.0": None, "eon:D312.mapped:87.6.am": 531},
+            **{"eon:D312.mapped:107.9": 107900, "eon:D312.mapped:88.0": None, "eon:D312.mapped:88.1": None},
+            **{"eon:D312.mapped:87.6.am": 531, "eon:D312.mapped:87.7.am": 1602},
+            **{"eon:D312.mapped:87.8.am": None, "eon:D312.mapped:87.9.am": None},
+            "eon:D312.mapped:88.0.am": 153,
         },
     ),
     "14A: linkage": Case(
@@ -180,9 +189,9 @@ CASES: Dict[str, Case] = {
         texts={"eon:D312.linkage": "linked, set 123"},
     ),
     "14A: linkage between countries": Case(
-        [eon(12, 0x1042)],
-        {"eon:D312.linkage": dict(linked=False, extended_generic=False, international=True, set=0x042)},
-        texts={"eon:D312.linkage": "not linked, set 042, international"},
+        [eon(12, 0x1043)],
+        {"eon:D312.linkage": dict(linked=False, extended_generic=False, international=True, set=0x043)},
+        texts={"eon:D312.linkage": "not linked, set 043, international"},
     ),
     "14A: PTY and TA": Case(
         [eon(13, 17 << 11 | 1)],
@@ -236,6 +245,18 @@ CASES: Dict[str, Case] = {
         [RT_PLUS, *text(b"Anna and Berta\r"), tags(1, 1, (4, 0, 3), (4, 9, 4))],
         {"rt_plus:item.artist": "Anna", "rt_plus:item.artist:2": "Berta"},
     ),
+    "RT+ of one tag of a class after two": Case(
+        [RT_PLUS, *text(b"Anna and Berta\r"), tags(1, 1, (4, 0, 3), (4, 9, 4)), tags(1, 1, (4, 9, 4))],
+        {"rt_plus:item.artist": "Berta", "rt_plus:item.artist:2": None},
+    ),
+    **{
+        f"RT+ {more} of nothing after {count} groups of a text": Case(
+            [RT_PLUS, *SONG[:count], tags(0, 0, (0, 0, 0), (0, 0, more))],
+            {"rt_plus_running": False, "rt_plus_toggle": 0},
+        )
+        for more in (0, 1)
+        for count in (0, 1, 4)
+    },
     "RT+ over the end": Case(
         [RT_PLUS, *SONG, tags(1, 1, TITLE, (4, 8, 6))],
         {"rt_plus:item.title": "Song", "rt_plus:item.artist": None},
@@ -376,7 +397,7 @@ SAME = text(b"The same\r", 0) + text(b"The same\r", 1) + text(b"The same\r", 0)
 A_B_C, A_B_D = text(b"AAAABBBBCCCC\r"), text(b"AAAABBBBDDDD\r", 1)
 A_X_C = text(b"AAAAXXXXCCCC\r")
 FOOTBALL, FOOTHILL = type_name(b"Football"), type_name(b"Foothill", 1)
-NUMBER, NO_HOUR = 15 << 11 | 20 << 6 | 30, 16 << 11 | 24 << 6
+NUMBER, NO_HOUR, NO_MINUTE = 15 << 11 | 20 << 6 | 30, 16 << 11 | 24 << 6, 17 << 11 | 60
 TMC = group("8A", 1, 2, 3)
 # Groups, an item, and all of its values in their order.
 SEQUENCES: Dict[str, Tuple[List[Words], str, List[Any]]] = {
@@ -386,6 +407,10 @@ SEQUENCES: Dict[str, Tuple[List[Words], str, List[Any]]] = {
     "the end of a text of 6": (10 * text(b"Talks\r"), "rt", ["Talks"]),
     "the end of a text of 16": (10 * text(b"0123456789ABCDE\r"), "rt", ["0123456789ABCDE"]),
     "signs after the end of a text": (6 * text(b"Hello\r  "), "rt", ["Hello"]),
+    "a text that becomes its first segment": (
+        *(3 * text(b"Abcdefgh") + 3 * text(b"Abcd"), "rt"),
+        ["Abcdefgh", "Abcd"],
+    ),
     "a text after a turned flag": (A_B_C + A_B_D[2:] + A_B_D, "rt", ["AAAABBBBCCCC", "AAAABBBBDDDD"]),
     "half a text after a turned flag": (A_B_C + A_B_D[2:], "rt", ["AAAABBBBCCCC"]),
     "a text that changes without a flag": (
@@ -395,11 +420,11 @@ SEQUENCES: Dict[str, Tuple[List[Words], str, List[Any]]] = {
     "half a PTYN after a turned flag": (FOOTBALL + FOOTHILL[1:], "ptyn", ["Football"]),
     "a PTYN after a turned flag": (FOOTBALL + FOOTHILL, "ptyn", ["Football", "Foothill"]),
     "a PIN that is none, and one that ends": (
-        *([label(0, 0, number) for number in (NUMBER, NO_HOUR, 0)], "pin"),
+        *([label(0, 0, number) for number in (NUMBER, NO_HOUR, NO_MINUTE, 0)], "pin"),
         ["15 20:30", None],
     ),
     "the same of another network": (
-        *([eon(14, number) for number in (NUMBER, NO_HOUR, 0)], "eon:D312.pin"),
+        *([eon(14, number) for number in (NUMBER, NO_HOUR, NO_MINUTE, 0)], "eon:D312.pin"),
         ["15 20:30", None],
     ),
     "TMC whose application is told": ([TMC, oda(0xCD46, "8A"), TMC], "tmc", [True]),
@@ -426,7 +451,10 @@ def without(groups: Sequence[Words], gone: Sequence[int]) -> sent.Damages:
     return [(number, sent.Damage(block, sent.LOST)) for number in gone for block in (3, 4)]
 
 
-@pytest.mark.parametrize("turns, names", [(4, ["PAXO 318"]), (5, [])])
+PAXO = ["PAXO 318"]
+
+
+@pytest.mark.parametrize("turns, names", [(4, PAXO), (5, [])])
 def test_for_how_many_turns_a_pair_of_a_name_counts(turns: int, names: List[str]) -> None:
     """The first of them has one pair, and the last one the others."""
     groups = (turns + 1) * name(b"PAXO 318")
@@ -434,22 +462,22 @@ def test_for_how_many_turns_a_pair_of_a_name_counts(turns: int, names: List[str]
     assert told(events_of(groups, without(groups, sorted(gone))), "ps") == names
 
 
-@pytest.mark.parametrize("bits, texts", [(60 * 1187.5, ["A text"]), (60 * 1187.5 + 208, [])])
+@pytest.mark.parametrize("bits, texts", [(60 * 1187.5, ["A text"]), (60 * 1187.5 + 1, [])])
 def test_for_how_long_a_pair_of_a_text_counts(bits: float, texts: List[str]) -> None:
     """The first turn has the first segment, and the last one the other, before the group at that bit."""
     count = int(bits // 208) * 2 + 1
     groups = text(b"A text\r") * (count // 2) + text(b"A text\r")[:1]
-    gone = [*range(1, count - 2), count - 1]
-    assert told(events_of(groups, without(groups, gone)), "rt") == texts
+    rows = sent.rows_of(groups, without(groups, [*range(1, count - 2), count - 1]))
+    rows["place"][2:] += numpy.uint64(bits - 104 * (count - 1))
+    assert told(Decoder().feed(rows), "rt") == texts
 
 
-@pytest.mark.parametrize("missing, names", [(113, ["PAXO 318"]), (114, ["PAXO 318", None, "PAXO 318"])])
-def test_after_how_long_an_outage_a_name_is_told_again(missing: int, names: List[Any]) -> None:
+@pytest.mark.parametrize("bits, names", [(10 * 1187.5, PAXO), (10 * 1187.5 + 1, [*PAXO, None, *PAXO])])
+def test_after_how_long_an_outage_a_name_is_told_again(bits: float, names: List[Any]) -> None:
     """If more than ten seconds are from the begin of one group to that of the next."""
-    assert (104 * (missing + 1) > 10 * 1187.5) == (names[1:] != [])
-    rows = sent.rows_of(name(b"PAXO 318") + missing * [group("6A", 0)] + name(b"PAXO 318"))
-    decoder = Decoder(lapses=True)
-    assert told([*decoder.feed(rows[:5]), *decoder.feed(rows[-4:])], "ps") == names
+    rows = sent.rows_of(2 * name(b"PAXO 318"))
+    rows["place"][5:] += numpy.uint64(bits - 104)
+    assert told(Decoder(lapses=True).feed(rows), "ps") == names
 
 
 LONG_ONCE = text(LONG)

@@ -43,10 +43,16 @@ STRAYS = WHOLE + [WHOLE[1], *STRAY, WHOLE[2], *STRAY, *WHOLE[1:]]
 CLOCKS, TRAFFIC = NAMED + 3 * [clock(61128, 1, 30, 4)], NAMED + 2 * [group("8A", 1, 2, 3)]
 OF_B, OTHER_3 = name(b"PAXO 318", kind="0B"), Damage(3, CORRECTED, 0xD319)
 BOTH, TAKEN = [group("6A", 0, pty=9), *2 * OF_B], NAMED + [oda(0x1234, "2A")] + A_TEXT
+# Of the first turn of the other name the last pair is corrected, and of its second turn too, without the first pair.
+NINE = 2 * NAMED + 2 * name(b"PAXO 319") + NAMED[:1]
+AGAIN = each([11, 15], MEND[4]) + each([12, 16], LOSE[4])
+# Of the second turn only one segment is heard.
+GAP = each([5, 6, 7], *LOSE.values()) + each([0, 4, 9, 10, 11, 12], LOSE[4])
 GUEST = NAMED + [(0xD319, *group("6A", 0, pty=5)[1:])] + NAMED
 PAXO = ["PAXO 318"]
 # By their titles, groups with their damage, the items, and the values that are told of these.
 CASES: Dict[str, Tuple[List[Words], List[Tuple[int, Damage]], str, List[Any]]] = {
+    "corrected blocks alone give no PI": (THRICE, each(range(12), MEND[1], LOSE[3]), "pi tp pty ps", []),
     "corrected blocks alone give no flags": (THRICE, each(range(12), MEND[2]), "pty tp", []),
     "a corrected block 2 once": (NAMED, each(range(4), MEND[2]), "ps", []),
     "a corrected block 2 again": (THRICE, each(range(12), MEND[2]), "ps", PAXO),
@@ -58,10 +64,13 @@ CASES: Dict[str, Tuple[List[Words], List[Tuple[int, Damage]], str, List[Any]]] =
     "valid blocks of groups that are not whole, once": (NAMED, each(range(4), LOSE[3]), "ps", []),
     "a corrected block, then a valid one": (TWICE, LACKING + each(range(1, 5), MEND[4]), "ps", PAXO),
     "a valid block, then a corrected one": (TWICE, LACKING + each(range(5, 9), MEND[4]), "ps", PAXO),
+    "a pair that is corrected twice alike": (NINE, AGAIN, "ps", [*PAXO, "PAXO 319"]),
+    "a turn of which one segment is heard": (4 * NAMED, GAP, "ps", PAXO),
     "a wrong correction once": (THRICE, [(5, Damage(4, CORRECTED, 0x5151))], "ps", PAXO),
     "a value in between breaks a row": (TURNS, each(range(6), LOSE[3]), "pty", []),
     "halves of groups make a text": (5 * A_TEXT, HALVES, "rt", ["A text"]),
     "a text of which blocks 4 were lost": (3 * A_TEXT, each(range(6), LOSE[4]), "rt", []),
+    "a text whose flag does not count": (3 * A_TEXT, each(range(6), MEND[2]), "rt rt_ab", []),
     "pairs under a flag that does not count": (STRAYS, each([5, 7], LOSE[1]), "rt rt_ab", ["A", STAYS]),
     "clock time needs a valid group": (CLOCKS, each([4, 5, 6], MEND[1]), "ct", []),
     "a PI once in a corrected block": (2 * NAMED, [(4, Damage(1, CORRECTED, 0xD319))], "pi", ["D318"]),
@@ -80,10 +89,6 @@ CASES: Dict[str, Tuple[List[Words], List[Tuple[int, Damage]], str, List[Any]]] =
 def test_values_that_count(title: str) -> None:
     groups, damage, items, expected = CASES[title]
     assert of(groups, damage, *items.split()) == expected
-
-
-def test_corrected_blocks_alone_give_no_pi() -> None:
-    assert events_of(THRICE, each(range(12), MEND[1], LOSE[3])) == []
 
 
 def test_another_programme_is_another_station() -> None:
@@ -247,6 +252,23 @@ def test_a_text_that_begins_anew_early_is_the_same_in_chunks(bad: float) -> None
     rows = rows_of(words, damage)
     whole = Decoder(lapses=True).feed(rows)
     assert fed(Decoder(lapses=True), rows, 100) == whole and len(told(whole, "rt")) > 100
+
+
+OTHER_FM, LETTERS = name(b"OTHER FM"), text(b"Abcdefgh")
+CUT = {
+    "a name that changes within a turn": 2 * NAMED + NAMED[:2] + OTHER_FM[2:] + 6 * OTHER_FM,
+    "a text that fills its segments": 20 * text(b"A text\r"),
+    "a text that becomes its first segment": 3 * LETTERS + 20 * LETTERS[:1],
+}
+
+
+@pytest.mark.parametrize("title", CUT)
+def test_names_and_texts_are_the_same_wherever_they_are_cut(title: str) -> None:
+    rows = rows_of(CUT[title])
+    whole = Decoder(lapses=True).feed(rows)
+    for cut in range(1, len(rows)):
+        decoder = Decoder(lapses=True)
+        assert decoder.feed(rows[:cut]) + decoder.feed(rows[cut:]) == whole, cut
 
 
 @settings(max_examples=100, deadline=None)

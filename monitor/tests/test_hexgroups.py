@@ -53,7 +53,7 @@ LINE = "D318 0548 E0CD 5041"
         (WHOLE, "--times", f"{LINE} 0.088\n"),
         (WHOLE, "--times --start 2026-03-29T00:30:00Z", f"{LINE} 2026-03-29T00:30:00.088Z\n"),
         (WHOLE, "--whole --times --start 2026-03-29T00:30:00Z", f"{LINE} 2026-03-29T00:30:00.088Z\n"),
-        (WHOLE, "--spy --start 2026-03-29T23:59:59.95Z", f"{LINE} @2026/03/30 00:00:00.03\n"),
+        (WHOLE, "--spy --start 2026-03-29T23:59:59.9512Z", f"{LINE} @2026/03/30 00:00:00.03\n"),
         (WHOLE, "--spy --start 2026-03-29T23:59:59.952Z", f"{LINE} @2026/03/30 00:00:00.04\n"),
     ],
 )
@@ -91,7 +91,12 @@ def test_a_log_of_rds_spy() -> None:
     ]
     last = round(99.91 * 1187.5)
     assert groups["info1"].tolist() == [0xD318, 0xD318, 0, 0xD318]
-    assert groups["number"].tolist() == [0, 0, 255, 0] and groups["place"].tolist() == [0, 104, 208, last]
+    assert rows["number"].tolist() == [1, 0, 0, 255, 0, 1, 0] and groups["place"].tolist() == [
+        0,
+        104,
+        208,
+        last,
+    ]
     assert rows["place"].tolist() == [25, 0, 104, 208, 311, last + 25, last]
     assert rows["what"].tolist() == [1, 2, 2, 2, 3, 1, 2]
     assert (source.start, source.length) == (1774744200.09, last + 104)
@@ -99,20 +104,20 @@ def test_a_log_of_rds_spy() -> None:
 
 
 @pytest.mark.parametrize(
-    "line, number, version",
+    "line, number, version, offset",
     [
-        ("D318 0000 0000 1234", 0, VERSION_A),
-        ("D318 F800 D318 1234", 15, VERSION_B),
-        ("---- 0800 ---- ----", 0, VERSION_B),
-        ("D318 ---- 0000 1234", UNKNOWN_TYPE, VERSION_A),
-        ("0000 ---- 0000 1234", UNKNOWN_TYPE, VERSION_B),
-        ("D318 ---- ---- 1234", UNKNOWN_TYPE, VERSION_UNKNOWN),
+        ("0000 0000 0000 1234", 0, VERSION_A, 3),
+        ("D318 F800 D318 1234", 15, VERSION_B, 4),
+        ("---- 0800 ---- ----", 0, VERSION_B, 0),
+        ("D318 ---- 0000 1234", UNKNOWN_TYPE, VERSION_A, 3),
+        ("0000 ---- 0000 1234", UNKNOWN_TYPE, VERSION_B, 4),
+        ("D318 ---- ---- 1234", UNKNOWN_TYPE, VERSION_UNKNOWN, 0),
     ],
 )
-def test_types_of_lines(line: str, number: int, version: int) -> None:
-    """By the bits of block 2, or by whether block 3 is the PI again (IEC 62106, clause 3.1.3)."""
+def test_types_of_lines(line: str, number: int, version: int, offset: int) -> None:
+    """By the bits of block 2, or by whether block 3 is the PI again, with offset C' (IEC 62106, clause 3.1.3)."""
     _, rows = read(line.encode())
-    assert (rows["number"][1], rows["version"][1]) == (number, version)
+    assert [rows[name][1] for name in ("number", "version", "offset3")] == [number, version, offset]
 
 
 @pytest.mark.parametrize("late, losses", [(1.2, 0), (1.4, 1)])
@@ -131,7 +136,7 @@ def test_a_log_gives_times() -> None:
 
 FORMS = (
     *(LINE, LINE.lower(), LINE.replace(" ", ""), f"{LINE} @2026/03/29 00:30:00", " D318\t0548 E0CD  5041 "),
-    *(f"{LINE} 2026-03-29T00:30:00", "G:\nD3180548E0CD5041"),
+    *(f"{LINE} 2026-03-29T00:30:00", "G:\nD3180548E0CD5041", f"{LINE} @9990/12/31 23:59:59"),
 )
 
 
@@ -151,6 +156,7 @@ D318 0548 E0CD 5041 @yesterday
 group,0,0,A,A:D318,B:0548,C:E0CD,D:5041
 D318 0548 E0CD 5041x
 D318 0548 E0CD 5041 @2026/13/29 00:30:00
+D318 0548 E0CD 5041 @9991/01/01 00:00:00
 """
 
 
@@ -160,16 +166,13 @@ def test_other_lines_are_refused_by_their_number(line: str) -> None:
         read(f"{LINE}\n\n{line}\n".encode())
 
 
-def test_version_b_repeats_the_pi() -> None:
-    _, rows = read(b"D318 0D48 D318 5041\nD318 ---- D318 5041\nD318 0D48 ---- 5041\n")
-    groups = rows[rows["what"] == GROUP]
-    assert groups["offset3"].tolist() == [4, 4, 0] and groups["version"].tolist() == [2, 2, 2]
-
-
 def test_told_apart_from_recordings_and_listings(station_listing: bytes) -> None:
+    """By its first three lines, but the last if that has no end."""
+    line = LINE.encode() + b"\n"
     for head in (STATION.read_bytes()[:4096], station_listing[:4096], b"", b"\n\n", b"D3180548E0CD5041\n"):
         assert not is_groups(head)
-    assert all(map(is_groups, (SPY, LINE.encode(), LINE.encode() + b"\n")))
+    assert not is_groups(line + b"none\nD3") and not is_groups(2 * line + b"none\n")
+    assert all(map(is_groups, (SPY, line[:-1], line, line + b"D3", 3 * line + b"none\n")))
 
 
 def test_every_command_reads_lines() -> None:

@@ -259,21 +259,32 @@ def test_json_has_the_bytes_of_channels_and_in_house_data() -> None:
     assert "FF 01" not in said("info", data=data)
 
 
+NO_HOUR = 16 << 11 | 24 << 6 | 1
+SCOPES = ["international", "national", "regional", "urban"]
 # Groups that are rare, with the keys of each.
 RARE: List[Tuple[Words, Dict[str, Any]]] = [
     (clock(61128, 1, 30, 0), {"clock_time": "2026-03-29T01:30:00Z"}),
-    (label(1, 0x123), {"tmc_id": 0x123}),
+    (label(1, 0x123), {"has_linkage": False, "tmc_id": 0x123}),
+    (label(3, 0x75), {"has_linkage": False, "language": "Chinese"}),
+    (label(3, 0x44), {"has_linkage": False, "language": "44"}),
+    (label(3, 0x40, NO_HOUR, 1), {"has_linkage": True, "language": "Background sound, clean feed"}),
+    (oda(0xCD47, "8A", 0x003F), {"tmc": (0, True, SCOPES)}),
+    (oda(0xCD46, "8A", 0x0045), {"tmc": (1, False, [SCOPES[1], SCOPES[3]])}),
     (group("6A", 0x1F, 0x1234, 0x5678), {"in_house_data": [0x1F, 0x1234, 0x5678]}),
     (group("6B", 3, 0xD318, 0x5678), {"in_house_data": [3, 0x5678]}),
     (eon(4, 0xE101), {"alt_frequencies": [87600]}),
     (eon(5, 0x0102), {"kilohertz": 87700}),
     (eon(8, 0x01CC), {"kilohertz": 107900}),
     (eon(9, 0x0110), {"kilohertz": 531}),
-    (eon(12, 0x8042), {"has_linkage": True, "linkage_set": 0x42}),
-    (eon(12, 0x0042), {"has_linkage": False}),
+    (eon(10, 0x0110), {}),
+    (eon(12, 0x8001), {"has_linkage": True, "linkage_set": 1}),
+    (eon(12, 0xF800), {"has_linkage": True, "linkage_set": 0x800}),
+    (eon(12, 0xF000), {"has_linkage": True}),
+    (eon(12, 0x7FFF), {"has_linkage": False}),
     (eon(13, 0), {"ta": False, "prog_type": "No PTY"}),
     (eon(14, PIN), {"prog_item_number": PIN, "prog_item_started": {"day": 15, "time": "20:30"}}),
-    (group("6A", 0, pty=0), {"prog_type": "No PTY"}),
+    (eon(14, NO_HOUR), {"prog_item_number": NO_HOUR}),
+    (group("6A", 0, pty=0), {"in_house_data": [0, 0, 0], "prog_type": "No PTY"}),
 ]
 
 
@@ -281,10 +292,19 @@ def test_redsea_has_the_keys_of_groups_that_are_rare() -> None:
     """Those of another network are in an object of their own, with its PI and TP."""
     found = redsea(*name(b"PAXO 318"), *(words for words, _ in RARE))[4:]
     for entry, (words, keys) in zip(found, RARE):
-        if words[1] >> 12 == 14:
-            assert entry["other_network"] == {"pi": "0xD312", "tp": False, **keys}
+        kind, every = words[1] >> 12, {"pi": "0xD318", "tp": True, "prog_type": "Pop music"}
+        every["group"] = f"{kind}{'AB'[words[1] >> 11 & 1]}"
+        if kind == 14:
+            every["other_network"] = {"pi": "0xD312", "tp": False, **keys}
+        elif kind == 3:
+            table, is_on_others, scope = keys["tmc"]
+            info = {"is_encrypted": table == 0, "location_table": table, "scope": scope}
+            every["tmc"] = {"system_info": {**info, "is_on_alt_freqs": is_on_others}}
+            application = {"oda_group": "8A", "app_name": "RDS-TMC: ALERT-C", "message": words[2]}
+            every["open_data_app"] = application
         else:
-            assert {**entry, **keys} == entry
+            every.update({**keys, **({"prog_item_number": words[3]} if kind == 1 and words[3] else {})})
+        assert entry == every
     assert len(found) == len(RARE)
 
 

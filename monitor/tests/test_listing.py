@@ -19,7 +19,8 @@ from hypothesis import HealthCheck, given, settings, strategies as st
 from conftest import encode, rds
 from made import acquired_row, block, damaged, group_row, joined, listing, lock, loss_row, read, run, said
 from rds_monitor.rows import listing as of_listing
-from rds_monitor.rows.heads import HEADER, is_listing
+from rds_monitor.rows.extent import Extent
+from rds_monitor.rows.heads import HEADER, is_known, is_listing
 from rds_monitor.rows.items import BLOCKS, GROUP, VALID, Fault, Reading, Rows, Rules, totals_of
 from rds_monitor.rows.listing import Listing, text_of, totals_text
 from rds_monitor.rows.opening import open_source
@@ -128,10 +129,12 @@ group,-1,0,A,A:D393,B:0548,C:E0CD,D:5041              no place
 group,68719476736,0,A,A:D393,B:0548,C:E0CD,D:5041     no place
 group,,0,A,A:D393,B:0548,C:E0CD,D:5041                no place
 group,26,0,A,A:D39G,B:0548,C:E0CD,D:5041              its block 1 is no block
+group,26,0,A,A:000G,B:0548,C:E0CD,D:5041              its block 1 is no block
 group,26,0,A,A:d393,B:0548,C:E0CD,D:5041              its block 1 is no block
 group,26,0,A,A:D393,A:0548,C:E0CD,D:5041              its block 2 is no block
 group,26,0,A,A:D393,B:0548,C:E0CD~0000000,D:5041      its block 3 is no block
-group,26,0,A,A:D393,B:0548,C:E0CD~8000000,D:5041      its block 3 is no block
+group,26,0,A,A:D393,B:0548,C:E0CD~4000000,D:5041      its block 3 is no block
+group,26,0,A,A:D393,B:0548,C:E0CD~000000x,D:5041      its block 3 is no block
 group,26,0,A,A:D393,B:0548,C:E0CD~000800x,D:5041      its block 3 is no block
 group,26,0,A,A:D393,B:0548,C:E0CD~0x08000,D:5041      its block 3 is no block
 group,26,0,A,A:D393,B:0548,C:E0CD~000l000,D:5041      its block 3 is no block
@@ -183,8 +186,8 @@ def test_the_first_eighty_signs_of_a_bad_row_are_told(station_listing: bytes) ->
 # Beginnings of inputs, with the fault of each.
 NO_INPUTS = {
     "group,1".encode("utf-16"): "UTF-16",
-    b"begin_s,end_s,sent,valid\n0,60,1,1\n": "row 1: 'begin_s,end_s,sent,valid' is no row",
-    b"12345678 9ABCDEF0\n": "hexadecimal text: use --hex",
+    b"%060d,end_s\n0,60,1,1\n" % 7: f"row 1: '{7:060}' is no row",
+    b"12345678 9ABCDE\n": "hexadecimal text: use --hex",
     b"": "the input is empty",
 }
 
@@ -200,6 +203,15 @@ def test_bits_like_those_of_a_listing_in_utf_16() -> None:
     """The bits of a recording may begin with its mark, or have its first word."""
     for mark, word in ((b"\xff\xfe", b"groups"), (b"\xfe\xff", b"groups"), (b"\xff\xff", b"g\0r\0o\0u\0p\0")):
         assert not is_listing(mark + word + bytes(range(256)))
+    assert not is_listing(b"12345678 9ABCD\n")
+
+
+@pytest.mark.parametrize(
+    "head", [bytes(6), b"3456789ABCDEF01\n123456789ABCDEF0\n", b"<%63s" % b"\n", b"G\n%62s" % b""]
+)
+def test_beginnings_that_say_what_an_input_is(head: bytes) -> None:
+    """None of them does without its last byte, so that no more of a pipe is waited for."""
+    assert [is_known(head[:size]) for size in range(len(head) + 1)] == [*len(head) * [False], True]
 
 
 def test_a_row_without_an_end() -> None:
@@ -279,6 +291,15 @@ def test_the_length_of_the_recording(station_listing: bytes) -> None:
     # A minute of 71,250 bits, and a tenth of the 520 bits with rows, are not too long yet.
     few = listing(lock(0, [(0xD318, 0x0548, 0xE0CD, 0x4E4F)] * 5, lost=False))
     assert len(read(few, length=71250 + 572)) == 6 and "is wrong" in refused(few, length=71250 + 573)
+
+
+def test_the_extent_of_a_listing_and_of_a_part() -> None:
+    """A part begins with its first block."""
+    rows = lock(26, [WORDS] * 3)
+    for part, begin in ((False, 0), (True, 26)):
+        extent = Extent(source_of(listing(rows, totals=not part), unfinished_ok=part))
+        assert sum(map(len, extent.chunks())) == 5
+        assert (extent.begin, extent.end, extent.is_soft) == (begin, 26 + 3 * 104, False)
 
 
 # ---- random listings
@@ -409,7 +430,7 @@ COMPRESSED = {
 @pytest.mark.parametrize("name", COMPRESSED)
 def test_compressed_inputs_are_read(name: str, station: bytes, station_listing: bytes) -> None:
     compress = COMPRESSED[name]
-    for data in (station, station_listing):
+    for data in (station + bytes(1 << 20), station_listing):
         expected = said("errors", data=data)
         assert said("errors", data=compress(data)) == expected
         # Several streams in a row are one, as `cat` makes them.

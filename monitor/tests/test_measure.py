@@ -14,7 +14,7 @@ import pytest
 from hypothesis import given, settings, strategies as st
 
 from conftest import rds
-from made import BLOCK_OFFSETS, block, damaged, group_row, listing, output, read, run, said
+from made import BLOCK_OFFSETS, acquired_row, block, damaged, group_row, listing, output, read, run, said
 from rds_monitor.measures.errors import Errors
 from rds_monitor.measures.measure import Programmes
 from rds_monitor.measures.outages import Outages
@@ -33,7 +33,8 @@ COMMANDS = ["errors", "outages", "programmes", "types", "corrected", "table"]
 def two() -> bytes:
     corrected = group_row(104, WORDS)
     block(corrected[0], 4, 0x5041, 1)
-    return listing([corrected, group_row(208, (0xD393, 0x0549, 0xE0CD, 0x584F))], totals=False)
+    other = group_row(208, (0xD393, 0x0549, 0xE0CD, 0x584F))
+    return listing([acquired_row(129, 1), corrected, other], totals=False)
 
 
 @pytest.fixture(scope="module")
@@ -92,11 +93,13 @@ def test_outages_by_their_places(outages: bytes) -> None:
         found = [line.split(",")[3:] for line in said(*ask, *words, data=outages)[1:]]
         assert " ".join(map("-".join, found)) == places
     assert run(*ask, "--density", 101, data=outages).status == 2
-    # A second has no 46 blocks, so none counts.
-    for shortest in (1, 60):
-        assert said(*ask, "--density", 100, "--shortest", shortest, data=outages)[1:] == [
-            "0.000,175.158,175.158,0,208000"
-        ]
+    # A second has no 46 blocks, so none counts; at 1,196 bits per second it has just these.
+    for words, rows in (
+        ((), ["0.000,175.158,175.158,0,208000"]),
+        (("--shortest", 60), ["0.000,175.158,175.158,0,208000"]),
+        (("--rate", 1196, "--shortest", 40), ["78.261,130.435,52.174,93600,156000"]),
+    ):
+        assert said(*ask, "--density", 100, *words, data=outages)[1:] == rows
 
 
 def test_the_end_of_a_part(two: bytes) -> None:
@@ -153,6 +156,7 @@ def test_group_types(station: bytes) -> None:
     ]
     mix = [line.split(",") for line in said("types", "--every", 60, *START, data=station)[1:]]
     assert run("types", "--every", 0.5, data=station).status == 2
+    assert [*dict.fromkeys(row[0] for row in mix)] == ["0", "60", "120"]
     assert sum(int(row[4]) for row in mix) == 1923 and mix[0][:5] == ["0", "60", "0", "A", "108"]
     assert mix[-1][:3] == ["120", "180", "11"] and mix[-1][6] == "2026-03-29T00:32:00.000Z"
 

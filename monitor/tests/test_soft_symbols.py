@@ -137,21 +137,36 @@ def test_lost_symbols_are_erasures() -> None:
 
 @pytest.mark.parametrize("count", [1, 2, 5])
 def test_bits_that_are_not_known_are_odd_or_even(count: int) -> None:
-    """If they are in one block, of which each place is tried here."""
+    """If they are in one block, of which each place is tried here, with no more bits than it has. Five may make either offset word of
+    block 3."""
     bits = numpy.unpackbits(numpy.frombuffer(SENT, "u1"))
-    found = []
     for place in range(1040, 1144):
         counter = BlockCounter()
         counter.push(bits[:place])
-        parity = counter.parity_over(count, bits[place + count :])
-        is_inside = place % 26 + count <= 26
-        assert parity in (None, *([bits[place : place + count].sum() % 2] if is_inside else ()))
-        found.append(parity is not None)
-    assert sum(found) >= 60
+        parity = counter.parity_over(count, bits[place + count : place // 26 * 26 + 26])
+        odd = bits[place : place + count].sum() % 2 if place % 26 + count <= 26 else None
+        assert parity == odd or parity is None and count == 5 and 1040 + 52 <= place < 1040 + 78
     early = BlockCounter()
     assert early.parity_over(1, bits) is None
     early.push(bits[:1045])
     assert early.parity_over(count, bits[1045 + count : 1065]) is early.parity_over(6, bits[1051:]) is None
+
+
+def test_blocks_are_counted_bit_by_bit() -> None:
+    """All but the first and the last one so far. The place of groups is known until no block came for as long as two of them. Any two
+    that follow each other are enough."""
+    counter, bits = BlockCounter(), numpy.unpackbits(numpy.frombuffer(SENT, "u1"))
+    for bit in bits[:2080]:
+        counter.push(numpy.array([bit]))
+    assert (counter.bits, counter.blocks, counter.phase) == (2080, 78, 0)
+    for count, phase in ((26, 0), (208, 0), (1, None)):
+        counter.push(numpy.zeros(count, "u1"))
+        assert (counter.blocks, counter.phase) == (79, phase)
+    assert counter.share == 79 * 26 / 2315
+    for place in (0, 26, 52, 78):
+        counter = BlockCounter()
+        counter.push(numpy.pad(bits[place : place + 52], 26))
+        assert counter.blocks == 2
 
 
 def test_the_sign_goes_on_after_a_jump() -> None:

@@ -2,6 +2,7 @@
 
 from __future__ import annotations
 
+import csv
 import json
 import os
 import sqlite3
@@ -65,8 +66,9 @@ def test_minutes_are_those_of_errors_and_types(database, station: bytes) -> None
         ("2026-03-29", 2741, 99.96),
         ("2026-03-30", 4951, 100.0),
     ]
-    assert ("rt", RT) in asked(database, "SELECT item, value FROM events")
-    assert "ct" not in asked(database, "SELECT item FROM events")
+    changes = [row[2:] for row in csv.reader(said("info", "--csv", data=station)[1:]) if row[2] != "ct"]
+    query = "SELECT item, value, place FROM event_rows JOIN facts ON facts.id = fact ORDER BY place, number"
+    assert [[item, value, str(place)] for item, value, place in asked(database, query)] == changes
     totals = dict(line.split(",")[1:3] for line in rds("totals", data=station).decode().splitlines())
     assert {name: str(value) for name, value in asked(database, "SELECT name, value FROM totals")} == totals
     assert asked(database, "SELECT COUNT(*) FROM groups") == [0]
@@ -115,13 +117,17 @@ def test_a_clock_that_becomes_known_later(database, station: bytes) -> None:
     assert asked(database, "SELECT begin_utc FROM minutes")[1] == "1970-01-01T00:01:00.000Z"
 
 
-def test_the_offset_of_the_stations_clock(database) -> None:
-    """CT ends as a minute begins: here 2026-03-29T00:31Z, after 42.75 s of a recording that begins at 00:30:17."""
+def test_a_minute_that_ends_with_a_group(database) -> None:
+    """CT ends as a minute begins: here 2026-03-29T00:31Z, after just a minute of a recording that begins 17.0016 s after half past. The
+    next group says another PTY. The recording ends as the next minute does."""
     day = 61128
     tick = (0xD393, 0x4540 | day >> 15, (day & 0x7FFF) << 1, 31 << 6)
-    rows = [group_row(104 * n, tick if 104 * n == 50648 else WORDS) for n in range(600)]
-    add("--unfinished --start 2026-03-29T00:30:17Z --name it", database, data=listing(rows, False))
-    assert asked(database, "SELECT clock_s FROM minutes")[0] == round(43 - (50648 + 104) / 1187.5, 3)
+    rows = [group_row(10 + 104 * n, WORDS if n < 684 else tick) for n in range(685)]
+    rows.append(group_row(71250, (0xD393, 0x0568, 0xE0CD, 0x5041)))
+    words = "--unfinished --length 142500 --trust-length --start 2026-03-29T00:30:17.0016Z --name it"
+    add(words, database, data=listing(rows, False))
+    told = [(-17.002, "10 Pop music", 2740), (None, "11 Rock music", 2740)]
+    assert asked(database, "SELECT clock_s, pty, sent FROM minutes") == told
 
 
 def test_a_stream_that_was_restarted_is_two_sessions(database) -> None:
@@ -235,18 +241,21 @@ def test_the_views_of_written_rows(database) -> None:
         ("X", "1970-01-02", 0.02, 4530, 3900, 86.09, 73.55, 6.45, 21.5, 86298.5),
     ]
 
-    # All of its sessions: when it was watched for longer; for 20 seconds of them; and when another one has the same time.
+    # All of its sessions: when it was watched for longer; for 20 seconds of them; and when another one has the same time. A time without
+    # an outage, and one without anything.
     looks = {
         (86330, 86520): (129.75, 10.25, 31.5, 18.5),
         (86340, 86480): (129.75, 10.25, 0, 0),
         (86340, 86479.5): (129.75, 9.75, 0, 0),
+        (86340, 86345): (5, 0, 0, 0),
+        (1000, 1100): (0, 0, 0, 100),
     }
     changes = ["DELETE FROM watched_rows", "INSERT INTO watched_rows VALUES(1, 'X', 86400, 86420)"]
     changes.append("INSERT INTO sessions VALUES(3, 2, 1, 86340, 1000, 60000, 0, 140000, 1, NULL)")
     for number, (times, seconds) in enumerate(looks.items()):
         with closing(sqlite3.connect(database)) as data:
             assert availability(data, "X", *times) == pytest.approx(seconds, abs=0.001), times
-        change(database, *(changes[:2], changes[2:], [])[number])
+        change(database, *(changes[:2], changes[2:], [], [], [])[number])
         if number == 0:
             # its sessions are longer than it was watched
             assert asked(database, "SELECT received_s, noise_s, down_s, unknown_s FROM days") == [

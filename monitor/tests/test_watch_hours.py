@@ -4,6 +4,7 @@ from __future__ import annotations
 
 import gzip
 import os
+import sqlite3
 import time
 from itertools import accumulate
 from pathlib import Path
@@ -118,6 +119,12 @@ def test_options_say_more_than_a_name(station_listing: bytes, tmp_path: Path) ->
     path.write_bytes(station_listing[: station_listing.rindex(b"group,")])
     assert "2026-11-27T03:01:12.500Z" in run("errors", path).out
     assert "2026-01-01T00:01:00.000Z" in run("errors", "--start", "2026-01-01T00:00:00Z", path).out
+    # Each of several has the start that its own name says.
+    other = tmp_path / Hour(HOUR + 3600, HOUR + 13.5).name
+    other.write_bytes(path.read_bytes())
+    assert run("db", tmp_path / "it.db", path, other).status == 0
+    with sqlite3.connect(tmp_path / "it.db") as database:
+        assert [*database.execute("SELECT start FROM sessions")] == [(HOUR + 12.5,), (HOUR + 13.5,)]
     # a minute by the rate of the name, or of the options
     faster = tmp_path / Hour(HOUR, HOUR + 12.5, 1200).name
     faster.write_bytes(path.read_bytes())

@@ -24,7 +24,7 @@ CASES = [
     (b"12\n3g", "scan --hex", "11 HexText", ["byte 5 (line 2, column 2) is 0x67, neither a digit nor blank"]),
     (b"1 2\n3", "list --hex", "11 HexText", ["there are 3 digits, an odd number"]),
     (b"0000", "totals --gaps 1-2,9-9", "16 BadGaps", ["gap 2, 9-9, is empty"]),
-    (b"0000", "totals --gaps 99-99", "16 BadGaps", ["gap 1, 99-99, is empty"]),
+    (b"0000", "totals --gaps 0-5,5-32,99-99", "16 BadGaps", ["gap 3, 99-99, is empty"]),
     (
         b"0000",
         "list --gaps=1-5,4-9",
@@ -51,10 +51,6 @@ def test_rds_that_refuses_before_it_has_read_all() -> None:
     assert why(bytes(1 << 20), "list", "--burst", "6") == (1, "refused 1 BurstRange\n")
 
 
-def test_nothing_is_refused() -> None:
-    assert why(b"0000", "list") == (0, "")
-
-
 def with_blocks_e(count: int) -> bytes:
     """Forty groups, and after each this number of blocks E: those of offset A, without its offset word 0xFC."""
     random, bits = numpy.random.default_rng(1), ""
@@ -78,6 +74,12 @@ def test_blocks_with_offset_word_e(count: int, groups: int) -> None:
     for words, whole in (([], groups), (["--loss", "64"], 39)):
         assert f"total,complete,{whole}," in rds("list", *words, data=data).decode()
     assert "--loss 64" in told
+
+
+def test_four_blocks_with_offset_word_e_are_told_and_no_less() -> None:
+    four = with_blocks_e(4)[13:26]
+    assert why(four, "list")[1].startswith("4 of the blocks in the first 104 bits have offset word E")
+    assert why(four, "list", "--bits", "103") == why(b"0000", "list") == (0, "")
 
 
 @pytest.mark.parametrize(

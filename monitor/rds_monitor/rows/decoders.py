@@ -72,13 +72,13 @@ class ByLibrary(Pushed):
         rows: Rows = self._tried(lambda: self._follower.push_array(data))
         self.bytes += len(data)
         if self.is_soft:
-            self._soft_totals.take(data, rows)
+            self._soft_totals.take(rows)
         return rows
 
     def finish(self, data: bytes = b"", bits: int = 0) -> Tuple[Rows, Totals]:
         if self.is_soft:
             rows = rows_before(self._tried(lambda: self._follower.push_array(PADDING)), self.place)
-            return rows, self._soft_totals.take(b"", rows)
+            return rows, self._soft_totals.take(rows)
         rows, found = self._tried(lambda: self._follower.finish_array(data, bits))
         told: Any = (getattr(found, name, ()) for name in Totals._fields)
         return rows, Totals(*told)

@@ -11,8 +11,6 @@ from .parse import read_pattern, set_types
 
 # Erasures that complete a group in progress.
 PADDING = bytes(2 * GROUP_BITS)
-# Symbols before those of a push that its groups may have.
-KEPT = 2 * GROUP_BITS
 NONE = Totals(0, (0,) * 5, 0, 0, 0, 0, 0, 0, (0,) * len(SOFT_NAMES))
 
 
@@ -34,33 +32,27 @@ def rows_before(rows: Rows, end: int) -> Rows:
 
 
 class SoftTotals:
-    """Totals of rows, whose blocks were corrected by the lighter one of the two sets of flips that make their mask."""
+    """Totals of rows, whose blocks were corrected by the smaller one of the two sets of flips that make their mask. The nearest flips are
+    ten at most: of eleven some could be left out, with the same offset word, since their masks have remainders of ten bits.
+    """
 
     def __init__(self) -> None:
-        self._totals, self._symbols, self._first = NONE, b"", 0
+        self._totals = NONE
 
-    def take(self, symbols: bytes, rows: Rows) -> Totals:
-        """The totals with these rows, the last of which end within the symbols."""
-        self._symbols += symbols
-        counts = numpy.bincount(numpy.minimum(self._flips(groups_in(rows)), len(NONE.soft)), minlength=7)[1:]
+    def take(self, rows: Rows) -> Totals:
+        """The totals with these rows."""
+        counts = numpy.bincount(numpy.minimum(flips_of(groups_in(rows)), len(NONE.soft)), minlength=7)[1:]
         soft = tuple(int(one + more) for one, more in zip(self._totals.soft, counts))
         self._totals = add_totals(self._totals, totals_of(rows))._replace(bursts=NONE.bursts, soft=soft)
-        gone = max(0, len(self._symbols) - KEPT)
-        self._symbols, self._first = self._symbols[gone:], self._first + gone
         return self._totals
 
-    def _flips(self, groups: Rows) -> Rows:
-        """How many symbols were flipped in each corrected block."""
-        at, blocks = numpy.nonzero(kinds_of(groups) == CORRECTED)
-        masks = numpy.stack([groups[f"burst{block}"] for block in BLOCKS], axis=1)[at, blocks]
-        # A bit is inverted if one of the symbols beside it is flipped: from the first symbol on, which is not.
-        flipped = numpy.zeros((len(at), BLOCK_BITS + 1), "i8")
-        bits = masks[:, None] >> numpy.arange(BLOCK_BITS - 1, -1, -1, dtype="u4") & 1
-        numpy.bitwise_xor.accumulate(bits, axis=1, out=flipped[:, 1:])
-        places = places_of(groups)[at, blocks][:, None] - self._first + numpy.arange(BLOCK_BITS + 1)
-        sizes = numpy.abs(numpy.frombuffer(self._symbols, "i1").astype("i8"))[places]
-        weights = numpy.minimum(sizes, 127)
-        other = (weights * (1 - 2 * flipped)).sum(axis=1) < 0
-        count = flipped.sum(axis=1)
-        found: Rows = numpy.where(other, BLOCK_BITS + 1 - count, count)
-        return found
+
+def flips_of(groups: Rows) -> Rows:
+    """How many symbols were flipped in each corrected block."""
+    at, blocks = numpy.nonzero(kinds_of(groups) == CORRECTED)
+    masks = numpy.stack([groups[f"burst{block}"] for block in BLOCKS], axis=1)[at, blocks]
+    bits = masks[:, None] >> numpy.arange(BLOCK_BITS - 1, -1, -1, dtype="u4") & 1
+    # A bit is inverted if one of the symbols beside it is flipped: from the first symbol on, which is not.
+    count = numpy.bitwise_xor.accumulate(bits, axis=1).sum(axis=1, dtype="i8")
+    found: Rows = numpy.minimum(count, BLOCK_BITS + 1 - count)
+    return found
