@@ -415,12 +415,20 @@ def test_years_of_some_days(tmp_path: Path, station: bytes) -> None:
     assert float(rows[1].split(",")[2]) == pytest.approx(8 * len(station) / RATE - 60, abs=0.01)
 
 
-@pytest.mark.parametrize("data, count", [(b"x", 1), (MAGIC, 2)])
-def test_into_is_for_one_database(data: bytes, count: int, tmp_path: Path) -> None:
+FAULTS = [
+    ("--into pages it", b"x", 2, "--into is for one database"),
+    ("--into pages it it", MAGIC, 2, "--into is for one database"),
+    ("--start 2026-03-29T00:30:00Z it it", b"x", 1, "--start is of one recording"),
+    ("it", MAGIC, 1, "'it' cannot be read: file is not a database"),
+]
+
+
+@pytest.mark.parametrize("words, data, status, fault", FAULTS, ids=range(len(FAULTS)))
+def test_faults(words: str, data: bytes, status: int, fault: str, tmp_path: Path) -> None:
     (tmp_path / "it").write_bytes(data)
-    done = monitor("report", "--into", tmp_path / "pages", *[tmp_path / "it"] * count)
-    assert done.returncode == 2 and b"--into is for one database" in done.stderr
-    assert not (tmp_path / "pages").exists()
+    done = monitor("report", *words.split(), cwd=tmp_path)
+    assert done.returncode == status and fault in done.stderr.decode() and not done.stdout
+    assert [path.name for path in tmp_path.iterdir()] == ["it"]
 
 
 def test_a_database_of_something_else(tmp_path: Path) -> None:
