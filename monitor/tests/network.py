@@ -36,8 +36,8 @@ START = 1795748370.0
 class SimulatedTimes(Times):
     """A clock that stands still between two calls of `pass_by`."""
 
-    def __init__(self, utc: float = START):
-        super().__init__()
+    def __init__(self, utc: float = START, speed: float = 1.0):
+        super().__init__(speed)
         self.steady, self.utc = 1000.0, utc
 
     def now(self) -> Now:
@@ -194,9 +194,10 @@ class Network:
         airs: Mapping[str, Union[Air, SharedAir]],
         plans: Optional[Dict[str, List[Plan]]] = None,
         decoder: NewDecoder = ByLibrary,
+        speed: float = 1.0,
     ):
         self.folder, self.text, self.decoder = folder, table, decoder
-        self.times, self.airs, self.plans = SimulatedTimes(), airs, plans or {}
+        self.times, self.airs, self.plans = SimulatedTimes(speed=speed), airs, plans or {}
         self.zero = self.times.steady
         self.said: List[str] = []
         self.runs: List[Tuple[str, float]] = []

@@ -47,12 +47,15 @@ CLOCKS = {
 
 # Each alarm comes within the fourteen minutes of `one`.
 TABLE = """
+[defaults]
+patience = 5
+
 [defaults.alarms]
 ps_stuck = 200
 rt_stuck = 150
 ta = 20
 ct = 1
-ct_offset = 1
+ct_offset = 0.5
 ct_absent = 70
 silent = 5
 no_rds = 4
@@ -82,6 +85,7 @@ command = ["n"]
 raw = "u8"
 rate = 2400000
 centre = 98.0
+patience = 5
 soft = false
 
 [[station]]
@@ -91,7 +95,7 @@ frequency = 97.3
 pi = ["D319", "D31A"]
 """
 # Runs of Alpha's receiver: silent for a while; until the watch is ended; too fast; too slow; and to the end.
-PLANS = [Plan(drops=(300, 12)), Plan(dies=60), Plan(pace=1.02, dies=90), Plan(pace=0.97, dies=120), Plan()]
+PLANS = [Plan(drops=(300, 12)), Plan(dies=60), Plan(pace=1.03, dies=90), Plan(pace=0.97, dies=120), Plan()]
 
 
 class OnAir:
@@ -150,14 +154,16 @@ def folder(tmp_path_factory: pytest.TempPathFactory) -> Iterator[Path]:
 
 @pytest.fixture(scope="module")
 def watched(folder: Path) -> Iterator[None]:
-    """A watch over both, which was away for ten seconds, and whose disk was full for five."""
+    """A watch over both, at twice the speed of time, which was away for ten seconds, and whose disk was full for five."""
     path = folder / "watch"
     path.mkdir()
     airs = {"a": OnAir(ONE), "n": SharedAir({97_300_000: OnAir(TWO, 7)})}
-    net = Network(path, TABLE, airs, {"a": [*PLANS]}, decoder_of()[0])
+    net = Network(path, TABLE, airs, {"a": [*PLANS]}, decoder_of()[0], speed=2.0)
     with pytest.MonkeyPatch.context() as patch:
         patch.setattr(os, "fdatasync", lambda file: None)
-        net.run(350)
+        net.run(250)
+        net.reload(TABLE)
+        net.run(100)
         net.restart(10)
         net.run(100)
         with patch.context() as full:

@@ -46,8 +46,8 @@ TABLE = stations('name = "Alpha"', 'command = ["a"]', 'pi = "D318"', 'ps = "ALPH
 NOT_STORED = ("ct", "ih_data")
 
 
-def network(folder: Path, air: Air, *plans: Plan, table: str = TABLE) -> Network:
-    return Network(folder, table, {"a": air}, {"a": list(plans)})
+def network(folder: Path, air: Air, *plans: Plan, table: str = TABLE, speed: float = 1.0) -> Network:
+    return Network(folder, table, {"a": air}, {"a": list(plans)}, speed=speed)
 
 
 def apart(numbers: List[Tuple[int, float]]) -> List[float]:
@@ -486,8 +486,8 @@ def test_a_clock_that_is_set(tmp_path: Path) -> None:
 
 
 def test_a_disk_that_hangs(tmp_path: Path, monkeypatch: pytest.MonkeyPatch) -> None:
-    """No write fails, and none ends: that is an alarm, too."""
-    net = network(tmp_path, Air(ALPHA, START, 100))
+    """No write fails, and none ends: that is an alarm, too. Time passes twice as fast."""
+    net = network(tmp_path, Air(ALPHA, START, 100), speed=2)
     net.run(10)
     with monkeypatch.context() as patch:
         patch.setattr(InTurn, "is_idle", property(lambda self: False))
@@ -496,8 +496,8 @@ def test_a_disk_that_hangs(tmp_path: Path, monkeypatch: pytest.MonkeyPatch) -> N
     net.run(10, tick=0.5)
     net.end()
     same_as_sent(net, tmp_path)
-    # It is seen at 10.5 s, and lasts for more than five seconds at 16.
-    assert alarms(net, "") == [("disk", 16.0, 30.5)]
+    # It is seen at 10.5 s, and lasts for more than five seconds of the fast clock at 21.
+    assert alarms(net, "") == [("disk", 21.0, 30.5)]
 
 
 # ---- the table
