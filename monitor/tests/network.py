@@ -81,10 +81,11 @@ class Air:
 
 
 class SharedAir:
-    """Stations that one receiver gives, as lines of `demod --stations`: by frequency in Hz. Each has a level of its own."""
+    """Stations that one receiver gives, as lines of `demod --stations`: by frequency in Hz. Each has a level of its own, which rises by
+    `rise` dB per second, and its SNR by half of that."""
 
-    def __init__(self, airs: Dict[int, Air]):
-        self._airs = airs
+    def __init__(self, airs: Dict[int, Air], rise: float = 0.0):
+        self._airs, self._rise = airs, rise
         self.at = next(iter(airs.values())).at
 
     def bytes(self, first: int, after: int) -> bytes:
@@ -97,11 +98,9 @@ class SharedAir:
                 "seconds": 8 * (after - first) / RATE,
                 "bits": air.bytes(first, after).hex(),
             }
-            found.append(
-                json.dumps(
-                    {**line, "level_dbfs": -20.0 - number, "snr_db": 30.0 - number}, separators=(",", ":")
-                )
-            )
+            more = self._rise * 8 * first / RATE - number
+            line.update(level_dbfs=-20 + more, snr_db=30 + (more - number) / 2)
+            found.append(json.dumps(line, separators=(",", ":")))
         return "".join(f"{line}\n" for line in found).encode()
 
 

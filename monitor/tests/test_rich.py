@@ -157,7 +157,7 @@ def watched(folder: Path) -> Iterator[None]:
     """A watch over both, at twice the speed of time, which was away for ten seconds, and whose disk was full for five."""
     path = folder / "watch"
     path.mkdir()
-    airs = {"a": OnAir(ONE), "n": SharedAir({97_300_000: OnAir(TWO, 7)})}
+    airs = {"a": OnAir(ONE), "n": SharedAir({97_300_000: OnAir(TWO, 7)}, 0.02)}
     net = Network(path, TABLE, airs, {"a": [*PLANS]}, decoder_of()[0], speed=2.0)
     with pytest.MonkeyPatch.context() as patch:
         patch.setattr(os, "fdatasync", lambda file: None)
