@@ -113,16 +113,19 @@ def test_dropped_samples_make_the_time_jump_forward(speed: int) -> None:
 @at_each_speed
 @pytest.mark.parametrize("factor", [0.97, 1.02, 1.3])
 def test_when_the_pace_changes(factor: float, speed: int) -> None:
-    """It is another one from second 60 to 100. The first look that tells so says when that began."""
-    arrivals, place, found = Arrivals(speed), 0.0, []
+    """It is another one from second 60 to 100. The first look that tells so says when that began. One that does not change is known after
+    ten seconds, and told of the last thirty."""
+    arrivals, place, found, since = Arrivals(speed), 0.0, [], {}
     for second in range(1, 150):
         place += RATE * (factor if 60 < second <= 100 else 1)
         arrivals.take(int(speed * place), BEGIN + speed * second)
         pace = arrivals.pace()
+        since[second] = pace and (pace.since - BEGIN) / speed
         is_off = pace is not None and abs(pace.factor - 1) > 0.01
         if pace and is_off != (len(found) % 2 == 1):
             found.append((pace.since - BEGIN) / speed)
     assert len(found) == 2 and numpy.allclose(found, (60, 100), atol=1.5)
+    assert [since[second] for second in (10, 11, 31, 32, 55)] == [None, 1, 1, 2, 25]
 
 
 @given(st.lists(st.floats(0, 5), min_size=30, max_size=200), st.floats(-200, 200))
