@@ -175,8 +175,15 @@ def test_what_is_no_rds_is_never_locked(signal: Array) -> None:
     assert told["locked"] == 0 and told["snr_db"] is None and told["first_lock_s"] is None
 
 
+# Of what is known of MPX.
+DIGITS = {"seconds": 1, "locked": 4, "received": 4, "first_lock_s": 1, "snr_db": 1, "carrier_offset_hz": 2}
+DIGITS |= {"clock_offset_ppm": 1, "rds_dbfs": 1, "rds_to_pilot_db": 1}
+
+
 def test_lock_of_a_part() -> None:
-    told = received(numpy.concatenate([NOISE, mpx(SENT, RATE)]))[1]
+    told = received(numpy.concatenate([NOISE, mpx(SENT, RATE, carrier_offset=5)]))[1]
+    digits = {name: len(str(value).partition(".")[2]) for name, value in told.items() if value is not None}
+    assert digits == DIGITS
     assert abs(told["received"] - 2.1 / 8.1) < 0.02
     assert abs(told["first_lock_s"] - 6) < 0.5 and abs(told["locked"] - 2.1 / 8.1) < 0.05
 

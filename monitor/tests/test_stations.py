@@ -69,8 +69,8 @@ def test_stations_that_are_found(capture: bytes, tmp_path: Path) -> None:
 
 
 def test_named_stations_from_a_pipe(capture: bytes) -> None:
-    """Without a folder, lines have the bits as they come."""
-    words_ = (*RAW, "--centre", "97.95M", "--at", "98.1M,97.8M", "--equalise", "97.8M")
+    """Without a folder, lines have the bits as they come. Each is reported at times, and at the end."""
+    words_ = (*RAW, "--centre", "97.95M", "--at", "98.1M,97.8M", "--equalise", "97.8M", "--every", 0.6)
     done = monitor("demod", *words_, data=2 * capture)
     assert done.returncode == 0, done.stderr
     lines = [json.loads(line) for line in done.stdout.decode().splitlines()]
@@ -80,7 +80,10 @@ def test_named_stations_from_a_pipe(capture: bytes) -> None:
         assert right(name, bits) >= 36
         assert own[-1]["seconds"] == 2 * SECONDS and len(own) >= 4
         assert all(line["level_dbfs"] is not None for line in own[:-1])
-    assert b"98.1M: 3.8 s, " in done.stderr
+        text = f"rds-monitor demod: {name[:-4]}: (.*) s, .* % of its bits in valid blocks"
+        *times, last = map(float, re.findall(text, done.stderr.decode()))
+        assert times and last == 3.8
+        assert all(after - before >= 0.6 for before, after in zip([0, *times], times))
 
 
 def test_a_station_alone_is_the_same(capture: bytes) -> None:
