@@ -363,7 +363,9 @@ def test_pages_of_a_year(year: Path) -> None:
     ]
     assert sorted(path.name for path in folder.iterdir()) == names
     assert all(path.stat().st_size < 2_000_000 for path in folder.iterdir())
-    told, march = (data_of((folder / f"Alpha-2025{month}.html").read_text())[0] for month in ("", "-03"))
+    pages = [(folder / f"Alpha-2025{month}.html").read_text() for month in ("", "-03")]
+    told, march = (data_of(page)[0] for page in pages)
+    assert re.findall(r'href="Alpha-2025-(\d+).html"', pages[1]) == ["02", "04"]
     minutes = 365 * 1440
     sums = {name: minutes // 2 * (one + other) for name, one, other in zip(COUNTS, *MINUTES)}
     assert told["totals"] == sums and told["parts"][0]["step"] == 86400
@@ -393,26 +395,34 @@ def test_pages_of_a_year(year: Path) -> None:
 
 @needs_d3
 def test_years_of_some_days(tmp_path: Path, station: bytes) -> None:
-    """A month without any session has no page, a start that is not known is named, and names are escaped."""
+    """A month without any session has no page and no link, a start that is not known is named, and names are escaped."""
     (tmp_path / "it.bin").write_bytes(station)
-    for name, start in (("1", "2024-12-31T23:59:00Z"), ("2", "2025-02-28T12:00:00Z"), ("3", None)):
+    for name, start in (("1", "2024-12-31T23:59:00Z"), ("2", "2025-03-31T23:59:00Z"), ("3", None)):
         words = ["--station", "A/<b>", "--name", name, *(("--start", start) if start else ())]
         assert monitor("db", *words, tmp_path / "it.db", tmp_path / "it.bin").returncode == 0
     done = monitor("report", "--into", tmp_path / "pages", tmp_path / "it.db")
     assert done.returncode == 0
     assert done.stderr == b"rds-monitor report: A/<b>: 1 sessions whose start is not known are left out\n"
-    beside = [f"A%2F%3Cb%3E-{time}.html" for time in ("2024-12", "2024", "2025-01", "2025-02", "2025")]
-    assert sorted(path.name for path in (tmp_path / "pages").iterdir()) == [
-        *beside,
-        "availability.csv",
-        "index.html",
-    ]
-    assert (
-        'href="A%252F%253Cb%253E-2025-02.html"' in (tmp_path / "pages" / "A%2F%3Cb%3E-2025.html").read_text()
-    )
-    rows = (tmp_path / "pages" / "availability.csv").read_text().splitlines()[1:]
-    assert [row.split(",")[1] for row in rows] == ["2024-12", "2025-01", "2025-02"]
-    assert float(rows[1].split(",")[2]) == pytest.approx(8 * len(station) / RATE - 60, abs=0.01)
+    pages = {path.name: path for path in (tmp_path / "pages").iterdir()}
+    told = [row.split(",") for row in pages.pop("availability.csv").read_text().splitlines()[1:]]
+    links = {
+        name.removeprefix("A%2F%3Cb%3E-"): re.findall(
+            r'href="A%252F%253Cb%253E-([-\d]+).html"', path.read_text()
+        )
+        for name, path in pages.items()
+    }
+    assert links == {
+        "2024-12.html": ["2024"],
+        "2024.html": ["2024-12"],
+        "2025-01.html": ["2025"],
+        "2025-03.html": ["2025", "2025-04"],
+        "2025-04.html": ["2025", "2025-03"],
+        "2025.html": ["2025-01", "2025-03", "2025-04"],
+        "index.html": ["2025", "2024", "2024-12", "2025", "2025-01", "2025-03", "2025-04"],
+    }
+    assert [row[1] for row in told] == ["2024-12", "2025-01", "2025-02", "2025-03", "2025-04"]
+    rest = 8 * len(station) / RATE - 60
+    assert [float(row[2]) for row in told] == pytest.approx([60, rest, 0, 60, rest], abs=0.01)
 
 
 FAULTS = [
