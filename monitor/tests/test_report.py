@@ -24,7 +24,7 @@ from rds_monitor.page.report import RecordedLine
 from rds_monitor.page.stored import MAGIC, StoredStation
 from rds_monitor.rows.clock import Clock
 
-from years import MINUTES, OUTAGE, RATE, make_year
+from years import MINUTES, MIX, OUTAGE, RATE, make_year
 
 pytest.importorskip("jinja2")
 D3 = os.environ.get("RDS_D3", "/usr/share/javascript/d3/d3.min.js")
@@ -371,6 +371,11 @@ def test_pages_of_a_year(year: Path) -> None:
     assert told["totals"] == sums and told["parts"][0]["step"] == 86400
     assert march["parts"][0]["step"] == 3600 and march["end"] == 31 * 86400
     assert march["totals"]["sent"] == 31 * 1440 // 2 * 5481
+    # One minute in twenty counts for the mix. The second to the fourth day are one outage.
+    mix = {name: 3 * count for name, count in json.loads(MIX).items()}
+    assert march["mix"][0] == [0, 3600, mix] and march["clock"][0] == [1800, 0.25]
+    assert march["sessions"][0] == [0, 86400, 86400, 720 * 5481, 720 * 5441]
+    assert [86400, 4 * 86400, 3 * 86400] in march["outages"]
     assert told["held"]["AF"] == "98.5 101.2" and told["held"]["CT"] == "+0.250 s from the recording's clock"
     assert len(told["lanes"][0][1]) == 1 and told["outage_count"] == 365
     # A new RT each three minutes is in no list, and its lane says so. Of a year's month two of seven daily items are left out: 2000 / 12 rows
