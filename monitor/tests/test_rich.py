@@ -35,7 +35,7 @@ from rds_monitor.watch import writer
 from rds_monitor.watch.alarms import NAMES
 
 # When the watch was looked at for the last time.
-END = START + 825
+END = START + 827
 TEXTS = Path(__file__).parent / "rich"
 ONE, TWO = rich.one(), rich.two()
 # The groups of the signal, and of what `why` looks at.
@@ -94,8 +94,8 @@ receiver = "north"
 frequency = 97.3
 pi = ["D319", "D31A"]
 """
-# Runs of Alpha's receiver: silent for a while; until the watch is ended; too fast; too slow; and to the end.
-PLANS = [Plan(drops=(300, 12)), Plan(dies=60), Plan(pace=1.03, dies=90), Plan(pace=0.97, dies=120), Plan()]
+# Runs of Alpha's receiver: silent for a while; until the watch is ended; too fast; too slow, and then silent; and to the end.
+PLANS = [Plan(drops=(300, 12)), Plan(dies=60), Plan(pace=1.03, dies=90), Plan(pace=0.97, hangs=120), Plan()]
 
 
 class OnAir:
@@ -161,16 +161,16 @@ def watched(folder: Path) -> Iterator[None]:
     net = Network(path, TABLE, airs, {"a": [*PLANS]}, decoder_of()[0], speed=2.0)
     with pytest.MonkeyPatch.context() as patch:
         patch.setattr(os, "fdatasync", lambda file: None)
-        net.run(250)
-        net.reload(TABLE)
-        net.run(100)
+        net.run(350)
         net.restart(10)
         net.run(100)
         with patch.context() as full:
             full.setattr(writer.HourWriter, "append", no_space)
             net.run(5)
+        net.reload(TABLE)
         net.run(END - net.times.utc)
     (path / "said.txt").write_text("".join(f"{line}\n" for line in net.said))
+    assert 'http-equiv="refresh" content="30"' in (path / "pages" / "index.html").read_text()
     yield
     net.end()
 
