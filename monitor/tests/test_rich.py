@@ -158,7 +158,8 @@ def watched(folder: Path) -> Iterator[None]:
     path = folder / "watch"
     path.mkdir()
     airs = {"a": OnAir(ONE), "n": SharedAir({97_300_000: OnAir(TWO, 7)}, 0.02)}
-    net = Network(path, TABLE, airs, {"a": [*PLANS]}, decoder_of()[0], speed=2.0)
+    plans = {"a": [*PLANS], "n": [Plan(hangs=200)]}
+    net = Network(path, TABLE, airs, plans, decoder_of()[0], speed=2.0)
     with pytest.MonkeyPatch.context() as patch:
         patch.setattr(os, "fdatasync", lambda file: None)
         net.run(350)
