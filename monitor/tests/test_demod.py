@@ -389,15 +389,16 @@ def test_the_level_is_that_of_the_form(form: str, level: float) -> None:
 
 
 def test_a_terminal_has_one_line_that_is_overwritten(signal: Array, tmp_path: Any) -> None:
+    """Of five looks at 0, 0.3, 0.6, 1.2 and 1.5 s two are later than half a second after the last line, which is told 0.3 s later."""
     (tmp_path / "it").write_bytes(stored(signal, "s16") * 3)
     code = (
         "import itertools, sys; from rds_monitor import cli; from rds_monitor.signal import outputs\n"
-        "clock = itertools.count(1)\noutputs.time.monotonic = lambda: next(clock)\nsys.exit(cli.main(sys.argv[1:]))"
+        "clock = itertools.count(0, 0.3)\noutputs.time.monotonic = lambda: next(clock)\nsys.exit(cli.main(sys.argv[1:]))"
     )
     options = ("--raw", "s16", "--rate", "192000", "--output", "/dev/null")
     said = on_a_terminal("-c", code, "demod", *options, str(tmp_path / "it"))
     lines = said.split(b"\r")
-    assert len(lines) >= 4 and said.count(b"\n") == 1
+    assert len(lines[1:-2]) == 2 and said.count(b"\n") == 1
     assert all(line.endswith(b"\x1b[K") for line in lines[1:-2])
     assert b"rds-monitor demod: " in said and b" in valid blocks" in lines[2]
 

@@ -154,8 +154,8 @@ def test_the_picture(page: str) -> None:
 
 
 def test_a_picture_and_its_names(page: str) -> None:
-    """The grid fills 1200 by 320, as the marks do. Three lines of names are below."""
-    assert 'viewBox="0 0 1200 360"' in page
+    """The grid fills 1200 by 320, as the line and the marks do. Three lines of names are below."""
+    assert 'viewBox="0 0 1200 360"' in page and re.search(r'<polyline points="0.0,[^"]* 1200.0,[^ "]*"', page)
     levels = [float(at) for at in re.findall(r'<line x1="0" x2="1200" y1="([\d.]+)"', page)]
     assert len(levels) > 2 and levels == [
         pytest.approx(320 - 320 * n / (len(levels) - 1), abs=0.1) for n in range(len(levels))
