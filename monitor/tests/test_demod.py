@@ -2,6 +2,7 @@
 
 from __future__ import annotations
 
+import io
 import json
 import os
 import re
@@ -22,7 +23,8 @@ from modulator import Array, dropped, iq, mpx, stored, wav, words
 from rds_monitor.signal.outputs import sentence
 from rds_monitor.signal.rates import BLOCK, _prominence
 from rds_monitor.signal.receiver import Capture
-from rds_monitor.signal.samples import open_samples
+from rds_monitor.rows.items import Fault
+from rds_monitor.signal.samples import Layout, open_samples, wav_layout
 
 GROUPS = words(3, 24)  # 2.1 seconds
 SENT = encode(GROUPS)
@@ -316,6 +318,19 @@ def test_wav(which: str, signal: Array, file: Any) -> None:
     form, is_long = which[:3], "long_form" in WAVES[which]
     data = wav(stored(signal, form), form, 192000, **WAVES[which]) + b"LIST." * is_long
     assert demodulated(file(data)) == GROUPS[1:]
+
+
+def test_the_least_of_a_header() -> None:
+    """The first 26 bytes of a format, and 16 of the lengths. Both names of the first chunk have to be right."""
+    described = struct.pack("<HHIIHHHHIH", 0xFFFE, 1, 192000, 384000, 2, 16, 22, 16, 0, 1)
+    parts = (b"ds64", struct.pack("<QQ", 0, 10)), (b"fmt ", described)
+    chunks = b"".join(name + struct.pack("<I", len(body)) + body for name, body in parts)
+    chunks += b"data" + b"\xff" * 4
+    read = wav_layout(io.BytesIO(b"RF64" + bytes(4) + b"WAVE" + chunks))
+    assert read == Layout(192000, 1, "s16", 10)
+    for one, other in ((b"RIFX", b"WAVE"), (b"RIFF", b"AVI ")):
+        with pytest.raises(Fault, match="neither WAV nor FLAC"):
+            wav_layout(io.BytesIO(one + bytes(4) + other + chunks))
 
 
 @pytest.mark.parametrize("form", ["u8", "s16", "s24", "s32", "f32", "f64"])

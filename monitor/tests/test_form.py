@@ -115,6 +115,9 @@ def test_lines_of_groups(tmp_path: Path) -> None:
     assert name == "lines of hexadecimal words"
     # The first one lacks a block.
     assert rds("list", data=shell(cure, tmp_path)).count(b"\ngroup,") >= len(lines) - 2
+    # Half of the lines are enough, of which the last one is empty.
+    texts = (lines[-1].encode() + b"\n" + count * b"none\n" for count in (0, 1))
+    assert [len(form.as_lines("it", text)) for text in texts] == [1, 0]
 
 
 def test_a_station_that_comes_late(tmp_path: Path) -> None:

@@ -20,8 +20,8 @@ from made import peak_memory
 from rds_monitor.page.html import page_of, told_of
 from rds_monitor.page.line import COUNTS, Counted, Lanes, TimeLine, bad_percent, encoded, said
 from rds_monitor.page.overview import Span, last_minute, line_of, polyline, tile_of
-from rds_monitor.page.report import RecordedLine
-from rds_monitor.page.stored import MAGIC, StoredStation
+from rds_monitor.page.report import MOST_STORED, RecordedLine
+from rds_monitor.page.stored import MAGIC, Stored, StoredStation
 from rds_monitor.rows.clock import Clock
 
 from years import MINUTES, MIX, OUTAGE, RATE, make_year
@@ -253,6 +253,13 @@ def test_an_interval_per_second_of_a_day(seconds: int, step: int, station_listin
     assert part["step"] == step
 
 
+@pytest.mark.parametrize("minutes, step", [(86400, 120), (86401, 3600)])
+def test_bars_of_sixty_days(minutes: int, step: int) -> None:
+    """Of all stations together: of two minutes each, and of more days of an hour."""
+    stored = SimpleNamespace(rows=lambda query: [(minutes,)])
+    assert Stored.step(stored, MOST_STORED) == step  # type: ignore[arg-type]
+
+
 @pytest.mark.parametrize("seconds, step", [(900, 1), (9000, 4.5)])
 def test_steps_of_the_lists_of_a_recording(seconds: int, step: float) -> None:
     """A second at least, or a two-thousandth of it."""
@@ -339,6 +346,10 @@ def test_outages_that_meet_are_one(stored: List[Tuple[int, int]], told: List[Any
     """Those of two parts, or of two recordings of one time; of all of them what is between 0 and 1000 s."""
     line, session = TimeLine(), SimpleNamespace(quiet=None, at=float)
     station = StoredStation.__new__(StoredStation)
+    station._times = [(1000.0, 2000.0), (-9.0, 0.0)]
+    assert (
+        not station.is_known(0.0, 1000.0) and station.is_known(-0.5, 1000.0) and station.is_known(0.0, 1000.5)
+    )
     station._add_outages(line, session, stored, 0.0, 1000.0)  # type: ignore[arg-type]
     assert line.outages == told
 

@@ -329,6 +329,11 @@ def test_frequencies() -> None:
         "100M",
         "+0.3M",
     ]
-    for text in ("", "98.1 MHz", "nan", "1e99"):
+    assert frequency_of("999.999G") < 1e12
+    for text in ("", "98.1 MHz", "nan", "1e99", "1000G"):
         with pytest.raises(Fault):
             frequency_of(text)
+    band = Tuning(97.95e6, 600000)
+    assert band.offsets_of("97.75M,98.15M") == [-2e5, 2e5]
+    with pytest.raises(Fault, match="98.150001M is not in the band"):
+        band.offsets_of("98.150001M")

@@ -195,6 +195,9 @@ def test_a_receiver_that_flaps() -> None:
     assert judged.found == [("flapping", True, 3001.0)] and judged.texts == ["11 sessions in an hour"]
     judged.seconds(3600)
     assert judged.found[1:] == [("flapping", False, 5400.0)]
+    never = Judged("[station.alarms]", "flapping = 0").seconds(5)
+    never.alarms.begin_session(never.now)
+    assert never.seconds(2).found == [("flapping", True, 6.0)]
 
 
 def test_no_contents_hold_their_alarms() -> None:

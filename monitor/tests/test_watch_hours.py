@@ -188,7 +188,7 @@ def test_a_writer_is_busy_while_rows_wait(tmp_path: Path, monkeypatch: pytest.Mo
 
 
 def kept(folder: Path, keep: Keep, *sizes: int, busy: int = -1) -> "list[int]":
-    """Which of some hours are left; the last one is the hour of now."""
+    """Which of some hours are left; the last one begins now."""
     top = folder / "listings" / "Alpha"
     top.mkdir(parents=True)
     paths = [top / Hour(HOUR - 3600 * (len(sizes) - 1 - n), HOUR - 1e6).name for n in range(len(sizes))]
@@ -199,7 +199,7 @@ def kept(folder: Path, keep: Keep, *sizes: int, busy: int = -1) -> "list[int]":
     if busy >= 0:
         name = os.path.join("listings", "Alpha", paths[busy].name)
         records.write([PartOpened(PartKey("Alpha 1", 0), "Alpha", Timing(HOUR), 0, name)])
-    removed = tidy(str(folder), keep, HOUR + 60, records).removed
+    removed = tidy(str(folder), keep, HOUR, records).removed
     records.close()
     assert (top / "notes.txt").exists()
     assert removed == [os.path.join("listings", "Alpha", one.name) for one in paths if not one.exists()]

@@ -32,6 +32,13 @@ def test_defaults() -> None:
     )
 
 
+def test_the_longest_name() -> None:
+    """Of 100 bytes."""
+    assert table_of(stations(f'name = "{50 * "é"}"', ALPHA[1])).stations[0].name == 50 * "é"
+    with pytest.raises(Fault, match="cannot be the name of a folder"):
+        table_of(stations(f'name = "{50 * "é"}a"', ALPHA[1]))
+
+
 def test_all_of_it() -> None:
     alpha = (
         'pi = ["d318", "D218"]',
