@@ -130,12 +130,14 @@ def test_options_say_more_than_a_name(station_listing: bytes, tmp_path: Path) ->
 
 
 def test_an_hour_that_the_database_was_not_told_of(station_listing: bytes, tmp_path: Path) -> None:
-    """The watch was killed before. The next one tells it, and once."""
+    """The watch was killed before. The next one tells it, and once. Other files beside it are left alone."""
     name = Hour(HOUR, HOUR + 12.5, 1200).name
     path, records = os.path.join("listings", "Alpha", name), Records(str(tmp_path / "watch.db"))
     (tmp_path / path).parent.mkdir(parents=True)
     rows, _, totals = station_listing.partition(b"total,valid,")
     (tmp_path / path).write_bytes(rows)
+    for other in ("notes.csv", f"{name}.new"):
+        (tmp_path / path).with_name(other).write_text("mine")
     for told in ([path], []):
         assert recover(str(tmp_path), ["Alpha", "Beta"], records) == told
     query = "SELECT name, station, number, start, rate, SUM(valid) FROM recordings JOIN sessions ON recording = recordings.id"
