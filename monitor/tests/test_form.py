@@ -126,6 +126,14 @@ def test_a_station_that_comes_late(tmp_path: Path) -> None:
     assert forms(tmp_path / "late")[0][1] == "packed bits"
 
 
+def test_two_groups_are_enough(tmp_path: Path) -> None:
+    """The one in which sync is acquired is not whole."""
+    for count in (3, 2):
+        (tmp_path / "it").write_bytes(encode(words(3, count)))
+        done = monitor("form", tmp_path / "it")
+        assert (b"     2  packed bits" in done.stdout) == (done.returncode == 0) == (count == 3)
+
+
 NOISE = numpy.random.default_rng(1).bytes(320000)
 
 

@@ -340,6 +340,7 @@ def test_stations_of_a_database(tmp_path: Path, station: bytes) -> None:
         ([(0, 100), (100.125, 150)], [[0, 100, 100], [100.125, 150, 49.875]]),
         ([(50, 150), (60, 70)], [[50, 150, 100]]),
         ([(-50, 20), (990, 2000), (3000, 4000)], [[0, 20, 20], [990, 1000, 10]]),
+        ([(-50, 0), (1000, 2000)], []),
     ],
 )
 def test_outages_that_meet_are_one(stored: List[Tuple[int, int]], told: List[Any]) -> None:

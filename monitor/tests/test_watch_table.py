@@ -184,8 +184,13 @@ def test_no_reader_of_toml(monkeypatch: pytest.MonkeyPatch) -> None:
 def test_the_command_line(tmp_path: Path) -> None:
     path = tmp_path / "stations.toml"
     path.write_text(stations(*ALPHA))
-    done = run("watch", path)
-    assert done.status == 1 and "there is no folder to write to" in done.err
+    for speed, fault in (
+        (1, "there is no folder to write to"),
+        (0.01, "there is no folder"),
+        (0.009, "--speed is a number"),
+    ):
+        done = run("watch", "--speed", speed, path)
+        assert done.status == 1 and fault in done.err
     done = run("watch", tmp_path / "none.toml")
     assert done.status == 1 and "No such file" in done.err
     path.write_bytes(b"\xff")

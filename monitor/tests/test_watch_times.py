@@ -105,8 +105,8 @@ def test_dropped_samples_make_the_time_jump_forward(speed: int) -> None:
         seen.append(arrivals.is_late())
         if seen[-1]:
             arrivals.jump(arrivals.delay())
-    # The last read in time came after 91 s.
-    assert seen.index(True) in range(98, 102) and seen.count(True) == 1
+    # The last read in time came after 91 s, and the first one that is ten seconds later is the hundredth, two seconds late.
+    assert seen.index(True) == 98 and seen.count(True) == 1
     assert arrivals.timing is not None and abs(arrivals.timing.start - BEGIN - 2.05 * speed) < 0.02 * speed
 
 
@@ -126,6 +126,13 @@ def test_when_the_pace_changes(factor: float, speed: int) -> None:
             found.append((pace.since - BEGIN) / speed)
     assert len(found) == 2 and numpy.allclose(found, (60, 100), atol=1.5)
     assert [since[second] for second in (10, 11, 31, 32, 55)] == [None, 1, 1, 2, 25]
+
+
+def test_a_pace_by_two_reads() -> None:
+    arrivals = Arrivals()
+    for second in (1, 11):
+        arrivals.take(int(1.5 * second * RATE), BEGIN + second)
+    assert arrivals.pace() == (pytest.approx(1.5, abs=0.001), BEGIN + 1)
 
 
 @given(st.lists(st.floats(0, 5), min_size=30, max_size=200), st.floats(-200, 200))
