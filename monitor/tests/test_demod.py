@@ -22,7 +22,9 @@ from modulator import Array, dropped, iq, mpx, stored, wav, words
 
 from rds_monitor.signal.outputs import sentence
 from rds_monitor.signal.rates import BLOCK, _prominence
-from rds_monitor.signal.receiver import Capture
+from rds_monitor.capture.stations import SECONDS
+from rds_monitor.signal.receiver import CARRIER_HZ, CHANNEL_HZ, RATES, Capture
+from rds_monitor.signal.soft import UNIT
 from rds_monitor.rows.items import Fault
 from rds_monitor.signal.samples import Layout, open_samples, wav_layout
 
@@ -279,6 +281,34 @@ def test_any_samples_give_bits_in_time(kind: str, is_iq: bool, seconds: float, b
 
 
 # ---- the command
+
+
+KHZ = f"in {CHANNEL_HZ / 1000:g} kHz"
+HELP = [
+    ("demod", f"the log-likelihood ratio of its sign in 1/{UNIT:g} nat"),
+    (
+        "demod",
+        f"integers of 8 to 32 bits or floating point), in a FLAC file (needs python3-soundfile), or raw, at {RATES[0]:,} samples",
+    ),
+    ("demod", f"the signal-to-noise ratio ({KHZ}), and the level"),
+    ("demod", f"an unmodulated {CARRIER_HZ / 1000:g} kHz carrier"),
+    ("demod", "-s 171k -F 9 -f 98.1M | rds-monitor demod --raw s16 --rate 171000 | rds follow"),
+    ("demod", "-s 240k - | rds-monitor demod --iq --raw u8 --rate 240000 >"),
+    ("demod", "The exit status is 1 if there was no RDS."),
+    ("stations", f"signal-to-noise ratio of RDS ({KHZ}), PI and PS"),
+    ("stations", "The exit status is 1 if no station was found."),
+    (
+        "stations",
+        f"-f 98M -s 2.4M -n {2.4 * SECONDS:g}M - | rds-monitor stations --raw u8 --rate 2400000 --centre 98M",
+    ),
+    ("form", "unpacked bits, bytes 0 and 1 rds-monitor pack --from bytes unknown.dat"),
+    ("form", "The exit status is 1 if no format gives two groups."),
+]
+
+
+@pytest.mark.parametrize("command,text", HELP)
+def test_numbers_of_the_help(command: str, text: str) -> None:
+    assert text in " ".join(run(command, "--help").out.split())
 
 
 S16 = ("--raw", "s16", "--rate", 192000)

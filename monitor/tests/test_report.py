@@ -302,20 +302,15 @@ def test_stations_of_a_database(tmp_path: Path, station: bytes) -> None:
         ("Alpha", good, "00:30:00"),
         ("Alpha", bad, "19:30:00"),
         ("Beta <b>", bad, "02:30:00"),
+        ("Gamma", good, ""),
     ):
-        words = (
-            "--station",
-            name,
-            "--name",
-            f"{name} {start}",
-            "--start",
-            f"2026-03-29T{start}Z",
-            database,
-            path,
-        )
-        assert monitor("db", *words).returncode == 0
+        words = ["--station", name, "--name", f"{name} {start}"]
+        words += ["--start", f"2026-03-29T{start}Z"] if start else []
+        assert monitor("db", *words, database, path).returncode == 0
     told = {datum["name"]: datum for datum in data_of(page(database))}
-    assert sorted(told) == ["Alpha", "Beta <b>"]
+    assert sorted(told) == ["Alpha", "Beta <b>", "Gamma"]
+    # Without a start the first bit is at 0.
+    assert (told["Gamma"]["start"], told["Gamma"]["sessions"][0][0]) == (None, 0)
     alpha, alone = told["Alpha"], data_of(page(good))[0]
     assert [row[0] for row in alpha["sessions"]] == [0, 68400]
     # The day of the tile ends with the second one.
@@ -375,9 +370,10 @@ def test_pages_of_a_year(year: Path) -> None:
     ]
     assert sorted(path.name for path in folder.iterdir()) == names
     assert all(path.stat().st_size < 2_000_000 for path in folder.iterdir())
-    pages = [(folder / f"Alpha-2025{month}.html").read_text() for month in ("", "-03")]
-    told, march = (data_of(page)[0] for page in pages)
-    assert re.findall(r'href="Alpha-2025-(\d+).html"', pages[1]) == ["02", "04"]
+    told, march = (data_of((folder / f"Alpha-2025{month}.html").read_text())[0] for month in ("", "-03"))
+    for month, beside in ((1, ["02"]), (3, ["02", "04"]), (12, ["11"])):
+        text = (folder / f"Alpha-2025-{month:02}.html").read_text()
+        assert re.findall(r'href="Alpha-2025-(\d+).html"', text) == beside
     minutes = 365 * 1440
     sums = {name: minutes // 2 * (one + other) for name, one, other in zip(COUNTS, *MINUTES)}
     assert told["totals"] == sums and told["parts"][0]["step"] == 86400
