@@ -36,8 +36,8 @@ START = 1795748370.0
 class SimulatedTimes(Times):
     """A clock that stands still between two calls of `pass_by`."""
 
-    def __init__(self, utc: float = START):
-        super().__init__()
+    def __init__(self, utc: float = START, speed: float = 1.0):
+        super().__init__(speed)
         self.steady, self.utc = 1000.0, utc
 
     def now(self) -> Now:
@@ -81,10 +81,11 @@ class Air:
 
 
 class SharedAir:
-    """Stations that one receiver gives, as lines of `demod --stations`: by frequency in Hz. Each has a level of its own."""
+    """Stations that one receiver gives, as lines of `demod --stations`: by frequency in Hz. Each has a level of its own, which rises by
+    `rise` dB per second, and its SNR by half of that."""
 
-    def __init__(self, airs: Dict[int, Air]):
-        self._airs = airs
+    def __init__(self, airs: Dict[int, Air], rise: float = 0.0):
+        self._airs, self._rise = airs, rise
         self.at = next(iter(airs.values())).at
 
     def bytes(self, first: int, after: int) -> bytes:
@@ -97,11 +98,9 @@ class SharedAir:
                 "seconds": 8 * (after - first) / RATE,
                 "bits": air.bytes(first, after).hex(),
             }
-            found.append(
-                json.dumps(
-                    {**line, "level_dbfs": -20.0 - number, "snr_db": 30.0 - number}, separators=(",", ":")
-                )
-            )
+            more = self._rise * 8 * first / RATE - number
+            line.update(level_dbfs=-20 + more, snr_db=30 + (more - number) / 2)
+            found.append(json.dumps(line, separators=(",", ":")))
         return "".join(f"{line}\n" for line in found).encode()
 
 
@@ -194,9 +193,10 @@ class Network:
         airs: Mapping[str, Union[Air, SharedAir]],
         plans: Optional[Dict[str, List[Plan]]] = None,
         decoder: NewDecoder = ByLibrary,
+        speed: float = 1.0,
     ):
         self.folder, self.text, self.decoder = folder, table, decoder
-        self.times, self.airs, self.plans = SimulatedTimes(), airs, plans or {}
+        self.times, self.airs, self.plans = SimulatedTimes(speed=speed), airs, plans or {}
         self.zero = self.times.steady
         self.said: List[str] = []
         self.runs: List[Tuple[str, float]] = []

@@ -225,7 +225,7 @@ def two() -> Recording:
 
 MPX_RATE, IQ_RATE, IQ_SECONDS, CENTRE = 171000, 600000, 1.6, 98e6
 # Of the MPX: the ratio of signal to noise in dB, and what carrier and bit clock are off, in Hz and parts in a million.
-SNR, CARRIER, CLOCK = 20, 12, 50
+SNR, CARRIER, CLOCK = 20, 12.34, 50
 # Blocks E after each group, and the lines of a text that are no groups.
 BLOCKS_E, NO_GROUPS = 5, {3: "D318 0548 E0CD", 17: "none"}
 

@@ -2,6 +2,7 @@
 
 from __future__ import annotations
 
+import io
 import json
 import os
 import re
@@ -21,8 +22,11 @@ from modulator import Array, dropped, iq, mpx, stored, wav, words
 
 from rds_monitor.signal.outputs import sentence
 from rds_monitor.signal.rates import BLOCK, _prominence
-from rds_monitor.signal.receiver import Capture
-from rds_monitor.signal.samples import open_samples
+from rds_monitor.capture.stations import SECONDS
+from rds_monitor.signal.receiver import CARRIER_HZ, CHANNEL_HZ, RATES, Capture
+from rds_monitor.signal.soft import UNIT
+from rds_monitor.rows.items import Fault
+from rds_monitor.signal.samples import Layout, open_samples, wav_layout
 
 GROUPS = words(3, 24)  # 2.1 seconds
 SENT = encode(GROUPS)
@@ -175,8 +179,15 @@ def test_what_is_no_rds_is_never_locked(signal: Array) -> None:
     assert told["locked"] == 0 and told["snr_db"] is None and told["first_lock_s"] is None
 
 
+# Of what is known of MPX.
+DIGITS = {"seconds": 1, "locked": 4, "received": 4, "first_lock_s": 1, "snr_db": 1, "carrier_offset_hz": 2}
+DIGITS |= {"clock_offset_ppm": 1, "rds_dbfs": 1, "rds_to_pilot_db": 1}
+
+
 def test_lock_of_a_part() -> None:
-    told = received(numpy.concatenate([NOISE, mpx(SENT, RATE)]))[1]
+    told = received(numpy.concatenate([NOISE, mpx(SENT, RATE, carrier_offset=5)]))[1]
+    digits = {name: len(str(value).partition(".")[2]) for name, value in told.items() if value is not None}
+    assert digits == DIGITS
     assert abs(told["received"] - 2.1 / 8.1) < 0.02
     assert abs(told["first_lock_s"] - 6) < 0.5 and abs(told["locked"] - 2.1 / 8.1) < 0.05
 
@@ -272,6 +283,34 @@ def test_any_samples_give_bits_in_time(kind: str, is_iq: bool, seconds: float, b
 # ---- the command
 
 
+KHZ = f"in {CHANNEL_HZ / 1000:g} kHz"
+HELP = [
+    ("demod", f"the log-likelihood ratio of its sign in 1/{UNIT:g} nat"),
+    (
+        "demod",
+        f"integers of 8 to 32 bits or floating point), in a FLAC file (needs python3-soundfile), or raw, at {RATES[0]:,} samples",
+    ),
+    ("demod", f"the signal-to-noise ratio ({KHZ}), and the level"),
+    ("demod", f"an unmodulated {CARRIER_HZ / 1000:g} kHz carrier"),
+    ("demod", "-s 171k -F 9 -f 98.1M | rds-monitor demod --raw s16 --rate 171000 | rds follow"),
+    ("demod", "-s 240k - | rds-monitor demod --iq --raw u8 --rate 240000 >"),
+    ("demod", "The exit status is 1 if there was no RDS."),
+    ("stations", f"signal-to-noise ratio of RDS ({KHZ}), PI and PS"),
+    ("stations", "The exit status is 1 if no station was found."),
+    (
+        "stations",
+        f"-f 98M -s 2.4M -n {2.4 * SECONDS:g}M - | rds-monitor stations --raw u8 --rate 2400000 --centre 98M",
+    ),
+    ("form", "unpacked bits, bytes 0 and 1 rds-monitor pack --from bytes unknown.dat"),
+    ("form", "The exit status is 1 if no format gives two groups."),
+]
+
+
+@pytest.mark.parametrize("command,text", HELP)
+def test_numbers_of_the_help(command: str, text: str) -> None:
+    assert text in " ".join(run(command, "--help").out.split())
+
+
 S16 = ("--raw", "s16", "--rate", 192000)
 
 
@@ -309,6 +348,19 @@ def test_wav(which: str, signal: Array, file: Any) -> None:
     form, is_long = which[:3], "long_form" in WAVES[which]
     data = wav(stored(signal, form), form, 192000, **WAVES[which]) + b"LIST." * is_long
     assert demodulated(file(data)) == GROUPS[1:]
+
+
+def test_the_least_of_a_header() -> None:
+    """The first 26 bytes of a format, and 16 of the lengths. Both names of the first chunk have to be right."""
+    described = struct.pack("<HHIIHHHHIH", 0xFFFE, 1, 192000, 384000, 2, 16, 22, 16, 0, 1)
+    parts = (b"ds64", struct.pack("<QQ", 0, 10)), (b"fmt ", described)
+    chunks = b"".join(name + struct.pack("<I", len(body)) + body for name, body in parts)
+    chunks += b"data" + b"\xff" * 4
+    read = wav_layout(io.BytesIO(b"RF64" + bytes(4) + b"WAVE" + chunks))
+    assert read == Layout(192000, 1, "s16", 10)
+    for one, other in ((b"RIFX", b"WAVE"), (b"RIFF", b"AVI ")):
+        with pytest.raises(Fault, match="neither WAV nor FLAC"):
+            wav_layout(io.BytesIO(one + bytes(4) + other + chunks))
 
 
 @pytest.mark.parametrize("form", ["u8", "s16", "s24", "s32", "f32", "f64"])
@@ -382,15 +434,16 @@ def test_the_level_is_that_of_the_form(form: str, level: float) -> None:
 
 
 def test_a_terminal_has_one_line_that_is_overwritten(signal: Array, tmp_path: Any) -> None:
+    """Of five looks at 0, 0.3, 0.6, 1.2 and 1.5 s two are later than half a second after the last line, which is told 0.3 s later."""
     (tmp_path / "it").write_bytes(stored(signal, "s16") * 3)
     code = (
         "import itertools, sys; from rds_monitor import cli; from rds_monitor.signal import outputs\n"
-        "clock = itertools.count(1)\noutputs.time.monotonic = lambda: next(clock)\nsys.exit(cli.main(sys.argv[1:]))"
+        "clock = itertools.count(0, 0.3)\noutputs.time.monotonic = lambda: next(clock)\nsys.exit(cli.main(sys.argv[1:]))"
     )
     options = ("--raw", "s16", "--rate", "192000", "--output", "/dev/null")
     said = on_a_terminal("-c", code, "demod", *options, str(tmp_path / "it"))
     lines = said.split(b"\r")
-    assert len(lines) >= 4 and said.count(b"\n") == 1
+    assert len(lines[1:-2]) == 2 and said.count(b"\n") == 1
     assert all(line.endswith(b"\x1b[K") for line in lines[1:-2])
     assert b"rds-monitor demod: " in said and b" in valid blocks" in lines[2]
 

@@ -115,12 +115,23 @@ def test_lines_of_groups(tmp_path: Path) -> None:
     assert name == "lines of hexadecimal words"
     # The first one lacks a block.
     assert rds("list", data=shell(cure, tmp_path)).count(b"\ngroup,") >= len(lines) - 2
+    # Half of the lines are enough, of which the last one is empty.
+    texts = (lines[-1].encode() + b"\n" + count * b"none\n" for count in (0, 1))
+    assert [len(form.as_lines("it", text)) for text in texts] == [1, 0]
 
 
 def test_a_station_that_comes_late(tmp_path: Path) -> None:
     random = numpy.random.default_rng(1)
     (tmp_path / "late").write_bytes(random.bytes(480000) + 2 * STATION_BYTES + random.bytes(24000))
     assert forms(tmp_path / "late")[0][1] == "packed bits"
+
+
+def test_two_groups_are_enough(tmp_path: Path) -> None:
+    """The one in which sync is acquired is not whole."""
+    for count in (3, 2):
+        (tmp_path / "it").write_bytes(encode(words(3, count)))
+        done = monitor("form", tmp_path / "it")
+        assert (b"     2  packed bits" in done.stdout) == (done.returncode == 0) == (count == 3)
 
 
 NOISE = numpy.random.default_rng(1).bytes(320000)

@@ -17,12 +17,14 @@ import numpy
 import pytest
 from conftest import encode, monitor, rds
 from made import peak_memory
-from rds_monitor.page.html import told_of
+from rds_monitor.page.html import page_of, told_of
 from rds_monitor.page.line import COUNTS, Counted, Lanes, TimeLine, bad_percent, encoded, said
 from rds_monitor.page.overview import Span, last_minute, line_of, polyline, tile_of
-from rds_monitor.page.stored import StoredStation
+from rds_monitor.page.report import MOST_STORED, RecordedLine
+from rds_monitor.page.stored import MAGIC, Stored, StoredStation
+from rds_monitor.rows.clock import Clock
 
-from years import MINUTES, OUTAGE, RATE, make_year
+from years import MINUTES, MIX, OUTAGE, RATE, make_year
 
 pytest.importorskip("jinja2")
 D3 = os.environ.get("RDS_D3", "/usr/share/javascript/d3/d3.min.js")
@@ -113,10 +115,16 @@ def test_long_lists_have_a_row_per_step() -> None:
         "PTY": [(0, 7200, "A"), (7200, 10800, "several texts")],
     }
     assert few.fewer(3600, 20).told(0) == few.told(0) and line.fewer(60).told(0) == line.told(0)
-    # As many rows as a list may have are left as they are.
+    # As many rows as a list may have are left as they are; of one item alone there are the first ones.
     whole, cut = line.fewer(3600, 181), line.fewer(3600, 180)
     assert (whole.outages, whole.events, whole.more) == (line.outages, line.events, 0)
     assert (cut.mix, cut.clock, cut.lanes) == (line.mix, line.clock, line.lanes) and len(cut.outages) == 4
+    for count in (2000, 2001):
+        line.outages = [[n, n + 1, 1] for n in range(count)]
+        line.events = [[n, "RT", ""] for n in range(count)]
+        few = line.fewer(3000)
+        assert (few.events, few.more) == (line.events[:2000], count - 2000)
+        assert few.outages == (line.outages if count == 2000 else [[0, 3000, 2001]])
 
 
 def test_lanes() -> None:
@@ -138,11 +146,21 @@ def test_lanes() -> None:
         "PS": [(2, 3, "A"), (3, 5, "B"), (6, 9, "B")],
     }
     lanes.end(10)
-    lanes.hear(11, said("eon:D312.ps", "OTHER"))
-    assert lanes.taken(12) == {
+    for at, item, value in (
+        (11, "eon:D312.ps", "OTHER"),
+        (12, "eon:D312.ps", None),
+        (12, "rt", "C"),
+        (13, "rt", None),
+    ):
+        lanes.hear(at, said(item, value))
+    for at in (13.0625, 14.1875):
+        lanes.hear(at, said("rt", "C"))
+        lanes.end(at + 1)
+    assert lanes.taken(16) == {
         "PI": [(9, 10, "D394")],
         "PS": [(9, 10, "B")],
         "EON": [(11, 12, "D312 PS: OTHER")],
+        "RT": [(12, 14.0625, "C"), (14.1875, 15.1875, "C")],
     }
 
 
@@ -172,7 +190,7 @@ def test_the_last_minute_of_steps(step: int, count: int) -> None:
     valid = numpy.array([0] + [100] * count)
     assert last_minute([Span(0, step, valid * 0 + 100, valid)]) == 0.0
     assert last_minute([Span(0, step, valid * 0 + 100, valid[::-1])]) == round(100 / count, 2)
-    short = [Span(0, step, numpy.append(valid * 0 + 100, 0), numpy.append(valid, 0))]
+    short = [Span(0, step, numpy.pad(valid * 0 + 100, 1), numpy.pad(valid, 1))]
     assert last_minute(short) == last_minute([*short, short[0]._replace(sent=valid * 0)]) == 0.0
 
 
@@ -198,16 +216,22 @@ def test_texts_of_a_station_are_shown_as_text() -> None:
     assert "<script>alert" not in text and "&lt;script&gt;alert(&#34;1&#34;)" in rest
 
 
+# Of stations as a page has them: the alarm, per cent of the last minute and of all blocks that are bad, and the name.
+WORST_FIRST = [("no RDS", None, None, "z"), ("", 3.0, 1.0, "y"), ("", 2.0, 9.0, "x"), ("", 2.0, 5.0, "w")]
+WORST_FIRST += [("", None, 4.0, "v"), ("", 0.0, None, "good's <b>"), ("", None, 0.0, "u")]
+
+
 @needs_d3
-def test_several_stations_the_worst_first(tmp_path: Path) -> None:
-    good, bad = tmp_path / "good's <b>.bin", tmp_path / "bad.bin"
-    good.write_bytes(station())
-    damaged = bytearray(station(0xD312))
-    damaged[400:700] = bytes(300)
-    bad.write_bytes(bytes(damaged))
-    text = page(good, bad)
-    assert [datum["name"] for datum in data_of(text)] == ["bad.bin", "good's <b>.bin"]
-    assert "<h2>Overview</h2>" in text and "good&#39;s &lt;b&gt;.bin" in text
+def test_several_stations_the_worst_first() -> None:
+    """An empty text is no content."""
+    whole, stations = told_line("it", 9, [[9, 9, 0, 0, 0]], held={"PS": "", "RT": "text"}), []
+    for alarm, minute, bad, name in reversed(WORST_FIRST):
+        tile = {**whole["tile"], "alarm": alarm, "minute": minute}
+        stations.append({**whole, "name": name, "tile": tile, "bad_percent": bad})
+    text = page_of("Stations", stations)
+    assert [datum["name"] for datum in data_of(text)] == [name for *_, name in WORST_FIRST]
+    assert data_of(text)[0]["held"] == {"RT": "text"}
+    assert "<h2>Overview</h2>" in text and "good&#39;s &lt;b&gt;" in text
 
 
 @needs_d3
@@ -227,6 +251,21 @@ def test_an_interval_per_second_of_a_day(seconds: int, step: int, station_listin
     words = ("--length", int(seconds * 1187.5), "--trust-length")
     (part,) = data_of(page(*words, data=station_listing))[0]["parts"]
     assert part["step"] == step
+
+
+@pytest.mark.parametrize("minutes, step", [(86400, 120), (86401, 3600)])
+def test_bars_of_sixty_days(minutes: int, step: int) -> None:
+    """Of all stations together: of two minutes each, and of more days of an hour."""
+    stored = SimpleNamespace(rows=lambda query: [(minutes,)])
+    assert Stored.step(stored, MOST_STORED) == step  # type: ignore[arg-type]
+
+
+@pytest.mark.parametrize("seconds, step", [(900, 1), (9000, 4.5)])
+def test_steps_of_the_lists_of_a_recording(seconds: int, step: float) -> None:
+    """A second at least, or a two-thousandth of it."""
+    recorded = RecordedLine(Clock(None, RATE))
+    recorded._end, recorded._line.outages = seconds, [[n / 4, n / 4, 1] for n in range(2001)]
+    assert recorded.told("it")["outages"][:2] == [[0, step, 4 * step], [step, 2 * step, 4 * step]]
 
 
 @needs_d3
@@ -263,20 +302,15 @@ def test_stations_of_a_database(tmp_path: Path, station: bytes) -> None:
         ("Alpha", good, "00:30:00"),
         ("Alpha", bad, "19:30:00"),
         ("Beta <b>", bad, "02:30:00"),
+        ("Gamma", good, ""),
     ):
-        words = (
-            "--station",
-            name,
-            "--name",
-            f"{name} {start}",
-            "--start",
-            f"2026-03-29T{start}Z",
-            database,
-            path,
-        )
-        assert monitor("db", *words).returncode == 0
+        words = ["--station", name, "--name", f"{name} {start}"]
+        words += ["--start", f"2026-03-29T{start}Z"] if start else []
+        assert monitor("db", *words, database, path).returncode == 0
     told = {datum["name"]: datum for datum in data_of(page(database))}
-    assert sorted(told) == ["Alpha", "Beta <b>"]
+    assert sorted(told) == ["Alpha", "Beta <b>", "Gamma"]
+    # Without a start the first bit is at 0.
+    assert (told["Gamma"]["start"], told["Gamma"]["sessions"][0][0]) == (None, 0)
     alpha, alone = told["Alpha"], data_of(page(good))[0]
     assert [row[0] for row in alpha["sessions"]] == [0, 68400]
     # The day of the tile ends with the second one.
@@ -297,16 +331,21 @@ def test_stations_of_a_database(tmp_path: Path, station: bytes) -> None:
 @pytest.mark.parametrize(
     "stored, told",
     [
-        ([(0, 100), (100, 150)], [[0, 150, 150]]),
-        ([(0, 100), (101, 150)], [[0, 100, 100], [101, 150, 49]]),
+        ([(0, 100), (100.0625, 150)], [[0, 150, 150]]),
+        ([(0, 100), (100.125, 150)], [[0, 100, 100], [100.125, 150, 49.875]]),
         ([(50, 150), (60, 70)], [[50, 150, 100]]),
         ([(-50, 20), (990, 2000), (3000, 4000)], [[0, 20, 20], [990, 1000, 10]]),
+        ([(-50, 0), (1000, 2000)], []),
     ],
 )
 def test_outages_that_meet_are_one(stored: List[Tuple[int, int]], told: List[Any]) -> None:
     """Those of two parts, or of two recordings of one time; of all of them what is between 0 and 1000 s."""
     line, session = TimeLine(), SimpleNamespace(quiet=None, at=float)
     station = StoredStation.__new__(StoredStation)
+    station._times = [(1000.0, 2000.0), (-9.0, 0.0)]
+    assert (
+        not station.is_known(0.0, 1000.0) and station.is_known(-0.5, 1000.0) and station.is_known(0.0, 1000.5)
+    )
     station._add_outages(line, session, stored, 0.0, 1000.0)  # type: ignore[arg-type]
     assert line.outages == told
 
@@ -332,15 +371,26 @@ def test_pages_of_a_year(year: Path) -> None:
     assert sorted(path.name for path in folder.iterdir()) == names
     assert all(path.stat().st_size < 2_000_000 for path in folder.iterdir())
     told, march = (data_of((folder / f"Alpha-2025{month}.html").read_text())[0] for month in ("", "-03"))
+    for month, beside in ((1, ["02"]), (3, ["02", "04"]), (12, ["11"])):
+        text = (folder / f"Alpha-2025-{month:02}.html").read_text()
+        assert re.findall(r'href="Alpha-2025-(\d+).html"', text) == beside
     minutes = 365 * 1440
     sums = {name: minutes // 2 * (one + other) for name, one, other in zip(COUNTS, *MINUTES)}
     assert told["totals"] == sums and told["parts"][0]["step"] == 86400
     assert march["parts"][0]["step"] == 3600 and march["end"] == 31 * 86400
     assert march["totals"]["sent"] == 31 * 1440 // 2 * 5481
+    # One minute in twenty counts for the mix. The second to the fourth day are one outage.
+    mix = {name: 3 * count for name, count in json.loads(MIX).items()}
+    assert march["mix"][0] == [0, 3600, mix] and march["clock"][0] == [1800, 0.25]
+    assert march["sessions"][0] == [0, 86400, 86400, 720 * 5481, 720 * 5441]
+    assert [86400, 4 * 86400, 3 * 86400] in march["outages"]
     assert told["held"]["AF"] == "98.5 101.2" and told["held"]["CT"] == "+0.250 s from the recording's clock"
     assert len(told["lanes"][0][1]) == 1 and told["outage_count"] == 365
-    # A new RT each three minutes is in no list, and its lane says so.
-    assert march["more"] == 31 * 480 and told["held"]["RT"] == "Alpha: title 479"
+    # A new RT each three minutes is in no list, and its lane says so. Of a year's month two of seven daily items are left out: 2000 / 12 rows
+    # are listed.
+    assert (told["more"], march["more"]) == (365 * (480 + 2), 31 * 480) and told["held"][
+        "RT"
+    ] == "Alpha: title 479"
     lanes = {lane: [march["texts"][number] for *_, number in rows] for lane, rows in march["lanes"]}
     assert (lanes["PS"], lanes["RT"]) == (["Alpha"], ["several texts"])
     quiet = 3 * 24 * (3600 - int(OUTAGE * RATE) / RATE) + minutes / 60 * int(OUTAGE * RATE) / RATE
@@ -358,36 +408,50 @@ def test_pages_of_a_year(year: Path) -> None:
 
 @needs_d3
 def test_years_of_some_days(tmp_path: Path, station: bytes) -> None:
-    """A month without any session has no page, a start that is not known is named, and names are escaped."""
+    """A month without any session has no page and no link, a start that is not known is named, and names are escaped."""
     (tmp_path / "it.bin").write_bytes(station)
-    for name, start in (("1", "2024-12-31T23:59:00Z"), ("2", "2025-02-28T12:00:00Z"), ("3", None)):
+    for name, start in (("1", "2024-12-31T23:59:00Z"), ("2", "2025-03-31T23:59:00Z"), ("3", None)):
         words = ["--station", "A/<b>", "--name", name, *(("--start", start) if start else ())]
         assert monitor("db", *words, tmp_path / "it.db", tmp_path / "it.bin").returncode == 0
     done = monitor("report", "--into", tmp_path / "pages", tmp_path / "it.db")
     assert done.returncode == 0
     assert done.stderr == b"rds-monitor report: A/<b>: 1 sessions whose start is not known are left out\n"
-    beside = [f"A%2F%3Cb%3E-{time}.html" for time in ("2024-12", "2024", "2025-01", "2025-02", "2025")]
-    assert sorted(path.name for path in (tmp_path / "pages").iterdir()) == [
-        *beside,
-        "availability.csv",
-        "index.html",
-    ]
-    assert (
-        'href="A%252F%253Cb%253E-2025-02.html"' in (tmp_path / "pages" / "A%2F%3Cb%3E-2025.html").read_text()
-    )
-    rows = (tmp_path / "pages" / "availability.csv").read_text().splitlines()[1:]
-    assert [row.split(",")[1] for row in rows] == ["2024-12", "2025-01", "2025-02"]
-    assert float(rows[1].split(",")[2]) == pytest.approx(8 * len(station) / RATE - 60, abs=0.01)
+    pages = {path.name: path for path in (tmp_path / "pages").iterdir()}
+    told = [row.split(",") for row in pages.pop("availability.csv").read_text().splitlines()[1:]]
+    links = {
+        name.removeprefix("A%2F%3Cb%3E-"): re.findall(
+            r'href="A%252F%253Cb%253E-([-\d]+).html"', path.read_text()
+        )
+        for name, path in pages.items()
+    }
+    assert links == {
+        "2024-12.html": ["2024"],
+        "2024.html": ["2024-12"],
+        "2025-01.html": ["2025"],
+        "2025-03.html": ["2025", "2025-04"],
+        "2025-04.html": ["2025", "2025-03"],
+        "2025.html": ["2025-01", "2025-03", "2025-04"],
+        "index.html": ["2025", "2024", "2024-12", "2025", "2025-01", "2025-03", "2025-04"],
+    }
+    assert [row[1] for row in told] == ["2024-12", "2025-01", "2025-02", "2025-03", "2025-04"]
+    rest = 8 * len(station) / RATE - 60
+    assert [float(row[2]) for row in told] == pytest.approx([60, rest, 0, 60, rest], abs=0.01)
 
 
-def test_into_is_for_a_database(tmp_path: Path) -> None:
-    (tmp_path / "it.bin").write_bytes(b"x")
-    done = monitor("report", "--into", tmp_path / "pages", tmp_path / "it.bin")
-    assert (
-        done.returncode == 2
-        and b"--into is for one database" in done.stderr
-        and not (tmp_path / "pages").exists()
-    )
+FAULTS = [
+    ("--into pages it", b"x", 2, "--into is for one database"),
+    ("--into pages it it", MAGIC, 2, "--into is for one database"),
+    ("--start 2026-03-29T00:30:00Z it it", b"x", 1, "--start is of one recording"),
+    ("it", MAGIC, 1, "'it' cannot be read: file is not a database"),
+]
+
+
+@pytest.mark.parametrize("words, data, status, fault", FAULTS, ids=range(len(FAULTS)))
+def test_faults(words: str, data: bytes, status: int, fault: str, tmp_path: Path) -> None:
+    (tmp_path / "it").write_bytes(data)
+    done = monitor("report", *words.split(), cwd=tmp_path)
+    assert done.returncode == status and fault in done.stderr.decode() and not done.stdout
+    assert [path.name for path in tmp_path.iterdir()] == ["it"]
 
 
 def test_a_database_of_something_else(tmp_path: Path) -> None:

@@ -35,7 +35,7 @@ from rds_monitor.watch import writer
 from rds_monitor.watch.alarms import NAMES
 
 # When the watch was looked at for the last time.
-END = START + 825
+END = START + 827
 TEXTS = Path(__file__).parent / "rich"
 ONE, TWO = rich.one(), rich.two()
 # The groups of the signal, and of what `why` looks at.
@@ -47,12 +47,15 @@ CLOCKS = {
 
 # Each alarm comes within the fourteen minutes of `one`.
 TABLE = """
+[defaults]
+patience = 5
+
 [defaults.alarms]
 ps_stuck = 200
 rt_stuck = 150
 ta = 20
 ct = 1
-ct_offset = 1
+ct_offset = 0.5
 ct_absent = 70
 silent = 5
 no_rds = 4
@@ -82,6 +85,7 @@ command = ["n"]
 raw = "u8"
 rate = 2400000
 centre = 98.0
+patience = 5
 soft = false
 
 [[station]]
@@ -90,8 +94,8 @@ receiver = "north"
 frequency = 97.3
 pi = ["D319", "D31A"]
 """
-# Runs of Alpha's receiver: silent for a while; until the watch is ended; too fast; too slow; and to the end.
-PLANS = [Plan(drops=(300, 12)), Plan(dies=60), Plan(pace=1.02, dies=90), Plan(pace=0.97, dies=120), Plan()]
+# Runs of Alpha's receiver: silent for a while; until the watch is ended; too fast; too slow, and then silent; and to the end.
+PLANS = [Plan(drops=(300, 12)), Plan(dies=60), Plan(pace=1.03, dies=90), Plan(pace=0.97, hangs=120), Plan()]
 
 
 class OnAir:
@@ -150,11 +154,12 @@ def folder(tmp_path_factory: pytest.TempPathFactory) -> Iterator[Path]:
 
 @pytest.fixture(scope="module")
 def watched(folder: Path) -> Iterator[None]:
-    """A watch over both, which was away for ten seconds, and whose disk was full for five."""
+    """A watch over both, at twice the speed of time, which was away for ten seconds, and whose disk was full for five."""
     path = folder / "watch"
     path.mkdir()
-    airs = {"a": OnAir(ONE), "n": SharedAir({97_300_000: OnAir(TWO, 7)})}
-    net = Network(path, TABLE, airs, {"a": [*PLANS]}, decoder_of()[0])
+    airs = {"a": OnAir(ONE), "n": SharedAir({97_300_000: OnAir(TWO, 7)}, 0.02)}
+    plans = {"a": [*PLANS], "n": [Plan(hangs=200)]}
+    net = Network(path, TABLE, airs, plans, decoder_of()[0], speed=2.0)
     with pytest.MonkeyPatch.context() as patch:
         patch.setattr(os, "fdatasync", lambda file: None)
         net.run(350)
@@ -163,8 +168,10 @@ def watched(folder: Path) -> Iterator[None]:
         with patch.context() as full:
             full.setattr(writer.HourWriter, "append", no_space)
             net.run(5)
+        net.reload(TABLE)
         net.run(END - net.times.utc)
     (path / "said.txt").write_text("".join(f"{line}\n" for line in net.said))
+    assert 'http-equiv="refresh" content="30"' in (path / "pages" / "index.html").read_text()
     yield
     net.end()
 

@@ -173,18 +173,18 @@ def test_errors_have_a_column_more(path: Path, listed: bytes, tmp_path: Path) ->
 
 def test_hours_of_a_watch_tell_it_by_their_names(listed: bytes, tmp_path: Path) -> None:
     """The files of a session but the last one have no totals. A page counts apart what each session corrected."""
-    rows, hard = listed[: listed.index(b"total,")], rds("list", data=encode(words(4, 30)))
-    heads = []
+    rows, bits, heads = listed[: listed.index(b"total,")], bytearray(encode(words(4, 30))), []
+    bits[100] ^= 1
     for is_soft in (True, False):
         path = tmp_path / Hour(0, 0, is_soft=is_soft).name
         path.write_bytes(rows)
         heads.append(output("errors", path).partition("\n")[0])
         assert ('<th scope="col">soft</th>' in output("report", path)) == is_soft
     assert [head.split(",")[4:6] for head in heads] == [["corrected", "soft"], ["corrected", "lost"]]
-    (tmp_path / "both.csv").write_bytes(listed + hard)
+    (tmp_path / "both.csv").write_bytes(listed + rds("list", data=bytes(bits)) + listed)
     page = output("report", tmp_path / "both.csv")
     sent, valid, corrected, soft, *_ = re.findall(r"<td>(\d+)</td>", page.partition("<caption>Blocks")[2])
-    assert corrected == "0" and int(soft) == sum(line.count(b"~") for line in rows.splitlines())
+    assert corrected == "1" and int(soft) == 2 * rows.count(b"~")
 
 
 COMMANDS = ("info", "json", "table", "groups", "types", "programmes", "corrected", "outages", "report")

@@ -69,8 +69,8 @@ def test_stations_that_are_found(capture: bytes, tmp_path: Path) -> None:
 
 
 def test_named_stations_from_a_pipe(capture: bytes) -> None:
-    """Without a folder, lines have the bits as they come."""
-    words_ = (*RAW, "--centre", "97.95M", "--at", "98.1M,97.8M", "--equalise", "97.8M")
+    """Without a folder, lines have the bits as they come. Each is reported at times, and at the end."""
+    words_ = (*RAW, "--centre", "97.95M", "--at", "98.1M,97.8M", "--equalise", "97.8M", "--every", 0.6)
     done = monitor("demod", *words_, data=2 * capture)
     assert done.returncode == 0, done.stderr
     lines = [json.loads(line) for line in done.stdout.decode().splitlines()]
@@ -80,7 +80,10 @@ def test_named_stations_from_a_pipe(capture: bytes) -> None:
         assert right(name, bits) >= 36
         assert own[-1]["seconds"] == 2 * SECONDS and len(own) >= 4
         assert all(line["level_dbfs"] is not None for line in own[:-1])
-    assert b"98.1M: 3.8 s, " in done.stderr
+        text = f"rds-monitor demod: {name[:-4]}: (.*) s, .* % of its bits in valid blocks"
+        *times, last = map(float, re.findall(text, done.stderr.decode()))
+        assert times and last == 3.8
+        assert all(after - before >= 0.6 for before, after in zip([0, *times], times))
 
 
 def test_a_station_alone_is_the_same(capture: bytes) -> None:
@@ -151,8 +154,8 @@ def test_the_picture(page: str) -> None:
 
 
 def test_a_picture_and_its_names(page: str) -> None:
-    """The grid fills 1200 by 320, as the marks do. Three lines of names are below."""
-    assert 'viewBox="0 0 1200 360"' in page
+    """The grid fills 1200 by 320, as the line and the marks do. Three lines of names are below."""
+    assert 'viewBox="0 0 1200 360"' in page and re.search(r'<polyline points="0.0,[^"]* 1200.0,[^ "]*"', page)
     levels = [float(at) for at in re.findall(r'<line x1="0" x2="1200" y1="([\d.]+)"', page)]
     assert len(levels) > 2 and levels == [
         pytest.approx(320 - 320 * n / (len(levels) - 1), abs=0.1) for n in range(len(levels))
@@ -326,6 +329,11 @@ def test_frequencies() -> None:
         "100M",
         "+0.3M",
     ]
-    for text in ("", "98.1 MHz", "nan", "1e99"):
+    assert frequency_of("999.999G") < 1e12
+    for text in ("", "98.1 MHz", "nan", "1e99", "1000G"):
         with pytest.raises(Fault):
             frequency_of(text)
+    band = Tuning(97.95e6, 600000)
+    assert band.offsets_of("97.75M,98.15M") == [-2e5, 2e5]
+    with pytest.raises(Fault, match="98.150001M is not in the band"):
+        band.offsets_of("98.150001M")

@@ -22,9 +22,9 @@ TIMING = Timing(0.0, 1200.0)
 class Judged:
     """Alarms second by second."""
 
-    def __init__(self, *lines: str):
+    def __init__(self, *lines: str, speed: float = 1.0):
         (station,) = table_of(stations('name = "Alpha"', 'command = ["a"]', *lines)).stations
-        self.alarms, self.now = Alarms(station, 0.0), 0.0
+        self.alarms, self.now = Alarms(station, 0.0, speed), 0.0
         self.found: List[Tuple[str, bool, float]] = []
         self.texts: List[str] = []
         self.held: Dict[str, Any] = {"pi": "D318"}
@@ -170,10 +170,12 @@ def test_a_clock_time_counts_from_when_it_was_sent() -> None:
     assert judged.seconds(200).found == [("ct_absent", True, 220.0)]
 
 
-def test_a_pause_of_two_seconds_is_none() -> None:
-    judged = Judged("[station.alarms]", "silent = 1", "no_rds = 1").seconds(5).seconds(1, quiet=2, age=2)
-    assert judged.found == []
-    assert [name for name, _, _ in judged.seconds(1, quiet=2.25, age=2.25).found] == ["silent", "no_rds"]
+@pytest.mark.parametrize("speed", [1, 4])
+def test_a_pause_of_two_seconds_is_none(speed: int) -> None:
+    judged, pause = Judged("[station.alarms]", "silent = 1", "no_rds = 1", speed=speed).seconds(5), 2 * speed
+    assert judged.seconds(1, quiet=pause, age=pause).found == []
+    pause += 0.25
+    assert [name for name, _, _ in judged.seconds(1, quiet=pause, age=pause).found] == ["silent", "no_rds"]
 
 
 def test_a_receiver_that_writes_in_bursts() -> None:
@@ -193,6 +195,9 @@ def test_a_receiver_that_flaps() -> None:
     assert judged.found == [("flapping", True, 3001.0)] and judged.texts == ["11 sessions in an hour"]
     judged.seconds(3600)
     assert judged.found[1:] == [("flapping", False, 5400.0)]
+    never = Judged("[station.alarms]", "flapping = 0").seconds(5)
+    never.alarms.begin_session(never.now)
+    assert never.seconds(2).found == [("flapping", True, 6.0)]
 
 
 def test_no_contents_hold_their_alarms() -> None:

@@ -126,12 +126,18 @@ def test_lines_of_a_shared_receiver() -> None:
         assert source.delay == pytest.approx(2.5 - 96 / 1187.5) and source.strength == (mean, 20.0)
     source.take(2 * (line % (b"9.5", b"00", b"0.0")) + line % (b"9.5", b"00", b"10.0"))
     assert source.strength is not None and source.strength.level_dbfs == 6.0
+    for seconds, delay in ((b"0.3", 0.3 - 96 / 1187.5), (b"0.05", 0)):
+        source = Lines()
+        source.take(line % (seconds, bits.hex().encode(), b"0"))
+        assert source.delay == pytest.approx(delay)
 
 
 def test_what_is_no_signal() -> None:
     """A number that no signal has is a fault; a part of a sample at the end is none."""
     one = station('form = "mpx"', 'raw = "f32"', "rate = 192000")
-    with pytest.raises(Fault, match="no signal has it"):
-        bit_source(one).take(b"\x00\x00\x80\x7f" * 1000)
+    source = bit_source(one)
+    assert source.take(bytes(43)) == b""
+    with pytest.raises(Fault, match="sample 12 is inf: no signal has it"):
+        source.take(b"\0" + b"\0\0\x80\x7f" * 1000)
     short = bit_source(one)
     assert short.take(b"\x00\x00\x00") == b"" and short.finish() == b""

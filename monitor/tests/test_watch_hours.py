@@ -137,12 +137,14 @@ def test_options_say_more_than_a_name(station_listing: bytes, tmp_path: Path) ->
 
 
 def test_an_hour_that_the_database_was_not_told_of(station_listing: bytes, tmp_path: Path) -> None:
-    """The watch was killed before. The next one tells it, and once."""
+    """The watch was killed before. The next one tells it, and once. Other files beside it are left alone."""
     name = Hour(HOUR, HOUR + 12.5, 1200).name
     path, records = os.path.join("listings", "Alpha", name), Records(str(tmp_path / "watch.db"))
     (tmp_path / path).parent.mkdir(parents=True)
     rows, _, totals = station_listing.partition(b"total,valid,")
     (tmp_path / path).write_bytes(rows)
+    for other in ("notes.csv", f"{name}.new"):
+        (tmp_path / path).with_name(other).write_text("mine")
     for told in ([path], []):
         assert recover(str(tmp_path), ["Alpha", "Beta"], records) == told
     query = "SELECT name, station, number, start, rate, SUM(valid) FROM recordings JOIN sessions ON recording = recordings.id"
@@ -195,7 +197,7 @@ def test_a_writer_is_busy_while_rows_wait(tmp_path: Path, monkeypatch: pytest.Mo
 
 
 def kept(folder: Path, keep: Keep, *sizes: int, busy: int = -1) -> "list[int]":
-    """Which of some hours are left; the last one is the hour of now."""
+    """Which of some hours are left; the last one begins now."""
     top = folder / "listings" / "Alpha"
     top.mkdir(parents=True)
     paths = [top / Hour(HOUR - 3600 * (len(sizes) - 1 - n), HOUR - 1e6).name for n in range(len(sizes))]
@@ -206,7 +208,7 @@ def kept(folder: Path, keep: Keep, *sizes: int, busy: int = -1) -> "list[int]":
     if busy >= 0:
         name = os.path.join("listings", "Alpha", paths[busy].name)
         records.write([PartOpened(PartKey("Alpha 1", 0), "Alpha", Timing(HOUR), 0, name)])
-    removed = tidy(str(folder), keep, HOUR + 60, records).removed
+    removed = tidy(str(folder), keep, HOUR, records).removed
     records.close()
     assert (top / "notes.txt").exists()
     assert removed == [os.path.join("listings", "Alpha", one.name) for one in paths if not one.exists()]

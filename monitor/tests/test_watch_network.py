@@ -46,8 +46,8 @@ TABLE = stations('name = "Alpha"', 'command = ["a"]', 'pi = "D318"', 'ps = "ALPH
 NOT_STORED = ("ct", "ih_data")
 
 
-def network(folder: Path, air: Air, *plans: Plan, table: str = TABLE) -> Network:
-    return Network(folder, table, {"a": air}, {"a": list(plans)})
+def network(folder: Path, air: Air, *plans: Plan, table: str = TABLE, speed: float = 1.0) -> Network:
+    return Network(folder, table, {"a": air}, {"a": list(plans)}, speed=speed)
 
 
 def apart(numbers: List[Tuple[int, float]]) -> List[float]:
@@ -486,8 +486,8 @@ def test_a_clock_that_is_set(tmp_path: Path) -> None:
 
 
 def test_a_disk_that_hangs(tmp_path: Path, monkeypatch: pytest.MonkeyPatch) -> None:
-    """No write fails, and none ends: that is an alarm, too."""
-    net = network(tmp_path, Air(ALPHA, START, 100))
+    """No write fails, and none ends: that is an alarm, too. Time passes twice as fast."""
+    net = network(tmp_path, Air(ALPHA, START, 100), speed=2)
     net.run(10)
     with monkeypatch.context() as patch:
         patch.setattr(InTurn, "is_idle", property(lambda self: False))
@@ -496,8 +496,8 @@ def test_a_disk_that_hangs(tmp_path: Path, monkeypatch: pytest.MonkeyPatch) -> N
     net.run(10, tick=0.5)
     net.end()
     same_as_sent(net, tmp_path)
-    # It is seen at 10.5 s, and lasts for more than five seconds at 16.
-    assert alarms(net, "") == [("disk", 16.0, 30.5)]
+    # It is seen at 10.5 s, and lasts for more than five seconds of the fast clock at 21.
+    assert alarms(net, "") == [("disk", 21.0, 30.5)]
 
 
 # ---- the table
@@ -556,20 +556,20 @@ def test_an_rt_that_is_stuck_on_a_receiver_that_dies_often(tmp_path: Path) -> No
 
 
 def test_outages_that_last_and_that_are_over(tmp_path: Path) -> None:
-    """Noise for 20 s, which lasts at first, and an unplugged receiver until its next run."""
+    """Noise for 40 s, from one hour to the next, which lasts at first, and an unplugged receiver until its next run."""
     air = Air(ALPHA, START, 400)
-    air.noise(40, 60)
+    air.noise(20, 60)
     net = network(tmp_path, air, Plan(dies=60), *[Plan(dies=0)] * 4)
     net.run(55)
     query = "SELECT begin_utc, end_utc, length_s, kind FROM station_outages WHERE length_s > 2"
     ((first, last, length, _),) = net.asked(query)
-    assert abs(start_of(first) - START - 40) < 1 and last is None and length > 4
+    assert abs(start_of(first) - START - 20) < 1 and last is None and length > 24
     net.run(35)
     assert net.watch.stations["Alpha"].state(0.0)["session_utc"] is None
     net.run(60)
     net.end()
     noise, down = ((start_of(begin) - START, length, kind) for begin, _, length, kind in net.asked(query))
-    assert noise[2] == "noise" and numpy.allclose(noise[:2], (40, 20), atol=2)
+    assert noise[2] == "noise" and numpy.allclose(noise[:2], (20, 40), atol=2)
     assert down[2] == "down" and numpy.allclose(down[:2], (60, net.runs[-1][1] - 60), atol=2)
 
 

@@ -143,6 +143,23 @@ def test_commands_in_their_order(tmp_path: Path, monkeypatch: pytest.MonkeyPatch
     assert path.read_text() == "1\n2\n3\n"
 
 
+def test_commands_that_last() -> None:
+    """Four at a time, each for a minute at most."""
+    hooks = Hooks(lambda priority, text: None)
+    for _ in range(5):
+        hooks.add(("sleep", "600"))
+    hooks.work(0.0)
+    first = [process for process, _ in hooks._running]
+    hooks.work(60.0)
+    assert len(first) == 4 and [process.poll() for process in first] == [None] * 4
+    hooks.work(60.1)
+    assert [process.wait(30) for process in first] == [-9] * 4
+    hooks.work(60.1)
+    ((last, began),) = hooks._running
+    hooks.work(began + 60.1)
+    assert last.wait(30) == -9
+
+
 def test_bytes_that_came_just_before_a_stop(tmp_path: Path) -> None:
     """They are read once more. Steps of the machine's clock are told with their direction."""
     air = Air(ALPHA, START, 40)

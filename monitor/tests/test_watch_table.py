@@ -32,6 +32,13 @@ def test_defaults() -> None:
     )
 
 
+def test_the_longest_name() -> None:
+    """Of 100 bytes."""
+    assert table_of(stations(f'name = "{50 * "é"}"', ALPHA[1])).stations[0].name == 50 * "é"
+    with pytest.raises(Fault, match="cannot be the name of a folder"):
+        table_of(stations(f'name = "{50 * "é"}a"', ALPHA[1]))
+
+
 def test_all_of_it() -> None:
     alpha = (
         'pi = ["d318", "D218"]',
@@ -177,8 +184,13 @@ def test_no_reader_of_toml(monkeypatch: pytest.MonkeyPatch) -> None:
 def test_the_command_line(tmp_path: Path) -> None:
     path = tmp_path / "stations.toml"
     path.write_text(stations(*ALPHA))
-    done = run("watch", path)
-    assert done.status == 1 and "there is no folder to write to" in done.err
+    for speed, fault in (
+        (1, "there is no folder to write to"),
+        (0.01, "there is no folder"),
+        (0.009, "--speed is a number"),
+    ):
+        done = run("watch", "--speed", speed, path)
+        assert done.status == 1 and fault in done.err
     done = run("watch", tmp_path / "none.toml")
     assert done.status == 1 and "No such file" in done.err
     path.write_bytes(b"\xff")
@@ -252,22 +264,12 @@ def test_a_burst_that_is_longer_than_patience(tmp_path: Path, lines: List[str], 
 
 
 def test_the_tables_that_are_shown() -> None:
-    """The example of the package, and that of the page, are tables."""
+    """The examples of the page are tables."""
     page = (TOP / "monitor" / "WATCHING.md").read_text()
     for title in ("The table of stations", "A receiver of several stations"):
         text = page.split(f"## {title}\n")[1].split("##")[0]
         shown = "\n".join(line[4:] for line in text.splitlines() if line.startswith("    "))
         assert table_of(shown).stations[0].name == "Alpha"
-    text = (TOP / "packaging" / "stations.toml").read_text()
-    (station,), told = table_of(text).stations, tomllib.loads(text)
-    assert told["keep"] == {"listings_days": 60, "listings_gb": 50, "database_days": 800}
-    assert (station.form, station.raw, station.rate, station.frequency) == ("mpx", "s16", 171000, 98.1)
-    words = list(station.command)
-    assert words[0] == "rtl_fm" and dict(zip(words[1::2], words[2::2])) == {
-        **{"-d": "0", "-M": "fm", "-l": "0", "-A": "std", "-p": "0", "-F": "9"},
-        **{"-s": f"{station.rate // 1000}k", "-f": f"{station.frequency}M"},
-    }
-    assert told["station"][0]["pi"] == "D318" and told["station"][0]["ps"] == "ALPHA*"
 
 
 PAGE = " ".join((TOP / "monitor" / "WATCHING.md").read_text().split())

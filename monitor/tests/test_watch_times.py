@@ -31,6 +31,10 @@ def jitter(seed: int, most: float) -> Iterator[float]:
         yield chance.uniform(0.02, most)
 
 
+# Whatever a clock's speed is, all is the same as by one that is right, but for the unit of time.
+at_each_speed = pytest.mark.parametrize("speed", [1, 4])
+
+
 @pytest.mark.parametrize("ppm", [-120, -20, 0, 20, 120])
 def test_a_day_of_a_clock_that_drifts(ppm: float) -> None:
     """Cut each hour: no time is off by more than a second, and none goes back."""
@@ -48,13 +52,17 @@ def test_a_day_of_a_clock_that_drifts(ppm: float) -> None:
     assert cuts in (23, 24) and abs(arrivals.timing.rate / RATE - 1 - ppm * 1e-6) < 60e-6
 
 
-def test_the_first_second_corrects_the_start() -> None:
-    """The first read was held up by 0.4 s, and those that follow were not."""
-    arrivals = Arrivals()
-    arrivals.take(1187, BEGIN + 1187 / RATE + 0.4)
-    assert arrivals.timing == Timing(pytest.approx(BEGIN + 0.4))
-    arrivals.take(1306, BEGIN + 1306 / RATE + 0.01)
-    assert arrivals.timing is not None and abs(arrivals.timing.start - BEGIN - 0.01) < 1e-3
+@at_each_speed
+def test_the_first_second_corrects_the_start(speed: int) -> None:
+    """The first read was held up by 0.4 s, and those that follow were not. It is corrected by a second at most."""
+    arrivals = Arrivals(speed)
+    for place, came, start in (
+        (1187, 1187 / RATE + 0.4, 0.4),
+        (1306, 1306 / RATE + 0.01, 0.01),
+        (5000, 1.3, -0.6),
+    ):
+        arrivals.take(speed * place, BEGIN + speed * came)
+        assert arrivals.timing == Timing(pytest.approx(BEGIN + speed * start, abs=1e-3))
 
 
 def test_of_a_second_the_read_with_the_least_delay_counts() -> None:
@@ -65,41 +73,66 @@ def test_of_a_second_the_read_with_the_least_delay_counts() -> None:
     assert arrivals.ahead == pytest.approx(1, abs=0.01)
 
 
+@at_each_speed
 @pytest.mark.parametrize("seconds, start", [(1, 0), (30, -29), (60, -59), (100, -60.5)])
-def test_bits_from_before_a_receiver_was_started(seconds: int, start: float) -> None:
+def test_bits_from_before_a_receiver_was_started(seconds: int, start: float, speed: int) -> None:
     """A second after that it gives them all at once. It had those of a minute, or a second more, and no others."""
-    arrivals = Arrivals(began=BEGIN)
-    arrivals.take(int(seconds * RATE), BEGIN + 1)
-    assert arrivals.timing is not None and abs(arrivals.timing.start - BEGIN - start) <= 0.5
+    arrivals = Arrivals(speed, began=BEGIN)
+    arrivals.take(int(speed * seconds * RATE), BEGIN + speed)
+    assert arrivals.timing is not None and abs(arrivals.timing.start - BEGIN - speed * start) <= 0.5 * speed
 
 
-def test_dropped_samples_make_the_time_jump_forward() -> None:
+@at_each_speed
+@pytest.mark.parametrize(
+    "late, delay, is_late", [(0.04, 0, False), (0.06, 0.06, False), (0.49, 0.49, False), (0.51, 0.51, True)]
+)
+def test_when_a_delay_counts(late: float, delay: float, is_late: bool, speed: int) -> None:
+    """Less than a twentieth of a second is noise. Of half a second and more the time jumps."""
+    arrivals = Arrivals(speed)
+    for second in range(1, 21):
+        arrivals.take(int(speed * second * RATE), BEGIN + speed * (second + (late if second > 5 else 0)))
+    assert arrivals.delay() == pytest.approx(speed * delay, abs=0.002) and arrivals.is_late() == is_late
+
+
+@at_each_speed
+def test_dropped_samples_make_the_time_jump_forward(speed: int) -> None:
     """Bits that come two seconds late for good. A read that is late once changes nothing."""
-    arrivals = Arrivals()
+    arrivals = Arrivals(speed)
     delays: List[float] = [0.05] * 60 + [3.0] + [0.05] * 30 + [2.05] * 30
     seen = []
     for place, _, came in reads(len(delays), 0, iter(delays)):
-        arrivals.take(place, came)
+        arrivals.take(speed * place, BEGIN + speed * (came - BEGIN))
         seen.append(arrivals.is_late())
         if seen[-1]:
             arrivals.jump(arrivals.delay())
-    # The last read in time came after 91 s.
-    assert seen.index(True) in range(98, 102) and seen.count(True) == 1
-    assert arrivals.timing is not None and abs(arrivals.timing.start - BEGIN - 2.05) < 0.02
+    # The last read in time came after 91 s, and the first one that is ten seconds later is the hundredth, two seconds late.
+    assert seen.index(True) == 98 and seen.count(True) == 1
+    assert arrivals.timing is not None and abs(arrivals.timing.start - BEGIN - 2.05 * speed) < 0.02 * speed
 
 
+@at_each_speed
 @pytest.mark.parametrize("factor", [0.97, 1.02, 1.3])
-def test_when_the_pace_changes(factor: float) -> None:
-    """It is another one from second 60 to 100. The first look that tells so says when that began."""
-    arrivals, place, found = Arrivals(), 0.0, []
+def test_when_the_pace_changes(factor: float, speed: int) -> None:
+    """It is another one from second 60 to 100. The first look that tells so says when that began. One that does not change is known after
+    ten seconds, and told of the last thirty."""
+    arrivals, place, found, since = Arrivals(speed), 0.0, [], {}
     for second in range(1, 150):
         place += RATE * (factor if 60 < second <= 100 else 1)
-        arrivals.take(int(place), BEGIN + second)
+        arrivals.take(int(speed * place), BEGIN + speed * second)
         pace = arrivals.pace()
+        since[second] = pace and (pace.since - BEGIN) / speed
         is_off = pace is not None and abs(pace.factor - 1) > 0.01
         if pace and is_off != (len(found) % 2 == 1):
-            found.append(pace.since - BEGIN)
+            found.append((pace.since - BEGIN) / speed)
     assert len(found) == 2 and numpy.allclose(found, (60, 100), atol=1.5)
+    assert [since[second] for second in (10, 11, 31, 32, 55)] == [None, 1, 1, 2, 25]
+
+
+def test_a_pace_by_two_reads() -> None:
+    arrivals = Arrivals()
+    for second in (1, 11):
+        arrivals.take(int(1.5 * second * RATE), BEGIN + second)
+    assert arrivals.pace() == (pytest.approx(1.5, abs=0.001), BEGIN + 1)
 
 
 @given(st.lists(st.floats(0, 5), min_size=30, max_size=200), st.floats(-200, 200))
@@ -135,6 +168,8 @@ def test_steps_of_the_machines_clock() -> None:
     assert clock.step(Now(103, BEGIN + 3600)) == pytest.approx(3596.1)
     assert clock.step(Now(104, BEGIN - 86400)) == pytest.approx(-90001)
     assert clock.utc(Now(105, 0)) == BEGIN - 86399
+    fast = SteadyUtc(Now(100, BEGIN), 4)
+    assert [fast.step(Now(104, BEGIN + 7.9)), fast.step(Now(108, BEGIN + 16))] == [0, pytest.approx(4.1)]
 
 
 def test_a_fast_clock() -> None:

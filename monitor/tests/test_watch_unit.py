@@ -13,10 +13,9 @@ from typing import Any, Dict, Iterator, List, Tuple
 import pytest
 
 from conftest import TOP, ran
-from network import stations
 from rds_monitor.watch.alarms import NAMES
 from rds_monitor.watch.metrics import METRICS
-from rds_monitor.watch.table import read_table, table_of
+from rds_monitor.watch.table import read_table
 
 PACKAGING = TOP / "packaging"
 UNIT = "rds-monitor-watch.service"
@@ -216,16 +215,6 @@ def test_alerts_on_both_sides_of_their_limits(tmp_path: Path) -> None:
     assert done.returncode == 0, done.stdout + done.stderr
     named = re.findall("- alert: (.*)", (PACKAGING / "alerts.yml").read_text())
     assert {*named} == {alert for _, alert, _, alerts in cases if alerts}
-
-
-def test_the_page_names_all_alarms_and_their_defaults() -> None:
-    page = (TOP / "monitor" / "WATCHING.md").read_text()
-    limits = table_of(stations('name = "a"', 'command = ["a"]')).stations[0].alarms
-    for name in NAMES:
-        (row,) = [line for line in page.splitlines() if line.startswith(f"| `{name}` |")]
-        value = getattr(limits, name)
-        more = {"errors": f", {limits.errors_percent:g} %", "ct": f", {limits.ct_offset:g} s"}.get(name, "")
-        assert row.split("|")[3].strip() == ("off" if value is None else f"{value:g}") + more
 
 
 # The options of the receiver's program: its rate and its frequency are those of the station.

@@ -117,9 +117,9 @@ class StoredStation:
         self.sessions = sorted(self._sessions(with_unknown))
         self._stands: Optional[Standing] = None
         self._watched = self._look() if stored.is_watched else []
-        times = [*((one.begin, one.end) for one in self.sessions), *self._watched]
-        self.begin = min((begin for begin, _ in times), default=0.0)
-        self.end = max((end for _, end in times), default=0.0)
+        self._times = [*((one.begin, one.end) for one in self.sessions), *self._watched]
+        self.begin = min((begin for begin, _ in self._times), default=0.0)
+        self.end = max((end for _, end in self._times), default=0.0)
 
     def _sessions(self, with_unknown: bool) -> Iterator[StoredSession]:
         """Those whose start is not known follow on the others."""
@@ -148,6 +148,10 @@ class StoredStation:
             query = "SELECT begin_at, end_at FROM watched_rows WHERE station = ?"
             return [(end, end), *rows(query, self.name)]
         return []
+
+    def is_known(self, begin: float, end: float) -> bool:
+        """Whether it was received or watched at any time between these."""
+        return any(first < end and after > begin for first, after in self._times)
 
     def available(self, line: TimeLine, begin: float, end: float) -> Availability:
         """Of a line from one time to another."""

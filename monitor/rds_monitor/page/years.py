@@ -117,14 +117,14 @@ class Folder:
         """The pages of a year and its months; what the year's page tells."""
         whole, rows, cells = TimeLine(), [], [("", "")] * 12
         links = [("all stations", "index.html"), (str(year), file_of(station.name, year))]
+        known = (month for month in months if station.is_known(month.begin, month.next.begin))
+        pages = {month: file_of(station.name, month) for month in known}
         for month in months:
             line = station.line(month.begin, month.next.begin, HOUR)
-            row, file = month_of(station, month, line), ""
+            row, file = month_of(station, month, line), pages.get(month, "")
             line = line.fewer(HOUR)
-            if line.sessions or row.down_s:
-                file = file_of(station.name, month)
-                near = (one for one in (month.last, month.next) if one in months)
-                beside = [(str(one), file_of(station.name, one)) for one in near]
+            if file:
+                beside = [(str(one), pages[one]) for one in (month.last, month.next) if one in pages]
                 self._tell(file, station, [month], line, links=[*links, *beside])
             self._months.append(row)
             cells[month.number - 1] = f"{row.received_percent:.2f} %", file
