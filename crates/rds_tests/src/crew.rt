@@ -66,11 +66,11 @@ static EVENTS: [Event; 28] = [
 #[derive(Clone, Copy)]
 enum Hold {
     Nobody,
-    /// Each piece, until so many are begun.
+    /// Each piece, until this number is begun.
     Pieces(u64),
-    /// Piece 0, until so many are done.
+    /// Piece 0, until this number is done.
     First(u64),
-    /// Join 0 of level 1, until so many joins of that level are begun.
+    /// Join 0 of level 1, until this number of joins of that level is begun.
     Join(u64),
 }
 
@@ -126,7 +126,7 @@ impl<'a, R: Wait> Journal<'a, R> {
         self.wait(self.hold.wanted(event));
     }
 
-    /// Turns until so many have come, and notes a miss at the limit.
+    /// Turns until this number has come, and notes a miss at the limit.
     fn wait(&self, wanted: u64) {
         for _ in 0..MOST_TURNS {
             if self.come.load(Ordering::SeqCst) >= wanted {
@@ -229,7 +229,7 @@ impl<R: Wait> Work for Noted<'_, '_, '_, R> {
     }
 }
 
-/// Whether so many workers decode 520 zero bits by these events, while they are held.
+/// Whether this number of workers decodes 520 zero bits by these events, while they are held.
 fn are_right<R: Sync + Threads + Wait>(rt: &R, alloc: Global, workers: u32, hold: Hold) -> bool {
     let journal = Journal::new(rt, alloc, hold);
     is_decoded(alloc, workers, &journal) == Some(()) && journal.is_right(workers)

@@ -49,7 +49,7 @@ impl Write for Withholding {
     }
 }
 
-/// Whether a scan to such a writer is answered so, which then held and handed on so many bytes.
+/// Whether a scan to such a writer gives the wanted answer, after it held and handed on these numbers of bytes.
 fn is_withheld<R: Threads + Sync>(
     rt: &R,
     alloc: Global,
@@ -99,7 +99,7 @@ impl Read for Endless<'_> {
     }
 }
 
-/// Whether a scan leaves such a reader after so many reads.
+/// Whether a scan leaves such a reader after `reads` reads.
 fn is_left<R: Threads + Sync>(rt: &R, alloc: Global, reads: u64) -> bool {
     let count = AtomicU64::new(0);
     let mut reader = FromRead::new(Endless { reads: &count });
@@ -129,7 +129,7 @@ impl Gate for Count {
     fn done(&self, _j: u64, _run: &PieceRun) {}
 }
 
-/// A list by so many workers, with a cut at each place from `first` to before `end`.
+/// A list by `workers` threads at most, with a cut at each place from `first` to before `end`.
 fn list_cut_at(alloc: Global, workers: u32, first: u64, end: u64) -> Result<Job, AllocError> {
     let mut places = Vec::new(alloc);
     for place in first..end {
