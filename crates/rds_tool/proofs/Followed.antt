@@ -91,6 +91,11 @@ follows_err {source = source} {sink = sink} {s = s} {reader = reader} {reader' =
       broke_off = b.broke_off;
     })
 
+pub heard_as : {R W : Type 0} {source : Source R} {sink : Sink W} {s : Stream} {reader reader' : R} {writer writer' : W} {xs : List ℕ} (ys : List ℕ) → xs ≡ ys
+    → IsHeard source sink s reader reader' writer writer' xs → IsHeard source sink s reader reader' writer writer' ys
+heard_as {source = source} {sink = sink} {s = s} {reader = reader} {reader' = reader'} {writer = writer} {writer' = writer'} ys same h =
+    subst (λ zs. IsHeard source sink s reader reader' writer writer' zs) same h
+
 pub heard_none : {R W : Type 0} (source : Source R) (sink : Sink W) (s : Stream) (reader : R) (writer : W) → s.rows [] ≡ [] → IfSome s.claim (λ n. s.size [] ≤ n)
     → IsHeard source sink s reader reader writer writer []
 heard_none source sink s reader writer none counts = record {
@@ -145,7 +150,7 @@ module _ {R W : Type 0} {source : Source R} {sink : Sink W} {s : Stream} {reader
           few = omega arith;
           gave = gave ∙ ap (λ xs. source.given reader ++ xs) (sym (append-nil heard));
           asked = still_asked some;
-          prompt = λ _. (refl, (heard, gave, h.written, h.flush));
+          prompt = λ _. (refl, (heard, gave, (h.written, h.flush)));
           between = λ _. h.written;
           within = λ p. cc;
           too_long = λ p. cc;
@@ -403,12 +408,12 @@ module _ (bits : Option ℕ) (place left n : ℕ) (heard last : List ℕ) (place
   pub counted_is : counted bits (heard ++ last) ≡ place + left
   counted_is = grind (arith, common_steps, counted, place_is, counts, left_is, long, few, less, length-append)
 
-  pub last_all : (near after : Bool) → {E : Type 0} → IsNear bits 8 place (E × (near ≡ true)) → (left ≡ 0 → after ≡ near) → HasAll bits 8 (8 * length (heard ++ last)) after
-  last_all near after it same = grind (arith, common_steps, place_is, counts, left_is, long, few, less, length-append)
+  pub last_all : (near after : Bool) (E : Type 0) → IsNear bits 8 place (E × (near ≡ true)) → (left ≡ 0 → after ≡ near) → HasAll bits 8 (8 * length (heard ++ last)) after
+  last_all near after E it same = grind (arith, common_steps, place_is, counts, left_is, long, few, less, length-append)
 
-pub near_end : (bits : Option ℕ) (step size : ℕ) {E F : Type 0} → IsNear bits step size (E × F) → bits ≡ None → E
-near_end None step size near is = near.0
-near_end (Some n) step size near is = cc is
+pub near_end : (bits : Option ℕ) (step size : ℕ) (E F : Type 0) → IsNear bits step size (E × F) → bits ≡ None → E
+near_end None step size E F near is = near.0
+near_end (Some n) step size E F near is = cc is
 
 none_left : (bits : Option ℕ) (place : ℕ) → bits ≡ None → bits_left bits place ≡ 0
 none_left None place is = refl
@@ -435,9 +440,9 @@ last_is source terms workers bits reader reader' live place left heard n buf is 
     record {
       read = is_read source (bit_stream terms workers bits) reader reader' heard n (take n buf) buf refl fit.0 gave took reads (omega (arith, one))
           (last_asked bits live.place left n heard (take n buf) at counts left_is long fit.1 fit.2);
-      all = last_all bits live.place left n heard (take n buf) at counts left_is long fit.1 fit.2 (source.has_ended reader) (source.has_ended reader') near
+      all = last_all bits live.place left n heard (take n buf) at counts left_is long fit.1 fit.2 (source.has_ended reader) (source.has_ended reader') _ near
           (λ none. ap (λ r. source.has_ended r) (still none));
-      end = λ none. subst (λ r. IsAtEnd (source.remaining r)) (sym (still (left_is ∙ none_left bits live.place none))) (near_end bits 8 live.place near none);
+      end = λ none. subst (λ r. IsAtEnd (source.remaining r)) (sym (still (left_is ∙ none_left bits live.place none))) (near_end bits 8 live.place _ _ near none);
       claim = claim_is bits live.place left n heard (take n buf) at counts left_is long fit.1 fit.2;
       count = counted_is bits live.place left n heard (take n buf) at counts left_is long fit.1 fit.2;
       held = omega (arith, at, long, fit.1, length-append heard (take n buf));
@@ -469,8 +474,8 @@ first_is n gaps bytes short held are = rw (le-ltb (2 ^ 36) n short, le-ltb (8 * 
 lists : (terms : Terms) (bits : Option ℕ) (bytes : List ℕ) (m : ℕ) → claim_or bits (8 * length bytes) ≡ m → counted bits bytes ≡ m → m ≤ 2 ^ 36 → m ≤ 8 * length bytes → AreGaps m terms.gaps
     → listed terms bits bytes ≡ Ok (stream_text terms bits bytes)
 lists terms bits bytes m claim count short held are =
-    let then : Result Signal ToolError → Result (List ℕ) ToolError = λ r. and_then r (λ recording. Ok (list_text terms.rules recording)) in
-    ap (λ (n : ℕ). then (first_bits n terms.gaps bytes)) (claimed_is bits bytes ∙ claim) ∙ ap then (first_is m terms.gaps bytes short held are)
+    let text : Result Signal ToolError → Result (List ℕ) ToolError = λ r. and_then r (λ recording. Ok (list_text terms.rules recording)) in
+    ap (λ (n : ℕ). text (first_bits n terms.gaps bytes)) (claimed_is bits bytes ∙ claim) ∙ ap text (first_is m terms.gaps bytes short held are)
     ∙ ap (λ (n : ℕ). Ok (list_text terms.rules (signal_at terms.gaps bytes n))) (sym count)
 
 module _ {R W : Type 0} (source : Source R) (sink : Sink W) (terms : Terms) (workers : ℕ) (bits : Option ℕ) {reader reader1 : R} {writer writer1 : W} {heard : List ℕ}
@@ -537,7 +542,7 @@ append_cancel (x ∷ xs) a b p = append_cancel xs a b (cc p)
 listed_more : (terms : Terms) (n : ℕ) (bytes more : List ℕ) → n ≤ 8 * length bytes → listed terms (Some n) (bytes ++ more) ≡ listed terms (Some n) bytes
 listed_more terms n bytes more held =
     rw (le-ltb (8 * length (bytes ++ more)) n (omega (arith, held, length-append bytes more)), le-ltb (8 * length bytes) n held)
-    (ap (λ (bs : List Bool). and_then (if nat_lt (2 ^ 36) n then Err TooLong else if not (may_be_gaps 0 terms.gaps n) then Err BadGaps else Ok (record { bits = bs; gaps = terms.gaps }))
+    (ap (λ (bs : List ℕ). and_then (if nat_lt (2 ^ 36) n then Err TooLong else if not (may_be_gaps 0 terms.gaps n) then Err BadGaps else Ok (record { bits = bs; gaps = terms.gaps }))
     (λ recording. Ok (list_text terms.rules recording))) (front_bits bytes more 0 n held))
 
 known : (terms : Terms) (bits : Option ℕ) (from to old new : Option (List ℕ)) (bytes : List ℕ) (ended : Bool) → Consumes from to bytes → (bits ≡ None → IsAtEnd to)

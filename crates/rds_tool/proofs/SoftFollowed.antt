@@ -78,13 +78,13 @@ module _ (bits : Option ℕ) (symbols : List ℕ) (counts : IfSome bits (λ n. l
   claim-all : (IsShort bits (length symbols - 1) → ⊥) → claim_or bits (length symbols - 1) ≡ length symbols - 1
   claim-all enough = grind (arith, common_steps)
 
-  has-all : (ended : Bool) {E : Type 0} → IsNear bits 1 (length symbols - 1) (E × (ended ≡ true)) → (IsShort bits (length symbols - 1) → ⊥) → HasAll bits 1 (length symbols - 1) ended
-  has-all ended near enough = grind (arith, common_steps)
+  has-all : (ended : Bool) (E : Type 0) → IsNear bits 1 (length symbols - 1) (E × (ended ≡ true)) → (IsShort bits (length symbols - 1) → ⊥) → HasAll bits 1 (length symbols - 1) ended
+  has-all ended E near enough = grind (arith, common_steps)
 
-short-end : (bits : Option ℕ) (size : ℕ) {E : Type 0} → IsNear bits 1 size E → IsShort bits size → E
-short-end None size near short = absurd short
-short-end (Some n) size (inl less) short = absurd (omega (arith, less, short))
-short-end (Some n) size (inr end) short = end
+short-end : (bits : Option ℕ) (size : ℕ) (E : Type 0) → IsNear bits 1 size E → IsShort bits size → E
+short-end None size E near short = absurd short
+short-end (Some n) size E (inl less) short = absurd (omega (arith, less, short))
+short-end (Some n) size E (inr end) short = end
 
 of-end : (e : ToolError) → (e ≡ OutOfMemory) ⊎ ((e ≡ BitsPastBytes) ⊎ (e ≡ BadGaps)) → IsOfStream e
 of-end e it = grind (arith, common_steps)
@@ -104,11 +104,11 @@ module _ {R W : Type 0} (source : Source R) (sink : Sink W) (terms its_terms : S
       → Breaks source sink (symbol_stream terms bits) reader reader1 writer writer1 e
   breaks-end e kinds past gaps =
       breaks_still h (read_none h (omega arith)) e (of-end e kinds) (λ p. absurd (not-long e kinds p))
-      (λ p. let end = short-end bits (length symbols - 1) near (past p) in (subst (λ xs. IsShort bits (length xs - 1)) none-more (past p), end.1, end.0))
+      (λ p. let end = short-end bits (length symbols - 1) _ near (past p) in (subst (λ xs. IsShort bits (length xs - 1)) none-more (past p), end.1, end.0))
       (λ p. inr (
         λ are. (gaps p).1 (subst (λ (t : SoftTerms). AreGaps (length symbols - 1) t.gaps) (sym same) (subst (λ (m : ℕ). AreGaps m terms.gaps) (claim-all bits symbols h.counts (gaps p).0)
             (subst (λ xs. AreGaps (claim_or bits (length xs - 1)) terms.gaps) (append-nil symbols) are))),
-        near_end bits 1 (length symbols - 1) near,
+        near_end bits 1 (length symbols - 1) _ _ near,
       ))
 
   -- it was made
@@ -122,5 +122,5 @@ module _ {R W : Type 0} (source : Source R) (sink : Sink W) (terms its_terms : S
       follows_end h (read_none h (omega arith)) writer2 x text
       (ap (soft_stream_text terms) (append-nil symbols) ∙ subst (λ (t : SoftTerms). soft_stream_text t symbols ≡ soft_rows_so_far t symbols ++ text) same ends)
       (subst (λ xs. soft_listed terms bits xs ≡ Ok (soft_stream_text terms xs)) none-more (listed-is terms symbols bits (claimed-all bits symbols h.counts enough) limit gaps))
-      (subst (λ xs. HasAll bits 1 (length xs - 1) (source.has_ended reader1)) none-more (has-all bits symbols h.counts (source.has_ended reader1) near enough))
-      (near_end bits 1 (length symbols - 1) near) kind wrote flush fails prefix
+      (subst (λ xs. HasAll bits 1 (length xs - 1) (source.has_ended reader1)) none-more (has-all bits symbols h.counts (source.has_ended reader1) _ near enough))
+      (near_end bits 1 (length symbols - 1) _ _ near) kind wrote flush fails prefix

@@ -18,7 +18,7 @@ returns-in-None g c =
     let lent = c.as_slice-gaps.ensures.value in
     let bits : c.input.inside.bits ≡ c.args.input.now.bits = cc in
     let gaps : c.as_slice-gaps.result.now ≡ c.args.input.now.gaps = cc in
-    subst (λ (s : Stream). Follows g.S.Source g.K.Sink s _ _ _ _ _) (bits_asked _ _ _ _ _ _ c.args.workers gaps bits c.in-None.is) c.follow.ensures.all
+    subst (λ (s : Stream). Follows g.S.Source g.K.Sink s c.args.reader.now c.follow.new.reader c.args.writer.now c.follow.new.writer c.follow.result) (bits_asked _ _ _ _ _ _ c.args.workers gaps bits c.in-None.is) c.follow.ensures.all
 
 pub returns-in-Some : goal.returns-in-Some
 returns-in-Some g c =
@@ -27,4 +27,4 @@ returns-in-Some g c =
     let lent = c.as_slice-gaps.ensures.value in
     let bits : c.input.inside.bits ≡ c.args.input.now.bits = cc in
     let gaps : c.as_slice-gaps.result.now ≡ c.args.input.now.gaps = cc in
-    subst (λ (s : Stream). Follows g.S.Source g.K.Sink s _ _ _ _ _) (symbols_asked _ _ _ _ _ _ _ c.args.workers gaps bits c.in-Some.is) c.follow_soft.ensures
+    subst (λ (s : Stream). Follows g.S.Source g.K.Sink s c.args.reader.now c.follow_soft.new.reader c.args.writer.now c.follow_soft.new.writer c.follow_soft.result) (symbols_asked _ _ _ _ _ _ _ c.args.workers gaps bits c.in-Some.is) c.follow_soft.ensures

@@ -1,4 +1,4 @@
-use Rattle.rds_tool.proofs.Names.{common_steps, arith, ◌*◌, ◌≡◌, ◌≤◌, ◌++◌, ◌∙◌, ℕ, Err, List, [], ap, drop, length, length-append, refl, subst, sym, take, LiveOf, IsNear}
+use Rattle.rds_tool.proofs.Names.{common_steps, arith, ◌*◌, ◌≡◌, ◌≤◌, ◌++◌, ◌∙◌, ℕ, Err, List, [], ap, drop, length, length-append, refl, subst, sym, take, true, IsAtEnd, LiveOf, IsNear, most_read}
 use Rattle.rds_tool.proofs.Followed.{asked_more, breaks_at_once, breaks_chunk, breaks_read, counts_more, front_is, has_heard, heard_end, heard_more, heard_next, heard_none, is_read, lent_whole, listing_begins, long_taken, near_by, place_is, place_of_all, rows_by, smaller, some_taken}
 use Rattle.rds_tool.proofs.Passing.{passes}
 use Rattle.rds_tool.proofs.following.follow_bytes.Goals as goal
@@ -45,7 +45,7 @@ reads-preserved g c =
     let bytes_are = front_is c.in_ok-count.count c.reads.buf.len c.deref.result.now c.read_once.new.buf (drop (length c.read_once.new.buf) c.reads.buf.items) long c.deref.ensures.value in
     let count : length bytes ≡ c.in_ok-count.count = long_taken _ bytes _ bytes_are read.within.0 in
     let counts = counts_more c.args.bits c.place.result c.room_before_end-room.result heard bytes c.room_before_end-room.ensures.within (c.place.ensures.value ∙ place_is _ _ heard is) (omega (arith, count, read.within.1)) in
-    let most = omega (arith, read.within.0, long, c.reads.buf.ok.0, c.reads.invariant.room) in
+    let most : c.in_ok-count.count ≤ most_read c.args.workers = omega (arith, read.within.0, long, c.reads.buf.ok.0, c.reads.invariant.room) in
     let r = is_read _ _ _ _ heard c.in_ok-count.count bytes _ bytes_are read.within.0 read.given read.taken read.count most (asked_more c.args.bits heard bytes counts) in
     let (rows, more, did) = rows_by _ _ heard bytes is c.in_ok-lister.ensures.rows in
     record {
@@ -66,7 +66,7 @@ returns-in_err-lister-clause-broke g c =
     let bytes_are = front_is c.in_ok-count.count c.reads.buf.len c.deref.result.now c.read_once.new.buf (drop (length c.read_once.new.buf) c.reads.buf.items) long c.deref.ensures.value in
     let count : length bytes ≡ c.in_ok-count.count = long_taken _ bytes _ bytes_are read.within.0 in
     let counts = counts_more c.args.bits c.place.result c.room_before_end-room.result heard bytes c.room_before_end-room.ensures.within (c.place.ensures.value ∙ place_is _ _ heard is) (omega (arith, count, read.within.1)) in
-    let most = omega (arith, read.within.0, long, c.reads.buf.ok.0, c.reads.invariant.room) in
+    let most : c.in_ok-count.count ≤ most_read c.args.workers = omega (arith, read.within.0, long, c.reads.buf.ok.0, c.reads.invariant.room) in
     let r = is_read _ _ _ _ heard c.in_ok-count.count bytes _ bytes_are read.within.0 read.given read.taken read.count most (asked_more c.args.bits heard bytes counts) in
     let chunk = c.in_err-lister.ensures in
     passes _ _ _ c.from_residual-in_err-lister.ensures
@@ -88,5 +88,5 @@ returns-clause-heard g c =
 pub returns-clause-near : goal.returns-clause-near
 returns-clause-near g c =
     let read = c.in_ok-count.ensures in
-    subst (λ (p : ℕ). IsNear c.args.bits 8 p _) (c.place.ensures.value ∙ ap (λ (l : LiveOf). l.place) (sym c.into_decoder.ensures))
+    subst (λ (p : ℕ). IsNear c.args.bits 8 p (IsAtEnd (g.S.Source.remaining c.read_once.new.reader) × (g.S.Source.has_ended c.read_once.new.reader ≡ true))) (c.place.ensures.value ∙ ap (λ (l : LiveOf). l.place) (sym c.into_decoder.ensures))
     (near_by c.args.bits 8 c.place.result c.room_before_end-room.result c.room_before_end-room.ensures.none (read.end c.if-count-eq0.true) (read.answer c.if-count-eq0.true))

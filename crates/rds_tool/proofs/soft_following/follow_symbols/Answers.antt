@@ -1,5 +1,5 @@
-use Rattle.rds_tool.proofs.Names.{common_steps, arith, ◌-◌, ◌≡◌, ◌++◌, ◌∙◌, ℕ, Err, List, Ok, ap, drop, length, length-append, refl, subst, sym, take, Appends, WritesPrefix, IsHeard, IsNear, SoftHeard, SoftTerms, soft_rows_so_far}
-use Rattle.rds_tool.proofs.Followed.{breaks_at_once, breaks_chunk, breaks_read, front_is, heard_end, heard_more, heard_none, is_read, lent_whole, long_taken, near_by, some_taken}
+use Rattle.rds_tool.proofs.Names.{common_steps, arith, ◌-◌, ◌≡◌, ◌++◌, ◌∙◌, ℕ, Err, List, ap, drop, length, length-append, refl, subst, sym, take, true, ◌≤◌, IsAtEnd, IsNear, SoftHeard, SoftTerms, most_symbols, soft_rows_so_far}
+use Rattle.rds_tool.proofs.Followed.{breaks_at_once, breaks_chunk, breaks_read, front_is, heard_as, heard_end, heard_more, heard_none, is_read, lent_whole, long_taken, near_by, some_taken}
 use Rattle.rds_tool.proofs.Passing.{passes}
 use Rattle.rds_tool.proofs.SoftFollowed.{asked-count, asked-more, counts-more, text-begins}
 use Rattle.rds_tool.proofs.soft_following.follow_symbols.Goals as goal
@@ -21,7 +21,7 @@ pub reads-init : goal.reads-init
 reads-init g c =
     let begun = c.in_ok-begun.ensures.stream in
     record {
-      heard = (subst (λ (xs : List ℕ). IsHeard _ _ _ _ _ _ _ xs) (ap (λ (s : SoftHeard). s.symbols) (sym begun)) (heard_none _ _ _ _ _ refl (grind (arith, common_steps))), ap (λ (s : SoftHeard). s.terms) begun);
+      heard = (heard_as _ (ap (λ (s : SoftHeard). s.symbols) (sym begun)) (heard_none _ _ _ _ _ refl (grind (arith, common_steps))), ap (λ (s : SoftHeard). s.terms) begun);
       room = c.in_ok-begun.ensures.room;
     }
 
@@ -54,12 +54,12 @@ reads-preserved g c =
     let more_is = front_is c.in_ok-count.count c.reads.buf.len c.deref.result.now c.read_once.new.buf (drop (length c.read_once.new.buf) c.reads.buf.items) long c.deref.ensures.value in
     let count : length more ≡ c.in_ok-count.count = long_taken _ more _ more_is read.within.0 in
     let counts = counts-more c.args.bits c.count.result c.symbols_left-room.result heard more c.symbols_left-room.ensures.within c.count.ensures.value (omega (arith, count, read.within.1)) in
-    let most = omega (arith, read.within.0, long, c.reads.buf.ok.0, c.reads.invariant.room) in
+    let most : c.in_ok-count.count ≤ most_symbols = omega (arith, read.within.0, long, c.reads.buf.ok.0, c.reads.invariant.room) in
     let r = is_read _ _ _ _ heard c.in_ok-count.count more _ more_is read.within.0 read.given read.taken read.count most (asked-more c.args.bits heard more counts) in
     let next = c.in_ok-follow_next.ensures in
     let (rows, grew, did) = rows-by _ _ heard more same next.rows in
     record {
-      heard = (subst (λ (xs : List ℕ). IsHeard _ _ _ _ _ _ _ xs) (sym next.heard) (heard_more h r _ rows grew did counts next.flushed next.count), c.follow_next.ensures.terms ∙ same);
+      heard = (heard_as _ (sym next.heard) (heard_more h r _ rows grew did counts next.flushed next.count), c.follow_next.ensures.terms ∙ same);
       room = ap (λ xs. length xs) (lent_whole c.reads.buf.len c.read_once.new.buf (drop (length c.read_once.new.buf) c.reads.buf.items) long) ∙ long ∙ c.reads.buf.ok.0 ∙ c.reads.invariant.room;
     }
 
@@ -73,7 +73,7 @@ returns-in_err-follow_next-clause-broke g c =
     let more_is = front_is c.in_ok-count.count c.reads.buf.len c.deref.result.now c.read_once.new.buf (drop (length c.read_once.new.buf) c.reads.buf.items) long c.deref.ensures.value in
     let count : length more ≡ c.in_ok-count.count = long_taken _ more _ more_is read.within.0 in
     let counts = counts-more c.args.bits c.count.result c.symbols_left-room.result heard more c.symbols_left-room.ensures.within c.count.ensures.value (omega (arith, count, read.within.1)) in
-    let most = omega (arith, read.within.0, long, c.reads.buf.ok.0, c.reads.invariant.room) in
+    let most : c.in_ok-count.count ≤ most_symbols = omega (arith, read.within.0, long, c.reads.buf.ok.0, c.reads.invariant.room) in
     let r = is_read _ _ _ _ heard c.in_ok-count.count more _ more_is read.within.0 read.given read.taken read.count most (asked-more c.args.bits heard more counts) in
     let next = c.in_err-follow_next.ensures in
     passes _ _ _ c.from_residual-in_err-follow_next.ensures
@@ -91,5 +91,5 @@ returns-clause-heard g c =
 pub returns-clause-near : goal.returns-clause-near
 returns-clause-near g c =
     let read = c.in_ok-count.ensures in
-    subst (λ (n : ℕ). IsNear c.args.bits 1 (n - 1) _) c.count.ensures.value
+    subst (λ (n : ℕ). IsNear c.args.bits 1 (n - 1) (IsAtEnd (g.S.Source.remaining c.read_once.new.reader) × (g.S.Source.has_ended c.read_once.new.reader ≡ true))) c.count.ensures.value
     (near_by c.args.bits 1 (c.count.result - 1) c.symbols_left-room.result c.symbols_left-room.ensures.none (read.end c.if-count-eq0.true) (read.answer c.if-count-eq0.true))
