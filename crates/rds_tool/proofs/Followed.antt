@@ -543,7 +543,7 @@ listed_more : (terms : Terms) (n : ℕ) (bytes more : List ℕ) → n ≤ 8 * le
 listed_more terms n bytes more held =
     rw (le-ltb (8 * length (bytes ++ more)) n (omega (arith, held, length-append bytes more)), le-ltb (8 * length bytes) n held)
     (ap (λ (bs : List ℕ). and_then (if nat_lt (2 ^ 36) n then Err TooLong else if not (may_be_gaps 0 terms.gaps n) then Err BadGaps else Ok (record { bits = bs; gaps = terms.gaps }))
-    (λ recording. Ok (list_text terms.rules recording))) (front_bits bytes more 0 n held))
+    (λ recording. Ok (list_text terms.rules recording))) (front_bits bytes more 0 n (omega (arith, held))))
 
 known : (terms : Terms) (bits : Option ℕ) (from to old new : Option (List ℕ)) (bytes : List ℕ) (ended : Bool) → Consumes from to bytes → (bits ≡ None → IsAtEnd to)
     → HasAll bits 8 (8 * length bytes) ended → Writes old new (listed terms bits bytes) → IfSome from (λ held. Writes old new (listed terms bits held))
