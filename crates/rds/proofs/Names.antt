@@ -4,4 +4,4 @@ pub use Rattle.rds_sync.specs.Rules.{RuleNumbers}
 pub use Rattle.rds_tool.specs.Ends.{given_by, has_ended, is_flushed, read_failures, taken_by, write_failures}
 pub use Rattle.rds_tool.specs.InputOf.{InputOf}
 pub use Rattle.rds_tool.specs.declared.error.ToolError.{ToolError}
-pub use Rattle.rds.specs.Session.{HasFollowed, HasFollowedSoftly, IsDone, IsFollowed, IsSoftlyFollowed, RefusesRules, RefusesTerms, RefusesWorkers}
+pub use Rattle.rds.specs.Session.{HasFollowed, IsDone, IsFollowed, RefusesRules, RefusesTerms, RefusesWorkers, stream_of}

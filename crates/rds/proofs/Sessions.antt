@@ -1,13 +1,12 @@
 -- From devices with no history to those that a run leaves.
 use Rattle.std.proofs.Common.{◌++◌, ◌+◌, ◌*◌, ◌<◌, ◌≤◌, ◌≡◌, ◌≢◌, ◌⊎◌, ◌∙◌, [], ℕ, ap, arith, Bool, Err, false, inl, inr, length, List, None, Ok, Option, refl, Result, Some, subst, sym, true}
-use Rattle.std.specs.Prelude.{◌↔◌, IfErr, IsErrOf, OnOk}
-use Rattle.rds_live.specs.StreamDecoder.{Terms}
+use Rattle.std.specs.Prelude.{◌↔◌, IfErr, IfSome, IsErrOf, OnOk}
 use Rattle.rds_rows.specs.declared.sink.Sink.{Ghosts as Sink}
 use Rattle.rds_sync.specs.Rules.{RuleNumbers}
 use Rattle.rds_sync.specs.declared.error.SyncError.{SyncError}
 use Rattle.rds_sync.specs.declared.error.SyncError.TheVariants as sync
 use Rattle.rds_tool.specs.Refusals.{of_sync}
-use Rattle.rds_tool.specs.Following.{AllCount, BreaksOff, IsHeardOut, MayBreakOff, listed, most_read}
+use Rattle.rds_tool.specs.Following.{BreaksOff, Follows, HasAll, MayBreakOff, Stream}
 use Rattle.rds_tool.specs.History.{Gave}
 use Rattle.rds_tool.specs.Outcome.{IsOutside, Writes, WritesPrefix, result_of_job}
 use Rattle.rds_tool.specs.Tasks.{task_of}
@@ -16,9 +15,8 @@ use Rattle.rds_tool.specs.declared.devices.Source.{Ghosts as Source}
 use Rattle.rds_tool.specs.declared.error.ToolError.{ToolError}
 use Rattle.rds_tool.specs.declared.error.ToolError.TheVariants.{BadGaps, BitsPastBytes, BurstRange, CrewRange, LossRange, OutOfMemory, ReachRange, Read, ShareRange, TooLong, Write}
 use Rattle.rds_tool.specs.declared.job.Job.{Job}
-use Rattle.rds_tool.specs.SoftFollowing.{AreAsked, IsSoftFollowed, SoftBreaksOff}
-use Rattle.rds_soft.specs.SoftStream.{SoftTerms}
-use Rattle.rds.specs.Session.{BlamesDevices, IsDone, IsFollowed, IsSoftlyFollowed, RefusesRules, RefusesTerms, RefusesWorkers}
+use Rattle.rds.specs.Session.{BlamesDevices, IsDone, IsFollowed, RefusesRules, RefusesTerms, RefusesWorkers, stream_of}
+use Rattle.rds_tool.proofs.Followed.{asked_still}
 
 -- the bytes given are all bytes given since the reader was made
 gave_all : (given' : List ℕ) (P : List ℕ → Type 0) → Gave [] given' P → P given'
@@ -107,56 +105,45 @@ module _ {R W : Type 0} (source : Source R) (sink : Sink W) (job : Job) (reader 
       (job_done_at t fresh unfailed none sound given' taken gave took))))
 
 -- a stream that was followed between devices that were just made
-module _ (terms : Terms) (bits : Option ℕ) (given' : List ℕ) (ended : Bool) (reads : ℕ) (taken : List ℕ) (flushed : Bool) (writes : ℕ) where
-  followed_text : (answer : Result (Unit {0}) ToolError)
-      → OnOk answer (Gave [] given' (λ bytes. IsHeardOut bits ended bytes × Writes (Some []) (Some taken) (listed terms bits bytes)))
-      → OnOk answer (listed terms bits given' ≡ Ok taken)
-  followed_text (Ok x) h =
-      text_of (listed terms bits given') taken (gave_all given' (λ bytes. IsHeardOut bits ended bytes × Writes (Some []) (Some taken) (listed terms bits bytes)) h).1
-  followed_text (Err e) h = tt
+module _ {R W : Type 0} (source : Source R) (sink : Sink W) (s : Stream) (rules : RuleNumbers) (workers : ℕ) (reader reader' : R) (writer writer' : W) where
+  blames : (answer : Result (Unit {0}) ToolError) → Follows source sink s reader reader' writer writer' answer → source.failed reader ≡ 0 → sink.failed writer ≡ 0
+      → BlamesDevices (source.failed reader') (sink.failed writer') answer
+  blames answer f unfailed sound = record {
+    read = subst (λ n. IsErrOf answer Read ↔ (n < source.failed reader')) unfailed f.read;
+    write = subst (λ n. IsErrOf answer Write ↔ (n < sink.failed writer')) sound f.write;
+  }
 
-  followed_end : (answer : Result (Unit {0}) ToolError)
-      → OnOk answer (Gave [] given' (λ bytes. IsHeardOut bits ended bytes × Writes (Some []) (Some taken) (listed terms bits bytes))) → OnOk answer (IsHeardOut bits ended given')
-  followed_end (Ok x) h = (gave_all given' (λ bytes. IsHeardOut bits ended bytes × Writes (Some []) (Some taken) (listed terms bits bytes)) h).0
-  followed_end (Err e) h = tt
-
-  -- why it broke off is no matter of the rules
-  broke_for : (workers : ℕ) (answer : Result (Unit {0}) ToolError) → IfErr answer MayBreakOff → IfErr answer (λ error. MayBreakOff error ⊎ (RefusesRules terms.rules error ⊎ RefusesWorkers workers error))
-  broke_for workers (Ok x) h = tt
-  broke_for workers (Err e) h = inl h
-
-  pub stream_followed : (workers : ℕ) (given : List ℕ) (read' : ℕ) (old : Option (List ℕ)) (written' : ℕ) (answer : Result (Unit {0}) ToolError)
-      → given ≡ [] → read' ≡ 0 → old ≡ Some [] → written' ≡ 0
-      → OnOk answer (Gave given given' (λ bytes. IsHeardOut bits ended bytes × Writes old (Some taken) (listed terms bits bytes)))
-      → OnOk answer (flushed ≡ true) → IsErrOf answer Read ↔ (read' < reads) → IsErrOf answer Write ↔ (written' < writes)
-      → IfErr answer MayBreakOff → IfErr answer (BreaksOff (most_read workers) terms bits given given' ended old (Some taken) flushed)
-      → IsFollowed given' ended reads taken flushed writes answer terms bits workers
-  stream_followed workers given read' old written' answer fresh unfailed none sound heard flush read write refused broke =
-      let all : OnOk answer (Gave [] given' (λ bytes. IsHeardOut bits ended bytes × Writes (Some []) (Some taken) (listed terms bits bytes))) =
-      subst (λ o. OnOk answer (Gave [] given' (λ bytes. IsHeardOut bits ended bytes × Writes o (Some taken) (listed terms bits bytes)))) none
-      (subst (λ g. OnOk answer (Gave g given' (λ bytes. IsHeardOut bits ended bytes × Writes old (Some taken) (listed terms bits bytes)))) fresh heard) in
+  pub stream_followed : (answer : Result (Unit {0}) ToolError) (taken : List ℕ) → Follows source sink s reader reader' writer writer' answer
+      → source.given reader ≡ [] → source.failed reader ≡ 0 → sink.contents writer ≡ Some [] → sink.failed writer ≡ 0 → sink.contents writer' ≡ Some taken
+      → IsFollowed (source.given reader') (source.has_ended reader') (source.failed reader') taken (sink.is_flushed writer') (sink.failed writer') answer s rules workers
+  stream_followed (Ok x) taken f fresh unfailed none sound took =
+      let all : f.ok.symbols ≡ source.given reader' = sym (f.ok.gave ∙ ap (λ g. g ++ f.ok.symbols) fresh) in
+      let wrote : Writes (Some []) (Some taken) (s.listed f.ok.symbols) =
+      subst (λ o. Writes o (Some taken) (s.listed f.ok.symbols)) none (subst (λ n. Writes (sink.contents writer) n (s.listed f.ok.symbols)) took f.ok.text) in
       record {
-        text = followed_text answer all;
-        end = followed_end answer all;
-        flush = flush;
-        devices = record {
-          read = subst (λ n. IsErrOf answer Read ↔ (n < reads)) unfailed read;
-          write = subst (λ n. IsErrOf answer Write ↔ (n < writes)) sound write;
-        };
-        refused = broke_for workers answer refused;
-        broke_off = subst (λ o. IfErr answer (BreaksOff (most_read workers) terms bits [] given' ended o (Some taken) flushed)) none
-            (subst (λ g. IfErr answer (BreaksOff (most_read workers) terms bits g given' ended old (Some taken) flushed)) fresh broke);
+        text = subst (λ xs. s.listed xs ≡ Ok taken) all (text_of (s.listed f.ok.symbols) taken wrote);
+        end = subst (λ xs. HasAll s.claim s.step (s.size xs) (source.has_ended reader')) all f.ok.all;
+        flush = f.ok.flush;
+        devices = blames (Ok x) f unfailed sound;
+        refused = tt;
+        broke_off = tt;
       }
+  stream_followed (Err e) taken f fresh unfailed none sound took = record {
+    text = tt;
+    end = tt;
+    flush = tt;
+    devices = blames (Err e) f unfailed sound;
+    refused = inl f.refused;
+    broke_off = subst (λ g. BreaksOff s g (source.given reader') (source.has_ended reader') (Some []) (Some taken) (sink.is_flushed writer') e) fresh
+        (subst (λ o. BreaksOff s (source.given reader) (source.given reader') (source.has_ended reader') o (Some taken) (sink.is_flushed writer') e) none
+        (subst (λ n. BreaksOff s (source.given reader) (source.given reader') (source.has_ended reader') (sink.contents writer) n (sink.is_flushed writer') e) took f.broke_off));
+  }
 
 -- ---- terms that are refused, before anything is read
 
-all_none : (bits : Option ℕ) → AllCount bits []
-all_none None = tt
-all_none (Some n) = let e : 8 * 0 ≤ n = omega arith in e
-
-asked_none : (bits : Option ℕ) → AreAsked bits []
-asked_none None = tt
-asked_none (Some n) = let e : 0 ≤ n + 1 = omega arith in e
+some_bits : (bits : Option ℕ) → IfSome bits (λ n. 0 ≤ n)
+some_bits None = tt
+some_bits (Some n) = omega arith
 
 same_error : (d e : ToolError) → (let r : Result (Unit {0}) ToolError = Err d in r ≡ Err e) → d ≡ e
 same_error d e p = cc p
@@ -229,77 +216,37 @@ at_once P x all given ended reads taken flushed writes answer a g e r t f w =
     (subst (λ y. P [] false 0 [] false y answer) (sym w)
     (subst (λ y. P [] false 0 [] false 0 y) (sym a) all))))))
 
-module _ (terms : Terms) (bits : Option ℕ) (workers : ℕ) (e : ToolError) (why : RefusesTerms terms.rules workers e) where
-  none_followed : IsFollowed [] false 0 [] false 0 (Err e) terms bits workers
-  none_followed = record {
+module _ (rules : RuleNumbers) (workers : ℕ) (e : ToolError) (why : RefusesTerms rules workers e) where
+  none_followed : (s : Stream) → 0 < s.step → s.size [] ≡ 0 → s.rows [] ≡ [] → IsFollowed [] false 0 [] false 0 (Err e) s rules workers
+  none_followed s some size none = record {
     text = tt;
     end = tt;
     flush = tt;
-    devices = blames_none terms.rules workers e why;
-    refused = broke_of terms.rules workers e why;
-    broke_off = record {
-      bytes = [];
-      gave = refl;
-      prompt = λ p. absurd (not_read terms.rules workers e why p);
-      between = λ _. ([], [], omega arith, all_none bits, refl, refl);
-      within = λ p. absurd (not_write terms.rules workers e why p);
-      too_long = λ p. absurd (not_long terms.rules workers e why p);
-      past = λ p. absurd (not_past terms.rules workers e why p);
-      bad_gaps = λ p. absurd (not_gaps terms.rules workers e why p);
-    };
-  }
-
-  pub stream_refused : (given : List ℕ) (ended : Bool) (reads : ℕ) (taken : List ℕ) (flushed : Bool) (writes : ℕ) (answer : Result (Unit {0}) ToolError)
-      → answer ≡ Err e → given ≡ [] → ended ≡ false → reads ≡ 0 → taken ≡ [] → flushed ≡ false → writes ≡ 0
-      → IsFollowed given ended reads taken flushed writes answer terms bits workers
-  stream_refused = at_once (λ given ended reads taken flushed writes answer. IsFollowed given ended reads taken flushed writes answer terms bits workers) e none_followed
-
--- ---- a stream of symbols
-
-module _ (terms : SoftTerms) (bits : Option ℕ) (workers : ℕ) where
-  none_softly : (e : ToolError) → RefusesTerms terms.rules workers e → IsSoftlyFollowed [] false 0 [] false 0 (Err e) terms bits workers
-  none_softly e why = record {
-    done = tt;
-    devices = blames_none terms.rules workers e why;
-    refused = broke_of terms.rules workers e why;
+    devices = blames_none rules workers e why;
+    refused = broke_of rules workers e why;
     broke_off = record {
       heard = [];
       last = [];
       few = omega arith;
       gave = refl;
-      asked = asked_none bits;
-      prompt = λ p. absurd (not_read terms.rules workers e why p);
-      between = λ _. refl;
-      within = λ p. absurd (not_write terms.rules workers e why p);
-      too_long = λ p. absurd (not_long terms.rules workers e why p);
-      past = λ p. absurd (not_past terms.rules workers e why p);
-      bad_gaps = λ p. absurd (not_gaps terms.rules workers e why p);
+      asked = asked_still s.claim s.step (s.size []) some (subst (λ k. IfSome s.claim (λ n. k ≤ n)) (sym size) (some_bits s.claim));
+      prompt = λ p. absurd (not_read rules workers e why p);
+      between = λ _. none;
+      within = λ p. absurd (not_write rules workers e why p);
+      too_long = λ p. absurd (not_long rules workers e why p);
+      past = λ p. absurd (not_past rules workers e why p);
+      bad_gaps = λ p. absurd (not_gaps rules workers e why p);
     };
   }
 
-  pub refused_softly : (e : ToolError) → RefusesTerms terms.rules workers e
+  none_of : (gaps : List (ℕ × ℕ)) (bits margin : Option ℕ) → IsFollowed [] false 0 [] false 0 (Err e) (stream_of rules gaps bits margin workers) rules workers
+  none_of gaps bits None = none_followed (stream_of rules gaps bits None workers) (omega arith) refl refl
+  none_of gaps bits (Some m) = none_followed (stream_of rules gaps bits (Some m) workers) (omega arith) refl refl
+
+  pub stream_refused : (gaps : List (ℕ × ℕ)) (bits margin : Option ℕ)
       → (given : List ℕ) (ended : Bool) (reads : ℕ) (taken : List ℕ) (flushed : Bool) (writes : ℕ) (answer : Result (Unit {0}) ToolError)
       → answer ≡ Err e → given ≡ [] → ended ≡ false → reads ≡ 0 → taken ≡ [] → flushed ≡ false → writes ≡ 0
-      → IsSoftlyFollowed given ended reads taken flushed writes answer terms bits workers
-  refused_softly e why =
-      at_once (λ given ended reads taken flushed writes answer. IsSoftlyFollowed given ended reads taken flushed writes answer terms bits workers) e (none_softly e why)
-
-  pub softly_followed : (given given' : List ℕ) (ended : Bool) (read' reads : ℕ) (old : Option (List ℕ)) (taken : List ℕ) (flushed : Bool) (written' writes : ℕ) (answer : Result (Unit {0}) ToolError)
-      → given ≡ [] → read' ≡ 0 → old ≡ Some [] → written' ≡ 0
-      → OnOk answer (IsSoftFollowed terms bits given given' ended old (Some taken) flushed) → IsErrOf answer Read ↔ (read' < reads) → IsErrOf answer Write ↔ (written' < writes)
-      → IfErr answer MayBreakOff → IfErr answer (SoftBreaksOff terms bits given given' ended old (Some taken) flushed)
-      → IsSoftlyFollowed given' ended reads taken flushed writes answer terms bits workers
-  softly_followed given given' ended read' reads old taken flushed written' writes answer fresh unfailed none sound ok read write refused broke = record {
-    done = subst (λ o. OnOk answer (IsSoftFollowed terms bits [] given' ended o (Some taken) flushed)) none
-        (subst (λ g. OnOk answer (IsSoftFollowed terms bits g given' ended old (Some taken) flushed)) fresh ok);
-    devices = record {
-      read = subst (λ n. IsErrOf answer Read ↔ (n < reads)) unfailed read;
-      write = subst (λ n. IsErrOf answer Write ↔ (n < writes)) sound write;
-    };
-    refused = any answer refused;
-    broke_off = subst (λ o. IfErr answer (SoftBreaksOff terms bits [] given' ended o (Some taken) flushed)) none
-        (subst (λ g. IfErr answer (SoftBreaksOff terms bits g given' ended old (Some taken) flushed)) fresh broke);
-  } where
-    any : (answer : Result (Unit {0}) ToolError) → IfErr answer MayBreakOff → IfErr answer (λ error. MayBreakOff error ⊎ (RefusesRules terms.rules error ⊎ RefusesWorkers workers error))
-    any (Ok x) h = tt
-    any (Err e) h = inl h
+      → IsFollowed given ended reads taken flushed writes answer (stream_of rules gaps bits margin workers) rules workers
+  stream_refused gaps bits margin =
+      at_once (λ given ended reads taken flushed writes answer. IsFollowed given ended reads taken flushed writes answer (stream_of rules gaps bits margin workers) rules workers) e
+      (none_of gaps bits margin)

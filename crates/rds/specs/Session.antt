@@ -1,13 +1,11 @@
 -- The promise of a session, by the histories of standard input and standard output: this project's rule. `do_request` and the
 -- functions that it calls cite it.
-use Rattle.std.specs.Prelude.{◌++◌, ◌<◌, ◌≡◌, ◌≢◌, ◌≤◌, ◌⊎◌, ◌↔◌, [], ℕ, Bool, Err, IfErr, IsErrOf, List, Ok, OnOk, Option, Result, Some, false, length, true}
-use Rattle.rds_live.specs.StreamDecoder.{Terms}
-use Rattle.rds_soft.specs.SoftStream.{SoftTerms}
+use Rattle.std.specs.Prelude.{◌++◌, ◌<◌, ◌≡◌, ◌≢◌, ◌≤◌, ◌⊎◌, ◌↔◌, [], ℕ, Bool, Err, IfErr, IsErrOf, List, None, Ok, OnOk, Option, Result, Some, false, length, true}
 use Rattle.rds_sync.specs.Ranges.{IsRunOutside, IsShareOutside, farthest_reach, longest_burst}
 use Rattle.rds_sync.specs.Rules.{RuleNumbers}
 use Rattle.rds_tool.specs.Ends.{given_by, has_ended, is_flushed, read_failures, taken_by, write_failures}
-use Rattle.rds_tool.specs.Following.{BreaksOff, IsHeardOut, MayBreakOff, listed, most_read}
-use Rattle.rds_tool.specs.SoftFollowing.{IsSoftFollowed, SoftBreaksOff}
+use Rattle.rds_tool.specs.Following.{BreaksOff, HasAll, MayBreakOff, Stream, bit_stream}
+use Rattle.rds_tool.specs.SoftFollowing.{symbol_stream}
 use Rattle.rds_tool.specs.Plans.{AreWorkers}
 use Rattle.rds_tool.specs.Outcome.{IsOutside, result_of_job}
 use Rattle.rds_tool.specs.Tasks.{task_of}
@@ -56,20 +54,13 @@ module _ (given : List ℕ) (ended : Bool) (failed_reads : ℕ) (taken : List �
     pub prefix : IsErrOf answer Write → (rest : List ℕ) × (result_of_job job given ≡ Ok (taken ++ rest))
 
   -- a stream was followed: all that was read makes all that was written, or it broke off, or its rules are refused
-  pub record IsFollowed (terms : Terms) (bits : Option ℕ) (workers : ℕ) : Type 0 where
-    pub text : OnOk answer (listed terms bits given ≡ Ok taken)
-    pub end : OnOk answer (IsHeardOut bits ended given)
+  pub record IsFollowed (s : Stream) (rules : RuleNumbers) (workers : ℕ) : Type 0 where
+    pub text : OnOk answer (s.listed given ≡ Ok taken)
+    pub end : OnOk answer (HasAll s.claim s.step (s.size given) ended)
     pub flush : OnOk answer (flushed ≡ true)
     pub devices : BlamesDevices failed_reads failed_writes answer
-    pub refused : IfErr answer (λ error. MayBreakOff error ⊎ (RefusesRules terms.rules error ⊎ RefusesWorkers workers error))
-    pub broke_off : IfErr answer (BreaksOff (most_read workers) terms bits [] given ended (Some []) (Some taken) flushed)
-
-  -- the same of a stream of symbols
-  pub record IsSoftlyFollowed (terms : SoftTerms) (bits : Option ℕ) (workers : ℕ) : Type 0 where
-    pub done : OnOk answer (IsSoftFollowed terms bits [] given ended (Some []) (Some taken) flushed)
-    pub devices : BlamesDevices failed_reads failed_writes answer
-    pub refused : IfErr answer (λ error. MayBreakOff error ⊎ (RefusesRules terms.rules error ⊎ RefusesWorkers workers error))
-    pub broke_off : IfErr answer (SoftBreaksOff terms bits [] given ended (Some []) (Some taken) flushed)
+    pub refused : IfErr answer (λ error. MayBreakOff error ⊎ (RefusesRules rules error ⊎ RefusesWorkers workers error))
+    pub broke_off : IfErr answer (BreaksOff s [] given ended (Some []) (Some taken) flushed)
 
 -- the job was done by this session
 abbrev pub HasDone : Job → Session → Type 0
@@ -77,23 +68,22 @@ HasDone job s =
     IsDone (given_by s.reader.device) (has_ended s.reader.device) (read_failures s.reader.device) (taken_by s.writer.device) (is_flushed s.writer.device)
     (write_failures s.writer.device) s.answer job
 
--- the stream was followed by it
-abbrev pub HasFollowed : Terms → Option ℕ → ℕ → Session → Type 0
-HasFollowed terms bits workers s =
-    IsFollowed (given_by s.reader.device) (has_ended s.reader.device) (read_failures s.reader.device) (taken_by s.writer.device) (is_flushed s.writer.device)
-    (write_failures s.writer.device) s.answer terms bits workers
+-- the stream of these bits, or of these symbols if there is a margin
+abbrev pub stream_of : RuleNumbers → List (ℕ × ℕ) → Option ℕ → Option ℕ → ℕ → Stream
+stream_of rules gaps bits None workers = bit_stream (record { rules = rules; gaps = gaps }) workers bits
+stream_of rules gaps bits (Some margin) workers = symbol_stream (record { rules = rules; gaps = gaps; margin = margin }) bits
 
-abbrev pub HasFollowedSoftly : SoftTerms → Option ℕ → ℕ → Session → Type 0
-HasFollowedSoftly terms bits workers s =
-    IsSoftlyFollowed (given_by s.reader.device) (has_ended s.reader.device) (read_failures s.reader.device) (taken_by s.writer.device)
-    (is_flushed s.writer.device) (write_failures s.writer.device) s.answer terms bits workers
+-- the stream was followed by it
+abbrev pub HasFollowed : Stream → RuleNumbers → ℕ → Session → Type 0
+HasFollowed stream rules workers s =
+    IsFollowed (given_by s.reader.device) (has_ended s.reader.device) (read_failures s.reader.device) (taken_by s.writer.device) (is_flushed s.writer.device)
+    (write_failures s.writer.device) s.answer stream rules workers
 
 -- the request was done by this session
 abbrev pub DoesAsked : Request → Session → Type 0
 DoesAsked (Work job progress) s = HasDone job s
-DoesAsked (Follow input rules workers) s = HasFollowed (record { rules = rules; gaps = input.gaps }) input.bits workers s
-DoesAsked (FollowSoft input rules margin workers) s =
-    HasFollowedSoftly (record { rules = rules; gaps = input.gaps; margin = margin }) input.bits workers s
+DoesAsked (Follow input rules workers) s = HasFollowed (stream_of rules input.gaps input.bits None workers) rules workers s
+DoesAsked (FollowSoft input rules margin workers) s = HasFollowed (stream_of rules input.gaps input.bits (Some margin) workers) rules workers s
 
 -- the request asks for the progress of its job
 abbrev pub asks_for_progress : Request → Bool

@@ -2,9 +2,10 @@
 //!
 //! No contract can name the bytes that the system will give or keep. So a session returns both devices with their
 //! histories: the bytes that reads gave, and the bytes that writes took.
-ghost use Rattle.std.specs.Prelude.{◌≡◌, Err, IfErr, IfOk};
+ghost use Rattle.std.specs.Prelude.{◌<◌, ◌^◌, ◌≡◌, Err, IfErr, IfOk};
+ghost use Rattle.rds_tool.specs.Following.{Follows};
 ghost use Rattle.rds.specs.Fresh.{IsUnread, IsUnwritten};
-ghost use Rattle.rds.specs.Session.{DoesAsked, HasDone, HasFollowed, HasFollowedSoftly, RefusesTerms, RefusesWorkers};
+ghost use Rattle.rds.specs.Session.{DoesAsked, HasDone, HasFollowed, RefusesTerms, RefusesWorkers, stream_of};
 
 use crate::progress::{Console, Progress, Reporting, Teller};
 use crate::sealed::Sealed;
@@ -12,8 +13,8 @@ use rds_crew::MOST_WORKERS;
 use rds_soft::Margin;
 use rds_sync::Rules;
 use rds_tool::{
-    FromRead, Input, Job, Request, RuleNumbers, ToWrite, ToolError, follow, follow_soft,
-    transcribe, transcribe_gated,
+    FromRead, Input, Job, Request, RuleNumbers, Sink, Source, ToWrite, ToolError, follow,
+    follow_soft, transcribe, transcribe_gated,
 };
 use std::alloc::Global;
 use std::rt::{Stdin, Stdout};
@@ -51,14 +52,23 @@ pub fn do_request<C: Threads + Sync, T: Console>(
             None => run_untold(alloc, crew, reader, writer, job),
         },
         Request::Follow(input, rules, workers) => run_stream(
-            alloc, crew, reader, writer, input, *rules, *workers,
+            alloc, crew, reader, writer, input, *rules, None, *workers,
         ),
         Request::FollowSoft {
             input,
             rules,
             margin,
             workers,
-        } => run_soft_stream(alloc, reader, writer, input, *rules, *margin, *workers),
+        } => run_stream(
+            alloc,
+            crew,
+            reader,
+            writer,
+            input,
+            *rules,
+            Some(*margin),
+            *workers,
+        ),
     }
 }
 
@@ -103,7 +113,7 @@ fn run_untold<C: Threads + Sync>(
     }
 }
 
-/// Lists a stream as it comes, if its rules and the number of workers are within their ranges.
+/// Lists a stream as it comes, of symbols if there is a margin, if its rules and the number of workers are within their ranges.
 fn run_stream<C: Threads + Sync>(
     alloc: Global,
     crew: &C,
@@ -111,14 +121,15 @@ fn run_stream<C: Threads + Sync>(
     writer: Sealed<ToWrite<Stdout>>,
     input: &Input,
     numbers: RuleNumbers,
+    margin: Option<Margin>,
     workers: u32,
 ) -> Session
     requires reader { IsUnread reader }
     requires writer { IsUnwritten writer }
-    ensures { HasFollowed (record { rules = numbers; gaps = input.now.gaps }) input.now.bits workers result }
+    ensures { HasFollowed (stream_of numbers input.now.gaps input.now.bits margin workers) numbers workers result }
 {
     match rules_for(alloc, numbers, workers) {
-        Ok(rules) => follow_by(alloc, crew, reader, writer, input, &rules, workers),
+        Ok(rules) => follow_by(alloc, crew, reader, writer, input, &rules, margin, workers),
         Err(error) => refused_session(reader, writer, error),
     }
 }
@@ -155,22 +166,21 @@ fn follow_by<C: Threads + Sync>(
     mut writer: Sealed<ToWrite<Stdout>>,
     input: &Input,
     rules: &Rules,
+    margin: Option<Margin>,
     workers: u32,
 ) -> Session
     requires reader { IsUnread reader }
     requires writer { IsUnwritten writer }
-    ensures { HasFollowed (record { rules = rules.now; gaps = input.now.gaps }) input.now.bits workers result }
+    ensures { HasFollowed (stream_of rules.now input.now.gaps input.now.bits margin workers) rules.now workers result }
 {
-    let bits = input.bits;
-    let gaps = input.gaps.as_slice();
-    let answer = follow(
-        crew,
+    let answer = follow_asked(
         alloc,
+        crew,
         &mut reader,
         &mut writer,
+        input,
         rules,
-        bits,
-        gaps,
+        margin,
         workers,
     );
     Session {
@@ -180,56 +190,26 @@ fn follow_by<C: Threads + Sync>(
     }
 }
 
-/// Lists a stream of symbols as it comes, if its rules and the number of workers are within their ranges.
-fn run_soft_stream(
+fn follow_asked<C: Threads + Sync, S: Source, K: Sink>(
     alloc: Global,
-    reader: Sealed<FromRead<Stdin>>,
-    writer: Sealed<ToWrite<Stdout>>,
-    input: &Input,
-    numbers: RuleNumbers,
-    margin: Margin,
-    workers: u32,
-) -> Session
-    requires reader { IsUnread reader }
-    requires writer { IsUnwritten writer }
-    ensures { HasFollowedSoftly (record { rules = numbers; gaps = input.now.gaps; margin = margin }) input.now.bits workers result }
-{
-    match rules_for(alloc, numbers, workers) {
-        Ok(rules) => follow_softly(alloc, reader, writer, input, &rules, margin, workers),
-        Err(error) => refused_session(reader, writer, error),
-    }
-}
-
-/// Follows a stream of symbols by these rules.
-fn follow_softly(
-    alloc: Global,
-    mut reader: Sealed<FromRead<Stdin>>,
-    mut writer: Sealed<ToWrite<Stdout>>,
+    crew: &C,
+    reader: &mut S,
+    writer: &mut K,
     input: &Input,
     rules: &Rules,
-    margin: Margin,
+    margin: Option<Margin>,
     workers: u32,
-) -> Session
-    requires reader { IsUnread reader }
-    requires writer { IsUnwritten writer }
-    ensures { HasFollowedSoftly (record { rules = rules.now; gaps = input.now.gaps; margin = margin }) input.now.bits workers result }
+) -> Result<(), ToolError>
+    requires reads { S.failed reader.old < 2 ^ 63 }
+    requires writes { K.failed writer.old < 2 ^ 63 }
+    ensures { Follows S.Source K.Sink (stream_of rules.now input.now.gaps input.now.bits margin workers)
+        reader.old reader.new writer.old writer.new result }
 {
-    let _ = workers;
-    let claimed = input.bits;
+    let bits = input.bits;
     let gaps = input.gaps.as_slice();
-    let answer = follow_soft(
-        alloc,
-        &mut reader,
-        &mut writer,
-        rules,
-        margin,
-        claimed,
-        gaps,
-    );
-    Session {
-        reader,
-        writer,
-        answer,
+    match margin {
+        None => follow(crew, alloc, reader, writer, rules, bits, gaps, workers),
+        Some(margin) => follow_soft(alloc, reader, writer, rules, margin, bits, gaps),
     }
 }
 

@@ -18,7 +18,6 @@ pub mod Recorded
 pub mod Spelled
 pub mod ScanRows
 pub mod Followed
-pub mod Histories
 pub mod Transcribing
 pub mod Passes
 pub mod Tied

@@ -60,19 +60,18 @@ pub use Rattle.rds_rows.specs.Writes.{AppendsPrefix}
 pub use Rattle.rds_rows.specs.declared.sheet.Sheet.{Sheet}
 pub use Rattle.rds_tool.specs.CommandLine.{IsFault, Makes, MayAnswer, ReadsAs, gaps_asked_for, gaps_spelled, if_given, is_given, is_of_words, is_true, job_in, number_of, number_up_to, rds_app, report_job_of, request_of, stream_of, with_progress}
 pub use Rattle.rds_tool.specs.Cuts.{are_inner, cuts_any, cuts_bits, has_pieces, places_at, rise_between}
-pub use Rattle.rds_tool.specs.Following.{AllCount, BreaksOff, EndsShort, IsFlushedAfter, IsHeardOut, IsLong, IsReadAsFar, IsTooLong, MayBreakEarly, MayBreakOff, StopsBetweenRows, StopsInRows, counted, listed, most_read, rows_so_far, stream_text}
+pub use Rattle.rds_tool.specs.Following.{AreAsked, BreaksOff, Follows, HasAll, IsFlushedAfter, IsFollowed, IsHeardOut, IsLong, IsShort as IsShortOf, MayBreakOff, Stream, bit_stream, claim_or, counted, listed, most_read, rows_so_far, stream_text}
 pub use Rattle.rds_tool.specs.GapText.{and_gaps, each_gap, gap_of, gaps_of, is_place, place_of}
 pub use Rattle.rds_tool.specs.GroupText.{encoded_text, group_text, is_space, line_text, lines_of, lines_text, words_of, words_or_refusal}
 pub use Rattle.rds_tool.specs.History.{Gave}
 pub use Rattle.rds_tool.specs.Input.{and_then, bytes_of, claimed, decoded, first_bits, may_be_gaps, or_hex_text, recording_of}
 unfoldable pub use Rattle.rds_tool.specs.Input.{is_blank}
 pub use Rattle.rds_tool.specs.InputOf.{InputOf}
-pub use Rattle.rds_tool.specs.Inside.Commands.{app_of_row, bare_app, rule_of_option, with_command, with_each, with_option}
+pub use Rattle.rds_tool.specs.Inside.Commands.{app_of_row, bare_app, rule_of_row, with_command, with_each, with_option}
 pub use Rattle.rds_tool.specs.Inside.Counters.{CounterOf, InputCounterOf, IsCounter, IsTextOf, claimed_by, whole}
 pub use Rattle.rds_tool.specs.Inside.RowWriter.{IsPlain, IsShort}
 pub use Rattle.rds_tool.specs.Inside.Rows.{row_where, rows_of_places}
-pub use Rattle.rds_tool.specs.Inside.SoftStreams.{IsDone, IsHeard}
-pub use Rattle.rds_tool.specs.Inside.Streams.{IsFollowed, IsNearAnswer, IsNearEnd, IsPlaceOf, IsShortEnough, bits_left}
+pub use Rattle.rds_tool.specs.Inside.Streams.{Breaks, IsHeard, IsNear, IsPlaceOf, IsShortEnough, bits_left}
 pub use Rattle.rds_tool.specs.Laws.{EncodedGroupsAreListed, EncodedGroupsAreTaken, ListsEndWithTotals, StreamsAreListed, groups_of_lines, stream_input, whole_input}
 pub use Rattle.rds_tool.specs.Listing.{block_text, dash, hex_digits, item_fields, item_row, kind_text, named_totals, report_text, row, scan_text, total_row, totals_text, version_text, window_row, word_text}
 pub use Rattle.rds_tool.specs.Outcome.{IsOutside, Writes, WritesPrefix, cut_recording, list_text, result_of_job, text_of_task, totals_list}
@@ -80,7 +79,7 @@ pub use Rattle.rds_tool.specs.Plans.{PlanOf, crew_of, cut_by, plan_of, workers_o
 pub use Rattle.rds_tool.specs.Refusals.{IsMemoryOrErrOf, of_stream}
 pub use Rattle.rds_tool.specs.Rules.{loss_of, rules_of}
 pub use Rattle.rds_tool.specs.Soft.{claimed_of, listed_by, recording_of_symbols, soft_block_text, soft_row, soft_text, soft_totals_text}
-pub use Rattle.rds_tool.specs.SoftFollowing.{AreAsked, IsSoftEnd, IsSoftFollowed, IsSoftShort, SoftBreaksOff, most_symbols, soft_listed, soft_rows_so_far, soft_stream_text}
+pub use Rattle.rds_tool.specs.SoftFollowing.{most_symbols, soft_listed, soft_rows_so_far, soft_stream_text, symbol_stream}
 pub use Rattle.rds_tool.specs.Tasks.{task_of}
 pub use Rattle.rds_tool.specs.WellFormed.{AreInOrder, DifferInGaps, GapsHideBits, HasRows, ListsAreWellFormed, Next, RowsBeginLists, at_first, bits_of_item, is_in_gap, was_read}
 pub use Rattle.rds_tool.specs.declared.error.ToolError.{ToolError}

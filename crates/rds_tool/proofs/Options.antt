@@ -1,8 +1,8 @@
 -- Commands that are made of the rows of a table, one after the other.
-use Rattle.rds_tool.proofs.Names.{common_steps, arith, ◌+◌, ◌<◌, ◌≤◌, ◌∙◌, ◌≡◌, List, ap, drop, false, get_or, length, sym, ℕ, drop_all, drop_more, AddsArg, AddsSubcommand, App, rule_of, Command, ReadsAs, app_of_row, rule_of_option, with_command, with_each, with_option}
+use Rattle.rds_tool.proofs.Names.{common_steps, arith, ◌+◌, ◌<◌, ◌≤◌, ◌∙◌, ◌≡◌, List, ap, drop, false, get_or, length, sym, ℕ, drop_all, drop_more, AddsArg, AddsSubcommand, App, rule_of, Command, ReadsAs, app_of_row, rule_of_row, with_command, with_each, with_option}
 use Rattle.clap.specs.declared.builder.arg.Arg.{Arg}
 use Rattle.rds_tool.specs.declared.commands.CommandRow.{CommandRow}
-use Rattle.rds_tool.specs.declared.commands.CommandOption.{CommandOption}
+use Rattle.rds_tool.specs.declared.commands.OptionRow.{OptionRow}
 
 -- with the rows that are left, the command reads as the whole
 pub record HasRest {X : Type 0} (add : App → X → App) (made : Command) (rows : List X) (whole : App) : Type 0 where
@@ -29,11 +29,11 @@ pub with_one_command : (old new sub : Command) (row : CommandRow) → AddsSubcom
     → (reads : App) → ReadsAs old reads → ReadsAs new (with_command reads row)
 with_one_command old new sub row adds is reads now = grind (arith, common_steps)
 
-with_one_option : (old new : Command) (arg : Arg) (option : CommandOption) → AddsArg old arg new → arg.global ≡ false → rule_of arg ≡ rule_of_option option
+with_one_option : (old new : Command) (arg : Arg) (option : OptionRow) → AddsArg old arg new → arg.global ≡ false → rule_of arg ≡ rule_of_row option
     → (reads : App) → ReadsAs old reads → ReadsAs new (with_option reads option)
 with_one_option old new arg option adds local is reads now = grind (arith, common_steps)
 
-pub next_option : (whole : App) (old new : Command) (arg : Arg) (rows : List CommandOption) (i : ℕ) (d : CommandOption)
+pub next_option : (whole : App) (old new : Command) (arg : Arg) (rows : List OptionRow) (i : ℕ) (d : OptionRow)
     → HasRest with_option old (drop i rows) whole → i < length rows
-    → AddsArg old arg new → arg.global ≡ false → rule_of arg ≡ rule_of_option (get_or rows i d) → HasRest with_option new (drop (i + 1) rows) whole
+    → AddsArg old arg new → arg.global ≡ false → rule_of arg ≡ rule_of_row (get_or rows i d) → HasRest with_option new (drop (i + 1) rows) whole
 next_option whole old new arg rows i d has some adds local is = grind (arith, common_steps, next, with_one_option)

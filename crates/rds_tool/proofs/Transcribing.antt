@@ -3,8 +3,7 @@ use Rattle.rds_tool.proofs.Names.{common_steps, arith, Bool, Err, List, Ok, Opti
 use Rattle.rds_rows.specs.declared.sink.Sink.{Ghosts as Sink}
 use Rattle.rds_tool.specs.Transcribed.{IsTranscribed}
 use Rattle.rds_tool.specs.declared.devices.Source.{Ghosts as Source}
-use Rattle.rds_tool.proofs.Followed.{no_such, not_told, of_call, on_any_ok, told_on}
-use Rattle.rds_tool.proofs.Histories.{of_none}
+use Rattle.rds_tool.proofs.Followed.{no_such, not_told, of_call, of_none, on_any_ok, told_on}
 use Rattle.rds_tool.proofs.Passing.{no_err, no_ok}
 use Rattle.rds_tool.proofs.Texts.{not_called, passed_inside, prefix_is, refused_inside, settings_inside, written_is}
 

@@ -1,15 +1,118 @@
--- Following a stream: the rows that are written as its bytes come, and those that were written if it breaks
--- off; this project's rule. `follow` promises it.
-use Rattle.std.specs.Prelude.{◌++◌, ◌≡◌, ◌≢◌, ◌≤◌, ◌<◌, ◌+◌, ◌-◌, ◌*◌, ◌^◌, ◌⊎◌, [], ⊤, ℕ, Bool, List, None, Ok, Option, Result, Some, length, min, true}
+-- Following a stream: the rows that are written as it comes, and those that were written if it breaks off; this project's
+-- rule. `follow` promises it of bits, and `follow_soft` of symbols.
+use Rattle.std.specs.Prelude.{◌++◌, ◌≡◌, ◌≢◌, ◌≤◌, ◌<◌, ◌+◌, ◌-◌, ◌*◌, ◌^◌, ◌⊎◌, ◌↔◌, [], ⊤, ℕ, Bool, IfErr, IsErrOf, List, None, Ok, OnOk, Option, Result, Some, length, min, true}
 use Rattle.std.specs.List.{flat_map}
 use Rattle.std.specs.Io.KnownBytes.{Appends, Consumes, IsAtEnd}
 use Rattle.rds_live.specs.StreamDecoder.{Terms, complete, signal_at}
+use Rattle.rds_rows.specs.declared.sink.Sink.{Ghosts as Sink}
 use Rattle.rds_stream.specs.Recording.{AreGaps}
+use Rattle.rds_tool.specs.History.{Gave}
 use Rattle.rds_tool.specs.Input.{and_then, claimed, first_bits}
 use Rattle.rds_tool.specs.Listing.{item_row}
-use Rattle.rds_tool.specs.Outcome.{list_text}
+use Rattle.rds_tool.specs.Outcome.{Writes, list_text}
+use Rattle.rds_tool.specs.declared.devices.Source.{Ghosts as Source}
 use Rattle.rds_tool.specs.declared.error.ToolError.{ToolError}
 use Rattle.rds_tool.specs.declared.error.ToolError.TheVariants.{BadGaps, BitsPastBytes, OutOfMemory, Read, TooLong, Write}
+
+-- ---- any stream
+
+-- a stream of symbols, bytes too: how many bits one more symbol has, and how many these have; the number of bits that is claimed, if any,
+-- and the gaps; the most symbols that one read gives; the rows of the items that are complete once these symbols were heard; the listing
+-- of the bits that count of these symbols, and the outcome of a list of them: that text, or the refusal
+pub record Stream : Type 0 where
+  pub step : ℕ
+  pub size : List ℕ → ℕ
+  pub claim : Option ℕ
+  pub gaps : List (ℕ × ℕ)
+  pub most : ℕ
+  pub rows : List ℕ → List ℕ
+  pub text : List ℕ → List ℕ
+  pub listed : List ℕ → Result (List ℕ) ToolError
+
+-- more bits are claimed than a recording may have
+abbrev pub IsLong : Option ℕ → Type 0
+IsLong None = ⊥
+IsLong (Some bits) = 2 ^ 36 < bits
+
+-- how many bits the recording has: as many as are claimed, or else all of them
+abbrev pub claim_or : Option ℕ → ℕ → ℕ
+claim_or None all = all
+claim_or (Some bits) all = bits
+
+-- all bits that count came: the reader answered its end, or just the symbols of the bits that count were read
+abbrev pub HasAll : Option ℕ → ℕ → ℕ → Bool → Type 0
+HasAll None step size ended = ended ≡ true
+HasAll (Some n) step size ended = (n ≤ size) × (size < n + step)
+
+-- all bits that were heard count, and with the last read just the symbols of the bits that count were read, at most
+abbrev pub AreAsked : Option ℕ → ℕ → ℕ → ℕ → Type 0
+AreAsked None step heard all = ⊤
+AreAsked (Some n) step heard all = (heard ≤ n) × (all < n + step)
+
+-- fewer bits came than are claimed
+abbrev pub IsShort : Option ℕ → ℕ → Type 0
+IsShort None size = ⊥
+IsShort (Some n) size = size < n
+
+-- the last call was a flush that succeeded, if these bytes are any
+abbrev pub IsFlushedAfter : List ℕ → Bool → Type 0
+IsFlushedAfter bytes flushed = (bytes ≡ []) ⊎ (flushed ≡ true)
+
+-- why following may break off
+abbrev pub MayBreakOff : ToolError → Type 0
+MayBreakOff e = (e ≡ OutOfMemory) ⊎ ((e ≡ Read) ⊎ ((e ≡ Write) ⊎ ((e ≡ TooLong) ⊎ ((e ≡ BitsPastBytes) ⊎ (e ≡ BadGaps)))))
+
+-- what the reader had given before and then, and whether it last answered its end; the writer's contents before and then, and whether its
+-- last call was a flush that succeeded
+module _ (s : Stream) (given given' : List ℕ) (ended : Bool) (old new : Option (List ℕ)) (flushed : Bool) where
+  -- a stream was followed to its end: just the symbols of the bits that count were read, and the text that a list makes of them was written
+  pub record IsFollowed : Type 0 where
+    pub symbols : List ℕ
+    pub gave : given' ≡ given ++ symbols
+    pub all : HasAll s.claim s.step (s.size symbols) ended
+    pub text : Writes old new (s.listed symbols)
+    pub flush : flushed ≡ true
+
+  -- following broke off by this error, after these symbols and those of the last read
+  pub record BreaksOff (e : ToolError) : Type 0 where
+    pub heard : List ℕ
+    pub last : List ℕ
+    pub few : length last ≤ s.most
+    pub gave : given' ≡ given ++ (heard ++ last)
+    pub asked : AreAsked s.claim s.step (s.size heard) (s.size (heard ++ last))
+    -- if a read fails, the rows that are complete were taken and flushed before it; since any read may fail,
+    -- and no write follows one that did, so they are before each read
+    pub prompt : e ≡ Read → (last ≡ []) × Gave given given' (λ bytes. Appends old new (s.rows bytes) × IsFlushedAfter bytes flushed)
+    -- the rows of all reads, except at most the last, were written: whole rows, each once
+    pub between : e ≢ Write → Appends old new (s.rows heard)
+    -- these rows were written, and then a beginning of the rest of the listing of all that was read
+    pub within : e ≡ Write → (written : List ℕ) × (rest : List ℕ)
+        × (s.text (heard ++ last) ≡ s.rows heard ++ (written ++ rest))
+        × Appends old new (s.rows heard ++ written)
+    pub too_long : e ≡ TooLong → IsLong s.claim ⊎ (2 ^ 36 < s.size (heard ++ last))
+    pub past : e ≡ BitsPastBytes → IsShort s.claim (s.size (heard ++ last)) × (ended ≡ true)
+    pub bad_gaps : e ≡ BadGaps → (AreGaps (2 ^ 36) s.gaps → ⊥) ⊎ (AreGaps (claim_or s.claim (s.size (heard ++ last))) s.gaps → ⊥)
+
+-- the promises of following a stream, if the reader was `reader` and is now `reader'`, and the writer likewise. A caller relies on its
+-- fields as on clauses
+pub record Follows {R W : Type 0} (source : Source R) (sink : Sink W) (s : Stream) (reader reader' : R) (writer writer' : W)
+    (result : Result (Unit {0}) ToolError) : Type 0 where
+  pub ok : OnOk result (IsFollowed s (source.given reader) (source.given reader') (source.has_ended reader')
+      (sink.contents writer) (sink.contents writer') (sink.is_flushed writer'))
+  -- what it gave was taken from what it held, if that is known; that is all of it where the end must be reached
+  pub took : Gave (source.given reader) (source.given reader') (Consumes (source.remaining reader) (source.remaining reader'))
+  pub end : OnOk result (s.claim ≡ None → IsAtEnd (source.remaining reader'))
+  pub past : IsErrOf result BitsPastBytes → IsAtEnd (source.remaining reader')
+  pub bad_gaps : IsErrOf result BadGaps → (AreGaps (2 ^ 36) s.gaps → ⊥) ⊎ (s.claim ≡ None → IsAtEnd (source.remaining reader'))
+  -- a refusal for a device's sake comes exactly if it failed
+  pub read : IsErrOf result Read ↔ (source.failed reader < source.failed reader')
+  pub write : IsErrOf result Write ↔ (sink.failed writer < sink.failed writer')
+  pub refused : IfErr result MayBreakOff
+  -- when each other refusal comes, and the writer's contents after it
+  pub broke_off : IfErr result (BreaksOff s (source.given reader) (source.given reader') (source.has_ended reader')
+      (sink.contents writer) (sink.contents writer') (sink.is_flushed writer'))
+
+-- ---- a stream of bits
 
 -- the most bytes that one read gives, by this number of workers
 abbrev pub most_read : ℕ → ℕ
@@ -20,11 +123,6 @@ most_read workers = 65536 * (1 + min 3 (workers - 1))
 abbrev pub counted : Option ℕ → List ℕ → ℕ
 counted None bytes = 8 * length bytes
 counted (Some bits) bytes = min bits (8 * length bytes)
-
--- all bits of these bytes count
-abbrev pub AllCount : Option ℕ → List ℕ → Type 0
-AllCount None bytes = ⊤
-AllCount (Some bits) bytes = 8 * length bytes ≤ bits
 
 -- the rows of the items that are complete once these bytes were heard
 abbrev pub rows_so_far : Terms → List ℕ → List ℕ
@@ -38,81 +136,19 @@ stream_text terms bits bytes = list_text terms.rules (signal_at terms.gaps bytes
 abbrev pub listed : Terms → Option ℕ → List ℕ → Result (List ℕ) ToolError
 listed terms bits held = and_then (first_bits (claimed bits held) terms.gaps held) (λ recording. Ok (list_text terms.rules recording))
 
--- ---- where it ends
-
--- more bits are claimed than a recording may have
-abbrev pub IsLong : Option ℕ → Type 0
-IsLong None = ⊥
-IsLong (Some bits) = 2 ^ 36 < bits
-
-module _ (bits : Option ℕ) (from to : Option (List ℕ)) where
-  -- all was read, or just the bytes of the bits that count
-  abbrev pub IsReadAsFar : Type 0
-  IsReadAsFar = elim bits [
-    | None ↦ IsAtEnd to
-    | Some n ↦ (read : List ℕ) × Consumes from to read × (n ≤ 8 * length read) × (8 * length read < n + 8)
-  ]
-
-  -- all was read, and it has fewer bits than are claimed
-  abbrev pub EndsShort : Type 0
-  EndsShort = elim bits [
-    | None ↦ ⊥
-    | Some n ↦ (read : List ℕ) × Consumes from to read × IsAtEnd to × (8 * length read < n)
-  ]
-
-  -- more bits are claimed than a recording may have, or were read
-  abbrev pub IsTooLong : Type 0
-  IsTooLong = IsLong bits ⊎ ((more : List ℕ) × Consumes from to more × (2 ^ 36 < 8 * length more))
-
--- why following may break off
-abbrev pub MayBreakOff : ToolError → Type 0
-MayBreakOff e = (e ≡ OutOfMemory) ⊎ ((e ≡ Read) ⊎ ((e ≡ Write) ⊎ ((e ≡ TooLong) ⊎ ((e ≡ BitsPastBytes) ⊎ (e ≡ BadGaps)))))
-
--- and why before its last bits
-abbrev pub MayBreakEarly : ToolError → Type 0
-MayBreakEarly e = (e ≡ OutOfMemory) ⊎ ((e ≡ Read) ⊎ ((e ≡ Write) ⊎ ((e ≡ TooLong) ⊎ (e ≡ BadGaps))))
-
--- `most` bounds the bytes of a read
-module _ (most : ℕ) (terms : Terms) (bits : Option ℕ) (from to old new : Option (List ℕ)) where
-  -- the rows of all reads, except at most the last, were written: whole rows, each once
-  abbrev pub StopsBetweenRows : Type 0
-  StopsBetweenRows =
-      (heard : List ℕ) × (last : List ℕ) × (length last ≤ most) × AllCount bits heard
-      × Consumes from to (heard ++ last)
-      × Appends old new (rows_so_far terms heard)
-
-  -- these rows were written, and then a beginning of the rest of the listing of all that was read
-  abbrev pub StopsInRows : Type 0
-  StopsInRows =
-      (heard : List ℕ) × (last : List ℕ) × (length last ≤ most) × AllCount bits heard
-      × Consumes from to (heard ++ last)
-      × (written : List ℕ) × (rest : List ℕ)
-      × (stream_text terms bits (heard ++ last) ≡ rows_so_far terms heard ++ (written ++ rest))
-      × Appends old new (rows_so_far terms heard ++ written)
-
--- ---- at every device
-
--- the reader gave all bits that count: it answered its end, or just the bytes of the bits that count were read
+-- the reader gave all bits that count
 abbrev pub IsHeardOut : Option ℕ → Bool → List ℕ → Type 0
-IsHeardOut None ended bytes = ended ≡ true
-IsHeardOut (Some n) ended bytes = (n ≤ 8 * length bytes) × (8 * length bytes < n + 8)
+IsHeardOut bits ended bytes = HasAll bits 8 (8 * length bytes) ended
 
--- the last call was a flush that succeeded, if these bytes are any
-abbrev pub IsFlushedAfter : List ℕ → Bool → Type 0
-IsFlushedAfter bytes flushed = (bytes ≡ []) ⊎ (flushed ≡ true)
-
--- following broke off by this error: the reader gave these bytes, and the statements above hold for a reader
--- that held only them
-pub record BreaksOff (most : ℕ) (terms : Terms) (bits : Option ℕ) (given given' : List ℕ) (ended : Bool)
-    (old new : Option (List ℕ)) (flushed : Bool) (e : ToolError) : Type 0 where
-  pub bytes : List ℕ
-  pub gave : given' ≡ given ++ bytes
-  -- if a read fails, the rows that are complete were taken and flushed before it; since any read may fail,
-  -- and no write follows one that did, so they are before each read
-  pub prompt : e ≡ Read → Appends old new (rows_so_far terms bytes) × IsFlushedAfter bytes flushed
-  pub between : e ≢ Write → StopsBetweenRows most terms bits (Some bytes) (Some []) old new
-  pub within : e ≡ Write → StopsInRows most terms bits (Some bytes) (Some []) old new
-  pub too_long : e ≡ TooLong → IsTooLong bits (Some bytes) (Some [])
-  pub past : e ≡ BitsPastBytes → EndsShort bits (Some bytes) (Some []) × (ended ≡ true)
-  pub bad_gaps : e ≡ BadGaps → (AreGaps (2 ^ 36) terms.gaps → ⊥)
-      ⊎ (AreGaps (claimed bits bytes) terms.gaps → ⊥)
+-- the stream of these bits, followed by this number of workers
+abbrev pub bit_stream : Terms → ℕ → Option ℕ → Stream
+bit_stream terms workers bits = record {
+  step = 8;
+  size = λ bytes. 8 * length bytes;
+  claim = bits;
+  gaps = terms.gaps;
+  most = most_read workers;
+  rows = rows_so_far terms;
+  text = stream_text terms bits;
+  listed = listed terms bits;
+}

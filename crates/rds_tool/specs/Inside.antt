@@ -7,6 +7,5 @@ pub mod Listers
 pub mod RowWriter
 pub mod Rows
 pub mod Streams
-pub mod SoftStreams
 pub mod Texts
 pub mod Commands

@@ -1,17 +1,12 @@
--- Following a stream of symbols: the rows that are written as they come, and those that were written if it breaks off; this project's rule.
--- `follow_soft` promises it.
-use Rattle.std.specs.Prelude.{◌++◌, ◌≡◌, ◌≢◌, ◌≤◌, ◌<◌, ◌+◌, ◌-◌, ◌^◌, ◌⊎◌, [], ⊤, ℕ, Bool, List, None, Ok, Option, Result, Some, false, length, true}
+-- Following a stream of symbols: this project's rule. `follow_soft` promises it.
+use Rattle.std.specs.Prelude.{◌-◌, ℕ, Bool, List, Ok, Option, Result, length, true, false}
 use Rattle.std.specs.List.{flat_map}
-use Rattle.std.specs.Io.KnownBytes.{Appends}
 use Rattle.rds_soft.specs.SoftStream.{SoftTerms, complete, signal_of}
-use Rattle.rds_stream.specs.Recording.{AreGaps}
-use Rattle.rds_tool.specs.Following.{IsFlushedAfter, IsLong}
+use Rattle.rds_tool.specs.Following.{BreaksOff, IsFollowed, Stream}
 use Rattle.rds_tool.specs.Input.{and_then}
 use Rattle.rds_tool.specs.InputOf.{InputOf}
-use Rattle.rds_tool.specs.Outcome.{Writes}
-use Rattle.rds_tool.specs.Soft.{claimed_of, recording_of_symbols, soft_row, soft_text}
+use Rattle.rds_tool.specs.Soft.{recording_of_symbols, soft_row, soft_text}
 use Rattle.rds_tool.specs.declared.error.ToolError.{ToolError}
-use Rattle.rds_tool.specs.declared.error.ToolError.TheVariants.{BadGaps, BitsPastBytes, Read, TooLong, Write}
 
 -- the most symbols that one read gives
 abbrev pub most_symbols : ℕ
@@ -35,49 +30,22 @@ soft_listed terms bits symbols =
     and_then (recording_of_symbols (input_of terms bits) symbols)
     (λ recording. Ok (soft_text true terms.rules terms.margin symbols recording))
 
--- no more symbols were read than those of the bits that count, one more than these
-abbrev pub AreAsked : Option ℕ → List ℕ → Type 0
-AreAsked None symbols = ⊤
-AreAsked (Some bits) symbols = length symbols ≤ bits + 1
+-- the stream of these symbols, between two of which there is a bit
+abbrev pub symbol_stream : SoftTerms → Option ℕ → Stream
+symbol_stream terms bits = record {
+  step = 1;
+  size = λ symbols. length symbols - 1;
+  claim = bits;
+  gaps = terms.gaps;
+  most = most_symbols;
+  rows = soft_rows_so_far terms;
+  text = soft_stream_text terms;
+  listed = soft_listed terms bits;
+}
 
--- there are symbols of all bits that count; without such a number the reader answered its end
-abbrev pub IsSoftEnd : Option ℕ → List ℕ → Bool → Type 0
-IsSoftEnd None symbols ended = ended ≡ true
-IsSoftEnd (Some bits) symbols ended = bits ≤ length symbols - 1
+-- it was followed to its end, or broke off
+abbrev pub IsSoftFollowed : SoftTerms → Option ℕ → List ℕ → List ℕ → Bool → Option (List ℕ) → Option (List ℕ) → Bool → Type 0
+IsSoftFollowed terms bits given given' ended old new flushed = IsFollowed (symbol_stream terms bits) given given' ended old new flushed
 
--- fewer symbols came than those of the bits that are claimed, and then the reader's end
-abbrev pub IsSoftShort : Option ℕ → List ℕ → Bool → Type 0
-IsSoftShort None symbols ended = ⊥
-IsSoftShort (Some bits) symbols ended = (length symbols - 1 < bits) × (ended ≡ true)
-
--- what the reader had given before and then, and whether it last answered its end; the writer's contents before and then, and whether its
--- last call was a flush that succeeded
-module _ (terms : SoftTerms) (bits : Option ℕ) (given given' : List ℕ) (ended : Bool) (old new : Option (List ℕ)) (flushed : Bool) where
-  -- a stream was followed to its end: just the symbols of the bits that count were read, and the text that a soft list makes of them was
-  -- written
-  pub record IsSoftFollowed : Type 0 where
-    pub symbols : List ℕ
-    pub gave : given' ≡ given ++ symbols
-    pub asked : AreAsked bits symbols
-    pub all : IsSoftEnd bits symbols ended
-    pub text : Writes old new (soft_listed terms bits symbols)
-    pub flush : flushed ≡ true
-
-  -- following broke off by this error, after these symbols and those of the last read
-  pub record SoftBreaksOff (e : ToolError) : Type 0 where
-    pub heard : List ℕ
-    pub last : List ℕ
-    pub few : length last ≤ most_symbols
-    pub gave : given' ≡ given ++ (heard ++ last)
-    pub asked : AreAsked bits (heard ++ last)
-    -- if a read fails, the rows that are complete were taken and flushed before it; since any read may fail, they are before each read
-    pub prompt : e ≡ Read → (last ≡ []) × IsFlushedAfter heard flushed
-    -- whole rows were written, each once, of all reads except at most the last
-    pub between : e ≢ Write → Appends old new (soft_rows_so_far terms heard)
-    -- these rows were written, and then a beginning of the rest of the listing of all that was read
-    pub within : e ≡ Write → (written : List ℕ) × (rest : List ℕ)
-        × (soft_stream_text terms (heard ++ last) ≡ soft_rows_so_far terms heard ++ (written ++ rest))
-        × Appends old new (soft_rows_so_far terms heard ++ written)
-    pub too_long : e ≡ TooLong → IsLong bits ⊎ (2 ^ 36 + 1 < length (heard ++ last))
-    pub past : e ≡ BitsPastBytes → IsSoftShort bits (heard ++ last) ended
-    pub bad_gaps : e ≡ BadGaps → (AreGaps (2 ^ 36) terms.gaps → ⊥) ⊎ (AreGaps (claimed_of bits (heard ++ last)) terms.gaps → ⊥)
+abbrev pub SoftBreaksOff : SoftTerms → Option ℕ → List ℕ → List ℕ → Bool → Option (List ℕ) → Option (List ℕ) → Bool → ToolError → Type 0
+SoftBreaksOff terms bits given given' ended old new flushed e = BreaksOff (symbol_stream terms bits) given given' ended old new flushed e

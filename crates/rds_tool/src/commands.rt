@@ -2,60 +2,12 @@
 ghost use Rattle.std.specs.Prelude.{◌≡◌, false};
 ghost use Rattle.clap.specs.Words.{App, new_app, rule_of};
 ghost use Rattle.rds_tool.specs.CommandLine.{Makes, ReadsAs, rds_app};
-ghost use Rattle.rds_tool.specs.Inside.Commands.{app_of_row, bare_app, rule_of_option, rule_of_row, with_command as the_with_command, with_each};
+ghost use Rattle.rds_tool.specs.Inside.Commands.{app_of_row, bare_app, rule_of_row, with_command as the_with_command, with_each};
 
 use crate::help;
-use CommandOption::{
-    Bits, Burst, FollowWorkers, Gaps, HexInput, HexOutput, Loss, Margin, Of, Pieces, Progress,
-    Reach, Share, Soft, Workers,
-};
 use clap::builder::ValueParser;
 use clap::{Arg, ArgAction, Command};
 use std::alloc::{AllocError, Global};
-
-/// An option of a command.
-#[derive(Clone, Copy)]
-enum CommandOption {
-    HexInput,
-    HexOutput,
-    Bits,
-    Gaps,
-    Burst,
-    Reach,
-    Loss,
-    Share,
-    Of,
-    Pieces,
-    Workers,
-    FollowWorkers,
-    Progress,
-    Soft,
-    Margin,
-}
-
-impl CommandOption {
-    fn row(self) -> &'static OptionRow
-        ensures { rule_of_row result.now ≡ rule_of_option self }
-    {
-        match self {
-            HexInput => &HEX_INPUT,
-            HexOutput => &HEX_OUTPUT,
-            Bits => &BITS,
-            Gaps => &GAPS,
-            Burst => &BURST,
-            Reach => &REACH,
-            Loss => &LOSS,
-            Share => &SHARE,
-            Of => &OF,
-            Pieces => &PIECES,
-            Workers => &WORKERS,
-            FollowWorkers => &FOLLOW_WORKERS,
-            Progress => &PROGRESS,
-            Soft => &SOFT,
-            Margin => &MARGIN,
-        }
-    }
-}
 
 /// How an option is read, and its help.
 #[derive(Clone, Copy)]
@@ -76,7 +28,7 @@ struct CommandRow {
     about: &'static str,
     usage: &'static str,
     after: &'static str,
-    options: &'static [CommandOption],
+    options: &'static [OptionRow],
 }
 
 const FLAG: OptionRow = OptionRow {
@@ -98,26 +50,26 @@ const NUMBER: OptionRow = OptionRow {
     help: "",
 };
 
-static HEX_INPUT: OptionRow = OptionRow {
+const HEX_INPUT: OptionRow = OptionRow {
     name: "hex",
     help: help::HEX_INPUT,
     ..FLAG
 };
 
-static HEX_OUTPUT: OptionRow = OptionRow {
+const HEX_OUTPUT: OptionRow = OptionRow {
     name: "hex",
     help: help::HEX_OUTPUT,
     ..FLAG
 };
 
-static BITS: OptionRow = OptionRow {
+const BITS: OptionRow = OptionRow {
     name: "bits",
     parser: ValueParser::Unsigned(0, 1_099_511_627_776),
     help: help::BITS,
     ..NUMBER
 };
 
-static GAPS: OptionRow = OptionRow {
+const GAPS: OptionRow = OptionRow {
     name: "gaps",
     value: &["TEXT"],
     parser: ValueParser::String,
@@ -125,74 +77,74 @@ static GAPS: OptionRow = OptionRow {
     ..NUMBER
 };
 
-static BURST: OptionRow = OptionRow {
+const BURST: OptionRow = OptionRow {
     name: "burst",
     default: &["2"],
     help: help::BURST,
     ..NUMBER
 };
 
-static REACH: OptionRow = OptionRow {
+const REACH: OptionRow = OptionRow {
     name: "reach",
     default: &["3"],
     help: help::REACH,
     ..NUMBER
 };
 
-static LOSS: OptionRow = OptionRow {
+const LOSS: OptionRow = OptionRow {
     name: "loss",
     default: &["10"],
     help: help::LOSS,
     ..NUMBER
 };
 
-static SHARE: OptionRow = OptionRow {
+const SHARE: OptionRow = OptionRow {
     name: "share",
     help: help::SHARE,
     ..NUMBER
 };
 
-static OF: OptionRow = OptionRow {
+const OF: OptionRow = OptionRow {
     name: "of",
     default: &["64"],
     help: help::OF,
     ..NUMBER
 };
 
-static PIECES: OptionRow = OptionRow {
+const PIECES: OptionRow = OptionRow {
     name: "pieces",
     default: &["16"],
     help: help::PIECES,
     ..NUMBER
 };
 
-static WORKERS: OptionRow = OptionRow {
+const WORKERS: OptionRow = OptionRow {
     name: "workers",
     default: &["4"],
     help: help::WORKERS,
     ..NUMBER
 };
 
-static FOLLOW_WORKERS: OptionRow = OptionRow {
+const FOLLOW_WORKERS: OptionRow = OptionRow {
     name: "workers",
     default: &["1"],
     help: help::WORKERS,
     ..NUMBER
 };
 
-static PROGRESS: OptionRow = OptionRow {
+const PROGRESS: OptionRow = OptionRow {
     name: "progress",
     help: help::PROGRESS,
     ..FLAG
 };
 
-static SOFT: OptionRow = OptionRow {
+const SOFT: OptionRow = OptionRow {
     name: "soft",
     help: help::SOFT,
     ..FLAG
 };
 
-static MARGIN: OptionRow = OptionRow {
+const MARGIN: OptionRow = OptionRow {
     name: "margin",
     parser: ValueParser::Signed(1, 127),
     default: &["32"],
@@ -206,7 +158,7 @@ static COMMANDS: [CommandRow; 5] = [
         about: help::SCAN,
         usage: help::SCAN_USAGE,
         after: help::SCAN_AFTER,
-        options: &[HexInput, Bits, Gaps, Workers, Progress],
+        options: &[HEX_INPUT, BITS, GAPS, WORKERS, PROGRESS],
     },
     CommandRow {
         name: "list",
@@ -214,8 +166,8 @@ static COMMANDS: [CommandRow; 5] = [
         usage: help::LIST_USAGE,
         after: help::LIST_AFTER,
         options: &[
-            HexInput, Bits, Gaps, Burst, Reach, Loss, Share, Of, Pieces, Workers, Progress, Soft,
-            Margin,
+            HEX_INPUT, BITS, GAPS, BURST, REACH, LOSS, SHARE, OF, PIECES, WORKERS, PROGRESS, SOFT,
+            MARGIN,
         ],
     },
     CommandRow {
@@ -224,16 +176,16 @@ static COMMANDS: [CommandRow; 5] = [
         usage: help::FOLLOW_USAGE,
         after: help::FOLLOW_AFTER,
         options: &[
-            Bits,
-            Gaps,
-            Burst,
-            Reach,
-            Loss,
-            Share,
-            Of,
-            FollowWorkers,
-            Soft,
-            Margin,
+            BITS,
+            GAPS,
+            BURST,
+            REACH,
+            LOSS,
+            SHARE,
+            OF,
+            FOLLOW_WORKERS,
+            SOFT,
+            MARGIN,
         ],
     },
     CommandRow {
@@ -242,8 +194,8 @@ static COMMANDS: [CommandRow; 5] = [
         usage: help::TOTALS_USAGE,
         after: help::TOTALS_AFTER,
         options: &[
-            HexInput, Bits, Gaps, Burst, Reach, Loss, Share, Of, Pieces, Workers, Progress, Soft,
-            Margin,
+            HEX_INPUT, BITS, GAPS, BURST, REACH, LOSS, SHARE, OF, PIECES, WORKERS, PROGRESS, SOFT,
+            MARGIN,
         ],
     },
     CommandRow {
@@ -251,7 +203,7 @@ static COMMANDS: [CommandRow; 5] = [
         about: help::ENCODE,
         usage: help::ENCODE_USAGE,
         after: help::ENCODE_AFTER,
-        options: &[HexOutput],
+        options: &[HEX_OUTPUT],
     },
 ];
 
@@ -315,7 +267,7 @@ fn command_of<'a>(alloc: Global, row: &CommandRow) -> Result<Command<'a>, AllocE
 {
     let mut command = bare_command(alloc, row.name, row.about, row.usage, row.after);
     for option in row.options {
-        command = command.arg(option_of(alloc, option.row()))?;
+        command = command.arg(option_of(alloc, option))?;
     }
     Ok(command)
 }

@@ -1,15 +1,14 @@
 //! From a reader to a writer, as the bytes come.
-ghost use Rattle.std.specs.Prelude.{◌+◌, ◌-◌, ◌*◌, ◌/◌, ◌++◌, ◌<◌, ◌^◌, ◌≡◌, ◌≢◌, ◌≤◌, ◌⊎◌, ◌↔◌, [], IfErr, IfOk, IsOkUnless, IfSome, IsErrOf, List, None, Ok, OnOk, Option, Some, length, take, true, ℕ};
+ghost use Rattle.std.specs.Prelude.{◌+◌, ◌-◌, ◌*◌, ◌++◌, ◌<◌, ◌^◌, ◌≡◌, ◌≢◌, ◌≤◌, ◌⊎◌, ◌↔◌, [], IfErr, IfOk, IsOkUnless, IfSome, IsErrOf, List, None, Ok, OnOk, Option, Some, length, take, true, ℕ};
 ghost use Rattle.std.specs.Io.KnownBytes.{Consumes, IsAtEnd, Keeps, Appends};
 ghost use Rattle.std.specs.List.{flat_map};
 ghost use Rattle.rds_live.specs.StreamDecoder.{HasHeard, live_of, report_at};
 ghost use Rattle.rds_stream.specs.Recording.{AreGaps};
 ghost use Rattle.rds_sync.specs.Advance.{group_item};
 ghost use Rattle.rds_sync.specs.Totals.{totals_of};
-ghost use Rattle.rds_tool.specs.Following.{EndsShort, IsLong, IsReadAsFar, IsTooLong, MayBreakEarly, MayBreakOff, StopsBetweenRows, StopsInRows, BreaksOff, IsFlushedAfter, IsHeardOut, listed, most_read, rows_so_far};
+ghost use Rattle.rds_tool.specs.Following.{Follows, IsHeardOut, IsLong, bit_stream, listed, most_read, rows_so_far};
 ghost use Rattle.rds_tool.specs.History.{Gave};
-ghost use Rattle.rds_tool.specs.Input.{claimed};
-ghost use Rattle.rds_tool.specs.Inside.Streams.{IsFollowed, IsNearAnswer, IsNearEnd, IsPlaceOf, IsShortEnough, bits_left as the_bits_left};
+ghost use Rattle.rds_tool.specs.Inside.Streams.{Breaks, IsHeard, IsNear, IsPlaceOf, IsShortEnough, bits_left as the_bits_left};
 ghost use Rattle.rds_tool.specs.Listing.{item_row, report_text, totals_text};
 ghost use Rattle.rds_tool.specs.Outcome.{Writes, WritesPrefix};
 
@@ -58,42 +57,19 @@ pub fn follow<R: Threads + Sync, S: Source, K: Sink>(
 ) -> Result<(), ToolError>
     requires reads { S.failed reader.old < 2 ^ 63 }
     requires writes { K.failed writer.old < 2 ^ 63 }
+    ensures all { Follows S.Source K.Sink (bit_stream (record { rules = rules.now; gaps = gaps.now }) workers bits)
+        reader.old reader.new writer.old writer.new result }
 
-    // Just the bytes that count were read, and the text that a list makes of them was written.
-    ensures end { OnOk result (IsReadAsFar bits (S.remaining reader.old) (S.remaining reader.new)) }
+    // The text that a list makes of all bytes that count was written: of those that the reader held, if these are known, and
+    // at every device of those that it gave.
     ensures ok { OnOk result (IfSome (S.remaining reader.old) (λ held.
         Writes (K.contents writer.old) (K.contents writer.new)
         (listed (record { rules = rules.now; gaps = gaps.now }) bits held))) }
-
-    // A refusal for a device's sake comes exactly if it failed. One for the length comes only if too much was
-    // claimed or read, or too little was read. One for the gaps comes only if the recording can't have them.
-    ensures read { IsErrOf result ToolError.Read ↔ (S.failed reader.old < S.failed reader.new) }
-    ensures write { IsErrOf result ToolError.Write ↔ (K.failed writer.old < K.failed writer.new) }
-    ensures too_long { IsErrOf result ToolError.TooLong
-        → IsTooLong bits (S.remaining reader.old) (S.remaining reader.new) }
-    ensures past { IsErrOf result ToolError.BitsPastBytes
-        → EndsShort bits (S.remaining reader.old) (S.remaining reader.new) }
-    ensures bad_gaps { IsErrOf result ToolError.BadGaps → (AreGaps (2 ^ 36) gaps.now → ⊥)
-        ⊎ IfSome (S.remaining reader.old) (λ held. AreGaps (claimed bits held) gaps.now → ⊥) }
-    ensures refused { IfErr result MayBreakOff }
-
-    // The writer's contents after a refusal.
-    ensures between { IfErr result (λ error. error ≢ ToolError.Write
-        → StopsBetweenRows (most_read workers) (record { rules = rules.now; gaps = gaps.now }) bits
-        (S.remaining reader.old) (S.remaining reader.new) (K.contents writer.old) (K.contents writer.new)) }
-    ensures within { IsErrOf result ToolError.Write
-        → StopsInRows (most_read workers) (record { rules = rules.now; gaps = gaps.now }) bits
-        (S.remaining reader.old) (S.remaining reader.new) (K.contents writer.old) (K.contents writer.new) }
-
-    // The same at every device, of the bytes that the reader gave.
     ensures heard { OnOk result (Gave (S.given reader.old) (S.given reader.new) (λ bytes.
         IsHeardOut bits (S.has_ended reader.new) bytes
         × Writes (K.contents writer.old) (K.contents writer.new)
         (listed (record { rules = rules.now; gaps = gaps.now }) bits bytes))) }
     ensures flushed { OnOk result (K.is_flushed writer.new ≡ true) }
-    ensures broke_off { IfErr result (BreaksOff (most_read workers) (record { rules = rules.now; gaps = gaps.now }) bits
-        (S.given reader.old) (S.given reader.new) (S.has_ended reader.new)
-        (K.contents writer.old) (K.contents writer.new) (K.is_flushed writer.new)) }
 {
     let live = follow_bytes(rt, alloc, reader, writer, rules, gaps, bits, workers)?;
     let left = bits_left(bits, live.place());
@@ -116,32 +92,15 @@ fn follow_bytes<'r, R: Threads + Sync, S: Source, K: Sink>(
 ) -> Result<StreamDecoder<'r>, ToolError>
     requires reads { S.failed reader.old < 2 ^ 63 }
     requires writes { K.failed writer.old < 2 ^ 63 }
-    ensures followed { IfOk result (λ live. (heard : List ℕ)
-        × IsFollowed (record { rules = rules.now; gaps = gaps.now }) bits live
-        (S.remaining reader.old) (S.remaining reader.new) (K.contents writer.old)
-        (K.contents writer.new) heard
-        × (S.given reader.new ≡ S.given reader.old ++ heard)
-        × IsFlushedAfter heard (K.is_flushed writer.new)) }
-    ensures near_end { IfOk result (λ live. IsNearEnd bits live.place (S.remaining reader.new)) }
-    ensures near_answer { IfOk result (λ live. IsNearAnswer bits live.place (S.has_ended reader.new)) }
+    ensures heard { IfOk result (λ live. (heard : List ℕ)
+        × IsHeard S.Source K.Sink (bit_stream (record { rules = rules.now; gaps = gaps.now }) workers bits)
+        reader.old reader.new writer.old writer.new heard
+        × (live ≡ live_of (record { rules = rules.now; gaps = gaps.now }) heard)) }
+    ensures near { IfOk result (λ live. IsNear bits 8 live.place
+        (IsAtEnd (S.remaining reader.new) × (S.has_ended reader.new ≡ true))) }
     ensures claims { OnOk result (IsShortEnough bits) }
-    ensures reads { OnOk result (S.failed reader.new ≡ S.failed reader.old) }
-    ensures writes { OnOk result (K.failed writer.new ≡ K.failed writer.old) }
-    ensures read { IsErrOf result ToolError.Read ↔ (S.failed reader.old < S.failed reader.new) }
-    ensures write { IsErrOf result ToolError.Write ↔ (K.failed writer.old < K.failed writer.new) }
-    ensures too_long { IsErrOf result ToolError.TooLong
-        → IsTooLong bits (S.remaining reader.old) (S.remaining reader.new) }
-    ensures bad_gaps { IsErrOf result ToolError.BadGaps → AreGaps (2 ^ 36) gaps.now → ⊥ }
-    ensures refused { IfErr result MayBreakEarly }
-    ensures between { IfErr result (λ error. error ≢ ToolError.Write
-        → StopsBetweenRows (most_read workers) (record { rules = rules.now; gaps = gaps.now }) bits
-        (S.remaining reader.old) (S.remaining reader.new) (K.contents writer.old) (K.contents writer.new)) }
-    ensures within { IsErrOf result ToolError.Write
-        → StopsInRows (most_read workers) (record { rules = rules.now; gaps = gaps.now }) bits
-        (S.remaining reader.old) (S.remaining reader.new) (K.contents writer.old) (K.contents writer.new) }
-    ensures broke_off { IfErr result (BreaksOff (most_read workers) (record { rules = rules.now; gaps = gaps.now }) bits
-        (S.given reader.old) (S.given reader.new) (S.has_ended reader.new)
-        (K.contents writer.old) (K.contents writer.new) (K.is_flushed writer.new)) }
+    ensures broke { IfErr result (Breaks S.Source K.Sink (bit_stream (record { rules = rules.now; gaps = gaps.now }) workers bits)
+        reader.old reader.new writer.old writer.new) }
 {
     prove!(1 <= rules.reach());
     laws::runs_are_reports();
@@ -266,18 +225,14 @@ fn read_last<S: Source>(reader: &mut S, last: &mut [u8], left: u64) -> Result<us
     ensures taken { IfOk result (λ count. Consumes (S.remaining reader.old) (S.remaining reader.new)
         (take count last.new)) }
     ensures given { IfOk result (λ count. S.given reader.new ≡ S.given reader.old ++ take count last.new) }
-    ensures still { IfOk result (λ count. left ≡ 0 → S.remaining reader.new ≡ S.remaining reader.old) }
-    ensures same_answer { IfOk result (λ count. left ≡ 0 → S.has_ended reader.new ≡ S.has_ended reader.old) }
+    ensures still { IfOk result (λ count. left ≡ 0 → reader.new ≡ reader.old) }
     ensures none_given { IfErr result (λ error. S.given reader.new ≡ S.given reader.old) }
     ensures kept { IfErr result (λ error. Keeps (S.remaining reader.old) (S.remaining reader.new)) }
     ensures count { OnOk result (S.failed reader.new ≡ S.failed reader.old) }
-    ensures read { IsErrOf result ToolError.Read ↔ (S.failed reader.old < S.failed reader.new) }
-    ensures past { IsErrOf result ToolError.BitsPastBytes → (0 < left)
-        × (((8 ≤ left) × (S.remaining reader.new ≡ S.remaining reader.old))
-        ⊎ IsAtEnd (S.remaining reader.new)) }
-    ensures past_answer { IsErrOf result ToolError.BitsPastBytes → (0 < left)
-        × (((8 ≤ left) × (S.has_ended reader.new ≡ S.has_ended reader.old))
-        ⊎ (S.has_ended reader.new ≡ true)) }
+    ensures failed { IsErrOf result ToolError.Read → S.failed reader.old < S.failed reader.new }
+    ensures past { IsErrOf result ToolError.BitsPastBytes → (0 < left) × (S.failed reader.new ≡ S.failed reader.old)
+        × (((8 ≤ left) × (reader.new ≡ reader.old))
+        ⊎ (IsAtEnd (S.remaining reader.new) × (S.has_ended reader.new ≡ true))) }
     ensures kinds { IfErr result (λ error. (error ≡ ToolError.Read) ⊎ (error ≡ ToolError.BitsPastBytes)) }
 {
     if left == 0 {

@@ -1,14 +1,12 @@
 //! From a reader of symbols to a writer, as the symbols come.
 ghost use Rattle.std.specs.Prelude.{◌++◌, ◌+◌, ◌-◌, ◌<◌, ◌^◌, ◌≡◌, ◌≢◌, ◌≤◌, ◌⊎◌, ◌↔◌, [], IfErr, IfOk, IfSome, IsErrOf, List, None, Ok, OnOk, length, true, ℕ};
-ghost use Rattle.std.specs.Io.KnownBytes.{Appends, Consumes};
+ghost use Rattle.std.specs.Io.KnownBytes.{Appends, IsAtEnd};
 ghost use Rattle.std.specs.List.{flat_map};
 ghost use Rattle.rds_soft.specs.SoftStream.{group_item};
 ghost use Rattle.rds_stream.specs.Recording.{AreGaps};
-ghost use Rattle.rds_tool.specs.Following.{IsLong, MayBreakEarly, MayBreakOff};
-ghost use Rattle.rds_tool.specs.SoftFollowing.{IsSoftFollowed, SoftBreaksOff, most_symbols, soft_rows_so_far, soft_stream_text};
-ghost use Rattle.rds_tool.specs.History.{Gave};
-ghost use Rattle.rds_tool.specs.Inside.SoftStreams.{IsDone, IsHeard, IsShort};
-ghost use Rattle.rds_tool.specs.Inside.Streams.{IsShortEnough};
+ghost use Rattle.rds_tool.specs.Following.{Follows, IsLong, IsShort};
+ghost use Rattle.rds_tool.specs.SoftFollowing.{most_symbols, soft_rows_so_far, soft_stream_text, symbol_stream};
+ghost use Rattle.rds_tool.specs.Inside.Streams.{Breaks, IsHeard, IsNear, IsShortEnough};
 ghost use Rattle.rds_tool.specs.Outcome.{WritesPrefix};
 ghost use Rattle.rds_tool.specs.Soft.{soft_row, soft_totals_text};
 
@@ -47,24 +45,8 @@ pub fn follow_soft<S: Source, K: Sink>(
 ) -> Result<(), ToolError>
     requires reads { S.failed reader.old < 2 ^ 63 }
     requires writes { K.failed writer.old < 2 ^ 63 }
-
-    // Just the symbols that count were read, and the text that a soft list makes of them was written.
-    ensures ok { OnOk result (IsSoftFollowed (record { rules = rules.now; gaps = gaps.now; margin = margin }) bits
-        (S.given reader.old) (S.given reader.new) (S.has_ended reader.new)
-        (K.contents writer.old) (K.contents writer.new) (K.is_flushed writer.new)) }
-
-    // What it gave was taken from what it held, if that is known.
-    ensures took { Gave (S.given reader.old) (S.given reader.new) (Consumes (S.remaining reader.old) (S.remaining reader.new)) }
-
-    // A refusal for a device's sake comes exactly if it failed.
-    ensures read { IsErrOf result ToolError.Read ↔ (S.failed reader.old < S.failed reader.new) }
-    ensures write { IsErrOf result ToolError.Write ↔ (K.failed writer.old < K.failed writer.new) }
-    ensures refused { IfErr result MayBreakOff }
-
-    // When each other refusal comes, and the writer's contents after it.
-    ensures broke_off { IfErr result (SoftBreaksOff (record { rules = rules.now; gaps = gaps.now; margin = margin }) bits
-        (S.given reader.old) (S.given reader.new) (S.has_ended reader.new)
-        (K.contents writer.old) (K.contents writer.new) (K.is_flushed writer.new)) }
+    ensures { Follows S.Source K.Sink (symbol_stream (record { rules = rules.now; gaps = gaps.now; margin = margin }) bits)
+        reader.old reader.new writer.old writer.new result }
 {
     laws::runs_are_reports();
     let stream = follow_symbols(alloc, reader, writer, rules, margin, bits, gaps)?;
@@ -84,20 +66,15 @@ fn follow_symbols<'r, S: Source, K: Sink>(
 ) -> Result<SoftStream<'r>, ToolError>
     requires reads { S.failed reader.old < 2 ^ 63 }
     requires writes { K.failed writer.old < 2 ^ 63 }
-    ensures heard { IfOk result (IsHeard (record { rules = rules.now; gaps = gaps.now; margin = margin }) bits
-        (S.given reader.old) (S.given reader.new) (S.remaining reader.old) (S.remaining reader.new)
-        (K.contents writer.old) (K.contents writer.new) (K.is_flushed writer.new)) }
-    ensures done { IfOk result (λ stream. IsDone bits (length stream.symbols) (S.has_ended reader.new)) }
-    ensures took { Gave (S.given reader.old) (S.given reader.new) (Consumes (S.remaining reader.old) (S.remaining reader.new)) }
+    ensures heard { IfOk result (λ stream.
+        IsHeard S.Source K.Sink (symbol_stream (record { rules = rules.now; gaps = gaps.now; margin = margin }) bits)
+        reader.old reader.new writer.old writer.new stream.symbols
+        × (stream.terms ≡ record { rules = rules.now; gaps = gaps.now; margin = margin })) }
+    ensures near { IfOk result (λ stream. IsNear bits 1 (length stream.symbols - 1)
+        (IsAtEnd (S.remaining reader.new) × (S.has_ended reader.new ≡ true))) }
     ensures claims { OnOk result (IsShortEnough bits) }
-    ensures reads { OnOk result (S.failed reader.new ≡ S.failed reader.old) }
-    ensures writes { OnOk result (K.failed writer.new ≡ K.failed writer.old) }
-    ensures read { IsErrOf result ToolError.Read ↔ (S.failed reader.old < S.failed reader.new) }
-    ensures write { IsErrOf result ToolError.Write ↔ (K.failed writer.old < K.failed writer.new) }
-    ensures refused { IfErr result MayBreakEarly }
-    ensures broke_off { IfErr result (SoftBreaksOff (record { rules = rules.now; gaps = gaps.now; margin = margin }) bits
-        (S.given reader.old) (S.given reader.new) (S.has_ended reader.new)
-        (K.contents writer.old) (K.contents writer.new) (K.is_flushed writer.new)) }
+    ensures broke { IfErr result (Breaks S.Source K.Sink (symbol_stream (record { rules = rules.now; gaps = gaps.now; margin = margin }) bits)
+        reader.old reader.new writer.old writer.new) }
 {
     prove!(1 <= rules.reach());
     laws::runs_are_reports();
@@ -144,7 +121,7 @@ fn symbols_left(bits: Option<u64>, count: u64) -> usize
     requires claims { IsShortEnough bits }
     requires asked { IfSome bits (λ bits. count ≤ bits + 1) }
     ensures within { IfSome bits (λ bits. count + result ≤ bits + 1) }
-    ensures none { result ≡ 0 → IfSome bits (λ bits. count ≡ bits + 1) × (bits ≢ None) }
+    ensures none { result ≡ 0 → IfSome bits (λ bits. bits < count - 1 + 1) × (bits ≢ None) }
 {
     match bits {
         Some(bits) => (bits + 1 - count).min(CHUNK as u64) as usize,
@@ -229,11 +206,11 @@ fn rows_of_end(
 ) -> Result<Vec<u8>, ToolError>
     ensures rows { IfOk result (λ rows. soft_stream_text stream.entry.terms stream.entry.symbols
         ≡ soft_rows_so_far stream.entry.terms stream.entry.symbols ++ rows.items) }
-    ensures enough { OnOk result (IsShort bits (length stream.entry.symbols) → ⊥) }
+    ensures enough { OnOk result (IsShort bits (length stream.entry.symbols - 1) → ⊥) }
     ensures gaps { OnOk result (AreGaps (length stream.entry.symbols - 1) stream.entry.terms.gaps) }
     ensures fits { OnOk result (length stream.entry.symbols ≤ 2 ^ 36 + 1) }
-    ensures past { IsErrOf result ToolError.BitsPastBytes → IsShort bits (length stream.entry.symbols) }
-    ensures bad_gaps { IsErrOf result ToolError.BadGaps → (IsShort bits (length stream.entry.symbols) → ⊥)
+    ensures past { IsErrOf result ToolError.BitsPastBytes → IsShort bits (length stream.entry.symbols - 1) }
+    ensures bad_gaps { IsErrOf result ToolError.BadGaps → (IsShort bits (length stream.entry.symbols - 1) → ⊥)
         × (AreGaps (length stream.entry.symbols - 1) stream.entry.terms.gaps → ⊥) }
     ensures kinds { IfErr result (λ error. (error ≡ ToolError.OutOfMemory)
         ⊎ ((error ≡ ToolError.BitsPastBytes) ⊎ (error ≡ ToolError.BadGaps))) }
@@ -250,7 +227,7 @@ fn rows_of_end(
 
 /// Whether this number of symbols has fewer bits between them than are claimed.
 fn is_short(bits: Option<u64>, count: u64) -> bool
-    ensures { (result ≡ true) ↔ IsShort bits count }
+    ensures { (result ≡ true) ↔ IsShort bits (count - 1) }
 {
     match bits {
         Some(bits) => count.saturating_sub(1) < bits,

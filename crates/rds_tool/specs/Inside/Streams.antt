@@ -1,32 +1,45 @@
--- How far a stream was followed: this project's rule. The steps of `follow` cite it, and no public call.
-use Rattle.std.specs.Prelude.{◌≡◌, ◌≤◌, ◌<◌, ◌+◌, ◌*◌, ◌^◌, ◌-◌, ◌⊎◌, ⊤, ℕ, Bool, List, None, Option, Some, length, true}
+-- How far a stream was followed: this project's rule. The steps of `follow` and `follow_soft` cite it, and no public call.
+use Rattle.std.specs.Prelude.{◌≡◌, ◌≤◌, ◌<◌, ◌+◌, ◌^◌, ◌++◌, ◌-◌, ◌⊎◌, ◌↔◌, ⊤, ℕ, IfSome, List, None, Option, Some}
 use Rattle.std.specs.Io.KnownBytes.{Appends, Consumes, IsAtEnd}
-use Rattle.rds_live.specs.StreamDecoder.{LiveOf, Terms, live_of}
-use Rattle.rds_tool.specs.Following.{AllCount, rows_so_far}
+use Rattle.rds_rows.specs.declared.sink.Sink.{Ghosts as Sink}
+use Rattle.rds_stream.specs.Recording.{AreGaps}
+use Rattle.rds_tool.specs.Following.{BreaksOff, IsFlushedAfter, MayBreakOff, Stream}
+use Rattle.rds_tool.specs.History.{Gave}
+use Rattle.rds_tool.specs.declared.devices.Source.{Ghosts as Source}
+use Rattle.rds_tool.specs.declared.error.ToolError.{ToolError}
+use Rattle.rds_tool.specs.declared.error.ToolError.TheVariants.{BadGaps, BitsPastBytes, Read, Write}
 
--- these bytes were heard, and the rows that they complete were written
-pub record IsFollowed (terms : Terms) (bits : Option ℕ) (live : LiveOf) (from to old new : Option (List ℕ))
-    (heard : List ℕ) : Type 0 where
-  pub live_is : live ≡ live_of terms heard
-  pub taken : Consumes from to heard
-  pub written : Appends old new (rows_so_far terms heard)
-  pub short : 8 * length heard ≤ 2 ^ 36
-  pub all_count : AllCount bits heard
+module _ {R W : Type 0} (source : Source R) (sink : Sink W) (s : Stream) (reader reader' : R) (writer writer' : W) where
+  -- these symbols were heard, and the rows that they complete were written
+  pub record IsHeard (heard : List ℕ) : Type 0 where
+    pub gave : source.given reader' ≡ source.given reader ++ heard
+    pub took : Consumes (source.remaining reader) (source.remaining reader') heard
+    pub counts : IfSome s.claim (λ n. s.size heard ≤ n)
+    pub written : Appends (sink.contents writer) (sink.contents writer') (s.rows heard)
+    pub flush : IsFlushedAfter heard (sink.is_flushed writer')
+    pub reads : source.failed reader' ≡ source.failed reader
+    pub writes : sink.failed writer' ≡ sink.failed writer
+
+  -- following broke off by this error
+  pub record Breaks (e : ToolError) : Type 0 where
+    pub broke_off : BreaksOff s (source.given reader) (source.given reader') (source.has_ended reader')
+        (sink.contents writer) (sink.contents writer') (sink.is_flushed writer') e
+    pub took : Gave (source.given reader) (source.given reader') (Consumes (source.remaining reader) (source.remaining reader'))
+    pub past : e ≡ BitsPastBytes → IsAtEnd (source.remaining reader')
+    pub bad_gaps : e ≡ BadGaps → (AreGaps (2 ^ 36) s.gaps → ⊥) ⊎ (s.claim ≡ None → IsAtEnd (source.remaining reader'))
+    pub read : (e ≡ Read) ↔ (source.failed reader < source.failed reader')
+    pub write : (e ≡ Write) ↔ (sink.failed writer < sink.failed writer')
+    pub may : MayBreakOff e
 
 -- how many of the claimed bits are left, 0 if none are claimed
 abbrev pub bits_left : Option ℕ → ℕ → ℕ
 bits_left None place = 0
 bits_left (Some bits) place = bits - place
 
--- no whole byte is left of the bits that count, or no more is to come
-abbrev pub IsNearEnd : Option ℕ → ℕ → Option (List ℕ) → Type 0
-IsNearEnd None place to = IsAtEnd to
-IsNearEnd (Some bits) place to = (bits < place + 8) ⊎ IsAtEnd to
-
--- the same, if the reader's last answer tells the end
-abbrev pub IsNearAnswer : Option ℕ → ℕ → Bool → Type 0
-IsNearAnswer None place ended = ended ≡ true
-IsNearAnswer (Some bits) place ended = (bits < place + 8) ⊎ (ended ≡ true)
+-- less than a symbol is left of the bits that count, or no more is to come
+abbrev pub IsNear : Option ℕ → ℕ → ℕ → Type 0 → Type 0
+IsNear None step size Ended = Ended
+IsNear (Some bits) step size Ended = (bits < size + step) ⊎ Ended
 
 -- no more bits are claimed than a recording may have
 abbrev pub IsShortEnough : Option ℕ → Type 0
