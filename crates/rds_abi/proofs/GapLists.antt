@@ -1,6 +1,7 @@
 -- Gaps as C has them, and as a recording does.
-use Rattle.rds_abi.proofs.Shared.{common_steps, ◌≡◌, ◌∙◌, ℕ, zero, suc, ◌+◌, ◌-◌, ◌<◌, ◌≤◌, List, [], ◌∷◌, true, false, Option, None, ap, arith, drop, get_or, leb, leb-true, length, ltb, refl, sym, take, All, AllAdjacentBelow, filter_map, le-ltb, ltb-false, get_or-drop, get_or-map, get_or-take, length-map, length-take, IsNonDecreasingBy-from_all_adjacent, AreGaps, gaps_within, part_of_gap, gap_of, gaps_of, RdsGap, length-drop}
+use Rattle.rds_abi.proofs.Shared.{common_steps, ◌≡◌, ◌∙◌, ℕ, ◌+◌, ◌-◌, ◌<◌, ◌≤◌, List, [], ◌∷◌, true, false, None, ap, arith, drop, get_or, leb, leb-true, length, ltb, refl, sym, take, All, AllAdjacentBelow, filter_map, le-ltb, ltb-false, get_or-drop, get_or-map, get_or-take, length-map, length-take, IsNonDecreasingBy-from_all_adjacent, AreGaps, gaps_within, part_of_gap, gap_of, gaps_of, RdsGap, length-drop}
 use Rattle.std.specs.List.Sorted.{IsNonDecreasingBy, IsPartitionPoint}
+use Rattle.rds_live.proofs.NearGaps.{ended, skipped}
 
 -- those of a part, gap by gap
 pub parts-of-gaps : (d n : ℕ) (gaps : List RdsGap) → filter_map (λ (gap : RdsGap). part_of_gap d n (gap_of gap)) gaps ≡ gaps_within (gaps_of gaps) d n
@@ -80,19 +81,6 @@ ends-rise n gaps are = IsNonDecreasingBy-from_all_adjacent (λ (gap : RdsGap). g
 
 pub begins-rise : (n before : ℕ) (gaps : List RdsGap) → AreGaps n (gaps_of gaps) → IsNonDecreasingBy (λ (gap : RdsGap). gap.begin - before) gaps
 begins-rise n before gaps are = IsNonDecreasingBy-from_all_adjacent (λ (gap : RdsGap). gap.begin - before) gaps (λ k e h. grind (arith, common_steps, gaps-apart n gaps are, gaps-lie n gaps are))
-
-module _ (f : RdsGap → Option (ℕ × ℕ)) where
-  -- the first ones give nothing
-  skipped : (gaps : List RdsGap) (i : ℕ) → ((k : ℕ) (e : RdsGap) → k < i → f (get_or gaps k e) ≡ None) → filter_map f (drop i gaps) ≡ filter_map f gaps
-  skipped gaps zero give = refl
-  skipped [] (suc i) give = refl
-  skipped (gap ∷ gaps) (suc i) give = grind (arith, common_steps, give 0 gap, skipped gaps i (λ k e l. give (suc k) e (omega (arith, l))))
-
-  -- and so do those from a number on
-  ended : (gaps : List RdsGap) (n : ℕ) → ((k : ℕ) (e : RdsGap) → n ≤ k → k < length gaps → f (get_or gaps k e) ≡ None) → filter_map f (take n gaps) ≡ filter_map f gaps
-  ended [] n give = grind (arith, common_steps)
-  ended (gap ∷ gaps) zero give = grind (arith, common_steps, give 0 gap, ended gaps zero (λ k e low high. give (suc k) e (omega arith) (omega (arith, high))))
-  ended (gap ∷ gaps) (suc n) give = grind (arith, common_steps, ended gaps n (λ k e low high. give (suc k) e (omega (arith, low)) (omega (arith, high))))
 
 module _ (before len n : ℕ) (few : n ≤ len) where
   none-before : (gap : RdsGap) → leb gap.end before ≡ true → part_of_gap before n (gap_of gap) ≡ None

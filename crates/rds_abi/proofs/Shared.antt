@@ -19,7 +19,7 @@ pub use Rattle.rds_sync.specs.declared.item.Item.{Item}
 pub use Rattle.rds_sync.specs.declared.state.State.{State}
 pub use Rattle.rds_sync.specs.declared.state.State.TheVariants.{Locked, Searching}
 pub use Rattle.rds_live.proofs.GapParts.{found-of-part, part-touched}
-pub use Rattle.rds_live.proofs.ItemPlaces.{due-soon, end-early, run-early}
+pub use Rattle.rds_live.proofs.ItemPlaces.{group-soon, run-early}
 pub use Rattle.rds_live.proofs.Parts.{IsPartOf, bits-begin, bits-heard, length-at, length-signal}
 pub use Rattle.rds_live.specs.Gaps.{gaps_within, part_of_gap}
 pub use Rattle.rds_live.specs.Moving.{EndsMove, IsPartHeard, RunsMove, most_behind, moved_item, moved_items, moved_state}

@@ -164,15 +164,7 @@ fn group_in(search: &mut Search, source: &Source<'_>, group: Group) -> SoftGroup
 {
     let place = group.place;
     let there = group_there(search, source, group);
-    let (blocks, kind) = (there.blocks, there.kind);
-    let (version, conflict) = (there.version, there.conflict);
-    SoftGroup {
-        place,
-        blocks,
-        kind,
-        version,
-        conflict,
-    }
+    SoftGroup { place, ..there }
 }
 
 /// The group at its place in the part.
