@@ -1,5 +1,5 @@
 -- How far a stream of symbols was followed, and where it breaks off.
-use Rattle.rds_tool.proofs.Names.{common_steps, ◌≡◌, ◌≢◌, ◌+◌, ◌-◌, ◌^◌, ◌<◌, ◌≤◌, ◌++◌, ◌⊎◌, ◌↔◌, ◌∙◌, Bool, ℕ, List, [], Err, None, Ok, Option, Result, Some, inl, inr, length, map, true, refl, sym, ap, subst, arith, append_assoc, IfErr, IfSome, IsErrOf, OnErr, OnOk, flat_map, range_with_len, Appends, IsAtEnd, le-ltb, flat_map-append, append-nil, length-append, map-append, flat_map-map, item_again, symbols_of, SoftTerms, group_item, read_again, hard_bit, SoftItem, AreGaps, length_of, RunsAreReports, IsLossRule, items_of_end, run, Searching, AreAsked, Follows, HasAll, IsShortOf as IsShort, claim_or, Breaks, IsHeard, IsNear, WritesPrefix, claimed_of, soft_row, soft_text, soft_totals_text, soft_listed, soft_rows_so_far, soft_stream_text, symbol_stream, ToolError, BadGaps, BitsPastBytes, OutOfMemory, TooLong, Write}
+use Rattle.rds_tool.proofs.Names.{common_steps, ◌≡◌, ◌≢◌, ◌+◌, ◌-◌, ◌^◌, ◌<◌, ◌≤◌, ◌++◌, ◌⊎◌, ◌↔◌, ◌∙◌, Bool, ℕ, List, [], None, Ok, Option, Result, Some, inl, inr, length, map, true, sym, ap, subst, arith, append_assoc, IfErr, IfSome, IsErrOf, OnErr, OnOk, flat_map, range_with_len, Appends, IsAtEnd, le-ltb, flat_map-append, append-nil, length-append, map-append, flat_map-map, item_again, symbols_of, SoftTerms, group_item, read_again, hard_bit, SoftItem, AreGaps, length_of, RunsAreReports, IsLossRule, items_of_end, run, Searching, AreAsked, Follows, HasAll, IsShortOf as IsShort, claim_or, Breaks, IsHeard, IsNear, WritesPrefix, claimed_of, soft_row, soft_text, soft_totals_text, soft_listed, soft_rows_so_far, soft_stream_text, symbol_stream, ToolError, BadGaps, BitsPastBytes, OutOfMemory, TooLong, Write}
 use Rattle.rds_rows.specs.declared.sink.Sink.{Ghosts as Sink}
 use Rattle.rds_soft.specs.SoftStream.{complete, report_of, run_of, signal_of}
 use Rattle.rds_soft.specs.SoftTotals.{soft_totals_of}

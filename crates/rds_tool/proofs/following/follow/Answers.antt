@@ -1,5 +1,5 @@
-use Rattle.rds_tool.proofs.Names.{common_steps, arith, ◌++◌, ◌∙◌, ℕ, Err, List, ap, sym, rows_so_far}
-use Rattle.rds_tool.proofs.Followed.{breaks_last, breaks_rest, few_bits, flushed_ok, follows_err, follows_rest, heard_ok, known_ok, last_is, place_is, place_of_all, rest_fits}
+use Rattle.rds_tool.proofs.Names.{◌++◌, ◌∙◌, ℕ, Err, List, ap, sym, rows_so_far}
+use Rattle.rds_tool.proofs.Followed.{breaks_last, breaks_rest, few_bits, follows_err, follows_rest, heard_ok, known_ok, last_is, place_is, place_of_all, rest_fits}
 use Rattle.rds_tool.proofs.Passing.{passed}
 use Rattle.rds_tool.proofs.following.follow.Goals as goal
 

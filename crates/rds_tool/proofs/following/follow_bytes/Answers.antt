@@ -1,5 +1,5 @@
-use Rattle.rds_tool.proofs.Names.{common_steps, arith, ◌*◌, ◌≡◌, ◌≤◌, ◌++◌, ◌∙◌, ℕ, Err, List, [], ap, drop, length, length-append, refl, subst, sym, take, true, IsAtEnd, LiveOf, IsNear, most_read}
-use Rattle.rds_tool.proofs.Followed.{asked_more, breaks_at_once, breaks_chunk, breaks_read, counts_more, front_is, has_heard, heard_end, heard_more, heard_next, heard_none, is_read, lent_whole, listing_begins, long_taken, near_by, place_is, place_of_all, rows_by, smaller, some_taken}
+use Rattle.rds_tool.proofs.Names.{common_steps, arith, ◌≡◌, ◌≤◌, ◌++◌, ◌∙◌, ℕ, Err, [], ap, drop, length, length-append, refl, subst, sym, take, true, IsAtEnd, LiveOf, IsNear, most_read}
+use Rattle.rds_tool.proofs.Followed.{asked_more, breaks_at_once, breaks_chunk, breaks_read, counts_more, front_is, heard_end, heard_more, heard_next, heard_none, is_read, lent_whole, listing_begins, long_taken, near_by, place_is, place_of_all, rows_by, smaller, some_taken}
 use Rattle.rds_tool.proofs.Passing.{passes}
 use Rattle.rds_tool.proofs.following.follow_bytes.Goals as goal
 
