@@ -231,7 +231,7 @@ module _ (rules : RuleNumbers) (workers : ℕ) (e : ToolError) (why : RefusesTer
       gave = refl;
       asked = asked_still s.claim s.step (s.size []) some (subst (λ k. IfSome s.claim (λ n. k ≤ n)) (sym size) (some_bits s.claim));
       prompt = λ p. absurd (not_read rules workers e why p);
-      between = λ _. none;
+      between = λ _. sym none;
       within = λ p. absurd (not_write rules workers e why p);
       too_long = λ p. absurd (not_long rules workers e why p);
       past = λ p. absurd (not_past rules workers e why p);
