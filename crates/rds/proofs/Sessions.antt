@@ -1,5 +1,5 @@
 -- From devices with no history to those that a run leaves.
-use Rattle.std.proofs.Common.{◌++◌, ◌+◌, ◌*◌, ◌<◌, ◌≤◌, ◌≡◌, ◌≢◌, ◌⊎◌, ◌∙◌, [], ℕ, ap, arith, Bool, Err, false, inl, inr, length, List, None, Ok, Option, refl, Result, Some, subst, sym, true}
+use Rattle.std.proofs.Common.{◌++◌, ◌<◌, ◌≤◌, ◌≡◌, ◌≢◌, ◌⊎◌, ◌∙◌, [], ℕ, ap, arith, Bool, Err, false, inl, inr, length, List, None, Ok, Option, refl, Result, Some, subst, sym, true}
 use Rattle.std.specs.Prelude.{◌↔◌, IfErr, IfSome, IsErrOf, OnOk}
 use Rattle.rds_rows.specs.declared.sink.Sink.{Ghosts as Sink}
 use Rattle.rds_sync.specs.Rules.{RuleNumbers}
