@@ -7,11 +7,13 @@ import os
 import re
 import shlex
 import shutil
+import signal
 import subprocess
 import sys
 from itertools import chain
 from pathlib import Path
 from typing import List
+from unittest import mock
 
 import pytest
 
@@ -200,6 +202,11 @@ def test_names_of_files(name: str, station: bytes, station_listing: bytes, tmp_p
 def test_text_of_strangers_is_escaped_in_errors() -> None:
     done = run("errors", data=b"group,1,\x1b[31m\xff,\n" * 3)
     assert done.status == 1 and done.err[:-1].isprintable() and "\\x1b[31m" in done.err
+
+
+def test_an_interrupted_command_has_the_status_of_its_signal() -> None:
+    with mock.patch("rds_monitor.measures.errors.run_errors", side_effect=KeyboardInterrupt):
+        assert run("errors") == (128 + signal.SIGINT, "", "")
 
 
 # ---- long work
