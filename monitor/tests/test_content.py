@@ -427,6 +427,10 @@ SEQUENCES: Dict[str, Tuple[List[Words], str, List[Any]]] = {
         *([eon(14, number) for number in (NUMBER, NO_HOUR, NO_MINUTE, 0)], "eon:D312.pin"),
         ["15 20:30", None],
     ),
+    "paging in groups that an application has left": (
+        *([oda(0x1234, "7A"), group("7A", 3, 1, 2), oda(0x1234, "9B"), group("7A", 3, 1, 2)], "rp"),
+        [True],
+    ),
     "TMC whose application is told": ([TMC, oda(0xCD46, "8A"), TMC], "tmc", [True]),
     "TMC whose groups another application has": ([TMC, oda(0x1234, "8A"), TMC], "tmc", [True, None]),
     "TA of 14B and of variant 13": (
