@@ -386,13 +386,6 @@ def test_corrected_blocks_alone_say_nothing(size: int) -> None:
     ]
 
 
-def test_dynamic_ps_is_no_mixture() -> None:
-    frames = [b"Now on a", b"ir: the ", b"news    "]
-    groups = [entry for frame in 3 * frames for entry in name(frame)]
-    assert set(values(groups, "ps")) <= {frame.decode().rstrip() for frame in frames}
-    assert len(values(groups, "ps")) >= 8
-
-
 SAME = text(b"The same\r", 0) + text(b"The same\r", 1) + text(b"The same\r", 0)
 A_B_C, A_B_D = text(b"AAAABBBBCCCC\r"), text(b"AAAABBBBDDDD\r", 1)
 A_X_C = text(b"AAAAXXXXCCCC\r")
