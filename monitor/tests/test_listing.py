@@ -452,7 +452,7 @@ COMPRESSED = {
 @pytest.mark.parametrize("name", COMPRESSED)
 def test_compressed_inputs_are_read(name: str, station: bytes, station_listing: bytes) -> None:
     compress = COMPRESSED[name]
-    for data in (station + bytes(1 << 20), station_listing):
+    for data in (station + bytes(300_000), station_listing):
         expected = said("errors", data=data)
         assert said("errors", data=compress(data)) == expected
         # Several streams in a row are one, as `cat` makes them.
