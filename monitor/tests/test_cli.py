@@ -5,17 +5,20 @@ from __future__ import annotations
 import argparse
 import os
 import re
+import shlex
 import shutil
+import signal
 import subprocess
 import sys
 from itertools import chain
 from pathlib import Path
 from typing import List
+from unittest import mock
 
 import pytest
 
 from conftest import COMMAND, PROGRAM, STATION, TOP, monitor, ran, rds
-from made import damaged, group_row, listing, on_a_terminal, peak_memory, run, said
+from made import damaged, on_a_terminal, peak_memory, run, said
 from rds_monitor import cli
 from rds_monitor.rows import inputs
 from rds_monitor.watch import verdict
@@ -29,6 +32,10 @@ def test_help_has_an_example() -> None:
         assert f"  {command.name} " in text and command.summary in text
         shown = run(command.name, "--help")
         assert shown.status == 0 and re.search(rf"\nexamples?:\n  rds-monitor {command.name} ", shown.out)
+        for words in re.findall(rf"^  rds-monitor {command.name} ([^|>\n]*)", shown.out, re.M):
+            given = cli.parser_of(command).parse_args(shlex.split(words))
+            if command.name == "batch":
+                rds("list", *shlex.split(given.options))
     assert run().out == text and run("--version").out.startswith(f"rds-monitor {cli.__version__}\n")
 
 
@@ -197,28 +204,28 @@ def test_text_of_strangers_is_escaped_in_errors() -> None:
     assert done.status == 1 and done.err[:-1].isprintable() and "\\x1b[31m" in done.err
 
 
+def test_an_interrupted_command_has_the_status_of_its_signal() -> None:
+    with mock.patch("rds_monitor.measures.errors.run_errors", side_effect=KeyboardInterrupt):
+        assert run("errors") == (128 + signal.SIGINT, "", "")
+
+
 # ---- long work
 
 
 def test_progress_is_for_a_terminal(tmp_path, station: bytes) -> None:
     (tmp_path / "it").write_bytes(station * 40)
-    # Some time passes with each look at the clock, or none.
+    # A second passes with each look at the clock, or none.
     timed = (
         "import itertools, sys; from rds_monitor import cli; from rds_monitor.rows import extent, recording\n"
-        "clock = itertools.count(0, float(sys.argv[1]))\n"
+        "clock = itertools.count(0, int(sys.argv[1]))\n"
         "recording.CHUNK, extent.time.monotonic = 1 << 16, lambda: next(clock)\n"
-        "sys.exit(cli.main(['errors', *sys.argv[2:]]))"
+        "sys.exit(cli.main(['errors', sys.argv[2]]))"
     )
-    shown = on_a_terminal("-c", timed, "0.25", str(tmp_path / "it"))
-    # Chunks of 65536 of a million bytes, each second one from the second second on; at the end the line is erased.
-    assert [*map(int, re.findall(rb"(\d+) %", shown))] == [*(round(6.5536 * n) for n in range(4, 16, 2)), 100]
-    assert shown.endswith(b"100 %\r     \r")
+    # Chunks of 65536 of a million bytes; at the end the line is erased.
+    shown = on_a_terminal("-c", timed, "1", str(tmp_path / "it"))
+    assert shown.startswith(b"\r7 %\r13 %\r") and shown.endswith(b"\r100 %\r     \r")
     assert on_a_terminal("-c", timed, "0", str(tmp_path / "it")) == b""
     assert monitor("errors", str(tmp_path / "it")).stderr == b""
-    # The length of a part is not known: 2^36 bits are two years.
-    (tmp_path / "it").write_bytes(listing([group_row(2**36 - 104, (1, 2, 3, 4))], totals=False))
-    shown = on_a_terminal("-c", timed, "1", "--unfinished", str(tmp_path / "it"))
-    assert shown == b"\r16074.73 h\r" + 10 * b" " + b"\r"
 
 
 @pytest.mark.parametrize("command", ["errors", "outages"])

@@ -118,8 +118,8 @@ def test_a_recording_that_is_too_short(station_listing: bytes) -> None:
 
 def test_ticks_of_one_minute() -> None:
     """Two that say the same minute tell no rate, but those before them do."""
-    ticks = [Tick(71250 * minute, 60 * minute) for minute in range(12)]
-    assert fit([*ticks, Tick(71250 * 11 + 104, 660)]).clock.rate == pytest.approx(1187.5)
+    ticks = [Tick(78000 * minute, 60 * minute) for minute in range(12)]
+    assert fit([*ticks, Tick(78000 * 11 + 104, 660)]).clock.rate == pytest.approx(1300)
 
 
 @pytest.mark.parametrize("numbers", [range(3, 20, 2), (3, 5, 14)])

@@ -386,13 +386,6 @@ def test_corrected_blocks_alone_say_nothing(size: int) -> None:
     ]
 
 
-def test_dynamic_ps_is_no_mixture() -> None:
-    frames = [b"Now on a", b"ir: the ", b"news    "]
-    groups = [entry for frame in 3 * frames for entry in name(frame)]
-    assert set(values(groups, "ps")) <= {frame.decode().rstrip() for frame in frames}
-    assert len(values(groups, "ps")) >= 8
-
-
 SAME = text(b"The same\r", 0) + text(b"The same\r", 1) + text(b"The same\r", 0)
 A_B_C, A_B_D = text(b"AAAABBBBCCCC\r"), text(b"AAAABBBBDDDD\r", 1)
 A_X_C = text(b"AAAAXXXXCCCC\r")
@@ -426,6 +419,10 @@ SEQUENCES: Dict[str, Tuple[List[Words], str, List[Any]]] = {
     "the same of another network": (
         *([eon(14, number) for number in (NUMBER, NO_HOUR, NO_MINUTE, 0)], "eon:D312.pin"),
         ["15 20:30", None],
+    ),
+    "paging in groups that an application has left": (
+        *([oda(0x1234, "7A"), group("7A", 3, 1, 2), oda(0x1234, "9B"), group("7A", 3, 1, 2)], "rp"),
+        [True],
     ),
     "TMC whose application is told": ([TMC, oda(0xCD46, "8A"), TMC], "tmc", [True]),
     "TMC whose groups another application has": ([TMC, oda(0x1234, "8A"), TMC], "tmc", [True, None]),

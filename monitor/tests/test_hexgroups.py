@@ -11,7 +11,7 @@ import numpy
 import pytest
 from hypothesis import given, settings, strategies as st
 
-from conftest import STATION, encode, monitor, rds
+from conftest import STATION, encode, monitor
 from rds_monitor.measures.groups import text_of
 from rds_monitor.rows.group_lines import GroupLines
 from rds_monitor.rows.heads import is_groups
@@ -59,11 +59,6 @@ LINE = "D318 0548 E0CD 5041"
 )
 def test_lines_of_a_row(row: str, options: str, line: str) -> None:
     assert said("groups", "--unfinished", *options.split(), data=f"{row}\n".encode()) == line
-
-
-def test_whole_groups_go_back_into_the_encoder() -> None:
-    sent = rds("encode", data=said("groups", "--whole", STATION).encode())
-    assert sent in STATION.read_bytes() or rds("list", data=sent)
 
 
 def test_spy_needs_a_start() -> None:

@@ -221,8 +221,7 @@ def redsea(*groups: Words, data: bytes = b"") -> List[Dict[str, Any]]:
 def test_redsea_has_a_line_per_group_with_its_keys() -> None:
     groups = [*name(b"PAXO 318", [0xE301, 0xFA01, 0xCCCD]), label(0, 0xE0, PIN), label(3, 8)]
     groups += [*text(b"Song by Singer\r"), oda(0x4BD7, "11A"), tags(1, 1, (1, 0, 3), (4, 8, 5))]
-    groups += [clock(61128, 1, 30, 4), eon(13, 17 << 11 | 1), group("14B", 0x18, 0, 0xD312)]
-    groups.append(group("5A", 3, 0xFF01, 0x0203))
+    groups.append(clock(61128, 1, 30, 4))
     found = redsea(*groups)
     assert len(found) == len(groups)
     every = {"pi": "0xD318", "tp": True, "prog_type": "Pop music"}
@@ -238,9 +237,6 @@ def test_redsea_has_a_line_per_group_with_its_keys() -> None:
         10: dict(open_data_app=dict(oda_group="11A", app_name="RadioText Plus (RT+)", message=0)),
         11: dict(radiotext_plus=dict(item_running=True, item_toggle=1, tags=song)),
         12: dict(clock_time="2026-03-29T03:30:00+02:00"),
-        13: dict(other_network={"pi": "0xD312", "tp": False, "ta": True, "prog_type": "Finance"}),
-        14: dict(other_network={"pi": "0xD312", "tp": True, "ta": True}),
-        15: dict(transparent_data={"address": 3, "raw": "FF 01 02 03"}),
     }
     assert {k: {key: found[k][key] for key in keys} for k, keys in wanted.items()} == wanted
 

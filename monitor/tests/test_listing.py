@@ -5,6 +5,7 @@ from __future__ import annotations
 
 import gzip
 import io
+import itertools
 import lzma
 import sys
 from collections import defaultdict
@@ -18,8 +19,7 @@ from hypothesis import HealthCheck, given, settings, strategies as st
 
 from conftest import encode, rds
 from made import acquired_row, block, damaged, group_row, joined, listing, lock, loss_row, read, run, said
-from rds_monitor.rows import listing as of_listing
-from rds_monitor.rows.extent import Extent
+from rds_monitor.rows import extent, listing as of_listing
 from rds_monitor.rows.heads import HEADER, is_known, is_listing
 from rds_monitor.rows.items import BLOCKS, GROUP, VALID, Fault, Reading, Rows, Rules, totals_of
 from rds_monitor.rows.listing import Listing, text_of, totals_text
@@ -297,9 +297,31 @@ def test_the_extent_of_a_listing_and_of_a_part() -> None:
     """A part begins with its first block."""
     rows = lock(26, [WORDS] * 3)
     for part, begin in ((False, 0), (True, 26)):
-        extent = Extent(source_of(listing(rows, totals=not part), unfinished_ok=part))
-        assert sum(map(len, extent.chunks())) == 5
-        assert (extent.begin, extent.end, extent.is_soft) == (begin, 26 + 3 * 104, False)
+        found = extent.Extent(source_of(listing(rows, totals=not part), unfinished_ok=part))
+        assert sum(map(len, found.chunks())) == 5
+        assert (found.begin, found.end, found.is_soft) == (begin, 26 + 3 * 104, False)
+
+
+HOURS = "4018.68 h;6028.02 h;8037.37 h;10046.71 h;12056.05 h;14065.39 h;16074.73 h"
+
+
+@pytest.mark.parametrize(
+    "length, bits, texts",
+    [(16000, 1000, "25 %;38 %;50 %;62 %;75 %;88 %;100 %"), (None, 2**32, HOURS)],
+)
+def test_progress_is_told_twice_a_second(
+    length: Optional[int], bits: int, texts: str, monkeypatch: pytest.MonkeyPatch
+) -> None:
+    """From the first second on, where a quarter of one passes with each look at the clock. At the end the line is erased."""
+    shown, clock = [], itertools.count(0, 0.25)
+    monkeypatch.setattr(sys, "stderr", mock.Mock(isatty=lambda: True, write=shown.append))
+    monkeypatch.setattr(extent, "time", mock.Mock(monotonic=lambda: next(clock)))
+    progress = extent.Progress(length)
+    for number in range(1, 17):
+        progress.at(bits * number)
+    progress.close()
+    last = len(texts.split(";")[-1])
+    assert shown == [*(f"\r{text}" for text in texts.split(";")), f"\r{'':{last}}\r"]
 
 
 # ---- random listings
@@ -430,7 +452,7 @@ COMPRESSED = {
 @pytest.mark.parametrize("name", COMPRESSED)
 def test_compressed_inputs_are_read(name: str, station: bytes, station_listing: bytes) -> None:
     compress = COMPRESSED[name]
-    for data in (station + bytes(1 << 20), station_listing):
+    for data in (station + bytes(300_000), station_listing):
         expected = said("errors", data=data)
         assert said("errors", data=compress(data)) == expected
         # Several streams in a row are one, as `cat` makes them.

@@ -137,12 +137,6 @@ def test_recordings_of_nothing(command: str) -> None:
             assert done.out.splitlines()[1:] == rows[command]
 
 
-def test_a_longer_pause_makes_one_programme(outages: bytes) -> None:
-    assert said("programmes", "--unfinished", "--pause", 60, data=outages)[1:] == [
-        "0.000,174.282,D393,1366,0,206960"
-    ]
-
-
 def test_group_types(station: bytes) -> None:
     assert said("types", data=station) == [
         "type,version,groups,corrected,first_s,last_s",
@@ -291,15 +285,6 @@ def test_a_listing_has_the_tables_of_its_recording(command: str, station: bytes)
     assert of_recording.status == 0
 
 
-def test_dropped_bits_and_gaps(station: bytes) -> None:
-    """2,400 bits from bit 80,000 on are absent: as with a bit slip, sync is lost and acquired again, and gaps take good
-    bits away."""
-    absent = station[:10000] + station[10300:]
-    whole = [said("types", *gaps, data=absent) for gaps in ((), ("--gaps", "80000-82400"))]
-    counts = [sum(int(row.split(",")[2]) for row in rows[1:]) for rows in whole]
-    assert counts[0] > counts[1]
-
-
 # ---- against plain loops, on random rows
 
 
@@ -428,9 +413,3 @@ def test_counts_are_those_of_the_totals(station: bytes) -> None:
         # A block that begins before the end and is cut there was not sent whole.
         assert sums[0] == sum(sums[1:]) and sums[0] in (8 * len(data) // 26, 8 * len(data) // 26 + 1)
         assert sum(int(row[2]) + int(row[3]) for row in types) == totals["groups"]
-
-
-def test_the_output_is_awks_too(station: bytes) -> None:
-    """Fields have no quotes and no blanks."""
-    for command in ("errors", "outages", "programmes", "types"):
-        assert not {'"', " "} & {*output(command, *START, data=station)}

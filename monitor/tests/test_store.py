@@ -264,19 +264,6 @@ def test_the_views_of_written_rows(database) -> None:
             ]
 
 
-def test_a_name_that_scrolls_is_cut(database) -> None:
-    groups = []
-    for n in range(2000):
-        text = f"NAME{n // 8:4d}"
-        groups.append((0xD393, 0x0548 + n % 4, 0xE0CD, int.from_bytes(text[n % 4 * 2 :][:2].encode(), "big")))
-    add("--name", "it", database, data=encode(groups))
-    told = asked(
-        database, "SELECT CAST(time_s / 60 AS INTEGER), COUNT(*) FROM events WHERE item = 'ps' GROUP BY 1"
-    )
-    assert told == [(0, 6), (1, 6), (2, 6)]
-    assert all(more > 50 for more in asked(database, "SELECT more FROM minutes")[:2])
-
-
 def test_an_item_that_is_no_longer_sent_is_one_fact(database) -> None:
     """Of slow labelling the country code is taken back by an empty one."""
     countries = (0xE0, 0xE0, 0x00, 0x00, 0xE0, 0xE0, 0x00, 0x00)
