@@ -280,6 +280,17 @@ def test_a_tile_tells_the_last_minute_and_the_last_whole_group(tmp_path: Path) -
 
 
 @needs_d3
+@pytest.mark.parametrize("block", range(4))
+def test_a_whole_group_has_four_blocks(block: int) -> None:
+    """Of the last twenty groups one block cannot be corrected."""
+    bits = numpy.unpackbits(numpy.frombuffer(station(), "u1")).reshape(-1, 104)
+    bits[-20:, 26 * block : 26 * block + 26 : 5] ^= 1
+    assert data_of(page(data=numpy.packbits(bits).tobytes()))[0]["tile"]["silent"] == round(
+        20 * 104 / 1187.5, 1
+    )
+
+
+@needs_d3
 def test_sessions_of_a_stream_are_on_one_line_of_time() -> None:
     listing = rds("list", data=station())
     told = data_of(page("--trust-length", data=listing + listing))[0]

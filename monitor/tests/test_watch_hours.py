@@ -110,6 +110,7 @@ def test_an_hour_that_is_compressed(tmp_path: Path) -> None:
     (made,) = plain.parent.iterdir()
     assert records.path_of(key) == f"{path}.zst" == f"hours/{made.name}" and made.stat().st_mtime == HOUR
     assert zstandard.ZstdDecompressor().decompress(made.read_bytes()) == b"row\n" * 9
+    assert zstandard.get_frame_parameters(made.read_bytes()).has_checksum
     records.close()
 
 
@@ -140,12 +141,13 @@ def test_an_hour_that_the_database_was_not_told_of(station_listing: bytes, tmp_p
         (tmp_path / path).with_name(other).write_text("mine")
     for told in ([path], []):
         assert recover(str(tmp_path), ["Alpha", "Beta"], records) == told
-    query = "SELECT name, station, number, start, rate, SUM(valid) FROM recordings JOIN sessions ON recording = recordings.id"
+    query = "SELECT name, station, number, start, rate, begin_place, SUM(valid) FROM recordings JOIN sessions ON recording = recordings.id"
     found = records.database.execute(
         f"{query} JOIN minute_rows ON session = sessions.id GROUP BY sessions.id"
     )
-    valid = int(totals.partition(b",")[0])
-    assert found.fetchall() == [(f"Alpha {name}", "Alpha", 0, HOUR + 12.5, 1200.0, valid)]
+    # It begins with the block before the one in which sync is acquired.
+    begin, valid = int(rows.split(b",")[1]) - 26, int(totals.partition(b",")[0])
+    assert found.fetchall() == [(f"Alpha {name}", "Alpha", 0, HOUR + 12.5, 1200.0, begin, valid)]
     records.close()
 
 

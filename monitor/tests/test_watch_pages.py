@@ -118,13 +118,11 @@ def test_stations_with_an_alarm_are_counted_once() -> None:
 
 
 def test_the_worst_first() -> None:
-    bad, ta, gone = (
-        {"minute": {"sent": 10, "valid": 1, "corrected": 0}},
-        {"alarms": {"ta": ""}},
-        {"alarms": {"no_rds": ""}},
-    )
-    states = {"a": state(), "b": state(**bad), "c": state(**ta), "d": state(**gone)}
-    assert worst_first(states) == ["d", "c", "b", "a"]
+    """By alarms, by bad blocks, of which none are known at first, and by name."""
+    bad, good = ({"sent": 10, "valid": valid, "corrected": 0} for valid in (1, 10))
+    states = {"a": state(), "b": state(minute=bad), "c": state(alarms={"ta": ""})}
+    states.update(d=state(alarms={"no_rds": ""}), f=state(minute=good), e=state(minute=None))
+    assert worst_first(states) == ["d", "c", "b", "a", "e", "f"]
 
 
 def test_an_outage_is_seen_in_a_day() -> None:
