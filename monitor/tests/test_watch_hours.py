@@ -30,6 +30,7 @@ from rds_monitor.watch.records import (
     Records,
     RunBegan,
     RunEnded,
+    StateSeen,
 )
 from rds_monitor.watch.recover import recover, rows_of
 from rds_monitor.watch.repair import make_whole
@@ -148,6 +149,19 @@ def test_an_hour_that_the_database_was_not_told_of(station_listing: bytes, tmp_p
     # It begins with the block before the one in which sync is acquired.
     begin, valid = int(rows.split(b",")[1]) - 26, int(totals.partition(b",")[0])
     assert found.fetchall() == [(f"Alpha {name}", "Alpha", 0, HOUR + 12.5, 1200.0, begin, valid)]
+    records.close()
+
+
+def test_news_come_after_what_waits(tmp_path: Path) -> None:
+    records = Records(str(tmp_path / "watch.db"))
+    writer, begin = Writer(str(tmp_path), records, print), AlarmChanged(
+        "Alpha", "pi", True, 1.0, "another PI"
+    )
+    writer.give(Batch([], [begin, StateSeen("Alpha", 1.0, {})], []))
+    writer.news.extend([begin._replace(begins=False, utc=2.0), StateSeen("Alpha", 2.0, {})])
+    assert writer.work()
+    query = "SELECT begin_at, end_at, looked_at FROM alarm_rows JOIN station_rows USING(station)"
+    assert records.database.execute(query).fetchall() == [(1.0, 2.0, 2.0)]
     records.close()
 
 
