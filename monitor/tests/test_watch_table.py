@@ -6,7 +6,6 @@ import importlib
 import re
 import sys
 import syslog
-import tomllib
 from pathlib import Path
 from typing import Any, List, Tuple
 
