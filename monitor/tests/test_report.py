@@ -190,6 +190,8 @@ def test_the_last_minute_of_steps(step: int, count: int) -> None:
     valid = numpy.array([0] + [100] * count)
     assert last_minute([Span(0, step, valid * 0 + 100, valid)]) == 0.0
     assert last_minute([Span(0, step, valid * 0 + 100, valid[::-1])]) == round(100 / count, 2)
+    # A recording may be shorter than a minute.
+    assert last_minute([Span(0, step, valid[:2] * 0 + 100, valid[:2])]) == (50.0 if count > 1 else 0.0)
     short = [Span(0, step, numpy.pad(valid * 0 + 100, 1), numpy.pad(valid, 1))]
     assert last_minute(short) == last_minute([*short, short[0]._replace(sent=valid * 0)]) == 0.0
 

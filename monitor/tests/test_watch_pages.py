@@ -97,6 +97,9 @@ def test_a_tile() -> None:
     assert "last whole group 0 s ago" in text
     text = Tags(overview({"A": state(minute=None, last_group_utc=None)}, {"A": []}, UTC, 60)).text
     assert "no minute yet; no whole group yet; RDS SNR 21.5 dB, level -31.0 dBFS" in text
+    for reason, told in (("", "the receiver starts"), ("unplugged", "unplugged")):
+        page = station_page("A", state(session_utc=None, reason=reason), [], [], [], UTC, 60)
+        assert f"no session: {told}; 3 starts" in Tags(page).text
 
 
 def test_a_picture_is_in_proportion() -> None:
