@@ -14,6 +14,7 @@ import zstandard
 from hypothesis import given
 from hypothesis import strategies as st
 
+from conftest import rds
 from made import run
 from rds_monitor.db.parts import EventRow, MinuteRow, Told
 from rds_monitor.measures.errors import Interval
@@ -149,6 +150,19 @@ def test_an_hour_that_the_database_was_not_told_of(station_listing: bytes, tmp_p
     # It begins with the block before the one in which sync is acquired.
     begin, valid = int(rows.split(b",")[1]) - 26, int(totals.partition(b",")[0])
     assert found.fetchall() == [(f"Alpha {name}", "Alpha", 0, HOUR + 12.5, 1200.0, begin, valid)]
+    records.close()
+
+
+def test_an_outage_that_lasted_when_the_watch_was_killed(station: bytes, tmp_path: Path) -> None:
+    """From the last valid block to the last bit that the database knew of."""
+    path, records, key = "listings/Alpha/it.csv", Records(str(tmp_path / "watch.db")), PartKey("Alpha 1", 0)
+    (tmp_path / path).parent.mkdir(parents=True)
+    rows = rds("list", data=station[:2000] + bytes(100)).partition(b"total,")[0]
+    (tmp_path / path).write_bytes(rows)
+    records.write([PartOpened(key, "Alpha", Timing(HOUR), 0, path), PartGrew(key, 20000, len(rows))])
+    assert recover(str(tmp_path), ["Alpha"], records) == [path]
+    ((begin, end),) = records.database.execute("SELECT begin_place, end_place FROM outage_rows").fetchall()
+    assert 16000 - 52 < begin <= 16000 and end == 20000
     records.close()
 
 
