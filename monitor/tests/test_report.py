@@ -384,6 +384,9 @@ def test_pages_of_a_year(year: Path) -> None:
     assert sorted(path.name for path in folder.iterdir()) == names
     assert all(path.stat().st_size < 2_000_000 for path in folder.iterdir())
     told, march = (data_of((folder / f"Alpha-2025{month}.html").read_text())[0] for month in ("", "-03"))
+    # A row of the station's year, with a cell for each head.
+    table = (folder / "index.html").read_text().split("Received, of all time")[1]
+    assert (table.count("<th "), table.count("<td")) == (14, 14)
     for month, beside in ((1, ["02"]), (3, ["02", "04"]), (12, ["11"])):
         text = (folder / f"Alpha-2025-{month:02}.html").read_text()
         assert re.findall(r'href="Alpha-2025-(\d+).html"', text) == beside
