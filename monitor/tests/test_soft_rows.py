@@ -218,6 +218,7 @@ def test_symbols_that_look_like_text_and_a_listing(listed: bytes) -> None:
 
 
 def test_a_check_of_the_last_seconds(path: Path) -> None:
+    path.touch()
     done = run("check", "--soft", "--last", 10, path)
     assert "age=0." in done.out and "corrected=" in done.out
     # Bytes of bits would be of noise.
