@@ -21,7 +21,7 @@ from measure_demod import TABLES, Words, bits_of, right, whole_groups
 from modulator import Array, dropped, iq, mpx, stored, wav, words
 
 from rds_monitor.signal.outputs import sentence
-from rds_monitor.signal.rates import BLOCK, _prominence
+from rds_monitor.signal.rates import BLOCK, COMMON, _prominence
 from rds_monitor.capture.stations import SECONDS
 from rds_monitor.signal.receiver import CARRIER_HZ, CHANNEL_HZ, RATES, Capture
 from rds_monitor.signal.soft import UNIT
@@ -48,6 +48,11 @@ def test_how_high_a_pilot_is(side: int) -> None:
     power[middle - 2 : middle + 3] = [0, 2, 11, 3, 0]
     power[sorted(range(middle + 9 * side, middle + 41 * side, side))] = 3
     assert _prominence(power, 192000) == pytest.approx(11 / 2)
+
+
+def test_usual_rates_are_round() -> None:
+    """All but the lowest one of the upper range of an RTL2832U."""
+    assert [rate for rate in COMMON if rate % 100] == [900001] and [*COMMON] == sorted({*COMMON})
 
 
 # Signals; the bit at the flip is wrong, and corrected.

@@ -190,6 +190,8 @@ def test_the_last_minute_of_steps(step: int, count: int) -> None:
     valid = numpy.array([0] + [100] * count)
     assert last_minute([Span(0, step, valid * 0 + 100, valid)]) == 0.0
     assert last_minute([Span(0, step, valid * 0 + 100, valid[::-1])]) == round(100 / count, 2)
+    # A recording may be shorter than a minute.
+    assert last_minute([Span(0, step, valid[:2] * 0 + 100, valid[:2])]) == (50.0 if count > 1 else 0.0)
     short = [Span(0, step, numpy.pad(valid * 0 + 100, 1), numpy.pad(valid, 1))]
     assert last_minute(short) == last_minute([*short, short[0]._replace(sent=valid * 0)]) == 0.0
 
@@ -277,6 +279,17 @@ def test_a_tile_tells_the_last_minute_and_the_last_whole_group(tmp_path: Path) -
     assert abs(told["tile"]["minute"] - 100 * 20.2 / 60) < 2
     line = told["tile"]["line"]
     assert len(line) == 96 and line[:95] == [None] * 95 and abs(line[95] - told["bad_percent"]) < 0.01
+
+
+@needs_d3
+@pytest.mark.parametrize("block", range(4))
+def test_a_whole_group_has_four_blocks(block: int) -> None:
+    """Of the last twenty groups one block cannot be corrected."""
+    bits = numpy.unpackbits(numpy.frombuffer(station(), "u1")).reshape(-1, 104)
+    bits[-20:, 26 * block : 26 * block + 26 : 5] ^= 1
+    assert data_of(page(data=numpy.packbits(bits).tobytes()))[0]["tile"]["silent"] == round(
+        20 * 104 / 1187.5, 1
+    )
 
 
 @needs_d3
@@ -371,6 +384,9 @@ def test_pages_of_a_year(year: Path) -> None:
     assert sorted(path.name for path in folder.iterdir()) == names
     assert all(path.stat().st_size < 2_000_000 for path in folder.iterdir())
     told, march = (data_of((folder / f"Alpha-2025{month}.html").read_text())[0] for month in ("", "-03"))
+    # A row of the station's year, with a cell for each head.
+    table = (folder / "index.html").read_text().split("Received, of all time")[1]
+    assert (table.count("<th "), table.count("<td")) == (14, 14)
     for month, beside in ((1, ["02"]), (3, ["02", "04"]), (12, ["11"])):
         text = (folder / f"Alpha-2025-{month:02}.html").read_text()
         assert re.findall(r'href="Alpha-2025-(\d+).html"', text) == beside

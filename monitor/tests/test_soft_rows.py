@@ -4,6 +4,7 @@ from __future__ import annotations
 
 import csv
 import io
+import os
 import random
 import re
 from pathlib import Path
@@ -218,6 +219,8 @@ def test_symbols_that_look_like_text_and_a_listing(listed: bytes) -> None:
 
 
 def test_a_check_of_the_last_seconds(path: Path) -> None:
+    # However slow the machine is, nothing was written later.
+    os.utime(path, (4e9, 4e9))
     done = run("check", "--soft", "--last", 10, path)
     assert "age=0." in done.out and "corrected=" in done.out
     # Bytes of bits would be of noise.

@@ -109,6 +109,7 @@ def test_block_errors() -> None:
     assert judged.found[0][2] == 6 and judged.found[1][2] == 15
     assert Judged("[station.alarms]", "errors = false").minutes(*[99.0] * 9).found == []
     assert Judged().minutes(*[30.0] * 9).found == []
+    assert Judged("[station.alarms]", "errors = 60").minutes(*[99.0] * 60).found == [("errors", True, 60.0)]
     # It ends below four fifths of the limit.
     judged = Judged().minutes(*[31.0] * 3, *[24.0] * 9)
     assert [begins for _, begins, _ in judged.found] == [True]

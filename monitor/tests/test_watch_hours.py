@@ -15,6 +15,7 @@ import zstandard
 from hypothesis import given
 from hypothesis import strategies as st
 
+from conftest import rds
 from made import run
 from rds_monitor.db.parts import EventRow, MinuteRow, Told
 from rds_monitor.measures.errors import Interval
@@ -31,6 +32,7 @@ from rds_monitor.watch.records import (
     Records,
     RunBegan,
     RunEnded,
+    StateSeen,
 )
 from rds_monitor.watch.recover import recover, rows_of
 from rds_monitor.watch.repair import make_whole
@@ -111,6 +113,7 @@ def test_an_hour_that_is_compressed(tmp_path: Path) -> None:
     (made,) = plain.parent.iterdir()
     assert records.path_of(key) == f"{path}.zst" == f"hours/{made.name}" and made.stat().st_mtime == HOUR
     assert zstandard.ZstdDecompressor().decompress(made.read_bytes()) == b"row\n" * 9
+    assert zstandard.get_frame_parameters(made.read_bytes()).has_checksum
     records.close()
 
 
@@ -147,12 +150,39 @@ def test_an_hour_that_the_database_was_not_told_of(station_listing: bytes, tmp_p
         (tmp_path / path).with_name(other).write_text("mine")
     for told in ([path], []):
         assert recover(str(tmp_path), ["Alpha", "Beta"], records) == told
-    query = "SELECT name, station, number, start, rate, SUM(valid) FROM recordings JOIN sessions ON recording = recordings.id"
+    query = "SELECT name, station, number, start, rate, begin_place, SUM(valid) FROM recordings JOIN sessions ON recording = recordings.id"
     found = records.database.execute(
         f"{query} JOIN minute_rows ON session = sessions.id GROUP BY sessions.id"
     )
-    valid = int(totals.partition(b",")[0])
-    assert found.fetchall() == [(f"Alpha {name}", "Alpha", 0, HOUR + 12.5, 1200.0, valid)]
+    # It begins with the block before the one in which sync is acquired.
+    begin, valid = int(rows.split(b",")[1]) - 26, int(totals.partition(b",")[0])
+    assert found.fetchall() == [(f"Alpha {name}", "Alpha", 0, HOUR + 12.5, 1200.0, begin, valid)]
+    records.close()
+
+
+def test_an_outage_that_lasted_when_the_watch_was_killed(station: bytes, tmp_path: Path) -> None:
+    """From the last valid block to the last bit that the database knew of."""
+    path, records, key = "listings/Alpha/it.csv", Records(str(tmp_path / "watch.db")), PartKey("Alpha 1", 0)
+    (tmp_path / path).parent.mkdir(parents=True)
+    rows = rds("list", data=station[:2000] + bytes(100)).partition(b"total,")[0]
+    (tmp_path / path).write_bytes(rows)
+    records.write([PartOpened(key, "Alpha", Timing(HOUR), 0, path), PartGrew(key, 20000, len(rows))])
+    assert recover(str(tmp_path), ["Alpha"], records) == [path]
+    ((begin, end),) = records.database.execute("SELECT begin_place, end_place FROM outage_rows").fetchall()
+    assert 16000 - 52 < begin <= 16000 and end == 20000
+    records.close()
+
+
+def test_news_come_after_what_waits(tmp_path: Path) -> None:
+    records = Records(str(tmp_path / "watch.db"))
+    writer, begin = Writer(str(tmp_path), records, print), AlarmChanged(
+        "Alpha", "pi", True, 1.0, "another PI"
+    )
+    writer.give(Batch([], [begin, StateSeen("Alpha", 1.0, {})], []))
+    writer.news.extend([begin._replace(begins=False, utc=2.0), StateSeen("Alpha", 2.0, {})])
+    assert writer.work()
+    query = "SELECT begin_at, end_at, looked_at FROM alarm_rows JOIN station_rows USING(station)"
+    assert records.database.execute(query).fetchall() == [(1.0, 2.0, 2.0)]
     records.close()
 
 

@@ -573,6 +573,14 @@ def test_outages_that_last_and_that_are_over(tmp_path: Path) -> None:
     assert down[2] == "down" and numpy.allclose(down[:2], (60, net.runs[-1][1] - 60), atol=2)
 
 
+def test_a_receiver_that_gives_nothing(tmp_path: Path) -> None:
+    """Its times count from the begin of the watch. While `patience` lasts a pause is none without RDS."""
+    net = network(tmp_path, Air(ALPHA, START, 20), *[Plan(hangs=0)] * 9)
+    net.run(18)
+    assert alarms(net) == [("no_rds", 11.0, None), ("silent", 15.0, None)]
+    net.end()
+
+
 def test_when_an_outage_is_told(tmp_path: Path, monkeypatch: pytest.MonkeyPatch) -> None:
     """Once it lasts a second."""
     monkeypatch.setattr(live, "NEWS", 0.0)

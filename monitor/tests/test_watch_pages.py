@@ -97,6 +97,9 @@ def test_a_tile() -> None:
     assert "last whole group 0 s ago" in text
     text = Tags(overview({"A": state(minute=None, last_group_utc=None)}, {"A": []}, UTC, 60)).text
     assert "no minute yet; no whole group yet; RDS SNR 21.5 dB, level -31.0 dBFS" in text
+    for reason, told in (("", "the receiver starts"), ("unplugged", "unplugged")):
+        page = station_page("A", state(session_utc=None, reason=reason), [], [], [], UTC, 60)
+        assert f"no session: {told}; 3 starts" in Tags(page).text
 
 
 def test_a_picture_is_in_proportion() -> None:
@@ -118,13 +121,11 @@ def test_stations_with_an_alarm_are_counted_once() -> None:
 
 
 def test_the_worst_first() -> None:
-    bad, ta, gone = (
-        {"minute": {"sent": 10, "valid": 1, "corrected": 0}},
-        {"alarms": {"ta": ""}},
-        {"alarms": {"no_rds": ""}},
-    )
-    states = {"a": state(), "b": state(**bad), "c": state(**ta), "d": state(**gone)}
-    assert worst_first(states) == ["d", "c", "b", "a"]
+    """By alarms, by bad blocks, of which none are known at first, and by name."""
+    bad, good = ({"sent": 10, "valid": valid, "corrected": 0} for valid in (1, 10))
+    states = {"a": state(), "b": state(minute=bad), "c": state(alarms={"ta": ""})}
+    states.update(d=state(alarms={"no_rds": ""}), f=state(minute=good), e=state(minute=None))
+    assert worst_first(states) == ["d", "c", "b", "a", "e", "f"]
 
 
 def test_an_outage_is_seen_in_a_day() -> None:

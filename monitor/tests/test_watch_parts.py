@@ -2,6 +2,7 @@
 
 from __future__ import annotations
 
+import fcntl
 import gc
 import sqlite3
 import time
@@ -52,6 +53,14 @@ def test_the_last_bytes_of_a_receiver() -> None:
     keeper = Keeper(["it"], 10.0, lambda words, through: Leaving(), 0.0)
     assert [keeper.read(now) for now in (0.0, 0.1, 0.2, 0.3)] == [b"", b"first", b"last", None]
     assert keeper.reason == "ended with status 0" and not keeper.is_running
+
+
+def test_a_pipe_of_a_megabyte() -> None:
+    process = Process(["sleep", "60"])
+    get_pipe_size = 1032  # which Python has from 3.10 on
+    assert fcntl.fcntl(process._out.fileno(), get_pipe_size) == 1 << 20
+    process.kill()
+    process.close()
 
 
 class Brief(Process):

@@ -18,17 +18,8 @@ from network import START, Air, Network, Plan, Programme, SharedAir, asked, stat
 
 from rds_monitor.rows.items import Fault
 from rds_monitor.watch.receiver import Process
-from rds_monitor.watch.shared import Tap, demodulator
+from rds_monitor.watch.shared import SharedReceiver, demodulator
 from rds_monitor.watch.table import ReceiverTable, table_of
-
-
-@pytest.mark.parametrize("left, ended", [(left, ended) for left in (False, True) for ended in (False, True)])
-def test_a_station_that_left_while_others_go_on_does_not_run(left: bool, ended: bool) -> None:
-    """The receiver still runs, or is about to end."""
-    tap = Tap.__new__(Tap)
-    tap.is_stopped = left
-    tap._shared = mock.Mock(is_stopped=ended, **{"keeper.is_running": True})
-    assert tap.is_running is not (left and not ended)
 
 
 # Two receivers of fifteen stations each.
@@ -288,6 +279,21 @@ def test_errors(text: str, fault: str) -> None:
     with pytest.raises(Fault) as caught:
         table_of(text)
     assert fault in str(caught.value)
+
+
+def test_a_station_that_left_while_others_go_on_does_not_run() -> None:
+    """Once all have left, each runs until the receiver has ended."""
+    launch = lambda words, through: mock.Mock(**{"read.return_value": b"", "ended.return_value": None})
+    shared = SharedReceiver(
+        table_of(receiver("north", "centre = 97.0") + stations(*STATION)).receivers[0], 1.0, launch, 0.0
+    )
+    taps = [shared.tap(hertz, 0.0) for hertz in (97_200_000, 97_400_000)]
+    found = []
+    for tap in taps:
+        tap.read(0.0)
+        tap.stop(0.0, "it left")
+        found.append([one.is_running for one in taps])
+    assert found == [[False, True], [True, True]]
 
 
 @pytest.mark.parametrize(("centre", "warns"), [(97.35, True), (97.3, False)])

@@ -6,7 +6,6 @@ import importlib
 import re
 import sys
 import syslog
-import tomllib
 from pathlib import Path
 from typing import Any, List, Tuple
 
@@ -145,6 +144,8 @@ def test_soft_decisions_of_the_decoder(monkeypatch: pytest.MonkeyPatch, capsys: 
         (stations(*ALPHA, "[station.alarms]", "loud = 3"), "unknown key 'loud'"),
         (stations(*ALPHA, "[station.alarms]", 'silent = "15"'), "alarm silent of station 'Alpha'"),
         (stations(*ALPHA, "[station.alarms]", "errors_percent = false"), "a number that is not below 0"),
+        (stations(*ALPHA, "[station.alarms]", "errors = 61"), "alarm errors of station 'Alpha': at most 60"),
+        (stations(*ALPHA, "[station.alarms]", "ct = 61"), "alarm ct of station 'Alpha': at most 60"),
         (stations(*ALPHA, 'ps = ""'), "a pattern or a list of patterns"),
         ("[keep]\ncompress = 1\n" + stations(*ALPHA), "keep.compress: true or false is needed"),
         ('[keep]\nlistings_days = "60"\n' + stations(*ALPHA), "keep.listings_days"),

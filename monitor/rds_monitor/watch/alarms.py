@@ -10,7 +10,7 @@ from typing import Any, Deque, Dict, Iterable, List, NamedTuple, Optional, Seque
 from ..content.charset import printable
 from ..content.decoder import Event
 from ..measures.clock import Tick
-from .table import StationTable
+from .table import MOST_LOOKED_AT, StationTable
 from .times import BitPace, Timing
 from .verdict import pattern_of
 
@@ -91,8 +91,8 @@ class Alarms:
     def __init__(self, table: StationTable, now: float, speed: float = 1.0):
         self._now, self._speed = now, speed
         self._seen = Watched(now, 0.0, {}, None)
-        self._minutes: Deque[float] = deque(maxlen=60)
-        self._offsets: Deque[float] = deque(maxlen=60)
+        self._minutes: Deque[float] = deque(maxlen=MOST_LOOKED_AT)
+        self._offsets: Deque[float] = deque(maxlen=MOST_LOOKED_AT)
         # When each of the last hour began; and the seconds of this one in which no byte came yet, which a burst may bring, or whose
         # pace is not known yet.
         self._sessions: Deque[float] = deque()

@@ -236,6 +236,8 @@ RECEIVER_JUDGES: Dict[str, Judge] = {
     "centre": _number,
 }
 KEPT = {"compress": _truth}
+# Minutes and clock times that an alarm looks at, at most.
+MOST_LOOKED_AT = 60
 
 
 # ---- reading
@@ -414,4 +416,6 @@ def _alarms(given: Any, of: str) -> Dict[str, Any]:
     for name, value in given.items():
         off = value is False and name not in ("errors_percent", "ct_offset")
         found[name] = None if off else _number(value, f"alarm {name} of {of}")
+        if name in ("errors", "ct") and (found[name] or 0) > MOST_LOOKED_AT:
+            raise Fault(f"alarm {name} of {of}: at most {MOST_LOOKED_AT} are looked at, not {value!r}")
     return found
