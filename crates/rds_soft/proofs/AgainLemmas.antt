@@ -1,5 +1,5 @@
 -- A list of four blocks, and blocks that are valid.
-use Rattle.rds_soft.proofs.Names.{common_steps, ◌≡◌, ℕ, List, [], ◌∷◌, length, get_or, sym, subst, arith, Option, ℤ, Wanted, Block, SoftBlock, IsBlockAgain}
+use Rattle.rds_soft.proofs.Names.{common_steps, ◌≡◌, ℕ, List, [], ◌∷◌, length, get_or, sym, ap, ◌∙◌, ◌+◌, ◌*◌, refl, arith, Option, ℤ, Wanted, Either, Signal, Block, SoftBlock, block_again, group_again, group_of, symbols_heard, wanted_beside, was_read}
 use Rattle.rds_soft.specs.Inside.ValidBlocks.{IsValidBlock}
 
 pub list_of_four : (xs : List Block) (a b c d : Block) → length xs ≡ 4
@@ -8,5 +8,19 @@ list_of_four xs a b c d long = grind (arith, common_steps)
 
 -- a valid block stays as it is, whatever was heard and whichever offsets are wanted
 pub valid_stays : (heard : Option (List ℤ)) (x : ℕ) (wanted : Wanted) (margin : ℕ) (block : Block) (again : SoftBlock) → IsValidBlock block again
-    → IsBlockAgain heard x wanted margin block again
-valid_stays heard x wanted margin block again h = subst (λ (b : Block). IsBlockAgain heard x wanted margin b again) (sym h.was) h.is
+    → again ≡ block_again heard x wanted margin block
+valid_stays heard x wanted margin block again h = h.is ∙ sym (ap (block_again heard x wanted margin) h.was)
+
+-- a group of four blocks, each after as many others
+pub group_is : (b : Signal) (s : List ℤ) (margin place : ℕ) (blocks : List Block) (one two three four : Block) (first second third fourth : SoftBlock)
+    (after_one after_two after_three : ℕ) (wanted : Wanted)
+    → blocks ≡ one ∷ two ∷ three ∷ four ∷ []
+    → after_one ≡ 0 + was_read one → after_two ≡ 0 + was_read one + was_read two → after_three ≡ 0 + was_read one + was_read two + was_read three
+    → first ≡ block_again (symbols_heard b s (place + 26 * 0)) 1 Either margin one
+    → second ≡ block_again (symbols_heard b s (place + 26 * after_one)) 2 Either margin two
+    → wanted ≡ wanted_beside second
+    → third ≡ block_again (symbols_heard b s (place + 26 * after_two)) 3 wanted margin three
+    → fourth ≡ block_again (symbols_heard b s (place + 26 * after_three)) 4 Either margin four
+    → group_of place (first ∷ second ∷ third ∷ fourth ∷ []) ≡ group_again b s margin place blocks
+group_is b s margin place blocks one two three four first second third fourth after_one after_two after_three wanted are n m k h i w j l =
+    rw (are, l, j, w, i, h, n, m, k) refl
