@@ -1,15 +1,9 @@
--- A list of four blocks, and blocks that are valid.
+-- A list of four blocks, and the group that they are if they are read again.
 use Rattle.rds_soft.proofs.Names.{common_steps, ◌≡◌, ℕ, List, [], ◌∷◌, length, get_or, sym, ap, ◌∙◌, ◌+◌, ◌*◌, refl, arith, Option, ℤ, Wanted, Either, Signal, Block, SoftBlock, block_again, group_again, group_of, symbols_heard, wanted_beside, was_read}
-use Rattle.rds_soft.specs.Inside.ValidBlocks.{IsValidBlock}
 
 pub list_of_four : (xs : List Block) (a b c d : Block) → length xs ≡ 4
     → xs ≡ get_or xs 0 a ∷ get_or xs 1 b ∷ get_or xs 2 c ∷ get_or xs 3 d ∷ []
 list_of_four xs a b c d long = grind (arith, common_steps)
-
--- a valid block stays as it is, whatever was heard and whichever offsets are wanted
-pub valid_stays : (heard : Option (List ℤ)) (x : ℕ) (wanted : Wanted) (margin : ℕ) (block : Block) (again : SoftBlock) → IsValidBlock block again
-    → again ≡ block_again heard x wanted margin block
-valid_stays heard x wanted margin block again h = h.is ∙ sym (ap (block_again heard x wanted margin) h.was)
 
 -- a group of four blocks, each after as many others
 pub group_is : (b : Signal) (s : List ℤ) (margin place : ℕ) (blocks : List Block) (one two three four : Block) (first second third fourth : SoftBlock)

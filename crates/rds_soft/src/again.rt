@@ -1,7 +1,9 @@
 //! Items of a report, read again from the symbols of its recording.
-ghost use Rattle.std.specs.Prelude.{◌≡◌, ◌+◌, ◌*◌, ◌≤◌, IfSome, Some, None, drop, length, nat_lt, take, if◌then◌else◌};
+ghost use Rattle.std.specs.Prelude.{◌≡◌, ◌+◌, ◌*◌, ◌≤◌, ℕ, ℤ, IfSome, List, Option, Some, None, drop, length, nat_lt, take, if◌then◌else◌};
+ghost use Rattle.rds_code.specs.declared.reading.Wanted.{Wanted as AWanted};
+ghost use Rattle.rds_stream.specs.Recording.{Signal};
 ghost use Rattle.rds_soft.specs.ReadAgain.{block_again as the_block_again, group_again as the_group_again, symbols_heard as the_symbols_heard, symbols_of, was_read as the_was_read};
-ghost use Rattle.rds_soft.specs.Inside.ValidBlocks.{AreValid, IsValidBlock};
+ghost use Rattle.rds_soft.specs.SoftGroups.{group_of};
 
 use crate::lightest::SYMBOLS;
 use crate::margin::Margin;
@@ -81,10 +83,11 @@ fn searched_group(search: &mut Search, source: &Source<'_>, blocks: &[Block; 4])
     SoftGroup::of_blocks(source.place, [first, second, third, fourth])
 }
 
-/// The blocks as they are, if all four are valid.
+/// The blocks as they are, if all four are valid: they stay so, whatever was heard.
 #[inline(always)]
 fn valid_blocks(blocks: &[Block; 4]) -> Option<[SoftBlock; 4]>
-    ensures { IfSome result (λ valid. AreValid blocks.now valid) }
+    ensures { IfSome result (λ valid. (b : Signal) (symbols : List ℤ) (margin place : ℕ)
+        → group_of place valid ≡ the_group_again b symbols margin place blocks.now) }
 {
     let [one, two, three, four] = blocks;
     Some([
@@ -98,7 +101,8 @@ fn valid_blocks(blocks: &[Block; 4]) -> Option<[SoftBlock; 4]>
 /// The block as it is, if it is valid.
 #[inline(always)]
 fn valid_block(block: &Block) -> Option<SoftBlock>
-    ensures { IfSome result (IsValidBlock block.now) }
+    ensures { IfSome result (λ valid. (heard : Option (List ℤ)) (x : ℕ) (wanted : AWanted) (margin : ℕ)
+        → valid ≡ the_block_again heard x wanted margin block.now) }
 {
     match *block {
         Block::Read(Reading::Valid { offset, info }) => {
