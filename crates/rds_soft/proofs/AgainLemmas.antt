@@ -1,5 +1,5 @@
 -- A list of four blocks, and the group that they are if they are read again.
-use Rattle.rds_soft.proofs.Names.{common_steps, ◌≡◌, ℕ, List, [], ◌∷◌, length, get_or, sym, ap, ◌∙◌, ◌+◌, ◌*◌, refl, arith, Option, ℤ, Wanted, Either, Signal, Block, SoftBlock, block_again, group_again, group_of, symbols_heard, wanted_beside, was_read}
+use Rattle.rds_soft.proofs.Names.{common_steps, ◌≡◌, ℕ, List, [], ◌∷◌, length, get_or, ◌+◌, ◌*◌, refl, arith, ℤ, Wanted, Either, Signal, Block, SoftBlock, block_again, group_again, group_of, symbols_heard, wanted_beside, was_read}
 
 pub list_of_four : (xs : List Block) (a b c d : Block) → length xs ≡ 4
     → xs ≡ get_or xs 0 a ∷ get_or xs 1 b ∷ get_or xs 2 c ∷ get_or xs 3 d ∷ []
