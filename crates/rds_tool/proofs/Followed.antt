@@ -464,10 +464,6 @@ short_of bits place left heard is some at = grind (arith, common_steps, append-n
 of_rest : (e : ToolError) → (e ≡ OutOfMemory) ⊎ (e ≡ BadGaps) → IsOfStream e
 of_rest e it = grind (arith, common_steps)
 
-claimed_is : (bits : Option ℕ) (bytes : List ℕ) → claimed bits bytes ≡ claim_or bits (8 * length bytes)
-claimed_is None bytes = refl
-claimed_is (Some n) bytes = refl
-
 first_is : (n : ℕ) (gaps : List (ℕ × ℕ)) (bytes : List ℕ) → n ≤ 2 ^ 36 → n ≤ 8 * length bytes → AreGaps n gaps → first_bits n gaps bytes ≡ Ok (record { bits = bits_of bytes n; gaps = gaps })
 first_is n gaps bytes short held are = rw (le-ltb (2 ^ 36) n short, le-ltb (8 * length bytes) n held, pass_as_gaps gaps n are) refl
 
@@ -475,7 +471,7 @@ lists : (terms : Terms) (bits : Option ℕ) (bytes : List ℕ) (m : ℕ) → cla
     → listed terms bits bytes ≡ Ok (stream_text terms bits bytes)
 lists terms bits bytes m claim count short held are =
     let text : Result Signal ToolError → Result (List ℕ) ToolError = λ r. and_then r (λ recording. Ok (list_text terms.rules recording)) in
-    ap (λ (n : ℕ). text (first_bits n terms.gaps bytes)) (claimed_is bits bytes ∙ claim) ∙ ap text (first_is m terms.gaps bytes short held are)
+    ap (λ (n : ℕ). text (first_bits n terms.gaps bytes)) claim ∙ ap text (first_is m terms.gaps bytes short held are)
     ∙ ap (λ (n : ℕ). Ok (list_text terms.rules (signal_at terms.gaps bytes n))) (sym count)
 
 module _ {R W : Type 0} (source : Source R) (sink : Sink W) (terms : Terms) (workers : ℕ) (bits : Option ℕ) {reader reader1 : R} {writer writer1 : W} {heard : List ℕ}
