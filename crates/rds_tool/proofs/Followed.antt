@@ -568,10 +568,6 @@ module _ {R W : Type 0} (source : Source R) (sink : Sink W) (terms : Terms) (wor
   heard_ok (Err e) f = tt
   heard_ok (Ok x) f = (f.ok.symbols, f.ok.gave, (f.ok.all, f.ok.text))
 
-  pub flushed_ok : (r : Result (Unit {0}) ToolError) → Done r → OnOk r (sink.is_flushed writer' ≡ true)
-  flushed_ok (Err e) f = tt
-  flushed_ok (Ok x) f = f.ok.flush
-
 -- ---- refusals
 
 -- a fact that holds in any case holds if there is a success
@@ -586,10 +582,6 @@ on_ok r P Q more h = grind (arith, common_steps)
 pub differ : (a b : ToolError) → eqb (number_of a) (number_of b) ≡ false → a ≢ b
 differ a b unlike = λ p. eqb-false (number_of a) (number_of b) unlike (ap number_of p)
 
--- what counted none did not fail
-pub none_counted : {X : Type 0} (start before after : ℕ) → before ≡ start → after ≡ before → start < after → X
-none_counted start before after kept still failed = absurd (omega (arith, kept, still, failed))
-
 -- an answer is of neither kind but these
 pub of_neither : (e a b k : ToolError) → (e ≡ a) ⊎ (e ≡ b) → a ≢ k → b ≢ k → e ≢ k
 of_neither e a b k (inl is) other _ p = other (sym is ∙ p)
@@ -599,10 +591,6 @@ module _ {T : Type 0} (r : Result T ToolError) (e : ToolError) (same : r ≡ Err
   -- what is not of this kind is no device's refusal, and the device did not fail
   pub not_told : (k : ToolError) → e ≢ k → (start before after : ℕ) → before ≡ start → after ≡ before → (r ≡ Err k) ↔ (start < after)
   not_told k other start before after kept still = (λ p. absurd (other (passed_kind r e k same p)), λ q. absurd (omega (arith, kept, still, q)))
-
-  -- what is of this kind tells that the device failed
-  pub told_by : (k : ToolError) → e ≡ k → (start before after : ℕ) → before ≡ start → before < after → (r ≡ Err k) ↔ (start < after)
-  told_by k is start before after kept failed = (λ _. subst (λ n. n < after) kept failed, λ _. same ∙ ap (λ x. Err x) is)
 
   pub no_such : {X : Type 0} (k : ToolError) → e ≢ k → r ≡ Err k → X
   no_such k other p = absurd (other (passed_kind r e k same p))
