@@ -168,6 +168,7 @@ fn transcribe_held<R: Threads + Sync, S: Source, K: Sink, G: Gate + Sync>(
 }
 
 /// Has all bytes of the reader taken, to its end.
+#[tactic(auto, using(crate::proofs::Reading::read_steps))]
 fn read_all<R: Threads + Sync, S: Source, T: Taker>(
     rt: &R,
     alloc: Global,
