@@ -61,6 +61,3 @@ decided b refuted = grind (arith, common_steps)
 -- what is no cutting has no inner cuts
 pub not_inner : (n : ℕ) (cuts : List ℕ) → (IsCutting n (places_at n cuts) → ⊥) → are_inner n cuts ≡ false
 not_inner n cuts refuted = decided (are_inner n cuts) (λ h. refuted (inner_cut n cuts h))
-
--- the steps of functions that need no answer
-pub ruleset cut_steps = (common_steps, cut_inner, not_inner)

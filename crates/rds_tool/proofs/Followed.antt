@@ -464,6 +464,10 @@ short_of bits place left heard is some at = grind (arith, common_steps, append-n
 of_rest : (e : ToolError) → (e ≡ OutOfMemory) ⊎ (e ≡ BadGaps) → IsOfStream e
 of_rest e it = grind (arith, common_steps)
 
+claimed_is : (bits : Option ℕ) (bytes : List ℕ) → claimed bits bytes ≡ claim_or bits (8 * length bytes)
+claimed_is None bytes = refl
+claimed_is (Some n) bytes = refl
+
 first_is : (n : ℕ) (gaps : List (ℕ × ℕ)) (bytes : List ℕ) → n ≤ 2 ^ 36 → n ≤ 8 * length bytes → AreGaps n gaps → first_bits n gaps bytes ≡ Ok (record { bits = bits_of bytes n; gaps = gaps })
 first_is n gaps bytes short held are = rw (le-ltb (2 ^ 36) n short, le-ltb (8 * length bytes) n held, pass_as_gaps gaps n are) refl
 
@@ -471,7 +475,7 @@ lists : (terms : Terms) (bits : Option ℕ) (bytes : List ℕ) (m : ℕ) → cla
     → listed terms bits bytes ≡ Ok (stream_text terms bits bytes)
 lists terms bits bytes m claim count short held are =
     let text : Result Signal ToolError → Result (List ℕ) ToolError = λ r. and_then r (λ recording. Ok (list_text terms.rules recording)) in
-    ap (λ (n : ℕ). text (first_bits n terms.gaps bytes)) claim ∙ ap text (first_is m terms.gaps bytes short held are)
+    ap (λ (n : ℕ). text (first_bits n terms.gaps bytes)) (claimed_is bits bytes ∙ claim) ∙ ap text (first_is m terms.gaps bytes short held are)
     ∙ ap (λ (n : ℕ). Ok (list_text terms.rules (signal_at terms.gaps bytes n))) (sym count)
 
 module _ {R W : Type 0} (source : Source R) (sink : Sink W) (terms : Terms) (workers : ℕ) (bits : Option ℕ) {reader reader1 : R} {writer writer1 : W} {heard : List ℕ}
@@ -568,6 +572,10 @@ module _ {R W : Type 0} (source : Source R) (sink : Sink W) (terms : Terms) (wor
   heard_ok (Err e) f = tt
   heard_ok (Ok x) f = (f.ok.symbols, f.ok.gave, (f.ok.all, f.ok.text))
 
+  pub flushed_ok : (r : Result (Unit {0}) ToolError) → Done r → OnOk r (sink.is_flushed writer' ≡ true)
+  flushed_ok (Err e) f = tt
+  flushed_ok (Ok x) f = f.ok.flush
+
 -- ---- refusals
 
 -- a fact that holds in any case holds if there is a success
@@ -582,6 +590,10 @@ on_ok r P Q more h = grind (arith, common_steps)
 pub differ : (a b : ToolError) → eqb (number_of a) (number_of b) ≡ false → a ≢ b
 differ a b unlike = λ p. eqb-false (number_of a) (number_of b) unlike (ap number_of p)
 
+-- what counted none did not fail
+pub none_counted : {X : Type 0} (start before after : ℕ) → before ≡ start → after ≡ before → start < after → X
+none_counted start before after kept still failed = absurd (omega (arith, kept, still, failed))
+
 -- an answer is of neither kind but these
 pub of_neither : (e a b k : ToolError) → (e ≡ a) ⊎ (e ≡ b) → a ≢ k → b ≢ k → e ≢ k
 of_neither e a b k (inl is) other _ p = other (sym is ∙ p)
@@ -591,6 +603,10 @@ module _ {T : Type 0} (r : Result T ToolError) (e : ToolError) (same : r ≡ Err
   -- what is not of this kind is no device's refusal, and the device did not fail
   pub not_told : (k : ToolError) → e ≢ k → (start before after : ℕ) → before ≡ start → after ≡ before → (r ≡ Err k) ↔ (start < after)
   not_told k other start before after kept still = (λ p. absurd (other (passed_kind r e k same p)), λ q. absurd (omega (arith, kept, still, q)))
+
+  -- what is of this kind tells that the device failed
+  pub told_by : (k : ToolError) → e ≡ k → (start before after : ℕ) → before ≡ start → before < after → (r ≡ Err k) ↔ (start < after)
+  told_by k is start before after kept failed = (λ _. subst (λ n. n < after) kept failed, λ _. same ∙ ap (λ x. Err x) is)
 
   pub no_such : {X : Type 0} (k : ToolError) → e ≢ k → r ≡ Err k → X
   no_such k other p = absurd (other (passed_kind r e k same p))

@@ -7,7 +7,7 @@ pub use Rattle.std.proofs.lemmas.Bool.{cases_lt, eq-eqb, eqb-false, eqb-true, fa
 pub use Rattle.std.proofs.lemmas.Bool.Decides.{nat_tests}
 pub use Rattle.std.proofs.lemmas.Fmt.{decimal_digit, decimal_is_IsNumeral, decimal_step}
 pub use Rattle.std.proofs.lemmas.Grind.{common_steps, flat_map-append, take-set_at}
-pub use Rattle.std.proofs.lemmas.List.{append-nil, drop-map, drop-set-lt, drop_all, drop_more, get_or-append_right, get_or_append_left, get_or_push, length-append, length-drop, length-map, length-set, length-take, length_push, map-append, take-append-drop, take-append-le, take-map, take_all, take_more, take_more_set, take_rest}
+pub use Rattle.std.proofs.lemmas.List.{append-nil, drop-map, drop-set-lt, drop_all, drop_more, get_or-append_right, get_or_append_left, get_or_push, length-append, length-drop, length-map, length-set, length-take, length_push, map-append, nil_from_length, take-append-drop, take-append-le, take-map, take_all, take_more, take_more_set, take_rest}
 pub use Rattle.std.proofs.lemmas.List.Elements.{All-cons, All-drop, All-head, All-nil, All-tail, All-take, filter-append}
 pub use Rattle.std.proofs.lemmas.List.Folds.{concat-append, flat_map-map, list_any-append}
 pub use Rattle.std.proofs.lemmas.List.FromFn.{length-map-range_with_len, map-range_with_len_more, take-map-range_with_len}
@@ -60,11 +60,11 @@ pub use Rattle.rds_rows.specs.Writes.{AppendsPrefix}
 pub use Rattle.rds_rows.specs.declared.sheet.Sheet.{Sheet}
 pub use Rattle.rds_tool.specs.CommandLine.{IsFault, Makes, MayAnswer, ReadsAs, gaps_asked_for, gaps_spelled, if_given, is_given, is_of_words, is_true, job_in, number_of, number_up_to, rds_app, report_job_of, request_of, stream_of, with_progress}
 pub use Rattle.rds_tool.specs.Cuts.{are_inner, cuts_any, cuts_bits, has_pieces, places_at, rise_between}
-pub use Rattle.rds_tool.specs.Following.{AreAsked, Follows, HasAll, IsLong, IsShort as IsShortOf, MayBreakOff, Stream, bit_stream, counted, listed, most_read, rows_so_far, stream_text}
+pub use Rattle.rds_tool.specs.Following.{AreAsked, BreaksOff, Follows, HasAll, IsFlushedAfter, IsFollowed, IsHeardOut, IsLong, IsShort as IsShortOf, MayBreakOff, Stream, bit_stream, claim_or, counted, listed, most_read, rows_so_far, stream_text}
 pub use Rattle.rds_tool.specs.GapText.{and_gaps, each_gap, gap_of, gaps_of, is_place, place_of}
 pub use Rattle.rds_tool.specs.GroupText.{encoded_text, group_text, is_space, line_text, lines_of, lines_text, words_of, words_or_refusal}
 pub use Rattle.rds_tool.specs.History.{Gave}
-pub use Rattle.rds_tool.specs.Input.{and_then, bytes_of, claim_or, claimed, decoded, first_bits, may_be_gaps, or_hex_text, recording_of}
+pub use Rattle.rds_tool.specs.Input.{and_then, bytes_of, claimed, decoded, first_bits, may_be_gaps, or_hex_text, recording_of}
 unfoldable pub use Rattle.rds_tool.specs.Input.{is_blank}
 pub use Rattle.rds_tool.specs.InputOf.{InputOf}
 pub use Rattle.rds_tool.specs.Inside.Commands.{app_of_row, bare_app, rule_of_row, with_command, with_each, with_option}

@@ -1,5 +1,5 @@
 -- A refusal that `?` passes on.
-use Rattle.rds_tool.proofs.Names.{common_steps, arith, ◌≡◌, Err, Ok, Result, subst, sym, IfErr, IfOk, OnErr, IsErr, IsErrAnd, ToolError, ◌∙◌, ap, and_then, IsMemoryOrErrOf, Task}
+use Rattle.rds_tool.proofs.Names.{common_steps, arith, ◌≡◌, Err, Ok, Result, subst, sym, IfErr, IfOk, OnErr, IsErr, IsErrAnd, ToolError}
 
 pub passed : {T E : Type 0} (r : Result T E) (e : E) → IsErr r × IsErrAnd r (λ x. x ≡ e) → r ≡ Err e
 passed r e h = grind (arith, common_steps)
@@ -27,23 +27,3 @@ ok_is_no_err x e p = cc p
 -- if there is a success, nothing need hold of an error
 pub no_err : {T E : Type 0} (P : E → Type 0) (r : Result T E) (x : T) → r ≡ Ok x → IfErr r P
 no_err P r x h = grind (arith, common_steps)
-
-error_is : {B : Type 0} (e x : ToolError) → let call : Result B ToolError = Err e in call ≡ Err x → e ≡ x
-error_is e x p = cc
-
--- a task is made of what a first step gives
-module _ {A : Type 0} (made : Result Task ToolError) (first : Result A ToolError) (step : A → Result Task ToolError) (is : made ≡ and_then first step) where
-  -- a refusal of that step is one of the task
-  refused_first : (e : ToolError) → IsMemoryOrErrOf first e → IsMemoryOrErrOf made e
-  refused_first e it = grind (arith, common_steps)
-
-  -- and is answered
-  told_first : (B : Type 0) {C : Type 0} (r : Result C ToolError) (e : ToolError) → r ≡ Err e → ((x : A) → IfErr (step x) (λ k. r ≡ Err k))
-      → IfErr first (λ k. let call : Result B ToolError = Err e in call ≡ Err k) → IfErr made (λ k. r ≡ Err k)
-  told_first B r e same other told = by first is told where
-    by : (f : Result A ToolError) → made ≡ and_then f step → IfErr f (λ k. let call : Result B ToolError = Err e in call ≡ Err k) → IfErr made (λ k. r ≡ Err k)
-    by (Ok x) is told = subst (λ m. IfErr m (λ k. r ≡ Err k)) (sym is) (other x)
-    by (Err x) is told = subst (λ m. IfErr m (λ k. r ≡ Err k)) (sym is) (same ∙ ap (λ k. Err k) (error_is e x told))
-
--- the steps of functions that need no answer
-pub ruleset task_steps = (common_steps, passed, passes, refused_first, told_first)

@@ -72,6 +72,9 @@ pub asked-count : (bits : Option ℕ) (symbols : List ℕ) (count : ℕ) → IfS
 asked-count bits symbols count asked is = grind (arith, common_steps)
 
 module _ (bits : Option ℕ) (symbols : List ℕ) (counts : IfSome bits (λ n. length symbols - 1 ≤ n)) where
+  claimed-all : (IsShort bits (length symbols - 1) → ⊥) → claimed_of bits symbols ≡ length symbols - 1
+  claimed-all enough = grind (arith, common_steps)
+
   claim-all : (IsShort bits (length symbols - 1) → ⊥) → claim_or bits (length symbols - 1) ≡ length symbols - 1
   claim-all enough = grind (arith, common_steps)
 
@@ -118,6 +121,6 @@ module _ {R W : Type 0} (source : Source R) (sink : Sink W) (terms its_terms : S
       let gaps : AreGaps (length symbols - 1) terms.gaps = subst (λ (t : SoftTerms). AreGaps (length symbols - 1) t.gaps) same are in
       follows_end h (read_none h (omega arith)) writer2 x text
       (ap (soft_stream_text terms) (append-nil symbols) ∙ subst (λ (t : SoftTerms). soft_stream_text t symbols ≡ soft_rows_so_far t symbols ++ text) same ends)
-      (subst (λ xs. soft_listed terms bits xs ≡ Ok (soft_stream_text terms xs)) none-more (listed-is terms symbols bits (claim-all bits symbols h.counts enough) limit gaps))
+      (subst (λ xs. soft_listed terms bits xs ≡ Ok (soft_stream_text terms xs)) none-more (listed-is terms symbols bits (claimed-all bits symbols h.counts enough) limit gaps))
       (subst (λ xs. HasAll bits 1 (length xs - 1) (source.has_ended reader1)) none-more (has-all bits symbols h.counts (source.has_ended reader1) _ near enough))
       (near_end bits 1 (length symbols - 1) _ _ near) kind wrote flush fails prefix

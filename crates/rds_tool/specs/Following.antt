@@ -7,7 +7,7 @@ use Rattle.rds_live.specs.StreamDecoder.{Terms, complete, signal_at}
 use Rattle.rds_rows.specs.declared.sink.Sink.{Ghosts as Sink}
 use Rattle.rds_stream.specs.Recording.{AreGaps}
 use Rattle.rds_tool.specs.History.{Gave}
-use Rattle.rds_tool.specs.Input.{and_then, claim_or, claimed, first_bits}
+use Rattle.rds_tool.specs.Input.{and_then, claimed, first_bits}
 use Rattle.rds_tool.specs.Listing.{item_row}
 use Rattle.rds_tool.specs.Outcome.{Writes, list_text}
 use Rattle.rds_tool.specs.declared.devices.Source.{Ghosts as Source}
@@ -33,6 +33,11 @@ pub record Stream : Type 0 where
 abbrev pub IsLong : Option ℕ → Type 0
 IsLong None = ⊥
 IsLong (Some bits) = 2 ^ 36 < bits
+
+-- how many bits the recording has: as many as are claimed, or else all of them
+abbrev pub claim_or : Option ℕ → ℕ → ℕ
+claim_or None all = all
+claim_or (Some bits) all = bits
 
 -- all bits that count came: the reader answered its end, or just the symbols of the bits that count were read
 abbrev pub HasAll : Option ℕ → ℕ → ℕ → Bool → Type 0

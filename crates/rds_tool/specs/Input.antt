@@ -31,14 +31,10 @@ decoded text = or_hex_text (decode_of (filter (λ b. not (is_blank b)) text))
 abbrev pub bytes_of : Input → List ℕ → Result (List ℕ) ToolError
 bytes_of input held = if input.hex then decoded held else Ok held
 
--- how many bits the recording has: as many as are claimed, or else all of them
-abbrev pub claim_or : Option ℕ → ℕ → ℕ
-claim_or None all = all
-claim_or (Some bits) all = bits
-
--- all are those of the bytes
+-- how many bits the recording has: as many as are claimed, or else all those of the bytes
 abbrev pub claimed : Option ℕ → List ℕ → ℕ
-claimed bits bytes = claim_or bits (8 * length bytes)
+claimed (Some bits) bytes = bits
+claimed None bytes = 8 * length bytes
 
 -- whether n bits may have these gaps: each begins at or after the end of the one before it, or `low`, has a place, and ends by n
 abbrev pub may_be_gaps : ℕ → List (ℕ × ℕ) → ℕ → Bool

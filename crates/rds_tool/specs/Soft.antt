@@ -17,7 +17,7 @@ use Rattle.rds_sync.specs.Report.{report_items}
 use Rattle.rds_sync.specs.Rules.{RuleNumbers}
 use Rattle.rds_sync.specs.declared.item.Item.{Item}
 use Rattle.rds_sync.specs.declared.item.Item.TheVariants as hard
-use Rattle.rds_tool.specs.Input.{claim_or, may_be_gaps}
+use Rattle.rds_tool.specs.Input.{may_be_gaps}
 use Rattle.rds_tool.specs.Listing.{hex_digits, item_row, kind_text, row, total_row, totals_text, version_text, word_text}
 use Rattle.rds_tool.specs.declared.error.ToolError.{ToolError}
 use Rattle.rds_tool.specs.declared.error.ToolError.TheVariants.{BadGaps, BitsPastBytes, TooLong}
@@ -27,7 +27,8 @@ use Rattle.rds_tool.specs.declared.job.Input.{Input}
 
 -- how many bits the recording has: as many as are claimed, or else one fewer than there are symbols
 abbrev pub claimed_of : Option ℕ → List ℕ → ℕ
-claimed_of bits symbols = claim_or bits (length symbols - 1)
+claimed_of (Some bits) symbols = bits
+claimed_of None symbols = length symbols - 1
 
 -- the first `bits` bits between the symbols, which are signed bytes, with these gaps
 abbrev pub first_bits_of : ℕ → List (ℕ × ℕ) → List ℕ → Result Signal ToolError
