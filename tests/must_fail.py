@@ -171,9 +171,13 @@ class Edit:
         texts += [path.read_text() for path in proofs if path.parent.name in self.stay]
         found: set[str] = set()
         while texts:
-            for name in re.findall(rf"\buse Rattle\.{self.crate.name}\.([\w.]+)", texts.pop()):
-                file = name.rstrip(".").replace(".", "/") + ".antt"
-                if file not in found and (self.crate / file).is_file():
+            for head, names in re.findall(
+                rf"\buse Rattle\.{self.crate.name}\.([\w.]+)(?:\{{([^}}]*))?", texts.pop()
+            ):
+                # a name in braces may be that of a module further down, as Groups.group
+                modules = {(head + name.strip()).rpartition(".")[0] for name in names.split(",")}
+                files = {module.replace(".", "/") + ".antt" for module in {head} | modules}
+                for file in sorted(file for file in files - found if (self.crate / file).is_file()):
                     found.add(file)
                     texts.append(self.read(file))
         return found

@@ -35,8 +35,8 @@ module _ (tail : List ℕ) (place from : ℕ) (kept : length tail ≡ min most_k
   early-or-long = grind (arith, common_steps)
 
   -- and the state in it
-  pub state-in-part : (rules : RuleNumbers) (local state : State) → moved_state (place - from) local ≡ state → IsLawful rules place state → IsLawful rules from local
-  state-in-part rules local state is lawful = lawful-back rules (place - from) from place local state is lawful (omega (arith, whole, kept, from_is)) early-or-long
+  pub state_in_part : (rules : RuleNumbers) (local state : State) → moved_state (place - from) local ≡ state → IsLawful rules place state → IsLawful rules from local
+  state_in_part rules local state is lawful = lawful-back rules (place - from) from place local state is lawful (omega (arith, whole, kept, from_is)) early-or-long
 
 -- counts that are at most a number are at most a greater one
 pub at-most-more : (m n : ℕ) (totals : Totals) → m ≤ n → IsAtMost m totals → IsAtMost n totals

@@ -1,28 +1,8 @@
 -- The windows heard in a part of a recording determine the results there: of acquiring, of groups, of a bit,
 -- of a run.
-use Rattle.std.proofs.lemmas.Grind.{common_steps}
-use Rattle.std.proofs.Common.{◌≡◌, ◌≢◌, ℕ, zero, suc, ◌+◌, ◌-◌, ◌*◌, ◌<◌, ◌≤◌, List, [], ◌∷◌, ◌++◌, Bool, true, false, eqb, Option, None, refl, sym, ap, ap₂, subst, ◌∙◌, arith, inl, inr}
-use Rattle.std.proofs.lemmas.Bool.{ne_eqb, eq-eqb, cases_eq, cases_Bool, lt-ltb, le-ltb}
-use Rattle.std.proofs.lemmas.Bool.Decides.{nat_tests}
-use Rattle.std.proofs.lemmas.List.{map-append}
-use Rattle.std.specs.List.{list_any, range_with_len}
-use Rattle.std.specs.Prelude.{nat_le, ◌&&◌}
-use Rattle.rds_code.specs.declared.offset.Offset.{Offset}
-use Rattle.rds_code.specs.declared.reading.Wanted.{Wanted}
+use Rattle.rds_live.proofs.Names.{◌≡◌, ◌≢◌, ℕ, zero, suc, ◌+◌, ◌-◌, ◌*◌, ◌<◌, ◌≤◌, List, [], ◌∷◌, ◌++◌, Bool, true, false, eqb, Option, None, refl, sym, ap, ap₂, subst, ◌∙◌, arith, inl, inr, common_steps, ne_eqb, eq-eqb, cases_eq, cases_Bool, lt-ltb, le-ltb, nat_tests, map-append, list_any, range_with_len, nat_le, ◌&&◌, Offset, Wanted, after_bit, items_of_end, run, step, items_at, history_after_block, completed_group, lock_of, lock_after, IsPartHeard, moved_state, moved_item, moved_items}
 use Rattle.rds_stream.specs.Recording.{Signal, heard, offset_heard, offset_at, length_of}
-use Rattle.rds_sync.specs.declared.state.State.{State}
-use Rattle.rds_sync.specs.declared.state.State.TheVariants.{Searching, Locked}
-use Rattle.rds_sync.specs.declared.item.Item.{Item}
-use Rattle.rds_sync.specs.declared.item.Item.TheVariants.{Group}
-use Rattle.rds_sync.specs.Rules.{RuleNumbers}
-use Rattle.rds_sync.specs.Loss.{IsLossRule, bad_after}
-use Rattle.rds_sync.specs.Lawful.{IsLawful}
-use Rattle.rds_sync.specs.Acquiring.{acquired, has_number, is_numbered}
-use Rattle.rds_sync.specs.Groups.{group, block_at, blocks_at}
-use Rattle.rds_sync.specs.Ranges.{farthest_reach}
-use Rattle.rds_sync.specs.Step.{after_bit, items_of_end, run, step, items_at, history_after_block, completed_group, lock_of, lock_after}
-use Rattle.rds_sync.specs.Laws.{AcquisitionsAreLate, StepsAreLawful}
-use Rattle.rds_live.specs.Moving.{IsPartHeard, moved_state, moved_item, moved_items}
+use Rattle.rds_sync.specs.{declared.state.State.State, declared.state.State.TheVariants.Searching, declared.state.State.TheVariants.Locked, declared.item.Item.Item, declared.item.Item.TheVariants.Group, Rules.RuleNumbers, Loss.IsLossRule, Loss.bad_after, Lawful.IsLawful, Acquiring.acquired, Acquiring.has_number, Acquiring.is_numbered, Groups.group, Groups.block_at, Groups.blocks_at, Ranges.farthest_reach, Laws.AcquisitionsAreLate, Laws.StepsAreLawful}
 
 -- a test of each number of a range, by another that says the same there
 any-alike : (p q : ℕ → Bool) (k n : ℕ) → ((j : ℕ) → k ≤ j → j < k + n → p j ≡ q j) → list_any p (range_with_len k n) ≡ list_any q (range_with_len k n)
@@ -122,15 +102,15 @@ module _ (whole part : Signal) (d from : ℕ) (h : IsPartHeard whole part d from
       ]
 
     module _ (reach : rules.reach ≤ farthest_reach) (late : AcquisitionsAreLate) (lawful_steps : StepsAreLawful) (loss : IsLossRule rules.loss) where
-      pub run-moved : (s : State) (a bits : ℕ) → from ≤ a → a + bits ≤ length_of part → IsLawful rules a s
+      pub run_moved : (s : State) (a bits : ℕ) → from ≤ a → a + bits ≤ length_of part → IsLawful rules a s
           → run whole rules (moved_state d s) (a + d) bits ≡ (moved_state d (run part rules s a bits).0, moved_items d (run part rules s a bits).1)
-      run-moved s a zero order within lawful = refl
-      run-moved s a (suc bits) order within lawful =
+      run_moved s a zero order within lawful = refl
+      run_moved s a (suc bits) order within lawful =
           let bit = bit-moved reach late a order (omega arith) s lawful in
           let here : step whole rules (a + d) (moved_state d s) ≡ moved_state d (step part rules a s) = ap (λ (r : State × List Item). r.0) bit in
           let found : items_at whole rules (a + d) (moved_state d s) ≡ moved_items d (items_at part rules a s) = ap (λ (r : State × List Item). r.1) bit in
           let next : a + d + 1 ≡ a + 1 + d = omega arith in
-          let rest = run-moved (step part rules a s) (a + 1) bits (omega arith) (omega arith) (lawful_steps part rules loss a s lawful) in
+          let rest = run_moved (step part rules a s) (a + 1) bits (omega arith) (omega arith) (lawful_steps part rules loss a s lawful) in
           let more : run whole rules (step whole rules (a + d) (moved_state d s)) (a + d + 1) bits
           ≡ (moved_state d (run part rules (step part rules a s) (a + 1) bits).0, moved_items d (run part rules (step part rules a s) (a + 1) bits).1) =
           ap₂ (λ (t : State) (p : ℕ). run whole rules t p bits) here next ∙ rest in

@@ -1,6 +1,5 @@
 -- The items of a run lie where the run goes over.
-use Rattle.rds_live.proofs.Names.{common_steps, ◌≡◌, ◌^◌, length_of, subst, sym, ℕ, zero, suc, ◌+◌, ◌-◌, ◌*◌, ◌<◌, ◌≤◌, List, [], ◌∷◌, Bool, true, false, eqb, arith, All-append, All-cons, All-nil, All, Signal, Lock, State, Searching, Locked, Item, Group, RuleNumbers, group, items_of_end, run, step, items_at, completed_group, IsLawful, place_of, is_due_below, items-searching, items-acquiring, items-waiting, items-keeping, items-losing}
-use Rattle.rds_sync.specs.declared.item.Group.{Group as GroupRecord}
+use Rattle.rds_live.proofs.Names.{common_steps, ◌≡◌, ◌^◌, length_of, subst, sym, ℕ, zero, suc, ◌+◌, ◌-◌, ◌*◌, ◌<◌, ◌≤◌, List, [], ◌∷◌, Bool, true, false, eqb, arith, All-append, All-cons, All-nil, All, Signal, Lock, State, Searching, Locked, Item, Group, RuleNumbers, group, items_of_end, run, step, items_at, completed_group, IsLawful, place_of, is_due_below, items-searching, items-acquiring, items-waiting, items-keeping, items-losing, GroupRecord}
 
 module _ (b : Signal) (rules : RuleNumbers) (to : ℕ) where
   abbrev Early : Item → Type 0

@@ -1,12 +1,6 @@
 -- The items and the state that a decoder of a heard stream gives next are those of that stream.
 use Rattle.rds_live.proofs.Names.{◌≡◌, ℕ, ◌+◌, ◌*◌, ◌^◌, ◌≤◌, List, [], ◌++◌, length, refl, sym, ap, ap₂, subst, ◌∙◌, arith, inl, length-append, AreGaps, Signal, length_of, State, Searching, Item, IsLawful, IsInRange, RunsAreLawful, RunsAreReports, RunsJoin, TotalsJoin, plus, totals_of, items_of_end, run, gaps_within, LiveOf, Terms, complete, last_bytes, live_of, report_at, signal_at, EndsMove, IsPartHeard, RunsMove, PiecesJoin, completed, group_next, items_next, live_next, part_with, run_next}
-use Rattle.rds_live.proofs.Following.{still-items, still-state}
-use Rattle.rds_live.proofs.GapParts.{part-touched}
-use Rattle.rds_live.proofs.Nexts.{live-next}
-use Rattle.rds_live.proofs.Parts.{bits-heard, length-at, whole-part}
-use Rattle.rds_live.proofs.Pieces.{group-both, items-both, lawful-after}
-use Rattle.rds_live.proofs.Rooms.{run-in-room}
-use Rattle.rds_live.proofs.Sewing.{first-is}
+use Rattle.rds_live.proofs.{Following.still-items, Following.still-state, GapParts.part-touched, Nexts.live-next, Parts.bits-heard, Parts.length-at, Parts.whole-part, Pieces.group-both, Pieces.items-both, Pieces.lawful-after, Rooms.run-in-room, Sewing.first-is}
 
 start-heard : (gaps : List (ℕ × ℕ)) (bytes : List ℕ) (bits m : ℕ) → AreGaps (2 ^ 36) gaps → bits ≤ 8 * length bytes → m ≡ bits
     → IsPartHeard (signal_at gaps bytes bits) (signal_at (gaps_within gaps 0 m) bytes m) 0 0

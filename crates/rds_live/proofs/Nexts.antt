@@ -1,8 +1,6 @@
 -- The part that is decoded next, only by the numbers of a decoder.
 use Rattle.rds_live.proofs.Names.{common_steps, ◌≡◌, ℕ, ◌+◌, ◌-◌, ◌*◌, ◌≤◌, List, [], ◌++◌, append_assoc, drop, length, refl, subst, take, sym, ap, ap₂, ◌∙◌, arith, append-nil, length-append, take-append-drop, Signal, bits_of, State, Item, Totals, TotalsJoin, plus, RuleNumbers, run, items_of_end, totals_of, gaps_within, HasHeard, LiveOf, complete, last_bytes, report_at, report_of, signal_at, signal_of, IsPartHeard, RunsMove, moved_items, moved_state, EndsAreReports, IsStart, before_tail, completed, group_next, items_next, live_next, part_with, run_next, Start}
-use Rattle.rds_live.proofs.Following.{totals-moved}
-use Rattle.rds_live.proofs.Parts.{bits-begin, length-at}
-use Rattle.rds_live.proofs.Rooms.{run-in-room}
+use Rattle.rds_live.proofs.{Following.totals-moved, Parts.bits-begin, Parts.length-at, Rooms.run-in-room}
 
 -- the items do not count otherwise where they are moved
 count-next : TotalsJoin → (live : LiveOf) (more : List ℕ) (bits : ℕ) → totals_of (run_next live more bits).1 ≡ totals_of (items_next live more bits)

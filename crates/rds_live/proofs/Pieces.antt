@@ -1,10 +1,6 @@
 -- Bytes that a decoder takes in two pieces give the same as at once.
 use Rattle.rds_live.proofs.Names.{common_steps, ◌≡◌, ℕ, ◌+◌, ◌-◌, ◌*◌, ◌^◌, ◌≤◌, ◌⊎◌, List, [], ◌∷◌, ◌++◌, append_assoc, length, refl, sym, ap, ap₂, subst, ◌∙◌, arith, inl, inr, list_any, append-nil, length-append, length-drop, map-append, AreGaps, Signal, is_touched_by, length_of, State, Item, Totals, RuleNumbers, IsInRange, IsLawful, RunsAreLawful, RunsJoin, TotalsJoin, plus, totals_of, items_of_end, run, gaps_within, IsStreamDecoder, LiveOf, last_bytes, most_kept, signal_at, EndsMove, IsPartHeard, RunsMove, moved_item, moved_items, moved_state, most_behind, before_tail, completed, group_next, items_next, live_next, moved_back, part_with, run_next}
-use Rattle.rds_live.proofs.Following.{last-ones, lawful-back, state-in-part}
-use Rattle.rds_live.proofs.GapParts.{TouchAlike, part-touched}
-use Rattle.rds_live.proofs.Nexts.{live-next}
-use Rattle.rds_live.proofs.Parts.{bits-heard, first-part, last-part, length-at}
-use Rattle.rds_live.proofs.Rooms.{run-in-room}
+use Rattle.rds_live.proofs.{Following.last-ones, Following.lawful-back, Following.state_in_part, GapParts.TouchAlike, GapParts.part-touched, Nexts.live-next, Parts.bits-heard, Parts.first-part, Parts.last-part, Parts.length-at, Rooms.run-in-room}
 
 -- moved twice
 state-twice : (d k e : ℕ) (s : State) → d + k ≡ e → moved_state d (moved_state k s) ≡ moved_state e s
@@ -108,7 +104,7 @@ module _ (joins : RunsJoin) (lawfuls : RunsAreLawful) (moves : RunsMove) (live :
   early = grind (arith, common_steps, kept)
 
   lawful : IsLawful rules f local
-  lawful = grind (arith, common_steps, state-in-part, back-on)
+  lawful = grind (arith, common_steps, state_in_part, back-on)
 
   end-lawful : IsLawful rules (f + n1) (run_next live first n1).0
   end-lawful = lawful-after lawfuls one rules local f n1 range lawful
@@ -205,5 +201,5 @@ module _ (joins : RunsJoin) (lawfuls : RunsAreLawful) (moves : RunsMove) (live :
 
 -- ---- no bytes
 
-pub none-next : (live : LiveOf) → IsStreamDecoder live → plus live.totals (totals_of []) ≡ live.totals → live_next live [] ≡ live
-none-next live known still = grind (arith, common_steps, live-next, append-nil, back-on)
+pub none_next : (live : LiveOf) → IsStreamDecoder live → plus live.totals (totals_of []) ≡ live.totals → live_next live [] ≡ live
+none_next live known still = grind (arith, common_steps, live-next, append-nil, back-on)

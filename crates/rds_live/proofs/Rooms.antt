@@ -1,7 +1,6 @@
 -- The windows heard in the room of a stream's last bytes.
 use Rattle.rds_live.proofs.Names.{common_steps, ◌≡◌, ℕ, ◌+◌, ◌*◌, ◌<◌, ◌≤◌, List, ◌++◌, length, drop, Bool, true, false, Option, Some, None, refl, sym, ap, ap₂, ◌∙◌, arith, inl, length-drop, drop-append-le, take-append-le, length-map-range_with_len, AreGaps, Signal, bits_of, packed_bit, window, touched, heard, length_of, State, Item, IsInRange, RuleNumbers, IsLawful, run, RunsMove, IsPartHeard, gaps_within, signal_of, filled_up}
-use Rattle.rds_live.proofs.GapParts.{filled-up-touched}
-use Rattle.rds_live.proofs.Following.{still-state, still-items}
+use Rattle.rds_live.proofs.{GapParts.filled-up-touched, Following.still-state, Following.still-items}
 
 -- a window of a list that goes on
 window-before : (xs ys : List ℕ) (i : ℕ) → 25 ≤ i → i < length xs → window xs i ≡ window (xs ++ ys) i

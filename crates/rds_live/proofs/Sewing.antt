@@ -3,8 +3,8 @@ use Rattle.rds_live.proofs.Names.{common_steps, ◌≡◌, ◌+◌, ◌-◌, ◌
 use Rattle.rds_live.proofs.Following.{at-most-more}
 
 -- the last bytes of a stream are those of its end, if that is long enough
-pub end-kept : (tail front : List ℕ) → most_kept ≤ length front → take (length front - (length front - most_kept)) (drop (length front - most_kept) front) ≡ last_bytes (tail ++ front)
-end-kept tail front long =
+pub end_kept : (tail front : List ℕ) → most_kept ≤ length front → take (length front - (length front - most_kept)) (drop (length front - most_kept) front) ≡ last_bytes (tail ++ front)
+end_kept tail front long =
     let k : ℕ = length front - most_kept in
     let there : length tail + k ≡ length (tail ++ front) - most_kept = omega (arith, length-append tail front, long) in
     take_rest front k ∙ sym (ap (λ (n : ℕ). drop n (tail ++ front)) (sym there) ∙ sym (drop-drop k (length tail) (tail ++ front)) ∙ ap (drop k) (drop_at tail front (length tail) refl))
@@ -30,10 +30,10 @@ guessed-there old next guess seam mark rest is there met =
     is ∙ ap (λ (l : LiveOf). live_next (guessed l mark) rest) (sym there) ∙ ap (λ (s : State). live_next (guessed next s) rest) met
 
 -- the numbers of a guess, which begins with a search at the same place
-pub guess-is : (live : LiveOf) (front seam tail : List ℕ) (place : ℕ) (search : State) (none : Totals) (guess : LiveOf) → tail ≡ last_bytes (live.tail ++ front) → place ≡ live.place + 8 * length front
+pub guess_is : (live : LiveOf) (front seam tail : List ℕ) (place : ℕ) (search : State) (none : Totals) (guess : LiveOf) → tail ≡ last_bytes (live.tail ++ front) → place ≡ live.place + 8 * length front
     → guess ≡ live_next (record { terms = live.terms; tail = tail; place = place; state = search; totals = none }) seam
     → record guess { totals = totals_of [] } ≡ guessed (live_next (live_next live front) seam) guess.state
-guess-is live front seam tail place search none guess tail_is place_is is = grind (arith, common_steps)
+guess_is live front seam tail place search none guess tail_is place_is is = grind (arith, common_steps)
 
 -- what grew twice
 pub both-within : (m k : ℕ) (first next last : Totals) → IsWithin m first next → IsWithin k next last → IsWithin (m + k) first last

@@ -1,7 +1,6 @@
 -- The spare gaps of a room, which stay where no others are put in their place.
 use Rattle.rds_live.proofs.Names.{common_steps, ◌≡◌, ℕ, ◌+◌, ◌-◌, ◌≤◌, List, ◌++◌, append_assoc, drop, length, map, sym, ap, ap₂, ◌∙◌, arith, drop-append_seam, range_with_len, drop-drop, length-append, take-append-drop, length-map-range_with_len, take-map-range_with_len, AreSpareFrom, filled_up, spare}
-use Rattle.rds_live.proofs.GapParts.{length-filled-up}
-use Rattle.rds_live.proofs.Parts.{drop-table}
+use Rattle.rds_live.proofs.{GapParts.length-filled-up, Parts.drop-table}
 
 -- from the number of these on there are only spare gaps
 pub spare-behind : (gaps found : List (ℕ × ℕ)) (slots : ℕ) → length found ≤ slots → gaps ≡ filled_up found slots → AreSpareFrom (length found) gaps

@@ -1,8 +1,7 @@
 -- The numbers that a decoder of a stream keeps beside its terms, so that it can go back to them.
 -- `StreamDecoder::take_all` does so if memory is refused midway, and no caller sees it. This project's rule.
 use Rattle.std.specs.Prelude.{◌≡◌, ◌≤◌, take}
-use Rattle.rds_live.specs.StreamDecoder.{LiveOf, Terms, most_kept}
-use Rattle.rds_live.specs.declared.kept.Kept.{Kept}
+use Rattle.rds_live.specs.{StreamDecoder.LiveOf, StreamDecoder.Terms, StreamDecoder.most_kept, declared.kept.Kept.Kept}
 
 -- the decoder that knows this
 abbrev pub live_kept : Terms → Kept → LiveOf

@@ -1,9 +1,7 @@
 -- A decoder of a stream that keeps a row of each item. `StreamLister` cites it. This project's rule.
-use Rattle.std.specs.Prelude.{◌≡◌, ◌*◌, ◌++◌, ℕ, List, [], length}
-use Rattle.std.specs.List.{flat_map}
+use Rattle.std.specs.{Prelude.◌≡◌, Prelude.◌*◌, Prelude.◌++◌, Prelude.ℕ, Prelude.List, Prelude.[], Prelude.length, List.flat_map}
 use Rattle.rds_sync.specs.declared.item.Item.{Item}
-use Rattle.rds_live.specs.Next.{IsWithin, completed, live_next}
-use Rattle.rds_live.specs.StreamDecoder.{LiveOf}
+use Rattle.rds_live.specs.{Next.IsWithin, Next.completed, Next.live_next, StreamDecoder.LiveOf}
 
 -- the decoder, and the rows so far
 pub record ListerOf : Type 0 where

@@ -2,15 +2,7 @@
 -- laws `runs_move` and `ends_move` are these. This project's rules.
 use Rattle.std.specs.Prelude.{◌≡◌, ℕ, ◌+◌, ◌<◌, ◌≤◌, ◌⊎◌, List, map}
 use Rattle.rds_stream.specs.Recording.{Signal, heard, length_of}
-use Rattle.rds_sync.specs.declared.state.State.{State}
-use Rattle.rds_sync.specs.declared.state.State.TheVariants.{Searching, Locked}
-use Rattle.rds_sync.specs.declared.item.Item.{Item}
-use Rattle.rds_sync.specs.declared.item.Item.TheVariants.{Acquired, Group, LostLock}
-use Rattle.rds_sync.specs.Rules.{RuleNumbers}
-use Rattle.rds_sync.specs.Loss.{IsLossRule}
-use Rattle.rds_sync.specs.Lawful.{IsLawful}
-use Rattle.rds_sync.specs.Ranges.{farthest_reach}
-use Rattle.rds_sync.specs.Step.{run, items_of_end}
+use Rattle.rds_sync.specs.{declared.state.State.State, declared.state.State.TheVariants.Searching, declared.state.State.TheVariants.Locked, declared.item.Item.Item, declared.item.Item.TheVariants.Acquired, declared.item.Item.TheVariants.Group, declared.item.Item.TheVariants.LostLock, Rules.RuleNumbers, Loss.IsLossRule, Lawful.IsLawful, Ranges.farthest_reach, Step.run, Step.items_of_end}
 
 -- the state, with all places moved on by d
 abbrev pub moved_state : ℕ → State → State

@@ -3,19 +3,8 @@
 -- `finish_with` of `StreamDecoder` cite it. This project's rule.
 use Rattle.std.specs.Prelude.{◌≡◌, ℕ, ◌≤◌, ◌+◌, ◌-◌, ◌*◌, List, [], ◌++◌, length}
 use Rattle.rds_stream.specs.Recording.{Signal}
-use Rattle.rds_sync.specs.declared.state.State.{State}
-use Rattle.rds_sync.specs.declared.state.State.TheVariants.{Searching, Locked}
-use Rattle.rds_sync.specs.declared.item.Item.{Item}
-use Rattle.rds_sync.specs.declared.totals.Totals.{Totals}
-use Rattle.rds_sync.specs.Counting.{IsAtMost, plus}
-use Rattle.rds_sync.specs.Lawful.{IsLawful}
-use Rattle.rds_sync.specs.Ranges.{IsInRange}
-use Rattle.rds_sync.specs.Step.{run, items_of_end}
-use Rattle.rds_sync.specs.Totals.{totals_of}
-use Rattle.rds_live.specs.Gaps.{gaps_within}
-use Rattle.rds_live.specs.StreamDecoder.{HasHeard, IsStreamDecoder, LiveOf, complete, last_bytes, most_counted, report_at, signal_at}
-use Rattle.rds_live.specs.Moving.{moved_items, moved_state}
-use Rattle.rds_live.specs.declared.kept.Start.{Start}
+use Rattle.rds_sync.specs.{declared.state.State.State, declared.state.State.TheVariants.Searching, declared.state.State.TheVariants.Locked, declared.item.Item.Item, declared.totals.Totals.Totals, Counting.IsAtMost, Counting.plus, Lawful.IsLawful, Ranges.IsInRange, Step.run, Step.items_of_end, Totals.totals_of}
+use Rattle.rds_live.specs.{StreamDecoder.HasHeard, StreamDecoder.IsStreamDecoder, StreamDecoder.LiveOf, StreamDecoder.complete, StreamDecoder.last_bytes, StreamDecoder.most_counted, StreamDecoder.report_at, StreamDecoder.signal_at, Gaps.gaps_within, Moving.moved_items, Moving.moved_state, declared.kept.Start.Start}
 
 -- the state, with all places moved back by d
 abbrev pub moved_back : ℕ → State → State

@@ -1,9 +1,6 @@
 -- Where an item is, and where the block of a lock is due. No public call cites it: bodies that count places from elsewhere do.
 use Rattle.std.specs.Prelude.{ℕ, ◌≤◌, ◌<◌, ⊤}
-use Rattle.rds_sync.specs.declared.state.State.{State}
-use Rattle.rds_sync.specs.declared.state.State.TheVariants.{Searching, Locked}
-use Rattle.rds_sync.specs.declared.item.Item.{Item}
-use Rattle.rds_sync.specs.declared.item.Item.TheVariants.{Acquired, Group, LostLock}
+use Rattle.rds_sync.specs.declared.{state.State.State, state.State.TheVariants.Searching, state.State.TheVariants.Locked, item.Item.Item, item.Item.TheVariants.Acquired, item.Item.TheVariants.Group, item.Item.TheVariants.LostLock}
 
 -- the place of an acquisition or a loss, or of a group's first bit
 abbrev pub place_of : Item → ℕ

@@ -1,11 +1,8 @@
 -- The recording in which the last bytes of a stream are decoded, whose length never changes. `StreamDecoder` keeps it
 -- so, and no caller sees it. This project's rule.
-use Rattle.std.specs.Prelude.{◌≡◌, ℕ, ◌+◌, ◌-◌, ◌*◌, List, ◌++◌, drop, length, map}
-use Rattle.std.specs.List.{range_with_len}
+use Rattle.std.specs.{Prelude.◌≡◌, Prelude.ℕ, Prelude.◌+◌, Prelude.◌-◌, Prelude.◌*◌, Prelude.List, Prelude.◌++◌, Prelude.drop, Prelude.length, Prelude.map, List.range_with_len}
 use Rattle.rds_stream.specs.Recording.{Signal}
-use Rattle.rds_live.specs.Gaps.{gaps_within}
-use Rattle.rds_live.specs.StreamDecoder.{signal_of}
-use Rattle.rds_live.specs.Moving.{IsPartHeard}
+use Rattle.rds_live.specs.{Gaps.gaps_within, StreamDecoder.signal_of, Moving.IsPartHeard}
 
 -- for how many bytes of a stream there is room, with those that are kept
 abbrev pub most_held : ℕ

@@ -3,16 +3,7 @@
 -- project's rules.
 use Rattle.std.specs.Prelude.{◌≡◌, ℕ, ◌-◌, ◌*◌, ◌/◌, ◌^◌, ◌≤◌, List, [], length, drop, min}
 use Rattle.rds_stream.specs.Recording.{AreGaps, Signal, bits_of}
-use Rattle.rds_sync.specs.declared.state.State.{State}
-use Rattle.rds_sync.specs.declared.state.State.TheVariants.{Searching}
-use Rattle.rds_sync.specs.declared.item.Item.{Item}
-use Rattle.rds_sync.specs.Rules.{RuleNumbers}
-use Rattle.rds_sync.specs.Lawful.{IsLawful}
-use Rattle.rds_sync.specs.declared.totals.Totals.{Totals}
-use Rattle.rds_sync.specs.Counting.{IsAtMost}
-use Rattle.rds_sync.specs.Report.{report_items}
-use Rattle.rds_sync.specs.Totals.{totals_of}
-use Rattle.rds_sync.specs.Step.{run}
+use Rattle.rds_sync.specs.{declared.state.State.State, declared.state.State.TheVariants.Searching, declared.item.Item.Item, Rules.RuleNumbers, Lawful.IsLawful, declared.totals.Totals.Totals, Counting.IsAtMost, Report.report_items, Totals.totals_of, Step.run}
 
 -- how many bytes of a stream are kept: enough for all that a run may hear before a bit
 abbrev pub most_kept : ℕ

@@ -1,8 +1,7 @@
 //! Gaps of a stream, and those of a part of it.
 ghost use Rattle.std.specs.Prelude.{◌≡◌, ◌≤◌, ◌↔◌, ◌^◌, length, min, true, vec_capacity};
 ghost use Rattle.rds_stream.specs.Recording.{AreGaps};
-ghost use Rattle.rds_live.specs.Room.{filled_up};
-ghost use Rattle.rds_live.specs.Gaps.{gaps_within, part_of_gap as the_part_of_gap};
+ghost use Rattle.rds_live.specs.{Room.filled_up, Gaps.gaps_within, Gaps.part_of_gap as the_part_of_gap};
 
 use crate::room::HELD_BITS;
 use rds_stream::{MOST_BITS, are_gaps};

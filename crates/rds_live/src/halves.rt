@@ -1,6 +1,5 @@
 //! A stream that is counted by halves, each by a thread of its own.
-ghost use Rattle.std.specs.Prelude.{◌≡◌, ◌≤◌, ◌+◌, ◌*◌, ◌^◌, length};
-ghost use Rattle.std.specs.Thread.{IsSync};
+ghost use Rattle.std.specs.{Prelude.◌≡◌, Prelude.◌≤◌, Prelude.◌+◌, Prelude.◌*◌, Prelude.◌^◌, Prelude.length, Thread.IsSync};
 ghost use Rattle.rds_live.specs.Next.{IsWithin, live_next};
 
 use crate::StreamDecoder;

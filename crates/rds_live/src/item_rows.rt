@@ -1,6 +1,5 @@
 //! Where the rows of a stream go.
-ghost use Rattle.std.specs.Prelude.{◌++◌, ◌≡◌, ℕ, [], IfOk, List, OnOk};
-ghost use Rattle.std.specs.List.{flat_map};
+ghost use Rattle.std.specs.{Prelude.◌++◌, Prelude.◌≡◌, Prelude.ℕ, Prelude.[], Prelude.IfOk, Prelude.List, Prelude.OnOk, List.flat_map};
 ghost use Rattle.rds_sync.specs.declared.item.Item.{Item};
 
 use rds_sync::Item;

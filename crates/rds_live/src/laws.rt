@@ -8,6 +8,7 @@ use rds_sync::laws;
 
 /// A run depends only on the bits heard: over a part of a recording it is the run over the whole there,
 /// except for the places.
+#[tactic(auto, using(std::proofs::lemmas::Grind::common_steps, crate::proofs::HeardParts::run_moved))]
 pub fn runs_move()
     ensures { RunsMove }
 {

@@ -1,6 +1,5 @@
 //! A stream that is listed by halves, each by a thread of its own.
-ghost use Rattle.std.specs.Prelude.{◌≡◌, ◌≤◌, ◌+◌, ◌*◌, ◌^◌, IfOk, length};
-ghost use Rattle.std.specs.Thread.{IsSync};
+ghost use Rattle.std.specs.{Prelude.◌≡◌, Prelude.◌≤◌, Prelude.◌+◌, Prelude.◌*◌, Prelude.◌^◌, Prelude.IfOk, Prelude.length, Thread.IsSync};
 ghost use Rattle.rds_live.specs.Listing.{IsListed};
 
 use crate::StreamLister;

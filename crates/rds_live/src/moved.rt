@@ -1,9 +1,7 @@
 //! States and items whose places are counted from elsewhere.
 
 ghost use Rattle.std.specs.Prelude.{◌≡◌, ◌+◌, ◌<◌, ◌≤◌, ◌^◌, ◌∷◌, [], All, map};
-ghost use Rattle.rds_live.specs.Moving.{moved_item, moved_items, moved_state};
-ghost use Rattle.rds_live.specs.Next.{moved_back as the_moved_back};
-ghost use Rattle.rds_live.specs.Places.{place_of, is_due_below, is_due_from};
+ghost use Rattle.rds_live.specs.{Moving.moved_item, Moving.moved_items, Moving.moved_state, Next.moved_back as the_moved_back, Places.place_of, Places.is_due_below, Places.is_due_from};
 
 use rds_sync::{Group, Item, Lock, State};
 

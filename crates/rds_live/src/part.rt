@@ -2,12 +2,8 @@
 
 ghost use Rattle.std.specs.Prelude.{◌≡◌, ◌≤◌, ◌-◌, ◌+◌, ◌*◌, ◌^◌, ◌⊎◌, IfOk, vec_capacity};
 ghost use Rattle.rds_stream.specs.Recording.{AreGaps, length_of};
-ghost use Rattle.rds_sync.specs.Advance.{group_item};
-ghost use Rattle.rds_sync.specs.Lawful.{IsLawful};
-ghost use Rattle.rds_sync.specs.Step.{items_of_end, run};
-ghost use Rattle.rds_live.specs.Gaps.{gaps_within};
-ghost use Rattle.rds_live.specs.Moving.{most_behind, moved_state};
-ghost use Rattle.rds_live.specs.Next.{moved_back as the_moved_back};
+ghost use Rattle.rds_sync.specs.{Advance.group_item, Lawful.IsLawful, Step.items_of_end, Step.run};
+ghost use Rattle.rds_live.specs.{Gaps.gaps_within, Moving.most_behind, Moving.moved_state, Next.moved_back as the_moved_back};
 
 use crate::gaps::fill_gaps;
 use crate::moved::{moved_back, moved_on};

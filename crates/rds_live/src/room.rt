@@ -2,9 +2,7 @@
 
 ghost use Rattle.std.specs.Prelude.{◌≡◌, ◌≤◌, ◌+◌, ◌*◌, ◌^◌, ◌++◌, [], IfOk, length, min};
 ghost use Rattle.rds_stream.specs.Recording.{AreGaps, length_of};
-ghost use Rattle.rds_live.specs.Gaps.{gaps_within};
-ghost use Rattle.rds_live.specs.StreamDecoder.{last_bytes, signal_at};
-ghost use Rattle.rds_live.specs.Room.{IsHeardIn, slots_of};
+ghost use Rattle.rds_live.specs.{Gaps.gaps_within, StreamDecoder.last_bytes, StreamDecoder.signal_at, Room.IsHeardIn, Room.slots_of};
 
 use crate::gaps::{fill_gaps, fill_up};
 use crate::kept::MOST_KEPT;

@@ -1,7 +1,6 @@
 //! A stream that is counted by several workers.
 ghost use Rattle.std.specs.Prelude.{◌≡◌, ◌≤◌, ◌<◌, ◌↔◌, ◌+◌, ◌*◌, ◌^◌, ◌++◌, List, ℕ, length, vec_capacity, IfOk, IsErrOf, IsOkUnless, OnErr, OnOk};
-ghost use Rattle.rds_live.specs.StreamDecoder.{HasHeard};
-ghost use Rattle.rds_live.specs.Next.{live_next};
+ghost use Rattle.rds_live.specs.{StreamDecoder.HasHeard, Next.live_next};
 
 use crate::StreamDecoder;
 use crate::halves::count_by;
@@ -27,8 +26,7 @@ pub struct StreamCounter<'r> {
 
 impl<'r> Model for StreamCounter<'r> {
     ghost use Rattle.std.specs.Prelude.{◌+◌, ◌*◌, ◌^◌, ◌≤◌, length};
-    ghost use Rattle.rds_live.specs.StreamDecoder.{LiveOf};
-    ghost use Rattle.rds_live.specs.Next.{live_next};
+    ghost use Rattle.rds_live.specs.{StreamDecoder.LiveOf, Next.live_next};
 
     ghost Value = { LiveOf };
 

@@ -2,18 +2,9 @@
 
 ghost use Rattle.std.specs.Prelude.{◌≡◌, ◌≤◌, ◌<◌, ◌↔◌, ◌-◌, ◌+◌, ◌*◌, ◌/◌, ◌^◌, ◌++◌, ◌⊎◌, min, All, List, ℕ, [], drop, length, take, vec_capacity, IfOk, IfErr, IsErrOf, IsOk, IsOkUnless, OnErr, OnOk, true};
 ghost use Rattle.rds_stream.specs.Recording.{AreGaps, length_of};
-ghost use Rattle.rds_sync.specs.Advance.{group_item};
-ghost use Rattle.rds_sync.specs.Counting.{IsAtMost, plus};
-ghost use Rattle.rds_sync.specs.Lawful.{IsLawful};
-ghost use Rattle.rds_sync.specs.Ranges.{IsInRange};
-ghost use Rattle.rds_sync.specs.Step.{run, items_of_end};
-ghost use Rattle.rds_sync.specs.Totals.{totals_of};
-ghost use Rattle.rds_live.specs.Moving.{moved_items};
+ghost use Rattle.rds_sync.specs.{Advance.group_item, Counting.IsAtMost, Counting.plus, Lawful.IsLawful, Ranges.IsInRange, Step.run, Step.items_of_end, Totals.totals_of};
 ghost use Rattle.rds_live.specs.StreamDecoder.{HasHeard, IsStreamDecoder, Terms, by_rules, complete, last_bytes, live_of, live_with, most_counted, most_kept, report_at, report_of, signal_of};
-ghost use Rattle.rds_live.specs.Next.{IsStart, IsWithin, completed, group_next, guessed, items_next, live_next};
-ghost use Rattle.rds_live.specs.Places.{place_of};
-ghost use Rattle.rds_live.specs.Room.{slots_of};
-ghost use Rattle.rds_live.specs.Keeping.{IsKept, live_kept};
+ghost use Rattle.rds_live.specs.{Next.IsStart, Next.IsWithin, Next.completed, Next.group_next, Next.guessed, Next.items_next, Next.live_next, Moving.moved_items, Places.place_of, Room.slots_of, Keeping.IsKept, Keeping.live_kept};
 
 use crate::error::ResumeError;
 use crate::gaps::may_have_gaps;
@@ -51,8 +42,7 @@ pub struct StreamDecoder<'r> {
 
 impl<'r> Model for StreamDecoder<'r> {
     ghost use Rattle.std.specs.Prelude.{◌≤◌, length, min};
-    ghost use Rattle.rds_live.specs.StreamDecoder.{LiveOf, IsStreamDecoder};
-    ghost use Rattle.rds_live.specs.Room.{slots_of};
+    ghost use Rattle.rds_live.specs.{StreamDecoder.LiveOf, StreamDecoder.IsStreamDecoder, Room.slots_of};
 
     ghost Value = { LiveOf };
 
@@ -384,6 +374,7 @@ impl<'r> StreamDecoder<'r> {
     }
 
     /// Where the run over the next bytes begins, by the places of the bytes that are kept.
+    #[tactic(auto, using(std::proofs::lemmas::Grind::common_steps, crate::proofs::Following::state_in_part))]
     fn next_start(&self) -> Start
         ensures { IsStart self.now result }
     {
@@ -399,6 +390,7 @@ impl<'r> StreamDecoder<'r> {
 
     /// A decoder that searched after the bytes of `front`, and then heard the seam, in which it has counted nothing: its state is a
     /// guess. Takes memory for its room.
+    #[tactic(auto, using(std::proofs::lemmas::Grind::common_steps, crate::proofs::Sewing::end_kept, crate::proofs::Sewing::guess_is))]
     pub(crate) fn guess_after(
         &self,
         alloc: Global,
@@ -444,6 +436,7 @@ impl<'r> StreamDecoder<'r> {
     }
 
     /// Takes over the count of these bytes from a guess that began in the same state.
+    #[tactic(auto, using(std::proofs::lemmas::Grind::common_steps, crate::proofs::Sewing::sewn))]
     pub(crate) fn take_over(&mut self, bytes: &[u8], guess: StreamDecoder<'r>)
         requires guess { guess ≡ live_next (guessed self.old self.old.state) bytes.now }
         requires few { IsAtMost (most_counted (8 * length bytes.now)) guess.totals }
@@ -466,6 +459,7 @@ impl<'r> StreamDecoder<'r> {
     }
 
     /// No byte changes nothing.
+    #[tactic(auto, using(std::proofs::lemmas::Grind::common_steps, crate::proofs::Pieces::none_next))]
     pub(crate) fn is_still(&self)
         ensures known { live_next self.now [] ≡ self.now }
         ensures none { completed self.now [] ≡ [] }

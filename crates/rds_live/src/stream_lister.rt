@@ -1,12 +1,8 @@
 //! A stream that is listed by several workers.
 ghost use Rattle.std.specs.Prelude.{◌≡◌, ◌≤◌, ◌<◌, ◌↔◌, ◌+◌, ◌*◌, ◌^◌, ◌++◌, ◌⊎◌, List, ℕ, length, take, IfErr, IfOk, IsErrOf, OnOk};
 ghost use Rattle.std.specs.List.{flat_map};
-ghost use Rattle.rds_sync.specs.Counting.{IsAtMost};
-ghost use Rattle.rds_sync.specs.Ranges.{IsInRange};
-ghost use Rattle.rds_sync.specs.declared.item.Item.{Item};
-ghost use Rattle.rds_live.specs.StreamDecoder.{HasHeard, IsStreamDecoder, complete, most_counted};
-ghost use Rattle.rds_live.specs.Listing.{IsListed, lister_next, lister_of};
-ghost use Rattle.rds_live.specs.Next.{IsWithin, guessed, live_next};
+ghost use Rattle.rds_sync.specs.{Counting.IsAtMost, Ranges.IsInRange, declared.item.Item.Item};
+ghost use Rattle.rds_live.specs.{StreamDecoder.HasHeard, StreamDecoder.IsStreamDecoder, StreamDecoder.complete, StreamDecoder.most_counted, Listing.IsListed, Listing.lister_next, Listing.lister_of, Next.IsWithin, Next.guessed, Next.live_next};
 
 use crate::StreamDecoder;
 use crate::item_rows::ItemRows;

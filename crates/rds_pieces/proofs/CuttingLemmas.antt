@@ -1,6 +1,5 @@
 -- The even cutting is a cutting.
-use Rattle.rds_pieces.proofs.Names.{common_steps, ◌≡◌, ℕ, zero, suc, ◌+◌, ◌-◌, ◌*◌, ◌<◌, ◌≤◌, List, [], ◌∷◌, ◌++◌, length, map, get_or, ◌∙◌, ap, arith, div_ceil, range_with_len, mul-le, length_push, get_or_push, get_or_append_left, length-map-range_with_len, get_or-map-range_with_len, IsCutting, pieces_of, even_places}
-use Rattle.std.proofs.lemmas.Grind.{div_ceil_times}
+use Rattle.rds_pieces.proofs.Names.{common_steps, ◌≡◌, ℕ, zero, suc, ◌+◌, ◌-◌, ◌*◌, ◌<◌, ◌≤◌, List, [], ◌∷◌, ◌++◌, length, map, get_or, ◌∙◌, ap, arith, div_ceil, range_with_len, mul-le, length_push, get_or_push, get_or_append_left, length-map-range_with_len, get_or-map-range_with_len, IsCutting, pieces_of, even_places, div_ceil_times}
 
 module _ (s n c : ℕ) where
   -- c multiples of s, then n

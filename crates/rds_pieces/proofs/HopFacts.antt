@@ -1,6 +1,5 @@
 -- Facts about a hop, from a bit and the place of the next block.
-use Rattle.rds_pieces.proofs.Names.{common_steps, ◌≡◌, ℕ, ◌+◌, ◌⊎◌, arith, Signal, Lock, State, Locked, RuleNumbers, run, step}
-use Rattle.rds_sync.proofs.RunLemmas.{step-acquiring, step-searching, step-waiting, step-keeping, step-losing, run_state-append}
+use Rattle.rds_pieces.proofs.Names.{common_steps, ◌≡◌, ℕ, ◌+◌, ◌⊎◌, arith, Signal, Lock, State, Locked, RuleNumbers, run, step, step-acquiring, step-searching, step-waiting, step-keeping, step-losing, run_state-append}
 
 module _ (b : Signal) (rules : RuleNumbers) where
   -- a lock was there before the bit, or its block is due 26 places after it

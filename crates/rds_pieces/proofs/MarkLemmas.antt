@@ -1,11 +1,6 @@
 -- Where the next mark of a run is: after the next stretch that gives an item. The marks of a run are those that a walk
 -- bit by bit finds.
-use Rattle.rds_pieces.proofs.Names.{common_steps, ◌≡◌, ◌≢◌, ℕ, zero, suc, ◌+◌, ◌-◌, List, [], ◌∷◌, ◌++◌, length, map, filter, refl, sym, ap, ap₂, ◌∙◌, arith, append_assoc, length-append, le-ltb, lt-ltb, range_with_len, Signal, Item, State, items_in, RuleNumbers, run, step, items_at, mark_where, mark_at, marks_on}
-use Rattle.rds_pieces.specs.declared.mark.Mark.{Mark}
-use Rattle.rds_sync.specs.declared.step.Step.{Step}
-use Rattle.rds_sync.specs.Stretch.{IsStretch}
-use Rattle.rds_pieces.specs.Marks.{mark_after_bits, gave_item, marks_of}
-use Rattle.rds_sync.proofs.RunLemmas.{run-append, run-one}
+use Rattle.rds_pieces.proofs.Names.{common_steps, ◌≡◌, ◌≢◌, ℕ, zero, suc, ◌+◌, ◌-◌, List, [], ◌∷◌, ◌++◌, length, map, filter, refl, sym, ap, ap₂, ◌∙◌, arith, append_assoc, length-append, le-ltb, lt-ltb, range_with_len, Signal, Item, State, items_in, RuleNumbers, run, step, items_at, mark_where, mark_at, marks_on, Mark, mark_after_bits, gave_item, marks_of, Step, IsStretch, run-append, run-one}
 
 none_first : {A : Type 0} → (xs ys : List A) → xs ++ ys ≡ [] → xs ≡ []
 none_first [] ys e = refl
@@ -17,9 +12,9 @@ none_rest (x ∷ xs) ys e = cc
 
 module _ (b : Signal) (rules : RuleNumbers) where
   -- bits that give nothing have no mark
-  pub marks_on-quiet : (s : State) (a before bits : ℕ) → (run b rules s a bits).1 ≡ [] → marks_on b rules s a before bits ≡ []
-  marks_on-quiet s a before zero e = refl
-  marks_on-quiet s a before (suc bits) e = grind (arith, common_steps, none_first, none_rest, marks_on-quiet (step b rules a s) (a + 1) (before + length (items_at b rules a s)) bits (none_rest (items_at b rules a s) _ e))
+  pub marks_on_quiet : (s : State) (a before bits : ℕ) → (run b rules s a bits).1 ≡ [] → marks_on b rules s a before bits ≡ []
+  marks_on_quiet s a before zero e = refl
+  marks_on_quiet s a before (suc bits) e = grind (arith, common_steps, none_first, none_rest, marks_on_quiet (step b rules a s) (a + 1) (before + length (items_at b rules a s)) bits (none_rest (items_at b rules a s) _ e))
 
   -- the marks over some bits and then some more
   pub marks_on-append : (s : State) (a c m n : ℕ)
@@ -43,7 +38,7 @@ module _ (b : Signal) (rules : RuleNumbers) where
       → let given : List Item = items_at b rules (a + m) t in
       let next : State = step b rules (a + m) t in
       marks_on b rules s a c (m + suc n) ≡ mark_at next (a + m + 1) (c + length given) ∷ marks_on b rules next (a + m + 1) (c + length given) n
-  marks_on-next s t a c m n quiet some = grind (arith, common_steps, marks_on-append, marks_on-quiet)
+  marks_on-next s t a c m n quiet some = grind (arith, common_steps, marks_on-append, marks_on_quiet)
 
   -- the same, by other names of the last bit's place, state and items
   marks_on-came : (s t u : State) (a c m n to : ℕ) (given : List Item) → run b rules s a m ≡ (t, []) → a + m + 1 ≡ to → u ≡ step b rules (a + m) t → given ≡ items_at b rules (a + m) t
@@ -66,17 +61,17 @@ module _ (b : Signal) (rules : RuleNumbers) where
   marks_from s a m (suc n) = grind (arith, common_steps, run_more, length-append, le-ltb, lt-ltb, marks_from s a (m + 1) n)
 
   -- all marks of a run are those of a walk from its first place
-  pub marks_of-by_bits : (s : State) (a bits : ℕ) → marks_of b rules s a bits ≡ mark_at s a 0 ∷ marks_on b rules s a 0 bits
-  marks_of-by_bits s a bits =
+  pub marks_of_by_bits : (s : State) (a bits : ℕ) → marks_of b rules s a bits ≡ mark_at s a 0 ∷ marks_on b rules s a 0 bits
+  marks_of_by_bits s a bits =
       let spot : a + 0 ≡ a = omega arith in
       ap (λ (ms : List Mark). mark_at s a 0 ∷ ms) (marks_from s a 0 bits ∙ ap (λ (p : ℕ). marks_on b rules s p 0 bits) spot)
 
   module _ (s : State) (place to before : ℕ) (reached : Step) (is : IsStretch b rules s place to reached) where
     -- over a stretch that gives items
-    pub marks_on-stretch : items_in reached.items ≢ []
+    pub marks_on_stretch : items_in reached.items ≢ []
         → let count : ℕ = before + length (items_in reached.items) in
         marks_on b rules s place before (to - place) ≡ mark_at reached.state reached.place count ∷ marks_on b rules reached.state reached.place count (to - reached.place)
-    marks_on-stretch some =
+    marks_on_stretch some =
         let m : ℕ = reached.place - 1 - place in
         let t : State = (run b rules s place m).0 in
         let ahead = is.forward in

@@ -1,7 +1,6 @@
 -- Runs that follow each other: those of a cutting, and those where two neighbours are joined.
 use Rattle.rds_pieces.proofs.Names.{common_steps, ◌≡◌, ℕ, zero, suc, ◌+◌, List, [], ◌∷◌, map, get_or, arith, range_with_len, Signal, length_of, RuleNumbers, IsCutting, pieces_of, run_at, FollowEachOther}
-use Rattle.rds_pieces.specs.Laws.{PiecesAreFew, PiecesFollow, JoinedRunsFollow}
-use Rattle.rds_pieces.proofs.CuttingLemmas.{piece_inside, pieces_at_most}
+use Rattle.rds_pieces.{specs.Laws.PiecesAreFew, specs.Laws.PiecesFollow, specs.Laws.JoinedRunsFollow, proofs.CuttingLemmas.piece_inside, proofs.CuttingLemmas.pieces_at_most}
 
 pub pieces_few : PiecesAreFew
 pieces_few n places cutting = pieces_at_most n places cutting

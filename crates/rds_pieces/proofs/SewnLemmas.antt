@@ -1,7 +1,6 @@
 -- A run and its guess that met go on as one: the whole run has the items of the run up to the meeting, and
 -- then those of the guess.
-use Rattle.rds_pieces.proofs.Names.{common_steps, ◌≡◌, ℕ, ◌-◌, ◌^◌, ◌≤◌, List, ◌++◌, length, drop, sym, ap, ap₂, ◌∙◌, arith, Signal, Item, State, Searching, Totals, ItemsOf, listed, IsRest, FitTogether, plus, RuleNumbers, run, totals_of, guess, RunLaws, MeetFirstAt}
-use Rattle.std.proofs.lemmas.List.Prefix.{front_rest}
+use Rattle.rds_pieces.proofs.Names.{common_steps, ◌≡◌, ℕ, ◌-◌, ◌^◌, ◌≤◌, List, ◌++◌, length, drop, sym, ap, ap₂, ◌∙◌, arith, Signal, Item, State, Searching, Totals, ItemsOf, listed, IsRest, FitTogether, plus, RuleNumbers, run, totals_of, guess, RunLaws, MeetFirstAt, front_rest}
 use Rattle.rds_pieces.proofs.SmallTotals.{totals_of_two}
 
 module _ (laws : RunLaws) {b : Signal} {rules : RuleNumbers} {s : State} {from to place : ℕ} (met : MeetFirstAt b rules s Searching from to place) where

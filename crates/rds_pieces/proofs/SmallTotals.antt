@@ -1,16 +1,5 @@
 -- The totals of a run's items are small: a bit gives one group at most, and a block has 26 bits.
-use Rattle.rds_pieces.proofs.Names.{common_steps, ◌≡◌, ℕ, zero, suc, ◌+◌, ◌-◌, ◌*◌, ◌^◌, ◌<◌, ◌≤◌, Bool, true, false, List, [], ◌∷◌, ◌++◌, refl, sym, subst, arith, lit≤, inl, inr, cases_Bool, cases_eq, ones_le_self, Signal, State, Searching, Locked, Item, Acquired, GroupItem, LostLock, Totals, plus, TotalsJoin, IsAtMost, FitTogether, group, block_at, wanted_beside, RuleNumbers, are_too_many, run, step, items_at, history_after_block, totals_of, bits_corrected}
-use Rattle.std.specs.Prelude.{sum_by, if◌then◌else◌, ◌==◌}
-use Rattle.rds_code.specs.declared.reading.Wanted.{Wanted}
-use Rattle.rds_code.specs.declared.reading.Wanted.TheVariants.{Either}
-use Rattle.rds_code.specs.declared.reading.Reading.{Reading}
-use Rattle.rds_code.specs.declared.reading.Reading.TheVariants.{Valid, Corrected, Lost}
-use Rattle.rds_code.specs.Laws.{ReadsByRule}
-use Rattle.rds_code.specs.Reading.{reading, IsReading}
-use Rattle.rds_sync.specs.declared.item.Block.{Block}
-use Rattle.rds_sync.specs.declared.item.Block.TheVariants.{Read}
-use Rattle.rds_sync.specs.declared.item.Group.{Group}
-use Rattle.rds_sync.proofs.RunLemmas.{items-searching, items-acquiring, items-waiting, items-keeping, items-losing}
+use Rattle.rds_pieces.proofs.Names.{common_steps, ◌≡◌, ℕ, zero, suc, ◌+◌, ◌-◌, ◌*◌, ◌^◌, ◌<◌, ◌≤◌, Bool, true, false, List, [], ◌∷◌, ◌++◌, refl, sym, subst, arith, lit≤, inl, inr, cases_Bool, cases_eq, ones_le_self, Signal, State, Searching, Locked, Item, Acquired, GroupItem, LostLock, Totals, plus, TotalsJoin, IsAtMost, FitTogether, group, block_at, wanted_beside, RuleNumbers, are_too_many, run, step, items_at, history_after_block, totals_of, bits_corrected, sum_by, if◌then◌else◌, ◌==◌, Wanted, Either, Reading, Valid, Corrected, Lost, ReadsByRule, reading, IsReading, Block, Read, Group, items-searching, items-acquiring, items-waiting, items-keeping, items-losing}
 
 pub at_most_more : (m n : ℕ) (t : Totals) → m ≤ n → IsAtMost m t → IsAtMost n t
 at_most_more m n t h a = omega (arith, a)

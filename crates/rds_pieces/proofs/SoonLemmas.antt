@@ -1,7 +1,5 @@
 -- Two runs meet by the end of a sound range inside their range: there both are in the state that all runs come into.
-use Rattle.rds_pieces.proofs.Names.{common_steps, ◌≡◌, ℕ, ◌+◌, ◌-◌, ◌*◌, ◌≤◌, List, Option, Some, refl, sym, ap, ◌∙◌, subst, arith, Signal, State, Locked, Item, RuleNumbers, IsLawful, IsBetweenGroups, IsLossRule, run, lock_of, MeetAt, IsMeeting, RunLaws}
-use Rattle.rds_sync.specs.Convergence.{sound_bits, SoundRangesHaveFours, RunsConverge}
-use Rattle.rds_pieces.specs.Soon.{IsSoonMet, MeetSoon}
+use Rattle.rds_pieces.proofs.Names.{common_steps, ◌≡◌, ℕ, ◌+◌, ◌-◌, ◌*◌, ◌≤◌, List, Option, Some, refl, sym, ap, ◌∙◌, subst, arith, Signal, State, Locked, Item, RuleNumbers, IsLawful, IsBetweenGroups, IsLossRule, run, lock_of, MeetAt, IsMeeting, RunLaws, IsSoonMet, MeetSoon, sound_bits, SoundRangesHaveFours, RunsConverge}
 
 module _ (b : Signal) (rules : RuleNumbers) (one other : State) (from to : ℕ) where
   -- the least place where they meet is no later than any

@@ -2,9 +2,7 @@
 -- place, and read few windows.
 
 use Rattle.rds_pieces.proofs.Names.{common_steps, ◌≡◌, ℕ, ◌+◌, ◌-◌, ◌*◌, ◌<◌, ◌≤◌, ◌^◌, ◌⊎◌, Option, sym, subst, arith, inl, inr, mul-le, Signal, State, Searching, IsHop, RuleNumbers, IsLawful, IsBetweenGroups, IsInRange, TallyOf, tally_at, gone_on, IsFirst, IsStep, Meet, RunLaws, MeetFirstAt, IsMeeting, seam_reads}
-use Rattle.rds_pieces.proofs.Apart.{IsApart, at_bit, swap, apart_hop}
-use Rattle.rds_pieces.proofs.GoneRuns.{gone-again}
-use Rattle.rds_pieces.proofs.Paid.{IsPaid, paid_swap, paid_hop, paid_most, paid_less}
+use Rattle.rds_pieces.proofs.{Apart.IsApart, Apart.at_bit, Apart.swap, Apart.apart_hop, GoneRuns.gone-again, Paid.IsPaid, Paid.paid_swap, Paid.paid_hop, Paid.paid_most, Paid.paid_less}
 
 -- of two places, which is first
 which : (a c : ℕ) → (a < c) ⊎ (c < a) ⊎ (a ≡ c)

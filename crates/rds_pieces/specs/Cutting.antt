@@ -1,9 +1,6 @@
 -- How a recording is cut into pieces: this project's rule. `Cutting` is one, by `new` and `even`, and `speculate`, `Work` and
 -- `decode_crew` ask for one of their recording.
-use Rattle.std.specs.Prelude.{◌≡◌, ℕ, ◌-◌, ◌*◌, ◌<◌, List, [], ◌∷◌, ◌++◌, length, map, slice_index}
-use Rattle.std.specs.Int.{div_ceil}
-use Rattle.std.specs.List.{range_with_len}
-use Rattle.std.specs.List.Sorted.{IsStrictlyIncreasing}
+use Rattle.std.specs.{Prelude.◌≡◌, Prelude.ℕ, Prelude.◌-◌, Prelude.◌*◌, Prelude.◌<◌, Prelude.List, Prelude.[], Prelude.◌∷◌, Prelude.◌++◌, Prelude.length, Prelude.map, Prelude.slice_index, Int.div_ceil, List.range_with_len, List.Sorted.IsStrictlyIncreasing}
 
 -- a strictly rising list of places that begins with 0 and ends with n; for n = 0 it is the list of only 0
 pub record IsCutting (n : ℕ) (places : List ℕ) : Type 0 where

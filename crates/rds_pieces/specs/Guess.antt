@@ -2,11 +2,7 @@
 -- tells it of itself, by `items`, `list`, `totals` and `end_state`.
 use Rattle.std.specs.Prelude.{ℕ, List}
 use Rattle.rds_stream.specs.Recording.{Signal}
-use Rattle.rds_sync.specs.declared.state.State.{State}
-use Rattle.rds_sync.specs.declared.state.State.TheVariants.{Searching}
-use Rattle.rds_sync.specs.declared.item.Item.{Item}
-use Rattle.rds_sync.specs.Rules.{RuleNumbers}
-use Rattle.rds_sync.specs.Step.{run}
+use Rattle.rds_sync.specs.{declared.state.State.State, declared.state.State.TheVariants.Searching, declared.item.Item.Item, Rules.RuleNumbers, Step.run}
 
 module _ (b : Signal) (rules : RuleNumbers) (from : ℕ) where
   -- the state and the items after the first `bits` bits of the piece

@@ -2,14 +2,8 @@
 -- rely on the fields as on clauses; `Work::join` cites the first.
 use Rattle.std.specs.Prelude.{◌≡◌, ℕ, ◌+◌, ◌-◌, ◌*◌, ◌≤◌, IsOkUnless, OnOk, Option, Result}
 use Rattle.rds_stream.specs.Recording.{Signal}
-use Rattle.rds_sync.specs.declared.state.State.TheVariants.{Searching}
-use Rattle.rds_sync.specs.Rules.{RuleNumbers}
-use Rattle.rds_pieces.specs.Meeting.{IsMeeting}
-use Rattle.rds_pieces.specs.RunOf.{IsRunOf, RunOf, end_of}
-use Rattle.rds_pieces.specs.Seams.{seam_reads}
-use Rattle.rds_pieces.specs.Soon.{MeetSoon}
-use Rattle.rds_pieces.specs.declared.error.PieceError.{PieceError}
-use Rattle.rds_pieces.specs.declared.error.PieceError.TheVariants.{OutOfMemory}
+use Rattle.rds_sync.specs.{declared.state.State.TheVariants.Searching, Rules.RuleNumbers}
+use Rattle.rds_pieces.specs.{Meeting.IsMeeting, RunOf.IsRunOf, RunOf.RunOf, RunOf.end_of, Seams.seam_reads, Soon.MeetSoon, declared.error.PieceError.PieceError, declared.error.PieceError.TheVariants.OutOfMemory}
 
 module _ (b : Signal) (rules : RuleNumbers) (left right : RunOf) where
   -- runs of this recording, by these rules, of which the right one begins where the left one ends

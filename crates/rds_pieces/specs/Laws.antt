@@ -2,8 +2,7 @@
 use Rattle.std.specs.Prelude.{ℕ, ◌≤◌, List, ◌∷◌, ◌++◌}
 use Rattle.rds_stream.specs.Recording.{Signal, length_of}
 use Rattle.rds_sync.specs.Rules.{RuleNumbers}
-use Rattle.rds_pieces.specs.Cutting.{IsCutting, pieces_of}
-use Rattle.rds_pieces.specs.RunOf.{RunOf, run_over, runs_of, FollowEachOther}
+use Rattle.rds_pieces.specs.{Cutting.IsCutting, Cutting.pieces_of, RunOf.RunOf, RunOf.run_over, RunOf.runs_of, RunOf.FollowEachOther}
 
 -- a cutting has at most as many pieces as there are bits
 abbrev pub PiecesAreFew : Type 0

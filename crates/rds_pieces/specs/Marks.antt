@@ -1,11 +1,8 @@
 -- The marks of a run: its first place, and the place after each bit that gave an item. Two runs meet first at a mark of
 -- one of them. `PieceRun::marks` returns those of a guess. This project's rule.
-use Rattle.std.specs.Prelude.{ℕ, ◌+◌, ◌-◌, Bool, List, ◌∷◌, length, map, filter, nat_lt}
-use Rattle.std.specs.List.{range_with_len}
+use Rattle.std.specs.{Prelude.ℕ, Prelude.◌+◌, Prelude.◌-◌, Prelude.Bool, Prelude.List, Prelude.◌∷◌, Prelude.length, Prelude.map, Prelude.filter, Prelude.nat_lt, List.range_with_len}
 use Rattle.rds_stream.specs.Recording.{Signal}
-use Rattle.rds_sync.specs.declared.state.State.{State}
-use Rattle.rds_sync.specs.Rules.{RuleNumbers}
-use Rattle.rds_sync.specs.Step.{run}
+use Rattle.rds_sync.specs.{declared.state.State.State, Rules.RuleNumbers, Step.run}
 use Rattle.rds_pieces.specs.declared.mark.Mark.{Mark}
 
 module _ (b : Signal) (rules : RuleNumbers) (s : State) (a : ℕ) where

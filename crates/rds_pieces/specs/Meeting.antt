@@ -1,10 +1,7 @@
 -- The place where two runs meet: this project's rule. `seam` returns it. `seam` and `join_runs` bound their reads by it.
 use Rattle.std.specs.Prelude.{◌≡◌, ℕ, ◌-◌, ◌<◌, ◌≤◌, Option, Some, None, MatchOption}
 use Rattle.rds_stream.specs.Recording.{Signal}
-use Rattle.rds_sync.specs.declared.state.State.{State}
-use Rattle.rds_sync.specs.Rules.{RuleNumbers}
-use Rattle.rds_sync.specs.Lawful.{IsBetweenGroups}
-use Rattle.rds_sync.specs.Step.{run}
+use Rattle.rds_sync.specs.{declared.state.State.State, Rules.RuleNumbers, Lawful.IsBetweenGroups, Step.run}
 
 module _ (b : Signal) (rules : RuleNumbers) (s t : State) (from to : ℕ) where
   -- before the bit at p both runs are in the same state, with no group in progress; p may be the range's end

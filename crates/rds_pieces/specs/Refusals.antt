@@ -1,7 +1,6 @@
 -- The numbers and names of this crate's refusals. `PieceError::number` and `name` answer them.
 use Rattle.std.specs.Prelude.{ℕ, List, codes}
-use Rattle.rds_pieces.specs.declared.error.PieceError.{PieceError}
-use Rattle.rds_pieces.specs.declared.error.PieceError.TheVariants.{BadCutting, OutOfMemory}
+use Rattle.rds_pieces.specs.declared.error.PieceError.{PieceError, TheVariants.BadCutting, TheVariants.OutOfMemory}
 
 abbrev pub number_of : PieceError → ℕ
 number_of BadCutting = 6

@@ -1,12 +1,9 @@
 -- The view that contracts have of the run of a piece, and which runs follow each other. `speculate`,
 -- `join_runs` and `stitch` cite it, and `Work`, by which a crew calls them.
-use Rattle.std.specs.Prelude.{◌≡◌, ℕ, ◌+◌, ◌-◌, ◌≤◌, List, [], ◌∷◌, map, slice_index}
-use Rattle.std.specs.List.{range_with_len}
+use Rattle.std.specs.{Prelude.◌≡◌, Prelude.ℕ, Prelude.◌+◌, Prelude.◌-◌, Prelude.◌≤◌, Prelude.List, Prelude.[], Prelude.◌∷◌, Prelude.map, Prelude.slice_index, List.range_with_len}
 use Rattle.rds_stream.specs.Recording.{Signal}
-use Rattle.rds_sync.specs.declared.state.State.{State}
-use Rattle.rds_sync.specs.Rules.{RuleNumbers}
-use Rattle.rds_pieces.specs.Cutting.{pieces_of}
-use Rattle.rds_pieces.specs.Guess.{guess}
+use Rattle.rds_sync.specs.{declared.state.State.State, Rules.RuleNumbers}
+use Rattle.rds_pieces.specs.{Cutting.pieces_of, Guess.guess}
 
 -- a run is named by its recording, its rules and its range: the places from `from` to `to` - 1
 pub record RunOf : Type 0 where

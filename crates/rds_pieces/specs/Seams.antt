@@ -2,12 +2,8 @@
 -- no more.
 use Rattle.std.specs.Prelude.{◌≡◌, ℕ, ◌+◌, ◌-◌, ◌*◌, List, [], ◌∷◌, Option}
 use Rattle.rds_stream.specs.Recording.{Signal}
-use Rattle.rds_sync.specs.declared.state.State.{State}
-use Rattle.rds_sync.specs.declared.state.State.TheVariants.{Searching}
-use Rattle.rds_sync.specs.Rules.{RuleNumbers}
-use Rattle.rds_sync.specs.Step.{run}
-use Rattle.rds_pieces.specs.Meeting.{IsMeeting, distance}
-use Rattle.rds_pieces.specs.RunOf.{RunOf}
+use Rattle.rds_sync.specs.{declared.state.State.State, declared.state.State.TheVariants.Searching, Rules.RuleNumbers, Step.run}
+use Rattle.rds_pieces.specs.{Meeting.IsMeeting, Meeting.distance, RunOf.RunOf}
 
 -- of one seam: reach + 2 windows for each place up to the meeting, or to the end of the piece, and as many once more
 abbrev pub seam_reads : RuleNumbers → ℕ → ℕ → Option ℕ → ℕ

@@ -1,9 +1,7 @@
 -- How soon a run meets the guess of a piece: this project's rule. `seam` and `join_runs` promise it.
 use Rattle.std.specs.Prelude.{◌≡◌, ℕ, ◌+◌, ◌≤◌, Option, Some}
 use Rattle.rds_stream.specs.Recording.{Signal}
-use Rattle.rds_sync.specs.declared.state.State.{State}
-use Rattle.rds_sync.specs.Rules.{RuleNumbers}
-use Rattle.rds_sync.specs.Convergence.{IsSound, sound_bits}
+use Rattle.rds_sync.specs.{declared.state.State.State, Rules.RuleNumbers, Convergence.IsSound, Convergence.sound_bits}
 use Rattle.rds_pieces.specs.Meeting.{MeetFirstAt}
 
 -- if a sound range is inside the piece from `from` to `to` - 1, they meet by the range's end

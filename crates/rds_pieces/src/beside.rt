@@ -1,11 +1,8 @@
 //! A run and its guess over one range, side by side.
 ghost use Rattle.std.specs.Prelude.{◌≡◌, ℕ, Option, Some, ◌+◌, ◌-◌, ◌*◌, ◌≤◌, ◌^◌, ◌↔◌, IfOk, IsTrue};
 ghost use Rattle.rds_stream.specs.Recording.{length_of};
-ghost use Rattle.rds_sync.specs.Lawful.{IsLawful};
-ghost use Rattle.rds_sync.specs.Tally.{gone_on, tally_at};
-ghost use Rattle.rds_pieces.specs.Inside.Beside.{IsFirst, IsStep, Meet, come_to};
-ghost use Rattle.rds_pieces.specs.Meeting.{IsMeeting};
-ghost use Rattle.rds_pieces.specs.Seams.{seam_reads};
+ghost use Rattle.rds_sync.specs.{Lawful.IsLawful, Tally.gone_on, Tally.tally_at};
+ghost use Rattle.rds_pieces.specs.{Inside.Beside.IsFirst, Inside.Beside.IsStep, Inside.Beside.Meet, Inside.Beside.come_to, Meeting.IsMeeting, Seams.seam_reads};
 
 use crate::laws::run_laws;
 use rds_stream::Tape;
@@ -97,6 +94,7 @@ fn met_here(own: Tally, guess: Tally) -> Beside
 
 /// Lets the run at the lesser place hop. At one place a locked one hops. A search goes no further than to the
 /// other run. If memory is refused for a span, it has hopped all the same.
+#[tactic(auto, using(std::proofs::lemmas::Grind::common_steps, crate::proofs::Walks::first_behind))]
 fn hop_first<T: Tape>(
     tape: &mut T,
     rules: &Rules,

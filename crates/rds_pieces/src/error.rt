@@ -1,7 +1,6 @@
 //! Why a call of this crate is refused.
 ghost use Rattle.std.specs.Prelude.{◌≡◌};
-ghost use Rattle.rds_pieces.specs.Refusals.{number_of, name_of};
-ghost use Rattle.rds_pieces.specs.declared.error.PieceError.TheVariants.{OutOfMemory};
+ghost use Rattle.rds_pieces.specs.{Refusals.number_of, Refusals.name_of, declared.error.PieceError.TheVariants.OutOfMemory};
 
 use std::alloc::{AllocError, AllocFailed};
 use thiserror::Error;

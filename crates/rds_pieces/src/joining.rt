@@ -1,7 +1,6 @@
 //! Two neighbours joined into one run.
 ghost use Rattle.std.specs.Prelude.{◌≡◌, ◌≤◌, ◌^◌, IfOk};
-ghost use Rattle.rds_pieces.specs.Joining.{AreNeighbours, IsJoin};
-ghost use Rattle.rds_pieces.specs.RunOf.{run_over};
+ghost use Rattle.rds_pieces.specs.{Joining.AreNeighbours, Joining.IsJoin, RunOf.run_over};
 
 use crate::error::PieceError;
 use crate::laws::run_laws;

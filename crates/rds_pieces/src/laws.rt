@@ -1,7 +1,6 @@
 //! The laws of pieces, over only the definitions. Each function here does nothing: its contract is a law,
 //! which the check of this crate proves, and which a proof above it may cite.
-ghost use Rattle.rds_pieces.specs.Laws.{PiecesAreFew, PiecesFollow, JoinedRunsFollow};
-ghost use Rattle.rds_pieces.specs.Inside.RunLaws.{RunLaws};
+ghost use Rattle.rds_pieces.specs.{Laws.PiecesAreFew, Laws.PiecesFollow, Laws.JoinedRunsFollow, Inside.RunLaws.RunLaws};
 
 use rds_code::laws as code_laws;
 use rds_sync::laws;

@@ -1,11 +1,8 @@
 //! The places of a run at which another run may meet it.
-ghost use Rattle.std.specs.Prelude.{◌≡◌, ◌≤◌, ◌*◌, ◌-◌, [], ◌∷◌, IfSome, MatchOption, length};
+ghost use Rattle.std.specs.{Prelude.◌≡◌, Prelude.◌≤◌, Prelude.◌*◌, Prelude.◌-◌, Prelude.[], Prelude.◌∷◌, Prelude.IfSome, Prelude.MatchOption, Prelude.length, Iterator.YieldsFirst, Iterator.item_count};
 ghost use Rattle.rds_stream.specs.Recording.{length_of};
-ghost use Rattle.rds_sync.specs.Advance.{items_in};
-ghost use Rattle.rds_sync.specs.Lawful.{IsLawful};
-ghost use Rattle.std.specs.Iterator.{YieldsFirst, item_count};
-ghost use Rattle.rds_pieces.specs.Inside.MarkInside.{IsMarkIn, marks_on};
-ghost use Rattle.rds_pieces.specs.Marks.{marks_of};
+ghost use Rattle.rds_sync.specs.{Advance.items_in, Lawful.IsLawful};
+ghost use Rattle.rds_pieces.specs.{Inside.MarkInside.IsMarkIn, Inside.MarkInside.marks_on, Marks.marks_of};
 
 use crate::mark::Mark;
 use rds_stream::{Reader, Recording};
@@ -28,8 +25,7 @@ pub struct Marks<'a> {
 impl<'a> Model for Marks<'a> {
     ghost use Rattle.std.specs.Prelude.{List, [], ◌∷◌, ◌-◌, ◌≤◌, None, Some, IfSome};
     ghost use Rattle.rds_stream.specs.Recording.{length_of};
-    ghost use Rattle.rds_pieces.specs.declared.mark.Mark.{Mark};
-    ghost use Rattle.rds_pieces.specs.Inside.MarkInside.{IsMarkIn, marks_on};
+    ghost use Rattle.rds_pieces.specs.{declared.mark.Mark.Mark, Inside.MarkInside.IsMarkIn, Inside.MarkInside.marks_on};
 
     ghost Value = { List Mark };
 
@@ -43,6 +39,7 @@ impl<'a> Model for Marks<'a> {
 
 impl<'a> Marks<'a> {
     /// The marks of the run from Searching over the bits at `from` to `to` - 1.
+    #[tactic(auto, using(std::proofs::lemmas::Grind::common_steps, crate::proofs::MarkLemmas::marks_of_by_bits))]
     pub(crate) fn over(rec: &'a Recording, rules: &'a Rules, from: u64, to: u64) -> Marks<'a>
         requires order { from ≤ to }
         requires within { to ≤ length_of rec.now }
@@ -79,6 +76,7 @@ impl<'a> Iterator for Marks<'a> {
 impl<'a> FusedIterator for Marks<'a> {}
 
 /// The mark after this one, if the run gives an item before `to`.
+#[tactic(auto, using(std::proofs::lemmas::Grind::common_steps, crate::proofs::MarkLemmas::marks_on_quiet, crate::proofs::MarkLemmas::marks_on_stretch))]
 fn mark_after(reader: &mut Reader<'_>, rules: &Rules, now: Mark, to: u64) -> Option<Mark>
     requires here { IsMarkIn rules.now to now }
     requires within { to ≤ length_of reader.old }

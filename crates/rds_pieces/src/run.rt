@@ -1,15 +1,8 @@
 //! The run of a piece.
 ghost use Rattle.std.specs.Prelude.{◌≡◌, ◌+◌, ◌-◌, ◌<◌, ◌≤◌, ◌^◌, IfOk, IsOkUnless, slice_index};
 ghost use Rattle.rds_stream.specs.Recording.{length_of};
-ghost use Rattle.rds_sync.specs.Decoding.{listed};
-ghost use Rattle.rds_sync.specs.Ranges.{IsInRange};
-ghost use Rattle.rds_sync.specs.Totals.{totals_of};
-ghost use Rattle.rds_pieces.specs.Cutting.{IsCutting, pieces_of};
-ghost use Rattle.rds_pieces.specs.Guess.{guess};
-ghost use Rattle.rds_pieces.specs.Marks.{marks_of};
-ghost use Rattle.rds_pieces.specs.RunOf.{run_at, run_over};
-ghost use Rattle.rds_pieces.specs.Inside.RunInside.{IsKept};
-ghost use Rattle.rds_pieces.specs.declared.error.PieceError.TheVariants.{OutOfMemory};
+ghost use Rattle.rds_sync.specs.{Decoding.listed, Ranges.IsInRange, Totals.totals_of};
+ghost use Rattle.rds_pieces.specs.{Cutting.IsCutting, Cutting.pieces_of, Guess.guess, Marks.marks_of, RunOf.run_at, RunOf.run_over, Inside.RunInside.IsKept, declared.error.PieceError.TheVariants.OutOfMemory};
 
 use crate::cutting::Cutting;
 use crate::error::PieceError;
@@ -33,8 +26,7 @@ pub struct PieceRun {
 }
 
 impl Model for PieceRun {
-    ghost use Rattle.rds_pieces.specs.RunOf.{RunOf, run_over};
-    ghost use Rattle.rds_pieces.specs.Inside.RunInside.{IsKept};
+    ghost use Rattle.rds_pieces.specs.{RunOf.RunOf, RunOf.run_over, Inside.RunInside.IsKept};
 
     ghost Value = { RunOf };
 

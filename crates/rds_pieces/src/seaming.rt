@@ -1,17 +1,7 @@
 //! The seam before a piece: how the state that the pieces before it left runs over it.
 ghost use Rattle.std.specs.Prelude.{◌≡◌, ℕ, Option, ◌+◌, ◌-◌, ◌*◌, ◌≤◌, ◌^◌, IfOk, IsOkUnless, length};
-ghost use Rattle.rds_sync.specs.Counting.{IsRest};
-ghost use Rattle.rds_sync.specs.Lawful.{IsLawful};
-ghost use Rattle.rds_sync.specs.Step.{run as run_of};
-ghost use Rattle.rds_sync.specs.Tally.{gone_on, tally_at};
-ghost use Rattle.rds_sync.specs.Totals.{totals_of};
-ghost use Rattle.rds_sync.specs.declared.totals.Totals.{Totals};
-ghost use Rattle.rds_sync.specs.Decoding.{listed};
-ghost use Rattle.rds_pieces.specs.Inside.Beside.{come_to};
-ghost use Rattle.rds_pieces.specs.Meeting.{IsMeeting, distance};
-ghost use Rattle.rds_pieces.specs.Seams.{seam_reads};
-ghost use Rattle.rds_pieces.specs.Soon.{IsSoonMet};
-ghost use Rattle.rds_pieces.specs.declared.error.PieceError.TheVariants.{OutOfMemory};
+ghost use Rattle.rds_sync.specs.{Counting.IsRest, Lawful.IsLawful, Step.run as run_of, Tally.gone_on, Tally.tally_at, Totals.totals_of, declared.totals.Totals.Totals, Decoding.listed};
+ghost use Rattle.rds_pieces.specs.{Inside.Beside.come_to, Meeting.IsMeeting, Meeting.distance, Seams.seam_reads, Soon.IsSoonMet, declared.error.PieceError.TheVariants.OutOfMemory};
 
 use crate::beside::{Beside, go_beside};
 use crate::error::PieceError;

@@ -1,16 +1,8 @@
 //! The report of a recording from the runs of its pieces.
 ghost use Rattle.std.specs.Prelude.{◌≡◌, ℕ, Option, ◌+◌, ◌-◌, ◌*◌, ◌++◌, ◌≤◌, ◌^◌, IfOk, IsOkUnless, length};
 ghost use Rattle.rds_stream.specs.Recording.{length_of};
-ghost use Rattle.rds_sync.specs.Counting.{FitTogether, IsAtMost, plus};
-ghost use Rattle.rds_sync.specs.Decoding.{listed};
-ghost use Rattle.rds_sync.specs.Lawful.{IsLawful};
-ghost use Rattle.rds_sync.specs.Report.{report_items};
-ghost use Rattle.rds_sync.specs.Step.{items_of_end, run as run_of};
-ghost use Rattle.rds_sync.specs.Totals.{totals_of};
-ghost use Rattle.rds_pieces.specs.Meeting.{IsMeeting};
-ghost use Rattle.rds_pieces.specs.RunOf.{FollowEachOther};
-ghost use Rattle.rds_pieces.specs.Seams.{IsSumOfReads, seam_reads};
-ghost use Rattle.rds_pieces.specs.declared.error.PieceError.TheVariants.{OutOfMemory};
+ghost use Rattle.rds_sync.specs.{Counting.FitTogether, Counting.IsAtMost, Counting.plus, Decoding.listed, Lawful.IsLawful, Report.report_items, Step.items_of_end, Step.run as run_of, Totals.totals_of};
+ghost use Rattle.rds_pieces.specs.{Meeting.IsMeeting, RunOf.FollowEachOther, Seams.IsSumOfReads, Seams.seam_reads, declared.error.PieceError.TheVariants.OutOfMemory};
 
 use crate::error::PieceError;
 use crate::laws::run_laws;

@@ -1,14 +1,8 @@
 //! The only way of a crew to the bits.
 ghost use Rattle.std.specs.Prelude.{◌≡◌, ℕ, List, ◌<◌, length, IfOk, IsOkUnless};
 ghost use Rattle.rds_stream.specs.Recording.{Signal, length_of};
-ghost use Rattle.rds_sync.specs.Decoding.{listed};
-ghost use Rattle.rds_sync.specs.Report.{report_items};
-ghost use Rattle.rds_sync.specs.Rules.{RuleNumbers};
-ghost use Rattle.rds_sync.specs.Totals.{totals_of};
-ghost use Rattle.rds_pieces.specs.Cutting.{IsCutting, pieces_of};
-ghost use Rattle.rds_pieces.specs.Joining.{AreNeighbours};
-ghost use Rattle.rds_pieces.specs.RunOf.{FollowEachOther, run_at, run_over};
-ghost use Rattle.rds_pieces.specs.declared.error.PieceError.TheVariants.{OutOfMemory};
+ghost use Rattle.rds_sync.specs.{Decoding.listed, Report.report_items, Rules.RuleNumbers, Totals.totals_of};
+ghost use Rattle.rds_pieces.specs.{Cutting.IsCutting, Cutting.pieces_of, Joining.AreNeighbours, RunOf.FollowEachOther, RunOf.run_at, RunOf.run_over, declared.error.PieceError.TheVariants.OutOfMemory};
 
 use crate::cutting::Cutting;
 use crate::error::PieceError;

@@ -1,5 +1,5 @@
 -- Parts from one number on, and how they are written.
-use Rattle.rds_rows.proofs.Names.{common_steps, ◌+◌, ◌++◌, ◌-◌, ◌<◌, ◌≡◌, ◌≤◌, ◌∙◌, ℕ, List, Option, [], ap, append_assoc, arith, subst, suc, sym, zero, append-nil, first_parts, parts_from, AppendsBut, AppendsPrefix}
+use Rattle.rds_rows.proofs.Names.{common_steps, ◌+◌, ◌++◌, ◌-◌, ◌<◌, ◌≡◌, ◌≤◌, ◌∙◌, ℕ, List, Option, ap, append_assoc, arith, subst, suc, sym, zero, append-nil, first_parts, parts_from, AppendsBut, AppendsPrefix}
 use Rattle.rds_rows.proofs.Steps.{but_more, but_prefix_more, prefix_wider}
 
 -- and the next

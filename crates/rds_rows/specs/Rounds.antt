@@ -1,13 +1,7 @@
 -- Parts from one number on, and the promises of a round that writes some. The calls of `rounds` tell both, and no
 -- public one.
 use Rattle.std.specs.Prelude.{◌++◌, ◌+◌, ◌-◌, ◌<◌, ◌≡◌, ◌≤◌, ℕ, IfOk, List, OnErr, OnOk, Result}
-use Rattle.rds_rows.specs.Gathered.{kept_in}
-use Rattle.rds_rows.specs.Parts.{first_parts}
-use Rattle.rds_rows.specs.Sheets.{size_of}
-use Rattle.rds_rows.specs.Writes.{AppendsBut, AppendsPrefix}
-use Rattle.rds_rows.specs.declared.owned_sink.OwnedSink.{Ghosts as OwnedSink}
-use Rattle.rds_rows.specs.declared.rounds.Caller.{Caller}
-use Rattle.rds_rows.specs.declared.sink.Failed.{Failed}
+use Rattle.rds_rows.specs.{Gathered.kept_in, Parts.first_parts, Sheets.size_of, Writes.AppendsBut, Writes.AppendsPrefix, declared.owned_sink.OwnedSink.Ghosts as OwnedSink, declared.rounds.Caller.Caller, declared.sink.Failed.Failed}
 
 -- `count` parts from number `from` on, one after the other
 abbrev pub parts_from : (ℕ → List ℕ) → ℕ → ℕ → List ℕ

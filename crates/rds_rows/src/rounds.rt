@@ -2,11 +2,7 @@
 //! or once the caller had to make as many in a row as there are seats: the threads have ended then.
 ghost use Rattle.std.specs.Prelude.{◌++◌, ◌-◌, ◌<◌, ◌^◌, ◌≡◌, ◌≤◌, ℕ, [], All, IfOk, OnErr, OnOk, length, true};
 ghost use Rattle.std.specs.Io.KnownBytes.{Appends};
-ghost use Rattle.rds_rows.specs.Gathered.{kept_in};
-ghost use Rattle.rds_rows.specs.Parts.{IsNamed, first_parts};
-ghost use Rattle.rds_rows.specs.Rounds.{IsRound};
-ghost use Rattle.rds_rows.specs.Sheets.{size_of, text_of};
-ghost use Rattle.rds_rows.specs.Writes.{AppendsBut, AppendsPrefix};
+ghost use Rattle.rds_rows.specs.{Gathered.kept_in, Parts.IsNamed, Parts.first_parts, Rounds.IsRound, Sheets.size_of, Sheets.text_of, Writes.AppendsBut, Writes.AppendsPrefix};
 
 use crate::gathered::Gathered;
 use crate::handoff::Handoff;

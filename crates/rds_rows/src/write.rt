@@ -1,10 +1,7 @@
 //! All rows of a list, written.
 ghost use Rattle.std.specs.Prelude.{◌*◌, ◌<◌, ◌^◌, ◌≡◌, ◌≤◌, [], All, IfOk, length};
 ghost use Rattle.std.specs.List.{concat};
-ghost use Rattle.rds_rows.specs.Gathered.{kept_in};
-ghost use Rattle.rds_rows.specs.Parts.{IsNamed};
-ghost use Rattle.rds_rows.specs.Sheets.{size_of};
-ghost use Rattle.rds_rows.specs.Written.{IsWritten};
+ghost use Rattle.rds_rows.specs.{Gathered.kept_in, Parts.IsNamed, Sheets.size_of, Written.IsWritten};
 
 use crate::error::RowsError;
 use crate::gathered::Gathered;

@@ -1,7 +1,6 @@
 -- Gaps in order, and the windows that they touch.
-use Rattle.std.proofs.Common.{ap₂}
+use Rattle.std.proofs.{Common.ap₂, lemmas.List.Folds.list_any_at, lemmas.List.Folds.list_any_none}
 use Rattle.rds_stream.proofs.Names.{common_steps, ◌≡◌, ℕ, ◌+◌, ◌-◌, ◌<◌, ◌≤◌, ◌⊎◌, ◌&&◌, sym, ap, subst, arith, List, length, get_or, ltb, true, false, Bool, inl, inr, cases_lt, le-leb, lt-leb, le-ltb, lt-ltb, HoldsAt, IsNonDecreasingBy, IsNonDecreasingBy-from_all_adjacent, AreGaps, Signal, touched, is_touched_by, AllEndBy, IsFirstAfter, IsSection}
-use Rattle.std.proofs.lemmas.List.Folds.{list_any_at, list_any_none}
 
 and_false : (x : Bool) → (x && false) ≡ false
 and_false x = grind (arith, common_steps)

@@ -1,7 +1,6 @@
 -- Numbers whose binary digits are neighbouring places.
-use Rattle.rds_stream.proofs.Names.{common_steps, ◌≡◌, ◌≢◌, ℕ, zero, suc, ◌+◌, ◌-◌, ◌*◌, ◌/◌, ◌%◌, ◌^◌, ◌<◌, ◌≤◌, refl, sym, ap, ◌∙◌, arith, bit_and, bit_or, ⊎_elim, List, length, get_or, take, drop, length-drop, add-one, ap₂, bit_at, pow-suc, mul_assoc, mod-eq_of_lt, cases_eq, shr-shr, shr_high, mod_low, or_shifted, and_mask, bit_at-lt, get_or-drop, get_or-map-range_with_len, length-map-range_with_len, packed_bit, bits_of, window}
-use Rattle.std.specs.Int.Digits.{number_from_digits}
-use Rattle.std.proofs.lemmas.Int.Digits.{number_more as digits_more}
+use Rattle.rds_stream.proofs.Names.{common_steps, ◌≡◌, ◌≢◌, ℕ, zero, suc, ◌+◌, ◌-◌, ◌*◌, ◌/◌, ◌%◌, ◌^◌, ◌<◌, ◌≤◌, refl, sym, ap, ◌∙◌, arith, bit_and, bit_or, ⊎_elim, List, length, get_or, take, drop, length-drop, add-one, ap₂, bit_at, pow-suc, mul_assoc, mod-eq_of_lt, cases_eq, shr-shr, shr_high, mod_low, or_shifted, and_mask, bit_at-lt, get_or-drop, get_or-map-range_with_len, length-map-range_with_len, length-zip2, with_items_is, packed_bit, bits_of, window}
+use Rattle.std.{specs.Int.Digits.number_from_digits, proofs.lemmas.Int.Digits.number_more as digits_more}
 
 -- the number whose n binary digits are the places of f that end with place i
 unfoldable pub number : (ℕ → ℕ) → ℕ → ℕ → ℕ
@@ -246,3 +245,6 @@ window_before_of_eight bytes n i eight first last late small eight_is =
     and_mask (eight / 2 ^ e / 2 ^ 26) 26 ∙ ap (λ x. x % 2 ^ 26) (shr-shr eight e 26)
     ∙ ap (λ x. x / 2 ^ (e + 26) % 2 ^ 26) (number_of_eight bytes i eight late small eight_is ∙ ap (number f 64) top)
     ∙ number_part f 64 (e + 26) (i - 26) (packed_bit-lt bytes) (omega arith) ∙ sym (packed_window bytes n (i - 26) (omega arith) (omega arith))
+
+-- for functions that read the bits of packed bytes, or lanes
+pub ruleset steps = (common_steps, length-bits_of, length-zip2, with_items_is)

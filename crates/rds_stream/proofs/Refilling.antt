@@ -29,5 +29,5 @@ module _ (bytes old : List ℕ) (n : ℕ) (within : 8 * length bytes ≤ n) wher
         ∙ get_or-map-range_with_len (packed_bit old) 0 n i i d held (omega arith))
   ]
 
-  pub bits-refilled : bits_of after n ≡ bits_of bytes m ++ drop m (bits_of old n)
-  bits-refilled = grind (arith, common_steps, same_lists, length-bits_of, length-append, length-drop, at_bit)
+  pub bits_refilled : bits_of after n ≡ bits_of bytes m ++ drop m (bits_of old n)
+  bits_refilled = grind (arith, common_steps, same_lists, length-bits_of, length-append, length-drop, at_bit)

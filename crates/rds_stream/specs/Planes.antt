@@ -1,6 +1,5 @@
 -- Remainders of many places at once, bit by bit: ten numbers, of which each has a bit for each place. `planes` answers them.
-use Rattle.std.specs.Prelude.{◌≡◌, ℕ, ◌^◌, ◌<◌, List, slice_index}
-use Rattle.std.specs.Int.{bit_at}
+use Rattle.std.specs.{Prelude.◌≡◌, Prelude.ℕ, Prelude.◌^◌, Prelude.◌<◌, Prelude.List, Prelude.slice_index, Int.bit_at}
 
 -- at bit k the ten planes hold a remainder: bit k of plane r is its bit r
 pub record Hold (planes : List ℕ) (k remainder : ℕ) : Type 0 where

@@ -1,8 +1,7 @@
 -- The refusals of this crate, by the numbers and names that all crates of the project share. `StreamError::number` and `name` answer
 -- them.
 use Rattle.std.specs.Prelude.{ℕ, List, codes}
-use Rattle.rds_stream.specs.declared.error.StreamError.{StreamError}
-use Rattle.rds_stream.specs.declared.error.StreamError.TheVariants.{BitsPastBytes, TooLong, OutOfMemory, BadGaps}
+use Rattle.rds_stream.specs.declared.error.StreamError.{StreamError, TheVariants.BitsPastBytes, TheVariants.TooLong, TheVariants.OutOfMemory, TheVariants.BadGaps}
 
 abbrev pub number_and_name : StreamError → ℕ × List ℕ
 number_and_name BitsPastBytes = (4, codes "BitsPastBytes")

@@ -12,9 +12,7 @@
 ghost use Rattle.std.specs.Prelude.{◌≡◌, ℕ, ◌+◌, ◌*◌, ◌<◌, ◌≤◌, slice_index};
 ghost use Rattle.std.specs.Int.{bit_at};
 ghost use Rattle.rds_code.specs.Remainder.{rem};
-ghost use Rattle.rds_stream.specs.Recording.{length_of, window};
-ghost use Rattle.rds_stream.specs.Planes.{Hold};
-ghost use Rattle.rds_stream.specs.Inside.Lanes.{HoldInLane, IsWindowAt, lane};
+ghost use Rattle.rds_stream.specs.{Recording.length_of, Recording.window, Planes.Hold, Inside.Lanes.HoldInLane, Inside.Lanes.IsWindowAt, Inside.Lanes.lane};
 
 use crate::lanes::{from_on, join_lanes, sum};
 use crate::recording::Recording;

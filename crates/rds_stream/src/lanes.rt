@@ -19,6 +19,7 @@ pub(crate) fn from_on(lanes: u64x2, by: u64) -> u64x2
 
 /// The sums of the lanes, place by place.
 #[inline(always)]
+#[tactic(auto, using(crate::proofs::Places::steps))]
 pub(crate) fn sum(a: u64x2, b: u64x2) -> u64x2
     ensures { HasLanes result (λ j. bit_xor (slice_index a j) (slice_index b j)) }
 {
@@ -27,6 +28,7 @@ pub(crate) fn sum(a: u64x2, b: u64x2) -> u64x2
 
 /// The ones of both lanes' words together.
 #[inline(always)]
+#[tactic(auto, using(crate::proofs::Places::steps))]
 pub(crate) fn either(a: u64x2, b: u64x2) -> u64x2
     ensures { HasLanes result (λ j. bit_or (slice_index a j) (slice_index b j)) }
 {

@@ -1,8 +1,7 @@
 //! Packed bits with places.
 ghost use Rattle.std.specs.Prelude.{◌≡◌, List, ℕ, ◌+◌, ◌*◌, ◌/◌, ◌^◌, ◌<◌, ◌≤◌, ◌-◌, ◌++◌, ◌↔◌, [], ◌∷◌, All, drop, vec_len, length, slice_index, if◌then◌else◌, bit_and};
-ghost use Rattle.rds_stream.specs.declared.error.StreamError.TheVariants.{TooLong, BitsPastBytes};
 ghost use Rattle.std.specs.Int.{bit_at};
-ghost use Rattle.rds_stream.specs.Recording.{packed_bit, bits_of, window};
+ghost use Rattle.rds_stream.specs.{declared.error.StreamError.TheVariants.TooLong, declared.error.StreamError.TheVariants.BitsPastBytes, Recording.packed_bit, Recording.bits_of, Recording.window};
 
 use crate::bit_order::lowest_first;
 use crate::error::StreamError;
@@ -132,6 +131,7 @@ impl Packed {
     }
 
     /// Puts the bits of these bytes in the place of the first ones.
+    #[tactic(auto, using(crate::proofs::Places::steps, crate::proofs::Refilling::bits_refilled))]
     pub fn refill(&mut self, bytes: &[u8])
         requires { 8 * length bytes.now ≤ length self.old }
         ensures { self.new ≡ bits_of bytes.now (8 * length bytes.now)
@@ -150,6 +150,7 @@ impl Packed {
 
     /// The 26 bits that end at `place`, the first one highest (EN 50067:1998, 2.1). `place` is at least 25, and below
     /// the length.
+    #[tactic(auto, using(crate::proofs::Places::steps))]
     pub fn window(&self, place: u64) -> u32
         requires first { 25 ≤ place }
         requires last { place < length self.now }
@@ -166,6 +167,7 @@ impl Packed {
     /// The windows of two blocks in a row, of which the second ends at `place`, which is at least 51, and below the
     /// length.
     #[inline(always)]
+    #[tactic(auto, using(crate::proofs::Places::steps))]
     pub fn two_windows(&self, place: u64) -> [u32; 2]
         requires first { 51 ≤ place }
         requires last { place < length self.now }

@@ -1,8 +1,6 @@
 //! A recording that is read in turn.
 ghost use Rattle.std.specs.Prelude.{◌≡◌, ◌<◌, ◌≤◌, ◌+◌, ◌^◌, All, IfSome};
-ghost use Rattle.rds_stream.specs.InARow.{four_heard};
-ghost use Rattle.rds_stream.specs.Recording.{Signal, heard, length_of};
-ghost use Rattle.rds_stream.specs.Inside.Sections.{IsSection};
+ghost use Rattle.rds_stream.specs.{InARow.four_heard, Recording.Signal, Recording.heard, Recording.length_of, Inside.Sections.IsSection};
 
 use crate::gaps::Section;
 use crate::recording::Recording;
@@ -57,6 +55,7 @@ impl<'a> Reader<'a> {
     /// The 26 bits that end at `place`, the first one highest (EN 50067:1998, 2.1), or none if they touch a
     /// gap. `place` is at least 25, and below the length.
     #[inline(always)]
+    #[tactic(auto, using(std::proofs::lemmas::Grind::common_steps, crate::proofs::WindowLists::heard_clear))]
     pub fn window(&mut self, place: u64) -> Option<u32>
         requires first { 25 ≤ place }
         requires last { place < length_of self.old }
@@ -110,6 +109,7 @@ impl<'a> Reader<'a> {
 
     /// `window`, if a gap is touched or may be: it is looked for again, unless the section is known.
     #[cold]
+    #[tactic(auto, using(std::proofs::lemmas::Grind::common_steps, crate::proofs::WindowLists::heard_clear, crate::proofs::WindowLists::heard_touched))]
     fn look(&mut self, place: u64) -> Option<u32>
         requires first { 25 ≤ place }
         requires last { place < length_of self.old }

@@ -1,11 +1,9 @@
 //! A recording: demodulated bits with places, and the gaps in them.
 ghost use Rattle.std.specs.Prelude.{◌≡◌, ℕ, ◌+◌, ◌*◌, ◌^◌, ◌<◌, ◌≤◌, ◌-◌, ◌++◌, ◌↔◌, [], ◌∷◌, All, drop, vec_len, length, slice_index, if◌then◌else◌, Err, IfOk, IsOk};
 ghost use Rattle.std.specs.Int.{bit_at};
-ghost use Rattle.rds_code.specs.Remainder.{rem};
-ghost use Rattle.rds_code.specs.Offsets.{offset_of as the_offset_of};
-ghost use Rattle.rds_stream.specs.declared.error.StreamError.TheVariants.{BadGaps, BitsPastBytes, TooLong};
-ghost use Rattle.rds_stream.specs.Inside.Sections.{IsSection};
+ghost use Rattle.rds_code.specs.{Remainder.rem, Offsets.offset_of as the_offset_of};
 ghost use Rattle.rds_stream.specs.Recording.{AreGaps, Signal, bits_of, length_of, offset_at, touched, ungapped, window};
+ghost use Rattle.rds_stream.specs.{declared.error.StreamError.TheVariants.BadGaps, declared.error.StreamError.TheVariants.BitsPastBytes, declared.error.StreamError.TheVariants.TooLong, Inside.Sections.IsSection};
 
 use crate::error::StreamError;
 use crate::gaps::{Section, are_gaps, first_after, put_first_gaps};
@@ -89,6 +87,7 @@ impl Recording {
     /// Refuses more than 2^36 bits, then more than the bytes hold, and then bad gaps: one has no place, ends
     /// after the bits, or begins before the end of the one before it. The bytes and the gaps come back as
     /// they were. Takes no memory.
+    #[tactic(auto, using(crate::proofs::Places::steps))]
     pub fn with_gaps(
         bytes: Vec<u8>,
         bits: u64,

@@ -1,7 +1,6 @@
 //! All valid windows of a range.
 ghost use Rattle.std.specs.Prelude.{◌≡◌, ◌≤◌, IfOk, IsOkUnless};
-ghost use Rattle.rds_stream.specs.declared.error.StreamError.TheVariants.{OutOfMemory};
-ghost use Rattle.rds_stream.specs.Recording.{length_of, valid_windows};
+ghost use Rattle.rds_stream.specs.{declared.error.StreamError.TheVariants.OutOfMemory, Recording.length_of, Recording.valid_windows};
 
 use crate::error::StreamError;
 use crate::recording::Recording;

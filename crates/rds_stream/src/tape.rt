@@ -1,7 +1,6 @@
 //! A tape: a recording, and a count of the windows that were read.
 ghost use Rattle.std.specs.Prelude.{◌≡◌, ℕ, ◌+◌, ◌^◌, ◌<◌, ◌≤◌, IfSome};
-ghost use Rattle.rds_stream.specs.Recording.{Signal, heard, length_of};
-ghost use Rattle.rds_stream.specs.Tape.{TapeState};
+ghost use Rattle.rds_stream.specs.{Recording.Signal, Recording.heard, Recording.length_of, Tape.TapeState};
 
 use crate::reader::Reader;
 use crate::recording::Recording;

@@ -5,11 +5,7 @@
 ghost use Rattle.std.specs.Prelude.{◌≡◌, ◌≢◌, ℕ, max, ◌+◌, ◌<◌, ◌≤◌, ◌^◌, ◌↔◌, false, slice_index, IsSome};
 ghost use Rattle.std.specs.Int.{bit_at};
 ghost use Rattle.rds_code.specs.Offsets.{offset_of as the_offset_of};
-ghost use Rattle.rds_stream.specs.Inside.Lanes.{HoldInLane};
-ghost use Rattle.rds_stream.specs.Recording.{Signal, length_of, offset_at};
-ghost use Rattle.rds_stream.specs.Inside.Sections.{IsSection};
-ghost use Rattle.rds_stream.specs.ValidWindows.{NoneValid};
-ghost use Rattle.rds_stream.specs.Inside.ValidPlaces.{TellsValidPlaces};
+ghost use Rattle.rds_stream.specs.{Inside.Lanes.HoldInLane, Recording.Signal, Recording.length_of, Recording.offset_at, Inside.Sections.IsSection, ValidWindows.NoneValid, Inside.ValidPlaces.TellsValidPlaces};
 
 use crate::bit_planes::plane_lanes;
 use crate::gaps::Section;
@@ -54,6 +50,7 @@ impl ValidPlaces {
 
     /// Moves on from places without a valid one, to the next places of the section that they end in, or of
     /// the one after it.
+    #[tactic(auto, using(std::proofs::lemmas::Grind::common_steps, crate::proofs::WindowLists::off_touched))]
     fn next(self, recording: &Recording, section: &mut Section, end: u64) -> ValidPlaces
         requires first { 25 ≤ self.ahead }
         requires order { self.ahead < end }

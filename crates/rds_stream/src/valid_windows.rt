@@ -1,10 +1,6 @@
 //! The valid windows of a range, one after the other.
-ghost use Rattle.std.specs.Prelude.{◌≡◌, ◌≤◌, ◌<◌, ◌-◌};
-ghost use Rattle.std.specs.Iterator.{at_most};
-ghost use Rattle.rds_stream.specs.Recording.{length_of};
-ghost use Rattle.rds_stream.specs.Inside.Sections.{IsSection};
-ghost use Rattle.rds_stream.specs.ValidWindows.{WindowsLeft, GivesFirst};
-ghost use Rattle.rds_stream.specs.Inside.ValidPlaces.{TellsValidPlaces};
+ghost use Rattle.std.specs.{Prelude.◌≡◌, Prelude.◌≤◌, Prelude.◌<◌, Prelude.◌-◌, Iterator.at_most};
+ghost use Rattle.rds_stream.specs.{Recording.length_of, Inside.Sections.IsSection, ValidWindows.WindowsLeft, ValidWindows.GivesFirst, Inside.ValidPlaces.TellsValidPlaces};
 
 use crate::gaps::Section;
 use crate::recording::{FIRST_WINDOW, Recording};
@@ -39,6 +35,7 @@ impl<'a> Model for ValidWindows<'a> {
 impl ValidWindows<'_> {
     /// The valid windows at the places from `from` to before `to`. `from` is at most `to`, and `to` at most the length.
     /// Windows may begin before `from`, and none before the recording.
+    #[tactic(auto, using(std::proofs::lemmas::Grind::common_steps, crate::proofs::WindowLists::off_early, crate::proofs::ValidPlaceLemmas::none_valid))]
     pub fn new(recording: &Recording, from: u64, to: u64) -> ValidWindows<'_>
         requires order { from ≤ to }
         requires end { to ≤ length_of recording.now }

@@ -1,11 +1,8 @@
 -- The zero group twice, cut between the two: the guesses of both pieces with their marks, and the guess of both ranges.
 use Rattle.std.specs.Prelude.{◌≡◌, [], ◌∷◌, ◌++◌, length, refl}
 use Rattle.rds_stream.specs.Recording.{Signal, bits_of, ungapped}
-use Rattle.rds_sync.specs.declared.state.State.TheVariants.{Searching, Locked}
-use Rattle.rds_sync.specs.Examples.Words.{computed, zero_group, default_rules}
-use Rattle.rds_pieces.specs.Guess.{guess}
-use Rattle.rds_pieces.specs.Marks.{marks_of}
-use Rattle.rds_sync.specs.Step.{lock_of}
+use Rattle.rds_sync.specs.{declared.state.State.TheVariants.Searching, declared.state.State.TheVariants.Locked, Examples.Words.computed, Examples.Words.zero_group, Examples.Words.default_rules, Step.lock_of}
+use Rattle.rds_pieces.specs.{Guess.guess, Marks.marks_of}
 
 abbrev pub b : Signal
 b = ungapped (bits_of (zero_group ++ zero_group) 208)

@@ -1,19 +1,9 @@
 -- A zero group and one whose block 1 is lost, cut between the two, by rules that lose a lock at the first bad block: the left run
 -- loses its lock, and meets the right guess in the search.
-use Rattle.std.specs.Prelude.{◌≡◌, ◌==◌, length, refl}
-use Rattle.std.proofs.Common.{ap, sym}
-use Rattle.std.proofs.lemmas.Bool.{false≢true, leb-true}
+use Rattle.std.{specs.Prelude.◌≡◌, specs.Prelude.◌==◌, specs.Prelude.length, specs.Prelude.refl, proofs.Common.ap, proofs.Common.sym, proofs.lemmas.Bool.false≢true, proofs.lemmas.Bool.leb-true}
 use Rattle.rds_stream.specs.Recording.{Signal, bits_of, ungapped}
-use Rattle.rds_sync.specs.declared.state.State.TheVariants.{Searching, Locked}
-use Rattle.rds_sync.specs.Rules.{RuleNumbers}
-use Rattle.rds_sync.specs.Examples.Reports.{one_bad}
-use Rattle.rds_sync.specs.Examples.Words.{computed, rules_of, totals}
-use Rattle.rds_sync.specs.Step.{lock_of, run}
-use Rattle.rds_sync.specs.Totals.{totals_of}
-use Rattle.rds_pieces.specs.Guess.{guess}
-use Rattle.rds_pieces.specs.Meeting.{MeetAt}
-use Rattle.rds_pieces.specs.RunOf.{run_over, end_of}
-use Rattle.rds_pieces.specs.Examples.Meetings.{number_due}
+use Rattle.rds_sync.specs.{declared.state.State.TheVariants.Searching, declared.state.State.TheVariants.Locked, Rules.RuleNumbers, Examples.Reports.one_bad, Examples.Words.computed, Examples.Words.rules_of, Examples.Words.totals, Step.lock_of, Step.run, Totals.totals_of}
+use Rattle.rds_pieces.specs.{Guess.guess, Meeting.MeetAt, RunOf.run_over, RunOf.end_of, Examples.Meetings.number_due}
 
 abbrev pub b : Signal
 b = ungapped (bits_of one_bad 208)

@@ -1,16 +1,8 @@
 -- The zero group three times, cut after the first: the items that a join takes from both guesses.
-use Rattle.std.specs.Prelude.{◌≡◌, ◌==◌, ◌++◌, List, drop, length, refl}
-use Rattle.std.proofs.Common.{ap}
-use Rattle.std.proofs.lemmas.Bool.{false≢true, leb-true}
+use Rattle.std.{specs.Prelude.◌≡◌, specs.Prelude.◌==◌, specs.Prelude.◌++◌, specs.Prelude.List, specs.Prelude.drop, specs.Prelude.length, specs.Prelude.refl, proofs.Common.ap, proofs.lemmas.Bool.false≢true, proofs.lemmas.Bool.leb-true}
 use Rattle.rds_stream.specs.Recording.{Signal, bits_of, ungapped}
-use Rattle.rds_sync.specs.declared.state.State.TheVariants.{Searching, Locked}
-use Rattle.rds_sync.specs.declared.item.Item.{Item}
-use Rattle.rds_sync.specs.Examples.Words.{computed, zero_group, default_rules, totals}
-use Rattle.rds_sync.specs.Step.{lock_of, run}
-use Rattle.rds_sync.specs.Totals.{totals_of}
-use Rattle.rds_pieces.specs.Guess.{guess}
-use Rattle.rds_pieces.specs.Meeting.{MeetAt}
-use Rattle.rds_pieces.specs.RunOf.{run_over, end_of}
+use Rattle.rds_sync.specs.{declared.state.State.TheVariants.Searching, declared.state.State.TheVariants.Locked, declared.item.Item.Item, Examples.Words.computed, Examples.Words.zero_group, Examples.Words.default_rules, Examples.Words.totals, Step.lock_of, Step.run, Totals.totals_of}
+use Rattle.rds_pieces.specs.{Guess.guess, Meeting.MeetAt, RunOf.run_over, RunOf.end_of}
 
 abbrev pub b : Signal
 b = ungapped (bits_of (zero_group ++ zero_group ++ zero_group) 312)

@@ -1,14 +1,7 @@
 -- Where runs meet: the guess of a piece with the run from the state that is true there, and small ranges in full.
-use Rattle.std.specs.Prelude.{◌≡◌, ◌<◌, ◌==◌, ℕ, zero, suc, [], ◌∷◌, ◌++◌, None, Some, refl}
-use Rattle.std.proofs.Common.{ap, sym}
-use Rattle.std.proofs.Math.Nat.{le_of_suc-le-suc, not-suc-le-zero}
-use Rattle.std.proofs.lemmas.Bool.{false≢true, le-leb, leb-true}
+use Rattle.std.{specs.Prelude.◌≡◌, specs.Prelude.◌<◌, specs.Prelude.◌==◌, specs.Prelude.ℕ, specs.Prelude.zero, specs.Prelude.suc, specs.Prelude.[], specs.Prelude.◌∷◌, specs.Prelude.◌++◌, specs.Prelude.None, specs.Prelude.Some, specs.Prelude.refl, proofs.Common.ap, proofs.Common.sym, proofs.Math.Nat.le_of_suc-le-suc, proofs.Math.Nat.not-suc-le-zero, proofs.lemmas.Bool.false≢true, proofs.lemmas.Bool.le-leb, proofs.lemmas.Bool.leb-true}
 use Rattle.rds_stream.specs.Recording.{Signal, bits_of, ungapped}
-use Rattle.rds_sync.specs.declared.state.State.{State}
-use Rattle.rds_sync.specs.declared.state.State.TheVariants.{Searching, Locked}
-use Rattle.rds_sync.specs.Rules.{RuleNumbers}
-use Rattle.rds_sync.specs.Examples.Words.{computed, zero_group, rules_of}
-use Rattle.rds_sync.specs.Step.{lock_of}
+use Rattle.rds_sync.specs.{declared.state.State.State, declared.state.State.TheVariants.Searching, declared.state.State.TheVariants.Locked, Rules.RuleNumbers, Examples.Words.computed, Examples.Words.zero_group, Examples.Words.rules_of, Step.lock_of}
 use Rattle.rds_pieces.specs.Meeting.{IsMeeting, MeetAt, distance}
 
 -- whether it is a lock, and the number of the block that is due

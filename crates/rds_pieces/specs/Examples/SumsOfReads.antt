@@ -1,17 +1,9 @@
 -- How many windows seams may read: each reach + 2 windows for each place up to the meeting, and as many once
 -- more.
-use Rattle.std.specs.Prelude.{◌≡◌, [], ◌∷◌, None, Some, refl}
-use Rattle.std.proofs.Math.Nat.{not-le_of_lt}
-use Rattle.std.proofs.lemmas.Bool.{leb-true}
-use Rattle.rds_sync.specs.declared.state.State.TheVariants.{Searching, Locked}
-use Rattle.rds_sync.specs.Acquiring.{acquired, has_number}
+use Rattle.std.{specs.Prelude.◌≡◌, specs.Prelude.[], specs.Prelude.◌∷◌, specs.Prelude.None, specs.Prelude.Some, specs.Prelude.refl, proofs.Math.Nat.not-le_of_lt, proofs.lemmas.Bool.leb-true}
+use Rattle.rds_sync.specs.{declared.state.State.TheVariants.Searching, declared.state.State.TheVariants.Locked, Acquiring.acquired, Acquiring.has_number, Examples.Words.rules_of, Step.lock_of}
 use Rattle.rds_stream.specs.Recording.{offset_at}
-use Rattle.rds_sync.specs.Examples.Words.{rules_of}
-use Rattle.rds_sync.specs.Step.{lock_of}
-use Rattle.rds_pieces.specs.Meeting.{IsMeeting}
-use Rattle.rds_pieces.specs.RunOf.{run_over}
-use Rattle.rds_pieces.specs.Seams.{IsSumOfReads, seam_reads}
-use Rattle.rds_pieces.specs.Examples.Meetings.{met_at_the_end, three_bits}
+use Rattle.rds_pieces.specs.{Meeting.IsMeeting, RunOf.run_over, Seams.IsSumOfReads, Seams.seam_reads, Examples.Meetings.met_at_the_end, Examples.Meetings.three_bits}
 
 -- ---- one seam
 

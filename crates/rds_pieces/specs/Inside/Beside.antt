@@ -2,12 +2,7 @@
 -- they came to.
 use Rattle.std.specs.Prelude.{◌≡◌, ◌≢◌, ℕ, ◌<◌, ◌⊎◌, Option, Some, None}
 use Rattle.rds_stream.specs.Recording.{Signal}
-use Rattle.rds_sync.specs.declared.state.State.{State}
-use Rattle.rds_sync.specs.declared.state.State.TheVariants.{Searching}
-use Rattle.rds_sync.specs.Hop.{IsHop}
-use Rattle.rds_sync.specs.Lawful.{IsBetweenGroups}
-use Rattle.rds_sync.specs.Rules.{RuleNumbers}
-use Rattle.rds_sync.specs.Tally.{TallyOf, gone_on}
+use Rattle.rds_sync.specs.{declared.state.State.State, declared.state.State.TheVariants.Searching, Hop.IsHop, Lawful.IsBetweenGroups, Rules.RuleNumbers, Tally.TallyOf, Tally.gone_on}
 
 -- both are at one place in one state, with no group in progress
 abbrev pub Meet : TallyOf → TallyOf → Type 0

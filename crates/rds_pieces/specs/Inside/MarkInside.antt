@@ -2,12 +2,8 @@
 -- walk keeps the invariant, and `mark_after` promises both.
 use Rattle.std.specs.Prelude.{ℕ, zero, suc, ◌+◌, ◌*◌, ◌≤◌, List, [], ◌∷◌, ◌++◌, length}
 use Rattle.rds_stream.specs.Recording.{Signal}
-use Rattle.rds_sync.specs.declared.state.State.{State}
-use Rattle.rds_sync.specs.declared.item.Item.{Item}
+use Rattle.rds_sync.specs.{declared.state.State.State, declared.item.Item.Item, Lawful.IsLawful, Rules.RuleNumbers, Step.step, Step.items_at}
 use Rattle.rds_pieces.specs.declared.mark.Mark.{Mark}
-use Rattle.rds_sync.specs.Lawful.{IsLawful}
-use Rattle.rds_sync.specs.Rules.{RuleNumbers}
-use Rattle.rds_sync.specs.Step.{step, items_at}
 
 -- a mark, if its bit gave items
 abbrev pub mark_where : List Item → Mark → List Mark

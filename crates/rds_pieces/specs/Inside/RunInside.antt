@@ -1,13 +1,8 @@
 -- The invariant of the type of a piece's run. Its calls tell it of the guess.
 use Rattle.std.specs.Prelude.{◌≡◌, ◌-◌, ◌^◌, ◌≤◌}
 use Rattle.rds_stream.specs.Recording.{length_of}
-use Rattle.rds_sync.specs.declared.report.Report.{Report}
-use Rattle.rds_sync.specs.declared.state.State.{State}
-use Rattle.rds_sync.specs.Decoding.{listed}
-use Rattle.rds_sync.specs.Totals.{totals_of}
-use Rattle.rds_sync.specs.Ranges.{IsInRange}
-use Rattle.rds_pieces.specs.Guess.{guess}
-use Rattle.rds_pieces.specs.RunOf.{RunOf}
+use Rattle.rds_sync.specs.{declared.report.Report.Report, declared.state.State.State, Decoding.listed, Totals.totals_of, Ranges.IsInRange}
+use Rattle.rds_pieces.specs.{Guess.guess, RunOf.RunOf}
 
 -- items, totals and end state of the guess of its range, of a recording that has at most 2^36 bits, by rules that are in range
 pub record IsKept (r : RunOf) (report : Report) (end_state : State) : Type 0 where

@@ -1,14 +1,8 @@
 -- The first valid window in the rest of the zero group, and the rest after it.
 use Rattle.std.specs.Prelude.{◌≡◌, ℕ, ◌+◌, ◌-◌, List, Option, Some, None, map, get_or, is_some, refl}
-use Rattle.std.specs.List.{range_with_len}
-use Rattle.std.proofs.Common.{◌∙◌, ap, arith, sym, true≢false}
-use Rattle.std.proofs.lemmas.List.FromFn.{get_or-map-range_with_len}
-use Rattle.rds_code.specs.declared.offset.Offset.{Offset}
-use Rattle.rds_code.specs.declared.offset.Offset.TheVariants.{B, D}
-use Rattle.rds_code.specs.Remainder.{rem}
-use Rattle.rds_stream.specs.Recording.{window, touched, heard, offset_at}
-use Rattle.rds_stream.specs.ValidWindows.{WindowsLeft, GivesFirst, NoneValid}
-use Rattle.rds_stream.specs.Examples.ZeroGroup.{once}
+use Rattle.std.{specs.List.range_with_len, proofs.Common.◌∙◌, proofs.Common.ap, proofs.Common.arith, proofs.Common.sym, proofs.Common.true≢false, proofs.lemmas.List.FromFn.get_or-map-range_with_len}
+use Rattle.rds_code.specs.{declared.offset.Offset.Offset, declared.offset.Offset.TheVariants.B, declared.offset.Offset.TheVariants.D, Remainder.rem}
+use Rattle.rds_stream.specs.{Recording.window, Recording.touched, Recording.heard, Recording.offset_at, ValidWindows.WindowsLeft, ValidWindows.GivesFirst, ValidWindows.NoneValid, Examples.ZeroGroup.once}
 
 abbrev pub left : ℕ → ℕ → WindowsLeft
 left next end = record { signal = once; next = next; end = end }

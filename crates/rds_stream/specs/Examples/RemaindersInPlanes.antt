@@ -1,17 +1,8 @@
 -- The remainders of the windows of the zero group at the places 25 to 88, as ten planes.
 use Rattle.std.specs.Prelude.{◌≡◌, ◌-◌, ◌<◌, ◌==◌, List, [], ◌∷◌, ℕ, get_or, map, refl, slice_index}
-use Rattle.std.specs.List.{range_with_len}
-use Rattle.std.specs.Int.{bit_at}
-use Rattle.std.specs.Int.Digits.{number_from_digits}
-use Rattle.std.proofs.Common.{◌∙◌, ap, sym}
-use Rattle.std.proofs.Math.Nat.{zero-add}
-use Rattle.std.proofs.lemmas.Bool.{false≢true, le-leb, leb-true}
-use Rattle.std.proofs.lemmas.List.FromFn.{get_or-map-range_with_len}
+use Rattle.std.{specs.List.range_with_len, specs.Int.bit_at, specs.Int.Digits.number_from_digits, proofs.Common.◌∙◌, proofs.Common.ap, proofs.Common.sym, proofs.Math.Nat.zero-add, proofs.lemmas.Bool.false≢true, proofs.lemmas.Bool.le-leb, proofs.lemmas.Bool.leb-true, proofs.lemmas.List.FromFn.get_or-map-range_with_len}
 use Rattle.rds_code.specs.Remainder.{rem}
-use Rattle.rds_stream.specs.Recording.{window}
-use Rattle.rds_stream.specs.Planes.{Hold}
-use Rattle.rds_stream.specs.Inside.Lanes.{IsWindowAt}
-use Rattle.rds_stream.specs.Examples.ZeroGroup.{once}
+use Rattle.rds_stream.specs.{Recording.window, Planes.Hold, Inside.Lanes.IsWindowAt, Examples.ZeroGroup.once}
 
 -- bit r of the remainder at place 25 + k is bit k of plane r
 abbrev pub planes : List ℕ

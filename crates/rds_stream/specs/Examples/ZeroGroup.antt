@@ -1,10 +1,7 @@
 -- The group of four zero words, sent once, twice and five times: its windows, computed. Some that end inside a block are valid too.
 use Rattle.std.specs.Prelude.{◌≡◌, ℕ, List, [], ◌∷◌, ◌++◌, map, true, false, refl, zero, suc, ◌<◌, ◌≤◌}
-use Rattle.std.proofs.Common.{arith}
-use Rattle.std.specs.List.{range_with_len, All, AllAdjacentBelow}
-use Rattle.rds_code.specs.Remainder.{rem}
-use Rattle.rds_code.specs.Examples.ZeroGroup.{window_at}
-use Rattle.rds_code.specs.declared.offset.Offset.TheVariants.{A, B, C, D}
+use Rattle.std.{proofs.Common.arith, specs.List.range_with_len, specs.List.All, specs.List.AllAdjacentBelow}
+use Rattle.rds_code.specs.{Remainder.rem, Examples.ZeroGroup.window_at, declared.offset.Offset.TheVariants.A, declared.offset.Offset.TheVariants.B, declared.offset.Offset.TheVariants.C, declared.offset.Offset.TheVariants.D}
 use Rattle.rds_stream.specs.Recording.{Signal, AreGaps, bits_of, ungapped, window, touched, heard, offset_at, valid_windows}
 
 abbrev pub zero_group : List ℕ

@@ -1,6 +1,5 @@
 -- The first gap that ends after a place. A recording looks for it, and no caller sees it.
-use Rattle.std.specs.Prelude.{◌≡◌, ℕ, ◌<◌, ◌≤◌, List, length}
-use Rattle.std.specs.List.{AllWithin, HoldsAt}
+use Rattle.std.specs.{Prelude.◌≡◌, Prelude.ℕ, Prelude.◌<◌, Prelude.◌≤◌, Prelude.List, Prelude.length, List.AllWithin, List.HoldsAt}
 
 -- the first n gaps end at or before the place
 abbrev pub AllEndBy : List (ℕ × ℕ) → ℕ → ℕ → Type 0

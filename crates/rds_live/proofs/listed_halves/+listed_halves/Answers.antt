@@ -1,6 +1,5 @@
 use Rattle.rds_live.proofs.Names.{◌≡◌, ◌+◌, ◌*◌, ◌∙◌, List, ap, arith, length, sym, ℕ, length-append, Item, State, ListerOf, lister_next, lister_of, guessed, live_next, LiveOf}
-use Rattle.rds_live.proofs.Listers.{lists-join, on-ok-both}
-use Rattle.rds_live.proofs.Sewing.{both-within, from-none, within-all}
+use Rattle.rds_live.proofs.{Listers.lists-join, Listers.on-ok-both, Sewing.both-within, Sewing.from-none, Sewing.within-all}
 use Rattle.rds_live.proofs.listed_halves.+listed_halves.Goals as goal
 
 pub list_by-sew-requires-clause-guess : goal.list_by-sew-requires-clause-guess

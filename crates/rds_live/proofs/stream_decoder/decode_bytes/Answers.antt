@@ -1,6 +1,4 @@
-use Rattle.std.proofs.Common.{eqb-true}
-use Rattle.std.proofs.lemmas.List.{nil_from_length}
-use Rattle.rds_live.proofs.Names.{common_steps, ◌++◌, ◌∙◌, List, ap, arith, length, length-drop, sym, ℕ, append-nil, take_rest, Item, LiveOf, completed, live_next}
+use Rattle.rds_live.proofs.Names.{common_steps, ◌++◌, ◌∙◌, List, ap, arith, length, length-drop, sym, ℕ, append-nil, take_rest, Item, LiveOf, completed, live_next, eqb-true, nil_from_length}
 use Rattle.rds_live.proofs.stream_decoder.decode_bytes.Goals as goal
 
 pub loop-rest-init : goal.loop-rest-init

@@ -1,10 +1,5 @@
-use Rattle.rds_pieces.proofs.Paid.{paid_start}
-use Rattle.rds_pieces.proofs.GoneRuns.{gone-none}
-use Rattle.rds_pieces.proofs.Apart.{at_bit}
 use Rattle.rds_pieces.proofs.Names.{common_steps, ◌-◌, refl, ◌∙◌, subst, arith, Signal, tally_at, IsStep}
-use Rattle.rds_pieces.proofs.Walks.{IsBeside, hops_first, few_in_range, few_to_meeting, room_for, met_least, step_moves}
-use Rattle.rds_pieces.proofs.beside.go_beside.Given.{Over}
-use Rattle.rds_pieces.proofs.beside.go_beside.Goals.{After-hop_first}
+use Rattle.rds_pieces.proofs.{Walks.IsBeside, Walks.hops_first, Walks.few_in_range, Walks.few_to_meeting, Walks.room_for, Walks.met_least, Walks.step_moves, Paid.paid_start, GoneRuns.gone-none, Apart.at_bit, beside.go_beside.Given.Over, beside.go_beside.Goals.After-hop_first}
 use Rattle.rds_pieces.proofs.beside.go_beside.Goals as goal
 
 pub along-init : goal.along-init

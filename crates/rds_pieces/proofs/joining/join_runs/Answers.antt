@@ -1,8 +1,5 @@
 use Rattle.rds_pieces.proofs.Names.{common_steps, arith, ◌≡◌, ◌≤◌, ◌+◌, ◌-◌, ◌^◌, ◌++◌, ℕ, Option, [], rules, ◌∙◌, Signal, length_of, Item, Searching, listed, IsInRange, RuleNumbers, run, totals_of, guess, IsMeeting, seam_reads, RunOf, end_of, subst, drop, ItemsOf, List}
-use Rattle.rds_pieces.proofs.JoinLemmas.{joined_fit, joined_kept}
-use Rattle.rds_pieces.proofs.SoonLemmas.{meet_soon}
-use Rattle.rds_pieces.proofs.joining.join_runs.Given.{Over}
-use Rattle.rds_pieces.proofs.joining.join_runs.Goals.{After-seam, After-totals}
+use Rattle.rds_pieces.proofs.{JoinLemmas.joined_fit, JoinLemmas.joined_kept, SoonLemmas.meet_soon, joining.join_runs.Given.Over, joining.join_runs.Goals.After-seam, joining.join_runs.Goals.After-totals}
 use Rattle.rds_pieces.proofs.joining.join_runs.Goals as goal
 
 -- a fact of the left run, by the other names of its recording, its rules and its end

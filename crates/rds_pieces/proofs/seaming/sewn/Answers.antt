@@ -1,6 +1,5 @@
 use Rattle.rds_pieces.proofs.Names.{◌≡◌, ap, ◌∙◌, arith, Searching, IsRest, listed, TallyOf, tally_at, gone_on, totals_of, MeetFirstAt, RunOf}
-use Rattle.rds_pieces.proofs.SewnLemmas.{later, sewn_list, sewn_rest, sewn_fit, sewn_totals, sewn_end}
-use Rattle.rds_pieces.proofs.seaming.sewn.Goals.{After-totals}
+use Rattle.rds_pieces.proofs.{SewnLemmas.later, SewnLemmas.sewn_list, SewnLemmas.sewn_rest, SewnLemmas.sewn_fit, SewnLemmas.sewn_totals, SewnLemmas.sewn_end, seaming.sewn.Goals.After-totals}
 use Rattle.rds_pieces.proofs.seaming.sewn.Goals as goal
 
 pub returns-in-None-clause-totals : goal.returns-in-None-clause-totals

@@ -1,9 +1,6 @@
-use Rattle.rds_rows.proofs.Names.{common_steps, ◌≡◌, arith, rules, subst, kept_in, first_parts, AppendsBut}
-use Rattle.rds_rows.proofs.PartsFrom.{but_round, prefix_round}
+use Rattle.rds_rows.proofs.Names.{common_steps, arith, rules, kept_in, first_parts, AppendsBut}
+use Rattle.rds_rows.proofs.{PartsFrom.but_round, PartsFrom.prefix_round, Steps.but_prefix, Steps.but_rest, rounds.by_rounds.Given.Over, rounds.by_rounds.Goals.After-write_kept}
 use Rattle.std.proofs.lemmas.Result.{on_err_weaker, on_ok_weaker}
-use Rattle.rds_rows.proofs.Steps.{but_prefix, but_rest}
-use Rattle.rds_rows.proofs.rounds.by_rounds.Given.{Over}
-use Rattle.rds_rows.proofs.rounds.by_rounds.Goals.{After-write_kept}
 use Rattle.rds_rows.proofs.rounds.by_rounds.Goals as goal
 
 pub rounds-preserved : goal.rounds-preserved

@@ -1,8 +1,5 @@
-use Rattle.rds_rows.proofs.Names.{common_steps, arith, ◌≡◌, ◌∙◌, ap, subst, Appends, concat, first_parts, AppendsPrefix}
-use Rattle.rds_rows.proofs.Parts.{all_rows}
-use Rattle.rds_rows.proofs.Promises.{all_written, write_failed}
-use Rattle.rds_rows.proofs.write.write_by_handoffs.Given.{Over}
-use Rattle.rds_rows.proofs.write.write_by_handoffs.Goals.{After-by_rounds}
+use Rattle.rds_rows.proofs.Names.{common_steps, arith, ◌≡◌, concat, first_parts}
+use Rattle.rds_rows.proofs.{Parts.all_rows, Promises.all_written, Promises.write_failed, write.write_by_handoffs.Given.Over, write.write_by_handoffs.Goals.After-by_rounds}
 use Rattle.rds_rows.proofs.write.write_by_handoffs.Goals as goal
 
 -- the parts, one after the other, are all rows

@@ -1,6 +1,5 @@
 use Rattle.rds_stream.proofs.Names.{◌≡◌, ℕ, ◌+◌, ◌*◌, ◌/◌, ◌%◌, ◌<◌, ◌∙◌, arith, subst, List, [], ◌∷◌, rem, window}
-use Rattle.rds_stream.specs.Planes.{Hold}
-use Rattle.rds_stream.proofs.RemainderBits.{ten_words}
+use Rattle.rds_stream.{specs.Planes.Hold, proofs.RemainderBits.ten_words}
 use Rattle.rds_stream.proofs.bit_planes.planes.Goals as goal
 
 pub returns : goal.returns

@@ -1,7 +1,6 @@
 use Rattle.rds_stream.proofs.Names.{◌≡◌, ◌≢◌, ℕ, ◌-◌, ◌/◌, ◌%◌, arith, get_or, Fits, w8, rules}
-use Rattle.rds_stream.proofs.Places.{window_of_bytes}
+use Rattle.rds_stream.proofs.{Places.window_of_bytes, packed.early_window.Goals.then-place-eq0, packed.early_window.Goals.else-place-eq0}
 use Rattle.rds_stream.proofs.packed.early_window.Goals as goal
-use Rattle.rds_stream.proofs.packed.early_window.Goals.{then-place-eq0, else-place-eq0}
 
 pub returns-clause-value : goal.returns-clause-value
 returns-clause-value c bits within =

@@ -1,6 +1,5 @@
 use Rattle.rds_stream.proofs.Names.{common_steps, ◌≡◌, ◌+◌, ◌-◌, ◌≤◌, ◌++◌, ◌∷◌, [], ℕ, List, Some, None, sym, ap, ◌∙◌, subst, arith, Offset, Signal, offset_at, valid_windows, WindowsLeft, GivesFirst, NoneValid}
-use Rattle.rds_stream.proofs.WindowLists.{valid_over, valid_with}
-use Rattle.rds_stream.proofs.scanning.scan.Invariants.{HasScanned}
+use Rattle.rds_stream.proofs.{WindowLists.valid_over, WindowLists.valid_with, scanning.scan.Invariants.HasScanned}
 use Rattle.rds_stream.proofs.scanning.scan.Goals as goal
 
 module _ (b : Signal) (from to : ℕ) (old : WindowsLeft) (items : List (ℕ × Offset)) (has : HasScanned b from to old items) where

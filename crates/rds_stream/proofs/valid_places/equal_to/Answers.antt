@@ -1,7 +1,6 @@
 use Rattle.rds_stream.proofs.Names.{◌≡◌, ◌↔◌, ◌+◌, ◌-◌, ◌∙◌, sym, subst, ap, refl, arith, get_or, bit_at, bit_at_ones, bit_at-zero, shr_and_one, get_or-replicate, lane}
-use Rattle.rds_stream.proofs.Agreement.{Agree, agree_more, agree_is, not_one}
+use Rattle.rds_stream.proofs.{Agreement.Agree, Agreement.agree_more, Agreement.agree_is, Agreement.not_one, valid_places.equal_to.Goals.then-word-r-eq1, valid_places.equal_to.Goals.else-word-r-eq1}
 use Rattle.rds_stream.proofs.valid_places.equal_to.Goals as goal
-use Rattle.rds_stream.proofs.valid_places.equal_to.Goals.{then-word-r-eq1, else-word-r-eq1}
 
 pub loop-r-init : goal.loop-r-init
 loop-r-init c j k l m = (λ h r no. absurd (omega arith), λ h. ap (λ x. bit_at x k) (get_or-replicate 2 j 18446744073709551615 0 l) ∙ bit_at_ones 64 k (omega arith))

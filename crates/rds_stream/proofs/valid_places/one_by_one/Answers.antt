@@ -1,8 +1,6 @@
 use Rattle.rds_stream.proofs.Names.{ℕ, Option, IsSome, true≢false, ◌+◌, ◌∙◌, sym, subst, arith, Offset, offset_at, TellsValidPlaces}
-use Rattle.rds_stream.proofs.WindowLists.{off_clear}
-use Rattle.rds_stream.proofs.ValidPlaceLemmas.{with_valid, with_invalid, none_is}
+use Rattle.rds_stream.proofs.{WindowLists.off_clear, ValidPlaceLemmas.with_valid, ValidPlaceLemmas.with_invalid, ValidPlaceLemmas.none_is, valid_places.one_by_one.Goals.then-is_some, valid_places.one_by_one.Goals.else-is_some}
 use Rattle.rds_stream.proofs.valid_places.one_by_one.Goals as goal
-use Rattle.rds_stream.proofs.valid_places.one_by_one.Goals.{then-is_some, else-is_some}
 
 pub loop-place-preserved : goal.loop-place-preserved
 loop-place-preserved c =

@@ -1,8 +1,5 @@
 use Rattle.rds_live.proofs.Names.{common_steps, ◌≡◌, ◌≤◌, ◌*◌, ◌^◌, ◌++◌, ◌∙◌, ℕ, List, ap, ap₂, arith, drop, length, length-drop, subst, sym, length-append, length-map-range_with_len, AreGaps, Signal, bits_of, length_of, gaps_within, signal_of, IsPartHeard, AreSpareFrom, filled_up, slots_of}
-use Rattle.rds_live.proofs.GapParts.{few-of-part, gaps-of-part, gaps-filled-up, length-filled-up}
-use Rattle.rds_live.proofs.Rooms.{heard-filled}
-use Rattle.rds_live.proofs.SpareGaps.{filled-on, spare-behind}
-use Rattle.rds_live.proofs.room.Room.listen.Goals.{After-deref-2}
+use Rattle.rds_live.proofs.{GapParts.few-of-part, GapParts.gaps-of-part, GapParts.gaps-filled-up, GapParts.length-filled-up, Rooms.heard-filled, SpareGaps.filled-on, SpareGaps.spare-behind, room.Room.listen.Goals.After-deref-2}
 use Rattle.rds_live.proofs.room.Room.listen.Goals as goal
 
 -- it is as long as before

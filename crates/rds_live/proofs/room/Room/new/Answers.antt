@@ -1,7 +1,5 @@
 use Rattle.rds_live.proofs.Names.{◌≡◌, ◌∙◌, ℕ, List, [], ap, arith, length, subst, sym, false≢true, length-map-range_with_len, AreGaps, Signal, length_of, packed_bit, filled_up}
-use Rattle.rds_live.proofs.GapParts.{gaps-filled-up, length-filled-up}
-use Rattle.rds_live.proofs.SpareGaps.{spare-behind}
-use Rattle.rds_live.proofs.room.Room.new.Goals.{After-fill_up}
+use Rattle.rds_live.proofs.{GapParts.gaps-filled-up, GapParts.length-filled-up, SpareGaps.spare-behind, room.Room.new.Goals.After-fill_up}
 use Rattle.rds_live.proofs.room.Room.new.Goals as goal
 
 -- no gaps are some that a recording may have

@@ -1,8 +1,5 @@
-use Rattle.std.proofs.Common.{eqb-true}
-use Rattle.std.proofs.lemmas.List.{nil_from_length}
-use Rattle.rds_live.proofs.Names.{common_steps, ◌≡◌, ◌+◌, ◌-◌, ◌*◌, ◌++◌, ◌∙◌, List, ap, arith, length, sym, ℕ, length-append, LiveOf, most_counted, live_next}
-use Rattle.rds_live.proofs.Following.{at-most-more}
-use Rattle.rds_live.proofs.Sewing.{both-within, within-all}
+use Rattle.rds_live.proofs.Names.{common_steps, ◌≡◌, ◌+◌, ◌-◌, ◌*◌, ◌++◌, ◌∙◌, List, ap, arith, length, sym, ℕ, length-append, LiveOf, most_counted, live_next, eqb-true, nil_from_length}
+use Rattle.rds_live.proofs.{Following.at-most-more, Sewing.both-within, Sewing.within-all}
 use Rattle.rds_live.proofs.stream_decoder.StreamDecoder.count.Goals as goal
 
 pub loop-rest-init : goal.loop-rest-init

@@ -1,6 +1,5 @@
 use Rattle.rds_live.proofs.Names.{◌≡◌, ◌+◌, ◌-◌, ◌*◌, ◌∙◌, length, refl, run, run_next}
-use Rattle.rds_live.proofs.Nexts.{heard-inside, next-inside}
-use Rattle.rds_live.proofs.stream_decoder.StreamDecoder.count_part.Goals.{After-moved_on-self-inside}
+use Rattle.rds_live.proofs.{Nexts.heard-inside, Nexts.next-inside, stream_decoder.StreamDecoder.count_part.Goals.After-moved_on-self-inside}
 use Rattle.rds_live.proofs.stream_decoder.StreamDecoder.count_part.Goals as goal
 
 -- the run over these bytes

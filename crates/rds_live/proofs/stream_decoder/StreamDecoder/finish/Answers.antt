@@ -1,7 +1,5 @@
 use Rattle.rds_live.proofs.Names.{common_steps, ◌≡◌, ◌++◌, ◌∙◌, List, [], ap, arith, refl, subst, sym, ℕ, append-nil, Signal, length_of, group_item, plus, IsLawful, totals_of, Item, gaps_within, group_next, run_next, LiveOf, complete, report_of}
-use Rattle.rds_live.proofs.Nexts.{group-inside, part-inside, report-now, totals-end}
-use Rattle.rds_live.proofs.Parts.{length-at}
-use Rattle.rds_live.proofs.stream_decoder.StreamDecoder.finish.Goals.{After-stream_end_of}
+use Rattle.rds_live.proofs.{Nexts.group-inside, Nexts.part-inside, Nexts.report-now, Nexts.totals-end, Parts.length-at, stream_decoder.StreamDecoder.finish.Goals.After-stream_end_of}
 use Rattle.rds_live.proofs.stream_decoder.StreamDecoder.finish.Goals as goal
 
 pub moved_end-group-requires-clause-lawful : goal.moved_end-group-requires-clause-lawful

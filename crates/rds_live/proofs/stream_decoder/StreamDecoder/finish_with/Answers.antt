@@ -1,8 +1,5 @@
 use Rattle.rds_live.proofs.Names.{common_steps, ◌≡◌, ◌+◌, ◌-◌, ◌*◌, ◌++◌, ◌∙◌, List, ap, ap₂, arith, length, refl, subst, sym, ℕ, length-map, length-take-le, with_items_is, with_items, Signal, length_of, group_item, plus, IsLawful, run, totals_of, Item, Totals, gaps_within, moved_item, group_next, items_next, part_with, run_next, HasHeard, LiveOf, complete, report_at, signal_at, Start}
-use Rattle.rds_live.proofs.Following.{at-most-more}
-use Rattle.rds_live.proofs.Nexts.{group-inside, items-inside, part-inside, run-is, totals-end, totals-inside}
-use Rattle.rds_live.proofs.Parts.{length-at}
-use Rattle.rds_live.proofs.stream_decoder.StreamDecoder.finish_with.Goals.{After-stream_end_of}
+use Rattle.rds_live.proofs.{Following.at-most-more, Nexts.group-inside, Nexts.items-inside, Nexts.part-inside, Nexts.run-is, Nexts.totals-end, Nexts.totals-inside, Parts.length-at, stream_decoder.StreamDecoder.finish_with.Goals.After-stream_end_of}
 use Rattle.rds_live.proofs.stream_decoder.StreamDecoder.finish_with.Goals as goal
 
 size-of : (part : Signal) (gaps : List (ℕ × ℕ)) (bytes : List ℕ) (n : ℕ) → part ≡ signal_at gaps bytes n → length_of part ≡ n

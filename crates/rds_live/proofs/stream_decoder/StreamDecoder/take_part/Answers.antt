@@ -1,6 +1,5 @@
 use Rattle.rds_live.proofs.Names.{◌≡◌, ◌+◌, ◌-◌, ◌*◌, ◌∙◌, List, ap, length, refl, length-map, with_items_is, run, totals_of, Item, moved_item, run_next}
-use Rattle.rds_live.proofs.Nexts.{heard-inside, items-inside, next-inside}
-use Rattle.rds_live.proofs.stream_decoder.StreamDecoder.take_part.Goals.{After-moved_on-self-inside}
+use Rattle.rds_live.proofs.{Nexts.heard-inside, Nexts.items-inside, Nexts.next-inside, stream_decoder.StreamDecoder.take_part.Goals.After-moved_on-self-inside}
 use Rattle.rds_live.proofs.stream_decoder.StreamDecoder.take_part.Goals as goal
 
 -- the run over these bytes

@@ -1,8 +1,5 @@
-use Rattle.std.proofs.Common.{eqb-true}
-use Rattle.std.proofs.lemmas.List.{nil_from_length}
-use Rattle.rds_live.proofs.Names.{◌≡◌, ◌+◌, ◌-◌, ◌*◌, ◌∙◌, List, [], ap, arith, drop, length, subst, sym, take, ℕ, length-drop, length-take-le, take-append-drop, take_rest, Item, ListerOf, lister_next, completed, live_next, most_counted}
-use Rattle.rds_live.proofs.Following.{at-most-more}
-use Rattle.rds_live.proofs.Listers.{lists-join, lists-still}
+use Rattle.rds_live.proofs.Names.{◌≡◌, ◌+◌, ◌-◌, ◌*◌, ◌∙◌, List, [], ap, arith, drop, length, subst, sym, take, ℕ, length-drop, length-take-le, take-append-drop, take_rest, Item, ListerOf, lister_next, completed, live_next, most_counted, eqb-true, nil_from_length}
+use Rattle.rds_live.proofs.{Following.at-most-more, Listers.lists-join, Listers.lists-still}
 use Rattle.rds_live.proofs.stream_lister.StreamLister.list_alone.Goals as goal
 
 pub loop-rest-preserved : goal.loop-rest-preserved

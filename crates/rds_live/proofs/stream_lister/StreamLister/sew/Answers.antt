@@ -1,6 +1,5 @@
 use Rattle.rds_live.proofs.Names.{◌≡◌, ◌∙◌, List, ap, ap₂, sym, ℕ, Item, State, ListerOf, lister_next, lister_of, guessed, LiveOf}
-use Rattle.rds_live.proofs.Listers.{on-ok}
-use Rattle.rds_live.proofs.Sewing.{both-within}
+use Rattle.rds_live.proofs.{Listers.on-ok, Sewing.both-within}
 use Rattle.rds_live.proofs.stream_lister.StreamLister.sew.Goals as goal
 
 pub take_over-requires-clause-guess : goal.take_over-requires-clause-guess

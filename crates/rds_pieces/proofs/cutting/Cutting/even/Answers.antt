@@ -1,7 +1,6 @@
 use Rattle.rds_pieces.proofs.Names.{common_steps, ◌≡◌, ℕ, ◌++◌, ◌∷◌, [], List, ◌*◌, ◌∙◌, sym, ap, arith, map-range_with_len_more, even_places}
-use Rattle.rds_pieces.proofs.CuttingLemmas.{even_is_cutting, is_own_cutting, multiple_inside}
+use Rattle.rds_pieces.proofs.{CuttingLemmas.even_is_cutting, CuttingLemmas.is_own_cutting, CuttingLemmas.multiple_inside, cutting.Cutting.even.Goals.then-len-eq0, cutting.Cutting.even.Goals.else-len-eq0}
 use Rattle.rds_pieces.proofs.cutting.Cutting.even.Goals as goal
-use Rattle.rds_pieces.proofs.cutting.Cutting.even.Goals.{then-len-eq0, else-len-eq0}
 
 pub overflow_mul-piece : goal.overflow_mul-piece
 overflow_mul-piece c = grind (arith, common_steps, multiple_inside)

@@ -1,6 +1,4 @@
-use Rattle.rds_pieces.proofs.Names.{ap, ◌∙◌}
-use Rattle.rds_stream.specs.Tape.{TapeState}
-use Rattle.rds_pieces.specs.WorkOf.{WorkOf}
+use Rattle.rds_pieces.proofs.Names.{ap, ◌∙◌, WorkOf, TapeState}
 use Rattle.rds_pieces.proofs.work.RecordingWorkWork.report.Goals as goal
 
 pub returns-clause-totals : goal.returns-clause-totals

@@ -1,6 +1,5 @@
 use Rattle.rds_stream.proofs.Names.{◌≡◌, ◌+◌, ◌*◌, ◌/◌, ◌%◌, ◌^◌, ◌<◌, ◌∙◌, ℕ, zero, suc, [], ◌∷◌, sym, ap, arith, length, get_or, bit_at, packed_bit}
-use Rattle.rds_stream.proofs.Places.{length-bits_of, get_or-bits_of}
-use Rattle.rds_stream.proofs.BitOrder.{shr_bit}
+use Rattle.rds_stream.proofs.{Places.length-bits_of, Places.get_or-bits_of, BitOrder.shr_bit}
 use Rattle.rds_stream.proofs.packed.Packed.places.Goals as goal
 
 pub eight_bytes-requires : goal.eight_bytes-requires

@@ -1,6 +1,6 @@
 use Rattle.rds_stream.proofs.Names.{◌≡◌, ◌*◌, ◌++◌, ◌∙◌, ℕ, List, length, length-drop, drop, sym, ap, subst, arith, length-append, with_items_is, AreGaps, Signal, bits_of}
-use Rattle.std.specs.Vec.{with_items}
 use Rattle.rds_stream.proofs.Places.{length-bits_of}
+use Rattle.std.specs.Vec.{with_items}
 use Rattle.rds_stream.proofs.recording.Recording.refill.Goals as goal
 
 pub invariant_of-self : goal.invariant_of-self

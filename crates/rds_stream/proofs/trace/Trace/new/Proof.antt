@@ -1,29 +1,16 @@
 -- `new` makes a value of no bytes, at the empty list.
-use mathlib.Core.Path.{refl}
-use mathlib.Core.List.{[], ◌∷◌}
+use mathlib.Core.{Path.refl, List.[], List.◌∷◌}
 use seplogic.Ra.Ura.{Ura}
 use mir.Val.{Val, vstruct, vcons, vnil}
 use base.Logic.{SProp}
-use prog.Memory.{Memory}
-use prog.Routine.{Routine}
-use prog.Wp.{WpFn, Tables}
-use types.Logic.{Logic}
-use contract.Monad.{Fun}
-use contract.Running.{tables, tables_of}
-use sound.WpLaws.{WpFn-mono}
+use prog.{Memory.Memory, Routine.Routine, Wp.WpFn, Wp.Tables}
 use types.Kit.{raw, ◌$◌, ◌∵◌, !, qed, keep, join, suffices, done}
-use types.Run.{no_more, and_then, returns, enter}
-use types.Part.{agg}
-use types.ByLocal.{alloc_all, pass_all, free_all, look_at, get, sets}
-use denote.Shadow.{pure_i}
-use denote.Steps.{nothing}
-use denote.Triple.Entry.{on_entry}
-use denote.Triple.Spec.{Meets, triple_of}
-use denote.Triple.Table.{entered}
-use denote.Triple.Walked.{says, ends_at, walked, walk_Meets}
-use Rattle.rds_stream.specs.declared.trace.Trace.{Trace}
+use types.{Logic.Logic, Run.no_more, Run.and_then, Run.returns, Run.enter, Part.agg, ByLocal.alloc_all, ByLocal.pass_all, ByLocal.free_all, ByLocal.look_at, ByLocal.get, ByLocal.sets}
+use contract.{Monad.Fun, Running.tables, Running.tables_of}
+use sound.WpLaws.{WpFn-mono}
+use denote.{Shadow.pure_i, Steps.nothing, Triple.Entry.on_entry, Triple.Spec.Meets, Triple.Spec.triple_of, Triple.Table.entered, Triple.Walked.says, Triple.Walked.ends_at, Triple.Walked.walked, Triple.Walked.walk_Meets}
+use Rattle.rds_stream.specs.{declared.trace.Trace.Trace, contracts.trace.Trace.new.Key.name as #it}
 use Rattle.rds_stream.specs.contracts.trace.Trace as T
-use Rattle.rds_stream.specs.contracts.trace.Trace.new.Key.{name as #it}
 use Rattle.rds_stream.specs.contracts.trace.Trace.new as it
 use Rattle.rds_stream.proofs.trace.Trace.new.Statement as stated
 use Rattle.rds_stream.proofs.trace.Trace.new.Code as code

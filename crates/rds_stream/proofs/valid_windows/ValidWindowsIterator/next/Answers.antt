@@ -1,6 +1,6 @@
 use Rattle.rds_stream.proofs.Names.{common_steps, ◌≡◌, ◌+◌, ℕ, Option, Some, None, IsSome, refl, sym, ◌∙◌, subst, arith, Offset, offset_of, rem, Signal, offset_at, window, WindowsLeft, GivesFirst}
-use Rattle.rds_stream.proofs.WindowLists.{off_stored}
 use Rattle.rds_stream.proofs.ValidPlaceLemmas.{never_some, none_ahead, none_below, join_none, one_valid, places_behind, valid_late}
+use Rattle.rds_stream.proofs.WindowLists.{off_stored}
 use Rattle.rds_stream.proofs.valid_windows.ValidWindowsIterator.next.Goals as goal
 
 pub returns-then-places-eq0-clause-steps : goal.returns-then-places-eq0-clause-steps

@@ -1,5 +1,0 @@
-use Rattle.rds_stream.proofs.Names.{common_steps, arith, length-zip2, get_or-zip2}
-use Rattle.rds_stream.proofs.lanes.either.Goals as goal
-
-pub returns : goal.returns
-returns c = grind (arith, common_steps, length-zip2, get_or-zip2)
