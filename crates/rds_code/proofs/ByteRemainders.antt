@@ -1,6 +1,5 @@
 -- The tables of remainders of bytes hold what they say: checked entry by entry, by computation.
-use Rattle.rds_code.proofs.Names.{◌≡◌, ℕ, ◌*◌, ◌^◌, ◌<◌, List, map, refl, ap, ◌∙◌, get_or, arith, range_with_len, get_or-map-range_with_len, rem}
-use Rattle.rds_code.specs.declared.byte_remainders.TheConstants.{MIDDLE, HIGH}
+use Rattle.rds_code.proofs.Names.{◌≡◌, ℕ, ◌*◌, ◌^◌, ◌<◌, List, map, refl, ap, ◌∙◌, get_or, arith, range_with_len, get_or-map-range_with_len, rem, MIDDLE, HIGH}
 
 -- the remainders of all bytes, shifted up by k places
 remainders_at : ℕ → List ℕ

@@ -1,8 +1,6 @@
 -- A damaged block is corrected: the burst that damaged it is the only one that fits.
 use Rattle.rds_code.proofs.Names.{common_steps, ◌≡◌, ◌≢◌, ℕ, ◌≤◌, List, [], ◌∷◌, refl, sym, ap, ◌∙◌, arith, inl, inr, ◌⊎◌, bit_xor, Option, Some, None, find, eqb, subst, lit<, lit≤, xor_assoc, xor_self, xor_zero_r, count_leading_zeros, count_trailing_zeros, eqb-true, Offset, A, B, C, Cx, D, Wanted, Corrected, rem, word, number, all_offsets, offset_of, IsBurst, IsValid, wanted_offsets, reading, IsBlockOf, alone, other_third_offset, version_burst, ReadsAsSent, CorrectsBurst, CorrectsThird, TakesOtherVersion}
-use Rattle.rds_code.proofs.RemainderLemmas.{rem-xor, twice}
-use Rattle.rds_code.proofs.BurstLemmas.{burst_is_one, rem-burst, longer}
-use Rattle.rds_code.proofs.ReadingLemmas.{one_fits, corrections_one, reads_valid, reads_corrected, only_A, only_B, only_D, third, wanted_1, wanted_2, wanted_4}
+use Rattle.rds_code.proofs.{ReadingLemmas.one_fits, ReadingLemmas.corrections_one, ReadingLemmas.reads_valid, ReadingLemmas.reads_corrected, ReadingLemmas.only_A, ReadingLemmas.only_B, ReadingLemmas.only_D, ReadingLemmas.third, ReadingLemmas.wanted_1, ReadingLemmas.wanted_2, ReadingLemmas.wanted_4, RemainderLemmas.rem-xor, RemainderLemmas.twice, BurstLemmas.burst_is_one, BurstLemmas.rem_burst, BurstLemmas.longer}
 
 -- damage done twice is undone
 pub undone : (w e : ℕ) → bit_xor (bit_xor w e) e ≡ w
@@ -32,7 +30,7 @@ became w info e x o p h valid =
     sym (twice (word o) (rem e)) ∙ ap (bit_xor (word o)) (sym (damaged w info e o h) ∙ sym (valid_word (rem (bit_xor w e)) p valid.offset))
 
 not_itself : (w info e x : ℕ) (o : Offset) → IsBlockOf w info o → IsBurst 5 e → IsValid (bit_xor w e) x o → ⊥
-not_itself w info e x o h burst valid = rem-burst e burst (became w info e x o o h valid ∙ xor_self (word o))
+not_itself w info e x o h burst valid = rem_burst e burst (became w info e x o o h valid ∙ xor_self (word o))
 
 -- if only one offset is tried and the damaged block is not valid, the burst is found
 found_again : (w info x : ℕ) (o : Offset) (wanted : Wanted) (limit e : ℕ) → IsBlockOf w info o → limit ≤ 5 → IsBurst limit e → wanted_offsets x wanted ≡ o ∷ []

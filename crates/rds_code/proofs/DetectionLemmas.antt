@@ -1,13 +1,7 @@
 -- One or two bit errors, and bursts of up to ten bits, leave a remainder that is not 0; and how many words are corrected. The remainders are
 -- checked by computation, pattern by pattern.
 use Rattle.rds_code.proofs.Names.{common_steps, ◌≡◌, ◌≢◌, ℕ, ◌+◌, ◌*◌, ◌/◌, ◌%◌, ◌^◌, ◌<◌, ◌≤◌, List, [], ◌∷◌, length, get_or, Bool, true, false, cond, refl, sym, ap, ◌∙◌, arith, inl, inr, ltb, eqb, subst, pow_mono, bit_xor, lit<, ◌⊎◌, mul-suc, AllPairs, count_trailing_zeros, ones, ones_step, ones-le, xor_assoc, xor_self, xor_zero_r, xor_lt, pow_pos, cases_eq, cases_lt, lt-ltb, eq-eqb, Offset, rem, word, number, burst_length, IsBurst, bursts, information, IsReading, wanted_offsets, corrections, by_only, alone, DetectsBitErrors, DetectsErrorBursts, HasOneWordPerRemainder, CountsAllCorrected, remainders_near, burst_counts}
-use Rattle.rds_code.proofs.RemainderLemmas.{rem-xor, rem-lt, twice}
-use Rattle.rds_code.proofs.SpanLemmas.{pattern_of, burst_pattern, at_least, ones-pattern}
-use Rattle.rds_code.proofs.CorrectionLemmas.{became}
-use Rattle.rds_code.proofs.BurstLemmas.{burst_is_one, longer, limit_is_among, among_limit_is, bursts_differ}
-use Rattle.rds_code.proofs.ReadingLemmas.{one_fits, corrections_one, reads_corrected, reading_is, only_A, only_B, only_D, third}
-use Rattle.rds_code.proofs.EncodingLemmas.{rem-parts}
-use Rattle.rds_code.proofs.Membership.{is_among, all_below, passes_below, each_below, among_map, among_contains, contains_among, from_map, differ_map, differ_pairs}
+use Rattle.rds_code.proofs.{ReadingLemmas.one_fits, ReadingLemmas.corrections_one, ReadingLemmas.reads_corrected, ReadingLemmas.reading_is, ReadingLemmas.only_A, ReadingLemmas.only_B, ReadingLemmas.only_D, ReadingLemmas.third, Membership.is_among, Membership.all_below, Membership.passes_below, Membership.each_below, Membership.among_map, Membership.among_contains, Membership.contains_among, Membership.from_map, Membership.differ_map, Membership.differ_pairs, RemainderLemmas.rem-xor, RemainderLemmas.rem-lt, RemainderLemmas.twice, SpanLemmas.pattern_of, SpanLemmas.burst_pattern, SpanLemmas.at_least, SpanLemmas.ones-pattern, CorrectionLemmas.became, BurstLemmas.burst_is_one, BurstLemmas.longer, BurstLemmas.limit_is_among, BurstLemmas.among_limit_is, BurstLemmas.bursts_differ, EncodingLemmas.rem-parts}
 
 -- whether the pattern, shifted up, is past a block or has another remainder than this
 shows : ℕ → ℕ → ℕ → Bool

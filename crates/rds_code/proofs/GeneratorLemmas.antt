@@ -1,10 +1,7 @@
 -- Of 512 polynomials only the generator and its mirror have period 341 and tell bursts apart: computed, polynomial by polynomial. The standard's
 -- syndrome and the remainder are linear, so they are compared bit by bit.
 use Rattle.rds_code.proofs.Names.{common_steps, ◌≡◌, ℕ, zero, suc, ◌+◌, ◌-◌, ◌*◌, ◌/◌, ◌%◌, ◌^◌, ◌<◌, List, [], ◌∷◌, Bool, true, false, map, refl, sym, ap, ap₂, ◌∙◌, arith, inl, inr, eqb, not, bit_xor, ◌⊎◌, pow-suc, bit_at, xor_self, xor_shifted, xor_shr, xor_mod, bit_at_xor, bit_at-lt, cases_Bool, cases_lt, eq-eqb, eqb-true, generator, rem, bursts}
-use Rattle.rds_code.specs.Generator.{times_x, times_power, HasPeriod, remainder_by, TellsApart, mirror, AreGeneratorAndMirror, DividesAlike, parity_rows, syndrome, SyndromesAreRemainders}
-use Rattle.rds_code.proofs.RemainderLemmas.{rem-xor, swap_inner, xor_times}
-use Rattle.rds_code.proofs.Membership.{all_differ, all_below, passes_below, one_of_each, differ_map}
-use Rattle.rds_code.proofs.BurstLemmas.{burst_is_one, burst_is_among, among_is_burst, bursts_differ}
+use Rattle.rds_code.{specs.Generator.times_x, specs.Generator.times_power, specs.Generator.HasPeriod, specs.Generator.remainder_by, specs.Generator.TellsApart, specs.Generator.mirror, specs.Generator.AreGeneratorAndMirror, specs.Generator.DividesAlike, specs.Generator.parity_rows, specs.Generator.syndrome, specs.Generator.SyndromesAreRemainders, proofs.RemainderLemmas.rem-xor, proofs.RemainderLemmas.swap_inner, proofs.RemainderLemmas.xor_times, proofs.Membership.all_differ, proofs.Membership.all_below, proofs.Membership.passes_below, proofs.Membership.one_of_each, proofs.Membership.differ_map, proofs.BurstLemmas.burst_is_one, proofs.BurstLemmas.burst_is_among, proofs.BurstLemmas.among_is_burst, proofs.BurstLemmas.bursts_differ}
 
 -- ---- linear maps
 

@@ -1,10 +1,6 @@
 -- The laws in the forms that their calls state.
 use Rattle.rds_code.proofs.Names.{common_steps, arith, sym, subst, bursts, IsBlockOf}
-use Rattle.rds_code.specs.Laws.{ListsBursts, ReadsByRule, HasOneBlock}
-use Rattle.rds_code.proofs.Membership.{among_contains, contains_among}
-use Rattle.rds_code.proofs.BurstLemmas.{limit_is_among, among_limit_is}
-use Rattle.rds_code.proofs.ReadingLemmas.{reading_is, reading_is_one}
-use Rattle.rds_code.proofs.EncodingLemmas.{encoded_is, encoded_only}
+use Rattle.rds_code.{specs.Laws.ListsBursts, specs.Laws.ReadsByRule, specs.Laws.HasOneBlock, proofs.Membership.among_contains, proofs.Membership.contains_among, proofs.BurstLemmas.limit_is_among, proofs.BurstLemmas.among_limit_is, proofs.ReadingLemmas.reading_is, proofs.ReadingLemmas.reading_is_one, proofs.EncodingLemmas.encoded_is, proofs.EncodingLemmas.encoded_only}
 
 pub lists_bursts : ListsBursts
 lists_bursts limit e few = (

@@ -1,7 +1,5 @@
 -- Lists of numbers, by a test of membership that computes.
-use Rattle.rds_code.proofs.Names.{common_steps, ◌≡◌, ◌≢◌, ◌⊎◌, ℕ, zero, suc, ◌<◌, List, [], ◌∷◌, ◌++◌, length, get_or, Bool, true, false, cond, map, refl, sym, ap, ◌∙◌, arith, inl, inr, eqb, filter, Contains, AllPairs, cases_Bool, eq-eqb, cases_eq, ne_eqb}
-use Rattle.std.specs.Prelude.{⊤}
-use Rattle.std.proofs.lemmas.List.Elements.{Contains-append_left, Contains-append_right, Contains-append_cases}
+use Rattle.rds_code.proofs.Names.{common_steps, ◌≡◌, ◌≢◌, ◌⊎◌, ℕ, zero, suc, ◌<◌, List, [], ◌∷◌, ◌++◌, length, get_or, Bool, true, false, cond, map, refl, sym, ap, ◌∙◌, arith, inl, inr, eqb, filter, Contains, AllPairs, cases_Bool, eq-eqb, cases_eq, ne_eqb, ⊤, Contains-append_left, Contains-append_right, Contains-append_cases}
 
 -- whether x is among the numbers
 abbrev pub is_among : ℕ → List ℕ → Bool

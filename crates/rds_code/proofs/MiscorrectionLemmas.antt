@@ -1,14 +1,9 @@
 -- How many error masks of two, three and four bit errors miscorrect a block: the remainder and the span of the mask decide. The counts are
 -- computed, bit by bit.
 use Rattle.rds_code.proofs.Names.{common_steps, ◌≡◌, ◌≢◌, ◌⊎◌, ℕ, zero, suc, ◌+◌, ◌-◌, ◌*◌, ◌^◌, ◌<◌, ◌≤◌, List, [], ◌∷◌, ◌++◌, length, get_or, map, Bool, true, false, cond, not, ◌&&◌, refl, sym, ap, ap₂, ◌∙◌, arith, inl, inr, eqb, leb, subst, bit_xor, lit<, bit_at, filter, pow-suc, xor_assoc, xor_self, xor_zero_r, xor_shifted, count_leading_zeros, count_trailing_zeros, ones-le, get_or_append_left, get_or-append-add, xor_comm, xor_lt, cases_Bool, cases_eq, cases_lt, eq-eqb, ne_eqb, le-leb, leb-true, Offset, A, B, C, Cx, D, Wanted, Either, Reading, Corrected, rem, word, number, offset_of, burst_length, IsBurst, bursts, information, IsValid, wanted_offsets, corrections, by_only, reading, IsBlockOf, alone, other_third_offset, error_masks, is_miscorrection, miscorrections, miscorrected, miscorrected_third, miscorrected_either, CountsAllMiscorrections}
-use Rattle.std.proofs.Math.Pow.{pow_pos}
-use Rattle.rds_code.proofs.RemainderLemmas.{rem-short, rem-xor, twice}
-use Rattle.rds_code.proofs.Membership.{is_among, all_below, passes_below, each_below, among_map, from_map, filter_agree}
-use Rattle.rds_code.proofs.BurstLemmas.{burst_is_one, longer, limit_is_among, among_limit_is}
-use Rattle.rds_code.proofs.CorrectionLemmas.{undone, damaged, became, word_offset, alone_wanted, own_or_other, other_number}
 use Rattle.rds_code.proofs.ReadingLemmas.{NoneFits, OneFits, fitting, fits_or_not, corrections_none, corrections_one, corrections_two, fits_by_remainder, wanted_remainder, wanted_remainder-lt, reads_valid, reads_corrected, valid_or_not, only_A, only_B, only_D, wanted_1, wanted_2, wanted_4}
-use Rattle.rds_code.proofs.EncodingLemmas.{encoded_only}
-use Rattle.rds_code.proofs.ErrorMasks.{masks_are}
+use Rattle.rds_code.proofs.{Membership.is_among, Membership.all_below, Membership.passes_below, Membership.each_below, Membership.among_map, Membership.from_map, Membership.filter_agree, CorrectionLemmas.undone, CorrectionLemmas.damaged, CorrectionLemmas.became, CorrectionLemmas.word_offset, CorrectionLemmas.alone_wanted, CorrectionLemmas.own_or_other, CorrectionLemmas.other_number, RemainderLemmas.rem-short, RemainderLemmas.rem-xor, RemainderLemmas.twice, BurstLemmas.burst_is_one, BurstLemmas.longer, BurstLemmas.limit_is_among, BurstLemmas.among_limit_is, EncodingLemmas.encoded_only, ErrorMasks.masks_are}
+use Rattle.std.proofs.Math.Pow.{pow_pos}
 
 -- ---- the remainders of the bursts, as the ones of a number
 

@@ -1,13 +1,6 @@
 -- How a block came out, by the outcomes of its window with the offsets that it may have.
-use Rattle.rds_code.proofs.Names.{common_steps, ◌≡◌, ℕ, zero, suc, ◌<◌, ◌≤◌, List, [], ◌∷◌, ◌++◌, length, get_or, slice_index, map, refl, sym, ap, ◌∙◌, arith, inl, inr, ◌⊎◌, bit_xor, subst, Some, ◌+◌, ◌%◌, ◌==◌, if◌then◌else◌, bit_at, bit_at-lt, bit_at_xor, xor_self, xor_zero_r, ones, get_or_append_left, get_or_default, length-append, below_more, Offset, B, C, Cx, Wanted, OnlyC, OnlyCx, Either, Reading, Corrected, Lost, rem, word, number, offset_of, IsBurst, burst_length, outcome_number, burst_outcome, wanted_after, wanted_of_info, HasNoBurst, IsEntry, IsOutcome, IsTurn, StandIn, wanted_at, information, IsValid, wanted_offsets, corrections, by_only, reading}
-use Rattle.std.proofs.Math.Seq.{get_or-append_seam}
-use Rattle.rds_code.specs.Inside.Outcomes.{HasBurst}
-use Rattle.rds_code.proofs.RemainderLemmas.{twice}
-use Rattle.rds_code.proofs.Membership.{each_below}
-use Rattle.rds_code.proofs.BurstLemmas.{rem-burst, longer}
-use Rattle.rds_code.proofs.SpanLemmas.{ones_pos, ones-le_span}
-use Rattle.rds_code.proofs.CorrectionLemmas.{valid_word, word_offset}
-use Rattle.rds_code.proofs.ReadingLemmas.{NoneFits, OneFits, none_by_table, one_by_table, corrections_none, corrections_one, corrections_two, fitting, reads_valid, reads_corrected, third, only_B}
+use Rattle.rds_code.proofs.Names.{common_steps, ◌≡◌, ℕ, zero, suc, ◌<◌, ◌≤◌, List, [], ◌∷◌, ◌++◌, length, get_or, slice_index, map, refl, sym, ap, ◌∙◌, arith, inl, inr, ◌⊎◌, bit_xor, subst, Some, ◌+◌, ◌%◌, ◌==◌, if◌then◌else◌, bit_at, bit_at-lt, bit_at_xor, xor_self, xor_zero_r, ones, get_or_append_left, get_or_default, length-append, below_more, Offset, B, C, Cx, Wanted, OnlyC, OnlyCx, Either, Reading, Corrected, Lost, rem, word, number, offset_of, IsBurst, burst_length, outcome_number, burst_outcome, wanted_after, wanted_of_info, HasNoBurst, IsEntry, IsOutcome, IsTurn, StandIn, wanted_at, information, IsValid, wanted_offsets, corrections, by_only, reading, get_or-append_seam}
+use Rattle.rds_code.{proofs.ReadingLemmas.NoneFits, proofs.ReadingLemmas.OneFits, proofs.ReadingLemmas.none_by_table, proofs.ReadingLemmas.one_by_table, proofs.ReadingLemmas.corrections_none, proofs.ReadingLemmas.corrections_one, proofs.ReadingLemmas.corrections_two, proofs.ReadingLemmas.fitting, proofs.ReadingLemmas.reads_valid, proofs.ReadingLemmas.reads_corrected, proofs.ReadingLemmas.third, proofs.ReadingLemmas.only_B, specs.Inside.Outcomes.HasBurst, proofs.RemainderLemmas.twice, proofs.Membership.each_below, proofs.BurstLemmas.rem_burst, proofs.BurstLemmas.longer, proofs.SpanLemmas.ones_pos, proofs.SpanLemmas.ones-le_span, proofs.CorrectionLemmas.valid_word, proofs.CorrectionLemmas.word_offset}
 
 -- one entry more in a table
 pub one_more : (limit : ℕ) (table : List ℕ) (i k : ℕ) → i ≡ length table → StandIn limit table → IsEntry limit i k → StandIn limit (table ++ k ∷ [])
@@ -69,7 +62,7 @@ module _ (limit d k : ℕ) (few : limit ≤ 5) where
 
   -- a burst is no valid window
   pub not_zero : (e : ℕ) → HasBurst limit d e → 0 < d
-  not_zero e has = grind (arith, common_steps, rem-burst, longer)
+  not_zero e has = grind (arith, common_steps, rem_burst, longer)
 
   pub valid_by_outcome : IsOutcome limit d k → k ≡ 1 → d ≡ 0
   valid_by_outcome it one = grind (arith, common_steps, at_least_three)

@@ -1,8 +1,6 @@
 -- How a window is corrected: with each offset no burst fits or one does, and the list of the pairs that fit is they.
 use Rattle.rds_code.proofs.Names.{common_steps, ◌≡◌, ℕ, zero, suc, ◌^◌, ◌<◌, ◌≤◌, List, [], ◌∷◌, ◌++◌, Bool, true, false, map, refl, sym, ap, ap₂, ◌∙◌, arith, inl, inr, ◌⊎◌, eqb, subst, bit_xor, Option, Some, None, lit<, IsTrue, IfSome, filter, cases_eq, eq-eqb, eqb-true, ne_eqb, xor_lt, Offset, A, B, C, Cx, D, Wanted, OnlyC, OnlyCx, Either, Reading, Valid, Lost, rem, word, number, offset_of, IsBurst, bursts, information, allows, IsValid, IsReading, wanted_offsets, corrections, by_only, corrected, read_from, reading}
-use Rattle.rds_code.proofs.RemainderLemmas.{rem-xor, rem-lt, twice}
-use Rattle.rds_code.proofs.Membership.{is_among, filter_none, filter_one, filter_among, among_head, among_filter}
-use Rattle.rds_code.proofs.BurstLemmas.{burst_is_one, longer, limit_is_among, among_limit_is, bursts_differ}
+use Rattle.rds_code.proofs.{RemainderLemmas.rem-xor, RemainderLemmas.rem-lt, RemainderLemmas.twice, Membership.is_among, Membership.filter_none, Membership.filter_one, Membership.filter_among, Membership.among_head, Membership.among_filter, BurstLemmas.burst_is_one, BurstLemmas.longer, BurstLemmas.limit_is_among, BurstLemmas.among_limit_is, BurstLemmas.bursts_differ}
 
 pub word-lt : (o : Offset) → word o < 2 ^ 10
 word-lt o = grind (arith, common_steps, lit<)

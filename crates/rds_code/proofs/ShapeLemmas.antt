@@ -1,8 +1,6 @@
 -- The shape and the shift of a burst of up to five bits.
 use Rattle.rds_code.proofs.Names.{common_steps, ◌≡◌, ℕ, ◌+◌, ◌-◌, ◌*◌, ◌/◌, ◌^◌, Bool, true, refl, ap, ◌∙◌, arith, eqb, subst, mul-div_cancel, count_leading_zeros, count_trailing_zeros, eqb-true, pow_pos, IsBurst, burst_length}
-use Rattle.rds_code.specs.Inside.BurstShape.{shape_of, shift_of, IsShape}
-use Rattle.rds_code.proofs.Membership.{all_below, passes_below}
-use Rattle.rds_code.proofs.BurstLemmas.{IsSmallPattern, small_pattern}
+use Rattle.rds_code.{specs.Inside.BurstShape.shape_of, specs.Inside.BurstShape.shift_of, specs.Inside.BurstShape.IsShape, proofs.Membership.all_below, proofs.Membership.passes_below, proofs.BurstLemmas.IsSmallPattern, proofs.BurstLemmas.small_pattern}
 
 unshifted : (e m t : ℕ) → e ≡ m * 2 ^ t → e / 2 ^ t ≡ m
 unshifted e m t whole = ap (λ (n : ℕ). n / 2 ^ t) whole ∙ mul-div_cancel m (pow_pos t)

@@ -1,8 +1,6 @@
 -- The table of block 3 holds what it says: checked entry by entry, by computation, and then told of readings.
-use Rattle.rds_code.proofs.Names.{common_steps, ◌≡◌, ℕ, zero, suc, ◌+◌, ◌*◌, ◌/◌, ◌%◌, ◌<◌, ◌≤◌, ◌==◌, if◌then◌else◌, Bool, List, map, get_or, bit_xor, refl, sym, ap, subst, ◌∙◌, inl, inr, arith, range_with_len, ne_eqb, get_or-map-range_with_len, C, Cx, Either, IsOutcome, wanted_at, word, outcome_number, reading, rem}
-use Rattle.std.proofs.lemmas.Bool.Decides.{eqb_tells}
-use Rattle.rds_code.specs.declared.thirds.TheConstants.{THIRDS}
-use Rattle.rds_code.proofs.OutcomeLemmas.{Damage, damaged, third_as_c, third_as_cx, third_as_either, valid_third}
+use Rattle.rds_code.proofs.Names.{common_steps, ◌≡◌, ℕ, zero, suc, ◌+◌, ◌*◌, ◌/◌, ◌%◌, ◌<◌, ◌≤◌, ◌==◌, if◌then◌else◌, Bool, List, map, get_or, bit_xor, refl, sym, ap, subst, ◌∙◌, inl, inr, arith, range_with_len, ne_eqb, get_or-map-range_with_len, C, Cx, Either, IsOutcome, wanted_at, word, outcome_number, reading, rem, eqb_tells}
+use Rattle.rds_code.{specs.declared.thirds.TheConstants.THIRDS, proofs.OutcomeLemmas.Damage, proofs.OutcomeLemmas.damaged, proofs.OutcomeLemmas.third_as_c, proofs.OutcomeLemmas.third_as_cx, proofs.OutcomeLemmas.third_as_either, proofs.OutcomeLemmas.valid_third}
 
 -- of a block that is not valid, by the wanted version and the outcomes with C and with C'
 by_version : ℕ → ℕ → ℕ → ℕ

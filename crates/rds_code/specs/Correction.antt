@@ -2,15 +2,7 @@
 -- wanted for block 3 are this project's rules. The law `blocks_are_read_as_sent` has `ReadsAsSent`;
 -- `damaged_blocks_are_corrected` has the others.
 use Rattle.std.specs.Prelude.{◌≡◌, ◌≢◌, ℕ, ◌≤◌, bit_xor, ◌↔◌}
-use Rattle.rds_code.specs.declared.offset.Offset.{Offset}
-use Rattle.rds_code.specs.declared.offset.Offset.TheVariants.{C, Cx}
-use Rattle.rds_code.specs.declared.reading.Wanted.{Wanted}
-use Rattle.rds_code.specs.declared.reading.Wanted.TheVariants.{OnlyC, OnlyCx, Either}
-use Rattle.rds_code.specs.declared.reading.Reading.TheVariants.{Valid, Corrected}
-use Rattle.rds_code.specs.Offsets.{number}
-use Rattle.rds_code.specs.Bursts.{IsBurst}
-use Rattle.rds_code.specs.Reading.{IsValid, reading}
-use Rattle.rds_code.specs.Encoding.{IsBlockOf}
+use Rattle.rds_code.specs.{declared.offset.Offset.Offset, declared.offset.Offset.TheVariants.C, declared.offset.Offset.TheVariants.Cx, declared.reading.Wanted.Wanted, declared.reading.Wanted.TheVariants.OnlyC, declared.reading.Wanted.TheVariants.OnlyCx, declared.reading.Wanted.TheVariants.Either, declared.reading.Reading.TheVariants.Valid, declared.reading.Reading.TheVariants.Corrected, Offsets.number, Bursts.IsBurst, Reading.IsValid, Reading.reading, Encoding.IsBlockOf}
 
 -- the offsets allowed if only this one is to be tried; for A, B and D they have no effect
 abbrev pub alone : Offset → Wanted

@@ -2,19 +2,8 @@
 -- and offset words are those of 2.1, 2.3 and Annex A. The bursts that are corrected are this project's rule. Cited by
 -- the laws `damage_is_detected`, `corrected_words_are_few` and `miscorrections_are_counted`.
 use Rattle.std.specs.Prelude.{◌≡◌, ◌≢◌, ℕ, zero, suc, ◌+◌, ◌-◌, ◌<◌, ◌≤◌, ◌^◌, List, [], ◌∷◌, ◌++◌, map, filter, length, slice_index, slice_index_or, bit_xor, ◌↔◌, Contains, Bool, false, not, ◌==◌, ◌&&◌}
-use Rattle.std.specs.List.{AllPairs}
-use Rattle.std.specs.Int.Count.{ones}
-use Rattle.rds_code.specs.declared.offset.Offset.{Offset}
-use Rattle.rds_code.specs.declared.reading.Wanted.{Wanted}
-use Rattle.rds_code.specs.declared.reading.Wanted.TheVariants.{Either}
-use Rattle.rds_code.specs.declared.reading.Reading.{Reading}
-use Rattle.rds_code.specs.declared.reading.Reading.TheVariants.{Corrected}
-use Rattle.rds_code.specs.Remainder.{rem}
-use Rattle.rds_code.specs.Offsets.{word, number}
-use Rattle.rds_code.specs.Bursts.{IsBurst, bursts}
-use Rattle.rds_code.specs.Reading.{information, IsValid, reading}
-use Rattle.rds_code.specs.Encoding.{IsBlockOf}
-use Rattle.rds_code.specs.Correction.{alone}
+use Rattle.std.specs.{List.AllPairs, Int.Count.ones}
+use Rattle.rds_code.specs.{declared.offset.Offset.Offset, declared.reading.Wanted.Wanted, declared.reading.Wanted.TheVariants.Either, declared.reading.Reading.Reading, declared.reading.Reading.TheVariants.Corrected, Remainder.rem, Offsets.word, Offsets.number, Bursts.IsBurst, Bursts.bursts, Reading.information, Reading.IsValid, Reading.reading, Encoding.IsBlockOf, Correction.alone}
 
 -- Up to n bit errors are detected: the damaged block matches no offset word of its own block number (2.3: single and double bit errors).
 abbrev pub DetectsBitErrors : ℕ → Type 0

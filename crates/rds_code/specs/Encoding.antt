@@ -2,11 +2,7 @@
 -- `encode_block` and `encode_group` answer them.
 use Rattle.std.specs.Prelude.{◌≡◌, ℕ, zero, suc, ◌+◌, ◌*◌, ◌^◌, ◌<◌, List, [], ◌∷◌, length, slice_index, bit_xor}
 use Rattle.std.specs.Int.{bit_at}
-use Rattle.rds_code.specs.declared.offset.Offset.{Offset}
-use Rattle.rds_code.specs.declared.offset.Offset.TheVariants.{A, B, C, Cx, D}
-use Rattle.rds_code.specs.Remainder.{rem}
-use Rattle.rds_code.specs.Offsets.{word}
-use Rattle.rds_code.specs.Reading.{information}
+use Rattle.rds_code.specs.{declared.offset.Offset.Offset, declared.offset.Offset.TheVariants.A, declared.offset.Offset.TheVariants.B, declared.offset.Offset.TheVariants.C, declared.offset.Offset.TheVariants.Cx, declared.offset.Offset.TheVariants.D, Remainder.rem, Offsets.word, Reading.information}
 
 -- w is the block with information word info and offset o: its upper 16 bits are info, its remainder is the offset word
 pub record IsBlockOf (w info : ℕ) (o : Offset) : Type 0 where

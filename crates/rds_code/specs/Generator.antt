@@ -3,8 +3,7 @@
 -- `syndromes_are_remainders`.
 use Rattle.std.specs.Prelude.{◌≡◌, ◌≢◌, ◌⊎◌, ℕ, zero, suc, ◌*◌, ◌/◌, ◌%◌, ◌^◌, ◌<◌, ◌≤◌, List, [], ◌∷◌, length, bit_xor}
 use Rattle.std.specs.Int.{bit_at}
-use Rattle.rds_code.specs.Remainder.{generator, rem}
-use Rattle.rds_code.specs.Bursts.{IsBurst}
+use Rattle.rds_code.specs.{Remainder.generator, Remainder.rem, Bursts.IsBurst}
 
 -- a polynomial of degree 10 whose lowest coefficient is 1: there are 512
 pub record IsCandidate (p : ℕ) : Type 0 where

@@ -1,13 +1,7 @@
 -- Laws of remainders, bursts, readings and blocks (EN 50067:1998, 2.3 and Annex B; readings are this project's rule).
 -- Each is a clause of a function in `laws`; these functions do nothing.
 use Rattle.std.specs.Prelude.{◌≡◌, ◌≢◌, ℕ, ◌<◌, ◌≤◌, ◌^◌, bit_xor, ◌↔◌, Contains}
-use Rattle.rds_code.specs.declared.offset.Offset.{Offset}
-use Rattle.rds_code.specs.declared.reading.Wanted.{Wanted}
-use Rattle.rds_code.specs.declared.reading.Reading.{Reading}
-use Rattle.rds_code.specs.Remainder.{IsRemainder, rem}
-use Rattle.rds_code.specs.Bursts.{IsBurst, bursts}
-use Rattle.rds_code.specs.Reading.{IsReading, reading}
-use Rattle.rds_code.specs.Encoding.{IsBlockOf, encoded}
+use Rattle.rds_code.specs.{declared.offset.Offset.Offset, declared.reading.Wanted.Wanted, declared.reading.Reading.Reading, Remainder.IsRemainder, Remainder.rem, Bursts.IsBurst, Bursts.bursts, Reading.IsReading, Reading.reading, Encoding.IsBlockOf, Encoding.encoded}
 
 -- each block has a remainder, the one that is computed
 abbrev pub HasRemainder : Type 0

@@ -1,13 +1,7 @@
 -- The outcome of a block as a number of four bits, and the offsets that a block 2 allows for block 3: this project's
 -- rules. `Outcomes::of_block`, `Burst::outcome` and `Outcomes::wanted_after` return them. `rds_sync` has 0 for a block that was not read.
-use Rattle.std.specs.Prelude.{ℕ, ◌+◌, ◌-◌, ◌*◌, ◌/◌, ◌==◌, if◌then◌else◌}
-use Rattle.std.specs.Int.{bit_at}
-use Rattle.std.specs.Int.Count.{ones}
-use Rattle.rds_code.specs.declared.reading.Wanted.{Wanted}
-use Rattle.rds_code.specs.declared.reading.Wanted.TheVariants.{OnlyC, OnlyCx, Either}
-use Rattle.rds_code.specs.declared.reading.Reading.{Reading}
-use Rattle.rds_code.specs.declared.reading.Reading.TheVariants.{Valid, Corrected, Lost}
-use Rattle.rds_code.specs.Bursts.{burst_length}
+use Rattle.std.specs.{Prelude.ℕ, Prelude.◌+◌, Prelude.◌-◌, Prelude.◌*◌, Prelude.◌/◌, Prelude.◌==◌, Prelude.if◌then◌else◌, Int.bit_at, Int.Count.ones}
+use Rattle.rds_code.specs.{declared.reading.Wanted.Wanted, declared.reading.Wanted.TheVariants.OnlyC, declared.reading.Wanted.TheVariants.OnlyCx, declared.reading.Wanted.TheVariants.Either, declared.reading.Reading.Reading, declared.reading.Reading.TheVariants.Valid, declared.reading.Reading.TheVariants.Corrected, declared.reading.Reading.TheVariants.Lost, Bursts.burst_length}
 
 -- corrected by a burst of s bits, n of which are wrong: 3 to 13 for s up to 5, by rising s and then rising n
 abbrev pub burst_outcome : ℕ → ℕ → ℕ

@@ -1,6 +1,4 @@
-ghost use Rattle.std.specs.Prelude.{◌≡◌, ◌==◌};
-ghost use Rattle.std.proofs.Common.{rules};
-ghost use Rattle.std.specs.Cmp.Rules.{comparing};
+ghost use Rattle.std.{specs.Prelude.◌≡◌, specs.Prelude.◌==◌, proofs.Common.rules, specs.Cmp.Rules.comparing};
 
 use std::marker::Model;
 
@@ -33,10 +31,8 @@ impl Model for Burst {
 }
 
 impl Burst {
-    ghost use Rattle.std.specs.Prelude.{◌≤◌};
-    ghost use Rattle.rds_code.specs.Bursts.{burst_length, IsBurst};
-    ghost use Rattle.rds_code.specs.Outcomes.{burst_outcome};
-    ghost use Rattle.std.specs.Int.Count.{ones};
+    ghost use Rattle.std.specs.{Prelude.◌≤◌, Int.Count.ones};
+    ghost use Rattle.rds_code.specs.{Bursts.burst_length, Bursts.IsBurst, Outcomes.burst_outcome};
 
     /// The burst whose ones are those of `pattern`.
     pub(crate) fn new(pattern: u32) -> Burst

@@ -1,7 +1,5 @@
 ghost use Rattle.std.specs.Prelude.{◌≡◌, ℕ, ◌*◌, ◌%◌, ◌^◌, ◌<◌, ◌≤◌, length, IfOk, replicate};
-ghost use Rattle.rds_code.specs.Remainder.{rem};
-ghost use Rattle.rds_code.specs.Bursts.{IsBurst};
-ghost use Rattle.rds_code.specs.Inside.BurstTable.{IsSound, HasBurst};
+ghost use Rattle.rds_code.specs.{Remainder.rem, Bursts.IsBurst, Inside.BurstTable.IsSound, Inside.BurstTable.HasBurst};
 
 use crate::block::BLOCK_BITS;
 use crate::burst::Burst;
@@ -32,8 +30,7 @@ impl Model for BurstTable {
 
 impl BurstTable {
     ghost use Rattle.std.specs.Prelude.{IfSome, None};
-    ghost use Rattle.rds_code.specs.Remainder.{rem};
-    ghost use Rattle.rds_code.specs.Bursts.{IsBurst};
+    ghost use Rattle.rds_code.specs.{Remainder.rem, Bursts.IsBurst};
 
     /// The table, in one growth of 4,096 bytes. Its type keeps its contents. Fails only with `OutOfMemory`.
     pub fn new(alloc: Global) -> Result<BurstTable, CodeError> {
@@ -44,6 +41,7 @@ impl BurstTable {
 
     /// The burst within `limit` whose remainder is `remainder`, below 1024, or none (EN 50067:1998, Annex B). There is none
     /// for limit 0, nor for remainder 0.
+    #[tactic(auto, using(std::proofs::lemmas::Grind::common_steps, crate::proofs::BurstLemmas::rem_burst))]
     pub fn find(&self, remainder: u16, limit: BurstLimit) -> Option<Burst>
         requires { remainder < 1024 }
         ensures burst { IfSome result (λ e. IsBurst limit e) }

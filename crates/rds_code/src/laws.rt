@@ -1,15 +1,5 @@
 //! Laws of the block code. Each call does nothing: its contract is a law of the definitions, whoever reads or writes.
-ghost use Rattle.rds_code.specs.Laws.{HasRemainder, HasOneRemainder, IsLinear, ListsBursts, TellsBursts, BurstsHaveNonzeroRemainders, ReadsByRule, HasOneBlock};
-ghost use Rattle.rds_code.specs.Correction.{ReadsAsSent, CorrectsBurst, CorrectsThird, TakesOtherVersion};
-ghost use Rattle.rds_code.specs.Generator.{AreGeneratorAndMirror, DividesAlike, SyndromesAreRemainders};
-ghost use Rattle.rds_code.specs.Detection.{
-  DetectsBitErrors,
-  DetectsErrorBursts,
-  HasOneWordPerRemainder,
-  CountsAllCorrected,
-  ListsAllErrorMasks,
-  CountsAllMiscorrections,
-};
+ghost use Rattle.rds_code.specs.{Laws.HasRemainder, Laws.HasOneRemainder, Laws.IsLinear, Laws.ListsBursts, Laws.TellsBursts, Laws.BurstsHaveNonzeroRemainders, Laws.ReadsByRule, Laws.HasOneBlock, Correction.ReadsAsSent, Correction.CorrectsBurst, Correction.CorrectsThird, Correction.TakesOtherVersion, Generator.AreGeneratorAndMirror, Generator.DividesAlike, Generator.SyndromesAreRemainders, Detection.DetectsBitErrors, Detection.DetectsErrorBursts, Detection.HasOneWordPerRemainder, Detection.CountsAllCorrected, Detection.ListsAllErrorMasks, Detection.CountsAllMiscorrections};
 
 /// Each block has one remainder, the one that is computed.
 pub fn blocks_have_one_remainder()

@@ -1,11 +1,5 @@
 ghost use Rattle.std.specs.Prelude.{◌≡◌, ◌^◌, ◌<◌, ◌≤◌, bit_xor, IfOk};
-ghost use Rattle.rds_code.specs.Inside.Outcomes.{AreEntries, IsEntry, IsOutcome, wanted_at};
-ghost use Rattle.rds_code.specs.Outcomes.{outcome_number, wanted_after};
-ghost use Rattle.rds_code.specs.Offsets.{word};
-ghost use Rattle.rds_code.specs.declared.offset.Offset.TheVariants.{B};
-ghost use Rattle.rds_code.specs.declared.reading.Wanted.TheVariants.{Either};
-ghost use Rattle.rds_code.specs.Reading.{reading};
-ghost use Rattle.rds_code.specs.Remainder.{rem};
+ghost use Rattle.rds_code.specs.{Inside.Outcomes.AreEntries, Inside.Outcomes.IsEntry, Inside.Outcomes.IsOutcome, Inside.Outcomes.wanted_at, Outcomes.outcome_number, Outcomes.wanted_after, Offsets.word, declared.offset.Offset.TheVariants.B, declared.reading.Wanted.TheVariants.Either, Reading.reading, Remainder.rem};
 
 use crate::block_number::BlockNumber;
 use crate::burst_limit::BurstLimit;

@@ -1,11 +1,6 @@
 //! The outcome of block 3, by those that it has with the two offsets.
 ghost use Rattle.std.specs.Prelude.{◌≡◌, ◌≤◌, bit_xor, ℕ};
-ghost use Rattle.rds_code.specs.Inside.Outcomes.{IsOutcome, wanted_at};
-ghost use Rattle.rds_code.specs.Outcomes.{outcome_number};
-ghost use Rattle.rds_code.specs.Offsets.{word};
-ghost use Rattle.rds_code.specs.Reading.{reading};
-ghost use Rattle.rds_code.specs.Remainder.{rem};
-ghost use Rattle.rds_code.specs.declared.offset.Offset.TheVariants.{C, Cx};
+ghost use Rattle.rds_code.specs.{Inside.Outcomes.IsOutcome, Inside.Outcomes.wanted_at, Outcomes.outcome_number, Offsets.word, Reading.reading, Remainder.rem, declared.offset.Offset.TheVariants.C, declared.offset.Offset.TheVariants.Cx};
 
 use crate::reading::Wanted;
 

@@ -1,9 +1,6 @@
 //! How a window is read as a block.
 ghost use Rattle.std.specs.Prelude.{◌≡◌, ◌^◌, ◌<◌, ◌≤◌, [], ◌∷◌, bit_xor, IfSome, None, Some};
-ghost use Rattle.rds_code.specs.declared.offset.Offset.TheVariants.{C, Cx};
-ghost use Rattle.rds_code.specs.Remainder.{rem};
-ghost use Rattle.rds_code.specs.Offsets.{number as number_of, offset_of as the_offset_of};
-ghost use Rattle.rds_code.specs.Reading.{information, IsReading, corrections, by_only, corrected as the_corrected, reading};
+ghost use Rattle.rds_code.specs.{declared.offset.Offset.TheVariants.C, declared.offset.Offset.TheVariants.Cx, Remainder.rem, Offsets.number as number_of, Offsets.offset_of as the_offset_of, Reading.information, Reading.IsReading, Reading.corrections, Reading.by_only, Reading.corrected as the_corrected, Reading.reading};
 
 use crate::block_number::BlockNumber;
 use crate::burst::Burst;

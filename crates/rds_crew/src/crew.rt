@@ -1,11 +1,8 @@
 //! A crew of workers that makes the report of a work.
 ghost use Rattle.std.specs.Prelude.{◌≡◌, ◌⊎◌, ◌↔◌, ◌<◌, ◌≤◌, length, IfErr, IfOk, IsErrOf, IsOkUnless, IsTrue};
 ghost use Rattle.rds_stream.specs.Recording.{length_of};
-ghost use Rattle.rds_sync.specs.Decoding.{listed};
-ghost use Rattle.rds_sync.specs.Report.{report_items};
-ghost use Rattle.rds_sync.specs.Totals.{totals_of};
-ghost use Rattle.rds_pieces.specs.Cutting.{IsCutting};
-ghost use Rattle.rds_pieces.specs.RunOf.{FollowEachOther};
+ghost use Rattle.rds_sync.specs.{Decoding.listed, Report.report_items, Totals.totals_of};
+ghost use Rattle.rds_pieces.specs.{Cutting.IsCutting, RunOf.FollowEachOther};
 
 use crate::error::CrewError;
 use crate::gate::Gate;

@@ -1,8 +1,6 @@
 -- Words that planes hold, and the remainders that are offset words.
-use Rattle.rds_stream.proofs.Names.{common_steps, ◌≡◌, ◌≢◌, ◌↔◌, ℕ, ◌+◌, ◌-◌, ◌^◌, ◌<◌, sym, ap, ◌∙◌, subst, arith, bit_and, bit_or, bit_xor, List, None, IsSome, inl, inr, bit_at, cases_eq, ne_eqb, bit_at_and, bit_at_or, bit_at_xor, bit_at-lt, same_from_bits_below, word, offset_of, HoldInLane, lane}
-use borrow.Author.Count.{below_more}
+use Rattle.rds_stream.proofs.Names.{common_steps, ◌≡◌, ◌≢◌, ◌↔◌, ℕ, ◌+◌, ◌-◌, ◌^◌, ◌<◌, sym, ap, ◌∙◌, subst, arith, bit_and, bit_or, bit_xor, List, None, IsSome, inl, inr, bit_at, cases_eq, ne_eqb, bit_at_and, bit_at_or, bit_at_xor, bit_at-lt, same_from_bits_below, word, offset_of, HoldInLane, lane, below_more, A, B, C, Cx, D}
 use Rattle.std.proofs.lemmas.Bool.{true≢false}
-use Rattle.rds_code.specs.declared.offset.Offset.TheVariants.{A, B, C, Cx, D}
 
 -- at bit k of lane j the lowest n planes hold the lowest n bits of the word
 abbrev pub Agree : List (List ℕ) → ℕ → ℕ → ℕ → ℕ → Type 0

@@ -1,6 +1,5 @@
 -- Single bits of words whose halves change places, and of bytes in a row.
-use Rattle.rds_stream.proofs.Names.{common_steps, ◌≡◌, ℕ, zero, suc, ◌+◌, ◌-◌, ◌*◌, ◌/◌, ◌%◌, ◌^◌, ◌<◌, ◌≤◌, refl, sym, ap, ◌∙◌, arith, bit_and, bit_or, List, [], ◌∷◌, map, get_or, bit_at, range_with_len, cases_lt, pow_pos, shr-shr, shr_split, bit_at_and, bit_at_or, bit_at_ones, bit_at_ones_above, bit_at-lt, bit_at-zero, bit_at_cat_low, bit_at_cat_high, get_or-map-range_with_len, inl, inr}
-use Rattle.rds_code.proofs.Membership.{each_below}
+use Rattle.rds_stream.proofs.Names.{common_steps, ◌≡◌, ℕ, zero, suc, ◌+◌, ◌-◌, ◌*◌, ◌/◌, ◌%◌, ◌^◌, ◌<◌, ◌≤◌, refl, sym, ap, ◌∙◌, arith, bit_and, bit_or, List, [], ◌∷◌, map, get_or, bit_at, range_with_len, cases_lt, pow_pos, shr-shr, shr_split, bit_at_and, bit_at_or, bit_at_ones, bit_at_ones_above, bit_at-lt, bit_at-zero, bit_at_cat_low, bit_at_cat_high, get_or-map-range_with_len, inl, inr, each_below}
 
 -- a bit of a word that is shifted down, and up
 pub shr_bit : (n s k : ℕ) → bit_at (n / 2 ^ s) k ≡ bit_at n (s + k)
@@ -30,10 +29,7 @@ from_below n mask s k within above here there = grind (arith, common_steps, bit_
 -- neighbours of s bits that change places, where b tells which of the two holds bit k
 pub swapped : (word mask s b k to : ℕ) → k < 64 → b < 2 → bit_at mask k ≡ 1 - b → (s ≤ k → bit_at mask (k - s) ≡ b) → (b ≡ 0 → to ≡ k + s) → (b ≡ 1 → (s ≤ k) × (to ≡ k - s))
     → bit_at (bit_or (bit_and (word / 2 ^ s) mask) (bit_and word mask * 2 ^ s % 2 ^ 64)) k ≡ bit_at word to
-swapped word mask s b k to within small here other above below = elim (cases_lt b 1) [
-  | inl even ↦ from_above word mask s k within (omega (arith, here)) (λ le. omega (arith, other le)) ∙ sym (ap (bit_at word) (above (omega arith)))
-  | inr odd ↦ let at = below (omega arith) in from_below word mask s k within at.0 (omega (arith, here)) (omega (arith, other at.0)) ∙ sym (ap (bit_at word) at.1)
-]
+swapped word mask s b k to within small here other above below = grind (arith, common_steps, cases_lt, from_above, from_below)
 
 -- a bit of a mask, from the list of its bits
 mask_bit : (mask : ℕ) (f : ℕ → ℕ) (k : ℕ) → map (bit_at mask) (range_with_len 0 64) ≡ map f (range_with_len 0 64) → k < 64 → bit_at mask k ≡ f k

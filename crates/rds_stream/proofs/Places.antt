@@ -1,6 +1,5 @@
 -- Numbers whose binary digits are neighbouring places.
-use Rattle.rds_stream.proofs.Names.{common_steps, ◌≡◌, ◌≢◌, ℕ, zero, suc, ◌+◌, ◌-◌, ◌*◌, ◌/◌, ◌%◌, ◌^◌, ◌<◌, ◌≤◌, refl, sym, ap, ◌∙◌, arith, bit_and, bit_or, ⊎_elim, List, length, get_or, take, drop, length-drop, add-one, ap₂, bit_at, pow-suc, mul_assoc, mod-eq_of_lt, cases_eq, shr-shr, shr_high, mod_low, or_shifted, and_mask, bit_at-lt, get_or-drop, get_or-map-range_with_len, length-map-range_with_len, length-zip2, with_items_is, packed_bit, bits_of, window}
-use Rattle.std.{specs.Int.Digits.number_from_digits, proofs.lemmas.Int.Digits.number_more as digits_more}
+use Rattle.rds_stream.proofs.Names.{common_steps, ◌≡◌, ◌≢◌, ℕ, zero, suc, ◌+◌, ◌-◌, ◌*◌, ◌/◌, ◌%◌, ◌^◌, ◌<◌, ◌≤◌, refl, sym, ap, ◌∙◌, arith, bit_and, bit_or, ⊎_elim, List, length, get_or, take, drop, length-drop, add-one, ap₂, bit_at, pow-suc, mul_assoc, mod-eq_of_lt, cases_eq, shr-shr, shr_high, mod_low, or_shifted, and_mask, bit_at-lt, get_or-drop, get_or-map-range_with_len, length-map-range_with_len, length-zip2, with_items_is, packed_bit, bits_of, window, number_from_digits, digits_more}
 
 -- the number whose n binary digits are the places of f that end with place i
 unfoldable pub number : (ℕ → ℕ) → ℕ → ℕ → ℕ

@@ -1,8 +1,6 @@
 -- Each bit of a remainder as a sum of bits of its window, and each plane from the one above it.
-use Rattle.rds_stream.proofs.Names.{common_steps, ◌≡◌, ℕ, zero, suc, ◌+◌, ◌-◌, ◌*◌, ◌/◌, ◌%◌, ◌^◌, ◌<◌, ◌≤◌, refl, sym, ap, ◌∙◌, arith, bit_xor, List, [], ◌∷◌, map, get_or, ap₂, bit_at, range_with_len, pow-suc, mod-eq_of_lt, pow_pos, mod_below, div_below, shr_split, bit_at_xor, bit_at-zero, bit_at_cat_low, get_or-map-range_with_len, rem, IsWindowAt, lane}
+use Rattle.rds_stream.proofs.Names.{common_steps, ◌≡◌, ℕ, zero, suc, ◌+◌, ◌-◌, ◌*◌, ◌/◌, ◌%◌, ◌^◌, ◌<◌, ◌≤◌, refl, sym, ap, ◌∙◌, arith, bit_xor, List, [], ◌∷◌, map, get_or, ap₂, bit_at, range_with_len, pow-suc, mod-eq_of_lt, pow_pos, mod_below, div_below, shr_split, bit_at_xor, bit_at-zero, bit_at_cat_low, get_or-map-range_with_len, rem, IsWindowAt, lane, xor_shifted, IsLinear, each_below}
 use Rattle.rds_stream.proofs.BitOrder.{shr_bit}
-use Rattle.std.specs.Int.Bits.{xor_shifted}
-use Rattle.rds_code.{specs.Laws.IsLinear, proofs.Membership.each_below}
 
 -- the remainder of each power of x by the generator
 unfoldable pub powers : List ℕ

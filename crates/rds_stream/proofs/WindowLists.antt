@@ -1,6 +1,5 @@
 -- The offsets of places, and the valid windows one place on.
-use Rattle.rds_stream.proofs.Names.{common_steps, suc, zero, ◌≡◌, ℕ, ◌+◌, ◌<◌, ◌≤◌, refl, sym, ap, ◌∙◌, arith, [], ◌∷◌, ◌++◌, Some, None, true, false, IsSome, inl, inr, true≢false, cases_Bool, cases_lt, lt-ltb, le-ltb, range_with_len, cons_option, map-id, append-nil, map-range_with_len_more, Offset, rem, offset_of, Signal, window, touched, heard, offset_heard, offset_at, valid_at, valid_windows}
-use Rattle.std.proofs.lemmas.List.Elements.{filter_map-append}
+use Rattle.rds_stream.proofs.Names.{common_steps, suc, zero, ◌≡◌, ℕ, ◌+◌, ◌<◌, ◌≤◌, refl, sym, ap, ◌∙◌, arith, [], ◌∷◌, ◌++◌, Some, None, true, false, IsSome, inl, inr, true≢false, cases_Bool, cases_lt, lt-ltb, le-ltb, range_with_len, cons_option, map-id, append-nil, map-range_with_len_more, Offset, rem, offset_of, Signal, window, touched, heard, offset_heard, offset_at, valid_at, valid_windows, filter_map-append}
 
 pub off_early : (b : Signal) (p : ℕ) → p < 25 → offset_at b p ≡ None
 unfolding offset_at

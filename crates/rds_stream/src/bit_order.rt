@@ -1,6 +1,5 @@
 //! Bits in the order of their places, for arithmetic over many places at a time.
-ghost use Rattle.std.specs.Prelude.{◌≡◌, ℕ, ◌+◌, ◌-◌, ◌*◌, ◌/◌, ◌%◌, ◌<◌};
-ghost use Rattle.std.specs.Int.{bit_at};
+ghost use Rattle.std.specs.{Prelude.◌≡◌, Prelude.ℕ, Prelude.◌+◌, Prelude.◌-◌, Prelude.◌*◌, Prelude.◌/◌, Prelude.◌%◌, Prelude.◌<◌, Int.bit_at};
 ghost use Rattle.rds_stream.specs.Recording.{packed_bit};
 
 /// Ones at every other place, from the lowest on.

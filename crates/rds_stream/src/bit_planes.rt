@@ -9,8 +9,7 @@
 //!
 //! The 64 places are split by halves into two lanes of a vector: 57 bits of a lane hold the windows of 32
 //! places.
-ghost use Rattle.std.specs.Prelude.{◌≡◌, ℕ, ◌+◌, ◌*◌, ◌<◌, ◌≤◌, slice_index};
-ghost use Rattle.std.specs.Int.{bit_at};
+ghost use Rattle.std.specs.{Prelude.◌≡◌, Prelude.ℕ, Prelude.◌+◌, Prelude.◌*◌, Prelude.◌<◌, Prelude.◌≤◌, Prelude.slice_index, Int.bit_at};
 ghost use Rattle.rds_code.specs.Remainder.{rem};
 ghost use Rattle.rds_stream.specs.{Recording.length_of, Recording.window, Planes.Hold, Inside.Lanes.HoldInLane, Inside.Lanes.IsWindowAt, Inside.Lanes.lane};
 

@@ -1,6 +1,5 @@
 //! Vectors of two lanes, of which each holds the bits of some places in a row, the first place lowest.
-ghost use Rattle.std.specs.Prelude.{◌≡◌, ℕ, ◌+◌, ◌*◌, ◌/◌, ◌^◌, ◌<◌, bit_and, bit_or, bit_xor, slice_index};
-ghost use Rattle.std.specs.Int.{bit_at};
+ghost use Rattle.std.specs.{Prelude.◌≡◌, Prelude.ℕ, Prelude.◌+◌, Prelude.◌*◌, Prelude.◌/◌, Prelude.◌^◌, Prelude.◌<◌, Prelude.bit_and, Prelude.bit_or, Prelude.bit_xor, Prelude.slice_index, Int.bit_at};
 ghost use Rattle.rds_stream.specs.Inside.Lanes.{HasLanes};
 
 use std::simd::prelude::*;

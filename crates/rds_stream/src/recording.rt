@@ -2,8 +2,7 @@
 ghost use Rattle.std.specs.Prelude.{◌≡◌, ℕ, ◌+◌, ◌*◌, ◌^◌, ◌<◌, ◌≤◌, ◌-◌, ◌++◌, ◌↔◌, [], ◌∷◌, All, drop, vec_len, length, slice_index, if◌then◌else◌, Err, IfOk, IsOk};
 ghost use Rattle.std.specs.Int.{bit_at};
 ghost use Rattle.rds_code.specs.{Remainder.rem, Offsets.offset_of as the_offset_of};
-ghost use Rattle.rds_stream.specs.Recording.{AreGaps, Signal, bits_of, length_of, offset_at, touched, ungapped, window};
-ghost use Rattle.rds_stream.specs.{declared.error.StreamError.TheVariants.BadGaps, declared.error.StreamError.TheVariants.BitsPastBytes, declared.error.StreamError.TheVariants.TooLong, Inside.Sections.IsSection};
+ghost use Rattle.rds_stream.specs.{Recording.AreGaps, Recording.Signal, Recording.bits_of, Recording.length_of, Recording.offset_at, Recording.touched, Recording.ungapped, Recording.window, declared.error.StreamError.TheVariants.BadGaps, declared.error.StreamError.TheVariants.BitsPastBytes, declared.error.StreamError.TheVariants.TooLong, Inside.Sections.IsSection};
 
 use crate::error::StreamError;
 use crate::gaps::{Section, are_gaps, first_after, put_first_gaps};
@@ -118,6 +117,7 @@ impl Recording {
     /// Puts the bits of these bytes in the place of the first ones, and these gaps in the place of the first
     /// ones, of which there are at least as many. So a room that is taken once can be used again and again:
     /// it takes no memory, and no time for the bits and gaps that stay.
+    #[tactic(auto, using(crate::proofs::Places::steps))]
     pub fn refill(&mut self, bytes: &[u8], gaps: &[(u64, u64)])
         requires within { 8 * length bytes.now ≤ length_of self.old }
         requires as_many { length gaps.now ≤ length self.old.gaps }

@@ -2,8 +2,7 @@
 //!
 //! A bit is a one exactly when all ten planes agree with one of the five offset words, so words are exact
 //! both ways: each valid window has a one, and no other is looked at.
-ghost use Rattle.std.specs.Prelude.{◌≡◌, ◌≢◌, ℕ, max, ◌+◌, ◌<◌, ◌≤◌, ◌^◌, ◌↔◌, false, slice_index, IsSome};
-ghost use Rattle.std.specs.Int.{bit_at};
+ghost use Rattle.std.specs.{Prelude.◌≡◌, Prelude.◌≢◌, Prelude.ℕ, Prelude.max, Prelude.◌+◌, Prelude.◌<◌, Prelude.◌≤◌, Prelude.◌^◌, Prelude.◌↔◌, Prelude.false, Prelude.slice_index, Prelude.IsSome, Int.bit_at};
 ghost use Rattle.rds_code.specs.Offsets.{offset_of as the_offset_of};
 ghost use Rattle.rds_stream.specs.{Inside.Lanes.HoldInLane, Recording.Signal, Recording.length_of, Recording.offset_at, Inside.Sections.IsSection, ValidWindows.NoneValid, Inside.ValidPlaces.TellsValidPlaces};
 

@@ -1,13 +1,6 @@
 -- Worked examples: damaged blocks of the group whose information words are 0, and how they are read.
 use Rattle.std.specs.Prelude.{◌≡◌, ℕ, ◌*◌, ◌==◌, List, [], ◌∷◌, map, filter, refl, bit_xor}
-use Rattle.rds_code.specs.declared.offset.Offset.TheVariants.{A, B, C, Cx, D}
-use Rattle.rds_code.specs.declared.reading.Wanted.TheVariants.{OnlyC, Either}
-use Rattle.rds_code.specs.declared.reading.Reading.TheVariants.{Valid, Corrected, Lost}
-use Rattle.rds_code.specs.Remainder.{rem}
-use Rattle.rds_code.specs.Offsets.{word}
-use Rattle.rds_code.specs.Bursts.{bursts}
-use Rattle.rds_code.specs.Reading.{reading}
-use Rattle.rds_code.specs.Correction.{version_burst}
+use Rattle.rds_code.specs.{declared.offset.Offset.TheVariants.A, declared.offset.Offset.TheVariants.B, declared.offset.Offset.TheVariants.C, declared.offset.Offset.TheVariants.Cx, declared.offset.Offset.TheVariants.D, declared.reading.Wanted.TheVariants.OnlyC, declared.reading.Wanted.TheVariants.Either, declared.reading.Reading.TheVariants.Valid, declared.reading.Reading.TheVariants.Corrected, declared.reading.Reading.TheVariants.Lost, Remainder.rem, Offsets.word, Bursts.bursts, Reading.reading, Correction.version_burst}
 
 -- the remainders of damaged blocks 3, 4, 4, 1, 2 and 3
 pub remainders : map rem (bit_xor (word C) 0x0008000 ∷ bit_xor (word D) 0x0000011 ∷ bit_xor (word D) 0x0000021

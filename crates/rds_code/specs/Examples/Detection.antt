@@ -1,15 +1,6 @@
 -- Worked examples: damage that is detected, damage that is not, and miscorrections. Blocks 1 and 4 here carry the information word 0.
-use Rattle.std.specs.Prelude.{◌≡◌, [], ◌∷◌, map, length, refl, bit_xor, true, false}
-use Rattle.std.specs.List.{range_with_len}
-use Rattle.rds_code.specs.declared.offset.Offset.TheVariants.{A, C, Cx, D}
-use Rattle.rds_code.specs.declared.reading.Wanted.TheVariants.{Either, OnlyC}
-use Rattle.rds_code.specs.declared.reading.Reading.TheVariants.{Valid, Corrected, Lost}
-use Rattle.rds_code.specs.Remainder.{generator, rem}
-use Rattle.rds_code.specs.Offsets.{word}
-use Rattle.rds_code.specs.Bursts.{burst_length}
-use Rattle.rds_code.specs.Reading.{reading}
-use Rattle.rds_code.specs.Detection.{remainders_near, error_masks, is_miscorrection}
-use Rattle.std.specs.Int.Count.{count_leading_zeros, count_trailing_zeros}
+use Rattle.std.specs.{Prelude.◌≡◌, Prelude.[], Prelude.◌∷◌, Prelude.map, Prelude.length, Prelude.refl, Prelude.bit_xor, Prelude.true, Prelude.false, List.range_with_len, Int.Count.count_leading_zeros, Int.Count.count_trailing_zeros}
+use Rattle.rds_code.specs.{declared.offset.Offset.TheVariants.A, declared.offset.Offset.TheVariants.C, declared.offset.Offset.TheVariants.Cx, declared.offset.Offset.TheVariants.D, declared.reading.Wanted.TheVariants.Either, declared.reading.Wanted.TheVariants.OnlyC, declared.reading.Reading.TheVariants.Valid, declared.reading.Reading.TheVariants.Corrected, declared.reading.Reading.TheVariants.Lost, Remainder.generator, Remainder.rem, Offsets.word, Bursts.burst_length, Reading.reading, Detection.remainders_near, Detection.error_masks, Detection.is_miscorrection}
 
 -- One bit error makes a valid block 3 of this block 4. So a block is detected as damaged by its own block number only.
 pub one_bit_from_d_to_c : reading (bit_xor (word D) 0x0040000) 3 OnlyC 0 ≡ Valid C 0x0100

@@ -1,7 +1,6 @@
 -- Worked examples: groups as they are sent.
 use Rattle.std.specs.Prelude.{◌≡◌, ℕ, ◌*◌, ◌%◌, ◌^◌, List, [], ◌∷◌, map, refl}
-use Rattle.rds_code.specs.Remainder.{rem}
-use Rattle.rds_code.specs.Encoding.{encoded_group}
+use Rattle.rds_code.specs.{Remainder.rem, Encoding.encoded_group}
 
 -- the lowest ten bits of each block
 abbrev pub checkwords : List ℕ → List ℕ

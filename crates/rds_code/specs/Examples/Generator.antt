@@ -1,10 +1,6 @@
 -- Worked examples: the generator's mirror and powers of x, and the standard's syndromes.
-use Rattle.std.specs.Prelude.{◌≡◌, ◌-◌, [], ◌∷◌, map, length, refl}
-use Rattle.std.specs.Int.{bit_at}
-use Rattle.std.specs.List.{range_with_len}
-use Rattle.rds_code.specs.Remainder.{generator}
-use Rattle.rds_code.specs.Offsets.{word, all_offsets}
-use Rattle.rds_code.specs.Generator.{times_x, times_power, remainder_by, mirror, parity_rows, syndrome}
+use Rattle.std.specs.{Prelude.◌≡◌, Prelude.◌-◌, Prelude.[], Prelude.◌∷◌, Prelude.map, Prelude.length, Prelude.refl, Int.bit_at, List.range_with_len}
+use Rattle.rds_code.specs.{Remainder.generator, Offsets.word, Offsets.all_offsets, Generator.times_x, Generator.times_power, Generator.remainder_by, Generator.mirror, Generator.parity_rows, Generator.syndrome}
 
 -- the mirror has the generator's coefficients in reverse order
 pub mirrored : map (λ i. bit_at mirror i) (range_with_len 0 11) ≡ map (λ i. bit_at generator (10 - i)) (range_with_len 0 11)

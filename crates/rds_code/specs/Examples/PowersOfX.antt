@@ -1,6 +1,5 @@
 -- Worked examples: the remainders of the powers of x by the generator. Below x^10 a power is its own remainder.
-use Rattle.std.specs.Prelude.{◌≡◌, ◌*◌, ◌^◌, [], ◌∷◌, map, refl}
-use Rattle.std.specs.List.{range_with_len}
+use Rattle.std.specs.{Prelude.◌≡◌, Prelude.◌*◌, Prelude.◌^◌, Prelude.[], Prelude.◌∷◌, Prelude.map, Prelude.refl, List.range_with_len}
 use Rattle.rds_code.specs.Remainder.{rem}
 
 pub low_powers : map (λ t. rem (2 ^ t)) (range_with_len 0 10)

@@ -1,11 +1,7 @@
 -- Worked example: the group whose four information words are 0, sent again and again. The valid windows end at its four blocks, and at two places inside blocks, both with offset B.
 use Rattle.std.specs.Prelude.{◌≡◌, ℕ, ◌+◌, ◌-◌, ◌*◌, ◌/◌, ◌%◌, ◌^◌, [], ◌∷◌, Option, Some, None, map, refl, bit_xor}
 use Rattle.std.specs.List.{range_with_len, filter_map}
-use Rattle.rds_code.specs.declared.offset.Offset.{Offset}
-use Rattle.rds_code.specs.declared.offset.Offset.TheVariants.{A, B, C, D}
-use Rattle.rds_code.specs.Remainder.{rem}
-use Rattle.rds_code.specs.Offsets.{word, offset_of}
-use Rattle.rds_code.specs.Encoding.{encoded_group}
+use Rattle.rds_code.specs.{declared.offset.Offset.Offset, declared.offset.Offset.TheVariants.A, declared.offset.Offset.TheVariants.B, declared.offset.Offset.TheVariants.C, declared.offset.Offset.TheVariants.D, Remainder.rem, Offsets.word, Offsets.offset_of, Encoding.encoded_group}
 
 -- the bits of one group: its information words are 0, so its checkwords are the offset words
 abbrev pub one_group : ℕ

@@ -1,6 +1,5 @@
 -- A burst of up to five bits as it is kept, by its shape and its shift. `Burst` keeps it so, and no caller sees it.
-use Rattle.std.specs.Prelude.{◌≡◌, ℕ, ◌*◌, ◌/◌, ◌^◌}
-use Rattle.std.specs.Int.Count.{count_trailing_zeros}
+use Rattle.std.specs.{Prelude.◌≡◌, Prelude.ℕ, Prelude.◌*◌, Prelude.◌/◌, Prelude.◌^◌, Int.Count.count_trailing_zeros}
 use Rattle.rds_code.specs.Bursts.{IsBurst}
 
 -- the place of its lowest one

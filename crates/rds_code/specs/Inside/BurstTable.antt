@@ -1,7 +1,6 @@
 -- A table of the bursts of up to five bits by their remainders. `BurstTable` keeps it so, and no caller sees it.
 use Rattle.std.specs.Prelude.{◌≡◌, ℕ, ◌<◌, List, length, slice_index}
-use Rattle.rds_code.specs.Remainder.{rem}
-use Rattle.rds_code.specs.Bursts.{IsBurst}
+use Rattle.rds_code.specs.{Remainder.rem, Bursts.IsBurst}
 
 -- each pattern in the table is a burst, and its index is its remainder
 abbrev pub IsSound : List ℕ → Type 0

@@ -1,12 +1,6 @@
 -- A table of the outcomes of blocks by their remainders. `Outcomes` keeps it so, and no caller sees it.
-use Rattle.std.specs.Prelude.{◌≡◌, ℕ, zero, suc, ◌/◌, ◌%◌, ◌<◌, ◌⊎◌, List, length, slice_index}
-use Rattle.std.specs.Int.{bit_at}
-use Rattle.std.specs.Int.Count.{ones}
-use Rattle.rds_code.specs.Remainder.{rem}
-use Rattle.rds_code.specs.Bursts.{IsBurst, burst_length}
-use Rattle.rds_code.specs.Outcomes.{burst_outcome}
-use Rattle.rds_code.specs.declared.reading.Wanted.{Wanted}
-use Rattle.rds_code.specs.declared.reading.Wanted.TheVariants.{OnlyC, OnlyCx, Either}
+use Rattle.std.specs.{Prelude.◌≡◌, Prelude.ℕ, Prelude.zero, Prelude.suc, Prelude.◌/◌, Prelude.◌%◌, Prelude.◌<◌, Prelude.◌⊎◌, Prelude.List, Prelude.length, Prelude.slice_index, Int.bit_at, Int.Count.ones}
+use Rattle.rds_code.specs.{Remainder.rem, Bursts.IsBurst, Bursts.burst_length, Outcomes.burst_outcome, declared.reading.Wanted.Wanted, declared.reading.Wanted.TheVariants.OnlyC, declared.reading.Wanted.TheVariants.OnlyCx, declared.reading.Wanted.TheVariants.Either}
 
 -- no burst within the limit has the remainder d
 abbrev pub HasNoBurst : ℕ → ℕ → Type 0

@@ -1,6 +1,5 @@
 -- The first valid window in the rest of the zero group, and the rest after it.
-use Rattle.std.specs.Prelude.{◌≡◌, ℕ, ◌+◌, ◌-◌, List, Option, Some, None, map, get_or, is_some, refl}
-use Rattle.std.{specs.List.range_with_len, proofs.Common.◌∙◌, proofs.Common.ap, proofs.Common.arith, proofs.Common.sym, proofs.Common.true≢false, proofs.lemmas.List.FromFn.get_or-map-range_with_len}
+use Rattle.std.{specs.Prelude.◌≡◌, specs.Prelude.ℕ, specs.Prelude.◌+◌, specs.Prelude.◌-◌, specs.Prelude.List, specs.Prelude.Option, specs.Prelude.Some, specs.Prelude.None, specs.Prelude.map, specs.Prelude.get_or, specs.Prelude.is_some, specs.Prelude.refl, specs.List.range_with_len, proofs.Common.◌∙◌, proofs.Common.ap, proofs.Common.arith, proofs.Common.sym, proofs.Common.true≢false, proofs.lemmas.List.FromFn.get_or-map-range_with_len}
 use Rattle.rds_code.specs.{declared.offset.Offset.Offset, declared.offset.Offset.TheVariants.B, declared.offset.Offset.TheVariants.D, Remainder.rem}
 use Rattle.rds_stream.specs.{Recording.window, Recording.touched, Recording.heard, Recording.offset_at, ValidWindows.WindowsLeft, ValidWindows.GivesFirst, ValidWindows.NoneValid, Examples.ZeroGroup.once}
 

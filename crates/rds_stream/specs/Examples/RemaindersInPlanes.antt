@@ -1,6 +1,5 @@
 -- The remainders of the windows of the zero group at the places 25 to 88, as ten planes.
-use Rattle.std.specs.Prelude.{◌≡◌, ◌-◌, ◌<◌, ◌==◌, List, [], ◌∷◌, ℕ, get_or, map, refl, slice_index}
-use Rattle.std.{specs.List.range_with_len, specs.Int.bit_at, specs.Int.Digits.number_from_digits, proofs.Common.◌∙◌, proofs.Common.ap, proofs.Common.sym, proofs.Math.Nat.zero-add, proofs.lemmas.Bool.false≢true, proofs.lemmas.Bool.le-leb, proofs.lemmas.Bool.leb-true, proofs.lemmas.List.FromFn.get_or-map-range_with_len}
+use Rattle.std.{specs.Prelude.◌≡◌, specs.Prelude.◌-◌, specs.Prelude.◌<◌, specs.Prelude.◌==◌, specs.Prelude.List, specs.Prelude.[], specs.Prelude.◌∷◌, specs.Prelude.ℕ, specs.Prelude.get_or, specs.Prelude.map, specs.Prelude.refl, specs.Prelude.slice_index, specs.List.range_with_len, specs.Int.bit_at, specs.Int.Digits.number_from_digits, proofs.Common.◌∙◌, proofs.Common.ap, proofs.Common.sym, proofs.Math.Nat.zero-add, proofs.lemmas.Bool.false≢true, proofs.lemmas.Bool.le-leb, proofs.lemmas.Bool.leb-true, proofs.lemmas.List.FromFn.get_or-map-range_with_len}
 use Rattle.rds_code.specs.Remainder.{rem}
 use Rattle.rds_stream.specs.{Recording.window, Planes.Hold, Inside.Lanes.IsWindowAt, Examples.ZeroGroup.once}
 

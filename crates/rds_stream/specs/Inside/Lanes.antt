@@ -1,7 +1,6 @@
 -- Vectors of two lanes, whose bits are consecutive places. `planes` and the words of valid places are made in
 -- them, and no caller sees it.
-use Rattle.std.specs.Prelude.{◌≡◌, ℕ, ◌+◌, ◌-◌, ◌^◌, ◌<◌, List, [], length, slice_index, slice_index_or}
-use Rattle.std.specs.Int.{bit_at}
+use Rattle.std.specs.{Prelude.◌≡◌, Prelude.ℕ, Prelude.◌+◌, Prelude.◌-◌, Prelude.◌^◌, Prelude.◌<◌, Prelude.List, Prelude.[], Prelude.length, Prelude.slice_index, Prelude.slice_index_or, Int.bit_at}
 
 -- the vector has two lanes, and lane j is f j
 pub record HasLanes (v : List ℕ) (f : ℕ → ℕ) : Type 0 where

@@ -1,7 +1,6 @@
 -- Words of valid places: which of up to 64 places in a row are valid. `ValidWindows` uses them, and no caller
 -- sees it.
-use Rattle.std.specs.Prelude.{◌≡◌, ℕ, ◌+◌, ◌<◌, ◌≤◌, ◌↔◌, IsSome}
-use Rattle.std.specs.Int.{bit_at}
+use Rattle.std.specs.{Prelude.◌≡◌, Prelude.ℕ, Prelude.◌+◌, Prelude.◌<◌, Prelude.◌≤◌, Prelude.◌↔◌, Prelude.IsSome, Int.bit_at}
 use Rattle.rds_stream.specs.Recording.{Signal, offset_at}
 
 -- bit k of the word tells whether place `next` + k has an offset, for the places before `ahead`, which are 64 at most

@@ -1,6 +1,5 @@
 use Rattle.rds_code.proofs.Names.{common_steps, ◌≡◌, ℕ, List, ◌<◌, arith, length, set, get_or-set_same, get_or-set_other, rem, IsBurst, HasBurst}
-use Rattle.rds_code.proofs.BurstLemmas.{burst_is_one}
-use Rattle.rds_code.proofs.RemainderLemmas.{rem-lt}
+use Rattle.rds_code.proofs.{BurstLemmas.burst_is_one, RemainderLemmas.rem-lt}
 use Rattle.rds_code.proofs.burst_table.enter.Goals as goal
 
 -- a burst that stood in the table still does: where the new one takes its place, they are one

@@ -1,7 +1,6 @@
 use Rattle.rds_code.proofs.Names.{common_steps, ◌≡◌, ℕ, ◌+◌, ◌*◌, ◌%◌, ◌^◌, ◌<◌, sym, subst, arith, pow_mono, List, mul-le-mul_right, below_more, IsBurst, IsSound, HasBurst}
-use Rattle.rds_code.proofs.BurstLemmas.{pattern_is_burst}
+use Rattle.rds_code.proofs.{BurstLemmas.pattern_is_burst, burst_table.enter_shifts.Goals.then-burst, burst_table.enter_shifts.Goals.else-burst}
 use Rattle.rds_code.proofs.burst_table.enter_shifts.Goals as goal
-use Rattle.rds_code.proofs.burst_table.enter_shifts.Goals.{then-burst, else-burst}
 
 -- so short a pattern loses nothing by a shift
 whole : (m t : ℕ) → m < 32 → t < 26 → m * 2 ^ t % 2 ^ 32 ≡ m * 2 ^ t

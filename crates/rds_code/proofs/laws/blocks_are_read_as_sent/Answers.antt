@@ -1,5 +1,4 @@
-use Rattle.rds_code.proofs.LawLemmas.{has_one_block}
-use Rattle.rds_code.proofs.CorrectionLemmas.{reads_as_sent}
+use Rattle.rds_code.proofs.{LawLemmas.has_one_block, CorrectionLemmas.reads_as_sent}
 use Rattle.rds_code.proofs.laws.blocks_are_read_as_sent.Goals as goal
 
 pub returns-clause-one : goal.returns-clause-one

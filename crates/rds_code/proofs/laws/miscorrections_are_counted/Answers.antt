@@ -1,5 +1,4 @@
-use Rattle.rds_code.proofs.ErrorMasks.{lists_all_error_masks}
-use Rattle.rds_code.proofs.MiscorrectionLemmas.{counts_all_miscorrections}
+use Rattle.rds_code.proofs.{ErrorMasks.lists_all_error_masks, MiscorrectionLemmas.counts_all_miscorrections}
 use Rattle.rds_code.proofs.laws.miscorrections_are_counted.Goals as goal
 
 pub returns-clause-masks : goal.returns-clause-masks

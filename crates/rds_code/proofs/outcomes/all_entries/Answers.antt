@@ -1,6 +1,6 @@
 use Rattle.rds_code.proofs.Names.{ℕ, List, sym, subst, arith, StandIn}
-use Rattle.std.specs.Vec.{vec_items}
 use Rattle.rds_code.proofs.OutcomeLemmas.{one_more}
+use Rattle.std.specs.Vec.{vec_items}
 use Rattle.rds_code.proofs.outcomes.all_entries.Goals as goal
 
 pub loop-remainder-preserved : goal.loop-remainder-preserved

@@ -1,8 +1,7 @@
 use Rattle.std.proofs.Common.{zero-mul, one-mul}
 use Rattle.rds_code.proofs.Names.{common_steps, ◌≡◌, ℕ, suc, ◌+◌, ◌-◌, ◌*◌, ◌%◌, ◌^◌, ◌<◌, ◌≤◌, ◌∙◌, ap, sym, arith, bit_xor, pow_mono, bit_at, xor_comm, shr_and_one, bit_at-lt, xor_zero_l, reduce, rem, generator}
-use Rattle.rds_code.proofs.RemainderLemmas.{rem-is, rem-lt, reduce-suc, reduce-all, reduce-none}
+use Rattle.rds_code.proofs.{RemainderLemmas.rem-is, RemainderLemmas.rem-lt, RemainderLemmas.reduce-suc, RemainderLemmas.reduce-all, RemainderLemmas.reduce-none, plain.rem26.Goals.then-left-shift-eq1, plain.rem26.Goals.else-left-shift-eq1}
 use Rattle.rds_code.proofs.plain.rem26.Goals as goal
-use Rattle.rds_code.proofs.plain.rem26.Goals.{then-left-shift-eq1, else-left-shift-eq1}
 
 -- a turn of the loop takes off the copy of the generator that clears its place
 turn : (done left w : ℕ) → done < 16 → reduce (16 - done) left ≡ rem w → reduce (16 - (done + 1)) (bit_xor (bit_at left (15 - done + 10) * (generator * 2 ^ (15 - done))) left) ≡ rem w

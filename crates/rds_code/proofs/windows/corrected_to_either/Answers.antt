@@ -1,7 +1,6 @@
 use Rattle.rds_code.proofs.Names.{common_steps, arith, ◌≡◌, ℕ, List, [], ◌∷◌, ◌++◌, ◌∙◌, Option, Some, None, map, ap, sym, subst, Offset, C, Cx, by_only, corrections}
-use Rattle.rds_code.proofs.ReadingLemmas.{asked-lt, TableSays, table_says, corrections_two, fitting}
+use Rattle.rds_code.proofs.{ReadingLemmas.asked-lt, ReadingLemmas.TableSays, ReadingLemmas.table_says, ReadingLemmas.corrections_two, ReadingLemmas.fitting, windows.corrected_to_either.Goals.After-find-version_b}
 use Rattle.rds_code.proofs.windows.corrected_to_either.Goals as goal
-use Rattle.rds_code.proofs.windows.corrected_to_either.Goals.{After-find-version_b}
 
 pub find-version_a-requires : goal.find-version_a-requires
 find-version_a-requires c = asked-lt c.args.w c.args.remainder c.word.result C c.requires.block c.requires.of_window c.word.ensures

@@ -1,6 +1,5 @@
 use Rattle.rds_code.proofs.Names.{◌≡◌, ℕ, ◌≤◌, ◌∙◌, bit_xor, [], ◌∷◌, refl, sym, ap, subst, arith, Offset, A, B, C, Cx, D, Wanted, IsOutcome, outcome_number, number, word, reading, wanted_offsets, rem}
-use Rattle.rds_code.proofs.OutcomeLemmas.{by_single}
-use Rattle.rds_code.proofs.ReadingLemmas.{only_A, only_B, only_D, wanted_1, wanted_2, wanted_4}
+use Rattle.rds_code.proofs.{OutcomeLemmas.by_single, ReadingLemmas.only_A, ReadingLemmas.only_B, ReadingLemmas.only_D, ReadingLemmas.wanted_1, ReadingLemmas.wanted_2, ReadingLemmas.wanted_4}
 use Rattle.rds_code.proofs.outcomes.Outcomes.of_block.Goals as goal
 
 -- the outcome with the offset of a window whose remainder is r

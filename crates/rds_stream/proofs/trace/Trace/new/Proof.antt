@@ -4,8 +4,7 @@ use seplogic.Ra.Ura.{Ura}
 use mir.Val.{Val, vstruct, vcons, vnil}
 use base.Logic.{SProp}
 use prog.{Memory.Memory, Routine.Routine, Wp.WpFn, Wp.Tables}
-use types.Kit.{raw, ◌$◌, ◌∵◌, !, qed, keep, join, suffices, done}
-use types.{Logic.Logic, Run.no_more, Run.and_then, Run.returns, Run.enter, Part.agg, ByLocal.alloc_all, ByLocal.pass_all, ByLocal.free_all, ByLocal.look_at, ByLocal.get, ByLocal.sets}
+use types.{Kit.raw, Kit.◌$◌, Kit.◌∵◌, Kit.!, Kit.qed, Kit.keep, Kit.join, Kit.suffices, Kit.done, Logic.Logic, Run.no_more, Run.and_then, Run.returns, Run.enter, Part.agg, ByLocal.alloc_all, ByLocal.pass_all, ByLocal.free_all, ByLocal.look_at, ByLocal.get, ByLocal.sets}
 use contract.{Monad.Fun, Running.tables, Running.tables_of}
 use sound.WpLaws.{WpFn-mono}
 use denote.{Shadow.pure_i, Steps.nothing, Triple.Entry.on_entry, Triple.Spec.Meets, Triple.Spec.triple_of, Triple.Table.entered, Triple.Walked.says, Triple.Walked.ends_at, Triple.Walked.walked, Triple.Walked.walk_Meets}

@@ -2,15 +2,13 @@
 use Rattle.std.proofs.Common.{ℕ, List, [], ◌∷◌, ◌++◌, refl, MutBor, ◌<◌, ◌^◌, length}
 use seplogic.Ra.Ura.{Ura}
 use mir.{Syntax.named, Val.Val, Val.vunit, Val.vptr}
-use base.Logic.{SProp, ent, sep, emp, via, fst∗, id⊢}
-use base.Fml.{GName, Lft, Share, ftrue, flft, fobs, fbor}
+use base.{Logic.SProp, Logic.ent, Logic.sep, Logic.emp, Logic.via, Logic.fst∗, Logic.id⊢, Fml.GName, Fml.Lft, Fml.Share, Fml.ftrue, Fml.flft, Fml.fobs, Fml.fbor}
 use prog.{Memory.Memory, Routine.Routine, Wp.Calls, Wp.Loops, Wp.WpFn, Wp.Tables}
 use types.Kit.{‵, ◌⊛◌, ◌$◌, ◌∵◌, !, qed, by, move, keep, drop, use1, split, join, fsplit, fsplit3, fjoin, fjoin3, feq_i, suffices, frame, done}
 use types.{Logic.Logic, Run.unit_lit, Run.of_opd, Run.returns, Run.enter, SemTy.Body, ByLocal.alloc_all, ByLocal.pass_all, ByLocal.free_all, ByLocal.look_at, ByLocal.sets}
 use contract.{Monad.Fun, Running.tables, Running.tables_of}
 use sound.WpLaws.{WpFn-mono}
-use denote.Triple.Walked.{says, Stays, stay_ref, walk_of, AllGo, Goes-ref, Walks, ends_at, walked, walk_Meets, stay_none_slice, Goes-none_slice}
-use denote.{RattleType.owns, Memory.mem, Ref.MutRef, Ref.mut_vals, Ref.mut_Tells, Ref.Bor, Signature.plain, Steps.opens, Steps.closes, Triple.Entry.on_entry, Triple.Spec.Meets, Triple.Spec.triple_of, Triple.Table.entered, Builtin.u8, Exit.yes, Slice.ShrSlice, Slice.slice_val, Slice.shr_slice_vals, Slice.shr_slice_Tells}
+use denote.{Triple.Walked.says, Triple.Walked.Stays, Triple.Walked.stay_ref, Triple.Walked.walk_of, Triple.Walked.AllGo, Triple.Walked.Goes-ref, Triple.Walked.Walks, Triple.Walked.ends_at, Triple.Walked.walked, Triple.Walked.walk_Meets, Triple.Walked.stay_none_slice, Triple.Walked.Goes-none_slice, RattleType.owns, Memory.mem, Ref.MutRef, Ref.mut_vals, Ref.mut_Tells, Ref.Bor, Signature.plain, Steps.opens, Steps.closes, Triple.Entry.on_entry, Triple.Spec.Meets, Triple.Spec.triple_of, Triple.Table.entered, Builtin.u8, Exit.yes, Slice.ShrSlice, Slice.slice_val, Slice.shr_slice_vals, Slice.shr_slice_Tells}
 use Rattle.rds_stream.specs.{declared.trace.Trace.Trace, contracts.trace.Trace.note.Key.name as #it}
 use Rattle.rds_stream.specs.contracts.trace.Trace as T
 use Rattle.rds_stream.specs.contracts.trace.Trace.note as it

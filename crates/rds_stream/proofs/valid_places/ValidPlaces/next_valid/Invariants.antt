@@ -1,5 +1,4 @@
-use Rattle.rds_stream.proofs.Names.{◌≤◌, ◌<◌, ◌-◌, ℕ, Signal, IsSection, NoneValid, TellsValidPlaces}
-use Rattle.rds_stream.specs.declared.{valid_places.ValidPlaces.ValidPlaces, gaps.Section.Section}
+use Rattle.rds_stream.proofs.Names.{◌≤◌, ◌<◌, ◌-◌, ℕ, Signal, IsSection, NoneValid, TellsValidPlaces, ValidPlaces, Section}
 use Rattle.rds_stream.proofs.valid_places.ValidPlaces.next_valid.Given as goal
 
 -- no place from `from` to the first of these has an offset, and the known section is one

@@ -1,6 +1,5 @@
 use Rattle.rds_stream.proofs.Names.{common_steps, ◌≡◌, ◌+◌, ℕ, Option, Some, None, IsSome, refl, sym, ◌∙◌, subst, arith, Offset, offset_of, rem, Signal, offset_at, window, WindowsLeft, GivesFirst}
-use Rattle.rds_stream.proofs.ValidPlaceLemmas.{never_some, none_ahead, none_below, join_none, one_valid, places_behind, valid_late}
-use Rattle.rds_stream.proofs.WindowLists.{off_stored}
+use Rattle.rds_stream.proofs.{ValidPlaceLemmas.never_some, ValidPlaceLemmas.none_ahead, ValidPlaceLemmas.none_below, ValidPlaceLemmas.join_none, ValidPlaceLemmas.one_valid, ValidPlaceLemmas.places_behind, ValidPlaceLemmas.valid_late, WindowLists.off_stored}
 use Rattle.rds_stream.proofs.valid_windows.ValidWindowsIterator.next.Goals as goal
 
 pub returns-then-places-eq0-clause-steps : goal.returns-then-places-eq0-clause-steps
@@ -23,12 +22,7 @@ has_stored : (b : Signal) (place : ℕ) (found : Option Offset) → IsSome (offs
 has_stored b place found valid is none = never_some b place (off_stored b place valid ∙ sym is ∙ none) valid
 
 pub invariant_of-self-in_err-offset : goal.invariant_of-self-in_err-offset
-invariant_of-self-in_err-offset c =
-    let b = c.self.inside.recording.now in
-    let places = c.next_valid-places.result in
-    let bit = c.lowest-bit.result in
-    let valid = (one_valid b places.next places.ahead places.word bit c.next_valid-places.ensures.places c.lowest-bit.ensures.set).1 in
-    absurd (has_stored b (places.next + bit) c.stored_offset.result valid c.stored_offset.ensures c.in_err-offset.was)
+invariant_of-self-in_err-offset c = grind (arith, common_steps, one_valid, has_stored)
 
 pub returns-in_err-offset-clause-steps : goal.returns-in_err-offset-clause-steps
 returns-in_err-offset-clause-steps c =
@@ -39,15 +33,7 @@ returns-in_err-offset-clause-steps c =
     absurd (has_stored b (places.next + bit) c.stored_offset.result valid c.stored_offset.ensures c.in_err-offset.was)
 
 pub invariant_of-self-2 : goal.invariant_of-self-2
-invariant_of-self-2 c =
-    let found = c.next_valid-places in
-    let places = found.result in (
-      places_behind c.self.inside.recording.now places.next places.ahead places.word c.lowest-bit.result c.above.result found.ensures.places c.lowest-bit.ensures.set c.above.ensures,
-      found.ensures.first,
-      found.ensures.forward.1,
-      c.self.invariant.3,
-      found.ensures.section,
-    )
+invariant_of-self-2 c = grind (arith, common_steps, places_behind)
 
 pub returns-clause-steps : goal.returns-clause-steps
 returns-clause-steps c =
