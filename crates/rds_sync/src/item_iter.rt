@@ -45,6 +45,7 @@ impl<'a> Model for ItemIter<'a> {
 
 impl<'a> ItemIter<'a> {
     /// `count` items of these spans, starting at item `first`.
+    #[tactic(auto, using(crate::proofs::Lemmas::items_passed))]
     pub(crate) fn over(
         recording: &'a Recording,
         rules: &'a Rules,
@@ -73,6 +74,7 @@ impl<'a> ItemIter<'a> {
 
     /// Takes the items that come next in place of those of `part`: as many as there is room for in it, or all that are
     /// left. It takes no memory.
+    #[tactic(auto, using(crate::proofs::Lemmas::part_filled))]
     pub fn fill(&mut self, part: &mut Vec<Item>)
         ensures items { self.old ≡ part.new.items ++ self.new }
         ensures full { (self.new ≡ []) ⊎ (length part.new.items ≡ vec_capacity part.new) }
@@ -150,6 +152,7 @@ fn next_in<'a>(
 }
 
 /// The items of the run from `state` over the places from `from` to before `to`, except the first `passed`.
+#[tactic(auto, using(crate::proofs::Lemmas::decoder_past))]
 fn decoder_past<'a>(
     recording: &'a Recording,
     rules: &'a Rules,
