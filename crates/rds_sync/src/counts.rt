@@ -54,7 +54,6 @@ impl Counts {
     }
 
     /// The counts of these items.
-    #[tactic(auto, using(crate::proofs::Lemmas::counts_of))]
     pub fn of(items: &[Item]) -> Counts
         requires { length items.now ≤ 3004 }
         ensures { result ≡ count_of items.now }

@@ -45,7 +45,6 @@ impl<'a> Model for ItemIter<'a> {
 
 impl<'a> ItemIter<'a> {
     /// `count` items of these spans, starting at item `first`.
-    #[tactic(auto, using(crate::proofs::Lemmas::items_passed))]
     pub(crate) fn over(
         recording: &'a Recording,
         rules: &'a Rules,
@@ -152,7 +151,6 @@ fn next_in<'a>(
 }
 
 /// The items of the run from `state` over the places from `from` to before `to`, except the first `passed`.
-#[tactic(auto, using(crate::proofs::Lemmas::decoder_past))]
 fn decoder_past<'a>(
     recording: &'a Recording,
     rules: &'a Rules,

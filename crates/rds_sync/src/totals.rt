@@ -56,7 +56,6 @@ impl Totals {
     }
 
     /// The totals of these items, of which there are at most 2^40.
-    #[tactic(auto, using(crate::proofs::Lemmas::totals_added))]
     pub fn of(items: &[Item]) -> Totals
         requires { length items.now ≤ 2 ^ 40 }
         ensures value { result ≡ totals_of items.now }
