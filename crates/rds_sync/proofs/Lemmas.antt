@@ -13,16 +13,29 @@ pub use Rattle.rds_sync.proofs.WholeGroupLemmas.{clean_kept, good-in, kept-over,
 pub use Rattle.rds_sync.proofs.WordLemmas.{bad-there, burst-short, outcomes-are, short-counts, short-run, two-are, word-of-four, word-tells}
 
 pub ruleset nibble = (common_steps, outcome_of, corrected, burst_length, count_ones, rules, burst-short)
+
 pub ruleset tally_report = (common_steps, length-append, run, plus, totals_of, IsAtMost-more)
+
 pub ruleset push_past = (common_steps, behind-past)
+
 pub ruleset item_got = (common_steps, range_first, range_past)
+
 pub ruleset part_filled = (common_steps, items_in, rules, part_taken, take)
+
 pub ruleset bad_after_four = (common_steps, clean_kept)
+
 pub ruleset follow = (common_steps, step-due, given-due, followed-due)
+
 pub ruleset is_partner_in = (common_steps, lt-leb, has_partner-early)
+
 pub ruleset partners = (common_steps, any-later, has_partner)
+
 pub ruleset acquired_items = (common_steps, completed_group)
+
 pub ruleset push_groups = (common_steps, rules, groups-items, groups-end, left_of)
+
 pub ruleset offset_there = (common_steps, off-early, off-heard, offset_heard)
+
 pub ruleset blocks_heard = (common_steps, heard-blocks)
+
 pub ruleset group_so_far = (common_steps, group_of)

@@ -211,7 +211,7 @@ module _ (laws : CodeLaws) (b : Signal) (rules : RuleNumbers) (few : rules.burst
       let are : bs ≡ block_sent A (get_or words 0 0) e0 ∷ block_sent B w1 e1 ∷ block_sent (third_offset w1) (get_or words 2 0) e2 ∷ block_sent D (get_or words 3 0) e3 ∷ [] =
       ap (λ (g : GroupOf). g.blocks) own in
       let good : (y : ℕ) (o : Offset) (info e : ℕ) → get_or (block_sent A (get_or words 0 0) e0 ∷ block_sent B w1 e1 ∷ block_sent (third_offset w1) (get_or words 2 0) e2 ∷ block_sent D (get_or words 3 0) e3 ∷ []) (y - 1) Missing ≡ block_sent o info e
-          → (before : ℕ) → After e before ≡ bad_after rules.loss (good_at (map outcome_of bs) y) before =
+      → (before : ℕ) → After e before ≡ bad_after rules.loss (good_at (map outcome_of bs) y) before =
       λ y o info e is before. ap (λ (t : Bool). bad_after rules.loss t before) (sym (good_sent o info e) ∙ good-in are y _ is) in
       let first = good 1 _ _ e0 refl bad in
       let second = good 2 _ _ e1 refl one in
