@@ -1,10 +1,140 @@
--- Any two runs meet on a sound.
-use Rattle.rds_sync.proofs.Names.{common_steps, ◌≡◌, ◌≢◌, ℕ, zero, suc, ◌+◌, ◌-◌, ◌*◌, ◌%◌, ◌/◌, ◌<◌, ◌≤◌, Bool, true, false, Option, Some, None, refl, ap, ap₂, ◌∙◌, arith, add-zero, zero-add, inl, inr, ⊎_elim, cond, suc-add, mul-le-mul_right, cases_Bool, cases_eq, cases_lt, eqb-true, sum_by-cons, ◌==◌, is_some, count_by, number_after, Signal, offset_at, Lock, State, Searching, Locked, RuleNumbers, IsLossRule, IsLawfulBad, bad_after, are_too_many, IsLawful, Offset, number, acquired, has_number, with_partner, run, step, history_after_block, lock_of, lock_after, IsSound, IsLastFour, sound_blocks, SoundRangesHaveFours, RunsConverge}
-use Rattle.rds_sync.proofs.LossLemmas.{lawful_none, lawful_kept}
-use Rattle.rds_sync.proofs.BadRows.{good_keeps, needed, memory, needed_is, memory_is, HasRow, row_zero, row_short, row_grows, IsClean, clean_zero, clean_none, clean_more, clean_is}
-use Rattle.rds_sync.proofs.RivalLemmas.{every_26, few_in_phase}
+-- Bad blocks in a row, and good ones in a row, by the loss history: for both rules of loss.
+use Rattle.rds_sync.proofs.Names.{common_steps, ◌≡◌, ℕ, zero, suc, ◌+◌, ◌*◌, ◌%◌, ◌/◌, ◌^◌, ◌<◌, ◌≤◌, true, false, refl, ap, ◌∙◌, subst, arith, pow-suc, mul-le-mul_right, pow_pos, lt-leb, ones_step, count_ones, ⊤, Loss, Run, Share, IsLossRule, IsLawfulBad, bad_after, are_too_many, sound_blocks, ◌≢◌, [], ◌∷◌, List, Bool, length, get_or, is_some, count_by, All-filter, filter_passes, length-filter, Signal, offset_at, RuleNumbers, IsSound, IsRival, All, filter, ◌-◌, Option, Some, None, ap₂, add-zero, zero-add, inl, inr, ⊎_elim, cond, suc-add, cases_Bool, cases_eq, cases_lt, eqb-true, sum_by-cons, ◌==◌, number_after, Lock, State, Searching, Locked, IsLawful, Offset, number, acquired, has_number, with_partner, run, step, history_after_block, lock_of, lock_after, IsLastFour, SoundRangesHaveFours, RunsConverge}
+use Rattle.rds_sync.proofs.LossLemmas.{double, ones_below, ones_zero, lawful_none, lawful_kept}
+use Rattle.std.specs.List.Sorted.{IsStrictlyIncreasing}
+use Rattle.std.proofs.lemmas.List.Kept.{IsStrictlyIncreasing-filter}
 use Rattle.rds_sync.proofs.RunLemmas.{step-waiting, step-keeping, step-losing, step-searching, step-acquiring}
 
+-- the lowest j digits of m are all f
+abbrev pub Lows : ℕ → ℕ → ℕ → Type 0
+Lows f zero m = ⊤
+Lows f (suc j) m = (m % 2 ≡ f) × Lows f j (m / 2)
+
+lows_below : (f j v m : ℕ) → j ≤ v → Lows f j m → Lows f j (m % 2 ^ v)
+lows_below f zero v m h l = tt
+lows_below f (suc j) zero m h l = absurd (omega arith)
+lows_below f (suc j) (suc v) m h l = grind (arith, common_steps, lows_below f j v (m / 2) (omega arith) l.1, pow-suc, pow_pos, double)
+
+lows_more : (f j v m : ℕ) → f ≤ 1 → suc j ≤ v → Lows f j m → Lows f (suc j) ((2 * m + f) % 2 ^ v)
+lows_more f j v m small h l = grind (arith, common_steps, lows_below, lows_below f (suc j) v (2 * m + f) h (omega arith, subst (λ (n : ℕ). Lows f j n) (omega arith) l))
+
+lows_ones : (j m : ℕ) → Lows 1 j m → j ≤ count_ones m
+lows_ones zero m l = omega arith
+lows_ones (suc j) m l = let s : count_ones m ≡ m % 2 + count_ones (m / 2) = ones_step m in omega (arith, s, l.0, lows_ones j (m / 2) l.1)
+
+lows_none : (v m : ℕ) → m < 2 ^ v → Lows 0 v m → m ≡ 0
+lows_none zero m h l = omega (arith, h)
+lows_none (suc v) m h l =
+    let power : 2 ^ suc v ≡ 2 * 2 ^ v = omega (arith, pow-suc 2 v) in
+    let half : m / 2 ≡ 0 = lows_none v (m / 2) (omega (arith, h, power)) l.1 in
+    omega (arith, half, l.0)
+
+lows_zero : (i : ℕ) → Lows 0 i 0
+lows_zero zero = tt
+lows_zero (suc i) = (refl, lows_zero i)
+
+-- a remainder has no more ones
+ones_fewer : (v m : ℕ) → count_ones (m % 2 ^ v) ≤ count_ones m
+ones_fewer zero m = let none : m % 1 ≡ 0 = omega arith in let e : count_ones (m % 1) ≡ 0 = ap count_ones none ∙ ones_zero in omega (arith, e)
+ones_fewer (suc v) m = grind (arith, common_steps, count_ones, ones_step, ones_below, ones_fewer v (m / 2), pow-suc, pow_pos, double)
+
+-- a good block loses no lock
+pub good_keeps : (loss : Loss) (bad : ℕ) → IsLawfulBad loss bad → are_too_many loss (bad_after loss true bad) ≡ false
+good_keeps loss bad h = grind (arith, common_steps, lt-leb, count_ones, ones_below, ones_fewer)
+
+-- how many bad blocks lose a lock, and how many good ones leave nothing of the bad ones
+abbrev pub needed : Loss → ℕ
+needed (Run n) = n
+needed (Share n v) = n
+
+abbrev pub memory : Loss → ℕ
+memory (Run n) = 1
+memory (Share n v) = v
+
+pub needed_is : (loss : Loss) (j : ℕ) → (j + 1) * needed loss + 6 ≤ sound_blocks loss j
+needed_is loss j = grind (arith, common_steps)
+
+pub memory_is : (loss : Loss) (j : ℕ) → IsLossRule loss → memory loss + 6 ≤ sound_blocks loss j
+memory_is loss j h = grind (arith, common_steps, mul-le-mul_right)
+
+-- at least the last r blocks were bad
+abbrev pub HasRow : Loss → ℕ → ℕ → Type 0
+HasRow (Run n) row r = r ≤ row
+HasRow (Share n v) m r = Lows 1 r m
+
+pub row_zero : (loss : Loss) (bad : ℕ) → HasRow loss bad 0
+row_zero loss bad = grind (arith, common_steps)
+
+pub row_short : (loss : Loss) (bad r : ℕ) → IsLawfulBad loss bad → HasRow loss bad r → r < needed loss
+row_short loss bad r h l = grind (arith, common_steps, lows_ones)
+
+pub row_grows : (loss : Loss) (bad r : ℕ) → IsLossRule loss → IsLawfulBad loss bad → HasRow loss bad r → HasRow loss (bad_after loss false bad) (suc r)
+row_grows loss bad r some h l = grind (arith, common_steps, row_short, lows_more)
+
+-- at least the last r blocks were good
+abbrev pub IsClean : Loss → ℕ → ℕ → Type 0
+IsClean (Run n) row r = 1 ≤ r → row ≡ 0
+IsClean (Share n v) m r = (i : ℕ) → i ≤ r → i ≤ v → Lows 0 i m
+
+pub clean_zero : (loss : Loss) (bad : ℕ) → IsClean loss bad 0
+clean_zero loss bad = grind (arith, common_steps)
+
+pub clean_none : (loss : Loss) (r : ℕ) → IsClean loss 0 r
+clean_none loss r = grind (arith, common_steps, lows_zero)
+
+shift_clean : (v m r : ℕ) → ((i : ℕ) → i ≤ r → i ≤ v → Lows 0 i m) → (i : ℕ) → i ≤ suc r → i ≤ v → Lows 0 i ((2 * m + 0) % 2 ^ v)
+shift_clean v m r clean i l u = grind (arith, common_steps, lows_more)
+
+pub clean_more : (loss : Loss) (bad r : ℕ) → IsClean loss bad r → IsClean loss (bad_after loss true bad) (suc r)
+clean_more (Run n) row r c = λ h. refl
+clean_more (Share n v) m r c = shift_clean v m r c
+
+pub clean_is : (loss : Loss) (bad r : ℕ) → IsLawfulBad loss bad → memory loss ≤ r → IsClean loss bad r → bad ≡ 0
+clean_is loss bad r h some c = grind (arith, common_steps, lows_none)
+
+-- How many places of one phase of a sound range have an offset.
+
+-- n places, each 26 after the one before, from the first on
+abbrev pub every_26 : ℕ → ℕ → List ℕ
+every_26 first zero = []
+every_26 first (suc n) = first ∷ every_26 (first + 26) n
+
+length_every_26 : (first n : ℕ) → length (every_26 first n) ≡ n
+length_every_26 first zero = refl
+length_every_26 first (suc n) = ap suc (length_every_26 (first + 26) n)
+
+nth_every_26 : (first n i d : ℕ) → i < n → get_or (every_26 first n) i d ≡ first + 26 * i
+nth_every_26 first zero i d h = absurd (omega arith)
+nth_every_26 first (suc n) zero d h = omega arith
+nth_every_26 first (suc n) (suc i) d h = grind (arith, common_steps, nth_every_26 (first + 26) n i d (omega arith))
+
+every_26_rises : (first n : ℕ) → IsStrictlyIncreasing (every_26 first n)
+every_26_rises first n k h = grind (arith, common_steps, length_every_26, nth_every_26)
+
+module _ (b : Signal) (rules : RuleNumbers) (j s p c : ℕ) (sound : IsSound b rules j s p c) where
+  -- no more places of another phase than the sequence's have an offset than rivals share one
+  pub few_in_phase : (phase : ℕ) → s ≤ phase → phase < s + 26 → phase ≢ p
+      → count_by (λ r. is_some (offset_at b r)) (every_26 phase (sound_blocks rules.loss j)) ≤ j
+  few_in_phase phase low high other =
+      let n : ℕ = sound_blocks rules.loss j in
+      let places : List ℕ = every_26 phase n in
+      let valid : ℕ → Bool = λ r. is_some (offset_at b r) in
+      let f0 = sound.sequence.first in
+      let are : All (λ r. (s ≤ r) × (r < s + 26 * n) × ((k : ℕ) → r ≢ p + 26 * k) × (r % 26 ≡ phase % 26)) places =
+      λ i d h.
+      let within : i < n = omega (arith, h, length_every_26 phase n) in
+      let is : get_or places i d ≡ phase + 26 * i = nth_every_26 phase n i d within in
+      (omega (arith, is), omega (arith, is, within), λ k e. other (omega (arith, is, e, f0)), omega (arith, is)) in
+      let kept = All-filter valid (λ r. (s ≤ r) × (r < s + 26 * n) × ((k : ℕ) → r ≢ p + 26 * k) × (r % 26 ≡ phase % 26)) places are in
+      let pass = filter_passes valid places in
+      let rivals : All (λ r. IsRival b s (s + 26 * n) p r × (r % 26 ≡ phase % 26)) (filter valid places) =
+      λ i d h.
+      let one = kept i d h in
+      (record { inside = (one.0, one.1); valid = pass i d h; elsewhere = one.2 }, one.3) in
+      let most = sound.few (phase % 26) (filter valid places) (IsStrictlyIncreasing-filter valid places (every_26_rises phase n), rivals) in
+      omega (arith, most, length-filter valid places)
+
+-- Any two runs meet on a sound.
 module _ (b : Signal) (rules : RuleNumbers) where
   -- the state after the next bits from place a
   abbrev after : State → ℕ → ℕ → State

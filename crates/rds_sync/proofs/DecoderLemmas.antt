@@ -1,7 +1,6 @@
 -- A decoder: the items of the next stretch come before those of the rest.
-use Rattle.rds_sync.proofs.Names.{common_steps, ◌≡◌, ◌≢◌, ℕ, ◌+◌, ◌-◌, ◌<◌, List, [], ◌∷◌, ◌++◌, length, get_or, Option, Some, None, sym, ap, ◌∙◌, arith, ⊤, MakesProgress, YieldsFirst, item_count, Signal, Item, State, Locked, Step, DecoderOf, GivesNext, Lock, HasGiven, RuleNumbers, run, IsStretch}
-use Rattle.rds_sync.specs.Advance.{items_in}
-use Rattle.rds_sync.proofs.RunLemmas.{run-places}
+use Rattle.rds_sync.proofs.Names.{common_steps, ◌≡◌, ◌≢◌, ℕ, ◌+◌, ◌-◌, ◌<◌, List, [], ◌∷◌, ◌++◌, length, get_or, Option, Some, None, sym, ap, ◌∙◌, arith, ⊤, MakesProgress, YieldsFirst, item_count, Signal, Item, State, Locked, Step, DecoderOf, GivesNext, Lock, HasGiven, RuleNumbers, run, IsStretch, items_there as items_in}
+use Rattle.rds_sync.proofs.RunLemmas.{run_places}
 
 -- the items left before `place` in state s, after the one that is ready
 abbrev pub left_of : Signal → RuleNumbers → Option Item → State → ℕ → ℕ → DecoderOf
@@ -13,7 +12,7 @@ module _ (b : Signal) (rules : RuleNumbers) (s : State) (place to : ℕ) (step :
   rest = run b rules step.state step.place (to - step.place)
 
   onwards : run b rules s place (to - place) ≡ (rest.0, items_in step.items ++ rest.1)
-  onwards = grind (arith, common_steps, run-places, run)
+  onwards = grind (arith, common_steps, run_places, run)
 
   nothing_left : items_in step.items ≡ [] → rest.1 ≡ []
   nothing_left none = grind (arith, common_steps, run)
@@ -65,7 +64,7 @@ module _ (b read : Signal) (rules : RuleNumbers) (s : State) (place to : ℕ) (l
   passed = run b rules (Locked lock) (lock.due - 25) (now.due - lock.due)
 
   over : run b rules s place (to - place) ≡ (behind.0, passed.1 ++ behind.1)
-  over = grind (arith, common_steps, run, passed, run-places, run-places b rules s place (now.due - 25) to (omega (arith, place_is, far)) (given.limit far))
+  over = grind (arith, common_steps, run, passed, run_places, run_places b rules s place (now.due - 25) to (omega (arith, place_is, far)) (given.limit far))
 
   pub groups-items : before ++ old.items ≡ after ++ (left_of read rules None (Locked now) (now.due - 25) to).items
   groups-items = grind (arith, common_steps, over, run)

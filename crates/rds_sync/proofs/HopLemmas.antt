@@ -1,15 +1,8 @@
 -- A part of a run over a tape is a hop: bits that give nothing lead to no state between groups but the one that they began in.
-use Rattle.rds_sync.proofs.Names.{◌≡◌, ◌≢◌, ℕ, zero, suc, ◌+◌, ◌-◌, ◌*◌, ◌<◌, ◌≤◌, ◌⊎◌, List, [], ◌∷◌, ◌++◌, Option, Some, None, refl, sym, ap, ap₂, ◌∙◌, subst, arith, inl, inr, cases_eq, Signal, Lock, State, Searching, Locked, Item, acquired, mark, IsHop, IsLawful, IsLawfulLock, IsBetweenGroups, ItemsMarkChanges, IsLossRule, RuleNumbers, run, step, items_at}
-use Rattle.rds_sync.proofs.LawfulLemmas.{lawful-step}
-use Rattle.rds_sync.proofs.RunLemmas.{step-acquiring, step-searching, run-found, run-searching, run-places}
-
-none_first : {A : Type 0} → (xs ys : List A) → xs ++ ys ≡ [] → xs ≡ []
-none_first [] ys e = refl
-none_first (x ∷ xs) ys e = cc
-
-none_rest : {A : Type 0} → (xs ys : List A) → xs ++ ys ≡ [] → ys ≡ []
-none_rest [] ys e = e
-none_rest (x ∷ xs) ys e = cc
+use Rattle.rds_sync.proofs.Names.{◌≡◌, ◌≢◌, ℕ, zero, suc, ◌+◌, ◌-◌, ◌*◌, ◌<◌, ◌≤◌, ◌⊎◌, List, [], ◌++◌, Option, Some, None, refl, sym, ap, ap₂, ◌∙◌, subst, arith, inl, inr, cases_eq, Signal, Lock, State, Searching, Locked, Item, acquired, mark, IsHop, IsLawful, IsLawfulLock, IsBetweenGroups, ItemsMarkChanges, IsLossRule, RuleNumbers, run, step, items_at, common_steps, cases_lt, lt-ltb, le-ltb, Step, next_place, IsStretch, ◌^◌, length, append_assoc, append-nil, length-append, length_of, IsAtMost, IsCountStretch, CountOf, count_of, joined, IsTally, TallyOf, gone_on, StretchesAreSteps, HopsAreStretches}
+use Rattle.rds_sync.proofs.RunLemmas.{none-of, lawful_step, step-acquiring, step-searching, run-found, run_searching, run_places, run_waiting, run-further}
+use Rattle.rds_sync.proofs.TotalsLemmas.{counted-together}
+use Rattle.rds_sync.proofs.RunIsReport.{run_items_few}
 
 same_state : (s t : State) → (s ≡ t) ⊎ (s ≢ t)
 same_state Searching Searching = inl refl
@@ -36,21 +29,20 @@ module _ (changes : ItemsMarkChanges) (b : Signal) (rules : RuleNumbers) (some :
   between_same : (s : State) (a n : ℕ) → IsLawful rules a s → (run b rules s a n).1 ≡ [] → IsBetweenGroups (run b rules s a n).0 → (run b rules s a n).0 ≡ s
   between_same s a zero lawful none between = refl
   between_same s a (suc n) lawful none between =
-      let here = none_first (items_at b rules a s) _ none in
-      let there = none_rest (items_at b rules a s) _ none in
-      let rest = between_same (step b rules a s) (a + 1) n (lawful-step b rules some a s lawful) there between in
+      let nothing = none-of (items_at b rules a s) _ none in
+      let rest = between_same (step b rules a s) (a + 1) n (lawful_step b rules some a s lawful) nothing.1 between in
       elim (same_state (step b rules a s) s) [
         | inl same ↦ rest ∙ same
-        | inr other ↦ absurd ((changes b rules a s lawful).1 (other, inr (subst IsBetweenGroups rest between)) here)
+        | inr other ↦ absurd ((changes b rules a s lawful).1 (other, inr (subst IsBetweenGroups rest between)) nothing.0)
       ]
 
   quiet_of : (s : State) (place next : ℕ) → IsLawful rules place s → (run b rules s place (next - 1 - place)).1 ≡ []
       → (n : ℕ) → place + n < next → IsBetweenGroups (run b rules s place n).0 → (run b rules s place n).0 ≡ s
   quiet_of s place next lawful none n h between =
       let first : place + n - place ≡ n = omega arith in
-      let joined = run-places b rules s place (place + n) (next - 1) (omega arith) (omega (arith, h)) in
+      let joined = run_places b rules s place (place + n) (next - 1) (omega arith) (omega (arith, h)) in
       let parts = sym (ap (λ (r : State × List Item). r.1) joined) ∙ none in
-      let before = none_first (run b rules s place (place + n - place)).1 _ parts in
+      let before = (none-of (run b rules s place (place + n - place)).1 _ parts).0 in
       between_same s place n lawful (ap (λ (k : ℕ). (run b rules s place k).1) (sym first) ∙ before) between
 
   -- a lock
@@ -81,7 +73,7 @@ module _ (b : Signal) (rules : RuleNumbers) where
   sought-hop place near to next after now base ahead within inside is none few = record {
     moved = (ahead, omega (arith, within, inside));
     state_is = is;
-    quiet = λ n h between. ap (λ (r : State × List Item). r.0) (run-searching b rules place n (λ i low high. none i low (omega (arith, high, h))));
+    quiet = λ n h between. ap (λ (r : State × List Item). r.0) (run_searching b rules place n (λ i low high. none i low (omega (arith, high, h))));
     paid = (within, omega (arith, few), let m = marked in omega (arith, m, ahead));
   } where
     marked : mark next after ≡ next + 25
@@ -91,3 +83,113 @@ module _ (b : Signal) (rules : RuleNumbers) where
         ∙ ap (λ (n : ℕ). mark next (run b rules Searching place n).0) bits
         ∙ ap (λ (r : State × List Item). mark next r.0) (run-found b rules place (next - 1) (omega (arith, ahead)) (λ j low high. none j low (omega (arith, high))))
         ∙ search_mark (next - 1) next (omega (arith, ahead))
+
+-- A stretch of a run, step by step.
+module _ (b : Signal) (rules : RuleNumbers) (s : State) (place to : ℕ) (reached : Step) (is : IsStretch b rules s place to reached) where
+  -- from a place before its end on
+  later : (middle : ℕ) → place ≤ middle → middle < reached.place
+      → ((run b rules s place (middle - place)).1 ≡ []) × IsStretch b rules (run b rules s place (middle - place)).0 middle to reached
+  later middle low high = grind (arith, common_steps, run_places, none-of, run_places b rules s place middle (reached.place - 1) low (omega arith))
+
+-- a lock's stretch ends after the block that is due, or at the range's end
+past-due : (b : Signal) (rules : RuleNumbers) (lock : Lock) (place to : ℕ) (reached : Step) → IsStretch b rules (Locked lock) place to reached
+    → reached.place ≤ lock.due → reached.place ≡ to
+past-due b rules lock place to reached is early = grind (arith, common_steps, run_waiting, is.items, reached.place, is.forward, is.ended)
+
+pub stretches_are_steps : StretchesAreSteps
+stretches_are_steps b rules Searching place to reached lawful is = (omega (arith, is.forward), later b rules Searching place to reached is (place + 1) (omega arith))
+stretches_are_steps b rules (Locked lock) place to reached lawful is = elim (cases_lt lock.due to) [
+  | inl before ↦ rw (next_place, lt-ltb lock.due to before) (
+    (elim (cases_lt lock.due reached.place) [
+      | inl past ↦ omega (arith, past)
+      | inr early ↦ let at = past-due b rules lock place to reached is early in omega (arith, before, at)
+    ]),
+    λ more. later b rules (Locked lock) place to reached is (lock.due + 1) (omega (arith, lawful.soon)) more,
+  )
+  | inr after ↦ grind (arith, common_steps, reached.place, past-due, is.limit, next_place, le-ltb, lock.due, past-due b rules lock place to reached is (omega (arith, is.limit, after)), le-ltb lock.due to after)
+]
+
+pub hops_are_stretches : HopsAreStretches
+hops_are_stretches b rules s after place near to reads reached hop is = hop.state_is ∙ sym is.state
+
+-- A run that goes on, as it is kept.
+
+-- a part of a run, by other names of its recording and its rules
+stretch-over : {b read : Signal} {rules numbers : RuleNumbers} {s : State} {place to : ℕ} {before after : CountOf} {reached : ℕ × State} → b ≡ read → rules ≡ numbers
+    → IsCountStretch read numbers s place to before reached after → IsCountStretch b rules s place to before reached after
+stretch-over {read = read} {rules = rules} {s = s} {place = place} {to = to} {before = before} {after = after} {reached = reached} source same came = grind (arith, common_steps)
+
+module _ {b : Signal} {rules : RuleNumbers} {list : List Item} {a : ℕ} {s : State} {place : ℕ} {t : State} {first counts : CountOf}
+    (is : IsTally b rules list a s place t first counts) where
+  abbrev so_far : State × List Item
+  so_far = run b rules s a (place - a)
+
+  -- a span of the items since the last one
+  pub tally-cut : (longer : List Item) → longer ≡ list ++ so_far.1 → IsTally b rules longer place t place t first counts
+  tally-cut longer longer_is =
+      let none : place - place ≡ 0 = omega arith in
+      let nothing : longer ++ (run b rules t place (place - place)).1 ≡ list ++ so_far.1 =
+      ap (λ (n : ℕ). longer ++ (run b rules t place n).1) none ∙ append-nil longer ∙ longer_is in
+      record {
+        start = is.lawful;
+        order = omega arith;
+        within = is.within;
+        near = is.near;
+        state = sym (ap (λ (n : ℕ). (run b rules t place n).0) none);
+        lawful = is.lawful;
+        count = is.count ∙ ap (λ (is : List Item). count_of is) (sym nothing);
+        few = subst (λ (is : List Item). length is ≤ 2 * place) (sym nothing) is.few;
+        counted = is.counted;
+        small = is.small;
+      }
+
+  -- the run at a later place
+  module _ {old : TallyOf} {read : Signal} {numbers : RuleNumbers} {to : ℕ} {reached : ℕ × State} {after : CountOf}
+      (old_is : record { source = b; rules = rules; place = place; state = t; list = list ++ so_far.1 } ≡ old) (source : old.source ≡ read)
+      (same : old.rules ≡ numbers) (heard : IsCountStretch read numbers t place to counts reached after) where
+    signal-is : b ≡ read
+    signal-is = ap (λ (v : TallyOf). v.source) old_is ∙ source
+
+    came : IsCountStretch b rules t place to counts reached after
+    came = stretch-over signal-is (ap (λ (v : TallyOf). v.rules) old_is ∙ same) heard
+
+    abbrev more : List Item
+    more = (run b rules t place (reached.0 - place)).1
+
+    all-is : run b rules s a (reached.0 - a) ≡ (reached.1, so_far.1 ++ more)
+    all-is = run-further b rules s t reached.1 so_far.1 more a place reached.0 is.order (omega (arith, came.forward)) (ap (λ (v : State). (v, so_far.1)) (sym is.state)) came.state refl
+
+    list-gone : list ++ (run b rules s a (reached.0 - a)).1 ≡ (list ++ so_far.1) ++ more
+    list-gone = ap (λ (r : State × List Item). list ++ r.1) all-is ∙ sym (append_assoc list so_far.1 more)
+
+    pub tally-gone : to ≤ length_of read → to ≤ 2 ^ 36 → (first2 counts2 : CountOf) → joined first2 counts2 ≡ joined first after → counts2.items ≤ 3000
+        → IsAtMost (2 ^ 10 * first2.items) first2.totals → IsTally b rules list a s reached.0 reached.1 first2 counts2
+    tally-gone within near first2 counts2 joined_is few small = record {
+      start = is.start;
+      order = omega (arith, is.order, came.forward);
+      within = omega (arith, came.limit, within, ap (λ (s : Signal). length_of s) signal-is);
+      near = omega (arith, came.limit, near);
+      state = sym (ap (λ (r : State × List Item). r.0) all-is);
+      lawful = came.lawful;
+      count = joined_is ∙ ap (λ (k : CountOf). joined first k) came.counts
+          ∙ counted-together first counts (list ++ so_far.1) more is.count
+          ∙ ap (λ (is : List Item). count_of is) (sym list-gone);
+      few = subst (λ (is : List Item). length is ≤ 2 * reached.0) (sym list-gone)
+          (omega (arith, length-append (list ++ so_far.1) more, is.few, run_items_few b rules t place (reached.0 - place), came.forward));
+      counted = few;
+      small = small;
+    }
+
+    -- as callers see it: `old` is the run before, and `new` at the later place
+    pub view-gone : (new : TallyOf)
+        → new ≡ record { source = b; rules = rules; place = reached.0; state = reached.1; list = list ++ (run b rules s a (reached.0 - a)).1 }
+        → new ≡ gone_on old new.place
+    view-gone new new_is = grind (arith, common_steps, list-gone, gone_on, new.place)
+
+-- a run that has not gone on
+pub gone-none : (t : TallyOf) → gone_on t t.place ≡ t
+gone-none t = grind (arith, common_steps, run, append-nil, t.place, t.source, t.rules, t.state, t.list)
+
+-- one that has gone on twice
+pub gone-again : (t : TallyOf) (middle to : ℕ) → t.place ≤ middle → middle ≤ to → gone_on (gone_on t middle) to ≡ gone_on t to
+gone-again t middle to low high = grind (arith, common_steps, run, append_assoc, run_places, t.source, t.rules, t.state, t.place, t.list)

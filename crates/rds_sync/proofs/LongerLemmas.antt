@@ -1,11 +1,9 @@
 -- A longer recording that begins with another one: the run over the bits of both is one, and the group at the end goes on.
-use Rattle.rds_sync.proofs.Names.{common_steps, ◌≡◌, ◌≢◌, ℕ, zero, suc, ◌+◌, ◌-◌, ◌*◌, ◌%◌, ◌<◌, ◌≤◌, ◌⊎◌, List, [], ◌∷◌, ◌++◌, length, drop, map, Bool, true, false, cond, Option, Some, None, refl, sym, ap, ap₂, subst, ◌∙◌, arith, inl, inr, append_assoc, length-append, ◌||◌, nat_le, nat_lt, if◌then◌else◌, filter, slice_get, slice_index, sum_by, list_any, range_with_len, number_from_digits, cases_Bool, cases_eq, cases_lt, lt-ltb, le-ltb, lt-leb, eq-eqb, ne_eqb, drop-append-le, take-append-le, take-append-drop, length-take, length-drop, sum_by-append, sum_by-cons, get_or_from_slice_get, Offset, Wanted, number, Signal, length_of, window, is_touched_by, touched, heard, offset_heard, reading_heard, offset_at, Block, Missing, GroupOf, Item, Acquired, Group, LostLock, Lock, State, Searching, Locked, acquired, has_number, has_partner, with_partner, is_in_step, is_numbered, block_at, blocks_at, group, group_of, wanted_beside, IsLawful, IsLawfulLock, IsLossRule, are_too_many, report_items, RuleNumbers, run, step, items_at, items_of_end, history_after_block, lock_after, lock_of, totals_of, sum_blocks, count_blocks, is_valid, is_lost, is_corrected_by, bits_corrected, is_group, is_complete, is_acquired, is_sync_loss}
-use Rattle.std.specs.Prelude.{min}
+use Rattle.rds_sync.proofs.Names.{common_steps, ◌≡◌, ◌≢◌, ℕ, zero, suc, ◌+◌, ◌-◌, ◌*◌, ◌%◌, ◌<◌, ◌≤◌, ◌⊎◌, List, [], ◌∷◌, ◌++◌, length, drop, map, Bool, true, false, cond, Option, Some, None, refl, sym, ap, ap₂, subst, ◌∙◌, arith, inl, inr, append_assoc, length-append, ◌||◌, nat_le, nat_lt, if◌then◌else◌, filter, slice_get, slice_index, sum_by, list_any, range_with_len, number_from_digits, cases_Bool, cases_eq, cases_lt, lt-ltb, le-ltb, lt-leb, eq-eqb, ne_eqb, drop-append-le, take-append-le, take-append-drop, length-take, length-drop, sum_by-append, sum_by-cons, get_or_from_slice_get, Offset, Wanted, number, Signal, length_of, window, is_touched_by, touched, heard, offset_heard, reading_heard, offset_at, Block, Missing, GroupOf, Item, Acquired, Group, LostLock, Lock, State, Searching, Locked, acquired, has_number, has_partner, with_partner, is_in_step, is_numbered, block_at, blocks_at, group, group_of, wanted_beside, IsLawful, IsLawfulLock, IsLossRule, are_too_many, report_items, RuleNumbers, run, step, items_at, items_of_end, history_after_block, lock_after, lock_of, totals_of, sum_blocks, count_blocks, is_valid, is_lost, is_corrected_by, bits_corrected, is_group, is_complete, is_acquired, is_sync_loss, min}
 use Rattle.rds_sync.specs.Longer.{BeginsWith, BeginningsBegin, GoesOn, EndGoesOn, OnlyAddsItems, LongerRecordingsAddItems, AreNoLess, TotalsOnlyGrow}
 use Rattle.rds_sync.proofs.GroupBlocks.{block_at-missing}
-use Rattle.rds_sync.proofs.LawfulLemmas.{lawful-run, lawful-due, lawful-numbers}
+use Rattle.rds_sync.proofs.RunLemmas.{lawful-run, lawful-due, lawful-numbers, run-append, run_waiting, run-reading, step-keeping, items-keeping, items-losing}
 use Rattle.rds_sync.proofs.RunIsReport.{run_is_report}
-use Rattle.rds_sync.proofs.RunLemmas.{run-append, run-waiting, run-reading, step-keeping, items-keeping, items-losing}
 
 -- ---- the windows heard
 
@@ -91,7 +89,7 @@ module _ (b : Signal) (rules : RuleNumbers) where
         let numbers = lawful-numbers rules place lock lawful in
         let second : 2 ≤ x = omega (arith, numbers, inside) in
         let p : ℕ = lock.due - 26 in
-        let late : 26 ≤ lock.due = by_order lock.first x lock.due lawful.in_order inside lawful.enough_bits in
+        let late : 26 ≤ lock.due = omega (arith, lawful.in_order, inside, lawful.enough_bits) in
         let here : lock.due ≡ p + 26 * (x - (x - 1)) = omega (arith, late, second) in
         let later : List Item = to_end (step b rules lock.due (Locked lock)) (lock.due + 1) (place + m - (lock.due + 1)) in
         elim (cases_lt lock.due (place + m)) [
@@ -101,7 +99,7 @@ module _ (b : Signal) (rules : RuleNumbers) where
                 y = x - 1;
                 rest = [];
                 order = (omega arith, omega (arith, numbers.2));
-                is = grind (arith, common_steps, items_of_end, run-waiting, group, lock.first, p, ne_eqb);
+                is = grind (arith, common_steps, items_of_end, run_waiting, group, lock.first, p, ne_eqb);
               }
           | inl reached ↦
               let due : to_end (Locked lock) place m ≡ items_at b rules lock.due (Locked lock) ++ later = to_end-due lock place m lawful.soon.0 reached in
@@ -138,10 +136,6 @@ module _ (b : Signal) (rules : RuleNumbers) where
                 ]
               ]
         ]
-      where
-        by_order : (f x due : ℕ) → ((x ≡ 1) × (f ≡ 1)) ⊎ ((1 ≤ f) × (f < x) × (x ≤ 4)) → x ≢ 1 → 26 * (x - f) + 25 ≤ due → 26 ≤ due
-        by_order f x due (inl one) inside room = absurd (inside one.0)
-        by_order f x due (inr more) inside room = omega (arith, more, room)
 
 -- ---- the group that it continues
 
@@ -177,7 +171,7 @@ module _ (longer shorter : Signal) (rules : RuleNumbers) (loss : IsLossRule rule
         let x : ℕ = lock.number - 1 in
         let p : ℕ = lock.due - 26 in
         let numbers = lawful-numbers rules n lock lawful in
-        let order : (1 ≤ lock.first) × (lock.first ≤ x) × (x < 4) = in_order lock.first lock.number lawful.in_order inside in
+        let order : (1 ≤ lock.first) × (lock.first ≤ x) × (x < 4) = (omega (arith, lawful.in_order), omega (arith, lawful.in_order, inside), omega (arith, lawful.in_order)) in
         let some : items_of_end shorter rules (Locked lock) ≡ Group (group shorter rules lock.first x p) ∷ [] =
         ap (λ (t : Bool). elim t as (λ _. List Item) [ true ↦ [] | false ↦ Group (group shorter rules lock.first x p) ∷ [] ]) (ne_eqb lock.number 1 inside) in
         let one : group longer rules lock.first x p ≡ group shorter rules lock.first x p =
@@ -186,10 +180,6 @@ module _ (longer shorter : Signal) (rules : RuleNumbers) (loss : IsLossRule rule
         let goes = group_goes_on longer rules lock.first x next.y p order.0 order.1 next.order.0 (omega (arith, lawful.enough_bits, order)) order.2 in
         grind (arith, common_steps, to_end, some, one, group, lock.first, p, next.is, goes)
   ]
-    where
-      in_order : (f x : ℕ) → ((x ≡ 1) × (f ≡ 1)) ⊎ ((1 ≤ f) × (f < x) × (x ≤ 4)) → x ≢ 1 → (1 ≤ f) × (f ≤ x - 1) × (x - 1 < 4)
-      in_order f x (inl one) inside = absurd (inside one.0)
-      in_order f x (inr more) inside = (more.0, omega (arith, more), omega (arith, more))
 
   adds_items : OnlyAddsItems (report_items shorter rules) (report_items longer rules)
   adds_items =
@@ -284,3 +274,5 @@ module _ (shorter longer : List Item) (adds : OnlyAddsItems shorter longer) wher
 
 pub totals_only_grow : TotalsOnlyGrow
 totals_only_grow longer shorter rules loss begins = no_less (report_items shorter rules) (report_items longer rules) (adds_items longer shorter rules loss begins)
+
+pub ruleset longer_recordings = (beginnings_begin, longer_recordings_add_items, totals_only_grow)

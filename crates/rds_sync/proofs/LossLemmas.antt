@@ -1,5 +1,6 @@
 -- A lock's loss history says when it is lost.
-use Rattle.rds_sync.proofs.Names.{common_steps, ◌≡◌, ℕ, zero, suc, ◌+◌, ◌-◌, ◌*◌, ◌%◌, ◌^◌, ◌<◌, ◌≤◌, min, List, [], ◌∷◌, ◌++◌, Bool, true, false, refl, sym, ap, ◌∙◌, arith, inl, inr, cond, div-add-mod, mod-lt, mod-eq_of_lt, pow-suc, mod-mul-add, and-false, pow_pos, cases_Bool, cases_eq, cases_lt, le-leb, lt-leb, le-ltb, lt-ltb, sum_by_push, ones, ones_step, bit_at-zero, bit_at_lowest, bit_at-suc, bit_at, nat_le, nat_lt, not, count_by, count_ones, list_all, range_with_len, Loss, Run, Share, MasksTellBlocks, IsLossRule, IsLawfulBad, bad_at, bad_after, are_too_many, last_blocks, loses}
+use Rattle.rds_sync.proofs.Names.{common_steps, ◌≡◌, ℕ, zero, suc, ◌+◌, ◌-◌, ◌*◌, ◌%◌, ◌^◌, ◌<◌, ◌≤◌, min, List, [], ◌∷◌, ◌++◌, Bool, true, false, refl, sym, ap, ◌∙◌, arith, inl, inr, cond, div-add-mod, mod-lt, mod-eq_of_lt, pow-suc, mod-mul-add, and-false, pow_pos, cases_Bool, cases_eq, cases_lt, le-leb, lt-leb, le-ltb, lt-ltb, sum_by_push, ones, ones_step, bit_at-zero, bit_at_lowest, bit_at-suc, bit_at, nat_le, nat_lt, not, count_by, count_ones, list_all, range_with_len, Loss, Run, Share, MasksTellBlocks, IsLossRule, IsLawfulBad, bad_at, bad_after, are_too_many, last_blocks, loses, ◌/◌, bit_and, pow-add, IsTrue, leb, ◌↔◌, subst, mul-add-mod_self_right, and_mask, ones_shr}
+use Rattle.std.proofs.lemmas.Bool.Decides.{nat_tests}
 
 all_pass : (p : ℕ → Bool) (c d : ℕ) → ((j : ℕ) → c ≤ j → j < c + d → p j ≡ true) → list_all p (range_with_len c d) ≡ true
 all_pass p c zero h = refl
@@ -177,3 +178,29 @@ lawful_none loss h = grind (arith, common_steps, pow_pos, ones_zero)
 
 pub lawful_kept : (loss : Loss) (bad : ℕ) (good : Bool) → IsLawfulBad loss bad → are_too_many loss (bad_after loss good bad) ≡ false → IsLawfulBad loss (bad_after loss good bad)
 lawful_kept loss bad good h e = grind (arith, common_steps, mod-lt, pow_pos)
+
+-- The mask of the last blocks, in a word.
+
+-- the `of` lowest ones
+pub low_ones : (of : ℕ) → of ≤ 64 → (2 ^ 64 - 1) / 2 ^ (64 - of) ≡ 2 ^ of - 1
+low_ones of few = grind (arith, common_steps, ones_shr, ones_shr 64 (64 - of) (omega arith))
+
+wraps : (m f d e w : ℕ) → w ≡ e * d → (m * 2 % w + f) % d ≡ (2 * m + f) % d
+wraps m f d e w is =
+    let whole : w * (m * 2 / w) + m * 2 % w ≡ m * 2 = div-add-mod (m * 2) w in
+    let product : w * (m * 2 / w) ≡ e * d * (m * 2 / w) = ap (λ (n : ℕ). n * (m * 2 / w)) is in
+    let parts : 2 * m + f ≡ (m * 2 / w * e) * d + (m * 2 % w + f) = omega (arith, whole, product) in
+    sym (ap (λ (n : ℕ). n % d) parts ∙ mul-add-mod_self_right (m * 2 / w * e) d (m * 2 % w + f))
+
+pub mask_word : (m f of : ℕ) → of ≤ 64 → bit_and (m * 2 % 2 ^ 64 + f) ((2 ^ 64 - 1) / 2 ^ (64 - of)) ≡ (2 * m + f) % 2 ^ of
+mask_word m f of few =
+    let all : 64 - of + of ≡ 64 = omega arith in
+    ap (bit_and (m * 2 % 2 ^ 64 + f)) (low_ones of few)
+    ∙ and_mask (m * 2 % 2 ^ 64 + f) of
+    ∙ wraps m f (2 ^ of) (2 ^ (64 - of)) (2 ^ 64) (ap (λ (n : ℕ). 2 ^ n) (sym all) ∙ pow-add 2 (64 - of) of)
+
+by_bound : (m n : ℕ) → 0 < n → IsTrue (leb m (n - 1)) ↔ (m < n)
+by_bound m n some = grind (arith, nat_tests)
+
+pub within_ones : (mask of : ℕ) → of ≤ 64 → IsTrue (leb mask ((2 ^ 64 - 1) / 2 ^ (64 - of))) ↔ (mask < 2 ^ of)
+within_ones mask of few = subst (λ (n : ℕ). IsTrue (leb mask n) ↔ (mask < 2 ^ of)) (sym (low_ones of few)) (by_bound mask (2 ^ of) (pow_pos of))

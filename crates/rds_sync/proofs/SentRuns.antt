@@ -1,20 +1,134 @@
--- The items of a run over groups that were sent: in a lock, and from the first bit of a recording on.
-use Rattle.rds_sync.proofs.Names.{common_steps, Loss, ◌≡◌, ℕ, suc, ◌+◌, ◌-◌, ◌*◌, ◌<◌, ◌≤◌, List, [], ◌∷◌, ◌++◌, length, Option, Some, None, Bool, true, false, refl, sym, ap, subst, ◌∙◌, arith, inl, append-nil, bit_xor, get_or, flat_map, xor_zero_r, ◌==◌, list_any, range_with_len, ne_eqb, Offset, A, B, D, third_offset, word, offset_of, rem, Signal, length_of, offset_heard, offset_at, Block, GroupOf, Item, Acquired, Group, State, Searching, Locked, Totals, acquired, has_number, has_partner, is_in_step, plus, group, outcome_of, was_valid, good_at, IsLossRule, are_too_many, bad_after, report_items, RuleNumbers, IsHeardFrom, GroupIsHeard, AreHeard, block_sent, group_sent, items_sent, SentGroup, four_damages, AreHeardDamaged, items_damaged, bad_after_blocks, KeepLock, SentGroupsAreListed, LockedGroupsAreListed, DamagedGroupsAreListed, SoundSignalIsDecoded, run, items_of_end, lock_of, totals_of, is_valid}
-use Rattle.rds_sync.proofs.BadRows.{good_keeps}
-use Rattle.std.specs.Prelude.{map}
-use Rattle.std.proofs.lemmas.List.{length-map}
-use Rattle.rds_sync.proofs.Converge.{runs_converge}
-use Rattle.rds_sync.proofs.GroupOutcomes.{outcomes, good-at}
-use Rattle.rds_sync.proofs.HeardGroups.{all-four, kept-each}
-use Rattle.rds_sync.proofs.HeardLemmas.{off-heard}
-use Rattle.rds_sync.proofs.LawfulLemmas.{acquired-place, acquired-some}
+-- A group that was sent is read as it was sent, where its blocks are damaged by no more than a burst each.
+use Rattle.rds_sync.proofs.Names.{common_steps, ◌≡◌, ◌≢◌, ℕ, zero, suc, ◌-◌, ◌*◌, ◌≤◌, [], ◌∷◌, Option, Some, Bool, false, refl, sym, ap, ◌∙◌, arith, inl, inr, ◌⊎◌, get_or, bit_xor, bit_at, xor_zero_r, count_leading_zeros, count_trailing_zeros, if◌then◌else◌, nat_le, ◌==◌, cases_eq, ne_eqb, cases_lt, le-leb, lt-leb, Offset, A, B, C, Cx, D, Wanted, OnlyC, OnlyCx, Either, Reading, IsBurst, burst_length, number, reading, offset_by_version, third_offset, Signal, reading_heard, reading_at, Block, Missing, Read, Version, VA, VB, Unknown, version_of_offset, first_known, block_at, group_of, wanted_beside, version, in_conflict, info_of, type_in, version_of_bit, IsHeardFrom, block_sent, GroupsAreCorrected, Loss, ◌+◌, ◌<◌, List, ◌++◌, length, None, true, subst, append-nil, flat_map, list_any, range_with_len, word, offset_of, rem, length_of, offset_heard, offset_at, GroupOf, Item, Acquired, Group, State, Searching, Locked, Totals, acquired, has_number, has_partner, is_in_step, plus, group, outcome_of, was_valid, good_at, IsLossRule, are_too_many, bad_after, report_items, RuleNumbers, GroupIsHeard, AreHeard, group_sent, items_sent, SentGroup, four_damages, AreHeardDamaged, items_damaged, bad_after_blocks, KeepLock, SentGroupsAreListed, LockedGroupsAreListed, DamagedGroupsAreListed, SoundSignalIsDecoded, run, items_of_end, lock_of, totals_of, is_valid, map, length-map}
+use Rattle.rds_code.specs.Correction.{alone, version_burst, ReadsAsSent, CorrectsBurst, CorrectsThird}
+use Rattle.rds_sync.proofs.GroupBlocks.{block_at-read, block_at-missing, blocks_at-read, group-blocks}
+use Rattle.rds_sync.proofs.Converge.{good_keeps, runs_converge}
+use Rattle.rds_sync.proofs.HeardLemmas.{outcomes, good-at, off-heard}
+use Rattle.rds_sync.proofs.WholeGroupLemmas.{all-four, good-in, kept-each, whole_group}
+use Rattle.rds_sync.proofs.RunLemmas.{acquired_place, acquired-some, run-append, run_places}
 use Rattle.rds_sync.proofs.LossLemmas.{lawful_none, none-kept}
-use Rattle.rds_sync.proofs.OutcomeTotals.{valid_is}
+use Rattle.rds_sync.proofs.TotalsLemmas.{valid_is, totals_of_append, same_counts}
 use Rattle.rds_sync.proofs.RunIsReport.{run_is_report}
-use Rattle.rds_sync.proofs.RunLemmas.{run-append, run-places}
-use Rattle.rds_sync.proofs.SentGroups.{CodeLaws, groups_are_corrected}
-use Rattle.rds_sync.proofs.TotalsLemmas.{totals_of-append, same_counts}
-use Rattle.rds_sync.proofs.WholeGroupLemmas.{whole_group}
+
+-- the laws of the code that this uses
+pub record CodeLaws : Type 0 where
+  pub sent : ReadsAsSent
+  pub burst : CorrectsBurst
+  pub third : CorrectsThird
+
+-- the exceptional burst is five bits long
+version_long : burst_length version_burst ≡ 5
+unfolding count_leading_zeros count_trailing_zeros
+version_long = refl
+
+module _ (laws : CodeLaws) (b : Signal) where
+  -- the reading of a window that is heard
+  read_heard : (limit place info x : ℕ) (o : Offset) (e : ℕ) (wanted : Wanted) (h : IsHeardFrom b limit place info o e)
+      → reading_at b place x wanted limit ≡ reading (bit_xor h.sent e) x wanted limit
+  read_heard limit place info x o e wanted h = ap (λ (w : Option ℕ). reading_heard w x wanted limit) h.heard_is
+
+  read_undamaged : (limit place info : ℕ) (o : Offset) (wanted : Wanted) → IsHeardFrom b limit place info o 0 → Read (reading_at b place (number o) wanted limit) ≡ block_sent o info 0
+  read_undamaged limit place info o wanted h = grind (arith, common_steps, read_heard, number, reading, xor_zero_r)
+
+  some_burst : (limit e : ℕ) → (suc e ≡ 0) ⊎ IsBurst limit (suc e) → IsBurst limit (suc e)
+  some_burst limit e h = grind (arith, common_steps)
+
+  -- block 1, 2 or 4
+  block_read : (limit place info : ℕ) (o : Offset) (e : ℕ) (wanted : Wanted) → number o ≢ 3 → limit ≤ 5 → IsHeardFrom b limit place info o e
+      → Read (reading_at b place (number o) wanted limit) ≡ block_sent o info e
+  block_read limit place info o zero wanted other few h = read_undamaged limit place info o wanted h
+  block_read limit place info o (suc e) wanted other few h =
+      ap (λ (r : Reading). Read r) (read_heard limit place info (number o) o (suc e) wanted h
+      ∙ laws.burst h.sent info o wanted limit (suc e) h.block other few (some_burst limit e h.damage))
+
+  -- block 3, if only its own offset is wanted
+  third_read : (limit place info : ℕ) (o : Offset) (e : ℕ) → number o ≡ 3 → limit ≤ 5 → (limit ≡ 5 → e ≢ version_burst) → IsHeardFrom b limit place info o e
+      → Read (reading_at b place 3 (alone o) limit) ≡ block_sent o info e
+  third_read limit place info o zero own few no_version_burst h = grind (arith, common_steps, reading_at, alone, read_undamaged)
+  third_read limit place info o (suc e) own few no_version_burst h =
+      let burst = some_burst limit e h.damage in
+      let other : suc e ≢ version_burst = λ same. elim (cases_eq limit 5) [
+        | inl five ↦ no_version_burst five same
+        | inr less ↦ absurd (omega (arith, burst.short, ap burst_length same, version_long, less, few))
+      ] in
+      ap (λ (r : Reading). Read r) (read_heard limit place info 3 o (suc e) (alone o) h
+      ∙ laws.third h.sent info o limit (suc e) h.block own few burst other)
+
+-- the version bit says the version, and the offset of block 3
+module _ (info : ℕ) where
+  abbrev by_bit : ℕ → Version
+  by_bit n = if n == 0 then VA else VB
+
+  record Says (v : Version) (o : Offset) : Type 0 where
+    pub bit : version_of_bit info ≡ v
+    pub offset : third_offset info ≡ o
+
+  says_b : (n : ℕ) → bit_at info 11 ≡ suc n → Says VB Cx
+  says_b n h = record { bit = ap by_bit h ∙ ap (λ (t : Bool). if t then VA else VB) (ne_eqb (suc n) 0 (λ no. absurd (omega (arith, no)))); offset = ap offset_by_version h }
+
+  says : Says VA C ⊎ Says VB Cx
+  says = grind (arith, common_steps, bit_at, says_b)
+
+  pub third_number : number (third_offset info) ≡ 3
+  third_number = elim says [ inl a ↦ ap number a.offset | inr b ↦ ap number b.offset ]
+
+  abbrev wanted_by : Version → Wanted
+  wanted_by v = elim v as (λ _. Wanted) [ VA ↦ OnlyC | VB ↦ OnlyCx | Unknown ↦ Either ]
+
+  -- the offset of block 3 that block 2 allows
+  wanted_is : (e : ℕ) → wanted_beside (block_sent B info e) ≡ alone (third_offset info)
+  wanted_is e = grind (arith, common_steps, says, wanted_by, alone, wanted_beside, block_sent, version_of_bit)
+
+  known : (v : Version) → first_known (version_of_bit info) v ≡ version_of_bit info
+  known v = elim says [ inl a ↦ ap (λ (w : Version). first_known w v) a.bit ∙ sym a.bit | inr b ↦ ap (λ (w : Version). first_known w v) b.bit ∙ sym b.bit ]
+
+  version_is : (third d e : ℕ) → version (block_sent B info d) (block_sent (third_offset info) third e) ≡ version_of_bit info
+  version_is third d e = grind (arith, common_steps, known, version_of_offset, third_offset)
+
+  agreed : (third d e : ℕ) → in_conflict (block_sent B info d) (block_sent (third_offset info) third e) ≡ false
+  agreed third d e = grind (arith, common_steps)
+
+pub info_is : (o : Offset) (info e : ℕ) → info_of (block_sent o info e) ≡ Some info
+info_is o info e = grind (arith, common_steps)
+
+-- a group of blocks that were sent
+group_of_sent : (place : ℕ) (one : Block) (w1 w2 w3 e1 e2 e3 : ℕ)
+    → group_of place (one ∷ block_sent B w1 e1 ∷ block_sent (third_offset w1) w2 e2 ∷ block_sent D w3 e3 ∷ [])
+    ≡ record {
+      place = place;
+      blocks = one ∷ block_sent B w1 e1 ∷ block_sent (third_offset w1) w2 e2 ∷ block_sent D w3 e3 ∷ [];
+      kind = Some (type_in w1);
+      version = version_of_bit w1;
+      conflict = false;
+    }
+group_of_sent place one w1 w2 w3 e1 e2 e3 = rw (info_is B w1 e1, version_is w1 w2 e1 e2, agreed w1 w2 e1 e2) refl
+
+pub groups_are_corrected : CodeLaws → GroupsAreCorrected
+groups_are_corrected laws b rules first p words damages low high few h =
+    let w1 : ℕ = get_or words 1 0 in
+    let e1 : ℕ = get_or damages 1 0 in
+    let limit : ℕ = rules.burst in
+    let block : ℕ → Wanted → Block = λ y wanted. block_at b rules first 4 p wanted y in
+    let first_or : Bool → Block = λ t. if t then block_sent A (get_or words 0 0) (get_or damages 0 0) else Missing in
+    let one : (if nat_le first 1 then block_sent A (get_or words 0 0) (get_or damages 0 0) else Missing) ≡ block 1 Either = elim (cases_lt 1 first) [
+      | inl late ↦ ap first_or (lt-leb first 1 late) ∙ sym (block_at-missing b rules first 4 p Either 1 (inl late))
+      | inr early ↦ ap first_or (le-leb first 1 early) ∙ sym (block_at-read b rules first 4 p Either 1 early (omega arith) ∙ block_read laws b limit (p - 78) (get_or words 0 0) A (get_or damages 0 0) Either (λ no. absurd (omega (arith, no))) few (h.one early))
+    ] in
+    let two : block_sent B w1 e1 ≡ block 2 Either =
+    sym (block_at-read b rules first 4 p Either 2 high (omega arith) ∙ block_read laws b limit (p - 52) w1 B e1 Either (λ no. absurd (omega (arith, no))) few h.two) in
+    let three : block_sent (third_offset w1) (get_or words 2 0) (get_or damages 2 0) ≡ block 3 (wanted_beside (block_sent B w1 e1)) =
+    sym (block_at-read b rules first 4 p (wanted_beside (block_sent B w1 e1)) 3 (omega (arith, high)) (omega arith)
+    ∙ ap (λ (wanted : Wanted). Read (reading_at b (p - 26) 3 wanted limit)) (wanted_is w1 e1)
+    ∙ third_read laws b limit (p - 26) (get_or words 2 0) (third_offset w1) (get_or damages 2 0) (third_number w1) few h.no_version_burst h.three) in
+    let last : p - 0 ≡ p = omega arith in
+    let four : block_sent D (get_or words 3 0) (get_or damages 3 0) ≡ block 4 Either =
+    sym (block_at-read b rules first 4 p Either 4 (omega (arith, high)) (omega arith)
+    ∙ ap (λ (i : ℕ). Read (reading_at b i 4 Either limit)) last
+    ∙ block_read laws b limit p (get_or words 3 0) D (get_or damages 3 0) Either (λ no. absurd (omega (arith, no))) few h.four) in
+    sym (group-blocks b rules first 4 p _ (blocks_at-read b rules first 4 p _ _ _ _ one two three four))
+    ∙ group_of_sent (p - 26 * (4 - first) - 25) _ w1 (get_or words 2 0) (get_or words 3 0) e1 (get_or damages 2 0) (get_or damages 3 0)
+
+-- The items of a run over groups that were sent: in a lock, and from the first bit of a recording on.
 
 -- ---- blocks as they were sent
 
@@ -53,7 +167,7 @@ module _ (b : Signal) (rules : RuleNumbers) where
 
   -- nothing acquires before place 51
   quiet : (i : ℕ) → 0 ≤ i → i < 51 → acquired b rules i ≡ None
-  quiet i low early = grind (arith, common_steps, acquired, acquired-place)
+  quiet i low early = grind (arith, common_steps, acquired, acquired_place)
 
 -- ---- with damage
 
@@ -96,10 +210,15 @@ module _ (laws : CodeLaws) (b : Signal) (rules : RuleNumbers) (few : rules.burst
       let bs : List Block = (group b rules 1 4 (due + 78)).blocks in
       let are : bs ≡ block_sent A (get_or words 0 0) e0 ∷ block_sent B w1 e1 ∷ block_sent (third_offset w1) (get_or words 2 0) e2 ∷ block_sent D (get_or words 3 0) e3 ∷ [] =
       ap (λ (g : GroupOf). g.blocks) own in
-      let fewer = kept-each rules.loss bs _ _ _ _ are (e0 == 0) (e1 == 0) (e2 == 0) (e3 == 0) bad one two three four
-      (sym (good_sent _ _ e0)) (sym (good_sent _ _ e1)) (sym (good_sent _ _ e2)) (sym (good_sent _ _ e3)) refl refl refl refl keep.0 keep.1.0 keep.1.1.0 keep.1.1.1.0 in
-      let total = all-four rules.loss bs _ _ _ _ are (e0 == 0) (e1 == 0) (e2 == 0) (e3 == 0) bad one two three four
-      (sym (good_sent _ _ e0)) (sym (good_sent _ _ e1)) (sym (good_sent _ _ e2)) (sym (good_sent _ _ e3)) refl refl refl refl in
+      let good : (y : ℕ) (o : Offset) (info e : ℕ) → get_or (block_sent A (get_or words 0 0) e0 ∷ block_sent B w1 e1 ∷ block_sent (third_offset w1) (get_or words 2 0) e2 ∷ block_sent D (get_or words 3 0) e3 ∷ []) (y - 1) Missing ≡ block_sent o info e
+      → (before : ℕ) → After e before ≡ bad_after rules.loss (good_at (map outcome_of bs) y) before =
+      λ y o info e is before. ap (λ (t : Bool). bad_after rules.loss t before) (sym (good_sent o info e) ∙ good-in are y _ is) in
+      let first = good 1 _ _ e0 refl bad in
+      let second = good 2 _ _ e1 refl one in
+      let third = good 3 _ _ e2 refl two in
+      let fourth = good 4 _ _ e3 refl three in
+      let fewer = kept-each rules.loss (map outcome_of bs) bad first second third fourth keep.0 keep.1.0 keep.1.1.0 keep.1.1.1.0 in
+      let total = all-four rules.loss (map outcome_of bs) bad first second third fourth in
       let back : due - 25 ≡ place = omega arith in
       let next : due + 104 ≡ place + 104 + 25 = omega arith in
       grind (arith, common_steps, run, lock_of, due, back, whole_group, fewer, group, total, four, own)
@@ -123,7 +242,7 @@ pub locked_groups_are_listed : CodeLaws → LockedGroupsAreListed
 locked_groups_are_listed laws b rules few place bad groups h keep = damaged_listed laws b rules few place bad groups h keep
 
 pub sound_signal_is_decoded : CodeLaws → SoundSignalIsDecoded
-sound_signal_is_decoded laws b rules loss reach few s t lawful j p c last sound four groups h keep = grind (arith, common_steps, damaged_listed, runs_converge b rules loss reach s (p + 26 * last + 1) t lawful j p c last sound four refl, run-places b rules t s (p + 26 * last + 1) ((p + 26 * last + 1) + 104 * (length groups)) (omega (arith, sound.sequence.first)) (omega arith))
+sound_signal_is_decoded laws b rules loss reach few s t lawful j p c last sound four groups h keep = grind (arith, common_steps, damaged_listed, runs_converge b rules loss reach s (p + 26 * last + 1) t lawful j p c last sound four refl, run_places b rules t s (p + 26 * last + 1) ((p + 26 * last + 1) + 104 * (length groups)) (omega (arith, sound.sequence.first)) (omega arith))
 
 -- the first group of a recording, whose blocks 1 and 2 have no damage
 module _ (laws : CodeLaws) (b : Signal) (rules : RuleNumbers) (few : rules.burst ≤ 5) (reach : 1 ≤ rules.reach) (words damages : List ℕ)
@@ -204,7 +323,7 @@ totals_whole n = record { valid = 4 * n; bursts = 0 ∷ 0 ∷ 0 ∷ 0 ∷ 0 ∷ 
 totals_listed : (place : ℕ) (groups : List (List ℕ)) → totals_of (items_sent place groups) ≡ totals_whole (length groups)
 unfolding totals_whole
 totals_listed place [] = refl
-totals_listed place (words ∷ groups) = grind (arith, common_steps, totals_of-append, group_sent, items_sent, plus, totals_of, same_counts, totals_listed (place + 104) groups)
+totals_listed place (words ∷ groups) = grind (arith, common_steps, totals_of_append, group_sent, items_sent, plus, totals_of, same_counts, totals_listed (place + 104) groups)
 
 pub sent_groups_are_listed : CodeLaws → SentGroupsAreListed
 unfolding totals_whole
@@ -217,7 +336,9 @@ sent_groups_are_listed laws b rules words groups loss reach few long h =
     ∙ ap (λ (is : List Item). Acquired 51 2 ∷ Group (group_sent 2 26 words []) ∷ is) (items_undamaged 104 groups) in (
       report,
       ap totals_of report
-          ∙ totals_of-append (Acquired 51 2 ∷ Group (group_sent 2 26 words []) ∷ []) (items_sent 104 groups)
+          ∙ totals_of_append (Acquired 51 2 ∷ Group (group_sent 2 26 words []) ∷ []) (items_sent 104 groups)
           ∙ ap (plus (totals_of (Acquired 51 2 ∷ Group (group_sent 2 26 words []) ∷ []))) (totals_listed 104 groups)
           ∙ same_counts (omega arith) refl refl refl refl refl refl refl (omega arith) (omega arith) refl refl,
     )
+
+pub ruleset damaged_groups = (locked_groups_are_listed, damaged_groups_are_listed)

@@ -10,12 +10,16 @@ use Rattle.rds_sync.specs.declared.loss.Loss.TheVariants.{Run, Share}
 use Rattle.rds_sync.specs.declared.state.State.{State}
 use Rattle.rds_sync.specs.declared.state.State.TheVariants.{Searching, Locked}
 use Rattle.rds_sync.specs.declared.item.Item.{Item}
+use Rattle.rds_sync.specs.declared.step.Step.{Step}
+use Rattle.rds_sync.specs.Advance.{next_place}
+use Rattle.rds_sync.specs.Hop.{IsHop}
 use Rattle.rds_sync.specs.Rules.{RuleNumbers}
 use Rattle.rds_sync.specs.Loss.{IsLossRule, bad_at, are_too_many, loses}
 use Rattle.rds_sync.specs.Acquiring.{acquired}
 use Rattle.rds_sync.specs.Lawful.{IsLawful, IsBetweenGroups}
 use Rattle.rds_sync.specs.Step.{step, items_at, run, items_of_end}
 use Rattle.rds_sync.specs.Report.{report_items}
+use Rattle.rds_sync.specs.Stretch.{IsStretch}
 
 -- the items of the run over a whole recording, with those of its end, are the report's
 abbrev pub RunsAreReports : Type 0
@@ -101,3 +105,19 @@ BadBlocksLose = (is_good : ℕ → Bool) (loss : Loss) (k : ℕ)
 -- n bad blocks in a row are n bad blocks among the last n
 abbrev pub RunsAreShares : Type 0
 RunsAreShares = (is_good : ℕ → Bool) (n k : ℕ) → loses (Run n) is_good k ≡ loses (Share n n) is_good k
+
+-- a stretch ends where one step of `advance` does, or that step gives nothing and the rest is a stretch
+abbrev pub StretchesAreSteps : Type 0
+StretchesAreSteps = (b : Signal) (rules : RuleNumbers) (s : State) (place to : ℕ) (reached : Step)
+    → IsLawful rules place s → IsStretch b rules s place to reached
+    → let next : ℕ = next_place s place to in
+    let after = run b rules s place (next - place) in
+    (next ≤ reached.place) × (next < reached.place
+    → (after.1 ≡ []) × IsStretch b rules after.0 next to reached)
+
+-- a hop that ends where a stretch does ends in its state
+abbrev pub HopsAreStretches : Type 0
+HopsAreStretches = (b : Signal) (rules : RuleNumbers) (s after : State) (place near to reads : ℕ)
+    (reached : Step)
+    → IsHop b rules s place near to reached.place after reads → IsStretch b rules s place to reached
+    → after ≡ reached.state

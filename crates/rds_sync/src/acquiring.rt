@@ -36,6 +36,7 @@ impl Acquisition {
     }
 
     /// The items of its bit: itself, and as block 4 the group that it closes as its only block.
+    #[tactic(auto, using(crate::proofs::Lemmas::acquired_items))]
     pub fn items(&self, rules: &Rules) -> [Option<Item>; 2]
         requires block { (25 ≤ self.now.place) × IfSome self.now.heard (λ window. window < 2 ^ 26) }
         ensures { (b : Signal) → self.now.heard ≡ heard b self.now.place → items_in result
@@ -111,6 +112,7 @@ pub(crate) fn acquire<T: Tape>(tape: &mut T, rules: &Rules, place: u64) -> Optio
 }
 
 /// Whether a block of this number at a place has a partner within reach.
+#[tactic(auto, using(crate::proofs::Lemmas::partners))]
 fn has_partner<T: Tape>(tape: &mut T, rules: &Rules, place: u64, number: BlockNumber) -> bool
     requires within { place < length_of (T.signal tape.old) }
     requires counted { T.reads_made tape.old + 8 ≤ 2 ^ 63 }
@@ -142,6 +144,7 @@ fn is_partner<T: Tape>(tape: &mut T, place: u64, number: BlockNumber, distance: 
 }
 
 /// The offset of the window at a place, if it is valid; there is no window before place 25.
+#[tactic(auto, using(crate::proofs::Lemmas::offset_there))]
 fn offset_at<T: Tape>(tape: &mut T, place: u64) -> Option<Offset>
     requires within { place < length_of (T.signal tape.old) }
     requires counted { T.reads_made tape.old < 2 ^ 63 }
@@ -157,6 +160,7 @@ fn offset_at<T: Tape>(tape: &mut T, place: u64) -> Option<Offset>
 }
 
 /// Whether a block of this number at a place of a recording has a partner within reach.
+#[tactic(auto, using(crate::proofs::Lemmas::partners))]
 pub(crate) fn has_partner_in(
     rec: &Recording,
     rules: &Rules,
@@ -175,6 +179,7 @@ pub(crate) fn has_partner_in(
 }
 
 /// Whether the window `distance` blocks back is valid, with the number that a block there has.
+#[tactic(auto, using(crate::proofs::Lemmas::is_partner_in))]
 fn is_partner_in(rec: &Recording, place: u64, number: BlockNumber, distance: u32) -> bool
     requires distance { distance ≤ 8 }
     requires within { place < length_of rec.now }

@@ -3,8 +3,7 @@
 ghost use Rattle.std.specs.Prelude.{◌≡◌, ◌≤◌, ◌<◌, ◌-◌, ◌^◌, Some};
 ghost use Rattle.rds_stream.specs.Recording.{Signal, length_of};
 ghost use Rattle.rds_sync.specs.Acquiring.{acquired};
-ghost use Rattle.rds_sync.specs.Inside.CountRuns.{IsCountStretch};
-ghost use Rattle.rds_sync.specs.Inside.Counts.{added};
+ghost use Rattle.rds_sync.specs.Inside.Counts.{IsCountStretch, added};
 ghost use Rattle.rds_sync.specs.Lawful.{IsLawful, IsLawfulLock};
 ghost use Rattle.rds_sync.specs.Rules.{RuleNumbers};
 ghost use Rattle.rds_sync.specs.Step.{items_at};

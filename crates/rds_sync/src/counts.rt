@@ -4,8 +4,7 @@ ghost use Rattle.std.specs.Prelude.{◌≡◌, ◌≤◌, ◌<◌, ◌+◌, ◌*
 ghost use Rattle.std.specs.List.{list_all};
 ghost use Rattle.rds_sync.specs.Counting.{IsAtMost};
 ghost use Rattle.rds_sync.specs.Inside.Counts.{acquired_count, count_of, group_count, in_lanes, joined, loss_count, no_count};
-ghost use Rattle.rds_sync.specs.Inside.Outcomes.{bits_inverted, has_info};
-ghost use Rattle.rds_sync.specs.Inside.Words.{blocks_in, outcome_at};
+ghost use Rattle.rds_sync.specs.Inside.Outcomes.{bits_inverted, has_info, blocks_in, outcome_at};
 
 use crate::item::Item;
 use crate::totals::Totals;

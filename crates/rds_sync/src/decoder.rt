@@ -114,6 +114,7 @@ impl<'a> Decoder<'a> {
 
     /// Appends the whole groups that come next, until there are `most` items, and tells whether there were any.
     #[inline(always)]
+    #[tactic(auto, using(crate::proofs::Lemmas::push_groups))]
     fn push_groups(&mut self, part: &mut Vec<Item>, most: usize) -> bool
         requires order { length part.old.items ≤ most }
         requires room { most ≤ vec_capacity part.old }

@@ -9,12 +9,9 @@ ghost use Rattle.rds_sync.specs.Acquiring.{has_number};
 ghost use Rattle.rds_sync.specs.Advance.{items_in};
 ghost use Rattle.rds_sync.specs.Groups.{blocks_at, group, group_of};
 ghost use Rattle.rds_sync.specs.Lawful.{HaveRoom};
-ghost use Rattle.rds_sync.specs.Inside.Due.{state_of};
-ghost use Rattle.rds_sync.specs.Inside.Locks.{IsFollowed, IsInProgress, IsReadable, items_of_due};
+ghost use Rattle.rds_sync.specs.Inside.Locks.{state_of, IsFollowed, IsInProgress, IsReadable, items_of_due};
 ghost use Rattle.rds_sync.specs.Rules.{RuleNumbers};
 ghost use Rattle.rds_sync.specs.Step.{step, items_at};
-ghost use Rattle.rds_sync.specs.Totals.{is_valid};
-ghost use Rattle.rds_sync.specs.declared.item.Block.TheVariants.{Read};
 ghost use Rattle.rds_sync.specs.declared.state.State.TheVariants.{Locked};
 
 use crate::due::Due;
@@ -23,7 +20,7 @@ use crate::lock::{BLOCK_PLACES, Lock};
 use crate::rules::Rules;
 use crate::state::State;
 use crate::step::Step;
-use rds_code::{BlockNumber, Reading, Wanted};
+use rds_code::{BlockNumber, Wanted};
 use rds_stream::{FIRST_WINDOW, Tape};
 
 /// The blocks of a group of which none was read.
@@ -82,16 +79,9 @@ pub(crate) fn read_due<T: Tape>(
         unreachable!()
     };
     let reading = rules.read(tape.window(lock.due), number, wanted);
-    let valid = is_valid(&reading);
-    blocks[(lock.number - 1) as usize] = Block::Read(reading);
-    valid
-}
-
-/// Whether a block was read as it was sent.
-pub(crate) fn is_valid(reading: &Reading) -> bool
-    ensures { result ≡ is_valid (Read reading.now) }
-{
-    matches!(reading, Reading::Valid { .. })
+    let block = Block::Read(reading);
+    blocks[(lock.number - 1) as usize] = block;
+    block.is_valid()
 }
 
 /// The group that the block just read closes.
@@ -105,6 +95,7 @@ pub(crate) fn closed_group(lock: Lock, blocks: [Block; 4]) -> Group
 }
 
 /// The group in progress, as far as it was read.
+#[tactic(auto, using(crate::proofs::Lemmas::group_so_far), unfolding(crate::specs::Groups::group))]
 pub(crate) fn group_so_far<T: Tape>(tape: &mut T, rules: &Rules, lock: Lock) -> Group
     requires numbers { (1 ≤ lock.first) × (lock.first < lock.number) × (lock.number ≤ 4) }
     requires start { HaveRoom lock.first lock.number lock.due }
@@ -125,6 +116,7 @@ pub(crate) fn group_so_far<T: Tape>(tape: &mut T, rules: &Rules, lock: Lock) -> 
 }
 
 /// Follows a lock by the block that is due.
+#[tactic(auto, using(crate::proofs::Lemmas::follow))]
 pub(crate) fn follow<T: Tape>(
     tape: &mut T,
     rules: &Rules,

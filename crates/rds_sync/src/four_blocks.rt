@@ -9,9 +9,8 @@ ghost use Rattle.rds_code.specs.declared.reading.Wanted.TheVariants.{Either};
 ghost use Rattle.rds_stream.specs.InARow.{four_heard};
 ghost use Rattle.rds_stream.specs.Recording.{Signal, length_of, reading_heard};
 ghost use Rattle.rds_sync.specs.Groups.{blocks_at, group, wanted_beside};
-ghost use Rattle.rds_sync.specs.Inside.Outcomes.{valid, outcome_of, bad_over};
+ghost use Rattle.rds_sync.specs.Inside.Outcomes.{IsKeptOver, valid, outcome_of, blocks_in};
 ghost use Rattle.rds_sync.specs.Inside.WholeGroups.{HasPushed, IsWhole};
-ghost use Rattle.rds_sync.specs.Inside.Words.{blocks_in};
 ghost use Rattle.rds_sync.specs.Loss.{IsLawfulBad, bad_after, are_too_many};
 ghost use Rattle.rds_sync.specs.Ranges.{IsLossInRange};
 ghost use Rattle.rds_sync.specs.Rules.{RuleNumbers};
@@ -118,6 +117,7 @@ fn word_heard(rules: &Rules, heard: &[Option<u32>; 4]) -> u16
 
 /// The four blocks of that group.
 #[inline(always)]
+#[tactic(auto, using(crate::proofs::Lemmas::blocks_heard))]
 fn blocks_of(rules: &Rules, heard: &[Option<u32>; 4]) -> [Block; 4]
     requires { All (λ heard. IfSome heard (λ window. window < 2 ^ 26)) heard.now }
     ensures { (b : Signal) (due : ℕ) → heard.now ≡ four_heard b due
@@ -189,10 +189,7 @@ fn valid_reading(heard: Option<u32>, offset: Offset) -> Option<Reading>
 fn bad_after_blocks(loss: Loss, blocks: &[Block; 4], bad: u64) -> Option<u64>
     requires range { IsLossInRange loss }
     requires lawful { IsLawfulBad loss bad }
-    ensures bad { IfSome result (λ after. after ≡ bad_over loss (map outcome_of blocks.now) bad 1 4) }
-    ensures lawful { IfSome result (IsLawfulBad loss) }
-    ensures kept { IfSome result (λ _. (k : ℕ) → k < 4
-        → are_too_many loss (bad_over loss (map outcome_of blocks.now) bad 1 (k + 1)) ≡ false) }
+    ensures { IfSome result (IsKeptOver loss (map outcome_of blocks.now) bad) }
 {
     let [one, two, three, four] = blocks;
     let first = kept_after(loss, one.is_valid(), bad)?;
@@ -205,13 +202,11 @@ fn bad_after_blocks(loss: Loss, blocks: &[Block; 4], bad: u64) -> Option<u64>
 /// The loss history after the blocks of the group of a word, or none if one of them loses the lock. After
 /// four good blocks no row of bad ones is left, and none is counted.
 #[inline(always)]
+#[tactic(auto, using(crate::proofs::Lemmas::bad_after_four))]
 pub(crate) fn bad_after_four(loss: Loss, word: u16, bad: u64) -> Option<u64>
     requires range { IsLossInRange loss }
     requires lawful { IsLawfulBad loss bad }
-    ensures bad { IfSome result (λ after. after ≡ bad_over loss (blocks_in word) bad 1 4) }
-    ensures lawful { IfSome result (IsLawfulBad loss) }
-    ensures kept { IfSome result (λ _. (k : ℕ) → k < 4
-        → are_too_many loss (bad_over loss (blocks_in word) bad 1 (k + 1)) ≡ false) }
+    ensures { IfSome result (IsKeptOver loss (blocks_in word) bad) }
 {
     match loss {
         Loss::Run(_) if word == CLEAN => Some(NONE_BAD),
@@ -224,10 +219,7 @@ pub(crate) fn bad_after_four(loss: Loss, word: u16, bad: u64) -> Option<u64>
 fn bad_after_each(loss: Loss, word: u16, bad: u64) -> Option<u64>
     requires range { IsLossInRange loss }
     requires lawful { IsLawfulBad loss bad }
-    ensures bad { IfSome result (λ after. after ≡ bad_over loss (blocks_in word) bad 1 4) }
-    ensures lawful { IfSome result (IsLawfulBad loss) }
-    ensures kept { IfSome result (λ _. (k : ℕ) → k < 4
-        → are_too_many loss (bad_over loss (blocks_in word) bad 1 (k + 1)) ≡ false) }
+    ensures { IfSome result (IsKeptOver loss (blocks_in word) bad) }
 {
     let one = kept_after(loss, was_valid(word % 16), bad)?;
     let two = kept_after(loss, was_valid(word / 16 % 16), one)?;

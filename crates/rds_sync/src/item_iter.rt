@@ -73,6 +73,7 @@ impl<'a> ItemIter<'a> {
 
     /// Takes the items that come next in place of those of `part`: as many as there is room for in it, or all that are
     /// left. It takes no memory.
+    #[tactic(auto, using(crate::proofs::Lemmas::part_filled))]
     pub fn fill(&mut self, part: &mut Vec<Item>)
         ensures items { self.old ≡ part.new.items ++ self.new }
         ensures full { (self.new ≡ []) ⊎ (length part.new.items ≡ vec_capacity part.new) }

@@ -116,6 +116,7 @@ impl Items {
 
     /// Item number `i`, the first of which is 0, or none if there are too few. To read many, take
     /// [`range`](Items::range).
+    #[tactic(auto, using(crate::proofs::Lemmas::item_got))]
     pub fn get(&self, rec: &Recording, rules: &Rules, i: usize) -> Option<Item>
         requires source { self.now.source ≡ rec.now }
         requires rules { self.now.rules ≡ rules.now }
@@ -285,6 +286,7 @@ fn append_spans(spans: &mut Vec<Span>, more: Vec<Span>) -> Result<(), AllocError
 }
 
 /// Appends copies of these spans, of the first of which `left` items are passed over. Refused memory, it appends none.
+#[tactic(auto, using(crate::proofs::Lemmas::push_past))]
 fn push_past(spans: &mut Vec<Span>, more: &[Span], left: usize) -> Result<(), AllocError>
     ensures ok { OnOk result ((b : Signal) (rules : RuleNumbers) → All (IsSpan b rules) more.now
         → IsInFirst b rules more.now left

@@ -3,7 +3,7 @@
 
 ghost use Rattle.std.specs.Prelude.{◌≡◌, ◌≤◌, ◌<◌, ◌+◌, ◌^◌, ◌↔◌, IsTrue, true};
 ghost use Rattle.rds_sync.specs.Lawful.{IsLawfulLock};
-ghost use Rattle.rds_sync.specs.Inside.Due.{IsAfter};
+ghost use Rattle.rds_sync.specs.Inside.Locks.{IsAfter};
 ghost use Rattle.rds_sync.specs.Loss.{IsLawfulBad, bad_by};
 ghost use Rattle.rds_sync.specs.Ranges.{IsLossInRange};
 ghost use Rattle.rds_sync.specs.Rules.{RuleNumbers};

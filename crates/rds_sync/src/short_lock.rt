@@ -5,7 +5,7 @@ ghost use Rattle.rds_code.specs.Cycle.{next_number};
 ghost use Rattle.rds_code.specs.Outcomes.{outcome_number};
 ghost use Rattle.rds_stream.specs.Recording.{length_of, reading_at};
 ghost use Rattle.rds_sync.specs.Acquiring.{has_number};
-ghost use Rattle.rds_sync.specs.Inside.ShortLocks.{IsLostAtOnce, wanted_behind, word_of_two};
+ghost use Rattle.rds_sync.specs.Inside.Outcomes.{IsLostAtOnce, wanted_behind, word_of_two};
 
 use crate::lock::BLOCK_PLACES;
 use crate::rules::Rules;

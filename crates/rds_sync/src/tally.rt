@@ -46,7 +46,7 @@ impl Model for Tally {
     ghost use Rattle.std.specs.Prelude.{◌-◌, ◌++◌};
     ghost use Rattle.rds_sync.specs.Step.{run};
     ghost use Rattle.rds_sync.specs.Tally.{TallyOf};
-    ghost use Rattle.rds_sync.specs.Inside.Tally.{IsTally};
+    ghost use Rattle.rds_sync.specs.Inside.Counts.{IsTally};
 
     ghost Value = { TallyOf };
 
@@ -208,6 +208,7 @@ impl Tally {
     }
 
     /// The report of the run.
+    #[tactic(auto, using(crate::proofs::Lemmas::tally_report))]
     pub fn report(self) -> Result<Report, AllocError>
         ensures items { IfOk result (λ report. report.items ≡ listed self.source self.rules self.list) }
         ensures totals { IfOk result (λ report. report.totals ≡ totals_of self.list) }

@@ -4,7 +4,7 @@ ghost use Rattle.std.specs.Prelude.{◌≡◌, ◌≤◌, ◌<◌, ◌+◌, ◌-
 ghost use Rattle.rds_stream.specs.Recording.{length_of};
 ghost use Rattle.rds_sync.specs.Acquiring.{acquired};
 ghost use Rattle.rds_sync.specs.Hop.{IsHop, mark};
-ghost use Rattle.rds_sync.specs.Inside.CountRuns.{IsCountStretch};
+ghost use Rattle.rds_sync.specs.Inside.Counts.{IsCountStretch};
 ghost use Rattle.rds_sync.specs.Lawful.{IsLawful, IsLawfulLock};
 ghost use Rattle.rds_sync.specs.Step.{run};
 ghost use Rattle.rds_sync.specs.declared.state.State.TheVariants.{Locked, Searching};

@@ -2,7 +2,7 @@
 
 ghost use Rattle.std.specs.Prelude.{◌≡◌, ◌≤◌, ◌<◌, ◌^◌, IfSome, length, vec_capacity};
 ghost use Rattle.rds_stream.specs.Recording.{length_of};
-ghost use Rattle.rds_sync.specs.Inside.CountRuns.{HasCountedOn};
+ghost use Rattle.rds_sync.specs.Inside.Counts.{HasCountedOn};
 ghost use Rattle.rds_sync.specs.Inside.WholeGroups.{HasGiven};
 ghost use Rattle.rds_sync.specs.Lawful.{IsLawfulLock};
 ghost use Rattle.rds_sync.specs.Loss.{IsLawfulBad};

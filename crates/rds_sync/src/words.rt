@@ -1,8 +1,7 @@
 //! How the blocks of a group came out, as a 16-bit word: four bits per block, block 1 lowest.
 
 ghost use Rattle.std.specs.Prelude.{◌≡◌, ◌≤◌, ◌<◌, map};
-ghost use Rattle.rds_sync.specs.Inside.Outcomes.{outcome_of, was_valid, has_info};
-ghost use Rattle.rds_sync.specs.Inside.Words.{IsShort, blocks_in, nibble, word_of_blocks, outcome_at};
+ghost use Rattle.rds_sync.specs.Inside.Outcomes.{outcome_of, was_valid, has_info, IsShort, blocks_in, nibble, word_of_blocks, outcome_at};
 
 use crate::item::Block;
 use rds_code::Reading;
@@ -13,6 +12,7 @@ pub(crate) const CLEAN: u16 = 0x1111;
 
 /// The four bits of a block.
 #[inline(always)]
+#[tactic(auto, using(crate::proofs::Lemmas::nibble))]
 pub(crate) fn nibble(block: &Block) -> u16
     ensures value { result ≡ nibble (outcome_of block.now) }
     ensures few { result ≤ 13 }

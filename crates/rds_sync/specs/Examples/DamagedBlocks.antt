@@ -87,12 +87,9 @@ both_fit = zero_group ++ bytes_of 0x00003f00001b900005400001b4
 abbrev pub beside_version_a : List ℕ
 beside_version_a = bytes_of 0x00003f000019800005400001b4
 
--- a corrected block 2 says the version as a valid one does: here it has one bit inverted, and says version A, or B
+-- a corrected block 2 says the version as a valid one does: here it has one bit inverted, and says version A
 abbrev pub corrected_a : List ℕ
 corrected_a = zero_group ++ bytes_of 0x00003f000039800005400001b4
-
-abbrev pub corrected_b : List ℕ
-corrected_b = zero_group ++ bytes_of 0x00003f02000c100005400001b4
 
 pub two_offsets : AreReported (
     row (first 208 both_fit) (rules_of 3 3 10)
@@ -110,7 +107,7 @@ pub two_offsets : AreReported (
     ∷ row (first 208 corrected_a) (rules_of 2 3 10) (and_then A a0 (corrected OB 0 0x0000200) lost d0)
     (totals 5 1 0 0 0 0 1 1 2 0 1 0)
     -- beside version B only C'
-    ∷ row (first 208 corrected_b) (rules_of 3 3 10)
+    ∷ row (first 208 (zero_group ++ bytes_of 0x00003f02000c100005400001b4)) (rules_of 3 3 10)
     (and_then B a0 (corrected OB 0x0800 0x0000200) (corrected Cx 0 0x0000200) d0)
     (totals 5 2 0 0 0 0 0 2 2 1 1 0)
     ∷ [])
@@ -119,46 +116,28 @@ two_offsets = refl
 
 -- ---- groups whose block 2 says version B, and groups in conflict
 
--- `agreed` has C' in block 3. `in_conflict` has C: it is valid all the same, the version is its own, and the group is in conflict.
-abbrev pub agreed : List ℕ
-agreed = bytes_of 0x00003f02002c10000d400001b4
-
-abbrev pub in_conflict : List ℕ
-in_conflict = bytes_of 0x00003f02002c100005a00001b4
-
--- block 2 says type 15 and version B, block 3 has the offset C; and type 8 and version A, with the offset C'
-abbrev pub type_15 : List ℕ
-type_15 = bytes_of 0x00003f3e000f500005a00001b4
-
-abbrev pub type_8 : List ℕ
-type_8 = bytes_of 0x00003f20001ef0000d400001b4
-
--- a zero group, then one of version B with one bit of block 2 inverted and one of block 3; and with the offset C in block 3
-abbrev pub corrected_blocks : List ℕ
-corrected_blocks = zero_group ++ bytes_of 0x00003f02000c100009400001b4
-
-abbrev pub corrected_conflict : List ℕ
-corrected_conflict = zero_group ++ bytes_of 0x00003f02000c100005a00001b4
-
 pub versions : AreReported (
-    row (first 104 agreed) default_rules
+    -- C' in block 3, and then C: it is valid all the same, the version is its own, and the group is in conflict
+    row (first 104 (bytes_of 0x00003f02002c10000d400001b4)) default_rules
     (Acquired 51 2 ∷ group_at 26 (Some 0) B missing (valid OB 0x0800) (valid Cx 0) d0 ∷ [])
     (totals 3 0 0 0 0 0 0 0 1 0 1 0)
-    ∷ row (first 104 in_conflict) default_rules
+    ∷ row (first 104 (bytes_of 0x00003f02002c100005a00001b4)) default_rules
     (Acquired 51 2 ∷ conflict_at 26 (Some 0) A missing (valid OB 0x0800) c0 d0 ∷ [])
     (totals 3 0 0 0 0 0 0 0 1 0 1 0)
-    ∷ row (first 104 type_15) default_rules
+    -- block 2 says type 15 and version B, block 3 has the offset C; and type 8 and version A, with the offset C'
+    ∷ row (first 104 (bytes_of 0x00003f3e000f500005a00001b4)) default_rules
     (Acquired 51 2 ∷ conflict_at 26 (Some 15) A missing (valid OB 0xF800) c0 d0 ∷ [])
     (totals 3 0 0 0 0 0 0 0 1 0 1 0)
-    ∷ row (first 104 type_8) default_rules
+    ∷ row (first 104 (bytes_of 0x00003f20001ef0000d400001b4)) default_rules
     (Acquired 51 2 ∷ conflict_at 26 (Some 8) B missing (valid OB 0x8000) (valid Cx 0) d0 ∷ [])
     (totals 3 0 0 0 0 0 0 0 1 0 1 0)
-    -- a corrected block 2 says type and version, and a group of valid and corrected blocks is complete
-    ∷ row (first 208 corrected_blocks) default_rules
+    -- one bit of block 2 and one of block 3 are inverted: a corrected block 2 says type and version, and a group of valid and corrected
+    -- blocks is complete
+    ∷ row (first 208 (zero_group ++ bytes_of 0x00003f02000c100009400001b4)) default_rules
     (and_then B a0 (corrected OB 0x0800 0x0000200) (corrected Cx 0 0x0000100) d0)
     (totals 5 2 0 0 0 0 0 2 2 1 1 0)
-    -- a corrected block 2 is enough for a conflict
-    ∷ row (first 208 corrected_conflict) default_rules
+    -- with the offset C in block 3, a corrected block 2 is enough for a conflict
+    ∷ row (first 208 (zero_group ++ bytes_of 0x00003f02000c100005a00001b4)) default_rules
     (items_of_whole ++ conflict_at 104 (Some 0) A a0 (corrected OB 0x0800 0x0000200) c0 d0 ∷ [])
     (totals 6 1 0 0 0 0 0 1 2 1 1 0)
     ∷ [])

@@ -40,10 +40,6 @@ more_groups = refl
 
 -- ---- where a lock begins
 
--- programme 0x1234, a group of type 2 and version A: two pairs of characters of a radio text
-abbrev pub radio_text : List ℕ
-radio_text = bytes_of 0x12341a89501ac52449594c83fb
-
 -- block 1, and a block 2 five blocks after it; two blocks 4, eight blocks apart; zeros between them
 abbrev pub five_apart : List ℕ
 five_apart = 0x00 ∷ 0x00 ∷ 0x3f ∷ replicate 15 0x00 ++ 0x19 ∷ 0x80 ∷ []
@@ -59,7 +55,8 @@ pub far_apart : AreReported (
     -- only blocks 3 and 4: a block 4 that acquires is a group of its own
     row (first 52 (0x00 ∷ 0x00 ∷ 0x5a ∷ 0x00 ∷ 0x00 ∷ 0x1b ∷ 0x40 ∷ [])) default_rules
     (Acquired 51 4 ∷ only_4_at 26 ∷ []) (totals 1 0 0 0 0 0 0 0 1 0 1 0)
-    ∷ row (first 104 radio_text) default_rules
+    -- programme 0x1234, a group of type 2 and version A: two pairs of characters of a radio text
+    ∷ row (first 104 (bytes_of 0x12341a89501ac52449594c83fb)) default_rules
     (Acquired 51 2 ∷ group_at 26 (Some 2) A missing (valid OB 0x2540) (valid C 0x5244) (valid D 0x5320) ∷ [])
     (totals 3 0 0 0 0 0 0 0 1 0 1 0)
     ∷ row (first 156 five_apart) (rules_of 0 8 10) block_2_acquires (totals 1 0 0 0 0 0 0 0 1 0 1 0)
@@ -112,10 +109,6 @@ one_bad = zero_group ++ bytes_of 0x000037400019800005a00001b4
 abbrev pub two_bad : List ℕ
 two_bad = zero_group ++ bytes_of 0x000037400019800005240001b4
 
--- blocks with the offsets A, D, A, D
-abbrev pub out_of_order : List ℕ
-out_of_order = bytes_of 0x00003f00001b400003f00001b4
-
 -- the second bad block among three loses
 abbrev pub items_lost : List Item
 items_lost = items_of_whole ++ group_at 104 (Some 0) A lost b0 lost missing ∷ LostLock 181 ∷ Acquired 207 4
@@ -124,9 +117,9 @@ items_lost = items_of_whole ++ group_at 104 (Some 0) A lost b0 lost missing ∷ 
 pub losses : AreReported (
     -- the loss closes a group of only the bad block; the partner of the next acquisition is in the lock before
     row (first 208 one_bad) (rules_of 2 3 1) block_1_loses (totals 6 0 0 0 0 0 1 0 3 0 2 1)
-    -- block 1 at place 77 acquires, and block 4 at place 103 would, by block 1 at place 25; but nothing is acquired at the place
+    -- blocks with the offsets A, D, A, D. Block 1 at place 77 acquires, and block 4 at place 103 would, by block 1 at place 25; but nothing is acquired at the place
     -- of a loss
-    ∷ row (first 104 out_of_order) (rules_of 2 3 1)
+    ∷ row (first 104 (bytes_of 0x00003f00001b400003f00001b4)) (rules_of 2 3 1)
     (Acquired 77 1 ∷ group_at 52 None Unknown a0 lost missing missing ∷ LostLock 103 ∷ [])
     (totals 1 0 0 0 0 0 1 0 1 0 1 1)
     -- one bad block of four loses: as at the first bad block

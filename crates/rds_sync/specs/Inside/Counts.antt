@@ -1,11 +1,19 @@
--- Counts of items, with the counts of blocks in lanes of a number. Cited by the bodies below `run_report` and
--- `Tally`, and by no public call.
-use Rattle.std.specs.Prelude.{◌≡◌, ℕ, ◌+◌, ◌*◌, ◌/◌, ◌%◌, ◌^◌, ◌≤◌, List, [], ◌∷◌, length, if◌then◌else◌}
+-- Counts of items, with the counts of blocks in lanes of a number, and runs that count their items. Cited by the bodies below `run_report`
+-- and `Tally`, and by no public call.
+use Rattle.std.specs.Prelude.{◌≡◌, ℕ, ◌+◌, ◌*◌, ◌/◌, ◌%◌, ◌^◌, ◌≤◌, List, [], ◌∷◌, length, if◌then◌else◌, ◌-◌, ◌<◌, ◌++◌}
 use Rattle.rds_sync.specs.declared.item.Item.{Item}
 use Rattle.rds_sync.specs.declared.totals.Totals.{Totals}
-use Rattle.rds_sync.specs.Counting.{plus}
+use Rattle.rds_sync.specs.Counting.{plus, IsAtMost}
 use Rattle.rds_sync.specs.Inside.Outcomes.{Outcome, was_valid, was_lost, has_span, bits_inverted, group_totals}
 use Rattle.rds_sync.specs.Totals.{totals_of}
+use Rattle.rds_stream.specs.Recording.{Signal, length_of}
+use Rattle.rds_sync.specs.declared.lock.Lock.{Lock}
+use Rattle.rds_sync.specs.declared.state.State.{State}
+use Rattle.rds_sync.specs.declared.state.State.TheVariants.{Locked}
+use Rattle.rds_sync.specs.Lawful.{IsLawful}
+use Rattle.rds_sync.specs.Loss.{IsLawfulBad}
+use Rattle.rds_sync.specs.Rules.{RuleNumbers}
+use Rattle.rds_sync.specs.Step.{run}
 
 -- the totals of some items, and how many they are
 pub record CountOf : Type 0 where
@@ -78,3 +86,42 @@ pub record AreLanes (lanes n : ℕ) : Type 0 where
 abbrev pub added : CountOf → List Item → CountOf
 added before [] = before
 added before (item ∷ items) = added (joined before (count_of (item ∷ []))) items
+
+-- ---- a run that counts its items, part by part
+
+-- how far the run from state s before `place` came, and the counts of the items that it gave
+pub record IsCountStretch (b : Signal) (rules : RuleNumbers) (s : State) (place to : ℕ) (before : CountOf)
+    (reached : ℕ × State) (after : CountOf) : Type 0 where
+  pub forward : place < reached.0
+  pub limit : reached.0 ≤ to
+  pub state : reached.1 ≡ (run b rules s place (reached.0 - place)).0
+  pub counts : after ≡ added before (run b rules s place (reached.0 - place)).1
+  pub lawful : IsLawful rules reached.0 reached.1
+
+-- the lock came from between two groups to between two others, and the groups in between were counted
+pub record HasCountedOn (b : Signal) (rules : RuleNumbers) (lock : Lock) (to : ℕ) (before : CountOf)
+    (now : Lock) (after : CountOf) : Type 0 where
+  pub between : (now.number ≡ 1) × (now.first ≡ 1)
+  pub few_bad : IsLawfulBad rules.loss now.bad
+  pub from_on : lock.due ≤ now.due
+  pub limit : lock.due < now.due → now.due - 25 ≤ to
+  pub far : lock.due < now.due → lock.due < now.due - 25
+  pub state : (run b rules (Locked lock) (lock.due - 25) (now.due - lock.due)).0 ≡ Locked now
+  pub counts : after ≡ added before (run b rules (Locked lock) (lock.due - 25) (now.due - lock.due)).1
+
+-- ---- a run that goes on, as it is kept: spans up to where the last one ended, and counts
+
+-- the spans give a list up to place a, at which the run was in state s; at `place` it is in state t, and the
+-- counts, added up or not yet, are of all that it gave
+pub record IsTally (b : Signal) (rules : RuleNumbers) (list : List Item) (a : ℕ) (s : State) (place : ℕ)
+    (t : State) (first counts : CountOf) : Type 0 where
+  pub start : IsLawful rules a s
+  pub order : a ≤ place
+  pub within : place ≤ length_of b
+  pub near : place ≤ 2 ^ 36
+  pub state : t ≡ (run b rules s a (place - a)).0
+  pub lawful : IsLawful rules place t
+  pub count : joined first counts ≡ count_of (list ++ (run b rules s a (place - a)).1)
+  pub few : length (list ++ (run b rules s a (place - a)).1) ≤ 2 * place
+  pub counted : counts.items ≤ 3000
+  pub small : IsAtMost (2 ^ 10 * first.items) first.totals

@@ -1,19 +1,38 @@
--- A lock that is followed from block to block, with the blocks of the group in progress. Cited by the bodies below `stretch`, `Decoder` and
--- `run_report`, and by no public call.
-use Rattle.std.specs.Prelude.{◌≡◌, ◌≢◌, ◌+◌, ◌-◌, ◌*◌, ◌<◌, List, [], ◌∷◌}
+-- A lock that is followed from block to block: the effect of a block on it, and the blocks of the group in progress. Cited by the bodies
+-- of all that follow a lock, and by no public call. This project's rule.
+use Rattle.std.specs.Prelude.{◌≡◌, ◌<◌, Bool, true, false, ◌≢◌, ◌+◌, ◌-◌, ◌*◌, List, [], ◌∷◌}
+use Rattle.rds_sync.specs.declared.due.Due.{Due}
+use Rattle.rds_sync.specs.declared.due.Due.TheVariants.{Inside, Closed, Lost}
+use Rattle.rds_sync.specs.declared.lock.Lock.{Lock}
+use Rattle.rds_sync.specs.declared.loss.Loss.{Loss}
+use Rattle.rds_sync.specs.declared.state.State.{State}
+use Rattle.rds_sync.specs.declared.state.State.TheVariants.{Searching, Locked}
+use Rattle.rds_sync.specs.Loss.{bad_after, are_too_many, IsLawfulBad}
+use Rattle.rds_sync.specs.Step.{lock_after, items_at}
 use Rattle.rds_stream.specs.Recording.{Signal, length_of}
 use Rattle.rds_sync.specs.declared.item.Block.{Block}
 use Rattle.rds_sync.specs.declared.item.Item.{Item}
 use Rattle.rds_sync.specs.declared.item.Item.TheVariants.{Group, LostLock}
-use Rattle.rds_sync.specs.declared.due.Due.{Due}
-use Rattle.rds_sync.specs.declared.due.Due.TheVariants.{Inside, Closed, Lost}
-use Rattle.rds_sync.specs.declared.lock.Lock.{Lock}
-use Rattle.rds_sync.specs.declared.state.State.TheVariants.{Locked}
 use Rattle.rds_sync.specs.Groups.{blocks_at, group_of}
 use Rattle.rds_sync.specs.Lawful.{AreInOrder, HaveRoom}
-use Rattle.rds_sync.specs.Loss.{IsLawfulBad}
 use Rattle.rds_sync.specs.Rules.{RuleNumbers}
-use Rattle.rds_sync.specs.Step.{items_at}
+
+-- the state to which a block that was due led
+abbrev pub state_of : Due → State
+state_of (Inside next) = Locked next
+state_of (Closed next) = Locked next
+state_of Lost = Searching
+
+-- the lock is kept, with the loss history after the block
+pub record IsKept (loss : Loss) (lock : Lock) (good : Bool) (next : Lock) : Type 0 where
+  pub few_bad : are_too_many loss (bad_after loss good lock.bad) ≡ false
+  pub next_is : next ≡ lock_after lock.due lock.number (bad_after loss good lock.bad) lock.first
+
+-- the effect of the block that is due on this lock, whether it is good or not
+abbrev pub IsAfter : Loss → Lock → Bool → Due → Type 0
+IsAfter loss lock good (Inside next) = (lock.number < 4) × IsKept loss lock good next
+IsAfter loss lock good (Closed next) = (lock.number ≡ 4) × IsKept loss lock good next
+IsAfter loss lock good Lost = are_too_many loss (bad_after loss good lock.bad) ≡ true
 
 -- these are the blocks of the group in progress
 abbrev pub IsInProgress : Signal → RuleNumbers → Lock → List Block → Type 0

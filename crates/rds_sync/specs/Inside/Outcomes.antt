@@ -1,16 +1,23 @@
--- How the blocks of a group came out, and from that the group's totals, and its lock's loss
--- history. Cited by the bodies below `Tally`, `run_report` and `Decoder::fill`, and by no public call. This
--- project's rule.
-use Rattle.std.specs.Prelude.{ℕ, zero, suc, ◌+◌, ◌-◌, List, Bool, true, false, ◌==◌, sum_by, count_by, count_ones, if◌then◌else◌, slice_index_or}
-use Rattle.std.specs.List.{list_all}
+-- How the blocks of a group came out: from that its totals, its lock's loss history, and a 16-bit word. Cited by the bodies below `Tally`,
+-- `run_report` and `Decoder::fill`, and by no public call. This project's rule.
+use Rattle.std.specs.Prelude.{ℕ, zero, suc, ◌+◌, ◌-◌, List, Bool, true, false, ◌==◌, sum_by, count_by, count_ones, if◌then◌else◌, slice_index_or, ◌≡◌, ◌*◌, ◌/◌, ◌%◌, ◌≤◌, min, [], ◌∷◌, length, ⊤, ◌<◌, map}
+use Rattle.std.specs.List.{list_all, All}
 use Rattle.rds_code.specs.Bursts.{burst_length}
 use Rattle.rds_code.specs.declared.reading.Reading.TheVariants.{Valid, Corrected, Lost}
 use Rattle.rds_sync.specs.declared.item.Block.{Block}
 use Rattle.rds_sync.specs.declared.item.Block.TheVariants.{Missing, Read}
 use Rattle.rds_sync.specs.declared.loss.Loss.{Loss}
 use Rattle.rds_sync.specs.declared.totals.Totals.{Totals}
-use Rattle.rds_sync.specs.Loss.{bad_after}
+use Rattle.rds_sync.specs.Loss.{bad_after, are_too_many, IsLawfulBad}
 use Rattle.rds_sync.specs.Totals.{by_burst_length}
+use Rattle.rds_code.specs.Outcomes.{burst_outcome}
+use Rattle.rds_code.specs.Cycle.{next_number}
+use Rattle.rds_code.specs.declared.reading.Wanted.{Wanted}
+use Rattle.rds_code.specs.declared.reading.Wanted.TheVariants.{Either}
+use Rattle.rds_stream.specs.Recording.{Signal, reading_at}
+use Rattle.rds_sync.specs.Acquiring.{has_number}
+use Rattle.rds_sync.specs.Groups.{group, wanted_beside}
+use Rattle.rds_sync.specs.Rules.{RuleNumbers}
 
 -- how a block came out: missing, valid, lost, or corrected, with the span of its burst and how many bits were inverted
 pub data Outcome : Type 0 where
@@ -72,3 +79,73 @@ good_at os y = was_valid (slice_index_or os (y - 1) missing)
 abbrev pub bad_over : Loss → List Outcome → ℕ → ℕ → ℕ → ℕ
 bad_over loss os bad y zero = bad
 bad_over loss os bad y (suc more) = bad_over loss os (bad_after loss (good_at os y) bad) (y + 1) more
+
+-- the loss history before and after four of these blocks, none of which loses the lock
+pub record IsKeptOver (loss : Loss) (os : List Outcome) (before after : ℕ) : Type 0 where
+  pub bad : after ≡ bad_over loss os before 1 4
+  pub lawful : IsLawfulBad loss after
+  pub kept : (k : ℕ) → k < 4 → are_too_many loss (bad_over loss os before 1 (k + 1)) ≡ false
+
+-- ---- four blocks as a 16-bit word: four bits per block, block 1 lowest
+
+-- four bits: none for a missing block, else its outcome
+abbrev pub nibble : Outcome → ℕ
+nibble missing = 0
+nibble valid = 1
+nibble lost = 2
+nibble (corrected s n) = burst_outcome s n
+
+-- the outcomes in the order of these numbers
+abbrev pub outcomes_in_order : List Outcome
+outcomes_in_order =
+    missing ∷ valid ∷ lost ∷ corrected 1 1 ∷ corrected 2 2 ∷ corrected 3 2 ∷ corrected 3 3 ∷ corrected 4 2
+    ∷ corrected 4 3 ∷ corrected 4 4
+    ∷ corrected 5 2 ∷ corrected 5 3 ∷ corrected 5 4 ∷ corrected 5 5 ∷ []
+
+-- the outcome that four bits say; 14 and 15 say nothing
+abbrev pub outcome_at : ℕ → Outcome
+outcome_at k = slice_index_or outcomes_in_order k missing
+
+-- it has four bits of its own: the burst has span 1 and one bit, or span s up to 5 and from 2 to s bits
+abbrev pub IsShort : Outcome → Type 0
+IsShort (corrected s n) = (1 ≤ s) × (s ≤ 5) × (min 2 s ≤ n) × (n ≤ s)
+IsShort o = ⊤
+
+-- four outcomes that have a word
+abbrev pub AreShort : List Outcome → Type 0
+AreShort os = (length os ≡ 4) × All IsShort os
+
+-- the first block in the lowest four bits
+abbrev pub word_of_blocks : List Outcome → ℕ
+word_of_blocks [] = 0
+word_of_blocks (o ∷ os) = nibble o + 16 * word_of_blocks os
+
+-- the four blocks that a word says
+abbrev pub blocks_in : ℕ → List Outcome
+blocks_in w = outcome_at (w % 16) ∷ outcome_at (w / 16 % 16) ∷ outcome_at (w / 256 % 16)
+    ∷ outcome_at (w / 4096) ∷ []
+
+-- ---- a lock that its second block loses, and the word of its group
+
+-- the offsets that are tried for the next block after block x at a place
+abbrev pub wanted_behind : Signal → RuleNumbers → ℕ → ℕ → Wanted
+wanted_behind b rules place x = if x == 2 then wanted_beside
+    (Read (reading_at b place 2 Either rules.burst)) else Either
+
+-- the first block of the group of the next block after block x, in a lock that begins with block x
+abbrev pub first_behind : ℕ → ℕ
+first_behind x = if x == 4 then 1 else x
+
+-- the word of a group of a valid block x and the next block of outcome k; after block 4, of only the next block
+abbrev pub word_of_two : ℕ → ℕ → ℕ
+word_of_two x k = if x == 1 then 1 + 16 * k else
+    (if x == 2 then 16 + 256 * k else (if x == 3 then 256 + 4096 * k else k))
+
+-- the next block after block x at a place ends before `to` and loses the lock, and the word is that of its
+-- group
+pub record IsLostAtOnce (b : Signal) (rules : RuleNumbers) (place x to word : ℕ) : Type 0 where
+  pub before : place + 26 < to
+  pub bad : has_number b (place + 26) (next_number x) ≡ false
+  pub loses : are_too_many rules.loss (bad_after rules.loss false 0) ≡ true
+  pub blocks : blocks_in word ≡ map outcome_of
+      (group b rules (first_behind x) (next_number x) (place + 26)).blocks

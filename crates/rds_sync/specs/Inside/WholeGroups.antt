@@ -1,6 +1,6 @@
 -- Whole groups of a lock: one that does not lose it, and how far several in a row lead, as items. Cited by the bodies below
 -- `Decoder::fill`, and by no public call.
-use Rattle.std.specs.Prelude.{◌≡◌, ℕ, ◌+◌, ◌-◌, ◌<◌, ◌≤◌, List, [], ◌∷◌, ◌++◌, false, length, map}
+use Rattle.std.specs.Prelude.{◌≡◌, ℕ, ◌+◌, ◌-◌, ◌<◌, ◌≤◌, List, [], ◌∷◌, ◌++◌, length, map}
 use Rattle.rds_stream.specs.Recording.{Signal}
 use Rattle.rds_sync.specs.declared.lock.Lock.{Lock}
 use Rattle.rds_sync.specs.declared.item.Group.{Group}
@@ -8,8 +8,8 @@ use Rattle.rds_sync.specs.declared.item.Item.{Item}
 use Rattle.rds_sync.specs.declared.item.Item.TheVariants.{Group as GroupItem}
 use Rattle.rds_sync.specs.declared.state.State.TheVariants.{Locked}
 use Rattle.rds_sync.specs.Groups.{group}
-use Rattle.rds_sync.specs.Inside.Outcomes.{Outcome, outcome_of, bad_over}
-use Rattle.rds_sync.specs.Loss.{IsLawfulBad, are_too_many}
+use Rattle.rds_sync.specs.Inside.Outcomes.{Outcome, outcome_of, IsKeptOver}
+use Rattle.rds_sync.specs.Loss.{IsLawfulBad}
 use Rattle.rds_sync.specs.Rules.{RuleNumbers}
 use Rattle.rds_sync.specs.Step.{run}
 
@@ -21,10 +21,7 @@ outcomes_at b rules due = map outcome_of (group b rules 1 4 (due + 78)).blocks
 pub record IsWhole (b : Signal) (rules : RuleNumbers) (due before : ℕ) (given : Group)
     (after : ℕ) : Type 0 where
   pub given_is : given ≡ group b rules 1 4 (due + 78)
-  pub bad_is : after ≡ bad_over rules.loss (outcomes_at b rules due) before 1 4
-  pub lawful : IsLawfulBad rules.loss after
-  pub few : (k : ℕ) → k < 4 → are_too_many rules.loss
-      (bad_over rules.loss (outcomes_at b rules due) before 1 (k + 1)) ≡ false
+  pub kept : IsKeptOver rules.loss (outcomes_at b rules due) before after
 
 -- that group was appended to the items before, and this is the loss history after it
 abbrev pub HasPushed : Signal → RuleNumbers → ℕ → ℕ → List Item → List Item → ℕ → Type 0

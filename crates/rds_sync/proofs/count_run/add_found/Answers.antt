@@ -1,8 +1,4 @@
-use Rattle.rds_sync.proofs.Names.{◌≡◌, ℕ, List, ◌∷◌, true, sym, ap, ◌∙◌, Item, Acquired, has_number, group, CountOf, joined, group_count, acquired_count, added, blocks_in, completed_group}
-use Rattle.rds_sync.proofs.CountLemmas.{group-added}
-use Rattle.rds_sync.proofs.LawfulLemmas.{acquired-number}
-use Rattle.rds_sync.proofs.RunLemmas.{items-acquiring}
-use Rattle.rds_sync.proofs.GroupOutcomes.{last-alone}
+use Rattle.rds_sync.proofs.Lemmas.{◌≡◌, ℕ, List, ◌∷◌, true, sym, ap, ◌∙◌, Item, Acquired, has_number, group, CountOf, joined, group_count, acquired_count, added, blocks_in, completed_group, group-added, acquired-number, items-acquiring, last-alone}
 use Rattle.rds_sync.proofs.count_run.add_found.Goals as goal
 
 pub returns-then-get-eq4-clause-given : goal.returns-then-get-eq4-clause-given

@@ -1,5 +1,4 @@
-use Rattle.rds_sync.proofs.Names.{◌≡◌, ℕ, ◌-◌, ◌<◌, ◌≤◌, List, ◌++◌, refl, sym, ap, ◌∙◌, arith, inl, Signal, Lock, Item, State, Locked, CountOf, added, HasCountedOn, IsCountStretch, IsLawful, IsLawfulLock, RuleNumbers, run}
-use Rattle.rds_sync.proofs.RunLemmas.{run-early, run-places}
+use Rattle.rds_sync.proofs.Lemmas.{◌≡◌, ℕ, ◌-◌, ◌<◌, ◌≤◌, List, ◌++◌, refl, sym, ap, ◌∙◌, arith, inl, Signal, Lock, Item, State, Locked, CountOf, added, HasCountedOn, IsCountStretch, IsLawful, IsLawfulLock, RuleNumbers, run, run-early, run_places}
 use Rattle.rds_sync.proofs.count_run.keep_on.Goals as goal
 
 module _ (b : Signal) (rules : RuleNumbers) (lock next : Lock) (place to : ℕ) (before after : CountOf) (passed : HasCountedOn b rules lock to before next after)
@@ -11,7 +10,7 @@ module _ (b : Signal) (rules : RuleNumbers) (lock next : Lock) (place to : ℕ) 
       let far = passed.far more in
       let count : next.due - lock.due ≡ next.due - 25 - (lock.due - 25) = omega (arith, start, more) in
       ap (λ (n : ℕ). run b rules (Locked lock) (lock.due - 25) n) count
-      ∙ run-places b rules (Locked lock) (lock.due - 25) place (next.due - 25) (omega (arith, soon.1)) (omega (arith, soon.0, far))
+      ∙ run_places b rules (Locked lock) (lock.due - 25) place (next.due - 25) (omega (arith, soon.1)) (omega (arith, soon.0, far))
       ∙ ap (λ (r : State × List Item). ((run b rules r.0 place (next.due - 25 - place)).0, r.1 ++ (run b rules r.0 place (next.due - 25 - place)).1))
       (run-early b rules (Locked lock) (lock.due - 25) place lock refl (omega (arith, soon.1)) soon.0)
 

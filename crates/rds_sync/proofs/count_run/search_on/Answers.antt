@@ -1,9 +1,4 @@
-use Rattle.rds_sync.proofs.Names.{◌≡◌, ◌≤◌, ◌<◌, ◌+◌, ◌-◌, ◌++◌, ℕ, Bool, true, false, List, [], Option, Some, None, refl, ap, sym, subst, ◌∙◌, arith, inl, inr, list_any, range_with_len, cases_lt, Signal, offset_at, WindowsLeft, NoneValid, Item, Lock, State, Searching, Locked, IsCountStretch, CountOf, added, acquired, has_number, has_partner, IsLostAtOnce, IsLawful, RuleNumbers, step, items_at, run, lock_after}
-use Rattle.rds_sync.proofs.CountLemmas.{added-further}
-use Rattle.rds_sync.proofs.RunLemmas.{step-acquiring, run-found, run-unfound, run-further}
-use Rattle.rds_sync.proofs.LawfulLemmas.{acquired-none, acquired-number, lawful-step, off-place}
-use Rattle.rds_sync.proofs.HeardLemmas.{acquired-offset}
-use Rattle.rds_sync.proofs.ShortLockLemmas.{short-run, short-counts}
+use Rattle.rds_sync.proofs.Lemmas.{◌≡◌, ◌≤◌, ◌<◌, ◌+◌, ◌-◌, ◌++◌, ℕ, Bool, true, false, List, [], Option, Some, None, refl, ap, sym, subst, ◌∙◌, arith, inl, inr, list_any, range_with_len, cases_lt, Signal, offset_at, WindowsLeft, NoneValid, Item, Lock, State, Searching, Locked, IsCountStretch, CountOf, added, acquired, has_number, has_partner, IsLostAtOnce, IsLawful, RuleNumbers, step, items_at, run, lock_after, added-further, step-acquiring, run-found, run-unfound, run-further, acquired-none, acquired-number, lawful_step, off-place, acquired-offset, short-run, short-counts}
 use Rattle.rds_sync.proofs.count_run.search_on.Invariants.{HasSearchedOn}
 use Rattle.rds_sync.proofs.count_run.search_on.Goals as goal
 use Rattle.rds_sync.proofs.count_run.search_on.Goals.{After-has_partner_in, After-add_loss}
@@ -129,7 +124,7 @@ returns-in_default-word_if_lost-clause-reached c =
     reached searched (here d + 1) (step (b d) rules (here d) Searching) (items_at (b d) rules (here d) Searching) c.add_found.new.counts (omega (arith, given.0)) (omega (arith, last d))
     (run-found (b d) rules c.loop-here.windows.next (here d) given.0 (none_before searched (here d) given.2)) (c.add_found.ensures.given (b d) rules e)
     (Locked c.after_block-lock.result) (omega (arith, given.0, searched.from_on)) state_is
-    (subst (λ (t : State). IsLawful rules (here d + 1) t) (sym state_is) (lawful-step (b d) rules c.reach.ensures.range.loss.0 (here d) Searching tt))
+    (subst (λ (t : State). IsLawful rules (here d + 1) t) (sym state_is) (lawful_step (b d) rules c.reach.ensures.range.loss.0 (here d) Searching tt))
 
 pub returns-then-items-most-clause-reached : goal.returns-then-items-most-clause-reached
 returns-then-items-most-clause-reached c =

@@ -1,5 +1,4 @@
-use Rattle.rds_sync.proofs.Names.{◌-◌, List, ap, sym, subst, refl, ◌∙◌, arith, Signal, Item, State, run, IsStretch}
-use Rattle.rds_sync.proofs.RunLemmas.{run-further}
+use Rattle.rds_sync.proofs.Lemmas.{◌-◌, List, ap, sym, subst, refl, ◌∙◌, arith, Signal, Item, State, run, IsStretch, run-further}
 use Rattle.rds_sync.proofs.decoder.end_of.Goals as goal
 
 pub loop-place-preserved : goal.loop-place-preserved

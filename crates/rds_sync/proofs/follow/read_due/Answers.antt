@@ -1,6 +1,4 @@
-use Rattle.rds_sync.proofs.Names.{common_steps, ◌≡◌, ◌-◌, ℕ, List, Option, get_or, set, ap, ◌∙◌, arith, reading_heard, Block, Read, Either, block_at, wanted_beside}
-use Rattle.rds_sync.proofs.GroupBlocks.{blocks_at-next}
-use Rattle.rds_sync.proofs.HeardLemmas.{good-reading}
+use Rattle.rds_sync.proofs.Lemmas.{common_steps, ◌≡◌, ◌-◌, ℕ, List, Option, get_or, set, ap, ◌∙◌, arith, reading_heard, Block, Read, Either, block_at, wanted_beside, blocks_at-next, good-reading}
 use Rattle.rds_sync.proofs.follow.read_due.Goals as goal
 use Rattle.rds_sync.proofs.follow.read_due.Goals.{then-lock-eq3, else-lock-eq3}
 

@@ -1,6 +1,4 @@
-use Rattle.rds_sync.proofs.Names.{◌+◌, ◌*◌, ℕ, [], ◌∷◌, None, get_or, refl, Either, Reading, reading_heard, Read}
-use Rattle.rds_sync.proofs.GroupWords.{word-tells}
-use Rattle.rds_sync.proofs.HeardBlocks.{heard-blocks, word-of-outcomes}
+use Rattle.rds_sync.proofs.Lemmas.{◌+◌, ◌*◌, ℕ, [], ◌∷◌, None, get_or, refl, Either, Reading, reading_heard, Read, word-tells, heard-blocks, word-of-outcomes}
 use Rattle.rds_sync.proofs.four_blocks.word_heard.Goals as goal
 
 pub returns : goal.returns

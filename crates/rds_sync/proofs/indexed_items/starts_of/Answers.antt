@@ -1,5 +1,4 @@
-use Rattle.rds_sync.proofs.Names.{◌<◌, ◌∷◌, [], All, List, Vec, Global, length, sym, subst, ap, ◌∙◌, arith, All-append, All-cons, All-nil, Start, IsStart}
-use Rattle.rds_sync.proofs.StartLemmas.{counted_next}
+use Rattle.rds_sync.proofs.Lemmas.{◌<◌, ◌∷◌, [], All, List, Vec, Global, length, sym, subst, ap, ◌∙◌, arith, All-append, All-cons, All-nil, Start, IsStart, counted_next}
 use Rattle.rds_sync.proofs.indexed_items.starts_of.Goals.{then-span-eq0+in_ok-push, else-span-eq0}
 use Rattle.rds_sync.proofs.indexed_items.starts_of.Goals as goal
 

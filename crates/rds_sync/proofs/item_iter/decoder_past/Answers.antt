@@ -1,5 +1,5 @@
 use Rattle.rds_sync.proofs.Names.{arith, common_steps, ◌-◌, drop, drop-drop, run}
-use Rattle.rds_sync.proofs.PastLemmas.{one_given}
+use Rattle.rds_sync.proofs.SpanLemmas.{one_given}
 use Rattle.rds_sync.proofs.item_iter.decoder_past.Goals as goal
 
 pub loop-number-preserved : goal.loop-number-preserved

@@ -1,5 +1,4 @@
-use Rattle.rds_sync.proofs.Names.{List, ◌++◌, All, ap, subst, ◌∙◌, All-tail, Item, Span, items_in, IsSpan}
-use Rattle.rds_sync.proofs.SpanLemmas.{gives_none}
+use Rattle.rds_sync.proofs.Lemmas.{List, ◌++◌, All, ap, subst, ◌∙◌, All-tail, Item, Span, items_in, IsSpan, gives_none}
 use Rattle.rds_sync.proofs.item_iter.next_in.Goals as goal
 
 pub loop-span-preserved : goal.loop-span-preserved

@@ -1,5 +1,4 @@
-use Rattle.rds_sync.proofs.Names.{common_steps, ◌≡◌, [], List, All, subst, ◌∙◌, arith, inl, inr, All-tail, Span, IsSpan, items_in}
-use Rattle.rds_sync.proofs.FillLemmas.{span_taken, with_more}
+use Rattle.rds_sync.proofs.Lemmas.{common_steps, ◌≡◌, [], List, All, subst, ◌∙◌, arith, inl, inr, All-tail, Span, IsSpan, items_in, span_taken, with_more}
 use Rattle.rds_sync.proofs.item_iter.push_from.Goals as goal
 
 pub loop-rest-init : goal.loop-rest-init

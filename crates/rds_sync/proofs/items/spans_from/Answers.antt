@@ -1,5 +1,4 @@
-use Rattle.rds_sync.proofs.Names.{◌≡◌, ◌-◌, List, ◌∷◌, drop, length, ap, sym, subst, All, ◌∙◌, arith, length-append, All-head, All-tail, Span, items_in, items_of, IsSpan}
-use Rattle.rds_sync.proofs.SpanLemmas.{past_first}
+use Rattle.rds_sync.proofs.Lemmas.{◌≡◌, ◌-◌, List, ◌∷◌, drop, length, ap, sym, subst, All, ◌∙◌, arith, length-append, All-head, All-tail, Span, items_in, items_of, IsSpan, past_first}
 use Rattle.rds_sync.proofs.items.spans_from.Goals as goal
 
 pub loop-span-preserved : goal.loop-span-preserved

@@ -1,4 +1,4 @@
-use Rattle.rds_sync.proofs.StepFormLemmas.{hops_are_stretches, stretches_are_steps}
+use Rattle.rds_sync.proofs.HopLemmas.{hops_are_stretches, stretches_are_steps}
 use Rattle.rds_sync.proofs.laws.steps_agree.Goals as goal
 
 pub returns-clause-stretches : goal.returns-clause-stretches

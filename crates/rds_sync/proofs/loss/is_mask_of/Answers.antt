@@ -1,4 +1,4 @@
-use Rattle.rds_sync.proofs.MaskLemmas.{within_ones}
+use Rattle.rds_sync.proofs.LossLemmas.{within_ones}
 use Rattle.rds_sync.proofs.loss.is_mask_of.Goals as goal
 
 pub returns : goal.returns

@@ -1,5 +1,5 @@
 use Rattle.std.proofs.Common.{◌≡◌, ℕ, Bool, ◌%◌, ◌*◌, ◌+◌, ◌^◌, ap, ◌∙◌, cond, sym, if◌then◌else◌}
-use Rattle.rds_sync.proofs.MaskLemmas.{mask_word}
+use Rattle.rds_sync.proofs.LossLemmas.{mask_word}
 use Rattle.rds_sync.proofs.loss.mask_after.Goals as goal
 use Rattle.rds_sync.proofs.loss.mask_after.Goals.{then-good, else-good}
 

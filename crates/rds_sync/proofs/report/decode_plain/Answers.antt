@@ -1,7 +1,5 @@
-use Rattle.rds_sync.proofs.Names.{◌-◌, ◌++◌, List, ap, ap₂, refl, sym, ◌∙◌, Item, Searching, Totals, plus, ItemsOf, listed, run, items_of_end, totals_of}
+use Rattle.rds_sync.proofs.Lemmas.{◌-◌, ◌++◌, List, ap, ap₂, refl, sym, ◌∙◌, Item, Searching, Totals, plus, ItemsOf, listed, run, items_of_end, totals_of, report-run, totals_of_append}
 use Rattle.rds_stream.specs.Tape.{TapeState}
-use Rattle.rds_sync.proofs.ItemLemmas.{report-run}
-use Rattle.rds_sync.proofs.TotalsLemmas.{totals_of-append}
 use Rattle.rds_sync.proofs.report.decode_plain.Goals as goal
 
 pub returns-clause-items : goal.returns-clause-items
@@ -23,6 +21,6 @@ returns-clause-totals c =
     let items : List Item = (run b rules Searching 0 (c.len-len.result - 0)).1 in
     c.plus.ensures.value
     ∙ ap₂ (λ (t u : Totals). plus t u) c.in_ok-end.ensures.totals (c.of_end.ensures.value ∙ ap (λ (is : List Item). totals_of is) ended)
-    ∙ sym (totals_of-append items (items_of_end b rules end))
+    ∙ sym (totals_of_append items (items_of_end b rules end))
     ∙ ap (λ (is : List Item). totals_of is)
     (report-run b rules c.len-len.result end _ c.reach.ensures.range.loss.0 c.len-len.ensures.value c.in_ok-end.ensures.state refl)

@@ -1,25 +1,20 @@
-use Rattle.rds_sync.proofs.Names.{◌≡◌, ◌≤◌, ◌-◌, ℕ, List, ap, ap₂, sym, subst, ◌∙◌, arith, Signal, length_of, Item, State, listed, IsLawful, RuleNumbers, run, TallyOf, gone_on, tally_at, totals_of}
-use Rattle.rds_sync.proofs.TallyRuns.{gone-none, gone-again}
+use Rattle.rds_sync.proofs.Lemmas.{◌≡◌, ◌≤◌, ◌-◌, ℕ, List, ap, ap₂, sym, subst, ◌∙◌, arith, Signal, length_of, Item, State, listed, IsLawful, RuleNumbers, run, TallyOf, gone_on, tally_at, totals_of, gone-none, gone-again}
 use Rattle.rds_sync.proofs.report.run_report.Invariants.{HasCome}
 use Rattle.rds_sync.proofs.report.run_report.Goals as goal
 
 -- the facts about a run that has come to its end
-module _ (b read : Signal) (rules : RuleNumbers) (s : State) (from to : ℕ) (now : TallyOf) (come : HasCome b read rules s from to now) where
+module _ {b read : Signal} {rules : RuleNumbers} {s : State} {from to : ℕ} {now : TallyOf} (come : HasCome b read rules s from to now) where
   source-is : now.source ≡ b
   source-is = ap (λ (t : TallyOf). t.source) come.gone
 
   rules-are : now.rules ≡ rules
   rules-are = ap (λ (t : TallyOf). t.rules) come.gone
 
-  state-is : to ≤ now.place → now.state ≡ (run b rules s from (to - from)).0
-  state-is end =
-      let there : now.place ≡ to = omega (arith, come.limit, end) in
-      ap (λ (t : TallyOf). t.state) come.gone ∙ ap (λ (p : ℕ). (run b rules s from (p - from)).0) there
+  there : to ≤ now.place → now.place ≡ to
+  there end = omega (arith, come.limit, end)
 
   list-is : to ≤ now.place → now.list ≡ (run b rules s from (to - from)).1
-  list-is end =
-      let there : now.place ≡ to = omega (arith, come.limit, end) in
-      ap (λ (t : TallyOf). t.list) come.gone ∙ ap (λ (p : ℕ). (run b rules s from (p - from)).1) there
+  list-is end = ap (λ (t : TallyOf). t.list) come.gone ∙ ap (λ (p : ℕ). (run b rules s from (p - from)).1) (there end)
 
 pub loop-reader-init : goal.loop-reader-init
 loop-reader-init c =
@@ -32,18 +27,13 @@ loop-reader-init c =
     }
 
 pub go_on-requires-clause-source : goal.go_on-requires-clause-source
-go_on-requires-clause-source c =
-    let come = c.loop-reader.invariant in
-    source-is c.args.rec.now c.loop-reader.reader c.args.rules.now c.args.state c.args.from c.args.to c.loop-reader.tally come ∙ sym come.same
+go_on-requires-clause-source c = source-is c.loop-reader.invariant ∙ sym c.loop-reader.invariant.same
 
 pub go_on-requires-clause-rules : goal.go_on-requires-clause-rules
-go_on-requires-clause-rules c =
-    rules-are c.args.rec.now c.loop-reader.reader c.args.rules.now c.args.state c.args.from c.args.to c.loop-reader.tally c.loop-reader.invariant
+go_on-requires-clause-rules c = rules-are c.loop-reader.invariant
 
 pub go_on-requires-clause-within : goal.go_on-requires-clause-within
-go_on-requires-clause-within c =
-    let come = c.loop-reader.invariant in
-    subst (λ (b : Signal). c.args.to ≤ length_of b) (sym come.same) c.requires.within
+go_on-requires-clause-within c = subst (λ (b : Signal). c.args.to ≤ length_of b) (sym c.loop-reader.invariant.same) c.requires.within
 
 pub loop-reader-preserved : goal.loop-reader-preserved
 loop-reader-preserved c =
@@ -60,32 +50,23 @@ loop-reader-preserved c =
 
 pub returns-clause-state : goal.returns-clause-state
 returns-clause-state c =
-    c.state-end.ensures.value
-    ∙ state-is c.args.rec.now c.loop-reader.reader c.args.rules.now c.args.state c.args.from c.args.to c.loop-reader.tally c.loop-reader.invariant (omega arith)
+    let come = c.loop-reader.invariant in
+    c.state-end.ensures.value ∙ ap (λ (t : TallyOf). t.state) come.gone
+    ∙ ap (λ (p : ℕ). (run c.args.rec.now c.args.rules.now c.args.state c.args.from (p - c.args.from)).0) (there come (omega arith))
 
 pub returns-clause-items : goal.returns-clause-items
 returns-clause-items c =
-    let b = c.args.rec.now in
-    let rules = c.args.rules.now in
-    let now = c.loop-reader.tally in
     let come = c.loop-reader.invariant in
-    let list = list-is b c.loop-reader.reader rules c.args.state c.args.from c.args.to now come (omega arith) in
     c.in_ok-report.ensures.items
-    ∙ ap (λ (is : List Item). listed now.source now.rules is) list
-    ∙ ap₂ (λ (signal : Signal) (numbers : RuleNumbers). listed signal numbers (run b rules c.args.state c.args.from (c.args.to - c.args.from)).1)
-    (source-is b c.loop-reader.reader rules c.args.state c.args.from c.args.to now come) (rules-are b c.loop-reader.reader rules c.args.state c.args.from c.args.to now come)
+    ∙ ap (λ (is : List Item). listed c.loop-reader.tally.source c.loop-reader.tally.rules is) (list-is come (omega arith))
+    ∙ ap₂ (λ (signal : Signal) (numbers : RuleNumbers). listed signal numbers (run c.args.rec.now c.args.rules.now c.args.state c.args.from (c.args.to - c.args.from)).1)
+    (source-is come) (rules-are come)
 
 pub returns-clause-totals : goal.returns-clause-totals
-returns-clause-totals c =
-    c.in_ok-report.ensures.totals
-    ∙ ap (λ (is : List Item). totals_of is)
-    (list-is c.args.rec.now c.loop-reader.reader c.args.rules.now c.args.state c.args.from c.args.to c.loop-reader.tally c.loop-reader.invariant (omega arith))
+returns-clause-totals c = c.in_ok-report.ensures.totals ∙ ap (λ (is : List Item). totals_of is) (list-is c.loop-reader.invariant (omega arith))
 
 pub returns-clause-lawful : goal.returns-clause-lawful
 returns-clause-lawful c =
-    let rules = c.args.rules.now in
     let come = c.loop-reader.invariant in
-    let there : c.loop-reader.tally.place ≡ c.args.to = omega (arith, come.limit, c.loop-reader-test.false, c.place.ensures) in
-    subst (λ (numbers : RuleNumbers). IsLawful numbers c.args.to c.state-end.result)
-    (rules-are c.args.rec.now c.loop-reader.reader rules c.args.state c.args.from c.args.to c.loop-reader.tally come)
-    (subst (λ (p : ℕ). IsLawful c.loop-reader.tally.rules p c.state-end.result) there c.state-end.ensures.lawful)
+    subst (λ (numbers : RuleNumbers). IsLawful numbers c.args.to c.state-end.result) (rules-are come)
+    (subst (λ (p : ℕ). IsLawful c.loop-reader.tally.rules p c.state-end.result) (there come (omega arith)) c.state-end.ensures.lawful)

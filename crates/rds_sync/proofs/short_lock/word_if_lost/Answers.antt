@@ -1,6 +1,4 @@
-use Rattle.rds_sync.proofs.Names.{◌≡◌, ◌+◌, ◌%◌, false, true, refl, subst, ◌∙◌, arith, Loss, blocks_at, wanted_behind, first_behind, bad_after, are_too_many}
-use Rattle.rds_sync.proofs.GroupWords.{word-tells}
-use Rattle.rds_sync.proofs.ShortLockLemmas.{bad-there, two-are}
+use Rattle.rds_sync.proofs.Lemmas.{◌≡◌, ◌+◌, ◌%◌, false, true, refl, subst, ◌∙◌, arith, Loss, blocks_at, wanted_behind, first_behind, bad_after, are_too_many, word-tells, bad-there, two-are}
 use Rattle.rds_sync.proofs.short_lock.word_if_lost.Goals as goal
 
 pub returns-then-outcome-from-clause-lost : goal.returns-then-outcome-from-clause-lost

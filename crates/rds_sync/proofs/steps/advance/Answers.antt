@@ -1,10 +1,9 @@
 use Rattle.rds_sync.proofs.Names.{common_steps, arith, append-nil, Searching, items_at, run, step}
-use Rattle.rds_sync.proofs.LawfulLemmas.{lawful-due, lawful-lock, lawful-step, lawful-waiting}
-use Rattle.rds_sync.proofs.RunLemmas.{run-due, run-early}
+use Rattle.rds_sync.proofs.RunLemmas.{lawful-due, lawful-lock, lawful_step, lawful-waiting, run-due, run-early}
 use Rattle.rds_sync.proofs.steps.advance.Goals as goal
 
 pub returns-in-Searching-clause-lawful : goal.returns-in-Searching-clause-lawful
-returns-in-Searching-clause-lawful g c = grind (arith, common_steps, step, lawful-step, c.search.ensures.state, c.search.ensures.place, c.reach.ensures.range.loss.0, step (g.T.Tape.signal c.args.tape.now) c.args.rules.now c.args.place Searching, lawful-step (g.T.Tape.signal c.args.tape.now) c.args.rules.now c.reach.ensures.range.loss.0 c.args.place Searching tt)
+returns-in-Searching-clause-lawful g c = grind (arith, common_steps, step, lawful_step, c.search.ensures.state, c.search.ensures.place, c.reach.ensures.range.loss.0, step (g.T.Tape.signal c.args.tape.now) c.args.rules.now c.args.place Searching, lawful_step (g.T.Tape.signal c.args.tape.now) c.args.rules.now c.reach.ensures.range.loss.0 c.args.place Searching tt)
 
 pub returns-in-Locked-clause-state : goal.returns-in-Locked-clause-state
 returns-in-Locked-clause-state g c = grind (arith, common_steps, lawful-lock, run-due)

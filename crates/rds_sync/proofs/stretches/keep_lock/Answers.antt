@@ -1,8 +1,4 @@
-use Rattle.rds_sync.proofs.Names.{common_steps, ◌≡◌, ◌≤◌, ◌+◌, ◌-◌, ℕ, List, [], ◌∷◌, refl, ap, sym, ◌∙◌, arith, inl, Signal, Block, GroupRecord, Item, Group, LostLock, Due, Inside, Closed, Lock, State, Locked, IsLawful, state_of, IsFollowed, items_of_due, IsStretch, Option, ◌≢◌, RuleNumbers, step, items_at, run}
-use Rattle.rds_sync.specs.Advance.{items_in}
-use Rattle.rds_sync.specs.declared.due.Due.TheVariants.{Lost}
-use Rattle.rds_sync.proofs.LawfulLemmas.{lawful-due, lawful-waiting}
-use Rattle.rds_sync.proofs.RunLemmas.{run-further, run-due, run-early, run-quiet}
+use Rattle.rds_sync.proofs.Lemmas.{common_steps, ◌≡◌, ◌≤◌, ◌+◌, ◌-◌, ℕ, List, [], ◌∷◌, refl, ap, sym, ◌∙◌, arith, inl, Signal, Block, GroupRecord, Item, Group, LostLock, Due, Inside, Closed, Lock, State, Locked, IsLawful, state_of, IsFollowed, items_of_due, IsStretch, Option, ◌≢◌, RuleNumbers, step, items_at, run, items_there as items_in, LockLost as Lost, lawful-due, lawful-waiting, run-further, run-due, run-early, run-quiet}
 use Rattle.rds_sync.proofs.stretches.keep_lock.Invariants.{HasFollowed}
 use Rattle.rds_sync.proofs.stretches.keep_lock.Goals as goal
 use Rattle.rds_sync.proofs.stretches.keep_lock.Goals.{After-follow}

@@ -1,11 +1,7 @@
-use Rattle.rds_sync.proofs.Names.{common_steps, ◌≡◌, ◌≤◌, ◌<◌, ◌+◌, ◌-◌, ℕ, Bool, true, false, Option, List, Some, None, ap, sym, subst, ◌∙◌, arith, inr, list_any, range_with_len, cases_lt, Offset, Signal, heard, offset_at, WindowsLeft, GivesFirst, NoneValid, Item, Lock, State, Searching, Locked, acquired, has_partner, IsLawful, RuleNumbers, step}
-use Rattle.rds_sync.proofs.ItemLemmas.{some_given}
-use Rattle.rds_sync.proofs.RunLemmas.{step-acquiring, items-acquiring, run-found, run-quiet, run-unfound}
-use Rattle.rds_sync.proofs.LawfulLemmas.{acquired-none, lawful-step, off-place}
-use Rattle.rds_sync.proofs.HeardLemmas.{acquired-offset}
+use Rattle.rds_sync.proofs.Lemmas.{common_steps, ◌≡◌, ◌≤◌, ◌<◌, ◌+◌, ◌-◌, ℕ, Bool, true, false, Option, List, Some, None, ap, sym, subst, ◌∙◌, arith, inr, list_any, range_with_len, cases_lt, Offset, Signal, heard, offset_at, WindowsLeft, GivesFirst, NoneValid, Item, Lock, State, Searching, Locked, acquired, has_partner, IsLawful, RuleNumbers, step, some_given, step-acquiring, items-acquiring, run-found, run-quiet, run-unfound, acquired-none, lawful_step, off-place, acquired-offset}
 use Rattle.rds_sync.proofs.stretches.search.Invariants.{HasSearched}
-use Rattle.rds_sync.proofs.stretches.search.Goals.{After-has_partner_in}
 use Rattle.rds_sync.proofs.stretches.search.Goals as goal
+use Rattle.rds_sync.proofs.stretches.search.Goals.{After-has_partner_in}
 
 module _ (b read : Signal) (rules : RuleNumbers) (place to : ℕ) (old : WindowsLeft)
     (searched : HasSearched b read rules place to old) where
@@ -76,7 +72,7 @@ returns-then-has_partner_in-clause-reached c =
       quiet = rw last (ap (λ (r : State × List Item). r.1) (run-unfound b rules c.args.place here range.0 none));
       ended = inr (some_given _ _ _ (items ∙ items-acquiring b rules here number e));
       lawful = subst (λ (t : State). IsLawful rules (here + 1) t) (sym state_is)
-          (lawful-step b rules c.reach.ensures.range.loss.0 here Searching tt);
+          (lawful_step b rules c.reach.ensures.range.loss.0 here Searching tt);
     }
 
 pub returns-clause-reached : goal.returns-clause-reached

@@ -1,5 +1,4 @@
-use Rattle.rds_sync.proofs.Names.{ℕ, ◌-◌, sym, subst, State, IsHop, IsLawful, IsLawfulLock}
-use Rattle.rds_sync.proofs.HopLemmas.{kept-hop, sought-hop}
+use Rattle.rds_sync.proofs.Lemmas.{ℕ, ◌-◌, sym, subst, State, IsHop, IsLawful, IsLawfulLock, kept-hop, sought-hop}
 use Rattle.rds_sync.proofs.tape_run.hop.Goals as goal
 
 pub returns-in-Locked-clause-hop : goal.returns-in-Locked-clause-hop

@@ -1,10 +1,4 @@
-use Rattle.rds_sync.proofs.Names.{◌≡◌, ◌≤◌, ◌+◌, ◌-◌, ℕ, List, [], refl, ap, ap₂, sym, subst, ◌∙◌, arith, inr, Signal, Block, Item, Due, Inside, Closed, Lock, Loss, State, Locked, has_number, blocks_at, group, CountOf, joined, group_count, added, IsCountStretch, state_of, IsAfter, IsLawful, RuleNumbers, step, items_at, run, blocks_in}
-use Rattle.rds_sync.specs.declared.due.Due.TheVariants.{Lost}
-use Rattle.rds_sync.proofs.CountLemmas.{added-nothing, group-added, lost-added}
-use Rattle.rds_sync.proofs.DueLemmas.{step-due, items-inside, items-closed, items-lost, kept-next}
-use Rattle.rds_sync.proofs.GroupWords.{outcomes-are}
-use Rattle.rds_sync.proofs.LawfulLemmas.{lawful-due, lawful-waiting}
-use Rattle.rds_sync.proofs.RunLemmas.{run-further, run-due, run-early, run-quiet}
+use Rattle.rds_sync.proofs.Lemmas.{◌≡◌, ◌≤◌, ◌+◌, ◌-◌, ℕ, List, [], refl, ap, ap₂, sym, subst, ◌∙◌, arith, inr, Signal, Block, Item, Due, Inside, Closed, Lock, Loss, State, Locked, has_number, blocks_at, group, CountOf, joined, group_count, added, IsCountStretch, state_of, IsAfter, IsLawful, RuleNumbers, step, items_at, run, blocks_in, LockLost as Lost, added-nothing, group-added, lost-added, step-due, followed-due, items-closed, items-lost, kept-next, outcomes-are, lawful-due, lawful-waiting, run-further, run-due, run-early, run-quiet}
 use Rattle.rds_sync.proofs.tape_run.keep.Invariants.{HasKept}
 use Rattle.rds_sync.proofs.tape_run.keep.Given.{Over}
 use Rattle.rds_sync.proofs.tape_run.keep.Goals as goal
@@ -101,22 +95,19 @@ loop-now-preserved g c =
     let next = c.in-Inside.next in
     let inside = after_is g d (Inside next) c.in-Inside.is in
     let kept = c.loop-now.invariant.kept in
-    let none : [] ≡ items_at (b g d) (rules g d) (now g d).due (Locked (now g d)) = sym (items-inside (b g d) (rules g d) (now g d) c.read_due-good.result (valid g d) next inside) in
+    let goes = followed-due (b g d) (rules g d) (now g d) c.read_due-good.result (valid g d) c.read_due-good.new.blocks (blocks_are g d) (Inside next) inside in
+    let none : [] ≡ items_at (b g d) (rules g d) (now g d).due (Locked (now g d)) = sym goes.nothing in
     let follows = kept-next (now g d) next _ inside.0 inside.1.next_is in
     let soon = kept.lawful.soon in
     let counts = c.read_due-good.ensures.reads in
     let cost = kept.cost in
-    let number : c.loop-now.now.number ≡ next.number - 1 = omega (arith, follows.1) in
-    let place : c.loop-now.now.due ≡ next.due - 26 = omega (arith, follows.0) in
     record {
       kept = record {
         next = c.loop-now.now.due + 1;
         from_on = omega (arith, kept.from_on, soon.0);
         limit = omega (arith, c.loop-now-test.true);
         lawful = lawful_after g d (Inside next) c.in-Inside.is;
-        in_progress = blocks_are g d
-            ∙ ap (λ (f : ℕ). blocks_at (b g d) (rules g d) f c.loop-now.now.number c.loop-now.now.due) (sym follows.2)
-            ∙ ap₂ (λ (x p : ℕ). blocks_at (b g d) (rules g d) next.first x p) number place;
+        in_progress = goes.in_progress;
         so_far = one_more kept ∙ ap₂ (λ (t : State) (is : List Item). (t, is)) (sym (state_is g d (Inside next) c.in-Inside.is)) (sym none);
         more = kept.more + 1;
         due_is = omega (arith, follows.0, kept.due_is);

@@ -1,7 +1,4 @@
-use Rattle.rds_sync.proofs.Names.{common_steps, ◌≡◌, ◌≤◌, ◌+◌, ℕ, List, Some, ap, sym, subst, ◌∙◌, arith, Signal, acquired, CountOf, added, IsLawful, step, items_at, lock_after, Item, Lock, State, Searching, Locked}
-use Rattle.rds_sync.proofs.CountLemmas.{added-nothing}
-use Rattle.rds_sync.proofs.LawfulLemmas.{lawful-step}
-use Rattle.rds_sync.proofs.RunLemmas.{run-found, run-searching, step-acquiring}
+use Rattle.rds_sync.proofs.Lemmas.{common_steps, ◌≡◌, ◌≤◌, ◌+◌, ℕ, List, Some, ap, sym, subst, ◌∙◌, arith, Signal, acquired, CountOf, added, IsLawful, step, items_at, lock_after, Item, Lock, State, Searching, Locked, added-nothing, lawful_step, run-found, run_searching, step-acquiring}
 use Rattle.rds_sync.proofs.tape_run.seek.Goals as goal
 
 pub returns-in-Some-clause-came : goal.returns-in-Some-clause-came
@@ -24,8 +21,8 @@ returns-in-Some-clause-came g c =
       counts = c.add_found.ensures.given b rules gives ∙ ap (λ (k : CountOf). added k (items_at b rules l.here Searching)) l.invariant.counts
           ∙ ap (λ (r : State × List Item). added c.args.counts.now r.1) (sym run_is);
       lawful = subst (λ (t : State). IsLawful rules (l.here + 1) t) (sym state_is)
-          (lawful-step b rules c.reach.ensures.range.loss.0 l.here Searching tt);
+          (lawful_step b rules c.reach.ensures.range.loss.0 l.here Searching tt);
     }
 
 pub returns-clause-came : goal.returns-clause-came
-returns-clause-came g c = grind (arith, common_steps, run-searching, added-nothing)
+returns-clause-came g c = grind (arith, common_steps, run_searching, added-nothing)

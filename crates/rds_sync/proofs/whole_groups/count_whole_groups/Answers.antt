@@ -1,25 +1,19 @@
-use Rattle.rds_sync.proofs.Names.{◌≡◌, ℕ, ◌+◌, ◌-◌, ◌<◌, ◌≤◌, List, [], ◌∷◌, false, sym, ap, subst, ◌∙◌, arith, Signal, Lock, Item, Group, Loss, State, Locked, group, HasCountedOn, CountOf, added, joined, group_count, Outcome, bad_over, blocks_in, IsLawfulBad, are_too_many, RuleNumbers, run}
-use Rattle.rds_sync.proofs.CountLemmas.{added-further, group-added}
-use Rattle.rds_sync.proofs.GroupOutcomes.{outcomes}
-use Rattle.rds_sync.proofs.WholeGroupLemmas.{one_more}
+use Rattle.rds_sync.proofs.Lemmas.{◌≡◌, ℕ, ◌+◌, ◌-◌, ◌<◌, ◌≤◌, List, [], ◌∷◌, sym, ap, subst, ◌∙◌, arith, Signal, Lock, Item, Group, Loss, State, Locked, group, HasCountedOn, CountOf, added, joined, group_count, Outcome, IsKeptOver, blocks_in, RuleNumbers, run, added-further, group-added, outcomes, one_more}
 use Rattle.rds_sync.proofs.whole_groups.count_whole_groups.Goals as goal
 
 -- one whole group more
 module _ (b : Signal) (rules : RuleNumbers) (lock now : Lock) (to : ℕ) (before counts after : CountOf) (passed : HasCountedOn b rules lock to before now counts)
     (start : 25 ≤ lock.due) (room : now.due + 78 < to) (word bad : ℕ)
-    (word_is : blocks_in word ≡ outcomes (group b rules 1 4 (now.due + 78)))
-    (bad_is : bad ≡ bad_over rules.loss (blocks_in word) now.bad 1 4) (lawful : IsLawfulBad rules.loss bad)
-    (few : (k : ℕ) → k < 4 → are_too_many rules.loss (bad_over rules.loss (blocks_in word) now.bad 1 (k + 1)) ≡ false)
+    (word_is : blocks_in word ≡ outcomes (group b rules 1 4 (now.due + 78))) (over : IsKeptOver rules.loss (blocks_in word) now.bad bad)
     (pushed : after ≡ joined counts (group_count (blocks_in word))) where
   pub further : HasCountedOn b rules lock to before (record { due = now.due + 104; number = now.number; bad = bad; first = now.first }) after
   further =
       let the_group = group b rules 1 4 (now.due + 78) in
-      let total = one_more b rules lock now bad start passed.from_on passed.between passed.state
-      (subst (λ (os : List Outcome). (k : ℕ) → k < 4 → are_too_many rules.loss (bad_over rules.loss os now.bad 1 (k + 1)) ≡ false) word_is few)
-      (bad_is ∙ ap (λ (os : List Outcome). bad_over rules.loss os now.bad 1 4) word_is) in
+      let kept = subst (λ (os : List Outcome). IsKeptOver rules.loss os now.bad bad) word_is over in
+      let total = one_more b rules lock now bad start passed.from_on passed.between passed.state kept.kept kept.bad in
       record {
         between = passed.between;
-        few_bad = lawful;
+        few_bad = over.lawful;
         from_on = omega (arith, passed.from_on);
         limit = λ more. omega (arith, room);
         far = λ more. omega (arith, passed.from_on);
@@ -39,13 +33,9 @@ loop-items-preserved c =
     let room : now.due + 78 < c.args.to = omega (arith, c.if-to-now.false) in
     let w = c.whole_word-word.result in
     let word_is : blocks_in w ≡ outcomes (group b rules 1 4 (now.due + 78)) = c.whole_word-word.ensures.blocks ∙ ap (λ (s : Signal). outcomes (group s rules 1 4 (now.due + 78))) same in
-    let loss_is = c.loss-loss.ensures.value in
     let bad = c.in-Some.bad in
-    let bad_is : bad ≡ bad_over rules.loss (blocks_in w) now.bad 1 4 = c.in-Some.ensures.bad ∙ ap (λ (loss : Loss). bad_over loss (blocks_in w) now.bad 1 4) loss_is in
     let more = further b rules c.args.lock now c.args.to c.args.counts.now l.counts c.add_group.new.self l.invariant.passed c.requires.start room w bad word_is
-    bad_is (subst (λ (loss : Loss). IsLawfulBad loss bad) loss_is c.in-Some.ensures.lawful)
-    (subst (λ (loss : Loss). (k : ℕ) → k < 4 → are_too_many loss (bad_over loss (blocks_in w) now.bad 1 (k + 1)) ≡ false) loss_is c.in-Some.ensures.kept)
-    c.add_group.ensures in
+    (subst (λ (loss : Loss). IsKeptOver loss (blocks_in w) now.bad bad) c.loss-loss.ensures.value c.in-Some.ensures) c.add_group.ensures in
     record {
       same = c.whole_word-word.ensures.same ∙ same;
       near = omega (arith, room, c.if-prove.false, c.len.ensures.limit);

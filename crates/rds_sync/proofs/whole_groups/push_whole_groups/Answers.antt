@@ -1,5 +1,4 @@
-use Rattle.rds_sync.proofs.Names.{common_steps, ◌≡◌, ℕ, ◌+◌, ◌<◌, ◌≤◌, List, [], ◌∷◌, length, length-append, append_assoc, refl, ap, subst, ◌∙◌, arith, Signal, Lock, Item, Group, group, HasGiven, HasPushed, RuleNumbers, run}
-use Rattle.rds_sync.proofs.WholeGroupLemmas.{one_more}
+use Rattle.rds_sync.proofs.Lemmas.{common_steps, ◌≡◌, ℕ, ◌+◌, ◌<◌, ◌≤◌, List, [], ◌∷◌, length, length-append, append_assoc, refl, ap, subst, ◌∙◌, arith, Signal, Lock, Item, Group, group, HasGiven, HasPushed, RuleNumbers, run, one_more}
 use Rattle.rds_sync.proofs.whole_groups.push_whole_groups.Goals as goal
 
 -- one whole group more

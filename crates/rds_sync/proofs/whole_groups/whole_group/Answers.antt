@@ -1,7 +1,4 @@
-use Rattle.rds_sync.proofs.Names.{common_steps, ◌≡◌, ◌≤◌, ◌<◌, ◌+◌, ◌-◌, ℕ, Some, None, [], ◌∷◌, false, sym, ap, ap₂, subst, ◌∙◌, arith, Signal, Group, Lock, State, Locked, Step, group, bad_over, IsLawfulBad, are_too_many, RuleNumbers, run, lock_of, IsStretch}
-use Rattle.rds_sync.proofs.GroupOutcomes.{outcomes}
-use Rattle.rds_sync.proofs.LawfulLemmas.{lawful-lock_after}
-use Rattle.rds_sync.proofs.WholeGroupLemmas.{whole_group, whole_quiet}
+use Rattle.rds_sync.proofs.Lemmas.{common_steps, ◌≡◌, ◌≤◌, ◌<◌, ◌+◌, ◌-◌, ℕ, Some, None, [], ◌∷◌, false, sym, ap, ap₂, subst, ◌∙◌, arith, Signal, Group, Lock, State, Locked, Step, group, bad_over, IsLawfulBad, are_too_many, RuleNumbers, run, lock_of, IsStretch, outcomes, lawful-lock_after, whole_group, whole_quiet}
 use Rattle.rds_sync.proofs.whole_groups.whole_group.Goals as goal
 
 -- the step over a whole group is a stretch
@@ -34,7 +31,7 @@ returns-clause-reached c =
     let there : due - 25 ≡ place = omega (arith, begins.2) in
     let whole = c.in_ok-group.ensures b due late (sym there) c.four_windows.ensures.value in
     let state : Locked lock ≡ Locked (lock_of due 1 lock.bad 1) = ap₂ (λ (x f : ℕ). Locked (lock_of due x lock.bad f)) begins.0 begins.1 in
-    let stretch = is_stretch b rules (Locked lock) due c.args.to lock.bad bad late (omega (arith, c.if-to-last.false)) state whole.few whole.bad_is whole.lawful in
+    let stretch = is_stretch b rules (Locked lock) due c.args.to lock.bad bad late (omega (arith, c.if-to-last.false)) state whole.kept.kept whole.kept.bad whole.kept.lawful in
     let next_is : Locked c.after_block.result ≡ Locked (lock_of (due + 104) 1 bad 1) =
     ap (λ (l : Lock). Locked l) c.after_block.ensures ∙ ap (λ (p : ℕ). Locked (lock_of p 1 bad 1)) (let e : due + 78 + 26 ≡ due + 104 = omega arith in e) in
     subst (λ (p : ℕ). IsStretch b rules (Locked lock) p c.args.to

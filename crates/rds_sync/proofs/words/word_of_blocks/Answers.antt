@@ -1,6 +1,4 @@
-use Rattle.std.proofs.Common.{◌≡◌, length, rules}
-use Rattle.rds_sync.proofs.GroupWords.{word-of-four}
-use Rattle.rds_sync.proofs.TotalsLemmas.{four_blocks}
+use Rattle.rds_sync.proofs.Lemmas.{◌≡◌, length, rules, word-of-four, four_blocks}
 use Rattle.rds_sync.proofs.words.word_of_blocks.Goals as goal
 
 pub returns-clause-blocks : goal.returns-clause-blocks

@@ -1,5 +1,4 @@
-use Rattle.rds_sync.proofs.Names.{common_steps, arith, reading_heard}
-use Rattle.rds_sync.proofs.GroupBlocks.{group-alone}
+use Rattle.rds_sync.proofs.Lemmas.{common_steps, arith, reading_heard, group-alone}
 use Rattle.rds_sync.proofs.acquiring.Acquisition.group.Goals as goal
 
 pub returns : goal.returns

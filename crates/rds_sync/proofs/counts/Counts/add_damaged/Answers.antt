@@ -1,5 +1,4 @@
-use Rattle.rds_sync.proofs.Names.{◌≡◌, ◌%◌, ◌/◌, [], ◌∷◌, ap, ◌∙◌, arith, if◌then◌else◌, list_all, CountOf, joined, group_count, has_info, outcome_at}
-use Rattle.rds_sync.proofs.LaneLemmas.{are-more, counted-group}
+use Rattle.rds_sync.proofs.Lemmas.{◌≡◌, ◌%◌, ◌/◌, [], ◌∷◌, ap, ◌∙◌, arith, if◌then◌else◌, list_all, CountOf, joined, group_count, has_info, outcome_at, are-more, counted-group}
 use Rattle.rds_sync.proofs.counts.Counts.add_damaged.Goals as goal
 
 pub invariant_of-self : goal.invariant_of-self

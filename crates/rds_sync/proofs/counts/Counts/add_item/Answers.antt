@@ -1,5 +1,4 @@
-use Rattle.rds_sync.proofs.Names.{arith, common_steps, count_of, joined, blocks_in}
-use Rattle.rds_sync.proofs.CountLemmas.{group-added}
+use Rattle.rds_sync.proofs.Lemmas.{arith, common_steps, count_of, joined, blocks_in, group-added}
 use Rattle.rds_sync.proofs.counts.Counts.add_item.Goals as goal
 
 pub returns-in-Group : goal.returns-in-Group

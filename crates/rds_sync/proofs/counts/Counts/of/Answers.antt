@@ -1,4 +1,4 @@
-use Rattle.rds_sync.proofs.CountLemmas.{count-next}
+use Rattle.rds_sync.proofs.TotalsLemmas.{count-next}
 use Rattle.rds_sync.proofs.counts.Counts.of.Goals as goal
 use Rattle.std.proofs.Common.{sym}
 

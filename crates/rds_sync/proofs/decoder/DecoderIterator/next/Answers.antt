@@ -1,5 +1,4 @@
-use Rattle.rds_sync.proofs.Names.{◌≡◌, [], ◌∷◌, length, get_or, Option, ap, subst, sym, ◌∙◌, rules, Item, GivesNext}
-use Rattle.rds_sync.proofs.DecoderLemmas.{left_of, gives-first, gives-second, goes-on, two_slots, none_ready}
+use Rattle.rds_sync.proofs.Lemmas.{◌≡◌, [], ◌∷◌, length, get_or, Option, ap, subst, sym, ◌∙◌, rules, Item, GivesNext, left_of, gives-first, gives-second, goes-on, two_slots, none_ready}
 use Rattle.rds_sync.proofs.decoder.DecoderIterator.next.Goals as goal
 
 pub returns-in-Some-first-clause-steps : goal.returns-in-Some-first-clause-steps

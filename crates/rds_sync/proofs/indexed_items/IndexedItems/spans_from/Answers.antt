@@ -1,5 +1,4 @@
-use Rattle.rds_sync.proofs.Names.{List, All, sym, subst, arith, Start, IsStart}
-use Rattle.rds_sync.proofs.StartLemmas.{found_at}
+use Rattle.rds_sync.proofs.Lemmas.{List, All, sym, subst, arith, Start, IsStart, found_at}
 use Rattle.rds_sync.proofs.indexed_items.IndexedItems.spans_from.Goals as goal
 
 pub prove-unreachable-requires : goal.prove-unreachable-requires

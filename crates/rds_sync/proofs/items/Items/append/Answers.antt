@@ -1,5 +1,4 @@
-use Rattle.rds_sync.proofs.Names.{common_steps, arith, listed, items_in}
-use Rattle.rds_sync.proofs.SpanLemmas.{alike, items_in-append, spans-behind, over}
+use Rattle.rds_sync.proofs.Lemmas.{common_steps, arith, listed, items_in, alike, items_in-append, spans-behind, over}
 use Rattle.rds_sync.proofs.items.Items.append.Goals as goal
 
 pub invariant_of-self-2 : goal.invariant_of-self-2

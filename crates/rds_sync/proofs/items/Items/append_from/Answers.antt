@@ -1,6 +1,4 @@
-use Rattle.rds_sync.proofs.Names.{◌≡◌, List, ◌++◌, drop, ap, ap₂, sym, subst, ◌∙◌, arith, Signal, Item, Span, ItemsOf, listed, AreSpans, items_in, RuleNumbers}
-use Rattle.rds_sync.proofs.SpanLemmas.{alike, over}
-use Rattle.rds_sync.proofs.PastLemmas.{items_after, spans_after}
+use Rattle.rds_sync.proofs.Lemmas.{◌≡◌, List, ◌++◌, drop, ap, ap₂, sym, subst, ◌∙◌, arith, Signal, Item, Span, ItemsOf, listed, AreSpans, items_in, RuleNumbers, alike, over, items_after, spans_after}
 use Rattle.rds_sync.proofs.items.Items.append_from.Goals as goal
 
 pub invariant_of-self-2 : goal.invariant_of-self-2

@@ -1,5 +1,4 @@
-use Rattle.rds_sync.proofs.Names.{common_steps, sym, subst, arith, length_of, End, ItemsOf, listed, IsSpan, items_in, IsLawful, items_of_end}
-use Rattle.rds_sync.proofs.SpanLemmas.{items_in-push, spans-push}
+use Rattle.rds_sync.proofs.Lemmas.{common_steps, sym, subst, arith, length_of, End, ItemsOf, listed, IsSpan, items_in, IsLawful, items_of_end, items_in-push, spans-push}
 use Rattle.rds_sync.proofs.items.Items.close.Goals as goal
 
 pub invariant_of-self-2 : goal.invariant_of-self-2

@@ -1,6 +1,4 @@
-use Rattle.rds_sync.proofs.Names.{common_steps, sym, subst, arith, Span, ItemsOf, listed, IsSpan, items_in, run}
-use Rattle.rds_sync.specs.declared.span.Span.TheVariants.{Run}
-use Rattle.rds_sync.proofs.SpanLemmas.{items_in-push, spans-push}
+use Rattle.rds_sync.proofs.Lemmas.{common_steps, sym, subst, arith, Span, ItemsOf, listed, IsSpan, items_in, run, RunSpan as Run, items_in-push, spans-push}
 use Rattle.rds_sync.proofs.items.Items.push_span.Goals as goal
 
 pub invariant_of-self-2 : goal.invariant_of-self-2

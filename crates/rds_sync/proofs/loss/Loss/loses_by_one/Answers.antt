@@ -1,5 +1,5 @@
 use Rattle.rds_sync.proofs.Names.{common_steps, arith, nat_le, count_ones, bad_after, are_too_many}
-use Rattle.rds_sync.proofs.ShortLockLemmas.{share-of-one}
+use Rattle.rds_sync.proofs.WordLemmas.{share-of-one}
 use Rattle.rds_sync.proofs.loss.Loss.loses_by_one.Goals as goal
 
 pub returns-in-Share-eq1-default : goal.returns-in-Share-eq1-default

@@ -1,4 +1,4 @@
-use Rattle.std.proofs.Common.{refl, arith}
+use Rattle.rds_sync.proofs.Names.{refl, arith}
 use Rattle.rds_sync.proofs.rules.Rules.of.Goals as goal
 
 pub returns-in_default-clause-burst_range : goal.returns-in_default-clause-burst_range

@@ -1,5 +1,4 @@
-use Rattle.rds_sync.proofs.Names.{arith, common_steps, ap, ItemsOf}
-use Rattle.rds_sync.proofs.TallyRuns.{tally-cut}
+use Rattle.rds_sync.proofs.Lemmas.{arith, common_steps, ap, ItemsOf, tally-cut}
 use Rattle.rds_sync.proofs.tally.Tally.end_long_span.Goals as goal
 
 pub invariant_of-self-then-items-most_in_one : goal.invariant_of-self-then-items-most_in_one

@@ -1,6 +1,0 @@
-use Rattle.rds_sync.proofs.Names.{common_steps, arith, has_partner}
-use Rattle.rds_sync.proofs.HeardLemmas.{any-later}
-use Rattle.rds_sync.proofs.acquiring.has_partner.Goals as goal
-
-pub loop-distance-preserved : goal.loop-distance-preserved
-loop-distance-preserved g c = grind (arith, common_steps, has_partner, any-later)
