@@ -1,12 +1,9 @@
 -- The laws of symbols read as blocks, and of items read again.
 use Rattle.rds_soft.proofs.Names.{common_steps, ◌≡◌, ℕ, ◌+◌, ◌-◌, ◌<◌, ◌≤◌, Bool, true, false, List, length, get_or, take, drop, refl, sym, ap, ◌∙◌, subst, arith, bit_xor, length-take, length-drop, Some, None, ℤ, pos, nat_lt, not, ◌&&◌, if◌then◌else◌, number_from_digits, lt-ltb, ext_get_or, get_or-take, get_or-drop, Offset, Wanted, IsReading, information, reading, ReadsByRule, reading_at, window, heard, touched, length_of, Read, mask_of, hard_bit, hard_bits, hard_window, confidences, block_again, reading_heard, soft_reading, HasOneSoftReading, SymbolsHaveWindows, ReadsFromSymbols}
+use Rattle.rds_soft.{specs.declared.soft_reading.SoftReading.TheVariants.Valid, specs.declared.soft_reading.SoftReading.TheVariants.Corrected, specs.declared.soft_reading.SoftReading.TheVariants.Lost, specs.declared.soft_item.SoftBlock.TheVariants.Read as SoftRead, proofs.NearestLaws.has_one_nearest, proofs.SymbolLemmas.bit_of, proofs.SymbolLemmas.bit_count}
 use mathlib.Core.Path.{ap₂}
 use Rattle.rds_code.specs.declared.reading.Reading.{Reading}
 use Rattle.rds_stream.specs.Recording.{reading_heard as hard_heard}
-use Rattle.rds_soft.specs.declared.soft_reading.SoftReading.TheVariants.{Valid, Corrected, Lost}
-use Rattle.rds_soft.specs.declared.soft_item.SoftBlock.TheVariants.{Read as SoftRead}
-use Rattle.rds_soft.proofs.NearestLaws.{has_one_nearest}
-use Rattle.rds_soft.proofs.SymbolLemmas.{bit_of, bit_count}
 
 -- ---- one reading
 

@@ -1,7 +1,6 @@
 -- Flips of symbols, by the remainder of their mask: the sum of the effects.
 use Rattle.rds_soft.proofs.Names.{common_steps, ◌≡◌, ℕ, zero, suc, ◌+◌, ◌*◌, ◌/◌, ◌%◌, ◌^◌, ◌<◌, List, sym, ap, ◌∙◌, arith, bit_xor, inl, inr, xor_self, xor_assoc, xor_shifted, xor_comm, xor_shr, xor_mod, rem, IsLinear, mask_of, weight, effect, confidence, sum_of, weigh, least, lightest, second, Leads, AreLightest}
-use Rattle.rds_soft.proofs.LightestLemmas.{Reach, IsSplit, split_word, sum_without, sum_with, least_below}
-use Rattle.rds_soft.proofs.SecondLemmas.{Weighs, lightest_reached, others_weigh, second_reached}
+use Rattle.rds_soft.proofs.{LightestLemmas.Reach, LightestLemmas.IsSplit, LightestLemmas.split_word, LightestLemmas.sum_without, LightestLemmas.sum_with, LightestLemmas.least_below, SecondLemmas.Weighs, SecondLemmas.lightest_reached, SecondLemmas.others_weigh, SecondLemmas.second_reached}
 
 -- (a xor b) xor (c xor d) is (a xor c) xor (b xor d)
 swap_inner : (a b c d : ℕ) → bit_xor (bit_xor a b) (bit_xor c d) ≡ bit_xor (bit_xor a c) (bit_xor b d)

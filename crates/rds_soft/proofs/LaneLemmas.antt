@@ -1,7 +1,6 @@
 -- Lanes of sixteen weights.
 use Rattle.rds_code.proofs.Membership.{each_below, EachBelow}
-use Rattle.std.proofs.Math.Nat.{mod-lt}
-use Rattle.std.proofs.lemmas.Nat.{mod-pow-add, pow_pos}
+use Rattle.std.proofs.{Math.Nat.mod-lt, lemmas.Nat.mod-pow-add, lemmas.Nat.pow_pos}
 use Rattle.rds_soft.proofs.Names.{common_steps, xor_comm, xor_assoc, ◌++◌, length, ◌≡◌, ℕ, ◌+◌, ◌*◌, ◌/◌, ◌%◌, ◌^◌, ◌<◌, ◌≤◌, List, Bool, cond, ltb, get_or, sym, ap, subst, ◌∙◌, arith, rules, bit_xor, min, refl, ◌-◌, inl, inr, min-eq_left, min-eq_right, cases_lt, T, all_below, pick_l, xor_lt, xor_block, pick_l_left, xor_zero_r}
 
 by_test : (t : Bool) (a b : ℕ) → t ≡ ltb a b → cond t a b ≡ min a b

@@ -1,7 +1,6 @@
 -- The laws of the nearest block.
 use Rattle.rds_soft.proofs.Names.{common_steps, ◌≡◌, ◌≢◌, ℕ, zero, suc, ◌+◌, ◌-◌, ◌*◌, ◌%◌, ◌^◌, ◌<◌, ◌≤◌, List, sym, ap, ◌∙◌, arith, bit_xor, ◌⊎◌, inl, inr, lit<, xor_assoc, xor_zero_l, xor_zero_r, cases_eq, xor_lt, bit_at-lt, bit_at_xor, Offset, Wanted, rem, word, mask_of, weight, Turns, NoneTurnsValid, HasOneNearest, SureSymbolsStay, CorrectsSent, confidence, weigh}
-use Rattle.rds_soft.proofs.LightestLemmas.{undone, split_word, IsSplit, weigh_without, weigh_with}
-use Rattle.rds_soft.proofs.FlipLemmas.{mask_xor, weight_is}
+use Rattle.rds_soft.proofs.{LightestLemmas.undone, LightestLemmas.split_word, LightestLemmas.IsSplit, LightestLemmas.weigh_without, LightestLemmas.weigh_with, FlipLemmas.mask_xor, FlipLemmas.weight_is}
 
 -- ---- valid windows
 

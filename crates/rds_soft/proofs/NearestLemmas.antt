@@ -1,7 +1,6 @@
 -- From the lightest flips of each offset to the nearest block.
 use Rattle.rds_soft.proofs.Names.{common_steps, ◌≡◌, ◌≢◌, ℕ, ◌+◌, ◌<◌, ◌≤◌, List, refl, sym, ap, ◌∙◌, arith, bit_xor, min, subst, ◌⊎◌, inl, inr, IsTrue, xor_self, xor_assoc, xor_zero_l, min-le_left, min-le_right, min-eq_left, min-eq_right, cases_lt, cases_eq, false≢true, Offset, A, B, C, Cx, D, Wanted, OnlyC, OnlyCx, Either, rem, word, number, allows, IsLinear, mask_of, weight, Turns, IsNearest, effect, confidence, Leads, AreLightest, of_none, least, lightest, second, IsWalk, TurnTo, AreNearest}
-use Rattle.rds_soft.proofs.FlipLemmas.{are_lightest}
-use Rattle.rds_soft.proofs.LightestLemmas.{least_small}
+use Rattle.rds_soft.proofs.{FlipLemmas.are_lightest, LightestLemmas.least_small}
 
 -- a xor (a xor b) is b
 twice : (a b : ℕ) → bit_xor a (bit_xor a b) ≡ b

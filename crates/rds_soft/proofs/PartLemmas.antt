@@ -1,7 +1,7 @@
 -- A part of a stream of symbols: the bits between its symbols, what is heard of them, and the symbols of its blocks.
 use Rattle.rds_soft.proofs.Names.{◌≡◌, ◌+◌, ◌-◌, ◌<◌, ◌≤◌, ◌++◌, ◌⊎◌, ◌∙◌, ℕ, List, Bool, Option, Some, None, true, false, ap, ap₂, arith, drop, length, sym, take, ℤ, nat_lt, not, ◌&&◌, if◌then◌else◌, list_any, cast_signed, w8, lt-ltb, drop-append-le, drop-drop, ext_get_or, length-drop, length-map, map-append, take-append-le, get_or-map-range_with_len, length-map-range_with_len, Signal, bits_of, heard, is_touched_by, length_of, packed_bit, touched, window, IsPartHeard, most_behind, TouchAlike, SymbolsHaveWindows, symbols_of, hard_bit, hard_bits, hard_window}
-use Rattle.std.proofs.lemmas.List.{drop-map}
 use Rattle.rds_soft.proofs.InsideLemmas.{AreSymbolsOf}
+use Rattle.std.proofs.lemmas.List.{drop-map}
 
 -- ---- bits
 

@@ -1,8 +1,7 @@
 -- What the functions of `ReadAgain` compute is what the rule allows.
 use Rattle.rds_soft.proofs.Names.{common_steps, ◌≡◌, ℕ, zero, suc, ◌+◌, ◌≤◌, List, refl, arith, bit_xor, Some, None, nat_lt, if◌then◌else◌, ltb-true, ltb-false, eqb-true, eqb-false, cond_both, Offset, A, B, C, Cx, D, Wanted, OnlyC, OnlyCx, Either, IsLinear, rem, word, IsCorrection, Turn, turn_to, lighter, turn_third, turn_of, within, correction, soft_reading, SymbolsAreReadSo, TurnTo, AreNearest}
-use Rattle.rds_soft.specs.declared.correction.Correction.{Correction}
-use Rattle.rds_soft.proofs.FlipLemmas.{are_lightest}
 use Rattle.rds_soft.proofs.NearestLemmas.{only_one, nearer_C, nearer_Cx, is_nearest, none_past_top, none_beside, only_A, only_B, only_C, only_Cx, only_D, A_allowed, B_allowed, D_allowed}
+use Rattle.rds_soft.{specs.declared.correction.Correction.Correction, proofs.FlipLemmas.are_lightest}
 
 -- ---- the correction
 

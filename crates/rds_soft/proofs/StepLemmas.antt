@@ -1,8 +1,6 @@
 -- One symbol of the look back, by what is read of the rows.
 use Rattle.rds_soft.proofs.Names.{common_steps, ◌≡◌, ℕ, ◌+◌, ◌-◌, ◌*◌, ◌%◌, ◌^◌, ◌<◌, ◌≤◌, List, [], sym, ap, ◌∙◌, arith, bit_xor, min, slice_index, get_or, subst, xor_lt, effect, confidence, least, AreRows, IsWalk}
-use Rattle.rds_soft.proofs.LightestLemmas.{least_small}
-use Rattle.rds_soft.proofs.SecondLemmas.{lightest_small}
-use Rattle.rds_soft.proofs.WalkLemmas.{walk_turned, walk_kept}
+use Rattle.rds_soft.proofs.{LightestLemmas.least_small, SecondLemmas.lightest_small, WalkLemmas.walk_turned, WalkLemmas.walk_kept}
 
 -- the walk is at symbol n, and this was read of its row
 pub record IsRead (rows : List (List ℕ)) (confidences : List ℕ) (s n left flips spent others e kept base c : ℕ) : Type 0 where

@@ -1,9 +1,7 @@
 -- A stream of symbols after further ones, and at its end.
 use Rattle.rds_soft.proofs.Names.{◌≡◌, ◌+◌, ◌-◌, ◌*◌, ◌^◌, ◌<◌, ◌≤◌, ◌++◌, ◌⊎◌, ◌∙◌, ◌∷◌, common_steps, ℕ, List, [], ap, ap₂, arith, drop, inl, length, map, refl, subst, sym, All, append-nil, drop-append-le, length-append, length-drop, map-append, AreGaps, Signal, length_of, AcquisitionsAreLate, RunsAreLawful, RunsAreReports, RunsGiveFewItems, RunsJoin, StepsAreLawful, IsLawful, RuleNumbers, items_of_end, run, Item, State, Searching, EndsMove, IsPartHeard, RunsMove, most_behind, moved_items, moved_state, moved_back, place_of, hard-at-most-more, lawful-back, still-items, still-state, part-touched, start-touched, run-early, back-on, SymbolsHaveWindows, item_again, symbols_of, SoftTerms, complete, read_again, report_of, run_of, signal_of, Knows, again_in, last_symbols, most_kept, moved_again, part_of, place_again, AreAtMost, SoftItem, last-ones}
+use Rattle.rds_soft.{specs.declared.soft_totals.SoftTotals.SoftTotals, proofs.InsideLemmas.AllInside, proofs.InsideLemmas.end-inside, proofs.InsideLemmas.items-same, proofs.InsideLemmas.run-inside, proofs.PartLemmas.length-bits, proofs.PartLemmas.length-symbols, proofs.PartLemmas.part-heard, proofs.PartLemmas.part-symbols}
 use Rattle.rds_sync.specs.Ranges.{IsInRange}
-use Rattle.rds_soft.specs.declared.soft_totals.SoftTotals.{SoftTotals}
-use Rattle.rds_soft.proofs.InsideLemmas.{AllInside, end-inside, items-same, run-inside}
-use Rattle.rds_soft.proofs.PartLemmas.{length-bits, length-symbols, part-heard, part-symbols}
 
 -- moved by nothing
 still-again : (item : SoftItem) → moved_again 0 item ≡ item

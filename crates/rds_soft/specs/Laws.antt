@@ -1,17 +1,9 @@
 -- Laws of the nearest block. Each is a clause of a function in `laws`; these functions do nothing.
 use Rattle.std.specs.Prelude.{◌≡◌, ◌≢◌, ℕ, ◌+◌, ◌*◌, ◌^◌, ◌<◌, ◌≤◌, List, length, take, drop, bit_xor, slice_index, IsTrue, ℤ}
-use Rattle.rds_code.specs.declared.offset.Offset.{Offset}
-use Rattle.rds_code.specs.declared.reading.Wanted.{Wanted}
-use Rattle.rds_code.specs.Remainder.{rem}
-use Rattle.rds_code.specs.Offsets.{word, number}
-use Rattle.rds_code.specs.Reading.{allows}
+use Rattle.rds_code.specs.{declared.offset.Offset.Offset, declared.reading.Wanted.Wanted, Remainder.rem, Offsets.word, Offsets.number, Reading.allows}
 use Rattle.rds_stream.specs.Recording.{Signal, reading_at, window}
 use Rattle.rds_sync.specs.declared.item.Block.TheVariants.{Read}
-use Rattle.rds_soft.specs.declared.soft_reading.SoftReading.{SoftReading}
-use Rattle.rds_soft.specs.declared.soft_item.SoftBlock.TheVariants.{Read as SoftRead}
-use Rattle.rds_soft.specs.Nearest.{mask_of, weight, top, Turns, IsNearest}
-use Rattle.rds_soft.specs.Symbols.{hard_bits, hard_window, IsSoftReading}
-use Rattle.rds_soft.specs.ReadAgain.{block_again, reading_heard, soft_reading, symbols_heard}
+use Rattle.rds_soft.specs.{declared.soft_reading.SoftReading.SoftReading, declared.soft_item.SoftBlock.TheVariants.Read as SoftRead, Nearest.mask_of, Nearest.weight, Nearest.top, Nearest.Turns, Nearest.IsNearest, Symbols.hard_bits, Symbols.hard_window, Symbols.IsSoftReading, ReadAgain.block_again, ReadAgain.reading_heard, ReadAgain.soft_reading, ReadAgain.symbols_heard}
 
 -- no flips turn a window that is a wanted block already, and they weigh nothing
 abbrev pub NoneTurnsValid : Type 0

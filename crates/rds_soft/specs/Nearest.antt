@@ -2,13 +2,8 @@
 -- row, so a block of 26 bits has 27 symbols, the first of which is also the last of the block before it. Each symbol has
 -- a confidence: how much it weighs to flip it, that is, to take its sign for wrong.
 use Rattle.std.specs.Prelude.{◌≡◌, ◌≢◌, ℕ, ◌+◌, ◌-◌, ◌*◌, ◌/◌, ◌%◌, ◌^◌, ◌<◌, ◌≤◌, Option, Some, None, List, bit_xor, slice_index, sum_by, IsTrue}
-use Rattle.std.specs.List.{range_with_len}
-use Rattle.std.specs.Int.{bit_at}
-use Rattle.rds_code.specs.declared.offset.Offset.{Offset}
-use Rattle.rds_code.specs.declared.reading.Wanted.{Wanted}
-use Rattle.rds_code.specs.Remainder.{rem}
-use Rattle.rds_code.specs.Offsets.{word, number}
-use Rattle.rds_code.specs.Reading.{allows}
+use Rattle.std.specs.{List.range_with_len, Int.bit_at}
+use Rattle.rds_code.specs.{declared.offset.Offset.Offset, declared.reading.Wanted.Wanted, Remainder.rem, Offsets.word, Offsets.number, Reading.allows}
 use Rattle.rds_soft.specs.declared.correction.Correction.{Correction}
 
 -- flips of symbols are a word of 27 bits, the first symbol highest. Each inverts the bits beside its symbol

@@ -2,32 +2,13 @@
 -- `Search::read_again` an item. The law `symbols_are_read_so` promises that the reading is the one that the rule allows.
 use Rattle.std.specs.Prelude.{◌==◌, ℕ, ◌+◌, ◌-◌, ◌*◌, List, [], ◌∷◌, Option, Some, None, length, take, drop, sum_by, nat_lt, not, ◌&&◌, if◌then◌else◌, bit_xor, min, map, ℤ}
 use Rattle.std.specs.Int.{cast_signed, w8}
-use Rattle.rds_code.specs.declared.offset.Offset.{Offset}
-use Rattle.rds_code.specs.declared.offset.Offset.TheVariants.{A, B, C, Cx, D}
-use Rattle.rds_code.specs.declared.reading.Reading.TheVariants.{Valid}
-use Rattle.rds_code.specs.declared.reading.Wanted.{Wanted}
-use Rattle.rds_code.specs.declared.reading.Wanted.TheVariants.{OnlyC, OnlyCx, Either}
-use Rattle.rds_code.specs.Remainder.{rem}
-use Rattle.rds_code.specs.Offsets.{offset_of, word, number}
-use Rattle.rds_code.specs.Reading.{information}
+use Rattle.rds_code.specs.{declared.offset.Offset.Offset, declared.offset.Offset.TheVariants.A, declared.offset.Offset.TheVariants.B, declared.offset.Offset.TheVariants.C, declared.offset.Offset.TheVariants.Cx, declared.offset.Offset.TheVariants.D, declared.reading.Reading.TheVariants.Valid, declared.reading.Wanted.Wanted, declared.reading.Wanted.TheVariants.OnlyC, declared.reading.Wanted.TheVariants.OnlyCx, declared.reading.Wanted.TheVariants.Either, Remainder.rem, Offsets.offset_of, Offsets.word, Offsets.number, Reading.information}
 use Rattle.rds_stream.specs.Recording.{Signal, length_of, touched}
-use Rattle.rds_sync.specs.declared.item.Block.{Block}
-use Rattle.rds_sync.specs.declared.item.Block.TheVariants.{Missing, Read}
-use Rattle.rds_sync.specs.declared.item.Item.{Item}
-use Rattle.rds_sync.specs.declared.item.Item.TheVariants.{Acquired, Group, LostLock}
-use Rattle.rds_sync.specs.Groups.{block_in}
-use Rattle.rds_soft.specs.declared.correction.Correction.{Correction}
-use Rattle.rds_soft.specs.declared.soft_reading.SoftReading.{SoftReading}
+use Rattle.rds_sync.specs.{declared.item.Block.Block, declared.item.Block.TheVariants.Missing, declared.item.Block.TheVariants.Read, declared.item.Item.Item, declared.item.Item.TheVariants.Acquired, declared.item.Item.TheVariants.Group, declared.item.Item.TheVariants.LostLock, Groups.block_in}
+use Rattle.rds_soft.specs.{declared.correction.Correction.Correction, declared.soft_reading.SoftReading.SoftReading, declared.soft_item.SoftBlock.SoftBlock, declared.soft_item.SoftGroup.SoftGroup, declared.soft_item.SoftItem.SoftItem, Inside.Lightest.effect, Inside.Lightest.confidence, Inside.Lightest.least, Inside.Lightest.lightest, Inside.Lightest.second, Nearest.mask_of, Nearest.top, SoftGroups.wanted_beside, SoftGroups.group_of, Symbols.confidences, Symbols.hard_window}
 use Rattle.rds_soft.specs.declared.soft_reading.SoftReading.TheVariants as Soft
-use Rattle.rds_soft.specs.declared.soft_item.SoftBlock.{SoftBlock}
 use Rattle.rds_soft.specs.declared.soft_item.SoftBlock.TheVariants as Again
-use Rattle.rds_soft.specs.declared.soft_item.SoftGroup.{SoftGroup}
-use Rattle.rds_soft.specs.declared.soft_item.SoftItem.{SoftItem}
 use Rattle.rds_soft.specs.declared.soft_item.SoftItem.TheVariants as InSoft
-use Rattle.rds_soft.specs.Inside.Lightest.{effect, confidence, least, lightest, second}
-use Rattle.rds_soft.specs.Nearest.{mask_of, top}
-use Rattle.rds_soft.specs.SoftGroups.{wanted_beside, group_of}
-use Rattle.rds_soft.specs.Symbols.{confidences, hard_window}
 
 -- symbols as bytes: each is a signed byte
 abbrev pub symbols_of : List ℕ → List ℤ

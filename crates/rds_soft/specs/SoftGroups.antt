@@ -1,15 +1,9 @@
 -- A group whose blocks are read from symbols: its type, version and conflict, as those of a group of hard bits (`Groups` of
 -- rds_sync). `SoftBlock::info` and `Search::read_again` cite it.
 use Rattle.std.specs.Prelude.{ℕ, ◌-◌, List, Option, Some, None, Bool, false, option_map, slice_index_or}
-use Rattle.rds_code.specs.declared.reading.Wanted.{Wanted}
-use Rattle.rds_code.specs.declared.reading.Wanted.TheVariants.{OnlyC, OnlyCx, Either}
-use Rattle.rds_sync.specs.declared.item.Version.{Version}
-use Rattle.rds_sync.specs.declared.item.Version.TheVariants.{A, B, Unknown}
-use Rattle.rds_sync.specs.Groups.{type_in, version_of_bit, version_of_offset, first_known, differ}
-use Rattle.rds_soft.specs.declared.soft_reading.SoftReading.TheVariants.{Valid, Corrected}
-use Rattle.rds_soft.specs.declared.soft_item.SoftBlock.{SoftBlock}
-use Rattle.rds_soft.specs.declared.soft_item.SoftBlock.TheVariants.{Missing, Read}
-use Rattle.rds_soft.specs.declared.soft_item.SoftGroup.{SoftGroup}
+use Rattle.rds_code.specs.declared.reading.Wanted.{Wanted, TheVariants.OnlyC, TheVariants.OnlyCx, TheVariants.Either}
+use Rattle.rds_sync.specs.{declared.item.Version.Version, declared.item.Version.TheVariants.A, declared.item.Version.TheVariants.B, declared.item.Version.TheVariants.Unknown, Groups.type_in, Groups.version_of_bit, Groups.version_of_offset, Groups.first_known, Groups.differ}
+use Rattle.rds_soft.specs.declared.{soft_reading.SoftReading.TheVariants.Valid, soft_reading.SoftReading.TheVariants.Corrected, soft_item.SoftBlock.SoftBlock, soft_item.SoftBlock.TheVariants.Missing, soft_item.SoftBlock.TheVariants.Read, soft_item.SoftGroup.SoftGroup}
 
 -- the information word of a block that is valid or corrected
 abbrev pub info_of : SoftBlock → Option ℕ

@@ -2,17 +2,8 @@
 -- and so does `follow_soft` of rds_tool. This project's rules.
 use Rattle.std.specs.Prelude.{ℕ, ◌-◌, List, [], ◌∷◌, Option, None, Some, length, map}
 use Rattle.rds_stream.specs.Recording.{Signal}
-use Rattle.rds_sync.specs.declared.item.Item.{Item}
-use Rattle.rds_sync.specs.declared.state.State.{State}
-use Rattle.rds_sync.specs.declared.state.State.TheVariants.{Searching}
-use Rattle.rds_sync.specs.Report.{report_items}
-use Rattle.rds_sync.specs.Rules.{RuleNumbers}
-use Rattle.rds_sync.specs.Step.{run}
-use Rattle.rds_soft.specs.declared.soft_item.SoftGroup.{SoftGroup}
-use Rattle.rds_soft.specs.declared.soft_item.SoftItem.{SoftItem}
-use Rattle.rds_soft.specs.declared.soft_item.SoftItem.TheVariants.{Group}
-use Rattle.rds_soft.specs.ReadAgain.{item_again, symbols_of}
-use Rattle.rds_soft.specs.Symbols.{hard_bits}
+use Rattle.rds_sync.specs.{declared.item.Item.Item, declared.state.State.State, declared.state.State.TheVariants.Searching, Report.report_items, Rules.RuleNumbers, Step.run}
+use Rattle.rds_soft.specs.{declared.soft_item.SoftGroup.SoftGroup, declared.soft_item.SoftItem.SoftItem, declared.soft_item.SoftItem.TheVariants.Group, ReadAgain.item_again, ReadAgain.symbols_of, Symbols.hard_bits}
 
 -- the terms by which a stream is decoded: its rules, the gaps that were told of it, by places of its bits, and the margin
 pub record SoftTerms : Type 0 where

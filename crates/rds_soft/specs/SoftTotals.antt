@@ -2,13 +2,7 @@
 use Rattle.std.specs.Prelude.{◌≡◌, ◌==◌, ℕ, ◌+◌, ◌^◌, ◌<◌, ◌≤◌, List, [], ◌∷◌, ◌++◌, Bool, true, false, sum_by, count_ones, map, min, slice_index, if◌then◌else◌}
 use Rattle.std.specs.List.{list_all}
 use Rattle.rds_sync.specs.Counting.{IsAtMost, plus as plus_totals}
-use Rattle.rds_soft.specs.declared.soft_reading.SoftReading.TheVariants.{Valid, Corrected, Lost}
-use Rattle.rds_soft.specs.declared.soft_item.SoftBlock.{SoftBlock}
-use Rattle.rds_soft.specs.declared.soft_item.SoftBlock.TheVariants.{Read}
-use Rattle.rds_soft.specs.declared.soft_item.SoftItem.{SoftItem}
-use Rattle.rds_soft.specs.declared.soft_item.SoftItem.TheVariants.{Acquired, Group, LostLock}
-use Rattle.rds_soft.specs.declared.soft_totals.SoftTotals.{SoftTotals}
-use Rattle.rds_soft.specs.Nearest.{mask_of}
+use Rattle.rds_soft.specs.{declared.soft_reading.SoftReading.TheVariants.Valid, declared.soft_reading.SoftReading.TheVariants.Corrected, declared.soft_reading.SoftReading.TheVariants.Lost, declared.soft_item.SoftBlock.SoftBlock, declared.soft_item.SoftBlock.TheVariants.Read, declared.soft_item.SoftItem.SoftItem, declared.soft_item.SoftItem.TheVariants.Acquired, declared.soft_item.SoftItem.TheVariants.Group, declared.soft_item.SoftItem.TheVariants.LostLock, declared.soft_totals.SoftTotals.SoftTotals, Nearest.mask_of}
 
 -- ---- counts of a block
 

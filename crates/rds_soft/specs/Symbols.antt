@@ -1,14 +1,8 @@
 -- How the 27 symbols of a window are read as a block: this project's rule. `Search::read` returns the reading.
 use Rattle.std.specs.Prelude.{◌≡◌, ℕ, ◌+◌, ◌-◌, List, map, length, slice_index_or, bit_xor, min, ℤ, pos, unsigned_abs, if◌then◌else◌}
-use Rattle.std.specs.List.{range_with_len}
-use Rattle.std.specs.Int.{is_positive}
-use Rattle.std.specs.Int.Digits.{number_from_digits}
-use Rattle.rds_code.specs.declared.offset.Offset.{Offset}
-use Rattle.rds_code.specs.declared.reading.Wanted.{Wanted}
-use Rattle.rds_code.specs.Reading.{IsValid, information}
-use Rattle.rds_soft.specs.declared.soft_reading.SoftReading.{SoftReading}
-use Rattle.rds_soft.specs.declared.soft_reading.SoftReading.TheVariants.{Valid, Corrected, Lost}
-use Rattle.rds_soft.specs.Nearest.{mask_of, IsNearest}
+use Rattle.std.specs.{List.range_with_len, Int.is_positive, Int.Digits.number_from_digits}
+use Rattle.rds_code.specs.{declared.offset.Offset.Offset, declared.reading.Wanted.Wanted, Reading.IsValid, Reading.information}
+use Rattle.rds_soft.specs.{declared.soft_reading.SoftReading.SoftReading, declared.soft_reading.SoftReading.TheVariants.Valid, declared.soft_reading.SoftReading.TheVariants.Corrected, declared.soft_reading.SoftReading.TheVariants.Lost, Nearest.mask_of, Nearest.IsNearest}
 
 -- a symbol is a signed byte: its sign decides the bits, its size is how sure that sign is
 abbrev pub sign : ℤ → ℕ

@@ -2,8 +2,7 @@
 ghost use Rattle.std.specs.Prelude.{◌≡◌, ◌+◌, ◌*◌, ◌≤◌, ℕ, ℤ, IfSome, List, Option, Some, None, drop, length, nat_lt, take, if◌then◌else◌};
 ghost use Rattle.rds_code.specs.declared.reading.Wanted.{Wanted as AWanted};
 ghost use Rattle.rds_stream.specs.Recording.{Signal};
-ghost use Rattle.rds_soft.specs.ReadAgain.{block_again as the_block_again, group_again as the_group_again, symbols_heard as the_symbols_heard, symbols_of, was_read as the_was_read};
-ghost use Rattle.rds_soft.specs.SoftGroups.{group_of};
+ghost use Rattle.rds_soft.specs.{ReadAgain.block_again as the_block_again, ReadAgain.group_again as the_group_again, ReadAgain.symbols_heard as the_symbols_heard, ReadAgain.symbols_of, ReadAgain.was_read as the_was_read, SoftGroups.group_of};
 
 use crate::lightest::SYMBOLS;
 use crate::margin::Margin;

@@ -1,6 +1,5 @@
 //! Laws of the nearest block. Each call does nothing: its contract is a law of the definitions.
-ghost use Rattle.rds_soft.specs.SoftTotals.{SoftTotalsJoin};
-ghost use Rattle.rds_soft.specs.Laws.{NoneTurnsValid, HasOneNearest, SureSymbolsStay, CorrectsSent, HasOneSoftReading, SymbolsAreReadSo, SymbolsHaveWindows, ReadsFromSymbols};
+ghost use Rattle.rds_soft.specs.{SoftTotals.SoftTotalsJoin, Laws.NoneTurnsValid, Laws.HasOneNearest, Laws.SureSymbolsStay, Laws.CorrectsSent, Laws.HasOneSoftReading, Laws.SymbolsAreReadSo, Laws.SymbolsHaveWindows, Laws.ReadsFromSymbols};
 
 use rds_code::laws::{readings_follow_the_rule, remainders_are_linear};
 

@@ -1,7 +1,6 @@
 //! The rows of least weights.
 ghost use Rattle.std.specs.Prelude.{◌≡◌, ℕ, ◌<◌, ◌+◌, ◌*◌, ◌/◌, ◌%◌, ◌^◌, length, slice_index, bit_xor, min};
-ghost use Rattle.rds_soft.specs.Inside.Lightest.{effect as the_effect, confidence};
-ghost use Rattle.rds_soft.specs.Inside.Rows.{Follows, AreLeast, AreRows, IsFirst};
+ghost use Rattle.rds_soft.specs.Inside.{Lightest.effect as the_effect, Lightest.confidence, Rows.Follows, Rows.AreLeast, Rows.AreRows, Rows.IsFirst};
 
 use rds_code::rem26;
 use std::simd::prelude::*;

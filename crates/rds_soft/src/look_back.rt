@@ -1,7 +1,6 @@
 //! The lightest flips, from the rows of least weights.
 ghost use Rattle.std.specs.Prelude.{◌≡◌, ◌<◌, ◌+◌, length};
-ghost use Rattle.rds_soft.specs.Inside.Lightest.{effect as the_effect, confidence, AreLightest};
-ghost use Rattle.rds_soft.specs.Inside.Rows.{AreRows, IsWalk};
+ghost use Rattle.rds_soft.specs.Inside.{Lightest.effect as the_effect, Lightest.confidence, Lightest.AreLightest, Rows.AreRows, Rows.IsWalk};
 
 use crate::lightest::{Row, SYMBOLS, effect};
 use rds_code::laws::remainders_are_linear;

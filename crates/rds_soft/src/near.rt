@@ -1,15 +1,10 @@
 //! The part of a stream that its last symbols and the next ones are.
 
 ghost use Rattle.std.specs.Prelude.{◌≡◌, ◌++◌, ◌-◌, ◌+◌, ◌*◌, ◌^◌, ◌<◌, ◌≤◌, ◌⊎◌, ℕ, All, IfOk, OnOk, length, map};
-ghost use Rattle.rds_live.specs.Moving.{most_behind, moved_state};
-ghost use Rattle.rds_live.specs.Next.{moved_back};
-ghost use Rattle.rds_live.specs.Places.{place_of};
+ghost use Rattle.rds_live.specs.{Moving.most_behind, Moving.moved_state, Next.moved_back, Places.place_of};
 ghost use Rattle.rds_stream.specs.Recording.{AreGaps, Signal, length_of};
-ghost use Rattle.rds_sync.specs.Lawful.{IsLawful};
-ghost use Rattle.rds_sync.specs.Step.{items_of_end, run};
-ghost use Rattle.rds_soft.specs.SoftStream.{group_item};
-ghost use Rattle.rds_soft.specs.declared.soft_item.SoftItem.TheVariants.{Group as InSoft};
-ghost use Rattle.rds_soft.specs.Inside.Streams.{again_in, last_symbols, moved_again, part_of, place_again};
+ghost use Rattle.rds_sync.specs.{Lawful.IsLawful, Step.items_of_end, Step.run};
+ghost use Rattle.rds_soft.specs.{SoftStream.group_item, declared.soft_item.SoftItem.TheVariants.Group as InSoft, Inside.Streams.again_in, Inside.Streams.last_symbols, Inside.Streams.moved_again, Inside.Streams.part_of, Inside.Streams.place_again};
 
 use crate::margin::Margin;
 use crate::nearest::Search;

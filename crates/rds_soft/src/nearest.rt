@@ -1,12 +1,7 @@
 //! The search of the nearest block.
 ghost use Rattle.std.specs.Prelude.{◌≡◌, ◌^◌, ◌<◌, length, bit_xor, min};
-ghost use Rattle.rds_code.specs.declared.reading.Wanted.TheVariants.{Either};
-ghost use Rattle.rds_code.specs.Offsets.{word};
-ghost use Rattle.rds_code.specs.Remainder.{rem};
-ghost use Rattle.rds_soft.specs.Inside.Lightest.{effect as the_effect, confidence};
-ghost use Rattle.rds_soft.specs.Inside.Nearer.{TurnTo, AreNearest};
-ghost use Rattle.rds_soft.specs.Inside.Rows.{AreRows};
-ghost use Rattle.rds_soft.specs.Nearest.{IsCorrection};
+ghost use Rattle.rds_code.specs.{declared.reading.Wanted.TheVariants.Either, Offsets.word, Remainder.rem};
+ghost use Rattle.rds_soft.specs.{Inside.Lightest.effect as the_effect, Inside.Lightest.confidence, Inside.Nearer.TurnTo, Inside.Nearer.AreNearest, Inside.Rows.AreRows, Nearest.IsCorrection};
 
 use crate::correction::Correction;
 use crate::lightest::{Row, SYMBOLS, fill_rows};

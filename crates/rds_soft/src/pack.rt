@@ -1,10 +1,7 @@
 //! Symbols as the packed bits between them.
-ghost use Rattle.std.specs.Prelude.{◌≡◌, ◌+◌, ◌*◌, ◌-◌, ◌<◌, ◌≤◌, ℕ, IfOk, length};
-ghost use Rattle.std.specs.Int.{bit_at};
+ghost use Rattle.std.specs.{Prelude.◌≡◌, Prelude.◌+◌, Prelude.◌*◌, Prelude.◌-◌, Prelude.◌<◌, Prelude.◌≤◌, Prelude.ℕ, Prelude.IfOk, Prelude.length, Int.bit_at};
 ghost use Rattle.rds_stream.specs.Recording.{packed_bit};
-ghost use Rattle.rds_soft.specs.ReadAgain.{symbols_of};
-ghost use Rattle.rds_soft.specs.Symbols.{hard_bit};
-ghost use Rattle.rds_soft.specs.Inside.Packed.{sign_at};
+ghost use Rattle.rds_soft.specs.{ReadAgain.symbols_of, Symbols.hard_bit, Inside.Packed.sign_at};
 
 use std::alloc::{AllocError, Global};
 use std::simd::prelude::*;

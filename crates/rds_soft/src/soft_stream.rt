@@ -2,9 +2,7 @@
 
 ghost use Rattle.std.specs.Prelude.{◌≡◌, ◌↔◌, ◌++◌, ◌+◌, ◌-◌, ◌*◌, ◌^◌, ◌<◌, ◌≤◌, ◌⊎◌, ℕ, List, [], IfErr, IfOk, IsErrOf, OnErr, OnOk, length, true};
 ghost use Rattle.rds_stream.specs.Recording.{AreGaps};
-ghost use Rattle.rds_soft.specs.SoftStream.{complete, group_item, report_of};
-ghost use Rattle.rds_soft.specs.SoftTotals.{AreAtMost, soft_totals_of};
-ghost use Rattle.rds_soft.specs.declared.soft_item.SoftItem.{SoftItem as AnItem};
+ghost use Rattle.rds_soft.specs.{SoftStream.complete, SoftStream.group_item, SoftStream.report_of, SoftTotals.AreAtMost, SoftTotals.soft_totals_of, declared.soft_item.SoftItem.SoftItem as AnItem};
 
 use crate::laws::soft_totals_join;
 use crate::margin::Margin;
@@ -41,8 +39,7 @@ pub struct SoftStream<'r> {
 }
 
 impl<'r> Model for SoftStream<'r> {
-    ghost use Rattle.rds_soft.specs.SoftStream.{SoftHeard};
-    ghost use Rattle.rds_soft.specs.Inside.Streams.{Knows};
+    ghost use Rattle.rds_soft.specs.{SoftStream.SoftHeard, Inside.Streams.Knows};
 
     ghost Value = { SoftHeard };
 

@@ -1,7 +1,6 @@
 //! How the symbols of a window are read as a block.
 ghost use Rattle.std.specs.Prelude.{◌≡◌, ◌^◌, ◌<◌, length, bit_xor, IfSome, None};
-ghost use Rattle.rds_code.specs.declared.offset.Offset.{Offset as AnOffset};
-ghost use Rattle.rds_code.specs.Reading.{IsValid};
+ghost use Rattle.rds_code.specs.{declared.offset.Offset.Offset as AnOffset, Reading.IsValid};
 ghost use Rattle.rds_soft.specs.Symbols.{sign, confidences as the_confidences, hard_window as the_hard_window};
 
 use crate::correction::Correction;
@@ -13,8 +12,7 @@ use crate::soft_reading::{SoftReading, mask_of};
 use rds_code::{BlockNumber, Offset, Wanted, offset_of, rem26};
 
 impl Search {
-    ghost use Rattle.rds_soft.specs.ReadAgain.{soft_reading};
-    ghost use Rattle.rds_soft.specs.Symbols.{IsSoftReading};
+    ghost use Rattle.rds_soft.specs.{ReadAgain.soft_reading, Symbols.IsSoftReading};
 
     /// Reads 27 symbols, signed bytes from the one before the window on, as block `number`. A valid window stays as it is;
     /// else it is corrected to the nearest block, or lost if there is none.

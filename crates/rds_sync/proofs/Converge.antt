@@ -1,9 +1,7 @@
 -- Bad blocks in a row, and good ones in a row, by the loss history: for both rules of loss.
 use Rattle.rds_sync.proofs.Names.{common_steps, ◌≡◌, ℕ, zero, suc, ◌+◌, ◌*◌, ◌%◌, ◌/◌, ◌^◌, ◌<◌, ◌≤◌, true, false, refl, ap, ◌∙◌, subst, arith, pow-suc, mul-le-mul_right, pow_pos, lt-leb, ones_step, count_ones, ⊤, Loss, Run, Share, IsLossRule, IsLawfulBad, bad_after, are_too_many, sound_blocks, ◌≢◌, [], ◌∷◌, List, Bool, length, get_or, is_some, count_by, All-filter, filter_passes, length-filter, Signal, offset_at, RuleNumbers, IsSound, IsRival, All, filter, ◌-◌, Option, Some, None, ap₂, add-zero, zero-add, inl, inr, ⊎_elim, cond, suc-add, cases_Bool, cases_eq, cases_lt, eqb-true, sum_by-cons, ◌==◌, number_after, Lock, State, Searching, Locked, IsLawful, Offset, number, acquired, has_number, with_partner, run, step, history_after_block, lock_of, lock_after, IsLastFour, SoundRangesHaveFours, RunsConverge}
-use Rattle.rds_sync.proofs.LossLemmas.{double, ones_below, ones_zero, lawful_none, lawful_kept}
-use Rattle.std.specs.List.Sorted.{IsStrictlyIncreasing}
-use Rattle.std.proofs.lemmas.List.Kept.{IsStrictlyIncreasing-filter}
-use Rattle.rds_sync.proofs.RunLemmas.{step-waiting, step-keeping, step-losing, step-searching, step-acquiring}
+use Rattle.rds_sync.proofs.{LossLemmas.double, LossLemmas.ones_below, LossLemmas.ones_zero, LossLemmas.lawful_none, LossLemmas.lawful_kept, RunLemmas.step-waiting, RunLemmas.step-keeping, RunLemmas.step-losing, RunLemmas.step-searching, RunLemmas.step-acquiring}
+use Rattle.std.{specs.List.Sorted.IsStrictlyIncreasing, proofs.lemmas.List.Kept.IsStrictlyIncreasing-filter}
 
 -- the lowest j digits of m are all f
 abbrev pub Lows : ℕ → ℕ → ℕ → Type 0

@@ -1,8 +1,6 @@
 -- The block that is due: its effect on its lock, and its items.
 use Rattle.rds_sync.proofs.Names.{common_steps, ◌≡◌, ℕ, ◌+◌, ◌<◌, [], ◌∷◌, Bool, true, false, refl, sym, ap, ◌∙◌, arith, eq-eqb, ne_eqb, Signal, Due, Inside, Closed, Lock, Group, LostLock, Searching, Locked, has_number, state_of, IsKept, IsAfter, group, bad_after, are_too_many, RuleNumbers, step, items_at, completed_group, lock_of, lock_after, ◌-◌, List, ap₂, Block, blocks_at, IsFollowed, items_of_due, LockLost as Lost}
-use Rattle.rds_sync.proofs.RunLemmas.{step-keeping, items-keeping, step-losing, items-losing}
-use Rattle.rds_sync.proofs.GroupBlocks.{group-blocks}
-use Rattle.rds_sync.proofs.RunIsReport.{some_given}
+use Rattle.rds_sync.proofs.{RunLemmas.step-keeping, RunLemmas.items-keeping, RunLemmas.step-losing, RunLemmas.items-losing, GroupBlocks.group-blocks, RunIsReport.some_given}
 
 pub completed_group-inside : (b : Signal) (rules : RuleNumbers) (first number due : ℕ) → number < 4 → completed_group b rules first number due ≡ []
 completed_group-inside b rules first number due inside = rw (ne_eqb number 4 (λ e. omega arith), completed_group) refl

@@ -1,8 +1,6 @@
 -- A part of a run over a tape is a hop: bits that give nothing lead to no state between groups but the one that they began in.
 use Rattle.rds_sync.proofs.Names.{◌≡◌, ◌≢◌, ℕ, zero, suc, ◌+◌, ◌-◌, ◌*◌, ◌<◌, ◌≤◌, ◌⊎◌, List, [], ◌++◌, Option, Some, None, refl, sym, ap, ap₂, ◌∙◌, subst, arith, inl, inr, cases_eq, Signal, Lock, State, Searching, Locked, Item, acquired, mark, IsHop, IsLawful, IsLawfulLock, IsBetweenGroups, ItemsMarkChanges, IsLossRule, RuleNumbers, run, step, items_at, common_steps, cases_lt, lt-ltb, le-ltb, Step, next_place, IsStretch, ◌^◌, length, append_assoc, append-nil, length-append, length_of, IsAtMost, IsCountStretch, CountOf, count_of, joined, IsTally, TallyOf, gone_on, StretchesAreSteps, HopsAreStretches}
-use Rattle.rds_sync.proofs.RunLemmas.{none-of, lawful_step, step-acquiring, step-searching, run-found, run_searching, run_places, run_waiting, run-further}
-use Rattle.rds_sync.proofs.TotalsLemmas.{counted-together}
-use Rattle.rds_sync.proofs.RunIsReport.{run_items_few}
+use Rattle.rds_sync.proofs.{RunLemmas.none-of, RunLemmas.lawful_step, RunLemmas.step-acquiring, RunLemmas.step-searching, RunLemmas.run-found, RunLemmas.run_searching, RunLemmas.run_places, RunLemmas.run_waiting, RunLemmas.run-further, TotalsLemmas.counted-together, RunIsReport.run_items_few}
 
 same_state : (s t : State) → (s ≡ t) ⊎ (s ≢ t)
 same_state Searching Searching = inl refl

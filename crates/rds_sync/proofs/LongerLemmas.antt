@@ -1,9 +1,6 @@
 -- A longer recording that begins with another one: the run over the bits of both is one, and the group at the end goes on.
 use Rattle.rds_sync.proofs.Names.{common_steps, ◌≡◌, ◌≢◌, ℕ, zero, suc, ◌+◌, ◌-◌, ◌*◌, ◌%◌, ◌<◌, ◌≤◌, ◌⊎◌, List, [], ◌∷◌, ◌++◌, length, drop, map, Bool, true, false, cond, Option, Some, None, refl, sym, ap, ap₂, subst, ◌∙◌, arith, inl, inr, append_assoc, length-append, ◌||◌, nat_le, nat_lt, if◌then◌else◌, filter, slice_get, slice_index, sum_by, list_any, range_with_len, number_from_digits, cases_Bool, cases_eq, cases_lt, lt-ltb, le-ltb, lt-leb, eq-eqb, ne_eqb, drop-append-le, take-append-le, take-append-drop, length-take, length-drop, sum_by-append, sum_by-cons, get_or_from_slice_get, Offset, Wanted, number, Signal, length_of, window, is_touched_by, touched, heard, offset_heard, reading_heard, offset_at, Block, Missing, GroupOf, Item, Acquired, Group, LostLock, Lock, State, Searching, Locked, acquired, has_number, has_partner, with_partner, is_in_step, is_numbered, block_at, blocks_at, group, group_of, wanted_beside, IsLawful, IsLawfulLock, IsLossRule, are_too_many, report_items, RuleNumbers, run, step, items_at, items_of_end, history_after_block, lock_after, lock_of, totals_of, sum_blocks, count_blocks, is_valid, is_lost, is_corrected_by, bits_corrected, is_group, is_complete, is_acquired, is_sync_loss, min}
-use Rattle.rds_sync.specs.Longer.{BeginsWith, BeginningsBegin, GoesOn, EndGoesOn, OnlyAddsItems, LongerRecordingsAddItems, AreNoLess, TotalsOnlyGrow}
-use Rattle.rds_sync.proofs.GroupBlocks.{block_at-missing}
-use Rattle.rds_sync.proofs.RunLemmas.{lawful-run, lawful-due, lawful-numbers, run-append, run_waiting, run-reading, step-keeping, items-keeping, items-losing}
-use Rattle.rds_sync.proofs.RunIsReport.{run_is_report}
+use Rattle.rds_sync.{specs.Longer.BeginsWith, specs.Longer.BeginningsBegin, specs.Longer.GoesOn, specs.Longer.EndGoesOn, specs.Longer.OnlyAddsItems, specs.Longer.LongerRecordingsAddItems, specs.Longer.AreNoLess, specs.Longer.TotalsOnlyGrow, proofs.GroupBlocks.block_at-missing, proofs.RunLemmas.lawful-run, proofs.RunLemmas.lawful-due, proofs.RunLemmas.lawful-numbers, proofs.RunLemmas.run-append, proofs.RunLemmas.run_waiting, proofs.RunLemmas.run-reading, proofs.RunLemmas.step-keeping, proofs.RunLemmas.items-keeping, proofs.RunLemmas.items-losing, proofs.RunIsReport.run_is_report}
 
 -- ---- the windows heard
 

@@ -1,8 +1,7 @@
 -- Runs to the end of a recording, with the item of the end: what they give up to the first place that acquires, and up to the next
 -- block of a lock.
 use Rattle.rds_sync.proofs.Names.{common_steps, ◌≡◌, ℕ, zero, suc, ◌+◌, ◌<◌, ◌≤◌, List, [], ◌++◌, Option, Some, None, refl, ap₂, ◌∙◌, arith, add-zero, zero-add, suc-add, MatchOption, Signal, Lock, State, Searching, Locked, Item, RuleNumbers, acquired, run, step, items_at, items_of_end, first_lock, ◌*◌, ◌∷◌, true, false, sym, cond, ne_eqb, cases_eq, cases_lt, le-leb, lt-leb, eq-eqb, ◌==◌, number_after, Group, LostLock, group, are_too_many, bad_at, is_good, loses_at, first_of_group, completed_group, lock_of, lock_after, ◌≢◌, ◌-◌, Bool, ap, append_assoc, add-one, one-add, inl, inr, cases_Bool, filter_map, find, range_with_len, length_of, IsLossRule, block_count, end, read_blocks, group_closed_by, loss_items, items_of_lock, items_from, report_items, length, length-append}
-use Rattle.rds_sync.proofs.RunLemmas.{items-searching, step-searching, items-waiting, step-waiting, items-keeping, step-keeping, items-losing, step-losing, items-acquiring, step-acquiring, acquired_range}
-use Rattle.rds_sync.proofs.LossLemmas.{loses_is, never_0}
+use Rattle.rds_sync.proofs.{RunLemmas.items-searching, RunLemmas.step-searching, RunLemmas.items-waiting, RunLemmas.step-waiting, RunLemmas.items-keeping, RunLemmas.step-keeping, RunLemmas.items-losing, RunLemmas.step-losing, RunLemmas.items-acquiring, RunLemmas.step-acquiring, RunLemmas.acquired_range, LossLemmas.loses_is, LossLemmas.never_0}
 
 module _ (b : Signal) (rules : RuleNumbers) where
   -- the items of the next bits from place a, and of the end

@@ -1,8 +1,7 @@
 -- The bits of groups that were encoded, and then damaged or not: their windows are the blocks with their damage.
 use Rattle.rds_sync.proofs.Names.{common_steps, Signal, AreWords, ◌≡◌, ℕ, zero, suc, ◌+◌, ◌-◌, ◌*◌, ◌/◌, ◌%◌, ◌^◌, ◌<◌, List, [], ◌∷◌, ◌++◌, length, Some, refl, sym, ap, ap₂, subst, ◌∙◌, arith, inl, get_or, take, drop, append-nil, append_assoc, length-append, pow-suc, drop-append_seam, take-append_seam, xor_zero_r, number_from_digits, Offset, A, B, D, IsBlockOf, encoded, third_offset, HasOneBlock, ungapped, heard, touched, window, IsHeardFrom, GroupIsHeard, AreHeard, binary, group_bits, bits_sent, EncodedGroupsAreHeard, EncodedGroupsAreListed, ◌⊎◌, bit_xor, flat_map, xor_lt, IsBurst, SentGroup, AreHeardDamaged, IsCorrectable, AreCorrectable, bits_with_damage, DamagedGroupsAreHeard, DamagedBitsAreDecoded, map, length-map, pow-add, bit_at, bytes_high_first, range_with_len, shr-shr, mod-pow-add, bit_at-suc, bit_at_lowest, packed_bit, bits_of, packed_group, packed_groups, PackedGroupsAreSent, ◌≤◌, Bool, true, false, cond, eqb, lit<, sum_by, count_by, count_ones, count_leading_zeros, count_trailing_zeros, ones-le, mul-suc, ne_eqb, sum_by-cons, burst_length, Block, Missing, Item, Acquired, Group, block_sent, group_sent, items_damaged, four_damages, masks_read, totals_damaged, DamageTellsTotals, DamagedBitsTellTotals, totals_of, sum_blocks, is_valid, is_lost, is_corrected_by, bits_corrected, is_group, is_complete, is_acquired, is_sync_loss}
+use Rattle.rds_sync.proofs.{SentRuns.CodeLaws, SentRuns.info_is, SentRuns.damaged_groups_are_listed, SentRuns.sent_groups_are_listed, SentRuns.undamaged, SentRuns.good_sent, TotalsLemmas.same_counts}
 use Rattle.std.proofs.lemmas.Int.Digits.{number_push}
-use Rattle.rds_sync.proofs.SentRuns.{CodeLaws, info_is, damaged_groups_are_listed, sent_groups_are_listed, undamaged, good_sent}
-use Rattle.rds_sync.proofs.TotalsLemmas.{same_counts}
 
 pub length-binary : (n w : ℕ) → length (binary n w) ≡ n
 unfolding binary

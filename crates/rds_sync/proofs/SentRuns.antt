@@ -1,14 +1,7 @@
 -- A group that was sent is read as it was sent, where its blocks are damaged by no more than a burst each.
 use Rattle.rds_sync.proofs.Names.{common_steps, ◌≡◌, ◌≢◌, ℕ, zero, suc, ◌-◌, ◌*◌, ◌≤◌, [], ◌∷◌, Option, Some, Bool, false, refl, sym, ap, ◌∙◌, arith, inl, inr, ◌⊎◌, get_or, bit_xor, bit_at, xor_zero_r, count_leading_zeros, count_trailing_zeros, if◌then◌else◌, nat_le, ◌==◌, cases_eq, ne_eqb, cases_lt, le-leb, lt-leb, Offset, A, B, C, Cx, D, Wanted, OnlyC, OnlyCx, Either, Reading, IsBurst, burst_length, number, reading, offset_by_version, third_offset, Signal, reading_heard, reading_at, Block, Missing, Read, Version, VA, VB, Unknown, version_of_offset, first_known, block_at, group_of, wanted_beside, version, in_conflict, info_of, type_in, version_of_bit, IsHeardFrom, block_sent, GroupsAreCorrected, Loss, ◌+◌, ◌<◌, List, ◌++◌, length, None, true, subst, append-nil, flat_map, list_any, range_with_len, word, offset_of, rem, length_of, offset_heard, offset_at, GroupOf, Item, Acquired, Group, State, Searching, Locked, Totals, acquired, has_number, has_partner, is_in_step, plus, group, outcome_of, was_valid, good_at, IsLossRule, are_too_many, bad_after, report_items, RuleNumbers, GroupIsHeard, AreHeard, group_sent, items_sent, SentGroup, four_damages, AreHeardDamaged, items_damaged, bad_after_blocks, KeepLock, SentGroupsAreListed, LockedGroupsAreListed, DamagedGroupsAreListed, SoundSignalIsDecoded, run, items_of_end, lock_of, totals_of, is_valid, map, length-map}
+use Rattle.rds_sync.proofs.{GroupBlocks.block_at-read, GroupBlocks.block_at-missing, GroupBlocks.blocks_at-read, GroupBlocks.group-blocks, Converge.good_keeps, Converge.runs_converge, HeardLemmas.outcomes, HeardLemmas.good-at, HeardLemmas.off-heard, WholeGroupLemmas.all-four, WholeGroupLemmas.good-in, WholeGroupLemmas.kept-each, WholeGroupLemmas.whole_group, RunLemmas.acquired_place, RunLemmas.acquired-some, RunLemmas.run-append, RunLemmas.run_places, LossLemmas.lawful_none, LossLemmas.none-kept, TotalsLemmas.valid_is, TotalsLemmas.totals_of_append, TotalsLemmas.same_counts, RunIsReport.run_is_report}
 use Rattle.rds_code.specs.Correction.{alone, version_burst, ReadsAsSent, CorrectsBurst, CorrectsThird}
-use Rattle.rds_sync.proofs.GroupBlocks.{block_at-read, block_at-missing, blocks_at-read, group-blocks}
-use Rattle.rds_sync.proofs.Converge.{good_keeps, runs_converge}
-use Rattle.rds_sync.proofs.HeardLemmas.{outcomes, good-at, off-heard}
-use Rattle.rds_sync.proofs.WholeGroupLemmas.{all-four, good-in, kept-each, whole_group}
-use Rattle.rds_sync.proofs.RunLemmas.{acquired_place, acquired-some, run-append, run_places}
-use Rattle.rds_sync.proofs.LossLemmas.{lawful_none, none-kept}
-use Rattle.rds_sync.proofs.TotalsLemmas.{valid_is, totals_of_append, same_counts}
-use Rattle.rds_sync.proofs.RunIsReport.{run_is_report}
 
 -- the laws of the code that this uses
 pub record CodeLaws : Type 0 where

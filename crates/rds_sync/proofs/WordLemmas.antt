@@ -1,9 +1,6 @@
 -- How the blocks of a group came out, as a word of 16 bits.
 use Rattle.rds_sync.proofs.Names.{◌≡◌, ℕ, zero, suc, ◌+◌, ◌*◌, ◌/◌, ◌%◌, ◌≤◌, List, [], ◌∷◌, refl, ap, ◌∙◌, arith, Outcome, missing, valid, lost, corrected, nibble, outcome_at, IsShort, AreShort, word_of_blocks, blocks_in, common_steps, ◌^◌, ◌<◌, min, get_or, Bool, true, false, Option, Some, None, sym, subst, inl, inr, lt-leb, pow-suc, nat_le, ◌&&◌, count_ones, ones, ones_step, count_leading_zeros, count_trailing_zeros, burst_length, bursts, IsBurst, ReadsByRule, ListsBursts, reading, Wanted, Reading, Valid, Corrected, Lost, Signal, heard, reading_heard, reading_at, Read, RuleNumbers, group, block_at, wanted_beside, outcome_of, All, map, Block, GroupRecord, blocks_at, ◌≢◌, ◌-◌, ◌⊎◌, ◌++◌, mod-eq_of_lt, pow_pos, outcome_number, Either, Item, Group, LostLock, State, Searching, Locked, acquired, has_number, CountOf, joined, group_count, loss_count, added, IsLostAtOnce, wanted_behind, first_behind, word_of_two, HaveRoom, bad_after, are_too_many, items_at, run, history_after_block, lock_after, lock_of, is_valid, list_all, AllPass-from_list_all}
-use Rattle.rds_sync.proofs.HeardLemmas.{outcomes, valid-only, good_block, good-reading}
-use Rattle.rds_sync.proofs.GroupBlocks.{group-blocks, block_at-read, block_at-missing, outcome-nibble}
-use Rattle.rds_sync.proofs.TotalsLemmas.{lost-added}
-use Rattle.rds_sync.proofs.RunLemmas.{step-acquiring, step-losing, items-losing, run-due, run-found, run-further}
+use Rattle.rds_sync.proofs.{HeardLemmas.outcomes, HeardLemmas.valid-only, HeardLemmas.good_block, HeardLemmas.good-reading, GroupBlocks.group-blocks, GroupBlocks.block_at-read, GroupBlocks.block_at-missing, GroupBlocks.outcome-nibble, TotalsLemmas.lost-added, RunLemmas.step-acquiring, RunLemmas.step-losing, RunLemmas.items-losing, RunLemmas.run-due, RunLemmas.run-found, RunLemmas.run-further}
 
 -- four bits tell an outcome
 pub record IsNibble (o : Outcome) : Type 0 where

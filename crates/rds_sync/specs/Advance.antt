@@ -2,12 +2,7 @@
 -- the items that it hands out. Cited by `advance`, `finish` and `Totals::of_end`, and by the stretches of
 -- `Stretch`. This project's rule.
 use Rattle.std.specs.Prelude.{ℕ, ◌+◌, List, [], ◌∷◌, Option, Some, None, true, false, nat_lt}
-use Rattle.rds_sync.specs.declared.state.State.{State}
-use Rattle.rds_sync.specs.declared.state.State.TheVariants.{Searching, Locked}
-use Rattle.rds_sync.specs.declared.item.Group.{Group as GroupRecord}
-use Rattle.rds_sync.specs.declared.item.Item.{Item}
-use Rattle.rds_sync.specs.declared.item.Item.TheVariants.{Group}
-use Rattle.rds_sync.specs.Rules.{RuleNumbers}
+use Rattle.rds_sync.specs.{declared.state.State.State, declared.state.State.TheVariants.Searching, declared.state.State.TheVariants.Locked, declared.item.Group.Group as GroupRecord, declared.item.Item.Item, declared.item.Item.TheVariants.Group, Rules.RuleNumbers}
 
 -- the place of the bit after a step from `place` in a range that ends before `to`: a search takes one bit, a
 -- lock all up to and including the block that is due

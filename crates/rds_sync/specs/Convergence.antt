@@ -7,19 +7,10 @@
 -- sequence within two of its blocks, for no rival acquires. Good blocks then leave no bad one among those
 -- that the rule looks at, and a block of number 4 ends within three more.
 use Rattle.std.specs.Prelude.{◌≡◌, ◌≢◌, ℕ, ◌+◌, ◌-◌, ◌*◌, ◌%◌, ◌<◌, ◌≤◌, max, List, IsTrue, is_some, length, None}
-use Rattle.std.specs.List.{All}
-use Rattle.std.specs.List.Sorted.{IsStrictlyIncreasing}
+use Rattle.std.specs.List.{All, Sorted.IsStrictlyIncreasing}
 use Rattle.rds_code.specs.Cycle.{number_after}
 use Rattle.rds_stream.specs.Recording.{Signal, length_of, offset_at}
-use Rattle.rds_sync.specs.declared.loss.Loss.{Loss}
-use Rattle.rds_sync.specs.declared.loss.Loss.TheVariants.{Run, Share}
-use Rattle.rds_sync.specs.declared.state.State.{State}
-use Rattle.rds_sync.specs.declared.state.State.TheVariants.{Locked}
-use Rattle.rds_sync.specs.Rules.{RuleNumbers}
-use Rattle.rds_sync.specs.Loss.{IsLossRule}
-use Rattle.rds_sync.specs.Lawful.{IsLawful}
-use Rattle.rds_sync.specs.Step.{run, lock_of}
-use Rattle.rds_sync.specs.Acquiring.{acquired, has_number}
+use Rattle.rds_sync.specs.{declared.loss.Loss.Loss, declared.loss.Loss.TheVariants.Run, declared.loss.Loss.TheVariants.Share, declared.state.State.State, declared.state.State.TheVariants.Locked, Rules.RuleNumbers, Loss.IsLossRule, Lawful.IsLawful, Step.run, Step.lock_of, Acquiring.acquired, Acquiring.has_number}
 
 module _ (b : Signal) (from to : ℕ) where
   -- each place p + 26 k of the range has an offset of the number that counts on from c

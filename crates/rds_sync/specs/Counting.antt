@@ -2,9 +2,7 @@
 -- by `Totals::of_end`, `of`, `of_item`, `plus` and `less`, by `run_report` and `Tally::report`, and by
 -- the law `totals_join`.
 use Rattle.std.specs.Prelude.{◌≡◌, ℕ, ◌+◌, ◌^◌, ◌<◌, ◌≤◌, List, [], ◌∷◌, ◌++◌, length, slice_index}
-use Rattle.rds_sync.specs.declared.item.Item.{Item}
-use Rattle.rds_sync.specs.declared.totals.Totals.{Totals}
-use Rattle.rds_sync.specs.Totals.{totals_of}
+use Rattle.rds_sync.specs.{declared.item.Item.Item, declared.totals.Totals.Totals, Totals.totals_of}
 
 -- each count is the sum of the two
 abbrev pub plus : Totals → Totals → Totals

@@ -1,13 +1,9 @@
 -- The rest of a run, and a list of items that names its recording and its rules. A `Decoder` is said to be
 -- the first, `Items` and `IndexedItems` the second, and with them a report by `decode_plain`. This project's
 -- rules.
-use Rattle.std.specs.Prelude.{◌≡◌, ℕ, ◌-◌, List, Option}
-use Rattle.std.specs.Iterator.{YieldsFirst}
+use Rattle.std.specs.{Prelude.◌≡◌, Prelude.ℕ, Prelude.◌-◌, Prelude.List, Prelude.Option, Iterator.YieldsFirst}
 use Rattle.rds_stream.specs.Recording.{Signal}
-use Rattle.rds_sync.specs.declared.state.State.{State}
-use Rattle.rds_sync.specs.declared.item.Item.{Item}
-use Rattle.rds_sync.specs.Rules.{RuleNumbers}
-use Rattle.rds_sync.specs.Step.{run}
+use Rattle.rds_sync.specs.{declared.state.State.State, declared.item.Item.Item, Rules.RuleNumbers, Step.run}
 
 -- the items of a run that are still to come, in order, and the state that it ends in
 pub record DecoderOf : Type 0 where

@@ -4,18 +4,9 @@
 -- The places of the blocks, the type and bit B0 are those of EN 50067:1998, 2.1 and 3.1.2; which of two versions holds, and when they
 -- are in conflict, is this project's rule.
 use Rattle.std.specs.Prelude.{◌≡◌, ◌≢◌, ◌↔◌, ℕ, ◌+◌, ◌-◌, ◌*◌, ◌<◌, ◌≤◌, ◌⊎◌, Some, None, IsTrue, length, slice_get, option_map}
-use Rattle.rds_code.specs.declared.offset.Offset.{Offset}
-use Rattle.rds_code.specs.declared.offset.Offset.TheVariants.{C, Cx}
-use Rattle.rds_code.specs.declared.reading.Reading.TheVariants.{Valid, Corrected}
+use Rattle.rds_code.specs.declared.{offset.Offset.Offset, offset.Offset.TheVariants.C, offset.Offset.TheVariants.Cx, reading.Reading.TheVariants.Valid, reading.Reading.TheVariants.Corrected}
 use Rattle.rds_stream.specs.Recording.{Signal, reading_at}
-use Rattle.rds_sync.specs.declared.item.Version.{Version}
-use Rattle.rds_sync.specs.declared.item.Version.TheVariants.{A, B, Unknown}
-use Rattle.rds_sync.specs.declared.item.Block.{Block}
-use Rattle.rds_sync.specs.declared.item.Block.TheVariants.{Missing, Read}
-use Rattle.rds_sync.specs.declared.item.Group.{Group}
-use Rattle.rds_sync.specs.Lawful.{HaveRoom}
-use Rattle.rds_sync.specs.Rules.{RuleNumbers}
-use Rattle.rds_sync.specs.Groups.{info_of, type_in, version_of_bit, version_of_offset, are_complete, wanted_beside, group}
+use Rattle.rds_sync.specs.{declared.item.Version.Version, declared.item.Version.TheVariants.A, declared.item.Version.TheVariants.B, declared.item.Version.TheVariants.Unknown, declared.item.Block.Block, declared.item.Block.TheVariants.Missing, declared.item.Block.TheVariants.Read, declared.item.Group.Group, Lawful.HaveRoom, Rules.RuleNumbers, Groups.info_of, Groups.type_in, Groups.version_of_bit, Groups.version_of_offset, Groups.are_complete, Groups.wanted_beside, Groups.group}
 
 -- block y of the group is this
 abbrev pub IsBlock : Group → ℕ → Block → Type 0

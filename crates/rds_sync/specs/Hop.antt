@@ -2,11 +2,7 @@
 -- or up to the range's end; and how many windows it asks for. Cited by `Tally::hop`. This project's rule.
 use Rattle.std.specs.Prelude.{◌≡◌, ℕ, ◌+◌, ◌-◌, ◌*◌, ◌<◌, ◌≤◌, ◌⊎◌}
 use Rattle.rds_stream.specs.Recording.{Signal}
-use Rattle.rds_sync.specs.declared.state.State.{State}
-use Rattle.rds_sync.specs.declared.state.State.TheVariants.{Searching, Locked}
-use Rattle.rds_sync.specs.Lawful.{IsBetweenGroups}
-use Rattle.rds_sync.specs.Rules.{RuleNumbers}
-use Rattle.rds_sync.specs.Step.{run}
+use Rattle.rds_sync.specs.{declared.state.State.State, declared.state.State.TheVariants.Searching, declared.state.State.TheVariants.Locked, Lawful.IsBetweenGroups, Rules.RuleNumbers, Step.run}
 
 -- the place at which the next block ends; 25 places on if none is known
 abbrev pub mark : ℕ → State → ℕ

@@ -4,22 +4,7 @@
 use Rattle.std.specs.Prelude.{◌≡◌, ◌≢◌, ◌↔◌, ℕ, ◌+◌, ◌-◌, ◌*◌, ◌<◌, ◌≤◌, ◌⊎◌, List, [], ◌++◌, Some, None, length, Bool, nat_lt, min, if◌then◌else◌}
 use Rattle.std.specs.Int.{bit_at}
 use Rattle.rds_stream.specs.Recording.{Signal, length_of}
-use Rattle.rds_sync.specs.declared.lock.Lock.{Lock}
-use Rattle.rds_sync.specs.declared.loss.Loss.{Loss}
-use Rattle.rds_sync.specs.declared.loss.Loss.TheVariants.{Run, Share}
-use Rattle.rds_sync.specs.declared.state.State.{State}
-use Rattle.rds_sync.specs.declared.state.State.TheVariants.{Searching, Locked}
-use Rattle.rds_sync.specs.declared.item.Item.{Item}
-use Rattle.rds_sync.specs.declared.step.Step.{Step}
-use Rattle.rds_sync.specs.Advance.{next_place}
-use Rattle.rds_sync.specs.Hop.{IsHop}
-use Rattle.rds_sync.specs.Rules.{RuleNumbers}
-use Rattle.rds_sync.specs.Loss.{IsLossRule, bad_at, are_too_many, loses}
-use Rattle.rds_sync.specs.Acquiring.{acquired}
-use Rattle.rds_sync.specs.Lawful.{IsLawful, IsBetweenGroups}
-use Rattle.rds_sync.specs.Step.{step, items_at, run, items_of_end}
-use Rattle.rds_sync.specs.Report.{report_items}
-use Rattle.rds_sync.specs.Stretch.{IsStretch}
+use Rattle.rds_sync.specs.{declared.lock.Lock.Lock, declared.loss.Loss.Loss, declared.loss.Loss.TheVariants.Run, declared.loss.Loss.TheVariants.Share, declared.state.State.State, declared.state.State.TheVariants.Searching, declared.state.State.TheVariants.Locked, declared.item.Item.Item, declared.step.Step.Step, Advance.next_place, Hop.IsHop, Rules.RuleNumbers, Loss.IsLossRule, Loss.bad_at, Loss.are_too_many, Loss.loses, Acquiring.acquired, Lawful.IsLawful, Lawful.IsBetweenGroups, Step.step, Step.items_at, Step.run, Step.items_of_end, Report.report_items, Stretch.IsStretch}
 
 -- the items of the run over a whole recording, with those of its end, are the report's
 abbrev pub RunsAreReports : Type 0

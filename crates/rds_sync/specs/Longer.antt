@@ -2,15 +2,7 @@
 -- `longer_recordings_add_rows`. This project's rule.
 use Rattle.std.specs.Prelude.{◌≡◌, ℕ, ◌<◌, ◌≤◌, ◌⊎◌, min, List, [], ◌∷◌, ◌++◌, map, filter, take, nat_lt, Some, ⊤, slice_get, slice_index}
 use Rattle.rds_stream.specs.Recording.{Signal, length_of, touched}
-use Rattle.rds_sync.specs.declared.item.Block.TheVariants.{Missing}
-use Rattle.rds_sync.specs.declared.item.Group.{Group}
-use Rattle.rds_sync.specs.declared.item.Item.{Item}
-use Rattle.rds_sync.specs.declared.item.Item.TheVariants.{Group as GroupItem}
-use Rattle.rds_sync.specs.declared.totals.Totals.{Totals}
-use Rattle.rds_sync.specs.Rules.{RuleNumbers}
-use Rattle.rds_sync.specs.Loss.{IsLossRule}
-use Rattle.rds_sync.specs.Report.{report_items}
-use Rattle.rds_sync.specs.Totals.{totals_of}
+use Rattle.rds_sync.specs.{declared.item.Block.TheVariants.Missing, declared.item.Group.Group, declared.item.Item.Item, declared.item.Item.TheVariants.Group as GroupItem, declared.totals.Totals.Totals, Rules.RuleNumbers, Loss.IsLossRule, Report.report_items, Totals.totals_of}
 
 -- ---- recordings
 

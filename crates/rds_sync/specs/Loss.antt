@@ -7,9 +7,7 @@
 -- sync for lost.
 use Rattle.std.specs.Prelude.{ℕ, zero, suc, List, ◌+◌, ◌-◌, ◌*◌, ◌%◌, ◌^◌, ◌<◌, ◌≤◌, min, Bool, not, ◌&&◌, nat_le, if◌then◌else◌, count_by, count_ones}
 use Rattle.std.specs.List.{list_all, range_with_len}
-use Rattle.rds_sync.specs.declared.loss.Bad.{Bad}
-use Rattle.rds_sync.specs.declared.loss.Loss.{Loss}
-use Rattle.rds_sync.specs.declared.loss.Loss.TheVariants.{Run, Share}
+use Rattle.rds_sync.specs.declared.loss.{Bad.Bad, Loss.Loss, Loss.TheVariants.Run, Loss.TheVariants.Share}
 
 -- a rule that keeps a lock with no bad block, and loses one whose blocks are all bad
 abbrev pub IsLossRule : Loss → Type 0

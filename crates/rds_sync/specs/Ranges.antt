@@ -1,10 +1,7 @@
 -- The numbers that the rules may have. `Rules::of`, `new` and `with_share` refuse others, and `Rules::numbers`, `burst`, `reach` and `loss`
 -- say that theirs are such. This project's own.
 use Rattle.std.specs.Prelude.{ℕ, ◌<◌, ◌≤◌, ◌⊎◌}
-use Rattle.rds_sync.specs.declared.loss.Loss.{Loss}
-use Rattle.rds_sync.specs.declared.loss.Loss.TheVariants.{Run, Share}
-use Rattle.rds_sync.specs.Loss.{IsLossRule}
-use Rattle.rds_sync.specs.Rules.{RuleNumbers}
+use Rattle.rds_sync.specs.{declared.loss.Loss.Loss, declared.loss.Loss.TheVariants.Run, declared.loss.Loss.TheVariants.Share, Loss.IsLossRule, Rules.RuleNumbers}
 
 -- the longest burst that is corrected, the farthest partner, and the most blocks that a rule of loss looks at
 abbrev pub longest_burst : ℕ

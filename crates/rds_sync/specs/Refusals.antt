@@ -1,7 +1,6 @@
 -- The numbers and names of the refusals. Cited by `SyncError::number` and `name`. This project's own.
 use Rattle.std.specs.Prelude.{ℕ, List, codes}
-use Rattle.rds_sync.specs.declared.error.SyncError.{SyncError}
-use Rattle.rds_sync.specs.declared.error.SyncError.TheVariants.{BurstRange, ReachRange, LossRange, OutOfMemory, ShareRange}
+use Rattle.rds_sync.specs.declared.error.SyncError.{SyncError, TheVariants.BurstRange, TheVariants.ReachRange, TheVariants.LossRange, TheVariants.OutOfMemory, TheVariants.ShareRange}
 
 abbrev pub number_and_name : SyncError → ℕ × List ℕ
 number_and_name BurstRange = (1, codes "BurstRange")

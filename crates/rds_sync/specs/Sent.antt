@@ -8,30 +8,9 @@
 -- acquires and loses sync, are this project's rules (the standard leaves them to the receiver: Annexes B and C).
 use Rattle.std.specs.Prelude.{◌≡◌, ◌≢◌, ℕ, zero, suc, ◌+◌, ◌-◌, ◌*◌, ◌/◌, ◌%◌, ◌^◌, ◌<◌, ◌≤◌, ◌⊎◌, List, [], ◌∷◌, ◌++◌, flat_map, ◌==◌, Some, ⊤, false, nat_le, if◌then◌else◌, length, slice_index, slice_index_or, bit_xor, drop, count_by, sum_by, count_ones}
 use Rattle.std.specs.Int.{to_be_bytes, w128}
-use Rattle.rds_code.specs.declared.offset.Offset.{Offset}
-use Rattle.rds_code.specs.declared.offset.Offset.TheVariants.{A, B, D}
-use Rattle.rds_code.specs.declared.reading.Reading.TheVariants.{Valid, Corrected}
-use Rattle.rds_code.specs.Bursts.{IsBurst, burst_length}
-use Rattle.rds_code.specs.Encoding.{IsBlockOf, third_offset, encoded_group}
-use Rattle.rds_code.specs.Correction.{version_burst}
+use Rattle.rds_code.specs.{declared.offset.Offset.Offset, declared.offset.Offset.TheVariants.A, declared.offset.Offset.TheVariants.B, declared.offset.Offset.TheVariants.D, declared.reading.Reading.TheVariants.Valid, declared.reading.Reading.TheVariants.Corrected, Bursts.IsBurst, Bursts.burst_length, Encoding.IsBlockOf, Encoding.third_offset, Encoding.encoded_group, Correction.version_burst}
 use Rattle.rds_stream.specs.Recording.{Signal, heard, length_of, ungapped, bits_of}
-use Rattle.rds_sync.specs.declared.item.Block.{Block}
-use Rattle.rds_sync.specs.declared.item.Block.TheVariants.{Missing, Read}
-use Rattle.rds_sync.specs.declared.item.Group.{Group}
-use Rattle.rds_sync.specs.declared.item.Item.{Item}
-use Rattle.rds_sync.specs.declared.item.Item.TheVariants.{Acquired, Group as GroupItem}
-use Rattle.rds_sync.specs.declared.state.State.{State}
-use Rattle.rds_sync.specs.declared.state.State.TheVariants.{Locked}
-use Rattle.rds_sync.specs.declared.totals.Totals.{Totals}
-use Rattle.rds_sync.specs.Groups.{type_in, version_of_bit, group}
-use Rattle.rds_sync.specs.Rules.{RuleNumbers}
-use Rattle.rds_sync.specs.declared.loss.Loss.{Loss}
-use Rattle.rds_sync.specs.Loss.{IsLossRule, bad_after, are_too_many}
-use Rattle.rds_sync.specs.Lawful.{IsLawful}
-use Rattle.rds_sync.specs.Step.{run, lock_of}
-use Rattle.rds_sync.specs.Report.{report_items}
-use Rattle.rds_sync.specs.Totals.{by_burst_length, totals_of}
-use Rattle.rds_sync.specs.Convergence.{IsSound, IsLastFour, sound_bits}
+use Rattle.rds_sync.specs.{declared.item.Block.Block, declared.item.Block.TheVariants.Missing, declared.item.Block.TheVariants.Read, declared.item.Group.Group, declared.item.Item.Item, declared.item.Item.TheVariants.Acquired, declared.item.Item.TheVariants.Group as GroupItem, declared.state.State.State, declared.state.State.TheVariants.Locked, declared.totals.Totals.Totals, Groups.type_in, Groups.version_of_bit, Groups.group, Rules.RuleNumbers, declared.loss.Loss.Loss, Loss.IsLossRule, Loss.bad_after, Loss.are_too_many, Lawful.IsLawful, Step.run, Step.lock_of, Report.report_items, Totals.by_burst_length, Totals.totals_of, Convergence.IsSound, Convergence.IsLastFour, Convergence.sound_bits}
 
 -- ---- a group
 

@@ -1,12 +1,7 @@
 -- A stretch of a run: up to and including the next bit that gives an item, or to the range's end. Cited by `stretch`.
 use Rattle.std.specs.Prelude.{◌≡◌, ◌≢◌, ℕ, ◌-◌, ◌<◌, ◌≤◌, ◌⊎◌, []}
 use Rattle.rds_stream.specs.Recording.{Signal}
-use Rattle.rds_sync.specs.declared.step.Step.{Step}
-use Rattle.rds_sync.specs.declared.state.State.{State}
-use Rattle.rds_sync.specs.Advance.{items_in}
-use Rattle.rds_sync.specs.Lawful.{IsLawful}
-use Rattle.rds_sync.specs.Rules.{RuleNumbers}
-use Rattle.rds_sync.specs.Step.{run}
+use Rattle.rds_sync.specs.{declared.step.Step.Step, declared.state.State.State, Advance.items_in, Lawful.IsLawful, Rules.RuleNumbers, Step.run}
 
 -- how far the run from state s before `place` came: nothing was given before the last bit that it went over, and that bit
 -- gave the items that are there or is the last before `to`

@@ -1,10 +1,7 @@
 -- A run that goes on: where it is, and the items that it gave. `Tally` cites it. This project's rule.
 use Rattle.std.specs.Prelude.{ℕ, ◌-◌, List, [], ◌++◌}
 use Rattle.rds_stream.specs.Recording.{Signal}
-use Rattle.rds_sync.specs.declared.item.Item.{Item}
-use Rattle.rds_sync.specs.declared.state.State.{State}
-use Rattle.rds_sync.specs.Rules.{RuleNumbers}
-use Rattle.rds_sync.specs.Step.{run}
+use Rattle.rds_sync.specs.{declared.item.Item.Item, declared.state.State.State, Rules.RuleNumbers, Step.run}
 
 -- a run over a recording, by rules: the place of the next bit, the state before it, and the items given so far
 pub record TallyOf : Type 0 where

@@ -4,11 +4,7 @@ ghost use Rattle.std.specs.Prelude.{◌≡◌, ◌≤◌, ◌<◌, ◌+◌, ◌-
 ghost use Rattle.std.specs.List.{list_any, range_with_len};
 ghost use Rattle.rds_code.specs.declared.offset.Offset.{Offset};
 ghost use Rattle.rds_stream.specs.Recording.{Signal, length_of, heard, offset_at};
-ghost use Rattle.rds_sync.specs.Acquiring.{acquired, has_partner, is_in_step};
-ghost use Rattle.rds_sync.specs.Advance.{items_in};
-ghost use Rattle.rds_sync.specs.Groups.{group};
-ghost use Rattle.rds_sync.specs.Step.{items_at, lock_after, completed_group};
-ghost use Rattle.rds_sync.specs.declared.item.Item.TheVariants.{Acquired};
+ghost use Rattle.rds_sync.specs.{Acquiring.acquired, Acquiring.has_partner, Acquiring.is_in_step, Advance.items_in, Groups.group, Step.items_at, Step.lock_after, Step.completed_group, declared.item.Item.TheVariants.Acquired};
 
 use crate::item::{Block, Group, Item};
 use crate::lock::{BLOCK_PLACES, Lock};

@@ -2,9 +2,7 @@
 
 ghost use Rattle.std.specs.Prelude.{◌≡◌, ◌≤◌, ◌-◌, IfOk, IsOkUnless};
 ghost use Rattle.rds_stream.specs.Recording.{length_of};
-ghost use Rattle.rds_sync.specs.Convergence.{IsConverged};
-ghost use Rattle.rds_sync.specs.Lawful.{IsLawful};
-ghost use Rattle.rds_sync.specs.Step.{run as the_run};
+ghost use Rattle.rds_sync.specs.{Convergence.IsConverged, Lawful.IsLawful, Step.run as the_run};
 
 use crate::decoder::Decoder;
 use crate::error::SyncError;

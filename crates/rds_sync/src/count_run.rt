@@ -2,12 +2,7 @@
 
 ghost use Rattle.std.specs.Prelude.{◌≡◌, ◌≤◌, ◌<◌, ◌-◌, ◌^◌, Some};
 ghost use Rattle.rds_stream.specs.Recording.{Signal, length_of};
-ghost use Rattle.rds_sync.specs.Acquiring.{acquired};
-ghost use Rattle.rds_sync.specs.Inside.Counts.{IsCountStretch, added};
-ghost use Rattle.rds_sync.specs.Lawful.{IsLawful, IsLawfulLock};
-ghost use Rattle.rds_sync.specs.Rules.{RuleNumbers};
-ghost use Rattle.rds_sync.specs.Step.{items_at};
-ghost use Rattle.rds_sync.specs.declared.state.State.TheVariants.{Locked, Searching};
+ghost use Rattle.rds_sync.specs.{Acquiring.acquired, Inside.Counts.IsCountStretch, Inside.Counts.added, Lawful.IsLawful, Lawful.IsLawfulLock, Rules.RuleNumbers, Step.items_at, declared.state.State.TheVariants.Locked, declared.state.State.TheVariants.Searching};
 
 use crate::acquiring::has_partner_in;
 use crate::counts::Counts;

@@ -1,10 +1,7 @@
 //! Counts of items that go into totals: those of blocks are added eight at a time.
 
-ghost use Rattle.std.specs.Prelude.{◌≡◌, ◌≤◌, ◌<◌, ◌+◌, ◌*◌, ◌%◌, ◌^◌, ◌∷◌, [], All, length, sum_by};
-ghost use Rattle.std.specs.List.{list_all};
-ghost use Rattle.rds_sync.specs.Counting.{IsAtMost};
-ghost use Rattle.rds_sync.specs.Inside.Counts.{acquired_count, count_of, group_count, in_lanes, joined, loss_count, no_count};
-ghost use Rattle.rds_sync.specs.Inside.Outcomes.{bits_inverted, has_info, blocks_in, outcome_at};
+ghost use Rattle.std.specs.{Prelude.◌≡◌, Prelude.◌≤◌, Prelude.◌<◌, Prelude.◌+◌, Prelude.◌*◌, Prelude.◌%◌, Prelude.◌^◌, Prelude.◌∷◌, Prelude.[], Prelude.All, Prelude.length, Prelude.sum_by, List.list_all};
+ghost use Rattle.rds_sync.specs.{Counting.IsAtMost, Inside.Counts.acquired_count, Inside.Counts.count_of, Inside.Counts.group_count, Inside.Counts.in_lanes, Inside.Counts.joined, Inside.Counts.loss_count, Inside.Counts.no_count, Inside.Outcomes.bits_inverted, Inside.Outcomes.has_info, Inside.Outcomes.blocks_in, Inside.Outcomes.outcome_at};
 
 use crate::item::Item;
 use crate::totals::Totals;

@@ -1,11 +1,8 @@
 //! The items of a run over a recording, one after the other.
 
-ghost use Rattle.std.specs.Prelude.{◌≡◌, ◌≤◌, ◌<◌, ◌+◌, ◌-◌, ◌++◌, ◌⊎◌, [], false, length, true, vec_capacity};
-ghost use Rattle.std.specs.Iterator.{item_count};
+ghost use Rattle.std.specs.{Prelude.◌≡◌, Prelude.◌≤◌, Prelude.◌<◌, Prelude.◌+◌, Prelude.◌-◌, Prelude.◌++◌, Prelude.◌⊎◌, Prelude.[], Prelude.false, Prelude.length, Prelude.true, Prelude.vec_capacity, Iterator.item_count};
 ghost use Rattle.rds_stream.specs.Recording.{length_of};
-ghost use Rattle.rds_sync.specs.Decoding.{decoder_of, GivesNext};
-ghost use Rattle.rds_sync.specs.Lawful.{IsLawful};
-ghost use Rattle.rds_sync.specs.Step.{run};
+ghost use Rattle.rds_sync.specs.{Decoding.decoder_of, Decoding.GivesNext, Lawful.IsLawful, Step.run};
 
 use crate::item::Item;
 use crate::push::push_one;
@@ -39,10 +36,7 @@ pub struct Decoder<'a> {
 impl<'a> Model for Decoder<'a> {
     ghost use Rattle.std.specs.Prelude.{◌≤◌, ◌-◌, ◌∷◌, ◌++◌, []};
     ghost use Rattle.rds_stream.specs.Recording.{length_of};
-    ghost use Rattle.rds_sync.specs.Advance.{items_in};
-    ghost use Rattle.rds_sync.specs.Decoding.{DecoderOf};
-    ghost use Rattle.rds_sync.specs.Lawful.{IsLawful};
-    ghost use Rattle.rds_sync.specs.Step.{run};
+    ghost use Rattle.rds_sync.specs.{Advance.items_in, Decoding.DecoderOf, Lawful.IsLawful, Step.run};
 
     ghost Value = { DecoderOf };
 

@@ -5,14 +5,7 @@
 
 ghost use Rattle.std.specs.Prelude.{◌≡◌, ◌≤◌, ◌<◌, ◌+◌, ◌-◌, ◌*◌, ◌^◌, List};
 ghost use Rattle.rds_stream.specs.Recording.{length_of};
-ghost use Rattle.rds_sync.specs.Acquiring.{has_number};
-ghost use Rattle.rds_sync.specs.Advance.{items_in};
-ghost use Rattle.rds_sync.specs.Groups.{blocks_at, group, group_of};
-ghost use Rattle.rds_sync.specs.Lawful.{HaveRoom};
-ghost use Rattle.rds_sync.specs.Inside.Locks.{state_of, IsFollowed, IsInProgress, IsReadable, items_of_due};
-ghost use Rattle.rds_sync.specs.Rules.{RuleNumbers};
-ghost use Rattle.rds_sync.specs.Step.{step, items_at};
-ghost use Rattle.rds_sync.specs.declared.state.State.TheVariants.{Locked};
+ghost use Rattle.rds_sync.specs.{Acquiring.has_number, Advance.items_in, Groups.blocks_at, Groups.group, Groups.group_of, Lawful.HaveRoom, Inside.Locks.state_of, Inside.Locks.IsFollowed, Inside.Locks.IsInProgress, Inside.Locks.IsReadable, Inside.Locks.items_of_due, Rules.RuleNumbers, Step.step, Step.items_at, declared.state.State.TheVariants.Locked};
 
 use crate::due::Due;
 use crate::item::{Block, Group, Item};

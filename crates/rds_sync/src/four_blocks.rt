@@ -2,19 +2,9 @@
 //! them.
 
 ghost use Rattle.std.specs.Prelude.{◌≡◌, ◌≤◌, ◌<◌, ◌+◌, ◌-◌, ◌^◌, ◌∷◌, [], None, false, length, map, vec_capacity, ℕ, All, IfSome};
-ghost use Rattle.rds_code.specs.Outcomes.{outcome_number};
-ghost use Rattle.rds_code.specs.Offsets.{number};
-ghost use Rattle.rds_code.specs.declared.reading.Wanted.{Wanted as TheWanted};
-ghost use Rattle.rds_code.specs.declared.reading.Wanted.TheVariants.{Either};
-ghost use Rattle.rds_stream.specs.InARow.{four_heard};
-ghost use Rattle.rds_stream.specs.Recording.{Signal, length_of, reading_heard};
-ghost use Rattle.rds_sync.specs.Groups.{blocks_at, group, wanted_beside};
-ghost use Rattle.rds_sync.specs.Inside.Outcomes.{IsKeptOver, valid, outcome_of, blocks_in};
-ghost use Rattle.rds_sync.specs.Inside.WholeGroups.{HasPushed, IsWhole};
-ghost use Rattle.rds_sync.specs.Loss.{IsLawfulBad, bad_after, are_too_many};
-ghost use Rattle.rds_sync.specs.Ranges.{IsLossInRange};
-ghost use Rattle.rds_sync.specs.Rules.{RuleNumbers};
-ghost use Rattle.rds_sync.specs.declared.item.Block.TheVariants.{Read};
+ghost use Rattle.rds_code.specs.{Outcomes.outcome_number, Offsets.number, declared.reading.Wanted.Wanted as TheWanted, declared.reading.Wanted.TheVariants.Either};
+ghost use Rattle.rds_stream.specs.{InARow.four_heard, Recording.Signal, Recording.length_of, Recording.reading_heard};
+ghost use Rattle.rds_sync.specs.{Groups.blocks_at, Groups.group, Groups.wanted_beside, Inside.Outcomes.IsKeptOver, Inside.Outcomes.valid, Inside.Outcomes.outcome_of, Inside.Outcomes.blocks_in, Inside.WholeGroups.HasPushed, Inside.WholeGroups.IsWhole, Loss.IsLawfulBad, Loss.bad_after, Loss.are_too_many, Ranges.IsLossInRange, Rules.RuleNumbers, declared.item.Block.TheVariants.Read};
 
 use crate::item::{Block, Group, Item};
 use crate::loss::{Loss, NONE_BAD};

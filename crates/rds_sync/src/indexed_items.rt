@@ -2,8 +2,7 @@
 
 ghost use Rattle.std.specs.Prelude.{◌≡◌, ◌<◌, ◌≤◌, ◌^◌, All, IfOk, List, length, slice_range};
 ghost use Rattle.rds_stream.specs.Recording.{Signal};
-ghost use Rattle.rds_sync.specs.Inside.Spans.{IsFound, IsSpan, IsStart, items_in};
-ghost use Rattle.rds_sync.specs.Rules.{RuleNumbers};
+ghost use Rattle.rds_sync.specs.{Inside.Spans.IsFound, Inside.Spans.IsSpan, Inside.Spans.IsStart, Inside.Spans.items_in, Rules.RuleNumbers};
 
 use crate::item_iter::ItemIter;
 use crate::items::spans_from;
@@ -34,8 +33,7 @@ pub struct IndexedItems<'a> {
 
 impl<'a> Model for IndexedItems<'a> {
     ghost use Rattle.std.specs.Prelude.{All};
-    ghost use Rattle.rds_sync.specs.Decoding.{ItemsOf, listed};
-    ghost use Rattle.rds_sync.specs.Inside.Spans.{AreSpans, IsStart, items_in};
+    ghost use Rattle.rds_sync.specs.{Decoding.ItemsOf, Decoding.listed, Inside.Spans.AreSpans, Inside.Spans.IsStart, Inside.Spans.items_in};
 
     ghost Value = { ItemsOf };
 

@@ -3,9 +3,7 @@
 ghost use Rattle.std.specs.Prelude.{◌≡◌, ◌≤◌, ◌<◌, ◌+◌, ◌-◌, ◌++◌, ◌⊎◌, [], ◌∷◌, All, MatchOption, length, drop, take, false, true, vec_capacity};
 ghost use Rattle.std.specs.Iterator.{YieldsFirst, item_count};
 ghost use Rattle.rds_stream.specs.Recording.{length_of};
-ghost use Rattle.rds_sync.specs.Inside.Spans.{IsSpan, items_in, items_of};
-ghost use Rattle.rds_sync.specs.Lawful.{IsLawful};
-ghost use Rattle.rds_sync.specs.Step.{run};
+ghost use Rattle.rds_sync.specs.{Inside.Spans.IsSpan, Inside.Spans.items_in, Inside.Spans.items_of, Lawful.IsLawful, Step.run};
 
 use crate::decoder::Decoder;
 use crate::item::Item;

@@ -1,13 +1,8 @@
 //! The items of a report.
 
 ghost use Rattle.std.specs.Prelude.{◌≡◌, ◌==◌, ◌+◌, ◌-◌, ◌<◌, ◌≤◌, ◌++◌, [], All, drop, length, take, slice_get, slice_range, IfOk, OnOk, OnErr};
-ghost use Rattle.rds_stream.specs.Recording.{length_of};
-ghost use Rattle.rds_sync.specs.Decoding.{listed};
-ghost use Rattle.rds_sync.specs.Inside.Spans.{AreBehind, IsAt, IsInFirst, IsSpan, items_in};
-ghost use Rattle.rds_sync.specs.Lawful.{IsLawful};
-ghost use Rattle.rds_sync.specs.Rules.{RuleNumbers};
-ghost use Rattle.rds_sync.specs.Step.{run, items_of_end};
-ghost use Rattle.rds_stream.specs.Recording.{Signal};
+ghost use Rattle.rds_stream.specs.Recording.{length_of, Signal};
+ghost use Rattle.rds_sync.specs.{Decoding.listed, Inside.Spans.AreBehind, Inside.Spans.IsAt, Inside.Spans.IsInFirst, Inside.Spans.IsSpan, Inside.Spans.items_in, Lawful.IsLawful, Rules.RuleNumbers, Step.run, Step.items_of_end};
 
 use crate::indexed_items::{IndexedItems, starts_of};
 use crate::item::Item;

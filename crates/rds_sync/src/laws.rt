@@ -1,12 +1,8 @@
 //! The laws of runs and reports, over only the definitions. Each function here does nothing: its contract is
 //! a law, which the check of this crate proves, and which a proof above it may cite.
 
-ghost use Rattle.rds_sync.specs.Convergence.{SoundRangesHaveFours, RunsConverge};
-ghost use Rattle.rds_sync.specs.Counting.{TotalsJoin};
-ghost use Rattle.rds_sync.specs.GroupLaws.{GroupsAreRead};
-ghost use Rattle.rds_sync.specs.Longer.{BeginningsBegin, LongerRecordingsAddItems, TotalsOnlyGrow};
-ghost use Rattle.rds_sync.specs.Sent.{GroupsAreCorrected, SentGroupsAreListed, EncodedGroupsAreHeard, EncodedGroupsAreListed, PackedGroupsAreSent, LockedGroupsAreListed, DamagedGroupsAreListed, DamagedGroupsAreHeard, DamagedBitsAreDecoded, DamageTellsTotals, DamagedBitsTellTotals, SoundSignalIsDecoded};
 ghost use Rattle.rds_sync.specs.Laws.{RunsAreReports, RunsJoin, StepsAreLawful, RunsAreLawful, RunsMerge, OneBitRuns, LocksWait, SearchesGoOn, ItemsMarkChanges, RunsGiveFewItems, AcquisitionsAreLate, MasksTellBlocks, BadBlocksLose, RunsAreShares, StretchesAreSteps, HopsAreStretches};
+ghost use Rattle.rds_sync.specs.{Convergence.SoundRangesHaveFours, Convergence.RunsConverge, Counting.TotalsJoin, GroupLaws.GroupsAreRead, Longer.BeginningsBegin, Longer.LongerRecordingsAddItems, Longer.TotalsOnlyGrow, Sent.GroupsAreCorrected, Sent.SentGroupsAreListed, Sent.EncodedGroupsAreHeard, Sent.EncodedGroupsAreListed, Sent.PackedGroupsAreSent, Sent.LockedGroupsAreListed, Sent.DamagedGroupsAreListed, Sent.DamagedGroupsAreHeard, Sent.DamagedBitsAreDecoded, Sent.DamageTellsTotals, Sent.DamagedBitsTellTotals, Sent.SoundSignalIsDecoded};
 
 use rds_code::laws as code_laws;
 

@@ -2,12 +2,7 @@
 //! read.
 
 ghost use Rattle.std.specs.Prelude.{◌≡◌, ◌≤◌, ◌<◌, ◌+◌, ◌^◌, ◌↔◌, IsTrue, true};
-ghost use Rattle.rds_sync.specs.Lawful.{IsLawfulLock};
-ghost use Rattle.rds_sync.specs.Inside.Locks.{IsAfter};
-ghost use Rattle.rds_sync.specs.Loss.{IsLawfulBad, bad_by};
-ghost use Rattle.rds_sync.specs.Ranges.{IsLossInRange};
-ghost use Rattle.rds_sync.specs.Rules.{RuleNumbers};
-ghost use Rattle.rds_sync.specs.Step.{lock_after};
+ghost use Rattle.rds_sync.specs.{Lawful.IsLawfulLock, Inside.Locks.IsAfter, Loss.IsLawfulBad, Loss.bad_by, Ranges.IsLossInRange, Rules.RuleNumbers, Step.lock_after};
 
 use crate::due::Due;
 use crate::loss::{Bad, Loss};

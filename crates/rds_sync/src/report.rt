@@ -2,12 +2,7 @@
 
 ghost use Rattle.std.specs.Prelude.{◌≡◌, ◌≤◌, ◌-◌, ◌*◌, ◌^◌, IfOk, IsOkUnless};
 ghost use Rattle.rds_stream.specs.Recording.{length_of};
-ghost use Rattle.rds_sync.specs.Counting.{IsAtMost};
-ghost use Rattle.rds_sync.specs.Decoding.{listed};
-ghost use Rattle.rds_sync.specs.Lawful.{IsLawful};
-ghost use Rattle.rds_sync.specs.Report.{report_items};
-ghost use Rattle.rds_sync.specs.Step.{run};
-ghost use Rattle.rds_sync.specs.Totals.{totals_of};
+ghost use Rattle.rds_sync.specs.{Counting.IsAtMost, Decoding.listed, Lawful.IsLawful, Report.report_items, Step.run, Totals.totals_of};
 
 use crate::count_run::count_stretch;
 use crate::counts::Counts;

@@ -1,13 +1,9 @@
 //! The rules by which sync is acquired, kept and lost.
 
 ghost use Rattle.std.specs.Prelude.{◌≡◌, ◌≢◌, ◌<◌, ◌≤◌, ◌⊎◌, ◌↔◌, ◌^◌, IfErr, IfOk, IfSome, IsErrOf};
-ghost use Rattle.rds_code.specs.Outcomes.{outcome_number};
-ghost use Rattle.rds_code.specs.declared.reading.Wanted.TheVariants.{Either};
+ghost use Rattle.rds_code.specs.{Outcomes.outcome_number, declared.reading.Wanted.TheVariants.Either};
 ghost use Rattle.rds_stream.specs.Recording.{reading_heard};
-ghost use Rattle.rds_sync.specs.Groups.{wanted_beside};
-ghost use Rattle.rds_sync.specs.Ranges.{IsInRange, IsRunOutside, IsShareOutside, farthest_reach, longest_burst, most_blocks};
-ghost use Rattle.rds_sync.specs.declared.item.Block.TheVariants.{Read};
-ghost use Rattle.rds_sync.specs.declared.loss.Loss.TheVariants.{Run, Share};
+ghost use Rattle.rds_sync.specs.{Groups.wanted_beside, Ranges.IsInRange, Ranges.IsRunOutside, Ranges.IsShareOutside, Ranges.farthest_reach, Ranges.longest_burst, Ranges.most_blocks, declared.item.Block.TheVariants.Read, declared.loss.Loss.TheVariants.Run, declared.loss.Loss.TheVariants.Share};
 
 use crate::error::SyncError;
 use crate::loss::Loss;
@@ -39,9 +35,8 @@ pub struct Rules {
 }
 
 impl Model for Rules {
-    ghost use Rattle.rds_sync.specs.Rules.{RuleNumbers};
+    ghost use Rattle.rds_sync.specs.{Rules.RuleNumbers, Ranges.IsInRange};
     ghost use Rattle.std.specs.Prelude.{◌≡◌};
-    ghost use Rattle.rds_sync.specs.Ranges.{IsInRange};
 
     ghost Value = { RuleNumbers };
 

@@ -1,11 +1,9 @@
 //! A lock that its second block loses: its group has these two blocks, or only the second after a block 4.
 
 ghost use Rattle.std.specs.Prelude.{◌≡◌, ◌≤◌, ◌<◌, ◌+◌, ◌^◌, true, IfSome};
-ghost use Rattle.rds_code.specs.Cycle.{next_number};
-ghost use Rattle.rds_code.specs.Outcomes.{outcome_number};
+ghost use Rattle.rds_code.specs.{Cycle.next_number, Outcomes.outcome_number};
 ghost use Rattle.rds_stream.specs.Recording.{length_of, reading_at};
-ghost use Rattle.rds_sync.specs.Acquiring.{has_number};
-ghost use Rattle.rds_sync.specs.Inside.Outcomes.{IsLostAtOnce, wanted_behind, word_of_two};
+ghost use Rattle.rds_sync.specs.{Acquiring.has_number, Inside.Outcomes.IsLostAtOnce, Inside.Outcomes.wanted_behind, Inside.Outcomes.word_of_two};
 
 use crate::lock::BLOCK_PLACES;
 use crate::rules::Rules;

@@ -2,8 +2,7 @@
 
 ghost use Rattle.std.specs.Prelude.{◌≡◌, ◌<◌, IfSome, length};
 ghost use Rattle.rds_stream.specs.Recording.{Signal};
-ghost use Rattle.rds_sync.specs.Inside.Spans.{items_of, IsPast, IsSpan};
-ghost use Rattle.rds_sync.specs.Rules.{RuleNumbers};
+ghost use Rattle.rds_sync.specs.{Inside.Spans.items_of, Inside.Spans.IsPast, Inside.Spans.IsSpan, Rules.RuleNumbers};
 
 use crate::state::State;
 

@@ -7,9 +7,7 @@
 
 ghost use Rattle.std.specs.Prelude.{◌≡◌, ◌≤◌, ◌<◌, ◌+◌, ◌-◌, ◌*◌, ◌^◌, length};
 ghost use Rattle.rds_stream.specs.Recording.{length_of};
-ghost use Rattle.rds_sync.specs.Advance.{next_place, reads_most, items_in, group_item};
-ghost use Rattle.rds_sync.specs.Lawful.{IsLawful, IsLawfulLock};
-ghost use Rattle.rds_sync.specs.Step.{step, items_at, run, items_of_end};
+ghost use Rattle.rds_sync.specs.{Advance.next_place, Advance.reads_most, Advance.items_in, Advance.group_item, Lawful.IsLawful, Lawful.IsLawfulLock, Step.step, Step.items_at, Step.run, Step.items_of_end};
 
 use crate::acquiring::acquire;
 use crate::follow::{blocks_before, follow, group_so_far, step_of};

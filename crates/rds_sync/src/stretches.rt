@@ -3,9 +3,7 @@
 
 ghost use Rattle.std.specs.Prelude.{◌≡◌, ◌≤◌, ◌<◌};
 ghost use Rattle.rds_stream.specs.Recording.{length_of};
-ghost use Rattle.rds_sync.specs.Lawful.{IsLawful, IsLawfulLock};
-ghost use Rattle.rds_sync.specs.Stretch.{IsStretch};
-ghost use Rattle.rds_sync.specs.declared.state.State.TheVariants.{Locked, Searching};
+ghost use Rattle.rds_sync.specs.{Lawful.IsLawful, Lawful.IsLawfulLock, Stretch.IsStretch, declared.state.State.TheVariants.Locked, declared.state.State.TheVariants.Searching};
 
 use crate::acquiring::{Acquisition, has_partner_in};
 use crate::due::Due;

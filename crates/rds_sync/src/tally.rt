@@ -2,14 +2,7 @@
 
 ghost use Rattle.std.specs.Prelude.{◌≡◌, ◌≤◌, ◌<◌, ◌+◌, ◌-◌, ◌*◌, ◌^◌, IfOk};
 ghost use Rattle.rds_stream.specs.Recording.{length_of};
-ghost use Rattle.rds_sync.specs.Counting.{IsAtMost};
-ghost use Rattle.rds_sync.specs.Decoding.{listed};
-ghost use Rattle.rds_sync.specs.Hop.{IsHop};
-ghost use Rattle.rds_sync.specs.Inside.Counts.{joined};
-ghost use Rattle.rds_sync.specs.Lawful.{IsLawful};
-ghost use Rattle.rds_sync.specs.Tally.{gone_on, tally_at};
-ghost use Rattle.rds_sync.specs.Totals.{totals_of};
-ghost use Rattle.rds_sync.specs.declared.state.State.TheVariants.{Searching};
+ghost use Rattle.rds_sync.specs.{Counting.IsAtMost, Decoding.listed, Hop.IsHop, Inside.Counts.joined, Lawful.IsLawful, Tally.gone_on, Tally.tally_at, Totals.totals_of, declared.state.State.TheVariants.Searching};
 
 use crate::count_run::count_stretch;
 use crate::counts::Counts;
@@ -44,9 +37,7 @@ pub struct Tally {
 
 impl Model for Tally {
     ghost use Rattle.std.specs.Prelude.{◌-◌, ◌++◌};
-    ghost use Rattle.rds_sync.specs.Step.{run};
-    ghost use Rattle.rds_sync.specs.Tally.{TallyOf};
-    ghost use Rattle.rds_sync.specs.Inside.Counts.{IsTally};
+    ghost use Rattle.rds_sync.specs.{Step.run, Tally.TallyOf, Inside.Counts.IsTally};
 
     ghost Value = { TallyOf };
 

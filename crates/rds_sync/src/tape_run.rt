@@ -2,12 +2,7 @@
 
 ghost use Rattle.std.specs.Prelude.{◌≡◌, ◌≤◌, ◌<◌, ◌+◌, ◌-◌, ◌*◌, ◌^◌, ◌⊎◌, [], ℕ, None};
 ghost use Rattle.rds_stream.specs.Recording.{length_of};
-ghost use Rattle.rds_sync.specs.Acquiring.{acquired};
-ghost use Rattle.rds_sync.specs.Hop.{IsHop, mark};
-ghost use Rattle.rds_sync.specs.Inside.Counts.{IsCountStretch};
-ghost use Rattle.rds_sync.specs.Lawful.{IsLawful, IsLawfulLock};
-ghost use Rattle.rds_sync.specs.Step.{run};
-ghost use Rattle.rds_sync.specs.declared.state.State.TheVariants.{Locked, Searching};
+ghost use Rattle.rds_sync.specs.{Acquiring.acquired, Hop.IsHop, Hop.mark, Inside.Counts.IsCountStretch, Lawful.IsLawful, Lawful.IsLawfulLock, Step.run, declared.state.State.TheVariants.Locked, declared.state.State.TheVariants.Searching};
 
 use crate::acquiring::acquire;
 use crate::count_run::add_found;

@@ -28,9 +28,7 @@ pub struct Totals {
 }
 
 impl Totals {
-    ghost use Rattle.rds_sync.specs.Totals.{totals_of};
-    ghost use Rattle.rds_sync.specs.Counting.{plus, IsAtMost, FitTogether, IsRest};
-    ghost use Rattle.rds_sync.specs.Advance.{group_item};
+    ghost use Rattle.rds_sync.specs.{Totals.totals_of, Counting.plus, Counting.IsAtMost, Counting.FitTogether, Counting.IsRest, Advance.group_item};
 
     /// The totals of no items.
     pub const NONE: Totals = Totals {

@@ -2,12 +2,7 @@
 
 ghost use Rattle.std.specs.Prelude.{◌≡◌, ◌≤◌, ◌<◌, ◌^◌, IfSome, length, vec_capacity};
 ghost use Rattle.rds_stream.specs.Recording.{length_of};
-ghost use Rattle.rds_sync.specs.Inside.Counts.{HasCountedOn};
-ghost use Rattle.rds_sync.specs.Inside.WholeGroups.{HasGiven};
-ghost use Rattle.rds_sync.specs.Lawful.{IsLawfulLock};
-ghost use Rattle.rds_sync.specs.Loss.{IsLawfulBad};
-ghost use Rattle.rds_sync.specs.Stretch.{IsStretch};
-ghost use Rattle.rds_sync.specs.declared.state.State.TheVariants.{Locked};
+ghost use Rattle.rds_sync.specs.{Inside.Counts.HasCountedOn, Inside.WholeGroups.HasGiven, Lawful.IsLawfulLock, Loss.IsLawfulBad, Stretch.IsStretch, declared.state.State.TheVariants.Locked};
 
 use crate::counts::Counts;
 use crate::four_blocks::{any_heard, bad_after_four, push_whole, whole_word};

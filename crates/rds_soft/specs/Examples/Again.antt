@@ -1,16 +1,12 @@
 -- Worked examples: blocks of a group, read again.
 use Rattle.std.specs.Prelude.{◌≡◌, List, None, Some, true, [], ◌∷◌, refl, replicate, ℤ, pos}
-use Rattle.rds_code.specs.declared.offset.Offset.TheVariants.{B, C, D}
-use Rattle.rds_code.specs.declared.reading.Wanted.TheVariants.{OnlyC, OnlyCx, Either}
-use Rattle.rds_code.specs.declared.reading.Reading.TheVariants.{Valid, Corrected, Lost}
+use Rattle.rds_code.specs.declared.{offset.Offset.TheVariants.B, offset.Offset.TheVariants.C, offset.Offset.TheVariants.D, reading.Wanted.TheVariants.OnlyC, reading.Wanted.TheVariants.OnlyCx, reading.Wanted.TheVariants.Either, reading.Reading.TheVariants.Valid, reading.Reading.TheVariants.Corrected, reading.Reading.TheVariants.Lost}
 use Rattle.rds_stream.specs.Recording.{Signal, touched}
-use Rattle.rds_sync.specs.declared.item.Block.{Block}
-use Rattle.rds_sync.specs.declared.item.Block.TheVariants.{Missing, Read}
+use Rattle.rds_sync.specs.declared.item.Block.{Block, TheVariants.Missing, TheVariants.Read}
 use Rattle.rds_sync.specs.declared.item.Version.TheVariants as AVersion
 use Rattle.rds_soft.specs.declared.soft_reading.SoftReading.TheVariants as Soft
 use Rattle.rds_soft.specs.declared.soft_item.SoftBlock.TheVariants as Again
-use Rattle.rds_soft.specs.SoftGroups.{wanted_beside, version, in_conflict}
-use Rattle.rds_soft.specs.ReadAgain.{block_again, first_bit, symbols_heard}
+use Rattle.rds_soft.specs.{SoftGroups.wanted_beside, SoftGroups.version, SoftGroups.in_conflict, ReadAgain.block_again, ReadAgain.first_bit, ReadAgain.symbols_heard}
 
 -- ---- where blocks begin: the second block begins where the first one that was read does, if that is it
 

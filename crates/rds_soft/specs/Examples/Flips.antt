@@ -1,11 +1,6 @@
 -- Worked examples: flips, and which of them are nearest.
-use Rattle.std.specs.Prelude.{◌≡◌, ◌≢◌, ℕ, ◌+◌, ◌≤◌, List, [], ◌∷◌, refl, bit_xor}
-use Rattle.std.proofs.Common.{arith, lit<}
-use Rattle.std.proofs.lemmas.Bool.{false≢true}
-use Rattle.rds_code.specs.declared.offset.Offset.TheVariants.{C, Cx, D}
-use Rattle.rds_code.specs.declared.reading.Wanted.TheVariants.{OnlyC, Either}
-use Rattle.rds_code.specs.Remainder.{rem}
-use Rattle.rds_code.specs.Offsets.{word}
+use Rattle.std.{specs.Prelude.◌≡◌, specs.Prelude.◌≢◌, specs.Prelude.ℕ, specs.Prelude.◌+◌, specs.Prelude.◌≤◌, specs.Prelude.List, specs.Prelude.[], specs.Prelude.◌∷◌, specs.Prelude.refl, specs.Prelude.bit_xor, proofs.Common.arith, proofs.Common.lit<, proofs.lemmas.Bool.false≢true}
+use Rattle.rds_code.specs.{declared.offset.Offset.TheVariants.C, declared.offset.Offset.TheVariants.Cx, declared.offset.Offset.TheVariants.D, declared.reading.Wanted.TheVariants.OnlyC, declared.reading.Wanted.TheVariants.Either, Remainder.rem, Offsets.word}
 use Rattle.rds_soft.specs.Nearest.{mask_of, weight, top, Turns, IsNearest}
 
 -- ---- the bits that flips invert

@@ -1,12 +1,7 @@
 -- Worked examples: symbols, their bits, and how they are read.
 use Rattle.std.specs.Prelude.{◌≡◌, ◌++◌, List, None, [], ◌∷◌, refl, bit_xor, replicate, ℤ, pos, negsuc}
-use Rattle.rds_code.specs.declared.offset.Offset.TheVariants.{D}
-use Rattle.rds_code.specs.declared.reading.Wanted.TheVariants.{Either}
-use Rattle.rds_code.specs.Offsets.{word, offset_of}
-use Rattle.rds_code.specs.Remainder.{rem}
-use Rattle.rds_soft.specs.declared.soft_reading.SoftReading.TheVariants.{Valid}
-use Rattle.rds_soft.specs.Nearest.{mask_of}
-use Rattle.rds_soft.specs.Symbols.{sign, confidence, hard_bits, hard_window, IsSoftReading}
+use Rattle.rds_code.specs.{declared.offset.Offset.TheVariants.D, declared.reading.Wanted.TheVariants.Either, Offsets.word, Offsets.offset_of, Remainder.rem}
+use Rattle.rds_soft.specs.{declared.soft_reading.SoftReading.TheVariants.Valid, Nearest.mask_of, Symbols.sign, Symbols.confidence, Symbols.hard_bits, Symbols.hard_window, Symbols.IsSoftReading}
 
 -- ---- symbols
 

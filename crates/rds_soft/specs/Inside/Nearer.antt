@@ -1,11 +1,7 @@
 -- The nearest flips that turn a window into a block, and how much all others weigh at least.
 use Rattle.std.specs.Prelude.{◌≡◌, ◌≢◌, ℕ, ◌<◌, ◌≤◌, List, bit_xor}
-use Rattle.rds_code.specs.declared.offset.Offset.{Offset}
-use Rattle.rds_code.specs.declared.reading.Wanted.{Wanted}
-use Rattle.rds_code.specs.Remainder.{rem}
-use Rattle.rds_code.specs.Offsets.{word}
-use Rattle.rds_soft.specs.Nearest.{weight, Turns}
-use Rattle.rds_soft.specs.Inside.Lightest.{AreLightest}
+use Rattle.rds_code.specs.{declared.offset.Offset.Offset, declared.reading.Wanted.Wanted, Remainder.rem, Offsets.word}
+use Rattle.rds_soft.specs.{Nearest.weight, Nearest.Turns, Inside.Lightest.AreLightest}
 
 -- the lightest flips that turn w into a block with the offset o
 abbrev pub TurnTo : ℕ → List ℕ → Offset → ℕ → ℕ → ℕ → Type 0

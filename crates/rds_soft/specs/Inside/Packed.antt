@@ -1,6 +1,5 @@
 -- The signs of bytes, from which bits are packed.
-use Rattle.std.specs.Prelude.{ℕ, List, slice_index}
-use Rattle.std.specs.Int.{cast_signed, w8}
+use Rattle.std.specs.{Prelude.ℕ, Prelude.List, Prelude.slice_index, Int.cast_signed, Int.w8}
 use Rattle.rds_soft.specs.Symbols.{sign}
 
 -- the sign of symbol i, a signed byte

@@ -2,16 +2,9 @@
 -- `SoftStream` cite it, and no public call. This project's rules.
 use Rattle.std.specs.Prelude.{◌≡◌, ℕ, ◌+◌, ◌-◌, ◌*◌, ◌^◌, ◌≤◌, List, drop, length}
 use Rattle.rds_stream.specs.Recording.{AreGaps, Signal}
-use Rattle.rds_sync.specs.declared.item.Item.{Item}
-use Rattle.rds_sync.specs.declared.state.State.{State}
+use Rattle.rds_sync.specs.declared.{item.Item.Item, state.State.State}
 use Rattle.rds_live.specs.Gaps.{gaps_within}
-use Rattle.rds_soft.specs.declared.soft_item.SoftItem.{SoftItem}
-use Rattle.rds_soft.specs.declared.soft_item.SoftItem.TheVariants.{Acquired, Group, LostLock}
-use Rattle.rds_soft.specs.declared.soft_totals.SoftTotals.{SoftTotals}
-use Rattle.rds_soft.specs.ReadAgain.{item_again, symbols_of}
-use Rattle.rds_soft.specs.SoftStream.{SoftTerms, complete, run_of}
-use Rattle.rds_soft.specs.SoftTotals.{AreAtMost, soft_totals_of}
-use Rattle.rds_soft.specs.Symbols.{hard_bits}
+use Rattle.rds_soft.specs.{declared.soft_item.SoftItem.SoftItem, declared.soft_item.SoftItem.TheVariants.Acquired, declared.soft_item.SoftItem.TheVariants.Group, declared.soft_item.SoftItem.TheVariants.LostLock, declared.soft_totals.SoftTotals.SoftTotals, ReadAgain.item_again, ReadAgain.symbols_of, SoftStream.SoftTerms, SoftStream.complete, SoftStream.run_of, SoftTotals.AreAtMost, SoftTotals.soft_totals_of, Symbols.hard_bits}
 
 -- how many symbols are kept: those of 239 bits, of which a run may hear 233 before a bit
 abbrev pub most_kept : ℕ

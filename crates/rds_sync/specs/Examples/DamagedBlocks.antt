@@ -1,10 +1,7 @@
 -- Reports of groups with blocks inverted by a burst, of groups of version B, and of groups in conflict over their version.
 use Rattle.std.specs.Prelude.{Option, ◌≡◌, ℕ, List, [], ◌∷◌, ◌++◌, map, Some, None, refl}
-use Rattle.rds_sync.specs.declared.item.Block.{Block}
-use Rattle.rds_sync.specs.declared.item.Version.{Version}
-use Rattle.rds_sync.specs.Groups.{group_of}
-use Rattle.rds_sync.specs.Totals.{totals_of}
 use Rattle.rds_sync.specs.Examples.Words.{Item, Acquired, LostLock, A, B, Unknown, OA, OB, C, Cx, D, computed, bytes_of, first, zero_group, rules_of, default_rules, missing, valid, corrected, lost, a0, b0, c0, d0, group_at, conflict_at, only_4_at, begun_with, items_of_whole, and_then, totals, row, AreReported}
+use Rattle.rds_sync.specs.{declared.item.Block.Block, declared.item.Version.Version, Groups.group_of, Totals.totals_of}
 
 -- ---- blocks of a zero group, corrected if the burst is within the limit, and else lost
 

@@ -1,8 +1,7 @@
 -- Two zero groups, and their first 182 bits, where the second group is in progress: its block 3 ends at bit 181.
-use Rattle.std.specs.Prelude.{zero, suc, ◌⊎◌, slice_get, ◌≡◌, ℕ, [], ◌∷◌, Some, refl}
-use Rattle.std.proofs.Common.{inl, inr}
-use Rattle.rds_sync.specs.Longer.{beginning, OnlyAddsItems}
+use Rattle.std.{specs.Prelude.zero, specs.Prelude.suc, specs.Prelude.◌⊎◌, specs.Prelude.slice_get, specs.Prelude.◌≡◌, specs.Prelude.ℕ, specs.Prelude.[], specs.Prelude.◌∷◌, specs.Prelude.Some, specs.Prelude.refl, proofs.Common.inl, proofs.Common.inr}
 use Rattle.rds_sync.specs.Examples.Words.{bits_of, A, first, zero_groups, missing, a0, b0, c0, d0, group_at, whole_at, items_of_whole, and_then}
+use Rattle.rds_sync.specs.Longer.{beginning, OnlyAddsItems}
 
 -- the whole recording has the group with its block 4, at the same place, after the same items
 pub only_adds : OnlyAddsItems (and_then A a0 b0 c0 missing) (and_then A a0 b0 c0 d0)

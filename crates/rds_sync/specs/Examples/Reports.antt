@@ -1,6 +1,5 @@
 -- Reports of zero groups: whole, cut short, far apart, with gaps, and with locks that are lost.
-use Rattle.std.specs.Prelude.{◌+◌, ◌*◌, ℕ, List, [], ◌∷◌, ◌++◌, map, replicate, Some, None, refl}
-use Rattle.std.specs.List.{range_with_len}
+use Rattle.std.specs.{Prelude.◌+◌, Prelude.◌*◌, Prelude.ℕ, Prelude.List, Prelude.[], Prelude.◌∷◌, Prelude.◌++◌, Prelude.map, Prelude.replicate, Prelude.Some, Prelude.None, Prelude.refl, List.range_with_len}
 use Rattle.rds_sync.specs.Examples.Words.{Item, Acquired, LostLock, Unknown, A, OB, C, D, computed, bytes_of, first, gapped, zero_group, zero_groups, rules_of, rules_with_share, default_rules, missing, valid, lost, a0, b0, c0, d0, group_at, whole_at, from_2_at, from_3_at, only_4_at, lost_1_at, begun_with, items_of_whole, and_then, totals, row, nothing_in, AreReported}
 use Rattle.rds_sync.specs.Examples.DamagedBlocks.{one_bit}
 

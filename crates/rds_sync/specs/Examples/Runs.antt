@@ -1,16 +1,8 @@
 -- Runs over ranges, from states of their own; what is left of them; and the steps that they take.
-use Rattle.std.specs.Prelude.{not, ◌≡◌, ◌==◌, List, [], ◌∷◌, map, Some, None, refl}
-use Rattle.std.specs.List.{filter}
-use Rattle.std.proofs.Common.{ap, sym}
-use Rattle.std.proofs.lemmas.Bool.{false≢true}
+use Rattle.std.{specs.Prelude.not, specs.Prelude.◌≡◌, specs.Prelude.◌==◌, specs.Prelude.List, specs.Prelude.[], specs.Prelude.◌∷◌, specs.Prelude.map, specs.Prelude.Some, specs.Prelude.None, specs.Prelude.refl, specs.List.filter, proofs.Common.ap, proofs.Common.sym, proofs.lemmas.Bool.false≢true}
 use Rattle.rds_stream.specs.Recording.{length_of}
-use Rattle.rds_sync.specs.Advance.{next_place, reads_most}
-use Rattle.rds_sync.specs.Decoding.{DecoderOf, decoder_of, GivesNext, listed}
-use Rattle.rds_sync.specs.Report.{report_items}
-use Rattle.rds_sync.specs.Step.{items_of_end}
-use Rattle.rds_sync.specs.Totals.{is_group}
-use Rattle.rds_sync.specs.Examples.Reports.{one_bad, two_bad, items_lost, block_1_loses, silence, lost_at_64}
 use Rattle.rds_sync.specs.Examples.Words.{Signal, State, Searching, Locked, lock_of, run, Item, Acquired, LostLock, Unknown, A, OA, computed, first, zero_group, zero_groups, rules_of, rules_with_share, default_rules, missing, corrected, lost, b0, c0, d0, group_at, from_2_at, from_3_at, only_4_at, lost_1_at, items_of_whole, and_then, due_1}
+use Rattle.rds_sync.specs.{Advance.next_place, Advance.reads_most, Decoding.DecoderOf, Decoding.decoder_of, Decoding.GivesNext, Decoding.listed, Report.report_items, Step.items_of_end, Totals.is_group, Examples.Reports.one_bad, Examples.Reports.two_bad, Examples.Reports.items_lost, Examples.Reports.block_1_loses, Examples.Reports.silence, Examples.Reports.lost_at_64}
 
 abbrev pub b : Signal
 b = first 104 zero_group

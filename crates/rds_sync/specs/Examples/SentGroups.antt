@@ -1,9 +1,8 @@
 -- Groups that were sent, as bits and bytes; recordings of them, without and with damage; sync that damage keeps, and sync that it loses.
 use Rattle.std.specs.Prelude.{flat_map, ◌≡◌, ℕ, List, [], ◌∷◌, ◌++◌, true, refl, Some, None}
-use Rattle.rds_sync.specs.declared.loss.Loss.TheVariants.{Run}
-use Rattle.rds_sync.specs.Loss.{are_too_many}
 use Rattle.rds_sync.specs.Sent.{bits_sent, packed_groups, group_sent, items_sent, SentGroup, four_damages, items_damaged, bad_after_blocks, KeepLock, totals_sent, totals_damaged, masks_read, bits_with_damage}
 use Rattle.rds_sync.specs.Examples.Words.{Signal, bits_of, ungapped, OA, OB, C, Cx, D, Item, Acquired, Group, LostLock, A, B, Unknown, computed, zero_groups, rules_of, default_rules, missing, valid, corrected, group_at, totals, row, AreReported}
+use Rattle.rds_sync.specs.{declared.loss.Loss.TheVariants.Run, Loss.are_too_many}
 
 -- ---- as bits and bytes
 

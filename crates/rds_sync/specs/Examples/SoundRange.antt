@@ -1,17 +1,9 @@
 -- How long a sound range is by both rules of loss, and eight zero groups: a sound range of 260 bits, if one bad block loses a lock and three rivals have one place modulo 26.
 use Rattle.std.specs.Prelude.{◌≡◌, ◌≢◌, ℕ, ◌+◌, ◌-◌, ◌*◌, ◌/◌, ◌%◌, ◌<◌, ◌≤◌, ◌⊎◌, ◌==◌, ◌&&◌, ◌||◌, not, Bool, true, false, List, [], ◌∷◌, length, Option, Some, None, is_some, refl}
-use Rattle.std.specs.List.{filter, list_all, range_with_len}
-use Rattle.std.proofs.Common.{sym, subst, ◌∙◌, inl, inr, get_or, arith}
-use Rattle.std.proofs.lemmas.Bool.{eqb-true, false≢true, cases_lt}
-use Rattle.std.proofs.lemmas.List.FromFn.{get_or-range_with_len, length-range_with_len}
-use Rattle.std.proofs.lemmas.List.Sums.{AllPass-from_list_all}
+use Rattle.std.{specs.List.filter, specs.List.list_all, specs.List.range_with_len, proofs.Common.sym, proofs.Common.subst, proofs.Common.◌∙◌, proofs.Common.inl, proofs.Common.inr, proofs.Common.get_or, proofs.Common.arith, proofs.lemmas.Bool.eqb-true, proofs.lemmas.Bool.false≢true, proofs.lemmas.Bool.cases_lt, proofs.lemmas.List.FromFn.get_or-range_with_len, proofs.lemmas.List.FromFn.length-range_with_len, proofs.lemmas.List.Sums.AllPass-from_list_all}
 use Rattle.rds_code.specs.Cycle.{number_after}
 use Rattle.rds_stream.specs.Recording.{Signal, offset_at}
-use Rattle.rds_sync.specs.declared.loss.Loss.TheVariants.{Run, Share}
-use Rattle.rds_sync.specs.Rules.{RuleNumbers}
-use Rattle.rds_sync.specs.Acquiring.{acquired, has_number}
-use Rattle.rds_sync.specs.Convergence.{sound_bits, IsSound, IsRival, AreRivals}
-use Rattle.rds_sync.specs.Examples.Words.{first, zero_groups, rules_of, computed}
+use Rattle.rds_sync.specs.{declared.loss.Loss.TheVariants.Run, declared.loss.Loss.TheVariants.Share, Rules.RuleNumbers, Acquiring.acquired, Acquiring.has_number, Convergence.sound_bits, Convergence.IsSound, Convergence.IsRival, Convergence.AreRivals, Examples.Words.first, Examples.Words.zero_groups, Examples.Words.rules_of, Examples.Words.computed}
 
 abbrev pub b : Signal
 b = first 832 (zero_groups 8)

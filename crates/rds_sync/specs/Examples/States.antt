@@ -1,12 +1,7 @@
 -- Stretches of a run; lawful states at the limits, and states just past them.
-use Rattle.std.specs.Prelude.{Option, ◌≡◌, ℕ, List, [], ◌∷◌, Some, None, refl}
-use Rattle.std.proofs.Common.{inl, inr, arith, rules}
-use Rattle.rds_sync.specs.declared.step.Step.{Step}
-use Rattle.rds_sync.specs.Groups.{group}
-use Rattle.rds_sync.specs.Lawful.{IsBetweenGroups, IsLawful}
-use Rattle.rds_sync.specs.Rules.{RuleNumbers}
-use Rattle.rds_sync.specs.Stretch.{IsStretch}
+use Rattle.std.{specs.Prelude.Option, specs.Prelude.◌≡◌, specs.Prelude.ℕ, specs.Prelude.List, specs.Prelude.[], specs.Prelude.◌∷◌, specs.Prelude.Some, specs.Prelude.None, specs.Prelude.refl, proofs.Common.inl, proofs.Common.inr, proofs.Common.arith, proofs.Common.rules}
 use Rattle.rds_sync.specs.Examples.Words.{Signal, State, Searching, Locked, lock_of, Item, Acquired, Group, computed, first, zero_group, rules_of, rules_with_share, default_rules, due_1}
+use Rattle.rds_sync.specs.{declared.step.Step.Step, Groups.group, Lawful.IsBetweenGroups, Lawful.IsLawful, Rules.RuleNumbers, Stretch.IsStretch}
 
 -- ---- how far a stretch of a run goes: the zero group is searched up to the place that acquires, and then read up to its end
 

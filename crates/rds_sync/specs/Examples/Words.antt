@@ -1,31 +1,12 @@
 -- Short words for the examples, and what they import from elsewhere.
 use Rattle.std.specs.Prelude.{◌≡◌, ℕ, Bool, List, [], ◌∷◌, ◌++◌, Option, Some, None, ⊤, drop, false, flat_map, map, true}
-use Rattle.std.specs.List.{range_with_len}
-use Rattle.std.specs.Int.{to_be_bytes, w128}
-use Rattle.std.specs.Int.Count.{count_leading_zeros, ones, count_trailing_zeros}
-use Rattle.rds_code.specs.Remainder.{rem}
-use Rattle.rds_code.specs.declared.offset.Offset.{Offset}
-use Rattle.rds_code.specs.declared.reading.Reading.TheVariants.{Valid, Corrected, Lost}
+use Rattle.std.specs.{List.range_with_len, Int.to_be_bytes, Int.w128, Int.Count.count_leading_zeros, Int.Count.ones, Int.Count.count_trailing_zeros}
+use Rattle.rds_code.specs.{Remainder.rem, declared.offset.Offset.Offset, declared.reading.Reading.TheVariants.Valid, declared.reading.Reading.TheVariants.Corrected, declared.reading.Reading.TheVariants.Lost}
 use Rattle.rds_stream.specs.Recording.{window, touched, heard, offset_at}
-use Rattle.rds_sync.specs.declared.item.Block.{Block}
-use Rattle.rds_sync.specs.declared.item.Block.TheVariants.{Missing, Read}
-use Rattle.rds_sync.specs.declared.item.Version.{Version}
-use Rattle.rds_sync.specs.declared.loss.Loss.TheVariants.{Run, Share}
-use Rattle.rds_sync.specs.declared.totals.Totals.{Totals}
-use Rattle.rds_sync.specs.Acquiring.{acquired, has_number}
-use Rattle.rds_sync.specs.Groups.{group}
-use Rattle.rds_sync.specs.Report.{report_items}
-use Rattle.rds_sync.specs.Rules.{RuleNumbers}
-use Rattle.rds_sync.specs.Sent.{binary}
-use Rattle.rds_sync.specs.Totals.{totals_of}
+use Rattle.rds_sync.specs.{declared.item.Block.Block, declared.item.Block.TheVariants.Missing, declared.item.Block.TheVariants.Read, declared.item.Version.Version, declared.loss.Loss.TheVariants.Run, declared.loss.Loss.TheVariants.Share, declared.totals.Totals.Totals, Acquiring.acquired, Acquiring.has_number, Groups.group, Report.report_items, Rules.RuleNumbers, Sent.binary, Totals.totals_of}
 pub use Rattle.rds_code.specs.declared.offset.Offset.TheVariants.{A as OA, B as OB, C, Cx, D}
 pub use Rattle.rds_stream.specs.Recording.{Signal, bits_of, ungapped}
-pub use Rattle.rds_sync.specs.declared.item.Item.{Item}
-pub use Rattle.rds_sync.specs.declared.item.Item.TheVariants.{Acquired, Group, LostLock}
-pub use Rattle.rds_sync.specs.declared.item.Version.TheVariants.{A, B, Unknown}
-pub use Rattle.rds_sync.specs.declared.state.State.{State}
-pub use Rattle.rds_sync.specs.declared.state.State.TheVariants.{Searching, Locked}
-pub use Rattle.rds_sync.specs.Step.{run, lock_of}
+pub use Rattle.rds_sync.specs.{declared.item.Item.Item, declared.item.Item.TheVariants.Acquired, declared.item.Item.TheVariants.Group, declared.item.Item.TheVariants.LostLock, declared.item.Version.TheVariants.A, declared.item.Version.TheVariants.B, declared.item.Version.TheVariants.Unknown, declared.state.State.State, declared.state.State.TheVariants.Searching, declared.state.State.TheVariants.Locked, Step.run, Step.lock_of}
 
 -- the definitions that the examples compute with
 unfoldable pub computed : ⊤

@@ -1,19 +1,8 @@
 -- Counts of items, with the counts of blocks in lanes of a number, and runs that count their items. Cited by the bodies below `run_report`
 -- and `Tally`, and by no public call.
 use Rattle.std.specs.Prelude.{◌≡◌, ℕ, ◌+◌, ◌*◌, ◌/◌, ◌%◌, ◌^◌, ◌≤◌, List, [], ◌∷◌, length, if◌then◌else◌, ◌-◌, ◌<◌, ◌++◌}
-use Rattle.rds_sync.specs.declared.item.Item.{Item}
-use Rattle.rds_sync.specs.declared.totals.Totals.{Totals}
-use Rattle.rds_sync.specs.Counting.{plus, IsAtMost}
-use Rattle.rds_sync.specs.Inside.Outcomes.{Outcome, was_valid, was_lost, has_span, bits_inverted, group_totals}
-use Rattle.rds_sync.specs.Totals.{totals_of}
+use Rattle.rds_sync.specs.{declared.item.Item.Item, declared.totals.Totals.Totals, Counting.plus, Counting.IsAtMost, Inside.Outcomes.Outcome, Inside.Outcomes.was_valid, Inside.Outcomes.was_lost, Inside.Outcomes.has_span, Inside.Outcomes.bits_inverted, Inside.Outcomes.group_totals, Totals.totals_of, declared.lock.Lock.Lock, declared.state.State.State, declared.state.State.TheVariants.Locked, Lawful.IsLawful, Loss.IsLawfulBad, Rules.RuleNumbers, Step.run}
 use Rattle.rds_stream.specs.Recording.{Signal, length_of}
-use Rattle.rds_sync.specs.declared.lock.Lock.{Lock}
-use Rattle.rds_sync.specs.declared.state.State.{State}
-use Rattle.rds_sync.specs.declared.state.State.TheVariants.{Locked}
-use Rattle.rds_sync.specs.Lawful.{IsLawful}
-use Rattle.rds_sync.specs.Loss.{IsLawfulBad}
-use Rattle.rds_sync.specs.Rules.{RuleNumbers}
-use Rattle.rds_sync.specs.Step.{run}
 
 -- the totals of some items, and how many they are
 pub record CountOf : Type 0 where

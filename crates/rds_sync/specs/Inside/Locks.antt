@@ -1,21 +1,8 @@
 -- A lock that is followed from block to block: the effect of a block on it, and the blocks of the group in progress. Cited by the bodies
 -- of all that follow a lock, and by no public call. This project's rule.
 use Rattle.std.specs.Prelude.{◌≡◌, ◌<◌, Bool, true, false, ◌≢◌, ◌+◌, ◌-◌, ◌*◌, List, [], ◌∷◌}
-use Rattle.rds_sync.specs.declared.due.Due.{Due}
-use Rattle.rds_sync.specs.declared.due.Due.TheVariants.{Inside, Closed, Lost}
-use Rattle.rds_sync.specs.declared.lock.Lock.{Lock}
-use Rattle.rds_sync.specs.declared.loss.Loss.{Loss}
-use Rattle.rds_sync.specs.declared.state.State.{State}
-use Rattle.rds_sync.specs.declared.state.State.TheVariants.{Searching, Locked}
-use Rattle.rds_sync.specs.Loss.{bad_after, are_too_many, IsLawfulBad}
-use Rattle.rds_sync.specs.Step.{lock_after, items_at}
+use Rattle.rds_sync.specs.{declared.due.Due.Due, declared.due.Due.TheVariants.Inside, declared.due.Due.TheVariants.Closed, declared.due.Due.TheVariants.Lost, declared.lock.Lock.Lock, declared.loss.Loss.Loss, declared.state.State.State, declared.state.State.TheVariants.Searching, declared.state.State.TheVariants.Locked, Loss.bad_after, Loss.are_too_many, Loss.IsLawfulBad, Step.lock_after, Step.items_at, declared.item.Block.Block, declared.item.Item.Item, declared.item.Item.TheVariants.Group, declared.item.Item.TheVariants.LostLock, Groups.blocks_at, Groups.group_of, Lawful.AreInOrder, Lawful.HaveRoom, Rules.RuleNumbers}
 use Rattle.rds_stream.specs.Recording.{Signal, length_of}
-use Rattle.rds_sync.specs.declared.item.Block.{Block}
-use Rattle.rds_sync.specs.declared.item.Item.{Item}
-use Rattle.rds_sync.specs.declared.item.Item.TheVariants.{Group, LostLock}
-use Rattle.rds_sync.specs.Groups.{blocks_at, group_of}
-use Rattle.rds_sync.specs.Lawful.{AreInOrder, HaveRoom}
-use Rattle.rds_sync.specs.Rules.{RuleNumbers}
 
 -- the state to which a block that was due led
 abbrev pub state_of : Due → State

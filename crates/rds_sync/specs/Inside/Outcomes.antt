@@ -2,22 +2,9 @@
 -- `run_report` and `Decoder::fill`, and by no public call. This project's rule.
 use Rattle.std.specs.Prelude.{ℕ, zero, suc, ◌+◌, ◌-◌, List, Bool, true, false, ◌==◌, sum_by, count_by, count_ones, if◌then◌else◌, slice_index_or, ◌≡◌, ◌*◌, ◌/◌, ◌%◌, ◌≤◌, min, [], ◌∷◌, length, ⊤, ◌<◌, map}
 use Rattle.std.specs.List.{list_all, All}
-use Rattle.rds_code.specs.Bursts.{burst_length}
-use Rattle.rds_code.specs.declared.reading.Reading.TheVariants.{Valid, Corrected, Lost}
-use Rattle.rds_sync.specs.declared.item.Block.{Block}
-use Rattle.rds_sync.specs.declared.item.Block.TheVariants.{Missing, Read}
-use Rattle.rds_sync.specs.declared.loss.Loss.{Loss}
-use Rattle.rds_sync.specs.declared.totals.Totals.{Totals}
-use Rattle.rds_sync.specs.Loss.{bad_after, are_too_many, IsLawfulBad}
-use Rattle.rds_sync.specs.Totals.{by_burst_length}
-use Rattle.rds_code.specs.Outcomes.{burst_outcome}
-use Rattle.rds_code.specs.Cycle.{next_number}
-use Rattle.rds_code.specs.declared.reading.Wanted.{Wanted}
-use Rattle.rds_code.specs.declared.reading.Wanted.TheVariants.{Either}
+use Rattle.rds_code.specs.{Bursts.burst_length, declared.reading.Reading.TheVariants.Valid, declared.reading.Reading.TheVariants.Corrected, declared.reading.Reading.TheVariants.Lost, Outcomes.burst_outcome, Cycle.next_number, declared.reading.Wanted.Wanted, declared.reading.Wanted.TheVariants.Either}
+use Rattle.rds_sync.specs.{declared.item.Block.Block, declared.item.Block.TheVariants.Missing, declared.item.Block.TheVariants.Read, declared.loss.Loss.Loss, declared.totals.Totals.Totals, Loss.bad_after, Loss.are_too_many, Loss.IsLawfulBad, Totals.by_burst_length, Acquiring.has_number, Groups.group, Groups.wanted_beside, Rules.RuleNumbers}
 use Rattle.rds_stream.specs.Recording.{Signal, reading_at}
-use Rattle.rds_sync.specs.Acquiring.{has_number}
-use Rattle.rds_sync.specs.Groups.{group, wanted_beside}
-use Rattle.rds_sync.specs.Rules.{RuleNumbers}
 
 -- how a block came out: missing, valid, lost, or corrected, with the span of its burst and how many bits were inverted
 pub data Outcome : Type 0 where

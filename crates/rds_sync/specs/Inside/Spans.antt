@@ -2,15 +2,7 @@
 -- `Items`, `IndexedItems` and `ItemIter`, and by no public call.
 use Rattle.std.specs.Prelude.{◌≡◌, ℕ, ◌+◌, ◌-◌, ◌<◌, ◌≤◌, List, [], ◌∷◌, ◌++◌, All, drop, length, take}
 use Rattle.rds_stream.specs.Recording.{Signal, length_of}
-use Rattle.rds_sync.specs.declared.span.Start.{Start}
-use Rattle.rds_sync.specs.declared.item.Item.{Item}
-use Rattle.rds_sync.specs.declared.span.Span.{Span}
-use Rattle.rds_sync.specs.declared.span.Span.TheVariants.{Run, End}
-use Rattle.rds_sync.specs.Decoding.{ItemsOf}
-use Rattle.rds_sync.specs.Lawful.{IsLawful}
-use Rattle.rds_sync.specs.Ranges.{IsInRange}
-use Rattle.rds_sync.specs.Rules.{RuleNumbers}
-use Rattle.rds_sync.specs.Step.{run, items_of_end}
+use Rattle.rds_sync.specs.{declared.span.Start.Start, declared.item.Item.Item, declared.span.Span.Span, declared.span.Span.TheVariants.Run, declared.span.Span.TheVariants.End, Decoding.ItemsOf, Lawful.IsLawful, Ranges.IsInRange, Rules.RuleNumbers, Step.run, Step.items_of_end}
 
 module _ (b : Signal) (rules : RuleNumbers) where
   -- the items of a span

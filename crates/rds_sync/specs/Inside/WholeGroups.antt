@@ -2,16 +2,7 @@
 -- `Decoder::fill`, and by no public call.
 use Rattle.std.specs.Prelude.{◌≡◌, ℕ, ◌+◌, ◌-◌, ◌<◌, ◌≤◌, List, [], ◌∷◌, ◌++◌, length, map}
 use Rattle.rds_stream.specs.Recording.{Signal}
-use Rattle.rds_sync.specs.declared.lock.Lock.{Lock}
-use Rattle.rds_sync.specs.declared.item.Group.{Group}
-use Rattle.rds_sync.specs.declared.item.Item.{Item}
-use Rattle.rds_sync.specs.declared.item.Item.TheVariants.{Group as GroupItem}
-use Rattle.rds_sync.specs.declared.state.State.TheVariants.{Locked}
-use Rattle.rds_sync.specs.Groups.{group}
-use Rattle.rds_sync.specs.Inside.Outcomes.{Outcome, outcome_of, IsKeptOver}
-use Rattle.rds_sync.specs.Loss.{IsLawfulBad}
-use Rattle.rds_sync.specs.Rules.{RuleNumbers}
-use Rattle.rds_sync.specs.Step.{run}
+use Rattle.rds_sync.specs.{declared.lock.Lock.Lock, declared.item.Group.Group, declared.item.Item.Item, declared.item.Item.TheVariants.Group as GroupItem, declared.state.State.TheVariants.Locked, Groups.group, Inside.Outcomes.Outcome, Inside.Outcomes.outcome_of, Inside.Outcomes.IsKeptOver, Loss.IsLawfulBad, Rules.RuleNumbers, Step.run}
 
 -- how the blocks came out of the group whose block 1 ends at place due
 abbrev pub outcomes_at : Signal → RuleNumbers → ℕ → List Outcome

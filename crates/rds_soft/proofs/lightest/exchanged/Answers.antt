@@ -1,7 +1,6 @@
 use Rattle.rds_soft.proofs.Names.{[], ◌∷◌, refl, arith}
-use Rattle.rds_soft.proofs.LaneLemmas.{turned_block}
+use Rattle.rds_soft.proofs.{LaneLemmas.turned_block, lightest.exchanged.Goals.in-0, lightest.exchanged.Goals.in-1, lightest.exchanged.Goals.in-2, lightest.exchanged.Goals.in_default}
 use Rattle.rds_soft.proofs.lightest.exchanged.Goals as goal
-use Rattle.rds_soft.proofs.lightest.exchanged.Goals.{in-0, in-1, in-2, in_default}
 
 pub returns-clause-each : goal.returns-clause-each
 returns-clause-each c = elim c.match-k.branch [

@@ -1,8 +1,7 @@
 use Rattle.std.proofs.Math.Pow.{pow-lt}
 use Rattle.rds_soft.proofs.Names.{ℕ, ◌∙◌, ◌^◌, sym, ap, arith, bit_xor, common_steps, get_or, xor_lt, xor_zero_r}
-use Rattle.rds_soft.proofs.LaneLemmas.{next_turn, no_turn}
+use Rattle.rds_soft.proofs.{LaneLemmas.next_turn, LaneLemmas.no_turn, lightest.turned.Goals.then-effect-k-eq1, lightest.turned.Goals.else-effect-k-eq1}
 use Rattle.rds_soft.proofs.lightest.turned.Goals as goal
-use Rattle.rds_soft.proofs.lightest.turned.Goals.{then-effect-k-eq1, else-effect-k-eq1}
 
 pub loop-k-init : goal.loop-k-init
 loop-k-init c = record {

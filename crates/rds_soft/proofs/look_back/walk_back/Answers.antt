@@ -1,5 +1,4 @@
-use Rattle.rds_soft.specs.Inside.Lightest.{effect as the_effect, confidence}
-use Rattle.rds_soft.proofs.WalkLemmas.{walk_begins}
+use Rattle.rds_soft.{specs.Inside.Lightest.effect as the_effect, specs.Inside.Lightest.confidence, proofs.WalkLemmas.walk_begins}
 use Rattle.rds_soft.proofs.look_back.walk_back.Goals as goal
 
 pub loop-back-init : goal.loop-back-init

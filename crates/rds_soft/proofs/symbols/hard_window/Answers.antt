@@ -1,6 +1,6 @@
 use Rattle.rds_soft.proofs.Names.{◌≡◌, ◌+◌, ap, ◌∙◌, arith, rules, add-one, ◌^◌, get_or, bit_xor, ℤ, pos, w8, pow-suc, to_z-of_z, sign, hard_bit}
-use mathlib.Core.Path.{ap₂}
 use Rattle.rds_soft.proofs.SymbolLemmas.{bits_more}
+use mathlib.Core.Path.{ap₂}
 use Rattle.rds_soft.proofs.symbols.hard_window.Goals as goal
 use mir.Val.{SFits}
 

@@ -1,7 +1,6 @@
 use Rattle.rds_sync.proofs.Lemmas.{common_steps, arith, ◌≡◌, ◌≤◌, ℕ, Bool, true, false, Option, Some, None, ap, ◌∙◌, list_any, range_with_len, Offset, number, Signal, heard, offset_heard, offset_at, RuleNumbers, acquired, has_partner, acquired-none, off-heard, acquired-early, acquired-offset}
-use Rattle.rds_sync.proofs.acquiring.acquire.Given.{Over}
+use Rattle.rds_sync.proofs.acquiring.acquire.{Given.Over, Goals.After-has_partner}
 use Rattle.rds_sync.proofs.acquiring.acquire.Goals as goal
-use Rattle.rds_sync.proofs.acquiring.acquire.Goals.{After-has_partner}
 
 -- the offset of the place, by the window heard there
 offset_is : (b : Signal) (place : ℕ) (h : Option ℕ) (read answer : Option Offset)

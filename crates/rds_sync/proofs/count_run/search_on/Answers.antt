@@ -1,7 +1,6 @@
 use Rattle.rds_sync.proofs.Lemmas.{◌≡◌, ◌≤◌, ◌<◌, ◌+◌, ◌-◌, ◌++◌, ℕ, Bool, true, false, List, [], Option, Some, None, refl, ap, sym, subst, ◌∙◌, arith, inl, inr, list_any, range_with_len, cases_lt, Signal, offset_at, WindowsLeft, NoneValid, Item, Lock, State, Searching, Locked, IsCountStretch, CountOf, added, acquired, has_number, has_partner, IsLostAtOnce, IsLawful, RuleNumbers, step, items_at, run, lock_after, added-further, step-acquiring, run-found, run-unfound, run-further, acquired-none, acquired-number, lawful_step, off-place, acquired-offset, short-run, short-counts}
-use Rattle.rds_sync.proofs.count_run.search_on.Invariants.{HasSearchedOn}
+use Rattle.rds_sync.proofs.count_run.search_on.{Invariants.HasSearchedOn, Goals.After-has_partner_in, Goals.After-add_loss}
 use Rattle.rds_sync.proofs.count_run.search_on.Goals as goal
-use Rattle.rds_sync.proofs.count_run.search_on.Goals.{After-has_partner_in, After-add_loss}
 
 module _ {b read : Signal} {rules : RuleNumbers} {place to : ℕ} {old : WindowsLeft} {before counts : CountOf}
     (searched : HasSearchedOn b read rules place to old before counts) where

@@ -1,6 +1,6 @@
 use Rattle.rds_sync.proofs.Lemmas.{common_steps, ◌≡◌, ◌-◌, ℕ, List, Option, get_or, set, ap, ◌∙◌, arith, reading_heard, Block, Read, Either, block_at, wanted_beside, blocks_at-next, good-reading}
-use Rattle.rds_sync.proofs.follow.read_due.Goals as goal
 use Rattle.rds_sync.proofs.follow.read_due.Goals.{then-lock-eq3, else-lock-eq3}
+use Rattle.rds_sync.proofs.follow.read_due.Goals as goal
 
 pub returns-clause-valid : goal.returns-clause-valid
 returns-clause-valid g c = grind (arith, common_steps, reading_heard, good-reading)

@@ -1,7 +1,6 @@
 use Rattle.std.proofs.Common.{◌≡◌, ℕ, Bool, ◌%◌, ◌*◌, ◌+◌, ◌^◌, ap, ◌∙◌, cond, sym, if◌then◌else◌}
-use Rattle.rds_sync.proofs.LossLemmas.{mask_word}
+use Rattle.rds_sync.proofs.{LossLemmas.mask_word, loss.mask_after.Goals.then-good, loss.mask_after.Goals.else-good}
 use Rattle.rds_sync.proofs.loss.mask_after.Goals as goal
-use Rattle.rds_sync.proofs.loss.mask_after.Goals.{then-good, else-good}
 
 pub returns : goal.returns
 returns c =

@@ -1,7 +1,6 @@
 use Rattle.rds_sync.proofs.Lemmas.{common_steps, ◌≡◌, ◌≤◌, ◌+◌, ◌-◌, ℕ, List, [], ◌∷◌, refl, ap, sym, ◌∙◌, arith, inl, Signal, Block, GroupRecord, Item, Group, LostLock, Due, Inside, Closed, Lock, State, Locked, IsLawful, state_of, IsFollowed, items_of_due, IsStretch, Option, ◌≢◌, RuleNumbers, step, items_at, run, items_there as items_in, LockLost as Lost, lawful-due, lawful-waiting, run-further, run-due, run-early, run-quiet}
-use Rattle.rds_sync.proofs.stretches.keep_lock.Invariants.{HasFollowed}
+use Rattle.rds_sync.proofs.stretches.keep_lock.{Invariants.HasFollowed, Goals.After-follow}
 use Rattle.rds_sync.proofs.stretches.keep_lock.Goals as goal
-use Rattle.rds_sync.proofs.stretches.keep_lock.Goals.{After-follow}
 
 module _ {b read : Signal} {rules : RuleNumbers} {s : State} {place to : ℕ} {now : Lock} {blocks : List Block}
     (followed : HasFollowed b read rules s place to now blocks) where

@@ -1,7 +1,6 @@
 use Rattle.rds_sync.proofs.Lemmas.{common_steps, ◌≡◌, ◌≤◌, ◌<◌, ◌+◌, ◌-◌, ℕ, Bool, true, false, Option, List, Some, None, ap, sym, subst, ◌∙◌, arith, inr, list_any, range_with_len, cases_lt, Offset, Signal, heard, offset_at, WindowsLeft, GivesFirst, NoneValid, Item, Lock, State, Searching, Locked, acquired, has_partner, IsLawful, RuleNumbers, step, some_given, step-acquiring, items-acquiring, run-found, run-quiet, run-unfound, acquired-none, lawful_step, off-place, acquired-offset}
-use Rattle.rds_sync.proofs.stretches.search.Invariants.{HasSearched}
+use Rattle.rds_sync.proofs.stretches.search.{Invariants.HasSearched, Goals.After-has_partner_in}
 use Rattle.rds_sync.proofs.stretches.search.Goals as goal
-use Rattle.rds_sync.proofs.stretches.search.Goals.{After-has_partner_in}
 
 module _ (b read : Signal) (rules : RuleNumbers) (place to : ℕ) (old : WindowsLeft)
     (searched : HasSearched b read rules place to old) where

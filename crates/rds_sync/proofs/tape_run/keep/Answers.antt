@@ -1,8 +1,6 @@
 use Rattle.rds_sync.proofs.Lemmas.{◌≡◌, ◌≤◌, ◌+◌, ◌-◌, ℕ, List, [], refl, ap, ap₂, sym, subst, ◌∙◌, arith, inr, Signal, Block, Item, Due, Inside, Closed, Lock, Loss, State, Locked, has_number, blocks_at, group, CountOf, joined, group_count, added, IsCountStretch, state_of, IsAfter, IsLawful, RuleNumbers, step, items_at, run, blocks_in, LockLost as Lost, added-nothing, group-added, lost-added, step-due, followed-due, items-closed, items-lost, kept-next, outcomes-are, lawful-due, lawful-waiting, run-further, run-due, run-early, run-quiet}
-use Rattle.rds_sync.proofs.tape_run.keep.Invariants.{HasKept}
-use Rattle.rds_sync.proofs.tape_run.keep.Given.{Over}
+use Rattle.rds_sync.proofs.tape_run.keep.{Invariants.HasKept, Given.Over, Goals.After-after}
 use Rattle.rds_sync.proofs.tape_run.keep.Goals as goal
-use Rattle.rds_sync.proofs.tape_run.keep.Goals.{After-after}
 
 module _ {b : Signal} {rules : RuleNumbers} {lock : Lock} {place to : ℕ} {now : Lock} {blocks : List Block} {reads : ℕ}
     (kept : HasKept b rules lock place to now blocks reads) where

@@ -1,7 +1,5 @@
 use Rattle.rds_soft.proofs.Names.{◌≡◌, ◌++◌, ◌∙◌, ℕ, List, [], ap, ap₂, arith, subst, sym, SoftHeard, SoftTerms, complete, group_item, report_of, soft_totals_of, part_of, SoftGroup, SoftItem, Option}
-use Rattle.rds_soft.proofs.AgainLaws.{symbols_have_windows}
-use Rattle.rds_soft.proofs.StreamLemmas.{closed, early-is, end-long, lawful-is}
-use Rattle.rds_soft.proofs.soft_stream.SoftStream.finish.Goals.{After-end_near-group}
+use Rattle.rds_soft.proofs.{AgainLaws.symbols_have_windows, StreamLemmas.closed, StreamLemmas.early-is, StreamLemmas.end-long, StreamLemmas.lawful-is, soft_stream.SoftStream.finish.Goals.After-end_near-group}
 use Rattle.rds_soft.proofs.soft_stream.SoftStream.finish.Goals as goal
 
 pub end_near-group-requires-clause-lawful : goal.end_near-group-requires-clause-lawful

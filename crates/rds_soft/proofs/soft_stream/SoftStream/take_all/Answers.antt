@@ -1,7 +1,6 @@
 use Rattle.rds_soft.proofs.Names.{◌≡◌, ◌++◌, ◌+◌, ◌-◌, ◌*◌, ◌^◌, ◌<◌, ◌≤◌, ◌∙◌, ℕ, List, ap, ap₂, arith, length, map, subst, sym, All, length-append, length-map, Signal, length_of, run, Item, State, moved_state, moved_back, place_of, SoftHeard, SoftTerms, complete, run_of, soft_totals_of, again_in, last_symbols, part_of, SoftItem}
-use Rattle.rds_soft.proofs.AgainLaws.{symbols_have_windows}
 use Rattle.rds_soft.proofs.StreamLemmas.{at-most-more, before-is, complete-after, d, early-is, few-found, found-early, from, kept, kept-after, lawful-is, part-longer, run-is, state-after}
-use Rattle.rds_soft.proofs.soft_stream.SoftStream.take_all.Goals.{After-deref-4}
+use Rattle.rds_soft.proofs.{AgainLaws.symbols_have_windows, soft_stream.SoftStream.take_all.Goals.After-deref-4}
 use Rattle.rds_soft.proofs.soft_stream.SoftStream.take_all.Goals as goal
 
 pub run_near-requires-clause-lawful : goal.run_near-requires-clause-lawful

@@ -1,7 +1,5 @@
-use Rattle.std.proofs.Common.{ap, sym, ◌∙◌}
-use Rattle.std.specs.Prelude.{ℕ, nat_le}
-use Rattle.rds_sync.specs.declared.loss.Loss.{Loss}
-use Rattle.rds_sync.specs.Loss.{are_too_many}
+use Rattle.std.{proofs.Common.ap, proofs.Common.sym, proofs.Common.◌∙◌, specs.Prelude.ℕ, specs.Prelude.nat_le}
+use Rattle.rds_sync.specs.{declared.loss.Loss.Loss, Loss.are_too_many}
 use Rattle.rds_sync.proofs.loss.Loss.are_too_many.Goals as goal
 
 pub returns-in-Run : goal.returns-in-Run
