@@ -183,7 +183,7 @@ def compare_colours(seen: Dict[str, Any], view: View) -> None:
 # Buttons that lead from one view to the next.
 ZOOMS = {
     "hours": ["", "in in left right right", "minute" + 23 * " left", "out", "whole hour right right right"],
-    "days": ["", "in in in left", "hour left left left"],
+    "days": ["", "in in", "in left", "hour left left left"],
 }
 NARROW = {"width": 300, "height": 740, "deviceScaleFactor": 1, "mobile": False}
 # Called after the page's own listener, which was there first.
