@@ -5,7 +5,7 @@ ghost use Rattle.rds_code.specs.declared.offset.Offset.{Offset as AnOffset};
 ghost use Rattle.rds_code.specs.Offsets.{number as number_of, word};
 ghost use Rattle.rds_code.specs.Remainder.{rem};
 ghost use Rattle.rds_code.specs.Reading.{IsValid, allows, information};
-ghost use Rattle.rds_soft.specs.Nearest.{IsNearest, Turns, top, weight};
+ghost use Rattle.rds_soft.specs.Nearest.{Turns, top, weight};
 ghost use Rattle.rds_soft.specs.Symbols.{hard_bit, hard_bits, hard_window};
 ghost use Rattle.rds_code.specs.declared.reading.Wanted.{Wanted as WantedHard};
 ghost use Rattle.rds_stream.specs.Recording.{AreGaps, length_of, reading_at};
@@ -37,22 +37,6 @@ pub fn margin_of(weight: u8) -> u8
         Some(margin) => margin.weight(),
         None => 0,
     }
-}
-
-/// A window that no flips turn by the rule is not corrected.
-pub fn nothing_near(
-    search: &mut Search,
-    w: u32,
-    confidences: &[u8; 27],
-    number: BlockNumber,
-    wanted: Wanted,
-    margin: Margin,
-) -> Option<Correction>
-    requires window { w < 2 ^ 26 }
-    requires none { (o : AnOffset) (flips : ℕ) → IsNearest w number wanted confidences.now margin o flips → ⊥ }
-    ensures { result ≡ None }
-{
-    search.nearest(w, confidences, number, wanted, margin)
 }
 
 /// A block whose wrong symbols weigh little is corrected to what was sent, by just these symbols. No flips weigh nothing.
@@ -100,13 +84,6 @@ pub fn nothing_is_flipped(
 {
     laws::sure_symbols_stay();
     search.nearest(w, confidences, number, wanted, margin)
-}
-
-/// A flip at place 4 from the last symbol inverts the two bits beside it.
-pub fn mask_of_one_flip() -> u32
-    ensures { result ≡ 0x18 }
-{
-    mask_of(0x10)
 }
 
 // ---- readings
