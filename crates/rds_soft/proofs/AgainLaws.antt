@@ -1,9 +1,8 @@
 -- The laws of symbols read as blocks, and of items read again.
-use Rattle.rds_soft.proofs.Names.{common_steps, ◌≡◌, ℕ, ◌+◌, ◌-◌, ◌<◌, ◌≤◌, Bool, true, false, List, [], ◌∷◌, length, get_or, take, drop, refl, sym, ap, ◌∙◌, subst, arith, bit_xor, length-take, length-drop, Option, Some, None, ℤ, pos, nat_lt, not, ◌&&◌, if◌then◌else◌, number_from_digits, lt-ltb, ext_get_or, get_or-take, get_or-drop, Offset, Wanted, Either, IsReading, information, reading, ReadsByRule, Signal, reading_at, window, heard, touched, length_of, Block, Read, block_in, SoftBlock, SoftGroup, mask_of, group_of, wanted_beside, hard_bit, hard_bits, hard_window, confidences, IsSoftReading, symbols_heard, IsReadingHeard, IsBlockAgain, IsGroupAgain, first_bit, HasOneSoftReading, HasOneItemAgain, SymbolsHaveWindows, ReadsFromSymbols}
+use Rattle.rds_soft.proofs.Names.{common_steps, ◌≡◌, ℕ, ◌+◌, ◌-◌, ◌<◌, ◌≤◌, Bool, true, false, List, length, get_or, take, drop, refl, sym, ap, ◌∙◌, subst, arith, bit_xor, length-take, length-drop, Some, None, ℤ, pos, nat_lt, not, ◌&&◌, if◌then◌else◌, number_from_digits, lt-ltb, ext_get_or, get_or-take, get_or-drop, Offset, Wanted, IsReading, information, reading, ReadsByRule, reading_at, window, heard, touched, length_of, Read, mask_of, hard_bit, hard_bits, hard_window, confidences, block_again, reading_heard, soft_reading, HasOneSoftReading, SymbolsHaveWindows, ReadsFromSymbols}
 use mathlib.Core.Path.{ap₂}
 use Rattle.rds_code.specs.declared.reading.Reading.{Reading}
-use Rattle.rds_stream.specs.Recording.{reading_heard}
-use Rattle.rds_soft.specs.declared.soft_reading.SoftReading.{SoftReading}
+use Rattle.rds_stream.specs.Recording.{reading_heard as hard_heard}
 use Rattle.rds_soft.specs.declared.soft_reading.SoftReading.TheVariants.{Valid, Corrected, Lost}
 use Rattle.rds_soft.specs.declared.soft_item.SoftBlock.TheVariants.{Read as SoftRead}
 use Rattle.rds_soft.proofs.NearestLaws.{has_one_nearest}
@@ -27,30 +26,6 @@ has_one_soft_reading symbols x wanted margin (Corrected o i f) Lost some one oth
 has_one_soft_reading symbols x wanted margin Lost (Valid p j) some one other = absurd (one.0 p other.0)
 has_one_soft_reading symbols x wanted margin Lost (Corrected p j g) some one other = absurd (one.1 p g other.1)
 has_one_soft_reading symbols x wanted margin Lost Lost some one other = refl
-
-one_heard : (heard : Option (List ℤ)) (x : ℕ) (wanted : Wanted) (margin : ℕ) (one other : SoftReading) → 1 ≤ margin
-    → IsReadingHeard heard x wanted margin one → IsReadingHeard heard x wanted margin other → other ≡ one
-one_heard None x wanted margin one other some h k = k ∙ sym h
-one_heard (Some symbols) x wanted margin one other some h k = has_one_soft_reading symbols x wanted margin one other some h k
-
-one_block : (heard : Option (List ℤ)) (x : ℕ) (wanted : Wanted) (margin : ℕ) (block : Block) (one other : SoftBlock) → 1 ≤ margin
-    → IsBlockAgain heard x wanted margin block one → IsBlockAgain heard x wanted margin block other → other ≡ one
-one_block heard x wanted margin block one other some h k = grind (arith, common_steps, one_heard)
-
-one_group : (b : Signal) (symbols : List ℤ) (margin place : ℕ) (blocks : List Block) (one other : SoftGroup) → 1 ≤ margin
-    → IsGroupAgain b symbols margin place blocks one → IsGroupAgain b symbols margin place blocks other → other ≡ one
-one_group b symbols margin place blocks one other some h k =
-    let first : k.one ≡ h.one = one_block (symbols_heard b symbols (first_bit place blocks 1)) 1 Either margin (block_in blocks 1) h.one k.one some h.first k.first in
-    let second : k.two ≡ h.two = one_block (symbols_heard b symbols (first_bit place blocks 2)) 2 Either margin (block_in blocks 2) h.two k.two some h.second k.second in
-    let beside : IsBlockAgain (symbols_heard b symbols (first_bit place blocks 3)) 3 (wanted_beside h.two) margin (block_in blocks 3) k.three =
-    subst (λ (t : SoftBlock). IsBlockAgain (symbols_heard b symbols (first_bit place blocks 3)) 3 (wanted_beside t) margin (block_in blocks 3) k.three) second k.third in
-    let third : k.three ≡ h.three = one_block (symbols_heard b symbols (first_bit place blocks 3)) 3 (wanted_beside h.two) margin (block_in blocks 3) h.three k.three some h.third beside in
-    let fourth : k.four ≡ h.four = one_block (symbols_heard b symbols (first_bit place blocks 4)) 4 Either margin (block_in blocks 4) h.four k.four some h.fourth k.fourth in
-    let same : group_of place (k.one ∷ k.two ∷ k.three ∷ k.four ∷ []) ≡ group_of place (h.one ∷ h.two ∷ h.three ∷ h.four ∷ []) = cc in
-    k.told ∙ same ∙ sym h.told
-
-pub has_one_item_again : HasOneItemAgain
-has_one_item_again b symbols margin item one other some h k = grind (arith, common_steps, one_group)
 
 -- ---- windows
 
@@ -91,39 +66,34 @@ symbols_have_windows symbols first within =
 -- ---- blocks
 
 -- a block as hard bits read it, and the symbols of the same window
-from_reading : (w x : ℕ) (hard wanted : Wanted) (limit margin : ℕ) (symbols : List ℤ) (r : Reading) (again : SoftReading)
-    → hard_window symbols ≡ w → IsReading w x hard limit r → IsBlockAgain (Some symbols) x wanted margin (Read r) (SoftRead again)
-    → IsSoftReading symbols x wanted margin again
-from_reading w x hard wanted limit margin symbols r again same h k = grind (arith, common_steps)
-
-from_heard : ReadsByRule → (w x : ℕ) (hard wanted : Wanted) (limit margin : ℕ) (symbols : List ℤ) (again : SoftReading) → 1 ≤ x → x ≤ 4 → limit ≤ 5
-    → hard_window symbols ≡ w → IsBlockAgain (Some symbols) x wanted margin (Read (reading w x hard limit)) (SoftRead again)
-    → IsSoftReading symbols x wanted margin again
-from_heard law w x hard wanted limit margin symbols again low high few same h =
-    from_reading w x hard wanted limit margin symbols (reading w x hard limit) again same
-    ((law w x hard limit (reading w x hard limit) low high few).1 refl) h
+from_reading : (symbols : List ℤ) (x : ℕ) (hard wanted : Wanted) (limit margin : ℕ) (r : Reading) → IsReading (hard_window symbols) x hard limit r
+    → block_again (Some symbols) x wanted margin (Read r) ≡ SoftRead (soft_reading symbols x wanted margin)
+unfolding soft_reading
+from_reading symbols x hard wanted limit margin r h = grind (arith, common_steps)
 
 -- by whether the window touches a gap
-by_touch : ReadsByRule → (t : Bool) (w x : ℕ) (hard wanted : Wanted) (limit margin : ℕ) (symbols : List ℤ) (again : SoftReading) → 1 ≤ x → x ≤ 4 → limit ≤ 5
+by_touch : ReadsByRule → (t : Bool) (w x : ℕ) (hard wanted : Wanted) (limit margin : ℕ) (symbols : List ℤ) → 1 ≤ x → x ≤ 4 → limit ≤ 5
     → hard_window symbols ≡ w
-    → IsBlockAgain (if true && not t && true then Some symbols else None) x wanted margin
-    (Read (reading_heard (elim t [ true ↦ None | false ↦ Some w ]) x hard limit)) (SoftRead again)
-    → IsReadingHeard (if true && not t && true then Some symbols else None) x wanted margin again
-by_touch law t w x hard wanted limit margin symbols again low high few same h = grind (arith, common_steps, from_heard)
+    → block_again (if true && not t && true then Some symbols else None) x wanted margin
+    (Read (hard_heard (elim t [ true ↦ None | false ↦ Some w ]) x hard limit))
+    ≡ SoftRead (reading_heard (if true && not t && true then Some symbols else None) x wanted margin)
+by_touch law true w x hard wanted limit margin symbols low high few same = refl
+by_touch law false w x hard wanted limit margin symbols low high few same =
+    from_reading symbols x hard wanted limit margin (reading w x hard limit)
+    (subst (λ (v : ℕ). IsReading v x hard limit (reading w x hard limit)) (sym same) ((law w x hard limit (reading w x hard limit) low high few).1 refl))
 
 pub reads_from_symbols : ReadsByRule → ReadsFromSymbols
 unfolding heard
-reads_from_symbols law b symbols first x hard wanted limit margin again low high few bits within h =
+reads_from_symbols law b symbols first x hard wanted limit margin low high few bits within =
     let ends : nat_lt (first + 25) (length_of b) ≡ true =
     lt-ltb (first + 25) (length_of b) (omega (arith, within, ap length bits, bit_count symbols)) in
     let there : nat_lt (first + 26) (length symbols) ≡ true = lt-ltb (first + 26) (length symbols) within in
     let part : List ℤ = take 27 (drop first symbols) in
     let same : hard_window part ≡ window b.bits (first + 25) =
     sym (ap (λ (bs : List ℕ). window bs (first + 25)) bits ∙ symbols_have_windows symbols first within) in
-    let Goal : Bool → Bool → Type 0 = λ e t. IsBlockAgain (if e && not (touched b (first + 25)) && t then Some part else None) x wanted margin
-    (Read (reading_at b (first + 25) x hard limit)) (SoftRead again)
-    → IsReadingHeard (if e && not (touched b (first + 25)) && t then Some part else None) x wanted margin again in
+    let Goal : Bool → Bool → Type 0 = λ e t. block_again (if e && not (touched b (first + 25)) && t then Some part else None) x wanted margin
+    (Read (reading_at b (first + 25) x hard limit))
+    ≡ SoftRead (reading_heard (if e && not (touched b (first + 25)) && t then Some part else None) x wanted margin) in
     let plain : Goal true true =
-    by_touch law (touched b (first + 25)) (window b.bits (first + 25)) x hard wanted limit margin part again low high few same in
-    let one : Goal (nat_lt (first + 25) (length_of b)) true = subst (λ (e : Bool). Goal e true) (sym ends) plain in
-    subst (λ (t : Bool). Goal (nat_lt (first + 25) (length_of b)) t) (sym there) one h
+    by_touch law (touched b (first + 25)) (window b.bits (first + 25)) x hard wanted limit margin part low high few same in
+    subst (λ (t : Bool). Goal (nat_lt (first + 25) (length_of b)) t) (sym there) (subst (λ (e : Bool). Goal e true) (sym ends) plain)

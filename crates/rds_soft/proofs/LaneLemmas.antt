@@ -1,6 +1,8 @@
 -- Lanes of sixteen weights.
 use Rattle.rds_code.proofs.Membership.{each_below, EachBelow}
-use Rattle.rds_soft.proofs.Names.{common_steps, xor_assoc, ◌++◌, length, ◌≡◌, ℕ, ◌+◌, ◌*◌, ◌/◌, ◌%◌, ◌^◌, ◌<◌, ◌≤◌, List, Bool, cond, ltb, get_or, sym, ap, subst, ◌∙◌, arith, rules, bit_xor, min, refl, ◌-◌, inl, inr, min-eq_left, min-eq_right, cases_lt, T, all_below, pick_l, xor_lt, xor_block, pick_l_left, ◌⊎◌, xor_zero_r}
+use Rattle.std.proofs.Math.Nat.{mod-lt}
+use Rattle.std.proofs.lemmas.Nat.{mod-pow-add, pow_pos}
+use Rattle.rds_soft.proofs.Names.{common_steps, xor_comm, xor_assoc, ◌++◌, length, ◌≡◌, ℕ, ◌+◌, ◌*◌, ◌/◌, ◌%◌, ◌^◌, ◌<◌, ◌≤◌, List, Bool, cond, ltb, get_or, sym, ap, subst, ◌∙◌, arith, rules, bit_xor, min, refl, ◌-◌, inl, inr, min-eq_left, min-eq_right, cases_lt, T, all_below, pick_l, xor_lt, xor_block, pick_l_left, xor_zero_r}
 
 by_test : (t : Bool) (a b : ℕ) → t ≡ ltb a b → cond t a b ≡ min a b
 by_test t a b is = grind (arith, common_steps, rules, min-eq_left, min-eq_right, ltb)
@@ -38,28 +40,24 @@ block_more P n before here s less = elim (cases_lt s (16 * n)) [
 pub capped_sum : (a weight c : ℕ) → c ≤ 255 → a ≡ min weight (255 - c) → (a + c) % 256 ≡ min (weight + c) 255
 capped_sum a weight c small is = omega (arith, small, is)
 
--- a block whose places are exchanged by m, or not at all
-pub turned_block : (xs ks ys : List ℕ) (m part : ℕ) → length xs ≡ 16 → T (all_below 16 ks)
-    → EachBelow (λ (j : ℕ). get_or (pick_l 0 xs ks) j 0 ≡ get_or xs (bit_xor j m) 0) 16
-    → ((part ≡ m) × (ys ≡ pick_l 0 (xs ++ xs) ks)) ⊎ ((part ≡ 0) × (ys ≡ xs)) → (j : ℕ) → j < 16 → get_or ys j 0 ≡ get_or xs (bit_xor j part) 0
-turned_block xs ks ys m part long below at (inl h) j less =
-    ap (λ (l : List ℕ). get_or l j 0) (h.1 ∙ pick_l_left 0 xs xs 16 ks long below) ∙ each_below (λ (j : ℕ). get_or (pick_l 0 xs ks) j 0 ≡ get_or xs (bit_xor j m) 0) 16 at j less ∙ ap (λ (k : ℕ). get_or xs (bit_xor j k) 0) (sym h.0)
-turned_block xs ks ys m part long below at (inr h) j less =
-    ap (λ (l : List ℕ). get_or l j 0) h.1 ∙ ap (λ (k : ℕ). get_or xs k 0) (sym (xor_zero_r j) ∙ ap (bit_xor j) (sym h.0))
+-- a block whose places are exchanged by 2^k
+pub turned_block : (k : ℕ) (xs ys ks : List ℕ) (n : ℕ) → n ≡ k → ys ≡ pick_l 0 (xs ++ xs) ks → length xs ≡ 16 → T (all_below 16 ks)
+    → EachBelow (λ (j : ℕ). get_or (pick_l 0 xs ks) j 0 ≡ get_or xs (bit_xor j (2 ^ k)) 0) 16
+    → (j : ℕ) → j < 16 → get_or ys j 0 ≡ get_or xs (bit_xor j (2 ^ n)) 0
+turned_block k xs ys ks n same is long below at j less =
+    ap (λ (l : List ℕ). get_or l j 0) (is ∙ pick_l_left 0 xs xs 16 ks long below)
+    ∙ each_below (λ (j : ℕ). get_or (pick_l 0 xs ks) j 0 ≡ get_or xs (bit_xor j (2 ^ k)) 0) 16 at j less
+    ∙ ap (λ (m : ℕ). get_or xs (bit_xor j (2 ^ m)) 0) (sym same)
 
--- the lowest four bits, each turned by itself
-bits_together : (k : ℕ) → k < 16 → bit_xor (k / 8 % 2 * 8) (bit_xor (k / 4 % 2 * 4) (bit_xor (k / 2 % 2 * 2) (k % 2))) ≡ k
-bits_together =
-    each_below (λ (k : ℕ). bit_xor (k / 8 % 2 * 8) (bit_xor (k / 4 % 2 * 4) (bit_xor (k / 2 % 2 * 2) (k % 2))) ≡ k) 16 (refl, (refl, (refl, (refl, (refl, (refl, (refl, (refl, (refl, (refl, (refl, (refl, (refl, (refl, (refl, (refl, tt))))))))))))))))
+-- the lowest bits of an effect, and one more
+one_more : (e k : ℕ) → e % 2 ^ (k + 1) ≡ (e / 2 ^ k % 2) * 2 ^ k + e % 2 ^ k
+one_more e k = let n : 1 + k ≡ k + 1 = omega arith in sym (ap (λ (m : ℕ). e % 2 ^ m) n) ∙ mod-pow-add e 1 k
 
-pub parts_turn : (e j : ℕ) → bit_xor (bit_xor (bit_xor (bit_xor j (e / 8 % 2 * 8)) (e / 4 % 2 * 4)) (e / 2 % 2 * 2)) (e % 2) ≡ bit_xor j (e % 16)
-parts_turn e j =
-    let k : ℕ = e % 16 in
-    let eight : e / 8 % 2 * 8 ≡ k / 8 % 2 * 8 = omega arith in
-    let four : e / 4 % 2 * 4 ≡ k / 4 % 2 * 4 = omega arith in
-    let two : e / 2 % 2 * 2 ≡ k / 2 % 2 * 2 = omega arith in
-    let one : e % 2 ≡ k % 2 = omega arith in
-    xor_assoc (bit_xor (bit_xor j (e / 8 % 2 * 8)) (e / 4 % 2 * 4)) (e / 2 % 2 * 2) (e % 2)
-    ∙ xor_assoc (bit_xor j (e / 8 % 2 * 8)) (e / 4 % 2 * 4) (bit_xor (e / 2 % 2 * 2) (e % 2))
-    ∙ xor_assoc j (e / 8 % 2 * 8) (bit_xor (e / 4 % 2 * 4) (bit_xor (e / 2 % 2 * 2) (e % 2)))
-    ∙ ap (bit_xor j) (rw (eight, four, two, one) (bits_together k (omega arith)))
+xor_top : (k r : ℕ) → r < 2 ^ k → bit_xor (2 ^ k) r ≡ 2 ^ k + r
+xor_top k r less = grind (arith, common_steps, xor_block k 1 0 0 r (pow_pos k) less, xor_comm, xor_zero_r)
+
+pub next_turn : (e k j : ℕ) → e / 2 ^ k % 2 ≡ 1 → bit_xor (bit_xor j (2 ^ k)) (e % 2 ^ k) ≡ bit_xor j (e % 2 ^ (k + 1))
+next_turn e k j set = grind (arith, common_steps, xor_assoc, xor_top k (e % 2 ^ k) (mod-lt e (pow_pos k)), one_more e k, set)
+
+pub no_turn : (e k : ℕ) → e / 2 ^ k % 2 ≡ 0 → e % 2 ^ (k + 1) ≡ e % 2 ^ k
+no_turn e k none = grind (arith, common_steps, one_more e k, none)

@@ -45,16 +45,15 @@ pub use Rattle.rds_sync.specs.declared.item.Item.{Item}
 pub use Rattle.rds_sync.specs.declared.item.Item.TheVariants.{Acquired, Group, LostLock}
 pub use Rattle.rds_sync.specs.declared.state.State.{State}
 pub use Rattle.rds_sync.specs.declared.state.State.TheVariants.{Locked, Searching}
-pub use Rattle.rds_soft.specs.Again.{IsBlockAgain, IsGroupAgain, IsReadingHeard, first_bit, symbols_heard, was_read}
 pub use Rattle.rds_soft.specs.Inside.Lightest.{AreLightest, Leads, confidence, effect, effect as the_effect, is_flipped, of_none}
 unfoldable pub use Rattle.rds_soft.specs.Inside.Lightest.{least, lightest, second, sum_of, weigh}
 pub use Rattle.rds_soft.specs.Inside.Nearer.{AreNearest, TurnTo}
 pub use Rattle.rds_soft.specs.Inside.Packed.{sign_at}
 pub use Rattle.rds_soft.specs.Inside.Rows.{AreLeast, AreRows, Follows, IsFirst, IsWalk}
 pub use Rattle.rds_soft.specs.Inside.Streams.{Knows, again_in, last_symbols, most_kept, moved_again, part_of, place_again}
-pub use Rattle.rds_soft.specs.Laws.{CorrectsSent, HasOneItemAgain, HasOneNearest, HasOneSoftReading, ItemsAreReadAgainSo, NoneTurnsValid, ReadsFromSymbols, SureSymbolsStay, SymbolsHaveWindows}
+pub use Rattle.rds_soft.specs.Laws.{CorrectsSent, HasOneNearest, HasOneSoftReading, NoneTurnsValid, ReadsFromSymbols, SureSymbolsStay, SymbolsAreReadSo, SymbolsHaveWindows}
 pub use Rattle.rds_soft.specs.Nearest.{IsCorrection, IsNearest, Turns, mask_of, weight}
-pub use Rattle.rds_soft.specs.ReadAgain.{Turn, block_again, group_again, lighter, own_of, reading_by, reading_heard, reading_or, symbols_of, turn_of, turn_third, turn_to, within}
+pub use Rattle.rds_soft.specs.ReadAgain.{Turn, block_again, first_bit, group_again, lighter, own_of, reading_by, reading_heard, reading_or, symbols_heard, symbols_of, turn_of, turn_third, turn_to, was_read, within}
 unfoldable pub use Rattle.rds_soft.specs.ReadAgain.{correction, item_again, soft_reading}
 pub use Rattle.rds_soft.specs.SoftGroups.{group_of, wanted_beside}
 pub use Rattle.rds_soft.specs.SoftStream.{SoftHeard, SoftTerms, complete, group_item, read_again, report_of, run_of, signal_of}

@@ -1,5 +1,5 @@
 -- What the functions of `ReadAgain` compute is what the rule allows.
-use Rattle.rds_soft.proofs.Names.{common_steps, ◌≡◌, ℕ, zero, suc, ◌+◌, ◌≤◌, List, refl, arith, bit_xor, Option, Some, None, ℤ, nat_lt, if◌then◌else◌, ltb-true, ltb-false, eqb-true, eqb-false, cond_both, Offset, A, B, C, Cx, D, Wanted, OnlyC, OnlyCx, Either, IsLinear, rem, word, number, Signal, Block, Acquired, Group, LostLock, IsCorrection, IsSoftReading, IsReadingHeard, IsBlockAgain, IsGroupAgain, Turn, turn_to, lighter, turn_third, turn_of, within, correction, soft_reading, reading_heard, block_again, group_again, item_again, ItemsAreReadAgainSo, TurnTo, AreNearest}
+use Rattle.rds_soft.proofs.Names.{common_steps, ◌≡◌, ℕ, zero, suc, ◌+◌, ◌≤◌, List, refl, arith, bit_xor, Some, None, nat_lt, if◌then◌else◌, ltb-true, ltb-false, eqb-true, eqb-false, cond_both, Offset, A, B, C, Cx, D, Wanted, OnlyC, OnlyCx, Either, IsLinear, rem, word, IsCorrection, Turn, turn_to, lighter, turn_third, turn_of, within, correction, soft_reading, SymbolsAreReadSo, TurnTo, AreNearest}
 use Rattle.rds_soft.specs.declared.correction.Correction.{Correction}
 use Rattle.rds_soft.proofs.FlipLemmas.{are_lightest}
 use Rattle.rds_soft.proofs.NearestLemmas.{only_one, nearer_C, nearer_Cx, is_nearest, none_past_top, none_beside, only_A, only_B, only_C, only_Cx, only_D, A_allowed, B_allowed, D_allowed}
@@ -57,27 +57,6 @@ correction_is linear w x wanted cs margin low high few =
 
 -- ---- readings
 
-soft_reading_is : IsLinear → (symbols : List ℤ) (x : ℕ) (wanted : Wanted) (margin : ℕ) → 1 ≤ x → x ≤ 4 → margin ≤ 127
-    → IsSoftReading symbols x wanted margin (soft_reading symbols x wanted margin)
+pub symbols_are_read_so : IsLinear → SymbolsAreReadSo
 unfolding soft_reading
-soft_reading_is linear symbols x wanted margin low high few = grind (arith, common_steps, cond_both, eqb-true, eqb-false, correction_is)
-
-heard_is : IsLinear → (heard : Option (List ℤ)) (x : ℕ) (wanted : Wanted) (margin : ℕ) → 1 ≤ x → x ≤ 4 → margin ≤ 127
-    → IsReadingHeard heard x wanted margin (reading_heard heard x wanted margin)
-heard_is linear heard x wanted margin low high few = grind (arith, common_steps, soft_reading_is)
-
--- ---- items
-
-block_is : IsLinear → (heard : Option (List ℤ)) (x : ℕ) (wanted : Wanted) (margin : ℕ) (block : Block) → 1 ≤ x → x ≤ 4 → margin ≤ 127
-    → IsBlockAgain heard x wanted margin block (block_again heard x wanted margin block)
-block_is linear heard x wanted margin block low high few = grind (arith, common_steps, heard_is)
-
-group_is : IsLinear → (b : Signal) (symbols : List ℤ) (margin place : ℕ) (blocks : List Block) → margin ≤ 127
-    → IsGroupAgain b symbols margin place blocks (group_again b symbols margin place blocks)
-group_is linear b symbols margin place blocks few = grind (arith, common_steps, block_is)
-
-pub items_are_read_again_so : IsLinear → ItemsAreReadAgainSo
-unfolding item_again
-items_are_read_again_so linear b symbols margin (Acquired place number) some few = refl
-items_are_read_again_so linear b symbols margin (LostLock place) some few = refl
-items_are_read_again_so linear b symbols margin (Group g) some few = group_is linear b symbols margin g.place g.blocks few
+symbols_are_read_so linear symbols x wanted margin low high few = grind (arith, common_steps, cond_both, eqb-true, eqb-false, correction_is)

@@ -4,4 +4,3 @@ pub mod Rows
 pub mod Nearer
 pub mod Packed
 pub mod Streams
-pub mod ValidBlocks

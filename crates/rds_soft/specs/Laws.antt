@@ -6,15 +6,12 @@ use Rattle.rds_code.specs.Remainder.{rem}
 use Rattle.rds_code.specs.Offsets.{word, number}
 use Rattle.rds_code.specs.Reading.{allows}
 use Rattle.rds_stream.specs.Recording.{Signal, reading_at, window}
-use Rattle.rds_sync.specs.declared.item.Item.{Item}
 use Rattle.rds_sync.specs.declared.item.Block.TheVariants.{Read}
 use Rattle.rds_soft.specs.declared.soft_reading.SoftReading.{SoftReading}
 use Rattle.rds_soft.specs.declared.soft_item.SoftBlock.TheVariants.{Read as SoftRead}
-use Rattle.rds_soft.specs.declared.soft_item.SoftItem.{SoftItem}
 use Rattle.rds_soft.specs.Nearest.{mask_of, weight, top, Turns, IsNearest}
 use Rattle.rds_soft.specs.Symbols.{hard_bits, hard_window, IsSoftReading}
-use Rattle.rds_soft.specs.Again.{symbols_heard, IsReadingHeard, IsBlockAgain, IsItemAgain}
-use Rattle.rds_soft.specs.ReadAgain.{item_again}
+use Rattle.rds_soft.specs.ReadAgain.{block_again, reading_heard, soft_reading, symbols_heard}
 
 -- no flips turn a window that is a wanted block already, and they weigh nothing
 abbrev pub NoneTurnsValid : Type 0
@@ -42,19 +39,15 @@ CorrectsSent = (b x : ℕ) (wanted : Wanted) (confidences : List ℕ) (margin : 
     → IsNearest (bit_xor b (mask_of wrong)) x wanted confidences margin o wrong
     × (bit_xor (bit_xor b (mask_of wrong)) (mask_of wrong) ≡ b)
 
--- symbols have at most one reading, and an item read again is one item
+-- symbols have at most one reading
 abbrev pub HasOneSoftReading : Type 0
 HasOneSoftReading = (symbols : List ℤ) (x : ℕ) (wanted : Wanted) (margin : ℕ) (one other : SoftReading) → 1 ≤ margin
     → IsSoftReading symbols x wanted margin one → IsSoftReading symbols x wanted margin other → other ≡ one
 
-abbrev pub HasOneItemAgain : Type 0
-HasOneItemAgain = (b : Signal) (symbols : List ℤ) (margin : ℕ) (item : Item) (one other : SoftItem) → 1 ≤ margin
-    → IsItemAgain b symbols margin item one → IsItemAgain b symbols margin item other → other ≡ one
-
--- the item that `item_again` computes is one that the rule allows
-abbrev pub ItemsAreReadAgainSo : Type 0
-ItemsAreReadAgainSo = (b : Signal) (symbols : List ℤ) (margin : ℕ) (item : Item) → 1 ≤ margin → margin ≤ 127
-    → IsItemAgain b symbols margin item (item_again b symbols margin item)
+-- the reading that `soft_reading` computes is one that the rule allows
+abbrev pub SymbolsAreReadSo : Type 0
+SymbolsAreReadSo = (symbols : List ℤ) (x : ℕ) (wanted : Wanted) (margin : ℕ) → 1 ≤ x → x ≤ 4 → margin ≤ 127
+    → IsSoftReading symbols x wanted margin (soft_reading symbols x wanted margin)
 
 -- a recording of the bits of symbols has the windows of these symbols
 abbrev pub SymbolsHaveWindows : Type 0
@@ -63,7 +56,7 @@ SymbolsHaveWindows = (symbols : List ℤ) (first : ℕ) → first + 26 < length 
 
 -- a block that such a recording reads, valid or not, is read again as its symbols are
 abbrev pub ReadsFromSymbols : Type 0
-ReadsFromSymbols = (b : Signal) (symbols : List ℤ) (first x : ℕ) (hard wanted : Wanted) (limit margin : ℕ) (again : SoftReading)
+ReadsFromSymbols = (b : Signal) (symbols : List ℤ) (first x : ℕ) (hard wanted : Wanted) (limit margin : ℕ)
     → 1 ≤ x → x ≤ 4 → limit ≤ 5 → b.bits ≡ hard_bits symbols → first + 26 < length symbols
-    → IsBlockAgain (symbols_heard b symbols first) x wanted margin (Read (reading_at b (first + 25) x hard limit)) (SoftRead again)
-    → IsReadingHeard (symbols_heard b symbols first) x wanted margin again
+    → block_again (symbols_heard b symbols first) x wanted margin (Read (reading_at b (first + 25) x hard limit))
+    ≡ SoftRead (reading_heard (symbols_heard b symbols first) x wanted margin)

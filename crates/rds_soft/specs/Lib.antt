@@ -1,7 +1,6 @@
 pub mod Nearest
 pub mod Symbols
 pub mod SoftGroups
-pub mod Again
 pub mod ReadAgain
 pub mod SoftTotals
 pub mod SoftStream

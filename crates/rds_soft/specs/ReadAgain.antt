@@ -1,6 +1,6 @@
--- The reading of symbols and the item read again, as functions. The law `items_are_read_again_so` promises that each gives what the
--- rule of its name allows, which is one thing at most, so contracts above can name the rows of a soft listing.
-use Rattle.std.specs.Prelude.{◌==◌, ℕ, ◌+◌, List, [], ◌∷◌, Option, Some, None, nat_lt, if◌then◌else◌, bit_xor, min, map, ℤ}
+-- A report read again from the symbols of its recording: this project's rule of soft decisions. `Search::read` returns a reading, and
+-- `Search::read_again` an item. The law `symbols_are_read_so` promises that the reading is the one that the rule allows.
+use Rattle.std.specs.Prelude.{◌==◌, ℕ, ◌+◌, ◌-◌, ◌*◌, List, [], ◌∷◌, Option, Some, None, length, take, drop, sum_by, nat_lt, not, ◌&&◌, if◌then◌else◌, bit_xor, min, map, ℤ}
 use Rattle.std.specs.Int.{cast_signed, w8}
 use Rattle.rds_code.specs.declared.offset.Offset.{Offset}
 use Rattle.rds_code.specs.declared.offset.Offset.TheVariants.{A, B, C, Cx, D}
@@ -10,7 +10,7 @@ use Rattle.rds_code.specs.declared.reading.Wanted.TheVariants.{OnlyC, OnlyCx, Ei
 use Rattle.rds_code.specs.Remainder.{rem}
 use Rattle.rds_code.specs.Offsets.{offset_of, word, number}
 use Rattle.rds_code.specs.Reading.{information}
-use Rattle.rds_stream.specs.Recording.{Signal}
+use Rattle.rds_stream.specs.Recording.{Signal, length_of, touched}
 use Rattle.rds_sync.specs.declared.item.Block.{Block}
 use Rattle.rds_sync.specs.declared.item.Block.TheVariants.{Missing, Read}
 use Rattle.rds_sync.specs.declared.item.Item.{Item}
@@ -28,7 +28,6 @@ use Rattle.rds_soft.specs.Inside.Lightest.{effect, confidence, least, lightest, 
 use Rattle.rds_soft.specs.Nearest.{mask_of, top}
 use Rattle.rds_soft.specs.SoftGroups.{wanted_beside, group_of}
 use Rattle.rds_soft.specs.Symbols.{confidences, hard_window}
-use Rattle.rds_soft.specs.Again.{symbols_heard, first_bit}
 
 -- symbols as bytes: each is a signed byte
 abbrev pub symbols_of : List ℕ → List ℤ
@@ -100,17 +99,36 @@ soft_reading symbols x wanted margin =
     reading_or (hard_window symbols) (own_of (offset_of (rem (hard_window symbols))) x)
     (reading_by (hard_window symbols) (correction (hard_window symbols) x wanted (confidences symbols) margin))
 
+-- the reading of block x from the symbols heard, if any
 abbrev pub reading_heard : Option (List ℤ) → ℕ → Wanted → ℕ → SoftReading
 reading_heard None x wanted margin = Soft.Lost
 reading_heard (Some symbols) x wanted margin = soft_reading symbols x wanted margin
 
 -- ---- items
 
+-- the 27 symbols of the block whose first bit is at this place: none if it touches a gap, or ends past the recording or its symbols
+abbrev pub symbols_heard : Signal → List ℤ → ℕ → Option (List ℤ)
+symbols_heard b symbols first =
+    if nat_lt (first + 25) (length_of b) && not (touched b (first + 25)) && nat_lt (first + 26) (length symbols)
+    then Some (take 27 (drop first symbols))
+    else None
+
+-- a block that was read: a valid one stays as it is, any other is read from its symbols
 abbrev pub block_again : Option (List ℤ) → ℕ → Wanted → ℕ → Block → SoftBlock
 block_again heard x wanted margin Missing = Again.Missing
 block_again heard x wanted margin (Read (Valid o info)) = Again.Read (Soft.Valid o info)
 block_again heard x wanted margin (Read hard) = Again.Read (reading_heard heard x wanted margin)
 
+-- 1 if the block was read
+abbrev pub was_read : Block → ℕ
+was_read Missing = 0
+was_read (Read hard) = 1
+
+-- the place of the first bit of block y, if it was read, in a group of these blocks whose first read bit is at `place`
+abbrev pub first_bit : ℕ → List Block → ℕ → ℕ
+first_bit place blocks y = place + 26 * sum_by was_read (take (y - 1) blocks)
+
+-- a group of these blocks, read again block by block: block 2 before block 3, as it says which offsets are tried there
 abbrev pub group_again : Signal → List ℤ → ℕ → ℕ → List Block → SoftGroup
 group_again b symbols margin place blocks =
     let heard : ℕ → Option (List ℤ) = λ y. symbols_heard b symbols (first_bit place blocks y) in
@@ -120,7 +138,7 @@ group_again b symbols margin place blocks =
     ∷ block_again (heard 3) 3 (wanted_beside two) margin (block_in blocks 3)
     ∷ block_again (heard 4) 4 Either margin (block_in blocks 4) ∷ [])
 
--- an item, read again
+-- an item of the soft listing: groups are read again, acquisitions and losses stay as they are
 unfoldable pub item_again : Signal → List ℤ → ℕ → Item → SoftItem
 item_again b symbols margin (Acquired place number) = InSoft.Acquired place number
 item_again b symbols margin (LostLock place) = InSoft.LostLock place

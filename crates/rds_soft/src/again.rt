@@ -1,8 +1,9 @@
 //! Items of a report, read again from the symbols of its recording.
-ghost use Rattle.std.specs.Prelude.{◌≡◌, ◌+◌, ◌*◌, ◌≤◌, IfSome, Some, None, drop, length, nat_lt, take, if◌then◌else◌};
-ghost use Rattle.rds_soft.specs.ReadAgain.{symbols_of};
-ghost use Rattle.rds_soft.specs.Inside.ValidBlocks.{AreValid, IsValidBlock};
-ghost use Rattle.rds_soft.specs.Again.{IsBlockAgain, IsGroupAgain, symbols_heard as the_symbols_heard, was_read as the_was_read};
+ghost use Rattle.std.specs.Prelude.{◌≡◌, ◌+◌, ◌*◌, ◌≤◌, ℕ, ℤ, IfSome, List, Option, Some, None, drop, length, nat_lt, take, if◌then◌else◌};
+ghost use Rattle.rds_code.specs.declared.reading.Wanted.{Wanted as AWanted};
+ghost use Rattle.rds_stream.specs.Recording.{Signal};
+ghost use Rattle.rds_soft.specs.ReadAgain.{block_again as the_block_again, group_again as the_group_again, symbols_heard as the_symbols_heard, symbols_of, was_read as the_was_read};
+ghost use Rattle.rds_soft.specs.SoftGroups.{group_of};
 
 use crate::lightest::SYMBOLS;
 use crate::margin::Margin;
@@ -14,11 +15,12 @@ use rds_stream::{FIRST_WINDOW, Recording};
 use rds_sync::{Block, Item};
 
 impl Search {
-    ghost use Rattle.rds_soft.specs.Again.{IsItemAgain};
+    ghost use Rattle.rds_soft.specs.ReadAgain.{item_again};
 
     /// An item of a report, read again from the symbols of its recording: the bytes of `symbols` are signed, and bit i of the
     /// recording is that between symbols i and i + 1. In a group each block that was read is read again, unless it is valid. A block that
     /// touches a gap, or ends past the symbols, is lost. Acquisitions and losses stay as they are.
+    #[tactic(auto, unfolding(crate::specs::ReadAgain::item_again))]
     pub fn read_again(
         &mut self,
         recording: &Recording,
@@ -26,7 +28,7 @@ impl Search {
         margin: Margin,
         item: &Item,
     ) -> SoftItem
-        ensures { IsItemAgain recording.now (symbols_of symbols.now) margin item.now result }
+        ensures { result ≡ item_again recording.now (symbols_of symbols.now) margin item.now }
     {
         match *item {
             Item::Acquired { place, number } => SoftItem::Acquired { place, number },
@@ -56,7 +58,7 @@ struct Source<'a> {
 
 /// The group of these blocks, read again. If all four are valid, as in most groups, they stay as they are.
 fn group_again(search: &mut Search, source: &Source<'_>, blocks: &[Block; 4]) -> SoftGroup
-    ensures { IsGroupAgain source.now.recording.now (symbols_of source.now.symbols.now) source.now.margin source.now.place blocks.now result }
+    ensures { result ≡ the_group_again source.now.recording.now (symbols_of source.now.symbols.now) source.now.margin source.now.place blocks.now }
 {
     match valid_blocks(blocks) {
         Some(valid) => SoftGroup::of_blocks(source.place, valid),
@@ -66,7 +68,7 @@ fn group_again(search: &mut Search, source: &Source<'_>, blocks: &[Block; 4]) ->
 
 /// The same of any blocks, of which those that are not valid are searched.
 fn searched_group(search: &mut Search, source: &Source<'_>, blocks: &[Block; 4]) -> SoftGroup
-    ensures { IsGroupAgain source.now.recording.now (symbols_of source.now.symbols.now) source.now.margin source.now.place blocks.now result }
+    ensures { result ≡ the_group_again source.now.recording.now (symbols_of source.now.symbols.now) source.now.margin source.now.place blocks.now }
 {
     let [one, two, three, four] = blocks;
     let either = Wanted::Either;
@@ -81,10 +83,11 @@ fn searched_group(search: &mut Search, source: &Source<'_>, blocks: &[Block; 4])
     SoftGroup::of_blocks(source.place, [first, second, third, fourth])
 }
 
-/// The blocks as they are, if all four are valid.
+/// The blocks as they are, if all four are valid: they stay so, whatever was heard.
 #[inline(always)]
 fn valid_blocks(blocks: &[Block; 4]) -> Option<[SoftBlock; 4]>
-    ensures { IfSome result (λ valid. AreValid blocks.now valid) }
+    ensures { IfSome result (λ valid. (b : Signal) (symbols : List ℤ) (margin place : ℕ)
+        → group_of place valid ≡ the_group_again b symbols margin place blocks.now) }
 {
     let [one, two, three, four] = blocks;
     Some([
@@ -98,7 +101,8 @@ fn valid_blocks(blocks: &[Block; 4]) -> Option<[SoftBlock; 4]>
 /// The block as it is, if it is valid.
 #[inline(always)]
 fn valid_block(block: &Block) -> Option<SoftBlock>
-    ensures { IfSome result (IsValidBlock block.now) }
+    ensures { IfSome result (λ valid. (heard : Option (List ℤ)) (x : ℕ) (wanted : AWanted) (margin : ℕ)
+        → valid ≡ the_block_again heard x wanted margin block.now) }
 {
     match *block {
         Block::Read(Reading::Valid { offset, info }) => {
@@ -131,7 +135,7 @@ fn block_again(
 ) -> SoftBlock
     requires { before ≤ 3 }
     ensures { let heard = the_symbols_heard source.now.recording.now (symbols_of source.now.symbols.now) (source.now.place + 26 * before) in
-        IsBlockAgain heard number wanted source.now.margin block.now result }
+        result ≡ the_block_again heard number wanted source.now.margin block.now }
 {
     match *block {
         Block::Missing => SoftBlock::Missing,

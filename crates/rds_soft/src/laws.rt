@@ -1,6 +1,6 @@
 //! Laws of the nearest block. Each call does nothing: its contract is a law of the definitions.
 ghost use Rattle.rds_soft.specs.SoftTotals.{SoftTotalsJoin};
-ghost use Rattle.rds_soft.specs.Laws.{NoneTurnsValid, HasOneNearest, SureSymbolsStay, CorrectsSent, HasOneSoftReading, HasOneItemAgain, ItemsAreReadAgainSo, SymbolsHaveWindows, ReadsFromSymbols};
+ghost use Rattle.rds_soft.specs.Laws.{NoneTurnsValid, HasOneNearest, SureSymbolsStay, CorrectsSent, HasOneSoftReading, SymbolsAreReadSo, SymbolsHaveWindows, ReadsFromSymbols};
 
 use rds_code::laws::{readings_follow_the_rule, remainders_are_linear};
 
@@ -24,15 +24,14 @@ pub fn sent_blocks_are_corrected()
     ensures { CorrectsSent }
 {}
 
-/// Symbols have one reading, and an item is read again in one way: whoever reads it, and whatever was read before.
-pub fn items_are_read_again_alike()
-    ensures readings { HasOneSoftReading }
-    ensures items { HasOneItemAgain }
+/// Symbols have one reading: whoever reads them, and whatever was read before.
+pub fn symbols_are_read_alike()
+    ensures { HasOneSoftReading }
 {}
 
-/// `item_again` computes the item that is read again.
-pub fn items_are_read_again_so()
-    ensures { ItemsAreReadAgainSo }
+/// `soft_reading` computes that reading.
+pub fn symbols_are_read_so()
+    ensures { SymbolsAreReadSo }
 {
     remainders_are_linear();
 }

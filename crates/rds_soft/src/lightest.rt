@@ -1,5 +1,5 @@
 //! The rows of least weights.
-ghost use Rattle.std.specs.Prelude.{◌≡◌, ℕ, ◌<◌, ◌+◌, ◌*◌, ◌/◌, ◌%◌, length, slice_index, bit_xor, min};
+ghost use Rattle.std.specs.Prelude.{◌≡◌, ℕ, ◌<◌, ◌+◌, ◌*◌, ◌/◌, ◌%◌, ◌^◌, length, slice_index, bit_xor, min};
 ghost use Rattle.rds_soft.specs.Inside.Lightest.{effect as the_effect, confidence};
 ghost use Rattle.rds_soft.specs.Inside.Rows.{Follows, AreLeast, AreRows, IsFirst};
 
@@ -114,62 +114,28 @@ fn turned(block: u8x16, effect: u16) -> u8x16
     ensures long { length result ≡ 16 }
     ensures each { (j : ℕ) → j < 16 → slice_index result j ≡ slice_index block (bit_xor j (effect % 16)) }
 {
-    eights(fours(twos(ones(block, effect), effect), effect), effect)
-}
-
-/// The block with its places turned by 1 if the effect has that bit.
-#[inline(always)]
-fn ones(block: u8x16, effect: u16) -> u8x16
-    requires long { length block ≡ 16 }
-    ensures long { length result ≡ 16 }
-    ensures each { (j : ℕ) → j < 16 → slice_index result j ≡ slice_index block (bit_xor j (effect % 2)) }
-{
-    if effect % 2 == 1 {
-        block.swizzle([1, 0, 3, 2, 5, 4, 7, 6, 9, 8, 11, 10, 13, 12, 15, 14])
-    } else {
-        block
+    let mut lanes = block;
+    for k in 0..4 {
+        if (effect >> k) % 2 == 1 {
+            lanes = exchanged(lanes, k);
+        }
     }
+    lanes
 }
 
-/// The block with its places turned by 2 if the effect has that bit.
+/// The block with its places turned by 2^k.
 #[inline(always)]
-fn twos(block: u8x16, effect: u16) -> u8x16
+fn exchanged(block: u8x16, k: u32) -> u8x16
     requires long { length block ≡ 16 }
+    requires k { k < 4 }
     ensures long { length result ≡ 16 }
-    ensures each { (j : ℕ) → j < 16 → slice_index result j ≡ slice_index block (bit_xor j (effect / 2 % 2 * 2)) }
+    ensures each { (j : ℕ) → j < 16 → slice_index result j ≡ slice_index block (bit_xor j (2 ^ k)) }
 {
-    if effect / 2 % 2 == 1 {
-        block.swizzle([2, 3, 0, 1, 6, 7, 4, 5, 10, 11, 8, 9, 14, 15, 12, 13])
-    } else {
-        block
-    }
-}
-
-/// The block with its places turned by 4 if the effect has that bit.
-#[inline(always)]
-fn fours(block: u8x16, effect: u16) -> u8x16
-    requires long { length block ≡ 16 }
-    ensures long { length result ≡ 16 }
-    ensures each { (j : ℕ) → j < 16 → slice_index result j ≡ slice_index block (bit_xor j (effect / 4 % 2 * 4)) }
-{
-    if effect / 4 % 2 == 1 {
-        block.swizzle([4, 5, 6, 7, 0, 1, 2, 3, 12, 13, 14, 15, 8, 9, 10, 11])
-    } else {
-        block
-    }
-}
-
-/// The block with its places turned by 8 if the effect has that bit.
-#[inline(always)]
-fn eights(block: u8x16, effect: u16) -> u8x16
-    requires long { length block ≡ 16 }
-    ensures long { length result ≡ 16 }
-    ensures each { (j : ℕ) → j < 16 → slice_index result j ≡ slice_index block (bit_xor j (effect / 8 % 2 * 8)) }
-{
-    if effect / 8 % 2 == 1 {
-        block.swizzle([8, 9, 10, 11, 12, 13, 14, 15, 0, 1, 2, 3, 4, 5, 6, 7])
-    } else {
-        block
+    match k {
+        0 => block.swizzle([1, 0, 3, 2, 5, 4, 7, 6, 9, 8, 11, 10, 13, 12, 15, 14]),
+        1 => block.swizzle([2, 3, 0, 1, 6, 7, 4, 5, 10, 11, 8, 9, 14, 15, 12, 13]),
+        2 => block.swizzle([4, 5, 6, 7, 0, 1, 2, 3, 12, 13, 14, 15, 8, 9, 10, 11]),
+        _ => block.swizzle([8, 9, 10, 11, 12, 13, 14, 15, 0, 1, 2, 3, 4, 5, 6, 7]),
     }
 }
 

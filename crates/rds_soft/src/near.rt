@@ -9,10 +9,8 @@ ghost use Rattle.rds_sync.specs.Lawful.{IsLawful};
 ghost use Rattle.rds_sync.specs.Step.{items_of_end, run};
 ghost use Rattle.rds_soft.specs.SoftStream.{group_item};
 ghost use Rattle.rds_soft.specs.declared.soft_item.SoftItem.TheVariants.{Group as InSoft};
-ghost use Rattle.rds_soft.specs.ReadAgain.{item_again, symbols_of};
 ghost use Rattle.rds_soft.specs.Inside.Streams.{again_in, last_symbols, moved_again, part_of, place_again};
 
-use crate::laws::{items_are_read_again_alike, items_are_read_again_so};
 use crate::margin::Margin;
 use crate::nearest::Search;
 use crate::pack::pack_bits;
@@ -169,17 +167,8 @@ fn item_in(search: &mut Search, near: &Near, margin: Margin, item: &Item) -> Sof
     requires place { place_of item.now < 2 ^ 37 }
     ensures { result ≡ again_in near.now.recording near.now.symbols.items margin near.now.before item.now }
 {
-    moved_on(item_there(search, near, margin, item), near.before)
-}
-
-/// An item of a part, read again from its symbols.
-fn item_there(search: &mut Search, near: &Near, margin: Margin, item: &Item) -> SoftItem
-    ensures { result ≡ item_again near.now.recording (symbols_of near.now.symbols.items) margin item.now }
-{
-    items_are_read_again_so();
-    items_are_read_again_alike();
-    let _range = margin.weight();
-    search.read_again(&near.recording, near.symbols.as_slice(), margin, item)
+    let again = search.read_again(&near.recording, near.symbols.as_slice(), margin, item);
+    moved_on(again, near.before)
 }
 
 /// The item, moved on by `by` places.

@@ -5,6 +5,7 @@ ghost use Rattle.rds_code.specs.Reading.{IsValid};
 ghost use Rattle.rds_soft.specs.Symbols.{sign, confidences as the_confidences, hard_window as the_hard_window};
 
 use crate::correction::Correction;
+use crate::laws::{symbols_are_read_alike, symbols_are_read_so};
 use crate::lightest::SYMBOLS;
 use crate::margin::Margin;
 use crate::nearest::Search;
@@ -12,11 +13,29 @@ use crate::soft_reading::{SoftReading, mask_of};
 use rds_code::{BlockNumber, Offset, Wanted, offset_of, rem26};
 
 impl Search {
+    ghost use Rattle.rds_soft.specs.ReadAgain.{soft_reading};
     ghost use Rattle.rds_soft.specs.Symbols.{IsSoftReading};
 
     /// Reads 27 symbols, signed bytes from the one before the window on, as block `number`. A valid window stays as it is;
     /// else it is corrected to the nearest block, or lost if there is none.
     pub fn read(
+        &mut self,
+        symbols: &[i8; 27],
+        number: BlockNumber,
+        wanted: Wanted,
+        margin: Margin,
+    ) -> SoftReading
+        ensures rule { IsSoftReading symbols.now number wanted margin result }
+        ensures value { result ≡ soft_reading symbols.now number wanted margin }
+    {
+        symbols_are_read_alike();
+        symbols_are_read_so();
+        prove!(number.get() <= 4 && margin.weight() <= 127);
+        self.nearest_reading(symbols, number, wanted, margin)
+    }
+
+    /// The same by the rule alone.
+    fn nearest_reading(
         &mut self,
         symbols: &[i8; 27],
         number: BlockNumber,

@@ -10,7 +10,7 @@ use Rattle.rds_sync.specs.declared.item.Version.TheVariants as AVersion
 use Rattle.rds_soft.specs.declared.soft_reading.SoftReading.TheVariants as Soft
 use Rattle.rds_soft.specs.declared.soft_item.SoftBlock.TheVariants as Again
 use Rattle.rds_soft.specs.SoftGroups.{wanted_beside, version, in_conflict}
-use Rattle.rds_soft.specs.Again.{symbols_heard, first_bit, IsBlockAgain}
+use Rattle.rds_soft.specs.ReadAgain.{block_again, first_bit, symbols_heard}
 
 -- ---- where blocks begin: the second block begins where the first one that was read does, if that is it
 
@@ -54,13 +54,13 @@ none_past_the_symbols = refl
 -- ---- blocks
 
 -- a block in a gap is lost, if it was corrected by its bits too
-pub lost_in_gap : IsBlockAgain None 4 Either 32 (Read (Corrected D 0x5320 0b110)) (Again.Read Soft.Lost)
+pub lost_in_gap : block_again None 4 Either 32 (Read (Corrected D 0x5320 0b110)) ≡ Again.Read Soft.Lost
 lost_in_gap = refl
 
-pub valid_stays : IsBlockAgain None 4 Either 32 (Read (Valid D 0x5320)) (Again.Read (Soft.Valid D 0x5320))
+pub valid_stays : block_again None 4 Either 32 (Read (Valid D 0x5320)) ≡ Again.Read (Soft.Valid D 0x5320)
 valid_stays = refl
 
-pub missing_stays : IsBlockAgain None 4 Either 32 Missing Again.Missing
+pub missing_stays : block_again None 4 Either 32 Missing ≡ Again.Missing
 missing_stays = refl
 
 -- ---- groups: bit B0 of a corrected block 2 says version A (bit 11 is 0) or B

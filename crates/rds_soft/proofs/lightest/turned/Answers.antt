@@ -1,15 +1,29 @@
-use Rattle.rds_soft.proofs.Names.{ℕ, ◌<◌, ◌*◌, ◌/◌, ◌%◌, get_or, bit_xor, ap, ◌∙◌, arith, xor_lt}
-use Rattle.rds_soft.proofs.LaneLemmas.{parts_turn}
+use Rattle.std.proofs.Math.Pow.{pow-lt}
+use Rattle.rds_soft.proofs.Names.{ℕ, ◌∙◌, ◌^◌, sym, ap, arith, bit_xor, common_steps, get_or, xor_lt, xor_zero_r}
+use Rattle.rds_soft.proofs.LaneLemmas.{next_turn, no_turn}
 use Rattle.rds_soft.proofs.lightest.turned.Goals as goal
+use Rattle.rds_soft.proofs.lightest.turned.Goals.{then-effect-k-eq1, else-effect-k-eq1}
 
-pub returns-clause-each : goal.returns-clause-each
-returns-clause-each c j less =
+pub loop-k-init : goal.loop-k-init
+loop-k-init c = record {
+  long = c.requires.long;
+  each = λ j less. ap (λ (i : ℕ). get_or c.args.block i 0) (sym (xor_zero_r j) ∙ ap (bit_xor j) (omega arith));
+}
+
+pub loop-k-preserved : goal.loop-k-preserved
+loop-k-preserved c =
     let e : ℕ = c.args.effect in
-    let a : ℕ = bit_xor j (e / 8 % 2 * 8) in
-    let b : ℕ = bit_xor a (e / 4 % 2 * 4) in
-    let d : ℕ = bit_xor b (e / 2 % 2 * 2) in
-    let a_small : a < 16 = xor_lt 4 j (e / 8 % 2 * 8) less (omega arith) in
-    let b_small : b < 16 = xor_lt 4 a (e / 4 % 2 * 4) a_small (omega arith) in
-    let d_small : d < 16 = xor_lt 4 b (e / 2 % 2 * 2) b_small (omega arith) in
-    c.eights.ensures.each j less ∙ c.fours.ensures.each a a_small ∙ c.twos.ensures.each b b_small ∙ c.ones.ensures.each d d_small
-    ∙ ap (λ (k : ℕ). get_or c.args.block k 0) (parts_turn e j)
+    let k : ℕ = c.loop-k.k in
+    record {
+      long = elim c.if-effect-k-eq1.branch [
+        | then-effect-k-eq1 w ↦ grind (arith, common_steps, w.exchanged-lanes.ensures.long, w.lanes-is)
+        | else-effect-k-eq1 w ↦ grind (arith, common_steps, c.loop-k.invariant.long, w.lanes-is)
+      ];
+      each = λ j less. elim c.if-effect-k-eq1.branch [
+        | then-effect-k-eq1 w ↦ ap (λ l. get_or l j 0) w.lanes-is ∙ w.exchanged-lanes.ensures.each j less
+            ∙ c.loop-k.invariant.each (bit_xor j (2 ^ k)) (xor_lt 4 j (2 ^ k) less (pow-lt c.loop-k-test.true))
+            ∙ ap (λ (i : ℕ). get_or c.args.block i 0) (next_turn e k j (omega (arith, w.if-effect-k-eq1.true)))
+        | else-effect-k-eq1 w ↦ ap (λ l. get_or l j 0) w.lanes-is ∙ c.loop-k.invariant.each j less
+            ∙ ap (λ (i : ℕ). get_or c.args.block (bit_xor j i) 0) (sym (no_turn e k (omega (arith, w.if-effect-k-eq1.false))))
+      ];
+    }

@@ -1,5 +1,5 @@
 use Rattle.rds_soft.proofs.Names.{common_steps, ◌≡◌, ℕ, List, sym, subst, arith, bit_xor, xor_lt, Offset, Wanted, IsValid, information, IsNearest, hard_window, confidences}
-use Rattle.rds_soft.proofs.nearest.Search.read.Goals as goal
+use Rattle.rds_soft.proofs.nearest.Search.nearest_reading.Goals as goal
 
 -- what is nearest of equal windows and confidences
 moved : (w v : ℕ) (cs ds : List ℕ) (x : ℕ) (wanted : Wanted) (margin : ℕ) (o : Offset) (flips : ℕ) → w ≡ v → cs ≡ ds
