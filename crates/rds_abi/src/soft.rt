@@ -23,7 +23,6 @@ use crate::stream::{
 };
 use rds_live::StreamDecoder;
 use rds_live::laws::next_is_heard;
-use rds_soft::laws::{items_are_read_again_alike, items_are_read_again_so};
 use rds_soft::{Margin, Search, SoftGroup, SoftItem, pack_bits};
 use rds_stream::Recording;
 use rds_sync::{Group, Item, laws};
@@ -165,9 +164,6 @@ fn group_there(search: &mut Search, source: &Source<'_>, group: Group) -> SoftGr
     ensures { result ≡ group_again source.now.recording.now (symbols_of source.now.symbols.now) source.now.margin
         (group.place - source.now.before) group.blocks }
 {
-    items_are_read_again_alike();
-    items_are_read_again_so();
-    let _range = source.margin.weight();
     let there = Item::Group(Group {
         place: group.place.saturating_sub(source.before),
         ..group
