@@ -26,9 +26,6 @@ take_on n k xs ys is = elim (cases_lt (length xs) n) [
 pub few_whole : (bits : Option ℕ) → whole bits ≤ 2 ^ 33
 few_whole bits = grind (arith, common_steps)
 
-pub none_counted : (bits : Option ℕ) (live : LiveOf) (last : ℕ) → HasHeard live [] → IsCounter live bits 0 last []
-none_counted bits live last heard = grind (arith, common_steps, take_all)
-
 module _ (bits : Option ℕ) (live : LiveOf) (count last : ℕ) (xs : List ℕ) (is : IsCounter live bits count last xs) where
   place_is : live.place ≡ 8 * min (whole bits) (length xs)
   place_is = let at = ap (λ (l : LiveOf). l.place) is.heard in omega (arith, at, length-take (whole bits) xs)
@@ -50,21 +47,12 @@ module _ (bits : Option ℕ) (live : LiveOf) (count last : ℕ) (xs : List ℕ) 
 
   -- ---- its end
 
-  pub long_claim : 2 ^ 36 < claimed_by bits count → 2 ^ 36 < claimed bits xs
-  long_claim long = grind (arith, common_steps)
-
-  pub too_long : (gaps : List (ℕ × ℕ)) → 2 ^ 36 < claimed_by bits count → first_bits (claimed bits xs) gaps xs ≡ Err TooLong
-  too_long gaps long = rw (lt-ltb (2 ^ 36) (claimed bits xs) (long_claim long)) refl
-
   module _ (short : claimed_by bits count ≤ 2 ^ 36) where
     abbrev n : ℕ
     n = claimed_by bits count
 
     claim_is : claimed bits xs ≡ n
     claim_is = grind (arith, common_steps)
-
-    pub too_few : (gaps : List (ℕ × ℕ)) → 8 * count < n → first_bits (claimed bits xs) gaps xs ≡ Err BitsPastBytes
-    too_few gaps more = grind (arith, common_steps, claim_is, le-ltb, lt-ltb)
 
     module _ (enough : n ≤ 8 * count) where
       held : n ≤ 8 * length xs
@@ -93,9 +81,6 @@ module _ (bits : Option ℕ) (live : LiveOf) (count last : ℕ) (xs : List ℕ) 
           ] where
             begins : (k : ℕ) → n ≤ 8 * length (take k xs) → bits_of (take k xs) n ≡ bits_of xs n
             begins k within = sym (front_bits (take k xs) (drop k xs) 0 n (omega (arith, within))) ∙ ap (λ ys. bits_of ys n) (take-append-drop k xs)
-
-      pub end_is : 8 * length (take (whole bits) xs) + (n - live.place) ≡ n
-      end_is = omega (arith, near_end.0, place_is, length-take (whole bits) xs)
 
 -- ---- its text
 

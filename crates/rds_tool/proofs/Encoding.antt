@@ -17,9 +17,6 @@ some_lines rest = omega (arith, length-slice_split (λ b. b == 10) (filter (λ b
 begun_more : (line : List ℕ) (b : ℕ) (lines : List (List ℕ)) → 0 < length lines → begun line (onto_first b lines) ≡ begun (line ++ b ∷ []) lines
 begun_more line b lines h = grind (arith, common_steps, append_assoc, begun)
 
-none_begun : (lines : List (List ℕ)) → begun [] lines ≡ lines
-none_begun lines = grind (arith, common_steps, begun)
-
 -- ---- the first of some lines
 
 line_taken : (hex : Bool) (text : List ℕ) (line : List ℕ) (lines : List (List ℕ)) (more : List ℕ) → line_text hex line ≡ Ok more
@@ -59,17 +56,6 @@ module _ (groups : List (List ℕ)) (line text : List ℕ) (b : ℕ) where
     -- one digit too many
     pub digit_refused : (more : List (List ℕ)) (next : List ℕ) → is_space b ≡ false → b == 10 ≡ false → length line ≡ 16 → HasGroups more next true (text ++ b ∷ [])
     digit_refused more next h d full hex rest = grind (arith, common_steps, digit_taken, some_lines, begun, line_refused, long_line, length-append)
-
-    module _ (feed : b ≡ 10) where
-      fed : (hex : Bool) (rest : List ℕ) → encoded_text hex ((text ++ b ∷ []) ++ rest) ≡ with_lines hex (text_of_groups hex groups) (line ∷ lines_of rest)
-      fed hex rest = grind (arith, common_steps, goes_on, begun, append-nil)
-
-      -- a line ends
-      pub line_ends : (more : List (List ℕ)) → AddsLine line groups more → HasGroups more [] false (text ++ b ∷ [])
-      line_ends more (added, is, says) hex rest = grind (arith, common_steps, line_taken, flat_map-append, none_begun)
-
-      pub line_is_refused : (more : List (List ℕ)) (next : List ℕ) → ((hex : Bool) → line_text hex line ≡ Err GroupText) → HasGroups more next true (text ++ b ∷ [])
-      line_is_refused more next says hex rest = fed hex rest ∙ line_refused hex (text_of_groups hex groups) line (lines_of rest) (says hex)
 
 -- ---- the same of a line that is kept in sixteen bytes
 
@@ -138,3 +124,6 @@ module _ (hex : Bool) where
   pub all_rows : (groups : List (List ℕ)) (from n i : ℕ) → length (take n (drop from groups)) ≤ i
       → flat_map (group_text hex) (take i (take n (drop from groups))) ≡ concat (take n (drop from (map (group_text hex) groups)))
   all_rows groups from n i past = grind (arith, common_steps, take_all, as_rows, drop-map, take-map)
+
+-- the steps of functions that need no answer
+pub ruleset group_steps = (common_steps, append_assoc, one_row, all_rows)

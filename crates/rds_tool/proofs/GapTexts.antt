@@ -53,3 +53,6 @@ module _ (texts : List (Bor (List ℕ))) (i : ℕ) (gaps : List (ℕ × ℕ))
   pub gaps_more : (d : Bor (List ℕ)) (gap : ℕ × ℕ) → i < length texts → gap_of (get_or texts i d).now ≡ Some gap
       → each_gap (map (λ text. text.now) texts) ≡ with_rest (gaps ++ gap ∷ []) (each_gap (map (λ text. text.now) (drop (i + 1) texts)))
   gaps_more d gap some one = grind (arith, common_steps, next, one_more)
+
+-- the steps of functions that need no answer
+pub ruleset place_steps = (common_steps, nat_tests, place_read)

@@ -115,3 +115,6 @@ module _ (f : Found) (given : Option (Bor Text)) (is : option_map (λ s. s.now) 
     pub unread_gaps : (read : Result (Vec (ℕ × ℕ)) NoJob) → read ≡ ok_or gaps Gaps
         → IfErr read (λ why. (why ≡ Memory) ⊎ ((why ≡ Gaps) × (gaps_asked_for (rows_of f) ≡ None)))
     unread_gaps read e = grind (arith, common_steps, asked_as, ok_or, read)
+
+-- the steps of functions that need no answer
+pub ruleset getter_steps = (common_steps, codes, bits_rows, share_rows, number_rows, source_is)

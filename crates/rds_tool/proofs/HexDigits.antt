@@ -32,9 +32,6 @@ whole_is digits = grind (arith, common_steps, odd_none, eqb-true, pairs_are)
 first_digit : (digit value : ℕ) (digits : List ℕ) → hex_digit_value digit ≡ Some value → bytes_after None (digit ∷ digits) ≡ bytes_after (Some value) digits
 first_digit digit value digits is = grind (arith, common_steps, bytes_after)
 
-no_digit : (high : Option ℕ) (digit : ℕ) (digits : List ℕ) → hex_digit_value digit ≡ None → bytes_after high (digit ∷ digits) ≡ Err HexText
-no_digit high digit digits is = grind (arith, common_steps, bytes_after)
-
 then_same : (r : Result (List ℕ) ToolError) → r ≡ and_then r (λ more. Ok ([] ++ more))
 then_same r = grind (arith, common_steps)
 
@@ -67,9 +64,6 @@ module _ (text part : List ℕ) where
   module _ (bytes : List ℕ) (half : Option ℕ) (by : IsDecodedBy None text bytes half) where
     first : (more : List ℕ) → bytes_after_of None ((text ++ part) ++ more) ≡ and_then (bytes_after_of half (part ++ more)) (λ rest. Ok (bytes ++ rest))
     first more = ap (bytes_after_of None) (append_assoc text part more) ∙ by (part ++ more)
-
-    pub strange_on : IsStrangeAfter half part → IsStrangeAfter None (text ++ part)
-    strange_on strange more = first more ∙ ap (λ r. and_then r (λ rest. Ok (bytes ++ rest))) (strange more)
 
     pub decoded_on : (next : List ℕ) (left : Option ℕ) → IsDecodedBy half part next left → IsDecodedBy None (text ++ part) (bytes ++ next) left
     decoded_on next left also more =
@@ -126,9 +120,6 @@ module _ (start : Option ℕ) (text now : List ℕ) (at count : ℕ) (high : Opt
     rest_after : (blank : Bool) → is_blank (slice_index now at) ≡ blank
         → bytes_after_of start (text ++ more) ≡ to_all (bytes_after high (cond (not blank) (slice_index now at ∷ later) later))
     rest_after blank is = has.rest more ∙ ap (λ digits. to_all (bytes_after high digits)) (left_after blank is)
-
-  pub skipped : is_blank (slice_index now at) ≡ true → HasDecoded start text now (at + 1) count high
-  skipped blank = grind (arith, common_steps, after, rest_after, slice_index)
 
   pub begun : (value : ℕ) → high ≡ None → is_blank (slice_index now at) ≡ false → hex_digit_value (slice_index now at) ≡ Some value → value < 16
       → HasDecoded start text now (at + 1) count (Some value)

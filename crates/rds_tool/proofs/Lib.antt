@@ -12,6 +12,7 @@ pub mod CountedBytes
 pub mod Cuttings
 pub mod Passing
 pub mod Reading
+pub mod Steps
 pub mod GapTexts
 pub mod GapLists
 pub mod Recorded

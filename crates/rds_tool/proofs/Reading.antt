@@ -1,6 +1,6 @@
 -- Reads in turn, and what the refusals of a read tell.
-use Rattle.rds_tool.proofs.Names.{common_steps, ◌++◌, append_assoc, ◌<◌, ◌≡◌, ◌↔◌, ◌∙◌, ◌⊎◌, Err, List, Ok, Option, Result, ap, arith, inl, inr, refl, subst, sym, ℕ, Consumes, IsAtEnd, IfSome, Consumes-trans, Consumes-whole, ToolError, OutOfMemory, Read, TooManyTurns}
-use Rattle.rds_tool.proofs.Passing.{passed_kind}
+use Rattle.rds_tool.proofs.Names.{common_steps, ◌++◌, append_assoc, ◌<◌, ◌≡◌, ◌↔◌, ◌∙◌, ◌⊎◌, Err, List, Ok, Option, Result, ap, arith, inl, inr, refl, subst, sym, ℕ, Consumes, IsAtEnd, IfSome, Consumes-trans, Consumes-whole, ToolError, OutOfMemory, Read, TooManyTurns, append-nil}
+use Rattle.rds_tool.proofs.Passing.{passed, passed_kind}
 
 -- bytes read so far, and then a read
 pub read_more : (a b c : Option (List ℕ)) (xs more ys : List ℕ) → Consumes a b xs → Consumes b c more → ys ≡ xs ++ more → Consumes a c ys
@@ -35,3 +35,6 @@ ok_told x start after kept = (λ p. cc p, λ q. absurd (omega arith))
 
 pub end_told : {T : Type 0} (start after : ℕ) → after ≡ start → let r : Result T ToolError = Err TooManyTurns in (r ≡ Err Read) ↔ (start < after)
 end_told start after kept = (λ p. cc p, λ q. absurd (omega arith))
+
+-- the steps of functions that need no answer
+pub ruleset read_steps = (common_steps, append-nil, read_whole, read_more, given_more, read_told, passed)

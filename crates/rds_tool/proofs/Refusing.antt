@@ -22,3 +22,6 @@ no_job faults asked answer it = grind (arith, common_steps, option_and_then)
 pub of_stream : (faults : Kinds) (job : Option Job) (answer : FaultKind) → faults ≡ [] → job ≡ None → (answer ≡ Memory) ⊎ (answer ≡ Words)
     → MayAnswer faults job answer
 of_stream faults job answer none without it = grind (arith, common_steps)
+
+-- the steps of functions that need no answer
+pub ruleset answer_steps = (common_steps, option_and_then, refused_by, no_job, of_stream)

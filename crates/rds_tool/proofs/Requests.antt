@@ -1,5 +1,5 @@
 -- The request of each command, by its name.
-use Rattle.rds_tool.proofs.Names.{common_steps, arith, ◌∙◌, ◌≡◌, ◌≢◌, List, None, Option, Some, codes, false, refl, sym, true, ℕ, option_map, bytes_eq, Row, Text, number_of, report_job_of, request_of, stream_of, with_progress, Input, Job, Encode, Scan}
+use Rattle.rds_tool.proofs.Names.{common_steps, arith, ◌∙◌, ◌≡◌, ◌≢◌, List, None, Option, Some, codes, false, refl, sym, true, ℕ, option_map, bytes_eq, Row, Text, number_of, report_job_of, request_of, stream_of, with_progress, Input, Job, Encode, Scan, rules}
 use Rattle.std.proofs.lemmas.Slice.Eq.{bytes_eq-Decides}
 
 module _ (name : Text) (rows : List Row) (input : Input) where
@@ -26,3 +26,6 @@ module _ (name : Text) (rows : List Row) (input : Input) where
 
   pub of_other : name ≢ codes "scan" → name ≢ codes "list" → name ≢ codes "totals" → name ≢ codes "follow" → name ≢ codes "encode" → None ≡ request_of name rows input
   of_other scan list totals follow encode = grind (arith, common_steps, differs, codes)
+
+-- the steps of functions that need no answer
+pub ruleset request_steps = (common_steps, rules, of_scan, of_list, of_totals, of_follow, of_encode, of_other)

@@ -1,5 +1,5 @@
 -- The text that `csv` writes for fields that need no quotes.
-use Rattle.rds_tool.proofs.Names.{◌/◌, ◌%◌, ◌||◌, Bool, get_or, slice_index, suc, true, zero, ◌++◌, ◌+◌, ◌*◌, ◌<◌, ◌^◌, ◌∙◌, ◌∷◌, ◌≡◌, ◌≤◌, List, [], ap, append-nil, arith, false, leb, length, map, refl, ℕ, Bor, decimal, digit_value, AllByRecursion, join_with_byte, AllDigits, leb-true, nat_tests, common_steps, decimal_is_IsNumeral, length-map, list_any-append, digit_from_value, default_writer, field_text, fields_text, needs_byte, row_body, row_text, Offset, upper_digits, Group, block_text, hex_digits, item_fields, item_row, kind_text, row, version_text, word_text, IsPlain, IsShort}
+use Rattle.rds_tool.proofs.Names.{◌/◌, ◌%◌, ◌||◌, Bool, get_or, slice_index, suc, true, zero, ◌++◌, ◌+◌, ◌*◌, ◌<◌, ◌^◌, ◌∙◌, ◌∷◌, ◌≡◌, ◌≤◌, List, [], ap, append-nil, arith, false, leb, length, map, refl, ℕ, Bor, decimal, digit_value, AllByRecursion, join_with_byte, AllDigits, leb-true, nat_tests, common_steps, decimal_is_IsNumeral, length-map, list_any-append, digit_from_value, default_writer, field_text, fields_text, needs_byte, row_body, row_text, Offset, upper_digits, Group, block_text, hex_digits, item_fields, item_row, kind_text, row, version_text, word_text, IsPlain, IsShort, rules}
 use Rattle.csv.specs.Writing.{is_blank}
 use Rattle.rds_code.specs.Offsets.{name}
 use Rattle.rds_code.specs.declared.reading.Reading.TheVariants.{Corrected, Lost, Valid}
@@ -113,3 +113,6 @@ text_short old new added e h = grind (arith, common_steps, e)
 pub row_short_now : (fs : List (Bor (List ℕ))) → 2 ≤ length fs → length fs ≤ 8 → AllByRecursion IsShort (map (λ f. f.now) fs)
     → length (row (map (λ f. f.now) fs)) ≤ 168
 row_short_now fs several few short = row_short _ (rw length-map several) (rw length-map few) short
+
+-- the steps of functions that need no answer
+pub ruleset field_steps = (common_steps, rules, decimal_plain, shorter, leb-true)

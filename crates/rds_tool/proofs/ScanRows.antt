@@ -18,17 +18,10 @@ module _ {X : Type 0} (f : ℕ → X) where
 one_spelled : (o : Option (ℕ × Offset)) (windows : List (ℕ × Offset)) → row_where o ++ flat_map window_row windows ≡ flat_map window_row (cons_option o windows)
 one_spelled o windows = grind (arith, common_steps)
 
-one_few : (o : Option (ℕ × Offset)) (windows : List (ℕ × Offset)) → length (cons_option o windows) ≤ suc (length windows)
-one_few o windows = grind (arith, common_steps)
-
 module _ (b : Signal) where
   places_spelled : (places : List ℕ) → concat (map (λ i. row_where (valid_at b i)) places) ≡ flat_map window_row (filter_map (valid_at b) places)
   places_spelled [] = refl
   places_spelled (p ∷ places) = grind (arith, common_steps, one_spelled, places_spelled places)
-
-  places_few : (places : List ℕ) → length (filter_map (valid_at b) places) ≤ length places
-  places_few [] = omega arith
-  places_few (p ∷ places) = omega (arith, one_few (valid_at b p) (filter_map (valid_at b) places), places_few places)
 
   -- all of them
   pub scan_spelled : concat (rows_of_places b) ≡ scan_text b

@@ -1,5 +1,5 @@
 -- Rows that are spelled from one number up to another.
-use Rattle.rds_tool.proofs.Names.{◌+◌, ◌++◌, ◌-◌, ◌∙◌, ◌∷◌, ◌≡◌, ◌<◌, ◌≤◌, Bor, List, [], ap, ap₂, append_assoc, arith, drop, get_or, length, map, min, refl, suc, sym, take, zero, ℕ, All, AllByRecursion, concat, flat_map, join_with_byte, common_steps, flat_map-append, append-nil, drop-map, take-append-drop, take_more, take_rest, All-drop, All-take, concat-append, IsShort}
+use Rattle.rds_tool.proofs.Names.{◌+◌, ◌++◌, ◌-◌, ◌∙◌, ◌∷◌, ◌≡◌, ◌<◌, ◌≤◌, Bor, List, [], ap, ap₂, append_assoc, arith, drop, get_or, length, map, min, refl, suc, sym, take, zero, ℕ, All, AllByRecursion, concat, flat_map, join_with_byte, common_steps, flat_map-append, append-nil, drop-map, take-append-drop, take_more, take_rest, All-drop, All-take, concat-append, IsShort, length-drop, slice_index_or}
 
 module _ {A : Type 0} where
   drop_past : (xs ys : List A) (n : ℕ) → length xs ≤ n → drop n (xs ++ ys) ≡ drop (n - length xs) ys
@@ -91,3 +91,9 @@ rows_more f old new page left count added first =
     ∙ ap (λ t. t ++ flat_map f (drop count left)) (added ∙ ap (λ p. old ++ p) first)
     ∙ append_assoc old (flat_map f (take count left)) (flat_map f (drop count left))
     ∙ ap (λ t. old ++ t) (sym (flat_map-append f (take count left) (drop count left)) ∙ ap (flat_map f) (take-append-drop count left))
+
+-- the steps of functions that need no answer
+pub ruleset row_steps = (common_steps, append_assoc, rows_more, take_rest, length-drop, spelled)
+
+-- the steps of functions that need no answer
+pub ruleset field_steps = (common_steps, append-nil, slice_index_or, short_at)

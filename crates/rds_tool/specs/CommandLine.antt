@@ -77,16 +77,9 @@ sync_options =
 abbrev pub worker_options : List Rule
 worker_options = number_rule (codes "workers") (codes "4" ∷ []) ∷ flag_rule (codes "progress") ∷ []
 
--- `--margin`, 1 to 127, beside `--soft`
-abbrev pub margin_rule : Rule
-margin_rule = value_rule (codes "margin") (parser.Signed (pos 1) (pos 127)) (codes "32" ∷ [])
-
--- `--soft`, whose input is symbols
+-- `--soft`, whose input is symbols; `--margin`, 1 to 127, beside it
 abbrev pub soft_options : List Rule
-soft_options = flag_rule (codes "soft") ∷ margin_rule ∷ []
-
-abbrev pub scan_options : List Rule
-scan_options = flag_rule (codes "hex") ∷ bits_and_gaps ++ worker_options
+soft_options = flag_rule (codes "soft") ∷ value_rule (codes "margin") (parser.Signed (pos 1) (pos 127)) (codes "32" ∷ []) ∷ []
 
 abbrev pub report_options : List Rule
 report_options =
@@ -106,7 +99,7 @@ abbrev pub rds_app : App
 rds_app = record {
   top = record (new_shape (codes "rds")) { is_leaf = false; has_version = true; subcommand_required = true };
   subs =
-      command_shape (codes "scan") scan_options ∷ command_shape (codes "list") report_options
+      command_shape (codes "scan") (flag_rule (codes "hex") ∷ bits_and_gaps ++ worker_options) ∷ command_shape (codes "list") report_options
       ∷ command_shape (codes "follow") follow_options ∷ command_shape (codes "totals") report_options
       ∷ command_shape (codes "encode") (flag_rule (codes "hex") ∷ []) ∷ [];
 }
@@ -296,10 +289,6 @@ MayAnswer faults asked Version = IsAmong kind.DisplayVersion faults
 MayAnswer faults asked Words = ((k : ErrorKind) × IsFault k × IsAmong k faults) ⊎ ((faults ≡ []) × (asked ≡ None))
 MayAnswer faults asked Memory = ⊤
 
--- the text that is shown if the gaps can't be parsed
-abbrev pub bad_gaps_text : Text
-bad_gaps_text = codes "bad --gaps" ++ 10 ∷ []
-
--- the fault has that text, or memory was refused
+-- the fault has the text that is shown if the gaps can't be parsed, or memory was refused
 abbrev pub SaysBadGaps : CliFault → Type 0
-SaysBadGaps fault = (fault.kind ≡ Memory) ⊎ ((fault.kind ≡ Words) × (string_bytes fault.text ≡ bad_gaps_text))
+SaysBadGaps fault = (fault.kind ≡ Memory) ⊎ ((fault.kind ≡ Words) × (string_bytes fault.text ≡ codes "bad --gaps" ++ 10 ∷ []))

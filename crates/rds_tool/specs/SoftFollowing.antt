@@ -1,8 +1,8 @@
 -- Following a stream of symbols: this project's rule. `follow_soft` promises it.
-use Rattle.std.specs.Prelude.{◌-◌, ℕ, Bool, List, Ok, Option, Result, length, true, false}
+use Rattle.std.specs.Prelude.{◌-◌, ℕ, List, Ok, Option, Result, length, true, false}
 use Rattle.std.specs.List.{flat_map}
 use Rattle.rds_soft.specs.SoftStream.{SoftTerms, complete, signal_of}
-use Rattle.rds_tool.specs.Following.{BreaksOff, IsFollowed, Stream}
+use Rattle.rds_tool.specs.Following.{Stream}
 use Rattle.rds_tool.specs.Input.{and_then}
 use Rattle.rds_tool.specs.InputOf.{InputOf}
 use Rattle.rds_tool.specs.Soft.{recording_of_symbols, soft_row, soft_text}
@@ -42,10 +42,3 @@ symbol_stream terms bits = record {
   text = soft_stream_text terms;
   listed = soft_listed terms bits;
 }
-
--- it was followed to its end, or broke off
-abbrev pub IsSoftFollowed : SoftTerms → Option ℕ → List ℕ → List ℕ → Bool → Option (List ℕ) → Option (List ℕ) → Bool → Type 0
-IsSoftFollowed terms bits given given' ended old new flushed = IsFollowed (symbol_stream terms bits) given given' ended old new flushed
-
-abbrev pub SoftBreaksOff : SoftTerms → Option ℕ → List ℕ → List ℕ → Bool → Option (List ℕ) → Option (List ℕ) → Bool → ToolError → Type 0
-SoftBreaksOff terms bits given given' ended old new flushed e = BreaksOff (symbol_stream terms bits) given given' ended old new flushed e

@@ -20,6 +20,7 @@ use std::alloc::Global;
 /// Else the answer is help or the version if that was asked for, or a fault. A fault comes if `clap` finds
 /// one in the words, or neither a job nor a stream has their entries. If `clap` finds no fault but `--gaps`
 /// cannot be parsed, the text is `bad --gaps` and a line feed. If memory is refused, the fault says so instead.
+#[tactic(auto, using(crate::proofs::Refusing::answer_steps))]
 pub fn asked_of(alloc: Global, words: &[&str]) -> Result<Asked, CliFault>
     ensures entries { IfOk result (λ asked. asked_by (entries_of (map (λ word. word.now) words.now))
         ≡ Ok asked) }
@@ -42,6 +43,7 @@ pub fn asked_of(alloc: Global, words: &[&str]) -> Result<Asked, CliFault>
 
 /// Answers the job of a command line, as [`asked_of`] does, with no word of progress or of an option that is
 /// ignored. A stream is no job: words that ask to follow one are a fault.
+#[tactic(auto, using(crate::proofs::Refusing::answer_steps))]
 pub fn job_of(alloc: Global, words: &[&str]) -> Result<Job, CliFault>
     ensures entries { IfOk result (λ job. job_by (entries_of (map (λ word. word.now) words.now)) ≡ Some job) }
     ensures faultless { OnOk result (faults_of (map (λ word. word.now) words.now) ≡ []) }

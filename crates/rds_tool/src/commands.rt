@@ -50,107 +50,57 @@ const NUMBER: OptionRow = OptionRow {
     help: "",
 };
 
-const HEX_INPUT: OptionRow = OptionRow {
-    name: "hex",
-    help: help::HEX_INPUT,
-    ..FLAG
-};
+/// The row of a flag, or of a number with these defaults; other fields may come after them.
+macro_rules! option {
+    ($name:literal, $help:expr) => { OptionRow { name: $name, help: $help, ..FLAG } };
+    ($name:literal, $help:expr, $default:expr $(, $field:ident: $value:expr)*) => {
+        OptionRow { name: $name, help: $help, default: $default, $($field: $value,)* ..NUMBER }
+    };
+}
 
-const HEX_OUTPUT: OptionRow = OptionRow {
-    name: "hex",
-    help: help::HEX_OUTPUT,
-    ..FLAG
-};
+const HEX_INPUT: OptionRow = option!("hex", help::HEX_INPUT);
 
-const BITS: OptionRow = OptionRow {
-    name: "bits",
-    parser: ValueParser::Unsigned(0, 1_099_511_627_776),
-    help: help::BITS,
-    ..NUMBER
-};
+const BITS: OptionRow =
+    option!("bits", help::BITS, &[], parser: ValueParser::Unsigned(0, 1_099_511_627_776));
 
-const GAPS: OptionRow = OptionRow {
-    name: "gaps",
-    value: &["TEXT"],
-    parser: ValueParser::String,
-    help: help::GAPS,
-    ..NUMBER
-};
+const GAPS: OptionRow =
+    option!("gaps", help::GAPS, &[], value: &["TEXT"], parser: ValueParser::String);
 
-const BURST: OptionRow = OptionRow {
-    name: "burst",
-    default: &["2"],
-    help: help::BURST,
-    ..NUMBER
-};
+const BURST: OptionRow = option!("burst", help::BURST, &["2"]);
 
-const REACH: OptionRow = OptionRow {
-    name: "reach",
-    default: &["3"],
-    help: help::REACH,
-    ..NUMBER
-};
+const REACH: OptionRow = option!("reach", help::REACH, &["3"]);
 
-const LOSS: OptionRow = OptionRow {
-    name: "loss",
-    default: &["10"],
-    help: help::LOSS,
-    ..NUMBER
-};
+const LOSS: OptionRow = option!("loss", help::LOSS, &["10"]);
 
-const SHARE: OptionRow = OptionRow {
-    name: "share",
-    help: help::SHARE,
-    ..NUMBER
-};
+const SHARE: OptionRow = option!("share", help::SHARE, &[]);
 
-const OF: OptionRow = OptionRow {
-    name: "of",
-    default: &["64"],
-    help: help::OF,
-    ..NUMBER
-};
+const OF: OptionRow = option!("of", help::OF, &["64"]);
 
-const PIECES: OptionRow = OptionRow {
-    name: "pieces",
-    default: &["16"],
-    help: help::PIECES,
-    ..NUMBER
-};
+const WORKERS: OptionRow = option!("workers", help::WORKERS, &["4"]);
 
-const WORKERS: OptionRow = OptionRow {
-    name: "workers",
-    default: &["4"],
-    help: help::WORKERS,
-    ..NUMBER
-};
+const PROGRESS: OptionRow = option!("progress", help::PROGRESS);
 
-const FOLLOW_WORKERS: OptionRow = OptionRow {
-    name: "workers",
-    default: &["1"],
-    help: help::WORKERS,
-    ..NUMBER
-};
+const SOFT: OptionRow = option!("soft", help::SOFT);
 
-const PROGRESS: OptionRow = OptionRow {
-    name: "progress",
-    help: help::PROGRESS,
-    ..FLAG
-};
+const MARGIN: OptionRow =
+    option!("margin", help::MARGIN, &["32"], parser: ValueParser::Signed(1, 127));
 
-const SOFT: OptionRow = OptionRow {
-    name: "soft",
-    help: help::SOFT,
-    ..FLAG
-};
-
-const MARGIN: OptionRow = OptionRow {
-    name: "margin",
-    parser: ValueParser::Signed(1, 127),
-    default: &["32"],
-    help: help::MARGIN,
-    ..NUMBER
-};
+/// The options of a list and of totals.
+const REPORT: &[OptionRow] = &[
+    HEX_INPUT,
+    BITS,
+    GAPS,
+    BURST,
+    REACH,
+    LOSS,
+    SHARE,
+    OF,
+    option!("pieces", help::PIECES, &["16"]),
+    WORKERS,
+    PROGRESS,
+    SOFT,
+    MARGIN,
+];
 
 static COMMANDS: [CommandRow; 5] = [
     CommandRow {
@@ -165,10 +115,7 @@ static COMMANDS: [CommandRow; 5] = [
         about: help::LIST,
         usage: help::LIST_USAGE,
         after: help::LIST_AFTER,
-        options: &[
-            HEX_INPUT, BITS, GAPS, BURST, REACH, LOSS, SHARE, OF, PIECES, WORKERS, PROGRESS, SOFT,
-            MARGIN,
-        ],
+        options: REPORT,
     },
     CommandRow {
         name: "follow",
@@ -183,7 +130,7 @@ static COMMANDS: [CommandRow; 5] = [
             LOSS,
             SHARE,
             OF,
-            FOLLOW_WORKERS,
+            option!("workers", help::WORKERS, &["1"]),
             SOFT,
             MARGIN,
         ],
@@ -193,17 +140,14 @@ static COMMANDS: [CommandRow; 5] = [
         about: help::TOTALS,
         usage: help::TOTALS_USAGE,
         after: help::TOTALS_AFTER,
-        options: &[
-            HEX_INPUT, BITS, GAPS, BURST, REACH, LOSS, SHARE, OF, PIECES, WORKERS, PROGRESS, SOFT,
-            MARGIN,
-        ],
+        options: REPORT,
     },
     CommandRow {
         name: "encode",
         about: help::ENCODE,
         usage: help::ENCODE_USAGE,
         after: help::ENCODE_AFTER,
-        options: &[HEX_OUTPUT],
+        options: &[option!("hex", help::HEX_OUTPUT)],
     },
 ];
 

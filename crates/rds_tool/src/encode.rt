@@ -30,6 +30,7 @@ impl Rows for GroupRows<'_> {
         LONGEST_GROUP
     }
 
+    #[tactic(auto, using(crate::proofs::Encoding::group_steps))]
     fn fill(&self, from: usize, to: usize, sheet: &mut Sheet) {
         for words in &self.groups[from..to] {
             push_group(sheet, self.hex, *words);

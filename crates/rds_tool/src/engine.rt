@@ -4,9 +4,6 @@ ghost use Rattle.std.specs.Io.KnownBytes.{Consumes, IsAtEnd};
 ghost use Rattle.rds_stream.specs.Recording.{AreGaps};
 ghost use Rattle.rds_tool.specs.Cuts.{cuts_any};
 ghost use Rattle.rds_tool.specs.History.{Gave};
-ghost use Rattle.rds_tool.specs.Outcome.{text_of_task};
-ghost use Rattle.rds_tool.specs.Plans.{PlanOf};
-ghost use Rattle.rds_tool.specs.Refusals.{IsMemoryOrErrOf};
 ghost use Rattle.rds_tool.specs.Tasks.{task_of};
 ghost use Rattle.rds_tool.specs.Transcribed.{IsTranscribed};
 ghost use Rattle.rds_tool.specs.declared.task.Task.TheVariants as task;
@@ -145,23 +142,9 @@ fn transcribe_totals<R: Threads + Sync, S: Source, K: Sink>(
 {
     let mut counter = InputCounter::new(alloc, input, plan.rules(), plan.workers())?;
     read_all(rt, alloc, reader, &mut counter)?;
-    let rows = rows_of_counter(rt, alloc, counter)?;
-    Text::Whole(rows).write_to(rt, alloc, writer)
-}
-
-/// The rows of the totals that were counted.
-fn rows_of_counter<R: Threads + Sync>(
-    rt: &R,
-    alloc: Global,
-    counter: InputCounter<'_>,
-) -> Result<Vec<u8>, ToolError>
-    ensures ok { IfOk result (λ rows. (plan : PlanOf) → plan.rules ≡ counter.entry.rules → cuts_any plan.cuts ≡ true
-        → text_of_task (task.Totals counter.entry.input plan) counter.entry.text ≡ Ok rows.items) }
-    ensures refused { IfErr result (λ error. (plan : PlanOf)
-        → IsMemoryOrErrOf (text_of_task (task.Totals counter.entry.input plan) counter.entry.text) error) }
-{
     let totals = counter.finish(rt, alloc)?;
-    totals_rows(alloc, &totals)
+    let rows = totals_rows(alloc, &totals)?;
+    Text::Whole(rows).write_to(rt, alloc, writer)
 }
 
 /// Holds all bytes of the reader, and writes the text of the task.
@@ -185,6 +168,7 @@ fn transcribe_held<R: Threads + Sync, S: Source, K: Sink, G: Gate + Sync>(
 }
 
 /// Has all bytes of the reader taken, to its end.
+#[tactic(auto, using(crate::proofs::Reading::read_steps))]
 fn read_all<R: Threads + Sync, S: Source, T: Taker>(
     rt: &R,
     alloc: Global,

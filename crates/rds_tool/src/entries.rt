@@ -47,6 +47,7 @@ fn request_with(name: &str, entries: &ArgMatches<'_>, gaps: Vec<(u64, u64)>) -> 
     request_of(name, entries, Input { hex, bits, gaps })
 }
 
+#[tactic(auto, using(crate::proofs::Requests::request_steps))]
 fn request_of(name: &str, entries: &ArgMatches<'_>, input: Input) -> Option<Request>
     ensures { result ≡ the_request_of name.now (rows_of (found_of entries.now)) input }
 {
@@ -190,6 +191,7 @@ fn ignored_in(entries: &ArgMatches<'_>) -> Option<Ignored>
 }
 
 /// Whether the words give the option: a default doesn't count.
+#[tactic(auto, using(crate::proofs::Getters::getter_steps))]
 fn is_given(entries: &ArgMatches<'_>, name: &str) -> bool
     ensures { result ≡ the_words_give name.now (rows_of (found_of entries.now)) }
 {
@@ -213,12 +215,14 @@ fn loss_in(entries: &ArgMatches<'_>) -> Option<Loss>
     }
 }
 
+#[tactic(auto, using(crate::proofs::Getters::getter_steps))]
 fn share_in(entries: &ArgMatches<'_>) -> Option<Option<u32>>
     ensures { result ≡ if_given 4294967295 (one_of (codes "share") (rows_of (found_of entries.now))) }
 {
     entries.try_get_one::<u32>("share").ok()
 }
 
+#[tactic(auto, using(crate::proofs::Getters::getter_steps))]
 fn bits_in(entries: &ArgMatches<'_>) -> Option<Option<u64>>
     ensures { result ≡ if_given 18446744073709551615 (one_of (codes "bits")
         (rows_of (found_of entries.now))) }
@@ -226,6 +230,7 @@ fn bits_in(entries: &ArgMatches<'_>) -> Option<Option<u64>>
     entries.try_get_one::<u64>("bits").ok()
 }
 
+#[tactic(auto, using(crate::proofs::Getters::getter_steps))]
 fn number_in(entries: &ArgMatches<'_>, name: &str) -> Option<u32>
     ensures { result ≡ number_of name.now (rows_of (found_of entries.now)) }
 {

@@ -46,6 +46,7 @@ fn gap_of(pair: &str) -> Option<(u64, u64)>
     Some((place_of(from)?, place_of(to)?))
 }
 
+#[tactic(auto, using(crate::proofs::GapTexts::place_steps))]
 fn place_of(digits: &str) -> Option<u64>
     ensures { result ≡ the_place_of digits.now }
 {

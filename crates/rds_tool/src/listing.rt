@@ -34,6 +34,7 @@ impl<'a> Heard<'a> {
 }
 
 /// Adds the rows of these items to a sheet, page by page.
+#[tactic(auto, using(crate::proofs::Spelled::row_steps))]
 pub fn fill_items(rows: &mut RowWriter, items: &[Item], sheet: &mut Sheet)
     requires room { length items.now ≤ left_of sheet.old }
     requires longest { (size_of sheet.old).1 ≡ 168 }
@@ -66,6 +67,7 @@ pub fn fill_totals(rows: &mut RowWriter, totals: &[(&'static str, u64)], sheet: 
 }
 
 /// Appends the rows of these items, page by page.
+#[tactic(auto, using(crate::proofs::Spelled::row_steps))]
 pub fn push_items(
     rows: &mut RowWriter,
     text: &mut Vec<u8>,

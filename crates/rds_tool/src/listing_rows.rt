@@ -143,6 +143,7 @@ impl Rows for ListingRows<'_> {
         LONGEST_ROW
     }
 
+    #[tactic(auto, using(crate::proofs::Spelled::row_steps))]
     fn fill(&self, from: usize, to: usize, sheet: &mut Sheet) {
         let items = self.items.len();
         let (first, last) = (from.min(items), to.min(items));

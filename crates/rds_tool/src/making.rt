@@ -67,12 +67,24 @@ impl<'a> Task<'a> {
         ensures refused { IfErr result (IsMemoryOrErrOf (text_of_task self.entry held.items)) }
     {
         match self {
-            Task::Scan(input, workers) => windows_of(alloc, input, workers, held),
+            Task::Scan(input, workers) => {
+                let recording = recording_of(input, held)?;
+                Ok(Text::Windows(recording, workers))
+            }
             Task::List(input, plan) => list_of(rt, alloc, input, plan, held, gate),
-            Task::Totals(input, plan) => rows_of_totals(rt, alloc, input, &plan, held, gate),
-            Task::Encode { hex } => groups_of(alloc, hex, held.as_slice()),
+            Task::Totals(input, plan) => {
+                let totals = totals_of(rt, alloc, input, &plan, held, gate)?;
+                let rows = totals_rows(alloc, &totals)?;
+                Ok(Text::Whole(rows))
+            }
+            Task::Encode { hex } => {
+                let mut reader = GroupLines::new(alloc);
+                reader.push(held.as_slice())?;
+                Ok(Text::Groups(reader.finish()?, hex))
+            }
             Task::Soft(input, plan, margin, rows) => {
-                soft_text_of(alloc, input, plan, margin, rows, held)
+                let source = SoftSource::of(alloc, input, margin, held)?;
+                Ok(Text::Soft(source, plan, rows))
             }
         }
     }
@@ -92,21 +104,6 @@ fn input_and_plan<'a>(
     let plan = Plan::of(alloc, settings)?;
     let input = input.clone_in(alloc)?;
     Ok((input, plan))
-}
-
-/// The recording that the bytes give, whose valid windows are written.
-fn windows_of<'a>(
-    alloc: Global,
-    input: Input,
-    workers: Workers,
-    held: Vec<u8>,
-) -> Result<Text<'a>, ToolError>
-    ensures ok { IfOk result (λ text. text_of_task (task.Scan input workers) held.items
-        ≡ Ok (bytes_of text)) }
-    ensures refused { IfErr result (IsMemoryOrErrOf (text_of_task (task.Scan input workers) held.items)) }
-{
-    let recording = recording_of(input, held)?;
-    Ok(Text::Windows(recording, workers))
 }
 
 /// The listing of the recording that the bytes give. One worker decodes it while it is written, unless the gate wants calls.
@@ -134,24 +131,6 @@ fn list_of<'a, R: Threads + Sync, G: Gate + Sync>(
     }))
 }
 
-/// The rows of the totals of the recording that the bytes give.
-fn rows_of_totals<'a, R: Threads + Sync, G: Gate + Sync>(
-    rt: &R,
-    alloc: Global,
-    input: Input,
-    plan: &Plan<'_>,
-    held: Vec<u8>,
-    gate: &G,
-) -> Result<Text<'a>, ToolError>
-    ensures ok { IfOk result (λ text. text_of_task (task.Totals input plan.now) held.items
-        ≡ Ok (bytes_of text)) }
-    ensures refused { IfErr result (IsMemoryOrErrOf (text_of_task (task.Totals input plan.now) held.items)) }
-{
-    let totals = totals_of(rt, alloc, input, plan, held, gate)?;
-    let rows = totals_rows(alloc, &totals)?;
-    Ok(Text::Whole(rows))
-}
-
 /// The totals of the recording that the bytes give, which is dropped before their text is made.
 fn totals_of<R: Threads + Sync, G: Gate + Sync>(
     rt: &R,
@@ -168,31 +147,4 @@ fn totals_of<R: Threads + Sync, G: Gate + Sync>(
     let recording = recording_of(input, held)?;
     let report = report_by(rt, alloc, plan, &recording, Spans::Whole, gate)?;
     Ok(report.totals)
-}
-
-/// The groups that the lines spell.
-fn groups_of<'a>(alloc: Global, hex: bool, lines: &[u8]) -> Result<Text<'a>, ToolError>
-    ensures ok { IfOk result (λ text. text_of_task (task.Encode hex) lines.now ≡ Ok (bytes_of text)) }
-    ensures refused { IfErr result (IsMemoryOrErrOf (text_of_task (task.Encode hex) lines.now)) }
-{
-    let mut reader = GroupLines::new(alloc);
-    reader.push(lines)?;
-    Ok(Text::Groups(reader.finish()?, hex))
-}
-
-/// The listing of the symbols that the bytes are, or only its totals.
-fn soft_text_of<'a>(
-    alloc: Global,
-    input: Input,
-    plan: Plan<'a>,
-    margin: Margin,
-    rows: bool,
-    held: Vec<u8>,
-) -> Result<Text<'a>, ToolError>
-    ensures ok { IfOk result (λ text. text_of_task (task.Soft input plan.entry margin rows) held.items
-        ≡ Ok (bytes_of text)) }
-    ensures refused { IfErr result (IsMemoryOrErrOf (text_of_task (task.Soft input plan.entry margin rows) held.items)) }
-{
-    let source = SoftSource::of(alloc, input, margin, held)?;
-    Ok(Text::Soft(source, plan, rows))
 }

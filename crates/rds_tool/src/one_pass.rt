@@ -1,9 +1,10 @@
 //! A report that one worker decodes and writes at the same time.
-ghost use Rattle.std.specs.Prelude.{◌+◌, ◌++◌, ◌<◌, ◌^◌, ◌≡◌, ◌≤◌, ◌↔◌, [], IsErrOf, List, OnErr, OnOk, length, vec_capacity};
+ghost use Rattle.std.specs.Prelude.{◌+◌, ◌++◌, ◌<◌, ◌^◌, ◌≡◌, ◌≤◌, [], List, OnErr, OnOk, length, vec_capacity};
 ghost use Rattle.std.specs.Io.KnownBytes.{Appends};
 ghost use Rattle.std.specs.List.{flat_map};
 ghost use Rattle.rds_rows.specs.Sheets.{size_of};
 ghost use Rattle.rds_rows.specs.Writes.{AppendsPrefix};
+ghost use Rattle.rds_rows.specs.Written.{IsWritten};
 ghost use Rattle.rds_sync.specs.Advance.{group_item};
 ghost use Rattle.rds_sync.specs.Lawful.{IsLawful};
 ghost use Rattle.rds_sync.specs.Report.{report_items};
@@ -41,14 +42,9 @@ pub fn write_in_one_pass<R: Threads + Sync, K: Sink, L: Lister>(
 ) -> Result<(), RowsError>
     requires fresh { L.has_listed lister.old [] }
     requires count { K.failed writer.old < 2 ^ 63 }
-    ensures ok { OnOk result (Appends (K.contents writer.old) (K.contents writer.new)
-        (listed_by (L.row_of lister.old) (L.end_of lister.old) (report_items recording.now rules.now))) }
-    ensures count { OnOk result (K.failed writer.new ≡ K.failed writer.old) }
-    ensures write { IsErrOf result RowsError.Write ↔ (K.failed writer.old < K.failed writer.new) }
-    ensures untouched { IsErrOf result RowsError.OutOfMemory → writer.new ≡ writer.old }
-    ensures prefix { IsErrOf result RowsError.Write
-        → AppendsPrefix (K.contents writer.old) (K.contents writer.new)
-        (listed_by (L.row_of lister.old) (L.end_of lister.old) (report_items recording.now rules.now)) }
+    ensures { IsWritten K.contents K.failed
+        (listed_by (L.row_of lister.old) (L.end_of lister.old) (report_items recording.now rules.now))
+        writer.old writer.new result }
 {
     let room = (recording.len() as usize).min(PART) + LAST;
     let mut items = Vec::with_capacity(alloc, room)?;

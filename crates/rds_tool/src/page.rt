@@ -103,6 +103,7 @@ impl Page {
     }
 
     /// Appends a row of two to eight short fields, joined by commas.
+    #[tactic(auto, using(crate::proofs::Spelled::field_steps))]
     pub fn put_row(&mut self, fields: &[&[u8]])
         requires room { length self.old + 168 ≤ 4096 }
         requires several { 2 ≤ length fields.now }

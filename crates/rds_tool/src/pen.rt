@@ -85,6 +85,7 @@ impl Page {
 
     /// Appends a comma and a group's type, if it is known.
     #[inline(always)]
+    #[tactic(auto, using(crate::proofs::RowText::field_steps))]
     fn put_kind(&mut self, kind: Option<u8>)
         requires { length self.old + 8 ≤ 4096 }
         ensures text { self.new ≡ self.old ++ 44 ∷ kind_text kind }

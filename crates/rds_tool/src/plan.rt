@@ -189,6 +189,7 @@ fn cutting_of(alloc: Global, cuts: &Cuts, len: u64) -> Result<Cutting, ToolError
 }
 
 /// The cutting of `len` bits at these inner cuts.
+#[tactic(auto, using(crate::proofs::Steps::cut_steps))]
 fn cutting_at(alloc: Global, cuts: &[u64], len: u64) -> Result<Cutting, ToolError>
     ensures places { IfOk result (λ cutting. cutting ≡ places_at len cuts.now) }
     ensures cutting { IfOk result (λ cutting. IsCutting len cutting) }

@@ -113,6 +113,7 @@ impl RowWriter {
         }
     }
 
+    #[tactic(auto, using(crate::proofs::RowText::field_steps))]
     fn push_acquired(&mut self, place: u64, number: u8)
         requires { length self.old + 168 ≤ 4096 }
         ensures text { self.new ≡ self.old ++ item_row (AnItem.Acquired place number) }
@@ -126,6 +127,7 @@ impl RowWriter {
         self.push_row(fields.as_slice());
     }
 
+    #[tactic(auto, using(crate::proofs::RowText::field_steps))]
     fn push_loss(&mut self, place: u64)
         requires { length self.old + 168 ≤ 4096 }
         ensures text { self.new ≡ self.old ++ item_row (AnItem.LostLock place) }
@@ -137,6 +139,7 @@ impl RowWriter {
         self.push_row(fields.as_slice());
     }
 
+    #[tactic(auto, using(crate::proofs::RowText::field_steps))]
     fn push_total(&mut self, name: &str, value: u64)
         requires room { length self.old + 168 ≤ 4096 }
         requires plain { IsPlain name.now }

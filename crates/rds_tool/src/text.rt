@@ -1,12 +1,9 @@
 //! The text that a task writes.
 ghost use Rattle.std.specs.Prelude.{◌<◌, ◌≤◌, ◌^◌, ◌≡◌, ◌≢◌, ◌↔◌, ◌⊎◌, IfErr, IsErrOf, IsOkUnless, Ok, OnErr, OnOk, true};
 ghost use Rattle.std.specs.Io.KnownBytes.{Appends, Keeps};
-ghost use Rattle.rds_rows.specs.Writes.{AppendsPrefix};
-ghost use Rattle.rds_tool.specs.Inside.GroupLines.{text_of_groups};
+ghost use Rattle.rds_rows.specs.Written.{IsWritten};
 ghost use Rattle.rds_tool.specs.Inside.Texts.{bytes_of};
-ghost use Rattle.rds_tool.specs.Listing.{report_text, scan_text};
-ghost use Rattle.rds_tool.specs.Outcome.{WritesPrefix, list_text};
-ghost use Rattle.rds_tool.specs.Soft.{soft_text};
+ghost use Rattle.rds_tool.specs.Outcome.{WritesPrefix};
 
 use crate::ToolError;
 use crate::encode::GroupRows;
@@ -17,7 +14,7 @@ use crate::one_pass::write_in_one_pass;
 use crate::plan::busy_workers;
 use crate::soft_lister::SoftLister;
 use crate::soft_source::SoftSource;
-use crate::task::{Listing, Plan, Text};
+use crate::task::Text;
 use crate::window_rows::WindowRows;
 use rds_rows::{Failed, RowsError, Sink, write_all, write_rows};
 use rds_stream::Recording;
@@ -61,7 +58,7 @@ impl Text<'_> {
     }
 }
 
-/// Writes the whole text, and does not flush.
+/// Writes the whole text, and does not flush. Rows are spelled by as many threads as there are workers, groups by the caller alone.
 fn write_bytes<R: Threads + Sync, K: Sink>(
     rt: &R,
     alloc: Global,
@@ -69,23 +66,45 @@ fn write_bytes<R: Threads + Sync, K: Sink>(
     writer: &mut K,
 ) -> Result<(), RowsError>
     requires { K.failed writer.old < 2 ^ 63 }
-    ensures ok { OnOk result (Appends (K.contents writer.old) (K.contents writer.new) (bytes_of text.now)) }
-    ensures count { OnOk result (K.failed writer.new ≡ K.failed writer.old) }
-    ensures write { IsErrOf result RowsError.Write ↔ (K.failed writer.old < K.failed writer.new) }
-    ensures untouched { IsErrOf result RowsError.OutOfMemory → writer.new ≡ writer.old }
-    ensures prefix { IsErrOf result RowsError.Write
-        → AppendsPrefix (K.contents writer.old) (K.contents writer.new) (bytes_of text.now) }
+    ensures { IsWritten K.contents K.failed (bytes_of text.now) writer.old writer.new result }
 {
     match text {
         Text::Whole(bytes) => write_whole(writer, bytes.as_slice()),
-        Text::Listing(listing) => write_listing(rt, alloc, listing, writer),
-        Text::OnePass(recording, plan) => write_decoded(rt, alloc, recording, plan, writer),
-        Text::Windows(recording, workers) => {
-            write_windows(rt, alloc, recording, workers.count(), writer)
+        Text::Listing(listing) => {
+            let heard = Heard {
+                recording: &listing.recording,
+                rules: listing.plan.rules(),
+            };
+            let rows = ListingRows::new(alloc, heard, &listing.report)?;
+            let workers = makers(listing.plan.workers(), &listing.recording);
+            write_rows(rt, alloc, &rows, workers, PART, writer)
         }
-        Text::Groups(groups, hex) => write_groups(rt, alloc, groups.as_slice(), *hex, writer),
+        Text::OnePass(recording, plan) => {
+            let mut lister = HardLister::new();
+            write_in_one_pass(rt, alloc, recording, plan.rules(), &mut lister, writer)
+        }
+        Text::Windows(recording, workers) => {
+            let rows = WindowRows { recording };
+            let workers = makers(workers.count(), recording);
+            write_rows(rt, alloc, &rows, workers, PLACES, writer)
+        }
+        Text::Groups(groups, hex) => {
+            let rows = GroupRows {
+                groups: groups.as_slice(),
+                hex: *hex,
+            };
+            write_rows(rt, alloc, &rows, 1, GROUPS, writer)
+        }
         Text::Soft(source, plan, has_rows) => {
-            write_softly(rt, alloc, source, plan, *has_rows, writer)
+            let mut lister = SoftLister::new(alloc, source, *has_rows, plan.workers())?;
+            write_in_one_pass(
+                rt,
+                alloc,
+                &source.recording,
+                plan.rules(),
+                &mut lister,
+                writer,
+            )
         }
     }
 }
@@ -93,139 +112,12 @@ fn write_bytes<R: Threads + Sync, K: Sink>(
 /// Writes a text that is made.
 fn write_whole<K: Sink>(writer: &mut K, bytes: &[u8]) -> Result<(), RowsError>
     requires { K.failed writer.old < 2 ^ 63 }
-    ensures ok { OnOk result (Appends (K.contents writer.old) (K.contents writer.new) bytes.now) }
-    ensures count { OnOk result (K.failed writer.new ≡ K.failed writer.old) }
-    ensures write { IsErrOf result RowsError.Write ↔ (K.failed writer.old < K.failed writer.new) }
-    ensures untouched { IsErrOf result RowsError.OutOfMemory → writer.new ≡ writer.old }
-    ensures prefix { IsErrOf result RowsError.Write
-        → AppendsPrefix (K.contents writer.old) (K.contents writer.new) bytes.now }
+    ensures { IsWritten K.contents K.failed bytes.now writer.old writer.new result }
 {
     match write_all(writer, bytes) {
         Ok(()) => Ok(()),
         Err(Failed) => Err(RowsError::Write),
     }
-}
-
-/// Writes the rows, spelled by as many threads as there are workers.
-fn write_listing<R: Threads + Sync, K: Sink>(
-    rt: &R,
-    alloc: Global,
-    listing: &Listing<'_>,
-    writer: &mut K,
-) -> Result<(), RowsError>
-    requires { K.failed writer.old < 2 ^ 63 }
-    ensures ok { OnOk result (Appends (K.contents writer.old) (K.contents writer.new)
-        (report_text listing.now.report.items.list listing.now.report.totals)) }
-    ensures count { OnOk result (K.failed writer.new ≡ K.failed writer.old) }
-    ensures write { IsErrOf result RowsError.Write ↔ (K.failed writer.old < K.failed writer.new) }
-    ensures untouched { IsErrOf result RowsError.OutOfMemory → writer.new ≡ writer.old }
-    ensures prefix { IsErrOf result RowsError.Write
-        → AppendsPrefix (K.contents writer.old) (K.contents writer.new)
-        (report_text listing.now.report.items.list listing.now.report.totals) }
-{
-    let heard = Heard {
-        recording: &listing.recording,
-        rules: listing.plan.rules(),
-    };
-    let rows = ListingRows::new(alloc, heard, &listing.report)?;
-    let workers = makers(listing.plan.workers(), &listing.recording);
-    write_rows(rt, alloc, &rows, workers, PART, writer)
-}
-
-/// Writes the listing of a recording while it is decoded.
-fn write_decoded<R: Threads + Sync, K: Sink>(
-    rt: &R,
-    alloc: Global,
-    recording: &Recording,
-    plan: &Plan<'_>,
-    writer: &mut K,
-) -> Result<(), RowsError>
-    requires { K.failed writer.old < 2 ^ 63 }
-    ensures ok { OnOk result (Appends (K.contents writer.old) (K.contents writer.new)
-        (list_text plan.now.rules recording.now)) }
-    ensures count { OnOk result (K.failed writer.new ≡ K.failed writer.old) }
-    ensures write { IsErrOf result RowsError.Write ↔ (K.failed writer.old < K.failed writer.new) }
-    ensures untouched { IsErrOf result RowsError.OutOfMemory → writer.new ≡ writer.old }
-    ensures prefix { IsErrOf result RowsError.Write
-        → AppendsPrefix (K.contents writer.old) (K.contents writer.new)
-        (list_text plan.now.rules recording.now) }
-{
-    let mut lister = HardLister::new();
-    write_in_one_pass(rt, alloc, recording, plan.rules(), &mut lister, writer)
-}
-
-/// Writes the listing of symbols, or only its totals, while their bits are decoded.
-fn write_softly<R: Threads + Sync, K: Sink>(
-    rt: &R,
-    alloc: Global,
-    source: &SoftSource,
-    plan: &Plan<'_>,
-    has_rows: bool,
-    writer: &mut K,
-) -> Result<(), RowsError>
-    requires { K.failed writer.old < 2 ^ 63 }
-    ensures ok { OnOk result (Appends (K.contents writer.old) (K.contents writer.new)
-        (soft_text has_rows plan.now.rules source.now.margin source.now.symbols.items source.now.recording)) }
-    ensures count { OnOk result (K.failed writer.new ≡ K.failed writer.old) }
-    ensures write { IsErrOf result RowsError.Write ↔ (K.failed writer.old < K.failed writer.new) }
-    ensures untouched { IsErrOf result RowsError.OutOfMemory → writer.new ≡ writer.old }
-    ensures prefix { IsErrOf result RowsError.Write
-        → AppendsPrefix (K.contents writer.old) (K.contents writer.new)
-        (soft_text has_rows plan.now.rules source.now.margin source.now.symbols.items source.now.recording) }
-{
-    let mut lister = SoftLister::new(alloc, source, has_rows, plan.workers())?;
-    write_in_one_pass(
-        rt,
-        alloc,
-        &source.recording,
-        plan.rules(),
-        &mut lister,
-        writer,
-    )
-}
-
-/// Writes the rows of the valid windows, spelled by as many threads as there are workers.
-fn write_windows<R: Threads + Sync, K: Sink>(
-    rt: &R,
-    alloc: Global,
-    recording: &Recording,
-    workers: u32,
-    writer: &mut K,
-) -> Result<(), RowsError>
-    requires some { 0 < workers }
-    requires few { workers ≤ 256 }
-    requires count { K.failed writer.old < 2 ^ 63 }
-    ensures ok { OnOk result (Appends (K.contents writer.old) (K.contents writer.new)
-        (scan_text recording.now)) }
-    ensures count { OnOk result (K.failed writer.new ≡ K.failed writer.old) }
-    ensures write { IsErrOf result RowsError.Write ↔ (K.failed writer.old < K.failed writer.new) }
-    ensures untouched { IsErrOf result RowsError.OutOfMemory → writer.new ≡ writer.old }
-    ensures prefix { IsErrOf result RowsError.Write
-        → AppendsPrefix (K.contents writer.old) (K.contents writer.new) (scan_text recording.now) }
-{
-    let rows = WindowRows { recording };
-    write_rows(rt, alloc, &rows, makers(workers, recording), PLACES, writer)
-}
-
-/// Encodes groups and writes them, by the caller alone.
-fn write_groups<R: Threads + Sync, K: Sink>(
-    rt: &R,
-    alloc: Global,
-    groups: &[[u16; 4]],
-    hex: bool,
-    writer: &mut K,
-) -> Result<(), RowsError>
-    requires count { K.failed writer.old < 2 ^ 63 }
-    ensures ok { OnOk result (Appends (K.contents writer.old) (K.contents writer.new)
-        (text_of_groups hex groups.now)) }
-    ensures count { OnOk result (K.failed writer.new ≡ K.failed writer.old) }
-    ensures write { IsErrOf result RowsError.Write ↔ (K.failed writer.old < K.failed writer.new) }
-    ensures untouched { IsErrOf result RowsError.OutOfMemory → writer.new ≡ writer.old }
-    ensures prefix { IsErrOf result RowsError.Write
-        → AppendsPrefix (K.contents writer.old) (K.contents writer.new) (text_of_groups hex groups.now) }
-{
-    let rows = GroupRows { groups, hex };
-    write_rows(rt, alloc, &rows, 1, GROUPS, writer)
 }
 
 /// How many of the workers make rows of a recording.

@@ -7,68 +7,48 @@ use Rattle.rds_tool.specs.Refusals.{name_of, number_of}
 use Rattle.rds_tool.specs.declared.error.ToolError.{ToolError}
 use Rattle.rds_tool.specs.declared.error.ToolError.TheVariants.{BadCutting, BadGaps, BitsPastBytes, BurstRange, CrewRange, GroupText, HexText, LossRange, NoWorker, OutOfMemory, ReachRange, Read, ShareRange, TooLong, TooManyTurns, Write}
 use Rattle.rds_tool.specs.declared.job.Cuts.TheVariants.{At}
+use Rattle.rds_tool.specs.declared.job.Job.{Job}
 use Rattle.rds_tool.specs.declared.job.Job.TheVariants.{Encode, List as ListJob, Scan, Totals}
 use Rattle.rds_tool.specs.Examples.Words.{cut_settings, default_settings, hex_bits, hex_input, raw_bits, settings_of}
 
--- all settings are out of their ranges, and the bytes are no hexadecimal text
-pub settings_first : result_of_job (ListJob hex_input (settings_of 6 0 0 0 0)) (codes "0") ≡ Err BurstRange
-settings_first = refl
+-- these jobs and bytes are refused so
+abbrev pub AreRefused : List (Job × List ℕ × ToolError) → Type 0
+AreRefused rows = map (λ row. result_of_job row.0 row.1) rows ≡ map (λ row. Err row.2) rows
 
-pub crew_before_text : result_of_job (Totals hex_input (settings_of 2 3 10 0 0)) (codes "0") ≡ Err CrewRange
-crew_before_text = refl
-
-pub no_pieces_before_text : result_of_job (Totals hex_input (settings_of 2 3 10 4 0)) (codes "0")
-    ≡ Err BadCutting
-no_pieces_before_text = refl
-
-pub text_before_bits : result_of_job (ListJob (hex_bits 68719476737) default_settings) (codes "0")
-    ≡ Err HexText
+-- first all settings are out of their ranges, and the bytes are no hexadecimal text
+pub of_reports : AreRefused (
+    (ListJob hex_input (settings_of 6 0 0 0 0), codes "0", BurstRange)
+    ∷ (Totals hex_input (settings_of 2 3 10 0 0), codes "0", CrewRange)
+    ∷ (Totals hex_input (settings_of 2 3 10 4 0), codes "0", BadCutting)
+    ∷ (ListJob (hex_bits 68719476737) default_settings, codes "0", HexText)
+    ∷ (Totals (raw_bits 68719476737) default_settings, [], TooLong)
+    ∷ (ListJob (raw_bits 57) default_settings, codes "1234567", BitsPastBytes)
+    ∷ []
+    )
 unfolding decode_pairs
-text_before_bits = refl
+of_reports = refl
 
-pub too_long : result_of_job (Totals (raw_bits 68719476737) default_settings) [] ≡ Err TooLong
-too_long = refl
-
-pub past_the_bytes : result_of_job (ListJob (raw_bits 57) default_settings) (codes "1234567")
-    ≡ Err BitsPastBytes
-past_the_bytes = refl
-
--- of a scan too
-pub crew_of_a_scan : result_of_job (Scan hex_input 0) (codes "000") ≡ Err CrewRange
-crew_of_a_scan = refl
-
-pub too_many_for_a_scan : result_of_job (Scan hex_input 257) (codes "000") ≡ Err CrewRange
-too_many_for_a_scan = refl
-
--- which has neither rules nor cuts
-pub text_of_a_scan : result_of_job (Scan hex_input 4) (codes "000") ≡ Err HexText
+-- a scan has workers, and neither rules nor cuts; gaps are looked at after the bits and before the cuts
+pub of_others : AreRefused (
+    (Scan hex_input 0, codes "000", CrewRange)
+    ∷ (Scan hex_input 257, codes "000", CrewRange)
+    ∷ (Scan hex_input 4, codes "000", HexText)
+    ∷ (Scan (raw_bits 9) 4, codes "1", BitsPastBytes)
+    ∷ (Encode false, codes "123425405244532", GroupText)
+    ∷ (Scan (record (raw_bits 8) { gaps = (5, 5) ∷ [] }) 4, codes "1", BadGaps)
+    ∷ (Scan (record (raw_bits 9) { gaps = (5, 5) ∷ [] }) 4, codes "1", BitsPastBytes)
+    ∷ []
+    )
 unfolding decode_pairs
-text_of_a_scan = refl
-
-pub bits_of_a_scan : result_of_job (Scan (raw_bits 9) 4) (codes "1") ≡ Err BitsPastBytes
-bits_of_a_scan = refl
-
-pub line_of_an_encoding : result_of_job (Encode false) (codes "123425405244532") ≡ Err GroupText
-line_of_an_encoding = refl
-
--- gaps are looked at after the bits and before the cuts
-pub gaps_of_a_scan : result_of_job (Scan (record (raw_bits 8) { gaps = (5, 5) ∷ [] }) 4) (codes "1")
-    ≡ Err BadGaps
-gaps_of_a_scan = refl
-
-pub bits_before_gaps : result_of_job (Scan (record (raw_bits 9) { gaps = (5, 5) ∷ [] }) 4) (codes "1")
-    ≡ Err BitsPastBytes
-bits_before_gaps = refl
+of_others = refl
 
 -- places are looked at once the bits are known
-module _ (places : Vec ℕ) where
-  pub bits_before_places : result_of_job (ListJob (raw_bits 9) (cut_settings 1 (At places))) (codes "1")
-      ≡ Err BitsPastBytes
-  bits_before_places = refl
-
-  pub gaps_before_places : result_of_job
-      (ListJob (record (raw_bits 8) { gaps = (5, 5) ∷ [] }) (cut_settings 1 (At places))) (codes "1") ≡ Err BadGaps
-  gaps_before_places = refl
+pub before_places : (places : Vec ℕ) → AreRefused (
+    (ListJob (raw_bits 9) (cut_settings 1 (At places)), codes "1", BitsPastBytes)
+    ∷ (ListJob (record (raw_bits 8) { gaps = (5, 5) ∷ [] }) (cut_settings 1 (At places)), codes "1", BadGaps)
+    ∷ []
+    )
+before_places places = refl
 
 -- ---- numbers and names
 

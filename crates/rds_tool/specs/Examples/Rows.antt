@@ -14,23 +14,13 @@ use Rattle.rds_tool.specs.Examples.Words.{line}
 
 -- ---- blocks
 
-pub missing : block_text Missing ≡ codes "none"
-missing = refl
-
-pub lost : block_text (Read Lost) ≡ codes "lost"
-lost = refl
-
--- four digits in upper case, after the offset's name
-pub valid_blocks : map (λ offset. block_text (Read (Valid offset 0x0BEF))) (A ∷ B ∷ C ∷ Cx ∷ D ∷ [])
-    ≡ codes "A:0BEF" ∷ codes "B:0BEF" ∷ codes "C:0BEF" ∷ codes "Cx:0BEF" ∷ codes "D:0BEF" ∷ []
-valid_blocks = refl
-
--- then the burst in seven
-pub corrected_block : block_text (Read (Corrected C 0xFACE 0x0008000)) ≡ codes "C:FACE~0008000"
-corrected_block = refl
-
-pub burst_at_the_top : block_text (Read (Corrected Cx 0x0001 0x3E00000)) ≡ codes "Cx:0001~3E00000"
-burst_at_the_top = refl
+-- four digits in upper case, after the offset's name; then the burst in seven
+pub blocks : map block_text
+    (Missing ∷ Read Lost ∷ map (λ offset. Read (Valid offset 0x0BEF)) (A ∷ B ∷ C ∷ Cx ∷ D ∷ [])
+    ++ Read (Corrected C 0xFACE 0x0008000) ∷ Read (Corrected Cx 0x0001 0x3E00000) ∷ [])
+    ≡ codes "none" ∷ codes "lost" ∷ codes "A:0BEF" ∷ codes "B:0BEF" ∷ codes "C:0BEF" ∷ codes "Cx:0BEF" ∷ codes "D:0BEF"
+    ∷ codes "C:FACE~0008000" ∷ codes "Cx:0001~3E00000" ∷ []
+blocks = refl
 
 -- ---- groups
 
@@ -40,23 +30,12 @@ pub kinds : map kind_text (None ∷ Some 0 ∷ Some 9 ∷ Some 10 ∷ Some 15 �
 unfolding digits
 kinds = refl
 
-pub versions : map (λ version. version_text version false) (version.A ∷ version.B ∷ version.Unknown ∷ [])
-    ≡ codes "A" ∷ codes "B" ∷ codes "?" ∷ []
+pub versions : map (λ row. version_text row.0 row.1)
+    ((version.A, false) ∷ (version.B, false) ∷ (version.Unknown, false) ∷ (version.A, true) ∷ (version.B, true) ∷ [])
+    ≡ codes "A" ∷ codes "B" ∷ codes "?" ∷ codes "A!" ∷ codes "B!" ∷ []
 versions = refl
 
-pub versions_in_conflict : map (λ version. version_text version true) (version.A ∷ version.B ∷ [])
-    ≡ codes "A!" ∷ codes "B!" ∷ []
-versions_in_conflict = refl
-
 -- ---- items
-
-pub acquired_row : item_row (Acquired 51 2) ≡ line (codes "acquired,51,2,-,-,-,-,-")
-unfolding digits
-acquired_row = refl
-
-pub lost_row : item_row (LostLock 1129) ≡ line (codes "lost,1129,-,-,-,-,-,-")
-unfolding digits
-lost_row = refl
 
 -- a group of type 15, whose block 3 says version B and block 2 version A
 abbrev pub in_conflict : Item
@@ -68,10 +47,6 @@ in_conflict = Group (record {
   conflict = true;
 })
 
-pub group_row : item_row in_conflict ≡ line (codes "group,104,15,B!,lost,B:F0E1~0000001,Cx:D393,none")
-unfolding digits
-group_row = refl
-
 abbrev pub unknown : Item
 unknown = Group (record {
   place = 0;
@@ -81,9 +56,12 @@ unknown = Group (record {
   conflict = false;
 })
 
-pub unknown_row : item_row unknown ≡ line (codes "group,0,-,?,A:1234,none,none,none")
+pub items : map item_row (Acquired 51 2 ∷ LostLock 1129 ∷ in_conflict ∷ unknown ∷ [])
+    ≡ map line (
+    codes "acquired,51,2,-,-,-,-,-" ∷ codes "lost,1129,-,-,-,-,-,-" ∷ codes "group,104,15,B!,lost,B:F0E1~0000001,Cx:D393,none"
+    ∷ codes "group,0,-,?,A:1234,none,none,none" ∷ [])
 unfolding digits
-unknown_row = refl
+items = refl
 
 -- ---- totals
 

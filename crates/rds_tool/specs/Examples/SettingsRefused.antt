@@ -9,20 +9,11 @@ use Rattle.rds_tool.specs.declared.job.Cuts.TheVariants.{Even}
 use Rattle.rds_tool.specs.declared.job.Settings.{Settings}
 use Rattle.rds_tool.specs.Examples.Words.{settings_of, share_settings}
 
-pub least : plan_of (settings_of 0 1 1 1 1) ≡ Ok (record {
-  rules = record { burst = 0; reach = 1; loss = Run 1 };
-  workers = 1;
-  cuts = Even 1;
-})
-least = refl
-
-pub most : plan_of (settings_of 5 8 64 256 4294967295)
-    ≡ Ok (record { rules = record { burst = 5; reach = 8; loss = Run 64 }; workers = 256; cuts = Even 4294967295 })
-most = refl
-
-pub whole_share : plan_of (share_settings 2 64 64 4)
-    ≡ Ok (record { rules = record { burst = 2; reach = 3; loss = Share 64 64 }; workers = 4; cuts = Even 16 })
-whole_share = refl
+pub taken : map plan_of (settings_of 0 1 1 1 1 ∷ settings_of 5 8 64 256 4294967295 ∷ share_settings 2 64 64 4 ∷ [])
+    ≡ Ok (record { rules = record { burst = 0; reach = 1; loss = Run 1 }; workers = 1; cuts = Even 1 })
+    ∷ Ok (record { rules = record { burst = 5; reach = 8; loss = Run 64 }; workers = 256; cuts = Even 4294967295 })
+    ∷ Ok (record { rules = record { burst = 2; reach = 3; loss = Share 64 64 }; workers = 4; cuts = Even 16 }) ∷ []
+taken = refl
 
 -- each of these settings is refused so
 abbrev pub AreRefused : List (Settings × ToolError) → Type 0
@@ -57,26 +48,12 @@ pub in_order : AreRefused (
     )
 in_order = refl
 
--- cuts inside a recording: they rise, above 0 and below its length
-pub rising_cuts : are_inner 208 (1 ∷ 104 ∷ 207 ∷ []) ≡ true
-rising_cuts = refl
+-- cuts inside a recording: they rise, above 0 and below its length; no bits have no cuts
+pub cuts : map (λ row. are_inner row.0 row.1)
+    ((208, 1 ∷ 104 ∷ 207 ∷ []) ∷ (208, []) ∷ (0, []) ∷ (208, 0 ∷ []) ∷ (208, 208 ∷ []) ∷ (208, 5 ∷ 5 ∷ []) ∷ (208, 6 ∷ 5 ∷ [])
+    ∷ (208, 5 ∷ 209 ∷ []) ∷ (0, 1 ∷ []) ∷ [])
+    ≡ true ∷ true ∷ true ∷ false ∷ false ∷ false ∷ false ∷ false ∷ false ∷ []
+cuts = refl
 
-pub no_cuts : are_inner 208 [] ≡ true
-no_cuts = refl
-
-pub faulty_cuts : map (are_inner 208) ((0 ∷ []) ∷ (208 ∷ []) ∷ (5 ∷ 5 ∷ []) ∷ (6 ∷ 5 ∷ []) ∷
-    (5 ∷ 209 ∷ []) ∷ [])
-    ≡ false ∷ false ∷ false ∷ false ∷ false ∷ []
-faulty_cuts = refl
-
-pub no_bits_no_cuts : are_inner 0 [] ≡ true
-no_bits_no_cuts = refl
-
-pub no_bits_one_cut : are_inner 0 (1 ∷ []) ≡ false
-no_bits_one_cut = refl
-
-pub places : places_at 208 (104 ∷ []) ≡ 0 ∷ 104 ∷ 208 ∷ []
+pub places : map (λ row. places_at row.0 row.1) ((208, 104 ∷ []) ∷ (0, []) ∷ []) ≡ (0 ∷ 104 ∷ 208 ∷ []) ∷ (0 ∷ []) ∷ []
 places = refl
-
-pub no_places : places_at 0 [] ≡ 0 ∷ []
-no_places = refl

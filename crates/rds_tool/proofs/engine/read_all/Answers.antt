@@ -1,19 +1,7 @@
-use Rattle.rds_tool.proofs.Names.{arith, ◌∙◌, common_steps, append-nil}
+use Rattle.rds_tool.proofs.Names.{arith, ◌∙◌}
 use Rattle.rds_tool.proofs.Passing.{passed, passes}
-use Rattle.rds_tool.proofs.Reading.{end_told, given_more, kind_told, ok_told, read_more, read_told, read_whole, turns_not_told}
+use Rattle.rds_tool.proofs.Reading.{end_told, kind_told, ok_told, turns_not_told}
 use Rattle.rds_tool.proofs.engine.read_all.Goals as goal
-
-pub returns-then-is_at_end-clause-ok : goal.returns-then-is_at_end-clause-ok
-returns-then-is_at_end-clause-ok g c = grind (arith, common_steps, read_whole, read_more)
-
-pub returns-then-is_at_end-clause-given : goal.returns-then-is_at_end-clause-given
-returns-then-is_at_end-clause-given g c = grind (arith, common_steps, given_more)
-
-pub turns-init : goal.turns-init
-turns-init g c = grind (arith, common_steps, append-nil)
-
-pub turns-preserved : goal.turns-preserved
-turns-preserved g c = grind (arith, common_steps, read_more, given_more, common_steps)
 
 pub returns-clause-turns : goal.returns-clause-turns
 returns-clause-turns g c = λ _. (g.T.Taker.taken c.turns.taker, c.turns.invariant.taken, omega arith)
@@ -23,9 +11,6 @@ returns-clause-turned g c = λ _. (g.T.Taker.taken c.turns.taker, c.turns.invari
 
 pub returns-in_err-is_at_end-clause-turned : goal.returns-in_err-is_at_end-clause-turned
 returns-in_err-is_at_end-clause-turned g c = turns_not_told _ _ (passed _ _ c.from_residual-in_err-is_at_end.ensures) _ _ c.in_err-is_at_end.ensures.refused
-
-pub returns-in_err-is_at_end-clause-read : goal.returns-in_err-is_at_end-clause-read
-returns-in_err-is_at_end-clause-read g c = grind (arith, common_steps, read_told, passed)
 
 pub returns-in_err-is_at_end-clause-kinds : goal.returns-in_err-is_at_end-clause-kinds
 returns-in_err-is_at_end-clause-kinds g c = passes _ _ _ c.from_residual-in_err-is_at_end.ensures (kind_told _ _ _ c.in_err-is_at_end.ensures.refused)

@@ -1,23 +1,43 @@
-use Rattle.rds_tool.proofs.Names.{ℕ, List, ap, subst, sym, OnOk, Appends, AppendsPrefix}
+use Rattle.rds_tool.proofs.Names.{◌≡◌, ◌∙◌, ℕ, Bool, List, Option, Result, ap, subst, sym, concat, RuleNumbers, report_items, item_row, named_totals, total_row, list_text, listed_by}
+use mathlib.Core.Path.{ap₂}
+use Rattle.rds_rows.specs.Written.{IsWritten}
+use Rattle.rds_rows.specs.declared.error.RowsError.{RowsError}
+use Rattle.rds_tool.specs.Inside.Listers.{row_of_source, totals_of_source}
 use Rattle.rds_tool.specs.Inside.Texts.{bytes_of}
+use Rattle.rds_tool.specs.declared.soft_source.SoftSource.{SoftSource}
+use Rattle.rds_tool.proofs.Encoding.{as_rows}
+use Rattle.rds_tool.proofs.ScanRows.{scan_spelled}
+use Rattle.rds_tool.proofs.Spelled.{all_spelled}
 use Rattle.rds_tool.proofs.text.write_bytes.Goals as goal
 
-pub returns-in-OnePass-clause-ok : goal.returns-in-OnePass-clause-ok
-returns-in-OnePass-clause-ok g c =
-    subst (λ (text : List ℕ). OnOk c.write_decoded.result (Appends (g.K.Sink.contents c.args.writer.now) (g.K.Sink.contents c.write_decoded.new.writer) text))
-    (sym (ap bytes_of c.in-OnePass.is)) c.write_decoded.ensures.ok
+-- what was written of a text was written of the same text
+same_text : {W : Type 0} {contents : W → Option (List ℕ)} {failed : W → ℕ} {text : List ℕ} {writer writer' : W} {result : Result (Unit {0}) RowsError} (other : List ℕ)
+    → IsWritten contents failed text writer writer' result → text ≡ other → IsWritten contents failed other writer writer' result
+same_text {contents = contents} {failed = failed} {writer = writer} {writer' = writer'} {result = result} other is same =
+    subst (λ (t : List ℕ). IsWritten contents failed t writer writer' result) same is
 
-pub returns-in-OnePass-clause-prefix : goal.returns-in-OnePass-clause-prefix
-returns-in-OnePass-clause-prefix g c =
-    λ e. subst (λ (text : List ℕ). AppendsPrefix (g.K.Sink.contents c.args.writer.now) (g.K.Sink.contents c.write_decoded.new.writer) text)
-    (sym (ap bytes_of c.in-OnePass.is)) (c.write_decoded.ensures.prefix e)
+pub returns-in-Listing : goal.returns-in-Listing
+returns-in-Listing g c =
+    let report = c.in-Listing.listing.report in
+    same_text _ c.write_rows.ensures
+    (ap concat c.in_ok-rows.ensures.rows ∙ all_spelled item_row total_row report.items.list (named_totals report.totals) ∙ sym (ap bytes_of c.in-Listing.is))
 
-pub returns-in-Soft-clause-ok : goal.returns-in-Soft-clause-ok
-returns-in-Soft-clause-ok g c =
-    subst (λ (text : List ℕ). OnOk c.write_softly.result (Appends (g.K.Sink.contents c.args.writer.now) (g.K.Sink.contents c.write_softly.new.writer) text))
-    (sym (ap bytes_of c.in-Soft.is)) c.write_softly.ensures.ok
+pub returns-in-OnePass : goal.returns-in-OnePass
+returns-in-OnePass g c =
+    same_text _ c.write_in_one_pass.ensures (ap (λ (rules : RuleNumbers). list_text rules c.in-OnePass.recording) c.rules.ensures ∙ sym (ap bytes_of c.in-OnePass.is))
 
-pub returns-in-Soft-clause-prefix : goal.returns-in-Soft-clause-prefix
-returns-in-Soft-clause-prefix g c =
-    λ e. subst (λ (text : List ℕ). AppendsPrefix (g.K.Sink.contents c.args.writer.now) (g.K.Sink.contents c.write_softly.new.writer) text)
-    (sym (ap bytes_of c.in-Soft.is)) (c.write_softly.ensures.prefix e)
+pub returns-in-Windows : goal.returns-in-Windows
+returns-in-Windows g c = same_text _ c.write_rows.ensures (scan_spelled c.in-Windows.recording ∙ sym (ap bytes_of c.in-Windows.is))
+
+pub returns-in-Groups : goal.returns-in-Groups
+returns-in-Groups g c = same_text _ c.write_rows.ensures (sym (as_rows c.in-Groups.hex c.in-Groups.groups.items) ∙ sym (ap bytes_of c.in-Groups.is))
+
+pub returns-in-Soft : goal.returns-in-Soft
+returns-in-Soft g c =
+    let lister = c.in_ok-lister.lister in
+    let listed = λ (has_rows : Bool) (source : SoftSource) (rules : RuleNumbers).
+    listed_by (row_of_source has_rows source) (totals_of_source source) (report_items c.in-Soft.source.recording rules) in
+    same_text _ c.write_in_one_pass.ensures
+    (ap (listed lister.has_rows lister.source.now) c.rules.ensures
+    ∙ ap₂ (λ (has_rows : Bool) (source : SoftSource). listed has_rows source c.in-Soft.plan.rules) c.in_ok-lister.ensures.rows c.in_ok-lister.ensures.source
+    ∙ sym (ap bytes_of c.in-Soft.is))

@@ -1,7 +1,6 @@
 use Rattle.rds_tool.proofs.Names.{common_steps}
 use Rattle.std.proofs.Common.{◌++◌, ◌∙◌, ◌∷◌, ap, arith, rules}
 use Rattle.rds_tool.proofs.Decimals.{one_digit, spelled}
-use Rattle.rds_tool.proofs.RowText.{decimal_plain}
 use Rattle.rds_tool.proofs.page.Page.put_kind.Goals as goal
 
 pub returns-then-kind-lt10-clause-text : goal.returns-then-kind-lt10-clause-text
@@ -14,12 +13,3 @@ returns-then-kind-lt100-clause-text c =
 pub returns-else-kind-lt100-clause-text : goal.returns-else-kind-lt100-clause-text
 returns-else-kind-lt100-clause-text c =
     rw c.in-Some.is (c.put-else-kind-lt100.ensures ∙ ap (λ t. c.args.self.now ++ 44 ∷ t) (spelled 2 c.in-Some.kind (omega arith) (omega arith) (omega arith)))
-
-pub returns-then-kind-lt10-clause-plain : goal.returns-then-kind-lt10-clause-plain
-returns-then-kind-lt10-clause-plain c = rw c.in-Some.is (decimal_plain c.in-Some.kind (search rules))
-
-pub returns-then-kind-lt100-clause-plain : goal.returns-then-kind-lt100-clause-plain
-returns-then-kind-lt100-clause-plain c = rw c.in-Some.is (decimal_plain c.in-Some.kind (search rules))
-
-pub returns-else-kind-lt100-clause-plain : goal.returns-else-kind-lt100-clause-plain
-returns-else-kind-lt100-clause-plain c = rw c.in-Some.is (decimal_plain c.in-Some.kind (search rules))

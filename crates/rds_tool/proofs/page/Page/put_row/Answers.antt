@@ -6,15 +6,6 @@ use Rattle.rds_tool.proofs.page.Page.put_row.Goals as goal
 abbrev none : Bor (List ℕ)
 none = record { ref_ptr = (0, 0); now = [] }
 
-pub loop-i-init : goal.loop-i-init
-loop-i-init c = grind (arith, common_steps, append-nil)
-
-pub put_all-requires : goal.put_all-requires
-put_all-requires c = grind (arith, common_steps, slice_index_or, short_at)
-
-pub put_byte-requires : goal.put_byte-requires
-put_byte-requires c = grind (arith, common_steps, slice_index_or, short_at, common_steps)
-
 pub loop-i-preserved : goal.loop-i-preserved
 loop-i-preserved c =
     let within : c.loop-i.i < length c.args.fields.now = omega (arith, c.loop-i-test.true) in
@@ -23,12 +14,6 @@ loop-i-preserved c =
       text = c.put_byte.ensures ∙ ap (λ t. t ++ 44 ∷ []) c.put_all.ensures ∙ fields_after c.args.fields.now c.loop-i.i none c.args.self.now c.loop-i.self within c.loop-i.invariant.text;
       room = grind (arith, common_steps, c.put_byte.ensures, c.put_all.ensures, field, c.loop-i.invariant.room);
     }
-
-pub put_all-requires-2 : goal.put_all-requires-2
-put_all-requires-2 c = grind (arith, common_steps, slice_index_or, short_at)
-
-pub put_byte-requires-2 : goal.put_byte-requires-2
-put_byte-requires-2 c = grind (arith, common_steps, slice_index_or, short_at, common_steps)
 
 pub returns-clause-text : goal.returns-clause-text
 returns-clause-text c =

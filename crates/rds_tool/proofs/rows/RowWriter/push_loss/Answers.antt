@@ -1,9 +1,0 @@
-use Rattle.rds_tool.proofs.Names.{common_steps, arith, rules, leb-true}
-use Rattle.rds_tool.proofs.RowText.{decimal_plain}
-use Rattle.rds_tool.proofs.rows.RowWriter.push_loss.Goals as goal
-
-pub push_row-requires-clause-plain : goal.push_row-requires-clause-plain
-push_row-requires-clause-plain c = grind (arith, common_steps, decimal_plain, rules)
-
-pub push_row-requires-clause-short : goal.push_row-requires-clause-short
-push_row-requires-clause-short c = grind (arith, common_steps, leb-true)
