@@ -11,8 +11,7 @@ ghost use Rattle.rds_code.specs.declared.reading.Wanted.{Wanted as WantedHard};
 ghost use Rattle.rds_stream.specs.Recording.{AreGaps, length_of, reading_at};
 ghost use Rattle.rds_sync.specs.declared.item.Block.TheVariants.{Read};
 ghost use Rattle.rds_soft.specs.declared.soft_item.SoftBlock.TheVariants.{Read as SoftRead};
-ghost use Rattle.rds_soft.specs.Again.{IsBlockAgain, IsReadingHeard, symbols_heard};
-ghost use Rattle.rds_soft.specs.ReadAgain.{item_again, symbols_of};
+ghost use Rattle.rds_soft.specs.ReadAgain.{block_again, item_again, reading_heard, symbols_heard, symbols_of};
 ghost use Rattle.rds_soft.specs.SoftStream.{complete, report_of};
 ghost use Rattle.rds_soft.specs.SoftTotals.{soft_totals_of};
 
@@ -101,7 +100,7 @@ pub fn read_alike(
     ensures valid { (o : AnOffset) → IsValid (hard_window symbols.now) number o
         → result.0 ≡ SoftReading.Valid o (information (hard_window symbols.now)) }
 {
-    laws::items_are_read_again_alike();
+    laws::symbols_are_read_alike();
     let _some = margin.weight();
     let first = one.read(symbols, number, wanted, margin);
     (first, other.read(symbols, number, wanted, margin))
@@ -130,14 +129,13 @@ pub fn read_from_symbols(
     limit: BurstLimit,
     wanted: Wanted,
     margin: Margin,
-    again: SoftReading,
 )
     ghost hard: { WantedHard }
     requires bits { recording.now.bits ≡ hard_bits symbols.now }
     requires within { first + 26 < length symbols.now }
-    requires again { IsBlockAgain (symbols_heard recording.now symbols.now first) number wanted margin
-        (Read (reading_at recording.now (first + 25) number hard limit)) (SoftRead again) }
-    ensures { IsReadingHeard (symbols_heard recording.now symbols.now first) number wanted margin again }
+    ensures { block_again (symbols_heard recording.now symbols.now first) number wanted margin
+        (Read (reading_at recording.now (first + 25) number hard limit))
+        ≡ SoftRead (reading_heard (symbols_heard recording.now symbols.now first) number wanted margin) }
 {
     laws::blocks_are_read_from_symbols();
     let _number = number.get();
@@ -166,9 +164,6 @@ pub fn again_as_computed(
 ) -> SoftItem
     ensures { result ≡ item_again recording.now (symbols_of symbols.now) margin item.now }
 {
-    laws::items_are_read_again_so();
-    laws::items_are_read_again_alike();
-    let _weight = margin.weight();
     search.read_again(recording, symbols, margin, item)
 }
 
