@@ -9,7 +9,7 @@ ghost use Rattle.rds_sync.specs.Step.{run};
 ghost use Rattle.rds_sync.specs.Totals.{totals_of};
 ghost use Rattle.rds_sync.specs.declared.state.State.TheVariants.{Searching};
 ghost use Rattle.rds_live.specs.Next.{completed, group_next, items_next, live_next};
-ghost use Rattle.rds_live.specs.StreamDecoder.{HasHeard, complete, live_of, report_of};
+ghost use Rattle.rds_live.specs.StreamDecoder.{HasHeard, by_rules, complete, live_of, report_of};
 
 use rds_live::{
     ResumeError, StreamCounter, StreamDecoder, StreamEnd, finish_part, gaps_of_part, laws, run_part,
@@ -51,6 +51,14 @@ pub fn anew<'r>(
         live.state(),
         live.totals(),
     )
+}
+
+/// A decoder of a stream without gaps, which has heard nothing yet. Only memory can be refused.
+pub fn begun_gapless<'r>(alloc: Global, rules: &'r Rules) -> Result<StreamDecoder<'r>, StreamError>
+    ensures live { IfOk result (λ live. live ≡ live_of (by_rules rules.now) []) }
+    ensures refused { IsOkUnless result StreamError.OutOfMemory }
+{
+    StreamDecoder::new(alloc, rules)
 }
 
 /// As many bytes are heard as there is room for, and their items are told. A chunk past 2^36 bits is refused, and was not heard.
@@ -158,6 +166,20 @@ pub fn counted_in_two<R: Threads + Sync>(
     counter.count(rt, alloc, first)?;
     counter.count(rt, alloc, second)?;
     Ok(counter.into_decoder(rt, alloc).finish().totals)
+}
+
+/// A chunk past 2^36 bits is refused as such, and was not heard.
+pub fn refused_chunk<R: Threads + Sync>(
+    rt: &R,
+    alloc: Global,
+    counter: &mut StreamCounter<'_>,
+    bytes: &[u8],
+) -> Result<(), StreamError>
+    requires { 2 ^ 36 < counter.old.place + 8 * length bytes.now }
+    ensures refused { result ≡ Err StreamError.TooLong }
+    ensures same { counter.new ≡ counter.old }
+{
+    counter.count(rt, alloc, bytes)
 }
 
 /// A part that begins with the stream is gone over as a recording of its own, from a search on.

@@ -2,7 +2,7 @@
 ghost use Rattle.std.specs.Prelude.{◌≡◌, ℕ, ◌+◌, ◌-◌, ◌*◌, ◌<◌, ◌≤◌, ◌^◌, IfOk, IfSome, IsOkUnless, None, Ok, Some, Err, if◌then◌else◌, slice_index, true, vec_len, [], false};
 ghost use Rattle.std.specs.Int.{bit_at};
 ghost use Rattle.rds_code.specs.Remainder.{rem};
-ghost use Rattle.rds_stream.specs.Recording.{bits_of, heard, length_of, offset_at, valid_windows, window, AreGaps, touched};
+ghost use Rattle.rds_stream.specs.Recording.{bits_of, heard, length_of, offset_at, ungapped, valid_windows, window, AreGaps, touched};
 ghost use Rattle.rds_stream.specs.ValidWindows.{NoneValid};
 ghost use Rattle.rds_stream.specs.declared.error.StreamError.TheVariants.{BitsPastBytes, OutOfMemory, TooLong, BadGaps};
 ghost use Rattle.rds_code.specs.Reading.{reading};
@@ -10,7 +10,7 @@ ghost use Rattle.rds_code.specs.declared.reading.Reading.TheVariants.{Lost};
 ghost use Rattle.rds_sync.specs.Advance.{items_in};
 ghost use Rattle.rds_sync.specs.declared.state.State.TheVariants.{Searching};
 
-use rds_code::{BlockNumber, BurstLimit, BurstTable, Offset, Reading, Wanted};
+use rds_code::{BlockNumber, BurstLimit, BurstTable, Offset, Reading, Wanted, rem26};
 use rds_stream::{
     Counted, Reader, Recording, StreamError, Tape, ValidWindows, offset_heard, planes, read_heard,
     scan,
@@ -20,6 +20,15 @@ use std::alloc::Global;
 use std::snapshot::Snapshot;
 
 // ---- recordings
+
+/// The first `bits` bits of the bytes. Too many for a recording, and then too many for the bytes, are refused. The bytes come back.
+pub fn recording_from(bytes: Vec<u8>, bits: u64) -> Result<Recording, (StreamError, Vec<u8>)>
+    ensures taken { bits ≤ 2 ^ 36 → bits ≤ 8 * vec_len bytes → result ≡ Ok (ungapped (bits_of bytes.items bits)) }
+    ensures too_long { 2 ^ 36 < bits → result ≡ Err (TooLong, bytes) }
+    ensures past { bits ≤ 2 ^ 36 → 8 * vec_len bytes < bits → result ≡ Err (BitsPastBytes, bytes) }
+{
+    Recording::from_bytes(bytes, bits)
+}
 
 /// The last bit, whether it is a one or a zero.
 pub fn last_bit(recording: &Recording) -> bool
@@ -128,6 +137,15 @@ pub fn with_gaps(bytes: Vec<u8>, bits: u64, gaps: Vec<(u64, u64)>) -> Result<Rec
 }
 
 // ---- reading where a gap is touched, and where none is
+
+/// A window as it is stored is a block, whose remainder can be taken.
+pub fn stored_remainder(recording: &Recording, place: u64) -> u16
+    requires first { 25 ≤ place }
+    requires last { place < length_of recording.now }
+    ensures { result ≡ rem (window recording.now.bits place) }
+{
+    rem26(recording.window(place))
+}
 
 /// The block of a window that touches a gap is lost, whatever its bits are, and has no offset. Any other window is heard as it is stored. A
 /// window is counted either way.
