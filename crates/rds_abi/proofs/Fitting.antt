@@ -4,15 +4,7 @@ use borrow.Rule.Slice.PartMut.{put_mid}
 
 -- a byte completes at most sixteen items
 pub few-completed : RunsGiveFewItems → (live : LiveOf) (bytes : List ℕ) → length (completed live bytes) ≤ 16 * length bytes
-few-completed law live bytes =
-    let part = part_with live bytes (8 * length bytes) in
-    let state = moved_back (before_tail live) live.state in
-    let from : ℕ = 8 * length live.tail in
-    let more : ℕ = 8 * length bytes in
-    let same : from + more - from ≡ more = omega arith in
-    let few : length (run part live.terms.rules state from more).1 ≤ 2 * (from + more - from) =
-    subst (λ (n : ℕ). length (run part live.terms.rules state from n).1 ≤ 2 * (from + more - from)) same (law part live.terms.rules state from (from + more) (omega arith)) in
-    omega (arith, few, same, length-map (run_next live bytes (8 * length bytes)).1 (moved_item (before_tail live)))
+few-completed law live bytes = grind (arith, common_steps, length-map, law (part_with live bytes (8 * length bytes)) live.terms.rules (moved_back (before_tail live) live.state) (8 * length live.tail) (8 * length live.tail + 8 * length bytes))
 
 -- the first bytes, and some of the rest
 pub taken-on : (a n : ℕ) (bytes : List ℕ) → take a bytes ++ take n (drop a bytes) ≡ take (a + n) bytes
@@ -41,12 +33,7 @@ module _ (joins : PiecesJoin) (first live : LiveOf) (bytes : List ℕ) (a : ℕ)
   -- if the items of one byte more have no room after those before
   pub all-taken : (room filled : ℕ) → 0 < a → filled ≡ length (completed first (take a bytes)) → 0 < length (drop a bytes)
       → room - filled < length (completed live (take 1 (drop a bytes))) → IsMostTaken first bytes room a
-  all-taken room filled some count rest small =
-      inr (
-        some,
-        omega (arith, rest, length-drop a bytes),
-        omega (arith, small, joined-count 1 filled (length (completed live (take 1 (drop a bytes)))) count refl),
-      )
+  all-taken room filled some count rest small = inr (some, omega (arith, rest, length-drop a bytes), omega (arith, small, joined-count 1 filled _ count refl))
 
 -- items that are written after those before
 pub filled-on : (first more : List RdsItem) (filled : ℕ) (old room part : List RdsItem) → filled ≡ length first → IsFilled first old room

@@ -27,21 +27,15 @@ ends gaps k d e h = ap (λ (gap : ℕ × ℕ). gap.1) (get_or-map gap_of gaps k 
 
 pub are-gaps : (n : ℕ) (gaps : List RdsGap) → All (Lies n) gaps → AllAdjacentBelow AreApart gaps (length gaps) → AreGaps n (gaps_of gaps)
 are-gaps n gaps each apart = record {
-  each = λ k d h. let here : k < length gaps = omega (arith, h, length-map gaps gap_of) in let lies = each k none here in
-      (omega (arith, lies.0, begins gaps k d none here, ends gaps k d none here), omega (arith, lies.1, ends gaps k d none here));
-  apart = λ k d h. let next : k + 1 < length gaps = omega (arith, h, length-map gaps gap_of) in let here : k < length gaps = omega (arith, next) in
-      omega (arith, apart k none next, ends gaps k d none here, begins gaps (k + 1) d none next);
+  each = λ k d h. grind (arith, common_steps, length-map, each k none, begins gaps k d none, ends gaps k d none);
+  apart = λ k d h. grind (arith, common_steps, length-map, apart k none, ends gaps k d none, begins gaps (k + 1) d none);
 }
 
 pub gaps-lie : (n : ℕ) (gaps : List RdsGap) → AreGaps n (gaps_of gaps) → All (Lies n) gaps
-gaps-lie n gaps are k e h =
-    let lies = are.each k (gap_of e) (omega (arith, h, length-map gaps gap_of)) in
-    (omega (arith, lies.0, begins gaps k (gap_of e) e h, ends gaps k (gap_of e) e h), omega (arith, lies.1, ends gaps k (gap_of e) e h))
+gaps-lie n gaps are k e h = grind (arith, common_steps, length-map, are.each k (gap_of e), begins gaps k (gap_of e) e, ends gaps k (gap_of e) e)
 
 pub gaps-apart : (n : ℕ) (gaps : List RdsGap) → AreGaps n (gaps_of gaps) → AllAdjacentBelow AreApart gaps (length gaps)
-gaps-apart n gaps are k e h =
-    let here : k < length gaps = omega (arith, h) in
-    omega (arith, are.apart k (gap_of e) (omega (arith, h, length-map gaps gap_of)), ends gaps k (gap_of e) e here, begins gaps (k + 1) (gap_of e) e h)
+gaps-apart n gaps are k e h = grind (arith, common_steps, length-map, are.apart k (gap_of e), ends gaps k (gap_of e) e, begins gaps (k + 1) (gap_of e) e)
 
 -- ---- the gaps near a part
 
@@ -50,30 +44,9 @@ at_gap f count gaps k e h = grind (arith, common_steps, length-take, get_or-take
 
 -- gaps in a row of gaps that a recording may have are some that it may have
 pub some-gaps : (n f count : ℕ) (gaps : List RdsGap) → AreGaps n (gaps_of gaps) → AreGaps n (gaps_of (take count (drop f gaps)))
-some-gaps n f count gaps are = are-gaps n some each apart
-  where
-    some : List RdsGap
-    some = take count (drop f gaps)
-
-    few : length some ≤ length gaps - f
-    few = omega (arith, length-take count (drop f gaps), length-drop f gaps)
-
-    each : All (Lies n) some
-    each k e h =
-        let lies = gaps-lie n gaps are (f + k) e (omega (arith, h, few)) in
-        let is = at_gap f count gaps k e h in
-        (omega (arith, lies.0, ap (λ (gap : RdsGap). gap.begin) is, ap (λ (gap : RdsGap). gap.end) is), omega (arith, lies.1, ap (λ (gap : RdsGap). gap.end) is))
-
-    apart : AllAdjacentBelow AreApart some (length some)
-    apart k e h =
-        let here : k < length some = omega (arith, h) in
-        let next : f + (k + 1) ≡ f + k + 1 = omega arith in
-        omega (
-          arith,
-          gaps-apart n gaps are (f + k) e (omega (arith, h, few)),
-          ap (λ (gap : RdsGap). gap.end) (at_gap f count gaps k e here),
-          ap (λ (gap : RdsGap). gap.begin) (at_gap f count gaps (k + 1) e h ∙ ap (λ (i : ℕ). get_or gaps i e) next),
-        )
+some-gaps n f count gaps are =
+    are-gaps n (take count (drop f gaps)) (λ k e h. grind (arith, common_steps, length-take, length-drop, gaps-lie n gaps are (f + k) e, at_gap f count gaps k e))
+    (λ k e h. grind (arith, common_steps, length-take, length-drop, gaps-apart n gaps are (f + k) e, at_gap f count gaps k e, at_gap f count gaps (k + 1) e))
 
 -- the ends of gaps rise, and so do their beginnings
 pub ends-rise : (n : ℕ) (gaps : List RdsGap) → AreGaps n (gaps_of gaps) → IsNonDecreasingBy (λ (gap : RdsGap). gap.end) gaps

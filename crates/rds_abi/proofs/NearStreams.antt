@@ -6,7 +6,7 @@ same-laid : (one other : LiveOf) → one.terms.rules ≡ other.terms.rules → o
     → (s ≡ unheard) ⊎ (s ≡ stream_in_c one) → (s ≡ unheard) ⊎ (s ≡ stream_in_c other)
 same-laid one other rules same s laid = grind (arith, common_steps)
 
-module _ (all near : Terms) (s : RdsStream) (before len : ℕ) (is : IsNear all near before len) where
+module _ {all near : Terms} (s : RdsStream) {before len : ℕ} (is : IsNear all near before len) where
   -- the same streams may have been left
   pub left-near : IsLeft near s → IsLeft all s
   left-near left = grind (arith, common_steps, is.rules, is.may, is.some, same-laid)
@@ -47,37 +47,31 @@ module _ (law : NextIsHeard) (all : Terms) (s : RdsStream) (bytes : List ℕ) (r
   pub are-completed : AreCompleted all s bytes (completed (stream_of all s) bytes)
   are-completed before heard = sym (law (stream_of all s) before bytes range left.live heard).1
 
--- where a part of the stream begins, and how many places it has at most
-pub part-begins : (all : Terms) (s : RdsStream) (kept : ℕ) → IsLeft all s → kept ≡ min most_kept (s.place / 8) → s.place - 8 * kept ≡ before_tail (stream_of all s)
-part-begins all s kept left is = omega (arith, left.live.kept, is)
-
-pub part-held : (all : Terms) (s : RdsStream) (kept few count : ℕ) → IsLeft all s → kept ≡ min most_kept (s.place / 8) → s.place + 8 * count ≤ 2 ^ 36
-    → few ≡ min 8589934592 count → 8 * length (take (min most_kept (s.place / 8)) s.tail) + 8 * count ≤ 8 * (kept + few)
-part-held all s kept few count left is fits many = omega (arith, left.live.kept, is, fits, many)
-
--- all of that of the first of bytes that are pushed to a stream, by the gaps in the bytes that are kept and
--- at most `few` bytes after them
-module _ (all near : Terms) (s : RdsStream) (bytes : List ℕ) (kept few : ℕ) (is : IsNear all near (s.place - 8 * kept) (8 * (kept + few)))
-    (keeps : kept ≡ min most_kept (s.place / 8)) (many : few ≡ min 8589934592 (length bytes)) where
+-- all of that of the first of bytes that are pushed to a stream, by the gaps in the bytes that are kept and these, of which a stream may have
+-- no more
+module _ {all near : Terms} (s : RdsStream) (bytes : List ℕ)
+    (is : IsNear all near (s.place - 8 * min most_kept (s.place / 8)) (8 * (min most_kept (s.place / 8) + min 8589934592 (length bytes)))) where
   module _ (left : IsLeft near s) (fits : place_after s bytes ≤ 2 ^ 36) where
     known : IsLeft all s
-    known = left-near all near s (s.place - 8 * kept) (8 * (kept + few)) is left
+    known = left-near s is left
 
-    held : (n : ℕ) → 8 * length (take (min most_kept (s.place / 8)) s.tail) + 8 * length (take n bytes) ≤ 8 * (kept + few)
-    held n = omega (arith, part-held all s kept few (length bytes) known keeps fits many, length-take n bytes)
+    held : (n : ℕ) → 8 * length (take (min most_kept (s.place / 8)) s.tail) + 8 * length (take n bytes)
+        ≤ 8 * (min most_kept (s.place / 8) + min 8589934592 (length bytes))
+    held n = omega (arith, known.live.kept, fits, length-take n bytes)
+
+    begins : s.place - 8 * min most_kept (s.place / 8) ≡ before_tail (stream_of all s)
+    begins = omega (arith, known.live.kept)
 
     pub pushed-completed : (n : ℕ) → completed (stream_of near s) (take n bytes) ≡ completed (stream_of all s) (take n bytes)
-    pushed-completed n =
-        completed-near all near s (s.place - 8 * kept) (8 * (kept + few)) is (take n bytes) (part-begins all s kept known keeps) (held n)
+    pushed-completed n = completed-near s is (take n bytes) begins (held n)
 
     pub pushed-after : (n : ℕ) (new : RdsStream) → stream_of near new ≡ live_next (stream_of near s) (take n bytes)
         → stream_of all new ≡ live_next (stream_of all s) (take n bytes)
-    pushed-after n =
-        next-near all near s (s.place - 8 * kept) (8 * (kept + few)) is (take n bytes) (part-begins all s kept known keeps) (held n)
+    pushed-after n = next-near s is (take n bytes) begins (held n)
 
     pub pushed-most : (room n : ℕ) → IsMostTaken (stream_of near s) bytes room n → IsMostTaken (stream_of all s) bytes room n
     pushed-most room n most = grind (arith, common_steps, pushed-completed)
 
   pub pushed-refused : (r : Refusal) (room count : ℕ) (Same : Type 0)
       → RefusesOn near s bytes (take 1 bytes) room count Same r → RefusesOn all s bytes (take 1 bytes) room count Same r
-  pushed-refused r room count Same refused = grind (arith, common_steps, known, pushed-completed, refused-near all near s (s.place - 8 * kept) (8 * (kept + few)) is)
+  pushed-refused r room count Same refused = grind (arith, common_steps, known, pushed-completed, refused-near s is)

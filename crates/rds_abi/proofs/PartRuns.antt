@@ -1,6 +1,5 @@
 -- A run over a part of a recording is the run over the whole there.
-use Rattle.rds_abi.proofs.Shared.{common_steps, ◌≡◌, ℕ, ◌+◌, ◌-◌, ◌*◌, ◌≤◌, ◌⊎◌, ◌∙◌, List, ap, arith, drop, length, subst, sym, take, slice_range, get_or-drop, get_or-take, length-take, take-append-drop, AreGaps, Signal, bits_of, length_of, State, IsInRange, RuleNumbers, items_of_end, run, gaps_within, signal_at, EndsMove, IsPartHeard, RunsMove, moved_items, moved_state, most_behind, part-touched, IsPartOf, bits-begin, bits-heard, asked, recording_of, rules_of, IsRun, run_asked, run_in_part, state_of, RdsGap, RdsRules, RdsState, length-drop}
-use Rattle.rds_sync.specs.Lawful.{IsLawful}
+use Rattle.rds_abi.proofs.Shared.{common_steps, ◌≡◌, ℕ, ◌+◌, ◌-◌, ◌*◌, ◌≤◌, ◌⊎◌, ◌∙◌, List, ap, arith, drop, length, subst, sym, take, slice_range, get_or-drop, get_or-take, length-take, take-append-drop, AreGaps, Signal, bits_of, length_of, State, IsInRange, RuleNumbers, items_of_end, run, gaps_within, signal_at, EndsMove, IsPartHeard, RunsMove, moved_items, moved_state, most_behind, part-touched, IsPartOf, bits-begin, bits-heard, asked, recording_of, rules_of, IsRun, run_asked, run_in_part, state_of, RdsGap, RdsRules, RdsState, length-drop, IsLawful}
 
 -- the first bits of bytes are those of as many bytes as hold them
 pub bits-of-first : (bytes : List ℕ) (k bits : ℕ) → bits ≤ 8 * length (take k bytes) → bits_of (take k bytes) bits ≡ bits_of bytes bits

@@ -1,12 +1,9 @@
 -- What is heard and written of symbols that are pushed.
-use Rattle.rds_abi.proofs.Shared.{common_steps, ◌≡◌, ◌+◌, ◌-◌, ◌*◌, ◌/◌, ◌^◌, ◌<◌, ◌≤◌, ◌++◌, ◌⊎◌, ◌∙◌, ℕ, List, ap, ap₂, arith, drop, length, map, min, refl, subst, sym, take, drop-drop, length-append, length-map, length-take, take-take, take_all, Signal, length_of, RunsGiveFewItems, IsInRange, Item, gaps_within, HasHeard, LiveOf, Terms, complete, most_kept, NextIsHeard, before_tail, completed, live_next, moved_back, part_with, run_next, IsFilled, IsFollowed, IsLeft, IsNear, RefusesOn, RefusesPush, place_after, stream_of, RdsGap, RdsItem, RdsRules, RdsStream, Refusal, SmallRoom, ℤ, drop-append-le, length-drop, signal_of, lawful-back, length-signal, soft_item_in_c, HasHeardSoft, IsMargin, IsPushed, IsWrittenAgain, RefusesSoft, again_in, byte_count, bytes_of, piece_of, read_again, symbols_kept}
-use Rattle.rds_sync.specs.Laws.{AcquisitionsAreLate, StepsAreLawful}
-use Rattle.rds_sync.specs.Lawful.{IsLawful}
+use Rattle.rds_abi.proofs.Shared.{common_steps, ◌≡◌, ◌+◌, ◌-◌, ◌*◌, ◌/◌, ◌^◌, ◌<◌, ◌≤◌, ◌++◌, ◌⊎◌, ◌∙◌, ℕ, List, ap, ap₂, arith, drop, length, map, min, refl, subst, sym, take, drop-drop, length-append, length-map, length-take, take-take, take_all, Signal, length_of, RunsGiveFewItems, IsInRange, Item, gaps_within, HasHeard, LiveOf, Terms, complete, most_kept, NextIsHeard, before_tail, completed, live_next, moved_back, part_with, run_next, IsFilled, IsFollowed, IsLeft, IsNear, RefusesOn, RefusesPush, place_after, stream_of, RdsGap, RdsItem, RdsRules, RdsStream, Refusal, SmallRoom, ℤ, drop-append-le, length-drop, signal_of, lawful-back, length-signal, soft_item_in_c, HasHeardSoft, IsMargin, IsPushed, IsWrittenAgain, RefusesSoft, again_in, byte_count, bytes_of, piece_of, read_again, symbols_kept, AcquisitionsAreLate, StepsAreLawful, AreSymbolsOf, run-inside, IsLawful}
 use Rattle.rds_live.proofs.Pieces.{back-on}
 use Rattle.rds_abi.specs.declared.layout.RdsSoft.{RdsSoft}
 use Rattle.rds_abi.proofs.Fitting.{few-completed}
 use Rattle.rds_abi.proofs.NearStreams.{are-completed, heard-next, left-near, pushed-after, pushed-completed, refused-near}
-use Rattle.rds_soft.proofs.InsideLemmas.{AreSymbolsOf, run-inside}
 use Rattle.rds_abi.proofs.SoftItems.{items-same}
 use Rattle.rds_abi.proofs.SoftStreams.{bytes-join, erasures, kept-on, part-symbols, symbols-alike}
 use Rattle.rds_abi.proofs.SoftSymbols.{byte_count_of}
@@ -44,30 +41,27 @@ module _ {symbols : List ℤ} {room : ℕ} {all near : Terms} {s : RdsStream} {p
   abbrev held : ℕ
   held = min most_kept (s.place / 8)
 
-  is : IsNear all near (s.place - 8 * held) (8 * (held + length bytes))
-  is = grind (arith, common_steps, t.len_is, t.from_is, t.near_is)
-
   most : length bytes ≡ min 8589934592 (length bytes)
   most = omega (arith, piece-many)
+
+  is : IsNear all near (s.place - 8 * held) (8 * (held + min 8589934592 (length bytes)))
+  is = grind (arith, common_steps, most, t.len_is, t.from_is, t.near_is)
 
   every : take (length bytes) bytes ≡ bytes
   every = take_all (length bytes) bytes (omega arith)
 
   pub all-left : (new : RdsStream) → IsLeft near new → IsLeft all new
-  all-left new = left-near all near new (s.place - 8 * held) (8 * (held + length bytes)) is
+  all-left new = left-near new is
 
   module _ (left : IsLeft near s) (fits : place_after s bytes ≤ 2 ^ 36) where
     pub all-completed : completed (stream_of near s) bytes ≡ completed (stream_of all s) bytes
-    all-completed = grind (arith, common_steps, every, pushed-completed all near s bytes held (length bytes) is refl most left fits (length bytes))
+    all-completed = grind (arith, common_steps, every, pushed-completed s bytes is left fits (length bytes))
 
     pub all-after : (new : RdsStream) → stream_of near new ≡ live_next (stream_of near s) bytes → stream_of all new ≡ live_next (stream_of all s) bytes
-    all-after new after =
-        subst (λ (xs : List ℕ). stream_of all new ≡ live_next (stream_of all s) xs) every
-        (pushed-after all near s bytes held (length bytes) is refl most left fits (length bytes) new
-        (subst (λ (xs : List ℕ). stream_of near new ≡ live_next (stream_of near s) xs) (sym every) after))
+    all-after new after = grind (arith, common_steps, every, pushed-after s bytes is left fits (length bytes) new)
 
   pub all-refused : (r : Refusal) (space count : ℕ) (Same : Type 0) → RefusesOn near s bytes bytes space count Same r → RefusesOn all s bytes bytes space count Same r
-  all-refused r space count Same refused = grind (arith, common_steps, all-left s, all-completed, refused-near all near s (s.place - 8 * held) (8 * (held + length bytes)) is r)
+  all-refused r space count Same refused = grind (arith, common_steps, all-left s, all-completed, refused-near s is r)
 
 -- a margin that was looked at first
 pub with-margin : (rules : RdsRules) (gaps : List RdsGap) (margin : ℕ) (s : RdsSoft) (bytes : List ℕ) (r : Refusal) (TooMany Same : Type 0) → IsMargin margin

@@ -1,9 +1,7 @@
 -- A stream of symbols: its bytes, the symbols that are kept, and its items read again.
-use Rattle.rds_abi.proofs.Shared.{common_steps, ◌≡◌, ◌+◌, ◌-◌, ◌*◌, ◌/◌, ◌^◌, ◌<◌, ◌≤◌, ◌++◌, ◌⊎◌, ◌∙◌, ℕ, List, Bool, Option, Some, None, ap, ap₂, append_assoc, arith, drop, get_or, inl, inr, length, sym, take, cases_lt, drop-drop, get_or-take, length-append, length-take, AreGaps, Signal, length_of, gaps_within, part-touched, list_any, number_from_digits, lt-ltb, drop-append-le, ext_get_or, get_or-append_right, get_or_append_left, length-drop, length-replicate, take-append-le, drop-append-add, take-append-add, take-append_seam, get_or-map-range_with_len, hard_bit, sign, byte_of, bytes_of, symbols_kept}
-use Rattle.std.specs.Prelude.{ℤ, pos, bit_xor, replicate, nat_lt, not, ◌&&◌, if◌then◌else◌}
+use Rattle.rds_abi.proofs.Shared.{common_steps, ◌≡◌, ◌+◌, ◌-◌, ◌*◌, ◌/◌, ◌^◌, ◌<◌, ◌≤◌, ◌++◌, ◌⊎◌, ◌∙◌, ℕ, List, Bool, Option, Some, None, ap, ap₂, append_assoc, arith, drop, get_or, inl, inr, length, sym, take, cases_lt, drop-drop, get_or-take, length-append, length-take, AreGaps, Signal, length_of, gaps_within, part-touched, list_any, number_from_digits, lt-ltb, drop-append-le, ext_get_or, get_or-append_right, get_or_append_left, length-drop, length-replicate, take-append-le, drop-append-add, take-append-add, take-append_seam, get_or-map-range_with_len, hard_bit, sign, byte_of, bytes_of, symbols_kept, AreSymbolsOf, ℤ, pos, bit_xor, replicate, nat_lt, not, ◌&&◌, if◌then◌else◌}
 use Rattle.rds_stream.specs.Recording.{is_touched_by, touched}
 use Rattle.rds_abi.proofs.SoftSymbols.{byte_count_of, same-tables}
-use Rattle.rds_soft.proofs.InsideLemmas.{AreSymbolsOf}
 
 -- ---- bytes
 
@@ -79,9 +77,7 @@ erasures = replicate symbols_kept (pos 0)
 
 module _ (before : List ℤ) (place : ℕ) (taken : length before ≡ place) where
   front : (xs : List ℤ) → drop place (erasures ++ (before ++ xs)) ≡ drop place (erasures ++ before) ++ xs
-  front xs =
-      ap (drop place) (sym (append_assoc erasures before xs))
-      ∙ drop-append-le place (erasures ++ before) xs (omega (arith, taken, length-append erasures before))
+  front xs = grind (arith, common_steps, append_assoc erasures before xs, drop-append-le place (erasures ++ before) xs, length-append erasures before)
 
   front_long : length (drop place (erasures ++ before)) ≡ symbols_kept
   front_long = grind (arith, common_steps, length-drop, length-append, length-replicate)
@@ -89,22 +85,12 @@ module _ (before : List ℤ) (place : ℕ) (taken : length before ≡ place) whe
   -- the symbols kept and those after them are the last of all
   pub kept-on : (kept one piece : List ℤ) → kept ≡ take symbols_kept (drop place (erasures ++ (before ++ one)))
       → kept ++ piece ≡ drop place (erasures ++ (before ++ piece))
-  kept-on kept one piece is =
-      let last : kept ≡ drop place (erasures ++ before) =
-      is ∙ ap (take symbols_kept) (front one)
-      ∙ ap (λ (n : ℕ). take n (drop place (erasures ++ before) ++ one)) (sym front_long)
-      ∙ take-append_seam (drop place (erasures ++ before)) one in
-      ap (λ (xs : List ℤ). xs ++ piece) last ∙ sym (front piece)
+  kept-on kept one piece is = grind (arith, common_steps, front, front_long, take-append_seam (drop place (erasures ++ before)) one)
 
   -- and of these the symbols of the bytes that are kept
   pub part-symbols : (kept one piece : List ℤ) (k : ℕ) → kept ≡ take symbols_kept (drop place (erasures ++ (before ++ one))) → k ≤ symbols_kept → k ≤ place
       → drop (symbols_kept - k) (kept ++ piece) ≡ drop (place - k) (before ++ piece)
-  part-symbols kept one piece k is few early =
-      let at : place + (symbols_kept - k) ≡ length erasures + (place - k) = omega (arith, few, early, length-replicate symbols_kept (pos 0)) in
-      ap (drop (symbols_kept - k)) (kept-on kept one piece is)
-      ∙ drop-drop (symbols_kept - k) place (erasures ++ (before ++ piece))
-      ∙ ap (λ (n : ℕ). drop n (erasures ++ (before ++ piece))) at
-      ∙ drop-append-add erasures (before ++ piece) (place - k)
+  part-symbols kept one piece k is few early = grind (arith, common_steps, kept-on kept one piece is, drop-drop (symbols_kept - k) place (erasures ++ (before ++ piece)), drop-append-add erasures (before ++ piece) (place - k), length-replicate symbols_kept (pos 0))
 
 -- ---- a part and the whole
 

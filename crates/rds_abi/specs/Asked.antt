@@ -1,6 +1,5 @@
--- A caller's request: bytes, how many bits of them, the gaps in these, and the numbers of rules; its errors, and
--- its results. `totals` and `items` cite it, and by way of `Ranges` and `Stream` the other calls of a decoder. This
--- project's rules.
+-- A caller's request: bytes, how many bits of them, the gaps in these, and the numbers of rules; its errors, and its results. `totals` and
+-- `items` cite it, and by way of `Ranges` and `Stream` the other calls of a decoder. This project's rules.
 use Rattle.std.specs.Prelude.{◌≡◌, ℕ, ◌*◌, ◌^◌, ◌<◌, ◌≤◌, ◌⊎◌, ◌==◌, ◌++◌, List, drop, length, map, replicate, if◌then◌else◌, ⊤}
 use Rattle.rds_stream.specs.Recording.{AreGaps, Signal, bits_of}
 use Rattle.rds_sync.specs.Ranges.{IsInRange, IsRunOutside, IsShareOutside, farthest_reach, longest_burst}

@@ -31,8 +31,7 @@ loss_in_c (Share bad of) = (bad, of)
 abbrev pub searching_in_c : RdsState
 searching_in_c = record { due = 0; bad = 0; number = 0; first = 0; loss = 0; of = 0; reserved = 0 }
 
--- and a state by rules as such numbers: all 0 without sync, and else with the rule of loss that its bad blocks were
--- counted by
+-- and a state by rules as such numbers: all 0 without sync, and else with the rule of loss that its bad blocks were counted by
 abbrev pub state_in_c : RuleNumbers → State → RdsState
 state_in_c rules Searching = searching_in_c
 state_in_c rules (Locked lock) = record {
@@ -49,8 +48,7 @@ state_in_c rules (Locked lock) = record {
 abbrev pub IsLeftState : RuleNumbers → ℕ → RdsState → Type 0
 IsLeftState rules place s = IsLawfulState rules place (state_of s) × (s ≡ state_in_c rules (state_of s))
 
--- the further errors of a run: places that are no range of the recording, and then a state that no call can
--- have left before them
+-- the further errors of a run: places that are no range of the recording, and then a state that no call can have left before them
 abbrev pub RefusesPlaces : Asked → ℕ → ℕ → RdsState → Refusal → Type 0
 RefusesPlaces a from to s PlaceRange = (to < from) ⊎ (a.bits < to)
 RefusesPlaces a from to s UnlawfulState = (from ≤ to) × (to ≤ a.bits) × (IsLeftState (rules_of a.rules) from s → ⊥)

@@ -59,8 +59,7 @@ rules_in_c rules = record {
   reserved = replicate 4 0;
 }
 
--- and as such numbers: by the first a stream is known, and the order of bytes; zeros follow the tail; so equal streams are
--- equal numbers
+-- and as such numbers: by the first a stream is known, and the order of bytes; zeros follow the tail; so equal streams are equal numbers
 abbrev pub stream_in_c : LiveOf → RdsStream
 stream_in_c live = record {
   magic = 0x31534452;
@@ -159,7 +158,8 @@ RefusesPush rules gaps s bytes refusal =
     RefusesFollowed rules gaps s refusal
     ⊎ (IsFollowed rules gaps s × (2 ^ 36 < place_after s bytes) × (refusal ≡ TooLong))
 
--- the same by terms that are given. Or else these bytes are those of items that have no room, of which there are `count`
+-- by terms that are given: the items that the bytes `first` complete have no room, and `count` is their number; or the stream is refused or
+-- grows too long, and `Same` says that the count is as before
 abbrev pub RefusesOn : Terms → RdsStream → List ℕ → List ℕ → ℕ → ℕ → Type 0 → Refusal → Type 0
 RefusesOn terms s bytes first room count Same refusal =
     (IsLeft terms s × (place_after s bytes ≤ 2 ^ 36) × IsTooMuch (map item_in_c (items_after terms s first)) room refusal count)
@@ -195,15 +195,13 @@ abbrev pub AreCompleted : Terms → RdsStream → List ℕ → List Item → Typ
 AreCompleted terms s bytes items =
     (before : List ℕ) → HasHeard (stream_of terms s) before → complete terms (before ++ bytes) ≡ complete terms before ++ items
 
--- the group in progress at the end of the stream, if there is one: the items that were complete and this are
--- the report's
+-- the group in progress at the end of the stream, if there is one: the items that were complete and this are the report's
 abbrev pub AreClosed : Terms → RdsStream → List Item → Type 0
 AreClosed terms s items =
     (length items ≤ 1)
     × ((bytes : List ℕ) → HasHeard (stream_of terms s) bytes → complete terms bytes ++ items ≡ report_of terms bytes)
 
--- the items that the first bits of these bytes complete, and after them the group in progress if the stream
--- ends there
+-- the items that the first bits of these bytes complete, and after them the group in progress if the stream ends there
 abbrev pub AreLeft : Terms → RdsStream → List ℕ → ℕ → List Item → Type 0
 AreLeft terms s bytes bits items =
     (before : List ℕ) → HasHeard (stream_of terms s) before

@@ -1,9 +1,9 @@
 //! A caller's arguments, and the recording and rules made of them.
 
-ghost use Rattle.std.specs.Prelude.{◌≡◌, ◌*◌, ◌<◌, ◌≤◌, ◌↔◌, IfErr, IfOk, OnOk, length, true};
+ghost use Rattle.std.specs.Prelude.{◌≡◌, ◌<◌, ◌≤◌, ◌↔◌, IfErr, IfOk, OnOk, length, true};
 ghost use Rattle.std.specs.List.{All, AllAdjacentBelow};
 ghost use Rattle.rds_stream.specs.Recording.{AreGaps, length_of};
-ghost use Rattle.rds_abi.specs.Asked.{IsLawful, AreGiven, AreReserved, IsRecording, Refuses, RefusesGiven, RefusesRecording, asked, gaps_of, loss_of as the_loss_of, recording_of as the_recording_of, rules_of as the_rules_of};
+ghost use Rattle.rds_abi.specs.Asked.{IsLawful, AreGiven, AreReserved, IsRecording, Refuses, RefusesGiven, RefusesRecording, asked, gaps_of, recording_of as the_recording_of, rules_of as the_rules_of};
 ghost use Rattle.rds_abi.specs.declared.refusal.Refusal.TheVariants.{BadGaps};
 
 use crate::layout::{RdsGap, RdsRules};
@@ -12,28 +12,22 @@ use rds_stream::{MOST_BITS, Recording};
 use rds_sync::{Loss, RuleNumbers, Rules, SyncError};
 use std::alloc::{AllocError, Global};
 
-/// The rule of loss that these numbers say.
-fn loss_of(asked: RdsRules) -> Loss
-    ensures { result ≡ the_loss_of asked }
+/// The numbers of rules, as the decoder has them.
+fn numbers_of(asked: RdsRules) -> RuleNumbers
+    ensures { result ≡ the_rules_of asked }
 {
-    if asked.of == 0 {
+    let loss = if asked.of == 0 {
         Loss::Run(asked.loss)
     } else {
         Loss::Share {
             bad: asked.loss,
             of: asked.of,
         }
-    }
-}
-
-/// The numbers of rules, as the decoder has them.
-fn numbers_of(asked: RdsRules) -> RuleNumbers
-    ensures { result ≡ the_rules_of asked }
-{
+    };
     RuleNumbers {
         burst: asked.burst,
         reach: asked.reach,
-        loss: loss_of(asked),
+        loss,
     }
 }
 
@@ -73,15 +67,6 @@ pub(crate) fn gaps_in(alloc: Global, gaps: &[RdsGap]) -> Result<Vec<(u64, u64)>,
     gaps.iter().map(|gap| (gap.begin, gap.end)).collect(alloc)
 }
 
-/// How many of the bytes hold these bits: all, if they have fewer.
-fn held_bytes(bytes: &[u8], bits: u64) -> usize
-    ensures within { result ≤ length bytes.now }
-    ensures enough { bits ≤ 8 * length bytes.now → bits ≤ 8 * result }
-{
-    let len = bytes.len() as u64;
-    bits.div_ceil(8).min(len) as usize
-}
-
 /// The recording of these bits. Only the bytes that hold them are copied.
 fn recording_of(
     alloc: Global,
@@ -95,7 +80,7 @@ fn recording_of(
     ensures refused { IfErr result (RefusesRecording bytes.now bits gaps.now) }
 {
     refuse_recording(bytes, bits, gaps)?;
-    let copy = Vec::from_slice(alloc, &bytes[..held_bytes(bytes, bits)])?;
+    let copy = Vec::from_slice(alloc, &bytes[..bits.div_ceil(8) as usize])?;
     let places = gaps_in(alloc, gaps)?;
     match Recording::with_gaps(copy, bits, places) {
         Ok(recording) => Ok(recording),

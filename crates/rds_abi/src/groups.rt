@@ -8,9 +8,8 @@ use crate::layout::{RdsPacked, RdsWords};
 use crate::refusal::Refusal;
 use rds_code::encode_group;
 
-/// Writes the groups as they are sent to the beginning of `room`, 13 bytes each, or nothing if there is too
-/// little room. Block 3 has C' if bit 11 of the second word, the version bit, is set, and else C (EN
-/// 50067:1998, 2.1 and 3.1.2).
+/// Writes the groups as they are sent to the beginning of `room`, 13 bytes each, or nothing if there is too little room. Block 3 has C' if
+/// bit 11 of the second word, the version bit, is set, and else C (EN 50067:1998, 2.1 and 3.1.2).
 ///
 /// Refuses only `SmallRoom`.
 pub fn encode(groups: &[RdsWords], room: &mut [RdsPacked]) -> Result<(), Refusal>

@@ -113,8 +113,7 @@ pub struct RdsItem {
     pub blocks: [RdsBlock; 4],
     /// 1 an acquisition, 2 a group, 3 a loss.
     pub what: u8,
-    /// Of an acquisition the number of its block, 1 to 4; of a group its type, 0 to 15, or 255 if that is
-    /// unknown.
+    /// Of an acquisition the number of its block, 1 to 4; of a group its type, 0 to 15, or 255 if that is unknown.
     pub number: u8,
     /// Of a group its version: 1 A, 2 B, 3 unknown; else 0.
     pub version: u8,

@@ -11,15 +11,12 @@
 //! - [`push_soft`]: a stream of symbols, by an [`RdsSoft`] that the caller keeps.
 //! - [`remainder`], [`correct`] and [`encode`]: single blocks and groups.
 //! - [`Refusal`]: why a call is refused, with its number and name. By [`laws`] no two reasons hold at once.
-//! - [`RdsTotals`], [`RdsItem`], [`RdsBlock`], [`RdsGap`], [`RdsRules`], [`RdsWords`], [`RdsPacked`]: the
-//!   structs of C.
+//! - [`RdsTotals`], [`RdsItem`], [`RdsBlock`], [`RdsGap`], [`RdsRules`], [`RdsWords`], [`RdsPacked`]: the structs of C.
 //!
 //! # What callers may rely on
 //!
-//! - A call gives the results that `rds_sync` defines, laid out as `specs/Layout.antt` says; of a stream,
-//!   those of `rds_live`.
-//! - A refused call has left everything that it was lent as it was, and says which of the reasons in `specs/Asked.antt`
-//!   holds.
+//! - A call gives the results that `rds_sync` defines, laid out as `specs/Layout.antt` says; of a stream, those of `rds_live`.
+//! - A refused call has left everything that it was lent as it was, and says which of the reasons in `specs/Asked.antt` holds.
 //! - Equal states, and equal streams, are equal numbers: they may be compared, stored and hashed as the bytes that they are.
 #![tactic(auto)]
 

@@ -9,8 +9,7 @@ use crate::refusal::Refusal;
 /// The version of the library: 65536 times the first number, 256 times the second, and the third.
 pub const VERSION: u32 = 2 * 256;
 
-/// Writes the name of the refusal of this number, followed by a 0, to the beginning of `room`: 16 bytes are
-/// enough for any.
+/// Writes the name of the refusal of this number, followed by a 0, to the beginning of `room`: 16 bytes are enough for any.
 ///
 /// Refuses `NoRefusal` if there is none of this number, and then `SmallRoom`.
 pub fn refusal_name(number: u8, room: &mut [u8]) -> Result<(), Refusal>

@@ -8,7 +8,7 @@ ghost use Rattle.rds_sync.specs.Rules.{RuleNumbers};
 ghost use Rattle.rds_sync.specs.declared.state.State.TheVariants.{Searching};
 ghost use Rattle.rds_sync.specs.Step.{items_of_end, run as the_run};
 ghost use Rattle.rds_live.specs.Moving.{IsPartHeard, moved_item, moved_items, moved_state};
-ghost use Rattle.rds_live.specs.Places.{is_due_below, place_of};
+ghost use Rattle.rds_live.specs.Places.{place_of};
 ghost use Rattle.rds_abi.specs.Asked.{IsFilled, IsTooMuch, asked, recording_of as the_recording_of, rules_of as the_rules_of};
 ghost use Rattle.rds_abi.specs.declared.refusal.Refusal.TheVariants.{OutOfMemory, PlaceRange, SmallRoom, UnlawfulState};
 ghost use Rattle.rds_abi.specs.Ranges.{IsLeftState, IsRun, RefusesItemsAtEnd, RefusesItemsOfRun, RefusesRun, items_at_end, items_of_run, loss_in_c as the_loss_in_c, run_asked, run_from, searching_in_c, state_in_c as the_state_in_c, state_of as the_state_of};
@@ -242,20 +242,8 @@ fn go_on(
     }
     let items = Decoder::new(&start.part.recording, &start.rules, start.state, from, to);
     fill_run(room, items, before);
-    *state = end_in_c(start, end);
+    *state = state_in_c(&start.rules, moved_on(end, start.part.before));
     Ok(())
-}
-
-/// The state at the end of a run over places of the part, for C.
-fn end_in_c(start: &Start, end: State) -> RdsState
-    requires early { is_due_below (2 ^ 63) end }
-    requires limit { start.now.part.before < 2 ^ 63 }
-    ensures value { result ≡ the_state_in_c start.now.rules (moved_state start.now.part.before end) }
-    ensures says { (rules : RuleNumbers) (place : ℕ)
-        → IsLawfulState rules place (moved_state start.now.part.before end)
-        → the_state_of result ≡ moved_state start.now.part.before end }
-{
-    state_in_c(&start.rules, moved_on(end, start.part.before))
 }
 
 /// The state at the end of a run over places of the part, and how many items it gives.

@@ -31,8 +31,7 @@ pub enum Refusal {
     /// The share is not `loss` of the last `of` blocks, 1 ≤ loss ≤ of ≤ 64.
     #[error("the share is not 1 to 64 bad blocks of as many or more, up to 64")]
     ShareRange,
-    /// The gaps of a recording each have a place, are within its bits, and begin at or after the end of the
-    /// one before.
+    /// The gaps of a recording each have a place, are within its bits, and begin at or after the end of the one before.
     #[error("gaps that are empty, out of order or past the bits")]
     BadGaps,
     /// There is too little room for the items. How many there are was told.

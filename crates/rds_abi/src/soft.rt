@@ -6,7 +6,6 @@ ghost use Rattle.rds_live.specs.Gaps.{gaps_within as the_gaps_within};
 ghost use Rattle.rds_live.specs.StreamDecoder.{most_kept};
 ghost use Rattle.rds_live.specs.Next.{completed, live_next};
 ghost use Rattle.rds_soft.specs.Symbols.{hard_bit};
-ghost use Rattle.rds_soft.specs.declared.soft_item.SoftItem.TheVariants.{Group as InSoft};
 ghost use Rattle.rds_soft.specs.ReadAgain.{group_again, symbols_of};
 ghost use Rattle.rds_abi.specs.Asked.{IsFilled, gaps_of};
 ghost use Rattle.rds_abi.specs.Stream.{GoesOn, IsFollowed, IsLaid, IsLeft, RefusesOn, items_after, place_after, terms_of};
@@ -24,7 +23,6 @@ use crate::stream::{
 };
 use rds_live::StreamDecoder;
 use rds_live::laws::next_is_heard;
-use rds_soft::laws::{items_are_read_again_alike, items_are_read_again_so};
 use rds_soft::{Margin, Search, SoftGroup, SoftItem, pack_bits};
 use rds_stream::Recording;
 use rds_sync::{Group, Item, laws};
@@ -153,18 +151,12 @@ fn again_in(search: &mut Search, source: &Source<'_>, item: Item) -> SoftItem
     match item {
         Item::Acquired { place, number } => SoftItem::Acquired { place, number },
         Item::LostLock { place } => SoftItem::LostLock { place },
-        Item::Group(group) => SoftItem::Group(group_in(search, source, group)),
+        Item::Group(group) => {
+            let place = group.place;
+            let there = group_there(search, source, group);
+            SoftItem::Group(SoftGroup { place, ..there })
+        }
     }
-}
-
-/// A group of the stream, read again from a part of it.
-fn group_in(search: &mut Search, source: &Source<'_>, group: Group) -> SoftGroup
-    ensures { InSoft result ≡ the_again_in source.now.recording.now (symbols_of source.now.symbols.now) source.now.before source.now.margin
-        (Item.Group group) }
-{
-    let place = group.place;
-    let there = group_there(search, source, group);
-    SoftGroup { place, ..there }
 }
 
 /// The group at its place in the part.
@@ -172,9 +164,6 @@ fn group_there(search: &mut Search, source: &Source<'_>, group: Group) -> SoftGr
     ensures { result ≡ group_again source.now.recording.now (symbols_of source.now.symbols.now) source.now.margin
         (group.place - source.now.before) group.blocks }
 {
-    items_are_read_again_alike();
-    items_are_read_again_so();
-    let _range = source.margin.weight();
     let there = Item::Group(Group {
         place: group.place.saturating_sub(source.before),
         ..group
@@ -259,16 +248,6 @@ fn items_of(
     }
 }
 
-/// Room for searches.
-fn search_of(alloc: Global) -> Result<Search, Refusal>
-    ensures { IfErr result (λ refusal. refusal ≡ OutOfMemory) }
-{
-    match Search::new(alloc) {
-        Ok(search) => Ok(search),
-        Err(_) => Err(Refusal::OutOfMemory),
-    }
-}
-
 /// Takes the symbols of these bytes: writes the items that they complete, read again, how many they are, and the stream after them.
 fn go_on(
     alloc: Global,
@@ -302,7 +281,9 @@ fn go_on(
     refuse_long(stream.stream.place, bytes)?;
     let near = near_of(alloc, gaps, stream, piece, bytes)?;
     let items = items_of(alloc, &mut live, bytes)?;
-    let mut search = search_of(alloc)?;
+    let Ok(mut search) = Search::new(alloc) else {
+        return Err(Refusal::OutOfMemory);
+    };
     let found = items.len() as u64;
     if room.len() < items.len() {
         *count = found;

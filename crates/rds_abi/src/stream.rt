@@ -8,7 +8,7 @@ ghost use Rattle.rds_live.specs.StreamDecoder.{HasHeard, IsStreamDecoder, comple
 ghost use Rattle.rds_live.specs.Next.{completed, live_next};
 ghost use Rattle.rds_sync.specs.Ranges.{IsInRange};
 ghost use Rattle.rds_abi.specs.Asked.{AreGiven, IsFilled, gaps_of, rules_of as the_rules_of};
-ghost use Rattle.rds_abi.specs.Stream.{AreClosed, AreCompleted, AreLast, AreLeft, AreTooMany, AreTotals, AreTotalsAt, AreWritten, GoesOn, HearsOn, IsFollowed, IsLaid, IsLeft, IsMostTaken, IsNamed, IsNear, RefusesClosed, RefusesEnd, RefusesFollowed, RefusesLast, RefusesLeft, RefusesOn, RefusesStream, RefusesTaken, RefusesTold, items_after, place_after, rules_in_c as the_rules_in_c, stream_in_c as the_stream_in_c, stream_of as the_stream_of, terms_of, totals_from_c, unheard};
+ghost use Rattle.rds_abi.specs.Stream.{AreClosed, AreCompleted, AreLast, AreLeft, AreTooMany, AreTotals, AreTotalsAt, AreWritten, GoesOn, HearsOn, IsFollowed, IsLaid, IsLeft, IsMostTaken, IsNamed, IsNear, RefusesClosed, RefusesFollowed, RefusesLast, RefusesLeft, RefusesOn, RefusesStream, RefusesTaken, RefusesTold, items_after, place_after, rules_in_c as the_rules_in_c, stream_in_c as the_stream_in_c, stream_of as the_stream_of, terms_of, totals_from_c, unheard};
 ghost use Rattle.rds_abi.specs.Layout.{item_in_c, totals_in_c};
 ghost use Rattle.rds_abi.specs.declared.refusal.Refusal.TheVariants.{BitsPastBytes, OutOfMemory, SmallRoom, TooLong};
 
@@ -271,22 +271,19 @@ fn fill_room(room: &mut [RdsItem], items: &[Item])
     }
 }
 
-/// Takes as many of the next bytes of a stream, the highest bit of a byte first, as there is room for the
-/// items that they complete. It writes these to the beginning of `room`, how many they are to `count`, the
-/// stream after them to `stream`, and how many bytes it took to `taken`. The others are to be offered again.
-/// The bytes may be any number, none too. The gaps are places in the stream.
+/// Takes as many of the next bytes of a stream, the highest bit of a byte first, as there is room for the items that they complete. It
+/// writes these to the beginning of `room`, how many they are to `count`, the stream after them to `stream`, and how many bytes it took to
+/// `taken`. The others are to be offered again. The bytes may be any number, none too. The gaps are places in the stream.
 ///
-/// It takes all bytes, or the items of one byte more would not fit. A byte completes at most 16 items, so room for 16 is never
-/// too little.
+/// It takes all bytes, or the items of one byte more would not fit. A byte completes at most 16 items, so room for 16 is never too little.
 ///
 /// However a stream was cut, the items are those of the run over all bytes, and with [`finish`] they are the
 /// report's. The numbers of the stream are the same, too, so these may be compared.
 ///
-/// Refuses rules out of their range, then gaps that no stream may have, then `UnlawfulState`, then `TooLong`,
-/// past 2^36 bits with all that are offered. It then refuses `SmallRoom`, if the items of the first byte do
-/// not fit: `count` tells how many they are, and nothing else was written. Memory may be refused at any time.
-/// It is taken for the tables of the rules, for the gaps near the bytes, and for as many items as there is room for, or as 960
-/// bytes may complete.
+/// Refuses rules out of their range, then gaps that no stream may have, then `UnlawfulState`, then `TooLong`, past 2^36 bits with all that
+/// are offered. It then refuses `SmallRoom`, if the items of the first byte do not fit: `count` tells how many they are, and nothing else
+/// was written. Memory may be refused at any time. It is taken for the tables of the rules, for the gaps near the bytes, and for as many
+/// items as there is room for, or as 960 bytes may complete.
 pub fn push(
     alloc: Global,
     bytes: &[u8],
@@ -357,7 +354,8 @@ fn go_on(
     let mut some = Vec::with_capacity(alloc, ITEMS_A_BYTE * at_once)?;
     match take_fitting(&mut live, &told.rules, bytes, stream, room, &mut some) {
         Ok(fit) => {
-            fit.tell(taken, count);
+            *taken = fit.taken as u64;
+            *count = fit.count as u64;
             Ok(())
         }
         Err(needed) => {
@@ -413,20 +411,10 @@ impl Fit {
             count: self.count + more.count,
         }
     }
-
-    /// Writes the two numbers.
-    fn tell(self, taken: &mut u64, count: &mut u64)
-        ensures taken { taken.new ≡ self.taken }
-        ensures count { count.new ≡ self.count }
-    {
-        *taken = self.taken as u64;
-        *count = self.count as u64;
-    }
 }
 
-/// Has the decoder take as many of the next bytes as there is room for the items that they complete, and
-/// writes the items, and the stream after them. Refuses if the items of the first byte do not fit, and tells
-/// how many they are.
+/// Has the decoder take as many of the next bytes as there is room for the items that they complete, and writes the items, and the stream
+/// after them. Refuses if the items of the first byte do not fit, and tells how many they are.
 fn take_fitting(
     live: &mut StreamDecoder<'_>,
     rules: &Rules,
@@ -465,9 +453,8 @@ fn take_fitting(
     Ok(fit)
 }
 
-/// Has the decoder take some of the next bytes, as many as surely have room, or one: writes the items that
-/// they complete, and the stream after them. Refuses if the items of one byte do not fit, and tells how many
-/// they are.
+/// Has the decoder take some of the next bytes, as many as surely have room, or one: writes the items that they complete, and the stream
+/// after them. Refuses if the items of one byte do not fit, and tells how many they are.
 fn take_piece(
     live: &mut StreamDecoder<'_>,
     rules: &Rules,
@@ -508,8 +495,7 @@ fn take_piece(
     }
 }
 
-/// Writes the items, and the stream that the decoder has after them. Refuses if they do not fit. Either way
-/// it tells how many they are.
+/// Writes the items, and the stream that the decoder has after them. Refuses if they do not fit. Either way it tells how many they are.
 fn write_taken(
     live: &StreamDecoder<'_>,
     rules: &Rules,
@@ -537,9 +523,8 @@ fn write_taken(
     Ok(count)
 }
 
-/// Ends a stream: writes the group in progress, as far as it was read, to the beginning of `room`, and to
-/// `count` how many groups these are, one or none. It writes to `totals` those of the report of all that was
-/// heard. The stream is left as it is, and can be continued.
+/// Ends a stream: writes the group in progress, as far as it was read, to the beginning of `room`, and to `count` how many groups these
+/// are, one or none. It writes to `totals` those of the report of all that was heard. The stream is left as it is, and can be continued.
 ///
 /// Refuses as [`push`] does, except `TooLong`.
 pub fn finish(
@@ -602,13 +587,11 @@ pub fn check(
     Ok(())
 }
 
-/// Ends a stream with the first `bits` bits of these bytes, so inside a byte too. It writes the items that
-/// they complete to the beginning of `room`, and after them the group in progress, as far as it was read; to
-/// `count` how many these are; and to `totals` those of the report of all that was heard, and of these bits.
-/// The stream is left as it is.
+/// Ends a stream with the first `bits` bits of these bytes, so inside a byte too. It writes the items that they complete to the beginning
+/// of `room`, and after them the group in progress, as far as it was read; to `count` how many these are; and to `totals` those of the
+/// report of all that was heard, and of these bits. The stream is left as it is.
 ///
-/// Refuses as [`push`] does, and after `TooLong` `BitsPastBytes`, if the bytes have fewer bits. It takes
-/// memory as that does.
+/// Refuses as [`push`] does, and after `TooLong` `BitsPastBytes`, if the bytes have fewer bits. It takes memory as that does.
 pub fn finish_with(
     alloc: Global,
     bytes: &[u8],
@@ -628,49 +611,11 @@ pub fn finish_with(
     ensures refused { IfErr result
         (RefusesLeft rules gaps.now stream.now bytes.now bits (length room.old) count.old count.new) }
 {
-    let (items, found) = left_of(alloc, bytes, bits, gaps, rules, stream)?;
-    write_left(room, &items, found, count, totals)?;
-    Ok(())
-}
-
-/// Writes the items to the beginning of the room, how many they are to the count, and the totals.
-fn write_left(
-    room: &mut [RdsItem],
-    items: &[Item],
-    found: Totals,
-    count: &mut u64,
-    totals: &mut RdsTotals,
-) -> Result<(), Refusal>
-    ensures filled { OnOk result (IsFilled (map item_in_c items.now) room.old room.new) }
-    ensures totals { OnOk result (totals.new ≡ totals_in_c found) }
-    ensures count { count.new ≡ length items.now }
-    ensures untouched { OnErr result ((room.new ≡ room.old) × (totals.new ≡ totals.old)) }
-    ensures refused { IfErr result (λ refusal. (refusal ≡ SmallRoom) × (length room.old < length items.now)) }
-{
-    write_items(room, items, count)?;
+    let told = told_of(alloc, rules, gaps)?;
+    let (items, found) = last_of(alloc, &told, bytes, bits, stream)?;
+    write_items(room, &items, count)?;
     *totals = totals_in_c(found);
     Ok(())
-}
-
-/// The items that the first `bits` bits of these bytes complete, then the group in progress if the stream
-/// ends there, and the totals of the report.
-fn left_of(
-    alloc: Global,
-    bytes: &[u8],
-    bits: u64,
-    gaps: &[RdsGap],
-    rules: RdsRules,
-    stream: &RdsStream,
-) -> Result<(Vec<Item>, Totals), Refusal>
-    ensures items { IfOk result (λ r. AreLeft (terms_of rules gaps.now) stream.now bytes.now bits r.0.items) }
-    ensures totals { IfOk result
-        (λ r. (before : List ℕ) → HasHeard (the_stream_of (terms_of rules gaps.now) stream.now) before
-        → r.1 ≡ totals_of (report_at (terms_of rules gaps.now) (before ++ bytes.now) (8 * length before + bits))) }
-    ensures lawful { IfOk result (λ _. IsFollowed rules gaps.now stream.now × AreLast stream.now bytes.now bits) }
-    ensures refused { IfErr result (RefusesEnd rules gaps.now stream.now bytes.now bits) }
-{
-    let told = told_of(alloc, rules, gaps)?;
-    last_of(alloc, &told, bytes, bits, stream)
 }
 
 /// The items that these bits complete, then the group in progress, and the totals of the report.
@@ -713,8 +658,7 @@ fn refuse_last(place: u64, bytes: &[u8], bits: u64) -> Result<(), Refusal>
     Ok(())
 }
 
-/// The items that the first `bits` bits complete, then the group in progress if the stream ends there, and
-/// the totals of the report.
+/// The items that the first `bits` bits complete, then the group in progress if the stream ends there, and the totals of the report.
 fn end_of_stream(
     alloc: Global,
     live: StreamDecoder<'_>,

@@ -13,9 +13,8 @@ use std::alloc::Global;
 
 /// The totals of the first `bits` bits of these bytes, the highest bit of a byte first, with these gaps, by these rules.
 ///
-/// Refuses rules out of their range, then a recording that is too long, or longer than the bytes, or whose
-/// gaps are none. Otherwise it fails only if memory is refused. It takes memory for a copy of the bytes and
-/// for the parts of a report that are kept.
+/// Refuses rules out of their range, then a recording that is too long, or longer than the bytes, or whose gaps are none. Otherwise it
+/// fails only if memory is refused. It takes memory for a copy of the bytes and for the parts of a report that are kept.
 pub fn totals(
     alloc: Global,
     bytes: &[u8],
@@ -34,8 +33,7 @@ pub fn totals(
     }
 }
 
-/// Writes the items of the first `bits` bits of these bytes to the beginning of `room`, in order, and how many
-/// they are to `count`.
+/// Writes the items of the first `bits` bits of these bytes to the beginning of `room`, in order, and how many they are to `count`.
 ///
 /// Refuses as [`totals`] does, and then `SmallRoom` if they are more than there is room for: `count` tells
 /// how many, and nothing else was written. It takes memory as [`totals`] does.

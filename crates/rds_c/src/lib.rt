@@ -1,8 +1,7 @@
 //! The decoder for C, and for any language that calls C.
 //!
-//! Each function here is one of `rds_abi`'s, under the name that C calls it by. It returns 0 for `Ok`, and
-//! else the number of the refusal. `rds.h` states the requirements on each pointer, who owns it, and which
-//! calls may run at once.
+//! Each function here is one of `rds_abi`'s, under the name that C calls it by. It returns 0 for `Ok`, and else the number of the refusal.
+//! `rds.h` states the requirements on each pointer, who owns it, and which calls may run at once.
 //!
 //! # What callers may rely on
 //!

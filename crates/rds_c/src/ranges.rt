@@ -44,9 +44,8 @@ pub extern "C" fn rds_run(
     }
 }
 
-/// Writes the group in progress at a recording's end, if a run over it ended in this state, to the beginning
-/// of `room`, and to `count` how many groups these are, one or none. It returns 0, or the number of a
-/// refusal. After that of `SmallRoom` only `count` was written.
+/// Writes the group in progress at a recording's end, if a run over it ended in this state, to the beginning of `room`, and to `count` how
+/// many groups these are, one or none. It returns 0, or the number of a refusal. After that of `SmallRoom` only `count` was written.
 #[unsafe(no_mangle)]
 pub extern "C" fn rds_finish_run(
     alloc: Global,

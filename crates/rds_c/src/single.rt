@@ -29,8 +29,7 @@ pub extern "C" fn rds_remainder(word: u32, found: &mut u16) -> u8
     }
 }
 
-/// Writes a word of 26 bits read as the block with this offset, corrected by up to `limit` bits, and returns 0, or the
-/// number of a refusal.
+/// Writes a word of 26 bits read as the block with this offset, corrected by up to `limit` bits, and returns 0, or the number of a refusal.
 #[unsafe(no_mangle)]
 pub extern "C" fn rds_correct(
     alloc: Global,

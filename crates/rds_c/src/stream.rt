@@ -10,10 +10,9 @@ ghost use Rattle.rds_abi.specs.Layout.{item_in_c};
 use rds_abi::{RdsGap, RdsItem, RdsRules, RdsStream, RdsTotals, check, finish, finish_with, push};
 use std::alloc::Global;
 
-/// Takes as many of the next bytes of a stream as there is room for the items that they complete. It writes
-/// these to the beginning of `room`, how many they are to `count`, how many bytes it took to `taken`, and the
-/// stream after them to `stream`. It returns 0, or the number of a refusal. After that of `SmallRoom`, if the
-/// items of the first byte do not fit, only `count` was written.
+/// Takes as many of the next bytes of a stream as there is room for the items that they complete. It writes these to the beginning of
+/// `room`, how many they are to `count`, how many bytes it took to `taken`, and the stream after them to `stream`. It returns 0, or the
+/// number of a refusal. After that of `SmallRoom`, if the items of the first byte do not fit, only `count` was written.
 #[unsafe(no_mangle)]
 pub extern "C" fn rds_push(
     alloc: Global,
@@ -82,10 +81,9 @@ pub extern "C" fn rds_finish(
     }
 }
 
-/// Ends a stream with the first `bits` bits of these bytes. It writes the items that they complete to the
-/// beginning of `room`, and after them the group in progress, and to `count` how many these are. It writes to
-/// `totals` those of the report of all that was heard and of these bits. It returns 0, or the number of a
-/// refusal. After that of `SmallRoom` only `count` was written.
+/// Ends a stream with the first `bits` bits of these bytes. It writes the items that they complete to the beginning of `room`, and after
+/// them the group in progress, and to `count` how many these are. It writes to `totals` those of the report of all that was heard and of
+/// these bits. It returns 0, or the number of a refusal. After that of `SmallRoom` only `count` was written.
 #[unsafe(no_mangle)]
 pub extern "C" fn rds_finish_with(
     alloc: Global,

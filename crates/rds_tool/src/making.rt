@@ -24,7 +24,6 @@ impl<'a> Task<'a> {
     ghost use Rattle.rds_tool.specs.Tasks.{task_of};
 
     /// The task of a job. A setting out of its range is refused as such, whether or not there is memory.
-    #[tactic(auto, using(crate::proofs::Steps::task_steps))]
     pub fn of(alloc: Global, job: &'a Job) -> Result<Task<'a>, ToolError>
         ensures ok { IfOk result (λ task. task_of job.now ≡ Ok task) }
         ensures refused { IfErr result (IsMemoryOrErrOf (task_of job.now)) }

@@ -6,7 +6,7 @@ ghost use Rattle.rds_tool.specs.Soft.{recording_of_symbols as the_recording_of};
 
 use crate::input::first_bits;
 use crate::{Input, ToolError};
-use rds_soft::{Margin, Search, SoftItem, laws, pack_bits};
+use rds_soft::{Margin, Search, SoftItem, pack_bits};
 use rds_stream::{MOST_BITS, Recording};
 use rds_sync::Item;
 use std::alloc::Global;
@@ -43,9 +43,6 @@ impl SoftSource {
     pub fn read_again(&self, search: &mut Search, item: &Item) -> SoftItem
         ensures { result ≡ item_again self.now.recording (symbols_of self.now.symbols.items) self.now.margin item.now }
     {
-        laws::items_are_read_again_so();
-        laws::items_are_read_again_alike();
-        let _weight = self.margin.weight();
         search.read_again(&self.recording, self.symbols.as_slice(), self.margin, item)
     }
 }

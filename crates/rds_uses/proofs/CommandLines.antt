@@ -21,16 +21,6 @@ same computed x y is given = let both : Ok x ≡ Ok y = sym is ∙ given in cc
 
 -- ---- gaps
 
-abbrev pub scan_with_a_gap : List Text
-scan_with_a_gap = codes "rds" ∷ codes "scan" ∷ codes "--gaps" ∷ codes "104-105" ∷ []
-
-abbrev gap_asked : Asked
-gap_asked = record { request = request.Job (job.Scan (record { hex = false; bits = None; gaps = (104, 105) ∷ [] }) 4) false; ignored = None }
-
-pub scans_with_the_gap : (asked : Asked) → asked_by (entries_of scan_with_a_gap) ≡ Ok asked → asked.request ≡ gap_asked.request
-unfolding walked
-scans_with_the_gap asked is = ap (λ (a : Asked). a.request) (same (asked_by (entries_of scan_with_a_gap)) gap_asked asked refl is)
-
 abbrev pub scan_with_bad_gaps : List Text
 scan_with_bad_gaps = codes "rds" ∷ codes "scan" ∷ codes "--gaps" ∷ codes "5" ∷ []
 

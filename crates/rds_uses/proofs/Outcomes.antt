@@ -1,12 +1,11 @@
 -- The outcomes of jobs over the bits of bytes.
-use Rattle.rds_uses.proofs.Names.{BadCutting, Bool, Err, Input, Job, List, ListsEndWithTotals, None, Ok, PlanOf, Result, RuleNumbers, Settings, Signal, Some, ToolError, Writes, WritesPrefix, [], and_then, ap, append-nil, ap₂, arith, cond, crew_of, false, groups_in, length, length_of, list_text, plan_of, refl, result_of_job, result_unwrap_or, rows_so_far, sent_listing, stream_input, subst, sym, text_of_task, true, whole_input, workers_of, ℕ, ◌*◌, ◌++◌, ◌^◌, ◌∙◌, ◌∷◌, ◌≡◌, ◌≤◌}
+use Rattle.rds_uses.proofs.Names.{BadCutting, Bool, Err, Input, Job, List, ListsEndWithTotals, None, Ok, PlanOf, Result, RuleNumbers, Settings, Signal, Some, ToolError, Writes, WritesPrefix, [], and_then, ap, append-nil, ap₂, arith, cond, crew_of, false, groups_in, length, length_of, list_text, plan_of, refl, result_of_job, result_unwrap_or, rows_so_far, sent_listing, stream_input, subst, sym, text_of_task, true, whole_input, ℕ, ◌*◌, ◌++◌, ◌^◌, ◌∙◌, ◌∷◌, ◌≡◌, ◌≤◌}
 use Rattle.std.proofs.lemmas.Bool.Decides.{nat_tests}
 use Rattle.rds_tool.specs.Cuts.{cuts_bits}
 use Rattle.rds_tool.specs.Input.{recording_of}
 use Rattle.rds_tool.specs.Laws.{EncodedGroupsAreListed}
-use Rattle.rds_tool.specs.Listing.{scan_text}
 use Rattle.rds_tool.specs.Rules.{rules_of}
-use Rattle.rds_uses.specs.Jobs.{IsListBy, IsScan, all_bits, plain}
+use Rattle.rds_uses.specs.Jobs.{IsListBy, all_bits, plain}
 use Rattle.rds_tool.specs.WellFormed.{DifferInGaps, GapsHideBits, IsWellFormed, ListsAreWellFormed, RowsBeginLists}
 use Rattle.rds_tool.specs.declared.job.Job.TheVariants as job
 use Rattle.rds_tool.specs.declared.task.Task.TheVariants as task
@@ -68,33 +67,10 @@ module _ (bytes text : List ℕ) (few : 8 * length bytes ≤ 2 ^ 36) (rules : Ru
   pub list-text : rules_of settings ≡ Ok rules → result_of_job (job.List plain settings) bytes ≡ Ok text → text ≡ list_text rules (all_bits bytes)
   list-text by is = list_if_crew (crew_of settings) (rw by at is)
 
-module _ (bytes new : List ℕ) (few : 8 * length bytes ≤ 2 ^ 36) (rules : RuleNumbers) where
-  -- what a listing writes into an empty writer
-  pub listed : (job : Job) → IsListBy job rules → result_of_job job bytes ≡ Ok new → new ≡ list_text rules (all_bits bytes)
-  listed (job.List input settings) by is =
-      let same = by.0 in
-      list-text bytes new few rules settings by.1 (rw same at is)
-  listed (job.Scan input workers) by is = absurd by
-  listed (job.Totals input settings) by is = absurd by
-  listed (job.Encode hex) by is = absurd by
-  listed (job.Soft input settings margin rows) by is = absurd by
-
-module _ (input : Input) (recorded : Signal) (bytes text : List ℕ) (is_recording : recording_of input bytes ≡ Ok recorded) where
-  -- the text of a scan, if there are workers
-  scan-text : (crew : Result ℕ ToolError)
-      → and_then (and_then crew (λ workers. Ok (task.Scan input workers))) (λ task. text_of_task task bytes) ≡ Ok text → text ≡ scan_text recorded
-  scan-text (Ok workers) is = let made = rw is_recording at is in cc
-  scan-text (Err e) is = let none : Err e ≡ Ok text = is in cc
-
-module _ (bytes new : List ℕ) (few : 8 * length bytes ≤ 2 ^ 36) where
-  -- what a scan writes into an empty writer
-  pub scanned : (asked : Job) → IsScan asked → result_of_job asked bytes ≡ Ok new → new ≡ scan_text (all_bits bytes)
-  scanned (job.Scan input workers) by is =
-      scan-text plain (all_bits bytes) bytes new (all_bits-few bytes few) (workers_of workers) (rw by at is)
-  scanned (job.List input settings) by is = absurd by
-  scanned (job.Totals input settings) by is = absurd by
-  scanned (job.Encode hex) by is = absurd by
-  scanned (job.Soft input settings margin rows) by is = absurd by
+-- what a listing writes into an empty writer
+pub listed : (bytes new : List ℕ) (rules : RuleNumbers) (job : Job) → 8 * length bytes ≤ 2 ^ 36 → IsListBy job rules → result_of_job job bytes ≡ Ok new
+    → new ≡ list_text rules (all_bits bytes)
+listed bytes new rules job few by is = list-text bytes new few rules by.0 by.2 (rw by.1 at is)
 
 -- ---- laws of jobs
 

@@ -21,16 +21,9 @@ plain = record { hex = false; bits = None; gaps = [] }
 
 -- it asks for the listing by these rules, whoever works, and however the recording is cut
 abbrev pub IsListBy : Job → RuleNumbers → Type 0
-IsListBy (job.List input settings) rules = (input ≡ plain) × (rules_of settings ≡ Ok rules)
-IsListBy other rules = ⊥
+IsListBy asked rules = (settings : Settings) × (asked ≡ job.List plain settings) × (rules_of settings ≡ Ok rules)
 
--- it asks for the valid windows, whoever works
-abbrev pub IsScan : Job → Type 0
-IsScan (job.Scan input workers) = input ≡ plain
-IsScan other = ⊥
-
--- it asks for the listing of a stream, of the bits claimed and with these gaps. The plan has these rules and
--- pieces of one length
+-- it asks for the listing of a stream, of the bits claimed and with these gaps. The plan has these rules and pieces of one length
 pub record IsListOfStream (asked : Job) (rules : RuleNumbers) (bits : Option ℕ) (gaps : List (ℕ × ℕ)) : Type 0 where
   pub settings : Settings
   pub plan : PlanOf

@@ -1,6 +1,5 @@
-//! Facts that a user of `rds_code` relies on: remainders, offsets, bursts, and blocks as they are sent and
-//! read.
-ghost use Rattle.std.specs.Prelude.{◌≡◌, ◌≢◌, ℕ, ◌+◌, ◌<◌, ◌≤◌, ◌^◌, ◌↔◌, ◌⊎◌, ◌∷◌, [], IsTrue, IfOk, None, Some, Contains, bit_xor, codes, slice_index, true};
+//! Facts that a user of `rds_code` relies on: remainders, offsets, bursts, and blocks as they are sent and read.
+ghost use Rattle.std.specs.Prelude.{◌≡◌, ◌≢◌, ℕ, ◌+◌, ◌<◌, ◌^◌, ◌↔◌, ◌⊎◌, ◌∷◌, [], IsTrue, IfOk, None, Some, Contains, bit_xor, codes, slice_index, true};
 ghost use Rattle.std.specs.Int.{bit_at};
 ghost use Rattle.std.specs.Int.Count.{ones};
 ghost use Rattle.rds_code.specs.declared.offset.Offset.{Offset as AnOffset};
@@ -149,23 +148,24 @@ pub fn is_the_block(w: u32, info: u16, offset: Offset) -> bool
     encode_block(info, offset) == w
 }
 
-/// A block that is sent is valid. After a block 2 with its version bit set, only C' is wanted for block 3.
-pub fn sent_and_told(outcomes: &Outcomes, info: u16, offset: Offset, wanted: Wanted) -> (u8, Wanted)
-    ensures outcome { result.0 ≡ 1 }
-    ensures wanted { offset ≡ B → bit_at info 11 ≡ 1 → result.1 ≡ OnlyCx }
+/// A block that is sent is valid, by outcomes for any limit. After a block 2 with its version bit set, only C' is wanted for block 3.
+pub fn sent_and_told(
+    alloc: Global,
+    table: &BurstTable,
+    limit: BurstLimit,
+    info: u16,
+    offset: Offset,
+    wanted: Wanted,
+) -> Result<(u8, Wanted), CodeError>
+    ensures outcome { IfOk result (λ told. told.0 ≡ 1) }
+    ensures wanted { IfOk result (λ told. offset ≡ B → bit_at info 11 ≡ 1 → told.1 ≡ OnlyCx) }
 {
     laws::blocks_are_read_as_sent();
+    let outcomes = Outcomes::new(alloc, table, limit)?;
+    prove!(outcomes.limit().bits() == limit.bits());
     let sent = encode_block(info, offset);
     let outcome = outcomes.of_block(sent, offset.number(), wanted);
-    (outcome, outcomes.wanted_after(sent))
-}
-
-/// Outcomes are by the limit that they were made for.
-pub fn told_limit(alloc: Global, table: &BurstTable, limit: BurstLimit) -> Result<u8, CodeError>
-    ensures { IfOk result (λ bits. (bits ≡ limit) × (bits ≤ 5)) }
-{
-    let outcomes = Outcomes::new(alloc, table, limit)?;
-    Ok(outcomes.limit().bits())
+    Ok((outcome, outcomes.wanted_after(sent)))
 }
 
 /// Bursts of three bits may be corrected, and those of six may not.
@@ -176,21 +176,6 @@ pub fn limit_of_three() -> Option<u8>
         (Some(limit), None) => Some(limit.bits()),
         _ => None,
     }
-}
-
-/// A block that is sent and read, whatever else may be corrected.
-pub fn sent_and_read(
-    table: &BurstTable,
-    info: u16,
-    offset: Offset,
-    wanted: Wanted,
-    limit: BurstLimit,
-) -> Reading
-    ensures { result ≡ Valid offset info }
-{
-    laws::blocks_are_read_as_sent();
-    let block = encode_block(info, offset);
-    read_block(table, block, offset.number(), wanted, limit)
 }
 
 /// Block 1, 2 or 4, sent, damaged by one burst within the limit, and read: the word that was sent, and the burst.

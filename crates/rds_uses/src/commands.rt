@@ -7,8 +7,6 @@ ghost use Rattle.rds_tool.specs.declared.job.Cuts.TheVariants.{Even};
 use rds_tool::{Asked, CliFault, FaultKind, Ignored, Job, Request, asked_of, job_of};
 use std::alloc::Global;
 
-static SCAN_WITH_A_GAP: [&str; 4] = ["rds", "scan", "--gaps", "104-105"];
-
 static SCAN_WITH_BAD_GAPS: [&str; 4] = ["rds", "scan", "--gaps", "5"];
 
 static LIST_BY_TWO_LOSSES: [&str; 6] = ["rds", "list", "--share", "2", "--loss", "10"];
@@ -18,14 +16,6 @@ static FOLLOW_WITH_A_GAP: [&str; 8] = [
 ];
 
 static HELP_OF_LIST: [&str; 3] = ["rds", "list", "--help"];
-
-/// `rds scan --gaps 104-105` asks for a scan with this gap.
-pub fn scan_with_a_gap(alloc: Global) -> Result<Asked, CliFault>
-    ensures { IfOk result (λ asked. asked.request
-        ≡ Request.Job (AJob.Scan (record { hex = false; bits = None; gaps = (104, 105) ∷ [] }) 4) false) }
-{
-    asked_of(alloc, SCAN_WITH_A_GAP.as_slice())
-}
 
 /// `rds scan --gaps 5` asks for nothing: it is told that the gaps are bad, or memory was refused.
 pub fn scan_with_bad_gaps(alloc: Global) -> Result<Asked, CliFault>
@@ -44,21 +34,17 @@ pub fn list_with_a_warning(alloc: Global) -> Result<Asked, CliFault>
     asked_of(alloc, LIST_BY_TWO_LOSSES.as_slice())
 }
 
-/// `rds follow --of 3 --share 2 --gaps 104-105` follows a stream to its end, with this gap and this share, by one worker.
-pub fn follow_with_a_gap(alloc: Global) -> Result<Asked, CliFault>
-    ensures { IfOk result (λ asked. asked.request
+/// `rds follow --of 3 --share 2 --gaps 104-105` follows a stream to its end, with this gap and this share, by one worker. That is no job,
+/// and no words were wrong but for that.
+pub fn follow_with_a_gap(alloc: Global) -> (Result<Asked, CliFault>, Result<Job, CliFault>)
+    ensures asked { IfOk result.0 (λ asked. asked.request
         ≡ Request.Follow (record { hex = false; bits = None; gaps = (104, 105) ∷ [] })
         (record { burst = 2; reach = 3; loss = Share 2 3 }) 1) }
+    ensures no_job { OnOk result.1 ⊥ }
+    ensures fault { IfErr result.1 (λ fault. (fault.kind ≡ FaultKind.Words) ⊎ (fault.kind ≡ FaultKind.Memory)) }
 {
-    asked_of(alloc, FOLLOW_WITH_A_GAP.as_slice())
-}
-
-/// To follow a stream is no job, and no words were wrong but for that.
-pub fn stream_is_no_job(alloc: Global) -> Result<Job, CliFault>
-    ensures no_job { OnOk result ⊥ }
-    ensures fault { IfErr result (λ fault. (fault.kind ≡ FaultKind.Words) ⊎ (fault.kind ≡ FaultKind.Memory)) }
-{
-    job_of(alloc, FOLLOW_WITH_A_GAP.as_slice())
+    let words = FOLLOW_WITH_A_GAP.as_slice();
+    (asked_of(alloc, words), job_of(alloc, words))
 }
 
 /// `rds list --help` asks for nothing else: help is shown, or memory was refused.

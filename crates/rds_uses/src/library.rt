@@ -1,12 +1,12 @@
 //! Promises of the calls for C to a user.
-ghost use Rattle.std.specs.Prelude.{◌≡◌, ◌≢◌, ◌++◌, ◌+◌, ◌*◌, ◌^◌, ◌<◌, ◌≤◌, ◌⊎◌, ℕ, List, [], ◌∷◌, Err, IfErr, IfOk, IfSome, None, OnOk, Some, length, map, false, take, true};
+ghost use Rattle.std.specs.Prelude.{◌≡◌, ◌≢◌, ◌++◌, ◌+◌, ◌^◌, ◌<◌, ◌≤◌, ◌⊎◌, ℕ, List, [], ◌∷◌, Err, IfErr, IfOk, IfSome, None, OnOk, Some, length, map, false, take, true};
 ghost use Rattle.rds_code.specs.Remainder.{rem};
 ghost use Rattle.rds_sync.specs.Report.{report_items};
 ghost use Rattle.rds_sync.specs.Totals.{totals_of};
-ghost use Rattle.rds_live.specs.StreamDecoder.{HasHeard, report_at, report_of};
+ghost use Rattle.rds_live.specs.StreamDecoder.{HasHeard, report_of};
 ghost use Rattle.rds_abi.specs.Asked.{asked, items_asked, recording_of, rules_of};
 ghost use Rattle.rds_abi.specs.Blocks.{packed};
-ghost use Rattle.rds_abi.specs.Stream.{AreCompleted, AreLeft, AreWritten, stream_in_c, stream_of, terms_of};
+ghost use Rattle.rds_abi.specs.Stream.{AreCompleted, AreLeft, AreTotalsAt, AreWritten, stream_in_c, stream_of, terms_of};
 ghost use Rattle.rds_abi.specs.Layout.{item_in_c, totals_in_c};
 
 use rds_abi::{
@@ -22,21 +22,6 @@ pub fn groups_of(alloc: Global, bytes: &[u8], bits: u64, rules: RdsRules) -> Res
     ensures { IfOk result (λ groups. groups ≡ (totals_of (report_items (recording_of bytes.now bits []) (rules_of rules))).groups) }
 {
     Ok(totals(alloc, bytes, bits, &[], rules)?.groups)
-}
-
-/// Rules that correct six bits are refused as such, whatever else is asked, or because memory was refused.
-pub fn six_bits_refused(alloc: Global, bytes: &[u8], reach: u32) -> Option<Refusal>
-    ensures refused { result ≢ None }
-    ensures why { IfSome result (λ refusal. (refusal ≡ Refusal.BurstRange) ⊎ (refusal ≡ Refusal.OutOfMemory)) }
-{
-    let rules = RdsRules {
-        burst: 6,
-        reach,
-        loss: 1,
-        of: 0,
-        reserved: [0; 4],
-    };
-    totals(alloc, bytes, 0, &[], rules).err()
 }
 
 /// How many items the parts of a list have.
@@ -202,10 +187,7 @@ pub fn ended_inside_a_byte(
     totals: &mut RdsTotals,
 ) -> Result<(), Refusal>
     ensures items { OnOk result (AreWritten (AreLeft (terms_of rules gaps.now) stream.now last.now bits) room.old room.new count.new) }
-    ensures totals { OnOk result
-        ((before : List ℕ) → HasHeard (stream_of (terms_of rules gaps.now) stream.now) before
-        → totals.new ≡ totals_in_c (totals_of
-        (report_at (terms_of rules gaps.now) (before ++ last.now) (8 * length before + bits)))) }
+    ensures totals { OnOk result (AreTotalsAt (terms_of rules gaps.now) stream.now last.now bits totals.new) }
 {
     finish_with(alloc, last, bits, gaps, rules, stream, room, count, totals)
 }
@@ -269,23 +251,12 @@ pub fn search_that_waits(alloc: Global, bytes: &[u8], rules: RdsRules, due: u64)
     requires { due ≢ 0 }
     ensures { result ≡ false }
 {
-    let mut state = RdsState {
+    let state = RdsState {
         due,
         ..RdsState::SEARCHING
     };
-    let (none, mut n) = ((0, 0), 0);
-    run(
-        alloc,
-        bytes,
-        0,
-        &[],
-        rules,
-        none,
-        &mut state,
-        &mut [],
-        &mut n,
-    )
-    .is_ok()
+    let mut n = 0;
+    finish_run(alloc, bytes, 0, &[], rules, state, &mut [], &mut n).is_ok()
 }
 
 /// A stream that searches has no first block: numbers that say otherwise are refused.

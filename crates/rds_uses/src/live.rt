@@ -19,14 +19,6 @@ use rds_sync::{Item, Rules, State, Totals};
 use std::alloc::{AllocError, Global};
 use std::thread::Threads;
 
-/// A decoder of a stream without gaps, which has heard nothing yet. Only memory can be refused.
-pub fn begun_gapless<'r>(alloc: Global, rules: &'r Rules) -> Result<StreamDecoder<'r>, StreamError>
-    ensures live { IfOk result (λ live. live ≡ live_of (by_rules rules.now) []) }
-    ensures refused { IsOkUnless result StreamError.OutOfMemory }
-{
-    StreamDecoder::new(alloc, rules)
-}
-
 /// A decoder of a stream with gaps, which has heard nothing yet. The gaps are refused exactly if no recording may have them.
 pub fn begun<'r>(
     alloc: Global,
@@ -59,6 +51,14 @@ pub fn anew<'r>(
         live.state(),
         live.totals(),
     )
+}
+
+/// A decoder of a stream without gaps, which has heard nothing yet. Only memory can be refused.
+pub fn begun_gapless<'r>(alloc: Global, rules: &'r Rules) -> Result<StreamDecoder<'r>, StreamError>
+    ensures live { IfOk result (λ live. live ≡ live_of (by_rules rules.now) []) }
+    ensures refused { IsOkUnless result StreamError.OutOfMemory }
+{
+    StreamDecoder::new(alloc, rules)
 }
 
 /// As many bytes are heard as there is room for, and their items are told. A chunk past 2^36 bits is refused, and was not heard.

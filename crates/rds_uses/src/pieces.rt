@@ -1,6 +1,5 @@
-//! Facts that a user of `rds_pieces` relies on: cuttings, guesses, seams, joins, and the report that is
-//! stitched of them.
-ghost use Rattle.std.specs.Prelude.{◌≡◌, ℕ, ◌+◌, ◌-◌, ◌*◌, ◌<◌, ◌≤◌, ◌^◌, ◌++◌, ◌∷◌, [], Err, IfOk, IsOkUnless, Ok, OnOk, Option, Some, true, IfSome, vec_len};
+//! Facts that a user of `rds_pieces` relies on: cuttings, guesses, seams, joins, and the report that is stitched of them.
+ghost use Rattle.std.specs.Prelude.{◌≡◌, ℕ, ◌+◌, ◌-◌, ◌*◌, ◌<◌, ◌≤◌, ◌^◌, ◌∷◌, [], Err, IfOk, IsOkUnless, Ok, OnOk, Option, Some, true, IfSome, vec_len};
 ghost use Rattle.rds_stream.specs.Recording.{length_of};
 ghost use Rattle.rds_sync.specs.declared.state.State.TheVariants.{Searching};
 ghost use Rattle.rds_sync.specs.declared.loss.Loss.TheVariants.{Run};
@@ -21,8 +20,7 @@ ghost use Rattle.rds_pieces.specs.declared.error.PieceError.TheVariants.{BadCutt
 ghost use Rattle.rds_uses.specs.Jobs.{all_bits};
 
 use rds_pieces::{
-    Cutting, Mark, PieceError, PieceRun, RecordingWork, Seam, Work, join_runs, laws, seam,
-    speculate, stitch,
+    Cutting, Mark, PieceError, PieceRun, Seam, Work, join_runs, laws, seam, speculate, stitch,
 };
 use rds_stream::{Counted, Recording, Tape};
 use rds_sync::{Decoder, ItemIter, Items, Loss, Report, Rules, State, SyncError, Totals};
@@ -220,47 +218,24 @@ pub fn cost_of_report<T: Tape>(
     stitch(alloc, tape, rules, runs)
 }
 
-/// Runs stay in a row if one run replaces two neighbours.
-pub fn row_after_join(
-    recording: &Recording,
-    rules: &Rules,
-    before: &[PieceRun],
-    left: &PieceRun,
-    right: &PieceRun,
-    after: &[PieceRun],
-)
-    requires { FollowEachOther recording.now rules.now 0 (length_of recording.now) (before.now ++ left.now ∷ right.now ∷ after.now) }
-    ensures { FollowEachOther recording.now rules.now 0 (length_of recording.now)
-        (before.now ++ run_over recording.now rules.now left.now.from right.now.to ∷ after.now) }
-{
-    laws::joined_runs_follow();
-}
-
 // ---- works
 
-/// The report of a work that is cut into one piece: that of the recording and the rules that it names.
+/// The report of a work that is cut into two pieces, by its join of their guesses: that of the recording and the rules that it names.
 pub fn report_of_work<W: Work>(alloc: Global, work: &W) -> Result<Report, PieceError>
     requires fits { IsCutting (length_of (W.recording work.now)) (W.places work.now) }
-    requires one { pieces_of (W.places work.now) ≡ 1 }
+    requires two { pieces_of (W.places work.now) ≡ 2 }
     ensures items { IfOk result (λ report. report.items ≡ listed (W.recording work.now) (W.rule_set work.now)
         (report_items (W.recording work.now) (W.rule_set work.now))) }
     ensures totals { IfOk result (λ report. report.totals ≡ totals_of (report_items (W.recording work.now) (W.rule_set work.now))) }
     ensures refused { IsOkUnless result OutOfMemory }
 {
     laws::pieces_follow();
-    let run = work.guess(alloc, 0)?;
-    work.report(alloc, slice::from_ref(&run))
-}
-
-/// The guesses of a work that is cut into two pieces, joined by it: the guess of the whole recording.
-pub fn joined_by_work<W: Work>(alloc: Global, work: &W) -> Result<PieceRun, PieceError>
-    requires fits { IsCutting (length_of (W.recording work.now)) (W.places work.now) }
-    requires two { pieces_of (W.places work.now) ≡ 2 }
-    ensures run { IfOk result (λ run. run ≡ run_over (W.recording work.now) (W.rule_set work.now) 0 (length_of (W.recording work.now))) }
-    ensures refused { IsOkUnless result OutOfMemory }
-{
+    laws::joined_runs_follow();
     match (work.guess(alloc, 0), work.guess(alloc, 1)) {
-        (Ok(left), Ok(right)) => work.join(alloc, &left, &right),
+        (Ok(left), Ok(right)) => {
+            let run = work.join(alloc, &left, &right)?;
+            work.report(alloc, slice::from_ref(&run))
+        }
         _ => Err(PieceError::OutOfMemory),
     }
 }
@@ -272,15 +247,6 @@ pub fn names_of_work<W: Work>(work: &W) -> (Snapshot<Recording>, Loss, u64)
     ensures cutting { result.2 ≡ pieces_of (W.places work.now) }
 {
     (work.source(), work.rules().loss(), work.cutting().pieces())
-}
-
-/// The work over a recording names the parts that it was given.
-pub fn work_of_recording(recording: &Recording, rules: &Rules, cutting: &Cutting) -> bool
-    requires { IsCutting (length_of recording.now) cutting.now }
-    ensures { result ≡ true }
-{
-    let work = RecordingWork::new(recording, rules, cutting);
-    work.rules().reach() == rules.reach() && work.cutting().pieces() == cutting.pieces()
 }
 
 // ---- all of these together

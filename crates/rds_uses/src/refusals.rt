@@ -8,25 +8,22 @@ use rds_stream::StreamError;
 use rds_sync::SyncError;
 use rds_tool::ToolError;
 
-/// `OutOfMemory` has number 8 in each crate.
-pub fn numbers_of_memory() -> [u8; 6]
-    ensures { All (λ number. number ≡ 8) result }
+/// `OutOfMemory` has number 8 in each crate, and one name.
+pub fn out_of_memory() -> ([u8; 6], &'static str)
+    ensures numbers { All (λ number. number ≡ 8) result.0 }
+    ensures name { result.1.now ≡ codes "OutOfMemory" }
 {
-    [
-        CodeError::OutOfMemory.number(),
-        StreamError::OutOfMemory.number(),
-        SyncError::OutOfMemory.number(),
-        PieceError::OutOfMemory.number(),
-        CrewError::OutOfMemory.number(),
-        ToolError::OutOfMemory.number(),
-    ]
-}
-
-/// And it has one name.
-pub fn name_in_code() -> &'static str
-    ensures { result.now ≡ codes "OutOfMemory" }
-{
-    CodeError::OutOfMemory.name()
+    (
+        [
+            CodeError::OutOfMemory.number(),
+            StreamError::OutOfMemory.number(),
+            SyncError::OutOfMemory.number(),
+            PieceError::OutOfMemory.number(),
+            CrewError::OutOfMemory.number(),
+            ToolError::OutOfMemory.number(),
+        ],
+        CodeError::OutOfMemory.name(),
+    )
 }
 
 /// The program prints the numbers of the layers below: a refusal keeps its number on the way up.

@@ -1,5 +1,5 @@
 //! Tests that the maker of a receiver would write: encode groups, damage them, decode them. They come out as they were sent.
-ghost use Rattle.std.specs.Prelude.{◌≡◌, ◌≢◌, ◌↔◌, ℕ, ◌+◌, ◌-◌, ◌*◌, ◌<◌, ◌≤◌, ◌^◌, ◌∷◌, ◌++◌, [], Bool, Contains, IfOk, IfSome, IsTrue, List, Ok, OnOk, Some, flat_map, length, slice_index, true};
+ghost use Rattle.std.specs.Prelude.{◌≡◌, ◌≢◌, ◌↔◌, ℕ, ◌+◌, ◌-◌, ◌*◌, ◌<◌, ◌≤◌, ◌^◌, ◌∷◌, ◌++◌, [], Bool, Contains, IfOk, IfSome, IsOkUnless, IsTrue, List, Ok, OnOk, Some, flat_map, length, slice_index, true};
 ghost use Rattle.std.specs.Int.Count.{ones};
 ghost use Rattle.rds_code.specs.declared.offset.Offset.{Offset as AnOffset};
 ghost use Rattle.rds_code.specs.declared.offset.Offset.TheVariants.{A, D};
@@ -15,6 +15,7 @@ ghost use Rattle.rds_sync.specs.Lawful.{IsLawful};
 ghost use Rattle.rds_sync.specs.Longer.{AreNoLess, BeginsWith, OnlyAddsItems, beginning};
 ghost use Rattle.rds_sync.specs.Sent.{AreHeard, AreWords, GroupIsHeard, IsCorrectable, SentGroup, bits_sent, bits_with_damage, items_damaged, packed_group, packed_groups as the_packed_groups, totals_sent};
 ghost use Rattle.rds_sync.specs.Step.{lock_of, run as run_of};
+ghost use Rattle.rds_sync.specs.declared.error.SyncError.TheVariants.{OutOfMemory};
 ghost use Rattle.rds_sync.specs.declared.state.State.TheVariants.{Locked};
 ghost use Rattle.rds_tool.specs.Following.{listed};
 ghost use Rattle.rds_tool.specs.Laws.{groups_in, sent_listing, whole_input};
@@ -202,7 +203,8 @@ pub fn heard_and_decoded(
     recording: &Recording,
     rules: &Rules,
 ) -> Result<Report, SyncError>
-    ensures { IfOk result (λ report. (words : List ℕ) (groups : List (List ℕ))
+    ensures refused { IsOkUnless result OutOfMemory }
+    ensures totals { IfOk result (λ report. (words : List ℕ) (groups : List (List ℕ))
         → length_of recording.now ≡ 104 * length (words ∷ groups)
         → AreHeard recording.now 0 (words ∷ groups)
         → report.totals ≡ totals_sent (length (words ∷ groups))) }

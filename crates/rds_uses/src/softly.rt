@@ -5,14 +5,13 @@ ghost use Rattle.rds_code.specs.declared.offset.Offset.{Offset as AnOffset};
 ghost use Rattle.rds_code.specs.Offsets.{number as number_of, word};
 ghost use Rattle.rds_code.specs.Remainder.{rem};
 ghost use Rattle.rds_code.specs.Reading.{IsValid, allows, information};
-ghost use Rattle.rds_soft.specs.Nearest.{IsNearest, Turns, top, weight};
+ghost use Rattle.rds_soft.specs.Nearest.{Turns, top, weight};
 ghost use Rattle.rds_soft.specs.Symbols.{hard_bit, hard_bits, hard_window};
 ghost use Rattle.rds_code.specs.declared.reading.Wanted.{Wanted as WantedHard};
 ghost use Rattle.rds_stream.specs.Recording.{AreGaps, length_of, reading_at};
 ghost use Rattle.rds_sync.specs.declared.item.Block.TheVariants.{Read};
 ghost use Rattle.rds_soft.specs.declared.soft_item.SoftBlock.TheVariants.{Read as SoftRead};
-ghost use Rattle.rds_soft.specs.Again.{IsBlockAgain, IsReadingHeard, symbols_heard};
-ghost use Rattle.rds_soft.specs.ReadAgain.{item_again, symbols_of};
+ghost use Rattle.rds_soft.specs.ReadAgain.{block_again, item_again, reading_heard, symbols_heard, symbols_of};
 ghost use Rattle.rds_soft.specs.SoftStream.{complete, report_of};
 ghost use Rattle.rds_soft.specs.SoftTotals.{soft_totals_of};
 
@@ -37,22 +36,6 @@ pub fn margin_of(weight: u8) -> u8
         Some(margin) => margin.weight(),
         None => 0,
     }
-}
-
-/// A window that no flips turn by the rule is not corrected.
-pub fn nothing_near(
-    search: &mut Search,
-    w: u32,
-    confidences: &[u8; 27],
-    number: BlockNumber,
-    wanted: Wanted,
-    margin: Margin,
-) -> Option<Correction>
-    requires window { w < 2 ^ 26 }
-    requires none { (o : AnOffset) (flips : ℕ) → IsNearest w number wanted confidences.now margin o flips → ⊥ }
-    ensures { result ≡ None }
-{
-    search.nearest(w, confidences, number, wanted, margin)
 }
 
 /// A block whose wrong symbols weigh little is corrected to what was sent, by just these symbols. No flips weigh nothing.
@@ -102,13 +85,6 @@ pub fn nothing_is_flipped(
     search.nearest(w, confidences, number, wanted, margin)
 }
 
-/// A flip at place 4 from the last symbol inverts the two bits beside it.
-pub fn mask_of_one_flip() -> u32
-    ensures { result ≡ 0x18 }
-{
-    mask_of(0x10)
-}
-
 // ---- readings
 
 /// Two searches read symbols alike, and those whose window is valid as it is.
@@ -124,7 +100,7 @@ pub fn read_alike(
     ensures valid { (o : AnOffset) → IsValid (hard_window symbols.now) number o
         → result.0 ≡ SoftReading.Valid o (information (hard_window symbols.now)) }
 {
-    laws::items_are_read_again_alike();
+    laws::symbols_are_read_alike();
     let _some = margin.weight();
     let first = one.read(symbols, number, wanted, margin);
     (first, other.read(symbols, number, wanted, margin))
@@ -153,14 +129,13 @@ pub fn read_from_symbols(
     limit: BurstLimit,
     wanted: Wanted,
     margin: Margin,
-    again: SoftReading,
 )
     ghost hard: { WantedHard }
     requires bits { recording.now.bits ≡ hard_bits symbols.now }
     requires within { first + 26 < length symbols.now }
-    requires again { IsBlockAgain (symbols_heard recording.now symbols.now first) number wanted margin
-        (Read (reading_at recording.now (first + 25) number hard limit)) (SoftRead again) }
-    ensures { IsReadingHeard (symbols_heard recording.now symbols.now first) number wanted margin again }
+    ensures { block_again (symbols_heard recording.now symbols.now first) number wanted margin
+        (Read (reading_at recording.now (first + 25) number hard limit))
+        ≡ SoftRead (reading_heard (symbols_heard recording.now symbols.now first) number wanted margin) }
 {
     laws::blocks_are_read_from_symbols();
     let _number = number.get();
@@ -189,9 +164,6 @@ pub fn again_as_computed(
 ) -> SoftItem
     ensures { result ≡ item_again recording.now (symbols_of symbols.now) margin item.now }
 {
-    laws::items_are_read_again_so();
-    laws::items_are_read_again_alike();
-    let _weight = margin.weight();
     search.read_again(recording, symbols, margin, item)
 }
 

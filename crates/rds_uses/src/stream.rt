@@ -38,15 +38,6 @@ pub fn last_bit(recording: &Recording) -> bool
     recording.bit(recording.len() - 1)
 }
 
-/// A window as it is stored is a block, whose remainder can be taken.
-pub fn stored_remainder(recording: &Recording, place: u64) -> u16
-    requires first { 25 ≤ place }
-    requires last { place < length_of recording.now }
-    ensures { result ≡ rem (window recording.now.bits place) }
-{
-    rem26(recording.window(place))
-}
-
 /// Four blocks in a row are heard as each of them is by itself, in whichever order.
 pub fn heard_in_a_row(reader: &mut Reader<'_>, place: u64) -> bool
     requires first { 25 ≤ place }
@@ -147,36 +138,37 @@ pub fn with_gaps(bytes: Vec<u8>, bits: u64, gaps: Vec<(u64, u64)>) -> Result<Rec
 
 // ---- reading where a gap is touched, and where none is
 
-/// The block of a window that touches a gap is lost, whatever its bits are. Any other window is heard as it is stored.
+/// A window as it is stored is a block, whose remainder can be taken.
+pub fn stored_remainder(recording: &Recording, place: u64) -> u16
+    requires first { 25 ≤ place }
+    requires last { place < length_of recording.now }
+    ensures { result ≡ rem (window recording.now.bits place) }
+{
+    rem26(recording.window(place))
+}
+
+/// The block of a window that touches a gap is lost, whatever its bits are, and has no offset. Any other window is heard as it is stored. A
+/// window is counted either way.
 pub fn block_with_gaps(
     table: &BurstTable,
     recording: &Recording,
     place: u64,
     number: BlockNumber,
     wanted: Wanted,
-) -> (bool, Option<u32>, Reading)
+) -> (bool, Option<u32>, Reading, Option<Offset>)
     requires first { 25 ≤ place }
     requires last { place < length_of recording.now }
     ensures known { result.0 ≡ touched recording.now place }
     ensures touched { touched recording.now place ≡ true → (result.1 ≡ None) × (result.2 ≡ Lost) }
     ensures clear { touched recording.now place ≡ false → (result.1 ≡ Some (window recording.now.bits place))
         × (result.2 ≡ reading (window recording.now.bits place) number wanted 5) }
-{
-    let heard = Reader::new(recording).window(place);
-    let read = read_heard(table, heard, number, wanted, BurstLimit::LONGEST);
-    (recording.touches(place), heard, read)
-}
-
-/// A tape hears the offset of a place, in a gap and outside. A window is counted either way.
-pub fn offset_on_tape(recording: &Recording, place: u64) -> (Option<Offset>, u64)
-    requires first { 25 ≤ place }
-    requires last { place < length_of recording.now }
-    ensures offset { result.0 ≡ offset_at recording.now place }
-    ensures counted { result.1 ≡ 1 }
+    ensures offset { result.3 ≡ offset_at recording.now place }
 {
     let mut tape = Counted::new(recording);
     let heard = tape.window(place);
-    (offset_heard(heard), tape.reads())
+    prove!(tape.reads() == 1);
+    let read = read_heard(table, heard, number, wanted, BurstLimit::LONGEST);
+    (recording.touches(place), heard, read, offset_heard(heard))
 }
 
 // ---- synchronisers and gaps

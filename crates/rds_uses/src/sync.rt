@@ -1,5 +1,4 @@
-//! Facts that a user of `rds_sync` relies on: rules, lawful states, steps over a tape, runs over a range and
-//! their items, and reports.
+//! Facts that a user of `rds_sync` relies on: rules, lawful states, steps over a tape, runs over a range and their items, and reports.
 ghost use Rattle.std.specs.Prelude.{◌≡◌, ◌≢◌, ℕ, ◌+◌, ◌-◌, ◌*◌, ◌<◌, ◌≤◌, ◌^◌, ◌++◌, ◌∷◌, ◌↔◌, [], IsTrue, IfOk, IsOkUnless, None, Some, true, Bool, if◌then◌else◌};
 ghost use Rattle.rds_stream.specs.Recording.{length_of};
 ghost use Rattle.rds_sync.specs.declared.item.Block.{Block as ABlock};
@@ -24,28 +23,22 @@ ghost use Rattle.rds_sync.specs.Ranges.{IsLossInRange};
 use rds_stream::{Counted, Reader, Recording, Tape};
 use rds_sync::{
     Bad, Decoder, Group, Item, Lock, Loss, Report, Rules, Spans, State, Step, SyncError, Tally,
-    advance, decode_plain, finish, laws, run, run_report, stretch,
+    advance, finish, laws, run, run_report, stretch,
 };
 use std::alloc::{AllocError, Global};
 use std::snapshot::Snapshot;
 
 // ---- rules
 
-/// Rules are made again of the numbers that they were made of: nothing but memory can be refused.
-pub fn same_rules(alloc: Global, rules: &Rules) -> Result<Rules, SyncError>
-    ensures rules { IfOk result (λ made. made ≡ rules.now) }
-    ensures refused { IsOkUnless result OutOfMemory }
-{
-    Rules::of(alloc, rules.numbers())
-}
-
-/// So they are of one number after the other, of which each fits in a byte.
+/// Rules are made again of the numbers that they were made of, together and one after the other. Each fits in a byte, and only memory can be
+/// refused.
 pub fn rules_in_bytes(alloc: Global, rules: &Rules) -> Result<Rules, SyncError>
     ensures rules { IfOk result (λ made. made ≡ rules.now) }
     ensures refused { IsOkUnless result OutOfMemory }
 {
-    let (burst, reach) = (rules.burst() as u8, rules.reach() as u8);
-    match rules.loss() {
+    let again = Rules::of(alloc, rules.numbers())?;
+    let (burst, reach) = (again.burst() as u8, again.reach() as u8);
+    match again.loss() {
         Loss::Run(blocks) => Rules::new(alloc, burst.into(), reach.into(), u32::from(blocks as u8)),
         Loss::Share { bad, of } => Rules::with_share(
             alloc,
@@ -308,15 +301,6 @@ pub fn report_of_run(
     ensures refused { IsOkUnless result OutOfMemory }
 {
     run_report(alloc, recording, rules, state, from, to, Spans::Whole)
-}
-
-/// The report of a recording: the items of its locks, and their totals.
-pub fn report_of(alloc: Global, recording: &Recording, rules: &Rules) -> Result<Report, SyncError>
-    ensures items { IfOk result (λ report. report.items ≡ listed recording.now rules.now (report_items recording.now rules.now)) }
-    ensures totals { IfOk result (λ report. report.totals ≡ totals_of (report_items recording.now rules.now)) }
-    ensures refused { IsOkUnless result OutOfMemory }
-{
-    decode_plain(alloc, recording, rules)
 }
 
 // ---- rules of loss

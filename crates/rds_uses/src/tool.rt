@@ -1,19 +1,18 @@
-//! Facts that a user of `rds_tool` relies on: the text that is written, the devices that stay as they were,
-//! and each refusal by its cause.
+//! Facts that a user of `rds_tool` relies on: the text that is written, the devices that stay as they were, and each refusal by its cause.
 ghost use Rattle.std.specs.Prelude.{◌≡◌, ◌≢◌, ℕ, ◌*◌, ◌<◌, ◌≤◌, ◌^◌, ◌++◌, ◌⊎◌, ◌↔◌, List, Err, IfErr, IfSome, IsErrOf, None, Ok, OnOk, length, [], true, false};
 ghost use Rattle.std.specs.Io.KnownBytes.{Consumes, IsAtEnd, Appends};
 ghost use Rattle.rds_sync.specs.Report.{report_items};
 ghost use Rattle.rds_sync.specs.Totals.{totals_of};
-ghost use Rattle.rds_tool.specs.Listing.{report_text, scan_text};
-ghost use Rattle.rds_tool.specs.Outcome.{IsOutside, WritesPrefix, result_of_job, Writes};
+ghost use Rattle.rds_tool.specs.Listing.{report_text};
+ghost use Rattle.rds_tool.specs.Outcome.{IsOutside, result_of_job, Writes};
 ghost use Rattle.rds_tool.specs.Tasks.{task_of};
-ghost use Rattle.rds_tool.specs.declared.error.ToolError.TheVariants.{NoWorker, Read, TooManyTurns, Write};
-ghost use Rattle.rds_uses.specs.Jobs.{IsListBy, IsScan, all_bits};
+ghost use Rattle.rds_tool.specs.declared.error.ToolError.TheVariants.{BadGaps, BitsPastBytes, NoWorker, Read, TooManyTurns, Write};
+ghost use Rattle.rds_uses.specs.Jobs.{IsListBy, all_bits};
 ghost use Rattle.rds_tool.specs.Ends.{given_by, has_ended, is_flushed, taken_by};
 ghost use Rattle.rds_tool.specs.SoftFollowing.{soft_listed, soft_rows_so_far};
-ghost use Rattle.rds_tool.specs.Following.{IsFlushedAfter, IsHeardOut, listed, rows_so_far};
+ghost use Rattle.rds_tool.specs.Following.{BreaksOff, IsFlushedAfter, IsHeardOut, bit_stream, listed, rows_so_far};
 ghost use Rattle.rds_tool.specs.History.{Gave};
-ghost use Rattle.rds_stream.specs.Recording.{Signal, length_of};
+ghost use Rattle.rds_stream.specs.Recording.{AreGaps, Signal, length_of};
 ghost use Rattle.rds_tool.specs.Input.{recording_of};
 ghost use Rattle.rds_tool.specs.Laws.{stream_input};
 ghost use Rattle.rds_tool.specs.Plans.{PlanOf, plan_of};
@@ -48,15 +47,6 @@ pub fn listing<R: Threads + Sync>(
     written(rt, alloc, bytes, job)
 }
 
-/// The rows of the valid windows of the bytes of a recording.
-pub fn windows<R: Threads + Sync>(rt: &R, alloc: Global, bytes: &[u8], job: &Job) -> Option<Vec<u8>>
-    requires few { 8 * length bytes.now ≤ 2 ^ 36 }
-    requires job { IsScan job.now }
-    ensures { IfSome result (λ text. text.items ≡ scan_text (all_bits bytes.now)) }
-{
-    written(rt, alloc, bytes, job)
-}
-
 /// The text that a job writes for bytes, if nothing is refused: its outcome.
 pub(crate) fn written<R: Threads + Sync>(
     rt: &R,
@@ -72,8 +62,7 @@ pub(crate) fn written<R: Threads + Sync>(
     }
 }
 
-/// At any devices and gate: on success the text is the outcome of the bytes that were read to their end, and it was flushed. Each refusal
-/// has its cause, and only that of the writer leaves a beginning of the text.
+/// At any devices and gate each refusal has its cause.
 pub fn gated_causes<R: Threads + Sync, S: Source, K: Sink, G: Gate + Sync>(
     rt: &R,
     alloc: Global,
@@ -84,14 +73,9 @@ pub fn gated_causes<R: Threads + Sync, S: Source, K: Sink, G: Gate + Sync>(
 ) -> Result<(), ToolError>
     requires reads { S.failed reader.old < 2 ^ 63 }
     requires writes { K.failed writer.old < 2 ^ 63 }
-    ensures text { OnOk result (Gave (S.given reader.old) (S.given reader.new)
-        (λ bytes. Writes (K.contents writer.old) (K.contents writer.new) (result_of_job job.now bytes))) }
-    ensures ended { OnOk result (S.has_ended reader.new ≡ true) }
-    ensures flushed { OnOk result (K.is_flushed writer.new ≡ true) }
     ensures refused_by { IfErr result (λ error. IsOutside error ⊎ Gave (S.given reader.old) (S.given reader.new)
         (λ bytes. (result_of_job job.now bytes ≡ Err error)
         × ((task_of job.now ≡ Err error) ⊎ (S.has_ended reader.new ≡ true)))) }
-    ensures end { OnOk result (IsAtEnd (S.remaining reader.new)) }
     ensures read { IsErrOf result Read ↔ (S.failed reader.old < S.failed reader.new) }
     ensures write { IsErrOf result Write ↔ (K.failed writer.old < K.failed writer.new) }
     ensures turns { IsErrOf result TooManyTurns → (more : List ℕ)
@@ -100,9 +84,6 @@ pub fn gated_causes<R: Threads + Sync, S: Source, K: Sink, G: Gate + Sync>(
     ensures refused { IfErr result (λ error. IsOutside error
         ⊎ IfSome (S.remaining reader.old) (λ held. result_of_job job.now held ≡ Err error)) }
     ensures settings { IfErr (task_of job.now) (λ error. (result ≡ Err error) × (reader.new ≡ reader.old)) }
-    ensures untouched { IfErr result (λ error. error ≢ Write → writer.new ≡ writer.old) }
-    ensures prefix { IsErrOf result Write → IfSome (S.remaining reader.old)
-        (λ held. WritesPrefix (K.contents writer.old) (K.contents writer.new) (result_of_job job.now held)) }
 {
     transcribe_gated(rt, alloc, reader, writer, job, gate)
 }
@@ -151,7 +132,8 @@ pub fn input_to_output<R: Threads + Sync>(rt: &HostRuntime, crew: &R, job: &Job)
     }
 }
 
-/// A stream at any devices gives the listing of the bytes that were read. If a read fails, the rows of all bytes before it were flushed.
+/// A stream at any devices gives the listing of the bytes that were read. If a read fails, the rows of all bytes before it were flushed. The
+/// bytes of each statement are those that a reader of known contents has lost.
 pub fn heard_live<R: Threads + Sync, S: Source, K: Sink>(
     rt: &R,
     alloc: Global,
@@ -159,22 +141,30 @@ pub fn heard_live<R: Threads + Sync, S: Source, K: Sink>(
     writer: &mut K,
     rules: &Rules,
     bits: Option<u64>,
+    gaps: &[(u64, u64)],
     workers: u32,
 ) -> Result<(), ToolError>
     requires reads { S.failed reader.old < 2 ^ 63 }
     requires writes { K.failed writer.old < 2 ^ 63 }
-    ensures text { OnOk result
-        (Gave (S.given reader.old) (S.given reader.new)
-        (λ bytes. IsHeardOut bits (S.has_ended reader.new) bytes
-        × Writes (K.contents writer.old) (K.contents writer.new)
-        (listed (record { rules = rules.now; gaps = [] }) bits bytes))) }
+    ensures text { OnOk result (Gave (S.given reader.old) (S.given reader.new) (λ bytes.
+        IsHeardOut bits (S.has_ended reader.new) bytes × Writes (K.contents writer.old) (K.contents writer.new)
+        (listed (record { rules = rules.now; gaps = gaps.now }) bits bytes))) }
     ensures flushed { OnOk result (K.is_flushed writer.new ≡ true) }
     ensures prompt { IsErrOf result Read → Gave (S.given reader.old) (S.given reader.new) (λ bytes.
         Appends (K.contents writer.old) (K.contents writer.new)
-        (rows_so_far (record { rules = rules.now; gaps = [] }) bytes)
+        (rows_so_far (record { rules = rules.now; gaps = gaps.now }) bytes)
         × IsFlushedAfter bytes (K.is_flushed writer.new)) }
+    ensures end { OnOk result (Gave (S.given reader.old) (S.given reader.new) (λ bytes.
+        Consumes (S.remaining reader.old) (S.remaining reader.new) bytes
+        × IsHeardOut bits (S.has_ended reader.new) bytes × (bits ≡ None → IsAtEnd (S.remaining reader.new)))) }
+    ensures broke { IfErr result (λ error. (broke : BreaksOff (bit_stream (record { rules = rules.now; gaps = gaps.now }) workers bits)
+        (S.given reader.old) (S.given reader.new) (S.has_ended reader.new) (K.contents writer.old) (K.contents writer.new)
+        (K.is_flushed writer.new) error) × Consumes (S.remaining reader.old) (S.remaining reader.new) (broke.heard ++ broke.last)) }
+    ensures past { IsErrOf result BitsPastBytes → IsAtEnd (S.remaining reader.new) }
+    ensures bad_gaps { IsErrOf result BadGaps
+        → (AreGaps (2 ^ 36) gaps.now → ⊥) ⊎ (bits ≡ None → IsAtEnd (S.remaining reader.new)) }
 {
-    follow(rt, alloc, reader, writer, rules, bits, &[], workers)
+    follow(rt, alloc, reader, writer, rules, bits, gaps, workers)
 }
 
 /// The same of a stream of symbols, and its soft listing.
@@ -194,7 +184,8 @@ pub fn symbols_heard_live<S: Source, K: Sink>(
         (soft_listed (record { rules = rules.now; gaps = []; margin = margin }) bits symbols))) }
     ensures prompt { IsErrOf result Read → Gave (S.given reader.old) (S.given reader.new) (λ symbols.
         Appends (K.contents writer.old) (K.contents writer.new)
-        (soft_rows_so_far (record { rules = rules.now; gaps = []; margin = margin }) symbols)) }
+        (soft_rows_so_far (record { rules = rules.now; gaps = []; margin = margin }) symbols)
+        × IsFlushedAfter symbols (K.is_flushed writer.new)) }
 {
     follow_soft(alloc, reader, writer, rules, margin, bits, &[])
 }

@@ -1,6 +1,5 @@
-use Rattle.rds_abi.proofs.Shared.{◌-◌, ◌<◌, ◌^◌, ap, arith, refl, subst, sym, ◌∙◌, All, Item, place_of, State, moved_state, run-early, state_in_c, lawful-on}
+use Rattle.rds_abi.proofs.Shared.{◌-◌, ◌<◌, ◌^◌, ap, arith, refl, subst, sym, ◌∙◌, All, Item, place_of, State, moved_state, run-early, state_in_c, lawful-on, IsLawful}
 use Rattle.rds_sync.specs.Decoding.{DecoderOf}
-use Rattle.rds_sync.specs.Lawful.{IsLawful}
 use Rattle.rds_abi.proofs.ranges.go_on.Goals as goal
 
 pub fill_run-requires-clause-early : goal.fill_run-requires-clause-early
@@ -13,19 +12,21 @@ fill_run-requires-clause-early c =
 pub returns-clause-laid : goal.returns-clause-laid
 returns-clause-laid c =
     let before = c.args.start.now.part.before in
-    c.end_in_c.ensures.value ∙ ap (λ (s : State). state_in_c c.args.start.now.rules (moved_state before s)) c.in_ok-end.ensures.state
+    c.state_in_c.ensures.value ∙ ap (state_in_c c.args.start.now.rules) (c.moved_on.ensures ∙ ap (moved_state before) c.in_ok-end.ensures.state)
 
 pub returns-clause-state : goal.returns-clause-state
 returns-clause-state c =
     let start = c.args.start.now in
     let before = start.part.before in
     let there = lawful-on start.rules before (c.args.range.1 - before) c.args.range.1 c.in_ok-end.end (moved_state before c.in_ok-end.end) refl c.in_ok-end.ensures.lawful (omega (arith, c.requires.begins, c.requires.order)) in
-    c.end_in_c.ensures.says start.rules c.args.range.1 there ∙ ap (moved_state before) c.in_ok-end.ensures.state
+    c.state_in_c.ensures.says start.rules c.args.range.1 (subst (λ (s : State). IsLawful start.rules c.args.range.1 s) (sym c.moved_on.ensures) there)
+    ∙ c.moved_on.ensures ∙ ap (moved_state before) c.in_ok-end.ensures.state
 
 pub returns-clause-next : goal.returns-clause-next
 returns-clause-next c =
     let start = c.args.start.now in
     let before = start.part.before in
     let there = lawful-on start.rules before (c.args.range.1 - before) c.args.range.1 c.in_ok-end.end (moved_state before c.in_ok-end.end) refl c.in_ok-end.ensures.lawful (omega (arith, c.requires.begins, c.requires.order)) in
-    let says = c.end_in_c.ensures.says start.rules c.args.range.1 there in
-    (subst (λ (s : State). IsLawful start.rules c.args.range.1 s) (sym says) there, c.end_in_c.ensures.value ∙ ap (state_in_c start.rules) (sym says))
+    let here = subst (λ (s : State). IsLawful start.rules c.args.range.1 s) (sym c.moved_on.ensures) there in
+    let says = c.state_in_c.ensures.says start.rules c.args.range.1 here in
+    (subst (λ (s : State). IsLawful start.rules c.args.range.1 s) (sym says) here, c.state_in_c.ensures.value ∙ ap (state_in_c start.rules) (sym says))

@@ -1,4 +1,4 @@
-use Rattle.std.proofs.Common.{Fits, rules, ◌≡◌, ◌-◌, ◌/◌, ◌∙◌, ℕ, List, ap, arith, get_or, length, take, w8}
+use Rattle.rds_abi.proofs.Shared.{Fits, rules, ◌≡◌, ◌-◌, ◌/◌, ◌∙◌, ℕ, ap, arith, get_or, length, take, w8}
 use Rattle.rds_abi.proofs.SoftSymbols.{packed-bytes}
 use Rattle.rds_abi.proofs.soft.whole_bytes.Goals as goal
 

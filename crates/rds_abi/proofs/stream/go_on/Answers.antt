@@ -2,13 +2,13 @@ use Rattle.rds_abi.proofs.Shared.{◌≡◌, ◌<◌, arith, inl, inr, length, r
 use Rattle.rds_abi.proofs.stream.go_on.Goals as goal
 
 pub returns-in-Ok-clause-after : goal.returns-in-Ok-clause-after
-returns-in-Ok-clause-after c = rw (← c.tell.ensures.taken, c.in_ok-live.ensures.live) at c.in-Ok.ensures.after
+returns-in-Ok-clause-after c = rw c.in_ok-live.ensures.live at c.in-Ok.ensures.after
 
 pub returns-in-Ok-clause-filled : goal.returns-in-Ok-clause-filled
-returns-in-Ok-clause-filled c = rw (← c.tell.ensures.taken, c.in_ok-live.ensures.live) at c.in-Ok.ensures.filled
+returns-in-Ok-clause-filled c = rw c.in_ok-live.ensures.live at c.in-Ok.ensures.filled
 
 pub returns-in-Ok-clause-most : goal.returns-in-Ok-clause-most
-returns-in-Ok-clause-most c = rw (← c.tell.ensures.taken, c.in_ok-live.ensures.live) at c.in-Ok.ensures.most
+returns-in-Ok-clause-most c = rw c.in_ok-live.ensures.live at c.in-Ok.ensures.most
 
 pub returns-in-Ok-clause-next : goal.returns-in-Ok-clause-next
 returns-in-Ok-clause-next c = record {

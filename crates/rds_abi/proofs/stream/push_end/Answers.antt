@@ -1,5 +1,4 @@
-use Rattle.rds_abi.proofs.Shared.{◌++◌, List, ap, ◌∙◌, group_item, Item}
-use Rattle.std.specs.Prelude.{Some}
+use Rattle.rds_abi.proofs.Shared.{◌++◌, List, ap, ◌∙◌, group_item, Item, Some}
 use Rattle.rds_abi.proofs.stream.push_end.Goals as goal
 
 pub returns-in_ok-push : goal.returns-in_ok-push
