@@ -2,21 +2,10 @@
 use Rattle.std.proofs.Common.{◌++◌, ◌<◌, ◌≤◌, ◌≡◌, ◌≢◌, ◌⊎◌, ◌∙◌, [], ℕ, ap, arith, Bool, Err, false, inl, inr, length, List, None, Ok, Option, refl, Result, Some, subst, sym, true}
 use Rattle.std.specs.Prelude.{◌↔◌, IfErr, IfSome, IsErrOf, OnOk}
 use Rattle.rds_rows.specs.declared.sink.Sink.{Ghosts as Sink}
-use Rattle.rds_sync.specs.Rules.{RuleNumbers}
-use Rattle.rds_sync.specs.declared.error.SyncError.{SyncError}
+use Rattle.rds_sync.specs.{Rules.RuleNumbers, declared.error.SyncError.SyncError}
 use Rattle.rds_sync.specs.declared.error.SyncError.TheVariants as sync
-use Rattle.rds_tool.specs.Refusals.{of_sync}
-use Rattle.rds_tool.specs.Following.{BreaksOff, Follows, HasAll, MayBreakOff, Stream}
-use Rattle.rds_tool.specs.History.{Gave}
-use Rattle.rds_tool.specs.Outcome.{IsOutside, Writes, WritesPrefix, result_of_job}
-use Rattle.rds_tool.specs.Tasks.{task_of}
-use Rattle.rds_tool.specs.Transcribed.{IsTranscribed}
-use Rattle.rds_tool.specs.declared.devices.Source.{Ghosts as Source}
-use Rattle.rds_tool.specs.declared.error.ToolError.{ToolError}
-use Rattle.rds_tool.specs.declared.error.ToolError.TheVariants.{BadGaps, BitsPastBytes, BurstRange, CrewRange, LossRange, OutOfMemory, ReachRange, Read, ShareRange, TooLong, Write}
-use Rattle.rds_tool.specs.declared.job.Job.{Job}
+use Rattle.rds_tool.{specs.Refusals.of_sync, specs.Following.BreaksOff, specs.Following.Follows, specs.Following.HasAll, specs.Following.MayBreakOff, specs.Following.Stream, specs.History.Gave, specs.Outcome.IsOutside, specs.Outcome.Writes, specs.Outcome.WritesPrefix, specs.Outcome.result_of_job, specs.Tasks.task_of, specs.Transcribed.IsTranscribed, specs.declared.devices.Source.Ghosts as Source, specs.declared.error.ToolError.ToolError, specs.declared.error.ToolError.TheVariants.BadGaps, specs.declared.error.ToolError.TheVariants.BitsPastBytes, specs.declared.error.ToolError.TheVariants.BurstRange, specs.declared.error.ToolError.TheVariants.CrewRange, specs.declared.error.ToolError.TheVariants.LossRange, specs.declared.error.ToolError.TheVariants.OutOfMemory, specs.declared.error.ToolError.TheVariants.ReachRange, specs.declared.error.ToolError.TheVariants.Read, specs.declared.error.ToolError.TheVariants.ShareRange, specs.declared.error.ToolError.TheVariants.TooLong, specs.declared.error.ToolError.TheVariants.Write, specs.declared.job.Job.Job, proofs.Followed.asked_still}
 use Rattle.rds.specs.Session.{BlamesDevices, IsDone, IsFollowed, RefusesRules, RefusesTerms, RefusesWorkers, stream_of}
-use Rattle.rds_tool.proofs.Followed.{asked_still}
 
 -- the bytes given are all bytes given since the reader was made
 gave_all : (given' : List ℕ) (P : List ℕ → Type 0) → Gave [] given' P → P given'

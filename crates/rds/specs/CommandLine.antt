@@ -1,16 +1,7 @@
 -- From the words that were given to their request: this project's rule. `given_words` and `asked_for` answer it.
 use Rattle.std.specs.Prelude.{◌∷◌, ◌++◌, ◌≡◌, ◌⊎◌, [], ℕ, Err, List, Ok, Result, Vec, codes, length, map, string_bytes}
-use Rattle.std.specs.Vec.Iter.{into_iter_items, into_iter_len}
-use Rattle.std.specs.IoError.{error_kind}
-use Rattle.std.specs.declared.io.Error.{Error}
-use Rattle.std.specs.declared.io.ErrorKind.TheVariants.{InvalidData}
-use Rattle.std.specs.declared.vec.IntoIter.{IntoIter}
-use Rattle.std.specs.Result.{result_ok}
-use Rattle.rds_tool.specs.CommandLine.{HasBadGaps, MayAnswer, SaysBadGaps, asked_by, entries_of, faults_of}
-use Rattle.rds_tool.specs.declared.fault.CliFault.{CliFault}
-use Rattle.rds_tool.specs.declared.fault.FaultKind.{FaultKind}
-use Rattle.rds_tool.specs.declared.fault.FaultKind.TheVariants.{Memory, Words}
-use Rattle.rds_tool.specs.declared.job.Asked.{Asked}
+use Rattle.std.specs.{Vec.Iter.into_iter_items, Vec.Iter.into_iter_len, IoError.error_kind, declared.io.Error.Error, declared.io.ErrorKind.TheVariants.InvalidData, declared.vec.IntoIter.IntoIter, Result.result_ok}
+use Rattle.rds_tool.specs.{CommandLine.HasBadGaps, CommandLine.MayAnswer, CommandLine.SaysBadGaps, CommandLine.asked_by, CommandLine.entries_of, CommandLine.faults_of, declared.fault.CliFault.CliFault, declared.fault.FaultKind.FaultKind, declared.fault.FaultKind.TheVariants.Memory, declared.fault.FaultKind.TheVariants.Words, declared.job.Asked.Asked}
 
 -- The words are those of the iterator that `env::args` gave, or the reason fits its error. Which words that iterator has no clause says, nor
 -- that its length is the number of its items.

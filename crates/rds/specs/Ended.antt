@@ -1,16 +1,7 @@
 -- The promise of the program: this project's rule. It holds of every `Ended`, which only `do_as_asked` makes.
 use Rattle.std.specs.Prelude.{[], ℕ, Err, List, Ok, Result, string_bytes}
-use Rattle.rds_tool.specs.Ends.{is_flushed, taken_by, write_failures}
-use Rattle.rds_tool.specs.declared.error.ToolError.{ToolError}
-use Rattle.rds_tool.specs.declared.fault.CliFault.{CliFault}
-use Rattle.rds_tool.specs.declared.fault.FaultKind.{FaultKind}
-use Rattle.rds_tool.specs.declared.fault.FaultKind.TheVariants.{Words}
-use Rattle.rds_tool.specs.declared.job.Asked.{Asked}
-use Rattle.rds.specs.CommandLine.{IsAskedFor}
-use Rattle.rds.specs.Fresh.{IsUnread}
-use Rattle.rds.specs.Session.{DoesAsked}
-use Rattle.rds.specs.Messages.{IsTold, Says, refusal_said, warning_said}
-use Rattle.rds.specs.declared.session.Session.{Session}
+use Rattle.rds_tool.specs.{Ends.is_flushed, Ends.taken_by, Ends.write_failures, declared.error.ToolError.ToolError, declared.fault.CliFault.CliFault, declared.fault.FaultKind.FaultKind, declared.fault.FaultKind.TheVariants.Words, declared.job.Asked.Asked}
+use Rattle.rds.specs.{CommandLine.IsAskedFor, Fresh.IsUnread, Session.DoesAsked, Messages.IsTold, Messages.Says, Messages.refusal_said, Messages.warning_said, declared.session.Session.Session}
 
 -- standard error took the warning, and then the line of the refusal
 abbrev pub SaysBoth : (warning refusal said : List ℕ) (failures : ℕ) → Type 0

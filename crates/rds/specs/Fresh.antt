@@ -1,8 +1,6 @@
 -- Devices through which nothing has gone yet: this project's rule. `do_as_asked` and the functions that it hands devices to require it.
 use Rattle.std.specs.Prelude.{◌≡◌, [], false}
-use Rattle.rds_tool.specs.Ends.{given_by, has_ended, is_flushed, read_failures, taken_by, write_failures}
-use Rattle.rds_tool.specs.declared.devices.FromRead.{FromRead}
-use Rattle.rds_tool.specs.declared.devices.ToWrite.{ToWrite}
+use Rattle.rds_tool.specs.{Ends.given_by, Ends.has_ended, Ends.is_flushed, Ends.read_failures, Ends.taken_by, Ends.write_failures, declared.devices.FromRead.FromRead, declared.devices.ToWrite.ToWrite}
 use Rattle.rds.specs.declared.sealed.Sealed.{Sealed}
 
 -- nothing was read

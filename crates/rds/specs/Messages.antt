@@ -1,13 +1,7 @@
 -- Lines on standard error, and the text that is shown if there is no request: this project's rule. `warn`, `name_refusal` and `tell`
 -- cite it.
 use Rattle.std.specs.Prelude.{◌∷◌, ◌+◌, ◌++◌, ◌≡◌, ◌<◌, [], ℕ, Bool, Err, List, None, Ok, Option, Result, Some, codes, if◌then◌else◌, nat_lt, true}
-use Rattle.rds_tool.specs.CommandLine.{warning_of}
-use Rattle.rds_tool.specs.Refusals.{name_of, number_of}
-use Rattle.rds_tool.specs.declared.error.ToolError.{ToolError}
-use Rattle.rds_tool.specs.declared.error.ToolError.TheVariants.{OutOfMemory, Write}
-use Rattle.rds_tool.specs.declared.fault.FaultKind.{FaultKind}
-use Rattle.rds_tool.specs.declared.fault.FaultKind.TheVariants.{Help, Memory, Version, Words}
-use Rattle.rds_tool.specs.declared.job.Ignored.{Ignored}
+use Rattle.rds_tool.specs.{CommandLine.warning_of, Refusals.name_of, Refusals.number_of, declared.error.ToolError.ToolError, declared.error.ToolError.TheVariants.OutOfMemory, declared.error.ToolError.TheVariants.Write, declared.fault.FaultKind.FaultKind, declared.fault.FaultKind.TheVariants.Help, declared.fault.FaultKind.TheVariants.Memory, declared.fault.FaultKind.TheVariants.Version, declared.fault.FaultKind.TheVariants.Words, declared.job.Ignored.Ignored}
 
 -- a number below 20 in decimal digits
 abbrev pub digits_of : ℕ → List ℕ

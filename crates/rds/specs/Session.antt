@@ -1,19 +1,8 @@
 -- The promise of a session, by the histories of standard input and standard output: this project's rule. `do_request` and the
 -- functions that it calls cite it.
 use Rattle.std.specs.Prelude.{◌++◌, ◌<◌, ◌≡◌, ◌≢◌, ◌≤◌, ◌⊎◌, ◌↔◌, [], ℕ, Bool, Err, IfErr, IsErrOf, List, None, Ok, OnOk, Option, Result, Some, false, length, true}
-use Rattle.rds_sync.specs.Ranges.{IsRunOutside, IsShareOutside, farthest_reach, longest_burst}
-use Rattle.rds_sync.specs.Rules.{RuleNumbers}
-use Rattle.rds_tool.specs.Ends.{given_by, has_ended, is_flushed, read_failures, taken_by, write_failures}
-use Rattle.rds_tool.specs.Following.{BreaksOff, HasAll, MayBreakOff, Stream, bit_stream}
-use Rattle.rds_tool.specs.SoftFollowing.{symbol_stream}
-use Rattle.rds_tool.specs.Plans.{AreWorkers}
-use Rattle.rds_tool.specs.Outcome.{IsOutside, result_of_job}
-use Rattle.rds_tool.specs.Tasks.{task_of}
-use Rattle.rds_tool.specs.declared.error.ToolError.{ToolError}
-use Rattle.rds_tool.specs.declared.error.ToolError.TheVariants.{BurstRange, CrewRange, LossRange, NoWorker, OutOfMemory, ReachRange, Read, ShareRange, TooManyTurns, Write}
-use Rattle.rds_tool.specs.declared.job.Job.{Job}
-use Rattle.rds_tool.specs.declared.job.Request.{Request}
-use Rattle.rds_tool.specs.declared.job.Request.TheVariants.{Follow, FollowSoft, Job as Work}
+use Rattle.rds_sync.specs.{Ranges.IsRunOutside, Ranges.IsShareOutside, Ranges.farthest_reach, Ranges.longest_burst, Rules.RuleNumbers}
+use Rattle.rds_tool.specs.{Ends.given_by, Ends.has_ended, Ends.is_flushed, Ends.read_failures, Ends.taken_by, Ends.write_failures, Following.BreaksOff, Following.HasAll, Following.MayBreakOff, Following.Stream, Following.bit_stream, SoftFollowing.symbol_stream, Plans.AreWorkers, Outcome.IsOutside, Outcome.result_of_job, Tasks.task_of, declared.error.ToolError.ToolError, declared.error.ToolError.TheVariants.BurstRange, declared.error.ToolError.TheVariants.CrewRange, declared.error.ToolError.TheVariants.LossRange, declared.error.ToolError.TheVariants.NoWorker, declared.error.ToolError.TheVariants.OutOfMemory, declared.error.ToolError.TheVariants.ReachRange, declared.error.ToolError.TheVariants.Read, declared.error.ToolError.TheVariants.ShareRange, declared.error.ToolError.TheVariants.TooManyTurns, declared.error.ToolError.TheVariants.Write, declared.job.Job.Job, declared.job.Request.Request, declared.job.Request.TheVariants.Follow, declared.job.Request.TheVariants.FollowSoft, declared.job.Request.TheVariants.Job as Work}
 use Rattle.rds.specs.declared.session.Session.{Session}
 
 -- rules are refused by this error: the number that it names is out of its range

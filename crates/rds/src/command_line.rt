@@ -1,6 +1,5 @@
 //! From the words of the command line to their request.
-ghost use Rattle.std.specs.Prelude.{◌≡◌, IfOk, Ok, length, map, string_bytes};
-ghost use Rattle.std.specs.Vec.Iter.{into_iter_items, into_iter_len};
+ghost use Rattle.std.specs.{Prelude.◌≡◌, Prelude.IfOk, Prelude.Ok, Prelude.length, Prelude.map, Prelude.string_bytes, Vec.Iter.into_iter_items, Vec.Iter.into_iter_len};
 ghost use Rattle.rds.specs.CommandLine.{IsAskedFor, IsGiven, IsNoWords, SaysNoMemory, texts_of};
 
 use rds_tool::{Asked, CliFault, FaultKind, asked_of};

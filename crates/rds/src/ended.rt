@@ -1,10 +1,7 @@
 //! What the program leaves when it ends, and its exit status.
-ghost use Rattle.std.specs.Prelude.{◌≡◌, string_bytes};
-ghost use Rattle.std.specs.Process.{exit_status};
+ghost use Rattle.std.specs.{Prelude.◌≡◌, Prelude.string_bytes, Process.exit_status};
 ghost use Rattle.rds_tool.specs.Ends.{taken_by, write_failures};
-ghost use Rattle.rds.specs.CommandLine.{IsGiven, texts_of};
-ghost use Rattle.rds.specs.Ended.{Answers, IsEnded, status_by, status_of};
-ghost use Rattle.rds.specs.Fresh.{IsUnread, IsUnwritten};
+ghost use Rattle.rds.specs.{CommandLine.IsGiven, CommandLine.texts_of, Ended.Answers, Ended.IsEnded, Ended.status_by, Ended.status_of, Fresh.IsUnread, Fresh.IsUnwritten};
 
 use crate::command_line::{asked_for, given_words};
 use crate::messages::{name_refusal, tell, warn};

@@ -1,8 +1,7 @@
 //! Lines on standard error, and the text of help or the version on standard output.
 ghost use Rattle.std.specs.Prelude.{◌≡◌, string_bytes};
 ghost use Rattle.rds_tool.specs.Ends.{is_flushed, taken_by, write_failures};
-ghost use Rattle.rds.specs.Fresh.{IsUnwritten};
-ghost use Rattle.rds.specs.Messages.{IsShown, IsTold, Says, refusal_line_of, refusal_said, warning_line_of, warning_said};
+ghost use Rattle.rds.specs.{Fresh.IsUnwritten, Messages.IsShown, Messages.IsTold, Messages.Says, Messages.refusal_line_of, Messages.refusal_said, Messages.warning_line_of, Messages.warning_said};
 
 use crate::sealed::Sealed;
 use rds_tool::{CliFault, FaultKind, Ignored, Sink, ToWrite, ToolError, write_all};

@@ -4,8 +4,7 @@
 //! histories: the bytes that reads gave, and the bytes that writes took.
 ghost use Rattle.std.specs.Prelude.{◌<◌, ◌^◌, ◌≡◌, Err, IfErr, IfOk};
 ghost use Rattle.rds_tool.specs.Following.{Follows};
-ghost use Rattle.rds.specs.Fresh.{IsUnread, IsUnwritten};
-ghost use Rattle.rds.specs.Session.{DoesAsked, HasDone, HasFollowed, RefusesTerms, RefusesWorkers, stream_of};
+ghost use Rattle.rds.specs.{Fresh.IsUnread, Fresh.IsUnwritten, Session.DoesAsked, Session.HasDone, Session.HasFollowed, Session.RefusesTerms, Session.RefusesWorkers, Session.stream_of};
 
 use crate::progress::{Console, Progress, Reporting, Teller};
 use crate::sealed::Sealed;

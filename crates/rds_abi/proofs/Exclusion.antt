@@ -1,6 +1,5 @@
 -- The refusals of a call exclude each other.
-use Rattle.rds_abi.proofs.Shared.{common_steps, arith}
-use Rattle.rds_abi.specs.Exclusion.{ReasonsExclude}
+use Rattle.rds_abi.{proofs.Shared.common_steps, proofs.Shared.arith, specs.Exclusion.ReasonsExclude}
 
 -- `grind` looks at each pair of reasons
 pub reasons-exclude : ReasonsExclude

@@ -1,7 +1,6 @@
 -- The items of a stream are read again in a part of it as in the whole.
 use Rattle.rds_abi.proofs.Shared.{common_steps, ◌≡◌, ℕ, ◌+◌, ◌-◌, List, [], ◌∷◌, arith, map, refl, Signal, Item, moved_item, moved_items, ℤ, Acquired, Group, LostLock, SoftItem, again_in, AllInside, AreSymbolsOf, ItemInside, again-same}
-use Rattle.rds_soft.specs.Inside.Streams.{moved_again}
-use Rattle.rds_soft.specs.ReadAgain.{item_again}
+use Rattle.rds_soft.specs.{Inside.Streams.moved_again, ReadAgain.item_again}
 
 module _ (part whole : Signal) (P W : List ℤ) (margin end d : ℕ) (are : AreSymbolsOf part P end whole W d) where
   -- an item of the part, read again by its place in the stream

@@ -1,12 +1,7 @@
 -- What is heard and written of symbols that are pushed.
 use Rattle.rds_abi.proofs.Shared.{common_steps, ◌≡◌, ◌+◌, ◌-◌, ◌*◌, ◌/◌, ◌^◌, ◌<◌, ◌≤◌, ◌++◌, ◌⊎◌, ◌∙◌, ℕ, List, ap, ap₂, arith, drop, length, map, min, refl, subst, sym, take, drop-drop, length-append, length-map, length-take, take-take, take_all, Signal, length_of, RunsGiveFewItems, IsInRange, Item, gaps_within, HasHeard, LiveOf, Terms, complete, most_kept, NextIsHeard, before_tail, completed, live_next, moved_back, part_with, run_next, IsFilled, IsFollowed, IsLeft, IsNear, RefusesOn, RefusesPush, place_after, stream_of, RdsGap, RdsItem, RdsRules, RdsStream, Refusal, SmallRoom, ℤ, drop-append-le, length-drop, signal_of, lawful-back, length-signal, soft_item_in_c, HasHeardSoft, IsMargin, IsPushed, IsWrittenAgain, RefusesSoft, again_in, byte_count, bytes_of, piece_of, read_again, symbols_kept, AcquisitionsAreLate, StepsAreLawful, AreSymbolsOf, run-inside, IsLawful}
+use Rattle.rds_abi.{specs.declared.layout.RdsSoft.RdsSoft, proofs.Fitting.few-completed, proofs.NearStreams.are-completed, proofs.NearStreams.heard-next, proofs.NearStreams.left-near, proofs.NearStreams.pushed-after, proofs.NearStreams.pushed-completed, proofs.NearStreams.refused-near, proofs.SoftItems.items-same, proofs.SoftStreams.bytes-join, proofs.SoftStreams.erasures, proofs.SoftStreams.kept-on, proofs.SoftStreams.part-symbols, proofs.SoftStreams.symbols-alike, proofs.SoftSymbols.byte_count_of}
 use Rattle.rds_live.proofs.Pieces.{back-on}
-use Rattle.rds_abi.specs.declared.layout.RdsSoft.{RdsSoft}
-use Rattle.rds_abi.proofs.Fitting.{few-completed}
-use Rattle.rds_abi.proofs.NearStreams.{are-completed, heard-next, left-near, pushed-after, pushed-completed, refused-near}
-use Rattle.rds_abi.proofs.SoftItems.{items-same}
-use Rattle.rds_abi.proofs.SoftStreams.{bytes-join, erasures, kept-on, part-symbols, symbols-alike}
-use Rattle.rds_abi.proofs.SoftSymbols.{byte_count_of}
 
 -- ---- the piece that is taken
 

@@ -1,7 +1,7 @@
 -- A stream of symbols: its bytes, the symbols that are kept, and its items read again.
 use Rattle.rds_abi.proofs.Shared.{common_steps, ◌≡◌, ◌+◌, ◌-◌, ◌*◌, ◌/◌, ◌^◌, ◌<◌, ◌≤◌, ◌++◌, ◌⊎◌, ◌∙◌, ℕ, List, Bool, Option, Some, None, ap, ap₂, append_assoc, arith, drop, get_or, inl, inr, length, sym, take, cases_lt, drop-drop, get_or-take, length-append, length-take, AreGaps, Signal, length_of, gaps_within, part-touched, list_any, number_from_digits, lt-ltb, drop-append-le, ext_get_or, get_or-append_right, get_or_append_left, length-drop, length-replicate, take-append-le, drop-append-add, take-append-add, take-append_seam, get_or-map-range_with_len, hard_bit, sign, byte_of, bytes_of, symbols_kept, AreSymbolsOf, ℤ, pos, bit_xor, replicate, nat_lt, not, ◌&&◌, if◌then◌else◌}
-use Rattle.rds_stream.specs.Recording.{is_touched_by, touched}
 use Rattle.rds_abi.proofs.SoftSymbols.{byte_count_of, same-tables}
+use Rattle.rds_stream.specs.Recording.{is_touched_by, touched}
 
 -- ---- bytes
 

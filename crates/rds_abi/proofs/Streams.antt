@@ -1,7 +1,7 @@
 -- A stream as a decoder has it, and as its numbers say it.
 use Rattle.rds_abi.proofs.Shared.{common_steps, ◌≡◌, ◌+◌, ◌*◌, ◌/◌, ◌^◌, ◌<◌, ◌≤◌, ◌++◌, ◌⊎◌, ℕ, List, Option, arith, length, min, subst, take, length-map, group_item, Item, HasHeard, LiveOf, Terms, complete, most_kept, report_at, report_of, AreClosed, AreLeft, AreTooMany, IsFollowed, IsLeft, RefusesEnd, RefusesFollowed, RefusesLast, RefusesPush, RefusesStream, place_after, stream_of, terms_of, AreGiven, state_of, item_in_c, totals_in_c, RdsGap, RdsRules, RdsStream, RdsState, Refusal, SmallRoom, TooLong}
-use Rattle.rds_sync.specs.declared.item.Group.{Group as GroupRecord}
 use Rattle.rds_abi.specs.declared.layout.RdsTotals.{RdsTotals}
+use Rattle.rds_sync.specs.declared.item.Group.{Group as GroupRecord}
 
 -- what was laid out says what it was laid out of
 pub laid_out : (live : LiveOf) (magic version : ℕ) (rules : RdsRules) (place : ℕ) (state : RdsState) (totals : RdsTotals) (tail : List ℕ)

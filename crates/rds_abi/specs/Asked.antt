@@ -2,20 +2,8 @@
 -- `items` cite it, and by way of `Ranges` and `Stream` the other calls of a decoder. This project's rules.
 use Rattle.std.specs.Prelude.{◌≡◌, ℕ, ◌*◌, ◌^◌, ◌<◌, ◌≤◌, ◌⊎◌, ◌==◌, ◌++◌, List, drop, length, map, replicate, if◌then◌else◌, ⊤}
 use Rattle.rds_stream.specs.Recording.{AreGaps, Signal, bits_of}
-use Rattle.rds_sync.specs.Ranges.{IsInRange, IsRunOutside, IsShareOutside, farthest_reach, longest_burst}
-use Rattle.rds_sync.specs.Report.{report_items}
-use Rattle.rds_sync.specs.Rules.{RuleNumbers}
-use Rattle.rds_sync.specs.Totals.{totals_of}
-use Rattle.rds_sync.specs.declared.loss.Loss.{Loss}
-use Rattle.rds_sync.specs.declared.loss.Loss.TheVariants.{Run, Share}
-use Rattle.rds_abi.specs.Layout.{item_in_c, totals_in_c}
-use Rattle.rds_abi.specs.Refusals.{number_of}
-use Rattle.rds_abi.specs.declared.layout.RdsGap.{RdsGap}
-use Rattle.rds_abi.specs.declared.layout.RdsRules.{RdsRules}
-use Rattle.rds_abi.specs.declared.layout.RdsItem.{RdsItem}
-use Rattle.rds_abi.specs.declared.layout.RdsTotals.{RdsTotals}
-use Rattle.rds_abi.specs.declared.refusal.Refusal.{Refusal}
-use Rattle.rds_abi.specs.declared.refusal.Refusal.TheVariants.{BadGaps, BitsPastBytes, BurstRange, LossRange, OutOfMemory, ReachRange, ReservedField, ShareRange, SmallRoom, TooLong}
+use Rattle.rds_sync.specs.{Ranges.IsInRange, Ranges.IsRunOutside, Ranges.IsShareOutside, Ranges.farthest_reach, Ranges.longest_burst, Report.report_items, Rules.RuleNumbers, Totals.totals_of, declared.loss.Loss.Loss, declared.loss.Loss.TheVariants.Run, declared.loss.Loss.TheVariants.Share}
+use Rattle.rds_abi.specs.{Layout.item_in_c, Layout.totals_in_c, Refusals.number_of, declared.layout.RdsGap.RdsGap, declared.layout.RdsRules.RdsRules, declared.layout.RdsItem.RdsItem, declared.layout.RdsTotals.RdsTotals, declared.refusal.Refusal.Refusal, declared.refusal.Refusal.TheVariants.BadGaps, declared.refusal.Refusal.TheVariants.BitsPastBytes, declared.refusal.Refusal.TheVariants.BurstRange, declared.refusal.Refusal.TheVariants.LossRange, declared.refusal.Refusal.TheVariants.OutOfMemory, declared.refusal.Refusal.TheVariants.ReachRange, declared.refusal.Refusal.TheVariants.ReservedField, declared.refusal.Refusal.TheVariants.ShareRange, declared.refusal.Refusal.TheVariants.SmallRoom, declared.refusal.Refusal.TheVariants.TooLong}
 
 pub record Asked : Type 0 where
   pub bytes : List ℕ

@@ -2,13 +2,8 @@
 -- `correct` and `encode` cite it. This project's rules.
 use Rattle.std.specs.Prelude.{◌≡◌, ◌≢◌, ℕ, ◌*◌, ◌+◌, ◌^◌, ◌<◌, ◌≤◌, ◌==◌, List, Option, None, Some, drop, slice_index, if◌then◌else◌, ⊤}
 use Rattle.std.specs.Int.{to_be_bytes, w128}
-use Rattle.rds_code.specs.Encoding.{encoded_group}
-use Rattle.rds_code.specs.declared.reading.Wanted.{Wanted}
-use Rattle.rds_code.specs.declared.reading.Wanted.TheVariants.{OnlyC, OnlyCx, Either}
-use Rattle.rds_abi.specs.declared.layout.RdsPacked.{RdsPacked}
-use Rattle.rds_abi.specs.declared.layout.RdsWords.{RdsWords}
-use Rattle.rds_abi.specs.declared.refusal.Refusal.{Refusal}
-use Rattle.rds_abi.specs.declared.refusal.Refusal.TheVariants.{BlockRange, BurstRange, OffsetRange, OutOfMemory}
+use Rattle.rds_code.specs.{Encoding.encoded_group, declared.reading.Wanted.Wanted, declared.reading.Wanted.TheVariants.OnlyC, declared.reading.Wanted.TheVariants.OnlyCx, declared.reading.Wanted.TheVariants.Either}
+use Rattle.rds_abi.specs.declared.{layout.RdsPacked.RdsPacked, layout.RdsWords.RdsWords, refusal.Refusal.Refusal, refusal.Refusal.TheVariants.BlockRange, refusal.Refusal.TheVariants.BurstRange, refusal.Refusal.TheVariants.OffsetRange, refusal.Refusal.TheVariants.OutOfMemory}
 
 -- ---- a correction
 

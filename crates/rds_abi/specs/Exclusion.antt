@@ -1,18 +1,6 @@
 -- The refusals of a call exclude each other, except lack of memory. The law `reasons_exclude_each_other` cites it. This project's rules.
 use Rattle.std.specs.Prelude.{◌≡◌, ℕ, ◌^◌, ◌≤◌, ◌⊎◌, List}
-use Rattle.rds_abi.specs.Asked.{Asked, IsLawful, Refuses}
-use Rattle.rds_abi.specs.Blocks.{RefusesCorrection}
-use Rattle.rds_abi.specs.Stream.{AreLast, IsFollowed, RefusesEnd, RefusesFollowed, RefusesPush, place_after}
-use Rattle.rds_abi.specs.Soft.{IsPushed, RefusesSoft}
-use Rattle.rds_abi.specs.Ranges.{IsRun, RefusesRun}
-use Rattle.rds_abi.specs.Names.{RefusesName}
-use Rattle.rds_abi.specs.declared.layout.RdsGap.{RdsGap}
-use Rattle.rds_abi.specs.declared.layout.RdsRules.{RdsRules}
-use Rattle.rds_abi.specs.declared.layout.RdsSoft.{RdsSoft}
-use Rattle.rds_abi.specs.declared.layout.RdsState.{RdsState}
-use Rattle.rds_abi.specs.declared.layout.RdsStream.{RdsStream}
-use Rattle.rds_abi.specs.declared.refusal.Refusal.{Refusal}
-use Rattle.rds_abi.specs.declared.refusal.Refusal.TheVariants.{OutOfMemory, SmallRoom}
+use Rattle.rds_abi.specs.{Asked.Asked, Asked.IsLawful, Asked.Refuses, Blocks.RefusesCorrection, Stream.AreLast, Stream.IsFollowed, Stream.RefusesEnd, Stream.RefusesFollowed, Stream.RefusesPush, Stream.place_after, Soft.IsPushed, Soft.RefusesSoft, Ranges.IsRun, Ranges.RefusesRun, Names.RefusesName, declared.layout.RdsGap.RdsGap, declared.layout.RdsRules.RdsRules, declared.layout.RdsSoft.RdsSoft, declared.layout.RdsState.RdsState, declared.layout.RdsStream.RdsStream, declared.refusal.Refusal.Refusal, declared.refusal.Refusal.TheVariants.OutOfMemory, declared.refusal.Refusal.TheVariants.SmallRoom}
 
 -- two refusals whose reasons hold at once are one, or memory was refused
 abbrev pub Exclude : (Refusal → Type 0) → Type 0

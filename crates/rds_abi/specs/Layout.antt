@@ -1,26 +1,11 @@
 -- The layout of totals, blocks and items in C: plain numbers only. Each call that writes some cites it. This project's rules.
 use Rattle.std.specs.Prelude.{ℕ, [], ◌∷◌, map, replicate, Option, None, Some, if◌then◌else◌}
-use Rattle.rds_code.specs.declared.offset.Offset.{Offset}
+use Rattle.rds_code.specs.declared.{offset.Offset.Offset, reading.Reading.Reading, reading.Reading.TheVariants.Valid, reading.Reading.TheVariants.Corrected, reading.Reading.TheVariants.Lost}
 use Rattle.rds_code.specs.declared.offset.Offset.TheVariants as offset
-use Rattle.rds_code.specs.declared.reading.Reading.{Reading}
-use Rattle.rds_code.specs.declared.reading.Reading.TheVariants.{Valid, Corrected, Lost}
-use Rattle.rds_sync.specs.declared.item.Block.{Block}
-use Rattle.rds_sync.specs.declared.item.Block.TheVariants.{Missing, Read}
-use Rattle.rds_sync.specs.declared.item.Item.{Item}
-use Rattle.rds_sync.specs.declared.item.Item.TheVariants.{Acquired, Group, LostLock}
-use Rattle.rds_sync.specs.declared.item.Version.{Version}
-use Rattle.rds_sync.specs.declared.item.Version.TheVariants.{A, B, Unknown}
-use Rattle.rds_sync.specs.declared.totals.Totals.{Totals}
-use Rattle.rds_soft.specs.declared.soft_reading.SoftReading.{SoftReading}
+use Rattle.rds_sync.specs.declared.{item.Block.Block, item.Block.TheVariants.Missing, item.Block.TheVariants.Read, item.Item.Item, item.Item.TheVariants.Acquired, item.Item.TheVariants.Group, item.Item.TheVariants.LostLock, item.Version.Version, item.Version.TheVariants.A, item.Version.TheVariants.B, item.Version.TheVariants.Unknown, totals.Totals.Totals}
+use Rattle.rds_soft.specs.{declared.soft_reading.SoftReading.SoftReading, declared.soft_item.SoftBlock.SoftBlock, declared.soft_item.SoftBlock.TheVariants.Missing as SoftMissing, declared.soft_item.SoftBlock.TheVariants.Read as SoftRead, declared.soft_item.SoftItem.SoftItem, declared.soft_item.SoftItem.TheVariants.Acquired as SoftAcquired, declared.soft_item.SoftItem.TheVariants.Group as InSoft, declared.soft_item.SoftItem.TheVariants.LostLock as SoftLostLock, Nearest.mask_of}
 use Rattle.rds_soft.specs.declared.soft_reading.SoftReading.TheVariants as Soft
-use Rattle.rds_soft.specs.declared.soft_item.SoftBlock.{SoftBlock}
-use Rattle.rds_soft.specs.declared.soft_item.SoftBlock.TheVariants.{Missing as SoftMissing, Read as SoftRead}
-use Rattle.rds_soft.specs.declared.soft_item.SoftItem.{SoftItem}
-use Rattle.rds_soft.specs.declared.soft_item.SoftItem.TheVariants.{Acquired as SoftAcquired, Group as InSoft, LostLock as SoftLostLock}
-use Rattle.rds_soft.specs.Nearest.{mask_of}
-use Rattle.rds_abi.specs.declared.layout.RdsBlock.{RdsBlock}
-use Rattle.rds_abi.specs.declared.layout.RdsItem.{RdsItem}
-use Rattle.rds_abi.specs.declared.layout.RdsTotals.{RdsTotals}
+use Rattle.rds_abi.specs.declared.layout.{RdsBlock.RdsBlock, RdsItem.RdsItem, RdsTotals.RdsTotals}
 
 -- totals, field by field
 abbrev pub totals_in_c : Totals → RdsTotals

@@ -1,8 +1,6 @@
 -- The name of an error in C: its letters, followed by a 0. `refusal_name` writes it. This project's rule.
 use Rattle.std.specs.Prelude.{◌≡◌, ℕ, ◌+◌, ◌≤◌, ◌++◌, ◌∷◌, List, drop, length}
-use Rattle.rds_abi.specs.Refusals.{name_of, number_of}
-use Rattle.rds_abi.specs.declared.refusal.Refusal.{Refusal}
-use Rattle.rds_abi.specs.declared.refusal.Refusal.TheVariants.{NoRefusal, SmallRoom}
+use Rattle.rds_abi.specs.{Refusals.name_of, Refusals.number_of, declared.refusal.Refusal.Refusal, declared.refusal.Refusal.TheVariants.NoRefusal, declared.refusal.Refusal.TheVariants.SmallRoom}
 
 -- the room begins with the text and a 0
 abbrev pub IsSpelled : List ℕ → List ℕ → List ℕ → Type 0

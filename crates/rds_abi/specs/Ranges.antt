@@ -2,21 +2,8 @@
 use Rattle.std.specs.Prelude.{◌≡◌, ℕ, ◌-◌, ◌<◌, ◌≤◌, ◌⊎◌, ◌==◌, List, map, if◌then◌else◌}
 use Rattle.rds_stream.specs.Recording.{Signal}
 use Rattle.rds_live.specs.Moving.{moved_items, moved_state}
-use Rattle.rds_sync.specs.Rules.{RuleNumbers}
-use Rattle.rds_sync.specs.Lawful.{IsLawful as IsLawfulState}
-use Rattle.rds_sync.specs.Step.{items_of_end, run, lock_of}
-use Rattle.rds_sync.specs.declared.item.Item.{Item}
-use Rattle.rds_sync.specs.declared.loss.Loss.{Loss}
-use Rattle.rds_sync.specs.declared.loss.Loss.TheVariants.{Run, Share}
-use Rattle.rds_sync.specs.declared.state.State.{State}
-use Rattle.rds_sync.specs.declared.state.State.TheVariants.{Locked, Searching}
-use Rattle.rds_abi.specs.Asked.{Asked, IsLawful, IsTooMuch, Refuses, recording_of, rules_of}
-use Rattle.rds_abi.specs.Layout.{item_in_c}
-use Rattle.rds_abi.specs.declared.layout.RdsState.{RdsState}
-use Rattle.rds_abi.specs.declared.ranges.Start.{Start}
-use Rattle.rds_abi.specs.declared.layout.RdsItem.{RdsItem}
-use Rattle.rds_abi.specs.declared.refusal.Refusal.{Refusal}
-use Rattle.rds_abi.specs.declared.refusal.Refusal.TheVariants.{PlaceRange, UnlawfulState}
+use Rattle.rds_sync.specs.{Rules.RuleNumbers, Lawful.IsLawful as IsLawfulState, Step.items_of_end, Step.run, Step.lock_of, declared.item.Item.Item, declared.loss.Loss.Loss, declared.loss.Loss.TheVariants.Run, declared.loss.Loss.TheVariants.Share, declared.state.State.State, declared.state.State.TheVariants.Locked, declared.state.State.TheVariants.Searching}
+use Rattle.rds_abi.specs.{Asked.Asked, Asked.IsLawful, Asked.IsTooMuch, Asked.Refuses, Asked.recording_of, Asked.rules_of, Layout.item_in_c, declared.layout.RdsState.RdsState, declared.ranges.Start.Start, declared.layout.RdsItem.RdsItem, declared.refusal.Refusal.Refusal, declared.refusal.Refusal.TheVariants.PlaceRange, declared.refusal.Refusal.TheVariants.UnlawfulState}
 
 -- the state that these numbers say: the number 0 of a block is a search
 abbrev pub state_of : RdsState → State

@@ -1,8 +1,8 @@
 -- The refusals of the library, by the numbers and names that all of the project share, and its own from 64 on. `Refusal::number`,
 -- `name` and `of_number` answer them.
 use Rattle.std.specs.Prelude.{ℕ, List, codes}
-use Rattle.rds_abi.specs.declared.refusal.Refusal.{Refusal}
 use Rattle.rds_abi.specs.declared.refusal.Refusal.TheVariants.{BadGaps, BitsPastBytes, BlockRange, BurstRange, LossRange, MarginRange, NoRefusal, OffsetRange, OutOfMemory, PlaceRange, ReachRange, ReservedField, ShareRange, SmallRoom, TooLong, UnlawfulState}
+use Rattle.rds_abi.specs.declared.refusal.Refusal.{Refusal}
 
 abbrev pub number_and_name : Refusal → ℕ × List ℕ
 number_and_name BurstRange = (1, codes "BurstRange")

@@ -1,27 +1,12 @@
 -- A stream of symbols, whose bits are followed as those of `Stream`, and whose groups are read again from the symbols. `push_soft` cites
 -- it. This project's rules.
 use Rattle.std.specs.Prelude.{◌≡◌, ℕ, ◌+◌, ◌-◌, ◌*◌, ◌/◌, ◌^◌, ◌<◌, ◌≤◌, ◌⊎◌, List, ◌++◌, drop, length, map, max, min, replicate, take, ℤ, pos}
-use Rattle.std.specs.List.{range_with_len}
-use Rattle.std.specs.Int.Digits.{number_from_digits}
+use Rattle.std.specs.{List.range_with_len, Int.Digits.number_from_digits}
 use Rattle.rds_stream.specs.Recording.{Signal, length_of}
-use Rattle.rds_sync.specs.declared.item.Item.{Item}
-use Rattle.rds_sync.specs.declared.item.Item.TheVariants.{Acquired, Group, LostLock}
-use Rattle.rds_live.specs.StreamDecoder.{HasHeard, Terms, complete, most_kept, signal_of}
-use Rattle.rds_live.specs.Gaps.{gaps_within}
-use Rattle.rds_live.specs.Next.{completed}
-use Rattle.rds_soft.specs.declared.soft_item.SoftItem.{SoftItem}
-use Rattle.rds_soft.specs.declared.soft_item.SoftItem.TheVariants.{Acquired as SoftAcquired, Group as InSoft, LostLock as SoftLostLock}
-use Rattle.rds_soft.specs.Symbols.{hard_bit}
-use Rattle.rds_soft.specs.ReadAgain.{group_again, item_again}
-use Rattle.rds_abi.specs.Asked.{IsFilled, IsTooMuch}
-use Rattle.rds_abi.specs.Stream.{IsFollowed, RefusesPush, items_after, place_after, stream_of, terms_of}
-use Rattle.rds_abi.specs.Layout.{item_in_c, soft_item_in_c}
-use Rattle.rds_abi.specs.declared.layout.RdsGap.{RdsGap}
-use Rattle.rds_abi.specs.declared.layout.RdsItem.{RdsItem}
-use Rattle.rds_abi.specs.declared.layout.RdsRules.{RdsRules}
-use Rattle.rds_abi.specs.declared.layout.RdsSoft.{RdsSoft}
-use Rattle.rds_abi.specs.declared.refusal.Refusal.{Refusal}
-use Rattle.rds_abi.specs.declared.refusal.Refusal.TheVariants.{MarginRange}
+use Rattle.rds_sync.specs.declared.item.Item.{Item, TheVariants.Acquired, TheVariants.Group, TheVariants.LostLock}
+use Rattle.rds_live.specs.{StreamDecoder.HasHeard, StreamDecoder.Terms, StreamDecoder.complete, StreamDecoder.most_kept, StreamDecoder.signal_of, Gaps.gaps_within, Next.completed}
+use Rattle.rds_soft.specs.{declared.soft_item.SoftItem.SoftItem, declared.soft_item.SoftItem.TheVariants.Acquired as SoftAcquired, declared.soft_item.SoftItem.TheVariants.Group as InSoft, declared.soft_item.SoftItem.TheVariants.LostLock as SoftLostLock, Symbols.hard_bit, ReadAgain.group_again, ReadAgain.item_again}
+use Rattle.rds_abi.specs.{Asked.IsFilled, Asked.IsTooMuch, Stream.IsFollowed, Stream.RefusesPush, Stream.items_after, Stream.place_after, Stream.stream_of, Stream.terms_of, Layout.item_in_c, Layout.soft_item_in_c, declared.layout.RdsGap.RdsGap, declared.layout.RdsItem.RdsItem, declared.layout.RdsRules.RdsRules, declared.layout.RdsSoft.RdsSoft, declared.refusal.Refusal.Refusal, declared.refusal.Refusal.TheVariants.MarginRange}
 
 -- ---- symbols
 

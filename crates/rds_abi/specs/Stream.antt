@@ -2,23 +2,9 @@
 -- it. This project's rules.
 use Rattle.std.specs.Prelude.{◌≡◌, ℕ, ◌+◌, ◌-◌, ◌*◌, ◌/◌, ◌^◌, ◌<◌, ◌≤◌, ◌⊎◌, ◌++◌, List, [], length, map, min, replicate, take, ⊤}
 use Rattle.rds_stream.specs.Recording.{AreGaps}
-use Rattle.rds_sync.specs.Rules.{RuleNumbers}
-use Rattle.rds_sync.specs.Totals.{totals_of}
-use Rattle.rds_sync.specs.declared.item.Item.{Item}
-use Rattle.rds_sync.specs.declared.totals.Totals.{Totals}
-use Rattle.rds_live.specs.Gaps.{gaps_within}
-use Rattle.rds_live.specs.StreamDecoder.{HasHeard, IsStreamDecoder, LiveOf, Terms, complete, most_kept, report_at, report_of}
-use Rattle.rds_live.specs.Next.{completed, live_next}
-use Rattle.rds_abi.specs.Asked.{AreGiven, IsFilled, IsTooMuch, RefusesGiven, gaps_of, rules_of}
-use Rattle.rds_abi.specs.Ranges.{loss_in_c, searching_in_c, state_in_c, state_of}
-use Rattle.rds_abi.specs.Layout.{item_in_c, totals_in_c}
-use Rattle.rds_abi.specs.declared.layout.RdsGap.{RdsGap}
-use Rattle.rds_abi.specs.declared.layout.RdsRules.{RdsRules}
-use Rattle.rds_abi.specs.declared.layout.RdsStream.{RdsStream}
-use Rattle.rds_abi.specs.declared.layout.RdsItem.{RdsItem}
-use Rattle.rds_abi.specs.declared.layout.RdsTotals.{RdsTotals}
-use Rattle.rds_abi.specs.declared.refusal.Refusal.{Refusal}
-use Rattle.rds_abi.specs.declared.refusal.Refusal.TheVariants.{BadGaps, BitsPastBytes, OutOfMemory, TooLong, UnlawfulState}
+use Rattle.rds_sync.specs.{Rules.RuleNumbers, Totals.totals_of, declared.item.Item.Item, declared.totals.Totals.Totals}
+use Rattle.rds_live.specs.{Gaps.gaps_within, StreamDecoder.HasHeard, StreamDecoder.IsStreamDecoder, StreamDecoder.LiveOf, StreamDecoder.Terms, StreamDecoder.complete, StreamDecoder.most_kept, StreamDecoder.report_at, StreamDecoder.report_of, Next.completed, Next.live_next}
+use Rattle.rds_abi.specs.{Asked.AreGiven, Asked.IsFilled, Asked.IsTooMuch, Asked.RefusesGiven, Asked.gaps_of, Asked.rules_of, Ranges.loss_in_c, Ranges.searching_in_c, Ranges.state_in_c, Ranges.state_of, Layout.item_in_c, Layout.totals_in_c, declared.layout.RdsGap.RdsGap, declared.layout.RdsRules.RdsRules, declared.layout.RdsStream.RdsStream, declared.layout.RdsItem.RdsItem, declared.layout.RdsTotals.RdsTotals, declared.refusal.Refusal.Refusal, declared.refusal.Refusal.TheVariants.BadGaps, declared.refusal.Refusal.TheVariants.BitsPastBytes, declared.refusal.Refusal.TheVariants.OutOfMemory, declared.refusal.Refusal.TheVariants.TooLong, declared.refusal.Refusal.TheVariants.UnlawfulState}
 
 -- ---- the meaning of the numbers
 

@@ -1,10 +1,8 @@
 //! A caller's arguments, and the recording and rules made of them.
 
-ghost use Rattle.std.specs.Prelude.{◌≡◌, ◌<◌, ◌≤◌, ◌↔◌, IfErr, IfOk, OnOk, length, true};
-ghost use Rattle.std.specs.List.{All, AllAdjacentBelow};
+ghost use Rattle.std.specs.{Prelude.◌≡◌, Prelude.◌<◌, Prelude.◌≤◌, Prelude.◌↔◌, Prelude.IfErr, Prelude.IfOk, Prelude.OnOk, Prelude.length, Prelude.true, List.All, List.AllAdjacentBelow};
 ghost use Rattle.rds_stream.specs.Recording.{AreGaps, length_of};
-ghost use Rattle.rds_abi.specs.Asked.{IsLawful, AreGiven, AreReserved, IsRecording, Refuses, RefusesGiven, RefusesRecording, asked, gaps_of, recording_of as the_recording_of, rules_of as the_rules_of};
-ghost use Rattle.rds_abi.specs.declared.refusal.Refusal.TheVariants.{BadGaps};
+ghost use Rattle.rds_abi.specs.{Asked.IsLawful, Asked.AreGiven, Asked.AreReserved, Asked.IsRecording, Asked.Refuses, Asked.RefusesGiven, Asked.RefusesRecording, Asked.asked, Asked.gaps_of, Asked.recording_of as the_recording_of, Asked.rules_of as the_rules_of, declared.refusal.Refusal.TheVariants.BadGaps};
 
 use crate::layout::{RdsGap, RdsRules};
 use crate::refusal::Refusal;

@@ -1,11 +1,8 @@
 //! Single blocks: their remainders, and their correction.
 
 ghost use Rattle.std.specs.Prelude.{◌≡◌, ◌≢◌, ◌^◌, ◌<◌, ◌≤◌, IfErr, IfOk, IfSome, None};
-ghost use Rattle.rds_code.specs.Reading.{reading};
-ghost use Rattle.rds_code.specs.Remainder.{rem};
-ghost use Rattle.rds_abi.specs.Blocks.{RefusesCorrection, block_wanted as the_block_wanted};
-ghost use Rattle.rds_abi.specs.Layout.{reading_in_c};
-ghost use Rattle.rds_abi.specs.declared.refusal.Refusal.TheVariants.{BlockRange};
+ghost use Rattle.rds_code.specs.{Reading.reading, Remainder.rem};
+ghost use Rattle.rds_abi.specs.{Blocks.RefusesCorrection, Blocks.block_wanted as the_block_wanted, Layout.reading_in_c, declared.refusal.Refusal.TheVariants.BlockRange};
 
 use crate::in_c::reading_in_c;
 use crate::layout::RdsBlock;

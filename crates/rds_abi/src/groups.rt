@@ -1,8 +1,7 @@
 //! Groups to bytes.
 
 ghost use Rattle.std.specs.Prelude.{◌≡◌, ◌++◌, ◌<◌, ◌≤◌, IfErr, OnErr, OnOk, drop, length, map};
-ghost use Rattle.rds_abi.specs.Blocks.{packed as the_packed};
-ghost use Rattle.rds_abi.specs.declared.refusal.Refusal.TheVariants.{SmallRoom};
+ghost use Rattle.rds_abi.specs.{Blocks.packed as the_packed, declared.refusal.Refusal.TheVariants.SmallRoom};
 
 use crate::layout::{RdsPacked, RdsWords};
 use crate::refusal::Refusal;

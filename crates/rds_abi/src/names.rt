@@ -1,8 +1,7 @@
 //! Texts for C: names and the version.
 
 ghost use Rattle.std.specs.Prelude.{◌≡◌, ◌≤◌, IfErr, OnErr, OnOk, length};
-ghost use Rattle.rds_abi.specs.Names.{IsNamed, IsSpelled, RefusesName};
-ghost use Rattle.rds_abi.specs.declared.refusal.Refusal.TheVariants.{SmallRoom};
+ghost use Rattle.rds_abi.specs.{Names.IsNamed, Names.IsSpelled, Names.RefusesName, declared.refusal.Refusal.TheVariants.SmallRoom};
 
 use crate::refusal::Refusal;
 

@@ -2,9 +2,7 @@
 
 ghost use Rattle.std.specs.Prelude.{◌≡◌, ◌+◌, ◌-◌, ◌*◌, ◌<◌, ◌≤◌, ◌^◌, ℕ, IfOk};
 ghost use Rattle.rds_stream.specs.Recording.{AreGaps, length_of};
-ghost use Rattle.rds_live.specs.Gaps.{gaps_within as the_gaps_within, part_of_gap as the_part_of_gap};
-ghost use Rattle.rds_live.specs.Moving.{IsPartHeard, moved_state};
-ghost use Rattle.rds_live.specs.Places.{is_due_below, is_due_from};
+ghost use Rattle.rds_live.specs.{Gaps.gaps_within as the_gaps_within, Gaps.part_of_gap as the_part_of_gap, Moving.IsPartHeard, Moving.moved_state, Places.is_due_below, Places.is_due_from};
 ghost use Rattle.rds_abi.specs.Asked.{IsRecording, gap_of, gaps_of, recording_of as the_recording_of};
 
 use crate::layout::RdsGap;

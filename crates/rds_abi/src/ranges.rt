@@ -2,17 +2,10 @@
 
 ghost use Rattle.std.specs.Prelude.{◌≡◌, ◌≢◌, ◌+◌, ◌-◌, ◌^◌, ◌<◌, ◌≤◌, ◌⊎◌, ◌↔◌, ℕ, true, All, IfErr, IfOk, IfSome, IsOkUnless, None, OnErr, OnOk, length, map};
 ghost use Rattle.rds_stream.specs.Recording.{length_of};
-ghost use Rattle.rds_sync.specs.Advance.{group_item};
-ghost use Rattle.rds_sync.specs.Lawful.{IsLawful as IsLawfulState};
-ghost use Rattle.rds_sync.specs.Rules.{RuleNumbers};
-ghost use Rattle.rds_sync.specs.declared.state.State.TheVariants.{Searching};
-ghost use Rattle.rds_sync.specs.Step.{items_of_end, run as the_run};
-ghost use Rattle.rds_live.specs.Moving.{IsPartHeard, moved_item, moved_items, moved_state};
-ghost use Rattle.rds_live.specs.Places.{place_of};
-ghost use Rattle.rds_abi.specs.Asked.{IsFilled, IsTooMuch, asked, recording_of as the_recording_of, rules_of as the_rules_of};
-ghost use Rattle.rds_abi.specs.declared.refusal.Refusal.TheVariants.{OutOfMemory, PlaceRange, SmallRoom, UnlawfulState};
+ghost use Rattle.rds_sync.specs.{Advance.group_item, Lawful.IsLawful as IsLawfulState, Rules.RuleNumbers, declared.state.State.TheVariants.Searching, Step.items_of_end, Step.run as the_run};
+ghost use Rattle.rds_live.specs.{Moving.IsPartHeard, Moving.moved_item, Moving.moved_items, Moving.moved_state, Places.place_of};
 ghost use Rattle.rds_abi.specs.Ranges.{IsLeftState, IsRun, RefusesItemsAtEnd, RefusesItemsOfRun, RefusesRun, items_at_end, items_of_run, loss_in_c as the_loss_in_c, run_asked, run_from, searching_in_c, state_in_c as the_state_in_c, state_of as the_state_of};
-ghost use Rattle.rds_abi.specs.Layout.{item_in_c};
+ghost use Rattle.rds_abi.specs.{Asked.IsFilled, Asked.IsTooMuch, Asked.asked, Asked.recording_of as the_recording_of, Asked.rules_of as the_rules_of, declared.refusal.Refusal.TheVariants.OutOfMemory, declared.refusal.Refusal.TheVariants.PlaceRange, declared.refusal.Refusal.TheVariants.SmallRoom, declared.refusal.Refusal.TheVariants.UnlawfulState, Layout.item_in_c};
 
 use crate::asked::{refuse_recording, rules_of};
 use crate::in_c::item_in_c;

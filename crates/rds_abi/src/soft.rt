@@ -2,16 +2,9 @@
 
 ghost use Rattle.std.specs.Prelude.{◌≡◌, ◌++◌, ◌<◌, ◌≤◌, ◌+◌, ◌-◌, ◌*◌, ◌/◌, ◌^◌, ℕ, IfErr, IfOk, OnErr, OnOk, drop, length, map, min, take};
 ghost use Rattle.rds_stream.specs.Recording.{AreGaps, length_of, packed_bit};
-ghost use Rattle.rds_live.specs.Gaps.{gaps_within as the_gaps_within};
-ghost use Rattle.rds_live.specs.StreamDecoder.{most_kept};
-ghost use Rattle.rds_live.specs.Next.{completed, live_next};
-ghost use Rattle.rds_soft.specs.Symbols.{hard_bit};
-ghost use Rattle.rds_soft.specs.ReadAgain.{group_again, symbols_of};
-ghost use Rattle.rds_abi.specs.Asked.{IsFilled, gaps_of};
-ghost use Rattle.rds_abi.specs.Stream.{GoesOn, IsFollowed, IsLaid, IsLeft, RefusesOn, items_after, place_after, terms_of};
-ghost use Rattle.rds_abi.specs.Soft.{AreReadAgain, HearsOnSoft, IsMargin, IsPushed, IsWrittenAgain, RefusesMargin, RefusesTakenSoft, again_in as the_again_in, byte_count, bytes_of as the_bytes_of, bytes_taken, piece_of as the_piece_of};
-ghost use Rattle.rds_abi.specs.Layout.{soft_item_in_c as the_soft_item_in_c};
-ghost use Rattle.rds_abi.specs.declared.refusal.Refusal.TheVariants.{OutOfMemory, SmallRoom};
+ghost use Rattle.rds_live.specs.{Gaps.gaps_within as the_gaps_within, StreamDecoder.most_kept, Next.completed, Next.live_next};
+ghost use Rattle.rds_soft.specs.{Symbols.hard_bit, ReadAgain.group_again, ReadAgain.symbols_of};
+ghost use Rattle.rds_abi.specs.{Asked.IsFilled, Asked.gaps_of, Stream.GoesOn, Stream.IsFollowed, Stream.IsLaid, Stream.IsLeft, Stream.RefusesOn, Stream.items_after, Stream.place_after, Stream.terms_of, Soft.AreReadAgain, Soft.HearsOnSoft, Soft.IsMargin, Soft.IsPushed, Soft.IsWrittenAgain, Soft.RefusesMargin, Soft.RefusesTakenSoft, Soft.again_in as the_again_in, Soft.byte_count, Soft.bytes_of as the_bytes_of, Soft.bytes_taken, Soft.piece_of as the_piece_of, Layout.soft_item_in_c as the_soft_item_in_c, declared.refusal.Refusal.TheVariants.OutOfMemory, declared.refusal.Refusal.TheVariants.SmallRoom};
 
 use crate::in_c::soft_item_in_c;
 use crate::layout::{RdsGap, RdsItem, RdsRules, RdsSoft, RdsStream};

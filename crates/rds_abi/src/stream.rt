@@ -2,15 +2,10 @@
 
 ghost use Rattle.std.specs.Prelude.{◌≡◌, ◌++◌, ◌<◌, ◌≤◌, ◌⊎◌, ◌↔◌, None, true, ◌+◌, ◌-◌, ◌*◌, ◌/◌, ◌^◌, ℕ, List, IfErr, IfOk, IfSome, OnErr, OnOk, drop, length, map, min, replicate, take, vec_capacity};
 ghost use Rattle.rds_stream.specs.Recording.{AreGaps};
-ghost use Rattle.rds_sync.specs.Advance.{group_item};
-ghost use Rattle.rds_sync.specs.Totals.{totals_of};
-ghost use Rattle.rds_live.specs.StreamDecoder.{HasHeard, IsStreamDecoder, complete, most_kept, report_at};
-ghost use Rattle.rds_live.specs.Next.{completed, live_next};
-ghost use Rattle.rds_sync.specs.Ranges.{IsInRange};
-ghost use Rattle.rds_abi.specs.Asked.{AreGiven, IsFilled, gaps_of, rules_of as the_rules_of};
+ghost use Rattle.rds_sync.specs.{Advance.group_item, Totals.totals_of, Ranges.IsInRange};
+ghost use Rattle.rds_live.specs.{StreamDecoder.HasHeard, StreamDecoder.IsStreamDecoder, StreamDecoder.complete, StreamDecoder.most_kept, StreamDecoder.report_at, Next.completed, Next.live_next};
 ghost use Rattle.rds_abi.specs.Stream.{AreClosed, AreCompleted, AreLast, AreLeft, AreTooMany, AreTotals, AreTotalsAt, AreWritten, GoesOn, HearsOn, IsFollowed, IsLaid, IsLeft, IsMostTaken, IsNamed, IsNear, RefusesClosed, RefusesFollowed, RefusesLast, RefusesLeft, RefusesOn, RefusesStream, RefusesTaken, RefusesTold, items_after, place_after, rules_in_c as the_rules_in_c, stream_in_c as the_stream_in_c, stream_of as the_stream_of, terms_of, totals_from_c, unheard};
-ghost use Rattle.rds_abi.specs.Layout.{item_in_c, totals_in_c};
-ghost use Rattle.rds_abi.specs.declared.refusal.Refusal.TheVariants.{BitsPastBytes, OutOfMemory, SmallRoom, TooLong};
+ghost use Rattle.rds_abi.specs.{Asked.AreGiven, Asked.IsFilled, Asked.gaps_of, Asked.rules_of as the_rules_of, Layout.item_in_c, Layout.totals_in_c, declared.refusal.Refusal.TheVariants.BitsPastBytes, declared.refusal.Refusal.TheVariants.OutOfMemory, declared.refusal.Refusal.TheVariants.SmallRoom, declared.refusal.Refusal.TheVariants.TooLong};
 
 use crate::asked::{gaps_in, refuse_gaps, rules_of};
 use crate::in_c::{item_in_c, totals_in_c};

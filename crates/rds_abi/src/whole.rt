@@ -1,8 +1,7 @@
 //! A recording that is handed over whole.
 
 ghost use Rattle.std.specs.Prelude.{◌≡◌, ◌<◌, ◌≤◌, IfErr, IfOk, OnErr, OnOk, length, map};
-ghost use Rattle.rds_abi.specs.Asked.{IsFilled, IsLawful, IsTooMuch, Refuses, RefusesItems, asked, items_asked, totals_asked};
-ghost use Rattle.rds_abi.specs.Layout.{item_in_c};
+ghost use Rattle.rds_abi.specs.{Asked.IsFilled, Asked.IsLawful, Asked.IsTooMuch, Asked.Refuses, Asked.RefusesItems, Asked.asked, Asked.items_asked, Asked.totals_asked, Layout.item_in_c};
 
 use crate::asked::{Input, input_of};
 use crate::in_c::{item_in_c, totals_in_c};

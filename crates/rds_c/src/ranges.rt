@@ -1,8 +1,7 @@
 //! A run from a state which the caller keeps.
 
 ghost use Rattle.std.specs.Prelude.{◌≡◌, ◌≢◌, length};
-ghost use Rattle.rds_abi.specs.Asked.{IsFilled, RefusedBy, asked, rules_of};
-ghost use Rattle.rds_abi.specs.Ranges.{IsLeftState, IsRun, RefusesItemsAtEnd, RefusesItemsOfRun, items_at_end, items_of_run, run_asked, state_in_c, state_of};
+ghost use Rattle.rds_abi.specs.{Asked.IsFilled, Asked.RefusedBy, Asked.asked, Asked.rules_of, Ranges.IsLeftState, Ranges.IsRun, Ranges.RefusesItemsAtEnd, Ranges.RefusesItemsOfRun, Ranges.items_at_end, Ranges.items_of_run, Ranges.run_asked, Ranges.state_in_c, Ranges.state_of};
 
 use rds_abi::{RdsGap, RdsItem, RdsRules, RdsState, finish_run, run};
 use std::alloc::Global;

@@ -1,11 +1,7 @@
 //! A stream of symbols.
 
 ghost use Rattle.std.specs.Prelude.{◌≡◌, ◌≢◌, ◌≤◌, ◌*◌, length};
-ghost use Rattle.rds_abi.specs.Asked.{RefusedBy};
-ghost use Rattle.rds_abi.specs.Stream.{GoesOn, IsFollowed, IsLaid, terms_of};
-ghost use Rattle.rds_abi.specs.Soft.{AreReadAgain, HearsOnSoft, IsPushed, RefusesTakenSoft, byte_count, bytes_taken};
-ghost use Rattle.rds_abi.specs.Refusals.{number_of};
-ghost use Rattle.rds_abi.specs.declared.refusal.Refusal.TheVariants.{SmallRoom};
+ghost use Rattle.rds_abi.specs.{Asked.RefusedBy, Stream.GoesOn, Stream.IsFollowed, Stream.IsLaid, Stream.terms_of, Soft.AreReadAgain, Soft.HearsOnSoft, Soft.IsPushed, Soft.RefusesTakenSoft, Soft.byte_count, Soft.bytes_taken, Refusals.number_of, declared.refusal.Refusal.TheVariants.SmallRoom};
 
 use rds_abi::{RdsGap, RdsItem, RdsRules, RdsSoft, push_soft};
 use std::alloc::Global;

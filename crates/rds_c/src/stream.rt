@@ -1,11 +1,8 @@
 //! A stream that is followed chunk by chunk.
 
 ghost use Rattle.std.specs.Prelude.{◌≡◌, ◌≢◌, ◌≤◌, ◌*◌, ◌^◌, length, map, take};
-ghost use Rattle.rds_abi.specs.Asked.{IsFilled, RefusedBy};
 ghost use Rattle.rds_abi.specs.Stream.{AreClosed, AreCompleted, AreLast, AreLeft, AreTotals, AreTotalsAt, AreWritten, GoesOn, HearsOn, IsFollowed, IsLaid, IsMostTaken, RefusesClosed, RefusesFollowed, RefusesLeft, RefusesTaken, items_after, place_after, stream_of, terms_of};
-ghost use Rattle.rds_abi.specs.Refusals.{number_of};
-ghost use Rattle.rds_abi.specs.declared.refusal.Refusal.TheVariants.{SmallRoom};
-ghost use Rattle.rds_abi.specs.Layout.{item_in_c};
+ghost use Rattle.rds_abi.specs.{Asked.IsFilled, Asked.RefusedBy, Refusals.number_of, declared.refusal.Refusal.TheVariants.SmallRoom, Layout.item_in_c};
 
 use rds_abi::{RdsGap, RdsItem, RdsRules, RdsStream, RdsTotals, check, finish, finish_with, push};
 use std::alloc::Global;

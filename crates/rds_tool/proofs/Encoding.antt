@@ -1,7 +1,7 @@
 -- Groups of lines whose text goes on.
 use Rattle.rds_tool.proofs.Names.{common_steps, ◌+◌, ◌++◌, ◌<◌, ◌≤◌, ◌==◌, ◌∙◌, ◌∷◌, ◌≡◌, ◌≢◌, Bool, Err, List, Ok, [], ap, append-nil, append_assoc, arith, drop, false, get_or, if◌then◌else◌, length, length-append, map, length-take, not, refl, set, subst, sym, take, true, ◌||◌, ℕ, concat, filter, flat_map, onto_first, slice_split, eqb-false, ne_eqb, flat_map-append, take-set_at, drop-map, length-set, take-map, take_all, take_more, encoded_text, group_text, is_space, line_text, lines_of, words_of, and_then, GroupText}
-use Rattle.std.proofs.lemmas.List.Splits.{length-slice_split}
 use Rattle.rds_tool.specs.Inside.GroupLines.{AddsLine, HasGroups, IsGroupLines, begun, text_of_groups, with_lines}
+use Rattle.std.proofs.lemmas.List.Splits.{length-slice_split}
 
 -- ---- the lines of a text with one byte before it
 

@@ -1,10 +1,7 @@
 -- The progress of a stream so far, and where it breaks off.
 use Rattle.rds_tool.proofs.Names.{common_steps, if◌then◌else◌, nat_lt, not, may_be_gaps, Signal, ◌≡◌, ◌≢◌, ◌+◌, ◌-◌, ◌*◌, ◌/◌, ◌%◌, ◌^◌, ◌<◌, ◌≤◌, ◌++◌, ◌⊎◌, ◌↔◌, ℕ, Bool, List, [], ◌∷◌, Err, None, Ok, Option, Result, Some, eqb, false, true, inl, inr, length, map, take, refl, sym, zero, suc, ap, ap₂, ◌∙◌, subst, arith, append_assoc, IfErr, IfSome, IsErrOf, OnErr, OnOk, bit_at, flat_map, range_with_len, Appends, Consumes, IsAtEnd, Keeps, Appends-nil, Appends-trans, Consumes-kept, Consumes-nil, Consumes-trans, get_or-append, eqb-false, le-ltb, flat_map-append, append-nil, length-append, length-take, length-map-range_with_len, LiveOf, HasHeard, Terms, complete, live_of, report_at, run_of, signal_at, signal_of, AreGaps, bits_of, length_of, packed_bit, Item, Searching, RunsAreReports, IsLossRule, items_of_end, run, Totals, totals_of, AreAsked, Follows, HasAll, IsLong, IsShortOf as IsShort, MayBreakOff, Stream, bit_stream, claim_or, counted, listed, rows_so_far, stream_text, Gave, and_then, claimed, first_bits, Breaks, IsHeard, IsNear, IsPlaceOf, IsShortEnough, bits_left, item_row, report_text, totals_text, Writes, WritesPrefix, list_text, ToolError, BadGaps, BitsPastBytes, OutOfMemory, Read, TooLong, Write}
+use Rattle.rds_tool.{specs.Refusals.number_of, specs.declared.devices.Source.Ghosts as Source, proofs.GapLists.pass_as_gaps, proofs.Passing.ok_is_no_err, proofs.Passing.passed_kind}
 use Rattle.rds_rows.specs.declared.sink.Sink.{Ghosts as Sink}
-use Rattle.rds_tool.specs.Refusals.{number_of}
-use Rattle.rds_tool.specs.declared.devices.Source.{Ghosts as Source}
-use Rattle.rds_tool.proofs.GapLists.{pass_as_gaps}
-use Rattle.rds_tool.proofs.Passing.{ok_is_no_err, passed_kind}
 
 -- ---- a read
 

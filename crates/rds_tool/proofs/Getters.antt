@@ -1,14 +1,9 @@
 -- What the typed getters read, by the rows of a parse.
 use Rattle.rds_tool.proofs.Names.{common_steps, ◌<◌, ◌≤◌, ◌^◌, ◌≡◌, ◌⊎◌, arith, ◌∙◌, ℕ, List, [], Bool, Bor, Option, Some, None, Result, Ok, Err, sym, refl, codes, ap, true, false, if◌then◌else◌, Vec, ok_or, option_map, IfErr, IfOk, find, option_and_then, bytes_eq, result_ok, ExplainsUnsignedError, HasUnsignedDigitsIfOk, ParsesUnsigned, digits_value, without_leading_plus, ReadsOne, Row, Text, TriesOne, first_of, first_value, matched_of, one_of, one_text, rows_of, ValueSource, gaps_asked_for, gaps_spelled, if_given, is_given, is_of_words, is_true, number_of, number_up_to, gaps_of}
+use Rattle.rds_tool.specs.declared.fault.NoJob.{NoJob, TheVariants.Gaps, TheVariants.Memory}
 use Rattle.std.specs.declared.num.ParseIntError.{ParseIntError}
-use Rattle.clap.specs.ValueTests.{is_unsigned_in}
+use Rattle.clap.{specs.ValueTests.is_unsigned_in, specs.declared.parser.matches.Found.Found, specs.declared.parser.matches.MatchedArg.MatchedArg, proofs.ValueTestLemmas.Accepts-accepts, proofs.ValueTestLemmas.accepts-Accepts, proofs.WalkLemmas.find_row, proofs.WalkLemmas.first_value-rows, proofs.WalkLemmas.one_text-rows}
 use Rattle.clap.specs.declared.builder.value_parser.ValueParser.TheVariants as parser
-use Rattle.clap.specs.declared.parser.matches.Found.{Found}
-use Rattle.clap.specs.declared.parser.matches.MatchedArg.{MatchedArg}
-use Rattle.clap.proofs.ValueTestLemmas.{Accepts-accepts, accepts-Accepts}
-use Rattle.clap.proofs.WalkLemmas.{find_row, first_value-rows, one_text-rows}
-use Rattle.rds_tool.specs.declared.fault.NoJob.{NoJob}
-use Rattle.rds_tool.specs.declared.fault.NoJob.TheVariants.{Gaps, Memory}
 
 -- the way in which the unsigned types of std read a number of this many binary digits
 abbrev pub reads_unsigned : ℕ → Text → Result ℕ ParseIntError → Type 0

@@ -1,8 +1,7 @@
 -- Commands that are made of the rows of a table, one after the other.
 use Rattle.rds_tool.proofs.Names.{common_steps, arith, ◌+◌, ◌<◌, ◌≤◌, ◌∙◌, ◌≡◌, List, ap, drop, false, get_or, length, sym, ℕ, drop_all, drop_more, AddsArg, AddsSubcommand, App, rule_of, Command, ReadsAs, app_of_row, rule_of_row, with_command, with_each, with_option}
+use Rattle.rds_tool.specs.declared.commands.{CommandRow.CommandRow, OptionRow.OptionRow}
 use Rattle.clap.specs.declared.builder.arg.Arg.{Arg}
-use Rattle.rds_tool.specs.declared.commands.CommandRow.{CommandRow}
-use Rattle.rds_tool.specs.declared.commands.OptionRow.{OptionRow}
 
 -- with the rows that are left, the command reads as the whole
 pub record HasRest {X : Type 0} (add : App → X → App) (made : Command) (rows : List X) (whole : App) : Type 0 where

@@ -1,7 +1,6 @@
 -- The items of a report come in order: by an induction over the bits of the run.
 use Rattle.rds_tool.proofs.Names.{common_steps, ◌≡◌, ℕ, zero, suc, ◌+◌, ◌-◌, ◌*◌, ◌<◌, ◌≤◌, ◌++◌, List, [], ◌∷◌, Bool, true, false, Option, Some, None, length, refl, arith, append_assoc, inl, inr, eq-eqb, eqb-true, ne_eqb, ◌==◌, filter, Signal, length_of, AcquisitionsAreLate, RunsAreReports, StepsAreLawful, NumbersInOrder, IsLawful, IsLawfulLock, IsLossRule, are_too_many, report_items, RuleNumbers, completed_group, history_after_block, items_at, items_of_end, lock_after, run, step, Item, Acquired, Group, LostLock, Lock, State, Locked, Searching, AreInOrder, Next, at_first, bits_of_item, was_read}
-use Rattle.rds_sync.specs.Acquiring.{acquired}
-use Rattle.rds_sync.specs.Groups.{group}
+use Rattle.rds_sync.specs.{Acquiring.acquired, Groups.group}
 
 abbrev next_of : Bool → ℕ → ℕ → ℕ → Next
 next_of in_sync least least_group bits = record { in_sync = in_sync; least = least; least_group = least_group; bits = bits }

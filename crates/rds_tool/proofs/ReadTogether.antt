@@ -1,10 +1,9 @@
 -- Items that are read again together, and then one by one from their room.
 use Rattle.rds_tool.proofs.Names.{common_steps}
-use Rattle.std.proofs.Common.{◌≡◌, ℕ, ◌<◌, List, arith, get_or, length, length-take, map, take}
-use Rattle.std.proofs.lemmas.List.{get_or-map, get_or-take, length-map}
+use Rattle.rds_tool.specs.Inside.Listers.{IsReadAt}
+use Rattle.std.proofs.{Common.◌≡◌, Common.ℕ, Common.◌<◌, Common.List, Common.arith, Common.get_or, Common.length, Common.length-take, Common.map, Common.take, lemmas.List.get_or-map, lemmas.List.get_or-take, lemmas.List.length-map}
 use Rattle.rds_soft.specs.declared.soft_item.SoftItem.{SoftItem}
 use Rattle.rds_sync.specs.declared.item.Item.{Item}
-use Rattle.rds_tool.specs.Inside.Listers.{IsReadAt}
 
 -- each is at its place
 pub read_at : (again : Item → SoftItem) (items : List Item) (room : List SoftItem) (i : ℕ) (item : Item)

@@ -1,8 +1,8 @@
 -- A recording with gaps that was made, or refused, is what the definition says.
 use Rattle.rds_tool.proofs.Names.{common_steps, ◌≡◌, ◌≤◌, ◌<◌, ◌*◌, ◌^◌, ◌∙◌, ◌↔◌, ℕ, Bool, Err, Ok, Result, ap, arith, false, inl, inr, length, refl, sym, true, Vec, IfOk, IsOk, vec_len, cases_lt, false≢true, le-ltb, lt-ltb, AreGaps, Signal, bits_of, first_bits, may_be_gaps, of_stream}
+use Rattle.rds_tool.proofs.GapLists.{are_gaps, pass_as_gaps}
 use Rattle.rds_stream.specs.declared.error.StreamError.{StreamError}
 use Rattle.rds_stream.specs.declared.error.StreamError.TheVariants as stream
-use Rattle.rds_tool.proofs.GapLists.{are_gaps, pass_as_gaps}
 
 abbrev Made : Type 0
 Made = Result Signal (StreamError × Vec ℕ × Vec (ℕ × ℕ))

@@ -1,9 +1,8 @@
 -- The answer to an error of `clap`.
 use Rattle.rds_tool.proofs.Names.{common_steps, arith, ◌≡◌, ◌⊎◌, None, Option, [], option_and_then, HasKind, Kinds, kind_of, IsFault, MayAnswer, job_in, Asked, Job}
+use Rattle.rds_tool.specs.declared.fault.FaultKind.{FaultKind, TheVariants.Help, TheVariants.Memory, TheVariants.Version, TheVariants.Words}
 use Rattle.clap.specs.declared.error.Error.{Error}
 use Rattle.clap.specs.declared.error.kind.ErrorKind.TheVariants as kind
-use Rattle.rds_tool.specs.declared.fault.FaultKind.{FaultKind}
-use Rattle.rds_tool.specs.declared.fault.FaultKind.TheVariants.{Help, Memory, Version, Words}
 
 -- the kind answered is that of one of the faults, or that of refused memory
 pub refused_by : {T : Type 0} (faults : Kinds) (asked : Option T) (e : Error) (answer : FaultKind) → HasKind faults e

@@ -1,12 +1,8 @@
 -- The text that `csv` writes for fields that need no quotes.
 use Rattle.rds_tool.proofs.Names.{◌/◌, ◌%◌, ◌||◌, Bool, get_or, slice_index, suc, true, zero, ◌++◌, ◌+◌, ◌*◌, ◌<◌, ◌^◌, ◌∙◌, ◌∷◌, ◌≡◌, ◌≤◌, List, [], ap, append-nil, arith, false, leb, length, map, refl, ℕ, Bor, decimal, digit_value, AllByRecursion, join_with_byte, AllDigits, leb-true, nat_tests, common_steps, decimal_is_IsNumeral, length-map, list_any-append, digit_from_value, default_writer, field_text, fields_text, needs_byte, row_body, row_text, Offset, upper_digits, Group, block_text, hex_digits, item_fields, item_row, kind_text, row, version_text, word_text, IsPlain, IsShort, rules}
 use Rattle.csv.specs.Writing.{is_blank}
-use Rattle.rds_code.specs.Offsets.{name}
-use Rattle.rds_code.specs.declared.reading.Reading.TheVariants.{Corrected, Lost, Valid}
-use Rattle.rds_sync.specs.declared.item.Block.{Block}
-use Rattle.rds_sync.specs.declared.item.Block.TheVariants.{Missing, Read}
-use Rattle.rds_sync.specs.declared.item.Version.{Version}
-use Rattle.rds_sync.specs.declared.item.Group.{Group as AGroup}
+use Rattle.rds_code.specs.{Offsets.name, declared.reading.Reading.TheVariants.Corrected, declared.reading.Reading.TheVariants.Lost, declared.reading.Reading.TheVariants.Valid}
+use Rattle.rds_sync.specs.declared.item.{Block.Block, Block.TheVariants.Missing, Block.TheVariants.Read, Version.Version, Group.Group as AGroup}
 
 -- ---- fields without quotes
 

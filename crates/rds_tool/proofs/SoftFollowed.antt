@@ -1,14 +1,8 @@
 -- How far a stream of symbols was followed, and where it breaks off.
 use Rattle.rds_tool.proofs.Names.{common_steps, ◌≡◌, ◌≢◌, ◌+◌, ◌-◌, ◌^◌, ◌<◌, ◌≤◌, ◌++◌, ◌⊎◌, ◌↔◌, ◌∙◌, Bool, ℕ, List, [], None, Ok, Option, Result, Some, inl, inr, length, map, true, sym, ap, subst, arith, append_assoc, IfErr, IfSome, IsErrOf, OnErr, OnOk, flat_map, range_with_len, Appends, IsAtEnd, le-ltb, flat_map-append, append-nil, length-append, map-append, flat_map-map, item_again, symbols_of, SoftTerms, group_item, read_again, hard_bit, SoftItem, AreGaps, length_of, RunsAreReports, IsLossRule, items_of_end, run, Searching, AreAsked, Follows, HasAll, IsShortOf as IsShort, claim_or, Breaks, IsHeard, IsNear, WritesPrefix, claimed_of, soft_row, soft_text, soft_totals_text, soft_listed, soft_rows_so_far, soft_stream_text, symbol_stream, ToolError, BadGaps, BitsPastBytes, OutOfMemory, TooLong, Write}
+use Rattle.rds_tool.{specs.declared.devices.Source.Ghosts as Source, proofs.Followed.IsOfStream, proofs.Followed.breaks_still, proofs.Followed.follows_end, proofs.Followed.near_end, proofs.Followed.read_none, proofs.GapLists.pass_as_gaps}
 use Rattle.rds_rows.specs.declared.sink.Sink.{Ghosts as Sink}
-use Rattle.rds_soft.specs.SoftStream.{complete, report_of, run_of, signal_of}
-use Rattle.rds_soft.specs.SoftTotals.{soft_totals_of}
-use Rattle.rds_soft.specs.declared.soft_item.SoftGroup.{SoftGroup}
-use Rattle.rds_soft.specs.declared.soft_totals.SoftTotals.{SoftTotals}
-use Rattle.rds_soft.proofs.PartLemmas.{length-bits, length-symbols}
-use Rattle.rds_tool.specs.declared.devices.Source.{Ghosts as Source}
-use Rattle.rds_tool.proofs.Followed.{IsOfStream, breaks_still, follows_end, near_end, read_none}
-use Rattle.rds_tool.proofs.GapLists.{pass_as_gaps}
+use Rattle.rds_soft.{specs.SoftStream.complete, specs.SoftStream.report_of, specs.SoftStream.run_of, specs.SoftStream.signal_of, specs.SoftTotals.soft_totals_of, specs.declared.soft_item.SoftGroup.SoftGroup, specs.declared.soft_totals.SoftTotals.SoftTotals, proofs.PartLemmas.length-bits, proofs.PartLemmas.length-symbols}
 
 -- ---- the listing
 

@@ -1,18 +1,10 @@
 -- The recording of symbols' bits, packed.
 use Rattle.rds_tool.proofs.Names.{common_steps}
+use Rattle.rds_tool.specs.{Input.first_bits, Soft.claimed_of, Soft.first_bits_of, declared.error.ToolError.ToolError}
 use Rattle.std.proofs.Common.{◌≡◌, ◌≤◌, ◌<◌, ◌+◌, ◌-◌, ◌*◌, ◌∙◌, ℕ, List, Result, Ok, arith, length, map, sym}
-use Rattle.std.specs.Prelude.{IfOk, Option}
-use Rattle.std.specs.Option.{unwrap_or}
-use Rattle.std.specs.List.{range_with_len}
-use Rattle.std.proofs.lemmas.Bool.{le-ltb}
-use Rattle.std.proofs.lemmas.List.{ext_get_or}
-use Rattle.std.proofs.lemmas.List.FromFn.{get_or-map-range_with_len, length-map-range_with_len}
-use Rattle.rds_soft.specs.ReadAgain.{symbols_of}
-use Rattle.rds_soft.specs.Symbols.{hard_bit}
+use Rattle.std.{specs.Prelude.IfOk, specs.Prelude.Option, specs.Option.unwrap_or, specs.List.range_with_len, proofs.lemmas.Bool.le-ltb, proofs.lemmas.List.ext_get_or, proofs.lemmas.List.FromFn.get_or-map-range_with_len, proofs.lemmas.List.FromFn.length-map-range_with_len}
+use Rattle.rds_soft.specs.{ReadAgain.symbols_of, Symbols.hard_bit}
 use Rattle.rds_stream.specs.Recording.{bits_of, packed_bit}
-use Rattle.rds_tool.specs.Input.{first_bits}
-use Rattle.rds_tool.specs.Soft.{claimed_of, first_bits_of}
-use Rattle.rds_tool.specs.declared.error.ToolError.{ToolError}
 
 -- the bits are those between the symbols
 same_bits : (n : ℕ) (symbols packed : List ℕ) → n ≤ length symbols - 1

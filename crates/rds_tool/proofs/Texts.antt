@@ -1,9 +1,8 @@
 -- The texts of the tasks, and what they can't be refused for.
 use Rattle.rds_tool.proofs.Names.{common_steps, ◌↔◌, arith, ◌∙◌, ◌≡◌, ◌<◌, ◌≢◌, Bool, Err, List, Ok, Option, Result, [], ◌∷◌, ap, ap₂, if◌then◌else◌, inl, inr, subst, sym, true, ℕ, IfErr, IfSome, OnOk, Appends, Signal, length_of, FromHexError, ItemsOf, report_items, RuleNumbers, totals_of, TotalsOf, cuts_any, cuts_bits, has_pieces, line_text, lines_text, words_or_refusal, and_then, decoded, or_hex_text, recording_of, report_text, totals_text, Writes, WritesPrefix, cut_recording, list_text, result_of_job, text_of_task, totals_list, recording_of_symbols, PlanOf, crew_of, cut_by, plan_of, workers_of, Loss, IsMemoryOrErrOf, loss_of, task_of, ToolError, BadCutting, BadGaps, BitsPastBytes, BurstRange, NoWorker, OutOfMemory, ReachRange, Read, TooLong, TooManyTurns, Write, Cuts, Input, Job, Settings, Task}
-use Rattle.rds_sync.specs.Decoding.{listed}
-use Rattle.rds_sync.specs.declared.report.Report.{Report}
-use Rattle.rds_tool.specs.declared.task.Task.TheVariants as task
 use Rattle.rds_tool.proofs.Passing.{passed_kind}
+use Rattle.rds_sync.specs.{Decoding.listed, declared.report.Report.Report}
+use Rattle.rds_tool.specs.declared.task.Task.TheVariants as task
 
 -- ---- the texts
 

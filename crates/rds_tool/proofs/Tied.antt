@@ -1,7 +1,6 @@
 -- What ties a history to the bytes that a writer holds, where those are known.
 use Rattle.rds_tool.proofs.Names.{common_steps, arith, ◌≡◌, List, ◌++◌, ℕ, Option, Some, None, append_assoc, Appends, Keeps}
-use Rattle.std.proofs.Math.Logic.{∥∥₁_elim}
-use Rattle.std.specs.Coded.{Coded-set, coded_list, coded_ℕ}
+use Rattle.std.{proofs.Math.Logic.∥∥₁_elim, specs.Coded.Coded-set, specs.Coded.coded_list, specs.Coded.coded_ℕ}
 
 pub appends_more : (a b c : Option (List ℕ)) (xs ys : List ℕ) → Appends a b xs → Appends b c ys → Appends a c (xs ++ ys)
 appends_more a b c xs ys p q = grind (arith, common_steps, append_assoc)

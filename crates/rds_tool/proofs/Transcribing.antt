@@ -1,11 +1,7 @@
 -- How a transcription ends: its settings are refused, or its bytes, or its writer's turn has come.
 use Rattle.rds_tool.proofs.Names.{common_steps, arith, Bool, Err, List, Ok, Option, Result, true, ◌++◌, inl, inr, refl, subst, sym, ◌<◌, ◌≡◌, ◌≢◌, ◌≤◌, ◌⊎◌, ◌↔◌, length, ℕ, IfErr, IfSome, OnOk, Appends, Consumes, IsAtEnd, append-nil, Gave, IsOutside, Writes, WritesPrefix, result_of_job, text_of_task, IsMemoryOrErrOf, task_of, ToolError, NoWorker, OutOfMemory, Read, TooManyTurns, Write, Job, Task}
+use Rattle.rds_tool.{specs.Transcribed.IsTranscribed, specs.declared.devices.Source.Ghosts as Source, proofs.Followed.no_such, proofs.Followed.not_told, proofs.Followed.of_call, proofs.Followed.of_none, proofs.Followed.on_any_ok, proofs.Followed.told_on, proofs.Passing.no_err, proofs.Passing.no_ok, proofs.Texts.not_called, proofs.Texts.passed_inside, proofs.Texts.prefix_is, proofs.Texts.refused_inside, proofs.Texts.settings_inside, proofs.Texts.written_is}
 use Rattle.rds_rows.specs.declared.sink.Sink.{Ghosts as Sink}
-use Rattle.rds_tool.specs.Transcribed.{IsTranscribed}
-use Rattle.rds_tool.specs.declared.devices.Source.{Ghosts as Source}
-use Rattle.rds_tool.proofs.Followed.{no_such, not_told, of_call, of_none, on_any_ok, told_on}
-use Rattle.rds_tool.proofs.Passing.{no_err, no_ok}
-use Rattle.rds_tool.proofs.Texts.{not_called, passed_inside, prefix_is, refused_inside, settings_inside, written_is}
 
 -- a refusal of settings is one of the job
 task_refused : (job : Job) (remaining : Option (List ℕ)) (e : ToolError) → IsMemoryOrErrOf (task_of job) e

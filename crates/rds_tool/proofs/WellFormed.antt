@@ -1,9 +1,7 @@
 -- Lists are well-formed, the bits of gaps have no effect, and the rows of a stream begin its list.
 use Rattle.rds_tool.proofs.Names.{common_steps, ◌≡◌, ◌+◌, ◌*◌, ◌++◌, ◌∷◌, ◌∙◌, ℕ, suc, Bool, true, false, Err, List, [], Ok, Option, Result, append_assoc, ap, arith, flat_map, length, refl, subst, sym, codes, decimal, None, if◌then◌else◌, flat_map-append, length-map, All-cons, All-nil, length-map-range_with_len, EndsMove, RunsMove, Terms, complete, report_of, run_of, signal_of, Signal, length_of, packed_bit, AcquisitionsAreLate, RunsAreLawful, RunsAreReports, RunsJoin, StepsAreLawful, report_items, RuleNumbers, items_of_end, run, totals_of, Item, Acquired, Group, LostLock, Searching, rows_so_far, and_then, claimed, recording_of, stream_input, block_text, dash, item_fields, item_row, named_totals, report_text, row, total_row, totals_text, list_text, text_of_task, totals_list, PlanOf, cut_by, plan_of, AreInOrder, DifferInGaps, GapsHideBits, HasRows, ListsAreWellFormed, Next, RowsBeginLists, at_first, ToolError, BadCutting, BadGaps, BitsPastBytes, TooLong, cuts_bits, Cuts, Input, Settings}
+use Rattle.rds_tool.proofs.{Alike.are_alike, Alike.fronts_are_alike, JobLaws.first_are, JobLaws.list_of, JobLaws.plan_lawful, JobLaws.same-ok, Ordered.items_are_in_order}
 use Rattle.rds_tool.specs.declared.task.Task.TheVariants as task
-use Rattle.rds_tool.proofs.Alike.{are_alike, fronts_are_alike}
-use Rattle.rds_tool.proofs.JobLaws.{first_are, list_of, plan_lawful, same-ok}
-use Rattle.rds_tool.proofs.Ordered.{items_are_in_order}
 
 -- ---- rows
 

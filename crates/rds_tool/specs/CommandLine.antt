@@ -1,41 +1,15 @@
 -- The command line, as `clap` reads it, and the job or stream that its words ask for: this project's rule.
 -- `asked_of` answers it; `rds_command` and the functions of `entries.rt` are its steps.
 use Rattle.std.specs.Prelude.{◌≡◌, ◌≢◌, ◌⊎◌, ◌++◌, ⊤, Bool, Err, IfOk, List, None, Ok, Option, Result, Some, [], codes, false, find, if◌then◌else◌, nat_le, option_and_then, pos, ◌&&◌, string_bytes, true, ℕ, ◌∷◌}
-use Rattle.std.specs.Str.{bytes_eq}
-use Rattle.std.specs.Option.{ok_or, option_map}
-use Rattle.std.specs.Result.{result_ok}
-use Rattle.std.specs.Str.Parse.{digits_value, without_leading_plus}
-use Rattle.clap.specs.Simple.{new_shape}
-use Rattle.clap.specs.ValueTests.{is_unsigned_in}
+use Rattle.std.specs.{Str.bytes_eq, Option.ok_or, Option.option_map, Result.result_ok, Str.Parse.digits_value, Str.Parse.without_leading_plus}
 use Rattle.clap.specs.Words.{App, IsAmong, Kinds, Row, Rule, Shape, Text, app_of, fault_of, first_of, new_rule, one_of, subcommand_of}
-use Rattle.clap.specs.declared.builder.action.ArgAction.TheVariants.{Set, SetTrue}
-use Rattle.clap.specs.declared.builder.command.Command.{Command}
-use Rattle.clap.specs.declared.builder.command.Command.TheViews.{out-Command as fields_of}
-use Rattle.clap.specs.declared.builder.value_parser.ValueParser.{ValueParser}
+use Rattle.clap.specs.{Simple.new_shape, ValueTests.is_unsigned_in, declared.builder.action.ArgAction.TheVariants.Set, declared.builder.action.ArgAction.TheVariants.SetTrue, declared.builder.command.Command.Command, declared.builder.command.Command.TheViews.out-Command as fields_of, declared.builder.value_parser.ValueParser.ValueParser, declared.error.kind.ErrorKind.ErrorKind, declared.parser.matches.ValueSource.ValueSource, declared.parser.matches.ValueSource.TheVariants.CommandLine}
 use Rattle.clap.specs.declared.builder.value_parser.ValueParser.TheVariants as parser
-use Rattle.clap.specs.declared.error.kind.ErrorKind.{ErrorKind}
 use Rattle.clap.specs.declared.error.kind.ErrorKind.TheVariants as kind
-use Rattle.clap.specs.declared.parser.matches.ValueSource.{ValueSource}
-use Rattle.clap.specs.declared.parser.matches.ValueSource.TheVariants.{CommandLine}
-use Rattle.rds_sync.specs.Rules.{RuleNumbers}
-use Rattle.rds_sync.specs.declared.loss.Loss.{Loss}
-use Rattle.rds_sync.specs.declared.loss.Loss.TheVariants.{Run, Share}
-use Rattle.rds_tool.specs.GapText.{gaps_of}
-use Rattle.rds_tool.specs.declared.fault.CliFault.{CliFault}
-use Rattle.rds_tool.specs.declared.fault.FaultKind.{FaultKind}
-use Rattle.rds_tool.specs.declared.fault.FaultKind.TheVariants.{Help, Memory, Version, Words}
-use Rattle.rds_tool.specs.declared.fault.NoJob.{NoJob}
+use Rattle.rds_sync.specs.{Rules.RuleNumbers, declared.loss.Loss.Loss, declared.loss.Loss.TheVariants.Run, declared.loss.Loss.TheVariants.Share}
+use Rattle.rds_tool.specs.{GapText.gaps_of, declared.fault.CliFault.CliFault, declared.fault.FaultKind.FaultKind, declared.fault.FaultKind.TheVariants.Help, declared.fault.FaultKind.TheVariants.Memory, declared.fault.FaultKind.TheVariants.Version, declared.fault.FaultKind.TheVariants.Words, declared.fault.NoJob.NoJob, declared.job.Asked.Asked, declared.job.Cuts.TheVariants.Even, declared.job.Ignored.Ignored, declared.job.Input.Input, declared.job.Job.Job, declared.job.Request.Request, declared.job.Request.TheVariants.Job as AskedJob, declared.job.Request.TheVariants.Follow, declared.job.Request.TheVariants.FollowSoft, declared.job.Settings.Settings, declared.job.Job.TheVariants.Encode, declared.job.Job.TheVariants.List as ListJob, declared.job.Job.TheVariants.Scan, declared.job.Job.TheVariants.Soft, declared.job.Job.TheVariants.Totals}
 use Rattle.rds_tool.specs.declared.fault.NoJob.TheVariants as no
-use Rattle.rds_tool.specs.declared.job.Asked.{Asked}
-use Rattle.rds_tool.specs.declared.job.Cuts.TheVariants.{Even}
-use Rattle.rds_tool.specs.declared.job.Ignored.{Ignored}
 use Rattle.rds_tool.specs.declared.job.Ignored.TheVariants as ignored
-use Rattle.rds_tool.specs.declared.job.Input.{Input}
-use Rattle.rds_tool.specs.declared.job.Job.{Job}
-use Rattle.rds_tool.specs.declared.job.Request.{Request}
-use Rattle.rds_tool.specs.declared.job.Request.TheVariants.{Job as AskedJob, Follow, FollowSoft}
-use Rattle.rds_tool.specs.declared.job.Settings.{Settings}
-use Rattle.rds_tool.specs.declared.job.Job.TheVariants.{Encode, List as ListJob, Scan, Soft, Totals}
 
 -- ---- the input of a command
 

@@ -2,8 +2,7 @@
 -- other places, and so does `transcribe`.
 use Rattle.std.specs.Prelude.{◌&&◌, ◌++◌, ◌∷◌, ℕ, Bool, List, [], false, nat_le, nat_lt, suc, true, zero}
 use Rattle.rds_pieces.specs.Cutting.{even_places}
-use Rattle.rds_tool.specs.declared.job.Cuts.{Cuts}
-use Rattle.rds_tool.specs.declared.job.Cuts.TheVariants.{At, Even}
+use Rattle.rds_tool.specs.declared.job.Cuts.{Cuts, TheVariants.At, TheVariants.Even}
 
 -- they rise strictly, from above `low` to below `high`
 abbrev pub rise_between : ℕ → List ℕ → ℕ → Bool

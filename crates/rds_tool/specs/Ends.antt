@@ -1,8 +1,7 @@
 -- The view that clauses have of a source over a reader of std, and of a sink over a writer. `FromRead::new`,
 -- `ToWrite::new` and `into_inner` cite it.
 use Rattle.std.specs.Prelude.{ℕ, Bool, List}
-use Rattle.rds_tool.specs.declared.devices.FromRead.{FromRead}
-use Rattle.rds_tool.specs.declared.devices.ToWrite.{ToWrite}
+use Rattle.rds_tool.specs.declared.devices.{FromRead.FromRead, ToWrite.ToWrite}
 
 -- the reader underneath
 abbrev pub reader_under : {R : Type 0} → FromRead R → R

@@ -1,18 +1,11 @@
 -- Following a stream: the rows that are written as it comes, and those that were written if it breaks off; this project's
 -- rule. `follow` promises it of bits, and `follow_soft` of symbols.
 use Rattle.std.specs.Prelude.{◌++◌, ◌≡◌, ◌≢◌, ◌≤◌, ◌<◌, ◌+◌, ◌-◌, ◌*◌, ◌^◌, ◌⊎◌, ◌↔◌, [], ⊤, ℕ, Bool, IfErr, IsErrOf, List, None, Ok, OnOk, Option, Result, Some, length, min, true}
-use Rattle.std.specs.List.{flat_map}
-use Rattle.std.specs.Io.KnownBytes.{Appends, Consumes, IsAtEnd}
+use Rattle.std.specs.{List.flat_map, Io.KnownBytes.Appends, Io.KnownBytes.Consumes, Io.KnownBytes.IsAtEnd}
 use Rattle.rds_live.specs.StreamDecoder.{Terms, complete, signal_at}
 use Rattle.rds_rows.specs.declared.sink.Sink.{Ghosts as Sink}
 use Rattle.rds_stream.specs.Recording.{AreGaps}
-use Rattle.rds_tool.specs.History.{Gave}
-use Rattle.rds_tool.specs.Input.{and_then, claimed, first_bits}
-use Rattle.rds_tool.specs.Listing.{item_row}
-use Rattle.rds_tool.specs.Outcome.{Writes, list_text}
-use Rattle.rds_tool.specs.declared.devices.Source.{Ghosts as Source}
-use Rattle.rds_tool.specs.declared.error.ToolError.{ToolError}
-use Rattle.rds_tool.specs.declared.error.ToolError.TheVariants.{BadGaps, BitsPastBytes, OutOfMemory, Read, TooLong, Write}
+use Rattle.rds_tool.specs.{History.Gave, Input.and_then, Input.claimed, Input.first_bits, Listing.item_row, Outcome.Writes, Outcome.list_text, declared.devices.Source.Ghosts as Source, declared.error.ToolError.ToolError, declared.error.ToolError.TheVariants.BadGaps, declared.error.ToolError.TheVariants.BitsPastBytes, declared.error.ToolError.TheVariants.OutOfMemory, declared.error.ToolError.TheVariants.Read, declared.error.ToolError.TheVariants.TooLong, declared.error.ToolError.TheVariants.Write}
 
 -- ---- any stream
 

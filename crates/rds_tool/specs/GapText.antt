@@ -1,8 +1,6 @@
 -- Gaps as a command line names them, pairs `from-to`, joined by commas: this project's rule. `asked_of` reads `--gaps` by it.
 use Rattle.std.specs.Prelude.{◌&&◌, ◌==◌, ◌∷◌, ℕ, Bool, List, None, Option, Some, [], if◌then◌else◌, length, nat_le, nat_lt}
-use Rattle.std.specs.List.{after_first, before_first, slice_split}
-use Rattle.std.specs.Str.{all_ascii_digits}
-use Rattle.std.specs.Str.Parse.{digits_value}
+use Rattle.std.specs.{List.after_first, List.before_first, List.slice_split, Str.all_ascii_digits, Str.Parse.digits_value}
 
 -- one to twelve decimal digits and nothing else
 abbrev pub is_place : List ℕ → Bool

@@ -1,14 +1,10 @@
 -- Groups to be encoded, lines of digits in, packed blocks out: this project's rule. It is the text that `transcribe` writes
 -- for an `Encode` job, by way of `Outcome`.
 use Rattle.std.specs.Prelude.{◌*◌, ◌+◌, ◌++◌, ◌==◌, ◌^◌, ◌||◌, ◌∷◌, Bool, Err, List, Ok, Result, [], drop, if◌then◌else◌, not, slice_index, ℕ}
-use Rattle.std.specs.Int.{to_be_bytes, w128}
-use Rattle.std.specs.List.{filter, slice_split}
-use Rattle.hex.specs.Hex.{decode_sized, encode_lower}
-use Rattle.hex.specs.declared.error.FromHexError.{FromHexError}
+use Rattle.std.specs.{Int.to_be_bytes, Int.w128, List.filter, List.slice_split}
+use Rattle.hex.specs.{Hex.decode_sized, Hex.encode_lower, declared.error.FromHexError.FromHexError}
 use Rattle.rds_code.specs.Encoding.{encoded_group}
-use Rattle.rds_tool.specs.Input.{and_then}
-use Rattle.rds_tool.specs.declared.error.ToolError.{ToolError}
-use Rattle.rds_tool.specs.declared.error.ToolError.TheVariants.{GroupText}
+use Rattle.rds_tool.specs.{Input.and_then, declared.error.ToolError.ToolError, declared.error.ToolError.TheVariants.GroupText}
 
 -- ---- from digits to words
 

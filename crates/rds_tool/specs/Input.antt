@@ -2,12 +2,9 @@
 -- of `Outcome`, and `follow` cites how many bits are claimed.
 use Rattle.std.specs.Prelude.{◌*◌, ◌==◌, ◌^◌, ◌||◌, ◌&&◌, ◌∷◌, ℕ, Bool, Err, List, [], None, Ok, Option, Result, Some, if◌then◌else◌, length, nat_le, nat_lt, not, true}
 use Rattle.std.specs.List.{filter}
-use Rattle.hex.specs.Hex.{decode_of}
-use Rattle.hex.specs.declared.error.FromHexError.{FromHexError}
+use Rattle.hex.specs.{Hex.decode_of, declared.error.FromHexError.FromHexError}
 use Rattle.rds_stream.specs.Recording.{Signal, bits_of}
-use Rattle.rds_tool.specs.declared.error.ToolError.{ToolError}
-use Rattle.rds_tool.specs.declared.error.ToolError.TheVariants.{BadGaps, BitsPastBytes, HexText, TooLong}
-use Rattle.rds_tool.specs.declared.job.Input.{Input}
+use Rattle.rds_tool.specs.declared.{error.ToolError.ToolError, error.ToolError.TheVariants.BadGaps, error.ToolError.TheVariants.BitsPastBytes, error.ToolError.TheVariants.HexText, error.ToolError.TheVariants.TooLong, job.Input.Input}
 
 -- the second step, if the first was not refused
 abbrev pub and_then : {A B : Type 0} → Result A ToolError → (A → Result B ToolError) → Result B ToolError

@@ -1,11 +1,6 @@
 -- The fields of an input, as contracts see them: this project's rule. Two values of `Input` are equal if they
 -- say the same.
-use Rattle.std.specs.Prelude.{ℕ, ◌==◌, Bool, List, Option}
-use Rattle.std.specs.Bool.{beq}
-use Rattle.std.specs.Cmp.{IsEquivalence, and_equiv, bool_eq_equiv, nat_eq_equiv, on_equiv}
-use Rattle.std.specs.Cmp.Lexicographic.{lists_equiv, options_equiv, pointwise}
-use Rattle.std.specs.Option.{option_eq}
-use Rattle.std.specs.Ordering.{eq_of_both, on}
+use Rattle.std.specs.{Prelude.ℕ, Prelude.◌==◌, Prelude.Bool, Prelude.List, Prelude.Option, Bool.beq, Cmp.IsEquivalence, Cmp.and_equiv, Cmp.bool_eq_equiv, Cmp.nat_eq_equiv, Cmp.on_equiv, Cmp.Lexicographic.lists_equiv, Cmp.Lexicographic.options_equiv, Cmp.Lexicographic.pointwise, Option.option_eq, Ordering.eq_of_both, Ordering.on}
 
 -- whether it is hexadecimal text, how many bits are claimed, and the gaps: each the places from its first number to before its
 -- second

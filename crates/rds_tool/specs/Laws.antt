@@ -2,19 +2,9 @@
 -- of a list, or a part of it. The functions of `laws` promise them. This project's rules.
 use Rattle.std.specs.Prelude.{◌≡◌, ◌≤◌, ◌*◌, ◌^◌, ◌++◌, ◌∷◌, ℕ, Bool, IfOk, List, [], None, Ok, Option, Result, false, length, true}
 use Rattle.rds_stream.specs.Recording.{length_of}
-use Rattle.rds_sync.specs.Sent.{group_sent, items_sent, totals_sent}
-use Rattle.rds_sync.specs.declared.item.Item.TheVariants.{Acquired, Group}
-use Rattle.rds_tool.specs.Cuts.{cuts_bits}
-use Rattle.rds_tool.specs.Following.{listed}
-use Rattle.rds_tool.specs.GroupText.{lines_of, words_of}
-use Rattle.rds_tool.specs.Input.{and_then, recording_of}
-use Rattle.rds_tool.specs.Listing.{report_text}
-use Rattle.rds_tool.specs.Outcome.{result_of_job}
-use Rattle.rds_tool.specs.Plans.{PlanOf, plan_of}
-use Rattle.rds_tool.specs.declared.error.ToolError.{ToolError}
-use Rattle.rds_tool.specs.declared.job.Input.{Input}
+use Rattle.rds_sync.specs.{Sent.group_sent, Sent.items_sent, Sent.totals_sent, declared.item.Item.TheVariants.Acquired, declared.item.Item.TheVariants.Group}
+use Rattle.rds_tool.specs.{Cuts.cuts_bits, Following.listed, GroupText.lines_of, GroupText.words_of, Input.and_then, Input.recording_of, Listing.report_text, Outcome.result_of_job, Plans.PlanOf, Plans.plan_of, declared.error.ToolError.ToolError, declared.job.Input.Input, declared.job.Settings.Settings}
 use Rattle.rds_tool.specs.declared.job.Job.TheVariants as job
-use Rattle.rds_tool.specs.declared.job.Settings.{Settings}
 
 -- ---- groups that are encoded and then listed
 

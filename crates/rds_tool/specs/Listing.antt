@@ -3,17 +3,9 @@
 use Rattle.std.specs.Prelude.{◌++◌, ◌/◌, ◌%◌, ◌∷◌, ℕ, Bool, List, None, Option, Some, [], codes, decimal, false, map, slice_index, suc, true, zero}
 use Rattle.std.specs.List.{flat_map, join_with_byte}
 use Rattle.hex.specs.Hex.{upper_digits}
-use Rattle.rds_code.specs.Offsets.{name}
-use Rattle.rds_code.specs.declared.offset.Offset.{Offset}
-use Rattle.rds_code.specs.declared.reading.Reading.TheVariants.{Corrected, Lost, Valid}
+use Rattle.rds_code.specs.{Offsets.name, declared.offset.Offset.Offset, declared.reading.Reading.TheVariants.Corrected, declared.reading.Reading.TheVariants.Lost, declared.reading.Reading.TheVariants.Valid}
 use Rattle.rds_stream.specs.Recording.{Signal, length_of, valid_windows}
-use Rattle.rds_sync.specs.declared.item.Block.{Block}
-use Rattle.rds_sync.specs.declared.item.Block.TheVariants.{Missing, Read}
-use Rattle.rds_sync.specs.declared.item.Item.{Item}
-use Rattle.rds_sync.specs.declared.item.Item.TheVariants.{Acquired, Group, LostLock}
-use Rattle.rds_sync.specs.declared.item.Version.{Version}
-use Rattle.rds_sync.specs.declared.item.Version.TheVariants.{A, B, Unknown}
-use Rattle.rds_sync.specs.declared.totals.Totals.{Totals}
+use Rattle.rds_sync.specs.declared.{item.Block.Block, item.Block.TheVariants.Missing, item.Block.TheVariants.Read, item.Item.Item, item.Item.TheVariants.Acquired, item.Item.TheVariants.Group, item.Item.TheVariants.LostLock, item.Version.Version, item.Version.TheVariants.A, item.Version.TheVariants.B, item.Version.TheVariants.Unknown, totals.Totals.Totals}
 
 -- ---- rows
 

@@ -1,25 +1,11 @@
 -- The outcome of a job over the bytes that a reader held, this project's rule: the text that is written, or
 -- the first refusal that applies. `transcribe` promises it, by `IsTranscribed`, and `follow` how it is
 -- written.
-use Rattle.std.specs.Prelude.{◌≡◌, ◌⊎◌, ℕ, Err, List, Ok, Option, Result}
-use Rattle.std.specs.Io.KnownBytes.{Appends}
+use Rattle.std.specs.{Prelude.◌≡◌, Prelude.◌⊎◌, Prelude.ℕ, Prelude.Err, Prelude.List, Prelude.Ok, Prelude.Option, Prelude.Result, Io.KnownBytes.Appends}
 use Rattle.rds_rows.specs.Writes.{AppendsPrefix}
 use Rattle.rds_stream.specs.Recording.{Signal}
-use Rattle.rds_sync.specs.Report.{report_items}
-use Rattle.rds_sync.specs.Rules.{RuleNumbers}
-use Rattle.rds_sync.specs.Totals.{totals_of}
-use Rattle.rds_tool.specs.GroupText.{encoded_text}
-use Rattle.rds_tool.specs.Input.{and_then, recording_of}
-use Rattle.rds_tool.specs.Listing.{report_text, scan_text, totals_text}
-use Rattle.rds_tool.specs.Plans.{cut_by}
-use Rattle.rds_tool.specs.Soft.{recording_of_symbols, soft_text}
-use Rattle.rds_tool.specs.Tasks.{task_of}
-use Rattle.rds_tool.specs.declared.error.ToolError.{ToolError}
-use Rattle.rds_tool.specs.declared.error.ToolError.TheVariants.{OutOfMemory, Read, TooManyTurns, Write}
-use Rattle.rds_tool.specs.declared.job.Cuts.{Cuts}
-use Rattle.rds_tool.specs.declared.job.Input.{Input}
-use Rattle.rds_tool.specs.declared.job.Job.{Job}
-use Rattle.rds_tool.specs.declared.task.Task.{Task}
+use Rattle.rds_sync.specs.{Report.report_items, Rules.RuleNumbers, Totals.totals_of}
+use Rattle.rds_tool.specs.{GroupText.encoded_text, Input.and_then, Input.recording_of, Listing.report_text, Listing.scan_text, Listing.totals_text, Plans.cut_by, Soft.recording_of_symbols, Soft.soft_text, Tasks.task_of, declared.error.ToolError.ToolError, declared.error.ToolError.TheVariants.OutOfMemory, declared.error.ToolError.TheVariants.Read, declared.error.ToolError.TheVariants.TooManyTurns, declared.error.ToolError.TheVariants.Write, declared.job.Cuts.Cuts, declared.job.Input.Input, declared.job.Job.Job, declared.task.Task.Task}
 use Rattle.rds_tool.specs.declared.task.Task.TheVariants as task
 
 -- the listing of the report of a recording

@@ -3,13 +3,7 @@
 use Rattle.std.specs.Prelude.{◌≡◌, ◌≤◌, ◌||◌, ℕ, Err, Ok, Result, if◌then◌else◌, nat_lt, true}
 use Rattle.rds_stream.specs.Recording.{Signal, length_of}
 use Rattle.rds_sync.specs.Rules.{RuleNumbers}
-use Rattle.rds_tool.specs.Cuts.{cuts_bits, has_pieces}
-use Rattle.rds_tool.specs.Input.{and_then}
-use Rattle.rds_tool.specs.Rules.{rules_of}
-use Rattle.rds_tool.specs.declared.error.ToolError.{ToolError}
-use Rattle.rds_tool.specs.declared.error.ToolError.TheVariants.{BadCutting, CrewRange}
-use Rattle.rds_tool.specs.declared.job.Cuts.{Cuts}
-use Rattle.rds_tool.specs.declared.job.Settings.{Settings}
+use Rattle.rds_tool.specs.{Cuts.cuts_bits, Cuts.has_pieces, Input.and_then, Rules.rules_of, declared.error.ToolError.ToolError, declared.error.ToolError.TheVariants.BadCutting, declared.error.ToolError.TheVariants.CrewRange, declared.job.Cuts.Cuts, declared.job.Settings.Settings}
 
 -- the rules, the number of workers and the cuts
 pub record PlanOf : Type 0 where

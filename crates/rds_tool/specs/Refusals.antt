@@ -11,8 +11,8 @@ use Rattle.rds_stream.specs.declared.error.StreamError.{StreamError}
 use Rattle.rds_stream.specs.declared.error.StreamError.TheVariants as stream
 use Rattle.rds_sync.specs.declared.error.SyncError.{SyncError}
 use Rattle.rds_sync.specs.declared.error.SyncError.TheVariants as sync
-use Rattle.rds_tool.specs.declared.error.ToolError.{ToolError}
 use Rattle.rds_tool.specs.declared.error.ToolError.TheVariants.{BadCutting, BadGaps, BitsPastBytes, BurstRange, CrewRange, GroupText, HexText, LossRange, NoWorker, OutOfMemory, ReachRange, Read, ShareRange, TooLong, TooManyTurns, Write}
+use Rattle.rds_tool.specs.declared.error.ToolError.{ToolError}
 
 abbrev pub number_and_name : ToolError → ℕ × List ℕ
 number_and_name BurstRange = (1, codes "BurstRange")

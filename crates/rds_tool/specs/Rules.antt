@@ -1,13 +1,7 @@
 -- The rules that settings give, or their refusal: this project's rule. `transcribe` decodes by them, by way of `Plans`.
 use Rattle.std.specs.Prelude.{◌||◌, Err, Ok, Result, if◌then◌else◌, nat_lt}
-use Rattle.rds_sync.specs.Ranges.{farthest_reach, longest_burst, most_blocks}
-use Rattle.rds_sync.specs.Rules.{RuleNumbers}
-use Rattle.rds_sync.specs.declared.loss.Loss.{Loss}
-use Rattle.rds_sync.specs.declared.loss.Loss.TheVariants.{Run, Share}
-use Rattle.rds_tool.specs.Input.{and_then}
-use Rattle.rds_tool.specs.declared.error.ToolError.{ToolError}
-use Rattle.rds_tool.specs.declared.error.ToolError.TheVariants.{BurstRange, LossRange, ReachRange, ShareRange}
-use Rattle.rds_tool.specs.declared.job.Settings.{Settings}
+use Rattle.rds_sync.specs.{Ranges.farthest_reach, Ranges.longest_burst, Ranges.most_blocks, Rules.RuleNumbers, declared.loss.Loss.Loss, declared.loss.Loss.TheVariants.Run, declared.loss.Loss.TheVariants.Share}
+use Rattle.rds_tool.specs.{Input.and_then, declared.error.ToolError.ToolError, declared.error.ToolError.TheVariants.BurstRange, declared.error.ToolError.TheVariants.LossRange, declared.error.ToolError.TheVariants.ReachRange, declared.error.ToolError.TheVariants.ShareRange, declared.job.Settings.Settings}
 
 -- the rule of loss, if it is in its range
 abbrev pub loss_of : Loss → Result Loss ToolError

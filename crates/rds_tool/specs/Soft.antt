@@ -2,26 +2,11 @@
 -- `Outcome`.
 use Rattle.std.specs.Prelude.{◌++◌, ◌-◌, ◌^◌, ◌∷◌, ℕ, Bool, Err, List, None, Ok, Option, Result, Some, [], codes, decimal, if◌then◌else◌, length, map, nat_lt, not, slice_index}
 use Rattle.std.specs.List.{flat_map, range_with_len}
-use Rattle.rds_soft.specs.Nearest.{mask_of}
-use Rattle.rds_soft.specs.ReadAgain.{item_again, symbols_of}
-use Rattle.rds_soft.specs.SoftTotals.{soft_totals_of}
-use Rattle.rds_soft.specs.Symbols.{hard_bit}
-use Rattle.rds_soft.specs.declared.soft_item.SoftBlock.{SoftBlock}
-use Rattle.rds_soft.specs.declared.soft_item.SoftBlock.TheVariants.{Missing, Read}
-use Rattle.rds_soft.specs.declared.soft_item.SoftItem.{SoftItem}
-use Rattle.rds_soft.specs.declared.soft_item.SoftItem.TheVariants.{Acquired, Group, LostLock}
-use Rattle.rds_soft.specs.declared.soft_reading.SoftReading.TheVariants.{Corrected, Lost, Valid}
-use Rattle.rds_soft.specs.declared.soft_totals.SoftTotals.{SoftTotals}
+use Rattle.rds_soft.specs.{Nearest.mask_of, ReadAgain.item_again, ReadAgain.symbols_of, SoftTotals.soft_totals_of, Symbols.hard_bit, declared.soft_item.SoftBlock.SoftBlock, declared.soft_item.SoftBlock.TheVariants.Missing, declared.soft_item.SoftBlock.TheVariants.Read, declared.soft_item.SoftItem.SoftItem, declared.soft_item.SoftItem.TheVariants.Acquired, declared.soft_item.SoftItem.TheVariants.Group, declared.soft_item.SoftItem.TheVariants.LostLock, declared.soft_reading.SoftReading.TheVariants.Corrected, declared.soft_reading.SoftReading.TheVariants.Lost, declared.soft_reading.SoftReading.TheVariants.Valid, declared.soft_totals.SoftTotals.SoftTotals}
 use Rattle.rds_stream.specs.Recording.{Signal}
-use Rattle.rds_sync.specs.Report.{report_items}
-use Rattle.rds_sync.specs.Rules.{RuleNumbers}
-use Rattle.rds_sync.specs.declared.item.Item.{Item}
+use Rattle.rds_sync.specs.{Report.report_items, Rules.RuleNumbers, declared.item.Item.Item}
 use Rattle.rds_sync.specs.declared.item.Item.TheVariants as hard
-use Rattle.rds_tool.specs.Input.{may_be_gaps}
-use Rattle.rds_tool.specs.Listing.{hex_digits, item_row, kind_text, row, total_row, totals_text, version_text, word_text}
-use Rattle.rds_tool.specs.declared.error.ToolError.{ToolError}
-use Rattle.rds_tool.specs.declared.error.ToolError.TheVariants.{BadGaps, BitsPastBytes, TooLong}
-use Rattle.rds_tool.specs.declared.job.Input.{Input}
+use Rattle.rds_tool.specs.{Input.may_be_gaps, Listing.hex_digits, Listing.item_row, Listing.kind_text, Listing.row, Listing.total_row, Listing.totals_text, Listing.version_text, Listing.word_text, declared.error.ToolError.ToolError, declared.error.ToolError.TheVariants.BadGaps, declared.error.ToolError.TheVariants.BitsPastBytes, declared.error.ToolError.TheVariants.TooLong, declared.job.Input.Input}
 
 -- ---- the recording
 

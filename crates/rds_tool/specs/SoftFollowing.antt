@@ -1,12 +1,7 @@
 -- Following a stream of symbols: this project's rule. `follow_soft` promises it.
-use Rattle.std.specs.Prelude.{◌-◌, ℕ, List, Ok, Option, Result, length, true, false}
-use Rattle.std.specs.List.{flat_map}
+use Rattle.std.specs.{Prelude.◌-◌, Prelude.ℕ, Prelude.List, Prelude.Ok, Prelude.Option, Prelude.Result, Prelude.length, Prelude.true, Prelude.false, List.flat_map}
 use Rattle.rds_soft.specs.SoftStream.{SoftTerms, complete, signal_of}
-use Rattle.rds_tool.specs.Following.{Stream}
-use Rattle.rds_tool.specs.Input.{and_then}
-use Rattle.rds_tool.specs.InputOf.{InputOf}
-use Rattle.rds_tool.specs.Soft.{recording_of_symbols, soft_row, soft_text}
-use Rattle.rds_tool.specs.declared.error.ToolError.{ToolError}
+use Rattle.rds_tool.specs.{Following.Stream, Input.and_then, InputOf.InputOf, Soft.recording_of_symbols, Soft.soft_row, Soft.soft_text, declared.error.ToolError.ToolError}
 
 -- the most symbols that one read gives
 abbrev pub most_symbols : ℕ

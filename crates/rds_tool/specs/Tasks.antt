@@ -1,11 +1,7 @@
 -- A job whose settings are in their ranges: this project's rule. `transcribe` cites it, by `IsTranscribed`.
 use Rattle.std.specs.Prelude.{Ok, Result}
-use Rattle.rds_tool.specs.Input.{and_then}
-use Rattle.rds_tool.specs.Plans.{plan_of, workers_of}
-use Rattle.rds_tool.specs.declared.error.ToolError.{ToolError}
-use Rattle.rds_tool.specs.declared.job.Job.{Job}
+use Rattle.rds_tool.specs.{Input.and_then, Plans.plan_of, Plans.workers_of, declared.error.ToolError.ToolError, declared.job.Job.Job, declared.task.Task.Task}
 use Rattle.rds_tool.specs.declared.job.Job.TheVariants as job
-use Rattle.rds_tool.specs.declared.task.Task.{Task}
 use Rattle.rds_tool.specs.declared.task.Task.TheVariants as task
 
 -- the job with its plan

@@ -3,13 +3,7 @@
 use Rattle.std.specs.Prelude.{◌<◌, ◌≡◌, ◌≢◌, ◌≤◌, ◌⊎◌, ◌↔◌, ℕ, Err, IfErr, IfSome, IsErrOf, List, OnOk, Result, length, true}
 use Rattle.std.specs.Io.KnownBytes.{Consumes, IsAtEnd}
 use Rattle.rds_rows.specs.declared.sink.Sink.{Ghosts as Sink}
-use Rattle.rds_tool.specs.History.{Gave}
-use Rattle.rds_tool.specs.Outcome.{IsOutside, Writes, WritesPrefix, result_of_job}
-use Rattle.rds_tool.specs.Tasks.{task_of}
-use Rattle.rds_tool.specs.declared.devices.Source.{Ghosts as Source}
-use Rattle.rds_tool.specs.declared.error.ToolError.{ToolError}
-use Rattle.rds_tool.specs.declared.error.ToolError.TheVariants.{NoWorker, Read, TooManyTurns, Write}
-use Rattle.rds_tool.specs.declared.job.Job.{Job}
+use Rattle.rds_tool.specs.{History.Gave, Outcome.IsOutside, Outcome.Writes, Outcome.WritesPrefix, Outcome.result_of_job, Tasks.task_of, declared.devices.Source.Ghosts as Source, declared.error.ToolError.ToolError, declared.error.ToolError.TheVariants.NoWorker, declared.error.ToolError.TheVariants.Read, declared.error.ToolError.TheVariants.TooManyTurns, declared.error.ToolError.TheVariants.Write, declared.job.Job.Job}
 
 -- the answer to a job, if the reader was `reader` and is now `reader'`, and the writer likewise
 pub record IsTranscribed {R W : Type 0} (source : Source R) (sink : Sink W) (job : Job) (reader reader' : R)

@@ -5,20 +5,9 @@ use Rattle.std.specs.Prelude.{◌≡◌, ◌&&◌, ◌++◌, ◌∷◌, ◌+◌,
 use Rattle.std.specs.List.{All, filter, flat_map, list_any}
 use Rattle.rds_live.specs.StreamDecoder.{Terms, report_of}
 use Rattle.rds_stream.specs.Recording.{Signal, length_of, packed_bit}
-use Rattle.rds_sync.specs.Totals.{totals_of}
-use Rattle.rds_sync.specs.declared.item.Block.{Block}
-use Rattle.rds_sync.specs.declared.item.Block.TheVariants.{Missing, Read}
-use Rattle.rds_sync.specs.declared.item.Item.{Item}
-use Rattle.rds_sync.specs.declared.item.Item.TheVariants.{Acquired, Group, LostLock}
-use Rattle.rds_tool.specs.Following.{rows_so_far}
-use Rattle.rds_tool.specs.Input.{recording_of}
-use Rattle.rds_tool.specs.Laws.{stream_input}
-use Rattle.rds_tool.specs.Listing.{report_text, row, totals_text}
-use Rattle.rds_tool.specs.Outcome.{result_of_job}
-use Rattle.rds_tool.specs.Plans.{PlanOf, plan_of}
-use Rattle.rds_tool.specs.declared.job.Input.{Input}
+use Rattle.rds_sync.specs.{Totals.totals_of, declared.item.Block.Block, declared.item.Block.TheVariants.Missing, declared.item.Block.TheVariants.Read, declared.item.Item.Item, declared.item.Item.TheVariants.Acquired, declared.item.Item.TheVariants.Group, declared.item.Item.TheVariants.LostLock}
+use Rattle.rds_tool.specs.{Following.rows_so_far, Input.recording_of, Laws.stream_input, Listing.report_text, Listing.row, Listing.totals_text, Outcome.result_of_job, Plans.PlanOf, Plans.plan_of, declared.job.Input.Input, declared.job.Settings.Settings}
 use Rattle.rds_tool.specs.declared.job.Job.TheVariants as job
-use Rattle.rds_tool.specs.declared.job.Settings.{Settings}
 
 -- ---- rows
 

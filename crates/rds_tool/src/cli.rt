@@ -1,9 +1,7 @@
 //! From a command line to the job or stream that it asks for.
 ghost use Rattle.std.specs.Prelude.{◌≡◌, ◌≢◌, ◌⊎◌, [], IfErr, IfOk, IsErrAnd, None, Ok, OnOk, Some, map, string_bytes};
 ghost use Rattle.std.specs.Result.{result_ok};
-ghost use Rattle.clap.specs.Kinds.{FailsBy};
-ghost use Rattle.clap.specs.Values.{kind_of};
-ghost use Rattle.clap.specs.Words.{subcommand_rows_of};
+ghost use Rattle.clap.specs.{Kinds.FailsBy, Values.kind_of, Words.subcommand_rows_of};
 ghost use Rattle.rds_tool.specs.CommandLine.{HasBadGaps, IsFault, MayAnswer, SaysBadGaps, asked_by, entries_of, faults_of, job_by, job_in as the_job_in};
 
 use crate::commands::rds_command;

@@ -1,8 +1,7 @@
 //! The commands of the program: a table of them and their options, and the `clap` command that it makes.
 ghost use Rattle.std.specs.Prelude.{◌≡◌, false};
 ghost use Rattle.clap.specs.Words.{App, new_app, rule_of};
-ghost use Rattle.rds_tool.specs.CommandLine.{Makes, ReadsAs, rds_app};
-ghost use Rattle.rds_tool.specs.Inside.Commands.{app_of_row, bare_app, rule_of_row, with_command as the_with_command, with_each};
+ghost use Rattle.rds_tool.specs.{CommandLine.Makes, CommandLine.ReadsAs, CommandLine.rds_app, Inside.Commands.app_of_row, Inside.Commands.bare_app, Inside.Commands.rule_of_row, Inside.Commands.with_command as the_with_command, Inside.Commands.with_each};
 
 use crate::help;
 use clap::builder::ValueParser;

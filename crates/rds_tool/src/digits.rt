@@ -1,8 +1,7 @@
 //! Digits of numbers, as bytes.
 ghost use Rattle.std.specs.Prelude.{◌*◌, ◌+◌, ◌/◌, ◌%◌, ◌≡◌, ◌≤◌, ◌<◌, decimal, slice_index, take};
 ghost use Rattle.hex.specs.Hex.{upper_digits};
-ghost use Rattle.rds_tool.specs.Listing.{hex_digits};
-ghost use Rattle.rds_tool.specs.Inside.Digits.{last_digits};
+ghost use Rattle.rds_tool.specs.{Listing.hex_digits, Inside.Digits.last_digits};
 
 /// A number of at most eight digits with zeros after them, so that it has eight, and how many are its own.
 #[inline(always)]

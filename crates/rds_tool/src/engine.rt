@@ -2,10 +2,7 @@
 ghost use Rattle.std.specs.Prelude.{◌+◌, ◌++◌, ◌<◌, ◌^◌, ◌≡◌, ◌≤◌, ◌⊎◌, ◌↔◌, IfErr, IfOk, IfSome, IsErrOf, List, [], Ok, OnOk, false, length, true, ℕ};
 ghost use Rattle.std.specs.Io.KnownBytes.{Consumes, IsAtEnd};
 ghost use Rattle.rds_stream.specs.Recording.{AreGaps};
-ghost use Rattle.rds_tool.specs.Cuts.{cuts_any};
-ghost use Rattle.rds_tool.specs.History.{Gave};
-ghost use Rattle.rds_tool.specs.Tasks.{task_of};
-ghost use Rattle.rds_tool.specs.Transcribed.{IsTranscribed};
+ghost use Rattle.rds_tool.specs.{Cuts.cuts_any, History.Gave, Tasks.task_of, Transcribed.IsTranscribed};
 ghost use Rattle.rds_tool.specs.declared.task.Task.TheVariants as task;
 
 use crate::counting::InputCounter;

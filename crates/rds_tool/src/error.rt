@@ -1,7 +1,6 @@
 //! Why a transcription is refused.
 ghost use Rattle.std.specs.Prelude.{◌≡◌};
-ghost use Rattle.rds_tool.specs.Refusals.{name_of, number_of, of_crew, of_piece, of_rows, of_stream, of_sync};
-ghost use Rattle.rds_tool.specs.declared.error.ToolError.TheVariants.{OutOfMemory};
+ghost use Rattle.rds_tool.specs.{Refusals.name_of, Refusals.number_of, Refusals.of_crew, Refusals.of_piece, Refusals.of_rows, Refusals.of_stream, Refusals.of_sync, declared.error.ToolError.TheVariants.OutOfMemory};
 
 use rds_crew::CrewError;
 use rds_pieces::PieceError;

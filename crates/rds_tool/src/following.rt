@@ -1,16 +1,10 @@
 //! From a reader to a writer, as the bytes come.
 ghost use Rattle.std.specs.Prelude.{◌+◌, ◌-◌, ◌*◌, ◌++◌, ◌<◌, ◌^◌, ◌≡◌, ◌≢◌, ◌≤◌, ◌⊎◌, ◌↔◌, [], IfErr, IfOk, IsOkUnless, IfSome, IsErrOf, List, None, Ok, OnOk, Option, Some, length, take, true, ℕ};
-ghost use Rattle.std.specs.Io.KnownBytes.{Consumes, IsAtEnd, Keeps, Appends};
-ghost use Rattle.std.specs.List.{flat_map};
+ghost use Rattle.std.specs.{Io.KnownBytes.Consumes, Io.KnownBytes.IsAtEnd, Io.KnownBytes.Keeps, Io.KnownBytes.Appends, List.flat_map};
 ghost use Rattle.rds_live.specs.StreamDecoder.{HasHeard, live_of, report_at};
 ghost use Rattle.rds_stream.specs.Recording.{AreGaps};
-ghost use Rattle.rds_sync.specs.Advance.{group_item};
-ghost use Rattle.rds_sync.specs.Totals.{totals_of};
-ghost use Rattle.rds_tool.specs.Following.{Follows, IsHeardOut, IsLong, bit_stream, listed, most_read, rows_so_far};
-ghost use Rattle.rds_tool.specs.History.{Gave};
-ghost use Rattle.rds_tool.specs.Inside.Streams.{Breaks, IsHeard, IsNear, IsPlaceOf, IsShortEnough, bits_left as the_bits_left};
-ghost use Rattle.rds_tool.specs.Listing.{item_row, report_text, totals_text};
-ghost use Rattle.rds_tool.specs.Outcome.{Writes, WritesPrefix};
+ghost use Rattle.rds_sync.specs.{Advance.group_item, Totals.totals_of};
+ghost use Rattle.rds_tool.specs.{Following.Follows, Following.IsHeardOut, Following.IsLong, Following.bit_stream, Following.listed, Following.most_read, Following.rows_so_far, History.Gave, Inside.Streams.Breaks, Inside.Streams.IsHeard, Inside.Streams.IsNear, Inside.Streams.IsPlaceOf, Inside.Streams.IsShortEnough, Inside.Streams.bits_left as the_bits_left, Listing.item_row, Listing.report_text, Listing.totals_text, Outcome.Writes, Outcome.WritesPrefix};
 
 use crate::engine::zeros;
 use crate::listing::{push_items, push_totals};

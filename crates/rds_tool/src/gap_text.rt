@@ -1,8 +1,5 @@
 //! Gaps as a command line names them.
-ghost use Rattle.std.specs.Prelude.{◌==◌, ◌≡◌, IfOk, Option, if◌then◌else◌, map};
-ghost use Rattle.std.specs.List.{slice_split};
-ghost use Rattle.std.specs.Option.{option_map};
-ghost use Rattle.std.specs.Str.{all_ascii_digits};
+ghost use Rattle.std.specs.{Prelude.◌==◌, Prelude.◌≡◌, Prelude.IfOk, Prelude.Option, Prelude.if◌then◌else◌, Prelude.map, List.slice_split, Option.option_map, Str.all_ascii_digits};
 ghost use Rattle.rds_tool.specs.GapText.{each_gap as the_gaps_of_each, gap_of as the_gap_of, gaps_of as the_gaps_of, place_of as the_place_of};
 
 use std::alloc::{AllocError, Global};

@@ -1,9 +1,6 @@
 //! Groups of lines of digits, whose text comes chunk by chunk.
 ghost use Rattle.std.specs.Prelude.{◌*◌, ◌+◌, ◌++◌, ◌≡◌, ◌∷◌, Bool, Err, IfErr, IfOk, None, Ok, OnErr, OnOk, [], false, true};
-ghost use Rattle.rds_tool.specs.declared.error.ToolError.TheVariants.{GroupText};
-ghost use Rattle.rds_tool.specs.GroupText.{encoded_text, line_text, words_of as the_words_of};
-ghost use Rattle.rds_tool.specs.Inside.GroupLines.{AddsLine, text_of_groups};
-ghost use Rattle.rds_tool.specs.Refusals.{IsMemoryOrErrOf};
+ghost use Rattle.rds_tool.specs.{declared.error.ToolError.TheVariants.GroupText, GroupText.encoded_text, GroupText.line_text, GroupText.words_of as the_words_of, Inside.GroupLines.AddsLine, Inside.GroupLines.text_of_groups, Refusals.IsMemoryOrErrOf};
 
 use crate::ToolError;
 use crate::taker::Taker;

@@ -1,8 +1,7 @@
 //! From the bytes that a reader held to the recording that they denote.
 ghost use Rattle.std.specs.Prelude.{◌<◌, ◌≡◌, ◌≤◌, Err, IfErr, IfOk, IfSome, Ok, length, take};
 ghost use Rattle.hex.specs.Hex.{hex_digit_value};
-ghost use Rattle.rds_tool.specs.Input.{decoded, first_bits as the_first_bits, is_blank as blank, recording_of as the_recording_of};
-ghost use Rattle.rds_tool.specs.Inside.HexText.{IsDecodedBy, IsStrangeAfter};
+ghost use Rattle.rds_tool.specs.{Input.decoded, Input.first_bits as the_first_bits, Input.is_blank as blank, Input.recording_of as the_recording_of, Inside.HexText.IsDecodedBy, Inside.HexText.IsStrangeAfter};
 
 use crate::{Input, ToolError};
 use rds_stream::Recording;

@@ -1,8 +1,6 @@
 //! Jobs, and the other requests of a command line.
-ghost use Rattle.std.specs.Prelude.{◌≡◌};
-ghost use Rattle.std.specs.Cmp.{partial_equiv_from_equiv};
-ghost use Rattle.rds_tool.specs.CommandLine.{warning_of};
-ghost use Rattle.rds_tool.specs.InputOf.{says_same, says_same_equiv};
+ghost use Rattle.std.specs.{Prelude.◌≡◌, Cmp.partial_equiv_from_equiv};
+ghost use Rattle.rds_tool.specs.{CommandLine.warning_of, InputOf.says_same, InputOf.says_same_equiv};
 
 use rds_soft::Margin;
 use rds_sync::{Loss, RuleNumbers};

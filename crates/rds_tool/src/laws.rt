@@ -1,8 +1,7 @@
 //! The laws of jobs, over only the definitions. Each function here does nothing: its contract is a law, which
 //! the check of this crate proves, and which a proof above it may cite.
 
-ghost use Rattle.rds_tool.specs.Laws.{EncodedGroupsAreListed, EncodedGroupsAreTaken, ListsEndWithTotals, StreamsAreListed};
-ghost use Rattle.rds_tool.specs.WellFormed.{GapsHideBits, ListsAreWellFormed, RowsBeginLists};
+ghost use Rattle.rds_tool.specs.{Laws.EncodedGroupsAreListed, Laws.EncodedGroupsAreTaken, Laws.ListsEndWithTotals, Laws.StreamsAreListed, WellFormed.GapsHideBits, WellFormed.ListsAreWellFormed, WellFormed.RowsBeginLists};
 
 use rds_live::laws as live_laws;
 use rds_sync::laws;

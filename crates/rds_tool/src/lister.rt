@@ -1,7 +1,5 @@
 //! The listing of items: their rows, and then those of their totals.
-ghost use Rattle.std.specs.Prelude.{◌+◌, ◌++◌, ◌<◌, ◌^◌, ◌≡◌, ◌≤◌, [], List, length, ℕ};
-ghost use Rattle.std.specs.List.{flat_map};
-ghost use Rattle.std.specs.Thread.{IsSync};
+ghost use Rattle.std.specs.{Prelude.◌+◌, Prelude.◌++◌, Prelude.◌<◌, Prelude.◌^◌, Prelude.◌≡◌, Prelude.◌≤◌, Prelude.[], Prelude.List, Prelude.length, Prelude.ℕ, List.flat_map, Thread.IsSync};
 ghost use Rattle.rds_rows.specs.Sheets.{left_of, size_of, text_of};
 ghost use Rattle.rds_sync.specs.declared.item.Item.{Item as AnItem};
 
@@ -67,9 +65,8 @@ impl HardLister {
 }
 
 impl Lister for HardLister {
-    ghost use Rattle.rds_tool.specs.Listing.{item_row, totals_text};
+    ghost use Rattle.rds_tool.specs.{Listing.item_row, Listing.totals_text, Inside.Listers.HasCounted};
     ghost use Rattle.rds_sync.specs.Totals.{totals_of};
-    ghost use Rattle.rds_tool.specs.Inside.Listers.{HasCounted};
 
     ghost row_of = { λ _. item_row };
 

@@ -2,8 +2,7 @@
 ghost use Rattle.std.specs.Prelude.{◌+◌, ◌++◌, ◌-◌, ◌≡◌, ◌≤◌, All, IfOk, IsOkUnless, OnOk, drop, length, map, take};
 ghost use Rattle.std.specs.List.{flat_map};
 ghost use Rattle.rds_rows.specs.Sheets.{left_of, size_of, text_of};
-ghost use Rattle.rds_tool.specs.Listing.{item_row, total_row, totals_text};
-ghost use Rattle.rds_tool.specs.Inside.RowWriter.{IsPlain, IsShort};
+ghost use Rattle.rds_tool.specs.{Listing.item_row, Listing.total_row, Listing.totals_text, Inside.RowWriter.IsPlain, Inside.RowWriter.IsShort};
 
 use crate::ToolError;
 use crate::rows::RowWriter;

@@ -1,6 +1,5 @@
 //! The rows of a report, which can be spelled from any on.
-ghost use Rattle.std.specs.Prelude.{◌+◌, ◌++◌, ◌-◌, ◌<◌, ◌≡◌, ◌≤◌, IfOk, IsOkUnless, drop, length, take, vec_capacity};
-ghost use Rattle.std.specs.List.{flat_map};
+ghost use Rattle.std.specs.{Prelude.◌+◌, Prelude.◌++◌, Prelude.◌-◌, Prelude.◌<◌, Prelude.◌≡◌, Prelude.◌≤◌, Prelude.IfOk, Prelude.IsOkUnless, Prelude.drop, Prelude.length, Prelude.take, Prelude.vec_capacity, List.flat_map};
 ghost use Rattle.rds_rows.specs.Sheets.{left_of, size_of, text_of};
 ghost use Rattle.rds_tool.specs.Listing.{item_row, named_totals, total_row};
 

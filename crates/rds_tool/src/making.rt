@@ -1,10 +1,6 @@
 //! From a job to its task, and on to the text that it makes of the bytes that a reader held.
 ghost use Rattle.std.specs.Prelude.{◌≡◌, Err, IfErr, IfOk, Ok};
-ghost use Rattle.rds_tool.specs.Listing.{totals_text};
-ghost use Rattle.rds_tool.specs.Outcome.{cut_recording, text_of_task};
-ghost use Rattle.rds_tool.specs.Plans.{plan_of};
-ghost use Rattle.rds_tool.specs.Refusals.{IsMemoryOrErrOf};
-ghost use Rattle.rds_tool.specs.Inside.Texts.{bytes_of};
+ghost use Rattle.rds_tool.specs.{Listing.totals_text, Outcome.cut_recording, Outcome.text_of_task, Plans.plan_of, Refusals.IsMemoryOrErrOf, Inside.Texts.bytes_of};
 ghost use Rattle.rds_tool.specs.declared.task.Task.TheVariants as task;
 
 use crate::group_lines::GroupLines;

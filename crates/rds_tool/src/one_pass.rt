@@ -1,15 +1,7 @@
 //! A report that one worker decodes and writes at the same time.
-ghost use Rattle.std.specs.Prelude.{◌+◌, ◌++◌, ◌<◌, ◌^◌, ◌≡◌, ◌≤◌, [], List, OnErr, OnOk, length, vec_capacity};
-ghost use Rattle.std.specs.Io.KnownBytes.{Appends};
-ghost use Rattle.std.specs.List.{flat_map};
-ghost use Rattle.rds_rows.specs.Sheets.{size_of};
-ghost use Rattle.rds_rows.specs.Writes.{AppendsPrefix};
-ghost use Rattle.rds_rows.specs.Written.{IsWritten};
-ghost use Rattle.rds_sync.specs.Advance.{group_item};
-ghost use Rattle.rds_sync.specs.Lawful.{IsLawful};
-ghost use Rattle.rds_sync.specs.Report.{report_items};
-ghost use Rattle.rds_sync.specs.Step.{items_of_end};
-ghost use Rattle.rds_sync.specs.declared.item.Item.{Item as AnItem};
+ghost use Rattle.std.specs.{Prelude.◌+◌, Prelude.◌++◌, Prelude.◌<◌, Prelude.◌^◌, Prelude.◌≡◌, Prelude.◌≤◌, Prelude.[], Prelude.List, Prelude.OnErr, Prelude.OnOk, Prelude.length, Prelude.vec_capacity, Io.KnownBytes.Appends, List.flat_map};
+ghost use Rattle.rds_rows.specs.{Sheets.size_of, Writes.AppendsPrefix, Written.IsWritten};
+ghost use Rattle.rds_sync.specs.{Advance.group_item, Lawful.IsLawful, Report.report_items, Step.items_of_end, declared.item.Item.Item as AnItem};
 ghost use Rattle.rds_stream.specs.Recording.{length_of};
 ghost use Rattle.rds_tool.specs.Soft.{listed_by};
 

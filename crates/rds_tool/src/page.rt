@@ -1,8 +1,6 @@
 //! Room for rows, on the stack.
-ghost use Rattle.std.specs.Prelude.{◌+◌, ◌++◌, ◌≡◌, ◌≤◌, ◌<◌, ◌∷◌, Some, [], decimal, length, map, take};
-ghost use Rattle.std.specs.List.{AllByRecursion};
-ghost use Rattle.rds_tool.specs.Inside.RowWriter.{IsShort};
-ghost use Rattle.rds_tool.specs.Listing.{row};
+ghost use Rattle.std.specs.{Prelude.◌+◌, Prelude.◌++◌, Prelude.◌≡◌, Prelude.◌≤◌, Prelude.◌<◌, Prelude.◌∷◌, Prelude.Some, Prelude.[], Prelude.decimal, Prelude.length, Prelude.map, Prelude.take, List.AllByRecursion};
+ghost use Rattle.rds_tool.specs.{Inside.RowWriter.IsShort, Listing.row};
 
 use crate::digits::{decimal_digits, left_aligned};
 use std::io;

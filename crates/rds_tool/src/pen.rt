@@ -4,9 +4,7 @@ ghost use Rattle.csv.specs.Writing.{default_writer, row_text};
 ghost use Rattle.rds_code.specs.Offsets.{name};
 ghost use Rattle.rds_sync.specs.declared.item.Item.TheVariants as AnItem;
 ghost use Rattle.rds_soft.specs.declared.soft_item.SoftItem.TheVariants as ASoftItem;
-ghost use Rattle.rds_tool.specs.Soft.{soft_block_text, soft_row};
-ghost use Rattle.rds_tool.specs.Listing.{block_text, hex_digits, item_fields, item_row, kind_text, version_text, window_row, word_text};
-ghost use Rattle.rds_tool.specs.Inside.RowWriter.{IsPlain};
+ghost use Rattle.rds_tool.specs.{Soft.soft_block_text, Soft.soft_row, Listing.block_text, Listing.hex_digits, Listing.item_fields, Listing.item_row, Listing.kind_text, Listing.version_text, Listing.window_row, Listing.word_text, Inside.RowWriter.IsPlain};
 
 use crate::digits::{mask_digits, word_digits};
 use crate::page::Page;

@@ -1,13 +1,8 @@
 //! By which rules, by how many workers and in which pieces a recording is decoded.
 ghost use Rattle.std.specs.Prelude.{◌<◌, ◌==◌, ◌≡◌, ◌≤◌, ◌⊎◌, Err, IfErr, IfOk, Ok, OnOk, false, true};
 ghost use Rattle.rds_pieces.specs.Cutting.{IsCutting};
-ghost use Rattle.rds_sync.specs.Decoding.{listed};
-ghost use Rattle.rds_sync.specs.Report.{report_items};
-ghost use Rattle.rds_sync.specs.Totals.{totals_of};
-ghost use Rattle.rds_tool.specs.Cuts.{are_inner, cuts_any, cuts_bits, has_pieces, places_at, places_by};
-ghost use Rattle.rds_tool.specs.Plans.{crew_of, cut_by};
-ghost use Rattle.rds_tool.specs.Refusals.{IsMemoryOrErrOf};
-ghost use Rattle.rds_tool.specs.Rules.{rules_of as the_rules_of};
+ghost use Rattle.rds_sync.specs.{Decoding.listed, Report.report_items, Totals.totals_of};
+ghost use Rattle.rds_tool.specs.{Cuts.are_inner, Cuts.cuts_any, Cuts.cuts_bits, Cuts.has_pieces, Cuts.places_at, Cuts.places_by, Plans.crew_of, Plans.cut_by, Refusals.IsMemoryOrErrOf, Rules.rules_of as the_rules_of};
 
 use crate::task::{Plan, Workers};
 use crate::{Cuts, Settings, ToolError};

@@ -1,6 +1,5 @@
 //! Items of a report that are read again, by several threads if there is work for them.
-ghost use Rattle.std.specs.Prelude.{◌≡◌, ◌≤◌, length, map, take, true};
-ghost use Rattle.std.specs.Thread.{IsSync};
+ghost use Rattle.std.specs.{Prelude.◌≡◌, Prelude.◌≤◌, Prelude.length, Prelude.map, Prelude.take, Prelude.true, Thread.IsSync};
 ghost use Rattle.rds_tool.specs.Inside.Listers.{IsReadAt, again_of};
 
 use crate::soft_source::SoftSource;

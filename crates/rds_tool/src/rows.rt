@@ -2,9 +2,7 @@
 ghost use Rattle.std.specs.Prelude.{◌+◌, ◌++◌, ◌*◌, ◌<◌, ◌≡◌, ◌≤◌, [], All, OnErr, OnOk, length, map, take};
 ghost use Rattle.std.specs.List.{AllByRecursion, flat_map};
 ghost use Rattle.rds_sync.specs.declared.item.Item.TheVariants as AnItem;
-ghost use Rattle.rds_tool.specs.Listing.{item_row, row, total_row};
-ghost use Rattle.rds_tool.specs.Soft.{soft_row};
-ghost use Rattle.rds_tool.specs.Inside.RowWriter.{IsBetween, IsPlain, IsShort};
+ghost use Rattle.rds_tool.specs.{Listing.item_row, Listing.row, Listing.total_row, Soft.soft_row, Inside.RowWriter.IsBetween, Inside.RowWriter.IsPlain, Inside.RowWriter.IsShort};
 ghost use Rattle.csv.specs.Writing.{writer_under};
 
 use crate::page::{LONGEST_ROW, Page};

@@ -1,14 +1,9 @@
 //! From a reader of symbols to a writer, as the symbols come.
 ghost use Rattle.std.specs.Prelude.{◌++◌, ◌+◌, ◌-◌, ◌<◌, ◌^◌, ◌≡◌, ◌≢◌, ◌≤◌, ◌⊎◌, ◌↔◌, [], IfErr, IfOk, IfSome, IsErrOf, List, None, Ok, OnOk, length, true, ℕ};
-ghost use Rattle.std.specs.Io.KnownBytes.{Appends, IsAtEnd};
-ghost use Rattle.std.specs.List.{flat_map};
+ghost use Rattle.std.specs.{Io.KnownBytes.Appends, Io.KnownBytes.IsAtEnd, List.flat_map};
 ghost use Rattle.rds_soft.specs.SoftStream.{group_item};
 ghost use Rattle.rds_stream.specs.Recording.{AreGaps};
-ghost use Rattle.rds_tool.specs.Following.{Follows, IsLong, IsShort};
-ghost use Rattle.rds_tool.specs.SoftFollowing.{most_symbols, soft_rows_so_far, soft_stream_text, symbol_stream};
-ghost use Rattle.rds_tool.specs.Inside.Streams.{Breaks, IsHeard, IsNear, IsShortEnough};
-ghost use Rattle.rds_tool.specs.Outcome.{WritesPrefix};
-ghost use Rattle.rds_tool.specs.Soft.{soft_row, soft_totals_text};
+ghost use Rattle.rds_tool.specs.{Following.Follows, Following.IsLong, Following.IsShort, SoftFollowing.most_symbols, SoftFollowing.soft_rows_so_far, SoftFollowing.soft_stream_text, SoftFollowing.symbol_stream, Inside.Streams.Breaks, Inside.Streams.IsHeard, Inside.Streams.IsNear, Inside.Streams.IsShortEnough, Outcome.WritesPrefix, Soft.soft_row, Soft.soft_totals_text};
 
 use crate::engine::zeros;
 use crate::following::{check_claim, read_once};

@@ -1,8 +1,7 @@
 //! The symbols that an input denotes, and the recording of their bits.
 ghost use Rattle.std.specs.Prelude.{◌≡◌, Err, IfErr, IfOk, Ok};
 ghost use Rattle.rds_soft.specs.ReadAgain.{item_again, symbols_of};
-ghost use Rattle.rds_tool.specs.Refusals.{IsMemoryOrErrOf};
-ghost use Rattle.rds_tool.specs.Soft.{recording_of_symbols as the_recording_of};
+ghost use Rattle.rds_tool.specs.{Refusals.IsMemoryOrErrOf, Soft.recording_of_symbols as the_recording_of};
 
 use crate::input::first_bits;
 use crate::{Input, ToolError};

@@ -1,10 +1,7 @@
 //! Rows of a stream, in parts that threads make.
-ghost use Rattle.std.specs.Prelude.{◌<◌, ◌^◌, ◌≡◌, ◌↔◌, [], IfOk, IsErrOf, IsOkUnless, Ok, OnErr, OnOk, true};
-ghost use Rattle.std.specs.Io.KnownBytes.{Appends};
-ghost use Rattle.std.specs.List.{flat_map};
+ghost use Rattle.std.specs.{Prelude.◌<◌, Prelude.◌^◌, Prelude.◌≡◌, Prelude.◌↔◌, Prelude.[], Prelude.IfOk, Prelude.IsErrOf, Prelude.IsOkUnless, Prelude.Ok, Prelude.OnErr, Prelude.OnOk, Prelude.true, Io.KnownBytes.Appends, List.flat_map};
 ghost use Rattle.rds_rows.specs.Writes.{AppendsPrefix};
-ghost use Rattle.rds_tool.specs.Outcome.{WritesPrefix};
-ghost use Rattle.rds_tool.specs.Listing.{item_row};
+ghost use Rattle.rds_tool.specs.{Outcome.WritesPrefix, Listing.item_row};
 
 use crate::listing::push_items;
 use crate::rows::RowWriter;
@@ -30,8 +27,7 @@ pub struct StreamRows {
 }
 
 impl Model for StreamRows {
-    ghost use Rattle.std.specs.Prelude.{◌++◌, List, ℕ};
-    ghost use Rattle.std.specs.List.{flat_map};
+    ghost use Rattle.std.specs.{Prelude.◌++◌, Prelude.List, Prelude.ℕ, List.flat_map};
 
     ghost Value = { List ℕ };
 

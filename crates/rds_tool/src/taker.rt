@@ -1,6 +1,5 @@
 //! Where the bytes of a reader go.
-ghost use Rattle.std.specs.Prelude.{◌++◌, ◌≡◌, List, None, OnOk, Option, ℕ};
-ghost use Rattle.std.specs.Thread.{IsSync};
+ghost use Rattle.std.specs.{Prelude.◌++◌, Prelude.◌≡◌, Prelude.List, Prelude.None, Prelude.OnOk, Prelude.Option, Prelude.ℕ, Thread.IsSync};
 ghost use Rattle.rds_sync.specs.Rules.{RuleNumbers};
 ghost use Rattle.rds_tool.specs.InputOf.{InputOf};
 

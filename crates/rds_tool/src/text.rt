@@ -2,8 +2,7 @@
 ghost use Rattle.std.specs.Prelude.{◌<◌, ◌≤◌, ◌^◌, ◌≡◌, ◌≢◌, ◌↔◌, ◌⊎◌, IfErr, IsErrOf, IsOkUnless, Ok, OnErr, OnOk, true};
 ghost use Rattle.std.specs.Io.KnownBytes.{Appends, Keeps};
 ghost use Rattle.rds_rows.specs.Written.{IsWritten};
-ghost use Rattle.rds_tool.specs.Inside.Texts.{bytes_of};
-ghost use Rattle.rds_tool.specs.Outcome.{WritesPrefix};
+ghost use Rattle.rds_tool.specs.{Inside.Texts.bytes_of, Outcome.WritesPrefix};
 
 use crate::ToolError;
 use crate::encode::GroupRows;

@@ -1,8 +1,6 @@
 //! The totals by name.
 ghost use Rattle.std.specs.Prelude.{◌≡◌, All, map};
-ghost use Rattle.rds_tool.specs.Listing.{named_totals};
-ghost use Rattle.rds_tool.specs.Soft.{named_flips};
-ghost use Rattle.rds_tool.specs.Inside.RowWriter.{IsPlain, IsShort};
+ghost use Rattle.rds_tool.specs.{Listing.named_totals, Soft.named_flips, Inside.RowWriter.IsPlain, Inside.RowWriter.IsShort};
 
 use rds_soft::SoftTotals;
 use rds_sync::Totals;

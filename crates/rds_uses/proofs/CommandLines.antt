@@ -1,15 +1,8 @@
 -- Command lines as `clap` reads them.
 use Rattle.rds_uses.proofs.Names.{Err, IfOk, Job, List, None, Ok, OnOk, Result, Share, Some, [], ap, codes, false, inl, inr, refl, result_ok, sym, ◌∙◌, ◌∷◌, ◌≡◌, ◌⊎◌}
-use Rattle.clap.specs.Faults.{defaults_fault, flags_fault, walk_fault}
-use Rattle.clap.specs.Takes.{flags_pass, walk_passes}
-use Rattle.clap.specs.Walk.{bundle_met, walked}
-use Rattle.clap.specs.Words.{Text}
-use Rattle.clap.specs.declared.error.kind.ErrorKind.{ErrorKind}
+use Rattle.clap.specs.{Faults.defaults_fault, Faults.flags_fault, Faults.walk_fault, Takes.flags_pass, Takes.walk_passes, Walk.bundle_met, Walk.walked, Words.Text, declared.error.kind.ErrorKind.ErrorKind}
 use Rattle.clap.specs.declared.error.kind.ErrorKind.TheVariants as kind
-use Rattle.rds_tool.specs.CommandLine.{HasBadGaps, MayAnswer, asked_by, entries_of, faults_of, job_by}
-use Rattle.rds_tool.specs.declared.fault.FaultKind.{FaultKind}
-use Rattle.rds_tool.specs.declared.fault.FaultKind.TheVariants.{Help, Memory, Version, Words}
-use Rattle.rds_tool.specs.declared.job.Asked.{Asked}
+use Rattle.rds_tool.specs.{CommandLine.HasBadGaps, CommandLine.MayAnswer, CommandLine.asked_by, CommandLine.entries_of, CommandLine.faults_of, CommandLine.job_by, declared.fault.FaultKind.FaultKind, declared.fault.FaultKind.TheVariants.Help, declared.fault.FaultKind.TheVariants.Memory, declared.fault.FaultKind.TheVariants.Version, declared.fault.FaultKind.TheVariants.Words, declared.job.Asked.Asked}
 use Rattle.rds_tool.specs.declared.job.Cuts.TheVariants as cuts
 use Rattle.rds_tool.specs.declared.job.Ignored.TheVariants as ignored
 use Rattle.rds_tool.specs.declared.job.Job.TheVariants as job

@@ -1,12 +1,8 @@
 -- The outcomes of jobs over the bits of bytes.
 use Rattle.rds_uses.proofs.Names.{BadCutting, Bool, Err, Input, Job, List, ListsEndWithTotals, None, Ok, PlanOf, Result, RuleNumbers, Settings, Signal, Some, ToolError, Writes, WritesPrefix, [], and_then, ap, append-nil, ap₂, arith, cond, crew_of, false, groups_in, length, length_of, list_text, plan_of, refl, result_of_job, result_unwrap_or, rows_so_far, sent_listing, stream_input, subst, sym, text_of_task, true, whole_input, ℕ, ◌*◌, ◌++◌, ◌^◌, ◌∙◌, ◌∷◌, ◌≡◌, ◌≤◌}
-use Rattle.std.proofs.lemmas.Bool.Decides.{nat_tests}
-use Rattle.rds_tool.specs.Cuts.{cuts_bits}
-use Rattle.rds_tool.specs.Input.{recording_of}
-use Rattle.rds_tool.specs.Laws.{EncodedGroupsAreListed}
-use Rattle.rds_tool.specs.Rules.{rules_of}
 use Rattle.rds_uses.specs.Jobs.{IsListBy, all_bits, plain}
-use Rattle.rds_tool.specs.WellFormed.{DifferInGaps, GapsHideBits, IsWellFormed, ListsAreWellFormed, RowsBeginLists}
+use Rattle.std.proofs.lemmas.Bool.Decides.{nat_tests}
+use Rattle.rds_tool.specs.{Cuts.cuts_bits, Input.recording_of, Laws.EncodedGroupsAreListed, Rules.rules_of, WellFormed.DifferInGaps, WellFormed.GapsHideBits, WellFormed.IsWellFormed, WellFormed.ListsAreWellFormed, WellFormed.RowsBeginLists}
 use Rattle.rds_tool.specs.declared.job.Job.TheVariants as job
 use Rattle.rds_tool.specs.declared.task.Task.TheVariants as task
 

@@ -1,8 +1,7 @@
 -- Short lemmas for the callers of `sent`.
 use Rattle.rds_uses.proofs.Names.{A, AreWords, B, C, Cx, D, List, Offset, RuleNumbers, Signal, Some, [], ap, arith, bits_sent, block_sent, cases_lt, get_or, get_or_past, heard, info_of, inl, inr, length, number, offset_at, offset_heard, offset_of, refl, rem, report_items, report_sent, slice_index, suc, totals_of, totals_sent, ungapped, word, zero, ℕ, ◌<◌, ◌^◌, ◌∙◌, ◌∷◌, ◌≡◌, ◌≤◌}
-use Rattle.rds_sync.specs.Ranges.{IsInRange}
-use Rattle.rds_sync.specs.Sent.{EncodedGroupsAreListed}
 use Rattle.rds_uses.proofs.GapFacts.{off-heard}
+use Rattle.rds_sync.specs.{Ranges.IsInRange, Sent.EncodedGroupsAreListed}
 
 -- a block 1 has the offset A
 pub first-offset : (o : Offset) → number o ≡ 1 → o ≡ A

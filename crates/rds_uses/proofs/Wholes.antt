@@ -1,10 +1,8 @@
 -- Two runs in a row, or the chunks of a stream, and the end give the report.
 use Rattle.rds_uses.proofs.Names.{AreClosed, AreCompleted, AreWritten, HasHeard, Item, List, RuleNumbers, Searching, Signal, State, Terms, [], ap, append_assoc, arith, drop, item_in_c, items_of_end, length, length-map, length_of, map, map-append, refl, report_items, report_of, run, stream_of, subst, sym, take, take_at, unheard, ℕ, ◌++◌, ◌-◌, ◌∙◌, ◌≡◌, ◌≤◌}
 use native.Mathlib.Numerals.{unary_clauses}
-use Rattle.rds_sync.specs.Laws.{RunsAreReports, RunsJoin}
-use Rattle.rds_sync.specs.Loss.{IsLossRule}
-use Rattle.rds_abi.specs.declared.layout.RdsStream.{RdsStream}
-use Rattle.rds_abi.specs.declared.layout.RdsItem.{RdsItem}
+use Rattle.rds_sync.specs.{Laws.RunsAreReports, Laws.RunsJoin, Loss.IsLossRule}
+use Rattle.rds_abi.specs.declared.layout.{RdsStream.RdsStream, RdsItem.RdsItem}
 
 module _ {B : Type 0} (f : Item → B) (join : RunsJoin) (report : RunsAreReports) (b : Signal) (rules : RuleNumbers) (loss : IsLossRule rules.loss)
     (bits : ℕ) (len : length_of b ≡ bits) (middle : ℕ) (within : middle ≤ bits) (s1 s2 : State)

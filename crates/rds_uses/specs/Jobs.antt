@@ -2,14 +2,8 @@
 use Rattle.std.specs.Prelude.{◌≡◌, ℕ, ◌*◌, List, [], None, Ok, Option, false, length, true}
 use Rattle.rds_stream.specs.Recording.{Signal, bits_of, ungapped}
 use Rattle.rds_sync.specs.Rules.{RuleNumbers}
-use Rattle.rds_tool.specs.Cuts.{cuts_any}
-use Rattle.rds_tool.specs.Laws.{stream_input}
-use Rattle.rds_tool.specs.Plans.{PlanOf, plan_of}
-use Rattle.rds_tool.specs.Rules.{rules_of}
-use Rattle.rds_tool.specs.declared.job.Input.{Input}
-use Rattle.rds_tool.specs.declared.job.Job.{Job}
+use Rattle.rds_tool.specs.{Cuts.cuts_any, Laws.stream_input, Plans.PlanOf, Plans.plan_of, Rules.rules_of, declared.job.Input.Input, declared.job.Job.Job, declared.job.Settings.Settings}
 use Rattle.rds_tool.specs.declared.job.Job.TheVariants as job
-use Rattle.rds_tool.specs.declared.job.Settings.{Settings}
 
 -- all bits of the bytes, without gaps
 abbrev pub all_bits : List ℕ → Signal

@@ -1,12 +1,7 @@
 -- Recordings of groups that a station sent, as the callers of `sent` speak of them.
 use Rattle.std.specs.Prelude.{◌≡◌, ℕ, ◌+◌, ◌*◌, List, [], ◌∷◌, Option, Some, flat_map, length, slice_index}
 use Rattle.rds_stream.specs.Recording.{Signal, length_of, ungapped}
-use Rattle.rds_sync.specs.Convergence.{IsLastFour, IsSound, sound_bits}
-use Rattle.rds_sync.specs.Rules.{RuleNumbers}
-use Rattle.rds_sync.specs.Sent.{AreCorrectable, AreHeardDamaged, KeepLock, SentGroup, bits_with_damage, four_damages, group_sent, items_damaged, items_sent, masks_read, totals_damaged}
-use Rattle.rds_sync.specs.declared.item.Item.{Item}
-use Rattle.rds_sync.specs.declared.item.Item.TheVariants.{Acquired, Group}
-use Rattle.rds_sync.specs.declared.totals.Totals.{Totals}
+use Rattle.rds_sync.specs.{Convergence.IsLastFour, Convergence.IsSound, Convergence.sound_bits, Rules.RuleNumbers, Sent.AreCorrectable, Sent.AreHeardDamaged, Sent.KeepLock, Sent.SentGroup, Sent.bits_with_damage, Sent.four_damages, Sent.group_sent, Sent.items_damaged, Sent.items_sent, Sent.masks_read, Sent.totals_damaged, declared.item.Item.Item, declared.item.Item.TheVariants.Acquired, declared.item.Item.TheVariants.Group, declared.totals.Totals.Totals}
 
 -- the four words of a group, each of which was read
 abbrev pub four_words : List ℕ → List (Option ℕ)

@@ -1,19 +1,7 @@
 //! Facts that a user of `rds_code` relies on: remainders, offsets, bursts, and blocks as they are sent and read.
 ghost use Rattle.std.specs.Prelude.{◌≡◌, ◌≢◌, ℕ, ◌+◌, ◌<◌, ◌^◌, ◌↔◌, ◌⊎◌, ◌∷◌, [], IsTrue, IfOk, None, Some, Contains, bit_xor, codes, slice_index, true};
-ghost use Rattle.std.specs.Int.{bit_at};
-ghost use Rattle.std.specs.Int.Count.{ones};
-ghost use Rattle.rds_code.specs.declared.offset.Offset.{Offset as AnOffset};
-ghost use Rattle.rds_code.specs.declared.offset.Offset.TheVariants.{A, B, C, Cx, D};
-ghost use Rattle.rds_code.specs.declared.reading.Wanted.TheVariants.{OnlyCx};
-ghost use Rattle.rds_code.specs.declared.reading.Reading.{Reading as AReading};
-ghost use Rattle.rds_code.specs.declared.reading.Reading.TheVariants.{Valid, Corrected};
-ghost use Rattle.rds_code.specs.Remainder.{IsRemainder, generator, rem};
-ghost use Rattle.rds_code.specs.Generator.{HasPeriod, IsCandidate, TellsApart, parity_rows, remainder_by, syndrome, times_power};
-ghost use Rattle.rds_code.specs.Offsets.{number};
-ghost use Rattle.rds_code.specs.Bursts.{IsBurst, bursts, burst_length};
-ghost use Rattle.rds_code.specs.Reading.{FitsAlone, IsReading};
-ghost use Rattle.rds_code.specs.Encoding.{IsBlockOf, third_offset};
-ghost use Rattle.rds_code.specs.Correction.{version_burst};
+ghost use Rattle.std.specs.Int.{bit_at, Count.ones};
+ghost use Rattle.rds_code.specs.{declared.offset.Offset.Offset as AnOffset, declared.offset.Offset.TheVariants.A, declared.offset.Offset.TheVariants.B, declared.offset.Offset.TheVariants.C, declared.offset.Offset.TheVariants.Cx, declared.offset.Offset.TheVariants.D, declared.reading.Wanted.TheVariants.OnlyCx, declared.reading.Reading.Reading as AReading, declared.reading.Reading.TheVariants.Valid, declared.reading.Reading.TheVariants.Corrected, Remainder.IsRemainder, Remainder.generator, Remainder.rem, Generator.HasPeriod, Generator.IsCandidate, Generator.TellsApart, Generator.parity_rows, Generator.remainder_by, Generator.syndrome, Generator.times_power, Offsets.number, Bursts.IsBurst, Bursts.bursts, Bursts.burst_length, Reading.FitsAlone, Reading.IsReading, Encoding.IsBlockOf, Encoding.third_offset, Correction.version_burst};
 
 use rds_code::{
     BlockNumber, Burst, BurstLimit, BurstTable, CodeError, Offset, Outcomes, Reading, Wanted,

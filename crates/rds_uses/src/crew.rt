@@ -2,13 +2,9 @@
 //! by whichever seat.
 ghost use Rattle.std.specs.Prelude.{◌≡◌, ◌<◌, ◌↔◌, ◌⊎◌, IfErr, IfOk, IsErrOf, ◌+◌, ◌≤◌, ◌^◌, All, IfSome, None, Some, false, length, true};
 ghost use Rattle.rds_stream.specs.Recording.{length_of};
-ghost use Rattle.rds_crew.specs.declared.error.CrewError.TheVariants.{CrewRange, OutOfMemory};
+ghost use Rattle.rds_crew.specs.{declared.error.CrewError.TheVariants.CrewRange, declared.error.CrewError.TheVariants.OutOfMemory, declared.deal.Event.TheVariants.Draw, declared.deal.Event.TheVariants.Progress, Seats.DidWholeRun, Seats.DrewAllOnce, Seats.HasRested, Seats.IsFresh, Seats.IsOf, Seats.seat_after};
 ghost use Rattle.rds_pieces.specs.Cutting.{IsCutting};
-ghost use Rattle.rds_sync.specs.Decoding.{listed};
-ghost use Rattle.rds_sync.specs.Report.{report_items};
-ghost use Rattle.rds_sync.specs.Totals.{totals_of};
-ghost use Rattle.rds_crew.specs.declared.deal.Event.TheVariants.{Draw, Progress};
-ghost use Rattle.rds_crew.specs.Seats.{DidWholeRun, DrewAllOnce, HasRested, IsFresh, IsOf, seat_after};
+ghost use Rattle.rds_sync.specs.{Decoding.listed, Report.report_items, Totals.totals_of};
 
 use rds_crew::{CrewError, Dealer, OpenGate, Seat, decode_crew};
 use rds_pieces::{Cutting, RecordingWork};

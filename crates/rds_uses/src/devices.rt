@@ -1,6 +1,5 @@
 //! Facts that a user of a source or a sink relies on, whatever device it reads or writes.
-ghost use Rattle.std.specs.Prelude.{◌≡◌, ◌-◌, ◌<◌, ◌≤◌, ◌^◌, IfOk, length, take, true};
-ghost use Rattle.std.specs.Io.KnownBytes.{Appends, IsAtEnd, Keeps};
+ghost use Rattle.std.specs.{Prelude.◌≡◌, Prelude.◌-◌, Prelude.◌<◌, Prelude.◌≤◌, Prelude.◌^◌, Prelude.IfOk, Prelude.length, Prelude.take, Prelude.true, Io.KnownBytes.Appends, Io.KnownBytes.IsAtEnd, Io.KnownBytes.Keeps};
 
 use rds_tool::{Failed, Sink, Source};
 

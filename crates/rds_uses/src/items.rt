@@ -1,13 +1,7 @@
 //! Facts that a user of lists of items, and of their totals, relies on.
 ghost use Rattle.std.specs.Prelude.{◌≡◌, ◌-◌, ◌+◌, ◌*◌, ◌≤◌, ◌^◌, ◌++◌, ◌∷◌, [], All, IfOk, IfSome, None, Some, drop, false, length, slice_get, slice_range, true, vec_capacity};
 ghost use Rattle.rds_stream.specs.Recording.{length_of};
-ghost use Rattle.rds_sync.specs.Advance.{group_item};
-ghost use Rattle.rds_sync.specs.Counting.{IsAtMost, IsRest, plus};
-ghost use Rattle.rds_sync.specs.Decoding.{listed};
-ghost use Rattle.rds_sync.specs.Lawful.{IsLawful};
-ghost use Rattle.rds_sync.specs.Step.{items_of_end, run as run_of};
-ghost use Rattle.rds_sync.specs.Totals.{totals_of};
-ghost use Rattle.rds_sync.specs.declared.totals.Totals.{Totals as TheTotals};
+ghost use Rattle.rds_sync.specs.{Advance.group_item, Counting.IsAtMost, Counting.IsRest, Counting.plus, Decoding.listed, Lawful.IsLawful, Step.items_of_end, Step.run as run_of, Totals.totals_of, declared.totals.Totals.Totals as TheTotals};
 
 use rds_stream::Recording;
 use rds_sync::{Decoder, Group, Item, ItemIter, Items, Rules, State, Totals, laws};

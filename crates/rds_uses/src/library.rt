@@ -1,13 +1,9 @@
 //! Promises of the calls for C to a user.
 ghost use Rattle.std.specs.Prelude.{◌≡◌, ◌≢◌, ◌++◌, ◌+◌, ◌^◌, ◌<◌, ◌≤◌, ◌⊎◌, ℕ, List, [], ◌∷◌, Err, IfErr, IfOk, IfSome, None, OnOk, Some, length, map, false, take, true};
 ghost use Rattle.rds_code.specs.Remainder.{rem};
-ghost use Rattle.rds_sync.specs.Report.{report_items};
-ghost use Rattle.rds_sync.specs.Totals.{totals_of};
+ghost use Rattle.rds_sync.specs.{Report.report_items, Totals.totals_of};
 ghost use Rattle.rds_live.specs.StreamDecoder.{HasHeard, report_of};
-ghost use Rattle.rds_abi.specs.Asked.{asked, items_asked, recording_of, rules_of};
-ghost use Rattle.rds_abi.specs.Blocks.{packed};
-ghost use Rattle.rds_abi.specs.Stream.{AreCompleted, AreLeft, AreTotalsAt, AreWritten, stream_in_c, stream_of, terms_of};
-ghost use Rattle.rds_abi.specs.Layout.{item_in_c, totals_in_c};
+ghost use Rattle.rds_abi.specs.{Asked.asked, Asked.items_asked, Asked.recording_of, Asked.rules_of, Blocks.packed, Stream.AreCompleted, Stream.AreLeft, Stream.AreTotalsAt, Stream.AreWritten, Stream.stream_in_c, Stream.stream_of, Stream.terms_of, Layout.item_in_c, Layout.totals_in_c};
 
 use rds_abi::{
     RdsGap, RdsItem, RdsPacked, RdsRules, RdsSoft, RdsState, RdsStream, RdsTotals, RdsWords,

@@ -1,15 +1,8 @@
 //! Promises to a user of the decoder of a stream.
 ghost use Rattle.std.specs.Prelude.{◌≡◌, ◌<◌, ◌≤◌, ◌↔◌, ◌+◌, ◌*◌, ◌/◌, ◌^◌, ◌++◌, [], List, ℕ, Err, IfOk, IsErrOf, IsOkUnless, OnErr, OnOk, length, min, take, true, vec_capacity};
-ghost use Rattle.rds_live.specs.Moving.{moved_state};
+ghost use Rattle.rds_live.specs.{Moving.moved_state, Next.completed, Next.group_next, Next.items_next, Next.live_next, StreamDecoder.HasHeard, StreamDecoder.by_rules, StreamDecoder.complete, StreamDecoder.live_of, StreamDecoder.report_of};
 ghost use Rattle.rds_stream.specs.Recording.{AreGaps, length_of};
-ghost use Rattle.rds_sync.specs.Advance.{group_item};
-ghost use Rattle.rds_sync.specs.Counting.{plus};
-ghost use Rattle.rds_sync.specs.Ranges.{IsInRange};
-ghost use Rattle.rds_sync.specs.Step.{run};
-ghost use Rattle.rds_sync.specs.Totals.{totals_of};
-ghost use Rattle.rds_sync.specs.declared.state.State.TheVariants.{Searching};
-ghost use Rattle.rds_live.specs.Next.{completed, group_next, items_next, live_next};
-ghost use Rattle.rds_live.specs.StreamDecoder.{HasHeard, by_rules, complete, live_of, report_of};
+ghost use Rattle.rds_sync.specs.{Advance.group_item, Counting.plus, Ranges.IsInRange, Step.run, Totals.totals_of, declared.state.State.TheVariants.Searching};
 
 use rds_live::{
     ResumeError, StreamCounter, StreamDecoder, StreamEnd, finish_part, gaps_of_part, laws, run_part,

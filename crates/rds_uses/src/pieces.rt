@@ -1,22 +1,8 @@
 //! Facts that a user of `rds_pieces` relies on: cuttings, guesses, seams, joins, and the report that is stitched of them.
 ghost use Rattle.std.specs.Prelude.{◌≡◌, ℕ, ◌+◌, ◌-◌, ◌*◌, ◌<◌, ◌≤◌, ◌^◌, ◌∷◌, [], Err, IfOk, IsOkUnless, Ok, OnOk, Option, Some, true, IfSome, vec_len};
 ghost use Rattle.rds_stream.specs.Recording.{length_of};
-ghost use Rattle.rds_sync.specs.declared.state.State.TheVariants.{Searching};
-ghost use Rattle.rds_sync.specs.declared.loss.Loss.TheVariants.{Run};
-ghost use Rattle.rds_sync.specs.Convergence.{IsSound};
-ghost use Rattle.rds_sync.specs.Decoding.{listed};
-ghost use Rattle.rds_sync.specs.Lawful.{IsLawful};
-ghost use Rattle.rds_sync.specs.Report.{report_items};
-ghost use Rattle.rds_sync.specs.Step.{run as run_of};
-ghost use Rattle.rds_sync.specs.Totals.{totals_of};
-ghost use Rattle.rds_pieces.specs.Cutting.{IsCutting, pieces_of};
-ghost use Rattle.rds_pieces.specs.Guess.{guess};
-ghost use Rattle.rds_pieces.specs.Marks.{marks_of};
-ghost use Rattle.rds_pieces.specs.Joining.{AreNeighbours};
-ghost use Rattle.rds_pieces.specs.Meeting.{IsMeeting, distance};
-ghost use Rattle.rds_pieces.specs.RunOf.{FollowEachOther, run_over, runs_of};
-ghost use Rattle.rds_pieces.specs.Seams.{IsSumOfReads};
-ghost use Rattle.rds_pieces.specs.declared.error.PieceError.TheVariants.{BadCutting, OutOfMemory};
+ghost use Rattle.rds_sync.specs.{declared.state.State.TheVariants.Searching, declared.loss.Loss.TheVariants.Run, Convergence.IsSound, Decoding.listed, Lawful.IsLawful, Report.report_items, Step.run as run_of, Totals.totals_of};
+ghost use Rattle.rds_pieces.specs.{Cutting.IsCutting, Cutting.pieces_of, Guess.guess, Marks.marks_of, Joining.AreNeighbours, Meeting.IsMeeting, Meeting.distance, RunOf.FollowEachOther, RunOf.run_over, RunOf.runs_of, Seams.IsSumOfReads, declared.error.PieceError.TheVariants.BadCutting, declared.error.PieceError.TheVariants.OutOfMemory};
 ghost use Rattle.rds_uses.specs.Jobs.{all_bits};
 
 use rds_pieces::{

@@ -1,28 +1,11 @@
 //! Tests that the maker of a receiver would write: encode groups, damage them, decode them. They come out as they were sent.
 ghost use Rattle.std.specs.Prelude.{◌≡◌, ◌≢◌, ◌↔◌, ℕ, ◌+◌, ◌-◌, ◌*◌, ◌<◌, ◌≤◌, ◌^◌, ◌∷◌, ◌++◌, [], Bool, Contains, IfOk, IfSome, IsOkUnless, IsTrue, List, Ok, OnOk, Some, flat_map, length, slice_index, true};
 ghost use Rattle.std.specs.Int.Count.{ones};
-ghost use Rattle.rds_code.specs.declared.offset.Offset.{Offset as AnOffset};
-ghost use Rattle.rds_code.specs.declared.offset.Offset.TheVariants.{A, D};
-ghost use Rattle.rds_code.specs.Bursts.{IsBurst};
-ghost use Rattle.rds_code.specs.Detection.{error_masks, miscorrections, remainders_near};
-ghost use Rattle.rds_code.specs.Encoding.{encoded};
-ghost use Rattle.rds_code.specs.Offsets.{number};
-ghost use Rattle.rds_code.specs.Reading.{information};
-ghost use Rattle.rds_code.specs.Remainder.{rem};
+ghost use Rattle.rds_code.specs.{declared.offset.Offset.Offset as AnOffset, declared.offset.Offset.TheVariants.A, declared.offset.Offset.TheVariants.D, Bursts.IsBurst, Detection.error_masks, Detection.miscorrections, Detection.remainders_near, Encoding.encoded, Offsets.number, Reading.information, Remainder.rem};
 ghost use Rattle.rds_stream.specs.Recording.{length_of, ungapped};
-ghost use Rattle.rds_sync.specs.Groups.{group as group_at};
-ghost use Rattle.rds_sync.specs.Lawful.{IsLawful};
-ghost use Rattle.rds_sync.specs.Longer.{AreNoLess, BeginsWith, OnlyAddsItems, beginning};
-ghost use Rattle.rds_sync.specs.Sent.{AreHeard, AreWords, GroupIsHeard, IsCorrectable, SentGroup, bits_sent, bits_with_damage, items_damaged, packed_group, packed_groups as the_packed_groups, totals_sent};
-ghost use Rattle.rds_sync.specs.Step.{lock_of, run as run_of};
-ghost use Rattle.rds_sync.specs.declared.error.SyncError.TheVariants.{OutOfMemory};
-ghost use Rattle.rds_sync.specs.declared.state.State.TheVariants.{Locked};
-ghost use Rattle.rds_tool.specs.Following.{listed};
-ghost use Rattle.rds_tool.specs.Laws.{groups_in, sent_listing, whole_input};
-ghost use Rattle.rds_tool.specs.declared.job.Input.{Input as AnInput};
-ghost use Rattle.rds_tool.specs.declared.job.Settings.{Settings as SomeSettings};
-ghost use Rattle.rds_uses.specs.Jobs.{IsListOfStream};
-ghost use Rattle.rds_uses.specs.Received.{AreAllHeard, AreBitsOf, AreHeardBetween, IsSoundUpTo, four_words, report_damaged, report_sent, totals_received};
+ghost use Rattle.rds_sync.specs.{Groups.group as group_at, Lawful.IsLawful, Longer.AreNoLess, Longer.BeginsWith, Longer.OnlyAddsItems, Longer.beginning, Sent.AreHeard, Sent.AreWords, Sent.GroupIsHeard, Sent.IsCorrectable, Sent.SentGroup, Sent.bits_sent, Sent.bits_with_damage, Sent.items_damaged, Sent.packed_group, Sent.packed_groups as the_packed_groups, Sent.totals_sent, Step.lock_of, Step.run as run_of, declared.error.SyncError.TheVariants.OutOfMemory, declared.state.State.TheVariants.Locked};
+ghost use Rattle.rds_tool.specs.{Following.listed, Laws.groups_in, Laws.sent_listing, Laws.whole_input, declared.job.Input.Input as AnInput, declared.job.Settings.Settings as SomeSettings};
+ghost use Rattle.rds_uses.specs.{Jobs.IsListOfStream, Received.AreAllHeard, Received.AreBitsOf, Received.AreHeardBetween, Received.IsSoundUpTo, Received.four_words, Received.report_damaged, Received.report_sent, Received.totals_received};
 
 use crate::code::damaged;
 use crate::tool::written;

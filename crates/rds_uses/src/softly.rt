@@ -1,19 +1,10 @@
 //! Facts about soft decisions that a user of `rds_soft` relies on: which block is nearest, how symbols are read, and what a
 //! report read again keeps.
 ghost use Rattle.std.specs.Prelude.{◌≡◌, ◌≢◌, ℕ, ◌+◌, ◌-◌, ◌*◌, ◌<◌, ◌≤◌, ◌^◌, ◌++◌, None, Some, IfOk, IfSome, slice_index, true, IsTrue, ◌∷◌, [], drop, length, take};
-ghost use Rattle.rds_code.specs.declared.offset.Offset.{Offset as AnOffset};
-ghost use Rattle.rds_code.specs.Offsets.{number as number_of, word};
-ghost use Rattle.rds_code.specs.Remainder.{rem};
-ghost use Rattle.rds_code.specs.Reading.{IsValid, allows, information};
-ghost use Rattle.rds_soft.specs.Nearest.{Turns, top, weight};
-ghost use Rattle.rds_soft.specs.Symbols.{hard_bit, hard_bits, hard_window};
-ghost use Rattle.rds_code.specs.declared.reading.Wanted.{Wanted as WantedHard};
+ghost use Rattle.rds_code.specs.{declared.offset.Offset.Offset as AnOffset, Offsets.number as number_of, Offsets.word, Remainder.rem, Reading.IsValid, Reading.allows, Reading.information, declared.reading.Wanted.Wanted as WantedHard};
+ghost use Rattle.rds_soft.specs.{Nearest.Turns, Nearest.top, Nearest.weight, Symbols.hard_bit, Symbols.hard_bits, Symbols.hard_window, declared.soft_item.SoftBlock.TheVariants.Read as SoftRead, ReadAgain.block_again, ReadAgain.item_again, ReadAgain.reading_heard, ReadAgain.symbols_heard, ReadAgain.symbols_of, SoftStream.complete, SoftStream.report_of, SoftTotals.soft_totals_of};
 ghost use Rattle.rds_stream.specs.Recording.{AreGaps, length_of, reading_at};
 ghost use Rattle.rds_sync.specs.declared.item.Block.TheVariants.{Read};
-ghost use Rattle.rds_soft.specs.declared.soft_item.SoftBlock.TheVariants.{Read as SoftRead};
-ghost use Rattle.rds_soft.specs.ReadAgain.{block_again, item_again, reading_heard, symbols_heard, symbols_of};
-ghost use Rattle.rds_soft.specs.SoftStream.{complete, report_of};
-ghost use Rattle.rds_soft.specs.SoftTotals.{soft_totals_of};
 
 use rds_code::{BlockNumber, BurstLimit, Offset, Wanted};
 use rds_soft::{

@@ -1,14 +1,9 @@
 //! Facts that a user of `rds_stream` relies on: bits from bytes, gaps, windows, scans, planes and tapes.
 ghost use Rattle.std.specs.Prelude.{◌≡◌, ℕ, ◌+◌, ◌-◌, ◌*◌, ◌<◌, ◌≤◌, ◌^◌, IfOk, IfSome, IsOkUnless, None, Ok, Some, Err, if◌then◌else◌, slice_index, true, vec_len, [], false};
 ghost use Rattle.std.specs.Int.{bit_at};
-ghost use Rattle.rds_code.specs.Remainder.{rem};
-ghost use Rattle.rds_stream.specs.Recording.{bits_of, heard, length_of, offset_at, ungapped, valid_windows, window, AreGaps, touched};
-ghost use Rattle.rds_stream.specs.ValidWindows.{NoneValid};
-ghost use Rattle.rds_stream.specs.declared.error.StreamError.TheVariants.{BitsPastBytes, OutOfMemory, TooLong, BadGaps};
-ghost use Rattle.rds_code.specs.Reading.{reading};
-ghost use Rattle.rds_code.specs.declared.reading.Reading.TheVariants.{Lost};
-ghost use Rattle.rds_sync.specs.Advance.{items_in};
-ghost use Rattle.rds_sync.specs.declared.state.State.TheVariants.{Searching};
+ghost use Rattle.rds_code.specs.{Remainder.rem, Reading.reading, declared.reading.Reading.TheVariants.Lost};
+ghost use Rattle.rds_stream.specs.{Recording.bits_of, Recording.heard, Recording.length_of, Recording.offset_at, Recording.ungapped, Recording.valid_windows, Recording.window, Recording.AreGaps, Recording.touched, ValidWindows.NoneValid, declared.error.StreamError.TheVariants.BitsPastBytes, declared.error.StreamError.TheVariants.OutOfMemory, declared.error.StreamError.TheVariants.TooLong, declared.error.StreamError.TheVariants.BadGaps};
+ghost use Rattle.rds_sync.specs.{Advance.items_in, declared.state.State.TheVariants.Searching};
 
 use rds_code::{BlockNumber, BurstLimit, BurstTable, Offset, Reading, Wanted, rem26};
 use rds_stream::{

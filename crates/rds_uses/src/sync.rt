@@ -1,24 +1,8 @@
 //! Facts that a user of `rds_sync` relies on: rules, lawful states, steps over a tape, runs over a range and their items, and reports.
 ghost use Rattle.std.specs.Prelude.{◌≡◌, ◌≢◌, ℕ, ◌+◌, ◌-◌, ◌*◌, ◌<◌, ◌≤◌, ◌^◌, ◌++◌, ◌∷◌, ◌↔◌, [], IsTrue, IfOk, IsOkUnless, None, Some, true, Bool, if◌then◌else◌};
-ghost use Rattle.rds_stream.specs.Recording.{length_of};
-ghost use Rattle.rds_sync.specs.declared.item.Block.{Block as ABlock};
-ghost use Rattle.rds_sync.specs.declared.error.SyncError.TheVariants.{BurstRange, LossRange, OutOfMemory, ReachRange, ShareRange};
-ghost use Rattle.rds_sync.specs.declared.state.State.{State as AState};
-ghost use Rattle.rds_sync.specs.declared.state.State.TheVariants.{Searching};
-ghost use Rattle.rds_sync.specs.Advance.{group_item, items_in};
-ghost use Rattle.rds_sync.specs.Counting.{IsAtMost};
-ghost use Rattle.rds_sync.specs.Convergence.{IsSound, sound_bits};
-ghost use Rattle.rds_sync.specs.Decoding.{listed};
-ghost use Rattle.rds_sync.specs.GroupLaws.{IsBlock};
-ghost use Rattle.rds_sync.specs.Groups.{group as group_at, info_of};
-ghost use Rattle.rds_sync.specs.Lawful.{IsBetweenGroups, IsLawful};
-ghost use Rattle.rds_sync.specs.Loss.{IsLawfulBad, bad_at, loses};
-ghost use Rattle.rds_sync.specs.Report.{report_items};
-ghost use Rattle.rds_sync.specs.Step.{items_at, items_of_end, run as run_of, step};
-ghost use Rattle.rds_sync.specs.Totals.{totals_of};
 ghost use Rattle.std.specs.Int.{bit_at};
-ghost use Rattle.rds_sync.specs.declared.loss.Loss.TheVariants.{Share};
-ghost use Rattle.rds_sync.specs.Ranges.{IsLossInRange};
+ghost use Rattle.rds_stream.specs.Recording.{length_of};
+ghost use Rattle.rds_sync.specs.{declared.item.Block.Block as ABlock, declared.error.SyncError.TheVariants.BurstRange, declared.error.SyncError.TheVariants.LossRange, declared.error.SyncError.TheVariants.OutOfMemory, declared.error.SyncError.TheVariants.ReachRange, declared.error.SyncError.TheVariants.ShareRange, declared.state.State.State as AState, declared.state.State.TheVariants.Searching, Advance.group_item, Advance.items_in, Counting.IsAtMost, Convergence.IsSound, Convergence.sound_bits, Decoding.listed, GroupLaws.IsBlock, Groups.group as group_at, Groups.info_of, Lawful.IsBetweenGroups, Lawful.IsLawful, Loss.IsLawfulBad, Loss.bad_at, Loss.loses, Report.report_items, Step.items_at, Step.items_of_end, Step.run as run_of, Step.step, Totals.totals_of, declared.loss.Loss.TheVariants.Share, Ranges.IsLossInRange};
 
 use rds_stream::{Counted, Reader, Recording, Tape};
 use rds_sync::{

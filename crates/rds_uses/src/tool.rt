@@ -1,24 +1,10 @@
 //! Facts that a user of `rds_tool` relies on: the text that is written, the devices that stay as they were, and each refusal by its cause.
 ghost use Rattle.std.specs.Prelude.{◌≡◌, ◌≢◌, ℕ, ◌*◌, ◌<◌, ◌≤◌, ◌^◌, ◌++◌, ◌⊎◌, ◌↔◌, List, Err, IfErr, IfSome, IsErrOf, None, Ok, OnOk, length, [], true, false};
 ghost use Rattle.std.specs.Io.KnownBytes.{Consumes, IsAtEnd, Appends};
-ghost use Rattle.rds_sync.specs.Report.{report_items};
-ghost use Rattle.rds_sync.specs.Totals.{totals_of};
-ghost use Rattle.rds_tool.specs.Listing.{report_text};
-ghost use Rattle.rds_tool.specs.Outcome.{IsOutside, result_of_job, Writes};
-ghost use Rattle.rds_tool.specs.Tasks.{task_of};
-ghost use Rattle.rds_tool.specs.declared.error.ToolError.TheVariants.{BadGaps, BitsPastBytes, NoWorker, Read, TooManyTurns, Write};
+ghost use Rattle.rds_sync.specs.{Report.report_items, Totals.totals_of};
+ghost use Rattle.rds_tool.specs.{Listing.report_text, Outcome.IsOutside, Outcome.result_of_job, Outcome.Writes, Tasks.task_of, declared.error.ToolError.TheVariants.BadGaps, declared.error.ToolError.TheVariants.BitsPastBytes, declared.error.ToolError.TheVariants.NoWorker, declared.error.ToolError.TheVariants.Read, declared.error.ToolError.TheVariants.TooManyTurns, declared.error.ToolError.TheVariants.Write, Ends.given_by, Ends.has_ended, Ends.is_flushed, Ends.taken_by, SoftFollowing.soft_listed, SoftFollowing.soft_rows_so_far, Following.BreaksOff, Following.IsFlushedAfter, Following.IsHeardOut, Following.bit_stream, Following.listed, Following.rows_so_far, History.Gave, Input.recording_of, Laws.stream_input, Plans.PlanOf, Plans.plan_of, WellFormed.DifferInGaps, WellFormed.IsWellFormed, declared.job.Input.Input as AnInput, declared.job.Settings.Settings as SomeSettings};
 ghost use Rattle.rds_uses.specs.Jobs.{IsListBy, all_bits};
-ghost use Rattle.rds_tool.specs.Ends.{given_by, has_ended, is_flushed, taken_by};
-ghost use Rattle.rds_tool.specs.SoftFollowing.{soft_listed, soft_rows_so_far};
-ghost use Rattle.rds_tool.specs.Following.{BreaksOff, IsFlushedAfter, IsHeardOut, bit_stream, listed, rows_so_far};
-ghost use Rattle.rds_tool.specs.History.{Gave};
 ghost use Rattle.rds_stream.specs.Recording.{AreGaps, Signal, length_of};
-ghost use Rattle.rds_tool.specs.Input.{recording_of};
-ghost use Rattle.rds_tool.specs.Laws.{stream_input};
-ghost use Rattle.rds_tool.specs.Plans.{PlanOf, plan_of};
-ghost use Rattle.rds_tool.specs.WellFormed.{DifferInGaps, IsWellFormed};
-ghost use Rattle.rds_tool.specs.declared.job.Input.{Input as AnInput};
-ghost use Rattle.rds_tool.specs.declared.job.Settings.{Settings as SomeSettings};
 
 use rds_crew::Gate;
 use rds_soft::Margin;

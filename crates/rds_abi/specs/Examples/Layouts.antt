@@ -1,21 +1,10 @@
 -- Items, blocks, states and rules in C's layout.
 use Rattle.std.specs.Prelude.{◌≡◌, [], ◌∷◌, None, Some, refl, replicate, true}
 use Rattle.rds_code.specs.declared.offset.Offset.TheVariants as offset
-use Rattle.rds_code.specs.declared.reading.Reading.TheVariants.{Valid, Corrected, Lost}
-use Rattle.rds_code.specs.declared.reading.Wanted.TheVariants.{OnlyC, Either}
-use Rattle.rds_sync.specs.declared.item.Block.TheVariants.{Read}
-use Rattle.rds_sync.specs.declared.item.Item.TheVariants.{Acquired, Group, LostLock}
-use Rattle.rds_sync.specs.declared.item.Version.TheVariants.{B}
-use Rattle.rds_sync.specs.declared.loss.Loss.TheVariants.{Run, Share}
-use Rattle.rds_sync.specs.declared.state.State.TheVariants.{Locked, Searching}
-use Rattle.rds_sync.specs.Step.{lock_of}
-use Rattle.rds_abi.specs.Asked.{loss_of}
+use Rattle.rds_code.specs.declared.reading.{Reading.TheVariants.Valid, Reading.TheVariants.Corrected, Reading.TheVariants.Lost, Wanted.TheVariants.OnlyC, Wanted.TheVariants.Either}
+use Rattle.rds_sync.specs.{declared.item.Block.TheVariants.Read, declared.item.Item.TheVariants.Acquired, declared.item.Item.TheVariants.Group, declared.item.Item.TheVariants.LostLock, declared.item.Version.TheVariants.B, declared.loss.Loss.TheVariants.Run, declared.loss.Loss.TheVariants.Share, declared.state.State.TheVariants.Locked, declared.state.State.TheVariants.Searching, Step.lock_of}
+use Rattle.rds_abi.specs.{Asked.loss_of, Blocks.block_wanted, Stream.stream_of, Stream.unheard, Ranges.searching_in_c, Ranges.state_of, Layout.item_in_c, Layout.no_block, declared.layout.RdsRules.RdsRules}
 use Rattle.rds_live.specs.StreamDecoder.{Terms, live_of}
-use Rattle.rds_abi.specs.Blocks.{block_wanted}
-use Rattle.rds_abi.specs.Stream.{stream_of, unheard}
-use Rattle.rds_abi.specs.Ranges.{searching_in_c, state_of}
-use Rattle.rds_abi.specs.Layout.{item_in_c, no_block}
-use Rattle.rds_abi.specs.declared.layout.RdsRules.{RdsRules}
 
 -- a group with a block of each kind
 pub each_kind : item_in_c (Group (record {

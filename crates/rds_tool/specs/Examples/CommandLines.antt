@@ -1,12 +1,7 @@
 -- Words of command lines: the command, the text of each option's entry, and the faults that `clap` finds in
 -- them.
-use Rattle.std.specs.Prelude.{◌≡◌, List, None, Option, Some, [], ◌∷◌, codes, map, refl}
-use Rattle.std.specs.Option.{option_map}
-use Rattle.clap.specs.Takes.{flags_pass, walk_passes}
-use Rattle.clap.specs.Faults.{defaults_fault, flags_fault, walk_fault}
-use Rattle.clap.specs.Walk.{bundle_met, walked}
-use Rattle.clap.specs.Words.{Row, Text, first_of, one_of}
-use Rattle.clap.specs.declared.error.kind.ErrorKind.{ErrorKind}
+use Rattle.std.specs.{Prelude.◌≡◌, Prelude.List, Prelude.None, Prelude.Option, Prelude.Some, Prelude.[], Prelude.◌∷◌, Prelude.codes, Prelude.map, Prelude.refl, Option.option_map}
+use Rattle.clap.specs.{Takes.flags_pass, Takes.walk_passes, Faults.defaults_fault, Faults.flags_fault, Faults.walk_fault, Walk.bundle_met, Walk.walked, Words.Row, Words.Text, Words.first_of, Words.one_of, declared.error.kind.ErrorKind.ErrorKind}
 use Rattle.clap.specs.declared.error.kind.ErrorKind.TheVariants as kind
 use Rattle.rds_tool.specs.CommandLine.{entries_of, faults_of}
 

@@ -1,28 +1,12 @@
 -- The jobs that words ask for, and the answers allowed if they ask for help, have a fault, or ask for a job.
 use Rattle.std.specs.Prelude.{◌≡◌, Bool, Err, List, None, Ok, Option, Some, [], ◌∷◌, codes, false, map, refl, true}
-use Rattle.std.proofs.Common.{ap, inl, inr, sym}
-use Rattle.std.proofs.lemmas.Bool.{false≢true}
-use Rattle.std.specs.Result.{result_ok}
-use Rattle.clap.specs.Takes.{flags_pass, walk_passes}
-use Rattle.clap.specs.Faults.{defaults_fault, flags_fault, walk_fault}
-use Rattle.clap.specs.Walk.{bundle_met, walked}
-use Rattle.clap.specs.Words.{Kinds, Text}
-use Rattle.clap.specs.declared.error.kind.ErrorKind.{ErrorKind}
+use Rattle.std.{proofs.Common.ap, proofs.Common.inl, proofs.Common.inr, proofs.Common.sym, proofs.lemmas.Bool.false≢true, specs.Result.result_ok}
+use Rattle.clap.specs.{Takes.flags_pass, Takes.walk_passes, Faults.defaults_fault, Faults.flags_fault, Faults.walk_fault, Walk.bundle_met, Walk.walked, Words.Kinds, Words.Text, declared.error.kind.ErrorKind.ErrorKind}
 use Rattle.clap.specs.declared.error.kind.ErrorKind.TheVariants as kind
-use Rattle.rds_sync.specs.Rules.{RuleNumbers}
-use Rattle.rds_sync.specs.declared.loss.Loss.TheVariants.{Run, Share}
-use Rattle.rds_tool.specs.CommandLine.{MayAnswer, asked_by, entries_of, faults_of, is_true, job_by, number_up_to}
-use Rattle.rds_tool.specs.declared.fault.FaultKind.{FaultKind}
-use Rattle.rds_tool.specs.declared.fault.FaultKind.TheVariants.{Help, Memory, Version, Words}
+use Rattle.rds_sync.specs.{Rules.RuleNumbers, declared.loss.Loss.TheVariants.Run, declared.loss.Loss.TheVariants.Share}
+use Rattle.rds_tool.specs.{CommandLine.MayAnswer, CommandLine.asked_by, CommandLine.entries_of, CommandLine.faults_of, CommandLine.is_true, CommandLine.job_by, CommandLine.number_up_to, declared.fault.FaultKind.FaultKind, declared.fault.FaultKind.TheVariants.Help, declared.fault.FaultKind.TheVariants.Memory, declared.fault.FaultKind.TheVariants.Version, declared.fault.FaultKind.TheVariants.Words, declared.job.Asked.Asked, declared.job.Job.Job, declared.job.Job.TheVariants.Encode, declared.job.Job.TheVariants.List as ListJob, declared.job.Job.TheVariants.Scan, declared.job.Job.TheVariants.Totals, declared.job.Request.Request, declared.job.Request.TheVariants.Job as AskedJob, declared.job.Request.TheVariants.Follow, declared.job.Request.TheVariants.FollowSoft, Examples.CommandLines.each_option, Examples.Words.default_settings, Examples.Words.hex_bits, Examples.Words.raw_bits, Examples.Words.raw_input, Examples.Words.settings_of, Examples.Words.share_settings}
 use Rattle.rds_tool.specs.declared.fault.NoJob.TheVariants as no
-use Rattle.rds_tool.specs.declared.job.Asked.{Asked}
 use Rattle.rds_tool.specs.declared.job.Ignored.TheVariants as ignored
-use Rattle.rds_tool.specs.declared.job.Job.{Job}
-use Rattle.rds_tool.specs.declared.job.Job.TheVariants.{Encode, List as ListJob, Scan, Totals}
-use Rattle.rds_tool.specs.declared.job.Request.{Request}
-use Rattle.rds_tool.specs.declared.job.Request.TheVariants.{Job as AskedJob, Follow, FollowSoft}
-use Rattle.rds_tool.specs.Examples.CommandLines.{each_option}
-use Rattle.rds_tool.specs.Examples.Words.{default_settings, hex_bits, raw_bits, raw_input, settings_of, share_settings}
 
 -- ---- entries
 

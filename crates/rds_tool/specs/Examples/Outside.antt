@@ -1,10 +1,7 @@
 -- Which refusals the job and the bytes decide, and which they don't.
-use Rattle.std.specs.Prelude.{◌≡◌, Bool, false, refl, true}
-use Rattle.std.proofs.Common.{ap, inl, inr}
-use Rattle.std.proofs.lemmas.Bool.{false≢true}
-use Rattle.rds_tool.specs.Outcome.{IsOutside}
-use Rattle.rds_tool.specs.declared.error.ToolError.{ToolError}
+use Rattle.std.{specs.Prelude.◌≡◌, specs.Prelude.Bool, specs.Prelude.false, specs.Prelude.refl, specs.Prelude.true, proofs.Common.ap, proofs.Common.inl, proofs.Common.inr, proofs.lemmas.Bool.false≢true}
 use Rattle.rds_tool.specs.declared.error.ToolError.TheVariants.{BadCutting, BadGaps, BitsPastBytes, BurstRange, CrewRange, GroupText, HexText, LossRange, NoWorker, OutOfMemory, ReachRange, Read, ShareRange, TooLong, TooManyTurns, Write}
+use Rattle.rds_tool.specs.{Outcome.IsOutside, declared.error.ToolError.ToolError}
 
 -- memory and the devices
 abbrev pub comes_from_outside : ToolError → Bool

@@ -2,11 +2,7 @@
 use Rattle.std.specs.Prelude.{◌≡◌, ℕ, List, [], ◌∷◌, Err, Ok, codes, map, refl, false, true}
 use Rattle.hex.specs.Hex.{decode_pairs}
 use Rattle.rds_stream.specs.Recording.{Signal, length_of, ungapped}
-use Rattle.rds_tool.specs.Input.{and_then, may_be_gaps, recording_of}
-use Rattle.rds_tool.specs.declared.error.ToolError.{ToolError}
-use Rattle.rds_tool.specs.declared.error.ToolError.TheVariants.{BadGaps, BitsPastBytes, HexText, TooLong}
-use Rattle.rds_tool.specs.declared.job.Input.{Input}
-use Rattle.rds_tool.specs.Examples.Words.{hex_bits, hex_input, raw_bits, raw_input}
+use Rattle.rds_tool.specs.{Input.and_then, Input.may_be_gaps, Input.recording_of, declared.error.ToolError.ToolError, declared.error.ToolError.TheVariants.BadGaps, declared.error.ToolError.TheVariants.BitsPastBytes, declared.error.ToolError.TheVariants.HexText, declared.error.ToolError.TheVariants.TooLong, declared.job.Input.Input, Examples.Words.hex_bits, Examples.Words.hex_input, Examples.Words.raw_bits, Examples.Words.raw_input}
 
 -- these inputs and bytes are these recordings
 abbrev pub AreRecorded : List (Input × List ℕ × Signal) → Type 0

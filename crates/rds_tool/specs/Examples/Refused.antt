@@ -1,15 +1,8 @@
 -- The refusals of a job, in the order of looking: its settings, its text, its bits, its cuts.
-use Rattle.std.specs.Prelude.{◌≡◌, List, [], ◌∷◌, Err, ℕ, codes, false, map, refl}
-use Rattle.std.specs.Global.{Vec}
+use Rattle.std.specs.{Prelude.◌≡◌, Prelude.List, Prelude.[], Prelude.◌∷◌, Prelude.Err, Prelude.ℕ, Prelude.codes, Prelude.false, Prelude.map, Prelude.refl, Global.Vec}
 use Rattle.hex.specs.Hex.{decode_pairs}
-use Rattle.rds_tool.specs.Outcome.{result_of_job}
-use Rattle.rds_tool.specs.Refusals.{name_of, number_of}
-use Rattle.rds_tool.specs.declared.error.ToolError.{ToolError}
 use Rattle.rds_tool.specs.declared.error.ToolError.TheVariants.{BadCutting, BadGaps, BitsPastBytes, BurstRange, CrewRange, GroupText, HexText, LossRange, NoWorker, OutOfMemory, ReachRange, Read, ShareRange, TooLong, TooManyTurns, Write}
-use Rattle.rds_tool.specs.declared.job.Cuts.TheVariants.{At}
-use Rattle.rds_tool.specs.declared.job.Job.{Job}
-use Rattle.rds_tool.specs.declared.job.Job.TheVariants.{Encode, List as ListJob, Scan, Totals}
-use Rattle.rds_tool.specs.Examples.Words.{cut_settings, default_settings, hex_bits, hex_input, raw_bits, settings_of}
+use Rattle.rds_tool.specs.{Outcome.result_of_job, Refusals.name_of, Refusals.number_of, declared.error.ToolError.ToolError, declared.job.Cuts.TheVariants.At, declared.job.Job.Job, declared.job.Job.TheVariants.Encode, declared.job.Job.TheVariants.List as ListJob, declared.job.Job.TheVariants.Scan, declared.job.Job.TheVariants.Totals, Examples.Words.cut_settings, Examples.Words.default_settings, Examples.Words.hex_bits, Examples.Words.hex_input, Examples.Words.raw_bits, Examples.Words.settings_of}
 
 -- these jobs and bytes are refused so
 abbrev pub AreRefused : List (Job × List ℕ × ToolError) → Type 0

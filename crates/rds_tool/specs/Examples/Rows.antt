@@ -1,16 +1,10 @@
 -- A row of each kind, with each form of its fields.
 use Rattle.std.specs.Prelude.{◌≡◌, ℕ, List, [], ◌∷◌, ◌++◌, None, Some, codes, false, map, refl, true}
-use Rattle.std.specs.Fmt.{digits}
-use Rattle.std.specs.List.{flat_map}
-use Rattle.rds_code.specs.declared.offset.Offset.TheVariants.{A, B, C, Cx, D}
-use Rattle.rds_code.specs.declared.reading.Reading.TheVariants.{Corrected, Lost, Valid}
-use Rattle.rds_sync.specs.declared.item.Block.TheVariants.{Missing, Read}
-use Rattle.rds_sync.specs.declared.item.Item.{Item}
-use Rattle.rds_sync.specs.declared.item.Item.TheVariants.{Acquired, Group, LostLock}
+use Rattle.std.specs.{Fmt.digits, List.flat_map}
+use Rattle.rds_code.specs.declared.{offset.Offset.TheVariants.A, offset.Offset.TheVariants.B, offset.Offset.TheVariants.C, offset.Offset.TheVariants.Cx, offset.Offset.TheVariants.D, reading.Reading.TheVariants.Corrected, reading.Reading.TheVariants.Lost, reading.Reading.TheVariants.Valid}
+use Rattle.rds_sync.specs.declared.{item.Block.TheVariants.Missing, item.Block.TheVariants.Read, item.Item.Item, item.Item.TheVariants.Acquired, item.Item.TheVariants.Group, item.Item.TheVariants.LostLock, totals.Totals.Totals}
 use Rattle.rds_sync.specs.declared.item.Version.TheVariants as version
-use Rattle.rds_sync.specs.declared.totals.Totals.{Totals}
-use Rattle.rds_tool.specs.Listing.{block_text, item_row, kind_text, report_text, totals_text, version_text, window_row}
-use Rattle.rds_tool.specs.Examples.Words.{line}
+use Rattle.rds_tool.specs.{Listing.block_text, Listing.item_row, Listing.kind_text, Listing.report_text, Listing.totals_text, Listing.version_text, Listing.window_row, Examples.Words.line}
 
 -- ---- blocks
 

@@ -1,10 +1,7 @@
 -- The words that a text spells, and the listing of groups that were sent from bit 0 on.
-use Rattle.std.specs.Fmt.{digits}
-use Rattle.std.specs.Prelude.{◌≡◌, [], ◌∷◌, ◌++◌, ℕ, List, Err, Ok, codes, flat_map, refl}
+use Rattle.std.specs.{Fmt.digits, Prelude.◌≡◌, Prelude.[], Prelude.◌∷◌, Prelude.◌++◌, Prelude.ℕ, Prelude.List, Prelude.Err, Prelude.Ok, Prelude.codes, Prelude.flat_map, Prelude.refl}
 use Rattle.hex.specs.Hex.{decode_pairs}
-use Rattle.rds_tool.specs.Laws.{groups_in, sent_listing}
-use Rattle.rds_tool.specs.declared.error.ToolError.TheVariants.{GroupText}
-use Rattle.rds_tool.specs.Examples.Words.{line}
+use Rattle.rds_tool.specs.{Laws.groups_in, Laws.sent_listing, declared.error.ToolError.TheVariants.GroupText, Examples.Words.line}
 
 abbrev first : List ℕ
 first = 0xD393 ∷ 0x0548 ∷ 0xE100 ∷ 0x5041 ∷ []

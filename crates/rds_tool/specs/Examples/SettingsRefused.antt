@@ -1,13 +1,7 @@
 -- Settings at the ends of their ranges and past them, and which of two that are out of range is refused.
 use Rattle.std.specs.Prelude.{◌≡◌, ◌∷◌, [], Err, List, Ok, map, refl, true, false}
 use Rattle.rds_sync.specs.declared.loss.Loss.TheVariants.{Run, Share}
-use Rattle.rds_tool.specs.Cuts.{are_inner, places_at}
-use Rattle.rds_tool.specs.Plans.{plan_of}
-use Rattle.rds_tool.specs.declared.error.ToolError.{ToolError}
-use Rattle.rds_tool.specs.declared.error.ToolError.TheVariants.{BadCutting, BurstRange, CrewRange, LossRange, ReachRange, ShareRange}
-use Rattle.rds_tool.specs.declared.job.Cuts.TheVariants.{Even}
-use Rattle.rds_tool.specs.declared.job.Settings.{Settings}
-use Rattle.rds_tool.specs.Examples.Words.{settings_of, share_settings}
+use Rattle.rds_tool.specs.{Cuts.are_inner, Cuts.places_at, Plans.plan_of, declared.error.ToolError.ToolError, declared.error.ToolError.TheVariants.BadCutting, declared.error.ToolError.TheVariants.BurstRange, declared.error.ToolError.TheVariants.CrewRange, declared.error.ToolError.TheVariants.LossRange, declared.error.ToolError.TheVariants.ReachRange, declared.error.ToolError.TheVariants.ShareRange, declared.job.Cuts.TheVariants.Even, declared.job.Settings.Settings, Examples.Words.settings_of, Examples.Words.share_settings}
 
 pub taken : map plan_of (settings_of 0 1 1 1 1 ∷ settings_of 5 8 64 256 4294967295 ∷ share_settings 2 64 64 4 ∷ [])
     ≡ Ok (record { rules = record { burst = 0; reach = 1; loss = Run 1 }; workers = 1; cuts = Even 1 })

@@ -1,14 +1,10 @@
 -- Whole jobs, from the bytes that are read to the text that is written.
-use Rattle.std.specs.Prelude.{◌≡◌, ℕ, List, ◌++◌, Ok, codes, refl, true}
-use Rattle.std.specs.Fmt.{digits}
+use Rattle.std.specs.{Prelude.◌≡◌, Prelude.ℕ, Prelude.List, Prelude.◌++◌, Prelude.Ok, Prelude.codes, Prelude.refl, Prelude.true, Fmt.digits}
 use Rattle.hex.specs.Hex.{decode_pairs, encode_with}
 use Rattle.rds_code.specs.Remainder.{rem}
 use Rattle.rds_stream.specs.Recording.{heard, offset_at, touched, window}
-use Rattle.rds_sync.specs.Acquiring.{acquired, has_number}
-use Rattle.rds_sync.specs.Groups.{group}
-use Rattle.rds_tool.specs.Outcome.{result_of_job}
-use Rattle.rds_tool.specs.declared.job.Job.TheVariants.{Encode, List as ListJob, Scan, Totals}
-use Rattle.rds_tool.specs.Examples.Words.{default_settings, hex_bits, hex_input, line, settings_of}
+use Rattle.rds_sync.specs.{Acquiring.acquired, Acquiring.has_number, Groups.group}
+use Rattle.rds_tool.specs.{Outcome.result_of_job, declared.job.Job.TheVariants.Encode, declared.job.Job.TheVariants.List as ListJob, declared.job.Job.TheVariants.Scan, declared.job.Job.TheVariants.Totals, Examples.Words.default_settings, Examples.Words.hex_bits, Examples.Words.hex_input, Examples.Words.line, Examples.Words.settings_of}
 
 abbrev pub zero_group : List ℕ
 zero_group = codes "00003f00001980 0005a00001b4"

@@ -1,14 +1,8 @@
 -- Worked examples: how many bits an item needs, and which places are in a gap.
-use Rattle.std.specs.Prelude.{◌≡◌, ◌∷◌, [], false, length, map, refl, true}
-use Rattle.std.specs.List.{range_with_len}
-use Rattle.rds_code.specs.declared.offset.Offset.TheVariants.{B, C, D}
-use Rattle.rds_code.specs.declared.reading.Reading.TheVariants.{Lost, Valid}
-use Rattle.rds_sync.specs.Groups.{group_of}
-use Rattle.rds_sync.specs.Totals.{totals_of}
-use Rattle.rds_sync.specs.declared.item.Block.TheVariants.{Missing, Read}
-use Rattle.rds_sync.specs.declared.item.Item.TheVariants.{Acquired, Group, LostLock}
-use Rattle.rds_tool.specs.Listing.{named_totals}
-use Rattle.rds_tool.specs.WellFormed.{bits_of_item, is_in_gap}
+use Rattle.std.specs.{Prelude.◌≡◌, Prelude.◌∷◌, Prelude.[], Prelude.false, Prelude.length, Prelude.map, Prelude.refl, Prelude.true, List.range_with_len}
+use Rattle.rds_code.specs.declared.{offset.Offset.TheVariants.B, offset.Offset.TheVariants.C, offset.Offset.TheVariants.D, reading.Reading.TheVariants.Lost, reading.Reading.TheVariants.Valid}
+use Rattle.rds_sync.specs.{Groups.group_of, Totals.totals_of, declared.item.Block.TheVariants.Missing, declared.item.Block.TheVariants.Read, declared.item.Item.TheVariants.Acquired, declared.item.Item.TheVariants.Group, declared.item.Item.TheVariants.LostLock}
+use Rattle.rds_tool.specs.{Listing.named_totals, WellFormed.bits_of_item, WellFormed.is_in_gap}
 
 -- sync is acquired at place 51 by block 2, whose group begins at place 26: its three blocks are read at place 103. One that is lost after its
 -- first block ends with that block, as the loss does.

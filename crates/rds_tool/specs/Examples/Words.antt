@@ -1,10 +1,7 @@
 -- Short words for the examples.
 use Rattle.std.specs.Prelude.{ℕ, List, [], ◌∷◌, ◌++◌, None, Some, false, true}
 use Rattle.rds_sync.specs.declared.loss.Loss.TheVariants.{Run, Share}
-use Rattle.rds_tool.specs.declared.job.Cuts.{Cuts}
-use Rattle.rds_tool.specs.declared.job.Cuts.TheVariants.{Even}
-use Rattle.rds_tool.specs.declared.job.Input.{Input}
-use Rattle.rds_tool.specs.declared.job.Settings.{Settings}
+use Rattle.rds_tool.specs.declared.job.{Cuts.Cuts, Cuts.TheVariants.Even, Input.Input, Settings.Settings}
 
 -- the text, and then a line feed
 abbrev pub line : List ℕ → List ℕ

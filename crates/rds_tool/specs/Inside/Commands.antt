@@ -1,8 +1,7 @@
 -- What `clap` reads of the rows of the table of commands.
 use Rattle.std.specs.Prelude.{List, Some, [], ◌∷◌, codes, length, map, true}
 use Rattle.clap.specs.Words.{App, Rule, new_app, new_rule, with_rule, with_subcommand}
-use Rattle.rds_tool.specs.declared.commands.CommandRow.{CommandRow}
-use Rattle.rds_tool.specs.declared.commands.OptionRow.{OptionRow}
+use Rattle.rds_tool.specs.declared.commands.{CommandRow.CommandRow, OptionRow.OptionRow}
 
 abbrev pub rule_of_row : OptionRow → Rule
 rule_of_row row = record (new_rule row.name.now) {

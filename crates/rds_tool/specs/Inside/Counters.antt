@@ -2,8 +2,7 @@
 use Rattle.std.specs.Prelude.{◌*◌, ◌-◌, ◌/◌, ◌<◌, ◌^◌, ◌≡◌, ℕ, Bool, List, None, IfSome, Option, Some, false, length, min, slice_index, take, true}
 use Rattle.rds_live.specs.StreamDecoder.{HasHeard, LiveOf, Terms}
 use Rattle.rds_sync.specs.Rules.{RuleNumbers}
-use Rattle.rds_tool.specs.Inside.HexText.{IsDecodedBy, IsStrangeAfter}
-use Rattle.rds_tool.specs.InputOf.{InputOf}
+use Rattle.rds_tool.specs.{Inside.HexText.IsDecodedBy, Inside.HexText.IsStrangeAfter, InputOf.InputOf}
 
 -- how many whole bytes the bits have that are counted: those that are claimed, and no more than a recording may have
 abbrev pub whole : Option ℕ → ℕ

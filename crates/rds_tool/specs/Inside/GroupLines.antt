@@ -1,10 +1,7 @@
 -- The groups of lines of digits whose text has come in part. Cited by `GroupLines` and by `Texts`, and by no public call.
 use Rattle.std.specs.Prelude.{◌++◌, ◌≡◌, ◌≤◌, ◌∷◌, Bool, Err, List, Ok, Result, [], false, length, take, true, ℕ}
 use Rattle.std.specs.List.{flat_map}
-use Rattle.rds_tool.specs.GroupText.{encoded_text, group_text, line_text, lines_of, lines_text}
-use Rattle.rds_tool.specs.Input.{and_then}
-use Rattle.rds_tool.specs.declared.error.ToolError.{ToolError}
-use Rattle.rds_tool.specs.declared.error.ToolError.TheVariants.{GroupText}
+use Rattle.rds_tool.specs.{GroupText.encoded_text, GroupText.group_text, GroupText.line_text, GroupText.lines_of, GroupText.lines_text, Input.and_then, declared.error.ToolError.ToolError, declared.error.ToolError.TheVariants.GroupText}
 
 -- the text of groups, one after the other
 abbrev pub text_of_groups : Bool → List (List ℕ) → List ℕ

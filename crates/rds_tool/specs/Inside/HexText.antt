@@ -2,9 +2,7 @@
 use Rattle.std.specs.Prelude.{◌*◌, ◌+◌, ◌++◌, ◌∷◌, ◌≡◌, ℕ, Err, List, [], None, Ok, Option, Result, Some, not}
 use Rattle.std.specs.List.{filter}
 use Rattle.hex.specs.Hex.{hex_digit_value}
-use Rattle.rds_tool.specs.Input.{and_then, is_blank}
-use Rattle.rds_tool.specs.declared.error.ToolError.{ToolError}
-use Rattle.rds_tool.specs.declared.error.ToolError.TheVariants.{HexText}
+use Rattle.rds_tool.specs.{Input.and_then, Input.is_blank, declared.error.ToolError.ToolError, declared.error.ToolError.TheVariants.HexText}
 
 -- the byte of two digits and the bytes after it
 abbrev pub with_byte : Option ℕ → Option ℕ → Result (List ℕ) ToolError → Result (List ℕ) ToolError

@@ -1,15 +1,8 @@
 -- Items that were counted.
 use Rattle.std.specs.Prelude.{◌≡◌, ◌*◌, ◌^◌, ◌<◌, Bool, List, length, map, slice_index_or, ℕ}
-use Rattle.rds_soft.specs.SoftTotals.{AreAtMost, soft_totals_of}
-use Rattle.rds_soft.specs.declared.soft_item.SoftItem.{SoftItem}
-use Rattle.rds_soft.specs.declared.soft_totals.SoftTotals.{SoftTotals}
-use Rattle.rds_soft.specs.ReadAgain.{item_again, symbols_of}
-use Rattle.rds_sync.specs.Counting.{IsAtMost}
-use Rattle.rds_sync.specs.Totals.{totals_of}
-use Rattle.rds_sync.specs.declared.item.Item.{Item}
-use Rattle.rds_sync.specs.declared.totals.Totals.{Totals}
-use Rattle.rds_tool.specs.Soft.{row_again, totals_again}
-use Rattle.rds_tool.specs.declared.soft_source.SoftSource.{SoftSource}
+use Rattle.rds_soft.specs.{SoftTotals.AreAtMost, SoftTotals.soft_totals_of, declared.soft_item.SoftItem.SoftItem, declared.soft_totals.SoftTotals.SoftTotals, ReadAgain.item_again, ReadAgain.symbols_of}
+use Rattle.rds_sync.specs.{Counting.IsAtMost, Totals.totals_of, declared.item.Item.Item, declared.totals.Totals.Totals}
+use Rattle.rds_tool.specs.{Soft.row_again, Soft.totals_again, declared.soft_source.SoftSource.SoftSource}
 
 -- the totals are those of these items, which bound them
 pub record HasCounted (items : List Item) (totals : Totals) : Type 0 where

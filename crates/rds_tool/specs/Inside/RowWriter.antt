@@ -1,8 +1,7 @@
 -- A writer of rows of `csv` that has moved all rows to a page, and fields that it writes as they are. `RowWriter` and
 -- `Page` cite it, and no public call.
 use Rattle.std.specs.Prelude.{◌≡◌, ◌≤◌, ℕ, List, [], false, length}
-use Rattle.csv.specs.Writing.{default_writer, fields_written, has_written, needs_quotes, writer_pending, writer_setup}
-use Rattle.csv.specs.declared.writer.Writer.{Writer}
+use Rattle.csv.specs.{Writing.default_writer, Writing.fields_written, Writing.has_written, Writing.needs_quotes, Writing.writer_pending, Writing.writer_setup, declared.writer.Writer.Writer}
 
 -- it has the defaults of `csv`, no field of a row is written yet, and no byte waits
 pub record IsBetween {W : Type 0} (rows : Writer W) : Type 0 where

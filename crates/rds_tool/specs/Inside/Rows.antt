@@ -1,11 +1,9 @@
 -- The rows of a listing one by one, and those of a scan. `ListingRows` and `WindowRows` are these, which
 -- `write_rows` writes; no public call cites it.
-use Rattle.std.specs.Prelude.{◌++◌, ℕ, [], List, None, Option, Some, map}
-use Rattle.std.specs.List.{range_with_len}
+use Rattle.std.specs.{Prelude.◌++◌, Prelude.ℕ, Prelude.[], Prelude.List, Prelude.None, Prelude.Option, Prelude.Some, Prelude.map, List.range_with_len}
 use Rattle.rds_code.specs.declared.offset.Offset.{Offset}
 use Rattle.rds_stream.specs.Recording.{Signal, length_of, valid_at}
-use Rattle.rds_sync.specs.declared.item.Item.{Item}
-use Rattle.rds_sync.specs.declared.totals.Totals.{Totals}
+use Rattle.rds_sync.specs.declared.{item.Item.Item, totals.Totals.Totals}
 use Rattle.rds_tool.specs.Listing.{item_row, named_totals, total_row, window_row}
 
 -- those of the items in order, and then those of the totals

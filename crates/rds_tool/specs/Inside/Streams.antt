@@ -3,11 +3,7 @@ use Rattle.std.specs.Prelude.{◌≡◌, ◌≤◌, ◌<◌, ◌+◌, ◌^◌, �
 use Rattle.std.specs.Io.KnownBytes.{Appends, Consumes, IsAtEnd}
 use Rattle.rds_rows.specs.declared.sink.Sink.{Ghosts as Sink}
 use Rattle.rds_stream.specs.Recording.{AreGaps}
-use Rattle.rds_tool.specs.Following.{BreaksOff, IsFlushedAfter, MayBreakOff, Stream}
-use Rattle.rds_tool.specs.History.{Gave}
-use Rattle.rds_tool.specs.declared.devices.Source.{Ghosts as Source}
-use Rattle.rds_tool.specs.declared.error.ToolError.{ToolError}
-use Rattle.rds_tool.specs.declared.error.ToolError.TheVariants.{BadGaps, BitsPastBytes, Read, Write}
+use Rattle.rds_tool.specs.{Following.BreaksOff, Following.IsFlushedAfter, Following.MayBreakOff, Following.Stream, History.Gave, declared.devices.Source.Ghosts as Source, declared.error.ToolError.ToolError, declared.error.ToolError.TheVariants.BadGaps, declared.error.ToolError.TheVariants.BitsPastBytes, declared.error.ToolError.TheVariants.Read, declared.error.ToolError.TheVariants.Write}
 
 module _ {R W : Type 0} (source : Source R) (sink : Sink W) (s : Stream) (reader reader' : R) (writer writer' : W) where
   -- these symbols were heard, and the rows that they complete were written

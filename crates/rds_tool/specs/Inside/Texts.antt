@@ -1,12 +1,7 @@
 -- The text that is written, whether it is made or still to be spelled. `Task::text` makes it; no
 -- public call cites it.
 use Rattle.std.specs.Prelude.{ℕ, List}
-use Rattle.rds_tool.specs.Listing.{report_text, scan_text}
-use Rattle.rds_tool.specs.Outcome.{list_text}
-use Rattle.rds_tool.specs.Soft.{soft_text}
-use Rattle.rds_tool.specs.Inside.GroupLines.{text_of_groups}
-use Rattle.rds_tool.specs.declared.task.Text.{Text}
-use Rattle.rds_tool.specs.declared.task.Text.TheVariants.{Groups, Listing, OnePass, Soft, Whole, Windows}
+use Rattle.rds_tool.specs.{Listing.report_text, Listing.scan_text, Outcome.list_text, Soft.soft_text, Inside.GroupLines.text_of_groups, declared.task.Text.Text, declared.task.Text.TheVariants.Groups, declared.task.Text.TheVariants.Listing, declared.task.Text.TheVariants.OnePass, declared.task.Text.TheVariants.Soft, declared.task.Text.TheVariants.Whole, declared.task.Text.TheVariants.Windows}
 
 abbrev pub bytes_of : Text → List ℕ
 bytes_of (Whole text) = text.items

@@ -1,6 +1,5 @@
 use Rattle.rds.proofs.Names.{refl}
-use Rattle.std.proofs.lemmas.Iterator.{items_from_collect}
-use Rattle.std.proofs.lemmas.Iterator.Adapters.{YieldsList-from_vec}
+use Rattle.std.proofs.lemmas.Iterator.{items_from_collect, Adapters.YieldsList-from_vec}
 use Rattle.rds.proofs.command_line.collected.Goals as goal
 
 pub returns : goal.returns

@@ -1,6 +1,5 @@
 use Rattle.rds.proofs.Names.{◌≡◌, List, None, Option, Some, ap, subst, ℕ, InputOf, RuleNumbers, stream_of}
-use Rattle.rds_tool.specs.Following.{Follows, Stream, bit_stream}
-use Rattle.rds_tool.specs.SoftFollowing.{symbol_stream}
+use Rattle.rds_tool.specs.{Following.Follows, Following.Stream, Following.bit_stream, SoftFollowing.symbol_stream}
 use Rattle.rds.proofs.session.follow_asked.Goals as goal
 
 bits_asked : (rules : RuleNumbers) (gaps gaps' : List (ℕ × ℕ)) (bits bits' margin : Option ℕ) (workers : ℕ) → gaps ≡ gaps' → bits ≡ bits' → margin ≡ None

@@ -1,5 +1,4 @@
-use Rattle.rds_abi.proofs.Shared.{sym, ◌∙◌, false≢true}
-use Rattle.rds_abi.proofs.GapLists.{are-gaps, gaps-apart, gaps-lie}
+use Rattle.rds_abi.proofs.{Shared.sym, Shared.◌∙◌, Shared.false≢true, GapLists.are-gaps, GapLists.gaps-apart, GapLists.gaps-lie}
 use Rattle.rds_abi.proofs.asked.are_gaps.Goals as goal
 
 pub returns-then-are_within : goal.returns-then-are_within

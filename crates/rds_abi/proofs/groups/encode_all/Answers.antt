@@ -1,5 +1,4 @@
-use Rattle.rds_abi.proofs.Shared.{arith, ◌∙◌, length-set, packed}
-use Rattle.rds_abi.proofs.Rooms.{one_written, still_kept}
+use Rattle.rds_abi.proofs.{Shared.arith, Shared.◌∙◌, Shared.length-set, Shared.packed, Rooms.one_written, Rooms.still_kept}
 use Rattle.rds_abi.proofs.groups.encode_all.Goals as goal
 
 pub loop-i-preserved : goal.loop-i-preserved

@@ -1,7 +1,5 @@
-use Rattle.rds_abi.proofs.Shared.{rules, tests, ◌∙◌, IfOk-weaker, part_of_gap, gap_of, RdsGap}
-use Rattle.std.proofs.lemmas.Iterator.{YieldsList-from_slice, items_from_collect}
-use Rattle.std.proofs.lemmas.Iterator.Consumers.{YieldsList-from_filter_map}
-use Rattle.rds_abi.proofs.GapLists.{parts-of-gaps}
+use Rattle.rds_abi.proofs.{Shared.rules, Shared.tests, Shared.◌∙◌, Shared.IfOk-weaker, Shared.part_of_gap, Shared.gap_of, Shared.RdsGap, GapLists.parts-of-gaps}
+use Rattle.std.proofs.lemmas.Iterator.{YieldsList-from_slice, items_from_collect, Consumers.YieldsList-from_filter_map}
 use Rattle.rds_abi.proofs.part.gaps_within.Goals as goal
 
 pub returns : goal.returns

@@ -1,6 +1,6 @@
 use Rattle.rds_abi.proofs.Shared.{◌≡◌, ◌++◌, ◌+◌, ◌^◌, ◌<◌, ◌∷◌, ◌∙◌, List, ap, arith, length, map, rules, subst, sym, take, All, slice_set, Item, moved_item, moved_items, place_of, item_in_c, RdsItem}
-use Rattle.std.proofs.lemmas.List.Elements.{All-tail}
 use Rattle.rds_abi.proofs.Rooms.{before_rest, still_kept}
+use Rattle.std.proofs.lemmas.List.Elements.{All-tail}
 use Rattle.rds_abi.proofs.ranges.fill_run.Goals as goal
 
 pub loop-item-preserved : goal.loop-item-preserved

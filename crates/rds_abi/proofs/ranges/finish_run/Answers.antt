@@ -1,6 +1,5 @@
 use Rattle.rds_abi.proofs.Shared.{◌≡◌, ◌-◌, ℕ, List, ap, arith, inl, length, map, refl, subst, sym, ◌∙◌, length-map, IfErr-weaker, on_ok_weaker, group_item, Item, items_of_end, IsFilled, recording_of, rules_of, state_of, item_in_c, IsLawful}
-use Rattle.rds_abi.proofs.PartRuns.{end-asked}
-use Rattle.rds_abi.proofs.ranges.finish_run.Goals.{After-write_end}
+use Rattle.rds_abi.proofs.{PartRuns.end-asked, ranges.finish_run.Goals.After-write_end}
 use Rattle.rds_abi.proofs.ranges.finish_run.Goals as goal
 
 pub end_of-group-requires-clause-begin : goal.end_of-group-requires-clause-begin

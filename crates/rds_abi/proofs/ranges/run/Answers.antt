@@ -1,6 +1,5 @@
 use Rattle.rds_abi.proofs.Shared.{◌≡◌, ◌-◌, List, ap₂, arith, inl, inr, length, map, subst, sym, ◌∙◌, length-map, IfErr-weaker, on_ok_weaker, Item, State, RuleNumbers, IsFilled, IsTooMuch, asked, RefusesRun, run_asked, run_in_part, state_in_c, state_of, item_in_c, Refusal}
-use Rattle.rds_abi.proofs.PartRuns.{run-asked}
-use Rattle.rds_abi.proofs.ranges.run.Goals.{After-go_on}
+use Rattle.rds_abi.proofs.{PartRuns.run-asked, ranges.run.Goals.After-go_on}
 use Rattle.rds_abi.proofs.ranges.run.Goals as goal
 
 -- the run over places of the part is the run asked for

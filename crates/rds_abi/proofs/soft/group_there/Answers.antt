@@ -1,7 +1,5 @@
 use Rattle.rds_abi.proofs.Shared.{◌≡◌, ◌∙◌, ap, rules, sym}
-use Rattle.rds_soft.specs.declared.soft_item.SoftGroup.{SoftGroup}
-use Rattle.rds_soft.specs.declared.soft_item.SoftItem.TheVariants.{Group as InSoft}
-use Rattle.rds_soft.specs.ReadAgain.{group_again, item_again, symbols_of}
+use Rattle.rds_soft.specs.{declared.soft_item.SoftGroup.SoftGroup, declared.soft_item.SoftItem.TheVariants.Group as InSoft, ReadAgain.group_again, ReadAgain.item_again, ReadAgain.symbols_of}
 use Rattle.rds_abi.proofs.soft.group_there.Goals as goal
 
 group_is : (g h : SoftGroup) → InSoft g ≡ InSoft h → g ≡ h

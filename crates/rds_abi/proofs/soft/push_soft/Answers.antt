@@ -1,9 +1,7 @@
 use Rattle.rds_abi.proofs.Shared.{common_steps, ◌≡◌, ◌+◌, ◌*◌, ◌/◌, ◌^◌, ◌≤◌, ◌++◌, ◌⊎◌, ◌∙◌, ℕ, List, ap, arith, length, map, subst, sym, take, err_from_is_err_and, Item, complete, completed, live_next, IsFilled, IsTooMuch, place_after, stream_of, terms_of, item_in_c, ℤ, soft_item_in_c, HasHeardSoft, IsPushed, RefusesSoft, bytes_of, read_again}
 use Rattle.rds_abi.proofs.SoftPush.{IsTaken, all-after, all-completed, all-left, all-refused, piece-bytes, piece-first, piece-long, piece-many, piece-taken, roomy-soft, soft-complete, soft-heard, soft-written, with-margin}
-use Rattle.rds_abi.proofs.SoftSymbols.{byte_count_of}
-use Rattle.rds_abi.proofs.Streams.{refused_push}
+use Rattle.rds_abi.proofs.{SoftSymbols.byte_count_of, Streams.refused_push, soft.push_soft.Goals.After-drop-told-inside-4, soft.push_soft.Goals.After-drop-told-inside-in_err-go_on-3}
 use Rattle.rds_abi.proofs.soft.push_soft.Goals as goal
-use Rattle.rds_abi.proofs.soft.push_soft.Goals.{After-drop-told-inside-4, After-drop-told-inside-in_err-go_on-3}
 
 pub go_on-requires-clause-few : goal.go_on-requires-clause-few
 go_on-requires-clause-few c =

@@ -1,5 +1,4 @@
-use Rattle.rds_abi.proofs.Shared.{IfErr-weaker}
-use Rattle.rds_abi.proofs.Streams.{refused_end}
+use Rattle.rds_abi.proofs.{Shared.IfErr-weaker, Streams.refused_end}
 use Rattle.rds_abi.proofs.stream.finish.Goals as goal
 
 pub returns-clause-items : goal.returns-clause-items

@@ -1,5 +1,4 @@
-use Rattle.rds_abi.proofs.Shared.{◌≡◌, ◌++◌, ◌+◌, ◌*◌, ℕ, List, length, subst, totals_of, HasHeard, LiveOf, report_at}
-use Rattle.rds_abi.proofs.Streams.{left}
+use Rattle.rds_abi.proofs.{Shared.◌≡◌, Shared.◌++◌, Shared.◌+◌, Shared.◌*◌, Shared.ℕ, Shared.List, Shared.length, Shared.subst, Shared.totals_of, Shared.HasHeard, Shared.LiveOf, Shared.report_at, Streams.left}
 use Rattle.rds_abi.proofs.stream.last_of.Goals as goal
 
 pub returns-in-Ok-clause-items : goal.returns-in-Ok-clause-items

@@ -1,7 +1,5 @@
 use Rattle.rds_abi.proofs.Shared.{◌∙◌, List, ap, arith, length, map, subst, take, length-take, err_from_is_err_and, completed, Item, IsFilled, gaps_of, stream_in_c, stream_of, terms_of, totals_from_c, RuleNumbers, state_of, item_in_c}
-use Rattle.rds_abi.proofs.Fitting.{few-completed, roomy}
-use Rattle.rds_abi.proofs.NearStreams.{are-completed, heard-next, left-near, pushed-after, pushed-completed, pushed-most, pushed-refused}
-use Rattle.rds_abi.proofs.Streams.{refused_push}
+use Rattle.rds_abi.proofs.{Fitting.few-completed, Fitting.roomy, NearStreams.are-completed, NearStreams.heard-next, NearStreams.left-near, NearStreams.pushed-after, NearStreams.pushed-completed, NearStreams.pushed-most, NearStreams.pushed-refused, Streams.refused_push}
 use Rattle.rds_abi.proofs.stream.push.Goals as goal
 
 pub returns-clause-after : goal.returns-clause-after

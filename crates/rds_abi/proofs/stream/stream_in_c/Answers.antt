@@ -1,5 +1,4 @@
-use Rattle.rds_abi.proofs.Shared.{ap, ◌∙◌, totals_in_c}
-use Rattle.rds_abi.proofs.Streams.{laid_out}
+use Rattle.rds_abi.proofs.{Shared.ap, Shared.◌∙◌, Shared.totals_in_c, Streams.laid_out}
 use Rattle.rds_abi.proofs.stream.stream_in_c.Goals as goal
 
 pub returns-clause-says : goal.returns-clause-says

@@ -1,6 +1,5 @@
 use Rattle.rds_abi.proofs.Shared.{common_steps, ◌≡◌, ◌/◌, ◌<◌, ◌≤◌, ◌∙◌, ℕ, List, ap, arith, length, map, max, subst, take, length-take, take-take, err_from_is_err_and, RunsGiveFewItems, Item, LiveOf, completed, live_next, IsFilled, item_in_c}
-use Rattle.rds_abi.proofs.Fitting.{one-byte}
-use Rattle.rds_abi.proofs.stream.take_piece.Goals.{After-write_taken}
+use Rattle.rds_abi.proofs.{Fitting.one-byte, stream.take_piece.Goals.After-write_taken}
 use Rattle.rds_abi.proofs.stream.take_piece.Goals as goal
 
 -- the items of a piece that have no room are those of one byte

@@ -1,7 +1,5 @@
-use Rattle.std.proofs.Common.{◌≡◌, arith}
-use Rattle.std.proofs.lemmas.Grind.{common_steps}
-use Rattle.rds_abi.specs.Refusals.{number_of}
-use Rattle.rds_abi.specs.declared.refusal.Refusal.{Refusal}
+use Rattle.std.proofs.{Common.◌≡◌, Common.arith, lemmas.Grind.common_steps}
+use Rattle.rds_abi.specs.{Refusals.number_of, declared.refusal.Refusal.Refusal}
 use Rattle.rds_c.proofs.soft.rds_push_soft.Goals as goal
 
 never_0 : (r : Refusal) → number_of r ≡ 0 → ⊥

@@ -1,6 +1,5 @@
 use Rattle.rds_tool.proofs.Names.{arith, ◌∙◌}
-use Rattle.rds_tool.proofs.Passing.{passed, passes}
-use Rattle.rds_tool.proofs.Reading.{end_told, kind_told, ok_told, turns_not_told}
+use Rattle.rds_tool.proofs.{Passing.passed, Passing.passes, Reading.end_told, Reading.kind_told, Reading.ok_told, Reading.turns_not_told}
 use Rattle.rds_tool.proofs.engine.read_all.Goals as goal
 
 pub returns-clause-turns : goal.returns-clause-turns

@@ -1,5 +1,4 @@
-use Rattle.rds_tool.proofs.Passing.{passed}
-use Rattle.rds_tool.proofs.Transcribing.{at_settings}
+use Rattle.rds_tool.proofs.{Passing.passed, Transcribing.at_settings}
 use Rattle.rds_tool.proofs.engine.transcribe_gated.Goals as goal
 
 pub returns-in_err-task : goal.returns-in_err-task

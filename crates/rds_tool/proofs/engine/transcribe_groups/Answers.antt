@@ -1,7 +1,5 @@
 use Rattle.rds_tool.specs.declared.task.Task.TheVariants as task
-use Rattle.rds_tool.proofs.Passing.{passed}
-use Rattle.rds_tool.proofs.Texts.{no_failure}
-use Rattle.rds_tool.proofs.Transcribing.{at_bytes, at_read, at_writer}
+use Rattle.rds_tool.proofs.{Passing.passed, Texts.no_failure, Transcribing.at_bytes, Transcribing.at_read, Transcribing.at_writer}
 use Rattle.rds_tool.proofs.engine.transcribe_groups.Goals as goal
 
 pub returns-in_err-read_all : goal.returns-in_err-read_all

@@ -1,7 +1,4 @@
-use Rattle.rds_tool.specs.Inside.Texts.{bytes_of}
-use Rattle.rds_tool.proofs.Passing.{passed}
-use Rattle.rds_tool.proofs.Texts.{no_failure}
-use Rattle.rds_tool.proofs.Transcribing.{at_bytes, at_read, at_writer}
+use Rattle.rds_tool.{specs.Inside.Texts.bytes_of, proofs.Passing.passed, proofs.Texts.no_failure, proofs.Transcribing.at_bytes, proofs.Transcribing.at_read, proofs.Transcribing.at_writer}
 use Rattle.rds_tool.proofs.engine.transcribe_held.Goals as goal
 
 pub returns-in_err-read_all : goal.returns-in_err-read_all

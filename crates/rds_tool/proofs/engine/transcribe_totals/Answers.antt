@@ -1,10 +1,6 @@
 use Rattle.rds_tool.proofs.Names.{common_steps, arith, ◌≡◌, ◌∙◌, Err, List, Ok, Some, ap, inl, subst, sym, ℕ, report_items, RuleNumbers, totals_of, recording_of, InputOf, InputCounterOf, text_of_task, PlanOf, IsMemoryOrErrOf, ToolError}
+use Rattle.rds_tool.proofs.{Passing.passed, Texts.any_cut, Texts.no_failure, Texts.totals_made, Transcribing.at_bytes, Transcribing.at_memory, Transcribing.at_read, Transcribing.at_writer, engine.transcribe_totals.Given.Over, engine.transcribe_totals.Goals.After-read_all}
 use Rattle.rds_tool.specs.declared.task.Task.TheVariants as task
-use Rattle.rds_tool.proofs.Passing.{passed}
-use Rattle.rds_tool.proofs.Texts.{any_cut, no_failure, totals_made}
-use Rattle.rds_tool.proofs.Transcribing.{at_bytes, at_memory, at_read, at_writer}
-use Rattle.rds_tool.proofs.engine.transcribe_totals.Given.{Over}
-use Rattle.rds_tool.proofs.engine.transcribe_totals.Goals.{After-read_all}
 use Rattle.rds_tool.proofs.engine.transcribe_totals.Goals as goal
 
 same_terms : (a b : InputOf × RuleNumbers) → Some a ≡ Some b → a ≡ b

@@ -1,6 +1,5 @@
 use Rattle.rds_tool.proofs.Names.{◌++◌, ◌∙◌, ℕ, Err, List, ap, sym, rows_so_far}
-use Rattle.rds_tool.proofs.Followed.{breaks_last, breaks_rest, few_bits, follows_err, follows_rest, heard_ok, known_ok, last_is, place_is, place_of_all, rest_fits}
-use Rattle.rds_tool.proofs.Passing.{passed}
+use Rattle.rds_tool.proofs.{Followed.breaks_last, Followed.breaks_rest, Followed.few_bits, Followed.follows_err, Followed.follows_rest, Followed.heard_ok, Followed.known_ok, Followed.last_is, Followed.place_is, Followed.place_of_all, Followed.rest_fits, Passing.passed}
 use Rattle.rds_tool.proofs.following.follow.Goals as goal
 
 pub bits_left-left-requires : goal.bits_left-left-requires

@@ -1,6 +1,6 @@
 use Rattle.rds_tool.proofs.Names.{◌≡◌, ◌++◌, List, subst, sym, flat_map, HasHeard, complete, Item, item_row}
-use Rattle.rds_live.specs.Listing.{ListerOf}
 use Rattle.rds_tool.proofs.Followed.{has_rows}
+use Rattle.rds_live.specs.Listing.{ListerOf}
 use Rattle.rds_tool.proofs.following.list_chunk.Goals as goal
 
 pub returns-clause-heard : goal.returns-clause-heard

@@ -1,6 +1,5 @@
 use Rattle.rds_tool.proofs.Names.{inl, refl, BitsPastBytes, Read}
-use Rattle.rds_tool.proofs.Followed.{differ, no_such, of_neither}
-use Rattle.rds_tool.proofs.Passing.{passed}
+use Rattle.rds_tool.proofs.{Followed.differ, Followed.no_such, Followed.of_neither, Passing.passed}
 use Rattle.rds_tool.proofs.following.read_last.Goals as goal
 
 pub returns-in_err-count-clause-past : goal.returns-in_err-count-clause-past

@@ -1,6 +1,6 @@
 use Rattle.rds_tool.proofs.Names.{◌∙◌, ◌++◌, List, ap, flat_map, complete, Item, item_row, totals_text}
-use Rattle.rds_sync.specs.Advance.{group_item}
 use Rattle.rds_tool.proofs.Followed.{rest_is}
+use Rattle.rds_sync.specs.Advance.{group_item}
 use Rattle.rds_tool.proofs.following.rows_of_rest.Goals as goal
 
 pub returns-clause-rows : goal.returns-clause-rows

@@ -1,7 +1,6 @@
 use Rattle.rds_tool.proofs.Names.{◌∙◌, rules, tests, is_ascii_digit}
-use Rattle.std.proofs.lemmas.Iterator.{YieldsList-from_slice}
-use Rattle.std.proofs.lemmas.Iterator.Search.{all_from_yields_List}
 use Rattle.rds_tool.proofs.GapTexts.{all_digits}
+use Rattle.std.proofs.lemmas.Iterator.{YieldsList-from_slice, Search.all_from_yields_List}
 use Rattle.rds_tool.proofs.gap_text.has_digits_alone.Goals as goal
 
 pub returns : goal.returns

@@ -1,6 +1,5 @@
 use Rattle.rds_tool.proofs.Names.{arith}
-use Rattle.std.proofs.lemmas.Iterator.Consumers.{map_from_collect}
-use Rattle.std.proofs.lemmas.Iterator.Splits.{YieldsList-from_str_split}
+use Rattle.std.proofs.lemmas.Iterator.{Consumers.map_from_collect, Splits.YieldsList-from_str_split}
 use Rattle.rds_tool.proofs.gap_text.pairs_of.Goals as goal
 
 pub returns : goal.returns

@@ -1,7 +1,6 @@
 use Rattle.rds_tool.proofs.Names.{common_steps}
+use Rattle.rds_tool.proofs.{HexDigits.HasDecoded, HexDigits.all_decoded, HexDigits.begun, HexDigits.decoded_none, HexDigits.ended, HexDigits.few_decoded, input.decode_digits.Goals.in-None, input.decode_digits.Goals.in-Some-high}
 use Rattle.std.proofs.Common.{◌≡◌, ◌∙◌, List, Option, arith, ℕ, sym}
-use Rattle.rds_tool.proofs.HexDigits.{HasDecoded, all_decoded, begun, decoded_none, ended, few_decoded}
-use Rattle.rds_tool.proofs.input.decode_digits.Goals.{in-None, in-Some-high}
 use Rattle.rds_tool.proofs.input.decode_digits.Goals as goal
 
 moved : (start : Option ℕ) (text now now' : List ℕ) (at count count' : ℕ) (high high' : Option ℕ) → now' ≡ now → count' ≡ count → high' ≡ high

@@ -1,6 +1,5 @@
 use Rattle.std.proofs.Common.{◌∙◌, Err, ap, sym}
-use Rattle.rds_tool.proofs.HexDigits.{even_text, odd_text, strange_text}
-use Rattle.rds_tool.proofs.Passing.{passes}
+use Rattle.rds_tool.proofs.{HexDigits.even_text, HexDigits.odd_text, HexDigits.strange_text, Passing.passes}
 use Rattle.rds_tool.proofs.input.decode_in_place.Goals as goal
 
 pub returns-in_err-count-clause-refused : goal.returns-in_err-count-clause-refused

@@ -1,9 +1,7 @@
-use Rattle.std.proofs.Common.{◌≡◌, ℕ, List, subst}
-use Rattle.std.specs.List.{flat_map}
+use Rattle.std.{proofs.Common.◌≡◌, proofs.Common.ℕ, proofs.Common.List, proofs.Common.subst, specs.List.flat_map}
 use Rattle.rds_rows.specs.Writes.{AppendsPrefix}
 use Rattle.rds_sync.specs.declared.item.Item.{Item}
-use Rattle.rds_tool.proofs.Passes.{parted_rows, prefix_between}
-use Rattle.rds_tool.proofs.Passing.{on_any_err}
+use Rattle.rds_tool.proofs.{Passes.parted_rows, Passes.prefix_between, Passing.on_any_err}
 use Rattle.rds_tool.proofs.one_pass.write_items.Goals as goal
 
 pub returns-in_err-write_part-clause-prefix : goal.returns-in_err-write_part-clause-prefix

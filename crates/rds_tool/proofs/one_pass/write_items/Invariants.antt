@@ -1,7 +1,4 @@
-use Rattle.std.proofs.Common.{◌≡◌, ◌++◌, ℕ, List, Option, length}
-use Rattle.std.specs.List.{flat_map}
-use Rattle.std.specs.Prelude.{vec_capacity}
-use Rattle.std.specs.Io.KnownBytes.{Appends}
+use Rattle.std.{proofs.Common.◌≡◌, proofs.Common.◌++◌, proofs.Common.ℕ, proofs.Common.List, proofs.Common.Option, proofs.Common.length, specs.List.flat_map, specs.Prelude.vec_capacity, specs.Io.KnownBytes.Appends}
 use Rattle.rds_rows.specs.Sheets.{size_of}
 use Rattle.rds_sync.specs.declared.item.Item.{Item}
 use Rattle.rds_tool.proofs.one_pass.write_items.Given as goal

@@ -1,8 +1,6 @@
-use Rattle.std.proofs.Common.{◌++◌, ◌∙◌, ℕ, List, ap, refl}
-use Rattle.std.specs.List.{flat_map}
+use Rattle.std.{proofs.Common.◌++◌, proofs.Common.◌∙◌, proofs.Common.ℕ, proofs.Common.List, proofs.Common.ap, proofs.Common.refl, specs.List.flat_map}
 use Rattle.rds_sync.specs.declared.item.Item.{Item}
-use Rattle.rds_tool.proofs.Passes.{err_more, prefix_first, report_rows, same_end}
-use Rattle.rds_tool.proofs.Passing.{on_any_err}
+use Rattle.rds_tool.proofs.{Passes.err_more, Passes.prefix_first, Passes.report_rows, Passes.same_end, Passing.on_any_err}
 use Rattle.rds_tool.proofs.one_pass.write_report.Goals as goal
 
 pub returns-clause-prefix : goal.returns-clause-prefix

@@ -1,5 +1,4 @@
-use Rattle.std.proofs.Common.{rules, ◌∙◌}
-use Rattle.std.proofs.lemmas.Nat.{le_bytes_8}
+use Rattle.std.proofs.{Common.rules, Common.◌∙◌, lemmas.Nat.le_bytes_8}
 use Rattle.rds_tool.proofs.page.in_a_register.Goals as goal
 
 pub returns : goal.returns

@@ -1,6 +1,6 @@
 use Rattle.rds_tool.proofs.Names.{common_steps, arith, ap, ◌∙◌, PlanOf}
-use Rattle.rds_pieces.specs.WorkOf.{WorkOf}
 use Rattle.rds_tool.proofs.Texts.{items_heard, totals_counted}
+use Rattle.rds_pieces.specs.WorkOf.{WorkOf}
 use Rattle.rds_tool.proofs.plan.report_by.Goals as goal
 
 pub returns-clause-items : goal.returns-clause-items

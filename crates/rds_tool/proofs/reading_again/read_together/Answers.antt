@@ -1,5 +1,4 @@
-use Rattle.std.proofs.Common.{length, ap, ◌∙◌}
-use Rattle.std.proofs.lemmas.List.{length-map, take_at}
+use Rattle.std.proofs.{Common.length, Common.ap, Common.◌∙◌, lemmas.List.length-map, lemmas.List.take_at}
 use Rattle.rds_tool.specs.Inside.Listers.{again_of}
 use Rattle.rds_tool.proofs.reading_again.read_together.Goals as goal
 

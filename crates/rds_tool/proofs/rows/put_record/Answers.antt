@@ -1,6 +1,5 @@
 use Rattle.rds_tool.proofs.Names.{common_steps, arith, row}
-use Rattle.rds_tool.proofs.RowText.{row_short_now, text_short}
-use Rattle.rds_tool.proofs.Spelled.{bytes_after}
+use Rattle.rds_tool.proofs.{RowText.row_short_now, RowText.text_short, Spelled.bytes_after}
 use Rattle.rds_tool.proofs.rows.put_record.Goals as goal
 
 -- of the page of `csv` the bytes that were written last are the row

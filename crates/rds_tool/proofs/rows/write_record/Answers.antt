@@ -1,6 +1,5 @@
 use Rattle.rds_tool.proofs.Names.{common_steps, arith, ◌++◌, ◌≡◌, List, [], append-nil, ℕ}
-use Rattle.rds_tool.proofs.Followed.{on_ok}
-use Rattle.rds_tool.proofs.RowText.{plain_row_now}
+use Rattle.rds_tool.proofs.{Followed.on_ok, RowText.plain_row_now}
 use Rattle.rds_tool.proofs.rows.write_record.Goals as goal
 
 -- all that waited is on the page

@@ -1,7 +1,5 @@
 use Rattle.rds_tool.proofs.Names.{◌++◌, ◌∙◌, Err, ap, sym, soft_rows_so_far}
-use Rattle.rds_tool.proofs.Followed.{follows_err}
-use Rattle.rds_tool.proofs.Passing.{passed}
-use Rattle.rds_tool.proofs.SoftFollowed.{breaks-end, follows-end}
+use Rattle.rds_tool.proofs.{Followed.follows_err, Passing.passed, SoftFollowed.breaks-end, SoftFollowed.follows-end}
 use Rattle.rds_tool.proofs.soft_following.follow_soft.Goals as goal
 
 pub returns-in_err-stream : goal.returns-in_err-stream

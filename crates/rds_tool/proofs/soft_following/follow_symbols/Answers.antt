@@ -1,7 +1,6 @@
 use Rattle.rds_tool.proofs.Names.{common_steps, arith, ◌-◌, ◌≡◌, ◌++◌, ◌∙◌, ℕ, Err, List, ap, drop, length, length-append, refl, subst, sym, take, true, ◌≤◌, IsAtEnd, IsNear, SoftHeard, SoftTerms, most_symbols, soft_rows_so_far}
 use Rattle.rds_tool.proofs.Followed.{breaks_at_once, breaks_chunk, breaks_read, front_is, heard_as, heard_end, heard_more, heard_none, is_read, lent_whole, long_taken, near_by, some_taken}
-use Rattle.rds_tool.proofs.Passing.{passes}
-use Rattle.rds_tool.proofs.SoftFollowed.{asked-count, asked-more, counts-more, text-begins}
+use Rattle.rds_tool.proofs.{Passing.passes, SoftFollowed.asked-count, SoftFollowed.asked-more, SoftFollowed.counts-more, SoftFollowed.text-begins}
 use Rattle.rds_tool.proofs.soft_following.follow_symbols.Goals as goal
 
 -- the rows of these terms

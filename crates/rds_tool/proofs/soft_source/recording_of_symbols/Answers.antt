@@ -1,8 +1,5 @@
-use Rattle.std.proofs.Common.{◌≡◌, ◌∙◌, ◌-◌, ℕ, List, Ok, ap, arith, length, subst, sym}
-use Rattle.std.specs.Prelude.{IfOk}
-use Rattle.rds_tool.specs.InputOf.{InputOf}
-use Rattle.rds_tool.specs.Soft.{claimed_of, first_bits_of, recording_of_symbols as the_recording_of}
-use Rattle.rds_tool.proofs.Softly.{claimed_is, is_asked, same_recording}
+use Rattle.std.{proofs.Common.◌≡◌, proofs.Common.◌∙◌, proofs.Common.◌-◌, proofs.Common.ℕ, proofs.Common.List, proofs.Common.Ok, proofs.Common.ap, proofs.Common.arith, proofs.Common.length, proofs.Common.subst, proofs.Common.sym, specs.Prelude.IfOk}
+use Rattle.rds_tool.{specs.InputOf.InputOf, specs.Soft.claimed_of, specs.Soft.first_bits_of, specs.Soft.recording_of_symbols as the_recording_of, proofs.Softly.claimed_is, proofs.Softly.is_asked, proofs.Softly.same_recording}
 use Rattle.rds_tool.proofs.soft_source.recording_of_symbols.Goals as goal
 
 pub returns-clause-ok : goal.returns-clause-ok

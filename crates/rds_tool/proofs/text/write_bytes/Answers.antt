@@ -1,13 +1,7 @@
 use Rattle.rds_tool.proofs.Names.{◌≡◌, ◌∙◌, ℕ, Bool, List, Option, Result, ap, subst, sym, concat, RuleNumbers, report_items, item_row, named_totals, total_row, list_text, listed_by}
+use Rattle.rds_tool.{specs.Inside.Listers.row_of_source, specs.Inside.Listers.totals_of_source, specs.Inside.Texts.bytes_of, specs.declared.soft_source.SoftSource.SoftSource, proofs.Encoding.as_rows, proofs.ScanRows.scan_spelled, proofs.Spelled.all_spelled}
 use mathlib.Core.Path.{ap₂}
-use Rattle.rds_rows.specs.Written.{IsWritten}
-use Rattle.rds_rows.specs.declared.error.RowsError.{RowsError}
-use Rattle.rds_tool.specs.Inside.Listers.{row_of_source, totals_of_source}
-use Rattle.rds_tool.specs.Inside.Texts.{bytes_of}
-use Rattle.rds_tool.specs.declared.soft_source.SoftSource.{SoftSource}
-use Rattle.rds_tool.proofs.Encoding.{as_rows}
-use Rattle.rds_tool.proofs.ScanRows.{scan_spelled}
-use Rattle.rds_tool.proofs.Spelled.{all_spelled}
+use Rattle.rds_rows.specs.{Written.IsWritten, declared.error.RowsError.RowsError}
 use Rattle.rds_tool.proofs.text.write_bytes.Goals as goal
 
 -- what was written of a text was written of the same text

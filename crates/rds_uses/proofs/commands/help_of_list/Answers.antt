@@ -1,6 +1,6 @@
 use Rattle.rds_uses.proofs.Names.{IfErr-weaker, map, rules, ◌≡◌}
-use Rattle.clap.specs.declared.error.kind.ErrorKind.TheVariants as kind
 use Rattle.rds_uses.proofs.CommandLines.{asks_for_help, help_of_list, help_or_memory, never_ok}
+use Rattle.clap.specs.declared.error.kind.ErrorKind.TheVariants as kind
 use Rattle.rds_uses.proofs.commands.help_of_list.Goals as goal
 
 pub returns-clause-no_job : goal.returns-clause-no_job

@@ -1,7 +1,6 @@
 use Rattle.rds_uses.proofs.Names.{item_in_c, length-map-range_with_len, packed_bit}
-use Rattle.rds_abi.specs.Asked.{recording_of, rules_of}
-use Rattle.rds_abi.specs.Ranges.{state_of}
 use Rattle.rds_uses.proofs.Wholes.{whole_in_two, written}
+use Rattle.rds_abi.specs.{Asked.recording_of, Asked.rules_of, Ranges.state_of}
 use Rattle.rds_uses.proofs.library.in_two_ranges.Goals as goal
 
 pub returns : goal.returns

@@ -1,7 +1,6 @@
 use Rattle.rds_uses.proofs.Names.{Err, IsMeeting, IsSound, MeetSoon, Ok, OnOk, Option, RuleNumbers, Run, RunOf, Searching, Signal, State, arith, ℕ, ◌*◌, ◌+◌, ◌≡◌, ◌≤◌}
-use Rattle.rds_pieces.specs.Seams.{seam_reads}
-use Rattle.rds_pieces.specs.declared.error.PieceError.{PieceError}
 use Rattle.rds_uses.proofs.SoundSignal.{cost_within}
+use Rattle.rds_pieces.specs.{Seams.seam_reads, declared.error.PieceError.PieceError}
 use Rattle.rds_uses.proofs.pieces.cost_of_join.Goals as goal
 
 cheap : (b : Signal) (rules : RuleNumbers) (s : State) (from to old new : ℕ) (result : _) → rules.loss ≡ Run 10

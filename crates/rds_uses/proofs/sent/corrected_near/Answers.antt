@@ -1,7 +1,6 @@
 use Rattle.rds_uses.proofs.Names.{A, Either, arith, ◌≡◌}
-use Rattle.rds_code.specs.declared.reading.Reading.TheVariants.{Corrected}
-use Rattle.rds_code.specs.Reading.{reading}
 use Rattle.rds_uses.proofs.SentAndHeard.{first-offset}
+use Rattle.rds_code.specs.{declared.reading.Reading.TheVariants.Corrected, Reading.reading}
 use Rattle.rds_uses.proofs.sent.corrected_near.Goals as goal
 
 pub returns-in-Corrected : goal.returns-in-Corrected

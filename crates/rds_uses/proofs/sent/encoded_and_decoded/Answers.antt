@@ -1,6 +1,6 @@
 use Rattle.rds_uses.proofs.Names.{Signal, ap, report_items, totals_of, ◌∙◌}
-use Rattle.rds_sync.specs.Decoding.{ItemsOf}
 use Rattle.rds_uses.proofs.SentAndHeard.{sent-report}
+use Rattle.rds_sync.specs.Decoding.{ItemsOf}
 use Rattle.rds_uses.proofs.sent.encoded_and_decoded.Goals as goal
 
 pub returns-in-Ok : goal.returns-in-Ok

@@ -1,6 +1,6 @@
 use Rattle.rds_uses.proofs.Names.{Terms, [], ◌≡◌}
-use Rattle.rds_tool.specs.Following.{listed}
 use Rattle.rds_uses.proofs.Outcomes.{given_back, written}
+use Rattle.rds_tool.specs.Following.{listed}
 use Rattle.rds_uses.proofs.sent.follow_rows.Goals as goal
 
 pub returns-in-Ok : goal.returns-in-Ok

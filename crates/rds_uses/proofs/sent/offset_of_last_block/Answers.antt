@@ -1,6 +1,6 @@
 use Rattle.rds_uses.proofs.Names.{D, Signal, Some, ap, arith, bits_sent, length, offset_at, sym, ungapped, ◌++◌, ◌+◌, ◌∙◌, ◌∷◌}
-use Rattle.std.specs.Int.Bits.{xor_zero_r}
 use Rattle.rds_uses.proofs.SentAndHeard.{offset-heard}
+use Rattle.std.specs.Int.Bits.{xor_zero_r}
 use Rattle.rds_uses.proofs.sent.offset_of_last_block.Goals as goal
 
 pub returns : goal.returns

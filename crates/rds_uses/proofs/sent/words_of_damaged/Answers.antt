@@ -1,9 +1,7 @@
 use Rattle.rds_uses.proofs.Names.{A, B, D, GroupIsHeard, List, Signal, Some, [], ap, arith, bits_with_damage, flat_map, four_words, get_or, info_of, slice_index, subst, sym, ungapped, ℕ, ◌++◌, ◌∙◌, ◌∷◌, ◌≡◌}
+use Rattle.rds_uses.proofs.{SentAndHeard.word-sent, sent.words_of_damaged.Goals.After-info-4}
 use Rattle.rds_code.specs.Encoding.{third_offset}
-use Rattle.rds_sync.specs.declared.item.Block.{Block}
-use Rattle.rds_sync.specs.declared.item.Group.{Group}
-use Rattle.rds_uses.proofs.SentAndHeard.{word-sent}
-use Rattle.rds_uses.proofs.sent.words_of_damaged.Goals.{After-info-4}
+use Rattle.rds_sync.specs.declared.item.{Block.Block, Group.Group}
 use Rattle.rds_uses.proofs.sent.words_of_damaged.Goals as goal
 
 words-read : (c : After-info-4) (words damages : List ℕ) → GroupIsHeard c.args.recording.now c.args.rules.now.burst 1 c.args.place words damages

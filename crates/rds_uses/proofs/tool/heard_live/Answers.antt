@@ -1,6 +1,5 @@
 use Rattle.rds_uses.proofs.Names.{Err, IfErr-weaker, List, Ok, OnOk, Option, Result, ToolError, subst, sym, ℕ, ◌++◌, ◌∙◌, ◌≡◌}
-use Rattle.std.specs.Io.KnownBytes.{Consumes}
-use Rattle.std.proofs.lemmas.List.{append_cancel_left}
+use Rattle.std.{specs.Io.KnownBytes.Consumes, proofs.lemmas.List.append_cancel_left}
 use Rattle.rds_tool.specs.History.{Gave}
 use Rattle.rds_uses.proofs.tool.heard_live.Goals as goal
 

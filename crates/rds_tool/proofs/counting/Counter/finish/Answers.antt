@@ -1,7 +1,5 @@
 use Rattle.rds_tool.proofs.Names.{◌≡◌, ◌+◌, ◌-◌, ◌*◌, ◌^◌, ◌≤◌, ◌++◌, ◌∷◌, ◌∙◌, Bool, List, Ok, [], ap, arith, false, inr, length, subst, sym, take, true, ℕ, AreGaps, Signal, bits_of, report_items, totals_of, claimed, first_bits, CounterOf, claimed_by, whole, HasHeard, LiveOf, report_at, IsMemoryOrErrOf, BadGaps}
-use Rattle.rds_tool.proofs.CountedBytes.{bad_gaps, ends_alike, near_end, recorded}
-use Rattle.rds_tool.proofs.counting.Counter.finish.Given.{Over}
-use Rattle.rds_tool.proofs.counting.Counter.finish.Goals.{After-may_end_after}
+use Rattle.rds_tool.proofs.{CountedBytes.bad_gaps, CountedBytes.ends_alike, CountedBytes.near_end, CountedBytes.recorded, counting.Counter.finish.Given.Over, counting.Counter.finish.Goals.After-may_end_after}
 use Rattle.rds_tool.proofs.counting.Counter.finish.Goals as goal
 
 no_more : {X : Type 0} (b : Bool) → b ≡ false → b ≡ true → X

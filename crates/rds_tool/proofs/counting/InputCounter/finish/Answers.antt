@@ -1,7 +1,5 @@
 use Rattle.rds_tool.proofs.Names.{common_steps, arith, ◌≡◌, ◌∙◌, Bool, List, Ok, Result, ap, inr, subst, sym, ℕ, IfErr, IfOk, IfErr-weaker, IfOk-weaker, Signal, report_items, totals_of, and_then, claimed, first_bits, recording_of, CounterOf, InputCounterOf, IsTextOf, IsMemoryOrErrOf, ToolError, HexText}
-use Rattle.rds_tool.proofs.CountedBytes.{decoded_whole, refused_half, refused_strange}
-use Rattle.rds_tool.proofs.counting.InputCounter.finish.Given.{Over}
-use Rattle.rds_tool.proofs.counting.InputCounter.finish.Goals.{After-finish, then-self-via-then-self, then-self-via-else-self+then-is_some}
+use Rattle.rds_tool.proofs.{CountedBytes.decoded_whole, CountedBytes.refused_half, CountedBytes.refused_strange, counting.InputCounter.finish.Given.Over, counting.InputCounter.finish.Goals.After-finish, counting.InputCounter.finish.Goals.then-self-via-then-self, counting.InputCounter.finish.Goals.then-self-via-else-self+then-is_some}
 use Rattle.rds_tool.proofs.counting.InputCounter.finish.Goals as goal
 
 pub returns-then-self-clause-refused : goal.returns-then-self-clause-refused

@@ -1,7 +1,6 @@
 use Rattle.std.proofs.Common.{inr}
-use Rattle.rds_tool.proofs.Encoding.{faulty_line, faulty_text, fine_text}
+use Rattle.rds_tool.proofs.{Encoding.faulty_line, Encoding.faulty_text, Encoding.fine_text, group_lines.GroupLines.finish.Goals.else-branch-via-then-branch+else-not-is_faulty, group_lines.GroupLines.finish.Goals.else-branch-via-else-branch}
 use Rattle.rds_tool.proofs.group_lines.GroupLines.finish.Goals as goal
-use Rattle.rds_tool.proofs.group_lines.GroupLines.finish.Goals.{else-branch-via-then-branch+else-not-is_faulty, else-branch-via-else-branch}
 
 pub returns-then-not-is_faulty-clause-ok : goal.returns-then-not-is_faulty-clause-ok
 returns-then-not-is_faulty-clause-ok c = rw (← c.self.view_is)

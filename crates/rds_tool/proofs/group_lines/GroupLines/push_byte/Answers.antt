@@ -1,7 +1,6 @@
 use Rattle.rds_tool.proofs.Names.{rules, tests, ◌≡◌, ◌==◌, ◌∙◌, ◌<◌, ◌++◌, ◌∷◌, [], ap, false, true, is_space}
-use Rattle.rds_tool.proofs.Encoding.{after_blank, after_digit, after_feed, after_long}
+use Rattle.rds_tool.proofs.{Encoding.after_blank, Encoding.after_digit, Encoding.after_feed, Encoding.after_long, group_lines.GroupLines.push_byte.Goals.in-32, group_lines.GroupLines.push_byte.Goals.in-10+in_ok-is_group-in-10, group_lines.GroupLines.push_byte.Goals.in_default, group_lines.GroupLines.push_byte.Goals.in_default-2}
 use Rattle.rds_tool.proofs.group_lines.GroupLines.push_byte.Goals as goal
-use Rattle.rds_tool.proofs.group_lines.GroupLines.push_byte.Goals.{in-32, in-10+in_ok-is_group-in-10, in_default, in_default-2}
 
 pub invariant_of-self-2 : goal.invariant_of-self-2
 invariant_of-self-2 c =

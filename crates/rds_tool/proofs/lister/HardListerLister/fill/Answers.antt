@@ -1,6 +1,5 @@
 use Rattle.std.proofs.Common.{◌≡◌, ◌+◌, ◌++◌, ◌*◌, ◌^◌, ◌∙◌, ℕ, List, ap₂, arith, length, length-append, subst, sym}
-use Rattle.rds_sync.specs.Counting.{IsAtMost, plus}
-use Rattle.rds_sync.specs.declared.item.Item.{Item}
+use Rattle.rds_sync.specs.{Counting.IsAtMost, Counting.plus, declared.item.Item.Item}
 use Rattle.rds_tool.proofs.lister.HardListerLister.fill.Goals as goal
 
 pub returns-clause-listed : goal.returns-clause-listed

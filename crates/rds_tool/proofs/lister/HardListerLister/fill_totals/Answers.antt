@@ -1,5 +1,4 @@
-use Rattle.std.proofs.Common.{◌≡◌, ◌++◌, ◌∙◌, ℕ, List, Bor, ap, map}
-use Rattle.std.specs.List.{flat_map}
+use Rattle.std.{proofs.Common.◌≡◌, proofs.Common.◌++◌, proofs.Common.◌∙◌, proofs.Common.ℕ, proofs.Common.List, proofs.Common.Bor, proofs.Common.ap, proofs.Common.map, specs.List.flat_map}
 use Rattle.rds_rows.specs.Sheets.{text_of}
 use Rattle.rds_sync.specs.declared.totals.Totals.{Totals}
 use Rattle.rds_tool.specs.Listing.{total_row, totals_text}

@@ -1,6 +1,5 @@
 use Rattle.rds_tool.proofs.Names.{common_steps, arith, length, rules, ◌≡◌, block_text}
-use Rattle.rds_tool.proofs.GroupRow.{eight_fields}
-use Rattle.rds_tool.proofs.RowText.{four_blocks, group_record}
+use Rattle.rds_tool.proofs.{GroupRow.eight_fields, RowText.four_blocks, RowText.group_record}
 use Rattle.rds_tool.proofs.page.Page.push_group.Goals as goal
 
 pub returns-clause-text : goal.returns-clause-text

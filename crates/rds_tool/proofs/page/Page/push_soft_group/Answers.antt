@@ -1,7 +1,6 @@
 use Rattle.rds_tool.proofs.Names.{length, ◌≡◌, soft_block_text}
+use Rattle.rds_tool.proofs.{GroupRow.eight_fields, RowText.four_blocks}
 use Rattle.rds_soft.specs.declared.soft_item.SoftBlock.TheVariants.{Missing}
-use Rattle.rds_tool.proofs.GroupRow.{eight_fields}
-use Rattle.rds_tool.proofs.RowText.{four_blocks}
 use Rattle.rds_tool.proofs.page.Page.push_soft_group.Goals as goal
 
 pub returns-clause-text : goal.returns-clause-text

@@ -1,14 +1,10 @@
 use Rattle.std.proofs.Common.{◌≡◌, ◌+◌, ◌++◌, ◌∷◌, ◌∙◌, ℕ, Bool, List, [], ap, append-nil, append_assoc, arith, get_or, length, length-append, length-take, subst, sym, take}
+use Rattle.std.{specs.List.flat_map, proofs.lemmas.List.take_all, proofs.lemmas.List.take_more, proofs.lemmas.Grind.flat_map-append}
 use mathlib.Core.Path.{ap₂}
-use Rattle.std.specs.List.{flat_map}
-use Rattle.std.proofs.lemmas.List.{take_all, take_more}
-use Rattle.std.proofs.lemmas.Grind.{flat_map-append}
 use Rattle.rds_rows.specs.Sheets.{text_of}
 use Rattle.rds_sync.specs.declared.item.Item.{Item}
-use Rattle.rds_tool.specs.Inside.Listers.{HasCountedAgain, IsReadAt, again_of, row_of_source}
+use Rattle.rds_tool.{specs.Inside.Listers.HasCountedAgain, specs.Inside.Listers.IsReadAt, specs.Inside.Listers.again_of, specs.Inside.Listers.row_of_source, proofs.ReadTogether.read_at, specs.declared.soft_source.SoftSource.SoftSource}
 use Rattle.rds_soft.specs.declared.soft_item.SoftItem.{SoftItem}
-use Rattle.rds_tool.proofs.ReadTogether.{read_at}
-use Rattle.rds_tool.specs.declared.soft_source.SoftSource.{SoftSource}
 use Rattle.rds_tool.proofs.soft_lister.SoftListerLister.fill.Goals as goal
 
 pub list-requires-clause-few : goal.list-requires-clause-few

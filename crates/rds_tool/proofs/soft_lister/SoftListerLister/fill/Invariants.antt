@@ -1,5 +1,4 @@
-use Rattle.std.proofs.Common.{◌+◌, ◌++◌, ◌≡◌, ◌≤◌, List, length, map, take, true}
-use Rattle.std.specs.List.{flat_map}
+use Rattle.std.{proofs.Common.◌+◌, proofs.Common.◌++◌, proofs.Common.◌≡◌, proofs.Common.◌≤◌, proofs.Common.List, proofs.Common.length, proofs.Common.map, proofs.Common.take, proofs.Common.true, specs.List.flat_map}
 use Rattle.rds_rows.specs.Sheets.{left_of, size_of, text_of}
 use Rattle.rds_sync.specs.declared.item.Item.{Item}
 use Rattle.rds_tool.specs.Inside.Listers.{HasCountedAgain, again_of, row_of_source}

@@ -1,9 +1,7 @@
-use Rattle.std.proofs.Common.{◌≡◌, ◌++◌, ◌∙◌, ℕ, List, Bor, ap, append_assoc, map}
-use Rattle.std.specs.List.{flat_map}
+use Rattle.std.{proofs.Common.◌≡◌, proofs.Common.◌++◌, proofs.Common.◌∙◌, proofs.Common.ℕ, proofs.Common.List, proofs.Common.Bor, proofs.Common.ap, proofs.Common.append_assoc, proofs.Common.map, specs.List.flat_map}
 use Rattle.rds_rows.specs.Sheets.{text_of}
 use Rattle.rds_soft.specs.declared.soft_totals.SoftTotals.{SoftTotals}
-use Rattle.rds_tool.specs.Listing.{total_row, totals_text}
-use Rattle.rds_tool.specs.Soft.{named_flips, soft_totals_text}
+use Rattle.rds_tool.specs.{Listing.total_row, Listing.totals_text, Soft.named_flips, Soft.soft_totals_text}
 use Rattle.rds_tool.proofs.soft_lister.SoftListerLister.fill_totals.Goals as goal
 
 pub returns-clause-rows : goal.returns-clause-rows

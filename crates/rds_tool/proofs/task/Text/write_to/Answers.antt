@@ -1,7 +1,5 @@
 use Rattle.rds_tool.proofs.Names.{[], sym, append-nil}
-use Rattle.rds_tool.specs.Inside.Texts.{bytes_of}
-use Rattle.rds_tool.proofs.Followed.{on_any_ok}
-use Rattle.rds_tool.proofs.Tied.{appends_kept}
+use Rattle.rds_tool.{specs.Inside.Texts.bytes_of, proofs.Followed.on_any_ok, proofs.Tied.appends_kept}
 use Rattle.rds_tool.proofs.task.Text.write_to.Goals as goal
 
 pub returns-in-Ok-clause-ok : goal.returns-in-Ok-clause-ok

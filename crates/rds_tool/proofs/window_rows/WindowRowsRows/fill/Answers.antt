@@ -1,6 +1,5 @@
 use Rattle.rds_tool.proofs.Names.{◌+◌, ◌-◌, ◌<◌, ◌≤◌, ◌≡◌, ◌++◌, ◌∙◌, ℕ, List, None, Some, ap, append_assoc, arith, subst, sym, length-map-range_with_len, Offset, left_of, size_of, text_of, Sheet, Signal, length_of, offset_at, valid_at, GivesFirst, NoneValid, WindowsLeft, row_where, window_row}
-use Rattle.rds_tool.proofs.ScanRows.{found_more, none_more, so_far}
-use Rattle.rds_tool.proofs.window_rows.WindowRowsRows.fill.Invariants.{HasFilled}
+use Rattle.rds_tool.proofs.{ScanRows.found_more, ScanRows.none_more, ScanRows.so_far, window_rows.WindowRowsRows.fill.Invariants.HasFilled}
 use Rattle.rds_tool.proofs.window_rows.WindowRowsRows.fill.Goals as goal
 
 module _ (b : Signal) (from to : ℕ) (left : WindowsLeft) (old now : Sheet) (has : HasFilled b from to left old now) where
