@@ -1,5 +1,5 @@
 -- The rows of places are those of the valid windows among them.
-use Rattle.rds_tool.proofs.Names.{common_steps, ◌+◌, ◌++◌, ◌-◌, ◌∙◌, ◌∷◌, ◌≡◌, ◌<◌, ◌≤◌, List, None, Option, Some, [], ap, ap₂, arith, drop, length, map, option_map, refl, suc, sym, take, zero, ℕ, concat, cons_option, filter_map, flat_map, range_with_len, append-nil, concat-append, map-range_with_len_more, take-map-range_with_len, Offset, Signal, length_of, offset_at, valid_at, scan_text, window_row, row_where, rows_of_places}
+use Rattle.rds_tool.proofs.Names.{common_steps, ◌+◌, ◌++◌, ◌-◌, ◌∙◌, ◌∷◌, ◌≡◌, ◌<◌, ◌≤◌, List, None, Option, Some, [], ap, ap₂, arith, drop, map, option_map, refl, suc, sym, take, zero, ℕ, concat, cons_option, filter_map, flat_map, range_with_len, append-nil, concat-append, map-range_with_len_more, take-map-range_with_len, Offset, Signal, length_of, offset_at, valid_at, scan_text, window_row, row_where, rows_of_places}
 
 module _ {X : Type 0} (f : ℕ → X) where
   drop-map-range : (a n k : ℕ) → k ≤ n → drop k (map f (range_with_len a n)) ≡ map f (range_with_len (a + k) (n - k))

@@ -230,7 +230,6 @@ fn bits_in(entries: &ArgMatches<'_>) -> Option<Option<u64>>
     entries.try_get_one::<u64>("bits").ok()
 }
 
-#[tactic(auto, using(crate::proofs::Getters::getter_steps))]
 fn number_in(entries: &ArgMatches<'_>, name: &str) -> Option<u32>
     ensures { result ≡ number_of name.now (rows_of (found_of entries.now)) }
 {

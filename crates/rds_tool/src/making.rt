@@ -79,8 +79,7 @@ impl<'a> Task<'a> {
                 Ok(Text::Groups(reader.finish()?, hex))
             }
             Task::Soft(input, plan, margin, rows) => {
-                let source = SoftSource::of(alloc, input, margin, held)?;
-                Ok(Text::Soft(source, plan, rows))
+                soft_text_of(alloc, input, plan, margin, rows, held)
             }
         }
     }
@@ -143,4 +142,21 @@ fn totals_of<R: Threads + Sync, G: Gate + Sync>(
     let recording = recording_of(input, held)?;
     let report = report_by(rt, alloc, plan, &recording, Spans::Whole, gate)?;
     Ok(report.totals)
+}
+
+/// The listing of the symbols that the bytes are, or only its totals.
+fn soft_text_of<'a>(
+    alloc: Global,
+    input: Input,
+    plan: Plan<'a>,
+    margin: Margin,
+    rows: bool,
+    held: Vec<u8>,
+) -> Result<Text<'a>, ToolError>
+    ensures ok { IfOk result (λ text. text_of_task (task.Soft input plan.entry margin rows) held.items
+        ≡ Ok (bytes_of text)) }
+    ensures refused { IfErr result (IsMemoryOrErrOf (text_of_task (task.Soft input plan.entry margin rows) held.items)) }
+{
+    let source = SoftSource::of(alloc, input, margin, held)?;
+    Ok(Text::Soft(source, plan, rows))
 }

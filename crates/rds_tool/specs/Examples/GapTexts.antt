@@ -1,5 +1,5 @@
 -- Texts of `--gaps` and the gaps that they spell: pairs of 1 to 12 digits each, with a comma between each two.
-use Rattle.std.specs.Prelude.{◌≡◌, ℕ, List, Option, [], ◌∷◌, None, Some, codes, map, refl}
+use Rattle.std.specs.Prelude.{◌≡◌, ℕ, List, [], ◌∷◌, None, Some, codes, map, refl}
 use Rattle.rds_tool.specs.GapText.{gaps_of}
 
 -- these texts spell these gaps

@@ -1,8 +1,8 @@
 -- A row of each kind, with each form of its fields.
-use Rattle.std.specs.Prelude.{◌≡◌, ℕ, List, [], ◌∷◌, ◌++◌, None, Some, codes, false, map, refl, true}
+use Rattle.std.specs.Prelude.{◌≡◌, ℕ, Bool, List, [], ◌∷◌, ◌++◌, None, Some, codes, false, map, refl, true}
 use Rattle.std.specs.{Fmt.digits, List.flat_map}
+use Rattle.rds_sync.specs.declared.{item.Version.Version, item.Block.TheVariants.Missing, item.Block.TheVariants.Read, item.Item.Item, item.Item.TheVariants.Acquired, item.Item.TheVariants.Group, item.Item.TheVariants.LostLock, totals.Totals.Totals}
 use Rattle.rds_code.specs.declared.{offset.Offset.TheVariants.A, offset.Offset.TheVariants.B, offset.Offset.TheVariants.C, offset.Offset.TheVariants.Cx, offset.Offset.TheVariants.D, reading.Reading.TheVariants.Corrected, reading.Reading.TheVariants.Lost, reading.Reading.TheVariants.Valid}
-use Rattle.rds_sync.specs.declared.{item.Block.TheVariants.Missing, item.Block.TheVariants.Read, item.Item.Item, item.Item.TheVariants.Acquired, item.Item.TheVariants.Group, item.Item.TheVariants.LostLock, totals.Totals.Totals}
 use Rattle.rds_sync.specs.declared.item.Version.TheVariants as version
 use Rattle.rds_tool.specs.{Listing.block_text, Listing.item_row, Listing.kind_text, Listing.report_text, Listing.totals_text, Listing.version_text, Listing.window_row, Examples.Words.line}
 
@@ -24,7 +24,7 @@ pub kinds : map kind_text (None ∷ Some 0 ∷ Some 9 ∷ Some 10 ∷ Some 15 �
 unfolding digits
 kinds = refl
 
-pub versions : map (λ row. version_text row.0 row.1)
+pub versions : map (λ (row : Version × Bool). version_text row.0 row.1)
     ((version.A, false) ∷ (version.B, false) ∷ (version.Unknown, false) ∷ (version.A, true) ∷ (version.B, true) ∷ [])
     ≡ codes "A" ∷ codes "B" ∷ codes "?" ∷ codes "A!" ∷ codes "B!" ∷ []
 versions = refl

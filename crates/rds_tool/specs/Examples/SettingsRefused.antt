@@ -1,5 +1,5 @@
 -- Settings at the ends of their ranges and past them, and which of two that are out of range is refused.
-use Rattle.std.specs.Prelude.{◌≡◌, ◌∷◌, [], Err, List, Ok, map, refl, true, false}
+use Rattle.std.specs.Prelude.{◌≡◌, ◌∷◌, ℕ, [], Err, List, Ok, map, refl, true, false}
 use Rattle.rds_sync.specs.declared.loss.Loss.TheVariants.{Run, Share}
 use Rattle.rds_tool.specs.{Cuts.are_inner, Cuts.places_at, Plans.plan_of, declared.error.ToolError.ToolError, declared.error.ToolError.TheVariants.BadCutting, declared.error.ToolError.TheVariants.BurstRange, declared.error.ToolError.TheVariants.CrewRange, declared.error.ToolError.TheVariants.LossRange, declared.error.ToolError.TheVariants.ReachRange, declared.error.ToolError.TheVariants.ShareRange, declared.job.Cuts.TheVariants.Even, declared.job.Settings.Settings, Examples.Words.settings_of, Examples.Words.share_settings}
 
@@ -43,11 +43,11 @@ pub in_order : AreRefused (
 in_order = refl
 
 -- cuts inside a recording: they rise, above 0 and below its length; no bits have no cuts
-pub cuts : map (λ row. are_inner row.0 row.1)
+pub cuts : map (λ (row : ℕ × List ℕ). are_inner row.0 row.1)
     ((208, 1 ∷ 104 ∷ 207 ∷ []) ∷ (208, []) ∷ (0, []) ∷ (208, 0 ∷ []) ∷ (208, 208 ∷ []) ∷ (208, 5 ∷ 5 ∷ []) ∷ (208, 6 ∷ 5 ∷ [])
     ∷ (208, 5 ∷ 209 ∷ []) ∷ (0, 1 ∷ []) ∷ [])
     ≡ true ∷ true ∷ true ∷ false ∷ false ∷ false ∷ false ∷ false ∷ false ∷ []
 cuts = refl
 
-pub places : map (λ row. places_at row.0 row.1) ((208, 104 ∷ []) ∷ (0, []) ∷ []) ≡ (0 ∷ 104 ∷ 208 ∷ []) ∷ (0 ∷ []) ∷ []
+pub places : map (λ (row : ℕ × List ℕ). places_at row.0 row.1) ((208, 104 ∷ []) ∷ (0, []) ∷ []) ≡ (0 ∷ 104 ∷ 208 ∷ []) ∷ (0 ∷ []) ∷ []
 places = refl

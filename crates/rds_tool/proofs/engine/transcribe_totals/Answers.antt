@@ -1,5 +1,5 @@
 use Rattle.rds_tool.proofs.Names.{common_steps, arith, ◌≡◌, ◌∙◌, Err, List, Ok, Some, ap, inl, subst, sym, ℕ, report_items, RuleNumbers, totals_of, recording_of, InputOf, InputCounterOf, text_of_task, PlanOf, IsMemoryOrErrOf, ToolError}
-use Rattle.rds_tool.proofs.{Passing.passed, Texts.any_cut, Texts.no_failure, Texts.totals_made, Transcribing.at_bytes, Transcribing.at_memory, Transcribing.at_read, Transcribing.at_writer, engine.transcribe_totals.Given.Over, engine.transcribe_totals.Goals.After-read_all}
+use Rattle.rds_tool.proofs.{Passing.passed, Texts.any_cut, Texts.no_failure, Texts.totals_made, Transcribing.at_bytes, Transcribing.at_memory, Transcribing.at_read, Transcribing.at_writer, engine.transcribe_totals.Given.Over, engine.transcribe_totals.Goals.In_ok-read_all}
 use Rattle.rds_tool.specs.declared.task.Task.TheVariants as task
 use Rattle.rds_tool.proofs.engine.transcribe_totals.Goals as goal
 
@@ -10,7 +10,7 @@ refused : (input : InputOf) (text : List ℕ) (e : ToolError) → IsMemoryOrErrO
     → IsMemoryOrErrOf (text_of_task (task.Totals input plan) text) e
 refused input text e it plan = grind (arith, common_steps)
 
-module _ (g : Over) (c : After-read_all g) where
+module _ (g : Over) (c : In_ok-read_all g) where
   input : c.read_all.new.taker.input ≡ c.args.input.now
   input = ap (λ (t : InputOf × RuleNumbers). t.0) (same_terms _ _ c.in_ok-read_all.ensures.terms) ∙ ap (λ (t : InputCounterOf). t.input) c.in_ok-counter.ensures.new
 
@@ -34,7 +34,7 @@ returns-in_err-totals g c = λ job is.
     let text = c.read_all.new.taker.text in
     at_bytes g.S.Source g.K.Sink job _ _ _ _ (task.Totals c.args.input.now c.args.plan.now) text is read.ok read.given read.ended
     (no_failure tt _ _ read.read) c.in_err-totals.field-0.0 (passed _ _ c.from_residual-in_err-totals.ensures)
-    (refused c.args.input.now text _ (subst (λ (i : InputOf). IsMemoryOrErrOf (recording_of i text) c.in_err-totals.field-0.0) (input g (goal.at.returns-in_err-totals g c).After-read_all) c.in_err-totals.ensures.refused) c.args.plan.now)
+    (refused c.args.input.now text _ (subst (λ (i : InputOf). IsMemoryOrErrOf (recording_of i text) c.in_err-totals.field-0.0) (input g (goal.at.returns-in_err-totals g c).In_ok-read_all) c.in_err-totals.ensures.refused) c.args.plan.now)
 
 pub returns-in_err-rows : goal.returns-in_err-rows
 returns-in_err-rows g c = λ job is.
@@ -46,7 +46,7 @@ pub returns : goal.returns
 returns g c = λ job is.
     let read = c.in_ok-read_all.ensures in
     let wrote = c.write_to.ensures in
-    let d = (goal.at.returns g c).After-read_all in
+    let d = (goal.at.returns g c).In_ok-read_all in
     let plan = c.args.plan.now in
     let text = c.read_all.new.taker.text in
     let (recording, made, sum) = c.in_ok-totals.ensures.totals in

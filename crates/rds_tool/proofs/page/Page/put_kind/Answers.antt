@@ -1,6 +1,6 @@
 use Rattle.rds_tool.proofs.Names.{common_steps}
 use Rattle.rds_tool.proofs.Decimals.{one_digit, spelled}
-use Rattle.std.proofs.Common.{◌++◌, ◌∙◌, ◌∷◌, ap, arith, rules}
+use Rattle.std.proofs.Common.{◌++◌, ◌∙◌, ◌∷◌, ap, arith}
 use Rattle.rds_tool.proofs.page.Page.put_kind.Goals as goal
 
 pub returns-then-kind-lt10-clause-text : goal.returns-then-kind-lt10-clause-text

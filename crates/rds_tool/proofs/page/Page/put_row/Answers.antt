@@ -1,4 +1,4 @@
-use Rattle.rds_tool.proofs.Names.{Bor, List, [], ap, append_assoc, append-nil, arith, length, slice_index_or, suc, sym, take, ◌++◌, ◌-◌, ◌<◌, ◌∙◌, ◌∷◌, ◌≡◌, ◌≤◌, ℕ, flat_map, common_steps}
+use Rattle.rds_tool.proofs.Names.{Bor, List, [], ap, append_assoc, arith, length, slice_index_or, suc, sym, take, ◌++◌, ◌-◌, ◌<◌, ◌∙◌, ◌∷◌, ◌≡◌, ◌≤◌, ℕ, flat_map, common_steps}
 use Rattle.rds_tool.proofs.{RowText.row_short_now, RowText.text_short, Spelled.fields_after, Spelled.joined_last, Spelled.short_at}
 use Rattle.rds_tool.proofs.page.Page.put_row.Goals as goal
 
