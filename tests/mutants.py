@@ -123,7 +123,7 @@ def swapped(values: list[Any]) -> Iterator[list[Any]]:
 
 def texts_of(text: str) -> Iterator[str]:
     """A table in a text, edited. Entries that begin with their keys keep these."""
-    comments = {place for found in re.finditer("^ *--.*", text, re.M) for place in range(*found.span())}
+    comments = {place for found in re.finditer("-- .*", text) for place in range(*found.span())}
     for pattern, new in IN_TEXT.items():
         for found in re.finditer(pattern, text):
             if found.start() not in comments:

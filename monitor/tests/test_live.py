@@ -143,6 +143,17 @@ def test_blocks_are_counted_until_two_seconds_have_passed(
         assert capsys.readouterr().err == said, at
 
 
+def test_an_input_is_waited_for_two_seconds(monkeypatch: pytest.MonkeyPatch) -> None:
+    """By the clock: what is left of them, or no time."""
+    now, waits = [100.0], list[float]()
+    monkeypatch.setattr(pipe.time, "monotonic", now.pop)
+    monkeypatch.setattr(pipe.select, "select", lambda *given: (waits.append(given[3]), ([], [], []))[1])
+    for at in (100.5, 103.0):
+        now[:] = [at, 100.0]
+        assert pipe.Pipe(io.BytesIO(b"it")).read(9) == b"it"
+    assert waits == [1.5, 0.0]
+
+
 def test_no_input_is_said() -> None:
     chain = Chain("groups --unfinished", follows=True)
     assert chain.says(20) == "rds-monitor: no sync yet: no input\n"
