@@ -86,7 +86,7 @@ FORMS = [
     ("16-bit samples, one per bit", samples("<i2", -1200, 900), "s16"),
     ("16-bit samples, one per bit, inverted", samples("<i2", 900, -1200), "s16 --invert"),
     ("soft bits, 32-bit floating point", samples("<f4", -0.8, 1.3), "f32"),
-    (ONE_SAMPLE, wav(samples("u1", 40, 210), "u8", 1187), "wav"),
+    (ONE_SAMPLE, wav(samples("u1", 40, 210), "u8", 99999), "wav"),
     (ONE_SAMPLE, wav(samples("<i2", -1200, 900), "s16", 1187, more=LIST_CHUNK) + b"LIST", "wav"),
     (ONE_SAMPLE, wav(samples("<f4", -0.8, 1.3), "f32", 1187), "wav"),
     ("signed bytes, one per symbol, as rds --soft reads them", symbols("i1", -99, 127), "soft"),
