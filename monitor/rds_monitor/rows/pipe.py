@@ -31,7 +31,7 @@ class Pipe:
         data: bytes = self._stream.read(size)
         return data
 
-    def decode(self, data: bytes, synced: bool, soft: bool) -> None:
+    def decode(self, data: bytes, synced: bool, soft: bool = False) -> None:
         """These bytes were decoded, of bits or of symbols, and gave a row or none yet."""
         if self._synced:
             return
