@@ -20,6 +20,7 @@ from modulator import Array, iq, mpx, stored, wav, words
 
 from rds_monitor.signal import form
 from rds_monitor.signal.pack import READERS, Conversion, bits_of, packed_of
+from rds_monitor.signal.rates import likely_rate
 
 STATION_BYTES = STATION.read_bytes()
 BITS = numpy.unpackbits(numpy.frombuffer(STATION_BYTES, "u1"))
@@ -182,6 +183,10 @@ def test_signals(name: str, form: str, signal: Array, radio: Array, tmp_path: Pa
     assert groups >= 40 and kind in found and str(rate) in found
     assert cure.startswith("rds-monitor demod ") and (" --iq" in cure) == (kind == "IQ")
     assert int(rds("totals", data=shell(cure, tmp_path)).split(b"total,complete,")[1].split(b",")[0]) >= 45
+
+
+def test_two_blocks_of_samples_tell_the_rate(signal: Array) -> None:
+    assert [likely_rate(signal[:size]) for size in (65535, 65536)] == [None, 192000]
 
 
 def test_mpx_in_the_second_channel_and_in_flac(signal: Array, tmp_path: Path) -> None:
