@@ -155,7 +155,8 @@ def test_outages_over_a_cut_are_one(database) -> None:
     def whole(begin: int, end: int) -> List[Any]:
         return [group_row(place, WORDS) for place in range(begin, end - 103, 104)]
 
-    first = listing(whole(0, 71250), False)
+    # and one of 1.051 s
+    first = listing(whole(0, 62400) + whole(63648, 71250), False)
     add(
         "--unfinished --length 142500 --trust-length --start 2026-03-29T23:59:00Z --station X --name 1",
         database,
@@ -167,11 +168,12 @@ def test_outages_over_a_cut_are_one(database) -> None:
         data=listing([*lock(26, [WORDS] * 3), *lock(35672, [WORDS] * 342)], False),
     )
     assert asked(database, "SELECT begin_utc, end_utc, length_s FROM station_outages") == [
+        ("2026-03-29T23:59:52.547Z", "2026-03-29T23:59:53.598Z", 1.051),
         ("2026-03-29T23:59:59.992Z", "2026-03-30T00:01:00.000Z", 60.008),
         ("2026-03-30T00:01:00.285Z", "2026-03-30T00:01:30.040Z", 29.755),
     ]
     assert asked(database, "SELECT day, hours, sent, valid FROM days") == [
-        ("2026-03-29", 0.02, 2740, 2740),
+        ("2026-03-29", 0.02, 2740, 2692),
         ("2026-03-30", 0.03, 5479, 1380),
     ]
 
