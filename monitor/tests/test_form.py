@@ -21,6 +21,7 @@ from modulator import Array, iq, mpx, stored, wav, words
 from rds_monitor.signal import form
 from rds_monitor.signal.pack import READERS, Conversion, bits_of, packed_of
 from rds_monitor.signal.rates import likely_rate
+from rds_monitor.signal.samples import FORMS as FORMS_OF_SAMPLES, numbers
 
 STATION_BYTES = STATION.read_bytes()
 BITS = numpy.unpackbits(numpy.frombuffer(STATION_BYTES, "u1"))
@@ -183,6 +184,12 @@ def test_signals(name: str, form: str, signal: Array, radio: Array, tmp_path: Pa
     assert groups >= 40 and kind in found and str(rate) in found
     assert cure.startswith("rds-monitor demod ") and (" --iq" in cure) == (kind == "IQ")
     assert int(rds("totals", data=shell(cure, tmp_path)).split(b"total,complete,")[1].split(b",")[0]) >= 45
+
+
+def test_the_largest_number_of_a_form_is_its_full_scale() -> None:
+    for name in ("u8", "s16", "s24", "s32"):
+        (largest,) = numbers(stored(numpy.array([3.0]), name), name)
+        assert 0.99 < largest / FORMS_OF_SAMPLES[name][1] <= 1, name
 
 
 def test_two_blocks_of_samples_tell_the_rate(signal: Array) -> None:
