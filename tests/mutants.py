@@ -123,7 +123,7 @@ def swapped(values: list[Any]) -> Iterator[list[Any]]:
 
 def texts_of(text: str) -> Iterator[str]:
     """A table in a text, edited. Entries that begin with their keys keep these."""
-    comments = {place for found in re.finditer("^ *--.*", text, re.M) for place in range(*found.span())}
+    comments = {place for found in re.finditer("-- .*", text) for place in range(*found.span())}
     for pattern, new in IN_TEXT.items():
         for found in re.finditer(pattern, text):
             if found.start() not in comments:
@@ -337,7 +337,10 @@ class Trial(NamedTuple):
 
 def tried(trials: list[Trial], jobs: int) -> Iterator[tuple[Trial, str]]:
     """Each trial with the test that sees it, or "": at first all, then the tests that failed, without an edit."""
-    with tempfile.TemporaryDirectory() as folder, ThreadPoolExecutor(jobs) as pool:
+    # In memory an edit takes a third of the time.
+    room = os.environ.get("TMPDIR") or ("/dev/shm" if os.access("/dev/shm", os.W_OK) else None)
+    with tempfile.TemporaryDirectory(dir=room) as folder, ThreadPoolExecutor(jobs) as pool:
+        os.environ["TMPDIR"] = folder
         copies = queue.Queue[Path]()
         for number in range(min(jobs, len(trials))):
             copies.put(copy := Path(folder) / str(number))

@@ -64,12 +64,13 @@ def test_listings_of_whatever_name(folders: Any, station_listing: bytes) -> None
     assert (done.returncode, done.stdout, done.stderr) == (0, b"", b"")
     assert listings(folders[1]) == {name[:-4] + ".csv": station_listing for name in NAMES}
     assert not left_over(folders[1])
-    # Those that are there are left as they are.
+    # Those that are there are left as they are, and so is a folder.
+    (folders[1] / "mine").mkdir()
     (folders[1] / "a.csv").write_bytes(b"mine\n" + station_listing[-400:])
     (folders[1] / "-n.csv").unlink()
     assert monitor("batch", *folders).returncode == 0
     assert listings(folders[1])["-n.csv"] == station_listing
-    assert listings(folders[1])["a.csv"].startswith(b"mine\n")
+    assert listings(folders[1])["a.csv"].startswith(b"mine\n") and (folders[1] / "mine").is_dir()
 
 
 def test_no_station_is_named_each_time(folders: Any) -> None:

@@ -20,7 +20,6 @@ from sent import clock, group, label, tags
 def test_every_line_is_a_field() -> None:
     assert len(FIELDS) == len(TABLE.strip().splitlines()) - 1
     for field in FIELDS.values():
-        assert field.clause and field.meaning
         assert all(1 <= block <= 4 and shift + mask.bit_length() <= 16 for block, shift, mask in field.parts)
 
 

@@ -20,6 +20,8 @@ from modulator import Array, iq, mpx, stored, wav, words
 
 from rds_monitor.signal import form
 from rds_monitor.signal.pack import READERS, Conversion, bits_of, packed_of
+from rds_monitor.signal.rates import likely_rate
+from rds_monitor.signal.samples import FORMS as FORMS_OF_SAMPLES, numbers
 
 STATION_BYTES = STATION.read_bytes()
 BITS = numpy.unpackbits(numpy.frombuffer(STATION_BYTES, "u1"))
@@ -86,7 +88,7 @@ FORMS = [
     ("16-bit samples, one per bit", samples("<i2", -1200, 900), "s16"),
     ("16-bit samples, one per bit, inverted", samples("<i2", 900, -1200), "s16 --invert"),
     ("soft bits, 32-bit floating point", samples("<f4", -0.8, 1.3), "f32"),
-    (ONE_SAMPLE, wav(samples("u1", 40, 210), "u8", 1187), "wav"),
+    (ONE_SAMPLE, wav(samples("u1", 40, 210), "u8", 99999), "wav"),
     (ONE_SAMPLE, wav(samples("<i2", -1200, 900), "s16", 1187, more=LIST_CHUNK) + b"LIST", "wav"),
     (ONE_SAMPLE, wav(samples("<f4", -0.8, 1.3), "f32", 1187), "wav"),
     ("signed bytes, one per symbol, as rds --soft reads them", symbols("i1", -99, 127), "soft"),
@@ -182,6 +184,16 @@ def test_signals(name: str, form: str, signal: Array, radio: Array, tmp_path: Pa
     assert groups >= 40 and kind in found and str(rate) in found
     assert cure.startswith("rds-monitor demod ") and (" --iq" in cure) == (kind == "IQ")
     assert int(rds("totals", data=shell(cure, tmp_path)).split(b"total,complete,")[1].split(b",")[0]) >= 45
+
+
+def test_the_largest_number_of_a_form_is_its_full_scale() -> None:
+    for name in ("u8", "s16", "s24", "s32"):
+        (largest,) = numbers(stored(numpy.array([3.0]), name), name)
+        assert 0.99 < largest / FORMS_OF_SAMPLES[name][1] <= 1, name
+
+
+def test_two_blocks_of_samples_tell_the_rate(signal: Array) -> None:
+    assert [likely_rate(signal[:size]) for size in (65535, 65536)] == [None, 192000]
 
 
 def test_mpx_in_the_second_channel_and_in_flac(signal: Array, tmp_path: Path) -> None:

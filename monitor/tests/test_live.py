@@ -14,7 +14,7 @@ import numpy
 import pytest
 
 from conftest import COMMAND, PROGRAM, encode
-from made import symbols
+from made import output, symbols
 from rds_monitor.rows import pipe
 
 PIPE = subprocess.PIPE
@@ -141,6 +141,27 @@ def test_blocks_are_counted_until_two_seconds_have_passed(
         now[0] = at
         stream.decode(given, synced, soft)
         assert capsys.readouterr().err == said, at
+
+
+def test_an_input_is_waited_for_two_seconds(monkeypatch: pytest.MonkeyPatch) -> None:
+    """By the clock: what is left of them, or no time."""
+    now, waits = [100.0], list[float]()
+    monkeypatch.setattr(pipe.time, "monotonic", now.pop)
+    monkeypatch.setattr(pipe.select, "select", lambda *given: (waits.append(given[3]), ([], [], []))[1])
+    for at in (100.5, 103.0):
+        now[:] = [at, 100.0]
+        assert pipe.Pipe(io.BytesIO(b"it")).read(9) == b"it"
+    assert waits == [1.5, 0.0]
+
+
+def test_rows_are_sync(station_listing: bytes, monkeypatch: pytest.MonkeyPatch) -> None:
+    """Nothing is waited for but the first of them."""
+    waits: List[Any] = []
+    monkeypatch.setattr(pipe.select, "select", lambda *given: waits.append(given) or given)
+    read, write = os.pipe()
+    os.write(write, station_listing[:5000])
+    os.close(write)
+    assert output("groups", "--unfinished", f"/dev/fd/{read}") and len(waits) == 1
 
 
 def test_no_input_is_said() -> None:

@@ -236,6 +236,16 @@ def test_parquet_by_pyarrow(station: bytes, monkeypatch) -> None:
     assert made.schema.endswith("time_s time_utc")
 
 
+def test_parquet_by_pandas(station: bytes, monkeypatch) -> None:
+    """All rows of several chunks, numbered from 0 on."""
+    pandas, frames = pytest.importorskip("pandas"), []
+    monkeypatch.setitem(sys.modules, "pyarrow", None)
+    monkeypatch.setattr(pandas.DataFrame, "to_parquet", lambda *given: frames.append(given))
+    assert output("table", "--parquet", "it.parquet", *START, data=20 * station) == ""
+    ((frame, path),) = frames
+    assert path == "it.parquet" and frame.index[-1] == len(frame) - 1 > 38000
+
+
 # ---- other tables, and parts
 
 

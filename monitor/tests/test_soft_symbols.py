@@ -15,6 +15,7 @@ from measure_demod import bits_of
 from modulator import Array, dropped, iq, mpx, stored, wav, words
 
 from rds_monitor.rows.blocks import BlockCounter
+from rds_monitor.signal.phase import PhaseTrack
 from rds_monitor.signal.receiver import Capture
 from rds_monitor.signal.soft import SoftSymbols
 
@@ -30,6 +31,15 @@ def bits_between(symbols: Array) -> Array:
     """A bit is 1 if exactly one of the two symbols is above 0."""
     above = symbols > 0
     return (above[1:] != above[:-1]).astype("u1")
+
+
+def test_a_phase_goes_on_as_it_turned() -> None:
+    """Over steps of which nothing is known."""
+    values = numpy.exp(0.05j * numpy.arange(900))
+    values[400:600] = 0
+    track = PhaseTrack(4, 8, 0.2, 0.5)
+    found = numpy.concatenate([track.push(part).phase for part in numpy.split(values, 9)])
+    assert numpy.diff(found) == pytest.approx(numpy.full(found.size - 1, 0.05))
 
 
 # ---- by a definition

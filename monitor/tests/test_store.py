@@ -155,7 +155,8 @@ def test_outages_over_a_cut_are_one(database) -> None:
     def whole(begin: int, end: int) -> List[Any]:
         return [group_row(place, WORDS) for place in range(begin, end - 103, 104)]
 
-    first = listing(whole(0, 71250), False)
+    # and one of 1.051 s
+    first = listing(whole(0, 62400) + whole(63648, 71250), False)
     add(
         "--unfinished --length 142500 --trust-length --start 2026-03-29T23:59:00Z --station X --name 1",
         database,
@@ -167,11 +168,12 @@ def test_outages_over_a_cut_are_one(database) -> None:
         data=listing([*lock(26, [WORDS] * 3), *lock(35672, [WORDS] * 342)], False),
     )
     assert asked(database, "SELECT begin_utc, end_utc, length_s FROM station_outages") == [
+        ("2026-03-29T23:59:52.547Z", "2026-03-29T23:59:53.598Z", 1.051),
         ("2026-03-29T23:59:59.992Z", "2026-03-30T00:01:00.000Z", 60.008),
         ("2026-03-30T00:01:00.285Z", "2026-03-30T00:01:30.040Z", 29.755),
     ]
     assert asked(database, "SELECT day, hours, sent, valid FROM days") == [
-        ("2026-03-29", 0.02, 2740, 2740),
+        ("2026-03-29", 0.02, 2740, 2692),
         ("2026-03-30", 0.03, 5479, 1380),
     ]
 
@@ -192,9 +194,9 @@ def test_the_views_of_written_rows(database) -> None:
                 "2, 0, 3000, 2400, 1, 2, 597, 0",
             )
         ),
-        "INSERT INTO outage_rows VALUES(1, 10000, 11000), (1, 12000, 14500), (1, 14700, 15000), (1, 98500, 100000)",
+        "INSERT INTO outage_rows VALUES(1, 10000, 11000), (1, 12000, 14500), (1, 14650, 14950), (1, 98500, 100000)",
         "INSERT INTO outage_rows VALUES(2, 0, 4500), (2, 4650, 9000), (2, 60000, 63001)",
-        "INSERT INTO watched_rows VALUES(1, 'X', 86330, 86500), (2, 'X', 86510.5, 86512)",
+        "INSERT INTO watched_rows VALUES(1, 'X', 86330, 86500), (2, 'X', 86510.5, 86512), (3, 'X', 86520, 86520.15)",
         "INSERT INTO alarm_rows VALUES(1, 'X', 'pi', 1000.25, 1003.62, 'D319'), (2, 'Y', 'ps', 2000, NULL, 'BETA')",
         "INSERT INTO run_rows VALUES(1, 'X', 1000.5, 2000.75, 'it ended')",
         "INSERT INTO station_rows VALUES('X', 3000.125, 'fine')",
@@ -216,7 +218,7 @@ def test_the_views_of_written_rows(database) -> None:
     assert asked(database, query) == [
         (10000, 11000, day + "10.000Z", day + "11.000Z", 1.0),
         (12000, 14500, day + "12.000Z", day + "14.500Z", 2.5),
-        (14700, 15000, day + "14.700Z", day + "15.000Z", 0.3),
+        (14650, 14950, day + "14.650Z", day + "14.950Z", 0.3),
         (98500, 100000, next_day + "0:38.500Z", next_day + "0:40.000Z", 1.5),
         (0, 4500, next_day + "0:40.000Z", next_day + "0:41.500Z", 1.5),
         (4650, 9000, next_day + "0:41.550Z", next_day + "0:43.000Z", 1.45),
@@ -228,17 +230,18 @@ def test_the_views_of_written_rows(database) -> None:
         ("1970-01-01T23:58:50.000Z", day + "00.000Z", 10.0, "down"),
         (day + "10.000Z", day + "11.000Z", 1.0, "noise"),
         (day + "12.000Z", day + "14.500Z", 2.5, "noise"),
-        (day + "14.700Z", day + "15.000Z", 0.3, "noise"),
+        (day + "14.650Z", day + "14.950Z", 0.3, "noise"),
         (next_day + "0:38.500Z", next_day + "0:43.000Z", 4.5, "noise"),
         (next_day + "1:00.000Z", next_day + "1:01.000Z", 1.0, "noise"),
         (next_day + "1:19.000Z", None, 1.0, "noise"),
         (next_day + "1:20.000Z", None, 20.0, "down"),
         (next_day + "1:50.500Z", None, 1.5, "down"),
+        (next_day + "2:00.000Z", None, 0.15, "down"),
     ]
     # 2300 blocks at 1000 bits per second are 59.8 s; 1530, and 3000 at 3000, 65.78 s.
     assert asked(database, "SELECT * FROM days") == [
         ("X", "1970-01-01", 0.02, 2300, 2000, 86.96, 56.2, 3.8, 10.0, 86330.0),
-        ("X", "1970-01-02", 0.02, 4530, 3900, 86.09, 73.55, 6.45, 21.5, 86298.5),
+        ("X", "1970-01-02", 0.02, 4530, 3900, 86.09, 73.55, 6.45, 21.65, 86298.35),
     ]
 
     # All of its sessions: when it was watched for longer; for 20 seconds of them; and when another one has the same time. A time without

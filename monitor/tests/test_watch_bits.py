@@ -4,17 +4,19 @@ from __future__ import annotations
 
 import json
 import random
-from typing import Dict, List, Tuple
+from types import SimpleNamespace
+from typing import Any, Dict, List, Tuple
 
 import numpy
 import pytest
 
-from conftest import encode
+from conftest import encode, rds
 from modulator import iq, mpx, stored, words
-from network import stations
+from network import START, stations
 from rds_monitor.rows.items import Fault
-from rds_monitor.rows.decoders import decode
+from rds_monitor.rows.decoders import decode, decoder_of
 from rds_monitor.watch.bits import Lines, bit_source
+from rds_monitor.watch.station import Station
 from rds_monitor.watch.table import StationTable, table_of
 
 GROUPS = words(5, 60)
@@ -70,6 +72,18 @@ def test_a_signal(name: str) -> None:
     assert right(b"".join([source.take(piece) for piece in cut(data, 3)]) + source.finish()) >= 50
     assert 0.5 < source.delay < 3 and source.strength is not None
     assert source.strength.snr_db is not None and source.strength.snr_db > 15
+
+
+def test_the_last_bits_of_a_session() -> None:
+    """Of a signal the receiver gives them once it has ended."""
+    one, said = station(*FORMS["mpx s16"], "soft = false"), []
+    data, source = stored(mpx(encode(GROUPS), 171000, snr=40), "s16"), bit_source(one)
+    bits = source.take(data) + source.finish()
+    keeper: Any = SimpleNamespace(read=lambda steady: data, starts=1, is_stopping=False)
+    watched = Station(one, keeper, decoder_of()[0], 1000.0, 0.0, lambda *words: said.append(words))
+    watched.poll(0.0, START)
+    watched.end_session(START + 10)
+    assert b"".join(append.data for append in watched.appends) == rds("list", data=bits) and said == []
 
 
 def test_multipath_is_undone_if_the_table_says_so() -> None:

@@ -258,7 +258,7 @@ def test_by_size(tmp_path: Path) -> None:
     assert kept(tmp_path, Keep(listings_gb=300e-9), 100, 100, 100, 100, 100) == [2, 3, 4]
     assert kept(tmp_path / "less", Keep(listings_gb=50e-9), 100, 100, 100, 100, 100) == [3, 4]
     # of 1,000,000,000 bytes each
-    assert kept(tmp_path / "decimal", Keep(listings_gb=290e-9), 100, 100, 100, 100, 100) == [3, 4]
+    assert kept(tmp_path / "decimal", Keep(listings_gb=299e-9), 100, 100, 100, 100, 100) == [3, 4]
     assert len(list((tmp_path / "listings" / "Alpha").glob("*.csv"))) == 3
 
 

@@ -312,8 +312,14 @@ def test_numbers_of_the_page() -> None:
         assert told in PAGE and all(wanted == found for wanted, found in numbers), told
 
 
-def test_priorities_of_the_journal() -> None:
+def test_priorities_of_the_journal(
+    monkeypatch: pytest.MonkeyPatch, capsys: pytest.CaptureFixture[str]
+) -> None:
     """Those of syslog, by which systemd takes them."""
     kinds = syslog.LOG_ERR, syslog.LOG_WARNING, syslog.LOG_NOTICE, syslog.LOG_INFO
     wanted = dict(zip(("error", "warning", "notice", "info"), kinds))
     assert journal.PRIORITIES == wanted
+    for known, mark in (({"JOURNAL_STREAM": "8:1"}, "<4>"), ({}, "rds-monitor watch: ")):
+        monkeypatch.setattr(journal.os, "environ", known)
+        journal.say("warning", "a line")
+        assert capsys.readouterr().err == f"{mark}a line\n"

@@ -8,7 +8,7 @@ from typing import Dict, FrozenSet, List, NamedTuple, Optional, Tuple
 from .fields import FIELDS
 from .turns import Shape
 
-RT_PLUS, ERT_PLUS, ENHANCED_RT, DAB_LINK, TMC = 0x4BD7, 0x4BD8, 0x6552, 0x0093, (0xCD46, 0xCD47)
+ENHANCED_RT, TMC = 0x6552, (0xCD46, 0xCD47)
 
 # Kinds of news, in the order in which those of one group are told.
 Kind = IntEnum(

@@ -53,14 +53,8 @@ JOIN = "JOIN sessions ON sessions.id = session JOIN recordings ON recordings.id 
 # The contents that a minute names; all others are found in the events.
 HELD = ("pi", "ps", "rt", "pty", "tp", "ta", "ms")
 
-MINUTES = f"""
-CREATE VIEW minutes AS
-  SELECT {OF}, minute, {_utc('start + minute * minute_bits / rate')} AS begin_utc,
-    minute * minute_bits / rate AS begin_s, sent, valid, corrected, lost, missing,
-    ROUND(100.0 * (sent - valid) / sent, 2) AS bad_percent, mix,
-    {', '.join(f'(SELECT value FROM facts WHERE facts.id = minute_rows.{item}) AS {item}' for item in HELD)}, clock_s, more"""
-VIEWS = f"""{MINUTES}
-  FROM minute_rows {JOIN};
+# All other views are those of later versions.
+VIEWS = f"""
 CREATE VIEW events AS
   SELECT {OF}, place, {_utc('start + place / rate')} AS utc, place / rate AS time_s, item, value
   FROM event_rows {JOIN} JOIN facts ON facts.id = fact;
@@ -68,31 +62,6 @@ CREATE VIEW groups AS
   SELECT {OF}, place, {_utc('start + place / rate')} AS utc, place / rate AS time_s, type, version, valid,
     block1, block2, block3, block4
   FROM group_rows {JOIN};
-CREATE VIEW outages AS
-  SELECT {OF}, outage_rows.begin_place, outage_rows.end_place,
-    {_utc('start + outage_rows.begin_place / rate')} AS begin_utc,
-    {_utc('start + outage_rows.end_place / rate')} AS end_utc,
-    (outage_rows.end_place - outage_rows.begin_place) / rate AS length_s
-  FROM outage_rows {JOIN};
--- Valid blocks by day of UTC, of the sessions whose start is known. A minute belongs to the day in which it begins.
-CREATE VIEW days AS
-  SELECT station, date(start + minute * minute_bits / rate, 'unixepoch') AS day,
-    ROUND(SUM(sent) * 26 / rate / 3600, 2) AS hours, SUM(sent) AS sent, SUM(valid) AS valid,
-    ROUND(100.0 * SUM(valid) / SUM(sent), 2) AS valid_percent
-  FROM minute_rows {JOIN} WHERE start IS NOT NULL GROUP BY station, day;
--- Outages by station and time. Those on both sides of a cut between two sessions are one.
-CREATE VIEW station_outages AS
-  WITH told AS (
-    SELECT station, start + outage_rows.begin_place / rate AS begin, start + outage_rows.end_place / rate AS end
-    FROM outage_rows {JOIN} WHERE start IS NOT NULL),
-  apart AS (
-    SELECT *, begin > 0.1 + MAX(end) OVER (
-      PARTITION BY station ORDER BY begin ROWS BETWEEN UNBOUNDED PRECEDING AND 1 PRECEDING) AS new
-    FROM told),
-  numbered AS (SELECT *, SUM(COALESCE(new, 1)) OVER (PARTITION BY station ORDER BY begin) AS number FROM apart)
-  SELECT station, {_utc('MIN(begin)')} AS begin_utc, {_utc('MAX(end)')} AS end_utc,
-    ROUND(MAX(end) - MIN(begin), 3) AS length_s
-  FROM numbered GROUP BY station, number;
 """
 
 # What `watch` writes besides. hour_files: up to which byte the rows of an hour's file are in the tables above, and whether
@@ -130,9 +99,9 @@ CREATE INDEX watched_rows_by_station ON watched_rows(station, begin_at);
 ALTER TABLE sessions ADD COLUMN quiet_place INTEGER;
 -- It is one alarm of the watch.
 UPDATE alarm_rows SET station = '' WHERE alarm = 'disk' AND end_at IS NULL;
-DROP VIEW outages;
-DROP VIEW days;
-DROP VIEW station_outages;
+DROP VIEW IF EXISTS outages;
+DROP VIEW IF EXISTS days;
+DROP VIEW IF EXISTS station_outages;
 CREATE VIEW outages AS
   WITH every AS (
     SELECT session, outage_rows.begin_place AS first, outage_rows.end_place AS after, 0 AS lasts FROM outage_rows
@@ -201,7 +170,12 @@ CREATE VIEW station_outages AS
 STRENGTHS = f"""
 ALTER TABLE minute_rows ADD COLUMN level_dbfs REAL;
 ALTER TABLE minute_rows ADD COLUMN snr_db REAL;
-DROP VIEW minutes;{MINUTES}, level_dbfs, snr_db
+DROP VIEW IF EXISTS minutes;
+CREATE VIEW minutes AS
+  SELECT {OF}, minute, {_utc('start + minute * minute_bits / rate')} AS begin_utc,
+    minute * minute_bits / rate AS begin_s, sent, valid, corrected, lost, missing,
+    ROUND(100.0 * (sent - valid) / sent, 2) AS bad_percent, mix,
+    {', '.join(f'(SELECT value FROM facts WHERE facts.id = minute_rows.{item}) AS {item}' for item in HELD)}, clock_s, more, level_dbfs, snr_db
   FROM minute_rows {JOIN};
 """
 

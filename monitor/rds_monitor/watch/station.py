@@ -47,7 +47,7 @@ class Station:
         self._session: Optional[LiveSession] = None
         self._bits: Optional[Packed] = None
         self._waiting: List[bytes] = []
-        self._counted = 0
+        self._counted: int
         self._starts = 0
         self._last_read = 0.0
         self._last_valid = now
