@@ -12,6 +12,7 @@ from rds_monitor.db.standing import standing
 from rds_monitor.measures.errors import interval_of
 from rds_monitor.measures.measure import count_of
 from rds_monitor.measures.outages import share_of
+from rds_monitor.page.line import CUT, join
 from rds_monitor.rows.clock import number_of, rate_of, start_of
 from rds_monitor.rows.inputs import bits_of, gaps_of, input_options, margin_of, rules_of
 from rds_monitor.rows.items import Fault, Misuse
@@ -159,3 +160,10 @@ def test_sizes_of_transforms(number: float) -> None:
     assert fast_size(number) == min(
         64 * k for k in range(1, 999) if has_small_factors(k) and 64 * k >= number
     )
+
+
+def test_stretches_a_tenth_apart_are_one() -> None:
+    found = [(-5.0, 0.0, "ALPHA")]
+    join(found, (CUT, 2.0, "ALPHA"), CUT)
+    join(found, (2.125, 3.0, "ALPHA"), CUT)
+    assert found == [(-5.0, 2.0, "ALPHA"), (2.125, 3.0, "ALPHA")]
