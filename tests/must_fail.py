@@ -23,6 +23,8 @@ TABLE = Path(__file__).with_suffix(".edits")
 ITEM = re.compile(r'( *)(?:pub(?:\(crate\))? )?(?:const |extern "C" )*(fn|struct|enum|trait|impl)\b([^({;]*)')
 # An import from a crate of this repository, with its names, unless one is an operator.
 IMPORT = re.compile(r"\s*(?:ghost )?use (?!std::|Rattle\.std\.)[\w.:]*?(\w+|\{[^{}◌]*\});")
+# The file of names that the proofs of a crate share.
+NAMES = "proofs/Names.antt"
 # Derives that stay.
 VALUES = {"Clone", "Copy", "Drop"}
 # Brackets that may follow the last line of a comment, and the first lines of the file that they then close.
@@ -72,6 +74,8 @@ class Edit:
     stay: set[str]
     pairs: list[tuple[str, str, str]] = field(default_factory=list)
     texts: dict[str, str] = field(default_factory=dict)
+    # What is asked for of the file of names that proofs share.
+    named: set[str] = field(default_factory=set)
 
     @property
     def crate(self) -> Path:
@@ -104,10 +108,15 @@ class Edit:
             file for path in paths if not re.match(r"proofs/.*/", file := str(path.relative_to(self.crate)))
         ]
         comments = {file: comment(self.read(file)) for file in files}
-        needed = self.needed([kept, *(self.read(file) for file in files if not comments[file])])
+        needed = self.needed(
+            [kept, *(self.read(file) for file in files if not comments[file] and file != NAMES)]
+        )
         for file in sorted(set(files) - needed):
             for old, new in comments[file]:
                 self.replace(file, old, new)
+        for line in self.read(NAMES).splitlines() if NAMES in needed or comments.get(NAMES) == [] else []:
+            if (new := self.name_line(line)) != line:
+                self.replace(NAMES, line, new)
         return "".join(f"file: {file}\nold: {old}\nnew: {new}\n" for file, old, new in self.pairs)
 
     def kept_of_module(self, file: str) -> str:
@@ -177,10 +186,26 @@ class Edit:
                 # a name in braces may be that of a module further down, as Groups.group
                 modules = {(head + name.strip()).rpartition(".")[0] for name in names.split(",")}
                 files = {module.replace(".", "/") + ".antt" for module in {head} | modules}
+                if NAMES in files and (new := {*re.split(r",\s*", names)} - self.named):
+                    self.named |= new
+                    lines = map(self.name_line, self.read(NAMES).splitlines())
+                    texts.append("\n".join(line for line in lines if not line.startswith("--")))
                 for file in sorted(file for file in files - found if (self.crate / file).is_file()):
                     found.add(file)
-                    texts.append(self.read(file))
+                    texts.append(self.read(file) if file != NAMES else "")
         return found
+
+    def name_line(self, line: str) -> str:
+        """A line of the file of names, with the names that are asked for, or as a comment."""
+        head, brace, rest = line.partition("{")
+        if not brace:
+            return line
+        kept = [
+            name
+            for name in re.split(r",\s*", rest.partition("}")[0])
+            if re.split(r" as |\.", name)[-1] in self.named
+        ]
+        return f"{head}{{{', '.join(kept)}}}" if kept else f"-- {line}"
 
 
 def edits() -> Iterator[Edit]:
