@@ -175,11 +175,14 @@ def put_proof(folder, f, twin):
     """Puts the right proof of a function into the copy, for the function or its twin."""
     shutil.rmtree(twin.proof(folder), ignore_errors=True)
     os.makedirs(twin.proof(folder))
+    # In an import of several modules its path follows a brace or a blank.
+    path = re.escape(f.path)
+    own = rf"(?<=\bproofs\.){path}\b|(?<=[{{ ]){path}(?=\.(?:Given|Goals)\b)"
     for at, _, names in os.walk(f.proof(CRATES)):
         to = at.replace(f.proof(CRATES), twin.proof(folder), 1)
         os.makedirs(to, exist_ok=True)
         for it in names:
-            write(f"{to}/{it}", re.sub(rf"\bproofs\.{f.path}\b", f"proofs.{twin.path}", read(f"{at}/{it}")))
+            write(f"{to}/{it}", re.sub(own, twin.path, read(f"{at}/{it}")))
     if not os.path.isfile(f"{twin.proof(folder)}/Proof.antt"):
         path = f"{twin.proof(folder)}/Answers.antt"
         said = (
