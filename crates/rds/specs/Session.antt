@@ -2,11 +2,12 @@
 -- functions that it calls cite it.
 use Rattle.std.specs.Prelude.{◌++◌, ◌<◌, ◌≡◌, ◌≢◌, ◌≤◌, ◌⊎◌, ◌↔◌, [], ℕ, Bool, Err, IfErr, IsErrOf, List, None, Ok, OnOk, Option, Result, Some, false, length, true}
 use Rattle.rds_sync.specs.{Ranges.IsRunOutside, Ranges.IsShareOutside, Ranges.farthest_reach, Ranges.longest_burst, Rules.RuleNumbers}
-use Rattle.rds_tool.specs.{Ends.given_by, Ends.has_ended, Ends.is_flushed, Ends.read_failures, Ends.taken_by, Ends.write_failures, Following.BreaksOff, Following.HasAll, Following.MayBreakOff, Following.Stream, Following.bit_stream, SoftFollowing.symbol_stream, Plans.AreWorkers, Outcome.IsOutside, Outcome.result_of_job, Tasks.task_of, declared.error.ToolError.ToolError, declared.error.ToolError.TheVariants.BurstRange, declared.error.ToolError.TheVariants.CrewRange, declared.error.ToolError.TheVariants.LossRange, declared.error.ToolError.TheVariants.NoWorker, declared.error.ToolError.TheVariants.OutOfMemory, declared.error.ToolError.TheVariants.ReachRange, declared.error.ToolError.TheVariants.Read, declared.error.ToolError.TheVariants.ShareRange, declared.error.ToolError.TheVariants.TooManyTurns, declared.error.ToolError.TheVariants.Write, declared.job.Job.Job, declared.job.Request.Request, declared.job.Request.TheVariants.Follow, declared.job.Request.TheVariants.FollowSoft, declared.job.Request.TheVariants.Job as Work}
+use Rattle.rds_tool.specs.{Ends.given_by, Ends.has_ended, Ends.is_flushed, Ends.read_failures, Ends.taken_by, Ends.write_failures, Following.BreaksOff, Following.HasAll, Following.MayBreakOff, Following.Stream, Following.bit_stream, SoftFollowing.symbol_stream, Plans.AreWorkers, Outcome.IsOutside, Outcome.result_of_job, Tasks.task_of, declared.job.Job.Job, declared.job.Request.Request, declared.job.Request.TheVariants.Follow, declared.job.Request.TheVariants.FollowSoft, declared.job.Request.TheVariants.Job as Work}
+use Rattle.rds_code.specs.declared.error.RdsError.{RdsError, TheVariants.BurstRange, TheVariants.CrewRange, TheVariants.LossRange, TheVariants.NoWorker, TheVariants.OutOfMemory, TheVariants.ReachRange, TheVariants.Read, TheVariants.ShareRange, TheVariants.TooManyTurns, TheVariants.Write}
 use Rattle.rds.specs.declared.session.Session.{Session}
 
 -- rules are refused by this error: the number that it names is out of its range
-abbrev pub RefusesRules : RuleNumbers → ToolError → Type 0
+abbrev pub RefusesRules : RuleNumbers → RdsError → Type 0
 RefusesRules rules BurstRange = longest_burst < rules.burst
 RefusesRules rules ReachRange = (rules.reach < 1) ⊎ (farthest_reach < rules.reach)
 RefusesRules rules LossRange = IsRunOutside rules.loss
@@ -14,22 +15,22 @@ RefusesRules rules ShareRange = IsShareOutside rules.loss
 RefusesRules rules other = ⊥
 
 -- so is a number of workers
-abbrev pub RefusesWorkers : ℕ → ToolError → Type 0
+abbrev pub RefusesWorkers : ℕ → RdsError → Type 0
 RefusesWorkers workers error = (error ≡ CrewRange) × (AreWorkers workers → ⊥)
 
 -- so are both, or memory, before anything is read
-abbrev pub RefusesTerms : RuleNumbers → ℕ → ToolError → Type 0
+abbrev pub RefusesTerms : RuleNumbers → ℕ → RdsError → Type 0
 RefusesTerms rules workers error = (error ≡ OutOfMemory) ⊎ (RefusesRules rules error ⊎ RefusesWorkers workers error)
 
 -- an error of a device is answered exactly if the device failed
-pub record BlamesDevices (failed_reads failed_writes : ℕ) (answer : Result (Unit {0}) ToolError) : Type 0 where
+pub record BlamesDevices (failed_reads failed_writes : ℕ) (answer : Result (Unit {0}) RdsError) : Type 0 where
   pub read : IsErrOf answer Read ↔ (0 < failed_reads)
   pub write : IsErrOf answer Write ↔ (0 < failed_writes)
 
 -- the bytes that reads gave, whether the last read answered the end, and how many reads failed; the bytes that writes took, whether
 -- the last call of the writer was a flush that succeeded, and how many of its calls failed
 module _ (given : List ℕ) (ended : Bool) (failed_reads : ℕ) (taken : List ℕ) (flushed : Bool) (failed_writes : ℕ)
-    (answer : Result (Unit {0}) ToolError) where
+    (answer : Result (Unit {0}) RdsError) where
   -- a job was done: all that was read makes all that was written, or the refusal
   pub record IsDone (job : Job) : Type 0 where
     pub text : OnOk answer (result_of_job job given ≡ Ok taken)

@@ -8,7 +8,8 @@ use crate::messages::{name_refusal, tell, warn};
 use crate::progress::{Console, Teller};
 use crate::sealed::Sealed;
 use crate::session::{Session, do_request};
-use rds_tool::{Asked, CliFault, FaultKind, FromRead, ToWrite, ToolError};
+use rds_code::RdsError;
+use rds_tool::{Asked, CliFault, FaultKind, FromRead, ToWrite};
 use std::alloc::Global;
 use std::env::Args;
 use std::io;
@@ -43,7 +44,7 @@ impl Termination for Ended {
 }
 
 /// The exit status of a request and its answer.
-fn status(asked: &Result<Asked, CliFault>, answer: &Result<(), ToolError>) -> u8
+fn status(asked: &Result<Asked, CliFault>, answer: &Result<(), RdsError>) -> u8
     ensures { result ≡ status_by asked.now answer.now }
 {
     match asked {
@@ -55,7 +56,7 @@ fn status(asked: &Result<Asked, CliFault>, answer: &Result<(), ToolError>) -> u8
     }
 }
 
-fn answer_status(answer: &Result<(), ToolError>) -> u8
+fn answer_status(answer: &Result<(), RdsError>) -> u8
     ensures { result ≡ status_of answer.now }
 {
     match answer {

@@ -4,7 +4,8 @@ ghost use Rattle.rds_tool.specs.Ends.{is_flushed, taken_by, write_failures};
 ghost use Rattle.rds.specs.{Fresh.IsUnwritten, Messages.IsShown, Messages.IsTold, Messages.Says, Messages.refusal_line_of, Messages.refusal_said, Messages.warning_line_of, Messages.warning_said};
 
 use crate::sealed::Sealed;
-use rds_tool::{CliFault, FaultKind, Ignored, Sink, ToWrite, ToolError, write_all};
+use rds_code::RdsError;
+use rds_tool::{CliFault, FaultKind, Ignored, Sink, ToWrite, write_all};
 use std::rt::{Stderr, Stdout};
 
 /// Past this many failures nothing more is written, since a writer counts its failures in 64 bits.
@@ -22,7 +23,7 @@ pub fn warn(errors: &mut Sealed<ToWrite<Stderr>>, ignored: Option<Ignored>)
 }
 
 /// Names the refusal, if the answer is one, by its number and name.
-pub fn name_refusal(errors: &mut Sealed<ToWrite<Stderr>>, answer: &Result<(), ToolError>)
+pub fn name_refusal(errors: &mut Sealed<ToWrite<Stderr>>, answer: &Result<(), RdsError>)
     ensures { Says (refusal_said answer.now) (taken_by errors.old.device) (write_failures errors.old.device)
         (taken_by errors.new.device) (write_failures errors.new.device) }
 {
@@ -38,7 +39,7 @@ pub fn tell(
     writer: &mut Sealed<ToWrite<Stdout>>,
     errors: &mut Sealed<ToWrite<Stderr>>,
     fault: &CliFault,
-) -> Result<(), ToolError>
+) -> Result<(), RdsError>
     requires { IsUnwritten writer.old }
     ensures { IsTold fault.now.kind (string_bytes fault.now.text)
         (taken_by writer.new.device) (is_flushed writer.new.device) (write_failures writer.new.device)
@@ -56,7 +57,7 @@ pub fn tell(
             Ok(())
         }
         FaultKind::Memory => {
-            let answer = Err(ToolError::OutOfMemory);
+            let answer = Err(RdsError::OutOfMemory);
             name_refusal(errors, &answer);
             answer
         }
@@ -64,7 +65,7 @@ pub fn tell(
 }
 
 /// Writes help or the version to standard output.
-fn show(writer: &mut Sealed<ToWrite<Stdout>>, text: &str) -> Result<(), ToolError>
+fn show(writer: &mut Sealed<ToWrite<Stdout>>, text: &str) -> Result<(), RdsError>
     requires { IsUnwritten writer.old }
     ensures { IsShown text.now (taken_by writer.new.device) (is_flushed writer.new.device)
         (write_failures writer.new.device) result }
@@ -72,9 +73,9 @@ fn show(writer: &mut Sealed<ToWrite<Stdout>>, text: &str) -> Result<(), ToolErro
     match write_all(writer, text.as_bytes()) {
         Ok(()) => match writer.flush() {
             Ok(()) => Ok(()),
-            Err(_) => Err(ToolError::Write),
+            Err(_) => Err(RdsError::Write),
         },
-        Err(_) => Err(ToolError::Write),
+        Err(_) => Err(RdsError::Write),
     }
 }
 
@@ -99,25 +100,25 @@ fn warning_line(option: Ignored) -> &'static str
 }
 
 /// The line that names a refusal.
-fn refusal_line(error: ToolError) -> &'static str
+fn refusal_line(error: RdsError) -> &'static str
     ensures { result.now ≡ refusal_line_of error }
 {
     match error {
-        ToolError::BurstRange => "refused 1 BurstRange\n",
-        ToolError::ReachRange => "refused 2 ReachRange\n",
-        ToolError::LossRange => "refused 3 LossRange\n",
-        ToolError::BitsPastBytes => "refused 4 BitsPastBytes\n",
-        ToolError::TooLong => "refused 5 TooLong\n",
-        ToolError::BadCutting => "refused 6 BadCutting\n",
-        ToolError::CrewRange => "refused 7 CrewRange\n",
-        ToolError::OutOfMemory => "refused 8 OutOfMemory\n",
-        ToolError::Read => "refused 9 Read\n",
-        ToolError::Write => "refused 10 Write\n",
-        ToolError::HexText => "refused 11 HexText\n",
-        ToolError::GroupText => "refused 12 GroupText\n",
-        ToolError::TooManyTurns => "refused 13 TooManyTurns\n",
-        ToolError::NoWorker => "refused 14 NoWorker\n",
-        ToolError::ShareRange => "refused 15 ShareRange\n",
-        ToolError::BadGaps => "refused 16 BadGaps\n",
+        RdsError::BurstRange => "refused 1 BurstRange\n",
+        RdsError::ReachRange => "refused 2 ReachRange\n",
+        RdsError::LossRange => "refused 3 LossRange\n",
+        RdsError::BitsPastBytes => "refused 4 BitsPastBytes\n",
+        RdsError::TooLong => "refused 5 TooLong\n",
+        RdsError::BadCutting => "refused 6 BadCutting\n",
+        RdsError::CrewRange => "refused 7 CrewRange\n",
+        RdsError::OutOfMemory => "refused 8 OutOfMemory\n",
+        RdsError::Read => "refused 9 Read\n",
+        RdsError::Write => "refused 10 Write\n",
+        RdsError::HexText => "refused 11 HexText\n",
+        RdsError::GroupText => "refused 12 GroupText\n",
+        RdsError::TooManyTurns => "refused 13 TooManyTurns\n",
+        RdsError::NoWorker => "refused 14 NoWorker\n",
+        RdsError::ShareRange => "refused 15 ShareRange\n",
+        RdsError::BadGaps => "refused 16 BadGaps\n",
     }
 }

@@ -8,13 +8,11 @@ ghost use Rattle.rds.specs.{Fresh.IsUnread, Fresh.IsUnwritten, Session.DoesAsked
 
 use crate::progress::{Console, Progress, Reporting, Teller};
 use crate::sealed::Sealed;
+use rds_code::RdsError;
 use rds_crew::MOST_WORKERS;
 use rds_soft::Margin;
 use rds_sync::Rules;
-use rds_tool::{
-    FromRead, Input, Job, Request, RuleNumbers, Sink, Source, ToWrite, ToolError, follow,
-    follow_soft, transcribe, transcribe_gated,
-};
+use rds_tool::{FromRead, Input, Job, Request, RuleNumbers, Sink, Source, ToWrite, follow, follow_soft, transcribe, transcribe_gated};
 use std::alloc::Global;
 use std::rt::{Stdin, Stdout};
 use std::thread::Threads;
@@ -24,7 +22,7 @@ use std::thread::Threads;
 pub struct Session {
     pub reader: Sealed<FromRead<Stdin>>,
     pub writer: Sealed<ToWrite<Stdout>>,
-    pub answer: Result<(), ToolError>,
+    pub answer: Result<(), RdsError>,
 }
 
 /// Does a job with the threads of the crew, or follows a stream. The progress of a job is shown if the request asks
@@ -134,7 +132,7 @@ fn run_stream<C: Threads + Sync>(
 }
 
 /// The rules of these numbers, unless they or the number of workers are out of range.
-fn rules_for(alloc: Global, asked: RuleNumbers, workers: u32) -> Result<Rules, ToolError>
+fn rules_for(alloc: Global, asked: RuleNumbers, workers: u32) -> Result<Rules, RdsError>
     ensures numbers { IfOk result (λ rules. rules ≡ asked) }
     ensures refused { IfErr result (RefusesTerms asked workers) }
 {
@@ -143,16 +141,16 @@ fn rules_for(alloc: Global, asked: RuleNumbers, workers: u32) -> Result<Rules, T
             check_workers(workers)?;
             Ok(rules)
         }
-        Err(error) => Err(ToolError::from(error)),
+        Err(error) => Err(error),
     }
 }
 
 /// Refuses a number of workers out of its range.
-fn check_workers(workers: u32) -> Result<(), ToolError>
+fn check_workers(workers: u32) -> Result<(), RdsError>
     ensures { IfErr result (λ error. RefusesWorkers workers error) }
 {
     if workers < 1 || workers > MOST_WORKERS {
-        return Err(ToolError::CrewRange);
+        return Err(RdsError::CrewRange);
     }
     Ok(())
 }
@@ -198,7 +196,7 @@ fn follow_asked<C: Threads + Sync, S: Source, K: Sink>(
     rules: &Rules,
     margin: Option<Margin>,
     workers: u32,
-) -> Result<(), ToolError>
+) -> Result<(), RdsError>
     requires reads { S.failed reader.old < 2 ^ 63 }
     requires writes { K.failed writer.old < 2 ^ 63 }
     ensures { Follows S.Source K.Sink (stream_of rules.now input.now.gaps input.now.bits margin workers)
@@ -216,7 +214,7 @@ fn follow_asked<C: Threads + Sync, S: Source, K: Sink>(
 fn refused_session(
     reader: Sealed<FromRead<Stdin>>,
     writer: Sealed<ToWrite<Stdout>>,
-    error: ToolError,
+    error: RdsError,
 ) -> Session
     ensures answer { result.answer ≡ Err error }
     ensures reader { result.reader ≡ reader }

@@ -1,5 +1,5 @@
 -- Bytes that are taken piece by piece, as many as have room.
-use Rattle.rds_abi.proofs.Shared.{◌≡◌, ◌+◌, ◌-◌, ◌*◌, ◌/◌, ◌<◌, ◌≤◌, ◌++◌, ◌∙◌, common_steps, ℕ, List, ap, append_assoc, arith, drop, inr, length, map, max, refl, subst, take, append-nil, drop_all, drop-drop, drop-take, length-append, length-map, length-take, map-append, take-append-drop, take-take, take_all, RunsGiveFewItems, IsInRange, run, Item, IsStreamDecoder, LiveOf, Terms, moved_item, PiecesJoin, before_tail, completed, live_next, moved_back, part_with, run_next, IsFilled, IsMostTaken, stream_of, RdsStream, Refusal, SmallRoom, item_in_c, RdsItem, RefusesOn, length-drop, drop-append_seam, take-append_seam}
+use Rattle.rds_abi.proofs.Shared.{◌≡◌, ◌+◌, ◌-◌, ◌*◌, ◌/◌, ◌<◌, ◌≤◌, ◌++◌, ◌∙◌, common_steps, ℕ, List, ap, append_assoc, arith, drop, inr, length, map, max, refl, take, append-nil, drop_all, drop-drop, drop-take, length-append, length-map, length-take, map-append, take-append-drop, take-take, take_all, RunsGiveFewItems, IsInRange, Item, IsStreamDecoder, LiveOf, Terms, PiecesJoin, before_tail, completed, live_next, moved_back, part_with, IsFilled, IsMostTaken, stream_of, RdsStream, Refusal, SmallRoom, item_in_c, RdsItem, RefusesOn, length-drop, drop-append_seam, take-append_seam}
 use borrow.Rule.Slice.PartMut.{put_mid}
 
 -- a byte completes at most sixteen items

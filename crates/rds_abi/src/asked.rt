@@ -6,8 +6,9 @@ ghost use Rattle.rds_abi.specs.{Asked.IsLawful, Asked.AreGiven, Asked.AreReserve
 
 use crate::layout::{RdsGap, RdsRules};
 use crate::refusal::Refusal;
+use rds_code::RdsError;
 use rds_stream::{MOST_BITS, Recording};
-use rds_sync::{Loss, RuleNumbers, Rules, SyncError};
+use rds_sync::{Loss, RuleNumbers, Rules};
 use std::alloc::{AllocError, Global};
 
 /// The numbers of rules, as the decoder has them.
@@ -50,11 +51,11 @@ pub(crate) fn rules_of(alloc: Global, asked: RdsRules) -> Result<Rules, Refusal>
             let _numbers = rules.numbers();
             Ok(rules)
         }
-        Err(SyncError::BurstRange) => Err(Refusal::BurstRange),
-        Err(SyncError::ReachRange) => Err(Refusal::ReachRange),
-        Err(SyncError::LossRange) => Err(Refusal::LossRange),
-        Err(SyncError::ShareRange) => Err(Refusal::ShareRange),
-        Err(SyncError::OutOfMemory) => Err(Refusal::OutOfMemory),
+        Err(RdsError::BurstRange) => Err(Refusal::BurstRange),
+        Err(RdsError::ReachRange) => Err(Refusal::ReachRange),
+        Err(RdsError::LossRange) => Err(Refusal::LossRange),
+        Err(RdsError::ShareRange) => Err(Refusal::ShareRange),
+        Err(_) => Err(Refusal::OutOfMemory),
     }
 }
 

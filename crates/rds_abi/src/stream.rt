@@ -13,9 +13,10 @@ use crate::layout::{RdsGap, RdsItem, RdsRules, RdsStream, RdsTotals};
 use crate::part::near;
 use crate::ranges::{loss_in_c, state_in_c, state_of, write_end};
 use crate::refusal::Refusal;
+use rds_code::RdsError;
 use rds_live::laws::{next_is_heard, pieces_join};
 use rds_live::{ResumeError, StreamDecoder};
-use rds_stream::{MOST_BITS, StreamError};
+use rds_stream::MOST_BITS;
 use rds_sync::{Group, Item, Rules, Totals, laws};
 use std::alloc::{AllocError, Global};
 use std::marker::Model;
@@ -659,7 +660,7 @@ fn end_of_stream(
     live: StreamDecoder<'_>,
     bytes: &[u8],
     bits: u64,
-) -> Result<(Vec<Item>, Totals), StreamError>
+) -> Result<(Vec<Item>, Totals), RdsError>
     requires { bits ≤ 8 * length bytes.now }
     ensures items { IfOk result (λ r. (before : List ℕ) → HasHeard live.entry before
         → complete live.entry.terms before ++ r.0.items
@@ -683,7 +684,7 @@ fn push_last(
     bits: u64,
     last: &mut Vec<Item>,
     items: &mut Vec<Item>,
-) -> Result<Totals, StreamError>
+) -> Result<Totals, RdsError>
     requires held { bits ≤ 8 * length rest.now }
     requires few { bits ≤ 8 }
     requires room { 16 ≤ vec_capacity last.old }

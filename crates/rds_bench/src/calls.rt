@@ -8,8 +8,9 @@ ghost use Rattle.rds_pieces.specs.Cutting.{IsCutting, pieces_of};
 
 use crate::two_guesses::{self, Found};
 use anyhow::Result;
-use rds_crew::{CrewError, Dealer};
-use rds_pieces::{Cutting, PieceError};
+use rds_code::RdsError;
+use rds_crew::Dealer;
+use rds_pieces::Cutting;
 use rds_stream::Recording;
 use rds_sync::Rules;
 use std::alloc::{AllocError, Global};
@@ -69,7 +70,7 @@ fn push_calls(
     recording: &Recording,
     rules: &Rules,
     cutting: &Cutting,
-) -> Result<(), PieceError>
+) -> Result<(), RdsError>
     requires fits { IsCutting (length_of recording.now) cutting.now }
     requires two { pieces_of cutting.now ≡ 2 }
 {
@@ -98,7 +99,7 @@ fn cut(alloc: Global, recording: &Recording) -> Result<Cutting, AllocError>
 }
 
 /// How many seats a dealer of eight numbers has, made for three.
-fn seats(alloc: Global) -> Result<usize, CrewError> {
+fn seats(alloc: Global) -> Result<usize, RdsError> {
     let (_dealer, seats) = Dealer::new(alloc, 8, 3)?;
     Ok(seats.len())
 }

@@ -5,7 +5,8 @@ ghost use Rattle.rds_pieces.specs.Cutting.{IsCutting, pieces_of};
 ghost use Rattle.rds_pieces.specs.Joining.{AreNeighbours};
 ghost use Rattle.rds_pieces.specs.RunOf.{FollowEachOther, run_at};
 
-use rds_pieces::{Cutting, PieceError, PieceRun, join_runs, laws, speculate, stitch};
+use rds_code::RdsError;
+use rds_pieces::{Cutting, PieceRun, join_runs, laws, speculate, stitch};
 use rds_stream::{Counted, Recording, Tape};
 use rds_sync::Rules;
 use std::alloc::Global;
@@ -19,7 +20,7 @@ pub fn join_guesses(
     recording: &Recording,
     rules: &Rules,
     cutting: &Cutting,
-) -> Result<Found, PieceError>
+) -> Result<Found, RdsError>
     requires fits { IsCutting (length_of recording.now) cutting.now }
     requires two { pieces_of cutting.now ≡ 2 }
 {
@@ -40,7 +41,7 @@ fn join_once(
     rules: &Rules,
     left: &PieceRun,
     right: &PieceRun,
-) -> Result<Found, PieceError>
+) -> Result<Found, RdsError>
     requires { AreNeighbours recording.now rules.now left.now right.now }
 {
     let mut tape = Counted::new(recording);
@@ -54,7 +55,7 @@ pub fn stitch_guesses(
     recording: &Recording,
     rules: &Rules,
     cutting: &Cutting,
-) -> Result<Found, PieceError>
+) -> Result<Found, RdsError>
     requires fits { IsCutting (length_of recording.now) cutting.now }
     requires two { pieces_of cutting.now ≡ 2 }
 {
@@ -71,7 +72,7 @@ fn guesses(
     recording: &Recording,
     rules: &Rules,
     cutting: &Cutting,
-) -> Result<Vec<PieceRun>, PieceError>
+) -> Result<Vec<PieceRun>, RdsError>
     requires fits { IsCutting (length_of recording.now) cutting.now }
     requires two { pieces_of cutting.now ≡ 2 }
     ensures both { IfOk result (λ runs. runs.items
@@ -90,7 +91,7 @@ fn stitch_once(
     recording: &Recording,
     rules: &Rules,
     runs: &[PieceRun],
-) -> Result<Found, PieceError>
+) -> Result<Found, RdsError>
     requires in_a_row { FollowEachOther recording.now rules.now 0 (length_of recording.now) runs.now }
 {
     let mut tape = Counted::new(recording);

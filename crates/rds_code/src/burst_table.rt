@@ -4,7 +4,7 @@ ghost use Rattle.rds_code.specs.{Remainder.rem, Bursts.IsBurst, Inside.BurstTabl
 use crate::block::BLOCK_BITS;
 use crate::burst::Burst;
 use crate::burst_limit::BurstLimit;
-use crate::error::CodeError;
+use crate::error::RdsError;
 use crate::remainder::rem26;
 use std::alloc::{AllocError, Global};
 use std::marker::Model;
@@ -29,11 +29,13 @@ impl Model for BurstTable {
 }
 
 impl BurstTable {
-    ghost use Rattle.std.specs.Prelude.{IfSome, None};
+    ghost use Rattle.std.specs.Prelude.{IfSome, IsOkUnless, None};
     ghost use Rattle.rds_code.specs.{Remainder.rem, Bursts.IsBurst};
 
     /// The table, in one growth of 4,096 bytes. Its type keeps its contents. Fails only with `OutOfMemory`.
-    pub fn new(alloc: Global) -> Result<BurstTable, CodeError> {
+    pub fn new(alloc: Global) -> Result<BurstTable, RdsError>
+        ensures only_memory { IsOkUnless result RdsError.OutOfMemory }
+    {
         let mut patterns = no_bursts(alloc)?;
         enter_all(&mut patterns);
         Ok(BurstTable { patterns })

@@ -1,10 +1,10 @@
-ghost use Rattle.std.specs.Prelude.{◌≡◌, ◌^◌, ◌<◌, ◌≤◌, bit_xor, IfOk};
+ghost use Rattle.std.specs.Prelude.{◌≡◌, ◌^◌, ◌<◌, ◌≤◌, bit_xor, IfOk, IsOkUnless};
 ghost use Rattle.rds_code.specs.{Inside.Outcomes.AreEntries, Inside.Outcomes.IsEntry, Inside.Outcomes.IsOutcome, Inside.Outcomes.wanted_at, Outcomes.outcome_number, Outcomes.wanted_after, Offsets.word, declared.offset.Offset.TheVariants.B, declared.reading.Wanted.TheVariants.Either, Reading.reading, Remainder.rem};
 
 use crate::block_number::BlockNumber;
 use crate::burst_limit::BurstLimit;
 use crate::burst_table::BurstTable;
-use crate::error::CodeError;
+use crate::error::RdsError;
 use crate::offset::Offset;
 use crate::reading::Wanted;
 use crate::remainder::rem26;
@@ -48,8 +48,9 @@ impl Outcomes {
 
     /// The outcomes if bursts within `limit` are corrected. Takes 1,024 bytes, and fails only with
     /// `OutOfMemory`.
-    pub fn new(alloc: Global, table: &BurstTable, limit: BurstLimit) -> Result<Outcomes, CodeError>
-        ensures { IfOk result (λ outcomes. outcomes ≡ limit) }
+    pub fn new(alloc: Global, table: &BurstTable, limit: BurstLimit) -> Result<Outcomes, RdsError>
+        ensures limit { IfOk result (λ outcomes. outcomes ≡ limit) }
+        ensures only_memory { IsOkUnless result RdsError.OutOfMemory }
     {
         let entries = all_entries(alloc, table, limit)?;
         Ok(Outcomes { entries, limit })

@@ -4,11 +4,11 @@ ghost use Rattle.rds_stream.specs.Recording.{length_of};
 ghost use Rattle.rds_sync.specs.{Decoding.listed, Report.report_items, Totals.totals_of};
 ghost use Rattle.rds_pieces.specs.{Cutting.IsCutting, RunOf.FollowEachOther};
 
-use crate::error::CrewError;
 use crate::gate::Gate;
 use crate::guesses::Guesses;
 use crate::team::make_all;
 use crate::tree::join_all;
+use rds_code::RdsError;
 use rds_pieces::{PieceRun, Work, laws};
 use rds_sync::Report;
 use std::alloc::Global;
@@ -45,17 +45,17 @@ pub fn decode_crew<R: Threads + Sync, W: Work + Sync, G: Gate + Sync>(
     work: &W,
     workers: u32,
     gate: &G,
-) -> Result<Report, CrewError>
+) -> Result<Report, RdsError>
     requires { IsCutting (length_of (W.recording work.now)) (W.places work.now) }
     ensures items { IfOk result (λ report. report.items ≡ listed (W.recording work.now) (W.rule_set work.now)
         (report_items (W.recording work.now) (W.rule_set work.now))) }
     ensures totals { IfOk result (λ report. report.totals
         ≡ totals_of (report_items (W.recording work.now) (W.rule_set work.now))) }
-    ensures range { IsErrOf result CrewError.CrewRange ↔ ((workers ≡ 0) ⊎ (256 < workers)) }
-    ensures err { IfErr result (λ e. (e ≡ CrewError.CrewRange) ⊎ (e ≡ CrewError.OutOfMemory)) }
+    ensures range { IsErrOf result RdsError.CrewRange ↔ ((workers ≡ 0) ⊎ (256 < workers)) }
+    ensures err { IfErr result (λ e. (e ≡ RdsError.CrewRange) ⊎ (e ≡ RdsError.OutOfMemory)) }
 {
     if !may_be_so_many(workers) {
-        return Err(CrewError::CrewRange);
+        return Err(RdsError::CrewRange);
     }
     let runs = make_all(rt, alloc, &Guesses { work, gate }, workers)?;
 
@@ -73,17 +73,17 @@ fn may_be_so_many(workers: u32) -> bool
 }
 
 /// The report of a work, from runs in a row from its first bit to its last.
-fn report_of<W: Work>(alloc: Global, work: &W, runs: &[PieceRun]) -> Result<Report, CrewError>
+fn report_of<W: Work>(alloc: Global, work: &W, runs: &[PieceRun]) -> Result<Report, RdsError>
     requires in_a_row { FollowEachOther (W.recording work.now) (W.rule_set work.now)
         0 (length_of (W.recording work.now)) runs.now }
     ensures items { IfOk result (λ report. report.items ≡ listed (W.recording work.now) (W.rule_set work.now)
         (report_items (W.recording work.now) (W.rule_set work.now))) }
     ensures totals { IfOk result (λ report. report.totals
         ≡ totals_of (report_items (W.recording work.now) (W.rule_set work.now))) }
-    ensures err { IsOkUnless result CrewError.OutOfMemory }
+    ensures err { IsOkUnless result RdsError.OutOfMemory }
 {
     match work.report(alloc, runs) {
         Ok(report) => Ok(report),
-        Err(_) => Err(CrewError::OutOfMemory),
+        Err(_) => Err(RdsError::OutOfMemory),
     }
 }

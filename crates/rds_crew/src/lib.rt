@@ -36,15 +36,15 @@
 //!   holds them up. [`OpenGate`] does nothing.
 //! - [`Dealer`]: deals each number below some count once, to as many [`Seat`]s as it was made with, at most
 //!   256, and takes no lock. [`Closed`] has its final counts.
-//! - [`CrewError`]: the refusals `CrewRange` (7), `OutOfMemory` (8) and `NoWorker` (14), which is never answered.
+//! - [`RdsError`](rds_code::RdsError): the refusals `CrewRange` (7), `OutOfMemory` (8) and `NoWorker` (14), which is never answered.
 //!
 //! # What callers may rely on
 //!
 //! - If [`decode_crew`] answers a report, it is that of the work's recording and rules. That holds for any
 //!   cutting and any number of workers, in whatever order they drew and ended. It is lent no recording: bits
 //!   reach it only by the work.
-//! - It refuses a number of workers outside 1 to 256 exactly as [`CrewError::CrewRange`], and else only
-//!   [`CrewError::OutOfMemory`]. If the system starts no thread, the calling thread does its work.
+//! - It refuses a number of workers outside 1 to 256 exactly as [`rds_code::RdsError::CrewRange`], and else only
+//!   [`rds_code::RdsError::OutOfMemory`]. If the system starts no thread, the calling thread does its work.
 //! - It returns if the calls of the work and of the gate do. No thread that it started outlives the call.
 //! - A dealer deals no number twice and leaves none out, in whatever order the steps of any threads
 //!   fall. No call of it waits, tries again, or takes memory once it is made.
@@ -72,10 +72,8 @@ mod slots; // The parts that were made, in the order of their numbers.
 mod dealer; // Who deals the numbers.
 mod seat; // The right of a worker to draw.
 mod deal; // The invariant of the dealer's table: the rule of its two words.
-mod error; // Why a call refuses.
 
 pub use crew::{MOST_WORKERS, decode_crew};
 pub use dealer::{Closed, Dealer};
-pub use error::CrewError;
 pub use gate::{Gate, OpenGate};
 pub use seat::Seat;

@@ -5,7 +5,8 @@ ghost use Rattle.rds_live.specs.{StreamDecoder.HasHeard, Next.live_next};
 use crate::StreamDecoder;
 use crate::halves::count_by;
 use crate::laws::{next_is_heard, pieces_join};
-use rds_stream::{MOST_BITS, StreamError};
+use rds_code::RdsError;
+use rds_stream::MOST_BITS;
 use std::alloc::{AllocError, Global};
 use std::marker::Model;
 use std::thread::Threads;
@@ -69,20 +70,20 @@ impl<'r> StreamCounter<'r> {
         rt: &R,
         alloc: Global,
         bytes: &[u8],
-    ) -> Result<(), StreamError>
+    ) -> Result<(), RdsError>
         ensures heard { OnOk result ((before : List ℕ) → HasHeard self.old before
             → HasHeard self.new (before ++ bytes.now)) }
         ensures terms { self.new.terms ≡ self.old.terms }
         ensures refused { OnErr result (self.new ≡ self.old) }
-        ensures too_long { IsErrOf result StreamError.TooLong ↔ (2 ^ 36 < self.old.place + 8 * length bytes.now) }
-        ensures only { IsOkUnless result StreamError.TooLong }
+        ensures too_long { IsErrOf result RdsError.TooLong ↔ (2 ^ 36 < self.old.place + 8 * length bytes.now) }
+        ensures only { IsOkUnless result RdsError.TooLong }
 
         // The same of numbers that are lawful and of no stream.
         ensures next { OnOk result (self.new ≡ live_next self.old bytes.now) }
     {
         let here = self.live.place() + 8 * self.gathered.len() as u64;
         if bytes.len() as u64 > (MOST_BITS - here) / 8 {
-            return Err(StreamError::TooLong);
+            return Err(RdsError::TooLong);
         }
         pieces_join();
         next_is_heard();

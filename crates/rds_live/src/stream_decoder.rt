@@ -12,7 +12,8 @@ use crate::kept::{Kept, MOST_KEPT, Start, can_be_live};
 use crate::laws::{ends_are_reports, next_is_heard, pieces_join, runs_move};
 use crate::moved::{move_on, moved_back, moved_group, moved_on};
 use crate::room::{AT_ONCE, Room};
-use rds_stream::{Counted, MOST_BITS, Recording, StreamError, are_gaps};
+use rds_code::RdsError;
+use rds_stream::{Counted, MOST_BITS, Recording, are_gaps};
 use rds_sync::{Decoder, Group, Item, Rules, State, Totals, finish, laws, run_totals};
 use std::alloc::{AllocError, Global};
 use std::marker::Model;
@@ -77,9 +78,9 @@ impl<'r> StreamDecoder<'r> {
     /// A decoder that has heard nothing yet, of a stream without gaps.
     ///
     /// Fails only if memory is refused: it takes all that it will need.
-    pub fn new(alloc: Global, rules: &'r Rules) -> Result<StreamDecoder<'r>, StreamError>
+    pub fn new(alloc: Global, rules: &'r Rules) -> Result<StreamDecoder<'r>, RdsError>
         ensures live { IfOk result (λ live. live ≡ live_of (by_rules rules.now) []) }
-        ensures only_memory { IsOkUnless result StreamError.OutOfMemory }
+        ensures only_memory { IsOkUnless result RdsError.OutOfMemory }
     {
         Ok(StreamDecoder::start(alloc, rules, NO_GAPS)?)
     }
@@ -94,14 +95,14 @@ impl<'r> StreamDecoder<'r> {
         alloc: Global,
         rules: &'r Rules,
         gaps: &'r [(u64, u64)],
-    ) -> Result<StreamDecoder<'r>, StreamError>
+    ) -> Result<StreamDecoder<'r>, RdsError>
         ensures live { IfOk result (λ live. live ≡ live_of (record { rules = rules.now; gaps = gaps.now }) []) }
         ensures taken { IsOk result → AreGaps (2 ^ 36) gaps.now }
-        ensures bad_gaps { IsErrOf result StreamError.BadGaps ↔ (AreGaps (2 ^ 36) gaps.now → ⊥) }
-        ensures only { IfErr result (λ e. (e ≡ StreamError.BadGaps) ⊎ (e ≡ StreamError.OutOfMemory)) }
+        ensures bad_gaps { IsErrOf result RdsError.BadGaps ↔ (AreGaps (2 ^ 36) gaps.now → ⊥) }
+        ensures only { IfErr result (λ e. (e ≡ RdsError.BadGaps) ⊎ (e ≡ RdsError.OutOfMemory)) }
     {
         if !may_have_gaps(gaps) {
-            return Err(StreamError::BadGaps);
+            return Err(RdsError::BadGaps);
         }
         Ok(StreamDecoder::start(alloc, rules, gaps)?)
     }
@@ -243,7 +244,7 @@ impl<'r> StreamDecoder<'r> {
     ///
     /// Its cost: the bytes are read once, as by [`Decoder`], after a copy of those that are kept. It takes no
     /// memory.
-    pub fn take(&mut self, bytes: &[u8], items: &mut Vec<Item>) -> Result<usize, StreamError>
+    pub fn take(&mut self, bytes: &[u8], items: &mut Vec<Item>) -> Result<usize, RdsError>
         ensures heard { IfOk result (λ count. (before : List ℕ) → HasHeard self.old before
             → HasHeard self.new (before ++ take count bytes.now)) }
         ensures terms { OnOk result (self.new.terms ≡ self.old.terms) }
@@ -255,16 +256,16 @@ impl<'r> StreamDecoder<'r> {
             ≡ min (length bytes.now) (min 960 (vec_capacity items.old / 16))) }
         ensures room { vec_capacity items.new ≡ vec_capacity items.old }
         ensures refused { OnErr result ((self.new ≡ self.old) × (items.new ≡ items.old)) }
-        ensures too_long { IsErrOf result StreamError.TooLong ↔ (2 ^ 36 < self.old.place + 8 * length bytes.now) }
+        ensures too_long { IsErrOf result RdsError.TooLong ↔ (2 ^ 36 < self.old.place + 8 * length bytes.now) }
 
         // The same of numbers that are lawful and of no stream.
         ensures next { IfOk result (λ count. self.new ≡ live_next self.old (take count bytes.now)) }
         ensures completed { IfOk result (λ count. items.new.items ≡ completed self.old (take count bytes.now)) }
         ensures small { IfOk result (λ count. IsWithin (8 * count) self.old.totals self.new.totals) }
-        ensures only { IsOkUnless result StreamError.TooLong }
+        ensures only { IsOkUnless result RdsError.TooLong }
     {
         if bytes.len() as u64 > (MOST_BITS - self.place) / 8 {
-            return Err(StreamError::TooLong);
+            return Err(RdsError::TooLong);
         }
         self.is_known();
         next_is_heard();
@@ -280,7 +281,7 @@ impl<'r> StreamDecoder<'r> {
     /// Fails for more than 2^36 bits in all, and if memory is refused; it has then heard nothing.
     ///
     /// Its cost: that of [`take`](StreamDecoder::take) over and over, and memory for the list and for the items of 960 bytes.
-    pub fn take_all(&mut self, alloc: Global, bytes: &[u8]) -> Result<Vec<Item>, StreamError>
+    pub fn take_all(&mut self, alloc: Global, bytes: &[u8]) -> Result<Vec<Item>, RdsError>
         ensures heard { OnOk result ((before : List ℕ) → HasHeard self.old before
             → HasHeard self.new (before ++ bytes.now)) }
         ensures terms { self.new.terms ≡ self.old.terms }
@@ -288,15 +289,15 @@ impl<'r> StreamDecoder<'r> {
             → complete self.old.terms (before ++ bytes.now) ≡ complete self.old.terms before ++ items.items) }
         ensures fits { OnOk result (self.old.place + 8 * length bytes.now ≤ 2 ^ 36) }
         ensures refused { OnErr result (self.new ≡ self.old) }
-        ensures too_long { IsErrOf result StreamError.TooLong ↔ (2 ^ 36 < self.old.place + 8 * length bytes.now) }
+        ensures too_long { IsErrOf result RdsError.TooLong ↔ (2 ^ 36 < self.old.place + 8 * length bytes.now) }
 
         // The same of numbers that are lawful and of no stream.
         ensures next { OnOk result (self.new ≡ live_next self.old bytes.now) }
         ensures completed { IfOk result (λ items. items.items ≡ completed self.old bytes.now) }
-        ensures only { IfErr result (λ e. (e ≡ StreamError.TooLong) ⊎ (e ≡ StreamError.OutOfMemory)) }
+        ensures only { IfErr result (λ e. (e ≡ RdsError.TooLong) ⊎ (e ≡ RdsError.OutOfMemory)) }
     {
         if bytes.len() as u64 > (MOST_BITS - self.place) / 8 {
-            return Err(StreamError::TooLong);
+            return Err(RdsError::TooLong);
         }
         self.is_known();
         next_is_heard();
@@ -305,7 +306,7 @@ impl<'r> StreamDecoder<'r> {
             Ok(items) => Ok(items),
             Err(_) => {
                 self.go_back(&before);
-                Err(StreamError::OutOfMemory)
+                Err(RdsError::OutOfMemory)
             }
         }
     }
@@ -532,7 +533,7 @@ impl<'r> StreamDecoder<'r> {
         bytes: &[u8],
         bits: u64,
         items: &mut Vec<Item>,
-    ) -> Result<StreamEnd, StreamError>
+    ) -> Result<StreamEnd, RdsError>
         requires held { bits ≤ 8 * length bytes.now }
         requires few { bits ≤ 7680 }
         requires room { 2 * bits ≤ vec_capacity items.old }
@@ -544,8 +545,8 @@ impl<'r> StreamDecoder<'r> {
             (8 * length before + bits))) }
         ensures room { vec_capacity items.new ≡ vec_capacity items.old }
         ensures refused { OnErr result (items.new ≡ items.old) }
-        ensures too_long { IsErrOf result StreamError.TooLong ↔ (2 ^ 36 < self.entry.place + bits) }
-        ensures only { IsOkUnless result StreamError.TooLong }
+        ensures too_long { IsErrOf result RdsError.TooLong ↔ (2 ^ 36 < self.entry.place + bits) }
+        ensures only { IsOkUnless result RdsError.TooLong }
 
         // The same of numbers that are lawful and of no stream.
         ensures completed { OnOk result (items.new.items ≡ items_next self.entry bytes.now bits) }
@@ -555,7 +556,7 @@ impl<'r> StreamDecoder<'r> {
             (totals_of (group_next self.entry bytes.now bits))) }
     {
         if bits > MOST_BITS - self.place {
-            return Err(StreamError::TooLong);
+            return Err(RdsError::TooLong);
         }
         laws::totals_join();
         ends_are_reports();

@@ -9,7 +9,8 @@ use crate::item_rows::ItemRows;
 use crate::laws::{next_is_heard, pieces_join};
 use crate::listed_halves::list_by;
 use crate::stream_decoder::MOST_ITEMS;
-use rds_stream::{MOST_BITS, StreamError};
+use rds_code::RdsError;
+use rds_stream::MOST_BITS;
 use rds_sync::{Item, State};
 use std::alloc::{AllocError, Global};
 use std::marker::Model;
@@ -63,7 +64,7 @@ impl<'r, T: ItemRows> StreamLister<'r, T> {
         alloc: Global,
         bytes: &[u8],
         workers: u32,
-    ) -> Result<StreamLister<'r, T>, StreamError>
+    ) -> Result<StreamLister<'r, T>, RdsError>
         ensures heard { IfOk result (λ lister. (before : List ℕ) → HasHeard self.entry.live before
             → HasHeard lister.live (before ++ bytes.now)) }
         ensures terms { IfOk result (λ lister. lister.live.terms ≡ self.entry.live.terms) }
@@ -72,21 +73,21 @@ impl<'r, T: ItemRows> StreamLister<'r, T> {
             ≡ complete self.entry.live.terms before ++ items)
             × (lister.rows ≡ self.entry.rows ++ flat_map T.row_of items)) }
         ensures fits { OnOk result (self.entry.live.place + 8 * length bytes.now ≤ 2 ^ 36) }
-        ensures too_long { IsErrOf result StreamError.TooLong
+        ensures too_long { IsErrOf result RdsError.TooLong
             ↔ (2 ^ 36 < self.entry.live.place + 8 * length bytes.now) }
-        ensures only { IfErr result (λ e. (e ≡ StreamError.TooLong) ⊎ (e ≡ StreamError.OutOfMemory)) }
+        ensures only { IfErr result (λ e. (e ≡ RdsError.TooLong) ⊎ (e ≡ RdsError.OutOfMemory)) }
 
         // The same of numbers that are lawful and of no stream.
         ensures next { IfOk result (λ lister. lister ≡ lister_next T.row_of self.entry bytes.now) }
     {
         if bytes.len() as u64 > (MOST_BITS - self.live.place()) / 8 {
-            return Err(StreamError::TooLong);
+            return Err(RdsError::TooLong);
         }
         next_is_heard();
         self.is_known();
         match list_by(rt, alloc, self, bytes, workers) {
             Ok(lister) => Ok(lister),
-            Err(_) => Err(StreamError::OutOfMemory),
+            Err(_) => Err(RdsError::OutOfMemory),
         }
     }
 

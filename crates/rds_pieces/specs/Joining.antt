@@ -3,7 +3,8 @@
 use Rattle.std.specs.Prelude.{◌≡◌, ℕ, ◌+◌, ◌-◌, ◌*◌, ◌≤◌, IsOkUnless, OnOk, Option, Result}
 use Rattle.rds_stream.specs.Recording.{Signal}
 use Rattle.rds_sync.specs.{declared.state.State.TheVariants.Searching, Rules.RuleNumbers}
-use Rattle.rds_pieces.specs.{Meeting.IsMeeting, RunOf.IsRunOf, RunOf.RunOf, RunOf.end_of, Seams.seam_reads, Soon.MeetSoon, declared.error.PieceError.PieceError, declared.error.PieceError.TheVariants.OutOfMemory}
+use Rattle.rds_pieces.specs.{Meeting.IsMeeting, RunOf.IsRunOf, RunOf.RunOf, RunOf.end_of, Seams.seam_reads, Soon.MeetSoon}
+use Rattle.rds_code.specs.declared.error.RdsError.{RdsError, TheVariants.OutOfMemory}
 
 module _ (b : Signal) (rules : RuleNumbers) (left right : RunOf) where
   -- runs of this recording, by these rules, of which the right one begins where the left one ends
@@ -13,7 +14,7 @@ module _ (b : Signal) (rules : RuleNumbers) (left right : RunOf) where
     pub right_is : IsRunOf b rules right
 
   -- the answer to a join over a tape that had counted `old` windows and has now counted `new`
-  pub record IsJoin {A : Type 0} (old new : ℕ) (result : Result A PieceError) : Type 0 where
+  pub record IsJoin {A : Type 0} (old new : ℕ) (result : Result A RdsError) : Type 0 where
     pub err : IsOkUnless result OutOfMemory
     -- if a sound range is inside the right run's, the left one's end meets it by that range's end
     pub soon : OnOk result (MeetSoon b rules (end_of left) Searching right.from right.to)

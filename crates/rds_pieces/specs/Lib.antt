@@ -8,6 +8,5 @@ pub mod Soon
 pub mod Joining
 pub mod WorkOf
 pub mod Laws
-pub mod Refusals
 pub mod Inside
 pub mod Examples

@@ -1,9 +1,9 @@
 //! Cuttings of a recording into pieces.
 ghost use Rattle.std.specs.Prelude.{◌≡◌, ℕ, List, ◌+◌, ◌<◌, ◌≤◌, IsTrue, ◌↔◌, IfOk, IfErr, IsOkUnless, length, slice_index};
 ghost use Rattle.rds_pieces.specs.Cutting.{IsCutting, pieces_of, even_places};
-ghost use Rattle.rds_pieces.specs.declared.error.PieceError.TheVariants.{BadCutting, OutOfMemory};
+ghost use Rattle.rds_code.specs.declared.error.RdsError.TheVariants.{BadCutting, OutOfMemory};
 
-use crate::error::PieceError;
+use rds_code::RdsError;
 use std::alloc::Global;
 use std::marker::Model;
 
@@ -29,21 +29,21 @@ impl Model for Cutting {
 impl Cutting {
     /// The cutting at these places of a recording of `len` bits. If they are no cutting of that length, the
     /// answer is `BadCutting` with the list given back. Takes no memory.
-    pub fn new(places: Vec<u64>, len: u64) -> Result<Cutting, (PieceError, Vec<u64>)>
+    pub fn new(places: Vec<u64>, len: u64) -> Result<Cutting, (RdsError, Vec<u64>)>
         ensures ok { IfOk result (λ c. (c ≡ places.items) × IsCutting len places.items) }
         ensures err { IfErr result (λ e. (e.0 ≡ BadCutting) × (e.1 ≡ places) × ¬ IsCutting len places.items) }
     {
         if is_cutting(places.as_slice(), len) {
             Ok(Cutting { places })
         } else {
-            Err((PieceError::BadCutting, places))
+            Err((RdsError::BadCutting, places))
         }
     }
 
     /// The even cutting of `len` bits: places 0, s, 2s and so on below `len`, then `len`, where s is `len`
     /// divided by `pieces`, 1 or more, rounded up. It has at most `pieces` pieces, and each but the last is
     /// of s bits. Its only error is `OutOfMemory`.
-    pub fn even(alloc: Global, len: u64, pieces: u64) -> Result<Cutting, PieceError>
+    pub fn even(alloc: Global, len: u64, pieces: u64) -> Result<Cutting, RdsError>
         requires { 1 ≤ pieces }
         ensures ok { IfOk result (λ c. c ≡ even_places len pieces) }
         ensures cutting { IfOk result (λ c. IsCutting len c) }

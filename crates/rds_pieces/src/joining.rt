@@ -2,10 +2,10 @@
 ghost use Rattle.std.specs.Prelude.{◌≡◌, ◌≤◌, ◌^◌, IfOk};
 ghost use Rattle.rds_pieces.specs.{Joining.AreNeighbours, Joining.IsJoin, RunOf.run_over};
 
-use crate::error::PieceError;
 use crate::laws::run_laws;
 use crate::run::PieceRun;
 use crate::seaming::seam;
+use rds_code::RdsError;
 use rds_stream::Tape;
 use rds_sync::laws::runs_converge;
 use rds_sync::{Items, Report, Rules};
@@ -27,7 +27,7 @@ pub fn join_runs<T: Tape>(
     rules: &Rules,
     left: &PieceRun,
     right: &PieceRun,
-) -> Result<PieceRun, PieceError>
+) -> Result<PieceRun, RdsError>
     requires neighbours { AreNeighbours (T.signal tape.old) rules.now left.now right.now }
     requires room { T.reads_made tape.old ≤ 2 ^ 62 }
     ensures ok { IfOk result (λ r. r ≡ run_over (T.signal tape.old) rules.now left.now.from right.now.to) }

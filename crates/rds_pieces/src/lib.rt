@@ -44,7 +44,7 @@
 //! - [`stitch`]: makes the report from consecutive runs that cover the recording, by a seam over each.
 //! - [`Work`] and [`RecordingWork`]: these calls for one recording, one set of rules and one cutting.
 //! - [`laws`]: the laws of pieces themselves.
-//! - [`PieceError`]: the refusals `BadCutting` (6) and `OutOfMemory` (8).
+//! - [`RdsError`](rds_code::RdsError): the refusals `BadCutting` (6) and `OutOfMemory` (8).
 //!
 //! # Promises
 //!
@@ -77,10 +77,8 @@ mod joining; // Two neighbours joined.
 mod stitching; // The report of runs in a row.
 mod work; // The calls above for one recording, one set of rules and one cutting.
 pub mod laws; // The laws of pieces themselves.
-mod error; // Why a call refuses.
 
 pub use cutting::Cutting;
-pub use error::PieceError;
 pub use joining::join_runs;
 pub use mark::Mark;
 pub use marks::Marks;

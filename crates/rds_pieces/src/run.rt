@@ -2,11 +2,12 @@
 ghost use Rattle.std.specs.Prelude.{◌≡◌, ◌+◌, ◌-◌, ◌<◌, ◌≤◌, ◌^◌, IfOk, IsOkUnless, slice_index};
 ghost use Rattle.rds_stream.specs.Recording.{length_of};
 ghost use Rattle.rds_sync.specs.{Decoding.listed, Ranges.IsInRange, Totals.totals_of};
-ghost use Rattle.rds_pieces.specs.{Cutting.IsCutting, Cutting.pieces_of, Guess.guess, Marks.marks_of, RunOf.run_at, RunOf.run_over, Inside.RunInside.IsKept, declared.error.PieceError.TheVariants.OutOfMemory};
+ghost use Rattle.rds_pieces.specs.{Cutting.IsCutting, Cutting.pieces_of, Guess.guess, Marks.marks_of, RunOf.run_at, RunOf.run_over, Inside.RunInside.IsKept};
+ghost use Rattle.rds_code.specs.declared.error.RdsError.TheVariants.{OutOfMemory};
 
 use crate::cutting::Cutting;
-use crate::error::PieceError;
 use crate::marks::Marks;
+use rds_code::RdsError;
 use rds_stream::Recording;
 use rds_sync::{ItemIter, Items, Report, Rules, Spans, State, Totals, run_report};
 use std::alloc::Global;
@@ -151,7 +152,7 @@ pub fn speculate(
     rules: &Rules,
     cutting: &Cutting,
     j: u64,
-) -> Result<PieceRun, PieceError>
+) -> Result<PieceRun, RdsError>
     requires fits { IsCutting (length_of rec.now) cutting.now }
     requires piece { j < pieces_of cutting.now }
     ensures ok { IfOk result (λ r. r ≡ run_at rec.now rules.now cutting.now j) }
@@ -168,7 +169,7 @@ pub(crate) fn speculate_into(
     cutting: &Cutting,
     j: u64,
     cut: Spans,
-) -> Result<PieceRun, PieceError>
+) -> Result<PieceRun, RdsError>
     requires fits { IsCutting (length_of rec.now) cutting.now }
     requires piece { j < pieces_of cutting.now }
     ensures ok { IfOk result (λ r. r ≡ run_at rec.now rules.now cutting.now j) }
@@ -180,7 +181,7 @@ pub(crate) fn speculate_into(
     prove!(1 <= rules.reach());
     let Ok((end_state, report)) = run_report(alloc, rec, rules, State::Searching, from, to, cut)
     else {
-        return Err(PieceError::OutOfMemory);
+        return Err(RdsError::OutOfMemory);
     };
     Ok(PieceRun::new(from, to, report, end_state, cut))
 }

@@ -1,13 +1,14 @@
 //! The seam before a piece: how the state that the pieces before it left runs over it.
 ghost use Rattle.std.specs.Prelude.{◌≡◌, ℕ, Option, ◌+◌, ◌-◌, ◌*◌, ◌≤◌, ◌^◌, IfOk, IsOkUnless, length};
 ghost use Rattle.rds_sync.specs.{Counting.IsRest, Lawful.IsLawful, Step.run as run_of, Tally.gone_on, Tally.tally_at, Totals.totals_of, declared.totals.Totals.Totals, Decoding.listed};
-ghost use Rattle.rds_pieces.specs.{Inside.Beside.come_to, Meeting.IsMeeting, Meeting.distance, Seams.seam_reads, Soon.IsSoonMet, declared.error.PieceError.TheVariants.OutOfMemory};
+ghost use Rattle.rds_pieces.specs.{Inside.Beside.come_to, Meeting.IsMeeting, Meeting.distance, Seams.seam_reads, Soon.IsSoonMet};
+ghost use Rattle.rds_code.specs.declared.error.RdsError.TheVariants.{OutOfMemory};
 
 use crate::beside::{Beside, go_beside};
-use crate::error::PieceError;
 use crate::laws::run_laws;
 use crate::run::PieceRun;
 use crate::seams::Seam;
+use rds_code::RdsError;
 use rds_stream::Tape;
 use rds_sync::laws::runs_converge;
 use rds_sync::{Report, Rules, State, Totals};
@@ -32,7 +33,7 @@ pub fn seam<T: Tape>(
     rules: &Rules,
     state: State,
     run: &PieceRun,
-) -> Result<Seam, PieceError>
+) -> Result<Seam, RdsError>
     requires lawful { IsLawful rules.now run.now.from state }
     requires source { run.now.source ≡ T.signal tape.old }
     requires rules { run.now.rules ≡ rules.now }
@@ -102,7 +103,7 @@ fn totals_after(all: Totals, first: Totals) -> Totals
 
 /// The report of a run over the whole range, and its end state, once it went on from `state` beside the
 /// guess. Its items are its own up to the meeting, and from there on the guess's.
-fn sewn(beside: Beside, state: State, run: &PieceRun) -> Result<(Report, State), PieceError>
+fn sewn(beside: Beside, state: State, run: &PieceRun) -> Result<(Report, State), RdsError>
     requires met { IsMeeting run.now.source run.now.rules state State.Searching run.now.from run.now.to
         beside.met_at }
     requires own { beside.own

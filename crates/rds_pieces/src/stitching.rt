@@ -2,12 +2,13 @@
 ghost use Rattle.std.specs.Prelude.{◌≡◌, ℕ, Option, ◌+◌, ◌-◌, ◌*◌, ◌++◌, ◌≤◌, ◌^◌, IfOk, IsOkUnless, length};
 ghost use Rattle.rds_stream.specs.Recording.{length_of};
 ghost use Rattle.rds_sync.specs.{Counting.FitTogether, Counting.IsAtMost, Counting.plus, Decoding.listed, Lawful.IsLawful, Report.report_items, Step.items_of_end, Step.run as run_of, Totals.totals_of};
-ghost use Rattle.rds_pieces.specs.{Meeting.IsMeeting, RunOf.FollowEachOther, Seams.IsSumOfReads, Seams.seam_reads, declared.error.PieceError.TheVariants.OutOfMemory};
+ghost use Rattle.rds_pieces.specs.{Meeting.IsMeeting, RunOf.FollowEachOther, Seams.IsSumOfReads, Seams.seam_reads};
+ghost use Rattle.rds_code.specs.declared.error.RdsError.TheVariants.{OutOfMemory};
 
-use crate::error::PieceError;
 use crate::laws::run_laws;
 use crate::run::PieceRun;
 use crate::seaming::seam;
+use rds_code::RdsError;
 use rds_stream::Tape;
 use rds_sync::laws::totals_join;
 use rds_sync::{Items, Report, Rules, State, Totals, finish};
@@ -28,7 +29,7 @@ pub fn stitch<T: Tape>(
     tape: &mut T,
     rules: &Rules,
     runs: &[PieceRun],
-) -> Result<Report, PieceError>
+) -> Result<Report, RdsError>
     requires in_a_row { FollowEachOther (T.signal tape.old) rules.now 0
         (length_of (T.signal tape.old)) runs.now }
     requires room { T.reads_made tape.old ≤ 2 ^ 61 }
@@ -56,7 +57,7 @@ fn close_report<T: Tape>(
     rules: &Rules,
     end_state: State,
     report: Report,
-) -> Result<Report, PieceError>
+) -> Result<Report, RdsError>
     requires lawful { IsLawful rules.now (length_of (T.signal tape.old)) end_state }
     requires room { T.reads_made tape.old + 16 ≤ 2 ^ 63 }
     requires named { report.items ≡ listed (T.signal tape.old) rules.now report.items.list }
@@ -87,7 +88,7 @@ fn carry_over_all<T: Tape>(
     tape: &mut T,
     rules: &Rules,
     runs: &[PieceRun],
-) -> Result<(State, Report), PieceError>
+) -> Result<(State, Report), RdsError>
     requires in_a_row { FollowEachOther (T.signal tape.old) rules.now 0
         (length_of (T.signal tape.old)) runs.now }
     requires room { T.reads_made tape.old ≤ 2 ^ 61 }
@@ -134,7 +135,7 @@ fn carry_over<T: Tape>(
     state: State,
     run: &PieceRun,
     report: &mut Report,
-) -> Result<State, PieceError>
+) -> Result<State, RdsError>
     requires lawful { IsLawful rules.now run.now.from state }
     requires source { run.now.source ≡ T.signal tape.old }
     requires rules { run.now.rules ≡ rules.now }

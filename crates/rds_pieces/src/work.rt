@@ -2,13 +2,14 @@
 ghost use Rattle.std.specs.Prelude.{◌≡◌, ℕ, List, ◌<◌, length, IfOk, IsOkUnless};
 ghost use Rattle.rds_stream.specs.Recording.{Signal, length_of};
 ghost use Rattle.rds_sync.specs.{Decoding.listed, Report.report_items, Rules.RuleNumbers, Totals.totals_of};
-ghost use Rattle.rds_pieces.specs.{Cutting.IsCutting, Cutting.pieces_of, Joining.AreNeighbours, RunOf.FollowEachOther, RunOf.run_at, RunOf.run_over, declared.error.PieceError.TheVariants.OutOfMemory};
+ghost use Rattle.rds_pieces.specs.{Cutting.IsCutting, Cutting.pieces_of, Joining.AreNeighbours, RunOf.FollowEachOther, RunOf.run_at, RunOf.run_over};
+ghost use Rattle.rds_code.specs.declared.error.RdsError.TheVariants.{OutOfMemory};
 
 use crate::cutting::Cutting;
-use crate::error::PieceError;
 use crate::joining::join_runs;
 use crate::run::{PieceRun, speculate_into};
 use crate::stitching::stitch;
+use rds_code::RdsError;
 use rds_stream::{Counted, Recording};
 use rds_sync::{Report, Rules, Spans};
 use std::alloc::Global;
@@ -39,7 +40,7 @@ pub trait Work {
         ensures { result.now ≡ places self.now };
 
     /// The guess of piece `j`. Its only error is `OutOfMemory`.
-    fn guess(&self, alloc: Global, j: u64) -> Result<PieceRun, PieceError>
+    fn guess(&self, alloc: Global, j: u64) -> Result<PieceRun, RdsError>
         requires fits { IsCutting (length_of (recording self.now)) (places self.now) }
         requires piece { j < pieces_of (places self.now) }
         ensures ok { IfOk result (λ r. r ≡ run_at (recording self.now) (rule_set self.now)
@@ -47,7 +48,7 @@ pub trait Work {
         ensures err { IsOkUnless result OutOfMemory };
 
     /// The run of two ranges that follow each other. Its only error is `OutOfMemory`.
-    fn join(&self, alloc: Global, left: &PieceRun, right: &PieceRun) -> Result<PieceRun, PieceError>
+    fn join(&self, alloc: Global, left: &PieceRun, right: &PieceRun) -> Result<PieceRun, RdsError>
         requires { AreNeighbours (recording self.now) (rule_set self.now) left.now right.now }
         ensures ok { IfOk result (λ r. r ≡ run_over (recording self.now)
             (rule_set self.now) left.now.from right.now.to) }
@@ -55,7 +56,7 @@ pub trait Work {
 
     /// The report, from runs that follow each other from place 0 to the recording's end. Its only error is
     /// `OutOfMemory`.
-    fn report(&self, alloc: Global, runs: &[PieceRun]) -> Result<Report, PieceError>
+    fn report(&self, alloc: Global, runs: &[PieceRun]) -> Result<Report, RdsError>
         requires in_a_row { FollowEachOther (recording self.now) (rule_set self.now)
             0 (length_of (recording self.now)) runs.now }
         ensures items { IfOk result (λ report. report.items ≡ listed (recording self.now) (rule_set self.now)
@@ -129,7 +130,7 @@ impl Work for RecordingWork<'_> {
         self.cutting
     }
 
-    fn guess(&self, alloc: Global, j: u64) -> Result<PieceRun, PieceError> {
+    fn guess(&self, alloc: Global, j: u64) -> Result<PieceRun, RdsError> {
         speculate_into(
             alloc,
             self.recording,
@@ -140,17 +141,12 @@ impl Work for RecordingWork<'_> {
         )
     }
 
-    fn join(
-        &self,
-        alloc: Global,
-        left: &PieceRun,
-        right: &PieceRun,
-    ) -> Result<PieceRun, PieceError> {
+    fn join(&self, alloc: Global, left: &PieceRun, right: &PieceRun) -> Result<PieceRun, RdsError> {
         let mut tape = Counted::new(self.recording);
         join_runs(alloc, &mut tape, self.rules, left, right)
     }
 
-    fn report(&self, alloc: Global, runs: &[PieceRun]) -> Result<Report, PieceError> {
+    fn report(&self, alloc: Global, runs: &[PieceRun]) -> Result<Report, RdsError> {
         let mut tape = Counted::new(self.recording);
         stitch(alloc, &mut tape, self.rules, runs)
     }

@@ -8,7 +8,7 @@ use crate::lightest::{Row, SYMBOLS, fill_rows};
 use crate::look_back::look_back;
 use crate::margin::Margin;
 use rds_code::laws::remainders_are_linear;
-use rds_code::{BlockNumber, CodeError, Offset, Wanted, rem26};
+use rds_code::{BlockNumber, Offset, RdsError, Wanted, rem26};
 use std::alloc::Global;
 use std::marker::Model;
 
@@ -32,11 +32,13 @@ impl Model for Search {
 }
 
 impl Search {
-    ghost use Rattle.std.specs.Prelude.{◌≡◌, ◌^◌, ◌<◌, length};
+    ghost use Rattle.std.specs.Prelude.{◌≡◌, ◌^◌, ◌<◌, IsOkUnless, length};
     ghost use Rattle.rds_soft.specs.Nearest.{IsCorrection};
 
     /// The room. Fails only with `OutOfMemory`.
-    pub fn new(alloc: Global) -> Result<Search, CodeError> {
+    pub fn new(alloc: Global) -> Result<Search, RdsError>
+        ensures only_memory { IsOkUnless result RdsError.OutOfMemory }
+    {
         let rows = vec![in alloc; [0u8; 1024]; SYMBOLS]?;
         Ok(Search { rows })
     }

@@ -10,9 +10,10 @@ use crate::near::{end_near, last_of, near_of, read_all_again, run_near};
 use crate::nearest::Search;
 use crate::soft_item::{SoftGroup, SoftItem};
 use crate::soft_totals::SoftTotals;
+use rds_code::RdsError;
 use rds_live::laws::{ends_move, runs_move};
 use rds_live::may_have_gaps;
-use rds_stream::{MOST_BITS, StreamError, Trace, are_gaps};
+use rds_stream::{MOST_BITS, Trace, are_gaps};
 use rds_sync::{Rules, State, laws};
 use std::alloc::{AllocError, Global};
 use std::marker::Model;
@@ -71,16 +72,16 @@ impl<'r> SoftStream<'r> {
         rules: &'r Rules,
         gaps: &'r [(u64, u64)],
         margin: Margin,
-    ) -> Result<SoftStream<'r>, StreamError>
+    ) -> Result<SoftStream<'r>, RdsError>
         ensures stream { IfOk result (λ stream. stream ≡ record {
           terms = record { rules = rules.now; gaps = gaps.now; margin = margin };
           symbols = [];
         }) }
-        ensures bad_gaps { IsErrOf result StreamError.BadGaps ↔ (AreGaps (2 ^ 36) gaps.now → ⊥) }
-        ensures only { IfErr result (λ e. (e ≡ StreamError.BadGaps) ⊎ (e ≡ StreamError.OutOfMemory)) }
+        ensures bad_gaps { IsErrOf result RdsError.BadGaps ↔ (AreGaps (2 ^ 36) gaps.now → ⊥) }
+        ensures only { IfErr result (λ e. (e ≡ RdsError.BadGaps) ⊎ (e ≡ RdsError.OutOfMemory)) }
     {
         if !may_have_gaps(gaps) {
-            return Err(StreamError::BadGaps);
+            return Err(RdsError::BadGaps);
         }
         match Search::new(alloc) {
             Ok(search) => Ok(SoftStream {
@@ -94,7 +95,7 @@ impl<'r> SoftStream<'r> {
                 totals: SoftTotals::NONE,
                 history: Trace::new(),
             }),
-            Err(_) => Err(StreamError::OutOfMemory),
+            Err(_) => Err(RdsError::OutOfMemory),
         }
     }
 
@@ -119,22 +120,22 @@ impl<'r> SoftStream<'r> {
     ///
     /// Its cost: the bits are read once, after those of 240 symbols, and each block that is not valid is searched. It takes memory for
     /// the symbols and for two items for each.
-    pub fn take(&mut self, alloc: Global, symbols: &[u8]) -> Result<Vec<SoftItem>, StreamError>
+    pub fn take(&mut self, alloc: Global, symbols: &[u8]) -> Result<Vec<SoftItem>, RdsError>
         ensures heard { OnOk result (self.new.symbols ≡ self.old.symbols ++ symbols.now) }
         ensures terms { self.new.terms ≡ self.old.terms }
         ensures items { IfOk result (λ items. complete self.old.terms (self.old.symbols ++ symbols.now)
             ≡ complete self.old.terms self.old.symbols ++ items.items) }
         ensures refused { OnErr result (self.new ≡ self.old) }
-        ensures too_long { IsErrOf result StreamError.TooLong
+        ensures too_long { IsErrOf result RdsError.TooLong
             ↔ (2 ^ 36 + 1 < length self.old.symbols + length symbols.now) }
-        ensures only { IfErr result (λ e. (e ≡ StreamError.TooLong) ⊎ (e ≡ StreamError.OutOfMemory)) }
+        ensures only { IfErr result (λ e. (e ≡ RdsError.TooLong) ⊎ (e ≡ RdsError.OutOfMemory)) }
     {
         if symbols.len() as u64 > MOST_BITS + 1 - self.count {
-            return Err(StreamError::TooLong);
+            return Err(RdsError::TooLong);
         }
         match self.take_all(alloc, symbols) {
             Ok(items) => Ok(items),
-            Err(_) => Err(StreamError::OutOfMemory),
+            Err(_) => Err(RdsError::OutOfMemory),
         }
     }
 

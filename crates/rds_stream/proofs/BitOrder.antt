@@ -1,5 +1,5 @@
 -- Single bits of words whose halves change places, and of bytes in a row.
-use Rattle.rds_stream.proofs.Names.{common_steps, ◌≡◌, ℕ, zero, suc, ◌+◌, ◌-◌, ◌*◌, ◌/◌, ◌%◌, ◌^◌, ◌<◌, ◌≤◌, refl, sym, ap, ◌∙◌, arith, bit_and, bit_or, List, [], ◌∷◌, map, get_or, bit_at, range_with_len, cases_lt, pow_pos, shr-shr, shr_split, bit_at_and, bit_at_or, bit_at_ones, bit_at_ones_above, bit_at-lt, bit_at-zero, bit_at_cat_low, bit_at_cat_high, get_or-map-range_with_len, inl, inr, each_below}
+use Rattle.rds_stream.proofs.Names.{common_steps, ◌≡◌, ℕ, zero, suc, ◌+◌, ◌-◌, ◌*◌, ◌/◌, ◌%◌, ◌^◌, ◌<◌, ◌≤◌, refl, sym, ap, ◌∙◌, arith, bit_and, bit_or, List, [], ◌∷◌, map, get_or, bit_at, range_with_len, cases_lt, pow_pos, shr-shr, shr_split, bit_at_and, bit_at_or, bit_at_ones, bit_at_ones_above, bit_at-lt, bit_at-zero, bit_at_cat_low, bit_at_cat_high, get_or-map-range_with_len, each_below}
 
 -- a bit of a word that is shifted down, and up
 pub shr_bit : (n s k : ℕ) → bit_at (n / 2 ^ s) k ≡ bit_at n (s + k)

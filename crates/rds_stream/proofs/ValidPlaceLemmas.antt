@@ -1,5 +1,5 @@
 -- Words of valid places: places with an offset and without one.
-use Rattle.rds_stream.proofs.Names.{common_steps, ◌≡◌, ℕ, ◌+◌, ◌-◌, ◌*◌, ◌/◌, ◌%◌, ◌^◌, ◌<◌, ◌≤◌, sym, ap, ◌∙◌, subst, arith, Option, Some, None, IsSome, inl, inr, bit_or, w64, true≢false, bit_at, cases_lt, bit_at-zero, bit_at_set_same, bit_at_set_other, Offset, Signal, offset_at, NoneValid, TellsValidPlaces}
+use Rattle.rds_stream.proofs.Names.{common_steps, ◌≡◌, ℕ, ◌+◌, ◌-◌, ◌*◌, ◌/◌, ◌%◌, ◌^◌, ◌<◌, ◌≤◌, sym, ap, ◌∙◌, subst, arith, Option, None, IsSome, inl, inr, bit_or, w64, true≢false, bit_at, cases_lt, bit_at-zero, bit_at_set_same, bit_at_set_other, Offset, Signal, offset_at, NoneValid, TellsValidPlaces}
 use Rattle.rds_stream.proofs.{BitOrder.shr_bit, WindowLists.off_early}
 
 pub none_is : (o : Option Offset) → (IsSome o → ⊥) → o ≡ None

@@ -1,11 +1,11 @@
 //! Packed bits with places.
 ghost use Rattle.std.specs.Prelude.{◌≡◌, List, ℕ, ◌+◌, ◌*◌, ◌/◌, ◌^◌, ◌<◌, ◌≤◌, ◌-◌, ◌++◌, ◌↔◌, [], ◌∷◌, All, drop, vec_len, length, slice_index, if◌then◌else◌, bit_and};
 ghost use Rattle.std.specs.Int.{bit_at};
-ghost use Rattle.rds_stream.specs.{declared.error.StreamError.TheVariants.TooLong, declared.error.StreamError.TheVariants.BitsPastBytes, Recording.packed_bit, Recording.bits_of, Recording.window};
+ghost use Rattle.rds_stream.specs.Recording.{packed_bit, bits_of, window};
+ghost use Rattle.rds_code.specs.declared.error.RdsError.TheVariants.{BitsPastBytes, TooLong};
 
 use crate::bit_order::lowest_first;
-use crate::error::StreamError;
-use rds_code::BLOCK_BITS;
+use rds_code::{BLOCK_BITS, RdsError};
 use std::marker::Model;
 
 /// The most bits that a recording may hold.
@@ -96,7 +96,7 @@ fn put_first(stored: &mut [u8], bytes: &[u8])
 
 impl Packed {
     /// Why the bytes do not hold `bits` bits, if they do not.
-    pub fn refusal(bytes: &Vec<u8>, bits: u64) -> Option<StreamError>
+    pub fn refusal(bytes: &Vec<u8>, bits: u64) -> Option<RdsError>
         ensures taken { (result ≡ None) ↔ ((bits ≤ 2 ^ 36) × (bits ≤ 8 * vec_len bytes.now)) }
 
         // Too many bits are refused as such, whether or not the bytes hold them.
@@ -105,10 +105,10 @@ impl Packed {
             ↔ ((bits ≤ 2 ^ 36) × (8 * vec_len bytes.now < bits)) }
     {
         if bits > MOST_BITS {
-            return Some(StreamError::TooLong);
+            return Some(RdsError::TooLong);
         }
         if bits.div_ceil(8) > bytes.len() as u64 {
-            return Some(StreamError::BitsPastBytes);
+            return Some(RdsError::BitsPastBytes);
         }
         None
     }

@@ -1,13 +1,12 @@
 //! A recording: demodulated bits with places, and the gaps in them.
 ghost use Rattle.std.specs.Prelude.{◌≡◌, ℕ, ◌+◌, ◌*◌, ◌^◌, ◌<◌, ◌≤◌, ◌-◌, ◌++◌, ◌↔◌, [], ◌∷◌, All, drop, vec_len, length, slice_index, if◌then◌else◌, Err, IfOk, IsOk};
 ghost use Rattle.std.specs.Int.{bit_at};
-ghost use Rattle.rds_code.specs.{Remainder.rem, Offsets.offset_of as the_offset_of};
-ghost use Rattle.rds_stream.specs.{Recording.AreGaps, Recording.Signal, Recording.bits_of, Recording.length_of, Recording.offset_at, Recording.touched, Recording.ungapped, Recording.window, declared.error.StreamError.TheVariants.BadGaps, declared.error.StreamError.TheVariants.BitsPastBytes, declared.error.StreamError.TheVariants.TooLong, Inside.Sections.IsSection};
+ghost use Rattle.rds_code.specs.{Remainder.rem, Offsets.offset_of as the_offset_of, declared.error.RdsError.TheVariants.BadGaps, declared.error.RdsError.TheVariants.BitsPastBytes, declared.error.RdsError.TheVariants.TooLong};
+ghost use Rattle.rds_stream.specs.{Recording.AreGaps, Recording.Signal, Recording.bits_of, Recording.length_of, Recording.offset_at, Recording.touched, Recording.ungapped, Recording.window, Inside.Sections.IsSection};
 
-use crate::error::StreamError;
 use crate::gaps::{Section, are_gaps, first_after, put_first_gaps};
 use crate::packed::Packed;
-use rds_code::{BLOCK_BITS, Offset, offset_of, rem26};
+use rds_code::{BLOCK_BITS, Offset, RdsError, offset_of, rem26};
 use std::marker::Model;
 
 /// The first place at which a window ends: 25, since a block's bits lead up to it.
@@ -35,7 +34,7 @@ impl Model for Recording {
 }
 
 /// Why the bytes and the gaps make no recording of `bits` bits, if they make none.
-fn refusal(bytes: &Vec<u8>, bits: u64, gaps: &[(u64, u64)]) -> Option<StreamError>
+fn refusal(bytes: &Vec<u8>, bits: u64, gaps: &[(u64, u64)]) -> Option<RdsError>
     ensures taken { (result ≡ None) ↔ ((bits ≤ 2 ^ 36) × (bits ≤ 8 * vec_len bytes.now)
         × AreGaps bits gaps.now) }
 
@@ -51,7 +50,7 @@ fn refusal(bytes: &Vec<u8>, bits: u64, gaps: &[(u64, u64)]) -> Option<StreamErro
     if are_gaps(gaps, bits) {
         None
     } else {
-        Some(StreamError::BadGaps)
+        Some(RdsError::BadGaps)
     }
 }
 
@@ -61,7 +60,7 @@ impl Recording {
     ///
     /// Refuses more than 2^36 bits, and then more than the bytes hold; the bytes come back as they were. Takes no
     /// memory.
-    pub fn from_bytes(bytes: Vec<u8>, bits: u64) -> Result<Recording, (StreamError, Vec<u8>)>
+    pub fn from_bytes(bytes: Vec<u8>, bits: u64) -> Result<Recording, (RdsError, Vec<u8>)>
         ensures held { IfOk result (λ recording. recording ≡ ungapped (bits_of bytes.items bits)) }
         ensures taken { IsOk result ↔ ((bits ≤ 2 ^ 36) × (bits ≤ 8 * vec_len bytes)) }
 
@@ -91,7 +90,7 @@ impl Recording {
         bytes: Vec<u8>,
         bits: u64,
         gaps: Vec<(u64, u64)>,
-    ) -> Result<Recording, (StreamError, Vec<u8>, Vec<(u64, u64)>)>
+    ) -> Result<Recording, (RdsError, Vec<u8>, Vec<(u64, u64)>)>
         ensures held { IfOk result (λ recording.
             recording ≡ record { bits = bits_of bytes.items bits; gaps = gaps.items }) }
         ensures taken { IsOk result ↔ ((bits ≤ 2 ^ 36) × (bits ≤ 8 * vec_len bytes)

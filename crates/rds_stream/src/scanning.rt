@@ -1,11 +1,11 @@
 //! All valid windows of a range.
 ghost use Rattle.std.specs.Prelude.{◌≡◌, ◌≤◌, IfOk, IsOkUnless};
-ghost use Rattle.rds_stream.specs.{declared.error.StreamError.TheVariants.OutOfMemory, Recording.length_of, Recording.valid_windows};
+ghost use Rattle.rds_stream.specs.Recording.{length_of, valid_windows};
+ghost use Rattle.rds_code.specs.declared.error.RdsError.TheVariants.{OutOfMemory};
 
-use crate::error::StreamError;
 use crate::recording::Recording;
 use crate::valid_windows::ValidWindows;
-use rds_code::Offset;
+use rds_code::{Offset, RdsError};
 use std::alloc::Global;
 
 /// All valid windows at the places from `from` to before `to`, each with its offset, by rising place.
@@ -17,7 +17,7 @@ pub fn scan(
     recording: &Recording,
     from: u64,
     to: u64,
-) -> Result<Vec<(u64, Offset)>, StreamError>
+) -> Result<Vec<(u64, Offset)>, RdsError>
     requires order { from ≤ to }
     requires end { to ≤ length_of recording.now }
     ensures found { IfOk result (λ found. found.items ≡ valid_windows recording.now from to) }

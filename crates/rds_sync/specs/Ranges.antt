@@ -1,6 +1,7 @@
 -- The numbers that the rules may have. `Rules::of`, `new` and `with_share` refuse others, and `Rules::numbers`, `burst`, `reach` and `loss`
 -- say that theirs are such. This project's own.
-use Rattle.std.specs.Prelude.{ℕ, ◌<◌, ◌≤◌, ◌⊎◌}
+use Rattle.std.specs.Prelude.{ℕ, ◌<◌, ◌≤◌, ◌≡◌, ◌⊎◌}
+use Rattle.rds_code.specs.declared.error.RdsError.{RdsError, TheVariants.BurstRange, TheVariants.LossRange, TheVariants.OutOfMemory, TheVariants.ReachRange, TheVariants.ShareRange}
 use Rattle.rds_sync.specs.{declared.loss.Loss.Loss, declared.loss.Loss.TheVariants.Run, declared.loss.Loss.TheVariants.Share, Loss.IsLossRule, Rules.RuleNumbers}
 
 -- the longest burst that is corrected, the farthest partner, and the most blocks that a rule of loss looks at
@@ -38,3 +39,7 @@ IsRunOutside (Share bad of) = ⊥
 abbrev pub IsShareOutside : Loss → Type 0
 IsShareOutside (Run n) = ⊥
 IsShareOutside (Share bad of) = (bad < 1) ⊎ (of < bad) ⊎ (most_blocks < of)
+
+-- the refusals that rules may have
+abbrev pub IsOfRules : RdsError → Type 0
+IsOfRules e = (e ≡ OutOfMemory) ⊎ (e ≡ BurstRange) ⊎ (e ≡ ReachRange) ⊎ (e ≡ LossRange) ⊎ (e ≡ ShareRange)

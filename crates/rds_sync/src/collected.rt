@@ -5,12 +5,12 @@ ghost use Rattle.rds_stream.specs.Recording.{length_of};
 ghost use Rattle.rds_sync.specs.{Convergence.IsConverged, Lawful.IsLawful, Step.run as the_run};
 
 use crate::decoder::Decoder;
-use crate::error::SyncError;
 use crate::item::Item;
 use crate::laws::{runs_are_lawful, runs_converge};
 use crate::push::push_one;
 use crate::rules::Rules;
 use crate::state::State;
+use rds_code::RdsError;
 use rds_stream::Recording;
 use std::alloc::Global;
 
@@ -30,7 +30,7 @@ pub fn run(
     state: State,
     from: u64,
     to: u64,
-) -> Result<(State, Vec<Item>), SyncError>
+) -> Result<(State, Vec<Item>), RdsError>
     requires lawful { IsLawful rules.now from state }
     requires order { from ≤ to }
     requires within { to ≤ length_of rec.now }
@@ -38,7 +38,7 @@ pub fn run(
     ensures items { IfOk result (λ end. end.1.items ≡ (the_run rec.now rules.now state from (to - from)).1) }
     ensures lawful { IfOk result (λ end. IsLawful rules.now to end.0) }
     ensures converged { IfOk result (λ end. IsConverged rec.now rules.now from to end.0) }
-    ensures only_memory { IsOkUnless result SyncError.OutOfMemory }
+    ensures only_memory { IsOkUnless result RdsError.OutOfMemory }
 {
     runs_are_lawful();
     runs_converge();

@@ -4,7 +4,7 @@ ghost use Rattle.std.specs.Prelude.{◌≡◌, true, false, ◌≤◌, ◌<◌, 
 ghost use Rattle.rds_sync.specs.Loss.{bad_after, are_too_many, IsLawfulBad};
 ghost use Rattle.rds_sync.specs.Ranges.{IsLossInRange, IsRunOutside, IsShareOutside};
 
-use crate::error::SyncError;
+use rds_code::RdsError;
 
 /// The most blocks that a rule of loss looks at: a mask has a bit for each.
 const MOST_BLOCKS: u32 = 64;
@@ -32,16 +32,16 @@ pub(crate) const NONE_BAD: u64 = 0;
 
 impl Loss {
     /// Refuses a rule that is out of its range.
-    pub(crate) fn check(self) -> Result<(), SyncError>
+    pub(crate) fn check(self) -> Result<(), RdsError>
         ensures ok { IfOk result (λ _. IsLossInRange self) }
-        ensures err { IfErr result (λ e. (e ≡ SyncError.LossRange) ⊎ (e ≡ SyncError.ShareRange)) }
-        ensures run { IsErrOf result SyncError.LossRange ↔ IsRunOutside self }
-        ensures share { IsErrOf result SyncError.ShareRange ↔ IsShareOutside self }
+        ensures err { IfErr result (λ e. (e ≡ RdsError.LossRange) ⊎ (e ≡ RdsError.ShareRange)) }
+        ensures run { IsErrOf result RdsError.LossRange ↔ IsRunOutside self }
+        ensures share { IsErrOf result RdsError.ShareRange ↔ IsShareOutside self }
     {
         match self {
-            Loss::Run(loss) if loss < 1 || loss > MOST_BLOCKS => Err(SyncError::LossRange),
+            Loss::Run(loss) if loss < 1 || loss > MOST_BLOCKS => Err(RdsError::LossRange),
             Loss::Share { bad, of } if bad < 1 || of < bad || of > MOST_BLOCKS => Err(
-                SyncError::ShareRange,
+                RdsError::ShareRange,
             ),
             _ => Ok(()),
         }

@@ -6,13 +6,13 @@ ghost use Rattle.rds_sync.specs.{Counting.IsAtMost, Decoding.listed, Lawful.IsLa
 
 use crate::count_run::count_stretch;
 use crate::counts::Counts;
-use crate::error::SyncError;
 use crate::items::{Items, Spans};
 use crate::rules::Rules;
 use crate::state::State;
 use crate::steps::finish;
 use crate::tally::{MOST_COUNTED, Tally, settle};
 use crate::totals::Totals;
+use rds_code::RdsError;
 use rds_stream::{Counted, Reader, Recording};
 use std::alloc::Global;
 use std::snapshot::Snapshot;
@@ -42,7 +42,7 @@ pub fn run_report(
     from: u64,
     to: u64,
     cut: Spans,
-) -> Result<(State, Report), SyncError>
+) -> Result<(State, Report), RdsError>
     requires lawful { IsLawful rules.now from state }
     requires order { from ≤ to }
     requires within { to ≤ length_of rec.now }
@@ -53,7 +53,7 @@ pub fn run_report(
         ≡ totals_of (run rec.now rules.now state from (to - from)).1) }
     ensures small { IfOk result (λ end. IsAtMost (2 ^ 47) end.1.totals) }
     ensures lawful { IfOk result (λ end. IsLawful rules.now to end.0) }
-    ensures only_memory { IsOkUnless result SyncError.OutOfMemory }
+    ensures only_memory { IsOkUnless result RdsError.OutOfMemory }
 {
     prove!(to <= rec.len());
     let mut reader = Reader::new(rec);
@@ -97,12 +97,12 @@ pub fn run_totals(
 /// and their totals. Fails only with `OutOfMemory`.
 ///
 /// Its cost: the recording is read once, as by [`run_report`]. It takes memory for the spans of the list.
-pub fn decode_plain(alloc: Global, rec: &Recording, rules: &Rules) -> Result<Report, SyncError>
+pub fn decode_plain(alloc: Global, rec: &Recording, rules: &Rules) -> Result<Report, RdsError>
     ensures items { IfOk result (λ report. report.items
         ≡ listed rec.now rules.now (report_items rec.now rules.now)) }
     ensures totals { IfOk result (λ report. report.totals
         ≡ totals_of (report_items rec.now rules.now)) }
-    ensures only_memory { IsOkUnless result SyncError.OutOfMemory }
+    ensures only_memory { IsOkUnless result RdsError.OutOfMemory }
 {
     prove!(1 <= rules.reach());
     let len = rec.len();

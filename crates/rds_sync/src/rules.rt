@@ -3,11 +3,10 @@
 ghost use Rattle.std.specs.Prelude.{◌≡◌, ◌≢◌, ◌<◌, ◌≤◌, ◌⊎◌, ◌↔◌, ◌^◌, IfErr, IfOk, IfSome, IsErrOf};
 ghost use Rattle.rds_code.specs.{Outcomes.outcome_number, declared.reading.Wanted.TheVariants.Either};
 ghost use Rattle.rds_stream.specs.Recording.{reading_heard};
-ghost use Rattle.rds_sync.specs.{Groups.wanted_beside, Ranges.IsInRange, Ranges.IsRunOutside, Ranges.IsShareOutside, Ranges.farthest_reach, Ranges.longest_burst, Ranges.most_blocks, declared.item.Block.TheVariants.Read, declared.loss.Loss.TheVariants.Run, declared.loss.Loss.TheVariants.Share};
+ghost use Rattle.rds_sync.specs.{Groups.wanted_beside, Ranges.IsInRange, Ranges.IsOfRules, Ranges.IsRunOutside, Ranges.IsShareOutside, Ranges.farthest_reach, Ranges.longest_burst, Ranges.most_blocks, declared.item.Block.TheVariants.Read, declared.loss.Loss.TheVariants.Run, declared.loss.Loss.TheVariants.Share};
 
-use crate::error::SyncError;
 use crate::loss::Loss;
-use rds_code::{BlockNumber, BurstLimit, BurstTable, Outcomes, Reading, Wanted};
+use rds_code::{BlockNumber, BurstLimit, BurstTable, Outcomes, RdsError, Reading, Wanted};
 use rds_stream::read_heard;
 use std::alloc::Global;
 use std::marker::Model;
@@ -50,24 +49,25 @@ impl Rules {
     ///
     /// Refuses a burst, then a reach, then a loss or a share out of its range. Otherwise it fails only if
     /// memory is refused.
-    pub fn of(alloc: Global, numbers: RuleNumbers) -> Result<Rules, SyncError>
+    pub fn of(alloc: Global, numbers: RuleNumbers) -> Result<Rules, RdsError>
         ensures numbers { IfOk result (λ rules. rules ≡ numbers) }
 
-        ensures burst_range { IsErrOf result SyncError.BurstRange ↔ (longest_burst < numbers.burst) }
-        ensures reach_range { IsErrOf result SyncError.ReachRange
+        ensures burst_range { IsErrOf result RdsError.BurstRange ↔ (longest_burst < numbers.burst) }
+        ensures reach_range { IsErrOf result RdsError.ReachRange
             ↔ ((numbers.burst ≤ longest_burst) × ((numbers.reach < 1) ⊎ (farthest_reach < numbers.reach))) }
-        ensures loss_range { IsErrOf result SyncError.LossRange
+        ensures loss_range { IsErrOf result RdsError.LossRange
             ↔ ((numbers.burst ≤ longest_burst) × (1 ≤ numbers.reach) × (numbers.reach ≤ farthest_reach)
             × IsRunOutside numbers.loss) }
-        ensures share_range { IsErrOf result SyncError.ShareRange
+        ensures share_range { IsErrOf result RdsError.ShareRange
             ↔ ((numbers.burst ≤ longest_burst) × (1 ≤ numbers.reach) × (numbers.reach ≤ farthest_reach)
             × IsShareOutside numbers.loss) }
+        ensures only { IfErr result IsOfRules }
     {
         let Some(limit) = BurstLimit::new(numbers.burst) else {
-            return Err(SyncError::BurstRange);
+            return Err(RdsError::BurstRange);
         };
         if numbers.reach < 1 || numbers.reach > FARTHEST_REACH {
-            return Err(SyncError::ReachRange);
+            return Err(RdsError::ReachRange);
         }
         numbers.loss.check()?;
         let table = BurstTable::new(alloc)?;
@@ -84,17 +84,18 @@ impl Rules {
     ///
     /// Refuses a burst, then a reach, then a loss out of its range. Otherwise it fails only if memory is
     /// refused.
-    pub fn new(alloc: Global, burst: u32, reach: u32, loss: u32) -> Result<Rules, SyncError>
+    pub fn new(alloc: Global, burst: u32, reach: u32, loss: u32) -> Result<Rules, RdsError>
         ensures numbers { IfOk result (λ rules. (rules.burst ≡ burst) × (rules.reach ≡ reach)
             × (rules.loss ≡ Run loss)) }
 
-        ensures burst_range { IsErrOf result SyncError.BurstRange ↔ (longest_burst < burst) }
-        ensures reach_range { IsErrOf result SyncError.ReachRange
+        ensures burst_range { IsErrOf result RdsError.BurstRange ↔ (longest_burst < burst) }
+        ensures reach_range { IsErrOf result RdsError.ReachRange
             ↔ ((burst ≤ longest_burst) × ((reach < 1) ⊎ (farthest_reach < reach))) }
-        ensures loss_range { IsErrOf result SyncError.LossRange
+        ensures loss_range { IsErrOf result RdsError.LossRange
             ↔ ((burst ≤ longest_burst) × (1 ≤ reach) × (reach ≤ farthest_reach)
             × ((loss < 1) ⊎ (most_blocks < loss))) }
-        ensures no_share_range { IfErr result (λ e. e ≢ SyncError.ShareRange) }
+        ensures only { IfErr result IsOfRules }
+        ensures no_share_range { IfErr result (λ e. e ≢ RdsError.ShareRange) }
     {
         Rules::of(
             alloc,
@@ -117,17 +118,18 @@ impl Rules {
         reach: u32,
         bad: u32,
         of: u32,
-    ) -> Result<Rules, SyncError>
+    ) -> Result<Rules, RdsError>
         ensures numbers { IfOk result (λ rules. (rules.burst ≡ burst) × (rules.reach ≡ reach)
             × (rules.loss ≡ Share bad of)) }
 
-        ensures burst_range { IsErrOf result SyncError.BurstRange ↔ (longest_burst < burst) }
-        ensures reach_range { IsErrOf result SyncError.ReachRange
+        ensures burst_range { IsErrOf result RdsError.BurstRange ↔ (longest_burst < burst) }
+        ensures reach_range { IsErrOf result RdsError.ReachRange
             ↔ ((burst ≤ longest_burst) × ((reach < 1) ⊎ (farthest_reach < reach))) }
-        ensures share_range { IsErrOf result SyncError.ShareRange
+        ensures share_range { IsErrOf result RdsError.ShareRange
             ↔ ((burst ≤ longest_burst) × (1 ≤ reach) × (reach ≤ farthest_reach)
             × ((bad < 1) ⊎ (of < bad) ⊎ (most_blocks < of))) }
-        ensures no_loss_range { IfErr result (λ e. e ≢ SyncError.LossRange) }
+        ensures only { IfErr result IsOfRules }
+        ensures no_loss_range { IfErr result (λ e. e ≢ RdsError.LossRange) }
     {
         Rules::of(
             alloc,

@@ -1,7 +1,8 @@
 //! The calls that a crew makes of gates and works. No contract says it: neither that workers run at the same
 //! time, nor when a gate is called, nor whose runs make the report.
+use rds_code::RdsError;
 use rds_crew::{Gate, decode_crew};
-use rds_pieces::{Cutting, PieceError, PieceRun, RecordingWork, Work};
+use rds_pieces::{Cutting, PieceRun, RecordingWork, Work};
 use rds_stream::Recording;
 use rds_sync::{Report, Rules};
 use std::alloc::Global;
@@ -205,23 +206,18 @@ impl<R: Wait> Work for Noted<'_, '_, '_, R> {
         self.inner.cutting()
     }
 
-    fn guess(&self, alloc: Global, j: u64) -> Result<PieceRun, PieceError> {
+    fn guess(&self, alloc: Global, j: u64) -> Result<PieceRun, RdsError> {
         self.journal.keep(Event::Guessed(j));
         self.inner.guess(alloc, j)
     }
 
-    fn join(
-        &self,
-        alloc: Global,
-        left: &PieceRun,
-        right: &PieceRun,
-    ) -> Result<PieceRun, PieceError> {
+    fn join(&self, alloc: Global, left: &PieceRun, right: &PieceRun) -> Result<PieceRun, RdsError> {
         self.journal
             .keep(Event::Joined(range_of(left), range_of(right)));
         self.inner.join(alloc, left, right)
     }
 
-    fn report(&self, alloc: Global, runs: &[PieceRun]) -> Result<Report, PieceError> {
+    fn report(&self, alloc: Global, runs: &[PieceRun]) -> Result<Report, RdsError> {
         for run in runs {
             self.journal.keep(Event::Reported(range_of(run)));
         }

@@ -1,9 +1,8 @@
 //! Calls of `rds_tool`: flushes of writers of std, a reader without an end, and cuts at given places.
+use rds_code::RdsError;
 use rds_crew::Gate;
 use rds_pieces::PieceRun;
-use rds_tool::{
-    Cuts, FromRead, Input, Job, Loss, Settings, ToWrite, ToolError, transcribe, transcribe_gated,
-};
+use rds_tool::{Cuts, FromRead, Input, Job, Loss, Settings, ToWrite, transcribe, transcribe_gated};
 use std::alloc::{AllocError, Global};
 use std::io;
 use std::io::{Read, Write};
@@ -55,7 +54,7 @@ fn is_withheld<R: Threads + Sync>(
     alloc: Global,
     bytes: &[u8],
     fails: bool,
-    wanted: Result<(), ToolError>,
+    wanted: Result<(), RdsError>,
     held: usize,
     handed_on: usize,
 ) -> bool {
@@ -74,7 +73,7 @@ fn is_withheld<R: Threads + Sync>(
 // No contract of std defines the effect of a flush, so none of ours can: a writer that waits for it tells.
 #[test]
 fn a_flush_reaches_the_writer_of_std(rt: HostRuntime) {
-    let refused = Err(ToolError::Write);
+    let refused = Err(RdsError::Write);
     assert!(rt; is_withheld(&rt, rt.alloc(), GROUPS.as_slice(), false, Ok(()), 62, 62));
     assert!(rt; is_withheld(&rt, rt.alloc(), GROUPS.as_slice(), true, refused, 62, 0));
     assert!(rt; is_withheld(&rt, rt.alloc(), b"", true, refused, 0, 0));
@@ -106,7 +105,7 @@ fn is_left<R: Threads + Sync>(rt: &R, alloc: Global, reads: u64) -> bool {
     let mut writer = ToWrite::new(Vec::new(alloc));
     let job = Job::Scan(input(alloc), 4);
     let answer = transcribe(rt, alloc, &mut reader, &mut writer, &job);
-    answer == Err(ToolError::TooManyTurns) && count.load(Ordering::SeqCst) == reads
+    answer == Err(RdsError::TooManyTurns) && count.load(Ordering::SeqCst) == reads
 }
 
 // That it is left no earlier is a clause.
@@ -146,7 +145,7 @@ fn list_cut_at(alloc: Global, workers: u32, first: u64, end: u64) -> Result<Job,
 }
 
 /// How many pieces of the two groups are begun.
-fn pieces_begun<R: Threads + Sync>(rt: &R, alloc: Global, list: &Job) -> Result<u64, ToolError> {
+fn pieces_begun<R: Threads + Sync>(rt: &R, alloc: Global, list: &Job) -> Result<u64, RdsError> {
     let gate = Count {
         begun: AtomicU64::new(0),
     };

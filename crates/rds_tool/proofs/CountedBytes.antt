@@ -1,5 +1,5 @@
 -- A recording that is counted while its bytes come.
-use Rattle.rds_tool.proofs.Names.{common_steps, ◌≡◌, ◌<◌, ◌≤◌, ◌+◌, ◌-◌, ◌*◌, ◌^◌, ◌++◌, ◌∷◌, ◌∙◌, ℕ, Bool, Err, List, [], Ok, Option, Result, ap, arith, drop, false, if◌then◌else◌, inl, inr, length, length-append, min, refl, slice_index, sym, subst, take, true, is_some, take-append-add, cases_lt, le-ltb, append-nil, get_or_append_left, get_or-append_right, length-take, take-append-drop, take-append-le, take_all, take_more, HasHeard, LiveOf, AreGaps, bits_of, claimed, decoded, first_bits, IsCounter, IsTextOf, claimed_by, whole, ToolError, BadGaps, HexText}
+use Rattle.rds_tool.proofs.Names.{common_steps, ◌≡◌, ◌<◌, ◌≤◌, ◌+◌, ◌-◌, ◌*◌, ◌^◌, ◌++◌, ◌∷◌, ◌∙◌, ℕ, Bool, Err, List, [], Ok, Option, Result, ap, arith, drop, false, if◌then◌else◌, inl, inr, length, length-append, min, refl, slice_index, sym, subst, take, true, is_some, take-append-add, cases_lt, le-ltb, append-nil, get_or_append_left, get_or-append_right, length-take, take-append-drop, take-append-le, take_all, take_more, HasHeard, LiveOf, AreGaps, bits_of, claimed, decoded, first_bits, IsCounter, IsTextOf, claimed_by, whole, RdsError, BadGaps, HexText}
 use Rattle.rds_tool.proofs.{Followed.front_bits, GapLists.are_gaps, GapLists.pass_as_gaps, HexDigits.even_text, HexDigits.odd_text, HexDigits.strange_text}
 
 -- ---- its bytes
@@ -83,7 +83,7 @@ module _ (bits : Option ℕ) (live : LiveOf) (count last : ℕ) (xs : List ℕ) 
 -- ---- its text
 
 module _ (half : Option ℕ) (text bytes : List ℕ) where
-  abbrev decoded_as : Bool → Result (List ℕ) ToolError
+  abbrev decoded_as : Bool → Result (List ℕ) RdsError
   decoded_as hex = if hex then decoded text else Ok text
 
   pub refused_strange : (hex : Bool) → IsTextOf hex half true text bytes → decoded_as hex ≡ Err HexText

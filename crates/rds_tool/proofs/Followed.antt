@@ -1,6 +1,7 @@
 -- The progress of a stream so far, and where it breaks off.
-use Rattle.rds_tool.proofs.Names.{common_steps, if◌then◌else◌, nat_lt, not, may_be_gaps, Signal, ◌≡◌, ◌≢◌, ◌+◌, ◌-◌, ◌*◌, ◌/◌, ◌%◌, ◌^◌, ◌<◌, ◌≤◌, ◌++◌, ◌⊎◌, ◌↔◌, ℕ, Bool, List, [], ◌∷◌, Err, None, Ok, Option, Result, Some, eqb, false, true, inl, inr, length, map, take, refl, sym, zero, suc, ap, ap₂, ◌∙◌, subst, arith, append_assoc, IfErr, IfSome, IsErrOf, OnErr, OnOk, bit_at, flat_map, range_with_len, Appends, Consumes, IsAtEnd, Keeps, Appends-nil, Appends-trans, Consumes-kept, Consumes-nil, Consumes-trans, get_or-append, eqb-false, le-ltb, flat_map-append, append-nil, length-append, length-take, length-map-range_with_len, LiveOf, HasHeard, Terms, complete, live_of, report_at, run_of, signal_at, signal_of, AreGaps, bits_of, length_of, packed_bit, Item, Searching, RunsAreReports, IsLossRule, items_of_end, run, Totals, totals_of, AreAsked, Follows, HasAll, IsLong, IsShortOf as IsShort, MayBreakOff, Stream, bit_stream, claim_or, counted, listed, rows_so_far, stream_text, Gave, and_then, claimed, first_bits, Breaks, IsHeard, IsNear, IsPlaceOf, IsShortEnough, bits_left, item_row, report_text, totals_text, Writes, WritesPrefix, list_text, ToolError, BadGaps, BitsPastBytes, OutOfMemory, Read, TooLong, Write}
-use Rattle.rds_tool.{specs.Refusals.number_of, specs.declared.devices.Source.Ghosts as Source, proofs.GapLists.pass_as_gaps, proofs.Passing.ok_is_no_err, proofs.Passing.passed_kind}
+use Rattle.rds_tool.proofs.Names.{common_steps, if◌then◌else◌, nat_lt, not, may_be_gaps, Signal, ◌≡◌, ◌≢◌, ◌+◌, ◌-◌, ◌*◌, ◌/◌, ◌%◌, ◌^◌, ◌<◌, ◌≤◌, ◌++◌, ◌⊎◌, ◌↔◌, ℕ, Bool, List, [], ◌∷◌, Err, None, Ok, Option, Result, Some, eqb, false, true, inl, inr, length, map, take, refl, sym, zero, suc, ap, ap₂, ◌∙◌, subst, arith, append_assoc, IfErr, IfSome, IsErrOf, OnErr, OnOk, bit_at, flat_map, range_with_len, Appends, Consumes, IsAtEnd, Keeps, Appends-nil, Appends-trans, Consumes-kept, Consumes-nil, Consumes-trans, get_or-append, eqb-false, le-ltb, flat_map-append, append-nil, length-append, length-take, length-map-range_with_len, LiveOf, HasHeard, Terms, complete, live_of, report_at, run_of, signal_at, signal_of, AreGaps, bits_of, length_of, packed_bit, Item, Searching, RunsAreReports, IsLossRule, items_of_end, run, Totals, totals_of, AreAsked, Follows, HasAll, IsLong, IsShortOf as IsShort, MayBreakOff, Stream, bit_stream, claim_or, counted, listed, rows_so_far, stream_text, Gave, and_then, claimed, first_bits, Breaks, IsHeard, IsNear, IsPlaceOf, IsShortEnough, bits_left, item_row, report_text, totals_text, Writes, WritesPrefix, list_text, RdsError, BadGaps, BitsPastBytes, OutOfMemory, Read, TooLong, Write}
+use Rattle.rds_tool.{specs.declared.devices.Source.Ghosts as Source, proofs.GapLists.pass_as_gaps, proofs.Passing.ok_is_no_err, proofs.Passing.passed_kind}
+use Rattle.rds_code.specs.Refusals.{number_of}
 use Rattle.rds_rows.specs.declared.sink.Sink.{Ghosts as Sink}
 
 -- ---- a read
@@ -45,16 +46,16 @@ is_read source s reader reader' heard n bytes buf is within gave took reads few 
 -- ---- any stream
 
 -- what neither device is to blame for
-abbrev pub IsOfStream : ToolError → Type 0
+abbrev pub IsOfStream : RdsError → Type 0
 IsOfStream e = (e ≡ OutOfMemory) ⊎ ((e ≡ TooLong) ⊎ ((e ≡ BitsPastBytes) ⊎ (e ≡ BadGaps)))
 
-not_read : (e : ToolError) → IsOfStream e → e ≢ Read
+not_read : (e : RdsError) → IsOfStream e → e ≢ Read
 not_read e of p = grind (arith, common_steps)
 
-not_write : (e : ToolError) → IsOfStream e → e ≢ Write
+not_write : (e : RdsError) → IsOfStream e → e ≢ Write
 not_write e of p = grind (arith, common_steps)
 
-may_of : (e : ToolError) → IsOfStream e → MayBreakOff e
+may_of : (e : RdsError) → IsOfStream e → MayBreakOff e
 may_of e of = grind (arith, common_steps)
 
 first_of : {A B C : Type 0} → A ⊎ (B × C) → A ⊎ B
@@ -70,10 +71,10 @@ asked_still None step size some counts = tt
 asked_still (Some n) step size some counts = (counts, omega (arith, counts, some))
 
 -- an error that a call passes on
-err_is : (T : Type 0) (e k : ToolError) → (let r : Result T ToolError = Err e in r ≡ Err k) → e ≡ k
+err_is : (T : Type 0) (e k : RdsError) → (let r : Result T RdsError = Err e in r ≡ Err k) → e ≡ k
 err_is T e k p = cc
 
-pub follows_err : {R W : Type 0} {source : Source R} {sink : Sink W} {s : Stream} {reader reader' : R} {writer writer' : W} (r : Result (Unit {0}) ToolError) (e : ToolError) → r ≡ Err e
+pub follows_err : {R W : Type 0} {source : Source R} {sink : Sink W} {s : Stream} {reader reader' : R} {writer writer' : W} (r : Result (Unit {0}) RdsError) (e : RdsError) → r ≡ Err e
     → Breaks source sink s reader reader' writer writer' e → Follows source sink s reader reader' writer writer' r
 follows_err {source = source} {sink = sink} {s = s} {reader = reader} {reader' = reader'} {writer = writer} {writer' = writer'} r e is b =
     subst (λ x. Follows source sink s reader reader' writer writer' x) (sym is) (record {
@@ -136,7 +137,7 @@ module _ {R W : Type 0} {source : Source R} {sink : Sink W} {s : Stream} {reader
   }
 
   -- the next read fails
-  pub breaks_read : (reader2 : R) (e : ToolError) → 0 < s.step → e ≡ Read → Keeps (source.remaining reader1) (source.remaining reader2) → source.given reader2 ≡ source.given reader1
+  pub breaks_read : (reader2 : R) (e : RdsError) → 0 < s.step → e ≡ Read → Keeps (source.remaining reader1) (source.remaining reader2) → source.given reader2 ≡ source.given reader1
       → source.failed reader1 < source.failed reader2 → Breaks source sink s reader reader2 writer writer1 e
   breaks_read reader2 e some is kept none fails =
       let gave : source.given reader2 ≡ source.given reader ++ heard = none ∙ h.gave in
@@ -185,7 +186,7 @@ module _ {R W : Type 0} {source : Source R} {sink : Sink W} {s : Stream} {reader
     }
 
     -- following breaks off, and the writer is as it was
-    pub breaks_still : (e : ToolError) → IsOfStream e → (e ≡ TooLong → IsLong s.claim ⊎ (2 ^ 36 < s.size (heard ++ last)))
+    pub breaks_still : (e : RdsError) → IsOfStream e → (e ≡ TooLong → IsLong s.claim ⊎ (2 ^ 36 < s.size (heard ++ last)))
         → (e ≡ BitsPastBytes → IsShort s.claim (s.size (heard ++ last)) × (source.has_ended reader2 ≡ true) × IsAtEnd (source.remaining reader2))
         → (e ≡ BadGaps → (AreGaps (2 ^ 36) s.gaps → ⊥) ⊎ ((AreGaps (claim_or s.claim (s.size (heard ++ last))) s.gaps → ⊥) × (s.claim ≡ None → IsAtEnd (source.remaining reader2))))
         → Breaks source sink s reader reader2 writer writer1 e
@@ -242,7 +243,7 @@ module _ {R W : Type 0} {source : Source R} {sink : Sink W} {s : Stream} {reader
     }
 
     -- the rows of the read, before what is left after it
-    pub breaks_chunk : (writer2 : W) (e : ToolError) (rest : List ℕ) → (e ≡ OutOfMemory) ⊎ ((e ≡ Write) ⊎ (e ≡ TooLong)) → (e ≢ Write → writer2 ≡ writer1)
+    pub breaks_chunk : (writer2 : W) (e : RdsError) (rest : List ℕ) → (e ≡ OutOfMemory) ⊎ ((e ≡ Write) ⊎ (e ≡ TooLong)) → (e ≢ Write → writer2 ≡ writer1)
         → (e ≡ TooLong → 2 ^ 36 < s.size (heard ++ last)) → s.text (heard ++ last) ≡ s.rows (heard ++ last) ++ rest
         → (e ≡ Write → (rows : List ℕ) × (s.rows (heard ++ last) ≡ s.rows heard ++ rows) × WritesPrefix (sink.contents writer1) (sink.contents writer2) (Ok rows))
         → (e ≡ Write → sink.failed writer1 < sink.failed writer2) → Breaks source sink s reader reader2 writer writer2 e
@@ -256,7 +257,7 @@ module _ {R W : Type 0} {source : Source R} {sink : Sink W} {s : Stream} {reader
         subst (λ w. Breaks source sink s reader reader2 writer w e) (sym (still (λ p. cc))) (breaks_still e (inr (inl is)) (λ p. inr (long p)) (λ p. cc) (λ p. cc))
 
     -- the rest of the listing was written, or a beginning of it
-    pub follows_end : (writer2 : W) (x : Result (Unit {0}) ToolError) (text : List ℕ) → s.text (heard ++ last) ≡ s.rows heard ++ text → s.listed (heard ++ last) ≡ Ok (s.text (heard ++ last))
+    pub follows_end : (writer2 : W) (x : Result (Unit {0}) RdsError) (text : List ℕ) → s.text (heard ++ last) ≡ s.rows heard ++ text → s.listed (heard ++ last) ≡ Ok (s.text (heard ++ last))
         → HasAll s.claim s.step (s.size (heard ++ last)) (source.has_ended reader2) → (s.claim ≡ None → IsAtEnd (source.remaining reader2))
         → IfErr x (λ e. e ≡ Write) → OnOk x (Appends (sink.contents writer1) (sink.contents writer2) text) → OnOk x (sink.is_flushed writer2 ≡ true)
         → IsErrOf x Write ↔ (sink.failed writer1 < sink.failed writer2) → OnErr x (WritesPrefix (sink.contents writer1) (sink.contents writer2) (Ok text))
@@ -266,7 +267,7 @@ module _ {R W : Type 0} {source : Source R} {sink : Sink W} {s : Stream} {reader
         symbols = heard ++ last;
         gave = gave_all;
         all = all;
-        text = subst (λ (t : Result (List ℕ) ToolError). Writes (sink.contents writer) (sink.contents writer2) t) (sym lists)
+        text = subst (λ (t : Result (List ℕ) RdsError). Writes (sink.contents writer) (sink.contents writer2) t) (sym lists)
             (subst (λ ys. Appends (sink.contents writer) (sink.contents writer2) ys) (sym ends)
             (Appends-trans (sink.contents writer) (sink.contents writer1) (sink.contents writer2) (s.rows heard) text h.written wrote));
         flush = flush;
@@ -285,7 +286,7 @@ module _ {R W : Type 0} {source : Source R} {sink : Sink W} {s : Stream} {reader
         (breaks_write writer2 text [] (ends ∙ ap (λ ys. s.rows heard ++ ys) (sym (append-nil text))) prefix (fails.0 (ap (λ k. Err k) kind))))
 
 -- following breaks off before anything is read
-pub breaks_at_once : {R W : Type 0} {source : Source R} {sink : Sink W} {s : Stream} {reader : R} {writer : W} (e : ToolError) → 0 < s.step
+pub breaks_at_once : {R W : Type 0} {source : Source R} {sink : Sink W} {s : Stream} {reader : R} {writer : W} (e : RdsError) → 0 < s.step
     → IsHeard source sink s reader reader writer writer [] → (e ≡ OutOfMemory) ⊎ ((e ≡ TooLong) ⊎ (e ≡ BadGaps)) → (e ≡ TooLong → IsLong s.claim)
     → (e ≡ BadGaps → AreGaps (2 ^ 36) s.gaps → ⊥) → Breaks source sink s reader reader writer writer e
 breaks_at_once e some h (inl is) long gaps = breaks_still h (read_none h some) e (inl is) (λ p. cc) (λ p. cc) (λ p. cc)
@@ -458,7 +459,7 @@ past_end source (Some n) place left reader reader' is some (inr end) (inl (many,
 short_of : (bits : Option ℕ) (place left : ℕ) (heard : List ℕ) → left ≡ bits_left bits place → 0 < left → place ≡ 8 * length heard → IsShort bits (8 * length (heard ++ []))
 short_of bits place left heard is some at = grind (arith, common_steps, append-nil)
 
-of_rest : (e : ToolError) → (e ≡ OutOfMemory) ⊎ (e ≡ BadGaps) → IsOfStream e
+of_rest : (e : RdsError) → (e ≡ OutOfMemory) ⊎ (e ≡ BadGaps) → IsOfStream e
 of_rest e it = grind (arith, common_steps)
 
 claimed_is : (bits : Option ℕ) (bytes : List ℕ) → claimed bits bytes ≡ claim_or bits (8 * length bytes)
@@ -471,14 +472,14 @@ first_is n gaps bytes short held are = rw (le-ltb (2 ^ 36) n short, le-ltb (8 * 
 lists : (terms : Terms) (bits : Option ℕ) (bytes : List ℕ) (m : ℕ) → claim_or bits (8 * length bytes) ≡ m → counted bits bytes ≡ m → m ≤ 2 ^ 36 → m ≤ 8 * length bytes → AreGaps m terms.gaps
     → listed terms bits bytes ≡ Ok (stream_text terms bits bytes)
 lists terms bits bytes m claim count short held are =
-    let text : Result Signal ToolError → Result (List ℕ) ToolError = λ r. and_then r (λ recording. Ok (list_text terms.rules recording)) in
+    let text : Result Signal RdsError → Result (List ℕ) RdsError = λ r. and_then r (λ recording. Ok (list_text terms.rules recording)) in
     ap (λ (n : ℕ). text (first_bits n terms.gaps bytes)) (claimed_is bits bytes ∙ claim) ∙ ap text (first_is m terms.gaps bytes short held are)
     ∙ ap (λ (n : ℕ). Ok (list_text terms.rules (signal_at terms.gaps bytes n))) (sym count)
 
 module _ {R W : Type 0} (source : Source R) (sink : Sink W) (terms : Terms) (workers : ℕ) (bits : Option ℕ) {reader reader1 : R} {writer writer1 : W} {heard : List ℕ}
     (h : IsHeard source sink (bit_stream terms workers bits) reader reader1 writer writer1 heard) (live : LiveOf) (is : live ≡ live_of terms heard) where
   -- that byte was not read
-  pub breaks_last : (reader2 : R) (place left : ℕ) (e : ToolError) → (e ≡ Read) ⊎ (e ≡ BitsPastBytes) → place ≡ live.place → left ≡ bits_left bits place
+  pub breaks_last : (reader2 : R) (place left : ℕ) (e : RdsError) → (e ≡ Read) ⊎ (e ≡ BitsPastBytes) → place ≡ live.place → left ≡ bits_left bits place
       → IsNear bits 8 live.place (IsAtEnd (source.remaining reader1) × (source.has_ended reader1 ≡ true)) → Keeps (source.remaining reader1) (source.remaining reader2)
       → source.given reader2 ≡ source.given reader1 → (e ≡ Read → source.failed reader1 < source.failed reader2)
       → (e ≡ BitsPastBytes → (0 < left) × (source.failed reader2 ≡ source.failed reader1)
@@ -501,7 +502,7 @@ module _ {R W : Type 0} (source : Source R) (sink : Sink W) (terms : Terms) (wor
 
   module _ {reader2 : R} (left : ℕ) {last : List ℕ} (l : IsLast source terms workers bits reader1 reader2 live.place left heard last) where
     -- the rest of the listing was not made
-    pub breaks_rest : (e : ToolError) → (e ≡ OutOfMemory) ⊎ (e ≡ BadGaps) → (e ≡ BadGaps → AreGaps (live.place + left) live.terms.gaps → ⊥)
+    pub breaks_rest : (e : RdsError) → (e ≡ OutOfMemory) ⊎ (e ≡ BadGaps) → (e ≡ BadGaps → AreGaps (live.place + left) live.terms.gaps → ⊥)
         → Breaks source sink (bit_stream terms workers bits) reader reader2 writer writer1 e
     breaks_rest e kinds gaps =
         breaks_still h l.read e (of_rest e kinds) (λ p. absurd (no_long p kinds)) (λ p. absurd (no_past p kinds))
@@ -515,7 +516,7 @@ module _ {R W : Type 0} (source : Source R) (sink : Sink W) (terms : Terms) (wor
           no_past p (inr q) = cc
 
     -- it was made
-    pub follows_rest : (writer2 : W) (x : Result (Unit {0}) ToolError) (text : List ℕ)
+    pub follows_rest : (writer2 : W) (x : Result (Unit {0}) RdsError) (text : List ℕ)
         → ((before : List ℕ) → HasHeard live before → let items = report_at live.terms (before ++ last) (8 * length before + left) in
         report_text items (totals_of items) ≡ rows_so_far live.terms before ++ text)
         → live.place + left ≤ 2 ^ 36 → AreGaps (live.place + left) live.terms.gaps → IfErr x (λ e. e ≡ Write)
@@ -549,13 +550,13 @@ known terms bits (Some a) None old new bytes ended took end all wrote = absurd t
 known terms None (Some a) (Some b) old new bytes ended took end all wrote =
     subst (λ xs. Writes old new (listed terms None xs)) (sym (took ∙ (ap (λ ys. bytes ++ ys) (end refl) ∙ append-nil bytes))) wrote
 known terms (Some n) (Some a) (Some b) old new bytes ended took end all wrote =
-    subst (λ (r : Result (List ℕ) ToolError). Writes old new r) (sym (ap (listed terms (Some n)) took ∙ listed_more terms n bytes b all.0)) wrote
+    subst (λ (r : Result (List ℕ) RdsError). Writes old new r) (sym (ap (listed terms (Some n)) took ∙ listed_more terms n bytes b all.0)) wrote
 
 module _ {R W : Type 0} (source : Source R) (sink : Sink W) (terms : Terms) (workers : ℕ) (bits : Option ℕ) (reader reader' : R) (writer writer' : W) where
-  abbrev Done : Result (Unit {0}) ToolError → Type 0
+  abbrev Done : Result (Unit {0}) RdsError → Type 0
   Done r = Follows source sink (bit_stream terms workers bits) reader reader' writer writer' r
 
-  pub known_ok : (r : Result (Unit {0}) ToolError) → Done r → OnOk r (IfSome (source.remaining reader) (λ held. Writes (sink.contents writer) (sink.contents writer') (listed terms bits held)))
+  pub known_ok : (r : Result (Unit {0}) RdsError) → Done r → OnOk r (IfSome (source.remaining reader) (λ held. Writes (sink.contents writer) (sink.contents writer') (listed terms bits held)))
   known_ok (Err e) f = tt
   known_ok (Ok x) f =
       let (bytes, gave, took) = f.took in
@@ -563,15 +564,11 @@ module _ {R W : Type 0} (source : Source R) (sink : Sink W) (terms : Terms) (wor
       known terms bits (source.remaining reader) (source.remaining reader') (sink.contents writer) (sink.contents writer') f.ok.symbols (source.has_ended reader')
       (subst (λ xs. Consumes (source.remaining reader) (source.remaining reader') xs) same took) f.end f.ok.all f.ok.text
 
-  pub heard_ok : (r : Result (Unit {0}) ToolError) → Done r
+  pub heard_ok : (r : Result (Unit {0}) RdsError) → Done r
       → OnOk r (Gave (source.given reader) (source.given reader') (λ bytes. HasAll bits 8 (8 * length bytes) (source.has_ended reader')
       × Writes (sink.contents writer) (sink.contents writer') (listed terms bits bytes)))
   heard_ok (Err e) f = tt
   heard_ok (Ok x) f = (f.ok.symbols, f.ok.gave, (f.ok.all, f.ok.text))
-
-  pub flushed_ok : (r : Result (Unit {0}) ToolError) → Done r → OnOk r (sink.is_flushed writer' ≡ true)
-  flushed_ok (Err e) f = tt
-  flushed_ok (Ok x) f = f.ok.flush
 
 -- ---- refusals
 
@@ -584,41 +581,33 @@ pub on_ok : {E : Type 0} (r : Result (Unit {0}) E) (P Q : Type 0) → (P → Q) 
 on_ok r P Q more h = grind (arith, common_steps)
 
 -- refusals with different numbers differ
-pub differ : (a b : ToolError) → eqb (number_of a) (number_of b) ≡ false → a ≢ b
+pub differ : (a b : RdsError) → eqb (number_of a) (number_of b) ≡ false → a ≢ b
 differ a b unlike = λ p. eqb-false (number_of a) (number_of b) unlike (ap number_of p)
 
--- what counted none did not fail
-pub none_counted : {X : Type 0} (start before after : ℕ) → before ≡ start → after ≡ before → start < after → X
-none_counted start before after kept still failed = absurd (omega (arith, kept, still, failed))
-
 -- an answer is of neither kind but these
-pub of_neither : (e a b k : ToolError) → (e ≡ a) ⊎ (e ≡ b) → a ≢ k → b ≢ k → e ≢ k
+pub of_neither : (e a b k : RdsError) → (e ≡ a) ⊎ (e ≡ b) → a ≢ k → b ≢ k → e ≢ k
 of_neither e a b k (inl is) other _ p = other (sym is ∙ p)
 of_neither e a b k (inr is) _ other p = other (sym is ∙ p)
 
-module _ {T : Type 0} (r : Result T ToolError) (e : ToolError) (same : r ≡ Err e) where
+module _ {T : Type 0} (r : Result T RdsError) (e : RdsError) (same : r ≡ Err e) where
   -- what is not of this kind is no device's refusal, and the device did not fail
-  pub not_told : (k : ToolError) → e ≢ k → (start before after : ℕ) → before ≡ start → after ≡ before → (r ≡ Err k) ↔ (start < after)
+  pub not_told : (k : RdsError) → e ≢ k → (start before after : ℕ) → before ≡ start → after ≡ before → (r ≡ Err k) ↔ (start < after)
   not_told k other start before after kept still = (λ p. absurd (other (passed_kind r e k same p)), λ q. absurd (omega (arith, kept, still, q)))
 
-  -- what is of this kind tells that the device failed
-  pub told_by : (k : ToolError) → e ≡ k → (start before after : ℕ) → before ≡ start → before < after → (r ≡ Err k) ↔ (start < after)
-  told_by k is start before after kept failed = (λ _. subst (λ n. n < after) kept failed, λ _. same ∙ ap (λ x. Err x) is)
-
-  pub no_such : {X : Type 0} (k : ToolError) → e ≢ k → r ≡ Err k → X
+  pub no_such : {X : Type 0} (k : RdsError) → e ≢ k → r ≡ Err k → X
   no_such k other p = absurd (other (passed_kind r e k same p))
 
   -- what is told of a kind of refusal is told of the answer
-  pub told_on : {U : Type 0} (k : ToolError) (start before after : ℕ) → before ≡ start → (let x : Result U ToolError = Err e in (x ≡ Err k) ↔ (before < after))
+  pub told_on : {U : Type 0} (k : RdsError) (start before after : ℕ) → before ≡ start → (let x : Result U RdsError = Err e in (x ≡ Err k) ↔ (before < after))
       → (r ≡ Err k) ↔ (start < after)
   told_on k start before after kept both = grind (arith, common_steps, passed_kind)
 
   -- an answer of this kind is a call's
-  pub of_call : {U : Type 0} (k : ToolError) → r ≡ Err k → let x : Result U ToolError = Err e in x ≡ Err k
+  pub of_call : {U : Type 0} (k : RdsError) → r ≡ Err k → let x : Result U RdsError = Err e in x ≡ Err k
   of_call k p = ap (λ x. Err x) (passed_kind r e k same p)
 
 -- an answer is of none of these kinds
-pub of_none : (e a b c k : ToolError) → (e ≡ a) ⊎ ((e ≡ b) ⊎ (e ≡ c)) → a ≢ k → b ≢ k → c ≢ k → e ≢ k
+pub of_none : (e a b c k : RdsError) → (e ≡ a) ⊎ ((e ≡ b) ⊎ (e ≡ c)) → a ≢ k → b ≢ k → c ≢ k → e ≢ k
 of_none e a b c k (inl is) other _ _ p = other (sym is ∙ p)
 of_none e a b c k (inr (inl is)) _ other _ p = other (sym is ∙ p)
 of_none e a b c k (inr (inr is)) _ _ other p = other (sym is ∙ p)

@@ -1,5 +1,5 @@
 -- The bytes of hexadecimal text, digit by digit.
-use Rattle.rds_tool.proofs.Names.{◌%◌, ◌*◌, ◌+◌, ◌++◌, ◌<◌, ◌∙◌, ◌∷◌, ◌≡◌, ◌≤◌, Bool, Err, List, None, Ok, Option, Result, Some, [], ap, append_assoc, arith, cond, drop, false, length, not, refl, set, slice_index, sym, take, true, ℕ, IfSome, is_some, filter, drop-cons, eqb-true, common_steps, append-nil, drop-set-lt, length-set, take_more_set, decode_of, decode_pairs, digit_or_error, hex_digit_value, ◌>>=◌, FromHexError, and_then, decoded, is_blank, or_hex_text, ToolError, HexText}
+use Rattle.rds_tool.proofs.Names.{◌%◌, ◌*◌, ◌+◌, ◌++◌, ◌<◌, ◌∙◌, ◌∷◌, ◌≡◌, ◌≤◌, Bool, Err, List, None, Ok, Option, Result, Some, [], ap, append_assoc, arith, cond, drop, false, length, not, refl, set, slice_index, sym, take, true, ℕ, IfSome, is_some, filter, drop-cons, eqb-true, common_steps, append-nil, drop-set-lt, length-set, take_more_set, decode_of, decode_pairs, digit_or_error, hex_digit_value, ◌>>=◌, FromHexError, and_then, decoded, is_blank, or_hex_text, RdsError, HexText}
 use Rattle.rds_tool.specs.Inside.HexText.{IsDecodedBy, IsStrangeAfter, bytes_after, bytes_after_of, bytes_of, with_byte}
 
 -- ---- pairs of digits
@@ -32,7 +32,7 @@ whole_is digits = grind (arith, common_steps, odd_none, eqb-true, pairs_are)
 first_digit : (digit value : ℕ) (digits : List ℕ) → hex_digit_value digit ≡ Some value → bytes_after None (digit ∷ digits) ≡ bytes_after (Some value) digits
 first_digit digit value digits is = grind (arith, common_steps, bytes_after)
 
-then_same : (r : Result (List ℕ) ToolError) → r ≡ and_then r (λ more. Ok ([] ++ more))
+then_same : (r : Result (List ℕ) RdsError) → r ≡ and_then r (λ more. Ok ([] ++ more))
 then_same r = grind (arith, common_steps)
 
 -- ---- text that comes in parts
@@ -68,7 +68,7 @@ module _ (text part : List ℕ) where
     pub decoded_on : (next : List ℕ) (left : Option ℕ) → IsDecodedBy half part next left → IsDecodedBy None (text ++ part) (bytes ++ next) left
     decoded_on next left also more =
         first more ∙ ap (λ r. and_then r (λ rest. Ok (bytes ++ rest))) (also more) ∙ both (bytes_after_of left more) where
-          both : (r : Result (List ℕ) ToolError) → and_then (and_then r (λ rest. Ok (next ++ rest))) (λ rest. Ok (bytes ++ rest)) ≡ and_then r (λ rest. Ok ((bytes ++ next) ++ rest))
+          both : (r : Result (List ℕ) RdsError) → and_then (and_then r (λ rest. Ok (next ++ rest))) (λ rest. Ok (bytes ++ rest)) ≡ and_then r (λ rest. Ok ((bytes ++ next) ++ rest))
           both (Ok rest) = ap (λ t. Ok t) (sym (append_assoc bytes next rest))
           both (Err e) = refl
 
@@ -111,7 +111,7 @@ module _ (start : Option ℕ) (text now : List ℕ) (at count : ℕ) (high : Opt
     abbrev later : List ℕ
     later = filter not_blank (drop (at + 1) text ++ more)
 
-    abbrev to_all : Result (List ℕ) ToolError → Result (List ℕ) ToolError
+    abbrev to_all : Result (List ℕ) RdsError → Result (List ℕ) RdsError
     to_all r = and_then r (λ rest. Ok (take count now ++ rest))
 
     left_after : (blank : Bool) → is_blank (slice_index now at) ≡ blank → filter not_blank (drop at text ++ more) ≡ cond (not blank) (slice_index now at ∷ later) later
@@ -144,7 +144,7 @@ module _ (start : Option ℕ) (text now : List ℕ) (at count : ℕ) (high : Opt
             ∙ ap (λ front. and_then (bytes_of (later more)) (λ rest. Ok (front ++ rest)))
             (ap (λ b. take count now ++ b ∷ []) sum ∙ sym (take_more_set now count byte (omega (arith, near, inside))));
       } where
-        one_more : (r : Result (List ℕ) ToolError) (a b : ℕ) (front : List ℕ)
+        one_more : (r : Result (List ℕ) RdsError) (a b : ℕ) (front : List ℕ)
             → and_then (with_byte (Some a) (Some b) r) (λ rest. Ok (front ++ rest)) ≡ and_then r (λ rest. Ok ((front ++ (a * 16 + b) ∷ []) ++ rest))
         one_more (Ok bytes) a b front = ap (λ t. Ok t) (sym (append_assoc front ((a * 16 + b) ∷ []) bytes))
         one_more (Err e) a b front = refl

@@ -1,5 +1,5 @@
 -- The listing of groups that were encoded, and which texts are that of a list, or a part of it.
-use Rattle.rds_tool.proofs.Names.{common_steps, ◌≡◌, ℕ, zero, suc, ◌+◌, ◌*◌, ◌/◌, ◌%◌, ◌^◌, ◌<◌, ◌≤◌, List, [], ◌∷◌, ◌++◌, Bool, true, false, cond, Some, Result, Ok, Err, length, flat_map, get_or, refl, sym, subst, ap, ap₂, ◌∙◌, arith, append-nil, IfOk, not, nat_lt, ◌||◌, if◌then◌else◌, byte_at, bytes_high_first, filter, result_unwrap_or, nat_tests, filter-append, length-map-range_with_len, IsBytes, decode_of, decode_sized, encode_lower, encode_with, hex_digit_value, lower_digits, FromHexError, Signal, bits_of, length_of, packed_bit, ungapped, IsLossRule, report_items, RuleNumbers, Loss, cuts_bits, listed, group_text, lines_of, lines_text, words_of, words_or_refusal, and_then, bytes_of, first_bits, is_blank, or_hex_text, recording_of, EncodedGroupsAreListed, EncodedGroupsAreTaken, ListsEndWithTotals, StreamsAreListed, groups_of_lines, whole_input, item_row, report_text, cut_recording, list_text, result_of_job, text_of_task, totals_list, PlanOf, crew_of, cut_by, plan_of, loss_of, rules_of, task_of, ToolError, BadCutting, BurstRange, ReachRange, Cuts, Input, Settings}
+use Rattle.rds_tool.proofs.Names.{common_steps, ◌≡◌, ℕ, zero, suc, ◌+◌, ◌*◌, ◌/◌, ◌%◌, ◌^◌, ◌<◌, ◌≤◌, List, [], ◌∷◌, ◌++◌, Bool, true, false, cond, Some, Result, Ok, Err, length, flat_map, get_or, refl, sym, subst, ap, ap₂, ◌∙◌, arith, append-nil, IfOk, not, nat_lt, ◌||◌, if◌then◌else◌, byte_at, bytes_high_first, filter, result_unwrap_or, nat_tests, filter-append, length-map-range_with_len, IsBytes, decode_of, decode_sized, encode_lower, encode_with, hex_digit_value, lower_digits, FromHexError, Signal, bits_of, length_of, packed_bit, ungapped, IsLossRule, report_items, RuleNumbers, Loss, cuts_bits, listed, group_text, lines_of, lines_text, words_of, words_or_refusal, and_then, bytes_of, first_bits, is_blank, or_hex_text, recording_of, EncodedGroupsAreListed, EncodedGroupsAreTaken, ListsEndWithTotals, StreamsAreListed, groups_of_lines, whole_input, item_row, report_text, cut_recording, list_text, result_of_job, text_of_task, totals_list, PlanOf, crew_of, cut_by, plan_of, loss_of, rules_of, task_of, RdsError, BadCutting, BurstRange, ReachRange, Cuts, Input, Settings}
 use Rattle.hex.proofs.HexLemmas.{IsDigits-lower_digits, decode_of-encode_lower, decode_of-ok, decode_sized-ok, decode_sized-twice}
 use Rattle.rds_sync.specs.Sent.{AreWords, EncodedGroupsAreListed as SentGroupsAreListed, PackedGroupsAreSent, bits_sent, packed_group, packed_groups}
 use Rattle.rds_tool.specs.declared.job.Job.TheVariants as job
@@ -7,14 +7,14 @@ use Rattle.rds_tool.specs.declared.task.Task.TheVariants as task
 
 -- ---- steps that were not refused
 
-abbrev taken : {A : Type 0} → A → Result A ToolError
+abbrev taken : {A : Type 0} → A → Result A RdsError
 taken a = Ok a
 
 pub same-ok : {A : Type 0} (a b : A) → taken a ≡ taken b → a ≡ b
-same-ok {A = A} a b is = ap (λ (r : Result A ToolError). result_unwrap_or r a) is
+same-ok {A = A} a b is = ap (λ (r : Result A RdsError). result_unwrap_or r a) is
 
 -- both steps were taken
-pub both : {A B : Type 0} (first : Result A ToolError) (step : A → Result B ToolError) (made : B) → and_then first step ≡ Ok made
+pub both : {A B : Type 0} (first : Result A RdsError) (step : A → Result B RdsError) (made : B) → and_then first step ≡ Ok made
     → (a : A) × (first ≡ Ok a) × (step a ≡ Ok made)
 both first step made is = grind (arith, common_steps)
 
@@ -117,7 +117,7 @@ bytes_again true groups =
 -- ---- rules in their ranges
 
 -- a test that refused nothing
-untested : {A : Type 0} (test : Bool) (error : ToolError) (rest : Result A ToolError) (made : A) → (if test then Err error else rest) ≡ Ok made
+untested : {A : Type 0} (test : Bool) (error : RdsError) (rest : Result A RdsError) (made : A) → (if test then Err error else rest) ≡ Ok made
     → (test ≡ false) × (rest ≡ Ok made)
 untested test error rest made is = grind (arith, common_steps)
 
@@ -199,7 +199,7 @@ module _ (sent : SentGroupsAreListed) (packed : PackedGroupsAreSent) where
   encoded_groups_are_listed hex settings lines words groups listing spelled listed =
       let all : List (List ℕ) = words ∷ groups in
       let made = groups_spelled (lines_of lines) all spelled in
-      let again = ap (λ (text : Result (List ℕ) ToolError). and_then text (result_of_job (job.List (whole_input hex) settings))) (sym (made.1 hex)) ∙ listed in
+      let again = ap (λ (text : Result (List ℕ) RdsError). and_then text (result_of_job (job.List (whole_input hex) settings))) (sym (made.1 hex)) ∙ listed in
       let is = list_of (whole_input hex) settings (flat_map (group_text hex) all) listing again in
       let by = plan_lawful settings is.plan is.planned in
       let report = sent is.plan.rules words groups by.loss by.reach by.burst made.0 in
@@ -216,14 +216,14 @@ module _ (sent : SentGroupsAreListed) (packed : PackedGroupsAreSent) where
       let long = (packed groups made.0).0 in
       let held : 8 * length bytes ≤ 2 ^ 36 = omega (arith, long, short) in
       let recorded : recording_of (whole_input hex) (flat_map (group_text hex) groups) ≡ Ok (ungapped (bits_sent groups)) =
-      ap (λ (read : Result (List ℕ) ToolError). and_then read (λ all. first_bits (8 * length all) [] all)) (bytes_again hex groups)
+      ap (λ (read : Result (List ℕ) RdsError). and_then read (λ all. first_bits (8 * length all) [] all)) (bytes_again hex groups)
       ∙ all_taken bytes held ∙ ap (λ (bits : List ℕ). Ok (ungapped bits)) (packed groups made.0).1 in
       let cut : cuts_bits plan.cuts (length (bits_sent groups)) ≡ true = rw (bits_sent-length groups made.0) fits in
       (list_text plan.rules (ungapped (bits_sent groups)), rw (made.1 hex, planned, recorded, cut) refl)
 
 -- ---- lists, streams and totals
 
-cut_alike : (made : Result Signal ToolError) (cuts : Cuts) (rules : RuleNumbers) → IfOk made (λ recording. cuts_bits cuts (length_of recording) ≡ true)
+cut_alike : (made : Result Signal RdsError) (cuts : Cuts) (rules : RuleNumbers) → IfOk made (λ recording. cuts_bits cuts (length_of recording) ≡ true)
     → and_then made (λ recording. Ok (list_text rules recording)) ≡ and_then (and_then made (cut_by cuts)) (λ recording. Ok (list_text rules recording))
 cut_alike made cuts rules fits = grind (arith, common_steps)
 
@@ -232,13 +232,13 @@ streams_are_listed settings plan bits gaps held planned fits = grind (arith, com
 
 module _ (input : Input) (held : List ℕ) where
   -- the rows of items come before the totals
-  rows_before : (rules : RuleNumbers) (made : Result Signal ToolError)
+  rows_before : (rules : RuleNumbers) (made : Result Signal RdsError)
       → (rows : List ℕ) × (and_then made (λ recording. Ok (list_text rules recording))
       ≡ and_then (and_then made (λ recording. Ok (totals_list rules recording))) (λ totals. Ok (rows ++ totals)))
   rows_before rules (Ok recording) = (flat_map item_row (report_items recording rules), refl)
   rows_before rules (Err e) = ([], refl)
 
-  of_plan : (planned : Result PlanOf ToolError)
+  of_plan : (planned : Result PlanOf RdsError)
       → (rows : List ℕ) × (and_then (and_then planned (λ plan. Ok (task.List input plan))) (λ task. text_of_task task held)
       ≡ and_then (and_then (and_then planned (λ plan. Ok (task.Totals input plan))) (λ task. text_of_task task held)) (λ totals. Ok (rows ++ totals)))
   of_plan (Ok plan) = rows_before plan.rules (cut_recording input plan.cuts held)

@@ -1,11 +1,11 @@
 -- A refusal that `?` passes on.
-use Rattle.rds_tool.proofs.Names.{common_steps, arith, ◌≡◌, Err, Ok, Result, subst, sym, IfErr, IfOk, OnErr, IsErr, IsErrAnd, ToolError}
+use Rattle.rds_tool.proofs.Names.{common_steps, arith, ◌≡◌, Err, Ok, Result, subst, sym, IfErr, IfOk, OnErr, IsErr, IsErrAnd, RdsError}
 
 pub passed : {T E : Type 0} (r : Result T E) (e : E) → IsErr r × IsErrAnd r (λ x. x ≡ e) → r ≡ Err e
 passed r e h = grind (arith, common_steps)
 
 -- it is of only one kind
-pub passed_kind : {T : Type 0} (r : Result T ToolError) (e k : ToolError) → r ≡ Err e → r ≡ Err k → e ≡ k
+pub passed_kind : {T : Type 0} (r : Result T RdsError) (e k : RdsError) → r ≡ Err e → r ≡ Err k → e ≡ k
 passed_kind r e k p q = cc
 
 -- and what holds of it holds of the answer

@@ -1,5 +1,5 @@
 -- How far a stream of symbols was followed, and where it breaks off.
-use Rattle.rds_tool.proofs.Names.{common_steps, ◌≡◌, ◌≢◌, ◌+◌, ◌-◌, ◌^◌, ◌<◌, ◌≤◌, ◌++◌, ◌⊎◌, ◌↔◌, ◌∙◌, Bool, ℕ, List, [], None, Ok, Option, Result, Some, inl, inr, length, map, true, sym, ap, subst, arith, append_assoc, IfErr, IfSome, IsErrOf, OnErr, OnOk, flat_map, range_with_len, Appends, IsAtEnd, le-ltb, flat_map-append, append-nil, length-append, map-append, flat_map-map, item_again, symbols_of, SoftTerms, group_item, read_again, hard_bit, SoftItem, AreGaps, length_of, RunsAreReports, IsLossRule, items_of_end, run, Searching, AreAsked, Follows, HasAll, IsShortOf as IsShort, claim_or, Breaks, IsHeard, IsNear, WritesPrefix, claimed_of, soft_row, soft_text, soft_totals_text, soft_listed, soft_rows_so_far, soft_stream_text, symbol_stream, ToolError, BadGaps, BitsPastBytes, OutOfMemory, TooLong, Write}
+use Rattle.rds_tool.proofs.Names.{common_steps, ◌≡◌, ◌≢◌, ◌+◌, ◌-◌, ◌^◌, ◌<◌, ◌≤◌, ◌++◌, ◌⊎◌, ◌↔◌, ◌∙◌, Bool, ℕ, List, [], None, Ok, Option, Result, Some, inl, inr, length, map, true, sym, ap, subst, arith, append_assoc, IfErr, IfSome, IsErrOf, OnErr, OnOk, flat_map, range_with_len, Appends, IsAtEnd, le-ltb, flat_map-append, append-nil, length-append, map-append, flat_map-map, item_again, symbols_of, SoftTerms, group_item, read_again, hard_bit, SoftItem, AreGaps, length_of, RunsAreReports, IsLossRule, items_of_end, run, Searching, AreAsked, Follows, HasAll, IsShortOf as IsShort, claim_or, Breaks, IsHeard, IsNear, WritesPrefix, claimed_of, soft_row, soft_text, soft_totals_text, soft_listed, soft_rows_so_far, soft_stream_text, symbol_stream, RdsError, BadGaps, BitsPastBytes, OutOfMemory, TooLong, Write}
 use Rattle.rds_tool.{specs.declared.devices.Source.Ghosts as Source, proofs.Followed.IsOfStream, proofs.Followed.breaks_still, proofs.Followed.follows_end, proofs.Followed.near_end, proofs.Followed.read_none, proofs.GapLists.pass_as_gaps}
 use Rattle.rds_rows.specs.declared.sink.Sink.{Ghosts as Sink}
 use Rattle.rds_soft.{specs.SoftStream.complete, specs.SoftStream.report_of, specs.SoftStream.run_of, specs.SoftStream.signal_of, specs.SoftTotals.soft_totals_of, specs.declared.soft_item.SoftGroup.SoftGroup, specs.declared.soft_totals.SoftTotals.SoftTotals, proofs.PartLemmas.length-bits, proofs.PartLemmas.length-symbols}
@@ -80,10 +80,10 @@ short-end None size E near short = absurd short
 short-end (Some n) size E (inl less) short = absurd (omega (arith, less, short))
 short-end (Some n) size E (inr end) short = end
 
-of-end : (e : ToolError) → (e ≡ OutOfMemory) ⊎ ((e ≡ BitsPastBytes) ⊎ (e ≡ BadGaps)) → IsOfStream e
+of-end : (e : RdsError) → (e ≡ OutOfMemory) ⊎ ((e ≡ BitsPastBytes) ⊎ (e ≡ BadGaps)) → IsOfStream e
 of-end e it = grind (arith, common_steps)
 
-not-long : (e : ToolError) → (e ≡ OutOfMemory) ⊎ ((e ≡ BitsPastBytes) ⊎ (e ≡ BadGaps)) → e ≢ TooLong
+not-long : (e : RdsError) → (e ≡ OutOfMemory) ⊎ ((e ≡ BitsPastBytes) ⊎ (e ≡ BadGaps)) → e ≢ TooLong
 not-long e it p = grind (arith, common_steps)
 
 module _ {R W : Type 0} (source : Source R) (sink : Sink W) (terms its_terms : SoftTerms) (bits : Option ℕ) {reader reader1 : R} {writer writer1 : W} {symbols : List ℕ}
@@ -93,7 +93,7 @@ module _ {R W : Type 0} (source : Source R) (sink : Sink W) (terms its_terms : S
   none-more = sym (append-nil symbols)
 
   -- the rest of the listing was not made
-  pub breaks-end : (e : ToolError) → (e ≡ OutOfMemory) ⊎ ((e ≡ BitsPastBytes) ⊎ (e ≡ BadGaps)) → (e ≡ BitsPastBytes → IsShort bits (length symbols - 1))
+  pub breaks-end : (e : RdsError) → (e ≡ OutOfMemory) ⊎ ((e ≡ BitsPastBytes) ⊎ (e ≡ BadGaps)) → (e ≡ BitsPastBytes → IsShort bits (length symbols - 1))
       → (e ≡ BadGaps → (IsShort bits (length symbols - 1) → ⊥) × (AreGaps (length symbols - 1) its_terms.gaps → ⊥))
       → Breaks source sink (symbol_stream terms bits) reader reader1 writer writer1 e
   breaks-end e kinds past gaps =
@@ -106,7 +106,7 @@ module _ {R W : Type 0} (source : Source R) (sink : Sink W) (terms its_terms : S
       ))
 
   -- it was made
-  pub follows-end : (writer2 : W) (x : Result (Unit {0}) ToolError) (text : List ℕ) → soft_stream_text its_terms symbols ≡ soft_rows_so_far its_terms symbols ++ text
+  pub follows-end : (writer2 : W) (x : Result (Unit {0}) RdsError) (text : List ℕ) → soft_stream_text its_terms symbols ≡ soft_rows_so_far its_terms symbols ++ text
       → (IsShort bits (length symbols - 1) → ⊥) → length symbols ≤ 2 ^ 36 + 1 → AreGaps (length symbols - 1) its_terms.gaps → IfErr x (λ e. e ≡ Write)
       → OnOk x (Appends (sink.contents writer1) (sink.contents writer2) text) → OnOk x (sink.is_flushed writer2 ≡ true)
       → IsErrOf x Write ↔ (sink.failed writer1 < sink.failed writer2) → OnErr x (WritesPrefix (sink.contents writer1) (sink.contents writer2) (Ok text))

@@ -1,6 +1,7 @@
 -- The recording of symbols' bits, packed.
 use Rattle.rds_tool.proofs.Names.{common_steps}
-use Rattle.rds_tool.specs.{Input.first_bits, Soft.claimed_of, Soft.first_bits_of, declared.error.ToolError.ToolError}
+use Rattle.rds_tool.specs.{Input.first_bits, Soft.claimed_of, Soft.first_bits_of}
+use Rattle.rds_code.specs.declared.error.RdsError.{RdsError}
 use Rattle.std.proofs.Common.{◌≡◌, ◌≤◌, ◌<◌, ◌+◌, ◌-◌, ◌*◌, ◌∙◌, ℕ, List, Result, Ok, arith, length, map, sym}
 use Rattle.std.{specs.Prelude.IfOk, specs.Prelude.Option, specs.Option.unwrap_or, specs.List.range_with_len, proofs.lemmas.Bool.le-ltb, proofs.lemmas.List.ext_get_or, proofs.lemmas.List.FromFn.get_or-map-range_with_len, proofs.lemmas.List.FromFn.length-map-range_with_len}
 use Rattle.rds_soft.specs.{ReadAgain.symbols_of, Symbols.hard_bit}
@@ -25,7 +26,7 @@ pub same_recording : (n : ℕ) (gaps : List (ℕ × ℕ)) (symbols packed : List
 same_recording n gaps symbols packed few enough bits = grind (arith, common_steps, le-ltb, same_bits)
 
 -- an answer that is equal to what is asked for
-pub is_asked : {T : Type 0} (asked result : Result T ToolError) → asked ≡ result → IfOk result (λ value. asked ≡ Ok value)
+pub is_asked : {T : Type 0} (asked result : Result T RdsError) → asked ≡ result → IfOk result (λ value. asked ≡ Ok value)
 is_asked asked result same = grind (arith, common_steps)
 
 -- how many bits there are: as many as are claimed, or else all

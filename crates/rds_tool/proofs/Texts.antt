@@ -1,8 +1,9 @@
 -- The texts of the tasks, and what they can't be refused for.
-use Rattle.rds_tool.proofs.Names.{common_steps, ◌↔◌, arith, ◌∙◌, ◌≡◌, ◌<◌, ◌≢◌, Bool, Err, List, Ok, Option, Result, [], ◌∷◌, ap, ap₂, if◌then◌else◌, inl, inr, subst, sym, true, ℕ, IfErr, IfSome, OnOk, Appends, Signal, length_of, FromHexError, ItemsOf, report_items, RuleNumbers, totals_of, TotalsOf, cuts_any, cuts_bits, has_pieces, line_text, lines_text, words_or_refusal, and_then, decoded, or_hex_text, recording_of, report_text, totals_text, Writes, WritesPrefix, cut_recording, list_text, result_of_job, text_of_task, totals_list, recording_of_symbols, PlanOf, crew_of, cut_by, plan_of, workers_of, Loss, IsMemoryOrErrOf, loss_of, task_of, ToolError, BadCutting, BadGaps, BitsPastBytes, BurstRange, NoWorker, OutOfMemory, ReachRange, Read, TooLong, TooManyTurns, Write, Cuts, Input, Job, Settings, Task}
+use Rattle.rds_tool.proofs.Names.{common_steps, ◌↔◌, arith, ◌∙◌, ◌≡◌, ◌<◌, ◌≢◌, Bool, Err, List, Ok, Option, Result, [], ◌∷◌, ap, ap₂, if◌then◌else◌, inl, inr, subst, sym, true, ℕ, IfErr, IfSome, OnOk, Appends, Signal, length_of, FromHexError, ItemsOf, report_items, RuleNumbers, totals_of, TotalsOf, cuts_any, cuts_bits, has_pieces, line_text, lines_text, words_or_refusal, and_then, decoded, or_hex_text, recording_of, report_text, totals_text, Writes, WritesPrefix, cut_recording, list_text, result_of_job, text_of_task, totals_list, recording_of_symbols, PlanOf, crew_of, cut_by, plan_of, workers_of, Loss, IsMemoryOrErrOf, loss_of, task_of, RdsError, BadCutting, BadGaps, BitsPastBytes, BurstRange, NoWorker, OutOfMemory, ReachRange, Read, TooLong, TooManyTurns, Write, Cuts, Input, Job, Settings, Task}
 use Rattle.rds_tool.proofs.Passing.{passed_kind}
 use Rattle.rds_sync.specs.{Decoding.listed, declared.report.Report.Report}
 use Rattle.rds_tool.specs.declared.task.Task.TheVariants as task
+use Rattle.rds_rows.specs.{Written.IsWritten, declared.error.RowsError.RowsError}
 
 -- ---- the texts
 
@@ -42,10 +43,16 @@ pub totals_counted : (totals : TotalsOf) (work bits : Signal) (given rules : Rul
     → totals ≡ totals_of (report_items work given) → work ≡ bits → given ≡ rules → totals ≡ totals_of (report_items bits rules)
 totals_counted totals work bits given rules counted same_bits same_rules = counted ∙ ap₂ (λ b r. totals_of (report_items b r)) same_bits same_rules
 
+-- what was written of a text was written of the same text
+pub same_text : {W : Type 0} {contents : W → Option (List ℕ)} {failed : W → ℕ} {text : List ℕ} {writer writer' : W} {result : Result (Unit {0}) RowsError} (other : List ℕ)
+    → IsWritten contents failed text writer writer' result → text ≡ other → IsWritten contents failed other writer writer' result
+same_text {contents = contents} {failed = failed} {writer = writer} {writer' = writer'} {result = result} other is same =
+    subst (λ (t : List ℕ). IsWritten contents failed t writer writer' result) same is
+
 -- ---- the refusals
 
 -- a refusal that the job or the bytes decide
-abbrev pub IsOfOutcome : ToolError → Type 0
+abbrev pub IsOfOutcome : RdsError → Type 0
 IsOfOutcome OutOfMemory = ⊥
 IsOfOutcome NoWorker = ⊥
 IsOfOutcome Read = ⊥
@@ -54,24 +61,24 @@ IsOfOutcome TooManyTurns = ⊥
 IsOfOutcome e = Unit {0}
 
 -- a refusal that is neither a device's nor for a thread's sake
-abbrev pub IsInside : ToolError → Type 0
+abbrev pub IsInside : RdsError → Type 0
 IsInside e = (e ≢ Read) × (e ≢ Write) × (e ≢ TooManyTurns) × (e ≢ NoWorker)
 
-inside : (e : ToolError) → IsOfOutcome e → IsInside e
+inside : (e : RdsError) → IsOfOutcome e → IsInside e
 inside e h = (λ p. subst IsOfOutcome p h, λ p. subst IsOfOutcome p h, λ p. subst IsOfOutcome p h, λ p. subst IsOfOutcome p h)
 
-memory_inside : (e : ToolError) → e ≡ OutOfMemory → IsInside e
+memory_inside : (e : RdsError) → e ≡ OutOfMemory → IsInside e
 memory_inside e m = grind (arith, common_steps)
 
 module _ {A B : Type 0} where
-  then_errs : (P : ToolError → Type 0) (r : Result A ToolError) (step : A → Result B ToolError) → IfErr r P → ((x : A) → IfErr (step x) P) → IfErr (and_then r step) P
+  then_errs : (P : RdsError → Type 0) (r : Result A RdsError) (step : A → Result B RdsError) → IfErr r P → ((x : A) → IfErr (step x) P) → IfErr (and_then r step) P
   then_errs P r step h k = grind (arith, common_steps)
 
-bytes_errs : (hex : Bool) (decoded held : Result (List ℕ) ToolError) → IfErr decoded IsOfOutcome → IfErr held IsOfOutcome → IfErr (if hex then decoded else held) IsOfOutcome
+bytes_errs : (hex : Bool) (decoded held : Result (List ℕ) RdsError) → IfErr decoded IsOfOutcome → IfErr held IsOfOutcome → IfErr (if hex then decoded else held) IsOfOutcome
 bytes_errs hex decoded held h k = grind (arith, common_steps)
 
 first_errs : (long past bad : Bool) (recording : Signal)
-    → let r : Result Signal ToolError = if long then Err TooLong else if past then Err BitsPastBytes else if bad then Err BadGaps else Ok recording in IfErr r IsOfOutcome
+    → let r : Result Signal RdsError = if long then Err TooLong else if past then Err BitsPastBytes else if bad then Err BadGaps else Ok recording in IfErr r IsOfOutcome
 first_errs long past bad recording = grind (arith, common_steps)
 
 hex_errs : (r : Result (List ℕ) FromHexError) → IfErr (or_hex_text r) IsOfOutcome
@@ -83,7 +90,7 @@ recording_errs input held = grind (arith, common_steps, then_errs, bytes_errs, h
 symbols_errs : (input : Input) (symbols : List ℕ) → IfErr (recording_of_symbols input symbols) IsOfOutcome
 symbols_errs input symbols = grind (arith, common_steps, first_errs)
 
-cut_by_errs : (fits : Bool) (bits : Signal) → let r : Result Signal ToolError = if fits then Ok bits else Err BadCutting in IfErr r IsOfOutcome
+cut_by_errs : (fits : Bool) (bits : Signal) → let r : Result Signal RdsError = if fits then Ok bits else Err BadCutting in IfErr r IsOfOutcome
 cut_by_errs fits bits = grind (arith, common_steps)
 
 cut_errs : (input : Input) (cuts : Cuts) (held : List ℕ) → IfErr (cut_recording input cuts held) IsOfOutcome
@@ -102,25 +109,25 @@ lines_errs hex (line ∷ lines) = grind (arith, common_steps, then_errs, line_er
 task_errs : (t : Task) (held : List ℕ) → IfErr (text_of_task t held) IsOfOutcome
 task_errs t held = grind (arith, common_steps, then_errs, recording_errs, cut_errs, lines_errs, symbols_errs)
 
-of_bytes : (t : Task) (held : List ℕ) (e : ToolError) → text_of_task t held ≡ Err e → IsOfOutcome e
-of_bytes t held e q = let P : Result (List ℕ) ToolError → Type 0 = λ r. IfErr r IsOfOutcome in subst P q (task_errs t held)
+of_bytes : (t : Task) (held : List ℕ) (e : RdsError) → text_of_task t held ≡ Err e → IsOfOutcome e
+of_bytes t held e q = let P : Result (List ℕ) RdsError → Type 0 = λ r. IfErr r IsOfOutcome in subst P q (task_errs t held)
 
 -- a text is refused because memory was refused, or for its bytes
-pub refused_inside : (t : Task) (held : List ℕ) (e : ToolError) → IsMemoryOrErrOf (text_of_task t held) e → IsInside e
+pub refused_inside : (t : Task) (held : List ℕ) (e : RdsError) → IsMemoryOrErrOf (text_of_task t held) e → IsInside e
 refused_inside t held e (inl m) = memory_inside e m
 refused_inside t held e (inr p) = inside e (of_bytes t held e p)
 
 loss_errs : (loss : Loss) → IfErr (loss_of loss) IsOfOutcome
 loss_errs loss = grind (arith, common_steps)
 
-rules_at : (burst reach : Bool) (r : Result RuleNumbers ToolError) → IfErr r IsOfOutcome
-    → let all : Result RuleNumbers ToolError = if burst then Err BurstRange else if reach then Err ReachRange else r in IfErr all IsOfOutcome
+rules_at : (burst reach : Bool) (r : Result RuleNumbers RdsError) → IfErr r IsOfOutcome
+    → let all : Result RuleNumbers RdsError = if burst then Err BurstRange else if reach then Err ReachRange else r in IfErr all IsOfOutcome
 rules_at burst reach r h = grind (arith, common_steps)
 
 workers_errs : (workers : ℕ) → IfErr (workers_of workers) IsOfOutcome
 workers_errs workers = grind (arith, common_steps)
 
-pieces_at : (pieces : Bool) → let r : Result (Unit {0}) ToolError = if pieces then Ok tt else Err BadCutting in IfErr r IsOfOutcome
+pieces_at : (pieces : Bool) → let r : Result (Unit {0}) RdsError = if pieces then Ok tt else Err BadCutting in IfErr r IsOfOutcome
 pieces_at pieces = grind (arith, common_steps)
 
 crew_errs : (settings : Settings) → IfErr (crew_of settings) IsOfOutcome
@@ -133,17 +140,17 @@ settings_errs : (job : Job) → IfErr (task_of job) IsOfOutcome
 settings_errs job = grind (arith, common_steps, then_errs, workers_errs, plan_errs)
 
 -- settings are refused because memory was refused, or as such
-pub settings_inside : (job : Job) (e : ToolError) → IsMemoryOrErrOf (task_of job) e → IsInside e
+pub settings_inside : (job : Job) (e : RdsError) → IsMemoryOrErrOf (task_of job) e → IsInside e
 settings_inside job e (inl m) = memory_inside e m
-settings_inside job e (inr q) = let P : Result Task ToolError → Type 0 = λ r. IfErr r IsOfOutcome in inside e (subst P q (settings_errs job))
+settings_inside job e (inr q) = let P : Result Task RdsError → Type 0 = λ r. IfErr r IsOfOutcome in inside e (subst P q (settings_errs job))
 
 -- what a refusal that is no device's is not
-pub passed_inside : {T : Type 0} (r : Result T ToolError) (e : ToolError) → r ≡ Err e → IsInside e
+pub passed_inside : {T : Type 0} (r : Result T RdsError) (e : RdsError) → r ≡ Err e → IsInside e
     → (r ≢ Err Read) × (r ≢ Err Write) × (r ≢ Err TooManyTurns) × (r ≢ Err NoWorker)
 passed_inside r e p h = grind (arith, common_steps, passed_kind)
 
 -- a call that succeeded counted no failure
-pub no_failure : {T X : Type 0} (x : T) (a b : ℕ) → let r : Result T ToolError = Ok x in (r ≡ Err Read ↔ a < b) → a < b → X
+pub no_failure : {T X : Type 0} (x : T) (a b : ℕ) → let r : Result T RdsError = Ok x in (r ≡ Err Read ↔ a < b) → a < b → X
 no_failure x a b h q = cc (h.1 q)
 
 -- what was not called counted none
@@ -156,13 +163,13 @@ pub outcome_is : (job : Job) (t : Task) (held bytes text : List ℕ) → task_of
 outcome_is job t held bytes text p q h = ap (λ r. and_then r (λ k. text_of_task k held)) p ∙ ap (text_of_task t) (sym h) ∙ q
 
 -- the text that was written
-pub written_is : (o : Option (List ℕ)) (job : Job) (t : Task) (bytes text : List ℕ) (r : Result (Unit {0}) ToolError) (old new : Option (List ℕ))
+pub written_is : (o : Option (List ℕ)) (job : Job) (t : Task) (bytes text : List ℕ) (r : Result (Unit {0}) RdsError) (old new : Option (List ℕ))
     → IfSome o (λ held. bytes ≡ held) → task_of job ≡ Ok t → text_of_task t bytes ≡ Ok text → OnOk r (Appends old new text)
     → OnOk r (IfSome o (λ held. Writes old new (result_of_job job held)))
 written_is o job t bytes text r old new h p q w = grind (arith, common_steps, outcome_is)
 
 -- what a failed writing leaves is a prefix of the outcome's text
-pub prefix_is : (o : Option (List ℕ)) (job : Job) (t : Task) (bytes text : List ℕ) (r : Result (Unit {0}) ToolError) (old new : Option (List ℕ))
+pub prefix_is : (o : Option (List ℕ)) (job : Job) (t : Task) (bytes text : List ℕ) (r : Result (Unit {0}) RdsError) (old new : Option (List ℕ))
     → IfSome o (λ held. bytes ≡ held) → task_of job ≡ Ok t → text_of_task t bytes ≡ Ok text → (r ≡ Err Write → WritesPrefix old new (Ok text)) → r ≡ Err Write
     → IfSome o (λ held. WritesPrefix old new (result_of_job job held))
 prefix_is o job t bytes text r old new h p q w e = grind (arith, common_steps, outcome_is)

@@ -1,5 +1,5 @@
 -- Lists are well-formed, the bits of gaps have no effect, and the rows of a stream begin its list.
-use Rattle.rds_tool.proofs.Names.{common_steps, ◌≡◌, ◌+◌, ◌*◌, ◌++◌, ◌∷◌, ◌∙◌, ℕ, suc, Bool, true, false, Err, List, [], Ok, Option, Result, append_assoc, ap, arith, flat_map, length, refl, subst, sym, codes, decimal, None, if◌then◌else◌, flat_map-append, length-map, All-cons, All-nil, length-map-range_with_len, EndsMove, RunsMove, Terms, complete, report_of, run_of, signal_of, Signal, length_of, packed_bit, AcquisitionsAreLate, RunsAreLawful, RunsAreReports, RunsJoin, StepsAreLawful, report_items, RuleNumbers, items_of_end, run, totals_of, Item, Acquired, Group, LostLock, Searching, rows_so_far, and_then, claimed, recording_of, stream_input, block_text, dash, item_fields, item_row, named_totals, report_text, row, total_row, totals_text, list_text, text_of_task, totals_list, PlanOf, cut_by, plan_of, AreInOrder, DifferInGaps, GapsHideBits, HasRows, ListsAreWellFormed, Next, RowsBeginLists, at_first, ToolError, BadCutting, BadGaps, BitsPastBytes, TooLong, cuts_bits, Cuts, Input, Settings}
+use Rattle.rds_tool.proofs.Names.{common_steps, ◌≡◌, ◌+◌, ◌*◌, ◌++◌, ◌∷◌, ◌∙◌, ℕ, suc, Bool, true, false, Err, List, [], Ok, Option, Result, append_assoc, ap, arith, flat_map, length, refl, subst, sym, codes, decimal, None, if◌then◌else◌, flat_map-append, length-map, All-cons, All-nil, length-map-range_with_len, EndsMove, RunsMove, Terms, complete, report_of, run_of, signal_of, Signal, length_of, packed_bit, AcquisitionsAreLate, RunsAreLawful, RunsAreReports, RunsJoin, StepsAreLawful, report_items, RuleNumbers, items_of_end, run, totals_of, Item, Acquired, Group, LostLock, Searching, rows_so_far, and_then, claimed, recording_of, stream_input, block_text, dash, item_fields, item_row, named_totals, report_text, row, total_row, totals_text, list_text, text_of_task, totals_list, PlanOf, cut_by, plan_of, AreInOrder, DifferInGaps, GapsHideBits, HasRows, ListsAreWellFormed, Next, RowsBeginLists, at_first, RdsError, BadCutting, BadGaps, BitsPastBytes, TooLong, cuts_bits, Cuts, Input, Settings}
 use Rattle.rds_tool.proofs.{Alike.are_alike, Alike.fronts_are_alike, JobLaws.first_are, JobLaws.list_of, JobLaws.plan_lawful, JobLaws.same-ok, Ordered.items_are_in_order}
 use Rattle.rds_tool.specs.declared.task.Task.TheVariants as task
 
@@ -66,15 +66,15 @@ abbrev Text : Type 0
 Text = RuleNumbers → Signal → List ℕ
 
 -- a recording, after the tests of its length and gaps
-abbrev tested : Bool → Bool → Bool → Signal → Result Signal ToolError
+abbrev tested : Bool → Bool → Bool → Signal → Result Signal RdsError
 tested long past bad b = if long then Err TooLong else if past then Err BitsPastBytes else if bad then Err BadGaps else Ok b
 
 -- the text of a recording that is cut
-abbrev cut_text : Text → RuleNumbers → Cuts → Result Signal ToolError → Result (List ℕ) ToolError
+abbrev cut_text : Text → RuleNumbers → Cuts → Result Signal RdsError → Result (List ℕ) RdsError
 cut_text text rules cuts made = and_then (and_then made (cut_by cuts)) (λ recording. Ok (text rules recording))
 
 -- the same, if the cuts fit or not
-abbrev fitting_text : Text → RuleNumbers → Bool → Signal → Result (List ℕ) ToolError
+abbrev fitting_text : Text → RuleNumbers → Bool → Signal → Result (List ℕ) RdsError
 fitting_text text rules fits recording = and_then (if fits then Ok recording else Err BadCutting) (λ cut. Ok (text rules cut))
 
 cut_alike : (text : Text) (rules : RuleNumbers) (cuts : Cuts) (b c : Signal) → length_of b ≡ length_of c → text rules b ≡ text rules c → (long past bad : Bool)
@@ -108,16 +108,16 @@ module _ (move : RunsMove) (ends : EndsMove) (reports : RunsAreReports) (lawful 
   totals_decided : IsOfReport totals_list
   totals_decided rules b c same = ap (λ (items : List Item). totals_text (totals_of items)) same
 
-  abbrev list_by : Input → Result PlanOf ToolError → List ℕ → Result (List ℕ) ToolError
+  abbrev list_by : Input → Result PlanOf RdsError → List ℕ → Result (List ℕ) RdsError
   list_by input planned held = and_then (and_then planned (λ plan. Ok (task.List input plan))) (λ task. text_of_task task held)
 
-  abbrev totals_by : Input → Result PlanOf ToolError → List ℕ → Result (List ℕ) ToolError
+  abbrev totals_by : Input → Result PlanOf RdsError → List ℕ → Result (List ℕ) RdsError
   totals_by input planned held = and_then (and_then planned (λ plan. Ok (task.Totals input plan))) (λ task. text_of_task task held)
 
   pub gaps_hide_bits : GapsHideBits
   gaps_hide_bits input settings held other bytes differ = at_plan (plan_of settings) refl
     where
-      at_plan : (planned : Result PlanOf ToolError) → plan_of settings ≡ planned
+      at_plan : (planned : Result PlanOf RdsError) → plan_of settings ≡ planned
           → (list_by input planned other ≡ list_by input planned held) × (totals_by input planned other ≡ totals_by input planned held)
       at_plan (Err e) is = (refl, refl)
       at_plan (Ok plan) is = (

@@ -5,7 +5,8 @@ use Rattle.std.specs.{List.flat_map, Io.KnownBytes.Appends, Io.KnownBytes.Consum
 use Rattle.rds_live.specs.StreamDecoder.{Terms, complete, signal_at}
 use Rattle.rds_rows.specs.declared.sink.Sink.{Ghosts as Sink}
 use Rattle.rds_stream.specs.Recording.{AreGaps}
-use Rattle.rds_tool.specs.{History.Gave, Input.and_then, Input.claimed, Input.first_bits, Listing.item_row, Outcome.Writes, Outcome.list_text, declared.devices.Source.Ghosts as Source, declared.error.ToolError.ToolError, declared.error.ToolError.TheVariants.BadGaps, declared.error.ToolError.TheVariants.BitsPastBytes, declared.error.ToolError.TheVariants.OutOfMemory, declared.error.ToolError.TheVariants.Read, declared.error.ToolError.TheVariants.TooLong, declared.error.ToolError.TheVariants.Write}
+use Rattle.rds_tool.specs.{History.Gave, Input.and_then, Input.claimed, Input.first_bits, Listing.item_row, Outcome.Writes, Outcome.list_text, declared.devices.Source.Ghosts as Source}
+use Rattle.rds_code.specs.declared.error.RdsError.{RdsError, TheVariants.BadGaps, TheVariants.BitsPastBytes, TheVariants.OutOfMemory, TheVariants.Read, TheVariants.TooLong, TheVariants.Write}
 
 -- ---- any stream
 
@@ -20,7 +21,7 @@ pub record Stream : Type 0 where
   pub most : ℕ
   pub rows : List ℕ → List ℕ
   pub text : List ℕ → List ℕ
-  pub listed : List ℕ → Result (List ℕ) ToolError
+  pub listed : List ℕ → Result (List ℕ) RdsError
 
 -- more bits are claimed than a recording may have
 abbrev pub IsLong : Option ℕ → Type 0
@@ -52,7 +53,7 @@ abbrev pub IsFlushedAfter : List ℕ → Bool → Type 0
 IsFlushedAfter bytes flushed = (bytes ≡ []) ⊎ (flushed ≡ true)
 
 -- why following may break off
-abbrev pub MayBreakOff : ToolError → Type 0
+abbrev pub MayBreakOff : RdsError → Type 0
 MayBreakOff e = (e ≡ OutOfMemory) ⊎ ((e ≡ Read) ⊎ ((e ≡ Write) ⊎ ((e ≡ TooLong) ⊎ ((e ≡ BitsPastBytes) ⊎ (e ≡ BadGaps)))))
 
 -- what the reader had given before and then, and whether it last answered its end; the writer's contents before and then, and whether its
@@ -67,7 +68,7 @@ module _ (s : Stream) (given given' : List ℕ) (ended : Bool) (old new : Option
     pub flush : flushed ≡ true
 
   -- following broke off by this error, after these symbols and those of the last read
-  pub record BreaksOff (e : ToolError) : Type 0 where
+  pub record BreaksOff (e : RdsError) : Type 0 where
     pub heard : List ℕ
     pub last : List ℕ
     pub few : length last ≤ s.most
@@ -89,7 +90,7 @@ module _ (s : Stream) (given given' : List ℕ) (ended : Bool) (old new : Option
 -- the promises of following a stream, if the reader was `reader` and is now `reader'`, and the writer likewise. A caller relies on its
 -- fields as on clauses
 pub record Follows {R W : Type 0} (source : Source R) (sink : Sink W) (s : Stream) (reader reader' : R) (writer writer' : W)
-    (result : Result (Unit {0}) ToolError) : Type 0 where
+    (result : Result (Unit {0}) RdsError) : Type 0 where
   pub ok : OnOk result (IsFollowed s (source.given reader) (source.given reader') (source.has_ended reader')
       (sink.contents writer) (sink.contents writer') (sink.is_flushed writer'))
   -- what it gave was taken from what it held, if that is known; that is all of it where the end must be reached
@@ -126,7 +127,7 @@ abbrev pub stream_text : Terms → Option ℕ → List ℕ → List ℕ
 stream_text terms bits bytes = list_text terms.rules (signal_at terms.gaps bytes (counted bits bytes))
 
 -- the outcome of a list of a recording of these bytes: its text, or the refusal of them
-abbrev pub listed : Terms → Option ℕ → List ℕ → Result (List ℕ) ToolError
+abbrev pub listed : Terms → Option ℕ → List ℕ → Result (List ℕ) RdsError
 listed terms bits held = and_then (first_bits (claimed bits held) terms.gaps held) (λ recording. Ok (list_text terms.rules recording))
 
 -- the reader gave all bits that count

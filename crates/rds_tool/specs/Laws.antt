@@ -3,20 +3,21 @@
 use Rattle.std.specs.Prelude.{◌≡◌, ◌≤◌, ◌*◌, ◌^◌, ◌++◌, ◌∷◌, ℕ, Bool, IfOk, List, [], None, Ok, Option, Result, false, length, true}
 use Rattle.rds_stream.specs.Recording.{length_of}
 use Rattle.rds_sync.specs.{Sent.group_sent, Sent.items_sent, Sent.totals_sent, declared.item.Item.TheVariants.Acquired, declared.item.Item.TheVariants.Group}
-use Rattle.rds_tool.specs.{Cuts.cuts_bits, Following.listed, GroupText.lines_of, GroupText.words_of, Input.and_then, Input.recording_of, Listing.report_text, Outcome.result_of_job, Plans.PlanOf, Plans.plan_of, declared.error.ToolError.ToolError, declared.job.Input.Input, declared.job.Settings.Settings}
+use Rattle.rds_tool.specs.{Cuts.cuts_bits, Following.listed, GroupText.lines_of, GroupText.words_of, Input.and_then, Input.recording_of, Listing.report_text, Outcome.result_of_job, Plans.PlanOf, Plans.plan_of, declared.job.Input.Input, declared.job.Settings.Settings}
+use Rattle.rds_code.specs.declared.error.RdsError.{RdsError}
 use Rattle.rds_tool.specs.declared.job.Job.TheVariants as job
 
 -- ---- groups that are encoded and then listed
 
 -- the words of the groups that lines spell, four words for each line that is not empty
-abbrev pub groups_of_lines : List (List ℕ) → Result (List (List ℕ)) ToolError
+abbrev pub groups_of_lines : List (List ℕ) → Result (List (List ℕ)) RdsError
 groups_of_lines [] = Ok []
 groups_of_lines ([] ∷ lines) = groups_of_lines lines
 groups_of_lines ((digit ∷ digits) ∷ lines) =
     and_then (words_of (digit ∷ digits)) (λ words. and_then (groups_of_lines lines) (λ groups. Ok (words ∷ groups)))
 
 -- the words of the groups that a text spells, or the refusal of its first faulty line
-abbrev pub groups_in : List ℕ → Result (List (List ℕ)) ToolError
+abbrev pub groups_in : List ℕ → Result (List (List ℕ)) RdsError
 groups_in text = groups_of_lines (lines_of text)
 
 -- all bits of the bytes, or of those that hexadecimal text spells, without gaps
@@ -24,7 +25,7 @@ abbrev pub whole_input : Bool → Input
 whole_input hex = record { hex = hex; bits = None; gaps = [] }
 
 -- a text of lines, encoded as bytes or as digits, and listed again
-abbrev pub encoded_and_listed : Bool → Settings → List ℕ → Result (List ℕ) ToolError
+abbrev pub encoded_and_listed : Bool → Settings → List ℕ → Result (List ℕ) RdsError
 encoded_and_listed hex settings lines = and_then (result_of_job (job.Encode hex) lines) (result_of_job (job.List (whole_input hex) settings))
 
 -- the listing of groups that were sent from bit 0 on: block 2 of the first one acquires synchronism, so the first group has no block 1;

@@ -1,4 +1,3 @@
-pub mod Refusals
 pub mod Devices
 pub mod History
 pub mod GapText

@@ -6,7 +6,8 @@ use Rattle.rds_soft.specs.{Nearest.mask_of, ReadAgain.item_again, ReadAgain.symb
 use Rattle.rds_stream.specs.Recording.{Signal}
 use Rattle.rds_sync.specs.{Report.report_items, Rules.RuleNumbers, declared.item.Item.Item}
 use Rattle.rds_sync.specs.declared.item.Item.TheVariants as hard
-use Rattle.rds_tool.specs.{Input.may_be_gaps, Listing.hex_digits, Listing.item_row, Listing.kind_text, Listing.row, Listing.total_row, Listing.totals_text, Listing.version_text, Listing.word_text, declared.error.ToolError.ToolError, declared.error.ToolError.TheVariants.BadGaps, declared.error.ToolError.TheVariants.BitsPastBytes, declared.error.ToolError.TheVariants.TooLong, declared.job.Input.Input}
+use Rattle.rds_tool.specs.{Input.may_be_gaps, Listing.hex_digits, Listing.item_row, Listing.kind_text, Listing.row, Listing.total_row, Listing.totals_text, Listing.version_text, Listing.word_text, declared.job.Input.Input}
+use Rattle.rds_code.specs.declared.error.RdsError.{RdsError, TheVariants.BadGaps, TheVariants.BitsPastBytes, TheVariants.TooLong}
 
 -- ---- the recording
 
@@ -16,7 +17,7 @@ claimed_of (Some bits) symbols = bits
 claimed_of None symbols = length symbols - 1
 
 -- the first `bits` bits between the symbols, which are signed bytes, with these gaps
-abbrev pub first_bits_of : ℕ → List (ℕ × ℕ) → List ℕ → Result Signal ToolError
+abbrev pub first_bits_of : ℕ → List (ℕ × ℕ) → List ℕ → Result Signal RdsError
 first_bits_of bits gaps symbols =
     if nat_lt (2 ^ 36) bits then Err TooLong
     else if nat_lt (length symbols - 1) bits then Err BitsPastBytes
@@ -24,7 +25,7 @@ first_bits_of bits gaps symbols =
     else Ok (record { bits = map (hard_bit (symbols_of symbols)) (range_with_len 0 bits); gaps = gaps })
 
 -- the recording of symbols; whether the input is hexadecimal text does not matter
-abbrev pub recording_of_symbols : Input → List ℕ → Result Signal ToolError
+abbrev pub recording_of_symbols : Input → List ℕ → Result Signal RdsError
 recording_of_symbols input symbols = first_bits_of (claimed_of input.bits symbols) input.gaps symbols
 
 -- ---- rows

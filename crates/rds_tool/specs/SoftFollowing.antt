@@ -1,7 +1,8 @@
 -- Following a stream of symbols: this project's rule. `follow_soft` promises it.
 use Rattle.std.specs.{Prelude.◌-◌, Prelude.ℕ, Prelude.List, Prelude.Ok, Prelude.Option, Prelude.Result, Prelude.length, Prelude.true, Prelude.false, List.flat_map}
 use Rattle.rds_soft.specs.SoftStream.{SoftTerms, complete, signal_of}
-use Rattle.rds_tool.specs.{Following.Stream, Input.and_then, InputOf.InputOf, Soft.recording_of_symbols, Soft.soft_row, Soft.soft_text, declared.error.ToolError.ToolError}
+use Rattle.rds_tool.specs.{Following.Stream, Input.and_then, InputOf.InputOf, Soft.recording_of_symbols, Soft.soft_row, Soft.soft_text}
+use Rattle.rds_code.specs.declared.error.RdsError.{RdsError}
 
 -- the most symbols that one read gives
 abbrev pub most_symbols : ℕ
@@ -20,7 +21,7 @@ abbrev pub input_of : SoftTerms → Option ℕ → InputOf
 input_of terms bits = record { hex = false; bits = bits; gaps = terms.gaps }
 
 -- the outcome of a soft list of these symbols: its text, or the refusal of them
-abbrev pub soft_listed : SoftTerms → Option ℕ → List ℕ → Result (List ℕ) ToolError
+abbrev pub soft_listed : SoftTerms → Option ℕ → List ℕ → Result (List ℕ) RdsError
 soft_listed terms bits symbols =
     and_then (recording_of_symbols (input_of terms bits) symbols)
     (λ recording. Ok (soft_text true terms.rules terms.margin symbols recording))

@@ -3,12 +3,13 @@
 use Rattle.std.specs.Prelude.{◌<◌, ◌≡◌, ◌≢◌, ◌≤◌, ◌⊎◌, ◌↔◌, ℕ, Err, IfErr, IfSome, IsErrOf, List, OnOk, Result, length, true}
 use Rattle.std.specs.Io.KnownBytes.{Consumes, IsAtEnd}
 use Rattle.rds_rows.specs.declared.sink.Sink.{Ghosts as Sink}
-use Rattle.rds_tool.specs.{History.Gave, Outcome.IsOutside, Outcome.Writes, Outcome.WritesPrefix, Outcome.result_of_job, Tasks.task_of, declared.devices.Source.Ghosts as Source, declared.error.ToolError.ToolError, declared.error.ToolError.TheVariants.NoWorker, declared.error.ToolError.TheVariants.Read, declared.error.ToolError.TheVariants.TooManyTurns, declared.error.ToolError.TheVariants.Write, declared.job.Job.Job}
+use Rattle.rds_tool.specs.{History.Gave, Outcome.IsOutside, Outcome.Writes, Outcome.WritesPrefix, Outcome.result_of_job, Tasks.task_of, declared.devices.Source.Ghosts as Source, declared.job.Job.Job}
+use Rattle.rds_code.specs.declared.error.RdsError.{RdsError, TheVariants.NoWorker, TheVariants.Read, TheVariants.TooManyTurns, TheVariants.Write}
 
 -- the answer to a job, if the reader was `reader` and is now `reader'`, and the writer likewise
 pub record IsTranscribed {R W : Type 0} (source : Source R) (sink : Sink W) (job : Job) (reader reader' : R)
     (writer writer' : W)
-    (result : Result (Unit {0}) ToolError) : Type 0 where
+    (result : Result (Unit {0}) RdsError) : Type 0 where
   -- if it is Ok, the whole input was read, and the text that the job makes of it was written
   pub end : OnOk result (IsAtEnd (source.remaining reader'))
   pub ok : OnOk result (IfSome (source.remaining reader) (λ held.

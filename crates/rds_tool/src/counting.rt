@@ -4,12 +4,13 @@ ghost use Rattle.rds_stream.specs.Recording.{AreGaps, Signal};
 ghost use Rattle.rds_sync.specs.Report.{report_items};
 ghost use Rattle.rds_sync.specs.Totals.{totals_of};
 ghost use Rattle.rds_tool.specs.Input.{claimed, first_bits, recording_of};
-ghost use Rattle.rds_tool.specs.Refusals.{IsMemoryOrErrOf};
+ghost use Rattle.rds_code.specs.Refusals.{IsMemoryOrErrOf};
 ghost use Rattle.rds_tool.specs.Inside.Counters.{claimed_by, whole};
 
+use crate::Input;
 use crate::input::decode_digits;
 use crate::taker::Taker;
-use crate::{Input, ToolError};
+use rds_code::RdsError;
 use rds_live::{StreamCounter, StreamDecoder};
 use rds_stream::{MOST_BITS, Trace};
 use rds_sync::{Rules, Totals};
@@ -47,14 +48,14 @@ impl<'a> Counter<'a> {
         gaps: &'a [(u64, u64)],
         bits: Option<u64>,
         workers: u32,
-    ) -> Result<Counter<'a>, ToolError>
+    ) -> Result<Counter<'a>, RdsError>
         requires { AreGaps (2 ^ 36) gaps.now }
         ensures new { IfOk result (λ counter. counter
             ≡ record { terms = record { rules = rules.now; gaps = gaps.now }; bits = bits; bytes = [] }) }
-        ensures refused { IsOkUnless result ToolError.OutOfMemory }
+        ensures refused { IsOkUnless result RdsError.OutOfMemory }
     {
         let Ok(live) = StreamDecoder::with_gaps(alloc, rules, gaps) else {
-            return Err(ToolError::OutOfMemory);
+            return Err(RdsError::OutOfMemory);
         };
         Ok(Counter {
             live: StreamCounter::new(alloc, live, workers)?,
@@ -81,7 +82,7 @@ impl<'a> Counter<'a> {
     }
 
     /// The totals of the recording, whose bytes have all come.
-    fn finish<R: Threads + Sync>(self, rt: &R, alloc: Global) -> Result<Totals, ToolError>
+    fn finish<R: Threads + Sync>(self, rt: &R, alloc: Global) -> Result<Totals, RdsError>
         ensures totals { IfOk result (λ totals. (recording : Signal)
             × (first_bits (claimed self.entry.bits self.entry.bytes) self.entry.terms.gaps self.entry.bytes ≡ Ok recording)
             × (totals ≡ totals_of (report_items recording self.entry.terms.rules))) }
@@ -90,15 +91,15 @@ impl<'a> Counter<'a> {
     {
         let bits = claimed_bits(self.bits, self.count);
         if bits > MOST_BITS {
-            return Err(ToolError::TooLong);
+            return Err(RdsError::TooLong);
         }
         if self.count < bits.div_ceil(8) {
-            return Err(ToolError::BitsPastBytes);
+            return Err(RdsError::BitsPastBytes);
         }
         let live = self.live.into_decoder(rt, alloc);
         let left = bits - live.place();
         if !live.may_end_after(left) {
-            return Err(ToolError::BadGaps);
+            return Err(RdsError::BadGaps);
         }
         let mut items = Vec::with_capacity(alloc, 2 * left as usize)?;
         match live.finish_with(&[self.last], left, &mut items) {
@@ -169,11 +170,11 @@ impl<'a> InputCounter<'a> {
         input: &'a Input,
         rules: &'a Rules,
         workers: u32,
-    ) -> Result<InputCounter<'a>, ToolError>
+    ) -> Result<InputCounter<'a>, RdsError>
         requires { AreGaps (2 ^ 36) input.now.gaps }
         ensures new { IfOk result (λ counter. counter
             ≡ record { input = input.now; rules = rules.now; text = [] }) }
-        ensures refused { IsOkUnless result ToolError.OutOfMemory }
+        ensures refused { IsOkUnless result RdsError.OutOfMemory }
     {
         Ok(InputCounter {
             counter: Counter::new(alloc, rules, input.gaps.as_slice(), input.bits, workers)?,
@@ -185,14 +186,14 @@ impl<'a> InputCounter<'a> {
     }
 
     /// The totals of the recording, all of which has come.
-    pub fn finish<R: Threads + Sync>(self, rt: &R, alloc: Global) -> Result<Totals, ToolError>
+    pub fn finish<R: Threads + Sync>(self, rt: &R, alloc: Global) -> Result<Totals, RdsError>
         ensures totals { IfOk result (λ totals. (recording : Signal)
             × (recording_of self.entry.input self.entry.text ≡ Ok recording)
             × (totals ≡ totals_of (report_items recording self.entry.rules))) }
         ensures refused { IfErr result (IsMemoryOrErrOf (recording_of self.entry.input self.entry.text)) }
     {
         if self.strange || self.half.is_some() {
-            return Err(ToolError::HexText);
+            return Err(RdsError::HexText);
         }
         self.counter.finish(rt, alloc)
     }

@@ -10,7 +10,8 @@ use crate::group_lines::GroupLines;
 use crate::listing::totals_rows;
 use crate::taker::Taker;
 use crate::task::{Plan, Task, Text};
-use crate::{Failed, Input, Job, Sink, Source, ToolError};
+use crate::{Failed, Input, Job, Sink, Source};
+use rds_code::RdsError;
 use rds_crew::{Gate, OpenGate};
 use rds_live::may_have_gaps;
 use std::alloc::{AllocError, Global};
@@ -46,7 +47,7 @@ pub fn transcribe<R: Threads + Sync, S: Source, K: Sink>(
     reader: &mut S,
     writer: &mut K,
     job: &Job,
-) -> Result<(), ToolError>
+) -> Result<(), RdsError>
     requires reads { S.failed reader.old < 2 ^ 63 }
     requires writes { K.failed writer.old < 2 ^ 63 }
     ensures { IsTranscribed S.Source K.Sink job.now reader.old reader.new writer.old writer.new result }
@@ -66,7 +67,7 @@ pub fn transcribe_gated<R: Threads + Sync, S: Source, K: Sink, G: Gate + Sync>(
     writer: &mut K,
     job: &Job,
     gate: &G,
-) -> Result<(), ToolError>
+) -> Result<(), RdsError>
     requires reads { S.failed reader.old < 2 ^ 63 }
     requires writes { K.failed writer.old < 2 ^ 63 }
     ensures { IsTranscribed S.Source K.Sink job.now reader.old reader.new writer.old writer.new result }
@@ -83,7 +84,7 @@ fn transcribe_task<R: Threads + Sync, S: Source, K: Sink, G: Gate + Sync>(
     writer: &mut K,
     task: Task<'_>,
     gate: &G,
-) -> Result<(), ToolError>
+) -> Result<(), RdsError>
     requires reads { S.failed reader.old < 2 ^ 63 }
     requires writes { K.failed writer.old < 2 ^ 63 }
     ensures { (job : Job) → task_of job ≡ Ok task.entry
@@ -109,7 +110,7 @@ fn transcribe_groups<R: Threads + Sync, S: Source, K: Sink>(
     reader: &mut S,
     writer: &mut K,
     hex: bool,
-) -> Result<(), ToolError>
+) -> Result<(), RdsError>
     requires reads { S.failed reader.old < 2 ^ 63 }
     requires writes { K.failed writer.old < 2 ^ 63 }
     ensures { (job : Job) → task_of job ≡ Ok (task.Encode hex)
@@ -129,7 +130,7 @@ fn transcribe_totals<R: Threads + Sync, S: Source, K: Sink>(
     writer: &mut K,
     input: &Input,
     plan: &Plan<'_>,
-) -> Result<(), ToolError>
+) -> Result<(), RdsError>
     requires reads { S.failed reader.old < 2 ^ 63 }
     requires writes { K.failed writer.old < 2 ^ 63 }
     requires gaps { AreGaps (2 ^ 36) input.now.gaps }
@@ -152,7 +153,7 @@ fn transcribe_held<R: Threads + Sync, S: Source, K: Sink, G: Gate + Sync>(
     writer: &mut K,
     task: Task<'_>,
     gate: &G,
-) -> Result<(), ToolError>
+) -> Result<(), RdsError>
     requires reads { S.failed reader.old < 2 ^ 63 }
     requires writes { K.failed writer.old < 2 ^ 63 }
     ensures { (job : Job) → task_of job ≡ Ok task.entry
@@ -171,7 +172,7 @@ fn read_all<R: Threads + Sync, S: Source, T: Taker>(
     alloc: Global,
     reader: &mut S,
     taker: &mut T,
-) -> Result<(), ToolError>
+) -> Result<(), RdsError>
     requires failed { S.failed reader.old < 2 ^ 63 }
     requires empty { T.taken taker.old ≡ [] }
     ensures terms { OnOk result (T.terms taker.new ≡ T.terms taker.old) }
@@ -179,12 +180,12 @@ fn read_all<R: Threads + Sync, S: Source, T: Taker>(
     ensures end { OnOk result (IsAtEnd (S.remaining reader.new)) }
     ensures given { OnOk result (S.given reader.new ≡ S.given reader.old ++ T.taken taker.new) }
     ensures ended { OnOk result (S.has_ended reader.new ≡ true) }
-    ensures read { IsErrOf result ToolError.Read ↔ (S.failed reader.old < S.failed reader.new) }
-    ensures kinds { IfErr result (λ error. (error ≡ ToolError.OutOfMemory)
-        ⊎ ((error ≡ ToolError.Read) ⊎ (error ≡ ToolError.TooManyTurns))) }
-    ensures turns { IsErrOf result ToolError.TooManyTurns → (more : List ℕ)
+    ensures read { IsErrOf result RdsError.Read ↔ (S.failed reader.old < S.failed reader.new) }
+    ensures kinds { IfErr result (λ error. (error ≡ RdsError.OutOfMemory)
+        ⊎ ((error ≡ RdsError.Read) ⊎ (error ≡ RdsError.TooManyTurns))) }
+    ensures turns { IsErrOf result RdsError.TooManyTurns → (more : List ℕ)
         × Consumes (S.remaining reader.old) (S.remaining reader.new) more × (16777216 ≤ length more) }
-    ensures turned { IsErrOf result ToolError.TooManyTurns
+    ensures turned { IsErrOf result RdsError.TooManyTurns
         → Gave (S.given reader.old) (S.given reader.new) (λ bytes. 16777216 ≤ length bytes) }
 {
     let mut buf = zeros(alloc, CHUNK)?;
@@ -194,7 +195,7 @@ fn read_all<R: Threads + Sync, S: Source, T: Taker>(
             return Ok(());
         }
     }
-    Err(ToolError::TooManyTurns)
+    Err(RdsError::TooManyTurns)
 }
 
 /// One read, whose bytes are taken. Answers whether the reader was at its end.
@@ -204,7 +205,7 @@ fn read_some<R: Threads + Sync, S: Source, T: Taker>(
     reader: &mut S,
     buf: &mut [u8],
     taker: &mut T,
-) -> Result<bool, ToolError>
+) -> Result<bool, RdsError>
     requires count { S.failed reader.old < 2 ^ 63 }
     requires room { 0 < length buf.old }
     ensures terms { OnOk result (T.terms taker.new ≡ T.terms taker.old) }
@@ -218,9 +219,9 @@ fn read_some<R: Threads + Sync, S: Source, T: Taker>(
     ensures grows { IfOk result (λ is_at_end. is_at_end ≡ false
         → length (T.taken taker.old) < length (T.taken taker.new)) }
     ensures count { OnOk result (S.failed reader.new ≡ S.failed reader.old) }
-    ensures refused { IfErr result (λ error. ((error ≡ ToolError.OutOfMemory)
+    ensures refused { IfErr result (λ error. ((error ≡ RdsError.OutOfMemory)
         × (S.failed reader.new ≡ S.failed reader.old))
-        ⊎ ((error ≡ ToolError.Read) × (S.failed reader.old < S.failed reader.new))) }
+        ⊎ ((error ≡ RdsError.Read) × (S.failed reader.old < S.failed reader.new))) }
 {
     match reader.read(buf) {
         Ok(0) => Ok(true),
@@ -228,7 +229,7 @@ fn read_some<R: Threads + Sync, S: Source, T: Taker>(
             taker.take(rt, alloc, &mut buf[..count])?;
             Ok(false)
         }
-        Err(Failed) => Err(ToolError::Read),
+        Err(Failed) => Err(RdsError::Read),
     }
 }
 

@@ -11,7 +11,8 @@ use crate::listing::{push_items, push_totals};
 use crate::rows::RowWriter;
 use crate::stream_rows::StreamRows;
 use crate::text::write_flushed;
-use crate::{Failed, Sink, Source, ToolError};
+use crate::{Failed, Sink, Source};
+use rds_code::RdsError;
 use rds_live::{StreamDecoder, StreamEnd, StreamLister};
 use rds_stream::MOST_BITS;
 use rds_sync::{Item, Rules, laws};
@@ -48,7 +49,7 @@ pub fn follow<R: Threads + Sync, S: Source, K: Sink>(
     bits: Option<u64>,
     gaps: &[(u64, u64)],
     workers: u32,
-) -> Result<(), ToolError>
+) -> Result<(), RdsError>
     requires reads { S.failed reader.old < 2 ^ 63 }
     requires writes { K.failed writer.old < 2 ^ 63 }
     ensures all { Follows S.Source K.Sink (bit_stream (record { rules = rules.now; gaps = gaps.now }) workers bits)
@@ -83,7 +84,7 @@ fn follow_bytes<'r, R: Threads + Sync, S: Source, K: Sink>(
     gaps: &'r [(u64, u64)],
     bits: Option<u64>,
     workers: u32,
-) -> Result<StreamDecoder<'r>, ToolError>
+) -> Result<StreamDecoder<'r>, RdsError>
     requires reads { S.failed reader.old < 2 ^ 63 }
     requires writes { K.failed writer.old < 2 ^ 63 }
     ensures heard { IfOk result (λ live. (heard : List ℕ)
@@ -118,15 +119,15 @@ fn begin<'r>(
     gaps: &'r [(u64, u64)],
     bits: Option<u64>,
     workers: u32,
-) -> Result<(StreamLister<'r, StreamRows>, Vec<u8>), ToolError>
+) -> Result<(StreamLister<'r, StreamRows>, Vec<u8>), RdsError>
     ensures live { IfOk result (λ begun. begun.0.live ≡ live_of
         (record { rules = rules.now; gaps = gaps.now }) []) }
     ensures room { IfOk result (λ begun. length begun.1.items ≡ most_read workers) }
     ensures claims { OnOk result (IsShortEnough bits) }
-    ensures too_long { IsErrOf result ToolError.TooLong → IsLong bits }
-    ensures bad_gaps { IsErrOf result ToolError.BadGaps → AreGaps (2 ^ 36) gaps.now → ⊥ }
-    ensures kinds { IfErr result (λ error. (error ≡ ToolError.OutOfMemory)
-        ⊎ ((error ≡ ToolError.TooLong) ⊎ (error ≡ ToolError.BadGaps))) }
+    ensures too_long { IsErrOf result RdsError.TooLong → IsLong bits }
+    ensures bad_gaps { IsErrOf result RdsError.BadGaps → AreGaps (2 ^ 36) gaps.now → ⊥ }
+    ensures kinds { IfErr result (λ error. (error ≡ RdsError.OutOfMemory)
+        ⊎ ((error ≡ RdsError.TooLong) ⊎ (error ≡ RdsError.BadGaps))) }
 {
     check_claim(bits)?;
     let live = StreamDecoder::with_gaps(alloc, rules, gaps)?;
@@ -143,12 +144,12 @@ fn read_by(workers: u32) -> usize
 }
 
 /// Refuses more bits than a stream may have.
-pub(crate) fn check_claim(bits: Option<u64>) -> Result<(), ToolError>
+pub(crate) fn check_claim(bits: Option<u64>) -> Result<(), RdsError>
     ensures fits { OnOk result (IsShortEnough bits) }
-    ensures too_long { IfErr result (λ error. (error ≡ ToolError.TooLong) × IsLong bits) }
+    ensures too_long { IfErr result (λ error. (error ≡ RdsError.TooLong) × IsLong bits) }
 {
     match bits {
-        Some(bits) if bits > MOST_BITS => Err(ToolError::TooLong),
+        Some(bits) if bits > MOST_BITS => Err(RdsError::TooLong),
         _ => Ok(()),
     }
 }
@@ -182,7 +183,7 @@ pub(crate) fn read_once<S: Source>(
     reader: &mut S,
     buf: &mut [u8],
     room: usize,
-) -> Result<usize, ToolError>
+) -> Result<usize, RdsError>
     requires count { S.failed reader.old < 2 ^ 63 }
     requires room { 0 < length buf.old }
     ensures within { IfOk result (λ count. (count ≤ length buf.new) × (count ≤ room)) }
@@ -195,7 +196,7 @@ pub(crate) fn read_once<S: Source>(
     ensures none_given { IfErr result (λ error. S.given reader.new ≡ S.given reader.old) }
     ensures count { OnOk result (S.failed reader.new ≡ S.failed reader.old) }
     ensures failed { IfErr result (λ error. S.failed reader.old < S.failed reader.new) }
-    ensures kinds { IsOkUnless result ToolError.Read }
+    ensures kinds { IsOkUnless result RdsError.Read }
 {
     let room = room.min(buf.len());
     if room == 0 {
@@ -203,13 +204,13 @@ pub(crate) fn read_once<S: Source>(
     }
     match reader.read(&mut buf[..room]) {
         Ok(count) => Ok(count),
-        Err(Failed) => Err(ToolError::Read),
+        Err(Failed) => Err(RdsError::Read),
     }
 }
 
 /// Reads the byte of the bits that are left, if there are some. Answers how many bytes it gave, which hold
 /// them.
-fn read_last<S: Source>(reader: &mut S, last: &mut [u8], left: u64) -> Result<usize, ToolError>
+fn read_last<S: Source>(reader: &mut S, last: &mut [u8], left: u64) -> Result<usize, RdsError>
     requires count { S.failed reader.old < 2 ^ 63 }
     requires room { length last.old ≡ 1 }
     ensures within { IfOk result (λ count. (count ≤ length last.new) × (left ≤ 8 * count)
@@ -223,20 +224,20 @@ fn read_last<S: Source>(reader: &mut S, last: &mut [u8], left: u64) -> Result<us
     ensures none_given { IfErr result (λ error. S.given reader.new ≡ S.given reader.old) }
     ensures kept { IfErr result (λ error. Keeps (S.remaining reader.old) (S.remaining reader.new)) }
     ensures count { OnOk result (S.failed reader.new ≡ S.failed reader.old) }
-    ensures failed { IsErrOf result ToolError.Read → S.failed reader.old < S.failed reader.new }
-    ensures past { IsErrOf result ToolError.BitsPastBytes → (0 < left) × (S.failed reader.new ≡ S.failed reader.old)
+    ensures failed { IsErrOf result RdsError.Read → S.failed reader.old < S.failed reader.new }
+    ensures past { IsErrOf result RdsError.BitsPastBytes → (0 < left) × (S.failed reader.new ≡ S.failed reader.old)
         × (((8 ≤ left) × (reader.new ≡ reader.old))
         ⊎ (IsAtEnd (S.remaining reader.new) × (S.has_ended reader.new ≡ true))) }
-    ensures kinds { IfErr result (λ error. (error ≡ ToolError.Read) ⊎ (error ≡ ToolError.BitsPastBytes)) }
+    ensures kinds { IfErr result (λ error. (error ≡ RdsError.Read) ⊎ (error ≡ RdsError.BitsPastBytes)) }
 {
     if left == 0 {
         return Ok(0);
     }
     if left >= 8 {
-        return Err(ToolError::BitsPastBytes);
+        return Err(RdsError::BitsPastBytes);
     }
     match read_once(reader, last, 1)? {
-        0 => Err(ToolError::BitsPastBytes),
+        0 => Err(RdsError::BitsPastBytes),
         count => Ok(count),
     }
 }
@@ -249,7 +250,7 @@ fn follow_chunk<'r, R: Threads + Sync, K: Sink>(
     lister: StreamLister<'r, StreamRows>,
     bytes: &[u8],
     workers: u32,
-) -> Result<StreamLister<'r, StreamRows>, ToolError>
+) -> Result<StreamLister<'r, StreamRows>, RdsError>
     requires { K.failed writer.old < 2 ^ 63 }
     ensures heard { IfOk result (λ next. (before : List ℕ) → HasHeard lister.entry.live before
         → HasHeard next.live (before ++ bytes.now)) }
@@ -261,13 +262,13 @@ fn follow_chunk<'r, R: Threads + Sync, K: Sink>(
     ensures count { OnOk result (K.failed writer.new ≡ K.failed writer.old) }
     ensures fits { OnOk result (lister.entry.live.place + 8 * length bytes.now ≤ 2 ^ 36) }
     ensures flushed { OnOk result (K.is_flushed writer.new ≡ true) }
-    ensures write { IsErrOf result ToolError.Write ↔ (K.failed writer.old < K.failed writer.new) }
-    ensures too_long { IsErrOf result ToolError.TooLong
+    ensures write { IsErrOf result RdsError.Write ↔ (K.failed writer.old < K.failed writer.new) }
+    ensures too_long { IsErrOf result RdsError.TooLong
         → 2 ^ 36 < lister.entry.live.place + 8 * length bytes.now }
-    ensures kinds { IfErr result (λ error. (error ≡ ToolError.OutOfMemory)
-        ⊎ ((error ≡ ToolError.Write) ⊎ (error ≡ ToolError.TooLong))) }
-    ensures untouched { IfErr result (λ error. error ≢ ToolError.Write → writer.new ≡ writer.old) }
-    ensures prefix { IsErrOf result ToolError.Write → (before : List ℕ) → HasHeard lister.entry.live before
+    ensures kinds { IfErr result (λ error. (error ≡ RdsError.OutOfMemory)
+        ⊎ ((error ≡ RdsError.Write) ⊎ (error ≡ RdsError.TooLong))) }
+    ensures untouched { IfErr result (λ error. error ≢ RdsError.Write → writer.new ≡ writer.old) }
+    ensures prefix { IsErrOf result RdsError.Write → (before : List ℕ) → HasHeard lister.entry.live before
         → (rows : List ℕ)
         × (rows_so_far lister.entry.live.terms (before ++ bytes.now)
         ≡ rows_so_far lister.entry.live.terms before ++ rows)
@@ -285,7 +286,7 @@ fn list_chunk<'r, R: Threads + Sync>(
     lister: StreamLister<'r, StreamRows>,
     bytes: &[u8],
     workers: u32,
-) -> Result<StreamLister<'r, StreamRows>, ToolError>
+) -> Result<StreamLister<'r, StreamRows>, RdsError>
     ensures heard { IfOk result (λ next. (before : List ℕ) → HasHeard lister.entry.live before
         → HasHeard next.live (before ++ bytes.now)) }
     ensures terms { IfOk result (λ next. next.live.terms ≡ lister.entry.live.terms) }
@@ -293,9 +294,9 @@ fn list_chunk<'r, R: Threads + Sync>(
         → rows_so_far lister.entry.live.terms (before ++ bytes.now)
         ≡ rows_so_far lister.entry.live.terms before ++ next.rows) }
     ensures fits { OnOk result (lister.entry.live.place + 8 * length bytes.now ≤ 2 ^ 36) }
-    ensures too_long { IsErrOf result ToolError.TooLong
+    ensures too_long { IsErrOf result RdsError.TooLong
         → 2 ^ 36 < lister.entry.live.place + 8 * length bytes.now }
-    ensures kinds { IfErr result (λ error. (error ≡ ToolError.OutOfMemory) ⊎ (error ≡ ToolError.TooLong)) }
+    ensures kinds { IfErr result (λ error. (error ≡ RdsError.OutOfMemory) ⊎ (error ≡ RdsError.TooLong)) }
 {
     let mut lister = lister;
     lister.clear_rows();
@@ -309,7 +310,7 @@ fn rows_of_rest(
     live: StreamDecoder<'_>,
     bytes: &[u8],
     bits: u64,
-) -> Result<Vec<u8>, ToolError>
+) -> Result<Vec<u8>, RdsError>
     requires held { bits ≤ 8 * length bytes.now }
     requires few { bits ≤ 8 }
     requires limit { live.place + bits ≤ 2 ^ 36 }
@@ -317,12 +318,12 @@ fn rows_of_rest(
         → let items = report_at live.entry.terms (before ++ bytes.now) (8 * length before + bits) in
         report_text items (totals_of items) ≡ rows_so_far live.entry.terms before ++ text.items) }
     ensures gaps { OnOk result (AreGaps (live.entry.place + bits) live.entry.terms.gaps) }
-    ensures bad_gaps { IsErrOf result ToolError.BadGaps
+    ensures bad_gaps { IsErrOf result RdsError.BadGaps
         → AreGaps (live.entry.place + bits) live.entry.terms.gaps → ⊥ }
-    ensures kinds { IfErr result (λ error. (error ≡ ToolError.OutOfMemory) ⊎ (error ≡ ToolError.BadGaps)) }
+    ensures kinds { IfErr result (λ error. (error ≡ RdsError.OutOfMemory) ⊎ (error ≡ RdsError.BadGaps)) }
 {
     if !live.may_end_after(bits) {
-        return Err(ToolError::BadGaps);
+        return Err(RdsError::BadGaps);
     }
     let mut items = Vec::with_capacity(alloc, 2 * bits as usize)?;
     let end = live.finish_with(bytes, bits, &mut items)?;
@@ -332,11 +333,11 @@ fn rows_of_rest(
 
 /// The rows of the last items of a listing, and those of its end: of the group in progress, if there is one, and of
 /// the totals.
-fn rows_to_end(alloc: Global, items: &[Item], end: &StreamEnd) -> Result<Vec<u8>, ToolError>
+fn rows_to_end(alloc: Global, items: &[Item], end: &StreamEnd) -> Result<Vec<u8>, RdsError>
     ensures rows { IfOk result (λ text. text.items
         ≡ flat_map item_row items.now ++ (flat_map item_row (group_item end.now.group)
         ++ totals_text end.now.totals)) }
-    ensures refused { IsOkUnless result ToolError.OutOfMemory }
+    ensures refused { IsOkUnless result RdsError.OutOfMemory }
 {
     let mut text = Vec::new(alloc);
     let mut pen = RowWriter::new();
@@ -347,14 +348,10 @@ fn rows_to_end(alloc: Global, items: &[Item], end: &StreamEnd) -> Result<Vec<u8>
 }
 
 /// The row of the group in progress, if there is one.
-fn push_last_group(
-    pen: &mut RowWriter,
-    text: &mut Vec<u8>,
-    end: &StreamEnd,
-) -> Result<(), ToolError>
+fn push_last_group(pen: &mut RowWriter, text: &mut Vec<u8>, end: &StreamEnd) -> Result<(), RdsError>
     ensures text { OnOk result (text.new.items ≡ text.old.items
         ++ flat_map item_row (group_item end.now.group)) }
-    ensures refused { IsOkUnless result ToolError.OutOfMemory }
+    ensures refused { IsOkUnless result RdsError.OutOfMemory }
 {
     if let Some(group) = end.group {
         push_items(pen, text, [Item::Group(group)].as_slice())?;

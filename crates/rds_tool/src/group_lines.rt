@@ -1,9 +1,10 @@
 //! Groups of lines of digits, whose text comes chunk by chunk.
 ghost use Rattle.std.specs.Prelude.{◌*◌, ◌+◌, ◌++◌, ◌≡◌, ◌∷◌, Bool, Err, IfErr, IfOk, None, Ok, OnErr, OnOk, [], false, true};
-ghost use Rattle.rds_tool.specs.{declared.error.ToolError.TheVariants.GroupText, GroupText.encoded_text, GroupText.line_text, GroupText.words_of as the_words_of, Inside.GroupLines.AddsLine, Inside.GroupLines.text_of_groups, Refusals.IsMemoryOrErrOf};
+ghost use Rattle.rds_tool.specs.{GroupText.encoded_text, GroupText.line_text, GroupText.words_of as the_words_of, Inside.GroupLines.AddsLine, Inside.GroupLines.text_of_groups};
+ghost use Rattle.rds_code.specs.{Refusals.IsMemoryOrErrOf, declared.error.RdsError.TheVariants.GroupText};
 
-use crate::ToolError;
 use crate::taker::Taker;
+use rds_code::RdsError;
 use rds_stream::Trace;
 use std::alloc::{AllocError, Global};
 use std::marker::Model;
@@ -81,7 +82,7 @@ impl GroupLines {
     }
 
     /// The groups of the whole text, or the refusal of a faulty line.
-    pub fn finish(self) -> Result<Vec<[u16; 4]>, ToolError>
+    pub fn finish(self) -> Result<Vec<[u16; 4]>, RdsError>
         ensures ok { IfOk result (λ groups. (hex : Bool) → encoded_text hex self ≡ Ok (text_of_groups hex groups.items)) }
         ensures refused { IfErr result (λ error. (hex : Bool) → IsMemoryOrErrOf (encoded_text hex self) error) }
     {
@@ -95,7 +96,7 @@ impl GroupLines {
         if push_line(&mut groups, &line[..len])? && !is_faulty {
             Ok(groups)
         } else {
-            Err(ToolError::GroupText)
+            Err(RdsError::GroupText)
         }
     }
 }
@@ -119,7 +120,7 @@ fn push_line(groups: &mut Vec<[u16; 4]>, line: &[u8]) -> Result<bool, AllocError
 }
 
 /// The words of sixteen digits.
-fn words_of(digits: &[u8]) -> Result<[u16; 4], ToolError>
+fn words_of(digits: &[u8]) -> Result<[u16; 4], RdsError>
     ensures { result ≡ the_words_of digits.now }
 {
     let mut bytes = [0; 8];
@@ -130,7 +131,7 @@ fn words_of(digits: &[u8]) -> Result<[u16; 4], ToolError>
             word(bytes[4], bytes[5]),
             word(bytes[6], bytes[7]),
         ]),
-        Err(_) => Err(ToolError::GroupText),
+        Err(_) => Err(RdsError::GroupText),
     }
 }
 

@@ -3,7 +3,8 @@ ghost use Rattle.std.specs.Prelude.{◌<◌, ◌≡◌, ◌≤◌, Err, IfErr, I
 ghost use Rattle.hex.specs.Hex.{hex_digit_value};
 ghost use Rattle.rds_tool.specs.{Input.decoded, Input.first_bits as the_first_bits, Input.is_blank as blank, Input.recording_of as the_recording_of, Inside.HexText.IsDecodedBy, Inside.HexText.IsStrangeAfter};
 
-use crate::{Input, ToolError};
+use crate::Input;
+use rds_code::RdsError;
 use rds_stream::Recording;
 use std::alloc::{AllocError, Global};
 
@@ -21,7 +22,7 @@ impl Input {
 }
 
 /// The recording of an input.
-pub fn recording_of(input: Input, held: Vec<u8>) -> Result<Recording, ToolError>
+pub fn recording_of(input: Input, held: Vec<u8>) -> Result<Recording, RdsError>
     ensures ok { IfOk result (λ recording. the_recording_of input held.items ≡ Ok recording) }
     ensures refused { IfErr result (λ error. the_recording_of input held.items ≡ Err error) }
 {
@@ -32,12 +33,12 @@ pub fn recording_of(input: Input, held: Vec<u8>) -> Result<Recording, ToolError>
 }
 
 /// The first `bits` bits, with these gaps.
-pub fn first_bits(bytes: Vec<u8>, bits: u64, gaps: Vec<(u64, u64)>) -> Result<Recording, ToolError>
+pub fn first_bits(bytes: Vec<u8>, bits: u64, gaps: Vec<(u64, u64)>) -> Result<Recording, RdsError>
     ensures { result ≡ the_first_bits bits gaps.items bytes.items }
 {
     match Recording::with_gaps(bytes, bits, gaps) {
         Ok(recording) => Ok(recording),
-        Err((error, _bytes, _gaps)) => Err(ToolError::from(error)),
+        Err((error, _bytes, _gaps)) => Err(error),
     }
 }
 
@@ -62,7 +63,7 @@ fn digit_value(byte: u8) -> Option<u8>
 }
 
 /// The bytes of hexadecimal text, in which blanks don't count, in the memory of the text.
-fn hex_bytes(text: Vec<u8>) -> Result<Vec<u8>, ToolError>
+fn hex_bytes(text: Vec<u8>) -> Result<Vec<u8>, RdsError>
     ensures ok { IfOk result (λ bytes. decoded text.items ≡ Ok bytes.items) }
     ensures refused { IfErr result (λ error. decoded text.items ≡ Err error) }
 {
@@ -73,25 +74,25 @@ fn hex_bytes(text: Vec<u8>) -> Result<Vec<u8>, ToolError>
 }
 
 /// Writes the bytes of hexadecimal text over its front. Answers how many bytes these are.
-fn decode_in_place(text: &mut [u8]) -> Result<usize, ToolError>
+fn decode_in_place(text: &mut [u8]) -> Result<usize, RdsError>
     ensures ok { IfOk result (λ count. decoded text.old ≡ Ok (take count text.new)) }
     ensures refused { IfErr result (λ error. decoded text.old ≡ Err error) }
 {
     let (count, half) = decode_digits(text, None)?;
     if half.is_some() {
-        return Err(ToolError::HexText);
+        return Err(RdsError::HexText);
     }
     Ok(count)
 }
 
 /// Writes the bytes of a part of hexadecimal text over its front, given the first digit of a byte that the text before it began.
 /// Answers how many bytes these are, and the digit of a byte that the part begins and does not end.
-pub fn decode_digits(text: &mut [u8], half: Option<u8>) -> Result<(usize, Option<u8>), ToolError>
+pub fn decode_digits(text: &mut [u8], half: Option<u8>) -> Result<(usize, Option<u8>), RdsError>
     requires { IfSome half (λ digit. digit < 16) }
     ensures ok { IfOk result (λ done. (done.0 ≤ length text.new)
         × IfSome done.1 (λ digit. digit < 16)
         × IsDecodedBy half text.old (take done.0 text.new) done.1) }
-    ensures refused { IfErr result (λ error. (error ≡ ToolError.HexText) × IsStrangeAfter half text.old) }
+    ensures refused { IfErr result (λ error. (error ≡ RdsError.HexText) × IsStrangeAfter half text.old) }
 {
     let mut high = half;
     let mut count = 0;
@@ -101,7 +102,7 @@ pub fn decode_digits(text: &mut [u8], half: Option<u8>) -> Result<(usize, Option
             continue;
         }
         let Some(digit) = digit_value(byte) else {
-            return Err(ToolError::HexText);
+            return Err(RdsError::HexText);
         };
         match high {
             None => high = Some(digit),

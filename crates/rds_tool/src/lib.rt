@@ -26,7 +26,7 @@
 //! - [`follow`]: the same listing of a stream, row by row as its bytes come. [`follow_soft`]: the soft listing of a stream of symbols.
 //! - [`FromRead`] and [`ToWrite`]: a source and a sink of a reader and a writer of std. [`Trace`]: the bytes that
 //!   one gave or took, for contracts alone.
-//! - [`ToolError`]: the refusals 1 to 16.
+//! - [`RdsError`](rds_code::RdsError): the refusals 1 to 16.
 //!
 //! # What callers may rely on
 //!
@@ -35,7 +35,7 @@
 //!   that succeeded. That holds at every reader and writer. If the reader tells the bytes to come, as one
 //!   over memory does, they are those. Of a `List` the text is the listing of the report of the recording,
 //!   lock by lock, for every cutting and any number of workers; `specs/Outcome.antt` says it for each job.
-//! - Each refusal is a [`ToolError`] and comes when it should: `Read` and `Write` exactly if a call of the
+//! - Each refusal is an [`RdsError`](rds_code::RdsError) and comes when it should: `Read` and `Write` exactly if a call of the
 //!   device failed, settings out of their range before anything is read, `NoWorker` never. `TooManyTurns`
 //!   comes only after 16,777,216 bytes were given, and any other but `OutOfMemory` exactly if the job and the
 //!   bytes given call for it: `BadGaps`, for gaps that are empty, out of order or past the bits, after
@@ -94,13 +94,11 @@ mod encode; // Groups as blocks.
 mod stream_rows; // Rows of a stream.
 mod following; // From a reader to a writer, as the bytes come.
 mod soft_following; // The same of symbols.
-mod error; // Why a transcription is refused.
 pub mod laws; // The laws of jobs and their texts.
 
 pub use cli::{asked_of, job_of};
 pub use devices::{FromRead, Source, ToWrite};
 pub use engine::{transcribe, transcribe_gated};
-pub use error::ToolError;
 pub use fault::{CliFault, FaultKind};
 pub use following::follow;
 pub use job::{Asked, Cuts, Ignored, Input, Job, Request, Settings};

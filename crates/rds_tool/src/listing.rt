@@ -4,9 +4,9 @@ ghost use Rattle.std.specs.List.{flat_map};
 ghost use Rattle.rds_rows.specs.Sheets.{left_of, size_of, text_of};
 ghost use Rattle.rds_tool.specs.{Listing.item_row, Listing.total_row, Listing.totals_text, Inside.RowWriter.IsPlain, Inside.RowWriter.IsShort};
 
-use crate::ToolError;
 use crate::rows::RowWriter;
 use crate::totals::totals_with_names;
+use rds_code::RdsError;
 use rds_rows::Sheet;
 use rds_stream::Recording;
 use rds_sync::{IndexedItems, Item, ItemIter, Rules, Totals};
@@ -88,18 +88,18 @@ pub fn push_totals(
     rows: &mut RowWriter,
     text: &mut Vec<u8>,
     totals: &Totals,
-) -> Result<(), ToolError>
+) -> Result<(), RdsError>
     ensures rows { OnOk result (text.new.items ≡ text.old.items ++ totals_text totals.now) }
-    ensures refused { IsOkUnless result ToolError.OutOfMemory }
+    ensures refused { IsOkUnless result RdsError.OutOfMemory }
 {
     rows.write_totals(totals_with_names(totals).as_slice());
     Ok(text.extend_from_slice(rows.as_bytes())?)
 }
 
 /// The rows of all totals.
-pub fn totals_rows(alloc: Global, totals: &Totals) -> Result<Vec<u8>, ToolError>
+pub fn totals_rows(alloc: Global, totals: &Totals) -> Result<Vec<u8>, RdsError>
     ensures rows { IfOk result (λ text. text.items ≡ totals_text totals.now) }
-    ensures refused { IsOkUnless result ToolError.OutOfMemory }
+    ensures refused { IsOkUnless result RdsError.OutOfMemory }
 {
     let mut text = Vec::new(alloc);
     push_totals(&mut RowWriter::new(), &mut text, totals)?;

@@ -1,6 +1,7 @@
 //! From a job to its task, and on to the text that it makes of the bytes that a reader held.
 ghost use Rattle.std.specs.Prelude.{◌≡◌, Err, IfErr, IfOk, Ok};
-ghost use Rattle.rds_tool.specs.{Listing.totals_text, Outcome.cut_recording, Outcome.text_of_task, Plans.plan_of, Refusals.IsMemoryOrErrOf, Inside.Texts.bytes_of};
+ghost use Rattle.rds_tool.specs.{Listing.totals_text, Outcome.cut_recording, Outcome.text_of_task, Plans.plan_of, Inside.Texts.bytes_of};
+ghost use Rattle.rds_code.specs.Refusals.{IsMemoryOrErrOf};
 ghost use Rattle.rds_tool.specs.declared.task.Task.TheVariants as task;
 
 use crate::group_lines::GroupLines;
@@ -9,7 +10,8 @@ use crate::listing::totals_rows;
 use crate::plan::report_by;
 use crate::soft_source::SoftSource;
 use crate::task::{Listing, Plan, Task, Text, Workers};
-use crate::{Input, Job, Settings, ToolError};
+use crate::{Input, Job, Settings};
+use rds_code::RdsError;
 use rds_crew::Gate;
 use rds_soft::Margin;
 use rds_sync::{Spans, Totals};
@@ -20,7 +22,7 @@ impl<'a> Task<'a> {
     ghost use Rattle.rds_tool.specs.Tasks.{task_of};
 
     /// The task of a job. A setting out of its range is refused as such, whether or not there is memory.
-    pub fn of(alloc: Global, job: &'a Job) -> Result<Task<'a>, ToolError>
+    pub fn of(alloc: Global, job: &'a Job) -> Result<Task<'a>, RdsError>
         ensures ok { IfOk result (λ task. task_of job.now ≡ Ok task) }
         ensures refused { IfErr result (IsMemoryOrErrOf (task_of job.now)) }
         ensures settings { IfErr (task_of job.now) (λ error. result ≡ Err error) }
@@ -58,7 +60,7 @@ impl<'a> Task<'a> {
         alloc: Global,
         held: Vec<u8>,
         gate: &G,
-    ) -> Result<Text<'a>, ToolError>
+    ) -> Result<Text<'a>, RdsError>
         ensures ok { IfOk result (λ text. text_of_task self.entry held.items ≡ Ok (bytes_of text)) }
         ensures refused { IfErr result (IsMemoryOrErrOf (text_of_task self.entry held.items)) }
     {
@@ -90,7 +92,7 @@ fn input_and_plan<'a>(
     alloc: Global,
     input: &Input,
     settings: &'a Settings,
-) -> Result<(Input, Plan<'a>), ToolError>
+) -> Result<(Input, Plan<'a>), RdsError>
     ensures ok { IfOk result (λ planned. (planned.0 ≡ input.now)
         × (plan_of settings.entry.now ≡ Ok planned.1)) }
     ensures refused { IfErr result (IsMemoryOrErrOf (plan_of settings.entry.now)) }
@@ -109,7 +111,7 @@ fn list_of<'a, R: Threads + Sync, G: Gate + Sync>(
     plan: Plan<'a>,
     held: Vec<u8>,
     gate: &G,
-) -> Result<Text<'a>, ToolError>
+) -> Result<Text<'a>, RdsError>
     ensures ok { IfOk result (λ text. text_of_task (task.List input plan.entry) held.items
         ≡ Ok (bytes_of text)) }
     ensures refused { IfErr result (IsMemoryOrErrOf (text_of_task (task.List input plan.entry) held.items)) }
@@ -134,7 +136,7 @@ fn totals_of<R: Threads + Sync, G: Gate + Sync>(
     plan: &Plan<'_>,
     held: Vec<u8>,
     gate: &G,
-) -> Result<Totals, ToolError>
+) -> Result<Totals, RdsError>
     ensures totals { IfOk result (λ totals. text_of_task (task.Totals input plan.now) held.items
         ≡ Ok (totals_text totals)) }
     ensures refused { IfErr result (IsMemoryOrErrOf (cut_recording input plan.now.cuts held.items)) }
@@ -152,7 +154,7 @@ fn soft_text_of<'a>(
     margin: Margin,
     rows: bool,
     held: Vec<u8>,
-) -> Result<Text<'a>, ToolError>
+) -> Result<Text<'a>, RdsError>
     ensures ok { IfOk result (λ text. text_of_task (task.Soft input plan.entry margin rows) held.items
         ≡ Ok (bytes_of text)) }
     ensures refused { IfErr result (IsMemoryOrErrOf (text_of_task (task.Soft input plan.entry margin rows) held.items)) }

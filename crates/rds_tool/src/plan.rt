@@ -2,10 +2,12 @@
 ghost use Rattle.std.specs.Prelude.{◌<◌, ◌==◌, ◌≡◌, ◌≤◌, ◌⊎◌, Err, IfErr, IfOk, Ok, OnOk, false, true};
 ghost use Rattle.rds_pieces.specs.Cutting.{IsCutting};
 ghost use Rattle.rds_sync.specs.{Decoding.listed, Report.report_items, Totals.totals_of};
-ghost use Rattle.rds_tool.specs.{Cuts.are_inner, Cuts.cuts_any, Cuts.cuts_bits, Cuts.has_pieces, Cuts.places_at, Cuts.places_by, Plans.crew_of, Plans.cut_by, Refusals.IsMemoryOrErrOf, Rules.rules_of as the_rules_of};
+ghost use Rattle.rds_tool.specs.{Cuts.are_inner, Cuts.cuts_any, Cuts.cuts_bits, Cuts.has_pieces, Cuts.places_at, Cuts.places_by, Plans.crew_of, Plans.cut_by, Rules.rules_of as the_rules_of};
+ghost use Rattle.rds_code.specs.Refusals.{IsMemoryOrErrOf};
 
 use crate::task::{Plan, Workers};
-use crate::{Cuts, Settings, ToolError};
+use crate::{Cuts, Settings};
+use rds_code::RdsError;
 use rds_crew::{Gate, MOST_WORKERS, decode_crew};
 use rds_pieces::{Cutting, RecordingWork};
 use rds_stream::Recording;
@@ -20,11 +22,11 @@ impl Workers {
     ghost use Rattle.rds_tool.specs.Plans.{workers_of};
 
     /// This number of workers, or `CrewRange` if it is not 1 to 256.
-    pub fn of(workers: u32) -> Result<Workers, ToolError>
+    pub fn of(workers: u32) -> Result<Workers, RdsError>
         ensures { result ≡ workers_of workers }
     {
         if workers < 1 || workers > MOST_WORKERS {
-            return Err(ToolError::CrewRange);
+            return Err(RdsError::CrewRange);
         }
         Ok(Workers(workers))
     }
@@ -43,7 +45,7 @@ impl<'a> Plan<'a> {
     ghost use Rattle.rds_tool.specs.Plans.{plan_of};
 
     /// The plan of these settings. One out of its range is refused as such, whether or not memory is.
-    pub fn of(alloc: Global, settings: &'a Settings) -> Result<Plan<'a>, ToolError>
+    pub fn of(alloc: Global, settings: &'a Settings) -> Result<Plan<'a>, RdsError>
         ensures ok { IfOk result (λ plan. plan_of settings.now ≡ Ok plan) }
         ensures refused { IfErr result (IsMemoryOrErrOf (plan_of settings.now)) }
         ensures settings { IfErr (plan_of settings.now) (λ error. result ≡ Err error) }
@@ -57,9 +59,9 @@ impl<'a> Plan<'a> {
                     cuts: &settings.cuts,
                 })
             }
-            Err(ToolError::OutOfMemory) => {
+            Err(RdsError::OutOfMemory) => {
                 check_crew(settings)?;
-                Err(ToolError::OutOfMemory)
+                Err(RdsError::OutOfMemory)
             }
             Err(error) => Err(error),
         }
@@ -129,7 +131,7 @@ pub fn report_by<R: Threads + Sync, G: Gate + Sync>(
     recording: &Recording,
     spans: Spans,
     gate: &G,
-) -> Result<Report, ToolError>
+) -> Result<Report, RdsError>
     ensures items { IfOk result (λ report. report.items
         ≡ listed recording.now plan.now.rules (report_items recording.now plan.now.rules)) }
     ensures totals { IfOk result (λ report. report.totals
@@ -144,7 +146,7 @@ pub fn report_by<R: Threads + Sync, G: Gate + Sync>(
 }
 
 /// The rules of these settings.
-fn rules_of(alloc: Global, settings: &Settings) -> Result<Rules, ToolError>
+fn rules_of(alloc: Global, settings: &Settings) -> Result<Rules, RdsError>
     ensures ok { IfOk result (λ rules. the_rules_of settings.now ≡ Ok rules) }
     ensures refused { IfErr result (IsMemoryOrErrOf (the_rules_of settings.now)) }
     ensures settings { IfErr (the_rules_of settings.now) (λ error. result ≡ Err error) }
@@ -154,48 +156,48 @@ fn rules_of(alloc: Global, settings: &Settings) -> Result<Rules, ToolError>
         reach: settings.reach,
         loss: settings.loss,
     };
-    Ok(Rules::of(alloc, numbers)?)
+    Rules::of(alloc, numbers)
 }
 
 /// Refuses a number of workers out of its range, and then a cutting into no piece.
-fn check_crew(settings: &Settings) -> Result<(), ToolError>
+fn check_crew(settings: &Settings) -> Result<(), RdsError>
     ensures { result ≡ crew_of settings.now }
 {
     Workers::of(settings.workers)?;
     match settings.cuts {
-        Cuts::Even(0) => Err(ToolError::BadCutting),
+        Cuts::Even(0) => Err(RdsError::BadCutting),
         _ => Ok(()),
     }
 }
 
 /// The cutting of `len` bits.
-fn cutting_of(alloc: Global, cuts: &Cuts, len: u64) -> Result<Cutting, ToolError>
+fn cutting_of(alloc: Global, cuts: &Cuts, len: u64) -> Result<Cutting, RdsError>
     requires { has_pieces cuts.now ≡ true }
     ensures places { IfOk result (λ cutting. cutting ≡ places_by cuts.now len) }
     ensures cutting { IfOk result (λ cutting. IsCutting len cutting) }
     ensures fits { OnOk result (cuts_bits cuts.now len ≡ true) }
-    ensures refused { IfErr result (λ error. (error ≡ ToolError.OutOfMemory)
-        ⊎ ((error ≡ ToolError.BadCutting) × (cuts_bits cuts.now len ≡ false))) }
+    ensures refused { IfErr result (λ error. (error ≡ RdsError.OutOfMemory)
+        ⊎ ((error ≡ RdsError.BadCutting) × (cuts_bits cuts.now len ≡ false))) }
 {
     match cuts {
-        Cuts::Even(pieces) => Ok(Cutting::even(alloc, len, *pieces)?),
+        Cuts::Even(pieces) => Cutting::even(alloc, len, *pieces),
         Cuts::At(cuts) => cutting_at(alloc, cuts.as_slice(), len),
     }
 }
 
 /// The cutting of `len` bits at these inner cuts.
 #[tactic(auto, using(crate::proofs::Steps::cut_steps))]
-fn cutting_at(alloc: Global, cuts: &[u64], len: u64) -> Result<Cutting, ToolError>
+fn cutting_at(alloc: Global, cuts: &[u64], len: u64) -> Result<Cutting, RdsError>
     ensures places { IfOk result (λ cutting. cutting ≡ places_at len cuts.now) }
     ensures cutting { IfOk result (λ cutting. IsCutting len cutting) }
     ensures fits { OnOk result (are_inner len cuts.now ≡ true) }
-    ensures refused { IfErr result (λ error. (error ≡ ToolError.OutOfMemory)
-        ⊎ ((error ≡ ToolError.BadCutting) × (are_inner len cuts.now ≡ false))) }
+    ensures refused { IfErr result (λ error. (error ≡ RdsError.OutOfMemory)
+        ⊎ ((error ≡ RdsError.BadCutting) × (are_inner len cuts.now ≡ false))) }
 {
     let places = places_of(alloc, cuts, len)?;
     match Cutting::new(places, len) {
         Ok(cutting) => Ok(cutting),
-        Err((error, _places)) => Err(ToolError::from(error)),
+        Err((error, _places)) => Err(error),
     }
 }
 

@@ -10,7 +10,8 @@ use crate::following::{check_claim, read_once};
 use crate::rows::RowWriter;
 use crate::text::write_flushed;
 use crate::totals::{flips_with_names, totals_with_names};
-use crate::{Sink, Source, ToolError};
+use crate::{Sink, Source};
+use rds_code::RdsError;
 use rds_soft::{Margin, SoftEnd, SoftItem, SoftStream, SoftTotals};
 use rds_sync::{Rules, laws};
 use std::alloc::{AllocError, Global};
@@ -37,7 +38,7 @@ pub fn follow_soft<S: Source, K: Sink>(
     margin: Margin,
     bits: Option<u64>,
     gaps: &[(u64, u64)],
-) -> Result<(), ToolError>
+) -> Result<(), RdsError>
     requires reads { S.failed reader.old < 2 ^ 63 }
     requires writes { K.failed writer.old < 2 ^ 63 }
     ensures { Follows S.Source K.Sink (symbol_stream (record { rules = rules.now; gaps = gaps.now; margin = margin }) bits)
@@ -58,7 +59,7 @@ fn follow_symbols<'r, S: Source, K: Sink>(
     margin: Margin,
     bits: Option<u64>,
     gaps: &'r [(u64, u64)],
-) -> Result<SoftStream<'r>, ToolError>
+) -> Result<SoftStream<'r>, RdsError>
     requires reads { S.failed reader.old < 2 ^ 63 }
     requires writes { K.failed writer.old < 2 ^ 63 }
     ensures heard { IfOk result (λ stream.
@@ -93,17 +94,17 @@ fn begin<'r>(
     margin: Margin,
     bits: Option<u64>,
     gaps: &'r [(u64, u64)],
-) -> Result<(SoftStream<'r>, Vec<u8>), ToolError>
+) -> Result<(SoftStream<'r>, Vec<u8>), RdsError>
     ensures stream { IfOk result (λ begun. begun.0 ≡ record {
       terms = record { rules = rules.now; gaps = gaps.now; margin = margin };
       symbols = [];
     }) }
     ensures room { IfOk result (λ begun. length begun.1.items ≡ most_symbols) }
     ensures claims { OnOk result (IsShortEnough bits) }
-    ensures too_long { IsErrOf result ToolError.TooLong → IsLong bits }
-    ensures bad_gaps { IsErrOf result ToolError.BadGaps → AreGaps (2 ^ 36) gaps.now → ⊥ }
-    ensures kinds { IfErr result (λ error. (error ≡ ToolError.OutOfMemory)
-        ⊎ ((error ≡ ToolError.TooLong) ⊎ (error ≡ ToolError.BadGaps))) }
+    ensures too_long { IsErrOf result RdsError.TooLong → IsLong bits }
+    ensures bad_gaps { IsErrOf result RdsError.BadGaps → AreGaps (2 ^ 36) gaps.now → ⊥ }
+    ensures kinds { IfErr result (λ error. (error ≡ RdsError.OutOfMemory)
+        ⊎ ((error ≡ RdsError.TooLong) ⊎ (error ≡ RdsError.BadGaps))) }
 {
     check_claim(bits)?;
     let stream = SoftStream::new(alloc, rules, gaps, margin)?;
@@ -130,7 +131,7 @@ fn follow_next<K: Sink>(
     writer: &mut K,
     stream: &mut SoftStream<'_>,
     symbols: &[u8],
-) -> Result<(), ToolError>
+) -> Result<(), RdsError>
     requires { K.failed writer.old < 2 ^ 63 }
     ensures heard { OnOk result (stream.new.symbols ≡ stream.old.symbols ++ symbols.now) }
     ensures terms { stream.new.terms ≡ stream.old.terms }
@@ -141,13 +142,13 @@ fn follow_next<K: Sink>(
     ensures count { OnOk result (K.failed writer.new ≡ K.failed writer.old) }
     ensures flushed { OnOk result (K.is_flushed writer.new ≡ true) }
     ensures fits { OnOk result (length stream.old.symbols + length symbols.now ≤ 2 ^ 36 + 1) }
-    ensures write { IsErrOf result ToolError.Write ↔ (K.failed writer.old < K.failed writer.new) }
-    ensures too_long { IsErrOf result ToolError.TooLong
+    ensures write { IsErrOf result RdsError.Write ↔ (K.failed writer.old < K.failed writer.new) }
+    ensures too_long { IsErrOf result RdsError.TooLong
         → 2 ^ 36 + 1 < length stream.old.symbols + length symbols.now }
-    ensures kinds { IfErr result (λ error. (error ≡ ToolError.OutOfMemory)
-        ⊎ ((error ≡ ToolError.Write) ⊎ (error ≡ ToolError.TooLong))) }
-    ensures untouched { IfErr result (λ error. error ≢ ToolError.Write → writer.new ≡ writer.old) }
-    ensures prefix { IsErrOf result ToolError.Write → (rows : List ℕ)
+    ensures kinds { IfErr result (λ error. (error ≡ RdsError.OutOfMemory)
+        ⊎ ((error ≡ RdsError.Write) ⊎ (error ≡ RdsError.TooLong))) }
+    ensures untouched { IfErr result (λ error. error ≢ RdsError.Write → writer.new ≡ writer.old) }
+    ensures prefix { IsErrOf result RdsError.Write → (rows : List ℕ)
         × (soft_rows_so_far stream.old.terms (stream.old.symbols ++ symbols.now)
         ≡ soft_rows_so_far stream.old.terms stream.old.symbols ++ rows)
         × WritesPrefix (K.contents writer.old) (K.contents writer.new) (Ok rows) }
@@ -161,15 +162,15 @@ fn rows_of_next(
     alloc: Global,
     stream: &mut SoftStream<'_>,
     symbols: &[u8],
-) -> Result<Vec<u8>, ToolError>
+) -> Result<Vec<u8>, RdsError>
     ensures heard { OnOk result (stream.new.symbols ≡ stream.old.symbols ++ symbols.now) }
     ensures terms { stream.new.terms ≡ stream.old.terms }
     ensures rows { IfOk result (λ rows. soft_rows_so_far stream.old.terms (stream.old.symbols ++ symbols.now)
         ≡ soft_rows_so_far stream.old.terms stream.old.symbols ++ rows.items) }
     ensures fits { OnOk result (length stream.old.symbols + length symbols.now ≤ 2 ^ 36 + 1) }
-    ensures too_long { IsErrOf result ToolError.TooLong
+    ensures too_long { IsErrOf result RdsError.TooLong
         → 2 ^ 36 + 1 < length stream.old.symbols + length symbols.now }
-    ensures kinds { IfErr result (λ error. (error ≡ ToolError.OutOfMemory) ⊎ (error ≡ ToolError.TooLong)) }
+    ensures kinds { IfErr result (λ error. (error ≡ RdsError.OutOfMemory) ⊎ (error ≡ RdsError.TooLong)) }
 {
     let items = stream.take(alloc, symbols)?;
     let mut rows = Vec::new(alloc);
@@ -198,23 +199,23 @@ fn rows_of_end(
     alloc: Global,
     stream: SoftStream<'_>,
     bits: Option<u64>,
-) -> Result<Vec<u8>, ToolError>
+) -> Result<Vec<u8>, RdsError>
     ensures rows { IfOk result (λ rows. soft_stream_text stream.entry.terms stream.entry.symbols
         ≡ soft_rows_so_far stream.entry.terms stream.entry.symbols ++ rows.items) }
     ensures enough { OnOk result (IsShort bits (length stream.entry.symbols - 1) → ⊥) }
     ensures gaps { OnOk result (AreGaps (length stream.entry.symbols - 1) stream.entry.terms.gaps) }
     ensures fits { OnOk result (length stream.entry.symbols ≤ 2 ^ 36 + 1) }
-    ensures past { IsErrOf result ToolError.BitsPastBytes → IsShort bits (length stream.entry.symbols - 1) }
-    ensures bad_gaps { IsErrOf result ToolError.BadGaps → (IsShort bits (length stream.entry.symbols - 1) → ⊥)
+    ensures past { IsErrOf result RdsError.BitsPastBytes → IsShort bits (length stream.entry.symbols - 1) }
+    ensures bad_gaps { IsErrOf result RdsError.BadGaps → (IsShort bits (length stream.entry.symbols - 1) → ⊥)
         × (AreGaps (length stream.entry.symbols - 1) stream.entry.terms.gaps → ⊥) }
-    ensures kinds { IfErr result (λ error. (error ≡ ToolError.OutOfMemory)
-        ⊎ ((error ≡ ToolError.BitsPastBytes) ⊎ (error ≡ ToolError.BadGaps))) }
+    ensures kinds { IfErr result (λ error. (error ≡ RdsError.OutOfMemory)
+        ⊎ ((error ≡ RdsError.BitsPastBytes) ⊎ (error ≡ RdsError.BadGaps))) }
 {
     if is_short(bits, stream.count()) {
-        return Err(ToolError::BitsPastBytes);
+        return Err(RdsError::BitsPastBytes);
     }
     if !stream.may_end() {
-        return Err(ToolError::BadGaps);
+        return Err(RdsError::BadGaps);
     }
     let end = stream.finish(alloc)?;
     Ok(rows_to_end(alloc, &end)?)

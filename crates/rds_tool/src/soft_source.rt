@@ -1,10 +1,12 @@
 //! The symbols that an input denotes, and the recording of their bits.
 ghost use Rattle.std.specs.Prelude.{◌≡◌, Err, IfErr, IfOk, Ok};
 ghost use Rattle.rds_soft.specs.ReadAgain.{item_again, symbols_of};
-ghost use Rattle.rds_tool.specs.{Refusals.IsMemoryOrErrOf, Soft.recording_of_symbols as the_recording_of};
+ghost use Rattle.rds_tool.specs.Soft.{recording_of_symbols as the_recording_of};
+ghost use Rattle.rds_code.specs.Refusals.{IsMemoryOrErrOf};
 
+use crate::Input;
 use crate::input::first_bits;
-use crate::{Input, ToolError};
+use rds_code::RdsError;
 use rds_soft::{Margin, Search, SoftItem, pack_bits};
 use rds_stream::{MOST_BITS, Recording};
 use rds_sync::Item;
@@ -25,7 +27,7 @@ impl SoftSource {
         input: Input,
         margin: Margin,
         symbols: Vec<u8>,
-    ) -> Result<SoftSource, ToolError>
+    ) -> Result<SoftSource, RdsError>
         ensures ok { IfOk result (λ source. (the_recording_of input symbols.items ≡ Ok source.recording)
             × (source.symbols.items ≡ symbols.items) × (source.margin ≡ margin)) }
         ensures refused { IfErr result (IsMemoryOrErrOf (the_recording_of input symbols.items)) }
@@ -47,17 +49,17 @@ impl SoftSource {
 }
 
 /// The recording of the bits of symbols: one fewer than there are symbols, or the first of them that are claimed.
-fn recording_of_symbols(alloc: Global, input: Input, symbols: &[u8]) -> Result<Recording, ToolError>
+fn recording_of_symbols(alloc: Global, input: Input, symbols: &[u8]) -> Result<Recording, RdsError>
     ensures ok { IfOk result (λ recording. the_recording_of input symbols.now ≡ Ok recording) }
     ensures refused { IfErr result (IsMemoryOrErrOf (the_recording_of input symbols.now)) }
 {
     let all = (symbols.len() as u64).saturating_sub(1);
     let bits = input.bits.unwrap_or(all);
     if bits > MOST_BITS {
-        return Err(ToolError::TooLong);
+        return Err(RdsError::TooLong);
     }
     if bits > all {
-        return Err(ToolError::BitsPastBytes);
+        return Err(RdsError::BitsPastBytes);
     }
     let packed = pack_bits(alloc, symbols)?;
     first_bits(packed, bits, input.gaps)

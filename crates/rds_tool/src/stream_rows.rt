@@ -6,7 +6,8 @@ ghost use Rattle.rds_tool.specs.{Outcome.WritesPrefix, Listing.item_row};
 use crate::listing::push_items;
 use crate::rows::RowWriter;
 use crate::text::write_flushed;
-use crate::{Failed, Sink, ToolError, write_all};
+use crate::{Failed, Sink, write_all};
+use rds_code::RdsError;
 use rds_live::ItemRows;
 use rds_sync::Item;
 use std::alloc::{AllocError, Global};
@@ -47,19 +48,19 @@ impl StreamRows {
     }
 
     /// Writes the rows and flushes.
-    pub fn write_to<K: Sink>(&self, writer: &mut K) -> Result<(), ToolError>
+    pub fn write_to<K: Sink>(&self, writer: &mut K) -> Result<(), RdsError>
         requires { K.failed writer.old < 2 ^ 63 }
         ensures ok { OnOk result (Appends (K.contents writer.old) (K.contents writer.new) self.now) }
         ensures flushed { OnOk result (K.is_flushed writer.new ≡ true) }
         ensures count { OnOk result (K.failed writer.new ≡ K.failed writer.old) }
-        ensures write { IsErrOf result ToolError.Write ↔ (K.failed writer.old < K.failed writer.new) }
-        ensures kinds { IsOkUnless result ToolError.Write }
+        ensures write { IsErrOf result RdsError.Write ↔ (K.failed writer.old < K.failed writer.new) }
+        ensures kinds { IsOkUnless result RdsError.Write }
         ensures prefix { OnErr result (WritesPrefix (K.contents writer.old) (K.contents writer.new)
             (Ok self.now)) }
     {
         match write_parts(writer, self.parts.as_slice()) {
             Ok(()) => write_flushed(writer, self.last.as_slice()),
-            Err(Failed) => Err(ToolError::Write),
+            Err(Failed) => Err(RdsError::Write),
         }
     }
 }

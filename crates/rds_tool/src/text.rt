@@ -2,9 +2,8 @@
 ghost use Rattle.std.specs.Prelude.{◌<◌, ◌≤◌, ◌^◌, ◌≡◌, ◌≢◌, ◌↔◌, ◌⊎◌, IfErr, IsErrOf, IsOkUnless, Ok, OnErr, OnOk, true};
 ghost use Rattle.std.specs.Io.KnownBytes.{Appends, Keeps};
 ghost use Rattle.rds_rows.specs.Written.{IsWritten};
-ghost use Rattle.rds_tool.specs.{Inside.Texts.bytes_of, Outcome.WritesPrefix};
+ghost use Rattle.rds_tool.specs.{Inside.Texts.bytes_of, Outcome.WritesPrefix, Outcome.list_text, Soft.soft_text};
 
-use crate::ToolError;
 use crate::encode::GroupRows;
 use crate::lister::HardLister;
 use crate::listing::Heard;
@@ -13,8 +12,9 @@ use crate::one_pass::write_in_one_pass;
 use crate::plan::busy_workers;
 use crate::soft_lister::SoftLister;
 use crate::soft_source::SoftSource;
-use crate::task::Text;
+use crate::task::{Plan, Text};
 use crate::window_rows::WindowRows;
+use rds_code::RdsError;
 use rds_rows::{Failed, RowsError, Sink, write_all, write_rows};
 use rds_stream::Recording;
 use std::alloc::Global;
@@ -39,20 +39,21 @@ impl Text<'_> {
         rt: &R,
         alloc: Global,
         writer: &mut K,
-    ) -> Result<(), ToolError>
+    ) -> Result<(), RdsError>
         requires { K.failed writer.old < 2 ^ 63 }
         ensures ok { OnOk result (Appends (K.contents writer.old) (K.contents writer.new)
             (bytes_of self.now)) }
         ensures flushed { OnOk result (K.is_flushed writer.new ≡ true) }
-        ensures write { IsErrOf result ToolError.Write ↔ (K.failed writer.old < K.failed writer.new) }
-        ensures kinds { IfErr result (λ error. (error ≡ ToolError.OutOfMemory) ⊎ (error ≡ ToolError.Write)) }
-        ensures untouched { IfErr result (λ error. error ≢ ToolError.Write → writer.new ≡ writer.old) }
-        ensures prefix { IsErrOf result ToolError.Write
+        ensures write { IsErrOf result RdsError.Write ↔ (K.failed writer.old < K.failed writer.new) }
+        ensures kinds { IfErr result (λ error. (error ≡ RdsError.OutOfMemory) ⊎ (error ≡ RdsError.Write)) }
+        ensures untouched { IfErr result (λ error. error ≢ RdsError.Write → writer.new ≡ writer.old) }
+        ensures prefix { IsErrOf result RdsError.Write
             → WritesPrefix (K.contents writer.old) (K.contents writer.new) (Ok (bytes_of self.now)) }
     {
         match write_bytes(rt, alloc, self, writer) {
             Ok(()) => flush(writer),
-            Err(error) => Err(ToolError::from(error)),
+            Err(RowsError::OutOfMemory) => Err(RdsError::OutOfMemory),
+            Err(RowsError::Write) => Err(RdsError::Write),
         }
     }
 }
@@ -78,10 +79,7 @@ fn write_bytes<R: Threads + Sync, K: Sink>(
             let workers = makers(listing.plan.workers(), &listing.recording);
             write_rows(rt, alloc, &rows, workers, PART, writer)
         }
-        Text::OnePass(recording, plan) => {
-            let mut lister = HardLister::new();
-            write_in_one_pass(rt, alloc, recording, plan.rules(), &mut lister, writer)
-        }
+        Text::OnePass(recording, plan) => write_decoded(rt, alloc, recording, plan, writer),
         Text::Windows(recording, workers) => {
             let rows = WindowRows { recording };
             let workers = makers(workers.count(), recording);
@@ -95,17 +93,52 @@ fn write_bytes<R: Threads + Sync, K: Sink>(
             write_rows(rt, alloc, &rows, 1, GROUPS, writer)
         }
         Text::Soft(source, plan, has_rows) => {
-            let mut lister = SoftLister::new(alloc, source, *has_rows, plan.workers())?;
-            write_in_one_pass(
-                rt,
-                alloc,
-                &source.recording,
-                plan.rules(),
-                &mut lister,
-                writer,
-            )
+            write_softly(rt, alloc, source, plan, *has_rows, writer)
         }
     }
+}
+
+/// Writes the listing of a recording while it is decoded. Not in line: each text would begin with the room of all.
+#[inline(never)]
+fn write_decoded<R: Threads + Sync, K: Sink>(
+    rt: &R,
+    alloc: Global,
+    recording: &Recording,
+    plan: &Plan<'_>,
+    writer: &mut K,
+) -> Result<(), RowsError>
+    requires { K.failed writer.old < 2 ^ 63 }
+    ensures { IsWritten K.contents K.failed (list_text plan.now.rules recording.now)
+        writer.old writer.new result }
+{
+    let mut lister = HardLister::new();
+    write_in_one_pass(rt, alloc, recording, plan.rules(), &mut lister, writer)
+}
+
+/// Writes the listing or the totals of symbols, as [`write_decoded`] does.
+#[inline(never)]
+fn write_softly<R: Threads + Sync, K: Sink>(
+    rt: &R,
+    alloc: Global,
+    source: &SoftSource,
+    plan: &Plan<'_>,
+    has_rows: bool,
+    writer: &mut K,
+) -> Result<(), RowsError>
+    requires { K.failed writer.old < 2 ^ 63 }
+    ensures { IsWritten K.contents K.failed
+        (soft_text has_rows plan.now.rules source.now.margin source.now.symbols.items source.now.recording)
+        writer.old writer.new result }
+{
+    let mut lister = SoftLister::new(alloc, source, has_rows, plan.workers())?;
+    write_in_one_pass(
+        rt,
+        alloc,
+        &source.recording,
+        plan.rules(),
+        &mut lister,
+        writer,
+    )
 }
 
 /// Writes a text that is made.
@@ -129,33 +162,33 @@ fn makers(workers: u32, recording: &Recording) -> u32
 }
 
 /// Writes this text and flushes.
-pub fn write_flushed<K: Sink>(writer: &mut K, text: &[u8]) -> Result<(), ToolError>
+pub fn write_flushed<K: Sink>(writer: &mut K, text: &[u8]) -> Result<(), RdsError>
     requires { K.failed writer.old < 2 ^ 63 }
     ensures ok { OnOk result (Appends (K.contents writer.old) (K.contents writer.new) text.now) }
     ensures flushed { OnOk result (K.is_flushed writer.new ≡ true) }
     ensures count { OnOk result (K.failed writer.new ≡ K.failed writer.old) }
-    ensures write { IsErrOf result ToolError.Write ↔ (K.failed writer.old < K.failed writer.new) }
-    ensures kinds { IsOkUnless result ToolError.Write }
+    ensures write { IsErrOf result RdsError.Write ↔ (K.failed writer.old < K.failed writer.new) }
+    ensures kinds { IsOkUnless result RdsError.Write }
     ensures prefix { OnErr result (WritesPrefix (K.contents writer.old) (K.contents writer.new)
         (Ok text.now)) }
 {
     match write_all(writer, text) {
         Ok(()) => flush(writer),
-        Err(Failed) => Err(ToolError::Write),
+        Err(Failed) => Err(RdsError::Write),
     }
 }
 
 /// Flushes.
-fn flush<K: Sink>(writer: &mut K) -> Result<(), ToolError>
+fn flush<K: Sink>(writer: &mut K) -> Result<(), RdsError>
     requires { K.failed writer.old < 2 ^ 63 }
     ensures bytes { Keeps (K.contents writer.old) (K.contents writer.new) }
     ensures flushed { OnOk result (K.is_flushed writer.new ≡ true) }
     ensures count { OnOk result (K.failed writer.new ≡ K.failed writer.old) }
-    ensures write { IsErrOf result ToolError.Write ↔ (K.failed writer.old < K.failed writer.new) }
-    ensures kinds { IsOkUnless result ToolError.Write }
+    ensures write { IsErrOf result RdsError.Write ↔ (K.failed writer.old < K.failed writer.new) }
+    ensures kinds { IsOkUnless result RdsError.Write }
 {
     match writer.flush() {
         Ok(()) => Ok(()),
-        Err(Failed) => Err(ToolError::Write),
+        Err(Failed) => Err(RdsError::Write),
     }
 }

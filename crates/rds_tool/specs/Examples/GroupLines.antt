@@ -2,8 +2,8 @@
 -- lines are skipped.
 use Rattle.std.specs.Prelude.{◌≡◌, ℕ, Bool, List, [], ◌∷◌, ◌++◌, Err, Ok, codes, false, map, refl, true}
 use Rattle.hex.specs.Hex.{decode_pairs, encode_with}
-use Rattle.rds_code.specs.Remainder.{rem}
-use Rattle.rds_tool.specs.{GroupText.encoded_text, GroupText.lines_of, declared.error.ToolError.TheVariants.GroupText, Examples.Words.line}
+use Rattle.rds_code.specs.{Remainder.rem, declared.error.RdsError.TheVariants.GroupText}
+use Rattle.rds_tool.specs.{GroupText.encoded_text, GroupText.lines_of, Examples.Words.line}
 
 pub lines : lines_of (codes "1 2" ++ 9 ∷ codes "3" ++ 13 ∷ 10 ∷ 10 ∷ codes "45")
     ≡ codes "123" ∷ [] ∷ codes "45" ∷ []

@@ -2,7 +2,8 @@
 -- feed don't count.
 use Rattle.std.specs.Prelude.{◌≡◌, ℕ, List, [], ◌∷◌, ◌++◌, Err, Ok, codes, map, refl}
 use Rattle.hex.specs.Hex.{decode_pairs}
-use Rattle.rds_tool.specs.{Input.decoded, declared.error.ToolError.TheVariants.HexText}
+use Rattle.rds_tool.specs.Input.{decoded}
+use Rattle.rds_code.specs.declared.error.RdsError.TheVariants.{HexText}
 
 -- these texts spell these bytes
 abbrev pub Spell : List (List ℕ × List ℕ) → Type 0

@@ -1,24 +1,24 @@
 -- Which refusals the job and the bytes decide, and which they don't.
 use Rattle.std.{specs.Prelude.◌≡◌, specs.Prelude.Bool, specs.Prelude.false, specs.Prelude.refl, specs.Prelude.true, proofs.Common.ap, proofs.Common.inl, proofs.Common.inr, proofs.lemmas.Bool.false≢true}
-use Rattle.rds_tool.specs.declared.error.ToolError.TheVariants.{BadCutting, BadGaps, BitsPastBytes, BurstRange, CrewRange, GroupText, HexText, LossRange, NoWorker, OutOfMemory, ReachRange, Read, ShareRange, TooLong, TooManyTurns, Write}
-use Rattle.rds_tool.specs.{Outcome.IsOutside, declared.error.ToolError.ToolError}
+use Rattle.rds_code.specs.declared.error.RdsError.{RdsError, TheVariants.BadCutting, TheVariants.BadGaps, TheVariants.BitsPastBytes, TheVariants.BurstRange, TheVariants.CrewRange, TheVariants.GroupText, TheVariants.HexText, TheVariants.LossRange, TheVariants.NoWorker, TheVariants.OutOfMemory, TheVariants.ReachRange, TheVariants.Read, TheVariants.ShareRange, TheVariants.TooLong, TheVariants.TooManyTurns, TheVariants.Write}
+use Rattle.rds_tool.specs.Outcome.{IsOutside}
 
 -- memory and the devices
-abbrev pub comes_from_outside : ToolError → Bool
+abbrev pub comes_from_outside : RdsError → Bool
 comes_from_outside OutOfMemory = true
 comes_from_outside Read = true
 comes_from_outside Write = true
 comes_from_outside TooManyTurns = true
 comes_from_outside other = false
 
-pub outside : (e : ToolError) → IsOutside e → comes_from_outside e ≡ true
+pub outside : (e : RdsError) → IsOutside e → comes_from_outside e ≡ true
 outside e (inl is) = ap comes_from_outside is
 outside e (inr (inl is)) = ap comes_from_outside is
 outside e (inr (inr (inl is))) = ap comes_from_outside is
 outside e (inr (inr (inr is))) = ap comes_from_outside is
 
 -- none of these is decided outside
-abbrev pub IsDecided : ToolError → Type 0
+abbrev pub IsDecided : RdsError → Type 0
 IsDecided e = IsOutside e → ⊥
 
 pub decided : IsDecided BurstRange × IsDecided ReachRange × IsDecided LossRange × IsDecided BitsPastBytes

@@ -2,7 +2,8 @@
 use Rattle.std.specs.Prelude.{◌≡◌, ℕ, List, [], ◌∷◌, Err, Ok, codes, map, refl, false, true}
 use Rattle.hex.specs.Hex.{decode_pairs}
 use Rattle.rds_stream.specs.Recording.{Signal, length_of, ungapped}
-use Rattle.rds_tool.specs.{Input.and_then, Input.may_be_gaps, Input.recording_of, declared.error.ToolError.ToolError, declared.error.ToolError.TheVariants.BadGaps, declared.error.ToolError.TheVariants.BitsPastBytes, declared.error.ToolError.TheVariants.HexText, declared.error.ToolError.TheVariants.TooLong, declared.job.Input.Input, Examples.Words.hex_bits, Examples.Words.hex_input, Examples.Words.raw_bits, Examples.Words.raw_input}
+use Rattle.rds_tool.specs.{Input.and_then, Input.may_be_gaps, Input.recording_of, declared.job.Input.Input, Examples.Words.hex_bits, Examples.Words.hex_input, Examples.Words.raw_bits, Examples.Words.raw_input}
+use Rattle.rds_code.specs.declared.error.RdsError.{RdsError, TheVariants.BadGaps, TheVariants.BitsPastBytes, TheVariants.HexText, TheVariants.TooLong}
 
 -- these inputs and bytes are these recordings
 abbrev pub AreRecorded : List (Input × List ℕ × Signal) → Type 0
@@ -26,7 +27,7 @@ pub raw_digits : and_then (recording_of raw_input (codes "a5")) (λ recording. O
 raw_digits = refl
 
 -- these are refused so
-abbrev pub AreRefused : List (Input × List ℕ × ToolError) → Type 0
+abbrev pub AreRefused : List (Input × List ℕ × RdsError) → Type 0
 AreRefused rows = map (λ row. recording_of row.0 row.1) rows ≡ map (λ row. Err row.2) rows
 
 -- 2^36 bits are not too long, but more than these bytes hold; one more is too long first. Text that is no text is refused before its

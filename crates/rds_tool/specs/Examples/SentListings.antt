@@ -1,7 +1,8 @@
 -- The words that a text spells, and the listing of groups that were sent from bit 0 on.
 use Rattle.std.specs.{Fmt.digits, Prelude.◌≡◌, Prelude.[], Prelude.◌∷◌, Prelude.◌++◌, Prelude.ℕ, Prelude.List, Prelude.Err, Prelude.Ok, Prelude.codes, Prelude.flat_map, Prelude.refl}
 use Rattle.hex.specs.Hex.{decode_pairs}
-use Rattle.rds_tool.specs.{Laws.groups_in, Laws.sent_listing, declared.error.ToolError.TheVariants.GroupText, Examples.Words.line}
+use Rattle.rds_tool.specs.{Laws.groups_in, Laws.sent_listing, Examples.Words.line}
+use Rattle.rds_code.specs.declared.error.RdsError.TheVariants.{GroupText}
 
 abbrev first : List ℕ
 first = 0xD393 ∷ 0x0548 ∷ 0xE100 ∷ 0x5041 ∷ []

@@ -1,7 +1,8 @@
 -- Settings at the ends of their ranges and past them, and which of two that are out of range is refused.
 use Rattle.std.specs.Prelude.{◌≡◌, ◌∷◌, ℕ, [], Err, List, Ok, map, refl, true, false}
 use Rattle.rds_sync.specs.declared.loss.Loss.TheVariants.{Run, Share}
-use Rattle.rds_tool.specs.{Cuts.are_inner, Cuts.places_at, Plans.plan_of, declared.error.ToolError.ToolError, declared.error.ToolError.TheVariants.BadCutting, declared.error.ToolError.TheVariants.BurstRange, declared.error.ToolError.TheVariants.CrewRange, declared.error.ToolError.TheVariants.LossRange, declared.error.ToolError.TheVariants.ReachRange, declared.error.ToolError.TheVariants.ShareRange, declared.job.Cuts.TheVariants.Even, declared.job.Settings.Settings, Examples.Words.settings_of, Examples.Words.share_settings}
+use Rattle.rds_tool.specs.{Cuts.are_inner, Cuts.places_at, Plans.plan_of, declared.job.Cuts.TheVariants.Even, declared.job.Settings.Settings, Examples.Words.settings_of, Examples.Words.share_settings}
+use Rattle.rds_code.specs.declared.error.RdsError.{RdsError, TheVariants.BadCutting, TheVariants.BurstRange, TheVariants.CrewRange, TheVariants.LossRange, TheVariants.ReachRange, TheVariants.ShareRange}
 
 pub taken : map plan_of (settings_of 0 1 1 1 1 ∷ settings_of 5 8 64 256 4294967295 ∷ share_settings 2 64 64 4 ∷ [])
     ≡ Ok (record { rules = record { burst = 0; reach = 1; loss = Run 1 }; workers = 1; cuts = Even 1 })
@@ -10,7 +11,7 @@ pub taken : map plan_of (settings_of 0 1 1 1 1 ∷ settings_of 5 8 64 256 429496
 taken = refl
 
 -- each of these settings is refused so
-abbrev pub AreRefused : List (Settings × ToolError) → Type 0
+abbrev pub AreRefused : List (Settings × RdsError) → Type 0
 AreRefused rows = map (λ row. plan_of row.0) rows ≡ map (λ row. Err row.1) rows
 
 -- past only one end

@@ -1,7 +1,8 @@
 -- The groups of lines of digits whose text has come in part. Cited by `GroupLines` and by `Texts`, and by no public call.
 use Rattle.std.specs.Prelude.{◌++◌, ◌≡◌, ◌≤◌, ◌∷◌, Bool, Err, List, Ok, Result, [], false, length, take, true, ℕ}
 use Rattle.std.specs.List.{flat_map}
-use Rattle.rds_tool.specs.{GroupText.encoded_text, GroupText.group_text, GroupText.line_text, GroupText.lines_of, GroupText.lines_text, Input.and_then, declared.error.ToolError.ToolError, declared.error.ToolError.TheVariants.GroupText}
+use Rattle.rds_tool.specs.{GroupText.encoded_text, GroupText.group_text, GroupText.line_text, GroupText.lines_of, GroupText.lines_text, Input.and_then}
+use Rattle.rds_code.specs.declared.error.RdsError.{RdsError, TheVariants.GroupText}
 
 -- the text of groups, one after the other
 abbrev pub text_of_groups : Bool → List (List ℕ) → List ℕ
@@ -17,7 +18,7 @@ begun line [] = []
 begun line (rest ∷ lines) = (line ++ rest) ∷ lines
 
 -- a text, and then that of lines
-abbrev pub with_lines : Bool → List ℕ → List (List ℕ) → Result (List ℕ) ToolError
+abbrev pub with_lines : Bool → List ℕ → List (List ℕ) → Result (List ℕ) RdsError
 with_lines hex text lines = and_then (lines_text hex lines) (λ more. Ok (text ++ more))
 
 -- however the text goes on, it gives the groups, and then those of the line that has begun and of the lines after it; or it

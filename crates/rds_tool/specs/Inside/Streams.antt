@@ -3,7 +3,8 @@ use Rattle.std.specs.Prelude.{◌≡◌, ◌≤◌, ◌<◌, ◌+◌, ◌^◌, �
 use Rattle.std.specs.Io.KnownBytes.{Appends, Consumes, IsAtEnd}
 use Rattle.rds_rows.specs.declared.sink.Sink.{Ghosts as Sink}
 use Rattle.rds_stream.specs.Recording.{AreGaps}
-use Rattle.rds_tool.specs.{Following.BreaksOff, Following.IsFlushedAfter, Following.MayBreakOff, Following.Stream, History.Gave, declared.devices.Source.Ghosts as Source, declared.error.ToolError.ToolError, declared.error.ToolError.TheVariants.BadGaps, declared.error.ToolError.TheVariants.BitsPastBytes, declared.error.ToolError.TheVariants.Read, declared.error.ToolError.TheVariants.Write}
+use Rattle.rds_tool.specs.{Following.BreaksOff, Following.IsFlushedAfter, Following.MayBreakOff, Following.Stream, History.Gave, declared.devices.Source.Ghosts as Source}
+use Rattle.rds_code.specs.declared.error.RdsError.{RdsError, TheVariants.BadGaps, TheVariants.BitsPastBytes, TheVariants.Read, TheVariants.Write}
 
 module _ {R W : Type 0} (source : Source R) (sink : Sink W) (s : Stream) (reader reader' : R) (writer writer' : W) where
   -- these symbols were heard, and the rows that they complete were written
@@ -17,7 +18,7 @@ module _ {R W : Type 0} (source : Source R) (sink : Sink W) (s : Stream) (reader
     pub writes : sink.failed writer' ≡ sink.failed writer
 
   -- following broke off by this error
-  pub record Breaks (e : ToolError) : Type 0 where
+  pub record Breaks (e : RdsError) : Type 0 where
     pub broke_off : BreaksOff s (source.given reader) (source.given reader') (source.has_ended reader')
         (sink.contents writer) (sink.contents writer') (sink.is_flushed writer') e
     pub took : Gave (source.given reader) (source.given reader') (Consumes (source.remaining reader) (source.remaining reader'))

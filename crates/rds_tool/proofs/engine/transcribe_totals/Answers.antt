@@ -1,4 +1,4 @@
-use Rattle.rds_tool.proofs.Names.{common_steps, arith, ◌≡◌, ◌∙◌, Err, List, Ok, Some, ap, inl, subst, sym, ℕ, report_items, RuleNumbers, totals_of, recording_of, InputOf, InputCounterOf, text_of_task, PlanOf, IsMemoryOrErrOf, ToolError}
+use Rattle.rds_tool.proofs.Names.{common_steps, arith, ◌≡◌, ◌∙◌, Err, List, Ok, Some, ap, inl, subst, sym, ℕ, report_items, RuleNumbers, totals_of, recording_of, InputOf, InputCounterOf, text_of_task, PlanOf, IsMemoryOrErrOf, RdsError}
 use Rattle.rds_tool.proofs.{Passing.passed, Texts.any_cut, Texts.no_failure, Texts.totals_made, Transcribing.at_bytes, Transcribing.at_memory, Transcribing.at_read, Transcribing.at_writer, engine.transcribe_totals.Given.Over, engine.transcribe_totals.Goals.In_ok-read_all}
 use Rattle.rds_tool.specs.declared.task.Task.TheVariants as task
 use Rattle.rds_tool.proofs.engine.transcribe_totals.Goals as goal
@@ -6,7 +6,7 @@ use Rattle.rds_tool.proofs.engine.transcribe_totals.Goals as goal
 same_terms : (a b : InputOf × RuleNumbers) → Some a ≡ Some b → a ≡ b
 same_terms a b p = cc
 
-refused : (input : InputOf) (text : List ℕ) (e : ToolError) → IsMemoryOrErrOf (recording_of input text) e → (plan : PlanOf)
+refused : (input : InputOf) (text : List ℕ) (e : RdsError) → IsMemoryOrErrOf (recording_of input text) e → (plan : PlanOf)
     → IsMemoryOrErrOf (text_of_task (task.Totals input plan) text) e
 refused input text e it plan = grind (arith, common_steps)
 
@@ -20,7 +20,7 @@ module _ (g : Over) (c : In_ok-read_all g) where
 pub returns-in_err-counter : goal.returns-in_err-counter
 returns-in_err-counter g c = λ job is.
     at_memory g.S.Source g.K.Sink job _ _ _ (task.Totals c.args.input.now c.args.plan.now) is
-    (subst (λ (e : ToolError). c.from_residual.result ≡ Err e) c.in_err-counter.ensures.refused (passed _ _ c.from_residual.ensures))
+    (subst (λ (e : RdsError). c.from_residual.result ≡ Err e) c.in_err-counter.ensures.refused (passed _ _ c.from_residual.ensures))
 
 pub returns-in_err-read_all : goal.returns-in_err-read_all
 returns-in_err-read_all g c = λ job is.

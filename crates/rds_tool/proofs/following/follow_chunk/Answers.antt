@@ -1,9 +1,9 @@
-use Rattle.rds_tool.proofs.Names.{common_steps, arith, ◌≡◌, ◌++◌, ◌⊎◌, ◌∙◌, List, ap, sym, ℕ, rows_so_far, ToolError, OutOfMemory, TooLong, Write}
+use Rattle.rds_tool.proofs.Names.{common_steps, arith, ◌≡◌, ◌++◌, ◌⊎◌, ◌∙◌, List, ap, sym, ℕ, rows_so_far, RdsError, OutOfMemory, TooLong, Write}
 use Rattle.rds_tool.proofs.Passing.{passes}
 use Rattle.rds_tool.proofs.following.follow_chunk.Goals as goal
 
 -- what its rows are refused for, it is refused for
-rows_refuse : (e : ToolError) → (e ≡ OutOfMemory) ⊎ (e ≡ TooLong) → (e ≡ OutOfMemory) ⊎ ((e ≡ Write) ⊎ (e ≡ TooLong))
+rows_refuse : (e : RdsError) → (e ≡ OutOfMemory) ⊎ (e ≡ TooLong) → (e ≡ OutOfMemory) ⊎ ((e ≡ Write) ⊎ (e ≡ TooLong))
 rows_refuse e it = grind (arith, common_steps)
 
 pub returns-in_err-next-clause-kinds : goal.returns-in_err-next-clause-kinds

@@ -1,4 +1,3 @@
-use Rattle.std.proofs.Common.{Err, ap, ◌∙◌}
 use Rattle.rds_tool.proofs.Recorded.{made_is, refused_is}
 use Rattle.rds_tool.proofs.input.first_bits.Goals as goal
 
@@ -10,5 +9,4 @@ returns-in-Ok c =
 pub returns-in-Err : goal.returns-in-Err
 returns-in-Err c =
     let made = c.with_gaps.ensures in
-    ap Err c.from.ensures
-    ∙ refused_is c.args.bytes c.args.bits c.args.gaps c.with_gaps.result made.taken c.in-Err.error c.in-Err._bytes c.in-Err._gaps c.in-Err.is made.too_long made.past_bytes made.bad_gaps
+    refused_is c.args.bytes c.args.bits c.args.gaps c.with_gaps.result made.taken c.in-Err.error c.in-Err._bytes c.in-Err._gaps c.in-Err.is made.too_long made.past_bytes made.bad_gaps

@@ -1,4 +1,4 @@
-use Rattle.rds_stream.proofs.Names.{◌≡◌, ◌≤◌, ◌+◌, ◌-◌, ℕ, get_or, List, [], ◌∷◌, Option, Some, ap, sym, ◌∙◌, arith, Signal, heard, window, common_steps}
+use Rattle.rds_stream.proofs.Names.{◌≡◌, ℕ, [], ◌∷◌, Option, arith, common_steps}
 use Rattle.rds_stream.proofs.WindowLists.{heard_clear}
 use Rattle.rds_stream.proofs.reader.Reader.four_windows.Goals as goal
 
